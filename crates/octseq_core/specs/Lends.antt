@@ -1,0 +1,10 @@
+-- What an array holds once the borrow of its content ends.
+use Rattle.std.specs.Prelude.{ℕ, List}
+use Rattle.std.specs.Borrow.{Lends, Fml, RattleType, MutBor, Array, u8}
+use Rattle.octseq_core.specs.ArrayOctets.{ArrayOctets, with_content}
+use Rattle.octseq_core.specs.contracts.array.Array.{the_row}
+
+module _ (N : RattleType) (a : MutBor ArrayOctets) where
+  -- the borrow lends the content: it ends as what the borrow shows last, and the hidden octets stay
+  abbrev pub lends_content : MutBor (List ℕ) → Fml
+  lends_content borrow = Lends (the_row N) (Array u8 0) a borrow (with_content a.now)

@@ -1,0 +1,5 @@
+pub mod ArrayOctets
+pub mod Lends
+pub mod Limit
+pub mod Refusal
+pub mod Shown

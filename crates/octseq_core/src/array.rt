@@ -1,0 +1,168 @@
+//! A builder of a fixed size that requests no memory.
+ghost use Rattle.std.specs.Prelude.{◌≡◌, ◌-◌, ◌+◌, ◌<◌, ◌≤◌, ◌++◌, ◌↔◌, Bool, true, false, Option, Some, List, take, drop, length, IsOk, OnOk, OnErr, MatchResult};
+ghost use Rattle.std.specs.Borrow.{sem};
+ghost use Rattle.octseq_core.specs.ArrayOctets.{all_octets, cut_at, blank, padded};
+ghost use Rattle.octseq_core.specs.Limit.{IsPast};
+ghost use Rattle.octseq_core.specs.Refusal.{IsShort, IsMemory};
+
+use crate::builder::{
+    AppendError, AsOctets, EmptyBuilder, OctetsBuilder, OctetsLimit, ShortBuf, Truncate,
+};
+use std::alloc::{AllocError, Global};
+use std::marker::Model;
+
+/// `N` octets and a length of at most `N`. The front of that length is the content, and the octets
+/// behind it are hidden.
+#[derive(Drop)]
+pub struct Array<const N: usize> {
+    octets: [u8; N],
+    len: usize,
+}
+
+impl<const N: usize> Model for Array<N> {
+    ghost use Rattle.std.specs.Prelude.{◌≤◌};
+    ghost use Rattle.octseq_core.specs.ArrayOctets.{ArrayOctets, cut_at};
+
+    ghost Value = { ArrayOctets };
+
+    ghost view = { λ a. cut_at a.octets a.len };
+
+    ghost invariant = { λ a. a.len ≤ N };
+}
+
+impl<const N: usize> Array<N> {
+    ghost use Rattle.octseq_core.specs.Lends.{lends_content};
+
+    /// An empty array, all its octets zero.
+    pub fn new() -> Self
+        ensures { result ≡ blank N }
+    {
+        Array {
+            octets: [0; N],
+            len: 0,
+        }
+    }
+
+    /// The content.
+    pub fn as_slice(&self) -> &[u8]
+        ensures content { result.now ≡ self.now.content }
+        ensures size { length self.now.content + length self.now.hidden ≡ N }
+    {
+        &self.octets[..self.len]
+    }
+
+    /// The content, for writing. The hidden octets stay.
+    pub fn as_slice_mut(&mut self) -> &mut [u8]
+        ensures* writes_back { sem 𝓛 (lends_content N.row self.entry result) }
+        ensures content { result.now ≡ self.old.content }
+    {
+        &mut self.octets[..self.len]
+    }
+
+    /// Changes the length alone. A greater length shows hidden octets again, as they were left.
+    ///
+    /// # Errors
+    ///
+    /// `ShortBuf` where the new length is past `N`. The array is then as it was.
+    pub fn resize_raw(&mut self, new_len: usize) -> Result<(), ShortBuf>
+        ensures variant { IsOk result ↔ (new_len ≤ N) }
+        ensures ok { OnOk result (self.new ≡ cut_at (all_octets self.old) new_len) }
+        ensures err { OnErr result (self.new ≡ self.old) }
+    {
+        if new_len > N {
+            return Err(ShortBuf);
+        }
+        self.len = new_len;
+        Ok(())
+    }
+}
+
+impl<const N: usize> AsOctets for Array<N> {
+    ghost content = { λ a. a.content };
+
+    ghost limit = { Some N };
+
+    ghost asks = { false };
+
+    fn as_ref(&self) -> &[u8] {
+        self.as_slice()
+    }
+}
+
+impl<const N: usize> OctetsLimit for Array<N> {
+    fn limit() -> Option<usize> {
+        Some(N)
+    }
+
+    fn asks_memory() -> bool {
+        false
+    }
+}
+
+impl<const N: usize> OctetsBuilder for Array<N> {
+    /// Writes the slice behind the content. The hidden octets behind that stay.
+    fn append_slice(&mut self, slice: &[u8]) -> Result<(), AppendError>
+        ensures ok { OnOk result (self.new.content ≡ self.old.content ++ slice.now) }
+        ensures err { OnErr result (self.new.content ≡ self.old.content) }
+        ensures short { IsShort result ↔ IsPast (Some N) (length self.old.content + length slice.now) }
+        ensures memory { IsMemory result → false ≡ true }
+
+        ensures hidden { OnOk result (self.new.hidden ≡ drop (length slice.now) self.old.hidden) }
+        ensures unchanged { OnErr result (self.new ≡ self.old) }
+    {
+        if slice.len() > N - self.len {
+            return Err(AppendError::Short(ShortBuf));
+        }
+        let start = self.len;
+        let end = start + slice.len();
+        let octets = &mut self.octets[..];
+        octets[start..end].copy_from_slice(slice);
+        self.len = end;
+        Ok(())
+    }
+}
+
+impl<const N: usize> Truncate for Array<N> {
+    /// Changes the length alone: the octets behind it are hidden, and stay.
+    fn truncate(&mut self, len: usize)
+        ensures content { self.new.content ≡ take len self.old.content }
+        ensures hidden { self.new.hidden ≡ drop len self.old.content ++ self.old.hidden }
+    {
+        if len < self.len {
+            self.len = len;
+        }
+    }
+}
+
+impl<const N: usize> EmptyBuilder for Array<N> {
+    fn empty(_alloc: Global) -> Result<Self, AllocError> {
+        Ok(Array::new())
+    }
+
+    fn with_capacity(_alloc: Global, _capacity: usize) -> Result<Self, AllocError> {
+        Ok(Array::new())
+    }
+}
+
+impl<const N: usize> Default for Array<N> {
+    ghost is_default = { λ a. a ≡ blank N };
+
+    fn default() -> Self {
+        Array::new()
+    }
+}
+
+impl<const N: usize> TryFrom<&[u8]> for Array<N> {
+    type Error = ShortBuf;
+
+    ghost try_from_gives = { λ slice made. MatchResult made
+        (λ a. (length slice.now ≤ N) × (a ≡ padded N slice.now)) (λ _. N < length slice.now) };
+
+    fn try_from(slice: &[u8]) -> Result<Self, ShortBuf> {
+        let mut array = Array::new();
+        match array.append_slice(slice) {
+            Ok(()) => Ok(array),
+            Err(_) => Err(ShortBuf),
+        }
+    }
+}

@@ -1,0 +1,151 @@
+//! What octet sequences and builders can do.
+ghost use Rattle.std.specs.Prelude.{◌≡◌, ℕ, Bool, true, Option, Some, List, [], ◌++◌, ◌+◌, ◌↔◌, take, length, codes, IfOk, OnOk, OnErr};
+ghost use Rattle.std.specs.Borrow.{GName};
+ghost use Rattle.octseq_core.specs.Limit.{IsWithin, IsPast};
+ghost use Rattle.octseq_core.specs.Refusal.{IsShort, IsMemory};
+
+use std::alloc::{AllocError, Global};
+use std::error::Error;
+use std::fmt;
+
+mod slice;
+mod vector;
+
+/// A sequence of octets.
+///
+/// Where std's `AsRef` is in scope too, write `AsOctets::as_ref(&x)`.
+pub trait AsOctets: Drop {
+    // The octets that the value stands for.
+    ghost content: { Self → List ℕ };
+
+    // The greatest length of a content of this type, or none.
+    ghost limit: { Option ℕ };
+
+    // Whether calls that make or fill a value of this type request memory.
+    ghost asks: { Bool };
+
+    // The names of the `&mut` borrows that the value holds. A call that changes the content keeps
+    // them, so that a lender knows what its value ends as.
+    ghost borrows: { Self → List GName } = { λ _. [] };
+
+    /// Lends the content.
+    fn as_ref(&self) -> &[u8]
+        ensures value { result.now ≡ content self.now }
+        ensures within { IsWithin limit (length (content self.now)) };
+}
+
+/// Two facts about a type of octet sequences.
+pub trait OctetsLimit: AsOctets {
+    /// The greatest length of a content in octets, or `None` where every length is possible.
+    fn limit() -> Option<usize>
+        ensures { result ≡ Self.limit };
+
+    /// Whether calls that make or fill a value of this type request memory.
+    fn asks_memory() -> bool
+        ensures { result ≡ Self.asks };
+}
+
+/// A sequence of octets that grows at its end.
+pub trait OctetsBuilder: OctetsLimit {
+    /// Appends all of the slice, or nothing.
+    ///
+    /// # Errors
+    ///
+    /// `Short` where the content would pass the type's limit, and else `Memory` where a request for
+    /// memory was refused. The content is then as it was.
+    fn append_slice(&mut self, slice: &[u8]) -> Result<(), AppendError>
+        ensures ok { OnOk result (Self.content self.new ≡ Self.content self.old ++ slice.now) }
+        ensures err { OnErr result (Self.content self.new ≡ Self.content self.old) }
+        ensures short { IsShort result
+            ↔ IsPast Self.limit (length (Self.content self.old) + length slice.now) }
+        ensures memory { IsMemory result → Self.asks ≡ true }
+        ensures borrows { Self.borrows self.new ≡ Self.borrows self.old };
+}
+
+/// A sequence of octets that can be cut short.
+pub trait Truncate: AsOctets {
+    /// Keeps the first `len` octets, or all of them where there are no more.
+    fn truncate(&mut self, len: usize)
+        ensures content { Self.content self.new ≡ take len (Self.content self.old) }
+        ensures borrows { Self.borrows self.new ≡ Self.borrows self.old };
+}
+
+/// A builder that can be made with nothing in it.
+pub trait EmptyBuilder: OctetsBuilder {
+    /// An empty builder.
+    ///
+    /// # Errors
+    ///
+    /// `AllocError` where a request for memory was refused.
+    fn empty(alloc: Global) -> Result<Self, AllocError>
+        ensures ok { IfOk result (λ builder. Self.content builder ≡ []) }
+        ensures memory { OnErr result (Self.asks ≡ true) };
+
+    /// An empty builder with room for about `capacity` octets. A type that requests no memory ignores
+    /// the capacity.
+    ///
+    /// # Errors
+    ///
+    /// `AllocError` where a request for memory was refused.
+    fn with_capacity(alloc: Global, capacity: usize) -> Result<Self, AllocError>
+        ensures ok { IfOk result (λ builder. Self.content builder ≡ []) }
+        ensures memory { OnErr result (Self.asks ≡ true) };
+}
+
+/// An append would have made the content longer than the type's limit.
+#[derive(Clone, Debug, PartialEq, Eq, Drop)]
+pub struct ShortBuf;
+
+impl Error for ShortBuf {}
+
+impl fmt::Display for ShortBuf {
+    ghost output = { λ _. Some (codes "buffer size exceeded") };
+
+    fn fmt<W: fmt::Write>(&self, f: &mut fmt::Formatter<W>) -> fmt::Result {
+        f.write_str("buffer size exceeded")
+    }
+}
+
+/// Why an append or a conversion was refused.
+#[derive(Debug, PartialEq, Eq, Drop)]
+pub enum AppendError {
+    /// The content would have passed the limit of its type.
+    Short(ShortBuf),
+    /// A request for memory was refused.
+    Memory,
+}
+
+impl Error for AppendError {}
+
+impl fmt::Display for AppendError {
+    ghost use Rattle.octseq_core.specs.Shown.{append_error_text};
+
+    ghost output = { λ e. Some (append_error_text e) };
+
+    fn fmt<W: fmt::Write>(&self, f: &mut fmt::Formatter<W>) -> fmt::Result {
+        match self {
+            AppendError::Short(_) => f.write_str("buffer size exceeded"),
+            AppendError::Memory => f.write_str("out of memory"),
+        }
+    }
+}
+
+impl From<ShortBuf> for AppendError {
+    ghost use Rattle.octseq_core.specs.declared.builder.AppendError.TheVariants.{Short};
+
+    ghost from_gives = { λ e made. made ≡ Short e };
+
+    fn from(e: ShortBuf) -> AppendError {
+        AppendError::Short(e)
+    }
+}
+
+impl From<AllocError> for AppendError {
+    ghost use Rattle.octseq_core.specs.declared.builder.AppendError.TheVariants.{Memory};
+
+    ghost from_gives = { λ _ made. made ≡ Memory };
+
+    fn from(_e: AllocError) -> AppendError {
+        AppendError::Memory
+    }
+}

@@ -1,0 +1,50 @@
+//! A vector as a builder: it has no limit, and requests memory as it grows.
+ghost use Rattle.std.specs.Prelude.{true, None};
+
+use super::{AppendError, AsOctets, EmptyBuilder, OctetsBuilder, OctetsLimit, Truncate};
+use std::alloc::{AllocError, Global};
+
+impl AsOctets for Vec<u8> {
+    ghost content = { λ v. v.items };
+
+    ghost limit = { None };
+
+    ghost asks = { true };
+
+    fn as_ref(&self) -> &[u8] {
+        self.as_slice()
+    }
+}
+
+impl OctetsLimit for Vec<u8> {
+    fn limit() -> Option<usize> {
+        None
+    }
+
+    fn asks_memory() -> bool {
+        true
+    }
+}
+
+impl OctetsBuilder for Vec<u8> {
+    fn append_slice(&mut self, slice: &[u8]) -> Result<(), AppendError> {
+        self.extend_from_slice(slice)?;
+        Ok(())
+    }
+}
+
+impl Truncate for Vec<u8> {
+    fn truncate(&mut self, len: usize) {
+        self.truncate(len);
+    }
+}
+
+impl EmptyBuilder for Vec<u8> {
+    fn empty(alloc: Global) -> Result<Self, AllocError> {
+        Ok(Vec::new(alloc))
+    }
+
+    fn with_capacity(alloc: Global, capacity: usize) -> Result<Self, AllocError> {
+        Vec::with_capacity(alloc, capacity)
+    }
+}

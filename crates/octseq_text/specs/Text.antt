@@ -1,0 +1,35 @@
+-- Octets as text.
+use Rattle.std.specs.Prelude.{◌≡◌, ℕ, Bool, false, List, [], ◌∷◌, map, if◌then◌else◌}
+use Rattle.std.specs.Int.{is_in_range}
+use Rattle.std.specs.List.{concat, AllByRecursion}
+use Rattle.octseq_text.specs.Encoding.{IsEncoding, number_of}
+
+-- The octets are encodings, one after another, and the characters are their numbers.
+pub record Spells (octets characters : List ℕ) : Type 0 where
+  pub encodings : List (List ℕ)
+  pub each : AllByRecursion IsEncoding encodings
+  pub joined : concat encodings ≡ octets
+  pub numbers : map number_of encodings ≡ characters
+
+-- The octets are encodings, one after another.
+abbrev pub IsWellFormed : List ℕ → Type 0
+IsWellFormed octets = (characters : List ℕ) × Spells octets characters
+
+-- Whether the octets begin within an encoding: with one of 80..BF, which no encoding begins with.
+abbrev pub begins_within : List ℕ → Bool
+begins_within [] = false
+begins_within (b ∷ octets) = is_in_range 0x80 0xBF b
+
+-- An octet in front of the first of some groups.
+abbrev pub put_in_front : ℕ → List (List ℕ) → List (List ℕ)
+put_in_front a [] = (a ∷ []) ∷ []
+put_in_front a (group ∷ groups) = (a ∷ group) ∷ groups
+
+-- The encodings of well-formed octets: cut where the rest doesn't begin within one.
+unfoldable pub encodings_in : List ℕ → List (List ℕ)
+encodings_in [] = []
+encodings_in (a ∷ octets) = if begins_within octets then put_in_front a (encodings_in octets) else (a ∷ []) ∷ encodings_in octets
+
+-- The characters of well-formed octets.
+abbrev pub chars : List ℕ → List ℕ
+chars octets = map number_of (encodings_in octets)

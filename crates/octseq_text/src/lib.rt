@@ -1,0 +1,10 @@
+//! Texts over octet sequences.
+//!
+//! A sequence or a builder of octets is a text where its octets are well-formed UTF-8. The definitions of
+//! UTF-8 stand in `specs/`, by the Unicode Standard; the contracts here cite them.
+#![tactic(auto)]
+
+pub mod str;
+#[cfg(test)]
+mod tests;
+pub mod utf8;

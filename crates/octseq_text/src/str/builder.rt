@@ -1,0 +1,120 @@
+//! A text that grows.
+ghost use Rattle.std.specs.Prelude.{◌≡◌, ◌↔◌, true, List, [], length, IsTrue, IsOk, IfOk, IfErr, OnErr};
+ghost use Rattle.octseq_text.specs.Text.{IsWellFormed};
+
+use super::error::FromUtf8Error;
+use octseq_core::builder::{AsOctets, EmptyBuilder};
+use std::alloc::{AllocError, Global};
+use std::marker::Model;
+
+/// A text in a builder of octets. The content is well-formed UTF-8 after every call.
+///
+/// Contracts see the builder.
+#[derive(Drop)]
+pub struct StrBuilder<Octets: AsOctets> {
+    octets: Octets,
+}
+
+impl<Octets: AsOctets> Model for StrBuilder<Octets> {
+    ghost Value = { Octets };
+
+    ghost view = { λ text. text.octets };
+
+    ghost invariant = { λ text. IsWellFormed (Octets.content text.octets) };
+}
+
+impl<Octets: AsOctets> StrBuilder<Octets> {
+    /// An empty text.
+    ///
+    /// # Errors
+    ///
+    /// `AllocError` where a request for memory was refused.
+    pub fn new(alloc: Global) -> Result<Self, AllocError>
+    where
+        Octets: EmptyBuilder,
+        ensures ok { IfOk result (λ text. Octets.content text ≡ []) }
+        ensures memory { OnErr result (Octets.asks ≡ true) }
+    {
+        let octets = Octets::empty(alloc)?;
+        Ok(StrBuilder { octets })
+    }
+
+    /// An empty text with room for about `capacity` octets.
+    ///
+    /// # Errors
+    ///
+    /// `AllocError` where a request for memory was refused.
+    pub fn with_capacity(alloc: Global, capacity: usize) -> Result<Self, AllocError>
+    where
+        Octets: EmptyBuilder,
+        ensures ok { IfOk result (λ text. Octets.content text ≡ []) }
+        ensures memory { OnErr result (Octets.asks ≡ true) }
+    {
+        let octets = Octets::with_capacity(alloc, capacity)?;
+        Ok(StrBuilder { octets })
+    }
+
+    /// The octets as a text, if they are well-formed UTF-8.
+    ///
+    /// # Errors
+    ///
+    /// Octets that aren't well formed are handed back in the error.
+    #[tactic(auto, using(crate::proofs::Bridge::utf8_from_well_formed, crate::proofs::Bridge::well_formed_from_utf8))]
+    pub fn from_utf8(octets: Octets) -> Result<Self, FromUtf8Error<Octets>>
+        ensures variant { IsOk result ↔ IsWellFormed (Octets.content octets) }
+        ensures ok { IfOk result (λ text. text ≡ octets) }
+        ensures err { IfErr result (λ error. error ≡ octets) }
+    {
+        match std::str::from_utf8(octets.as_ref()) {
+            Ok(_) => Ok(StrBuilder { octets }),
+            Err(_) => Err(FromUtf8Error::new(octets)),
+        }
+    }
+
+    /// Octets that the caller knows to be well-formed UTF-8, as a text.
+    pub fn from_utf8_unchecked(octets: Octets) -> Self
+        requires { IsWellFormed (Octets.content octets) }
+        ensures { result ≡ octets }
+    {
+        StrBuilder { octets }
+    }
+
+    /// Gives back the builder of octets.
+    pub fn into_octets_builder(self) -> Octets
+        ensures same { result ≡ self }
+        ensures well_formed { IsWellFormed (Octets.content result) }
+    {
+        self.octets
+    }
+
+    /// The text.
+    #[tactic(auto, using(crate::proofs::Bridge::utf8_from_well_formed))]
+    pub fn as_str(&self) -> &str
+        ensures { result.now ≡ Octets.content self.now }
+    {
+        let octets = self.as_slice();
+        unsafe { std::str::from_utf8_unchecked(octets) }
+    }
+
+    /// The octets of the text.
+    pub fn as_slice(&self) -> &[u8]
+        ensures content { result.now ≡ Octets.content self.now }
+        ensures well_formed { IsWellFormed result.now }
+    {
+        self.octets.as_ref()
+    }
+
+    /// The length in octets.
+    pub fn len(&self) -> usize
+        ensures { result ≡ length (Octets.content self.now) }
+    {
+        self.as_slice().len()
+    }
+
+    /// Whether the text is empty.
+    pub fn is_empty(&self) -> bool
+        ensures { IsTrue result ↔ (Octets.content self.now ≡ []) }
+    {
+        self.as_slice().is_empty()
+    }
+}

@@ -1,0 +1,20 @@
+use Rattle.std.proofs.Common.{◌≡◌, List, Option, Some, None, [], refl}
+use Rattle.std.specs.Prelude.{IfSome, unwrap_or}
+use Rattle.octseq_tool.proofs.engine.engine.Goals as goal
+
+-- octets that stand in the place of others where those are known
+known : {A : Type 0} (given : Option (List A)) → IfSome given (λ octets. unwrap_or given [] ≡ octets)
+known (Some octets) = refl
+known None = tt
+
+-- A word that names no command reads nothing, so any input will do.
+pub returns-in_default-clause-ran : goal.returns-in_default-clause-ran
+returns-in_default-clause-ran g c = record {
+  command = None;
+  input = unwrap_or (g.R.Read.remaining c.args.reader.now) [];
+  output = c.as_bytes.result.now;
+  named = c.in_default.ensures;
+  whole = known (g.R.Read.remaining c.args.reader.now);
+  answered = c.as_bytes.ensures.value;
+  written = c.in_ok-write_all.ensures.ok;
+}

@@ -1,0 +1,40 @@
+-- What the program writes for a command and its input, and how it ends.
+use Rattle.std.specs.Prelude.{◌≡◌, ℕ, List, ◌++◌, length, codes, Option, Some, None, IfSome}
+use Rattle.std.specs.Fmt.{decimal}
+use Rattle.std.specs.Io.KnownBytes.{Appends}
+use Rattle.octseq_text.specs.Text.{IsWellFormed}
+use Rattle.octseq_tool.specs.declared.engine.Command.{Command}
+use Rattle.octseq_tool.specs.declared.engine.Command.TheVariants.{Check}
+use Rattle.octseq_tool.specs.declared.engine.Status.{Status}
+use Rattle.octseq_tool.specs.declared.engine.Status.TheVariants.{Fine, Refused, Usage}
+
+-- the word that names a command
+abbrev pub name_of : Command → List ℕ
+name_of Check = codes "check"
+
+-- the word names a command
+abbrev pub IsCommand : List ℕ → Type 0
+IsCommand word = (command : Command) × (word ≡ name_of command)
+
+-- the command that the word names, or none where it names no command
+abbrev pub IsNamed : List ℕ → Option Command → Type 0
+IsNamed word (Some command) = word ≡ name_of command
+IsNamed word None = ¬ IsCommand word
+
+-- what is written for a command, or for a word that names none, and an input, and how the program ends
+abbrev pub Out : Option Command → List ℕ → List ℕ → Status → Type 0
+Out (Some Check) input output Fine = IsWellFormed input × (output ≡ codes "well formed: " ++ decimal (length input) ++ codes " octets\n")
+Out (Some Check) input output Refused = ¬ IsWellFormed input × (output ≡ codes "not well formed\n")
+Out None input output Usage = output ≡ codes "usage: octseq_tool check|lossy|lossy64|records\n"
+Out _ input output _ = ⊥
+
+-- A run to its end: the word it was given, what the reader had left, and what the writer held before and after. The known octets of
+-- the reader are the whole input.
+pub record Ran (word : List ℕ) (given before after : Option (List ℕ)) (status : Status) : Type 0 where
+  pub command : Option Command
+  pub input : List ℕ
+  pub output : List ℕ
+  pub named : IsNamed word command
+  pub whole : IfSome given (λ octets. input ≡ octets)
+  pub answered : Out command input output status
+  pub written : Appends before after output

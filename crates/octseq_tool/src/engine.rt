@@ -1,0 +1,154 @@
+//! The program over any reader and any writer.
+ghost use Rattle.std.specs.Prelude.{◌≡◌, ℕ, Some, List, Option, IfOk, IfErr, IfSome, OnOk};
+ghost use Rattle.std.specs.Io.KnownBytes.{Appends, IsAtEnd};
+ghost use Rattle.octseq_tool.specs.Out.{IsNamed, IsCommand, Out, Ran};
+ghost use Rattle.octseq_tool.specs.declared.engine.Command.{Command};
+ghost use Rattle.octseq_tool.specs.declared.engine.Command.TheVariants.{Check};
+ghost use Rattle.octseq_tool.specs.declared.engine.Status.{Status};
+
+use octseq_text::str::StrBuilder;
+use std::alloc::{AllocError, Global};
+use std::io::{ErrorKind, Read, Write};
+
+#[cfg(test)]
+mod tests;
+
+/// The line for a word that names no command.
+const USAGE: &str = "usage: octseq_tool check|lossy|lossy64|records\n";
+
+/// What the program can do.
+#[derive(Clone, Copy, Debug, PartialEq, Eq)]
+pub enum Command {
+    Check,
+}
+
+/// How the program ended.
+#[derive(Clone, Copy, Debug, PartialEq, Eq)]
+pub enum Status {
+    /// The input is as the command wants it.
+    Fine,
+    /// The command refused the input, and told why.
+    Refused,
+    /// No command has the name that was given.
+    Usage,
+}
+
+/// Why the program gave up.
+#[derive(Clone, Copy, Debug, PartialEq, Eq)]
+pub enum ToolFault {
+    /// A request for memory was refused.
+    Memory,
+    /// A read failed.
+    Read,
+    /// A write failed.
+    Write,
+}
+
+impl From<AllocError> for ToolFault {
+    ghost use Rattle.octseq_tool.specs.declared.engine.ToolFault.TheVariants.{Memory};
+
+    ghost from_gives = { λ _ fault. fault ≡ Memory };
+
+    fn from(_e: AllocError) -> ToolFault {
+        ToolFault::Memory
+    }
+}
+
+/// What a command makes of its input.
+#[derive(Drop)]
+struct Answer {
+    output: Vec<u8>,
+    status: Status,
+}
+
+/// A word names one command at most, and a command has one output and one status for an input: what the
+/// program writes is a function of both. The law stands on a function that does nothing, so that a check
+/// asks for its proof.
+pub fn one_answer()
+    ensures command { (word : List ℕ) (c d : Option Command) → IsNamed word c → IsNamed word d → c ≡ d }
+    ensures output { (c : Option Command) (input x y : List ℕ) (s t : Status)
+        → Out c input x s → Out c input y t → (x ≡ y) × (s ≡ t) }
+{}
+
+/// The command of this name.
+fn named(word: &str) -> Option<Command>
+    ensures { IsNamed word.now result }
+{
+    match word {
+        "check" => Some(Command::Check),
+        _ => None,
+    }
+}
+
+/// Whether the octets are well-formed UTF-8.
+fn check(alloc: Global, input: Vec<u8>) -> Result<Answer, AllocError>
+    ensures { IfOk result (λ answer. Out (Some Check) input.items answer.output.items answer.status) }
+{
+    match StrBuilder::from_utf8(input) {
+        Ok(text) => {
+            let line = format!(in alloc; "well formed: {} octets\n", text.len())?;
+            Ok(Answer {
+                output: line.into_bytes(),
+                status: Status::Fine,
+            })
+        }
+        Err(_) => Ok(Answer {
+            output: Vec::from_slice(alloc, b"not well formed\n")?,
+            status: Status::Refused,
+        }),
+    }
+}
+
+/// All that the reader has left.
+fn read_all<R: Read>(alloc: Global, reader: &mut R) -> Result<Vec<u8>, ToolFault>
+    ensures whole { IfOk result (λ input. IfSome (R.remaining reader.old) (λ octets. input.items ≡ octets)) }
+    ensures end { OnOk result (IsAtEnd (R.remaining reader.new)) }
+{
+    let mut input = Vec::new(alloc);
+    match reader.read_to_end(&mut input) {
+        Ok(_) => Ok(input),
+        Err(e) if e.kind() == ErrorKind::OutOfMemory => Err(ToolFault::Memory),
+        Err(_) => Err(ToolFault::Read),
+    }
+}
+
+/// Writes all of the output, through any buffer of the writer's own.
+fn write_all<W: Write>(writer: &mut W, output: &[u8]) -> Result<(), ToolFault>
+    ensures ok { OnOk result (Appends (W.contents writer.old) (W.contents writer.new) output.now) }
+    ensures err { IfErr result (λ fault. fault ≡ ToolFault.Write) }
+{
+    if writer.write_all(output).is_err() || writer.flush().is_err() {
+        return Err(ToolFault::Write);
+    }
+    Ok(())
+}
+
+/// Reads the whole input, does what the command says, and writes the answer to it.
+pub fn engine<R: Read, W: Write>(
+    alloc: Global,
+    command: &str,
+    reader: &mut R,
+    writer: &mut W,
+) -> Result<Status, ToolFault>
+    // What was written, and how the program ended, are a function of the command and the whole input.
+    ensures ran { IfOk result (Ran command.now (R.remaining reader.old) (W.contents writer.old) (W.contents writer.new)) }
+    ensures end { OnOk result (IsCommand command.now → IsAtEnd (R.remaining reader.new)) }
+
+    // A word that names no command reads nothing, whatever the answer.
+    ensures usage { ¬ IsCommand command.now → reader.new ≡ reader.old }
+
+    // All of the output is made before the first write.
+    ensures read { result ≡ Err ToolFault.Read → writer.new ≡ writer.old }
+    ensures memory { result ≡ Err ToolFault.Memory → writer.new ≡ writer.old }
+{
+    let Some(command) = named(command) else {
+        write_all(writer, USAGE.as_bytes())?;
+        return Ok(Status::Usage);
+    };
+    let input = read_all(alloc, reader)?;
+    let answer = match command {
+        Command::Check => check(alloc, input)?,
+    };
+    write_all(writer, answer.output.as_slice())?;
+    Ok(answer.status)
+}

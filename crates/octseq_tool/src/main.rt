@@ -1,0 +1,39 @@
+//! Reads octets from standard input, and tells of them as text.
+//!
+//! `octseq_tool check` tells whether they are well-formed UTF-8. The command is the program's one
+//! argument, and with no argument it is `check`.
+#![tactic(auto)]
+
+use engine::{Status, ToolFault, engine};
+use std::process::ExitCode;
+use std::{env, io};
+
+mod engine;
+
+/// The status that the program ends with.
+fn exit_code(ended: Result<Status, ToolFault>) -> ExitCode {
+    ExitCode::from(match ended {
+        Ok(Status::Fine) => 0,
+        Ok(Status::Refused) => 1,
+        Ok(Status::Usage) => 2,
+        Err(ToolFault::Memory) => 3,
+        Err(ToolFault::Read | ToolFault::Write) => 4,
+    })
+}
+
+/// Runs a command on the standard streams.
+fn run(rt: &HostRuntime, command: &str) -> ExitCode {
+    exit_code(engine(rt.alloc(), command, &mut rt.reader(), &mut io::writer(rt)))
+}
+
+fn main(rt: HostRuntime) -> ExitCode {
+    let Ok(args) = env::args(&rt) else {
+        return run(&rt, "");
+    };
+    let mut words = args.skip(1);
+    match (words.next(), words.next()) {
+        (None, _) => run(&rt, "check"),
+        (Some(word), None) => run(&rt, word.as_str()),
+        (Some(_), Some(_)) => run(&rt, ""),
+    }
+}
