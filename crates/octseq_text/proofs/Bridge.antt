@@ -7,7 +7,7 @@ use lib.Utf8.{scalar, scalars, encode, encodes, scalar_cases}
 use Rattle.octseq_text.specs.Encoding.{IsEncoding, IsCharacter, number_of, encoding_of}
 use Rattle.octseq_text.specs.Text.{Spells, IsWellFormed}
 use Rattle.octseq_text.proofs.Numbers.{number_is_character, encoding_is_of}
-use Rattle.octseq_text.proofs.Spelling.{octets_of}
+use Rattle.octseq_text.proofs.Spelling.{octets_of_spelled}
 
 pub encode-is : (c : ℕ) → encode c ≡ encoding_of c
 unfolding encoding_of encode
@@ -45,7 +45,7 @@ spells_all (c ∷ cs) h =
     }
 
 pub utf8_from_well_formed : (x : List ℕ) → IsWellFormed x → IsUtf8 x
-utf8_from_well_formed x (cs, s) = (cs, (ap scalars (sym s.numbers) ∙ scalars_from s.encodings s.each, encodes-are cs ∙ octets_of s))
+utf8_from_well_formed x (cs, s) = (cs, (ap scalars (sym s.numbers) ∙ scalars_from s.encodings s.each, encodes-are cs ∙ octets_of_spelled s))
 
 pub well_formed_from_utf8 : (x : List ℕ) → IsUtf8 x → IsWellFormed x
 well_formed_from_utf8 x (cs, u) = (cs, subst (λ y. Spells y cs) (sym (encodes-are cs) ∙ u.1) (spells_all cs u.0))

@@ -1,10 +1,11 @@
 -- What octets spell: the characters are a function of the octets, and the octets one of the characters.
-use Rattle.std.proofs.Common.{◌≡◌, ℕ, ◌≤◌, true, false, cond, List, [], ◌∷◌, ◌++◌, map, refl, arith, ap, sym, ◌∙◌, subst}
+use Rattle.std.proofs.Common.{◌≡◌, ℕ, ◌≤◌, true, false, cond, List, [], ◌∷◌, ◌++◌, map, refl, arith, ap, sym, ◌∙◌, subst, append_assoc}
 use Rattle.std.proofs.lemmas.Bool.Decides.{nat_tests}
 use Rattle.std.specs.Int.{IsInRange, is_in_range}
-use Rattle.std.specs.List.{concat, flat_map, AllByRecursion}
-use Rattle.octseq_text.specs.Encoding.{IsEncoding, row_00_7F, row_C2_DF, row_E0, row_E1_EC, row_ED, row_EE_EF, row_F0, row_F1_F3, row_F4, number_of, encoding_of}
-use Rattle.octseq_text.specs.Text.{Spells, begins_within, put_in_front, encodings_in, chars}
+use Rattle.std.proofs.lemmas.List.{append-nil, map-append}
+use Rattle.std.specs.List.{concat, AllByRecursion}
+use Rattle.octseq_text.specs.Encoding.{IsEncoding, row_00_7F, row_C2_DF, row_E0, row_E1_EC, row_ED, row_EE_EF, row_F0, row_F1_F3, row_F4, number_of}
+use Rattle.octseq_text.specs.Text.{octets_of, Spells, begins_within, put_in_front, encodings_in, chars}
 use Rattle.octseq_text.proofs.Numbers.{encoding_of-number_of}
 
 -- an octet is within an encoding, or outside
@@ -87,14 +88,36 @@ pub spells_chars : {x cs : List ℕ} → Spells x cs → Spells x (chars x)
 spells_chars {x} {cs} s = subst (Spells x) (sym (chars_of s)) s
 
 -- the characters' encodings are the octets
-octets_of_encodings : (es : List (List ℕ)) → AllByRecursion IsEncoding es → flat_map encoding_of (map number_of es) ≡ concat es
-octets_of_encodings [] h = refl
-octets_of_encodings (e ∷ es) h =
-    ap (λ y. y ++ flat_map encoding_of (map number_of es)) (encoding_of-number_of h.0) ∙ ap (λ y. e ++ y) (octets_of_encodings es h.1)
+octets_of_numbers : (es : List (List ℕ)) → AllByRecursion IsEncoding es → octets_of (map number_of es) ≡ concat es
+octets_of_numbers [] h = refl
+octets_of_numbers (e ∷ es) h =
+    ap (λ y. y ++ octets_of (map number_of es)) (encoding_of-number_of h.0) ∙ ap (λ y. e ++ y) (octets_of_numbers es h.1)
 
-pub octets_of : {x cs : List ℕ} → Spells x cs → flat_map encoding_of cs ≡ x
-octets_of s = ap (flat_map encoding_of) (sym s.numbers) ∙ octets_of_encodings s.encodings s.each ∙ s.joined
+pub octets_of_spelled : {x cs : List ℕ} → Spells x cs → octets_of cs ≡ x
+octets_of_spelled s = ap octets_of (sym s.numbers) ∙ octets_of_numbers s.encodings s.each ∙ s.joined
 
 -- the empty list spells no character
 pub spells_nothing : Spells [] []
 spells_nothing = record { encodings = []; each = tt; joined = refl; numbers = refl }
+
+-- an encoding spells its character
+pub spells_one : {e : List ℕ} → IsEncoding e → Spells e (number_of e ∷ [])
+spells_one {e} p = record { encodings = e ∷ []; each = (p, tt); joined = append-nil e; numbers = refl }
+
+-- octets behind others spell their characters behind those of the others
+
+each-append : (es fs : List (List ℕ)) → AllByRecursion IsEncoding es → AllByRecursion IsEncoding fs → AllByRecursion IsEncoding (es ++ fs)
+each-append [] fs p q = q
+each-append (e ∷ es) fs p q = (p.0, each-append es fs p.1 q)
+
+concat-append : (es fs : List (List ℕ)) → concat (es ++ fs) ≡ concat es ++ concat fs
+concat-append [] fs = refl
+concat-append (e ∷ es) fs = ap (λ y. e ++ y) (concat-append es fs) ∙ sym (append_assoc e (concat es) (concat fs))
+
+pub spells-append : {x y cs ds : List ℕ} → Spells x cs → Spells y ds → Spells (x ++ y) (cs ++ ds)
+spells-append {x} {cs = cs} s t = record {
+  encodings = s.encodings ++ t.encodings;
+  each = each-append s.encodings t.encodings s.each t.each;
+  joined = concat-append s.encodings t.encodings ∙ ap (λ y. y ++ concat t.encodings) s.joined ∙ ap (λ y. x ++ y) t.joined;
+  numbers = map-append number_of s.encodings t.encodings ∙ ap (λ y. y ++ map number_of t.encodings) s.numbers ∙ ap (λ y. cs ++ y) t.numbers;
+}

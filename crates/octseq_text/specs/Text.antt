@@ -1,8 +1,8 @@
 -- Octets as text.
 use Rattle.std.specs.Prelude.{◌≡◌, ℕ, Bool, false, List, [], ◌∷◌, map, if◌then◌else◌}
 use Rattle.std.specs.Int.{is_in_range}
-use Rattle.std.specs.List.{concat, AllByRecursion}
-use Rattle.octseq_text.specs.Encoding.{IsEncoding, number_of}
+use Rattle.std.specs.List.{concat, flat_map, AllByRecursion}
+use Rattle.octseq_text.specs.Encoding.{IsEncoding, number_of, encoding_of}
 
 -- The octets are encodings, one after another, and the characters are their numbers.
 pub record Spells (octets characters : List ℕ) : Type 0 where
@@ -33,3 +33,7 @@ encodings_in (a ∷ octets) = if begins_within octets then put_in_front a (encod
 -- The characters of well-formed octets.
 abbrev pub chars : List ℕ → List ℕ
 chars octets = map number_of (encodings_in octets)
+
+-- The octets of characters: their encodings, one after another.
+abbrev pub octets_of : List ℕ → List ℕ
+octets_of characters = flat_map encoding_of characters

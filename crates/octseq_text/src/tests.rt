@@ -1,9 +1,14 @@
-use crate::str::StrBuilder;
+use crate::str::{Command, Reply, StrBuilder, run};
+use capped::Capped;
 use octseq_core::array::Array;
-use octseq_core::builder::{EmptyBuilder, OctetsBuilder};
+use octseq_core::builder::{AppendError, EmptyBuilder, OctetsBuilder, ShortBuf, Truncate};
+use rationed::Rationed;
 use std::alloc::Global;
 use std::process::Abort;
 use std::test::Fail;
+
+mod capped;
+mod rationed;
 
 #[test]
 fn thai_and_chinese_are_read(rt: HostRuntime) -> Result<(), Fail> {
@@ -39,4 +44,122 @@ fn make<B: EmptyBuilder>(rt: &impl Abort, alloc: Global) -> Result<(), Fail> {
 fn texts_are_made_empty(rt: HostRuntime) -> Result<(), Fail> {
     make::<Vec<u8>>(&rt, rt.alloc())?;
     make::<Array<0>>(&rt, rt.alloc())
+}
+
+#[test]
+fn characters_are_pushed(rt: HostRuntime) -> Result<(), Fail> {
+    let octets = "ประเทศไทย中".as_bytes().to_vec(rt.alloc())?;
+    let mut text = StrBuilder::from_utf8(octets).ok().ok_or("refused")?;
+    for ch in ['华', 'b', '¢', '€', '𤭢'] {
+        text.push(ch)?;
+    }
+    assert_eq!(rt; text.len(), 43);
+    assert_eq!(rt; text.as_str(), "ประเทศไทย中华b¢€𤭢");
+    Ok(())
+}
+
+#[test]
+fn texts_are_pushed(rt: HostRuntime) -> Result<(), Fail> {
+    let mut text = StrBuilder::<Vec<u8>>::new(rt.alloc())?;
+    text.push_str("")?;
+    assert_eq!(rt; text.as_str(), "");
+    text.push_str("abc")?;
+    assert_eq!(rt; text.as_str(), "abc");
+    text.push_str("ประเทศไทย中华Việt Nam")?;
+    assert_eq!(rt; text.as_str(), "abcประเทศไทย中华Việt Nam");
+    assert_eq!(rt; text.len(), 46);
+    Ok(())
+}
+
+#[test]
+fn a_push_that_passes_the_limit_is_refused(rt: HostRuntime) -> Result<(), Fail> {
+    let mut text = StrBuilder::<Array<4>>::new(rt.alloc())?;
+    assert_eq!(rt; text.try_push_str("abc"), Ok(()));
+    assert_eq!(rt; text.try_push('¢'), Err(AppendError::Short(ShortBuf)));
+    assert_eq!(rt; text.try_push_str("de"), Err(AppendError::Short(ShortBuf)));
+    assert_eq!(rt; text.try_push('d'), Ok(()));
+    assert_eq!(rt; text.as_str(), "abcd");
+    Ok(())
+}
+
+/// The replies to commands on an empty text, which are the ones that are wanted.
+fn replies<B: EmptyBuilder + Truncate>(
+    rt: &impl Abort,
+    alloc: Global,
+    commands: &[Command],
+    wanted: &[Reply],
+) -> Result<(), Fail> {
+    let mut text = StrBuilder::<B>::new(alloc)?;
+    let replies = run(alloc, &mut text, commands)?;
+    assert_eq!(rt; replies.as_slice(), wanted);
+    Ok(())
+}
+
+#[test]
+fn commands_are_answered(rt: HostRuntime) -> Result<(), Fail> {
+    let alloc = rt.alloc();
+    let commands = [
+        Command::Push('€'),
+        Command::Push('¢'),
+        Command::Push('b'),
+        Command::PushStr(""),
+        Command::Len,
+        Command::Is("€b"),
+    ];
+    let at_four = [
+        Reply::Done,
+        Reply::Short,
+        Reply::Done,
+        Reply::Done,
+        Reply::Len(4),
+        Reply::Is(true),
+    ];
+    replies::<Array<4>>(&rt, alloc, &commands, &at_four)?;
+    let unlimited = [
+        Reply::Done,
+        Reply::Done,
+        Reply::Done,
+        Reply::Done,
+        Reply::Len(6),
+        Reply::Is(false),
+    ];
+    replies::<Vec<u8>>(&rt, alloc, &commands, &unlimited)?;
+    let to_none = [Command::PushStr(""), Command::Push('a'), Command::Len];
+    let at_none = [Reply::Done, Reply::Short, Reply::Len(0)];
+    replies::<Array<0>>(&rt, alloc, &to_none, &at_none)?;
+    let to_five = [
+        Command::Push('€'),
+        Command::Push('é'),
+        Command::Push('a'),
+        Command::Len,
+    ];
+    let at_five = [Reply::Done, Reply::Done, Reply::Short, Reply::Len(5)];
+    replies::<Capped>(&rt, alloc, &to_five, &at_five)
+}
+
+#[test]
+fn a_refusal_of_memory_leaves_the_text(rt: HostRuntime) -> Result<(), Fail> {
+    let alloc = rt.alloc();
+    let commands = [
+        Command::PushStr("ab"),
+        Command::Push('é'),
+        Command::PushStr("c"),
+    ];
+    let texts = ["abéc", "éc", "abc", "abé"];
+    for (n, text) in texts.iter().enumerate() {
+        let rationed = Rationed::new(Vec::new(alloc), n);
+        let mut builder = StrBuilder::from_utf8(rationed).ok().ok_or("refused")?;
+        let replies = run(alloc, &mut builder, &commands)?;
+        assert_eq!(rt; builder.as_str(), *text);
+        assert_eq!(rt; replies.len(), 3);
+        for (i, reply) in replies.iter().enumerate() {
+            let wanted = if i + 1 == n {
+                Reply::Memory
+            } else {
+                Reply::Done
+            };
+            assert_eq!(rt; *reply, wanted, "reply {i} of run {n}");
+        }
+    }
+    Ok(())
 }

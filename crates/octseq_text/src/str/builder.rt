@@ -1,9 +1,13 @@
 //! A text that grows.
-ghost use Rattle.std.specs.Prelude.{◌≡◌, ◌↔◌, true, List, [], length, IsTrue, IsOk, IfOk, IfErr, OnErr};
-ghost use Rattle.octseq_text.specs.Text.{IsWellFormed};
+ghost use Rattle.std.specs.Prelude.{◌≡◌, ℕ, ◌+◌, ◌↔◌, true, None, List, [], ◌∷◌, ◌++◌, length, IsTrue, IsOk, IfOk, IfErr, OnOk, OnErr};
+ghost use Rattle.octseq_core.specs.Limit.{IsPast};
+ghost use Rattle.octseq_core.specs.Refusal.{IsShort, IsMemory};
+ghost use Rattle.octseq_text.specs.Encoding.{IsEncoding, number_of, encoding_of};
+ghost use Rattle.octseq_text.specs.Run.{Appends, append_reply};
+ghost use Rattle.octseq_text.specs.Text.{IsWellFormed, chars, octets_of};
 
 use super::error::FromUtf8Error;
-use octseq_core::builder::{AsOctets, EmptyBuilder};
+use octseq_core::builder::{AppendError, AsOctets, EmptyBuilder, OctetsBuilder, OctetsLimit};
 use std::alloc::{AllocError, Global};
 use std::marker::Model;
 
@@ -106,7 +110,8 @@ impl<Octets: AsOctets> StrBuilder<Octets> {
 
     /// The length in octets.
     pub fn len(&self) -> usize
-        ensures { result ≡ length (Octets.content self.now) }
+        ensures content { result ≡ length (Octets.content self.now) }
+        ensures characters { result ≡ length (octets_of (chars (Octets.content self.now))) }
     {
         self.as_slice().len()
     }
@@ -116,5 +121,102 @@ impl<Octets: AsOctets> StrBuilder<Octets> {
         ensures { IsTrue result ↔ (Octets.content self.now ≡ []) }
     {
         self.as_slice().is_empty()
+    }
+
+    /// Appends all of `s`, or nothing.
+    ///
+    /// # Errors
+    ///
+    /// `Short` where the text would pass the limit of its type, and else `Memory` where a request for
+    /// memory was refused. The text is then as it was.
+    pub fn try_push_str(&mut self, s: &str) -> Result<(), AppendError>
+    where
+        Octets: OctetsBuilder,
+        ensures ok { OnOk result (Octets.content self.new ≡ Octets.content self.old ++ s.now) }
+        ensures err { OnErr result (Octets.content self.new ≡ Octets.content self.old) }
+        ensures short { IsShort result
+            ↔ IsPast Octets.limit (length (Octets.content self.old) + length s.now) }
+        ensures memory { IsMemory result → Octets.asks ≡ true }
+        ensures borrows { Octets.borrows self.new ≡ Octets.borrows self.old }
+
+        // The same of the characters.
+        ensures step { Appends Octets.limit Octets.asks (chars (Octets.content self.old)) (chars s.now)
+            (append_reply result) (chars (Octets.content self.new)) }
+    {
+        self.octets.append_slice(s.as_bytes())
+    }
+
+    /// Appends `ch`, or nothing.
+    ///
+    /// # Errors
+    ///
+    /// `Short` where the text would pass the limit of its type, and else `Memory` where a request for
+    /// memory was refused. The text is then as it was.
+    pub fn try_push(&mut self, ch: char) -> Result<(), AppendError>
+    where
+        Octets: OctetsBuilder,
+        ensures ok { OnOk result (Octets.content self.new ≡ Octets.content self.old ++ encoding_of ch) }
+        ensures err { OnErr result (Octets.content self.new ≡ Octets.content self.old) }
+        ensures short { IsShort result
+            ↔ IsPast Octets.limit (length (Octets.content self.old) + length (encoding_of ch)) }
+        ensures memory { IsMemory result → Octets.asks ≡ true }
+        ensures borrows { Octets.borrows self.new ≡ Octets.borrows self.old }
+
+        // The character has one encoding, and no other.
+        ensures encoding { IsEncoding (encoding_of ch) × (number_of (encoding_of ch) ≡ ch) }
+        ensures only { (e : List ℕ) → IsEncoding e → number_of e ≡ ch → e ≡ encoding_of ch }
+
+        // The same of the characters.
+        ensures step { Appends Octets.limit Octets.asks (chars (Octets.content self.old)) (ch ∷ [])
+            (append_reply result) (chars (Octets.content self.new)) }
+    {
+        let mut octets = [0; 4];
+        self.try_push_str(ch.encode_utf8(&mut octets[..]))
+    }
+
+    /// Appends all of `s`, or nothing, in a builder with no limit.
+    ///
+    /// # Errors
+    ///
+    /// `AllocError` where a request for memory was refused. The text is then as it was.
+    pub fn push_str(&mut self, s: &str) -> Result<(), AllocError>
+    where
+        Octets: OctetsBuilder,
+        requires { Octets.limit ≡ None }
+        ensures ok { OnOk result (Octets.content self.new ≡ Octets.content self.old ++ s.now) }
+        ensures err { OnErr result (Octets.content self.new ≡ Octets.content self.old) }
+        ensures memory { OnErr result (Octets.asks ≡ true) }
+        ensures borrows { Octets.borrows self.new ≡ Octets.borrows self.old }
+        ensures characters { OnOk result
+            (chars (Octets.content self.new) ≡ chars (Octets.content self.old) ++ chars s.now) }
+    {
+        match self.try_push_str(s) {
+            Ok(()) => Ok(()),
+            Err(AppendError::Memory) => Err(AllocError),
+            Err(AppendError::Short(_)) => unreachable!(),
+        }
+    }
+
+    /// Appends `ch`, or nothing, in a builder with no limit.
+    ///
+    /// # Errors
+    ///
+    /// `AllocError` where a request for memory was refused. The text is then as it was.
+    pub fn push(&mut self, ch: char) -> Result<(), AllocError>
+    where
+        Octets: OctetsBuilder,
+        requires { Octets.limit ≡ None }
+        ensures ok { OnOk result (Octets.content self.new ≡ Octets.content self.old ++ encoding_of ch) }
+        ensures err { OnErr result (Octets.content self.new ≡ Octets.content self.old) }
+        ensures memory { OnErr result (Octets.asks ≡ true) }
+        ensures borrows { Octets.borrows self.new ≡ Octets.borrows self.old }
+        ensures characters { OnOk result
+            (chars (Octets.content self.new) ≡ chars (Octets.content self.old) ++ ch ∷ []) }
+    {
+        match self.try_push(ch) {
+            Ok(()) => Ok(()),
+            Err(AppendError::Memory) => Err(AllocError),
+            Err(AppendError::Short(_)) => unreachable!(),
+        }
     }
 }

@@ -1,10 +1,9 @@
 //! Laws about the definitions of UTF-8. Each stands in the contract of a function that does nothing, so
 //! that a check asks for its proof and callers can cite it.
 ghost use Rattle.std.specs.Prelude.{◌≡◌, ℕ, ◌↔◌, List, encode_utf8};
-ghost use Rattle.std.specs.List.{flat_map};
 ghost use Rattle.std.specs.Str.{IsUtf8};
 ghost use Rattle.octseq_text.specs.Encoding.{IsEncoding, IsCharacter, number_of, encoding_of};
-ghost use Rattle.octseq_text.specs.Text.{Spells, IsWellFormed, chars};
+ghost use Rattle.octseq_text.specs.Text.{Spells, IsWellFormed, chars, octets_of};
 
 /// Each character has one encoding, and each encoding is that of one character.
 pub fn one_encoding()
@@ -16,7 +15,7 @@ pub fn one_encoding()
 /// Octets spell one list of characters at most, and the characters one list of octets.
 pub fn one_spelling()
     ensures characters { (octets characters : List ℕ) → Spells octets characters → chars octets ≡ characters }
-    ensures octets { (octets characters : List ℕ) → Spells octets characters → flat_map encoding_of characters ≡ octets }
+    ensures octets { (octets characters : List ℕ) → Spells octets characters → octets_of characters ≡ octets }
 {}
 
 /// std's words for well-formed octets and for the octets of a character mean the same.

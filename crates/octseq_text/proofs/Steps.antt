@@ -1,0 +1,46 @@
+-- What a call on octets does to the characters.
+use Rattle.std.proofs.Common.{◌≡◌, ℕ, ◌+◌, ◌<◌, ◌≤◌, Bool, true, Option, Some, None, List, ◌++◌, length, Result, Ok, Err, OnOk, OnErr, ◌↔◌, refl, arith, ap, sym, ◌∙◌, subst, ⊎_elim, length-append}
+use Rattle.std.proofs.lemmas.Bool.{cases_lt}
+use Rattle.octseq_core.specs.Limit.{IsWithin, IsPast}
+use Rattle.octseq_core.specs.Refusal.{IsShort, IsMemory}
+use Rattle.octseq_core.specs.declared.builder.AppendError.{AppendError}
+use Rattle.octseq_core.specs.declared.builder.AppendError.TheVariants.{Short, Memory}
+use Rattle.octseq_text.specs.Run.{Appends, append_reply}
+use Rattle.octseq_text.specs.Text.{IsWellFormed, chars, octets_of}
+use Rattle.octseq_text.proofs.Texts.{well_formed-append, chars-append, octets_of-append}
+
+-- what isn't past a limit is within it
+pub within : (limit : Option ℕ) (n : ℕ) → ¬ IsPast limit n → IsWithin limit n
+within None n h = tt
+within (Some l) n h = ⊎_elim (λ p. absurd (h p)) (λ q. q) (cases_lt l n)
+
+-- an append that adds all or nothing keeps octets well formed
+pub well_formed-appended : {T E : Type 0} (r : Result T E) (new old more : List ℕ) → OnOk r (new ≡ old ++ more) → OnErr r (new ≡ old)
+    → IsWellFormed old → IsWellFormed more → IsWellFormed new
+well_formed-appended (Ok x) new old more ok err v w = subst IsWellFormed (sym ok) (well_formed-append old more v w)
+well_formed-appended (Err e) new old more ok err v w = subst IsWellFormed (sym err) v
+
+-- an append of octets is one of their characters
+
+appends_with : (limit : Option ℕ) (asks : Bool) (r : Result (Unit {0}) AppendError) (new old more : List ℕ)
+    → OnOk r (new ≡ old ++ more) → OnErr r (new ≡ old)
+    → (IsShort r ↔ IsPast limit (length (octets_of (chars old ++ chars more)))) → (IsMemory r → asks ≡ true)
+    → (OnOk r (new ≡ old ++ more) → OnOk r (chars new ≡ chars old ++ chars more))
+    → Appends limit asks (chars old) (chars more) (append_reply r) (chars new)
+appends_with limit asks (Ok u) new old more ok err short memory characters = (within limit _ (λ p. short.1 p), characters ok)
+appends_with limit asks (Err (Short s)) new old more ok err short memory characters = (short.0 tt, ap chars err)
+appends_with limit asks (Err Memory) new old more ok err short memory characters = (within limit _ (λ p. short.1 p), memory tt, ap chars err)
+
+on_ok : {T E : Type 0} (r : Result T E) (P Q : Type 0) → (P → Q) → OnOk r P → OnOk r Q
+on_ok (Ok x) P Q f p = f p
+on_ok (Err e) P Q f p = tt
+
+pub appends : (limit : Option ℕ) (asks : Bool) (r : Result (Unit {0}) AppendError) (new old more : List ℕ)
+    → OnOk r (new ≡ old ++ more) → OnErr r (new ≡ old)
+    → (IsShort r ↔ IsPast limit (length old + length more)) → (IsMemory r → asks ≡ true)
+    → IsWellFormed old → IsWellFormed more
+    → Appends limit asks (chars old) (chars more) (append_reply r) (chars new)
+appends limit asks r new old more ok err short memory v w =
+    let long : length old + length more ≡ length (octets_of (chars old ++ chars more)) =
+    sym (ap length (octets_of-append old more v w) ∙ length-append old more) in
+    appends_with limit asks r new old more ok err (rw (← long) short) memory (on_ok r _ _ (λ e. ap chars e ∙ chars-append old more v w))

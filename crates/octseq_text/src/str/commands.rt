@@ -1,0 +1,83 @@
+//! Lists of commands on a text.
+ghost use Rattle.std.specs.Prelude.{◌≡◌, List, IfOk, OnErr};
+ghost use Rattle.octseq_text.specs.Text.{chars};
+ghost use Rattle.octseq_text.specs.Run.{append_reply, Step, Run};
+
+use super::builder::StrBuilder;
+use octseq_core::builder::{AppendError, AsOctets, OctetsBuilder, OctetsLimit, Truncate};
+use std::alloc::{AllocError, Global};
+
+/// What can be asked of a text.
+#[derive(Clone, Copy)]
+pub enum Command<'a> {
+    /// Append a text.
+    PushStr(&'a str),
+    /// Append a character.
+    Push(char),
+    /// Tell the length in octets.
+    Len,
+    /// Tell whether the text is this one.
+    Is(&'a str),
+}
+
+/// The answer to a [`Command`].
+#[derive(Debug, PartialEq, Eq, Drop)]
+pub enum Reply {
+    /// It was done.
+    Done,
+    /// The text would have passed the limit of its type, and is as it was.
+    Short,
+    /// A request for memory was refused, and the text is as it was.
+    Memory,
+    /// The length in octets.
+    Len(usize),
+    /// Whether the text is the one that was named.
+    Is(bool),
+}
+
+/// The reply for what an append answered.
+fn reply_to(appended: Result<(), AppendError>) -> Reply
+    ensures { result ≡ append_reply appended }
+{
+    match appended {
+        Ok(()) => Reply::Done,
+        Err(AppendError::Short(_)) => Reply::Short,
+        Err(AppendError::Memory) => Reply::Memory,
+    }
+}
+
+/// One command.
+fn step<B: OctetsBuilder + Truncate>(builder: &mut StrBuilder<B>, command: &Command) -> Reply
+    ensures step { Step B.limit B.asks (chars (B.content builder.old)) command.now result (chars (B.content builder.new)) }
+    ensures borrows { B.borrows builder.new ≡ B.borrows builder.old }
+{
+    match *command {
+        Command::PushStr(s) => reply_to(builder.try_push_str(s)),
+        Command::Push(ch) => reply_to(builder.try_push(ch)),
+        Command::Len => Reply::Len(builder.len()),
+        Command::Is(s) => Reply::Is(builder.as_slice() == s.as_bytes()),
+    }
+}
+
+/// Carries out the commands in turn. There is one reply a command: a refused one is answered by its
+/// reply, and the commands after it are carried out.
+///
+/// # Errors
+///
+/// `AllocError` where room for the replies was refused. The text is then as it was.
+pub fn run<B: OctetsBuilder + Truncate>(
+    alloc: Global,
+    builder: &mut StrBuilder<B>,
+    commands: &[Command],
+) -> Result<Vec<Reply>, AllocError>
+    ensures run { IfOk result (λ replies. Run B.limit B.asks
+        (chars (B.content builder.old)) commands.now replies.items (chars (B.content builder.new))) }
+    ensures err { OnErr result (builder.new ≡ builder.old) }
+    ensures borrows { B.borrows builder.new ≡ B.borrows builder.old }
+{
+    let mut replies = Vec::with_capacity(alloc, commands.len())?;
+    for command in commands {
+        replies.push(step(builder, command)).unwrap();
+    }
+    Ok(replies)
+}
