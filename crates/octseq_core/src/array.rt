@@ -6,7 +6,8 @@ ghost use Rattle.octseq_core.specs.Limit.{IsPast};
 ghost use Rattle.octseq_core.specs.Refusal.{IsShort, IsMemory};
 
 use crate::builder::{
-    AppendError, AsOctets, EmptyBuilder, OctetsBuilder, OctetsLimit, ShortBuf, Truncate,
+    AppendError, AsOctets, CloneOctets, EmptyBuilder, OctetsBuilder, OctetsLimit, ShortBuf,
+    Truncate,
 };
 use std::alloc::{AllocError, Global};
 use std::marker::Model;
@@ -75,6 +76,16 @@ impl<const N: usize> Array<N> {
         self.len = new_len;
         Ok(())
     }
+
+    /// A copy of the content and of the hidden octets. It takes no memory.
+    pub fn clone(&self) -> Self
+        ensures { result ≡ self.now }
+    {
+        Array {
+            octets: self.octets,
+            len: self.len,
+        }
+    }
 }
 
 impl<const N: usize> AsOctets for Array<N> {
@@ -141,6 +152,12 @@ impl<const N: usize> EmptyBuilder for Array<N> {
 
     fn with_capacity(_alloc: Global, _capacity: usize) -> Result<Self, AllocError> {
         Ok(Array::new())
+    }
+}
+
+impl<const N: usize> CloneOctets for Array<N> {
+    fn clone_octets(&self, _alloc: Global) -> Result<Self, AllocError> {
+        Ok(self.clone())
     }
 }
 

@@ -92,6 +92,18 @@ pub trait EmptyBuilder: OctetsBuilder {
         ensures memory { OnErr result (Self.asks ≡ true) };
 }
 
+/// A sequence of octets that can be copied.
+pub trait CloneOctets: OctetsLimit {
+    /// A sequence of the same content.
+    ///
+    /// # Errors
+    ///
+    /// `AllocError` where a request for memory was refused.
+    fn clone_octets(&self, alloc: Global) -> Result<Self, AllocError>
+        ensures ok { IfOk result (λ octets. Self.content octets ≡ Self.content self.now) }
+        ensures memory { OnErr result (Self.asks ≡ true) };
+}
+
 /// An append would have made the content longer than the type's limit.
 #[derive(Clone, Debug, PartialEq, Eq, Drop)]
 pub struct ShortBuf;

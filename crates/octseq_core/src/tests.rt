@@ -1,6 +1,7 @@
 use crate::array::Array;
 use crate::builder::{
-    AppendError, AsOctets, EmptyBuilder, OctetsBuilder, OctetsLimit, ShortBuf, Truncate,
+    AppendError, AsOctets, CloneOctets, EmptyBuilder, OctetsBuilder, OctetsLimit, ShortBuf,
+    Truncate,
 };
 use std::alloc::{AllocError, Global};
 use std::process::Abort;
@@ -73,6 +74,8 @@ fn types_tell_their_limits(rt: HostRuntime) {
     assert!(rt; Vec::<u8>::asks_memory());
     assert_eq!(rt; Array::<7>::limit(), Some(7));
     assert!(rt; !Array::<7>::asks_memory());
+    assert_eq!(rt; <&[u8]>::limit(), None);
+    assert!(rt; !<&[u8]>::asks_memory());
     assert_eq!(rt; AsOctets::as_ref(&b"abc".as_slice()), b"abc".as_slice());
 }
 
@@ -90,5 +93,20 @@ fn errors_are_shown(rt: HostRuntime) -> Result<(), Fail> {
         format!(in alloc; "{short:?} {memory:?}")?.as_str(),
         "Short(ShortBuf) Memory"
     );
+    Ok(())
+}
+
+#[test]
+fn sequences_are_copied(rt: HostRuntime) -> Result<(), Fail> {
+    let alloc = rt.alloc();
+    let slice = b"abc".as_slice();
+    assert_eq!(rt; slice.clone_octets(alloc)?, slice);
+    assert_eq!(rt; slice.to_vec(alloc)?.clone_octets(alloc)?.as_slice(), slice);
+    let mut array = Array::<4>::try_from(slice)?;
+    array.truncate(1);
+    let mut copy = array.clone_octets(alloc)?;
+    assert_eq!(rt; copy.as_slice(), b"a".as_slice());
+    assert_eq!(rt; copy.resize_raw(4), Ok(()));
+    assert_eq!(rt; copy.as_slice(), b"abc\0".as_slice());
     Ok(())
 }

@@ -4,3 +4,12 @@ pub mod Bridge
 pub mod Texts
 pub mod Steps
 pub mod Runs
+pub mod Rows
+pub mod Fits
+pub mod Beginnings
+pub mod Fitting
+pub mod Splitting
+pub mod Joins
+pub mod Fronts
+pub mod Faults
+pub mod LossyTexts

@@ -1,5 +1,5 @@
 -- What a call on octets does to the characters.
-use Rattle.std.proofs.Common.{◌≡◌, ℕ, ◌+◌, ◌<◌, ◌≤◌, Bool, true, Option, Some, None, List, ◌++◌, length, Result, Ok, Err, OnOk, OnErr, ◌↔◌, refl, arith, ap, sym, ◌∙◌, subst, ⊎_elim, length-append}
+use Rattle.std.proofs.Common.{◌≡◌, ℕ, ◌+◌, Bool, true, Option, Some, None, List, ◌++◌, length, Result, Ok, Err, OnOk, OnErr, ◌↔◌, ap, sym, ◌∙◌, subst, ⊎_elim, length-append}
 use Rattle.std.proofs.lemmas.Bool.{cases_lt}
 use Rattle.octseq_core.specs.Limit.{IsWithin, IsPast}
 use Rattle.octseq_core.specs.Refusal.{IsShort, IsMemory}

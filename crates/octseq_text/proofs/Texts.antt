@@ -1,9 +1,9 @@
 -- The characters of well-formed octets.
-use Rattle.std.proofs.Common.{◌≡◌, ℕ, List, [], ◌∷◌, ◌++◌, length, ap, sym, ◌∙◌, subst}
+use Rattle.std.proofs.Common.{◌≡◌, ℕ, List, [], ◌∷◌, ◌++◌, ap, sym, ◌∙◌, subst}
 use Rattle.octseq_text.specs.Encoding.{IsCharacter, encoding_of}
 use Rattle.octseq_text.specs.Text.{Spells, IsWellFormed, chars, octets_of}
 use Rattle.octseq_text.proofs.Numbers.{encoding_is_of}
-use Rattle.octseq_text.proofs.Spelling.{chars_of, octets_of_spelled, spells_chars, spells_nothing, spells_one, spells-append}
+use Rattle.octseq_text.proofs.Spelling.{chars_of, octets_of_spelled, spells_chars, spells_one, spells-append}
 
 pub spelled : (x : List ℕ) → IsWellFormed x → Spells x (chars x)
 spelled x (cs, s) = spells_chars s

@@ -1,3 +1,9 @@
 pub mod Encoding
-pub mod Text
+pub mod Fault
+pub mod Front
+pub mod Parts
+pub mod Reading
+pub mod Refused
 pub mod Run
+pub mod Text
+pub mod Turns

@@ -1,4 +1,5 @@
 use crate::str::{Command, Reply, StrBuilder, run};
+use crate::utf8::{Turns, first_fault};
 use capped::Capped;
 use octseq_core::array::Array;
 use octseq_core::builder::{AppendError, EmptyBuilder, OctetsBuilder, ShortBuf, Truncate};
@@ -27,7 +28,101 @@ fn octets_that_are_no_text_are_handed_back(rt: HostRuntime) -> Result<(), Fail> 
     let octets = Array::<4>::try_from(b"a\xC0".as_slice())?;
     let error = StrBuilder::from_utf8(octets).err().ok_or("accepted")?;
     assert_eq!(rt; error.as_slice(), b"a\xC0".as_slice());
-    assert_eq!(rt; error.into_octets().as_slice(), b"a\xC0".as_slice());
+    let fault = error.utf8_error();
+    assert_eq!(rt; (fault.valid_up_to(), fault.error_len()), (1, Some(1)));
+    let copy = error.clone(rt.alloc())?;
+    assert!(rt; copy == error);
+    assert_eq!(rt; copy.into_octets().as_slice(), b"a\xC0".as_slice());
+    let other = Array::<4>::try_from(b"b\xC0".as_slice())?;
+    assert!(rt; StrBuilder::from_utf8(other).err().ok_or("accepted")? != error);
+    assert_eq!(rt;
+        format!(in rt.alloc(); "{error:?}")?.as_str(),
+        "FromUtf8Error { fault: Utf8Fault { valid_up_to: 1, error_len: Some(1) }, .. }"
+    );
+    Ok(())
+}
+
+#[test]
+fn faults_are_found_and_shown(rt: HostRuntime) -> Result<(), Fail> {
+    let cases = [
+        (
+            b"a\xF1\x80\x80".as_slice(),
+            1,
+            None,
+            "incomplete utf-8 byte sequence from index 1",
+        ),
+        (
+            b"a\xC0",
+            1,
+            Some(1),
+            "invalid utf-8 sequence of 1 bytes from index 1",
+        ),
+        (
+            b"\xE2\x82A",
+            0,
+            Some(2),
+            "invalid utf-8 sequence of 2 bytes from index 0",
+        ),
+        (
+            b"\xC3\xA9\xF0\x9F\x98A",
+            2,
+            Some(3),
+            "invalid utf-8 sequence of 3 bytes from index 2",
+        ),
+        (
+            b"\xED\xA0\x80",
+            0,
+            Some(1),
+            "invalid utf-8 sequence of 1 bytes from index 0",
+        ),
+    ];
+    for (octets, place, length, text) in cases {
+        let fault = first_fault(octets, &mut Turns::new()).ok_or("none")?;
+        assert_eq!(rt; fault.valid_up_to(), place);
+        assert_eq!(rt; fault.error_len(), length);
+        assert_eq!(rt; fault.to_string(rt.alloc())?.as_str(), text);
+        let error = StrBuilder::from_utf8(octets).err().ok_or("accepted")?;
+        assert_eq!(rt; error.to_string(rt.alloc())?.as_str(), text);
+    }
+    assert_eq!(rt; first_fault(b"", &mut Turns::new()), None);
+    Ok(())
+}
+
+/// The lengths of the ill-formed parts, from the left.
+fn bad_lengths(alloc: Global, octets: &[u8]) -> Result<Vec<usize>, Fail> {
+    let mut lengths = Vec::new(alloc);
+    let mut at = 0;
+    for _ in octets {
+        let Some(fault) = first_fault(&octets[at.min(octets.len())..], &mut Turns::new()) else {
+            break;
+        };
+        let length = fault.error_len().ok_or("cut")?;
+        lengths.push(length)?;
+        at = at
+            .saturating_add(fault.valid_up_to())
+            .saturating_add(length);
+    }
+    Ok(lengths)
+}
+
+/// The examples of the Unicode Standard, chapter 3, on the replacement of maximal subparts.
+#[test]
+fn maximal_subparts_are_those_of_the_standard(rt: HostRuntime) -> Result<(), Fail> {
+    let cases = [
+        (
+            b"\xC0\xAF\xE0\x80\xBF\xF0\x81\x82A".as_slice(),
+            [1, 1, 1, 1, 1, 1, 1, 1].as_slice(),
+        ),
+        (
+            b"\xED\xA0\x80\xED\xBF\xBF\xED\xAFA",
+            &[1, 1, 1, 1, 1, 1, 1, 1],
+        ),
+        (b"\xF4\x91\x92\x93\xFFA\x80\xBFB", &[1, 1, 1, 1, 1, 1, 1]),
+        (b"\xE1\x80\xE2\xF0\x91\x92\xF1\xBFA", &[2, 1, 3, 2]),
+    ];
+    for (octets, lengths) in cases {
+        assert_eq!(rt; bad_lengths(rt.alloc(), octets)?.as_slice(), lengths);
+    }
     Ok(())
 }
 

@@ -1,4 +1,10 @@
-//! UTF-8: what well-formed octets are, and laws about them.
+//! UTF-8: where octets stop being well formed, and laws about what that means.
+mod fault;
+mod finder;
 mod laws;
+mod turns;
 
-pub use laws::{one_encoding, one_spelling, same_in_std};
+pub use fault::Utf8Fault;
+pub use finder::first_fault;
+pub use laws::{lossy_text, one_encoding, one_fault, one_spelling, one_splitting, same_in_std};
+pub use turns::Turns;

@@ -2,6 +2,7 @@
 use Rattle.std.specs.Prelude.{◌≡◌, ℕ, List, ◌++◌, length, codes, Option, Some, None, IfSome}
 use Rattle.std.specs.Fmt.{decimal}
 use Rattle.std.specs.Io.KnownBytes.{Appends}
+use Rattle.octseq_text.specs.Fault.{Fault, IsFault, fault_text}
 use Rattle.octseq_text.specs.Text.{IsWellFormed}
 use Rattle.octseq_tool.specs.declared.engine.Command.{Command}
 use Rattle.octseq_tool.specs.declared.engine.Command.TheVariants.{Check}
@@ -24,7 +25,7 @@ IsNamed word None = ¬ IsCommand word
 -- what is written for a command, or for a word that names none, and an input, and how the program ends
 abbrev pub Out : Option Command → List ℕ → List ℕ → Status → Type 0
 Out (Some Check) input output Fine = IsWellFormed input × (output ≡ codes "well formed: " ++ decimal (length input) ++ codes " octets\n")
-Out (Some Check) input output Refused = ¬ IsWellFormed input × (output ≡ codes "not well formed\n")
+Out (Some Check) input output Refused = (fault : Fault) × IsFault input fault × (output ≡ fault_text fault ++ codes "\n")
 Out None input output Usage = output ≡ codes "usage: octseq_tool check|lossy|lossy64|records\n"
 Out _ input output _ = ⊥
 

@@ -7,6 +7,7 @@ ghost use Rattle.octseq_tool.specs.declared.engine.Command.TheVariants.{Check};
 ghost use Rattle.octseq_tool.specs.declared.engine.Status.{Status};
 
 use octseq_text::str::StrBuilder;
+use octseq_text::utf8;
 use std::alloc::{AllocError, Global};
 use std::io::{ErrorKind, Read, Write};
 
@@ -54,7 +55,7 @@ impl From<AllocError> for ToolFault {
     }
 }
 
-/// What a command makes of its input.
+/// What is written, and how the program ends.
 #[derive(Drop)]
 struct Answer {
     output: Vec<u8>,
@@ -68,7 +69,9 @@ pub fn one_answer()
     ensures command { (word : List ℕ) (c d : Option Command) → IsNamed word c → IsNamed word d → c ≡ d }
     ensures output { (c : Option Command) (input x y : List ℕ) (s t : Status)
         → Out c input x s → Out c input y t → (x ≡ y) × (s ≡ t) }
-{}
+{
+    utf8::one_fault();
+}
 
 /// The command of this name.
 fn named(word: &str) -> Option<Command>
@@ -80,7 +83,7 @@ fn named(word: &str) -> Option<Command>
     }
 }
 
-/// Whether the octets are well-formed UTF-8.
+/// Whether the octets are well-formed UTF-8, and where they stop being so.
 fn check(alloc: Global, input: Vec<u8>) -> Result<Answer, AllocError>
     ensures { IfOk result (λ answer. Out (Some Check) input.items answer.output.items answer.status) }
 {
@@ -92,10 +95,19 @@ fn check(alloc: Global, input: Vec<u8>) -> Result<Answer, AllocError>
                 status: Status::Fine,
             })
         }
-        Err(_) => Ok(Answer {
-            output: Vec::from_slice(alloc, b"not well formed\n")?,
+        Err(error) => Ok(Answer {
+            output: format!(in alloc; "{error}\n")?.into_bytes(),
             status: Status::Refused,
         }),
+    }
+}
+
+/// What a command makes of its input.
+fn carry_out(alloc: Global, command: Command, input: Vec<u8>) -> Result<Answer, AllocError>
+    ensures { IfOk result (λ answer. Out (Some command) input.items answer.output.items answer.status) }
+{
+    match command {
+        Command::Check => check(alloc, input),
     }
 }
 
@@ -146,9 +158,7 @@ pub fn engine<R: Read, W: Write>(
         return Ok(Status::Usage);
     };
     let input = read_all(alloc, reader)?;
-    let answer = match command {
-        Command::Check => check(alloc, input)?,
-    };
+    let answer = carry_out(alloc, command, input)?;
     write_all(writer, answer.output.as_slice())?;
     Ok(answer.status)
 }

@@ -1,7 +1,9 @@
 //! A vector as a builder: it has no limit, and requests memory as it grows.
 ghost use Rattle.std.specs.Prelude.{true, None};
 
-use super::{AppendError, AsOctets, EmptyBuilder, OctetsBuilder, OctetsLimit, Truncate};
+use super::{
+    AppendError, AsOctets, CloneOctets, EmptyBuilder, OctetsBuilder, OctetsLimit, Truncate,
+};
 use std::alloc::{AllocError, Global};
 
 impl AsOctets for Vec<u8> {
@@ -46,5 +48,11 @@ impl EmptyBuilder for Vec<u8> {
 
     fn with_capacity(alloc: Global, capacity: usize) -> Result<Self, AllocError> {
         Vec::with_capacity(alloc, capacity)
+    }
+}
+
+impl CloneOctets for Vec<u8> {
+    fn clone_octets(&self, alloc: Global) -> Result<Self, AllocError> {
+        Vec::from_slice(alloc, self.as_slice())
     }
 }

@@ -3,10 +3,12 @@ ghost use Rattle.std.specs.Prelude.{◌≡◌, ℕ, ◌+◌, ◌↔◌, true, No
 ghost use Rattle.octseq_core.specs.Limit.{IsPast};
 ghost use Rattle.octseq_core.specs.Refusal.{IsShort, IsMemory};
 ghost use Rattle.octseq_text.specs.Encoding.{IsEncoding, number_of, encoding_of};
+ghost use Rattle.octseq_text.specs.Fault.{IsFault};
 ghost use Rattle.octseq_text.specs.Run.{Appends, append_reply};
 ghost use Rattle.octseq_text.specs.Text.{IsWellFormed, chars, octets_of};
 
 use super::error::FromUtf8Error;
+use crate::utf8::{Turns, first_fault};
 use octseq_core::builder::{AppendError, AsOctets, EmptyBuilder, OctetsBuilder, OctetsLimit};
 use std::alloc::{AllocError, Global};
 use std::marker::Model;
@@ -62,16 +64,16 @@ impl<Octets: AsOctets> StrBuilder<Octets> {
     ///
     /// # Errors
     ///
-    /// Octets that aren't well formed are handed back in the error.
-    #[tactic(auto, using(crate::proofs::Bridge::utf8_from_well_formed, crate::proofs::Bridge::well_formed_from_utf8))]
+    /// Octets that aren't well formed are handed back in the error, with their first fault.
     pub fn from_utf8(octets: Octets) -> Result<Self, FromUtf8Error<Octets>>
         ensures variant { IsOk result ↔ IsWellFormed (Octets.content octets) }
         ensures ok { IfOk result (λ text. text ≡ octets) }
-        ensures err { IfErr result (λ error. error ≡ octets) }
+        ensures err { IfErr result (λ error. error.octets ≡ octets) }
+        ensures fault { IfErr result (λ error. IsFault (Octets.content octets) error.fault) }
     {
-        match std::str::from_utf8(octets.as_ref()) {
-            Ok(_) => Ok(StrBuilder { octets }),
-            Err(_) => Err(FromUtf8Error::new(octets)),
+        match first_fault(octets.as_ref(), &mut Turns::new()) {
+            None => Ok(StrBuilder { octets }),
+            Some(fault) => Err(FromUtf8Error::new(octets, fault)),
         }
     }
 

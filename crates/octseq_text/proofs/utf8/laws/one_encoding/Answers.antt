@@ -1,3 +1,6 @@
+use Rattle.std.proofs.Common.{[], ◌++◌, sym}
+use Rattle.std.proofs.lemmas.List.{append-nil}
+use Rattle.octseq_text.proofs.Fits.{encodings_begin_alike}
 use Rattle.octseq_text.proofs.Numbers as Numbers
 use Rattle.octseq_text.proofs.utf8.laws.one_encoding.Goals as goal
 
@@ -9,3 +12,6 @@ returns-clause-only c = λ e f p q h. Numbers.one_encoding p q h
 
 pub returns-clause-character : goal.returns-clause-character
 returns-clause-character c = λ e p. Numbers.number_is_character p
+
+pub returns-clause-no_front : goal.returns-clause-no_front
+returns-clause-no_front c = λ e more p q. (encodings_begin_alike more [] p q (sym (append-nil (e ++ more)))).1

@@ -1,8 +1,5 @@
-use Rattle.std.proofs.Common.{◌≡◌, ℕ, Bool, Option, List, [], ◌∷◌, ◌++◌, length, OnOk, ◌+◌, ◌↔◌, ap, sym, ◌∙◌, subst}
-use Rattle.octseq_core.specs.Limit.{IsPast}
-use Rattle.octseq_core.specs.Refusal.{IsShort}
+use Rattle.std.proofs.Common.{◌≡◌, [], ◌∷◌, ap, sym, ◌∙◌}
 use Rattle.octseq_text.specs.Encoding.{encoding_of}
-use Rattle.octseq_text.specs.Run.{Appends, append_reply}
 use Rattle.octseq_text.specs.Text.{chars}
 use Rattle.octseq_text.proofs.Bridge.{encode-is, from_scalar}
 use Rattle.octseq_text.proofs.Numbers.{encoding_is_of, one_encoding}

@@ -1,0 +1,8 @@
+use Rattle.octseq_text.proofs.Faults as Faults
+use Rattle.octseq_text.proofs.utf8.laws.one_fault.Goals as goal
+
+pub returns-clause-only : goal.returns-clause-only
+returns-clause-only c = λ octets fault other f g. Faults.one_fault f g
+
+pub returns-clause-refutes : goal.returns-clause-refutes
+returns-clause-refutes c = λ octets fault f. Faults.fault_refutes f

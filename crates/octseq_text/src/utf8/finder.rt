@@ -1,0 +1,119 @@
+//! The finder of the first fault.
+ghost use Rattle.std.specs.Prelude.{◌≡◌, ℕ, ◌+◌, ◌*◌, ◌<◌, ◌≤◌, ◌↔◌, length, take, slice_index, IsNone, IfNone, IfSome};
+ghost use Rattle.std.specs.Int.{is_in_range};
+ghost use Rattle.octseq_text.specs.Fault.{IsFault, fault_end};
+ghost use Rattle.octseq_text.specs.Front.{StandsInFront};
+ghost use Rattle.octseq_text.specs.Reading.{width_of, least_second, greatest_second, fitting};
+ghost use Rattle.octseq_text.specs.Text.{IsWellFormed, chars};
+
+use super::fault::Utf8Fault;
+use super::turns::Turns;
+
+/// How many octets an encoding that begins with this one has, or 0 where none does.
+#[tactic(auto, unfolding(crate::specs::Reading::width_of))]
+fn width(first: u8) -> usize
+    ensures { result ≡ width_of first }
+{
+    match first {
+        0x00..=0x7F => 1,
+        0xC2..=0xDF => 2,
+        0xE0..=0xEF => 3,
+        0xF0..=0xF4 => 4,
+        _ => 0,
+    }
+}
+
+/// Whether an octet may stand second behind this one.
+#[tactic(auto, unfolding(crate::specs::Reading::least_second, crate::specs::Reading::greatest_second))]
+fn may_stand_second(first: u8, second: u8) -> bool
+    ensures { result ≡ is_in_range (least_second first) (greatest_second first) second }
+{
+    match first {
+        0xE0 => 0xA0 <= second && second <= 0xBF,
+        0xED => 0x80 <= second && second <= 0x9F,
+        0xF0 => 0x90 <= second && second <= 0xBF,
+        0xF4 => 0x80 <= second && second <= 0x8F,
+        _ => 0x80 <= second && second <= 0xBF,
+    }
+}
+
+/// Whether an octet may stand third or fourth.
+fn may_follow(octet: u8) -> bool
+    ensures { result ≡ is_in_range 0x80 0xBF octet }
+{
+    0x80 <= octet && octet <= 0xBF
+}
+
+/// How many octets at the front fit an encoding that begins with the first.
+#[tactic(auto, unfolding(crate::specs::Reading::fitting_by))]
+fn fitting_len(octets: &[u8], width: usize) -> usize
+    requires some { 0 < length octets.now }
+    requires width { width ≡ width_of (slice_index octets.now 0) }
+    ensures { result ≡ fitting octets.now }
+{
+    if width < 2 {
+        return width;
+    }
+    if octets.len() < 2 || !may_stand_second(octets[0], octets[1]) {
+        return 1;
+    }
+    if width < 3 || octets.len() < 3 || !may_follow(octets[2]) {
+        return 2;
+    }
+    if width < 4 || octets.len() < 4 || !may_follow(octets[3]) {
+        return 3;
+    }
+    4
+}
+
+/// What stands at the front of octets.
+#[derive(Drop)]
+enum Front {
+    /// An encoding of this many octets.
+    Encoding(usize),
+    /// A bad part of this many octets, or one that reaches the end and wants more.
+    Bad(Option<usize>),
+}
+
+fn part_at_front(octets: &[u8]) -> Front
+    requires { 0 < length octets.now }
+    ensures { StandsInFront octets.now result }
+{
+    let width = width(octets[0]);
+    let fitting = fitting_len(octets, width);
+    if width == 0 {
+        Front::Bad(Some(1))
+    } else if fitting == width {
+        Front::Encoding(width)
+    } else if fitting == octets.len() {
+        Front::Bad(None)
+    } else {
+        Front::Bad(Some(fitting))
+    }
+}
+
+/// The first fault of the octets, or none where they are well-formed UTF-8.
+///
+/// It takes a turn for each character before the fault and one for the fault, and no memory.
+pub fn first_fault(octets: &[u8], turns: &mut Turns) -> Option<Utf8Fault>
+    ensures none { IsNone result ↔ IsWellFormed octets.now }
+    ensures fault { IfSome result (IsFault octets.now) }
+
+    // No more turns than parts, and a turn for every sixteen octets that were passed.
+    ensures turns { IfNone result (turns.new ≤ turns.old + length (chars octets.now)) }
+    ensures turns_to_fault { IfSome result (λ fault.
+        turns.new ≤ turns.old + length (chars (take fault.place octets.now)) + 1) }
+    ensures passed { IfNone result (length octets.now + 16 * turns.old ≤ 16 * turns.new) }
+    ensures passed_to_fault { IfSome result (λ fault.
+        fault_end octets.now fault + 16 * turns.old ≤ 16 * turns.new) }
+{
+    let mut at = 0;
+    while at < octets.len() {
+        turns.tick();
+        match part_at_front(&octets[at..]) {
+            Front::Encoding(len) => at += len,
+            Front::Bad(size) => return Some(Utf8Fault::new(at, size)),
+        }
+    }
+    None
+}
