@@ -3,7 +3,7 @@ use Rattle.std.proofs.Common.{◌≡◌, ℕ, List, [], ◌∷◌, ◌++◌, map
 use Rattle.std.proofs.lemmas.List.{append-nil}
 use Rattle.std.specs.List.{concat, AllByRecursion}
 use Rattle.octseq_text.specs.Encoding.{IsEncoding, number_of, encoding_of}
-use Rattle.octseq_text.specs.Parts.{IsBadPart, Part, Char, Bad, text}
+use Rattle.octseq_text.specs.Parts.{IsBadPart, Part, Char, Bad, text_with}
 use Rattle.octseq_text.specs.Reading.{parts_of}
 use Rattle.octseq_text.specs.Text.{Spells, octets_of}
 use Rattle.octseq_text.proofs.Spelling.{octets_of_spelled}
@@ -25,20 +25,21 @@ pub parts_fault : {x cs : List ℕ} → Spells x cs → (p r : List ℕ) → IsB
 parts_fault {x} {cs} s p r b = parts_front s (p ++ r) ∙ ap (λ ps. map Char cs ++ ps) (parts_bad p r b)
 
 -- the text of characters is their octets
-text-chars : (cs : List ℕ) (ps : List Part) → text (map Char cs ++ ps) ≡ octets_of cs ++ text ps
-text-chars [] ps = refl
-text-chars (c ∷ cs) ps = ap (λ y. encoding_of c ++ y) (text-chars cs ps) ∙ sym (append_assoc (encoding_of c) (octets_of cs) (text ps))
+text-chars : (w : ℕ) (cs : List ℕ) (ps : List Part) → text_with w (map Char cs ++ ps) ≡ octets_of cs ++ text_with w ps
+text-chars w [] ps = refl
+text-chars w (c ∷ cs) ps = ap (λ y. encoding_of c ++ y) (text-chars w cs ps) ∙ sym (append_assoc (encoding_of c) (octets_of cs) (text_with w ps))
 
--- the lossy text at a fault
-pub text_fault : {x cs : List ℕ} → Spells x cs → (p r : List ℕ) → IsBadPart (p ++ r) p
-    → text (parts_of (x ++ (p ++ r))) ≡ x ++ (0xEF ∷ 0xBF ∷ 0xBD ∷ text (parts_of r))
-text_fault {x} {cs} s p r b =
-    ap text (parts_fault s p r b) ∙ text-chars cs (Bad p ∷ parts_of r) ∙ ap (λ y. y ++ (0xEF ∷ 0xBF ∷ 0xBD ∷ text (parts_of r))) (octets_of_spelled s)
+-- the text at a fault
+pub text_fault : (w : ℕ) {x cs : List ℕ} → Spells x cs → (p r : List ℕ) → IsBadPart (p ++ r) p
+    → text_with w (parts_of (x ++ (p ++ r))) ≡ x ++ (encoding_of w ++ text_with w (parts_of r))
+text_fault w {x} {cs} s p r b =
+    ap (text_with w) (parts_fault s p r b) ∙ text-chars w cs (Bad p ∷ parts_of r) ∙ ap (λ y. y ++ (encoding_of w ++ text_with w (parts_of r))) (octets_of_spelled s)
 
 -- the parts of well-formed octets are their characters, and the text is those octets
 
 pub parts_spelled : {x cs : List ℕ} → Spells x cs → parts_of x ≡ map Char cs
 parts_spelled {x} {cs} s = ap parts_of (sym (append-nil x)) ∙ parts_front s [] ∙ ap (λ ps. map Char cs ++ ps) parts_nil ∙ append-nil (map Char cs)
 
-pub text_spelled : {x cs : List ℕ} → Spells x cs → text (parts_of x) ≡ x
-text_spelled {x} {cs} s = ap text (parts_spelled s ∙ sym (append-nil (map Char cs))) ∙ text-chars cs [] ∙ append-nil (octets_of cs) ∙ octets_of_spelled s
+pub text_spelled : (w : ℕ) {x cs : List ℕ} → Spells x cs → text_with w (parts_of x) ≡ x
+text_spelled w {x} {cs} s =
+    ap (text_with w) (parts_spelled s ∙ sym (append-nil (map Char cs))) ∙ text-chars w cs [] ∙ append-nil (octets_of cs) ∙ octets_of_spelled s

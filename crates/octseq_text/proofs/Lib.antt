@@ -13,3 +13,4 @@ pub mod Joins
 pub mod Fronts
 pub mod Faults
 pub mod LossyTexts
+pub mod Replacing

@@ -32,10 +32,14 @@ pub data Splits : List ℕ → List Part → Type 0 where
   encoding : {e rest : List ℕ} {parts : List Part} → IsEncoding e → Splits rest parts → Splits (e ++ rest) (Char (number_of e) ∷ parts)
   bad_part : {bad rest : List ℕ} {parts : List Part} → IsBadPart (bad ++ rest) bad → Splits rest parts → Splits (bad ++ rest) (Bad bad ∷ parts)
 
--- The lossy text of parts: each character's encoding, and that of U+FFFD for each bad part.
-abbrev pub text_of : Part → List ℕ
-text_of (Char c) = encoding_of c
-text_of (Bad bad) = 0xEF ∷ 0xBF ∷ 0xBD ∷ []
+-- The text of parts, with a character in the place of each bad part.
+abbrev pub octets_with : ℕ → Part → List ℕ
+octets_with replacement (Char c) = encoding_of c
+octets_with replacement (Bad bad) = encoding_of replacement
 
+abbrev pub text_with : ℕ → List Part → List ℕ
+text_with replacement parts = flat_map (octets_with replacement) parts
+
+-- The lossy text of parts: it has U+FFFD, the replacement character, which is EF BF BD.
 abbrev pub text : List Part → List ℕ
-text parts = flat_map text_of parts
+text parts = text_with 0xFFFD parts

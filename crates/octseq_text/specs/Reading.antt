@@ -1,9 +1,10 @@
 -- How the finder reads: what the first octet says of the others, and how many octets at the front fit. A second account of the table,
 -- which computes. The proofs show it to be the same, and public contracts don't cite it.
-use Rattle.std.specs.Prelude.{ℕ, zero, suc, ◌-◌, max, Bool, nat_lt, ◌==◌, ◌&&◌, List, [], ◌∷◌, length, take, slice_index, if◌then◌else◌}
+use Rattle.std.specs.Prelude.{◌≡◌, ℕ, ◌+◌, ◌*◌, ◌≤◌, ◌++◌, drop, zero, suc, ◌-◌, max, Bool, nat_lt, ◌==◌, ◌&&◌, List, [], ◌∷◌, length, take, slice_index, if◌then◌else◌}
 use Rattle.std.specs.Int.{is_in_range}
 use Rattle.octseq_text.specs.Encoding.{number_of}
-use Rattle.octseq_text.specs.Parts.{Part, Char, Bad}
+use Rattle.octseq_text.specs.Fault.{Fault, fault_end}
+use Rattle.octseq_text.specs.Parts.{Part, Char, Bad, text_with}
 
 -- how many octets an encoding that begins with this octet has, or 0 where none does
 unfoldable pub width_of : ℕ → ℕ
@@ -52,3 +53,10 @@ parts_after (suc n) (a ∷ octets) = parts_after n octets
 -- the parts of octets
 abbrev pub parts_of : List ℕ → List Part
 parts_of octets = parts_after 0 octets
+
+-- What was made of octets from their first fault on, as far as a rest that is well formed: with that rest it is the whole text. The turns
+-- since that fault are no more than the parts behind it, and sixteen times as many reach from its end to that of the octets.
+pub record IsReplaced (replacement : ℕ) (octets : List ℕ) (first : Fault) (made rest : List ℕ) (old now : ℕ) : Type 0 where
+  pub whole : made ++ rest ≡ text_with replacement (parts_of octets)
+  pub turns : now ≤ old + length (parts_of (drop (fault_end octets first) octets))
+  pub passed : length octets + 16 * old ≤ 16 * now + fault_end octets first

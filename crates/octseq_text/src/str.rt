@@ -2,6 +2,7 @@
 mod builder;
 mod commands;
 mod error;
+mod lossy;
 
 pub use builder::StrBuilder;
 pub use commands::{Command, Reply, run};

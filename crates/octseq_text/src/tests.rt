@@ -258,3 +258,104 @@ fn a_refusal_of_memory_leaves_the_text(rt: HostRuntime) -> Result<(), Fail> {
     }
     Ok(())
 }
+
+/// The lossy text of octets over a vector.
+fn lossy(alloc: Global, octets: &[u8]) -> Result<StrBuilder<Vec<u8>>, Fail> {
+    Ok(StrBuilder::try_from_utf8_lossy_counted(alloc, octets.to_vec(alloc)?, &mut Turns::new())?)
+}
+
+#[test]
+fn each_bad_part_becomes_one_replacement(rt: HostRuntime) -> Result<(), Fail> {
+    let cases = [
+        (
+            b"Hello\xC0\x80 There\xE6\x83 Goodbye".as_slice(),
+            "Hello\u{FFFD}\u{FFFD} There\u{FFFD} Goodbye",
+        ),
+        (
+            b"\xF1foo\xF1\x80bar\xF1\x80\x80baz",
+            "\u{FFFD}foo\u{FFFD}bar\u{FFFD}baz",
+        ),
+        (
+            b"\xF0\x80\x80\x80foo\xF0\x90\x80\x80bar",
+            "\u{FFFD}\u{FFFD}\u{FFFD}\u{FFFD}foo\u{10000}bar",
+        ),
+        (
+            b"\xED\xA0\x80foo\xED\xBF\xBFbar",
+            "\u{FFFD}\u{FFFD}\u{FFFD}foo\u{FFFD}\u{FFFD}\u{FFFD}bar",
+        ),
+        (
+            b"\xF4foo\xF4\x80bar\xF4\xBFbaz",
+            "\u{FFFD}foo\u{FFFD}bar\u{FFFD}\u{FFFD}baz",
+        ),
+        (b"a\xF1\x80\x80", "a\u{FFFD}"),
+        (b"a\xC0", "a\u{FFFD}"),
+        (
+            b"Hello\xC2 There\xFF Goodbye",
+            "Hello\u{FFFD} There\u{FFFD} Goodbye",
+        ),
+        (b"\xF5foo\xF5\x80bar", "\u{FFFD}foo\u{FFFD}\u{FFFD}bar"),
+        (b"hello", "hello"),
+        ("ศไทย中华Việt Nam".as_bytes(), "ศไทย中华Việt Nam"),
+        (b"", ""),
+        // The examples of the Unicode Standard, chapter 3.
+        (
+            b"\xC0\xAF\xE0\x80\xBF\xF0\x81\x82A",
+            "\u{FFFD}\u{FFFD}\u{FFFD}\u{FFFD}\u{FFFD}\u{FFFD}\u{FFFD}\u{FFFD}A",
+        ),
+        (
+            b"\xED\xA0\x80\xED\xBF\xBF\xED\xAFA",
+            "\u{FFFD}\u{FFFD}\u{FFFD}\u{FFFD}\u{FFFD}\u{FFFD}\u{FFFD}\u{FFFD}A",
+        ),
+        (
+            b"\xF4\x91\x92\x93\xFFA\x80\xBFB",
+            "\u{FFFD}\u{FFFD}\u{FFFD}\u{FFFD}\u{FFFD}A\u{FFFD}\u{FFFD}B",
+        ),
+        (
+            b"\xE1\x80\xE2\xF0\x91\x92\xF1\xBFA",
+            "\u{FFFD}\u{FFFD}\u{FFFD}\u{FFFD}A",
+        ),
+    ];
+    for (octets, text) in cases {
+        assert_eq!(rt; lossy(rt.alloc(), octets)?.as_str(), text);
+        let read = StrBuilder::from_utf8_lossy(rt.alloc(), octets.to_vec(rt.alloc())?)?;
+        assert_eq!(rt; read.as_str(), text);
+    }
+    assert_eq!(rt;
+        lossy(rt.alloc(), b"Hello\xC0\x80 There\xE6\x83 Goodbye")?.len(),
+        28
+    );
+    Ok(())
+}
+
+/// What a builder of another kind answers for these octets.
+fn lossy_over<B: EmptyBuilder>(
+    rt: &impl Abort,
+    alloc: Global,
+    octets: &[u8],
+    wanted: Result<&str, AppendError>,
+) -> Result<(), Fail> {
+    let mut builder = B::empty(alloc)?;
+    builder.append_slice(octets)?;
+    let text = StrBuilder::try_from_utf8_lossy(alloc, builder);
+    match (text, wanted) {
+        (Ok(text), Ok(wanted)) => assert_eq!(rt; text.as_str(), wanted),
+        (Err(error), Err(wanted)) => assert_eq!(rt; error, wanted),
+        (Ok(_), Err(_)) => assert!(rt; false, "it was read"),
+        (Err(_), Ok(_)) => assert!(rt; false, "it was refused"),
+    }
+    Ok(())
+}
+
+#[test]
+fn a_lossy_text_that_passes_the_limit_is_refused(rt: HostRuntime) -> Result<(), Fail> {
+    let alloc = rt.alloc();
+    let short = || Err(AppendError::Short(ShortBuf));
+    lossy_over::<Array<0>>(&rt, alloc, b"", Ok(""))?;
+    lossy_over::<Array<4>>(&rt, alloc, b"a\xFF\xFF", short())?;
+    lossy_over::<Array<7>>(&rt, alloc, b"a\xFF\xFF", Ok("a\u{FFFD}\u{FFFD}"))?;
+    lossy_over::<Capped>(&rt, alloc, b"a\xFF", Ok("a\u{FFFD}"))?;
+    lossy_over::<Capped>(&rt, alloc, b"\xFF\xFF", short())?;
+    let refused = Array::<0>::new().append_slice(b"a");
+    assert_eq!(rt; refused, Err(AppendError::Short(ShortBuf)));
+    Ok(())
+}

@@ -1,15 +1,31 @@
 -- What is written is a function of the word and the input.
-use Rattle.std.proofs.Common.{◌≡◌, refl, sym, ◌∙◌, ap, List, ◌++◌, codes, ℕ, Option, Some, None}
+use Rattle.std.proofs.Common.{◌≡◌, ◌≢◌, get_or, refl, sym, ◌∙◌, ap, arith, List, ◌++◌, length, codes, ℕ, Option, Some, None}
 use Rattle.octseq_text.specs.Fault.{Fault, IsFault, fault_text}
+use Rattle.octseq_text.specs.Parts.{Part, Splits, text}
 use Rattle.octseq_text.specs.Text.{IsWellFormed}
-use Rattle.octseq_tool.specs.Out.{name_of, IsNamed, Out}
+use Rattle.octseq_tool.specs.Out.{name_of, IsNamed, HasText, Out}
 use Rattle.octseq_tool.specs.declared.engine.Command.{Command}
-use Rattle.octseq_tool.specs.declared.engine.Command.TheVariants.{Check}
+use Rattle.octseq_tool.specs.declared.engine.Command.TheVariants.{Check, Lossy, Lossy64}
 use Rattle.octseq_tool.specs.declared.engine.Status.{Status}
 use Rattle.octseq_tool.specs.declared.engine.Status.TheVariants.{Fine, Refused, Usage}
 
+-- words that differ in their first octet, or in their length
+other_first : {P : Type 0} (x y : List ℕ) → get_or x 0 0 ≢ get_or y 0 0 → x ≡ y → P
+other_first x y h e = absurd (h (ap (λ w. get_or w 0 0) e))
+
+other_length : {P : Type 0} (x y : List ℕ) → length x ≢ length y → x ≡ y → P
+other_length x y h e = absurd (h (ap length e))
+
 same_name : (c d : Command) → name_of c ≡ name_of d → c ≡ d
 same_name Check Check e = refl
+same_name Lossy Lossy e = refl
+same_name Lossy64 Lossy64 e = refl
+same_name Check Lossy e = other_first _ _ (omega arith) e
+same_name Check Lossy64 e = other_first _ _ (omega arith) e
+same_name Lossy Check e = other_first _ _ (omega arith) e
+same_name Lossy64 Check e = other_first _ _ (omega arith) e
+same_name Lossy Lossy64 e = other_length _ _ (omega arith) e
+same_name Lossy64 Lossy e = other_length _ _ (omega arith) e
 
 pub one_command : (word : List ℕ) (c d : Option Command) → IsNamed word c → IsNamed word d → c ≡ d
 one_command word (Some c) (Some d) e f = ap Some (same_name c d (sym e ∙ f))
@@ -28,17 +44,38 @@ usage input x y Refused t p q = absurd p
 usage input x y s Fine p q = absurd q
 usage input x y s Refused p q = absurd q
 
--- octets have one fault, and those that have one aren't well formed
-module _ (only : (octets : List ℕ) (fault other : Fault) → IsFault octets fault → IsFault octets other → fault ≡ other)
-    (refutes : (octets : List ℕ) (fault : Fault) → IsFault octets fault → ¬ IsWellFormed octets) where
+-- by what the laws of octets say: they have one fault, those that have one aren't well formed, and they split in one way
+module _ (one_fault : (octets : List ℕ) (fault other : Fault) → IsFault octets fault → IsFault octets other → fault ≡ other)
+    (refutes : (octets : List ℕ) (fault : Fault) → IsFault octets fault → ¬ IsWellFormed octets)
+    (one_splitting : (octets : List ℕ) (parts others : List Part) → Splits octets parts → Splits octets others → parts ≡ others) where
   checks : (input x y : List ℕ) (s t : Status) → Out (Some Check) input x s → Out (Some Check) input y t → Same x y s t
   checks input x y Fine Fine p q = (p.1 ∙ sym q.1, refl)
-  checks input x y Refused Refused (fault, f, e) (other, g, k) = (e ∙ ap (λ f. fault_text f ++ codes "\n") (only input fault other f g) ∙ sym k, refl)
+  checks input x y Refused Refused (fault, f, e) (other, g, k) = (e ∙ ap (λ f. fault_text f ++ codes "\n") (one_fault input fault other f g) ∙ sym k, refl)
   checks input x y Fine Refused p (other, g, k) = absurd (refutes input other g p.0)
   checks input x y Refused Fine (fault, f, e) q = absurd (refutes input fault f q.0)
   checks input x y Usage t p q = absurd p
   checks input x y s Usage p q = absurd q
 
+  one_text : (input x y : List ℕ) → HasText input x → HasText input y → x ≡ y
+  one_text input x y (parts, s, e) (others, t, f) = e ∙ ap text (one_splitting input parts others s t) ∙ sym f
+
+  lossies : (input x y : List ℕ) (s t : Status) → Out (Some Lossy) input x s → Out (Some Lossy) input y t → Same x y s t
+  lossies input x y Fine Fine p q = (one_text input x y p q, refl)
+  lossies input x y Refused t p q = absurd p
+  lossies input x y Usage t p q = absurd p
+  lossies input x y s Refused p q = absurd q
+  lossies input x y s Usage p q = absurd q
+
+  limited : (input x y : List ℕ) (s t : Status) → Out (Some Lossy64) input x s → Out (Some Lossy64) input y t → Same x y s t
+  limited input x y Fine Fine p q = (one_text input x y p.0 q.0, refl)
+  limited input x y Refused Refused p q = (p.3 ∙ sym q.3, refl)
+  limited input x y Fine Refused p (lossy, h, long, e) = let same = ap length (one_text input x lossy p.0 h) in let short = p.1 in absurd (omega arith)
+  limited input x y Refused Fine (lossy, h, long, e) q = let same = ap length (one_text input lossy y h q.0) in let short = q.1 in absurd (omega arith)
+  limited input x y Usage t p q = absurd p
+  limited input x y s Usage p q = absurd q
+
   pub one_output : (c : Option Command) (input x y : List ℕ) (s t : Status) → Out c input x s → Out c input y t → Same x y s t
   one_output (Some Check) = checks
+  one_output (Some Lossy) = lossies
+  one_output (Some Lossy64) = limited
   one_output None = usage

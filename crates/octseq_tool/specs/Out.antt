@@ -1,17 +1,20 @@
 -- What the program writes for a command and its input, and how it ends.
-use Rattle.std.specs.Prelude.{◌≡◌, ℕ, List, ◌++◌, length, codes, Option, Some, None, IfSome}
+use Rattle.std.specs.Prelude.{◌≡◌, ℕ, ◌<◌, ◌≤◌, List, ◌++◌, length, codes, Option, Some, None, IfSome}
 use Rattle.std.specs.Fmt.{decimal}
 use Rattle.std.specs.Io.KnownBytes.{Appends}
 use Rattle.octseq_text.specs.Fault.{Fault, IsFault, fault_text}
+use Rattle.octseq_text.specs.Parts.{Part, Splits, text}
 use Rattle.octseq_text.specs.Text.{IsWellFormed}
 use Rattle.octseq_tool.specs.declared.engine.Command.{Command}
-use Rattle.octseq_tool.specs.declared.engine.Command.TheVariants.{Check}
+use Rattle.octseq_tool.specs.declared.engine.Command.TheVariants.{Check, Lossy, Lossy64}
 use Rattle.octseq_tool.specs.declared.engine.Status.{Status}
 use Rattle.octseq_tool.specs.declared.engine.Status.TheVariants.{Fine, Refused, Usage}
 
 -- the word that names a command
 abbrev pub name_of : Command → List ℕ
 name_of Check = codes "check"
+name_of Lossy = codes "lossy"
+name_of Lossy64 = codes "lossy64"
 
 -- the word names a command
 abbrev pub IsCommand : List ℕ → Type 0
@@ -22,10 +25,17 @@ abbrev pub IsNamed : List ℕ → Option Command → Type 0
 IsNamed word (Some command) = word ≡ name_of command
 IsNamed word None = ¬ IsCommand word
 
+-- the parts of the input have this text
+abbrev pub HasText : List ℕ → List ℕ → Type 0
+HasText input lossy = (parts : List Part) × Splits input parts × (lossy ≡ text parts)
+
 -- what is written for a command, or for a word that names none, and an input, and how the program ends
 abbrev pub Out : Option Command → List ℕ → List ℕ → Status → Type 0
 Out (Some Check) input output Fine = IsWellFormed input × (output ≡ codes "well formed: " ++ decimal (length input) ++ codes " octets\n")
 Out (Some Check) input output Refused = (fault : Fault) × IsFault input fault × (output ≡ fault_text fault ++ codes "\n")
+Out (Some Lossy) input output Fine = HasText input output
+Out (Some Lossy64) input output Fine = HasText input output × (length output ≤ 64)
+Out (Some Lossy64) input output Refused = (lossy : List ℕ) × HasText input lossy × (64 < length lossy) × (output ≡ codes "buffer size exceeded\n")
 Out None input output Usage = output ≡ codes "usage: octseq_tool check|lossy|lossy64|records\n"
 Out _ input output _ = ⊥
 

@@ -1,11 +1,14 @@
 //! The program over any reader and any writer.
-ghost use Rattle.std.specs.Prelude.{◌≡◌, ℕ, Some, List, Option, IfOk, IfErr, IfSome, OnOk};
+ghost use Rattle.std.specs.Prelude.{◌≡◌, ℕ, codes, Some, List, Option, IfOk, IfErr, IfSome, OnOk};
 ghost use Rattle.std.specs.Io.KnownBytes.{Appends, IsAtEnd};
 ghost use Rattle.octseq_tool.specs.Out.{IsNamed, IsCommand, Out, Ran};
 ghost use Rattle.octseq_tool.specs.declared.engine.Command.{Command};
-ghost use Rattle.octseq_tool.specs.declared.engine.Command.TheVariants.{Check};
+ghost use Rattle.octseq_tool.specs.declared.engine.Command.TheVariants.{Check, Lossy, Lossy64};
 ghost use Rattle.octseq_tool.specs.declared.engine.Status.{Status};
+ghost use Rattle.octseq_tool.specs.declared.engine.Status.TheVariants.{Refused};
 
+use octseq_core::array::Array;
+use octseq_core::builder::{AppendError, ShortBuf};
 use octseq_text::str::StrBuilder;
 use octseq_text::utf8;
 use std::alloc::{AllocError, Global};
@@ -20,7 +23,12 @@ const USAGE: &str = "usage: octseq_tool check|lossy|lossy64|records\n";
 /// What the program can do.
 #[derive(Clone, Copy, Debug, PartialEq, Eq)]
 pub enum Command {
+    /// Tell whether the input is well-formed UTF-8.
     Check,
+    /// Write the input's lossy text.
+    Lossy,
+    /// Write the input's lossy text where it has at most 64 octets.
+    Lossy64,
 }
 
 /// How the program ended.
@@ -71,6 +79,7 @@ pub fn one_answer()
         → Out c input x s → Out c input y t → (x ≡ y) × (s ≡ t) }
 {
     utf8::one_fault();
+    utf8::one_splitting();
 }
 
 /// The command of this name.
@@ -79,6 +88,8 @@ fn named(word: &str) -> Option<Command>
 {
     match word {
         "check" => Some(Command::Check),
+        "lossy" => Some(Command::Lossy),
+        "lossy64" => Some(Command::Lossy64),
         _ => None,
     }
 }
@@ -102,12 +113,56 @@ fn check(alloc: Global, input: Vec<u8>) -> Result<Answer, AllocError>
     }
 }
 
+/// The lossy text of the octets.
+fn lossy(alloc: Global, input: Vec<u8>) -> Result<Answer, AllocError>
+    ensures { IfOk result (λ answer. Out (Some Lossy) input.items answer.output.items answer.status) }
+{
+    utf8::one_splitting();
+    let text = StrBuilder::from_utf8_lossy(alloc, input)?;
+    Ok(Answer {
+        output: text.into_octets_builder(),
+        status: Status::Fine,
+    })
+}
+
+/// The lossy text of the octets, where an array of 64 octets can hold it.
+fn lossy64(alloc: Global, input: &[u8]) -> Result<Answer, AllocError>
+    ensures { IfOk result (λ answer. Out (Some Lossy64) input.now answer.output.items answer.status) }
+{
+    utf8::one_splitting();
+    utf8::lossy_text();
+    let Ok(octets) = Array::<64>::try_from(input) else {
+        return too_long(alloc);
+    };
+    match StrBuilder::try_from_utf8_lossy(alloc, octets) {
+        Ok(text) => Ok(Answer {
+            output: Vec::from_slice(alloc, text.as_slice())?,
+            status: Status::Fine,
+        }),
+        Err(AppendError::Short(_)) => too_long(alloc),
+        Err(AppendError::Memory) => Err(AllocError),
+    }
+}
+
+/// The refusal of octets that pass a limit.
+fn too_long(alloc: Global) -> Result<Answer, AllocError>
+    ensures output { IfOk result (λ answer. answer.output.items ≡ codes "buffer size exceeded\n") }
+    ensures status { IfOk result (λ answer. answer.status ≡ Refused) }
+{
+    Ok(Answer {
+        output: format!(in alloc; "{}\n", ShortBuf)?.into_bytes(),
+        status: Status::Refused,
+    })
+}
+
 /// What a command makes of its input.
 fn carry_out(alloc: Global, command: Command, input: Vec<u8>) -> Result<Answer, AllocError>
     ensures { IfOk result (λ answer. Out (Some command) input.items answer.output.items answer.status) }
 {
     match command {
         Command::Check => check(alloc, input),
+        Command::Lossy => lossy(alloc, input),
+        Command::Lossy64 => lossy64(alloc, input.as_slice()),
     }
 }
 

@@ -50,6 +50,26 @@ impl Utf8Fault {
     {
         self.error_len
     }
+
+    /// The octets before the fault.
+    pub(crate) fn before<'a>(&self, octets: &'a [u8]) -> &'a [u8]
+        requires { self.now.place ≤ length octets.now }
+        ensures { result.now ≡ take self.now.place octets.now }
+    {
+        &octets[..self.valid_up_to]
+    }
+
+    /// The octets behind the fault.
+    pub(crate) fn behind<'a>(&self, octets: &'a [u8]) -> &'a [u8]
+        requires place { self.now.place ≤ length octets.now }
+        requires end { fault_end octets.now self.now ≤ length octets.now }
+        ensures { result.now ≡ drop (fault_end octets.now self.now) octets.now }
+    {
+        match self.error_len {
+            Some(len) => &octets[self.valid_up_to + len..],
+            None => &octets[octets.len()..],
+        }
+    }
 }
 
 impl Error for Utf8Fault {}

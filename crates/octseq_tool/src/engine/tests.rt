@@ -107,7 +107,7 @@ fn a_failed_read_writes_nothing(rt: HostRuntime) {
 
 #[test]
 fn a_failed_write_is_told(rt: HostRuntime) {
-    for command in ["check", "chek"] {
+    for command in ["check", "lossy", "lossy64", "chek"] {
         let mut writer = Full {
             taken: Vec::new(rt.alloc()),
             writes: 0,
@@ -116,4 +116,49 @@ fn a_failed_write_is_told(rt: HostRuntime) {
         assert_eq!(rt; answer, Err(ToolFault::Write));
         assert!(rt; writer.taken.is_empty());
     }
+}
+
+/// Octets, each as many times.
+fn repeated(alloc: Global, parts: &[(u8, usize)]) -> Result<Vec<u8>, Fail> {
+    let mut octets = Vec::new(alloc);
+    for (octet, count) in parts {
+        for _ in 0..*count {
+            octets.push(*octet)?;
+        }
+    }
+    Ok(octets)
+}
+
+#[test]
+fn lossy_replaces(rt: HostRuntime) {
+    let (answer, written) = ran(rt.alloc(), "lossy", b"Hello\xC2 There\xFF Goodbye\xE2\x82");
+    assert_eq!(rt; answer, Ok(Status::Fine));
+    let text = "Hello\u{FFFD} There\u{FFFD} Goodbye\u{FFFD}";
+    assert_eq!(rt; written.as_slice(), text.as_bytes());
+}
+
+#[test]
+fn lossy64_holds_64_octets(rt: HostRuntime) -> Result<(), Fail> {
+    let alloc = rt.alloc();
+    let (answer, written) = ran(
+        alloc,
+        "lossy64",
+        repeated(alloc, &[(b'a', 1), (0xFF, 21)])?.as_slice(),
+    );
+    assert_eq!(rt; answer, Ok(Status::Fine));
+    assert_eq!(rt; written.len(), 64);
+    let mut wanted = String::from_str(alloc, "a")?;
+    for _ in 0..21 {
+        wanted.push(char::REPLACEMENT_CHARACTER)?;
+    }
+    assert_eq!(rt; written.as_slice(), wanted.as_bytes());
+    for long in [
+        repeated(alloc, &[(0xFF, 22)])?,
+        repeated(alloc, &[(b'a', 65)])?,
+    ] {
+        let (answer, written) = ran(alloc, "lossy64", long.as_slice());
+        assert_eq!(rt; answer, Ok(Status::Refused));
+        assert_eq!(rt; written.as_slice(), b"buffer size exceeded\n".as_slice());
+    }
+    Ok(())
 }

@@ -5,4 +5,4 @@ pub returns-clause-command : goal.returns-clause-command
 returns-clause-command c = one_command
 
 pub returns-clause-output : goal.returns-clause-output
-returns-clause-output c = one_output c.one_fault.ensures.only c.one_fault.ensures.refutes
+returns-clause-output c = one_output c.one_fault.ensures.only c.one_fault.ensures.refutes c.one_splitting.ensures.only
