@@ -1,4 +1,5 @@
 pub mod ArrayOctets
+pub mod Cow
 pub mod Lends
 pub mod Limit
 pub mod Refusal

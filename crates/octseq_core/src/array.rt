@@ -1,15 +1,24 @@
 //! A builder of a fixed size that requests no memory.
-ghost use Rattle.std.specs.Prelude.{◌≡◌, ◌-◌, ◌+◌, ◌<◌, ◌≤◌, ◌++◌, ◌↔◌, Bool, true, false, Option, Some, List, take, drop, length, IsOk, OnOk, OnErr, MatchResult};
+ghost use Rattle.std.specs.Prelude.{◌≡◌, ◌-◌, ◌+◌, ◌<◌, ◌≤◌, ◌++◌, ◌↔◌, Bool, true, false, Option, Some, List, take, drop, length, IsOk, OnOk, OnErr, MatchResult, nat_eq, refl};
 ghost use Rattle.std.specs.Borrow.{sem};
+ghost use Rattle.std.specs.Cmp.{partial_equiv_from_equiv, on_per, on_equiv, on_po, on_total};
+ghost use Rattle.std.specs.Cmp.Lexicographic.{pointwise, slice_cmp, nat_list_eq_equiv, nat_list_cmp_total, texts_ties, texts_po};
+ghost use Rattle.std.specs.Cmp.Rules.{hashing};
+ghost use Rattle.std.specs.Hash as fed;
+ghost use Rattle.std.specs.Ordering.{nat_cmp};
+ghost use Rattle.std.proofs.Common.{rules};
 ghost use Rattle.octseq_core.specs.ArrayOctets.{all_octets, cut_at, blank, padded};
 ghost use Rattle.octseq_core.specs.Limit.{IsPast};
 ghost use Rattle.octseq_core.specs.Refusal.{IsShort, IsMemory};
 
 use crate::builder::{
-    AppendError, AsOctets, CloneOctets, EmptyBuilder, OctetsBuilder, OctetsLimit, ShortBuf,
-    Truncate,
+    AppendError, AsOctets, CloneOctets, EmptyBuilder, FreezeBuilder, FromBuilder, IntoBuilder,
+    OctetsBuilder, OctetsLimit, ShortBuf, Truncate,
 };
 use std::alloc::{AllocError, Global};
+use std::cmp::Ordering;
+use std::fmt;
+use std::hash::{Hash, Hasher};
 use std::marker::Model;
 
 /// `N` octets and a length of at most `N`. The front of that length is the content, and the octets
@@ -155,6 +164,30 @@ impl<const N: usize> EmptyBuilder for Array<N> {
     }
 }
 
+impl<const N: usize> FreezeBuilder for Array<N> {
+    type Octets = Array<N>;
+
+    fn freeze(self) -> Result<Self, AllocError> {
+        Ok(self)
+    }
+}
+
+impl<const N: usize> IntoBuilder for Array<N> {
+    type Builder = Array<N>;
+
+    fn into_builder(self, _alloc: Global) -> Result<Self, AllocError> {
+        Ok(self)
+    }
+}
+
+impl<const N: usize> FromBuilder for Array<N> {
+    type Builder = Array<N>;
+
+    fn from_builder(builder: Self) -> Result<Self, AllocError> {
+        Ok(builder)
+    }
+}
+
 impl<const N: usize> CloneOctets for Array<N> {
     fn clone_octets(&self, _alloc: Global) -> Result<Self, AllocError> {
         Ok(self.clone())
@@ -181,5 +214,63 @@ impl<const N: usize> TryFrom<&[u8]> for Array<N> {
             Ok(()) => Ok(array),
             Err(_) => Err(ShortBuf),
         }
+    }
+}
+
+// Arrays are compared, ordered and hashed by their contents alone.
+
+impl<const N: usize> PartialEq for Array<N> {
+    ghost eq = { λ a b. pointwise nat_eq a.content b.content };
+
+    ghost laws = { on_per (λ a. a.content) (partial_equiv_from_equiv nat_list_eq_equiv) };
+
+    fn eq(&self, other: &Self) -> bool {
+        self.as_slice() == other.as_slice()
+    }
+}
+
+impl<const N: usize> Eq for Array<N> {
+    ghost laws = { on_equiv (λ a. a.content) nat_list_eq_equiv };
+}
+
+impl<const N: usize> PartialOrd for Array<N> {
+    ghost partial_cmp = { λ a b. Some (slice_cmp nat_cmp a.content b.content) };
+
+    ghost laws = { on_po (λ a. a.content) texts_po };
+
+    fn partial_cmp(&self, other: &Self) -> Option<Ordering> {
+        Some(self.cmp(other))
+    }
+}
+
+impl<const N: usize> Ord for Array<N> {
+    ghost cmp = { λ a b. slice_cmp nat_cmp a.content b.content };
+
+    ghost total = { on_total (λ a. a.content) nat_list_cmp_total };
+
+    ghost matches_partial_cmp = { λ a b. refl };
+
+    ghost matches_eq = { λ a b. texts_ties a.content b.content };
+
+    fn cmp(&self, other: &Self) -> Ordering {
+        self.as_slice().cmp(&other.as_slice())
+    }
+}
+
+impl<const N: usize> Hash for Array<N> {
+    ghost hash_input = { λ a. fed.slice fed.u8 a.content };
+
+    ghost respects_eq = { Prim.search (hashing, rules) };
+
+    fn hash<H: Hasher>(&self, state: &mut H) {
+        self.as_slice().hash(state);
+    }
+}
+
+impl<const N: usize> fmt::Debug for Array<N> {
+    fn fmt<W: fmt::Write>(&self, f: &mut fmt::Formatter<W>) -> fmt::Result {
+        f.debug_tuple("octets::Array")
+            .field(&self.as_slice())
+            .finish()
     }
 }

@@ -1,5 +1,5 @@
 //! What octet sequences and builders can do.
-ghost use Rattle.std.specs.Prelude.{◌≡◌, ℕ, Bool, true, Option, Some, List, [], ◌++◌, ◌+◌, ◌↔◌, take, length, codes, IfOk, OnOk, OnErr};
+ghost use Rattle.std.specs.Prelude.{◌≡◌, ℕ, Bool, true, Option, Some, List, [], ◌++◌, ◌+◌, ◌↔◌, take, length, codes, Result, Ok, IsOk, IfOk, OnOk, OnErr};
 ghost use Rattle.std.specs.Borrow.{GName};
 ghost use Rattle.octseq_core.specs.Limit.{IsWithin, IsPast};
 ghost use Rattle.octseq_core.specs.Refusal.{IsShort, IsMemory};
@@ -8,7 +8,12 @@ use std::alloc::{AllocError, Global};
 use std::error::Error;
 use std::fmt;
 
+mod counted;
+mod fixed;
+mod reference;
+mod shared;
 mod slice;
+mod small;
 mod vector;
 
 /// A sequence of octets.
@@ -92,6 +97,51 @@ pub trait EmptyBuilder: OctetsBuilder {
         ensures memory { OnErr result (Self.asks ≡ true) };
 }
 
+/// A builder whose octets can be had as a sequence that grows no more.
+pub trait FreezeBuilder: AsOctets {
+    /// The sequence.
+    type Octets: OctetsLimit;
+
+    /// The builder's octets as a sequence.
+    ///
+    /// # Errors
+    ///
+    /// `AllocError` where a request for memory was refused. The builder is then given up.
+    fn freeze(self) -> Result<Self::Octets, AllocError>
+        ensures ok { IfOk result (λ octets. Self.Octets.content octets ≡ Self.content self) }
+        ensures memory { OnErr result (Self.Octets.asks ≡ true) };
+}
+
+/// A sequence of octets that can go on growing.
+pub trait IntoBuilder: AsOctets {
+    /// The builder.
+    type Builder: OctetsBuilder;
+
+    /// The sequence's octets in a builder.
+    ///
+    /// # Errors
+    ///
+    /// `AllocError` where a request for memory was refused. The sequence is then given up.
+    fn into_builder(self, alloc: Global) -> Result<Self::Builder, AllocError>
+        ensures ok { IfOk result (λ builder. Self.Builder.content builder ≡ Self.content self) }
+        ensures memory { OnErr result (Self.Builder.asks ≡ true) };
+}
+
+/// A sequence of octets that is made by a builder.
+pub trait FromBuilder: OctetsLimit {
+    /// The builder.
+    type Builder: OctetsBuilder + FreezeBuilder<Octets = Self>;
+
+    /// The builder's octets as a sequence.
+    ///
+    /// # Errors
+    ///
+    /// `AllocError` where a request for memory was refused. The builder is then given up.
+    fn from_builder(builder: Self::Builder) -> Result<Self, AllocError>
+        ensures ok { IfOk result (λ octets. Self.content octets ≡ Self.Builder.content builder) }
+        ensures memory { OnErr result (Self.asks ≡ true) };
+}
+
 /// A sequence of octets that can be copied.
 pub trait CloneOctets: OctetsLimit {
     /// A sequence of the same content.
@@ -140,6 +190,26 @@ impl fmt::Display for AppendError {
             AppendError::Memory => f.write_str("out of memory"),
         }
     }
+}
+
+/// The error of appends.
+pub type BuilderAppendError = AppendError;
+
+/// The value of a result that is known to be `Ok`.
+pub fn infallible<T, E>(src: Result<T, E>) -> T
+    requires { IsOk src }
+    ensures { src ≡ Ok result }
+{
+    src.unwrap()
+}
+
+/// The value of a call that is known to answer `Ok`.
+pub fn with_infallible<F: FnOnce() -> Result<T, E>, T, E>(op: F) -> T
+    requires callable { F.pre op }
+    requires succeeds { (answer : Result T E) → F.post op answer → IsOk answer }
+    ensures { F.post op (Ok result) }
+{
+    infallible(op())
 }
 
 impl From<ShortBuf> for AppendError {

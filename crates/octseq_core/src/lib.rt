@@ -7,5 +7,6 @@
 
 pub mod array;
 pub mod builder;
+pub mod cow;
 #[cfg(test)]
 mod tests;

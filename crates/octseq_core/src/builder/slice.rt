@@ -1,7 +1,7 @@
-//! A slice as a sequence of octets.
+//! A slice as a sequence of octets that are borrowed. It requests no memory.
 ghost use Rattle.std.specs.Prelude.{◌≡◌, false, None, IsOk, IfOk};
 
-use super::{AsOctets, CloneOctets, OctetsLimit};
+use super::{AsOctets, CloneOctets, IntoBuilder, OctetsLimit, Truncate};
 use std::alloc::{AllocError, Global};
 
 impl AsOctets for &[u8] {
@@ -33,5 +33,21 @@ impl OctetsLimit for &[u8] {
 impl CloneOctets for &[u8] {
     fn clone_octets(&self, _alloc: Global) -> Result<Self, AllocError> {
         Ok(*self)
+    }
+}
+
+impl Truncate for &[u8] {
+    fn truncate(&mut self, len: usize) {
+        if len < self.len() {
+            *self = &self[..len];
+        }
+    }
+}
+
+impl IntoBuilder for &[u8] {
+    type Builder = Vec<u8>;
+
+    fn into_builder(self, alloc: Global) -> Result<Vec<u8>, AllocError> {
+        Vec::from_slice(alloc, self)
     }
 }

@@ -1,8 +1,9 @@
 //! A vector as a builder: it has no limit, and requests memory as it grows.
-ghost use Rattle.std.specs.Prelude.{true, None};
+ghost use Rattle.std.specs.Prelude.{◌≡◌, true, None, IsOk, IfOk};
 
 use super::{
-    AppendError, AsOctets, CloneOctets, EmptyBuilder, OctetsBuilder, OctetsLimit, Truncate,
+    AppendError, AsOctets, CloneOctets, EmptyBuilder, FreezeBuilder, FromBuilder, IntoBuilder,
+    OctetsBuilder, OctetsLimit, Truncate,
 };
 use std::alloc::{AllocError, Global};
 
@@ -54,5 +55,38 @@ impl EmptyBuilder for Vec<u8> {
 impl CloneOctets for Vec<u8> {
     fn clone_octets(&self, alloc: Global) -> Result<Self, AllocError> {
         Vec::from_slice(alloc, self.as_slice())
+    }
+}
+
+impl FreezeBuilder for Vec<u8> {
+    type Octets = Vec<u8>;
+
+    fn freeze(self) -> Result<Self, AllocError>
+        ensures ok { IfOk result (λ octets. octets.items ≡ self.items) }
+        ensures never { IsOk result }
+    {
+        Ok(self)
+    }
+}
+
+impl IntoBuilder for Vec<u8> {
+    type Builder = Vec<u8>;
+
+    fn into_builder(self, _alloc: Global) -> Result<Self, AllocError>
+        ensures ok { IfOk result (λ builder. builder.items ≡ self.items) }
+        ensures never { IsOk result }
+    {
+        Ok(self)
+    }
+}
+
+impl FromBuilder for Vec<u8> {
+    type Builder = Vec<u8>;
+
+    fn from_builder(builder: Self) -> Result<Self, AllocError>
+        ensures ok { IfOk result (λ octets. octets.items ≡ builder.items) }
+        ensures never { IsOk result }
+    {
+        Ok(builder)
     }
 }
