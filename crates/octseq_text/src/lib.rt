@@ -4,6 +4,7 @@
 //! UTF-8 stand in `specs/`, by the Unicode Standard; the contracts here cite them.
 #![tactic(auto)]
 
+pub mod octets;
 pub mod str;
 #[cfg(test)]
 mod tests;

@@ -9,6 +9,7 @@ use std::process::Abort;
 use std::test::Fail;
 
 mod capped;
+mod conversions;
 mod rationed;
 
 #[test]

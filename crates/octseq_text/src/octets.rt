@@ -1,0 +1,134 @@
+//! Ranges of octet sequences, and conversions between them.
+ghost use Rattle.std.specs.Prelude.{◌≡◌, ◌+◌, ◌^◌, ◌<◌, ◌≤◌, ◌↔◌, true, None, List, slice_range, length, IsTrue, IfOk, OnErr};
+ghost use Rattle.octseq_core.specs.Limit.{IsPast};
+ghost use Rattle.octseq_core.specs.Refusal.{IsShort, IsMemory};
+ghost use Rattle.octseq_text.specs.Range.{start_of, end_of, RangeExists, range_of};
+
+use octseq_core::builder::{AppendError, AsOctets, OctetsLimit};
+use smallvec::SmallVec;
+use std::alloc::{AllocError, Global};
+
+mod conversions;
+mod ranges;
+
+/// Octets that stay inline up to 24, which many names and addresses don't pass.
+pub type SmallOctets = SmallVec<u8, 24>;
+
+/// One end of a range of octets.
+#[derive(Clone, Copy, Debug, PartialEq, Eq)]
+pub enum Bound {
+    /// The start or the end of the octets.
+    Unbounded,
+    /// This place, which is in the range.
+    Included(usize),
+    /// This place, which isn't in the range.
+    Excluded(usize),
+}
+
+/// The bounds of the range from one place up to another, which isn't in it.
+pub fn span(start: usize, end: usize) -> (Bound, Bound)
+    ensures { result ≡ (Bound.Included start, Bound.Excluded end) }
+{
+    (Bound::Included(start), Bound::Excluded(end))
+}
+
+/// Whether the range exists in octets of this length: its start is at most its end, and its end at most
+/// the length.
+pub fn range_exists(len: usize, bounds: (Bound, Bound)) -> bool
+    ensures { IsTrue result ↔ RangeExists len bounds }
+{
+    let end = match bounds.1 {
+        Bound::Unbounded => len,
+        Bound::Included(last) if last < len => last + 1,
+        Bound::Included(_) => return false,
+        Bound::Excluded(end) => end,
+    };
+    let is_ordered = match bounds.0 {
+        Bound::Unbounded => true,
+        Bound::Included(start) => start <= end,
+        Bound::Excluded(before) => before < end,
+    };
+    is_ordered && end <= len
+}
+
+/// A reference to octets, from which ranges are cut.
+pub trait Octets: AsOctets {
+    /// A range of the octets.
+    type Range: AsOctets + OctetsLimit;
+
+    /// The octets of a range that exists, which `range_exists` tells.
+    ///
+    /// # Errors
+    ///
+    /// `AllocError` where a request for memory was refused, which a range that is a slice never makes.
+    fn range(&self, bounds: (Bound, Bound)) -> Result<Self::Range, AllocError>
+        requires { RangeExists (length (Self.content self.now)) bounds }
+        ensures ok { IfOk result (λ range. Self.Range.content range ≡ range_of (Self.content self.now) bounds) }
+        ensures memory { OnErr result (Self.Range.asks ≡ true) };
+}
+
+/// A sequence of octets that can be made from another.
+pub trait OctetsFrom<Source: AsOctets>: OctetsLimit {
+    /// The source's octets.
+    ///
+    /// # Errors
+    ///
+    /// `Short` where the octets pass the limit of the type, and else `Memory` where a request for memory
+    /// was refused. The source is then given up.
+    fn try_octets_from(alloc: Global, source: Source) -> Result<Self, AppendError>
+        ensures ok { IfOk result (λ octets. Self.content octets ≡ Source.content source) }
+        ensures short { IsShort result ↔ IsPast Self.limit (length (Source.content source)) }
+        ensures memory { IsMemory result → Self.asks ≡ true };
+
+    /// The source's octets, for a type with no limit.
+    ///
+    /// # Errors
+    ///
+    /// `AllocError` where a request for memory was refused. The source is then given up.
+    final fn octets_from(alloc: Global, source: Source) -> Result<Self, AllocError>
+    where
+        Self: Sized,
+        requires { Self.limit ≡ None }
+        ensures ok { IfOk result (λ octets. Self.content octets ≡ Source.content source) }
+        ensures memory { OnErr result (Self.asks ≡ true) }
+    {
+        match Self::try_octets_from(alloc, source) {
+            Ok(octets) => Ok(octets),
+            Err(AppendError::Memory) => Err(AllocError),
+            Err(AppendError::Short(_)) => unreachable!(),
+        }
+    }
+}
+
+/// A sequence of octets that can be made into another: each pair with [`OctetsFrom`].
+pub trait OctetsInto<Target: OctetsLimit>: AsOctets {
+    /// The octets in the other type.
+    ///
+    /// # Errors
+    ///
+    /// As `OctetsFrom::try_octets_from`.
+    fn try_octets_into(self, alloc: Global) -> Result<Target, AppendError>
+        ensures ok { IfOk result (λ octets. Target.content octets ≡ Self.content self) }
+        ensures short { IsShort result ↔ IsPast Target.limit (length (Self.content self)) }
+        ensures memory { IsMemory result → Target.asks ≡ true };
+
+    /// The octets in the other type, which has no limit.
+    ///
+    /// # Errors
+    ///
+    /// `AllocError` where a request for memory was refused.
+    fn octets_into(self, alloc: Global) -> Result<Target, AllocError>
+        requires { Target.limit ≡ None }
+        ensures ok { IfOk result (λ octets. Target.content octets ≡ Self.content self) }
+        ensures memory { OnErr result (Target.asks ≡ true) };
+}
+
+impl<Source: AsOctets, Target: OctetsFrom<Source>> OctetsInto<Target> for Source {
+    fn try_octets_into(self, alloc: Global) -> Result<Target, AppendError> {
+        Target::try_octets_from(alloc, self)
+    }
+
+    fn octets_into(self, alloc: Global) -> Result<Target, AllocError> {
+        Target::octets_from(alloc, self)
+    }
+}

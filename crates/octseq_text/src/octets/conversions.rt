@@ -1,0 +1,55 @@
+//! The types that are made from other sequences.
+use super::OctetsFrom;
+use arrayvec::ArrayVec;
+use bytes::{Bytes, BytesMut};
+use octseq_core::array::Array;
+use octseq_core::builder::{AppendError, AsOctets, OctetsBuilder, OctetsLimit};
+use smallvec::SmallVec;
+use std::alloc::Global;
+
+impl<Source: AsOctets> OctetsFrom<Source> for Vec<u8> {
+    fn try_octets_from(alloc: Global, source: Source) -> Result<Self, AppendError> {
+        Ok(Vec::from_slice(alloc, source.as_ref())?)
+    }
+}
+
+impl<Source: AsOctets> OctetsFrom<Source> for Bytes {
+    fn try_octets_from(alloc: Global, source: Source) -> Result<Self, AppendError> {
+        Ok(Bytes::copy_from_slice(alloc, source.as_ref())?)
+    }
+}
+
+impl<Source: AsOctets> OctetsFrom<Source> for BytesMut {
+    fn try_octets_from(alloc: Global, source: Source) -> Result<Self, AppendError> {
+        Ok(BytesMut::copy_from_slice(alloc, source.as_ref())?)
+    }
+}
+
+impl<Source: AsOctets, const N: usize> OctetsFrom<Source> for SmallVec<u8, N> {
+    fn try_octets_from(alloc: Global, source: Source) -> Result<Self, AppendError> {
+        Ok(SmallVec::from_slice(alloc, source.as_ref())?)
+    }
+}
+
+impl<Source: AsOctets, const N: usize> OctetsFrom<Source> for ArrayVec<u8, N> {
+    fn try_octets_from(_alloc: Global, source: Source) -> Result<Self, AppendError> {
+        let mut octets = ArrayVec::new();
+        octets.append_slice(source.as_ref())?;
+        Ok(octets)
+    }
+}
+
+impl<Source: AsOctets, const N: usize> OctetsFrom<Source> for Array<N> {
+    fn try_octets_from(_alloc: Global, source: Source) -> Result<Self, AppendError> {
+        let mut octets = Array::new();
+        octets.append_slice(source.as_ref())?;
+        Ok(octets)
+    }
+}
+
+impl<'a, S: AsOctets> OctetsFrom<&'a S> for &'a [u8] {
+    /// Borrows the octets, and copies none.
+    fn try_octets_from(_alloc: Global, source: &'a S) -> Result<Self, AppendError> {
+        Ok(source.as_ref())
+    }
+}
