@@ -14,3 +14,7 @@ pub mod Fronts
 pub mod Faults
 pub mod LossyTexts
 pub mod Replacing
+pub mod Order
+pub mod Boundaries
+pub mod Ends
+pub mod OneRun

@@ -1,26 +1,30 @@
 -- Each character has one encoding, and each encoding is a character's.
-use Rattle.std.proofs.Common.{◌≡◌, ℕ, ◌+◌, ◌-◌, ◌*◌, ◌/◌, ◌%◌, ◌<◌, ◌≤◌, List, [], ◌∷◌, refl, arith, ◌⊎◌, inl, inr, ap, sym, ◌∙◌, subst}
+use Rattle.std.proofs.Common.{◌≡◌, ℕ, ◌+◌, ◌-◌, ◌*◌, ◌/◌, ◌%◌, ◌<◌, ◌≤◌, List, [], ◌∷◌, length, refl, arith, ◌⊎◌, inl, inr, ap, sym, ◌∙◌, subst}
 use Rattle.std.proofs.lemmas.Bool.Decides.{nat_tests}
 use Rattle.std.specs.Int.{IsInRange}
 use Rattle.octseq_text.specs.Encoding.{IsEncoding, row_00_7F, row_C2_DF, row_E0, row_E1_EC, row_ED, row_EE_EF, row_F0, row_F1_F3, row_F4, IsCharacter, number_of, encoding_of}
 
 -- the encoding by the range of the character
 
-encoding_of_1 : (c : ℕ) → c < 0x80 → encoding_of c ≡ c ∷ []
+pub encoding_of_1 : (c : ℕ) → c < 0x80 → encoding_of c ≡ c ∷ []
 unfolding encoding_of
 encoding_of_1 c high = grind (arith, nat_tests)
 
-encoding_of_2 : (c : ℕ) → 0x80 ≤ c → c < 0x800 → encoding_of c ≡ (192 + c / 64) ∷ (128 + c % 64) ∷ []
+pub encoding_of_2 : (c : ℕ) → 0x80 ≤ c → c < 0x800 → encoding_of c ≡ (192 + c / 64) ∷ (128 + c % 64) ∷ []
 unfolding encoding_of
 encoding_of_2 c low high = grind (arith, nat_tests)
 
-encoding_of_3 : (c : ℕ) → 0x800 ≤ c → c < 0x1_0000 → encoding_of c ≡ (224 + c / 4096) ∷ (128 + c / 64 % 64) ∷ (128 + c % 64) ∷ []
+pub encoding_of_3 : (c : ℕ) → 0x800 ≤ c → c < 0x1_0000 → encoding_of c ≡ (224 + c / 4096) ∷ (128 + c / 64 % 64) ∷ (128 + c % 64) ∷ []
 unfolding encoding_of
 encoding_of_3 c low high = grind (arith, nat_tests)
 
-encoding_of_4 : (c : ℕ) → 0x1_0000 ≤ c → encoding_of c ≡ (240 + c / 262144) ∷ (128 + c / 4096 % 64) ∷ (128 + c / 64 % 64) ∷ (128 + c % 64) ∷ []
+pub encoding_of_4 : (c : ℕ) → 0x1_0000 ≤ c → encoding_of c ≡ (240 + c / 262144) ∷ (128 + c / 4096 % 64) ∷ (128 + c / 64 % 64) ∷ (128 + c % 64) ∷ []
 unfolding encoding_of
 encoding_of_4 c low = grind (arith, nat_tests)
+
+pub encoding_some : (c : ℕ) → 1 ≤ length (encoding_of c)
+unfolding encoding_of
+encoding_some c = grind (arith, nat_tests)
 
 -- lists of equal octets are equal
 
@@ -77,19 +81,19 @@ one_encoding p q h = sym (encoding_of-number_of p) ∙ ap encoding_of h ∙ enco
 
 -- the number by the octets
 
-number_of_1 : (a : ℕ) → number_of (a ∷ []) ≡ a
+pub number_of_1 : (a : ℕ) → number_of (a ∷ []) ≡ a
 unfolding number_of
 number_of_1 a = refl
 
-number_of_2 : (a b n : ℕ) → (a - 192) * 64 + (b - 128) ≡ n → number_of (a ∷ b ∷ []) ≡ n
+pub number_of_2 : (a b n : ℕ) → (a - 192) * 64 + (b - 128) ≡ n → number_of (a ∷ b ∷ []) ≡ n
 unfolding number_of
 number_of_2 a b n h = h
 
-number_of_3 : (a b c n : ℕ) → (a - 224) * 4096 + (b - 128) * 64 + (c - 128) ≡ n → number_of (a ∷ b ∷ c ∷ []) ≡ n
+pub number_of_3 : (a b c n : ℕ) → (a - 224) * 4096 + (b - 128) * 64 + (c - 128) ≡ n → number_of (a ∷ b ∷ c ∷ []) ≡ n
 unfolding number_of
 number_of_3 a b c n h = h
 
-number_of_4 : (a b c d n : ℕ) → (a - 240) * 262144 + (b - 128) * 4096 + (c - 128) * 64 + (d - 128) ≡ n → number_of (a ∷ b ∷ c ∷ d ∷ []) ≡ n
+pub number_of_4 : (a b c d n : ℕ) → (a - 240) * 262144 + (b - 128) * 4096 + (c - 128) * 64 + (d - 128) ≡ n → number_of (a ∷ b ∷ c ∷ d ∷ []) ≡ n
 unfolding number_of
 number_of_4 a b c d n h = h
 

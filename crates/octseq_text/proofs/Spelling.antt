@@ -10,7 +10,7 @@ use Rattle.octseq_text.proofs.Numbers.{encoding_of-number_of}
 
 -- an octet is within an encoding, or outside
 
-inside : (low high b : ℕ) → 0x80 ≤ low → high ≤ 0xBF → IsInRange low high b → is_in_range 0x80 0xBF b ≡ true
+pub inside : (low high b : ℕ) → 0x80 ≤ low → high ≤ 0xBF → IsInRange low high b → is_in_range 0x80 0xBF b ≡ true
 inside low high b p q h = grind (arith, nat_tests)
 
 below : (a : ℕ) → a ≤ 0x7F → is_in_range 0x80 0xBF a ≡ false
@@ -53,7 +53,7 @@ cut_4 : (a b c d : ℕ) (r : List ℕ) → is_in_range 0x80 0xBF b ≡ true → 
     → encodings_in (a ∷ b ∷ c ∷ d ∷ r) ≡ (a ∷ b ∷ c ∷ d ∷ []) ∷ encodings_in r
 cut_4 a b c d r p q s h = cut_before a b (c ∷ d ∷ r) _ _ p (cut_3 b c d r q s h)
 
-plain : (b : ℕ) → IsInRange 0x80 0xBF b → is_in_range 0x80 0xBF b ≡ true
+pub plain : (b : ℕ) → IsInRange 0x80 0xBF b → is_in_range 0x80 0xBF b ≡ true
 plain b h = inside 0x80 0xBF b (omega arith) (omega arith) h
 
 -- an encoding is cut off whole
@@ -68,7 +68,7 @@ cut (row_F0 {a} {b} {c} {d} p q t u) r h = cut_4 a b c d r (inside 0x90 0xBF b (
 cut (row_F1_F3 {a} {b} {c} {d} p q t u) r h = cut_4 a b c d r (plain b q) (plain c t) (plain d u) h
 cut (row_F4 {a} {b} {c} {d} p q t u) r h = cut_4 a b c d r (inside 0x80 0x8F b (omega arith) (omega arith) q) (plain c t) (plain d u) h
 
-begins_all : (es : List (List ℕ)) → AllByRecursion IsEncoding es → begins_within (concat es) ≡ false
+pub begins_all : (es : List (List ℕ)) → AllByRecursion IsEncoding es → begins_within (concat es) ≡ false
 begins_all [] h = refl
 begins_all (e ∷ es) h = begins h.0 (concat es)
 
@@ -88,7 +88,7 @@ pub spells_chars : {x cs : List ℕ} → Spells x cs → Spells x (chars x)
 spells_chars {x} {cs} s = subst (Spells x) (sym (chars_of s)) s
 
 -- the characters' encodings are the octets
-octets_of_numbers : (es : List (List ℕ)) → AllByRecursion IsEncoding es → octets_of (map number_of es) ≡ concat es
+pub octets_of_numbers : (es : List (List ℕ)) → AllByRecursion IsEncoding es → octets_of (map number_of es) ≡ concat es
 octets_of_numbers [] h = refl
 octets_of_numbers (e ∷ es) h =
     ap (λ y. y ++ octets_of (map number_of es)) (encoding_of-number_of h.0) ∙ ap (λ y. e ++ y) (octets_of_numbers es h.1)
@@ -110,7 +110,7 @@ each-append : (es fs : List (List ℕ)) → AllByRecursion IsEncoding es → All
 each-append [] fs p q = q
 each-append (e ∷ es) fs p q = (p.0, each-append es fs p.1 q)
 
-concat-append : (es fs : List (List ℕ)) → concat (es ++ fs) ≡ concat es ++ concat fs
+pub concat-append : (es fs : List (List ℕ)) → concat (es ++ fs) ≡ concat es ++ concat fs
 concat-append [] fs = refl
 concat-append (e ∷ es) fs = ap (λ y. e ++ y) (concat-append es fs) ∙ sym (append_assoc e (concat es) (concat fs))
 

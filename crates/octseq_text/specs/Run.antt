@@ -1,9 +1,10 @@
 -- What commands do to a text, seen as a list of characters with a limit.
-use Rattle.std.specs.Prelude.{◌≡◌, ℕ, ◌↔◌, Bool, true, List, [], ◌∷◌, ◌++◌, length, Option, Result, Ok, Err, IsTrue}
+use Rattle.std.specs.Prelude.{◌≡◌, ◌≢◌, ℕ, ◌<◌, ◌≤◌, ◌↔◌, ◌⊎◌, Bool, true, List, [], ◌∷◌, ◌++◌, length, Option, Some, None, Result, Ok, Err, IsTrue}
+use Rattle.std.specs.List.{AllByRecursion}
 use Rattle.octseq_core.specs.Limit.{IsWithin, IsPast}
 use Rattle.octseq_core.specs.declared.builder.AppendError.{AppendError}
 use Rattle.octseq_core.specs.declared.builder.AppendError.TheVariants as error
-use Rattle.octseq_text.specs.Text.{chars, octets_of}
+use Rattle.octseq_text.specs.Text.{chars, octets_of, IsFrontOf}
 use Rattle.octseq_text.specs.declared.str.commands.Command.{Command}
 use Rattle.octseq_text.specs.declared.str.commands.Command.TheVariants as command
 use Rattle.octseq_text.specs.declared.str.commands.Reply.{Reply}
@@ -22,17 +23,29 @@ append_reply (Ok _) = reply.Done
 append_reply (Err (error.Short _)) = reply.Short
 append_reply (Err error.Memory) = reply.Memory
 
--- Whether a fact holds.
-abbrev pub Tells : Type 0 → Reply → Type 0
-Tells Fact (reply.Is answer) = IsTrue answer ↔ Fact
-Tells Fact _ = ⊥
+-- The front that is exactly n octets; at or past the length that is all of them.
+abbrev pub CutsTo : ℕ → List ℕ → List ℕ → Type 0
+CutsTo n before after = (length (octets_of before) ≤ n → after ≡ before) × (n < length (octets_of before) → IsFrontOf before n after)
+
+-- A cut, or its refusal where no front is exactly n octets.
+abbrev pub Cuts : List ℕ → ℕ → Reply → List ℕ → Type 0
+Cuts before n r after = ((r ≡ reply.Done) × CutsTo n before after)
+    ⊎ ((r ≡ reply.NoBoundary) × (n < length (octets_of before)) × ((front : List ℕ) → ¬ IsFrontOf before n front) × (after ≡ before))
+
+-- The last character goes, if there is one.
+abbrev pub Pops : List ℕ → Option ℕ → List ℕ → Type 0
+Pops before (Some c) after = before ≡ after ++ c ∷ []
+Pops before None after = (before ≡ []) × (after ≡ [])
 
 -- One command: its reply, and the characters after it.
 abbrev pub Step : Option ℕ → Bool → List ℕ → Command → Reply → List ℕ → Type 0
 Step limit asks before (command.PushStr s) r after = Appends limit asks before (chars s.now) r after
 Step limit asks before (command.Push c) r after = Appends limit asks before (c ∷ []) r after
+Step limit asks before (command.Truncate n) r after = Cuts before n r after
+Step limit asks before command.Clear r after = (r ≡ reply.Done) × (after ≡ [])
+Step limit asks before command.Pop r after = (last : Option ℕ) × (r ≡ reply.Popped last) × Pops before last after
 Step limit asks before command.Len r after = (r ≡ reply.Len (length (octets_of before))) × (after ≡ before)
-Step limit asks before (command.Is s) r after = Tells (before ≡ chars s.now) r × (after ≡ before)
+Step limit asks before (command.Is s) r after = (same : Bool) × (r ≡ reply.Is same) × (IsTrue same ↔ (before ≡ chars s.now)) × (after ≡ before)
 
 -- A list of commands, with one reply each: every step is on the characters that the step before left.
 abbrev pub Run : Option ℕ → Bool → List ℕ → List Command → List Reply → List ℕ → Type 0
@@ -41,3 +54,7 @@ Run limit asks before (c ∷ commands) (r ∷ replies) after =
     (middle : List ℕ) × Step limit asks before c r middle × Run limit asks middle commands replies after
 Run limit asks before [] (r ∷ replies) after = ⊥
 Run limit asks before (c ∷ commands) [] after = ⊥
+
+-- No reply says that a request for memory was refused.
+abbrev pub IsWithoutMemory : List Reply → Type 0
+IsWithoutMemory replies = AllByRecursion (λ r. r ≢ reply.Memory) replies

@@ -1,5 +1,5 @@
 -- Octets as text.
-use Rattle.std.specs.Prelude.{◌≡◌, ℕ, Bool, false, List, [], ◌∷◌, map, if◌then◌else◌}
+use Rattle.std.specs.Prelude.{◌≡◌, ℕ, Bool, false, List, [], ◌∷◌, ◌++◌, map, length, if◌then◌else◌}
 use Rattle.std.specs.Int.{is_in_range}
 use Rattle.std.specs.List.{concat, flat_map, AllByRecursion}
 use Rattle.octseq_text.specs.Encoding.{IsEncoding, number_of, encoding_of}
@@ -37,3 +37,20 @@ chars octets = map number_of (encodings_in octets)
 -- The octets of characters: their encodings, one after another.
 abbrev pub octets_of : List ℕ → List ℕ
 octets_of characters = flat_map encoding_of characters
+
+-- The first of some characters, those that are exactly n octets.
+pub record IsFrontOf (characters : List ℕ) (n : ℕ) (front : List ℕ) : Type 0 where
+  pub rest : List ℕ
+  pub joined : characters ≡ front ++ rest
+  pub long : length (octets_of front) ≡ n
+
+-- Whole characters make exactly the first n octets.
+abbrev pub IsBoundary : List ℕ → ℕ → Type 0
+IsBoundary octets n = (front : List ℕ) × IsFrontOf (chars octets) n front
+
+-- The octets are a text and the encoding of one more character behind it.
+pub record EndsWith (octets : List ℕ) (c : ℕ) : Type 0 where
+  pub before : List ℕ
+  pub text : IsWellFormed before
+  pub whole : octets ≡ before ++ encoding_of c
+  pub characters : chars octets ≡ chars before ++ c ∷ []

@@ -1,9 +1,16 @@
 //! Texts: sequences and builders whose octets are well-formed UTF-8.
 mod builder;
 mod commands;
+mod compare;
+mod ends;
 mod error;
+mod laws;
 mod lossy;
+mod text;
 
 pub use builder::StrBuilder;
 pub use commands::{Command, Reply, run};
+pub use ends::{boundary, last_char};
 pub use error::FromUtf8Error;
+pub use laws::one_run;
+pub use text::Str;

@@ -1,15 +1,20 @@
 //! A text that grows.
-ghost use Rattle.std.specs.Prelude.{◌≡◌, ℕ, ◌+◌, ◌↔◌, true, None, List, [], ◌∷◌, ◌++◌, length, IsTrue, IsOk, IfOk, IfErr, OnOk, OnErr};
-ghost use Rattle.octseq_core.specs.Limit.{IsPast};
+ghost use Rattle.std.specs.Prelude.{◌≡◌, ℕ, ◌+◌, ◌<◌, ◌↔◌, true, None, List, [], ◌∷◌, ◌++◌, length, take, IsTrue, IsOk, IsSome, IfOk, IfErr, IfSome, IfNone, OnOk, OnErr};
+ghost use Rattle.octseq_core.specs.Limit.{IsWithin, IsPast};
 ghost use Rattle.octseq_core.specs.Refusal.{IsShort, IsMemory};
 ghost use Rattle.octseq_text.specs.Encoding.{IsEncoding, number_of, encoding_of};
 ghost use Rattle.octseq_text.specs.Fault.{IsFault};
-ghost use Rattle.octseq_text.specs.Run.{Appends, append_reply};
-ghost use Rattle.octseq_text.specs.Text.{IsWellFormed, chars, octets_of};
+ghost use Rattle.octseq_text.specs.Run.{Appends, append_reply, CutsTo, Pops};
+ghost use Rattle.octseq_text.specs.Text.{IsWellFormed, IsBoundary, chars, octets_of};
 
+use super::ends::{boundary, last_char};
 use super::error::FromUtf8Error;
+use super::text::Str;
 use crate::utf8::{Turns, first_fault};
-use octseq_core::builder::{AppendError, AsOctets, EmptyBuilder, OctetsBuilder, OctetsLimit};
+use octseq_core::array::Array;
+use octseq_core::builder::{
+    AppendError, AsOctets, EmptyBuilder, FreezeBuilder, OctetsBuilder, OctetsLimit, Truncate,
+};
 use std::alloc::{AllocError, Global};
 use std::marker::Model;
 
@@ -93,6 +98,28 @@ impl<Octets: AsOctets> StrBuilder<Octets> {
         self.octets
     }
 
+    /// The text in a sequence that grows no more.
+    ///
+    /// # Errors
+    ///
+    /// `AllocError` where a request for memory was refused. The text is then given up.
+    pub fn freeze(self) -> Result<Str<Octets::Octets>, AllocError>
+    where
+        Octets: FreezeBuilder,
+        ensures ok { IfOk result (λ text. Octets.Octets.content text ≡ Octets.content self) }
+        ensures memory { OnErr result (Octets.Octets.asks ≡ true) }
+    {
+        let octets = self.into_octets_builder().freeze()?;
+        Ok(Str::from_utf8_unchecked(octets))
+    }
+
+    /// The text, borrowed.
+    pub(super) fn as_text(&self) -> Str<&[u8]>
+        ensures { result.now ≡ Octets.content self.now }
+    {
+        Str::from_utf8_unchecked(self.as_slice())
+    }
+
     /// The text.
     #[tactic(auto, using(crate::proofs::Bridge::utf8_from_well_formed))]
     pub fn as_str(&self) -> &str
@@ -106,6 +133,7 @@ impl<Octets: AsOctets> StrBuilder<Octets> {
     pub fn as_slice(&self) -> &[u8]
         ensures content { result.now ≡ Octets.content self.now }
         ensures well_formed { IsWellFormed result.now }
+        ensures within { IsWithin Octets.limit (length result.now) }
     {
         self.octets.as_ref()
     }
@@ -123,6 +151,13 @@ impl<Octets: AsOctets> StrBuilder<Octets> {
         ensures { IsTrue result ↔ (Octets.content self.now ≡ []) }
     {
         self.as_slice().is_empty()
+    }
+
+    /// Whether whole characters make exactly the first `place` octets. It never is past the length.
+    pub fn is_char_boundary(&self, place: usize) -> bool
+        ensures { IsTrue result ↔ IsBoundary (Octets.content self.now) place }
+    {
+        boundary(self.as_slice(), place, &mut Turns::new())
     }
 
     /// Appends all of `s`, or nothing.
@@ -219,6 +254,84 @@ impl<Octets: AsOctets> StrBuilder<Octets> {
             Ok(()) => Ok(()),
             Err(AppendError::Memory) => Err(AllocError),
             Err(AppendError::Short(_)) => unreachable!(),
+        }
+    }
+
+    /// Keeps the first `new_len` octets, or all of them where there are no more. Where there are more, they
+    /// have to be whole characters, which `is_char_boundary` tells.
+    pub fn truncate(&mut self, new_len: usize)
+    where
+        Octets: Truncate,
+        requires { new_len < length (Octets.content self.old) → IsBoundary (Octets.content self.old) new_len }
+        ensures content { Octets.content self.new ≡ take new_len (Octets.content self.old) }
+        ensures borrows { Octets.borrows self.new ≡ Octets.borrows self.old }
+
+        // The same of the characters.
+        ensures step { CutsTo new_len (chars (Octets.content self.old)) (chars (Octets.content self.new)) }
+    {
+        self.octets.truncate(new_len);
+    }
+
+    /// Takes all characters away.
+    pub fn clear(&mut self)
+    where
+        Octets: Truncate,
+        ensures content { Octets.content self.new ≡ [] }
+        ensures borrows { Octets.borrows self.new ≡ Octets.borrows self.old }
+        ensures characters { chars (Octets.content self.new) ≡ [] }
+    {
+        self.truncate(0);
+    }
+
+    /// Takes the last character away, if there is one.
+    pub fn pop(&mut self) -> Option<char>
+    where
+        Octets: Truncate,
+        ensures variant { IsSome result ↔ (0 < length (Octets.content self.old)) }
+        ensures some { IfSome result (λ ch. Octets.content self.old ≡ Octets.content self.new ++ encoding_of ch) }
+        ensures none { IfNone result (Octets.content self.new ≡ Octets.content self.old) }
+        ensures borrows { Octets.borrows self.new ≡ Octets.borrows self.old }
+
+        // The same of the characters.
+        ensures step { Pops (chars (Octets.content self.old)) result (chars (Octets.content self.new)) }
+    {
+        let last = last_char(self.as_slice(), &mut Turns::new())?;
+        let rest = self.len() - last.len_utf8();
+        self.octets.truncate(rest);
+        Some(last)
+    }
+}
+
+impl<Octets: AsOctets> AsOctets for StrBuilder<Octets> {
+    ghost content = { λ text. Octets.content text };
+
+    ghost limit = { Octets.limit };
+
+    ghost asks = { Octets.asks };
+
+    ghost borrows = { λ text. Octets.borrows text };
+
+    fn as_ref(&self) -> &[u8] {
+        self.as_slice()
+    }
+}
+
+impl<Octets: OctetsLimit> OctetsLimit for StrBuilder<Octets> {
+    fn limit() -> Option<usize> {
+        Octets::limit()
+    }
+
+    fn asks_memory() -> bool {
+        Octets::asks_memory()
+    }
+}
+
+impl<const N: usize> Default for StrBuilder<Array<N>> {
+    ghost is_default = { λ text. text.content ≡ [] };
+
+    fn default() -> Self {
+        StrBuilder {
+            octets: Array::new(),
         }
     }
 }

@@ -1,7 +1,7 @@
 //! Lists of commands on a text.
 ghost use Rattle.std.specs.Prelude.{◌≡◌, List, IfOk, OnErr};
 ghost use Rattle.octseq_text.specs.Text.{chars};
-ghost use Rattle.octseq_text.specs.Run.{append_reply, Step, Run};
+ghost use Rattle.octseq_text.specs.Run.{append_reply, Cuts, Step, Run};
 
 use super::builder::StrBuilder;
 use octseq_core::builder::{AppendError, AsOctets, OctetsBuilder, OctetsLimit, Truncate};
@@ -14,6 +14,12 @@ pub enum Command<'a> {
     PushStr(&'a str),
     /// Append a character.
     Push(char),
+    /// Keep this many octets, if whole characters make them.
+    Truncate(usize),
+    /// Take all characters away.
+    Clear,
+    /// Take the last character away.
+    Pop,
     /// Tell the length in octets.
     Len,
     /// Tell whether the text is this one.
@@ -29,6 +35,10 @@ pub enum Reply {
     Short,
     /// A request for memory was refused, and the text is as it was.
     Memory,
+    /// The cut would have been within a character, and the text is as it was.
+    NoBoundary,
+    /// The last character, or none where there was none.
+    Popped(Option<char>),
     /// The length in octets.
     Len(usize),
     /// Whether the text is the one that was named.
@@ -46,6 +56,18 @@ fn reply_to(appended: Result<(), AppendError>) -> Reply
     }
 }
 
+/// Cuts the text, if that doesn't cut a character.
+fn truncate<B: OctetsBuilder + Truncate>(builder: &mut StrBuilder<B>, len: usize) -> Reply
+    ensures step { Cuts (chars (B.content builder.old)) len result (chars (B.content builder.new)) }
+    ensures borrows { B.borrows builder.new ≡ B.borrows builder.old }
+{
+    if len < builder.len() && !builder.is_char_boundary(len) {
+        return Reply::NoBoundary;
+    }
+    builder.truncate(len);
+    Reply::Done
+}
+
 /// One command.
 fn step<B: OctetsBuilder + Truncate>(builder: &mut StrBuilder<B>, command: &Command) -> Reply
     ensures step { Step B.limit B.asks (chars (B.content builder.old)) command.now result (chars (B.content builder.new)) }
@@ -54,6 +76,12 @@ fn step<B: OctetsBuilder + Truncate>(builder: &mut StrBuilder<B>, command: &Comm
     match *command {
         Command::PushStr(s) => reply_to(builder.try_push_str(s)),
         Command::Push(ch) => reply_to(builder.try_push(ch)),
+        Command::Truncate(len) => truncate(builder, len),
+        Command::Clear => {
+            builder.clear();
+            Reply::Done
+        }
+        Command::Pop => Reply::Popped(builder.pop()),
         Command::Len => Reply::Len(builder.len()),
         Command::Is(s) => Reply::Is(builder.as_slice() == s.as_bytes()),
     }

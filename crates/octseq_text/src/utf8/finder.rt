@@ -37,8 +37,8 @@ fn may_stand_second(first: u8, second: u8) -> bool
     }
 }
 
-/// Whether an octet may stand third or fourth.
-fn may_follow(octet: u8) -> bool
+/// Whether an octet is a continuation: one of 80..BF, which may stand third and fourth, and never first.
+pub(crate) fn is_continuation(octet: u8) -> bool
     ensures { result ≡ is_in_range 0x80 0xBF octet }
 {
     0x80 <= octet && octet <= 0xBF
@@ -57,10 +57,10 @@ fn fitting_len(octets: &[u8], width: usize) -> usize
     if octets.len() < 2 || !may_stand_second(octets[0], octets[1]) {
         return 1;
     }
-    if width < 3 || octets.len() < 3 || !may_follow(octets[2]) {
+    if width < 3 || octets.len() < 3 || !is_continuation(octets[2]) {
         return 2;
     }
-    if width < 4 || octets.len() < 4 || !may_follow(octets[3]) {
+    if width < 4 || octets.len() < 4 || !is_continuation(octets[3]) {
         return 3;
     }
     4

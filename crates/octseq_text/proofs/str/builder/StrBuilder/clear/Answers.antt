@@ -1,0 +1,5 @@
+use Rattle.octseq_text.proofs.Spelling.{chars_of, spells_nothing}
+use Rattle.octseq_text.proofs.str.builder.StrBuilder.clear.Goals as goal
+
+pub returns-clause-characters : goal.returns-clause-characters
+returns-clause-characters g c = rw c.truncate.ensures.content (chars_of spells_nothing)

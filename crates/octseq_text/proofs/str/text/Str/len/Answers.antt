@@ -1,0 +1,7 @@
+use Rattle.std.proofs.Common.{length, ap, sym}
+use Rattle.octseq_text.proofs.Texts.{octets_of-chars}
+use Rattle.octseq_text.proofs.str.text.Str.len.Goals as goal
+
+pub returns-clause-characters : goal.returns-clause-characters
+returns-clause-characters g c =
+    rw (← c.as_slice.ensures.content) (sym (ap length (octets_of-chars c.as_slice.result.now c.as_slice.ensures.well_formed)))

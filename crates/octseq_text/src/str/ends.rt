@@ -1,0 +1,62 @@
+//! Where characters end: the last of a text, and the places between two.
+ghost use Rattle.std.specs.Prelude.{◌≡◌, ◌≢◌, ◌+◌, ◌<◌, ◌≤◌, ◌↔◌, [], length, IsTrue, IfSome, IfNone};
+ghost use Rattle.octseq_text.specs.Text.{IsWellFormed, IsBoundary, EndsWith};
+
+use crate::utf8::{Turns, is_continuation};
+
+/// The last character of well-formed octets, or none where there are no octets.
+///
+/// It takes a turn for each octet that it reads, from the end to where the character begins, and no memory.
+pub fn last_char(octets: &[u8], turns: &mut Turns) -> Option<char>
+    requires { IsWellFormed octets.now }
+    ensures some { IfSome result (EndsWith octets.now) }
+    ensures none { IfNone result (octets.now ≡ []) }
+    ensures read { octets.now ≢ [] → turns.old < turns.new }
+    ensures turns { turns.new ≤ turns.old + 4 }
+{
+    let len = octets.len();
+    if len == 0 {
+        return None;
+    }
+    turns.tick();
+    let fourth = u32::from(octets[len - 1]);
+    if fourth < 0x80 {
+        return Some(unsafe { char::from_u32_unchecked(fourth) });
+    }
+    turns.tick();
+    let third = u32::from(octets[len - 2]);
+    if third >= 0xC0 {
+        let number = (third - 0xC0) * 64 + (fourth - 0x80);
+        return Some(unsafe { char::from_u32_unchecked(number) });
+    }
+    turns.tick();
+    let second = u32::from(octets[len - 3]);
+    if second >= 0xE0 {
+        let number = (second - 0xE0) * 4096 + (third - 0x80) * 64 + (fourth - 0x80);
+        return Some(unsafe { char::from_u32_unchecked(number) });
+    }
+    turns.tick();
+    let first = u32::from(octets[len - 4]);
+    let number =
+        (first - 0xF0) * 262144 + (second - 0x80) * 4096 + (third - 0x80) * 64 + (fourth - 0x80);
+    Some(unsafe { char::from_u32_unchecked(number) })
+}
+
+/// Whether whole characters make exactly the first `place` of well-formed octets. It never is past the
+/// length.
+///
+/// It reads the octet at the place, for one turn, and takes no memory.
+pub fn boundary(octets: &[u8], place: usize, turns: &mut Turns) -> bool
+    requires { IsWellFormed octets.now }
+    ensures between { IsTrue result ↔ IsBoundary octets.now place }
+    ensures read { place < length octets.now → turns.old < turns.new }
+    ensures turns { turns.new ≤ turns.old + 1 }
+{
+    match octets.get(place) {
+        Some(&octet) => {
+            turns.tick();
+            !is_continuation(octet)
+        }
+        None => place == octets.len(),
+    }
+}

@@ -1,0 +1,22 @@
+//! What lists of commands on a text answer, whatever the text is kept in.
+ghost use Rattle.std.specs.Prelude.{◌≡◌, ℕ, Bool, false, Option, List};
+ghost use Rattle.octseq_text.specs.Run.{Run, IsWithoutMemory};
+ghost use Rattle.octseq_text.specs.declared.str.commands.Command.{Command};
+ghost use Rattle.octseq_text.specs.declared.str.commands.Reply.{Reply};
+
+/// Texts of the same characters answer a list of commands alike, whatever they are kept in, if only the
+/// limit is the same: where no request for memory was refused, the replies and the characters afterwards are
+/// a function of the characters, the limit and the commands. A type that requests no memory never replies
+/// that a request was refused.
+///
+/// It does nothing. A caller that calls it has the law in its proof, and the [`Run`](super::run) of each text.
+pub fn one_run()
+    ensures alike { (limit : Option ℕ) (asks other_asks : Bool) (before : List ℕ) (commands : List Command)
+        (replies others : List Reply) (after other_after : List ℕ)
+        → Run limit asks before commands replies after → Run limit other_asks before commands others other_after
+        → IsWithoutMemory replies → IsWithoutMemory others → (replies ≡ others) × (after ≡ other_after) }
+    ensures without_memory { (limit : Option ℕ) (before : List ℕ) (commands : List Command)
+        (replies : List Reply) (after : List ℕ)
+        → Run limit false before commands replies after → IsWithoutMemory replies }
+{
+}
