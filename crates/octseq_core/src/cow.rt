@@ -13,7 +13,9 @@ use std::alloc::{AllocError, Global};
 /// Borrowed octets with the allocator for a copy of them, or octets of its own.
 #[derive(Drop)]
 pub enum CowOctets<'a> {
+    /// Octets of another, and the allocator for a copy of them.
     Borrowed(&'a [u8], Global),
+    /// Octets of its own.
     Owned(Vec<u8>),
 }
 
@@ -165,7 +167,12 @@ impl<'a> FromBuilder for CowOctets<'a> {
 
 impl<'a> CloneOctets for CowOctets<'a> {
     /// Borrows what is borrowed, and copies what is owned.
-    fn clone_octets(&self, alloc: Global) -> Result<CowOctets<'a>, AllocError> {
+    fn clone_octets(&self, alloc: Global) -> Result<CowOctets<'a>, AllocError>
+        ensures ok { IfOk result (λ octets. cow_content octets ≡ cow_content self.now) }
+        ensures memory { OnErr result (true ≡ true) }
+        ensures unchanged { IfOk result (λ octets. is_borrowed octets ≡ is_borrowed self.now) }
+        ensures never { is_borrowed self.now ≡ true → IsOk result }
+    {
         match self {
             CowOctets::Borrowed(slice, kept) => Ok(CowOctets::Borrowed(slice, *kept)),
             CowOctets::Owned(vec) => Ok(CowOctets::Owned(Vec::from_slice(alloc, vec.as_slice())?)),

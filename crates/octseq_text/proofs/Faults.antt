@@ -1,5 +1,5 @@
 -- Faults, and the places that the finder comes to.
-use Rattle.std.proofs.Common.{◌≡◌, ℕ, ◌+◌, ◌-◌, ◌*◌, ◌≤◌, List, [], ◌∷◌, ◌++◌, map, length, take, drop, refl, arith, inl, inr, ap, sym, ◌∙◌, subst, length-append, length-take, length-drop, Option}
+use Rattle.std.proofs.Common.{◌≡◌, ℕ, ◌+◌, ◌-◌, ◌*◌, ◌≤◌, List, [], ◌∷◌, ◌++◌, map, length, take, drop, get_or, refl, arith, inl, inr, ⊎_elim, ap, sym, ◌∙◌, subst, length-append, length-take, length-drop, Option, Some}
 use Rattle.std.specs.Prelude.{unwrap_or}
 use Rattle.std.proofs.lemmas.List.{take-append-drop, take_all}
 use Rattle.std.proofs.Math.Seq.{take-append-add, drop-append_seam}
@@ -10,7 +10,8 @@ use Rattle.octseq_text.specs.Parts.{IsBadPart, Part, Char, Bad as BadPart}
 use Rattle.octseq_text.specs.Reading.{parts_of}
 use Rattle.octseq_text.specs.Text.{Spells, IsWellFormed, chars, octets_of}
 use Rattle.octseq_text.specs.declared.utf8.finder.Front.TheVariants.{Encoding, Bad}
-use Rattle.octseq_text.proofs.Rows.{length_of}
+use Rattle.octseq_text.proofs.Beginnings.{nil_or_some, beginning_short}
+use Rattle.octseq_text.proofs.Rows.{length_of, width_le}
 use Rattle.octseq_text.proofs.Joins.{parts_fault, parts_spelled}
 use Rattle.octseq_text.proofs.Spelling.{chars_of, octets_of_spelled, spells_nothing, spells_one, spells-append}
 
@@ -125,3 +126,24 @@ one_fault {x} {fault} {other} f g =
     let long : IsFaultSize g.bad g.after fault.size = subst (λ y. IsFaultSize g.bad y fault.size) behind (subst (λ y. IsFaultSize y f.after fault.size) same.1 f.size) in
     let size : fault.size ≡ other.size = same_size g.bad g.after fault.size other.size long g.size in
     λ i. record { place = place i; size = size i }
+
+-- a bad part has one to three octets
+
+bad_small : {octets bad : List ℕ} → IsBadPart octets bad → (1 ≤ length bad) × (length bad ≤ 3)
+bad_small {bad = bad} b =
+    ⊎_elim
+    (λ l. let short = beginning_short l.0 in let width = width_le (get_or bad 0 0) in (nil_or_some bad l.0.some, omega arith))
+    (λ one. let n = one.0 in (omega arith, omega arith))
+    b.longest
+
+sized : (bad after : List ℕ) (n : ℕ) → IsFaultSize bad after (Some n) → n ≡ length bad
+sized bad after n (inl h) = absurd (let e = h.0 in cc)
+sized bad after n (inr h) = let e = h.0 in cc
+
+pub fault_small : {octets : List ℕ} {place n : ℕ} → IsFault octets (record { place = place; size = Some n }) → (1 ≤ n) × (n ≤ 3)
+fault_small {n = n} f =
+    let few = bad_small f.first in
+    let long = sized f.bad f.after n f.size in
+    let least = few.0 in
+    let most = few.1 in
+    (omega arith, omega arith)

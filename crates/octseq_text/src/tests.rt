@@ -11,6 +11,7 @@ use std::test::Fail;
 mod capped;
 mod conversions;
 mod rationed;
+mod texts;
 
 #[test]
 fn thai_and_chinese_are_read(rt: HostRuntime) -> Result<(), Fail> {

@@ -60,22 +60,20 @@ fn the_greatest_bounds_are_told_apart(rt: HostRuntime) {
 }
 
 /// Each bound of a place up to 5, with the start and the end in octets of a length that it stands for.
-fn each_bound(alloc: Global, len: i64) -> Result<Vec<(Bound, i64, i64)>, Fail> {
+fn each_bound(alloc: Global, len: usize) -> Result<Vec<(Bound, usize, usize)>, Fail> {
     let mut bounds = Vec::new(alloc);
     bounds.push((Bound::Unbounded, 0, len))?;
-    let places: [(usize, i64); 6] = [(0, 0), (1, 1), (2, 2), (3, 3), (4, 4), (5, 5)];
-    let nexts = [1, 2, 3, 4, 5, 6];
-    for ((n, place), next) in places.iter().copied().zip(nexts) {
-        bounds.push((Bound::Included(n), place, next))?;
-        bounds.push((Bound::Excluded(n), next, place))?;
+    for n in 0..6 {
+        bounds.push((Bound::Included(n), n, n + 1))?;
+        bounds.push((Bound::Excluded(n), n + 1, n))?;
     }
     Ok(bounds)
 }
 
 #[test]
 fn ranges_are_those_of_whole_numbers(rt: HostRuntime) -> Result<(), Fail> {
-    let cases = [(b"".as_slice(), 0), (b"x", 1), (b"xy", 2), (b"xyz", 3)];
-    for (octets, len) in cases {
+    for octets in [b"".as_slice(), b"x", b"xy", b"xyz"] {
+        let len = octets.len();
         let bounds = each_bound(rt.alloc(), len)?;
         for (first, start, _) in &bounds {
             for (last, _, end) in &bounds {
@@ -83,10 +81,8 @@ fn ranges_are_those_of_whole_numbers(rt: HostRuntime) -> Result<(), Fail> {
                 let found = cut(octets, (*first, *last));
                 assert_eq!(rt; found.is_some(), exists, "{first:?} {last:?} of {len}");
                 if let Some(range) = found {
-                    let mut place = -1;
                     let mut wanted = Vec::new(rt.alloc());
-                    for octet in octets {
-                        place = place.min(8) + 1;
+                    for (place, octet) in octets.iter().enumerate() {
                         if *start <= place && place < *end {
                             wanted.push(*octet)?;
                         }

@@ -1,5 +1,5 @@
 //! A vector whose n-th append is refused for memory.
-ghost use Rattle.std.specs.Prelude.{true, None};
+ghost use Rattle.std.specs.Prelude.{◌≡◌, true, None};
 
 use octseq_core::builder::{AppendError, AsOctets, OctetsBuilder, OctetsLimit, Truncate};
 
@@ -11,7 +11,9 @@ pub struct Rationed {
 
 impl Rationed {
     /// Refuses the n-th append, counted from 1, or none for 0.
-    pub fn new(octets: Vec<u8>, refused: usize) -> Self {
+    pub fn new(octets: Vec<u8>, refused: usize) -> Self
+        ensures { result.octets ≡ octets }
+    {
         Rationed {
             octets,
             until_refused: refused,

@@ -1,6 +1,6 @@
 //! Laws about the definitions of UTF-8. Each stands in the contract of a function that does nothing, so
 //! that a check asks for its proof and callers can cite it.
-ghost use Rattle.std.specs.Prelude.{◌≡◌, ℕ, ◌≤◌, ◌↔◌, List, [], ◌∷◌, ◌++◌, map, length, encode_utf8};
+ghost use Rattle.std.specs.Prelude.{◌≡◌, ℕ, ◌≤◌, ◌↔◌, List, [], ◌∷◌, ◌++◌, map, length, encode_utf8, Some};
 ghost use Rattle.std.specs.Str.{IsUtf8};
 ghost use Rattle.octseq_text.specs.Encoding.{IsEncoding, IsCharacter, number_of, encoding_of};
 ghost use Rattle.octseq_text.specs.Fault.{Fault, IsFault};
@@ -37,10 +37,11 @@ pub fn one_splitting()
         → Splits (good ++ (bad ++ rest)) (map Char characters ++ (Bad bad ∷ parts)) }
 {}
 
-/// Octets that have a fault have one, and aren't well formed.
+/// Octets that have a fault have one, and aren't well formed. Where the fault has a size, that is 1 to 3.
 pub fn one_fault()
     ensures only { (octets : List ℕ) (fault other : Fault) → IsFault octets fault → IsFault octets other → fault ≡ other }
     ensures refutes { (octets : List ℕ) (fault : Fault) → IsFault octets fault → ¬ IsWellFormed octets }
+    ensures size { (octets : List ℕ) (place n : ℕ) → IsFault octets (record { place = place; size = Some n }) → (1 ≤ n) × (n ≤ 3) }
 {}
 
 /// The lossy text is well formed and no shorter than its source, and that of well-formed octets is those
