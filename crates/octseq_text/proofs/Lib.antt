@@ -11,6 +11,8 @@ pub mod Fitting
 pub mod Splitting
 pub mod Joins
 pub mod Fronts
+pub mod Masks
+pub mod Ascii
 pub mod Faults
 pub mod LossyTexts
 pub mod Replacing

@@ -1,8 +1,10 @@
 //! UTF-8: where octets stop being well formed, and laws about what that means.
 mod fault;
 mod finder;
+mod lanes;
 mod laws;
 mod turns;
+mod words;
 
 pub use fault::Utf8Fault;
 pub use finder::first_fault;

@@ -1,13 +1,16 @@
 //! The finder of the first fault.
-ghost use Rattle.std.specs.Prelude.{◌≡◌, ℕ, ◌+◌, ◌*◌, ◌<◌, ◌≤◌, ◌↔◌, length, take, slice_index, IsNone, IfNone, IfSome};
+ghost use Rattle.std.specs.Prelude.{◌≡◌, ℕ, ◌+◌, ◌*◌, ◌/◌, ◌%◌, ◌<◌, ◌≤◌, ◌↔◌, length, take, slice_index, IsNone, IfNone, IfSome};
 ghost use Rattle.std.specs.Int.{is_in_range};
+ghost use Rattle.std.specs.List.{All};
 ghost use Rattle.octseq_text.specs.Fault.{IsFault, fault_end};
 ghost use Rattle.octseq_text.specs.Front.{StandsInFront};
 ghost use Rattle.octseq_text.specs.Reading.{width_of, least_second, greatest_second, fitting};
 ghost use Rattle.octseq_text.specs.Text.{IsWellFormed, chars};
 
 use super::fault::Utf8Fault;
+use super::lanes::high_lanes;
 use super::turns::Turns;
+use super::words::{begins_three, begins_two, is_four, word_at};
 
 /// How many octets an encoding that begins with this one has, or 0 where none does.
 #[tactic(auto, unfolding(crate::specs::Reading::width_of))]
@@ -92,9 +95,37 @@ fn part_at_front(octets: &[u8]) -> Front
     }
 }
 
+/// The first fault of the octets, one part a turn.
+fn fault_by_parts(octets: &[u8], turns: &mut Turns) -> Option<Utf8Fault>
+    ensures none { IsNone result ↔ IsWellFormed octets.now }
+    ensures fault { IfSome result (IsFault octets.now) }
+    ensures turns { IfNone result (turns.new ≤ turns.old + length (chars octets.now)) }
+    ensures turns_to_fault { IfSome result (λ fault.
+        turns.new ≤ turns.old + length (chars (take fault.place octets.now)) + 1) }
+    ensures passed { IfNone result (length octets.now + 16 * turns.old ≤ 16 * turns.new) }
+    ensures passed_to_fault { IfSome result (λ fault.
+        fault_end octets.now fault + 16 * turns.old ≤ 16 * turns.new) }
+    ensures octets { turns.new ≤ turns.old + length octets.now }
+{
+    let mut at = 0;
+    while at < octets.len() {
+        turns.tick();
+        if octets[at] < 0x80 {
+            at += 1;
+            continue;
+        }
+        match part_at_front(&octets[at..]) {
+            Front::Encoding(len) => at += len,
+            Front::Bad(size) => return Some(Utf8Fault::new(at, size)),
+        }
+    }
+    None
+}
+
 /// The first fault of the octets, or none where they are well-formed UTF-8.
 ///
-/// It takes a turn for each character before the fault and one for the fault, and no memory.
+/// Where sixteen octets are left it takes one turn for them if all are below 80, and else one for the
+/// character or the fault that stands there; at the end one for each. It takes no memory.
 pub fn first_fault(octets: &[u8], turns: &mut Turns) -> Option<Utf8Fault>
     ensures none { IsNone result ↔ IsWellFormed octets.now }
     ensures fault { IfSome result (IsFault octets.now) }
@@ -106,14 +137,42 @@ pub fn first_fault(octets: &[u8], turns: &mut Turns) -> Option<Utf8Fault>
     ensures passed { IfNone result (length octets.now + 16 * turns.old ≤ 16 * turns.new) }
     ensures passed_to_fault { IfSome result (λ fault.
         fault_end octets.now fault + 16 * turns.old ≤ 16 * turns.new) }
+
+    // ASCII is passed sixteen octets a turn.
+    ensures ascii { All (λ octet. octet < 0x80) octets.now
+        → turns.new ≤ turns.old + length octets.now / 16 + length octets.now % 16 }
 {
     let mut at = 0;
-    while at < octets.len() {
+    let lanes = octets.len().saturating_sub(15);
+    while at < lanes {
         turns.tick();
+        let high = high_lanes(octets, at);
+        if high == 0 {
+            at += 16;
+            continue;
+        }
+        if high % 2 == 0 {
+            at += 1;
+            continue;
+        }
+        let word = word_at(octets, at);
+        if begins_three(word) {
+            at += 3;
+            continue;
+        }
+        if begins_two(word) {
+            at += 2;
+            continue;
+        }
+        if is_four(word) {
+            at += 4;
+            continue;
+        }
         match part_at_front(&octets[at..]) {
             Front::Encoding(len) => at += len,
             Front::Bad(size) => return Some(Utf8Fault::new(at, size)),
         }
     }
-    None
+    let fault = fault_by_parts(&octets[at..], turns)?;
+    Some(Utf8Fault::new(at + fault.valid_up_to(), fault.error_len()))
 }
