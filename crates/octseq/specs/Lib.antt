@@ -1,0 +1,5 @@
+pub mod Integer
+pub mod Parser
+pub mod Refusal
+pub mod Shown
+pub mod Window
