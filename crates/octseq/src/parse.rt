@@ -8,9 +8,11 @@ use octseq_core::builder::AsOctets;
 use octseq_text::octets::{Bound, Octets, range_exists, span};
 use std::alloc::AllocError;
 
+mod commands;
 mod error;
 mod integers;
 
+pub use crate::parse::commands::{Kind, ParserCall, ParserCommand, ParserReply, run};
 pub use crate::parse::error::{ParseOctetsError, ShortInput};
 
 /// A window on a sequence of octets: a position, at which reading goes on, and an end. Both are counted
