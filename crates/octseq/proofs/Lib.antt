@@ -1,3 +1,4 @@
+pub mod OneRun
 pub mod Runs
 pub mod Steps
 pub mod Values

@@ -1,5 +1,5 @@
 -- What contracts see of a `Parser`.
-use Rattle.std.specs.Prelude.{◌≡◌, ℕ, ◌+◌, ◌≤◌, ◌↔◌, Result, IsOk, OnOk, OnErr}
+use Rattle.std.specs.Prelude.{◌≡◌, ℕ, ◌≤◌, ◌↔◌, Result, IsOk, OnOk, OnErr}
 use Rattle.octseq_core.specs.declared.builder.AsOctets.{Ghosts}
 use Rattle.octseq.specs.Window.{Window, left, past}
 use Rattle.octseq.specs.declared.parse.Parser.{Parser}

@@ -1,5 +1,6 @@
 -- What commands do to parsers of the same octets, seen as a list of windows.
-use Rattle.std.specs.Prelude.{◌≡◌, ℕ, Bool, true, List, [], ◌∷◌, ◌++◌, length, slice_get, slice_set, nat_le, ◌==◌, if◌then◌else◌, Option, Some, None, ◌⊎◌}
+use Rattle.std.specs.List.{AllByRecursion}
+use Rattle.std.specs.Prelude.{◌≡◌, ◌≢◌, ℕ, Bool, true, List, [], ◌∷◌, ◌++◌, length, slice_get, slice_set, nat_le, ◌==◌, if◌then◌else◌, Option, Some, None, ◌⊎◌}
 use Rattle.octseq.specs.Integer.{be, le, signed}
 use Rattle.octseq.specs.Reply.{Reply}
 use Rattle.octseq.specs.Window.{Window, left, rest, next, front, at, past, nested}
@@ -107,3 +108,7 @@ Run asks windows (command ∷ commands) (reply ∷ replies) =
     (after : List Window) × Step asks windows command reply after × Run asks after commands replies
 Run asks windows [] (reply ∷ replies) = ⊥
 Run asks windows (command ∷ commands) [] = ⊥
+
+-- No reply tells that a request for memory was refused.
+abbrev pub NoneIsMemory : List Reply → Type 0
+NoneIsMemory replies = AllByRecursion (λ reply. reply ≢ Reply.memory) replies

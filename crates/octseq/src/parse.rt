@@ -11,9 +11,11 @@ use std::alloc::AllocError;
 mod commands;
 mod error;
 mod integers;
+mod laws;
 
 pub use crate::parse::commands::{Kind, ParserCall, ParserCommand, ParserReply, run};
 pub use crate::parse::error::{ParseOctetsError, ShortInput};
+pub use crate::parse::laws::{nothing_is_lost, one_run};
 
 /// A window on a sequence of octets: a position, at which reading goes on, and an end. Both are counted
 /// from the first octet of the sequence, also in a parser that was cut from another.
@@ -161,8 +163,7 @@ impl<R: AsOctets> Parser<R> {
         ensures variant { IsOk result ↔ (len ≤ left (window self.now)) }
         ensures ok { IfOk result (λ octets. octets.now ≡ next len (window self.now)) }
     {
-        self.check_len(len)?;
-        Ok(&self.octets.as_ref()[self.pos..self.pos + len])
+        Ok(&self.octets.as_ref()[self.pos..self.place_past(len)?])
     }
 
     /// The octets that are left. The position stays.
@@ -185,6 +186,15 @@ impl<R: AsOctets> Parser<R> {
             return Err(ShortInput);
         }
         Ok(())
+    }
+
+    /// The place past the next `len` octets, if so many are left.
+    fn place_past(&self, len: usize) -> Result<usize, ShortInput>
+        ensures variant { IsOk result ↔ (len ≤ left (window self.now)) }
+        ensures ok { IfOk result (λ place. place ≡ (window self.now).position + len) }
+    {
+        self.check_len(len)?;
+        Ok(self.pos + len)
     }
 
     /// Moves to a position, counted from the first octet of the sequence: also before the place where a
@@ -214,8 +224,7 @@ impl<R: AsOctets> Parser<R> {
     pub fn advance(&mut self, len: usize) -> Result<(), ShortInput>
         ensures { Takes result len self.old self.new }
     {
-        self.check_len(len)?;
-        self.pos += len;
+        self.pos = self.place_past(len)?;
         Ok(())
     }
 
@@ -243,8 +252,7 @@ impl<R: AsOctets> Parser<R> {
         ensures err { OnErr result (window self.new ≡ window self.old) }
         ensures same { sequence self.new ≡ sequence self.old }
     {
-        self.check_len(len)?;
-        let end = self.pos + len;
+        let end = self.place_past(len)?;
         let range = self.octets.range(span(self.pos, end))?;
         self.pos = end;
         Ok(range)

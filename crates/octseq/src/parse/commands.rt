@@ -181,8 +181,11 @@ fn carry_out<R: Octets + Copy>(
     call: ParserCall,
 ) -> Result<Answer<R>, ParseOctetsError>
     ensures ok { IfOk result (λ answer. outcome count (window parser.old) call
-        ≡ record { reply = shown R.Range.content answer.reply; window = window parser.new;
-            added = map window (option_to_list answer.made) }) }
+        ≡ record {
+          reply = shown R.Range.content answer.reply;
+          window = window parser.new;
+          added = map window (option_to_list answer.made);
+        }) }
     ensures short { IsShort result → outcome count (window parser.old) call ≡ replies Reply.short (window parser.old) }
     ensures memory { IsMemory result → MayLackMemory R.Range.asks (outcome count (window parser.old) call).reply }
     ensures err { OnErr result (window parser.new ≡ window parser.old) }
