@@ -2,7 +2,7 @@
 use Rattle.std.proofs.Common.{◌≡◌, ◌≢◌, Bool, Option, Some, None, List, [], ◌∷◌, ◌++◌, refl, sym, ap, ◌∙◌, subst, inl, inr}
 use Rattle.std.specs.Prelude.{slice_get, slice_set}
 use Rattle.octseq.specs.Reply.{Reply}
-use Rattle.octseq.specs.Run.{Outcome, Does, StepOn, NoneIsMemory, Run}
+use Rattle.octseq.specs.Run.{Outcome, Does, StepOn, IsWithoutMemory, Run}
 use Rattle.octseq.specs.Window.{Window}
 use Rattle.octseq.specs.declared.parse.commands.ParserCommand.{ParserCommand}
 
@@ -20,7 +20,7 @@ one_step_on (Some w) asks others windows after later command r s (done, d, e, f)
     (e ∙ ap (λ o. o.reply) same ∙ sym g, f ∙ ap (λ o. slice_set windows command.parser o.window ++ o.added) same ∙ sym h)
 
 pub one_replies : (asks others : Bool) (windows : List Window) (commands : List ParserCommand) (x y : List Reply)
-    → Run asks windows commands x → Run others windows commands y → NoneIsMemory x → NoneIsMemory y → x ≡ y
+    → Run asks windows commands x → Run others windows commands y → IsWithoutMemory x → IsWithoutMemory y → x ≡ y
 one_replies asks others windows [] [] [] run also p q = refl
 one_replies asks others windows (c ∷ commands) (r ∷ x) (s ∷ y) (after, step, run) (later, other, also) p q =
     let same : (r ≡ s) × (after ≡ later) = one_step_on (slice_get windows c.parser) asks others windows after later c r s step other p.0 q.0 in

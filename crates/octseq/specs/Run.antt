@@ -110,5 +110,5 @@ Run asks windows [] (reply ∷ replies) = ⊥
 Run asks windows (command ∷ commands) [] = ⊥
 
 -- No reply tells that a request for memory was refused.
-abbrev pub NoneIsMemory : List Reply → Type 0
-NoneIsMemory replies = AllByRecursion (λ reply. reply ≢ Reply.memory) replies
+abbrev pub IsWithoutMemory : List Reply → Type 0
+IsWithoutMemory replies = AllByRecursion (λ reply. reply ≢ Reply.memory) replies

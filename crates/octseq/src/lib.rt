@@ -16,6 +16,6 @@ pub use octseq_core::builder::{
 pub use octseq_core::cow::CowOctets;
 pub use octseq_core::{array, builder, cow};
 pub use octseq_text::octets::{Octets, OctetsFrom, OctetsInto};
-pub use octseq_text::str::StrBuilder;
+pub use octseq_text::str::{Str, StrBuilder};
 pub use octseq_text::{octets, str, utf8};
 pub use parse::{Parser, ShortInput};

@@ -2,7 +2,7 @@
 //! asks for its proof.
 ghost use Rattle.std.specs.Prelude.{◌≡◌, ℕ, ◌≤◌, ◌++◌, Bool, List};
 ghost use Rattle.octseq.specs.Reply.{Reply};
-ghost use Rattle.octseq.specs.Run.{NoneIsMemory, Run};
+ghost use Rattle.octseq.specs.Run.{IsWithoutMemory, Run};
 ghost use Rattle.octseq.specs.Window.{Window, left, rest, next, past};
 ghost use Rattle.octseq.specs.declared.parse.commands.ParserCommand.{ParserCommand};
 
@@ -15,5 +15,5 @@ pub fn nothing_is_lost()
 /// are kept.
 pub fn one_run()
     ensures { (asks others : Bool) (windows : List Window) (commands : List ParserCommand) (x y : List Reply)
-        → Run asks windows commands x → Run others windows commands y → NoneIsMemory x → NoneIsMemory y → x ≡ y }
+        → Run asks windows commands x → Run others windows commands y → IsWithoutMemory x → IsWithoutMemory y → x ≡ y }
 {}
