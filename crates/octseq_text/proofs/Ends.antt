@@ -46,7 +46,7 @@ ends_with {x} t c n = record {
   text = (t.characters, t.spelled);
   whole = t.whole ∙ ap (λ e. t.before ++ e) (sym (ap encoding_of (sym n) ∙ encoding_of-number_of t.encoding));
   characters = ap chars t.whole ∙ chars_of (spells-append t.spelled (spells_one t.encoding)) ∙ ap (λ cs. cs ++ number_of t.last ∷ []) (sym (chars_of t.spelled))
-  ∙ ap (λ b. chars t.before ++ b ∷ []) n;
+      ∙ ap (λ b. chars t.before ++ b ∷ []) n;
 }
 
 scalar : {x : List ℕ} (t : Ending x) (c : ℕ) → number_of t.last ≡ c → IsScalar c

@@ -1,11 +1,13 @@
 -- What is written is a function of the word and the input.
-use Rattle.std.proofs.Common.{◌≡◌, ◌≢◌, get_or, refl, sym, ◌∙◌, ap, arith, List, ◌++◌, length, codes, ℕ, Option, Some, None}
+use Rattle.std.proofs.Common.{◌≡◌, ◌≢◌, inl, inr, get_or, refl, sym, ◌∙◌, ap, subst, arith, List, [], ◌∷◌, ◌++◌, length, codes, ℕ, Option, Some, None}
+use Rattle.std.proofs.lemmas.List.{append-nil}
+use Rattle.octseq_tool.proofs.Records.{IsRest, one_reading}
 use Rattle.octseq_text.specs.Fault.{Fault, IsFault, fault_text}
 use Rattle.octseq_text.specs.Parts.{Part, Splits, text}
 use Rattle.octseq_text.specs.Text.{IsWellFormed}
-use Rattle.octseq_tool.specs.Out.{name_of, IsNamed, HasText, Out}
+use Rattle.octseq_tool.specs.Out.{name_of, IsNamed, HasText, records_of, IsCut, HasLines, Out}
 use Rattle.octseq_tool.specs.declared.engine.Command.{Command}
-use Rattle.octseq_tool.specs.declared.engine.Command.TheVariants.{Check, Lossy, Lossy64}
+use Rattle.octseq_tool.specs.declared.engine.Command.TheVariants.{Check, Lossy, Lossy64, Records}
 use Rattle.octseq_tool.specs.declared.engine.Status.{Status}
 use Rattle.octseq_tool.specs.declared.engine.Status.TheVariants.{Fine, Refused, Usage}
 
@@ -20,6 +22,13 @@ same_name : (c d : Command) → name_of c ≡ name_of d → c ≡ d
 same_name Check Check e = refl
 same_name Lossy Lossy e = refl
 same_name Lossy64 Lossy64 e = refl
+same_name Records Records e = refl
+same_name Check Records e = other_first _ _ (omega arith) e
+same_name Lossy Records e = other_first _ _ (omega arith) e
+same_name Lossy64 Records e = other_first _ _ (omega arith) e
+same_name Records Check e = other_first _ _ (omega arith) e
+same_name Records Lossy e = other_first _ _ (omega arith) e
+same_name Records Lossy64 e = other_first _ _ (omega arith) e
 same_name Check Lossy e = other_first _ _ (omega arith) e
 same_name Check Lossy64 e = other_first _ _ (omega arith) e
 same_name Lossy Check e = other_first _ _ (omega arith) e
@@ -74,8 +83,34 @@ module _ (one_fault : (octets : List ℕ) (fault other : Fault) → IsFault octe
   limited input x y Usage t p q = absurd p
   limited input x y s Usage p q = absurd q
 
+  one_lines : (parts : List (List ℕ)) (x y : List ℕ) → HasLines parts x → HasLines parts y → x ≡ y
+  one_lines [] x y e f = e ∙ sym f
+  one_lines (part ∷ parts) x y (line, more, h, hs, e) (other, rest, k, ks, f) =
+      e ∙ ap (λ l. l ++ codes "\n" ++ more) (one_text part line other h k) ∙ ap (λ m. other ++ codes "\n" ++ m) (one_lines parts more rest hs ks) ∙ sym f
+
+  -- the lines of two readings of one input
+  same_lines : (input rest other x y : List ℕ) (parts others : List (List ℕ)) → input ≡ records_of parts ++ rest → input ≡ records_of others ++ other
+      → IsRest rest → IsRest other → HasLines parts x → HasLines others y → (x ≡ y) × (rest ≡ other)
+  same_lines input rest other x y parts others e f h k hs ks =
+      let same = one_reading parts others rest other h k (sym e ∙ f) in
+      let L : List (List ℕ) → Type 0 = λ ps. HasLines ps x in
+      (one_lines others x y (subst L same.0 hs) ks, same.1)
+
+  lines : (input x y : List ℕ) (s t : Status) → Out (Some Records) input x s → Out (Some Records) input y t → Same x y s t
+  lines input x y Fine Fine (parts, e, h) (others, f, k) =
+      ((same_lines input [] [] x y parts others (e ∙ sym (append-nil _)) (f ∙ sym (append-nil _)) (inl refl) (inl refl) h k).0, refl)
+  lines input x y Refused Refused (parts, rest, front, e, c, h, o) (others, other, begin, f, d, k, u) =
+      (o ∙ ap (λ l. l ++ codes "unexpected end of input\n") (same_lines input rest other front begin parts others e f (inr c) (inr d) h k).0 ∙ sym u, refl)
+  lines input x y Fine Refused (parts, e, h) (others, other, begin, f, d, k, u) =
+      let same = (same_lines input [] other x begin parts others (e ∙ sym (append-nil _)) f (inl refl) (inr d) h k).1 in absurd (subst IsCut (sym same) d)
+  lines input x y Refused Fine (parts, rest, front, e, c, h, o) (others, f, k) =
+      let same = (same_lines input rest [] front y parts others e (f ∙ sym (append-nil _)) (inr c) (inl refl) h k).1 in absurd (subst IsCut same c)
+  lines input x y Usage t p q = absurd p
+  lines input x y s Usage p q = absurd q
+
   pub one_output : (c : Option Command) (input x y : List ℕ) (s t : Status) → Out c input x s → Out c input y t → Same x y s t
   one_output (Some Check) = checks
   one_output (Some Lossy) = lossies
   one_output (Some Lossy64) = limited
+  one_output (Some Records) = lines
   one_output None = usage

@@ -1,12 +1,13 @@
 -- What the program writes for a command and its input, and how it ends.
-use Rattle.std.specs.Prelude.{◌≡◌, ℕ, ◌<◌, ◌≤◌, List, ◌++◌, length, codes, Option, Some, None, IfSome}
+use Rattle.std.specs.Prelude.{◌≡◌, ℕ, ◌<◌, ◌≤◌, List, [], ◌∷◌, ◌++◌, length, codes, Option, Some, None, IfSome}
 use Rattle.std.specs.Fmt.{decimal}
 use Rattle.std.specs.Io.KnownBytes.{Appends}
+use Rattle.std.specs.List.{flat_map}
 use Rattle.octseq_text.specs.Fault.{Fault, IsFault, fault_text}
 use Rattle.octseq_text.specs.Parts.{Part, Splits, text}
 use Rattle.octseq_text.specs.Text.{IsWellFormed}
 use Rattle.octseq_tool.specs.declared.engine.Command.{Command}
-use Rattle.octseq_tool.specs.declared.engine.Command.TheVariants.{Check, Lossy, Lossy64}
+use Rattle.octseq_tool.specs.declared.engine.Command.TheVariants.{Check, Lossy, Lossy64, Records}
 use Rattle.octseq_tool.specs.declared.engine.Status.{Status}
 use Rattle.octseq_tool.specs.declared.engine.Status.TheVariants.{Fine, Refused, Usage}
 
@@ -15,6 +16,7 @@ abbrev pub name_of : Command → List ℕ
 name_of Check = codes "check"
 name_of Lossy = codes "lossy"
 name_of Lossy64 = codes "lossy64"
+name_of Records = codes "records"
 
 -- the word names a command
 abbrev pub IsCommand : List ℕ → Type 0
@@ -29,6 +31,20 @@ IsNamed word None = ¬ IsCommand word
 abbrev pub HasText : List ℕ → List ℕ → Type 0
 HasText input lossy = (parts : List Part) × Splits input parts × (lossy ≡ text parts)
 
+-- records: parts one after another, each behind its length
+abbrev pub records_of : List (List ℕ) → List ℕ
+records_of parts = flat_map (λ part. length part ∷ part) parts
+
+-- octets that begin with no whole record: behind the first of them stand fewer than it says
+abbrev pub IsCut : List ℕ → Type 0
+IsCut [] = ⊥
+IsCut (n ∷ octets) = length octets < n
+
+-- a line for each part: its lossy text, and a newline
+abbrev pub HasLines : List (List ℕ) → List ℕ → Type 0
+HasLines [] lines = lines ≡ []
+HasLines (part ∷ parts) lines = (line : List ℕ) × (more : List ℕ) × HasText part line × HasLines parts more × (lines ≡ line ++ codes "\n" ++ more)
+
 -- what is written for a command, or for a word that names none, and an input, and how the program ends
 abbrev pub Out : Option Command → List ℕ → List ℕ → Status → Type 0
 Out (Some Check) input output Fine = IsWellFormed input × (output ≡ codes "well formed: " ++ decimal (length input) ++ codes " octets\n")
@@ -36,6 +52,9 @@ Out (Some Check) input output Refused = (fault : Fault) × IsFault input fault �
 Out (Some Lossy) input output Fine = HasText input output
 Out (Some Lossy64) input output Fine = HasText input output × (length output ≤ 64)
 Out (Some Lossy64) input output Refused = (lossy : List ℕ) × HasText input lossy × (64 < length lossy) × (output ≡ codes "buffer size exceeded\n")
+Out (Some Records) input output Fine = (parts : List (List ℕ)) × (input ≡ records_of parts) × HasLines parts output
+Out (Some Records) input output Refused = (parts : List (List ℕ)) × (rest : List ℕ) × (lines : List ℕ)
+    × (input ≡ records_of parts ++ rest) × IsCut rest × HasLines parts lines × (output ≡ lines ++ codes "unexpected end of input\n")
 Out None input output Usage = output ≡ codes "usage: octseq_tool check|lossy|lossy64|records\n"
 Out _ input output _ = ⊥
 

@@ -1,16 +1,19 @@
 //! The program over any reader and any writer.
-ghost use Rattle.std.specs.Prelude.{◌≡◌, ℕ, codes, Some, List, Option, IfOk, IfErr, IfSome, OnOk};
+ghost use Rattle.std.specs.Prelude.{◌≡◌, ℕ, ◌<◌, ◌∷◌, ◌++◌, length, codes, Some, List, Option, IfOk, IfErr, IfSome, OnOk, OnErr};
 ghost use Rattle.std.specs.Io.KnownBytes.{Appends, IsAtEnd};
-ghost use Rattle.octseq_tool.specs.Out.{IsNamed, IsCommand, Out, Ran};
+ghost use Rattle.octseq.specs.Parser.{window};
+ghost use Rattle.octseq.specs.Window.{left, rest};
+ghost use Rattle.octseq_tool.specs.Out.{IsNamed, IsCommand, HasText, IsCut, Out, Ran};
 ghost use Rattle.octseq_tool.specs.declared.engine.Command.{Command};
-ghost use Rattle.octseq_tool.specs.declared.engine.Command.TheVariants.{Check, Lossy, Lossy64};
+ghost use Rattle.octseq_tool.specs.declared.engine.Command.TheVariants.{Check, Lossy, Lossy64, Records};
 ghost use Rattle.octseq_tool.specs.declared.engine.Status.{Status};
 ghost use Rattle.octseq_tool.specs.declared.engine.Status.TheVariants.{Refused};
 
-use octseq_core::array::Array;
-use octseq_core::builder::{AppendError, ShortBuf};
-use octseq_text::str::StrBuilder;
-use octseq_text::utf8;
+use octseq::array::Array;
+use octseq::builder::{AppendError, ShortBuf};
+use octseq::parse::{self, Parser, ShortInput};
+use octseq::str::StrBuilder;
+use octseq::utf8;
 use std::alloc::{AllocError, Global};
 use std::io::{ErrorKind, Read, Write};
 
@@ -29,6 +32,9 @@ pub enum Command {
     Lossy,
     /// Write the input's lossy text where it has at most 64 octets.
     Lossy64,
+    /// Read the input as records, a length in one octet and that many octets each, and write the lossy
+    /// text of each on a line.
+    Records,
 }
 
 /// How the program ended.
@@ -90,6 +96,7 @@ fn named(word: &str) -> Option<Command>
         "check" => Some(Command::Check),
         "lossy" => Some(Command::Lossy),
         "lossy64" => Some(Command::Lossy64),
+        "records" => Some(Command::Records),
         _ => None,
     }
 }
@@ -155,6 +162,61 @@ fn too_long(alloc: Global) -> Result<Answer, AllocError>
     })
 }
 
+/// The octets of the next record.
+fn next_part<'a>(parser: &mut Parser<&'a [u8]>) -> Result<Parser<&'a [u8]>, ShortInput>
+    ensures ok { IfOk result (λ part. rest (window parser.old)
+        ≡ length (rest (window part)) ∷ rest (window part) ++ rest (window parser.new)) }
+    ensures less { OnOk result (left (window parser.new) < left (window parser.old)) }
+    ensures err { OnErr result (0 < left (window parser.old) → IsCut (rest (window parser.old))) }
+{
+    parse::nothing_is_lost();
+    let len = usize::from(parser.parse_u8()?);
+    parser.parse_parser(len)
+}
+
+/// Appends the lossy text of the octets, and a newline.
+fn push_line(alloc: Global, output: &mut Vec<u8>, octets: &[u8]) -> Result<(), AllocError>
+    ensures { OnOk result ((line : List ℕ) × HasText octets.now line
+        × (output.new.items ≡ output.old.items ++ (line ++ codes "\n"))) }
+{
+    utf8::one_splitting();
+    let text = StrBuilder::from_utf8_lossy(alloc, Vec::from_slice(alloc, octets)?)?;
+    output.extend_from_slice(text.as_slice())?;
+    output.push(b'\n')?;
+    Ok(())
+}
+
+/// The refusal of a rest that is no whole record, behind the lines of the records before it.
+fn cut_off(alloc: Global, lines: Vec<u8>, short: ShortInput) -> Result<Answer, AllocError>
+    ensures output { IfOk result (λ answer. answer.output.items ≡ lines.items ++ codes "unexpected end of input\n") }
+    ensures status { IfOk result (λ answer. answer.status ≡ Refused) }
+{
+    let mut output = lines;
+    output.extend_from_slice(format!(in alloc; "{short}\n")?.as_bytes())?;
+    Ok(Answer {
+        output,
+        status: Status::Refused,
+    })
+}
+
+/// The lossy text of each record on a line.
+fn records(alloc: Global, input: &[u8]) -> Result<Answer, AllocError>
+    ensures { IfOk result (λ answer. Out (Some Records) input.now answer.output.items answer.status) }
+{
+    let mut parser = Parser::from_static(input);
+    let mut output = Vec::new(alloc);
+    while parser.remaining() > 0 {
+        match next_part(&mut parser) {
+            Ok(part) => push_line(alloc, &mut output, part.peek_all())?,
+            Err(short) => return cut_off(alloc, output, short),
+        }
+    }
+    Ok(Answer {
+        output,
+        status: Status::Fine,
+    })
+}
+
 /// What a command makes of its input.
 fn carry_out(alloc: Global, command: Command, input: Vec<u8>) -> Result<Answer, AllocError>
     ensures { IfOk result (λ answer. Out (Some command) input.items answer.output.items answer.status) }
@@ -163,6 +225,7 @@ fn carry_out(alloc: Global, command: Command, input: Vec<u8>) -> Result<Answer, 
         Command::Check => check(alloc, input),
         Command::Lossy => lossy(alloc, input),
         Command::Lossy64 => lossy64(alloc, input.as_slice()),
+        Command::Records => records(alloc, input.as_slice()),
     }
 }
 

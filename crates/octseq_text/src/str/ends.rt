@@ -37,8 +37,10 @@ pub fn last_char(octets: &[u8], turns: &mut Turns) -> Option<char>
     }
     turns.tick();
     let first = u32::from(octets[len - 4]);
-    let number =
-        (first - 0xF0) * 262144 + (second - 0x80) * 4096 + (third - 0x80) * 64 + (fourth - 0x80);
+    let number = (first - 0xF0) * 262144
+        + (second - 0x80) * 4096
+        + (third - 0x80) * 64
+        + (fourth - 0x80);
     Some(unsafe { char::from_u32_unchecked(number) })
 }
 

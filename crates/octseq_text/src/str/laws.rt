@@ -18,5 +18,4 @@ pub fn one_run()
     ensures without_memory { (limit : Option ℕ) (before : List ℕ) (commands : List Command)
         (replies : List Reply) (after : List ℕ)
         → Run limit false before commands replies after → IsWithoutMemory replies }
-{
-}
+{}

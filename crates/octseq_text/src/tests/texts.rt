@@ -64,7 +64,10 @@ fn texts_are_copied_where_the_limit_allows(rt: HostRuntime) -> Result<(), Fail> 
 
 #[test]
 fn a_text_has_the_facts_of_its_octets(rt: HostRuntime) -> Result<(), Fail> {
-    assert_eq!(rt; (Str::<Array<4>>::limit(), Str::<Array<4>>::asks_memory()), (Some(4), false));
+    assert_eq!(rt;
+        (Str::<Array<4>>::limit(), Str::<Array<4>>::asks_memory()),
+        (Some(4), false)
+    );
     assert_eq!(rt; <&Str<Array<4>>>::limit(), Some(4));
     assert_eq!(rt; <&StrBuilder<Array<4>>>::limit(), Some(4));
     assert_eq!(rt; StrBuilder::<Vec<u8>>::limit(), None);
@@ -92,8 +95,12 @@ fn texts_are_ordered_by_their_characters(rt: HostRuntime) -> Result<(), Fail> {
             assert_eq!(rt; left.cmp(&right), i.cmp(&j));
             assert_eq!(rt; left.partial_cmp(&right), Some(i.cmp(&j)));
             assert_eq!(rt; left == right, i == j);
-            let grown = StrBuilder::from_utf8(text.as_bytes()).ok().ok_or("refused")?;
-            let shrunk = StrBuilder::from_utf8(other.as_bytes()).ok().ok_or("refused")?;
+            let grown = StrBuilder::from_utf8(text.as_bytes())
+                .ok()
+                .ok_or("refused")?;
+            let shrunk = StrBuilder::from_utf8(other.as_bytes())
+                .ok()
+                .ok_or("refused")?;
             assert_eq!(rt; grown.cmp(&shrunk), i.cmp(&j));
             assert_eq!(rt; grown == shrunk, i == j);
         }
@@ -113,7 +120,9 @@ fn texts_are_shown(rt: HostRuntime) -> Result<(), Fail> {
     assert_eq!(rt; format!(in alloc; "{text}")?.as_str(), "ab");
     assert_eq!(rt; format!(in alloc; "{text:>4}")?.as_str(), "  ab");
     assert_eq!(rt; format!(in alloc; "{text:?}")?.as_str(), "\"ab\"");
-    let builder = StrBuilder::from_utf8(b"ab".as_slice()).ok().ok_or("refused")?;
+    let builder = StrBuilder::from_utf8(b"ab".as_slice())
+        .ok()
+        .ok_or("refused")?;
     assert_eq!(rt; format!(in alloc; "{builder}")?.as_str(), "ab");
     assert_eq!(rt; format!(in alloc; "{builder:>4}")?.as_str(), "  ab");
     assert_eq!(rt; format!(in alloc; "{builder:?}")?.as_str(), "\"ab\"");
@@ -147,11 +156,16 @@ fn places_between_characters_are_boundaries(rt: HostRuntime) -> Result<(), Fail>
     let text = Str::from_str("𤭢");
     let wanted = [true, false, false, false, true, false];
     for (place, is_boundary) in wanted.iter().enumerate() {
-        assert_eq!(rt; boundary(text.as_slice(), place, &mut Turns::new()), *is_boundary);
+        assert_eq!(rt;
+            boundary(text.as_slice(), place, &mut Turns::new()),
+            *is_boundary
+        );
     }
     assert!(rt; !boundary(text.as_slice(), usize::MAX, &mut Turns::new()));
     assert!(rt; boundary(Str::from_str("").as_slice(), 0, &mut Turns::new()));
-    let builder = StrBuilder::from_utf8("aé".as_bytes()).ok().ok_or("refused")?;
+    let builder = StrBuilder::from_utf8("aé".as_bytes())
+        .ok()
+        .ok_or("refused")?;
     let wanted = [true, true, false, true, false];
     for (place, is_boundary) in wanted.iter().enumerate() {
         assert_eq!(rt; builder.is_char_boundary(place), *is_boundary);
@@ -199,7 +213,10 @@ fn cuts_within_a_character_are_refused(rt: HostRuntime) -> Result<(), Fail> {
         Reply::Done,
         Reply::Popped(None),
     ];
-    assert_eq!(rt; run(alloc, &mut text, &commands)?.as_slice(), wanted.as_slice());
+    assert_eq!(rt;
+        run(alloc, &mut text, &commands)?.as_slice(),
+        wanted.as_slice()
+    );
     let borrowed = CowOctets::borrowed(alloc, "€".as_bytes());
     let mut text = StrBuilder::from_utf8(borrowed).ok().ok_or("refused")?;
     let commands = [
@@ -218,7 +235,10 @@ fn cuts_within_a_character_are_refused(rt: HostRuntime) -> Result<(), Fail> {
         Reply::Popped(None),
         Reply::Len(0),
     ];
-    assert_eq!(rt; run(alloc, &mut text, &commands)?.as_slice(), wanted.as_slice());
+    assert_eq!(rt;
+        run(alloc, &mut text, &commands)?.as_slice(),
+        wanted.as_slice()
+    );
     Ok(())
 }
 
@@ -253,7 +273,10 @@ fn each_representation_answers_by_its_limit(rt: HostRuntime) -> Result<(), Fail>
     ];
     let at_four = at_four.as_slice();
     assert_eq!(rt; replies(alloc, Array::<4>::new())?.as_slice(), at_four);
-    assert_eq!(rt; replies(alloc, ArrayVec::<u8, 4>::new())?.as_slice(), at_four);
+    assert_eq!(rt;
+        replies(alloc, ArrayVec::<u8, 4>::new())?.as_slice(),
+        at_four
+    );
     let unlimited = [
         Reply::Done,
         Reply::Done,
@@ -266,9 +289,18 @@ fn each_representation_answers_by_its_limit(rt: HostRuntime) -> Result<(), Fail>
     ];
     let unlimited = unlimited.as_slice();
     assert_eq!(rt; replies(alloc, Vec::empty(alloc)?)?.as_slice(), unlimited);
-    assert_eq!(rt; replies(alloc, BytesMut::empty(alloc)?)?.as_slice(), unlimited);
-    assert_eq!(rt; replies(alloc, SmallVec::<u8, 2>::empty(alloc)?)?.as_slice(), unlimited);
-    assert_eq!(rt; replies(alloc, CowOctets::borrowed(alloc, b""))?.as_slice(), unlimited);
+    assert_eq!(rt;
+        replies(alloc, BytesMut::empty(alloc)?)?.as_slice(),
+        unlimited
+    );
+    assert_eq!(rt;
+        replies(alloc, SmallVec::<u8, 2>::empty(alloc)?)?.as_slice(),
+        unlimited
+    );
+    assert_eq!(rt;
+        replies(alloc, CowOctets::borrowed(alloc, b""))?.as_slice(),
+        unlimited
+    );
     assert_eq!(rt; replies(alloc, &mut Array::<4>::new())?.as_slice(), at_four);
     Ok(())
 }

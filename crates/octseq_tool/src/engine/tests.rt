@@ -107,7 +107,7 @@ fn a_failed_read_writes_nothing(rt: HostRuntime) {
 
 #[test]
 fn a_failed_write_is_told(rt: HostRuntime) {
-    for command in ["check", "lossy", "lossy64", "chek"] {
+    for command in ["check", "lossy", "lossy64", "records", "chek"] {
         let mut writer = Full {
             taken: Vec::new(rt.alloc()),
             writes: 0,
@@ -161,4 +161,32 @@ fn lossy64_holds_64_octets(rt: HostRuntime) -> Result<(), Fail> {
         assert_eq!(rt; written.as_slice(), b"buffer size exceeded\n".as_slice());
     }
     Ok(())
+}
+
+#[test]
+fn records_writes_a_line_for_each(rt: HostRuntime) {
+    let cut = "unexpected end of input\n".as_bytes();
+    let cases = [
+        (
+            b"\x03a\xFFb\0\x01z".as_slice(),
+            Status::Fine,
+            b"a\xEF\xBF\xBDb\n\nz\n".as_slice(),
+        ),
+        (b"\x03a", Status::Refused, cut),
+        (
+            b"\x01a\x02",
+            Status::Refused,
+            b"a\nunexpected end of input\n",
+        ),
+        (b"", Status::Fine, b""),
+        (b"\0", Status::Fine, b"\n"),
+        (b"\x02\xC3\xA9", Status::Fine, b"\xC3\xA9\n"),
+        (b"\x01\xFF", Status::Fine, b"\xEF\xBF\xBD\n"),
+        (b"\x02a", Status::Refused, cut),
+    ];
+    for (octets, status, lines) in cases {
+        let (answer, written) = ran(rt.alloc(), "records", octets);
+        assert_eq!(rt; answer, Ok(status));
+        assert_eq!(rt; written.as_slice(), lines);
+    }
 }

@@ -1,5 +1,4 @@
-use Rattle.std.proofs.Common.{◌≡◌, ◌≤◌, ◌<◌, ◌↔◌, true, false, length, slice_index, IsTrue, arith}
-use Rattle.std.specs.Int.{is_in_range}
+use Rattle.std.proofs.Common.{arith}
 use Rattle.std.proofs.lemmas.Bool.Decides.{nat_tests}
 use Rattle.octseq_text.proofs.Boundaries.{boundary_here, boundary_end}
 use Rattle.octseq_text.proofs.str.ends.boundary.Goals as goal

@@ -1,4 +1,4 @@
-use Rattle.std.proofs.Common.{◌≡◌, ◌+◌, ◌<◌, ◌≤◌, ◌-◌, length, arith}
+use Rattle.std.proofs.Common.{arith}
 use Rattle.octseq_text.proofs.Ends.{ends_1, more_1, ends_2, more_2, ends_3, more_3, ends_4}
 use Rattle.octseq_text.proofs.str.ends.last_char.Goals as goal
 

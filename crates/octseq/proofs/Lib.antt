@@ -1,0 +1,5 @@
+pub mod OneRun
+pub mod Runs
+pub mod Steps
+pub mod Values
+pub mod Windows

@@ -1,0 +1,83 @@
+-- The values of octets, as std computes them.
+use Rattle.std.proofs.Common.{◌≡◌, ℕ, zero, suc, ◌-◌, ◌*◌, ◌^◌, ◌<◌, ◌≤◌, List, length, refl, sym, ap, ◌∙◌, zero-add, arith}
+use Rattle.std.proofs.lemmas.Int.{ints}
+use Rattle.std.specs.Prelude.{slice_index}
+use Rattle.std.specs.Int.{w8, w16, w32, w64, w128, from_be_bytes, from_le_bytes, cast_signed, byte_worth, sum_through}
+use Rattle.octseq.specs.Integer.{sum_of_first, be, le, signed}
+
+-- what std says that an octet counts
+worth : (i b : ℕ) → byte_worth i b ≡ b * 256 ^ i
+worth zero b = omega arith
+worth (suc i) b = refl
+
+-- std's sum, of k + 1 terms
+sum_is : (f g : ℕ → ℕ) (k : ℕ) → ((i : ℕ) → i ≤ k → f i ≡ g i) → sum_through f k ≡ sum_of_first (suc k) g
+sum_is f g zero same = same 0 (omega arith) ∙ sym (zero-add (g 0))
+sum_is f g (suc k) same =
+    let before : sum_through f k ≡ sum_of_first (suc k) g = sum_is f g k (λ i l. same i (omega arith)) in
+    let last : f (suc k) ≡ g (suc k) = same (suc k) (omega arith) in
+    cc
+
+-- k + 1 octets, little-endian and big-endian
+
+le_is : (k : ℕ) (xs : List ℕ) → length xs ≡ suc k → sum_through (λ i. byte_worth i (slice_index xs i)) k ≡ le xs
+unfolding le
+le_is k xs e = rw e (sum_is _ _ k (λ i _. worth i (slice_index xs i)))
+
+be_is : (k : ℕ) (xs : List ℕ) → length xs ≡ suc k → sum_through (λ i. byte_worth (k - i) (slice_index xs i)) k ≡ be xs
+unfolding be
+be_is k xs e = rw e (sum_is _ _ k (λ i _.
+    let same : k - i ≡ suc k - 1 - i = omega arith in
+    worth (k - i) (slice_index xs i) ∙ ap (λ e. slice_index xs i * 256 ^ e) same))
+
+-- the widths that integers have
+
+pub be_1 : (xs : List ℕ) → length xs ≡ 1 → slice_index xs 0 ≡ be xs
+be_1 xs e = be_is 0 xs e
+
+pub be_2 : (xs : List ℕ) → length xs ≡ 2 → from_be_bytes w16 xs ≡ be xs
+be_2 xs e = be_is 1 xs e
+
+pub le_2 : (xs : List ℕ) → length xs ≡ 2 → from_le_bytes w16 xs ≡ le xs
+le_2 xs e = le_is 1 xs e
+
+pub be_4 : (xs : List ℕ) → length xs ≡ 4 → from_be_bytes w32 xs ≡ be xs
+be_4 xs e = be_is 3 xs e
+
+pub le_4 : (xs : List ℕ) → length xs ≡ 4 → from_le_bytes w32 xs ≡ le xs
+le_4 xs e = le_is 3 xs e
+
+pub be_8 : (xs : List ℕ) → length xs ≡ 8 → from_be_bytes w64 xs ≡ be xs
+be_8 xs e = be_is 7 xs e
+
+pub le_8 : (xs : List ℕ) → length xs ≡ 8 → from_le_bytes w64 xs ≡ le xs
+le_8 xs e = le_is 7 xs e
+
+pub be_16 : (xs : List ℕ) → length xs ≡ 16 → from_be_bytes w128 xs ≡ be xs
+be_16 xs e = be_is 15 xs e
+
+pub le_16 : (xs : List ℕ) → length xs ≡ 16 → from_le_bytes w128 xs ≡ le xs
+le_16 xs e = le_is 15 xs e
+
+pub signed_1 : (n : ℕ) → n < 2 ^ 8 → cast_signed w8 n ≡ signed 1 n
+unfolding signed
+signed_1 n small = grind (arith, ints)
+
+pub signed_2 : (n : ℕ) → n < 2 ^ 16 → cast_signed w16 n ≡ signed 2 n
+unfolding signed
+signed_2 n small = grind (arith, ints)
+
+pub signed_4 : (n : ℕ) → n < 2 ^ 32 → cast_signed w32 n ≡ signed 4 n
+unfolding signed
+signed_4 n small = grind (arith, ints)
+
+pub signed_8 : (n : ℕ) → n < 2 ^ 64 → cast_signed w64 n ≡ signed 8 n
+unfolding signed
+signed_8 n small = grind (arith, ints)
+
+pub signed_16 : (n : ℕ) → n < 2 ^ 128 → cast_signed w128 n ≡ signed 16 n
+unfolding signed
+signed_16 n small = grind (arith, ints)
+
+-- each of them
+pub ruleset values = (be_1, be_2, le_2, be_4, le_4, be_8, le_8, be_16, le_16, signed_1, signed_2, signed_4, signed_8, signed_16)

@@ -1,0 +1,24 @@
+-- What is left of a window, and the front of it.
+use Rattle.std.proofs.Common.{◌≡◌, ℕ, ◌+◌, ◌-◌, ◌≤◌, List, ◌++◌, take, drop, arith, sym, ap, ◌∙◌}
+use Rattle.std.proofs.lemmas.List.{take-take, drop-drop}
+use Rattle.std.proofs.Math.Seq.{take-add}
+use Rattle.std.specs.Prelude.{slice_range}
+use Rattle.octseq.specs.Window.{Window, left, rest, next, past}
+
+-- the front of what is left is what comes next
+pub next_of_rest : (octets : List ℕ) (position end n : ℕ) → n ≤ end - position
+    → take n (slice_range octets position end) ≡ slice_range octets position (position + n)
+next_of_rest octets position end n within =
+    let same : n ≡ position + n - position = omega arith in
+    take-take n (end - position) (drop position octets) within ∙ ap (λ k. take k (drop position octets)) same
+
+-- what comes next and what is left behind it
+pub next_and_rest : (w : Window) (n : ℕ) → n ≤ left w → next n w ++ rest (past n w) ≡ rest w
+next_and_rest w n within =
+    let ahead = drop w.position w.octets in
+    let behind = w.end - (w.position + n) in
+    let one : w.position + n - w.position ≡ n = omega arith in
+    let all : n + behind ≡ w.end - w.position = omega arith in
+    ap (λ k. take k ahead ++ take behind (drop (w.position + n) w.octets)) one
+    ∙ ap (λ octets. take n ahead ++ take behind octets) (sym (drop-drop n w.position w.octets))
+    ∙ sym (take-add n behind ahead) ∙ ap (λ k. take k ahead) all

@@ -1,0 +1,26 @@
+-- What the replies of a run show.
+use Rattle.std.specs.Prelude.{ℕ, ℤ, Bool, List}
+use Rattle.octseq.specs.declared.parse.commands.ParserReply.{ParserReply}
+use Rattle.octseq.specs.declared.parse.commands.ParserReply.TheVariants.{Done, Short, Memory, NoParser, Number, Flag, Slice, Range, Parser, Signed, Unsigned}
+
+-- A reply with its numbers, and with the octets of a slice or a range as a list.
+pub data Reply : Type 0 where
+  done short memory no_parser : Reply
+  number parser unsigned : ℕ → Reply
+  flag : Bool → Reply
+  slice range : List ℕ → Reply
+  signed : ℤ → Reply
+
+-- what a reply shows, where `content` gives the octets of a range
+abbrev pub shown : {R P : Type 0} → (P → List ℕ) → ParserReply R P → Reply
+shown content Done = done
+shown content Short = short
+shown content Memory = memory
+shown content NoParser = no_parser
+shown content (Number n) = number n
+shown content (Flag b) = flag b
+shown content (Slice v) = slice v.items
+shown content (Range r) = range (content r)
+shown content (Parser n) = parser n
+shown content (Signed n) = signed n
+shown content (Unsigned n) = unsigned n

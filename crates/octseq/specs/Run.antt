@@ -1,0 +1,114 @@
+-- What commands do to parsers of the same octets, seen as a list of windows.
+use Rattle.std.specs.List.{AllByRecursion}
+use Rattle.std.specs.Prelude.{◌≡◌, ◌≢◌, ℕ, Bool, true, List, [], ◌∷◌, ◌++◌, length, slice_get, slice_set, nat_le, ◌==◌, if◌then◌else◌, Option, Some, None, ◌⊎◌}
+use Rattle.octseq.specs.Integer.{be, le, signed}
+use Rattle.octseq.specs.Reply.{Reply}
+use Rattle.octseq.specs.Window.{Window, left, rest, next, front, at, past, nested}
+use Rattle.octseq.specs.declared.parse.commands.Kind.{Kind}
+use Rattle.octseq.specs.declared.parse.commands.Kind.TheVariants.{I8, U8, I16Be, I16Le, U16Be, U16Le, I32Be, I32Le, U32Be, U32Le, I64Be, I64Le, U64Be, U64Le, I128Be, I128Le, U128Be, U128Le}
+use Rattle.octseq.specs.declared.parse.commands.ParserCall.{ParserCall}
+use Rattle.octseq.specs.declared.parse.commands.ParserCall.TheVariants.{Pos, Len, IsEmpty, Remaining, AsSlice, PeekAll, AdvanceToEnd, Duplicate, Peek, Seek, Advance, CheckLen, Octets, Buf, Nested, Int}
+use Rattle.octseq.specs.declared.parse.commands.ParserCommand.{ParserCommand}
+
+-- How an integer is read: how many octets it has, and the reply with the value that they stand for.
+pub record Reading : Type 0 where
+  pub width : ℕ
+  pub reply : List ℕ → Reply
+
+-- an unsigned and a signed integer of k octets, in an order
+abbrev pub unsigned_of : ℕ → (List ℕ → ℕ) → Reading
+unsigned_of k order = record { width = k; reply = λ octets. Reply.unsigned (order octets) }
+
+abbrev pub signed_of : ℕ → (List ℕ → ℕ) → Reading
+signed_of k order = record { width = k; reply = λ octets. Reply.signed (signed k (order octets)) }
+
+-- how an integer of a kind is read
+abbrev pub reading : Kind → Reading
+reading I8 = signed_of 1 be
+reading U8 = unsigned_of 1 be
+reading I16Be = signed_of 2 be
+reading I16Le = signed_of 2 le
+reading U16Be = unsigned_of 2 be
+reading U16Le = unsigned_of 2 le
+reading I32Be = signed_of 4 be
+reading I32Le = signed_of 4 le
+reading U32Be = unsigned_of 4 be
+reading U32Le = unsigned_of 4 le
+reading I64Be = signed_of 8 be
+reading I64Le = signed_of 8 le
+reading U64Be = unsigned_of 8 be
+reading U64Le = unsigned_of 8 le
+reading I128Be = signed_of 16 be
+reading I128Le = signed_of 16 le
+reading U128Be = unsigned_of 16 be
+reading U128Le = unsigned_of 16 le
+
+-- What a call on a window does: its reply, the window after it, and the windows that it adds.
+pub record Outcome : Type 0 where
+  pub reply : Reply
+  pub window : Window
+  pub added : List Window
+
+-- a reply, and the window after it; no window is added
+abbrev pub replies : Reply → Window → Outcome
+replies reply w = record { reply = reply; window = w; added = [] }
+
+-- the number of the window that is added behind `count` others
+abbrev pub adds : ℕ → Window → Window → Outcome
+adds count new w = record { reply = Reply.parser count; window = w; added = new ∷ [] }
+
+-- an outcome where n is at most the bound, and else a refusal, which leaves the window
+abbrev pub where_within : ℕ → ℕ → Window → Outcome → Outcome
+where_within bound n w outcome = if nat_le n bound then outcome else replies Reply.short w
+
+-- A call on one of `count` windows.
+abbrev pub outcome : ℕ → Window → ParserCall → Outcome
+outcome count w Pos = replies (Reply.number w.position) w
+outcome count w Len = replies (Reply.number w.end) w
+outcome count w IsEmpty = replies (Reply.flag (w.end == 0)) w
+outcome count w Remaining = replies (Reply.number (left w)) w
+outcome count w AsSlice = replies (Reply.slice (front w)) w
+outcome count w PeekAll = replies (Reply.slice (rest w)) w
+outcome count w AdvanceToEnd = replies Reply.done (at w.end w)
+outcome count w Duplicate = adds count w w
+outcome count w (Peek n) = where_within (left w) n w (replies (Reply.slice (next n w)) w)
+outcome count w (Seek n) = where_within w.end n w (replies Reply.done (at n w))
+outcome count w (Advance n) = where_within (left w) n w (replies Reply.done (past n w))
+outcome count w (CheckLen n) = where_within (left w) n w (replies Reply.done w)
+outcome count w (Octets n) = where_within (left w) n w (replies (Reply.range (next n w)) (past n w))
+outcome count w (Buf n) = where_within (left w) n w (replies (Reply.slice (next n w)) (past n w))
+outcome count w (Nested n) = where_within (left w) n w (adds count (nested n w) (past n w))
+outcome count w (Int kind) = let n = (reading kind).width in where_within (left w) n w (replies ((reading kind).reply (next n w)) (past n w))
+
+-- A request for memory may be refused in the place of a slice, and of a range whose type requests memory.
+abbrev pub MayLackMemory : Bool → Reply → Type 0
+MayLackMemory asks (Reply.slice _) = Unit {0}
+MayLackMemory asks (Reply.range _) = asks ≡ true
+MayLackMemory asks _ = ⊥
+
+-- A call does what it is to do, or a request for memory was refused, and nothing changed.
+abbrev pub Does : Bool → Window → Outcome → Outcome → Type 0
+Does asks before wanted done = (done ≡ wanted) ⊎ (MayLackMemory asks wanted.reply × (done ≡ replies Reply.memory before))
+
+-- A command on the window of its number, if there is one: the reply, and the windows after it.
+abbrev pub StepOn : Option Window → Bool → List Window → ParserCommand → Reply → List Window → Type 0
+StepOn None asks windows command reply after = (reply ≡ Reply.no_parser) × (after ≡ windows)
+StepOn (Some w) asks windows command reply after = (done : Outcome)
+    × Does asks w (outcome (length windows) w command.call) done
+    × (reply ≡ done.reply)
+    × (after ≡ slice_set windows command.parser done.window ++ done.added)
+
+abbrev pub Step : Bool → List Window → ParserCommand → Reply → List Window → Type 0
+Step asks windows command reply after = StepOn (slice_get windows command.parser) asks windows command reply after
+
+-- A list of commands, with one reply each: every step is on the windows that the step before left.
+abbrev pub Run : Bool → List Window → List ParserCommand → List Reply → Type 0
+Run asks windows [] [] = Unit {0}
+Run asks windows (command ∷ commands) (reply ∷ replies) =
+    (after : List Window) × Step asks windows command reply after × Run asks after commands replies
+Run asks windows [] (reply ∷ replies) = ⊥
+Run asks windows (command ∷ commands) [] = ⊥
+
+-- No reply tells that a request for memory was refused.
+abbrev pub IsWithoutMemory : List Reply → Type 0
+IsWithoutMemory replies = AllByRecursion (λ reply. reply ≢ Reply.memory) replies

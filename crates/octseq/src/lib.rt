@@ -1,0 +1,21 @@
+//! Generic octet sequences: builders, ranges and conversions, texts, and a parser.
+//!
+//! A sequence or a builder has a content, a list of octets, and everything here speaks of that content, however
+//! it is kept. This crate has [`parse`], and beside it all modules of the crates that it stands on.
+#![tactic(auto)]
+
+pub mod parse;
+#[cfg(test)]
+mod tests;
+
+pub use octseq_core::array::Array;
+pub use octseq_core::builder::{
+    AppendError, AsOctets, CloneOctets, EmptyBuilder, FreezeBuilder, FromBuilder, IntoBuilder,
+    OctetsBuilder, OctetsLimit, ShortBuf, Truncate,
+};
+pub use octseq_core::cow::CowOctets;
+pub use octseq_core::{array, builder, cow};
+pub use octseq_text::octets::{Octets, OctetsFrom, OctetsInto};
+pub use octseq_text::str::{Str, StrBuilder};
+pub use octseq_text::{octets, str, utf8};
+pub use parse::{Parser, ShortInput};

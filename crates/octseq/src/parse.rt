@@ -1,0 +1,295 @@
+//! Reading octets from the left: windows that move over a sequence.
+ghost use Rattle.std.specs.Prelude.{◌≡◌, ◌+◌, ◌<◌, ◌≤◌, ◌↔◌, true, length, IsTrue, IsOk, IfOk, IsSome, IfSome, OnOk, OnErr};
+ghost use Rattle.octseq_text.specs.Range.{start_of, end_of, RangeExists};
+ghost use Rattle.octseq.specs.Refusal.{IsShort, IsMemory};
+ghost use Rattle.octseq.specs.Window.{left, rest, next, front, at, past, nested, whole, window_of_range};
+
+use octseq_core::builder::AsOctets;
+use octseq_text::octets::{Bound, Octets, range_exists, span};
+use std::alloc::AllocError;
+
+mod commands;
+mod error;
+mod integers;
+mod laws;
+
+pub use crate::parse::commands::{Kind, ParserCall, ParserCommand, ParserReply, run};
+pub use crate::parse::error::{ParseOctetsError, ShortInput};
+pub use crate::parse::laws::{nothing_is_lost, one_run};
+
+/// A window on a sequence of octets: a position, at which reading goes on, and an end. Both are counted
+/// from the first octet of the sequence, also in a parser that was cut from another.
+///
+/// A parser is a value: a copy has the same window and moves by itself. A refused call changes nothing.
+#[derive(Debug)]
+pub struct Parser<R: AsOctets> {
+    octets: R,
+    pos: usize,
+    len: usize,
+    ghost ordered: { pos ≤ len },
+    ghost within: { len ≤ length (R.content octets) },
+}
+
+impl<R: AsOctets + Copy> Copy for Parser<R> {}
+
+impl<R: AsOctets + Copy> Clone for Parser<R> {
+    ghost is_clone = { λ parser copy. copy ≡ parser };
+
+    fn clone(&self) -> Result<Self, AllocError> {
+        Ok(*self)
+    }
+}
+
+/// The position and the end of the window on a range of octets of this length.
+fn ends(len: usize, bounds: (Bound, Bound)) -> (usize, usize)
+    requires { RangeExists len bounds }
+    ensures { result ≡ (start_of bounds.0, end_of len bounds.1) }
+{
+    let start = match bounds.0 {
+        Bound::Unbounded => 0,
+        Bound::Included(start) => start,
+        Bound::Excluded(before) => before + 1,
+    };
+    let end = match bounds.1 {
+        Bound::Unbounded => len,
+        Bound::Included(last) => last + 1,
+        Bound::Excluded(end) => end,
+    };
+    (start, end)
+}
+
+impl<'a> Parser<&'a [u8]> {
+    ghost use Rattle.octseq.specs.Parser.{sequence, window};
+
+    /// A parser of a slice. The name is the Rust crate's: the slice may have any lifetime.
+    pub fn from_static(slice: &'a [u8]) -> Self
+        ensures sequence { sequence result ≡ slice.entry }
+        ensures window { window result ≡ whole slice.now }
+    {
+        Parser::from_ref(slice)
+    }
+}
+
+impl<R: AsOctets> Parser<R> {
+    ghost use Rattle.octseq.specs.Parser.{sequence, window, Takes};
+
+    /// A parser of all the octets.
+    pub fn from_ref(octets: R) -> Self
+        ensures sequence { sequence result ≡ octets }
+        ensures window { window result ≡ whole (R.content octets) }
+    {
+        let len = octets.as_ref().len();
+        Parser {
+            octets,
+            pos: 0,
+            len,
+        }
+    }
+
+    /// A parser of a range that exists, which `range_exists` tells: it begins at the range's start and ends
+    /// at its end.
+    pub fn with_range(octets: R, bounds: (Bound, Bound)) -> Self
+        requires { RangeExists (length (R.content octets)) bounds }
+        ensures sequence { sequence result ≡ octets }
+        ensures window { window result ≡ window_of_range (R.content octets) bounds }
+    {
+        let (pos, len) = ends(octets.as_ref().len(), bounds);
+        Parser { octets, pos, len }
+    }
+
+    /// A parser of a range, or `None` where the range doesn't exist.
+    pub fn try_with_range(octets: R, bounds: (Bound, Bound)) -> Option<Self>
+        ensures variant { IsSome result ↔ RangeExists (length (R.content octets)) bounds }
+        ensures sequence { IfSome result (λ parser. sequence parser ≡ octets) }
+        ensures window { IfSome result (λ parser. window parser ≡ window_of_range (R.content octets) bounds) }
+    {
+        if !range_exists(octets.as_ref().len(), bounds) {
+            return None;
+        }
+        Some(Parser::with_range(octets, bounds))
+    }
+
+    /// The sequence that is read, whole.
+    pub fn octets_ref(&self) -> R
+    where
+        R: Copy,
+        ensures { result ≡ sequence self.now }
+    {
+        self.octets
+    }
+
+    /// The position, counted from the first octet of the sequence.
+    pub fn pos(&self) -> usize
+        ensures { result ≡ (window self.now).position }
+    {
+        self.pos
+    }
+
+    /// The window's end, counted from the first octet of the sequence. So it is no less than what
+    /// [`remaining`](Self::remaining) answers.
+    pub fn len(&self) -> usize
+        ensures { result ≡ (window self.now).end }
+    {
+        self.len
+    }
+
+    /// Whether the window's end is at the first octet of the sequence.
+    pub fn is_empty(&self) -> bool
+        ensures { IsTrue result ↔ ((window self.now).end ≡ 0) }
+    {
+        self.len == 0
+    }
+
+    /// The octets from the first one of the sequence to the window's end, wherever the position is.
+    pub fn as_slice(&self) -> &[u8]
+        ensures { result.now ≡ front (window self.now) }
+    {
+        &self.octets.as_ref()[..self.len]
+    }
+
+    /// How many octets are left.
+    pub fn remaining(&self) -> usize
+        ensures { result ≡ left (window self.now) }
+    {
+        self.len - self.pos
+    }
+
+    /// The next `len` octets. The position stays.
+    ///
+    /// # Errors
+    ///
+    /// `ShortInput` where fewer octets are left.
+    pub fn peek(&self, len: usize) -> Result<&[u8], ShortInput>
+        ensures variant { IsOk result ↔ (len ≤ left (window self.now)) }
+        ensures ok { IfOk result (λ octets. octets.now ≡ next len (window self.now)) }
+    {
+        Ok(&self.octets.as_ref()[self.pos..self.place_past(len)?])
+    }
+
+    /// The octets that are left. The position stays.
+    pub fn peek_all(&self) -> &[u8]
+        ensures content { result.now ≡ rest (window self.now) }
+        ensures length { length result.now ≡ left (window self.now) }
+    {
+        &self.octets.as_ref()[self.pos..self.len]
+    }
+
+    /// Whether `len` octets are left.
+    ///
+    /// # Errors
+    ///
+    /// `ShortInput` where fewer octets are left.
+    pub fn check_len(&self, len: usize) -> Result<(), ShortInput>
+        ensures { IsOk result ↔ (len ≤ left (window self.now)) }
+    {
+        if len > self.remaining() {
+            return Err(ShortInput);
+        }
+        Ok(())
+    }
+
+    /// The place past the next `len` octets, if so many are left.
+    fn place_past(&self, len: usize) -> Result<usize, ShortInput>
+        ensures variant { IsOk result ↔ (len ≤ left (window self.now)) }
+        ensures ok { IfOk result (λ place. place ≡ (window self.now).position + len) }
+    {
+        self.check_len(len)?;
+        Ok(self.pos + len)
+    }
+
+    /// Moves to a position, counted from the first octet of the sequence: also before the place where a
+    /// nested parser began.
+    ///
+    /// # Errors
+    ///
+    /// `ShortInput` where the window ends before that position. The parser is then as it was.
+    pub fn seek(&mut self, pos: usize) -> Result<(), ShortInput>
+        ensures variant { IsOk result ↔ (pos ≤ (window self.old).end) }
+        ensures ok { OnOk result (window self.new ≡ at pos (window self.old)) }
+        ensures err { OnErr result (window self.new ≡ window self.old) }
+        ensures same { sequence self.new ≡ sequence self.old }
+    {
+        if pos > self.len {
+            return Err(ShortInput);
+        }
+        self.pos = pos;
+        Ok(())
+    }
+
+    /// Moves past the next `len` octets.
+    ///
+    /// # Errors
+    ///
+    /// `ShortInput` where fewer octets are left. The parser is then as it was.
+    pub fn advance(&mut self, len: usize) -> Result<(), ShortInput>
+        ensures { Takes result len self.old self.new }
+    {
+        self.pos = self.place_past(len)?;
+        Ok(())
+    }
+
+    /// Moves to the window's end.
+    pub fn advance_to_end(&mut self)
+        ensures window { window self.new ≡ at (window self.old).end (window self.old) }
+        ensures same { sequence self.new ≡ sequence self.old }
+    {
+        self.pos = self.len;
+    }
+
+    /// Takes the next `len` octets, as a range of the sequence.
+    ///
+    /// # Errors
+    ///
+    /// `Short` where fewer octets are left, and else `Memory` where a request for memory was refused, which
+    /// a range that is a slice never makes. The parser is then as it was.
+    pub fn parse_octets(&mut self, len: usize) -> Result<R::Range, ParseOctetsError>
+    where
+        R: Octets,
+        ensures short { IsShort result ↔ (left (window self.old) < len) }
+        ensures memory { IsMemory result → R.Range.asks ≡ true }
+        ensures value { IfOk result (λ range. R.Range.content range ≡ next len (window self.old)) }
+        ensures ok { OnOk result (window self.new ≡ past len (window self.old)) }
+        ensures err { OnErr result (window self.new ≡ window self.old) }
+        ensures same { sequence self.new ≡ sequence self.old }
+    {
+        let end = self.place_past(len)?;
+        let range = self.octets.range(span(self.pos, end))?;
+        self.pos = end;
+        Ok(range)
+    }
+
+    /// Fills the buffer with the next octets, and takes them.
+    ///
+    /// # Errors
+    ///
+    /// `ShortInput` where fewer octets are left than the buffer has. The parser and the buffer are then as
+    /// they were.
+    pub fn parse_buf(&mut self, buf: &mut [u8]) -> Result<(), ShortInput>
+        ensures taken { Takes result (length buf.old) self.old self.new }
+        ensures filled { OnOk result (buf.new ≡ next (length buf.old) (window self.old)) }
+        ensures unfilled { OnErr result (buf.new ≡ buf.old) }
+    {
+        buf.copy_from_slice(self.peek(buf.len())?);
+        self.pos += buf.len();
+        Ok(())
+    }
+
+    /// Takes the next `len` octets, as a parser of them alone. It reads the same sequence, so its position
+    /// and its end are counted from there.
+    ///
+    /// # Errors
+    ///
+    /// `ShortInput` where fewer octets are left. The parser is then as it was.
+    pub fn parse_parser(&mut self, len: usize) -> Result<Self, ShortInput>
+    where
+        R: Copy,
+        ensures taken { Takes result len self.old self.new }
+        ensures window { IfOk result (λ parser. window parser ≡ nested len (window self.old)) }
+        ensures sequence { IfOk result (λ parser. sequence parser ≡ sequence self.old) }
+    {
+        let mut nested = *self;
+        self.advance(len)?;
+        nested.len = self.pos;
+        Ok(nested)
+    }
+}

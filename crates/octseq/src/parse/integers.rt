@@ -1,0 +1,173 @@
+//! The integers that the next octets stand for.
+ghost use Rattle.std.specs.Prelude.{◌≡◌, IfOk};
+ghost use Rattle.octseq.specs.Window.{next};
+ghost use Rattle.octseq.specs.Integer.{be, le, signed};
+ghost use Rattle.octseq.specs.Parser.{window, Takes};
+
+use super::{Parser, ShortInput};
+use octseq_core::builder::AsOctets;
+
+/// Each call takes as many octets as its integer has, and gives their value in the order that its name says.
+///
+/// # Errors
+///
+/// `ShortInput` where fewer octets are left. The parser is then as it was.
+#[tactic(auto, using(crate::proofs::Values::values, crate::proofs::Windows::next_of_rest))]
+impl<R: AsOctets> Parser<R> {
+    /// The next `N` octets.
+    fn parse_array<const N: usize>(&mut self) -> Result<[u8; N], ShortInput>
+        ensures taken { Takes result N self.old self.new }
+        ensures value { IfOk result (λ octets. octets ≡ next N (window self.old)) }
+    {
+        let Some(octets) = self.peek_all().first_chunk() else {
+            return Err(ShortInput);
+        };
+        let octets = *octets;
+        self.pos += N;
+        Ok(octets)
+    }
+
+    /// The next octet, signed.
+    pub fn parse_i8(&mut self) -> Result<i8, ShortInput>
+        ensures taken { Takes result 1 self.old self.new }
+        ensures value { IfOk result (λ value. value ≡ signed 1 (be (next 1 (window self.old)))) }
+    {
+        Ok(self.parse_u8()?.cast_signed())
+    }
+
+    /// The next octet, unsigned.
+    pub fn parse_u8(&mut self) -> Result<u8, ShortInput>
+        ensures taken { Takes result 1 self.old self.new }
+        ensures value { IfOk result (λ value. value ≡ be (next 1 (window self.old))) }
+    {
+        Ok(u8::from_be_bytes(self.parse_array()?))
+    }
+
+    /// The next 2 octets, big-endian, signed.
+    pub fn parse_i16_be(&mut self) -> Result<i16, ShortInput>
+        ensures taken { Takes result 2 self.old self.new }
+        ensures value { IfOk result (λ value. value ≡ signed 2 (be (next 2 (window self.old)))) }
+    {
+        Ok(self.parse_u16_be()?.cast_signed())
+    }
+
+    /// The next 2 octets, little-endian, signed.
+    pub fn parse_i16_le(&mut self) -> Result<i16, ShortInput>
+        ensures taken { Takes result 2 self.old self.new }
+        ensures value { IfOk result (λ value. value ≡ signed 2 (le (next 2 (window self.old)))) }
+    {
+        Ok(self.parse_u16_le()?.cast_signed())
+    }
+
+    /// The next 2 octets, big-endian, unsigned.
+    pub fn parse_u16_be(&mut self) -> Result<u16, ShortInput>
+        ensures taken { Takes result 2 self.old self.new }
+        ensures value { IfOk result (λ value. value ≡ be (next 2 (window self.old))) }
+    {
+        Ok(u16::from_be_bytes(self.parse_array()?))
+    }
+
+    /// The next 2 octets, little-endian, unsigned.
+    pub fn parse_u16_le(&mut self) -> Result<u16, ShortInput>
+        ensures taken { Takes result 2 self.old self.new }
+        ensures value { IfOk result (λ value. value ≡ le (next 2 (window self.old))) }
+    {
+        Ok(u16::from_le_bytes(self.parse_array()?))
+    }
+
+    /// The next 4 octets, big-endian, signed.
+    pub fn parse_i32_be(&mut self) -> Result<i32, ShortInput>
+        ensures taken { Takes result 4 self.old self.new }
+        ensures value { IfOk result (λ value. value ≡ signed 4 (be (next 4 (window self.old)))) }
+    {
+        Ok(self.parse_u32_be()?.cast_signed())
+    }
+
+    /// The next 4 octets, little-endian, signed.
+    pub fn parse_i32_le(&mut self) -> Result<i32, ShortInput>
+        ensures taken { Takes result 4 self.old self.new }
+        ensures value { IfOk result (λ value. value ≡ signed 4 (le (next 4 (window self.old)))) }
+    {
+        Ok(self.parse_u32_le()?.cast_signed())
+    }
+
+    /// The next 4 octets, big-endian, unsigned.
+    pub fn parse_u32_be(&mut self) -> Result<u32, ShortInput>
+        ensures taken { Takes result 4 self.old self.new }
+        ensures value { IfOk result (λ value. value ≡ be (next 4 (window self.old))) }
+    {
+        Ok(u32::from_be_bytes(self.parse_array()?))
+    }
+
+    /// The next 4 octets, little-endian, unsigned.
+    pub fn parse_u32_le(&mut self) -> Result<u32, ShortInput>
+        ensures taken { Takes result 4 self.old self.new }
+        ensures value { IfOk result (λ value. value ≡ le (next 4 (window self.old))) }
+    {
+        Ok(u32::from_le_bytes(self.parse_array()?))
+    }
+
+    /// The next 8 octets, big-endian, signed.
+    pub fn parse_i64_be(&mut self) -> Result<i64, ShortInput>
+        ensures taken { Takes result 8 self.old self.new }
+        ensures value { IfOk result (λ value. value ≡ signed 8 (be (next 8 (window self.old)))) }
+    {
+        Ok(self.parse_u64_be()?.cast_signed())
+    }
+
+    /// The next 8 octets, little-endian, signed.
+    pub fn parse_i64_le(&mut self) -> Result<i64, ShortInput>
+        ensures taken { Takes result 8 self.old self.new }
+        ensures value { IfOk result (λ value. value ≡ signed 8 (le (next 8 (window self.old)))) }
+    {
+        Ok(self.parse_u64_le()?.cast_signed())
+    }
+
+    /// The next 8 octets, big-endian, unsigned.
+    pub fn parse_u64_be(&mut self) -> Result<u64, ShortInput>
+        ensures taken { Takes result 8 self.old self.new }
+        ensures value { IfOk result (λ value. value ≡ be (next 8 (window self.old))) }
+    {
+        Ok(u64::from_be_bytes(self.parse_array()?))
+    }
+
+    /// The next 8 octets, little-endian, unsigned.
+    pub fn parse_u64_le(&mut self) -> Result<u64, ShortInput>
+        ensures taken { Takes result 8 self.old self.new }
+        ensures value { IfOk result (λ value. value ≡ le (next 8 (window self.old))) }
+    {
+        Ok(u64::from_le_bytes(self.parse_array()?))
+    }
+
+    /// The next 16 octets, big-endian, signed.
+    pub fn parse_i128_be(&mut self) -> Result<i128, ShortInput>
+        ensures taken { Takes result 16 self.old self.new }
+        ensures value { IfOk result (λ value. value ≡ signed 16 (be (next 16 (window self.old)))) }
+    {
+        Ok(self.parse_u128_be()?.cast_signed())
+    }
+
+    /// The next 16 octets, little-endian, signed.
+    pub fn parse_i128_le(&mut self) -> Result<i128, ShortInput>
+        ensures taken { Takes result 16 self.old self.new }
+        ensures value { IfOk result (λ value. value ≡ signed 16 (le (next 16 (window self.old)))) }
+    {
+        Ok(self.parse_u128_le()?.cast_signed())
+    }
+
+    /// The next 16 octets, big-endian, unsigned.
+    pub fn parse_u128_be(&mut self) -> Result<u128, ShortInput>
+        ensures taken { Takes result 16 self.old self.new }
+        ensures value { IfOk result (λ value. value ≡ be (next 16 (window self.old))) }
+    {
+        Ok(u128::from_be_bytes(self.parse_array()?))
+    }
+
+    /// The next 16 octets, little-endian, unsigned.
+    pub fn parse_u128_le(&mut self) -> Result<u128, ShortInput>
+        ensures taken { Takes result 16 self.old self.new }
+        ensures value { IfOk result (λ value. value ≡ le (next 16 (window self.old))) }
+    {
+        Ok(u128::from_le_bytes(self.parse_array()?))
+    }
+}

@@ -1,0 +1,19 @@
+//! What holds of windows and of their runs. Each law stands on a function that does nothing, so that a check
+//! asks for its proof.
+ghost use Rattle.std.specs.Prelude.{◌≡◌, ℕ, ◌≤◌, ◌++◌, Bool, List};
+ghost use Rattle.octseq.specs.Reply.{Reply};
+ghost use Rattle.octseq.specs.Run.{IsWithoutMemory, Run};
+ghost use Rattle.octseq.specs.Window.{Window, left, rest, next, past};
+ghost use Rattle.octseq.specs.declared.parse.commands.ParserCommand.{ParserCommand};
+
+/// What a call takes, and what is left after it, are what was left before.
+pub fn nothing_is_lost()
+    ensures { (w : Window) (n : ℕ) → n ≤ left w → next n w ++ rest (past n w) ≡ rest w }
+{}
+
+/// Where no reply is `Memory`, the replies are a function of the windows and the commands, however the octets
+/// are kept.
+pub fn one_run()
+    ensures { (asks others : Bool) (windows : List Window) (commands : List ParserCommand) (x y : List Reply)
+        → Run asks windows commands x → Run others windows commands y → IsWithoutMemory x → IsWithoutMemory y → x ≡ y }
+{}

@@ -1,0 +1,130 @@
+-- Records are read from the front, and in one way.
+use Rattle.std.proofs.Common.{◌≡◌, ◌⊎◌, false, true, ℕ, ◌+◌, ◌-◌, ◌<◌, ◌≤◌, suc, add-one, get_or, codes, subst, List, [], ◌∷◌, ◌++◌, length, take, drop, refl, sym, ap, ◌∙◌, inl, inr, append_assoc, arith}
+use Rattle.std.proofs.Math.Seq.{take-append_seam, drop-append_seam, drop-cons}
+use Rattle.std.proofs.lemmas.List.{append-nil, length-append, length-take, length-drop}
+use Rattle.std.proofs.lemmas.Grind.{flat_map-append}
+use Rattle.std.specs.Prelude.{◌↔◌, Result, Ok, Err, IsOk, IfOk, OnOk, OnErr, slice_range}
+use Rattle.octseq.specs.Integer.{be}
+use Rattle.octseq.specs.Window.{Window, left, rest, next, past, nested}
+use Rattle.octseq_tool.specs.Out.{HasText, records_of, IsCut, HasLines}
+
+-- no whole record stands at the front
+abbrev pub IsRest : List ℕ → Type 0
+IsRest rest = (rest ≡ []) ⊎ IsCut rest
+
+-- lists with fronts of one length
+same_halves : (a b x y : List ℕ) → length a ≡ length b → a ++ x ≡ b ++ y → (a ≡ b) × (x ≡ y)
+same_halves a b x y long e = (
+  sym (take-append_seam a x) ∙ ap (λ n. take n (a ++ x)) long ∙ ap (take (length b)) e ∙ take-append_seam b y,
+  sym (drop-append_seam a x) ∙ ap (λ n. drop n (a ++ x)) long ∙ ap (drop (length b)) e ∙ drop-append_seam b y,
+)
+
+no_record : {P : Type 0} (rest part more : List ℕ) → IsRest rest → rest ≡ length part ∷ (part ++ more) → P
+no_record [] part more h e = absurd (cc)
+no_record (n ∷ octets) part more (inl none) e = absurd (cc)
+no_record (n ∷ octets) part more (inr short) e =
+    let first : n ≡ length part = cc in
+    let behind : octets ≡ part ++ more = cc in
+    let long : length octets ≡ length part + length more = ap length behind ∙ length-append part more in
+    absurd (omega arith)
+
+pub one_reading : (parts others : List (List ℕ)) (x y : List ℕ) → IsRest x → IsRest y → records_of parts ++ x ≡ records_of others ++ y → (parts ≡ others) × (x ≡ y)
+one_reading [] [] x y h k e = (refl, e)
+one_reading [] (b ∷ others) x y h k e = no_record x b (records_of others ++ y) h (e ∙ ap (λ r. length b ∷ r) (append_assoc b (records_of others) y))
+one_reading (a ∷ parts) [] x y h k e = no_record y a (records_of parts ++ x) k (sym e ∙ ap (λ r. length a ∷ r) (append_assoc a (records_of parts) x))
+one_reading (a ∷ parts) (b ∷ others) x y h k e =
+    let long : length a ≡ length b = cc in
+    let behind : (a ++ records_of parts) ++ x ≡ (b ++ records_of others) ++ y = cc in
+    let halves = same_halves a b (records_of parts ++ x) (records_of others ++ y) long
+    (sym (append_assoc a (records_of parts) x) ∙ behind ∙ append_assoc b (records_of others) y) in
+    let rest = one_reading parts others x y h k halves.1 in
+    (ap (λ p. p ∷ parts) halves.0 ∙ ap (λ ps. b ∷ ps) rest.0, rest.1)
+
+-- the value of one octet
+one_octet : (b : ℕ) → be (b ∷ []) ≡ b
+unfolding be
+one_octet b = omega arith
+
+-- the first of the octets that are left, and those behind it
+first_octet : (w : Window) → 0 < left w → w.end ≤ length w.octets → rest w ≡ be (next 1 w) ∷ rest (past 1 w)
+first_octet w some within =
+    let b = get_or w.octets w.position 0 in
+    let behind = drop (w.position + 1) w.octets in
+    let here : w.position < length w.octets = omega arith in
+    let ahead : drop w.position w.octets ≡ b ∷ behind = rw add-one (drop-cons w.octets w.position 0 here) in
+    let one : w.position + 1 - w.position ≡ 1 = omega arith in
+    let many : w.end - w.position ≡ suc (w.end - (w.position + 1)) = omega arith in
+    let value : be (next 1 w) ≡ b = ap (λ n. be (take n (drop w.position w.octets))) one ∙ ap (λ octets. be (take 1 octets)) ahead ∙ one_octet b in
+    ap (λ n. take n (drop w.position w.octets)) many ∙ ap (take (suc (w.end - (w.position + 1)))) ahead ∙ ap (λ n. n ∷ rest (past 1 w)) (sym value)
+
+-- how many octets a range has
+length_range : (octets : List ℕ) (from to : ℕ) → from ≤ to → to ≤ length octets → length (slice_range octets from to) ≡ to - from
+length_range octets from to ordered within = omega (arith, length-take {A = ℕ}, length-drop {A = ℕ})
+
+-- a whole record at the front
+pub whole_record : (w : Window) (n : ℕ) → 0 < left w → w.end ≤ length w.octets → n ≡ be (next 1 w) → n ≤ left (past 1 w)
+    → next n (past 1 w) ++ rest (past n (past 1 w)) ≡ rest (past 1 w)
+    → rest w ≡ length (rest (nested n (past 1 w))) ∷ rest (nested n (past 1 w)) ++ rest (past n (past 1 w))
+whole_record w n some within value fits joined =
+    let long : length (next n (past 1 w)) ≡ n = length_range w.octets (w.position + 1) (w.position + 1 + n) (omega arith) (omega arith) ∙ omega arith in
+    first_octet w some within ∙ ap (λ k. k ∷ rest (past 1 w)) (sym (long ∙ value)) ∙ ap (λ octets. length (next n (past 1 w)) ∷ octets) (sym joined)
+
+-- no whole record
+pub cut_record : (w : Window) (n : ℕ) → 0 < left w → w.end ≤ length w.octets → n ≡ be (next 1 w) → left (past 1 w) < n → IsCut (rest w)
+cut_record w n some within value short =
+    let long : length (rest (past 1 w)) ≡ w.end - (w.position + 1) = length_range w.octets (w.position + 1) w.end (omega arith) within in
+    let few : length (rest (past 1 w)) < be (next 1 w) = omega arith in
+    subst IsCut (sym (first_octet w some within)) few
+
+not_within : (n m : ℕ) → (n ≤ m → ⊥) → m < n
+not_within n m short = omega arith
+
+-- what a call that takes n octets says of the record whose length was read before
+
+pub whole_part : {T E : Type 0} (result : Result T E) (view : T → Window) (w mid after : Window) (n : ℕ) → 0 < left w → w.end ≤ length w.octets
+    → n ≡ be (next 1 w) → mid ≡ past 1 w → (IsOk result ↔ (n ≤ left mid)) → OnOk result (after ≡ past n mid) → IfOk result (λ part. view part ≡ nested n mid)
+    → ((w : Window) (n : ℕ) → n ≤ left w → next n w ++ rest (past n w) ≡ rest w)
+    → IfOk result (λ part. rest w ≡ length (rest (view part)) ∷ rest (view part) ++ rest after)
+whole_part (Ok part) view w mid after n some within value behind variant moved is_nested law =
+    let fits : n ≤ left (past 1 w) = rw behind at (variant.0 refl) in
+    rw (is_nested, moved, behind) (whole_record w n some within value fits (law (past 1 w) n fits))
+whole_part (Err e) view w mid after n some within value behind variant moved is_nested law = tt
+
+pub cut_part : {T E : Type 0} (result : Result T E) (w mid : Window) (n : ℕ) → 0 < left w → w.end ≤ length w.octets
+    → n ≡ be (next 1 w) → mid ≡ past 1 w → (IsOk result ↔ (n ≤ left mid)) → OnErr result (0 < left w → IsCut (rest w))
+cut_part (Ok part) w mid n some within value behind variant = tt
+cut_part (Err e) w mid n some within value behind variant = λ _.
+    let short : n ≤ left mid → ⊥ = λ h. let none : false ≡ true = variant.1 h in absurd (cc) in
+    let few : left (past 1 w) < n = rw behind at (not_within n (left mid) short) in
+    cut_record w n some within value few
+
+-- The input was read as far as this rest, and the output has a line for each part.
+pub record IsReadTo (input rest output : List ℕ) : Type 0 where
+  pub parts : List (List ℕ)
+  pub whole : input ≡ records_of parts ++ rest
+  pub lines : HasLines parts output
+
+-- a line more
+lines_more : (parts : List (List ℕ)) (lines part line : List ℕ) → HasLines parts lines → HasText part line → HasLines (parts ++ part ∷ []) (lines ++ (line ++ codes "\n"))
+lines_more [] lines part line none has = (line, [], has, refl, ap (λ l. l ++ (line ++ codes "\n")) none ∙ sym (append-nil _))
+lines_more (p ∷ parts) lines part line (first, more, h, hs, e) has = (
+  first,
+  more ++ (line ++ codes "\n"),
+  h,
+  lines_more parts more part line hs has,
+  ap (λ l. l ++ (line ++ codes "\n")) e ∙ append_assoc (first ++ codes "\n") more (line ++ codes "\n"),
+)
+
+-- a record more
+pub read_more : (input before after part line output made : List ℕ) → IsReadTo input before output → before ≡ length part ∷ part ++ after → HasText part line
+    → made ≡ output ++ (line ++ codes "\n") → IsReadTo input after made
+read_more input before after part line output made so_far front has e =
+    let L : List ℕ → Type 0 = HasLines (so_far.parts ++ part ∷ []) in
+    let record_of : List ℕ → List ℕ = λ part. length part ∷ part in
+    let joined : records_of (so_far.parts ++ part ∷ []) ≡ records_of so_far.parts ++ (length part ∷ part) =
+    flat_map-append record_of so_far.parts (part ∷ []) ∙ ap (λ x. records_of so_far.parts ++ (length part ∷ x)) (append-nil part) in
+    record {
+      parts = so_far.parts ++ part ∷ [];
+      whole = so_far.whole ∙ ap (λ x. records_of so_far.parts ++ x) front ∙ sym (append_assoc (records_of so_far.parts) (length part ∷ part) after) ∙ ap (λ x. x ++ after) (sym joined);
+      lines = subst L (sym e) (lines_more so_far.parts output part line so_far.lines has);
+    }
