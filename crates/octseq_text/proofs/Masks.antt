@@ -1,5 +1,5 @@
 -- Masks of four octets in a word.
-use Rattle.std.proofs.Common.{◌≡◌, ◌≢◌, ℕ, zero, suc, ◌+◌, ◌*◌, ◌/◌, ◌%◌, ◌-◌, ◌^◌, ◌<◌, ◌≤◌, ◌⊎◌, inl, inr, List, [], ◌∷◌, refl, ap, sym, ◌∙◌, subst, arith, bit_and, bit_or, take, drop, length, get_or, take_all, length-take, length-drop, Fits, w8}
+use Rattle.std.proofs.Common.{◌≡◌, ◌≢◌, ℕ, zero, suc, ◌+◌, ◌*◌, ◌/◌, ◌%◌, ◌-◌, ◌<◌, ◌≤◌, ◌⊎◌, inl, inr, List, [], ◌∷◌, ap, ◌∙◌, arith, bit_and, bit_or, take, drop, length, get_or, take_all, length-take, length-drop, Fits, w8}
 use Rattle.std.specs.Int.{IsInRange, w32, to_le_bytes, from_le_bytes}
 use lib.Lanes.{Each1}
 use Rattle.std.proofs.lemmas.Simd.{chunk-fits}
@@ -17,9 +17,6 @@ and_2 w x a m n e ha hm = ap (λ v. bit_and v (n * 256 + m)) e ∙ and_block 8 x
 top_2 : (b : ℕ) → b < 256 → bit_and b 0xC0 ≡ b / 64 * 64
 top_2 b h = and_high b 2 6 ∙ omega arith
 
-top_3 : (b : ℕ) → b < 256 → bit_and b 0xE0 ≡ b / 32 * 32
-top_3 b h = and_high b 3 5 ∙ omega arith
-
 top_4 : (b : ℕ) → b < 256 → bit_and b 0xF0 ≡ b / 16 * 16
 top_4 b h = and_high b 4 4 ∙ omega arith
 
@@ -32,20 +29,16 @@ fifth b = and_high b 1 5
 low_4 : (b : ℕ) → bit_and b 0x0F ≡ b % 16
 low_4 b = and_mask b 4
 
-mid_4 : (b : ℕ) → bit_and b 0x1E ≡ (b / 2 % 16) * 2
-mid_4 b = and_high b 4 1
-
-pub two : (w a b : ℕ) → a ≡ w % 256 → b ≡ w / 256 % 256 → bit_and w 0xC0E0 ≡ 0x80C0 → bit_and w 0x1E ≢ 0 → IsEncoding (a ∷ b ∷ [])
-two w a b ea eb h k =
+pub two : (w a b : ℕ) → a ≡ w % 256 → b ≡ w / 256 % 256 → 0x80C2 ≤ bit_and w 0xC0FF → bit_and w 0xC0FF ≤ 0x80DF → IsEncoding (a ∷ b ∷ [])
+two w a b ea eb low high =
     let ha : a < 256 = omega arith in
     let hb : b < 256 = omega arith in
     let s0 : w ≡ w / 256 * 256 + a = omega arith in
     let s1 : w / 256 ≡ w / 256 / 256 * 256 + b = omega arith in
-    let e0 = and_2 w (w / 256) a 0xE0 0xC0 s0 ha (omega arith) in
+    let e0 = and_2 w (w / 256) a 0xFF 0xC0 s0 ha (omega arith) in
     let e1 = and_2 (w / 256) (w / 256 / 256) b 0xC0 0 s1 hb (omega arith) in
     let z = and_zero_r (w / 256 / 256) in
-    let m = mid_4 w in
-    let ta = top_3 a ha in
+    let all = and_mask a 8 in
     let tb = top_2 b hb in
     row_C2_DF (omega arith, omega arith) (omega arith, omega arith)
 

@@ -10,6 +10,7 @@ use std::test::Fail;
 
 mod capped;
 mod conversions;
+mod plain;
 mod rationed;
 mod texts;
 

@@ -7,7 +7,7 @@ ghost use Rattle.octseq_text.specs.Fault.{IsFault};
 ghost use Rattle.octseq_text.specs.Run.{Appends, append_reply, CutsTo, Pops};
 ghost use Rattle.octseq_text.specs.Text.{IsWellFormed, IsBoundary, chars, octets_of};
 
-use super::ends::{boundary, last_char};
+use super::ends::{boundary, last_encoding};
 use super::error::FromUtf8Error;
 use super::text::Str;
 use crate::utf8::{Turns, first_fault};
@@ -295,8 +295,8 @@ impl<Octets: AsOctets> StrBuilder<Octets> {
         // The same of the characters.
         ensures step { Pops (chars (Octets.content self.old)) result (chars (Octets.content self.new)) }
     {
-        let last = last_char(self.as_slice(), &mut Turns::new())?;
-        let rest = self.len() - last.len_utf8();
+        let (last, width) = last_encoding(self.as_slice(), &mut Turns::new())?;
+        let rest = self.len() - width;
         self.octets.truncate(rest);
         Some(last)
     }

@@ -1,15 +1,17 @@
 //! Where characters end: the last of a text, and the places between two.
 ghost use Rattle.std.specs.Prelude.{◌≡◌, ◌≢◌, ◌+◌, ◌<◌, ◌≤◌, ◌↔◌, [], length, IsTrue, IfSome, IfNone};
+ghost use Rattle.octseq_text.specs.Encoding.{encoding_of};
 ghost use Rattle.octseq_text.specs.Text.{IsWellFormed, IsBoundary, EndsWith};
 
 use crate::utf8::{Turns, is_continuation};
 
-/// The last character of well-formed octets, or none where there are no octets.
+/// The last character of well-formed octets, and how many octets it has.
 ///
-/// It takes a turn for each octet that it reads, from the end to where the character begins, and no memory.
-pub fn last_char(octets: &[u8], turns: &mut Turns) -> Option<char>
+/// It reads from the end to where the character begins, each octet once and for one turn.
+pub(super) fn last_encoding(octets: &[u8], turns: &mut Turns) -> Option<(char, usize)>
     requires { IsWellFormed octets.now }
-    ensures some { IfSome result (EndsWith octets.now) }
+    ensures some { IfSome result (λ last. EndsWith octets.now last.0) }
+    ensures width { IfSome result (λ last. last.1 ≡ length (encoding_of last.0)) }
     ensures none { IfNone result (octets.now ≡ []) }
     ensures read { octets.now ≢ [] → turns.old < turns.new }
     ensures turns { turns.new ≤ turns.old + 4 }
@@ -21,19 +23,19 @@ pub fn last_char(octets: &[u8], turns: &mut Turns) -> Option<char>
     turns.tick();
     let fourth = u32::from(octets[len - 1]);
     if fourth < 0x80 {
-        return Some(unsafe { char::from_u32_unchecked(fourth) });
+        return Some((unsafe { char::from_u32_unchecked(fourth) }, 1));
     }
     turns.tick();
     let third = u32::from(octets[len - 2]);
     if third >= 0xC0 {
         let number = (third - 0xC0) * 64 + (fourth - 0x80);
-        return Some(unsafe { char::from_u32_unchecked(number) });
+        return Some((unsafe { char::from_u32_unchecked(number) }, 2));
     }
     turns.tick();
     let second = u32::from(octets[len - 3]);
     if second >= 0xE0 {
         let number = (second - 0xE0) * 4096 + (third - 0x80) * 64 + (fourth - 0x80);
-        return Some(unsafe { char::from_u32_unchecked(number) });
+        return Some((unsafe { char::from_u32_unchecked(number) }, 3));
     }
     turns.tick();
     let first = u32::from(octets[len - 4]);
@@ -41,7 +43,21 @@ pub fn last_char(octets: &[u8], turns: &mut Turns) -> Option<char>
         + (second - 0x80) * 4096
         + (third - 0x80) * 64
         + (fourth - 0x80);
-    Some(unsafe { char::from_u32_unchecked(number) })
+    Some((unsafe { char::from_u32_unchecked(number) }, 4))
+}
+
+/// The last character of well-formed octets, or none where there are no octets.
+///
+/// It takes a turn for each octet that it reads, from the end to where the character begins, and no memory.
+pub fn last_char(octets: &[u8], turns: &mut Turns) -> Option<char>
+    requires { IsWellFormed octets.now }
+    ensures some { IfSome result (EndsWith octets.now) }
+    ensures none { IfNone result (octets.now ≡ []) }
+    ensures read { octets.now ≢ [] → turns.old < turns.new }
+    ensures turns { turns.new ≤ turns.old + 4 }
+{
+    let (last, _) = last_encoding(octets, turns)?;
+    Some(last)
 }
 
 /// Whether whole characters make exactly the first `place` of well-formed octets. It never is past the

@@ -78,6 +78,8 @@ enum Front {
     Bad(Option<usize>),
 }
 
+/// What stands at the front of octets, by the table.
+#[inline(always)]
 fn part_at_front(octets: &[u8]) -> Front
     requires { 0 < length octets.now }
     ensures { StandsInFront octets.now result }
@@ -113,6 +115,21 @@ fn fault_by_parts(octets: &[u8], turns: &mut Turns) -> Option<Utf8Fault>
         if octets[at] < 0x80 {
             at += 1;
             continue;
+        }
+        if octets.len() - at >= 4 {
+            let word = word_at(octets, at);
+            if begins_two(word) {
+                at += 2;
+                continue;
+            }
+            if begins_three(word) {
+                at += 3;
+                continue;
+            }
+            if is_four(word) {
+                at += 4;
+                continue;
+            }
         }
         match part_at_front(&octets[at..]) {
             Front::Encoding(len) => at += len,
@@ -156,12 +173,12 @@ pub fn first_fault(octets: &[u8], turns: &mut Turns) -> Option<Utf8Fault>
             continue;
         }
         let word = word_at(octets, at);
-        if begins_three(word) {
-            at += 3;
-            continue;
-        }
         if begins_two(word) {
             at += 2;
+            continue;
+        }
+        if begins_three(word) {
+            at += 3;
             continue;
         }
         if is_four(word) {

@@ -15,18 +15,17 @@ pub(super) fn word_at(octets: &[u8], at: usize) -> u32
     }
 }
 
-/// Whether an encoding of two octets begins the word.
+/// Whether an encoding of two octets begins the word: the first is in C2..DF, and the second has the top bits 10.
 #[inline(always)]
 pub(super) fn begins_two(word: u32) -> bool
     ensures { result ≡ true → IsEncoding (take 2 (to_le_bytes w32 word)) }
 {
-    if word & 0xC0E0 != 0x80C0 {
-        return false;
-    }
-    word & 0x1E != 0
+    let lead = word & 0xC0FF;
+    0x80C2 <= lead && lead <= 0x80DF
 }
 
-/// Whether an encoding of three octets begins the word.
+/// Whether an encoding of three octets begins the word: the top bits are those of the table, and the first
+/// and the second octet aren't E0 80..9F or ED A0..BF.
 #[inline(always)]
 pub(super) fn begins_three(word: u32) -> bool
     ensures { result ≡ true → IsEncoding (take 3 (to_le_bytes w32 word)) }
@@ -41,7 +40,8 @@ pub(super) fn begins_three(word: u32) -> bool
     nibbles != 0x200D
 }
 
-/// Whether the word is an encoding of four octets.
+/// Whether the word is an encoding of four octets: the top bits are those of the table, and what the first
+/// two octets hold of the number is that of 10000..10FFFF.
 #[inline(always)]
 pub(super) fn is_four(word: u32) -> bool
     ensures { result ≡ true → IsEncoding (to_le_bytes w32 word) }

@@ -1,7 +1,6 @@
-use Rattle.std.proofs.Common.{◌-◌, length, take, take_all, drop, length-drop, arith, subst}
-use Rattle.octseq_text.specs.Front.{StandsInFront}
+use Rattle.std.proofs.Common.{arith}
 use Rattle.octseq_text.specs.declared.utf8.finder.Front.TheVariants.{Encoding, Bad}
-use Rattle.octseq_text.proofs.Faults.{IsFaultAt, at_start, at_more, octet_front, at_end, fault_at, fault_refutes, at_place}
+use Rattle.octseq_text.proofs.Faults.{IsFaultAt, at_start, at_more, octet_front, word_front, at_end, fault_at, fault_refutes, at_place}
 use Rattle.octseq_text.proofs.utf8.finder.fault_by_parts.Goals as goal
 
 pub loop-at-init : goal.loop-at-init
@@ -11,6 +10,26 @@ pub loop-at-preserved-then-octets-at-lt128 : goal.loop-at-preserved-then-octets-
 loop-at-preserved-then-octets-at-lt128 c =
     rw c.tick.ensures
     (at_more c.args.octets.now c.loop-at.at c.args.turns.now c.loop-at.turns 1 c.loop-at.invariant (octet_front c.args.octets.now c.loop-at.at (omega arith) (omega arith)))
+
+-- an encoding that the word begins with
+
+pub loop-at-preserved-then-begins_three : goal.loop-at-preserved-then-begins_three
+loop-at-preserved-then-begins_three c =
+    rw c.tick.ensures
+    (at_more c.args.octets.now c.loop-at.at c.args.turns.now c.loop-at.turns 3 c.loop-at.invariant
+    (word_front c.args.octets.now _ c.loop-at.at 3 (omega arith) c.word_at-word.ensures (omega arith) (c.begins_three.ensures c.if-begins_three.true)))
+
+pub loop-at-preserved-then-begins_two : goal.loop-at-preserved-then-begins_two
+loop-at-preserved-then-begins_two c =
+    rw c.tick.ensures
+    (at_more c.args.octets.now c.loop-at.at c.args.turns.now c.loop-at.turns 2 c.loop-at.invariant
+    (word_front c.args.octets.now _ c.loop-at.at 2 (omega arith) c.word_at-word.ensures (omega arith) (c.begins_two.ensures c.if-begins_two.true)))
+
+pub loop-at-preserved-then-is_four : goal.loop-at-preserved-then-is_four
+loop-at-preserved-then-is_four c =
+    rw c.tick.ensures
+    (at_more c.args.octets.now c.loop-at.at c.args.turns.now c.loop-at.turns 4 c.loop-at.invariant
+    (word_front c.args.octets.now _ c.loop-at.at 4 (omega arith) c.word_at-word.ensures (omega arith) (c.is_four.ensures c.if-is_four.true)))
 
 pub loop-at-preserved : goal.loop-at-preserved
 loop-at-preserved c =

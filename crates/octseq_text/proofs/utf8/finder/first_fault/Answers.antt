@@ -1,8 +1,5 @@
-use Rattle.std.proofs.Common.{◌≡◌, ◌+◌, ◌-◌, ◌<◌, ◌≤◌, length, take, take_all, drop, get_or, length-drop, refl, arith, subst}
-use Rattle.std.proofs.lemmas.List.Elements.{All-get_or, All-take, All-drop}
-use Rattle.std.specs.List.{All}
-use Rattle.octseq_text.specs.Fault.{IsFault, fault_end}
-use Rattle.octseq_text.specs.Text.{IsWellFormed, chars}
+use Rattle.std.proofs.Common.{refl, arith, subst}
+use Rattle.octseq_text.specs.Text.{IsWellFormed}
 use Rattle.octseq_text.specs.declared.utf8.finder.Front.TheVariants.{Encoding, Bad}
 use Rattle.octseq_text.proofs.Faults.{IsFaultAt, lanes_start, lane_passed, other_passed, word_front, octet_front, fault_at, fault_refutes, at_place, front_some, rest_of, well_formed_behind, turns_behind, fault_behind}
 use Rattle.octseq_text.proofs.Ascii.{high_some}

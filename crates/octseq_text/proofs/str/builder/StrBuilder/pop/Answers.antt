@@ -1,7 +1,6 @@
 use Rattle.std.proofs.Common.{◌≡◌, ◌-◌, length, ap, refl, sym, ◌∙◌}
 use Rattle.octseq_text.specs.Encoding.{encoding_of}
 use Rattle.octseq_text.specs.Text.{chars}
-use Rattle.octseq_text.proofs.Bridge.{encode-is}
 use Rattle.octseq_text.proofs.Ends.{encoding_short, IsPopped, popped}
 use Rattle.octseq_text.proofs.Spelling.{chars_of, spells_nothing}
 use Rattle.octseq_text.proofs.str.builder.StrBuilder.pop.Goals as goal
@@ -14,15 +13,13 @@ returns-in_err-last-clause-step g c =
 
 pub overflow_sub-rest : goal.overflow_sub-rest
 overflow_sub-rest g c =
-    let long : c.len_utf8.result ≡ length (encoding_of c.in_ok-last.last) = c.len_utf8.ensures.len ∙ ap length (encode-is c.in_ok-last.last) in
-    rw (long, c.len.ensures.content, ← c.as_slice.ensures.content) (encoding_short _ _ c.in_ok-last.ensures.some)
+    rw (c.in_ok-last.ensures.width, c.len.ensures.content, ← c.as_slice.ensures.content) (encoding_short _ _ c.in_ok-last.ensures.some)
 
 -- what is left of the text
 left : (g : given.Over) (c : goal.After-truncate g) → IsPopped c.as_slice.result.now (g.Octets.AsOctets.content c.truncate.new.self) c.in_ok-last.last
 left g c =
-    let long : c.len_utf8.result ≡ length (encoding_of c.in_ok-last.last) = c.len_utf8.ensures.len ∙ ap length (encode-is c.in_ok-last.last) in
-    let cut : c.len.result - c.len_utf8.result ≡ length c.as_slice.result.now - length (encoding_of c.in_ok-last.last) =
-    rw (long, c.len.ensures.content, c.as_slice.ensures.content) refl in
+    let cut : c.len.result - c.in_ok-last.width ≡ length c.as_slice.result.now - length (encoding_of c.in_ok-last.last) =
+    rw (c.in_ok-last.ensures.width, c.len.ensures.content, c.as_slice.ensures.content) refl in
     popped _ _ _ _ c.in_ok-last.ensures.some cut (rw (c.as_slice.ensures.content, ← c.self.view_is) c.truncate.ensures.content)
 
 pub invariant_of-self : goal.invariant_of-self

@@ -1,16 +1,29 @@
 use Rattle.std.proofs.Common.{arith}
 use Rattle.octseq_text.proofs.Ends.{ends_1, more_1, ends_2, more_2, ends_3, more_3, ends_4}
-use Rattle.octseq_text.proofs.str.ends.last_char.Goals as goal
+use Rattle.octseq_text.proofs.str.ends.last_encoding.Goals as goal
 
 pub returns-then-fourth-lt128-clause-some : goal.returns-then-fourth-lt128-clause-some
-returns-then-fourth-lt128-clause-some c = rw c.from_u32_unchecked.ensures (ends_1 _ c.requires (omega arith) _ c.from-fourth.ensures c.if-fourth-lt128.true)
+returns-then-fourth-lt128-clause-some c =
+    rw c.from_u32_unchecked.ensures
+    (ends_1 _ c.requires (omega arith) _ c.from-fourth.ensures c.if-fourth-lt128.true).0
+
+pub returns-then-fourth-lt128-clause-width : goal.returns-then-fourth-lt128-clause-width
+returns-then-fourth-lt128-clause-width c =
+    rw c.from_u32_unchecked.ensures
+    (ends_1 _ c.requires (omega arith) _ c.from-fourth.ensures c.if-fourth-lt128.true).1
 
 pub overflow_sub-len-2 : goal.overflow_sub-len-2
 overflow_sub-len-2 c = more_1 _ c.requires (omega arith) _ c.from-fourth.ensures (omega arith)
 
 pub returns-then-third-ge192-clause-some : goal.returns-then-third-ge192-clause-some
 returns-then-third-ge192-clause-some c =
-    rw c.from_u32_unchecked-then-third-ge192.ensures (ends_2 _ c.requires (omega arith) _ c.from-fourth.ensures (omega arith) _ c.from-third.ensures c.if-third-ge192.true)
+    rw c.from_u32_unchecked-then-third-ge192.ensures
+    (ends_2 _ c.requires (omega arith) _ c.from-fourth.ensures (omega arith) _ c.from-third.ensures c.if-third-ge192.true).0
+
+pub returns-then-third-ge192-clause-width : goal.returns-then-third-ge192-clause-width
+returns-then-third-ge192-clause-width c =
+    rw c.from_u32_unchecked-then-third-ge192.ensures
+    (ends_2 _ c.requires (omega arith) _ c.from-fourth.ensures (omega arith) _ c.from-third.ensures c.if-third-ge192.true).1
 
 pub overflow_sub-len-3 : goal.overflow_sub-len-3
 overflow_sub-len-3 c = (more_2 _ c.requires (omega arith) _ c.from-fourth.ensures (omega arith) _ c.from-third.ensures (omega arith)).0
@@ -25,7 +38,12 @@ from_u32_unchecked-requires-then-second-ge224 c =
 pub returns-then-second-ge224-clause-some : goal.returns-then-second-ge224-clause-some
 returns-then-second-ge224-clause-some c =
     rw c.from_u32_unchecked-then-second-ge224.ensures
-    (ends_3 _ c.requires (omega arith) _ c.from-fourth.ensures (omega arith) _ c.from-third.ensures (omega arith) _ c.from-second.ensures c.if-second-ge224.true).1
+    (ends_3 _ c.requires (omega arith) _ c.from-fourth.ensures (omega arith) _ c.from-third.ensures (omega arith) _ c.from-second.ensures c.if-second-ge224.true).1.0
+
+pub returns-then-second-ge224-clause-width : goal.returns-then-second-ge224-clause-width
+returns-then-second-ge224-clause-width c =
+    rw c.from_u32_unchecked-then-second-ge224.ensures
+    (ends_3 _ c.requires (omega arith) _ c.from-fourth.ensures (omega arith) _ c.from-third.ensures (omega arith) _ c.from-second.ensures c.if-second-ge224.true).1.1
 
 pub overflow_sub-len-4 : goal.overflow_sub-len-4
 overflow_sub-len-4 c =
@@ -49,4 +67,9 @@ from_u32_unchecked-requires-2 c =
 pub returns-clause-some : goal.returns-clause-some
 returns-clause-some c =
     rw c.from_u32_unchecked-2.ensures
-    (ends_4 _ c.requires (omega arith) _ c.from-fourth.ensures (omega arith) _ c.from-third.ensures (omega arith) _ c.from-second.ensures (omega arith) _ c.from-first.ensures).2
+    (ends_4 _ c.requires (omega arith) _ c.from-fourth.ensures (omega arith) _ c.from-third.ensures (omega arith) _ c.from-second.ensures (omega arith) _ c.from-first.ensures).2.0
+
+pub returns-clause-width : goal.returns-clause-width
+returns-clause-width c =
+    rw c.from_u32_unchecked-2.ensures
+    (ends_4 _ c.requires (omega arith) _ c.from-fourth.ensures (omega arith) _ c.from-third.ensures (omega arith) _ c.from-second.ensures (omega arith) _ c.from-first.ensures).2.1

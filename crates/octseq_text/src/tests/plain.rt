@@ -1,0 +1,156 @@
+//! The finder beside a plain one, which reads the table octet by octet and knows no lanes and no words.
+use crate::str::StrBuilder;
+use crate::utf8::{Turns, first_fault};
+use std::alloc::Global;
+use std::process::Abort;
+use std::test::Fail;
+
+/// The rows of Table 3-7: the ranges of the octets of an encoding, one after another.
+const ROWS: [&[(u8, u8)]; 9] = [
+    &[(0x00, 0x7F)],
+    &[(0xC2, 0xDF), (0x80, 0xBF)],
+    &[(0xE0, 0xE0), (0xA0, 0xBF), (0x80, 0xBF)],
+    &[(0xE1, 0xEC), (0x80, 0xBF), (0x80, 0xBF)],
+    &[(0xED, 0xED), (0x80, 0x9F), (0x80, 0xBF)],
+    &[(0xEE, 0xEF), (0x80, 0xBF), (0x80, 0xBF)],
+    &[(0xF0, 0xF0), (0x90, 0xBF), (0x80, 0xBF), (0x80, 0xBF)],
+    &[(0xF1, 0xF3), (0x80, 0xBF), (0x80, 0xBF), (0x80, 0xBF)],
+    &[(0xF4, 0xF4), (0x80, 0x8F), (0x80, 0xBF), (0x80, 0xBF)],
+];
+
+/// How many octets at the front are in the ranges of the row.
+fn fitting(octets: &[u8], row: &[(u8, u8)]) -> usize {
+    octets
+        .iter()
+        .zip(row)
+        .take_while(|(octet, range)| range.0 <= **octet && **octet <= range.1)
+        .count()
+}
+
+/// The first fault, its place and its length, part by part and row by row.
+fn plain_fault(octets: &[u8]) -> Option<(usize, Option<usize>)> {
+    let mut at = 0;
+    for _ in octets {
+        let rest = &octets[octets.len().min(at)..];
+        let mut longest = 0;
+        let mut whole = None;
+        for row in ROWS {
+            let count = fitting(rest, row);
+            longest = longest.max(count);
+            if count == row.len() {
+                whole = Some(count);
+            }
+        }
+        match whole {
+            Some(count) => at = at.saturating_add(count),
+            None if rest.is_empty() => return None,
+            None if longest == 0 => return Some((at, Some(1))),
+            None if longest == rest.len() => return Some((at, None)),
+            None => return Some((at, Some(longest))),
+        }
+    }
+    None
+}
+
+/// What both answer.
+fn agrees(rt: &impl Abort, octets: &[u8]) {
+    let found = first_fault(octets, &mut Turns::new());
+    let found = found.map(|fault| (fault.valid_up_to(), fault.error_len()));
+    assert_eq!(rt; found, plain_fault(octets), "{octets:?}");
+}
+
+/// An encoding behind so many octets of ASCII, and others behind it: whole, cut at each place, and cut
+/// with another octet behind.
+fn agrees_around(
+    rt: &impl Abort,
+    alloc: Global,
+    before: usize,
+    encoding: &[u8],
+) -> Result<(), Fail> {
+    for after in [0, 1, 20] {
+        for len in 0..=encoding.len() {
+            let mut octets = Vec::from_elem(alloc, b'a', before)?;
+            octets.extend_from_slice(&encoding[..len])?;
+            agrees(rt, octets.as_slice());
+            octets.extend_from_slice(Vec::from_elem(alloc, b'z', after)?.as_slice())?;
+            agrees(rt, octets.as_slice());
+            octets.push(0x80)?;
+            agrees(rt, octets.as_slice());
+        }
+    }
+    Ok(())
+}
+
+#[test]
+fn each_row_is_found_as_by_the_table(rt: HostRuntime) -> Result<(), Fail> {
+    for row in ROWS {
+        for before in [0, 1, 3, 12, 13, 15, 16, 17, 31, 33] {
+            let mut least = Vec::new(rt.alloc());
+            let mut greatest = Vec::new(rt.alloc());
+            for (low, high) in row {
+                least.push(*low)?;
+                greatest.push(*high)?;
+            }
+            agrees_around(&rt, rt.alloc(), before, least.as_slice())?;
+            agrees_around(&rt, rt.alloc(), before, greatest.as_slice())?;
+        }
+    }
+    Ok(())
+}
+
+#[test]
+fn each_octet_out_of_its_range_is_found_as_by_the_table(rt: HostRuntime) -> Result<(), Fail> {
+    for row in ROWS {
+        for wrong in 0..row.len() {
+            let mut below = Vec::new(rt.alloc());
+            let mut above = Vec::new(rt.alloc());
+            for (place, (low, high)) in row.iter().enumerate() {
+                let is_wrong = place == wrong;
+                below.push(if is_wrong { low.wrapping_sub(1) } else { *low })?;
+                above.push(if is_wrong {
+                    high.wrapping_add(1)
+                } else {
+                    *high
+                })?;
+            }
+            for before in [0, 13, 16] {
+                agrees_around(&rt, rt.alloc(), before, below.as_slice())?;
+                agrees_around(&rt, rt.alloc(), before, above.as_slice())?;
+            }
+        }
+    }
+    Ok(())
+}
+
+/// So many octets of ASCII with others put in place of those from one on.
+fn ascii_with(alloc: Global, len: usize, place: usize, others: &[u8]) -> Result<Vec<u8>, Fail> {
+    let mut octets = Vec::from_elem(alloc, b'a', len)?;
+    for (octet, other) in octets.as_mut_slice().iter_mut().skip(place).zip(others) {
+        *octet = *other;
+    }
+    Ok(octets)
+}
+
+#[test]
+fn lanes_are_passed_and_faults_within_them_found(rt: HostRuntime) -> Result<(), Fail> {
+    let alloc = rt.alloc();
+    for len in [0, 15, 16, 17, 31, 32, 48] {
+        let octets = ascii_with(alloc, len, 0, b"")?;
+        assert_eq!(rt; first_fault(octets.as_slice(), &mut Turns::new()), None);
+    }
+    for place in 0..48 {
+        let octets = ascii_with(alloc, 48, place, b"\xFF")?;
+        let fault = first_fault(octets.as_slice(), &mut Turns::new()).ok_or("none")?;
+        assert_eq!(rt; (fault.valid_up_to(), fault.error_len()), (place, Some(1)));
+        let text = StrBuilder::try_from_utf8_lossy(alloc, octets)?;
+        assert_eq!(rt; text.len(), 50);
+    }
+    let whole = ascii_with(alloc, 48, 15, b"\xC3\xA9")?;
+    assert_eq!(rt; first_fault(whole.as_slice(), &mut Turns::new()), None);
+    for (place, cut) in [(47, b"\xC3".as_slice()), (46, b"\xE2\x82")] {
+        let octets = ascii_with(alloc, 48, place, cut)?;
+        let fault = first_fault(octets.as_slice(), &mut Turns::new()).ok_or("none")?;
+        assert_eq!(rt; (fault.valid_up_to(), fault.error_len()), (place, None));
+    }
+    Ok(())
+}
