@@ -50,8 +50,8 @@ pub record Outcome : Type 0 where
   pub added : List Window
 
 -- a reply, and the window after it; no window is added
-abbrev pub replies : Reply → Window → Outcome
-replies reply w = record { reply = reply; window = w; added = [] }
+abbrev pub says : Reply → Window → Outcome
+says reply w = record { reply = reply; window = w; added = [] }
 
 -- the number of the window that is added behind `count` others
 abbrev pub adds : ℕ → Window → Window → Outcome
@@ -59,26 +59,26 @@ adds count new w = record { reply = Reply.parser count; window = w; added = new 
 
 -- an outcome where n is at most the bound, and else a refusal, which leaves the window
 abbrev pub where_within : ℕ → ℕ → Window → Outcome → Outcome
-where_within bound n w outcome = if nat_le n bound then outcome else replies Reply.short w
+where_within bound n w outcome = if nat_le n bound then outcome else says Reply.short w
 
 -- A call on one of `count` windows.
 abbrev pub outcome : ℕ → Window → ParserCall → Outcome
-outcome count w Pos = replies (Reply.number w.position) w
-outcome count w Len = replies (Reply.number w.end) w
-outcome count w IsEmpty = replies (Reply.flag (w.end == 0)) w
-outcome count w Remaining = replies (Reply.number (left w)) w
-outcome count w AsSlice = replies (Reply.slice (front w)) w
-outcome count w PeekAll = replies (Reply.slice (rest w)) w
-outcome count w AdvanceToEnd = replies Reply.done (at w.end w)
+outcome count w Pos = says (Reply.number w.position) w
+outcome count w Len = says (Reply.number w.end) w
+outcome count w IsEmpty = says (Reply.flag (w.end == 0)) w
+outcome count w Remaining = says (Reply.number (left w)) w
+outcome count w AsSlice = says (Reply.slice (front w)) w
+outcome count w PeekAll = says (Reply.slice (rest w)) w
+outcome count w AdvanceToEnd = says Reply.done (at w.end w)
 outcome count w Duplicate = adds count w w
-outcome count w (Peek n) = where_within (left w) n w (replies (Reply.slice (next n w)) w)
-outcome count w (Seek n) = where_within w.end n w (replies Reply.done (at n w))
-outcome count w (Advance n) = where_within (left w) n w (replies Reply.done (past n w))
-outcome count w (CheckLen n) = where_within (left w) n w (replies Reply.done w)
-outcome count w (Octets n) = where_within (left w) n w (replies (Reply.range (next n w)) (past n w))
-outcome count w (Buf n) = where_within (left w) n w (replies (Reply.slice (next n w)) (past n w))
+outcome count w (Peek n) = where_within (left w) n w (says (Reply.slice (next n w)) w)
+outcome count w (Seek n) = where_within w.end n w (says Reply.done (at n w))
+outcome count w (Advance n) = where_within (left w) n w (says Reply.done (past n w))
+outcome count w (CheckLen n) = where_within (left w) n w (says Reply.done w)
+outcome count w (Octets n) = where_within (left w) n w (says (Reply.range (next n w)) (past n w))
+outcome count w (Buf n) = where_within (left w) n w (says (Reply.slice (next n w)) (past n w))
 outcome count w (Nested n) = where_within (left w) n w (adds count (nested n w) (past n w))
-outcome count w (Int kind) = let n = (reading kind).width in where_within (left w) n w (replies ((reading kind).reply (next n w)) (past n w))
+outcome count w (Int kind) = let n = (reading kind).width in where_within (left w) n w (says ((reading kind).reply (next n w)) (past n w))
 
 -- A request for memory may be refused in the place of a slice, and of a range whose type requests memory.
 abbrev pub MayLackMemory : Bool → Reply → Type 0
@@ -88,7 +88,7 @@ MayLackMemory asks _ = ⊥
 
 -- A call does what it is to do, or a request for memory was refused, and nothing changed.
 abbrev pub Does : Bool → Window → Outcome → Outcome → Type 0
-Does asks before wanted done = (done ≡ wanted) ⊎ (MayLackMemory asks wanted.reply × (done ≡ replies Reply.memory before))
+Does asks before wanted done = (done ≡ wanted) ⊎ (MayLackMemory asks wanted.reply × (done ≡ says Reply.memory before))
 
 -- A command on the window of its number, if there is one: the reply, and the windows after it.
 abbrev pub StepOn : Option Window → Bool → List Window → ParserCommand → Reply → List Window → Type 0

@@ -125,8 +125,8 @@ impl<R: AsOctets> Parser<R> {
         self.pos
     }
 
-    /// The window's end, counted from the first octet of the sequence. So it is no less than what
-    /// [`remaining`](Self::remaining) answers.
+    /// The window's end, counted from the first octet of the sequence. How many octets are left is what
+    /// [`remaining`](Self::remaining) tells.
     pub fn len(&self) -> usize
         ensures { result ≡ (window self.now).end }
     {

@@ -1,7 +1,9 @@
 //! Reads octets from standard input, and tells of them as text.
 //!
-//! `octseq_tool check` tells whether they are well-formed UTF-8. The command is the program's one
-//! argument, and with no argument it is `check`.
+//! `octseq_tool check` tells whether they are well-formed UTF-8. `lossy` writes their lossy text, `lossy64`
+//! the same where it has at most 64 octets. `records` reads them as records, a length in one octet and that
+//! many octets each, and writes the lossy text of each on a line. The command is the program's one argument,
+//! and with no argument it is `check`.
 #![tactic(auto)]
 
 use engine::{Status, ToolFault, engine};

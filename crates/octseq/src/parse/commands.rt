@@ -3,7 +3,7 @@ ghost use Rattle.std.specs.Prelude.{◌≡◌, ℕ, ◌+◌, ◌≤◌, ◌<◌,
 ghost use Rattle.octseq.specs.Parser.{window, Takes};
 ghost use Rattle.octseq.specs.Refusal.{IsShort, IsMemory};
 ghost use Rattle.octseq.specs.Reply.{Reply, shown};
-ghost use Rattle.octseq.specs.Run.{reading, Outcome, outcome, replies, MayLackMemory, Step, Run};
+ghost use Rattle.octseq.specs.Run.{reading, Outcome, outcome, says, MayLackMemory, Step, Run};
 ghost use Rattle.octseq.specs.Window.{left, next, past, whole};
 
 use super::{ParseOctetsError, Parser, ShortInput};
@@ -186,7 +186,8 @@ fn carry_out<R: Octets + Copy>(
           window = window parser.new;
           added = map window (option_to_list answer.made);
         }) }
-    ensures short { IsShort result → outcome count (window parser.old) call ≡ replies Reply.short (window parser.old) }
+    ensures short { IsShort result
+        → outcome count (window parser.old) call ≡ says Reply.short (window parser.old) }
     ensures memory { IsMemory result → MayLackMemory R.Range.asks (outcome count (window parser.old) call).reply }
     ensures err { OnErr result (window parser.new ≡ window parser.old) }
 {
