@@ -233,7 +233,7 @@ fn texts() {
 }
 
 /// The sum of the integers of `N` octets each, by chunks.
-fn sum<const N: usize>(octets: &[u8], value: fn([u8; N]) -> u64) -> u64 {
+fn sum<const N: usize>(octets: &[u8], value: impl Fn([u8; N]) -> u64) -> u64 {
     let mut sum = 0_u64;
     for chunk in octets.chunks_exact(N) {
         sum = sum.wrapping_add(value(chunk.try_into().unwrap()));
@@ -253,7 +253,7 @@ fn integers() {
         || sum(black_box(&octets), |o| u32::from_le_bytes(o).into()));
     ratios.add("u64, big-endian", len,
         || unsafe { octseq_sum_u64_be(start, len) },
-        || sum(black_box(&octets), |o| u64::from_be_bytes(o)));
+        || sum(black_box(&octets), u64::from_be_bytes));
     ratios.tell("integers, over chunks_exact with from_be_bytes");
 }
 
