@@ -1,5 +1,5 @@
 //! Reading octets from the left: windows that move over a sequence.
-ghost use Rattle.std.specs.Prelude.{◌≡◌, ◌+◌, ◌<◌, ◌≤◌, ◌↔◌, true, length, IsTrue, IsOk, IfOk, IsSome, IfSome, OnOk, OnErr};
+ghost use Rattle.std.specs.Prelude.{◌≡◌, ◌+◌, ◌<◌, ◌≤◌, ◌↔◌, ⊤, true, length, IsTrue, IsOk, IfOk, IsSome, IfSome, OnOk, OnErr};
 ghost use Rattle.octseq_text.specs.Range.{start_of, end_of, RangeExists};
 ghost use Rattle.octseq.specs.Refusal.{IsShort, IsMemory};
 ghost use Rattle.octseq.specs.Window.{left, rest, next, front, at, past, nested, whole, window_of_range};
@@ -34,6 +34,7 @@ impl<R: AsOctets + Copy> Copy for Parser<R> {}
 
 impl<R: AsOctets + Copy> Clone for Parser<R> {
     ghost is_clone = { λ parser copy. copy ≡ parser };
+    ghost is_infallible = { λ _. ⊤ };
 
     fn clone(&self) -> Result<Self, AllocError> {
         Ok(*self)
