@@ -34,6 +34,7 @@ impl<R: AsOctets + Copy> Copy for Parser<R> {}
 
 impl<R: AsOctets + Copy> Clone for Parser<R> {
     ghost is_clone = { λ parser copy. copy ≡ parser };
+
     ghost is_infallible = { λ _. ⊤ };
 
     fn clone(&self) -> Result<Self, AllocError> {
