@@ -13,5 +13,6 @@ macro_rules! over_each {
 
 mod errors;
 mod integers;
+mod refused;
 mod runs;
 mod windows;

@@ -221,6 +221,47 @@ fn borrowed_octets_are_copied_at_the_first_append(rt: HostRuntime) -> Result<(),
     Ok(())
 }
 
+/// Takes no octet away at the greatest length.
+fn keeps_all<T: Truncate>(rt: &impl Abort, mut octets: T) {
+    octets.truncate(usize::MAX);
+    assert_eq!(rt; octets.as_ref(), b"ab".as_slice());
+}
+
+#[test]
+fn the_greatest_length_takes_nothing_away(rt: HostRuntime) -> Result<(), Fail> {
+    let (alloc, slice) = (rt.alloc(), b"ab".as_slice());
+    keeps_all(&rt, slice);
+    keeps_all(&rt, slice.to_vec(alloc)?);
+    keeps_all(&rt, &mut slice.to_vec(alloc)?);
+    keeps_all(&rt, CowOctets::borrowed(alloc, slice));
+    keeps_all(&rt, CowOctets::owned(slice.to_vec(alloc)?));
+    keeps_all(&rt, Bytes::copy_from_slice(alloc, slice)?);
+    keeps_all(&rt, BytesMut::copy_from_slice(alloc, slice)?);
+    keeps_all(&rt, SmallVec::<u8, 2>::from_slice(alloc, slice)?);
+    let mut fixed = ArrayVec::<u8, 4>::new();
+    fixed.append_slice(slice)?;
+    keeps_all(&rt, fixed);
+    let mut array = Array::<4>::try_from(slice)?;
+    assert_eq!(rt; array.resize_raw(usize::MAX), Err(ShortBuf));
+    keeps_all(&rt, array);
+    Ok(())
+}
+
+#[test]
+fn the_greatest_capacity_is_refused_or_ignored(rt: HostRuntime) -> Result<(), Fail> {
+    let (alloc, most) = (rt.alloc(), usize::MAX);
+    assert!(rt; <Vec<u8> as EmptyBuilder>::with_capacity(alloc, most).is_err());
+    assert!(rt; <BytesMut as EmptyBuilder>::with_capacity(alloc, most).is_err());
+    assert!(rt; <SmallVec<u8, 2> as EmptyBuilder>::with_capacity(alloc, most).is_err());
+    assert_eq!(rt;
+        Array::<4>::with_capacity(alloc, most)?.as_slice(),
+        b"".as_slice()
+    );
+    let fixed = <ArrayVec<u8, 4> as EmptyBuilder>::with_capacity(alloc, most)?;
+    assert_eq!(rt; fixed.as_slice(), b"".as_slice());
+    Ok(())
+}
+
 #[test]
 fn arrays_are_compared_by_content(rt: HostRuntime) -> Result<(), Fail> {
     let mut cut = Array::<4>::try_from(b"ab".as_slice())?;

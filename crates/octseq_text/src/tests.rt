@@ -10,8 +10,10 @@ use std::test::Fail;
 
 mod capped;
 mod conversions;
+mod hostile;
 mod plain;
 mod rationed;
+mod table;
 mod texts;
 
 #[test]

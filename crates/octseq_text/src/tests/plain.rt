@@ -1,56 +1,10 @@
 //! The finder beside a plain one, which reads the table octet by octet and knows no lanes and no words.
+use super::table::{ROWS, edges, plain_fault};
 use crate::str::StrBuilder;
 use crate::utf8::{Turns, first_fault};
 use std::alloc::Global;
 use std::process::Abort;
 use std::test::Fail;
-
-/// The rows of Table 3-7: the ranges of the octets of an encoding, one after another.
-const ROWS: [&[(u8, u8)]; 9] = [
-    &[(0x00, 0x7F)],
-    &[(0xC2, 0xDF), (0x80, 0xBF)],
-    &[(0xE0, 0xE0), (0xA0, 0xBF), (0x80, 0xBF)],
-    &[(0xE1, 0xEC), (0x80, 0xBF), (0x80, 0xBF)],
-    &[(0xED, 0xED), (0x80, 0x9F), (0x80, 0xBF)],
-    &[(0xEE, 0xEF), (0x80, 0xBF), (0x80, 0xBF)],
-    &[(0xF0, 0xF0), (0x90, 0xBF), (0x80, 0xBF), (0x80, 0xBF)],
-    &[(0xF1, 0xF3), (0x80, 0xBF), (0x80, 0xBF), (0x80, 0xBF)],
-    &[(0xF4, 0xF4), (0x80, 0x8F), (0x80, 0xBF), (0x80, 0xBF)],
-];
-
-/// How many octets at the front are in the ranges of the row.
-fn fitting(octets: &[u8], row: &[(u8, u8)]) -> usize {
-    octets
-        .iter()
-        .zip(row)
-        .take_while(|(octet, range)| range.0 <= **octet && **octet <= range.1)
-        .count()
-}
-
-/// The first fault, its place and its length, part by part and row by row.
-fn plain_fault(octets: &[u8]) -> Option<(usize, Option<usize>)> {
-    let mut at = 0;
-    for _ in octets {
-        let rest = &octets[octets.len().min(at)..];
-        let mut longest = 0;
-        let mut whole = None;
-        for row in ROWS {
-            let count = fitting(rest, row);
-            longest = longest.max(count);
-            if count == row.len() {
-                whole = Some(count);
-            }
-        }
-        match whole {
-            Some(count) => at = at.saturating_add(count),
-            None if rest.is_empty() => return None,
-            None if longest == 0 => return Some((at, Some(1))),
-            None if longest == rest.len() => return Some((at, None)),
-            None => return Some((at, Some(longest))),
-        }
-    }
-    None
-}
 
 /// What both answer.
 fn agrees(rt: &impl Abort, octets: &[u8]) {
@@ -85,12 +39,7 @@ fn agrees_around(
 fn each_row_is_found_as_by_the_table(rt: HostRuntime) -> Result<(), Fail> {
     for row in ROWS {
         for before in [0, 1, 3, 12, 13, 15, 16, 17, 31, 33] {
-            let mut least = Vec::new(rt.alloc());
-            let mut greatest = Vec::new(rt.alloc());
-            for (low, high) in row {
-                least.push(*low)?;
-                greatest.push(*high)?;
-            }
+            let (least, greatest) = edges(rt.alloc(), row)?;
             agrees_around(&rt, rt.alloc(), before, least.as_slice())?;
             agrees_around(&rt, rt.alloc(), before, greatest.as_slice())?;
         }

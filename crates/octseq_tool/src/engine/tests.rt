@@ -4,6 +4,9 @@ use std::io;
 use std::io::{Error, ErrorKind, Read, Write};
 use std::test::Fail;
 
+mod hostile;
+mod refused;
+
 /// Octets that come a few at a time, and fail after some reads.
 #[derive(Drop)]
 struct Drip<'a> {
@@ -23,24 +26,34 @@ impl Read for Drip<'_> {
     }
 }
 
-/// A writer that takes a few writes, and fails from then on.
+/// A writer that takes octets a few at a time, and fails after some calls.
 #[derive(Drop)]
-struct Full {
+struct Narrow {
     taken: Vec<u8>,
-    writes: usize,
+    at_once: usize,
+    calls: usize,
 }
 
-impl Write for Full {
-    fn write(&mut self, buf: &[u8]) -> io::Result<usize> {
-        if self.writes == 0 {
+impl Narrow {
+    /// Counts a call, or fails where it has had them all.
+    fn call(&mut self) -> io::Result<()> {
+        if self.calls == 0 {
             return Err(Error::from(ErrorKind::BrokenPipe));
         }
-        self.writes -= 1;
-        self.taken.write(buf)
+        self.calls -= 1;
+        Ok(())
+    }
+}
+
+impl Write for Narrow {
+    fn write(&mut self, buf: &[u8]) -> io::Result<usize> {
+        self.call()?;
+        let count = self.at_once.min(buf.len());
+        self.taken.write(&buf[..count])
     }
 
     fn flush(&mut self) -> io::Result<()> {
-        Ok(())
+        self.call()
     }
 }
 
@@ -90,32 +103,6 @@ fn another_word_reads_nothing(rt: HostRuntime) {
     assert_eq!(rt; answer, Ok(Status::Usage));
     let usage = "usage: octseq_tool check|lossy|lossy64|records\n";
     assert_eq!(rt; written.as_slice(), usage.as_bytes());
-}
-
-#[test]
-fn a_failed_read_writes_nothing(rt: HostRuntime) {
-    let mut reader = Drip {
-        rest: b"abc",
-        at_once: 1,
-        reads: 1,
-    };
-    let mut written = Vec::new(rt.alloc());
-    let answer = engine(rt.alloc(), "check", &mut reader, &mut written);
-    assert_eq!(rt; answer, Err(ToolFault::Read));
-    assert!(rt; written.is_empty());
-}
-
-#[test]
-fn a_failed_write_is_told(rt: HostRuntime) {
-    for command in ["check", "lossy", "lossy64", "records", "chek"] {
-        let mut writer = Full {
-            taken: Vec::new(rt.alloc()),
-            writes: 0,
-        };
-        let answer = engine(rt.alloc(), command, &mut b"a".as_slice(), &mut writer);
-        assert_eq!(rt; answer, Err(ToolFault::Write));
-        assert!(rt; writer.taken.is_empty());
-    }
 }
 
 /// Octets, each as many times.

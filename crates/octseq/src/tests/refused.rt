@@ -1,0 +1,10 @@
+//! Refused requests for memory.
+//!
+//! `.ci/refused` runs these tests with their n-th request refused, for each n up to the last of them. A refusal
+//! ends a test by the error that it was answered with, once the test has looked at what stands. A test of
+//! `spared` makes requests for what it sets up at most.
+mod builders;
+mod conversions;
+mod parsers;
+mod spared;
+mod texts;

@@ -1,0 +1,139 @@
+//! Hostile input, and streams that fail.
+use super::{Drip, Narrow, ran, repeated};
+use crate::engine::{Status, ToolFault, engine};
+use std::alloc::Global;
+use std::process::Abort;
+use std::test::Fail;
+
+/// Each octet once, in order.
+fn each_octet(alloc: Global) -> Result<Vec<u8>, Fail> {
+    let mut octets = Vec::new(alloc);
+    for octet in 0..=255 {
+        octets.push(octet)?;
+    }
+    Ok(octets)
+}
+
+#[test]
+fn each_octet_once_is_told_of(rt: HostRuntime) -> Result<(), Fail> {
+    let alloc = rt.alloc();
+    let octets = each_octet(alloc)?;
+    let (answer, written) = ran(alloc, "check", octets.as_slice());
+    assert_eq!(rt; answer, Ok(Status::Refused));
+    let line = "invalid utf-8 sequence of 1 bytes from index 128\n";
+    assert_eq!(rt; written.as_slice(), line.as_bytes());
+    let (answer, written) = ran(alloc, "lossy", octets.as_slice());
+    assert_eq!(rt; answer, Ok(Status::Fine));
+    let mut wanted = Vec::new(alloc);
+    for octet in 0..128 {
+        wanted.push(octet)?;
+    }
+    wanted.extend_from_slice("\u{FFFD}".as_bytes().repeat(alloc, 128)?.as_slice())?;
+    assert_eq!(rt; wanted.len(), 512);
+    assert_eq!(rt; written.as_slice(), wanted.as_slice());
+    let (answer, written) = ran(alloc, "lossy64", octets.as_slice());
+    assert_eq!(rt; answer, Ok(Status::Refused));
+    assert_eq!(rt; written.as_slice(), b"buffer size exceeded\n".as_slice());
+    Ok(())
+}
+
+#[test]
+fn a_cut_end_counts_three_octets(rt: HostRuntime) -> Result<(), Fail> {
+    let alloc = rt.alloc();
+    let fits = repeated(alloc, &[(b'a', 61), (0xC3, 1)])?;
+    let (answer, written) = ran(alloc, "lossy64", fits.as_slice());
+    assert_eq!(rt; answer, Ok(Status::Fine));
+    assert_eq!(rt; written.len(), 64);
+    for long in [
+        repeated(alloc, &[(b'a', 62), (0xC3, 1)])?,
+        repeated(alloc, &[(b'a', 65)])?,
+    ] {
+        let (answer, written) = ran(alloc, "lossy64", long.as_slice());
+        assert_eq!(rt; answer, Ok(Status::Refused));
+        assert_eq!(rt; written.as_slice(), b"buffer size exceeded\n".as_slice());
+    }
+    Ok(())
+}
+
+/// What each command writes for `\x03a\xFFb`.
+const OUTPUTS: [(&str, Status, &str); 5] = [
+    (
+        "check",
+        Status::Refused,
+        "invalid utf-8 sequence of 1 bytes from index 2\n",
+    ),
+    ("lossy", Status::Fine, "\x03a\u{FFFD}b"),
+    ("lossy64", Status::Fine, "\x03a\u{FFFD}b"),
+    ("records", Status::Fine, "a\u{FFFD}b\n"),
+    (
+        "chek",
+        Status::Usage,
+        "usage: octseq_tool check|lossy|lossy64|records\n",
+    ),
+];
+
+/// How often the command's reading fails, where the reader fails after no read, after one, and so on.
+fn failed_reads(
+    rt: &impl Abort,
+    alloc: Global,
+    at_once: usize,
+    (command, status, output): (&str, Status, &str),
+) -> usize {
+    for reads in 0..16 {
+        let mut reader = Drip {
+            rest: b"\x03a\xFFb",
+            at_once,
+            reads,
+        };
+        let mut written = Vec::new(alloc);
+        let answer = engine(alloc, command, &mut reader, &mut written);
+        if answer.is_ok() {
+            assert_eq!(rt; answer, Ok(status));
+            assert_eq!(rt; written.as_slice(), output.as_bytes());
+            return reads;
+        }
+        assert_eq!(rt; answer, Err(ToolFault::Read));
+        assert!(rt; written.is_empty());
+    }
+    16
+}
+
+#[test]
+fn a_failed_read_writes_nothing(rt: HostRuntime) {
+    for (command, status, output) in OUTPUTS {
+        // (the read that finds the end counts too, and another word reads nothing)
+        for (at_once, reads) in [(1, 5), (2, 3), (3, 3), (4, 2), (5, 2)] {
+            let wanted = if command == "chek" { 0 } else { reads };
+            let failed = failed_reads(&rt, rt.alloc(), at_once, (command, status, output));
+            assert_eq!(rt; failed, wanted, "{command} by {at_once}");
+        }
+    }
+}
+
+#[test]
+fn a_failed_write_is_told(rt: HostRuntime) {
+    for (command, status, output) in OUTPUTS {
+        for at_once in [1, 7, usize::MAX] {
+            // (each write that is needed, and a call to flush)
+            let needed = output.len().div_ceil(at_once) + 1;
+            for calls in 0..=needed {
+                let mut writer = Narrow {
+                    taken: Vec::new(rt.alloc()),
+                    at_once,
+                    calls,
+                };
+                let octets = b"\x03a\xFFb".as_slice();
+                let answer = engine(rt.alloc(), command, &mut { octets }, &mut writer);
+                let wanted = if calls < needed {
+                    Err(ToolFault::Write)
+                } else {
+                    Ok(status)
+                };
+                assert_eq!(rt; answer, wanted, "{command} of {calls}");
+                let taken = writer.taken.as_slice();
+                assert_eq!(rt; output.as_bytes().get(..taken.len()), Some(taken));
+                assert!(rt; answer.is_err() || taken.len() == output.len());
+            }
+        }
+    }
+}

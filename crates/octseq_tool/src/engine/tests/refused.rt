@@ -1,0 +1,86 @@
+//! Refused requests for memory.
+//!
+//! `.ci/refused` runs these tests with their n-th request refused, for each n up to the last of them. A refusal
+//! ends a test by the error that it was answered with, once the test has seen that nothing was written.
+use crate::engine::{Status, ToolFault, engine};
+use octseq::array::Array;
+use octseq::builder::OctetsBuilder;
+use std::alloc::{AllocError, Global};
+use std::io::{self, Error, ErrorKind, Write};
+use std::process::Abort;
+use std::test::Fail;
+
+/// A writer that requests no memory.
+#[derive(Drop)]
+struct Fixed {
+    taken: Array<64>,
+}
+
+impl Write for Fixed {
+    fn write(&mut self, buf: &[u8]) -> io::Result<usize> {
+        match self.taken.append_slice(buf) {
+            Ok(()) => Ok(buf.len()),
+            Err(_) => Err(Error::from(ErrorKind::WriteZero)),
+        }
+    }
+
+    fn flush(&mut self) -> io::Result<()> {
+        Ok(())
+    }
+}
+
+/// Runs a command, which writes its whole output, or nothing where memory is refused.
+fn is_told(
+    rt: &impl Abort,
+    alloc: Global,
+    command: &str,
+    octets: &[u8],
+    output: &[u8],
+) -> Result<Status, Fail> {
+    let mut writer = Fixed {
+        taken: Array::new(),
+    };
+    let answer = engine(alloc, command, &mut { octets }, &mut writer);
+    match answer {
+        Ok(status) => {
+            assert_eq!(rt; writer.taken.as_slice(), output);
+            Ok(status)
+        }
+        Err(fault) => {
+            assert_eq!(rt; fault, ToolFault::Memory);
+            assert!(rt; writer.taken.as_slice().is_empty());
+            Err(Fail::from(AllocError))
+        }
+    }
+}
+
+#[test]
+fn check_tells_all_or_nothing(rt: HostRuntime) -> Result<(), Fail> {
+    let line = "well formed: 3 octets\n".as_bytes();
+    is_told(&rt, rt.alloc(), "check", b"h\xC3\xA9", line)?;
+    let line = "invalid utf-8 sequence of 1 bytes from index 1\n".as_bytes();
+    is_told(&rt, rt.alloc(), "check", b"a\xC0", line)?;
+    Ok(())
+}
+
+#[test]
+fn lossy_tells_all_or_nothing(rt: HostRuntime) -> Result<(), Fail> {
+    is_told(&rt, rt.alloc(), "lossy", b"a\xFFb", b"a\xEF\xBF\xBDb")?;
+    is_told(&rt, rt.alloc(), "lossy64", b"a\xFFb", b"a\xEF\xBF\xBDb")?;
+    Ok(())
+}
+
+#[test]
+fn records_tells_all_or_nothing(rt: HostRuntime) -> Result<(), Fail> {
+    let lines = b"a\xEF\xBF\xBDb\n\nunexpected end of input\n";
+    is_told(&rt, rt.alloc(), "records", b"\x03a\xFFb\0\x02a", lines)?;
+    Ok(())
+}
+
+#[test]
+fn another_word_requests_nothing(rt: HostRuntime) -> Result<(), Fail> {
+    let usage = "usage: octseq_tool check|lossy|lossy64|records\n".as_bytes();
+    let status = is_told(&rt, rt.alloc(), "chek", b"a", usage)?;
+    assert_eq!(rt; status, Status::Usage);
+    Ok(())
+}
