@@ -13,6 +13,7 @@ mod conversions;
 mod hostile;
 mod plain;
 mod rationed;
+mod replacements;
 mod table;
 mod texts;
 

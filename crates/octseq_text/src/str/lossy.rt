@@ -95,7 +95,12 @@ impl<Octets: AsOctets> StrBuilder<Octets> {
             → IfOk result (λ made. Octets.content made ≢ Octets.content octets) }
         ensures longer { IfOk result (λ made. length (Octets.content octets) ≤ length (Octets.content made)) }
     {
-        read_with(alloc, octets, char::REPLACEMENT_CHARACTER, turns)
+        StrBuilder::try_from_utf8_lossy_with_counted(
+            alloc,
+            octets,
+            char::REPLACEMENT_CHARACTER,
+            turns,
+        )
     }
 
     /// As [`StrBuilder::try_from_utf8_lossy`], for a builder with no limit.
@@ -126,6 +131,85 @@ impl<Octets: AsOctets> StrBuilder<Octets> {
             Err(AppendError::Memory) => Err(AllocError),
             Err(AppendError::Short(_)) => unreachable!(),
         }
+    }
+
+    /// As [`StrBuilder::try_from_utf8_lossy`], with `replacement` for each maximal ill-formed part.
+    ///
+    /// # Errors
+    ///
+    /// `Short` where the text passes the limit of the type, `Memory` where a request for memory was
+    /// refused.
+    pub fn try_from_utf8_lossy_with(
+        alloc: Global,
+        octets: Octets,
+        replacement: char,
+    ) -> Result<Self, AppendError>
+    where
+        Octets: EmptyBuilder,
+        ensures one_splitting { (parts others : List Part)
+            → Splits (Octets.content octets) parts → Splits (Octets.content octets) others → parts ≡ others }
+        ensures splitting { (parts : List Part) × Splits (Octets.content octets) parts }
+
+        ensures text { IfOk result (λ made. (parts : List Part)
+            → Splits (Octets.content octets) parts → Octets.content made ≡ text_with replacement parts) }
+        ensures well_formed { IfOk result (λ made. IsWellFormed (Octets.content made)) }
+        ensures same { IsWellFormed (Octets.content octets) → result ≡ Ok octets }
+
+        ensures short { IsShort result → (parts : List Part) → Splits (Octets.content octets) parts
+            → IsPast Octets.limit (length (text_with replacement parts)) }
+        ensures past { (parts : List Part) → Splits (Octets.content octets) parts
+            → IsPast Octets.limit (length (text_with replacement parts)) → IsErr result }
+        ensures memory { IsMemory result → (Octets.asks ≡ true) × ¬ IsWellFormed (Octets.content octets) }
+
+        ensures again { IfOk result (λ made. (w : ℕ) (parts : List Part)
+            → Splits (Octets.content made) parts → text_with w parts ≡ Octets.content made) }
+    {
+        StrBuilder::try_from_utf8_lossy_with_counted(alloc, octets, replacement, &mut Turns::new())
+    }
+
+    /// As [`StrBuilder::try_from_utf8_lossy_with`], and counts the turns of the search: at most one for
+    /// each part of the octets, also where the reading is refused.
+    ///
+    /// # Errors
+    ///
+    /// `Short` where the text passes the limit of the type, `Memory` where a request for memory was
+    /// refused.
+    pub fn try_from_utf8_lossy_with_counted(
+        alloc: Global,
+        octets: Octets,
+        replacement: char,
+        turns: &mut Turns,
+    ) -> Result<Self, AppendError>
+    where
+        Octets: EmptyBuilder,
+        // Exactly one list of parts splits the octets.
+        ensures one_splitting { (parts others : List Part)
+            → Splits (Octets.content octets) parts → Splits (Octets.content octets) others → parts ≡ others }
+        ensures splitting { (parts : List Part) × Splits (Octets.content octets) parts }
+
+        // The answer is the text of those parts with the replacement. Well-formed octets are handed back.
+        ensures text { IfOk result (λ made. (parts : List Part)
+            → Splits (Octets.content octets) parts → Octets.content made ≡ text_with replacement parts) }
+        ensures well_formed { IfOk result (λ made. IsWellFormed (Octets.content made)) }
+        ensures same { IsWellFormed (Octets.content octets) → result ≡ Ok octets }
+
+        // It is refused as short exactly where that text passes the limit, memory aside.
+        ensures short { IsShort result → (parts : List Part) → Splits (Octets.content octets) parts
+            → IsPast Octets.limit (length (text_with replacement parts)) }
+        ensures past { (parts : List Part) → Splits (Octets.content octets) parts
+            → IsPast Octets.limit (length (text_with replacement parts)) → IsErr result }
+        ensures memory { IsMemory result → (Octets.asks ≡ true) × ¬ IsWellFormed (Octets.content octets) }
+
+        // No more turns than parts, whatever the answer, and a turn for every sixteen octets.
+        ensures turns { (parts : List Part) → Splits (Octets.content octets) parts
+            → turns.new ≤ turns.old + length parts }
+        ensures passed { OnOk result (length (Octets.content octets) + 16 * turns.old ≤ 16 * turns.new) }
+
+        // A second reading changes nothing, with any character as the replacement.
+        ensures again { IfOk result (λ made. (w : ℕ) (parts : List Part)
+            → Splits (Octets.content made) parts → text_with w parts ≡ Octets.content made) }
+    {
+        read_with(alloc, octets, replacement, turns)
     }
 }
 

@@ -1,42 +1,20 @@
-use Rattle.std.proofs.Common.{◌≡◌, ◌+◌, ◌≤◌, length, ap, sym, ◌∙◌, subst}
+use Rattle.std.proofs.Common.{◌≡◌, ℕ, List}
 use Rattle.std.proofs.lemmas.Result.{IfOk-weaker}
-use Rattle.octseq_core.specs.Limit.{IsPast}
-use Rattle.octseq_text.specs.Parts.{text}
+use Rattle.octseq_text.specs.Parts.{Part, Splits, text_with}
 use Rattle.octseq_text.specs.Reading.{parts_of}
-use Rattle.octseq_text.proofs.LossyTexts.{replacement_is_character, text_well_formed, text_long, text_same}
-use Rattle.octseq_text.proofs.Splitting.{splits, only_parts, one_splitting}
+use Rattle.octseq_text.proofs.LossyTexts.{text_long}
+use Rattle.octseq_text.proofs.Splitting.{splits}
 use Rattle.octseq_text.proofs.str.builder.StrBuilder.try_from_utf8_lossy_counted.Goals as goal
-
-pub returns-clause-one_splitting : goal.returns-clause-one_splitting
-returns-clause-one_splitting g c = λ parts others s t. one_splitting s t
-
-pub returns-clause-splitting : goal.returns-clause-splitting
-returns-clause-splitting g c = let x = g.Octets.AsOctets.content c.args.octets in (parts_of x, splits x)
-
-pub returns-clause-text : goal.returns-clause-text
-returns-clause-text g c =
-    IfOk-weaker c.read_with.result (λ made. g.Octets.AsOctets.content made ≡ text (parts_of (g.Octets.AsOctets.content c.args.octets))) _
-    (λ made e parts s. e ∙ ap text (sym (only_parts s))) c.read_with.ensures.text
-
-pub returns-clause-short : goal.returns-clause-short
-returns-clause-short g c = λ h parts s.
-    subst (λ parts. IsPast g.Octets.AsOctets.limit (length (text parts))) (sym (only_parts s)) (c.read_with.ensures.short h)
-
-pub returns-clause-past : goal.returns-clause-past
-returns-clause-past g c = λ parts s p.
-    c.read_with.ensures.past (subst (λ parts. IsPast g.Octets.AsOctets.limit (length (text parts))) (only_parts s) p)
-
-pub returns-clause-turns : goal.returns-clause-turns
-returns-clause-turns g c = λ parts s. subst (λ parts. c.read_with.new.turns ≤ c.args.turns.now + length parts) (sym (only_parts s)) c.read_with.ensures.turns
 
 pub returns-clause-again : goal.returns-clause-again
 returns-clause-again g c =
-    let x = g.Octets.AsOctets.content c.args.octets in
-    IfOk-weaker c.read_with.result (λ made. g.Octets.AsOctets.content made ≡ text (parts_of (g.Octets.AsOctets.content c.args.octets))) _
-    (λ made e parts s. text_same 0xFFFD (g.Octets.AsOctets.content made) parts (rw e (text_well_formed 0xFFFD replacement_is_character (splits x))) s) c.read_with.ensures.text
+    let call = c.try_from_utf8_lossy_with_counted in
+    IfOk-weaker call.result (λ made. (w : ℕ) (parts : List Part) → Splits (g.Octets.AsOctets.content made) parts → text_with w parts ≡ g.Octets.AsOctets.content made) _
+    (λ made again. again 0xFFFD) call.ensures.again
 
 pub returns-clause-longer : goal.returns-clause-longer
 returns-clause-longer g c =
+    let call = c.try_from_utf8_lossy_with_counted in
     let x = g.Octets.AsOctets.content c.args.octets in
-    IfOk-weaker c.read_with.result (λ made. g.Octets.AsOctets.content made ≡ text (parts_of (g.Octets.AsOctets.content c.args.octets))) _
-    (λ made e. rw e (text_long (splits x))) c.read_with.ensures.text
+    IfOk-weaker call.result (λ made. (parts : List Part) → Splits x parts → g.Octets.AsOctets.content made ≡ text_with 0xFFFD parts) _
+    (λ made text. rw (text (parts_of x) (splits x)) (text_long (splits x))) call.ensures.text
