@@ -1,5 +1,7 @@
+pub mod Behind
 pub mod OneRun
 pub mod Runs
 pub mod Steps
 pub mod Values
 pub mod Windows
+pub mod Written

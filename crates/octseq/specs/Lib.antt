@@ -1,5 +1,7 @@
+pub mod Composer
 pub mod Integer
 pub mod Parser
+pub mod Part
 pub mod Refusal
 pub mod Reply
 pub mod Run

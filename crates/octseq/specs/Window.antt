@@ -1,5 +1,5 @@
 -- A window on octets: the place where reading goes on, and the end of what may be read.
-use Rattle.std.specs.Prelude.{ℕ, ◌+◌, ◌-◌, List, length, slice_range}
+use Rattle.std.specs.Prelude.{ℕ, ◌+◌, ◌-◌, List, ◌++◌, length, slice_range}
 use Rattle.octseq_text.specs.Range.{start_of, end_of}
 use Rattle.octseq_text.specs.declared.octets.Bound.{Bound}
 
@@ -44,3 +44,7 @@ whole octets = record { octets = octets; position = 0; end = length octets }
 -- the window of a range of the octets
 abbrev pub window_of_range : List ℕ → Bound × Bound → Window
 window_of_range octets bounds = record { octets = octets; position = start_of bounds.0; end = end_of (length octets) bounds.1 }
+
+-- the window on what stands behind a front
+abbrev pub behind : List ℕ → List ℕ → Window
+behind front rest = at (length front) (whole (front ++ rest))

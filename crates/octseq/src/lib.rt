@@ -1,9 +1,10 @@
-//! Generic octet sequences: builders, ranges and conversions, texts, and a parser.
+//! Generic octet sequences: builders, ranges and conversions, texts, a parser and a composer.
 //!
 //! A sequence or a builder has a content, a list of octets, and everything here speaks of that content, however
-//! it is kept. This crate has [`parse`], and beside it all modules of the crates that it stands on.
+//! it is kept. This crate has [`parse`] and [`compose`], and beside them all modules of the crates that it stands on.
 #![tactic(auto)]
 
+pub mod compose;
 pub mod parse;
 #[cfg(test)]
 mod tests;

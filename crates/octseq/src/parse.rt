@@ -12,6 +12,7 @@ mod commands;
 mod error;
 mod integers;
 mod laws;
+mod parts;
 
 pub use crate::parse::commands::{Kind, ParserCall, ParserCommand, ParserReply, run};
 pub use crate::parse::error::{ParseOctetsError, ShortInput};

@@ -11,6 +11,7 @@ macro_rules! over_each {
     }};
 }
 
+mod composing;
 mod errors;
 mod integers;
 mod refused;

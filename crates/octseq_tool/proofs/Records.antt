@@ -5,6 +5,7 @@ use Rattle.std.proofs.lemmas.List.{append-nil, length-append, length-take, lengt
 use Rattle.std.proofs.lemmas.Grind.{flat_map-append}
 use Rattle.std.specs.Prelude.{◌↔◌, Result, Ok, Err, IsOk, IfOk, OnOk, OnErr, slice_range}
 use Rattle.octseq.specs.Integer.{be}
+use Rattle.octseq.specs.Part.{part_length, HasPart, part, past_part}
 use Rattle.octseq.specs.Window.{Window, left, rest, next, past, nested}
 use Rattle.octseq_tool.specs.Out.{HasText, records_of, IsCut, HasLines}
 
@@ -79,24 +80,23 @@ cut_record w n some within value short =
 not_within : (n m : ℕ) → (n ≤ m → ⊥) → m < n
 not_within n m short = omega arith
 
--- what a call that takes n octets says of the record whose length was read before
+-- what a call that takes a part says of the record at the front
 
-pub whole_part : {T E : Type 0} (result : Result T E) (view : T → Window) (w mid after : Window) (n : ℕ) → 0 < left w → w.end ≤ length w.octets
-    → n ≡ be (next 1 w) → mid ≡ past 1 w → (IsOk result ↔ (n ≤ left mid)) → OnOk result (after ≡ past n mid) → IfOk result (λ part. view part ≡ nested n mid)
+pub whole_part : {T E : Type 0} (result : Result T E) (view : T → Window) (w after : Window) → w.end ≤ length w.octets
+    → (IsOk result ↔ HasPart 1 w) → OnOk result (after ≡ past_part 1 w) → IfOk result (λ taken. view taken ≡ part 1 w)
     → ((w : Window) (n : ℕ) → n ≤ left w → next n w ++ rest (past n w) ≡ rest w)
-    → IfOk result (λ part. rest w ≡ length (rest (view part)) ∷ rest (view part) ++ rest after)
-whole_part (Ok part) view w mid after n some within value behind variant moved is_nested law =
-    let fits : n ≤ left (past 1 w) = rw behind at (variant.0 refl) in
-    rw (is_nested, moved, behind) (whole_record w n some within value fits (law (past 1 w) n fits))
-whole_part (Err e) view w mid after n some within value behind variant moved is_nested law = tt
+    → IfOk result (λ taken. rest w ≡ length (rest (view taken)) ∷ rest (view taken) ++ rest after)
+whole_part (Ok taken) view w after within variant moved is_part law =
+    let has : HasPart 1 w = variant.0 refl in
+    rw (is_part, moved) (whole_record w (part_length 1 w) has.0 within refl has.1 (law (past 1 w) (part_length 1 w) has.1))
+whole_part (Err e) view w after within variant moved is_part law = tt
 
-pub cut_part : {T E : Type 0} (result : Result T E) (w mid : Window) (n : ℕ) → 0 < left w → w.end ≤ length w.octets
-    → n ≡ be (next 1 w) → mid ≡ past 1 w → (IsOk result ↔ (n ≤ left mid)) → OnErr result (0 < left w → IsCut (rest w))
-cut_part (Ok part) w mid n some within value behind variant = tt
-cut_part (Err e) w mid n some within value behind variant = λ _.
-    let short : n ≤ left mid → ⊥ = λ h. let none : false ≡ true = variant.1 h in absurd (cc) in
-    let few : left (past 1 w) < n = rw behind at (not_within n (left mid) short) in
-    cut_record w n some within value few
+pub cut_part : {T E : Type 0} (result : Result T E) (w : Window) → w.end ≤ length w.octets → (IsOk result ↔ HasPart 1 w)
+    → OnErr result (0 < left w → IsCut (rest w))
+cut_part (Ok taken) w within variant = tt
+cut_part (Err e) w within variant = λ some.
+    let short : part_length 1 w ≤ left (past 1 w) → ⊥ = λ fits. let none : false ≡ true = variant.1 (some, fits) in absurd (cc) in
+    cut_record w (part_length 1 w) some within refl (not_within (part_length 1 w) (left (past 1 w)) short)
 
 -- The input was read as far as this rest, and the output has a line for each part.
 pub record IsReadTo (input rest output : List ℕ) : Type 0 where

@@ -170,8 +170,7 @@ fn next_part<'a>(parser: &mut Parser<&'a [u8]>) -> Result<Parser<&'a [u8]>, Shor
     ensures err { OnErr result (0 < left (window parser.old) → IsCut (rest (window parser.old))) }
 {
     parse::nothing_is_lost();
-    let len = usize::from(parser.parse_u8()?);
-    parser.parse_parser(len)
+    parser.parse_part_u8()
 }
 
 /// Appends the lossy text of the octets, and a newline.

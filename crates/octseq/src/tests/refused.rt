@@ -4,6 +4,7 @@
 //! ends a test by the error that it was answered with, once the test has looked at what stands. A test of
 //! `spared` makes requests for what it sets up at most.
 mod builders;
+mod composing;
 mod conversions;
 mod parsers;
 mod spared;

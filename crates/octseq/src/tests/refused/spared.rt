@@ -4,8 +4,8 @@ use arrayvec::ArrayVec;
 use bytes::{Bytes, BytesMut};
 use octseq_core::array::Array;
 use octseq_core::builder::{
-    AsOctets, CloneOctets, EmptyBuilder, FreezeBuilder, FromBuilder, IntoBuilder, OctetsBuilder,
-    Truncate,
+    AppendError, AsOctets, CloneOctets, EmptyBuilder, FreezeBuilder, FromBuilder, IntoBuilder,
+    OctetsBuilder, ShortBuf, Truncate,
 };
 use octseq_core::cow::CowOctets;
 use octseq_text::octets::{Octets, OctetsFrom, range_exists, span};
@@ -75,6 +75,38 @@ fn is_read<B: EmptyBuilder + Truncate>(rt: &impl Abort, alloc: Global) -> Result
 fn texts_in_fixed_builders_are_read_and_changed(rt: HostRuntime) -> Result<(), Fail> {
     is_read::<Array<10>>(&rt, rt.alloc())?;
     is_read::<ArrayVec<u8, 10>>(&rt, rt.alloc())
+}
+
+/// Reads octets lossily into a fixed builder that can hold the text, or can't.
+fn is_read_or_short<B: EmptyBuilder>(
+    rt: &impl Abort,
+    alloc: Global,
+    octets: &[u8],
+    wanted: Option<&str>,
+) -> Result<(), Fail> {
+    let mut builder = given(B::empty(alloc))?;
+    given(builder.append_slice(octets))?;
+    match (StrBuilder::try_from_utf8_lossy(alloc, builder), wanted) {
+        (Ok(text), Some(wanted)) => assert_eq!(rt; text.as_str(), wanted),
+        (answer, wanted) => {
+            assert!(rt; wanted.is_none());
+            assert_eq!(rt; answer.err(), Some(AppendError::Short(ShortBuf)));
+        }
+    }
+    Ok(())
+}
+
+#[test]
+fn texts_at_the_limit_of_fixed_builders_are_read(rt: HostRuntime) -> Result<(), Fail> {
+    let alloc = rt.alloc();
+    is_read_or_short::<Array<4>>(&rt, alloc, b"a\xFF\xFF", None)?;
+    is_read_or_short::<Array<7>>(&rt, alloc, b"a\xFF\xFF", Some("a\u{FFFD}\u{FFFD}"))?;
+    is_read_or_short::<Array<0>>(&rt, alloc, b"", Some(""))?;
+    is_read_or_short::<Array<1>>(&rt, alloc, b"\xFF", None)?;
+    is_read_or_short::<Array<3>>(&rt, alloc, b"\xFF", Some("\u{FFFD}"))?;
+    is_read_or_short::<ArrayVec<u8, 2>>(&rt, alloc, b"\xC3\xA9", Some("é"))?;
+    is_read_or_short::<ArrayVec<u8, 5>>(&rt, alloc, b"\xFF\xFF", None)?;
+    is_read_or_short::<ArrayVec<u8, 6>>(&rt, alloc, b"\xFF\xFF", Some("\u{FFFD}\u{FFFD}"))
 }
 
 #[test]

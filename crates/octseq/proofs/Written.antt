@@ -1,0 +1,347 @@
+-- The octets of an integer are read as that integer.
+use Rattle.std.proofs.Common.{◌≡◌, ℕ, zero, suc, ℤ, pos, negsuc, ◌+◌, ◌-◌, ◌*◌, ◌^◌, ◌/◌, ◌%◌, ◌<◌, List, [], ◌∷◌, ◌++◌, length, reverse, Option, Bool, true, Fits, refl, sym, subst, ap, ◌∙◌, arith}
+use Rattle.std.proofs.lemmas.Int.{ints}
+use Rattle.std.proofs.lemmas.List.{reverse-append, length-reverse}
+use Rattle.std.proofs.Math.Arith.{mod-mul}
+use Rattle.std.proofs.Math.Facts.{Fits-lt-pow}
+use Rattle.std.proofs.Math.Nat.{pow-suc, mod-eq_of_lt, mul_comm}
+use Rattle.std.specs.List.{AllByRecursion}
+use Rattle.std.specs.Prelude.{◌↔◌, slice_index, FitsSigned, Result, OnOk, OnErr}
+use Rattle.std.specs.Int.{w8, w16, w32, w64, w128, cast_unsigned, to_be_bytes, to_le_bytes, bytes_low_first, bytes_high_first, byte_at}
+use Rattle.octseq_core.specs.Limit.{IsPast}
+use Rattle.octseq_core.specs.Refusal.{IsShort, IsMemory}
+use Rattle.octseq_core.specs.declared.builder.AppendError.{AppendError}
+use Rattle.octseq.specs.Composer.{AreOctetsOf, Appends}
+use Rattle.octseq.specs.Integer.{sum_of_first, be, le, signed, octets_be, octets_le, IsSigned, unsigned}
+
+positive : (k : ℕ) → 0 < 256 ^ k
+positive zero = omega arith
+positive (suc k) = let p = positive k in let e = pow-suc 256 k in omega arith
+
+-- ---- sums
+
+-- a sum's first term apart
+sum_first : (k : ℕ) (t : ℕ → ℕ) → sum_of_first (suc k) t ≡ t 0 + sum_of_first k (λ i. t (suc i))
+sum_first zero t = omega arith
+sum_first (suc k) t = let before = sum_first k t in omega arith
+
+same_sum : (k : ℕ) (f g : ℕ → ℕ) → ((i : ℕ) → f i ≡ g i) → sum_of_first k f ≡ sum_of_first k g
+same_sum zero f g same = refl
+same_sum (suc k) f g same =
+    let before : sum_of_first k f ≡ sum_of_first k g = same_sum k f g same in
+    let last : f k ≡ g k = same k in
+    omega arith
+
+scaled : (k : ℕ) (f : ℕ → ℕ) → sum_of_first k (λ i. f i * 256 ^ suc i) ≡ 256 * sum_of_first k (λ i. f i * 256 ^ i)
+scaled zero f = refl
+scaled (suc k) f =
+    let before = scaled k f in
+    let here : f k * 256 ^ suc k ≡ f k * (256 ^ k * 256) = ap (λ p. f k * p) (pow-suc 256 k) in
+    omega (arith, before, here)
+
+-- ---- the value of one octet more
+
+be_nil : be [] ≡ 0
+unfolding be
+be_nil = refl
+
+le_nil : le [] ≡ 0
+unfolding le
+le_nil = refl
+
+be_cons : (x : ℕ) (xs : List ℕ) → be (x ∷ xs) ≡ x * 256 ^ length xs + be xs
+unfolding be
+be_cons x xs =
+    let n = length xs in
+    sum_first n (λ i. slice_index (x ∷ xs) i * 256 ^ (suc n - 1 - i))
+    ∙ (let head : suc n - 1 - 0 ≡ n = omega arith in
+    let tail = same_sum n (λ i. slice_index xs i * 256 ^ (suc n - 1 - suc i)) (λ i. slice_index xs i * 256 ^ (n - 1 - i))
+    (λ i. let e : suc n - 1 - suc i ≡ n - 1 - i = omega arith in ap (λ e. slice_index xs i * 256 ^ e) e) in
+    let first : x * 256 ^ (suc n - 1 - 0) ≡ x * 256 ^ n = ap (λ e. x * 256 ^ e) head in
+    omega (arith, first, tail))
+
+le_cons : (x : ℕ) (xs : List ℕ) → le (x ∷ xs) ≡ x + 256 * le xs
+unfolding le
+le_cons x xs =
+    let n = length xs in
+    sum_first n (λ i. slice_index (x ∷ xs) i * 256 ^ i)
+    ∙ (let tail = scaled n (λ i. slice_index xs i) in omega (arith, tail))
+
+le_snoc : (xs : List ℕ) (x : ℕ) → le (xs ++ x ∷ []) ≡ le xs + x * 256 ^ length xs
+le_snoc [] x = let last = le_cons x [] in omega (arith, last, le_nil)
+le_snoc (a ∷ xs) x =
+    let before : le (xs ++ x ∷ []) ≡ le xs + x * 256 ^ length xs = le_snoc xs x in
+    let longer : le (a ∷ (xs ++ x ∷ [])) ≡ a + 256 * le (xs ++ x ∷ []) = le_cons a (xs ++ x ∷ []) in
+    let shorter : le (a ∷ xs) ≡ a + 256 * le xs = le_cons a xs in
+    let last : x * 256 ^ suc (length xs) ≡ x * (256 ^ length xs * 256) = ap (λ p. x * p) (pow-suc 256 (length xs)) in
+    omega (arith, before, longer, shorter, last)
+
+reverse_cons : (x : ℕ) (xs : List ℕ) → reverse (x ∷ xs) ≡ reverse xs ++ x ∷ []
+reverse_cons x xs = reverse-append (x ∷ []) xs
+
+le_reverse : (xs : List ℕ) → le (reverse xs) ≡ be xs
+le_reverse [] = le_nil ∙ sym be_nil
+le_reverse (x ∷ xs) =
+    let before : le (reverse xs) ≡ be xs = le_reverse xs in
+    let last : le (reverse xs ++ x ∷ []) ≡ le (reverse xs) + x * 256 ^ length (reverse xs) = le_snoc (reverse xs) x in
+    let long : x * 256 ^ length (reverse xs) ≡ x * 256 ^ length xs = ap (λ n. x * 256 ^ n) (length-reverse xs) in
+    let cons : be (x ∷ xs) ≡ x * 256 ^ length xs + be xs = be_cons x xs in
+    ap le (reverse_cons x xs) ∙ omega (arith, before, last, long, cons)
+
+-- ---- the octets of an integer
+
+length_octets : (k n : ℕ) → length (octets_be k n) ≡ k
+unfolding octets_be
+length_octets zero n = refl
+length_octets (suc k) n = ap suc (length_octets k n)
+
+pub length_be : (k n : ℕ) → length (octets_be k n) ≡ k
+length_be k n = length_octets k n
+
+pub length_le : (k n : ℕ) → length (octets_le k n) ≡ k
+unfolding octets_le
+length_le k n = length-reverse (octets_be k n) ∙ length_octets k n
+
+be_modulo : (k n : ℕ) → be (octets_be k n) ≡ n % 256 ^ k
+unfolding octets_be
+be_modulo zero n = omega (arith, be_nil)
+be_modulo (suc k) n =
+    let rest : be (octets_be k n) ≡ n % 256 ^ k = be_modulo k n in
+    let octet = n / 256 ^ k % 256 in
+    let power : 256 ^ suc k ≡ 256 * 256 ^ k = pow-suc 256 k ∙ mul_comm (256 ^ k) 256 in
+    let split : n % (256 * 256 ^ k) ≡ octet * 256 ^ k + n % 256 ^ k = mod-mul n (omega arith) (positive k) in
+    let cons : be (octet ∷ octets_be k n) ≡ octet * 256 ^ k + be (octets_be k n) =
+    be_cons octet (octets_be k n) ∙ ap (λ e. octet * 256 ^ e + be (octets_be k n)) (length_octets k n) in
+    let sums : be (octet ∷ octets_be k n) ≡ n % (256 * 256 ^ k) = omega (arith, rest, split, cons) in
+    sums ∙ ap (λ m. n % m) (sym power)
+
+pub value_be : (k n : ℕ) → n < 256 ^ k → be (octets_be k n) ≡ n
+value_be k n fits = be_modulo k n ∙ mod-eq_of_lt fits
+
+pub value_le : (k n : ℕ) → n < 256 ^ k → le (octets_le k n) ≡ n
+unfolding octets_le
+value_le k n fits = le_reverse (octets_be k n) ∙ value_be k n fits
+
+IsOctet : ℕ → Type 0
+IsOctet n = n < 256
+
+each_be : (k n : ℕ) → AllByRecursion (λ octet. octet < 256) (octets_be k n)
+unfolding octets_be
+each_be zero n = tt
+each_be (suc k) n = let small : n / 256 ^ k % 256 < 256 = omega arith in (small, each_be k n)
+
+each_snoc : (xs : List ℕ) (x : ℕ) → AllByRecursion (λ octet. octet < 256) xs → x < 256 → AllByRecursion (λ octet. octet < 256) (xs ++ x ∷ [])
+each_snoc [] x each small = (small, tt)
+each_snoc (a ∷ xs) x (first, each) small = (first, each_snoc xs x each small)
+
+each_reverse : (xs : List ℕ) → AllByRecursion (λ octet. octet < 256) xs → AllByRecursion (λ octet. octet < 256) (reverse xs)
+each_reverse [] each = tt
+each_reverse (x ∷ xs) (small, each) = rw (reverse_cons x xs) (each_snoc (reverse xs) x (each_reverse xs each) small)
+
+each_le : (k n : ℕ) → AllByRecursion (λ octet. octet < 256) (octets_le k n)
+unfolding octets_le
+each_le k n = each_reverse (octets_be k n) (each_be k n)
+
+-- ---- signed integers
+
+pub signed_unsigned : (k : ℕ) (z : ℤ) → IsSigned k z → (unsigned k z < 256 ^ k) × (signed k (unsigned k z) ≡ z)
+unfolding signed unsigned
+signed_unsigned k (pos n) fits = (omega arith, grind (arith, ints))
+signed_unsigned k (negsuc n) fits = (omega arith, grind (arith, ints))
+
+-- ---- std's words
+
+octet_is : (i n : ℕ) → byte_at i n ≡ n / 256 ^ i % 256
+octet_is zero n = omega arith
+octet_is (suc i) n = refl
+
+made_be : (k n : ℕ) → bytes_high_first k n ≡ octets_be k n
+unfolding octets_be
+made_be zero n = refl
+made_be (suc k) n = ap (λ octet. octet ∷ bytes_high_first k n) (octet_is k n) ∙ ap (λ octets. n / 256 ^ k % 256 ∷ octets) (made_be k n)
+
+low_snoc : (i k n : ℕ) → bytes_low_first i (suc k) n ≡ bytes_low_first i k n ++ byte_at (k + i) n ∷ []
+low_snoc i zero n = let same : i ≡ 0 + i = omega arith in ap (λ j. byte_at j n ∷ []) same
+low_snoc i (suc k) n =
+    let next : k + suc i ≡ suc k + i = omega arith in
+    ap (λ octets. byte_at i n ∷ octets) (low_snoc (suc i) k n)
+    ∙ ap (λ j. byte_at i n ∷ (bytes_low_first (suc i) k n ++ byte_at j n ∷ [])) next
+
+low_is : (k n : ℕ) → bytes_low_first 0 k n ≡ reverse (bytes_high_first k n)
+low_is zero n = refl
+low_is (suc k) n =
+    let same : k + 0 ≡ k = omega arith in
+    low_snoc 0 k n ∙ ap (λ j. bytes_low_first 0 k n ++ byte_at j n ∷ []) same
+    ∙ ap (λ octets. octets ++ byte_at k n ∷ []) (low_is k n) ∙ sym (reverse_cons (byte_at k n) (bytes_high_first k n))
+
+made_le : (k n : ℕ) → bytes_low_first 0 k n ≡ octets_le k n
+unfolding octets_le
+made_le k n = low_is k n ∙ ap reverse (made_be k n)
+
+-- ---- what an append says
+
+pub appends : {limit : Option ℕ} {asks : Bool} {result : Result (Unit {0}) AppendError} {slice octets old new : List ℕ} → slice ≡ octets
+    → OnOk result (new ≡ old ++ slice) → OnErr result (new ≡ old) → (IsShort result ↔ IsPast limit (length old + length slice))
+    → (IsMemory result → asks ≡ true) → Appends limit asks result octets old new
+appends {limit} {asks} {result} {slice} {octets} {old} {new} same ok err short memory =
+    subst (λ octets. Appends limit asks result octets old new) same (record { ok = ok; err = err; short = short; memory = memory })
+
+-- ---- the widths that integers have
+
+pub made_be_1 : (n : ℕ) → Fits w8 n → n ∷ [] ≡ octets_be 1 n
+unfolding octets_be
+made_be_1 n fits = let small : n < 2 ^ 8 = Fits-lt-pow fits in let same : n ≡ n / 256 ^ 0 % 256 = omega arith in ap (λ octet. octet ∷ []) same
+
+pub made_be_2 : (n : ℕ) → to_be_bytes w16 n ≡ octets_be 2 n
+made_be_2 n = made_be 2 n
+
+pub made_be_4 : (n : ℕ) → to_be_bytes w32 n ≡ octets_be 4 n
+made_be_4 n = made_be 4 n
+
+pub made_be_8 : (n : ℕ) → to_be_bytes w64 n ≡ octets_be 8 n
+made_be_8 n = made_be 8 n
+
+pub made_be_16 : (n : ℕ) → to_be_bytes w128 n ≡ octets_be 16 n
+made_be_16 n = made_be 16 n
+
+pub made_le_2 : (n : ℕ) → to_le_bytes w16 n ≡ octets_le 2 n
+made_le_2 n = made_le 2 n
+
+pub made_le_4 : (n : ℕ) → to_le_bytes w32 n ≡ octets_le 4 n
+made_le_4 n = made_le 4 n
+
+pub made_le_8 : (n : ℕ) → to_le_bytes w64 n ≡ octets_le 8 n
+made_le_8 n = made_le 8 n
+
+pub made_le_16 : (n : ℕ) → to_le_bytes w128 n ≡ octets_le 16 n
+made_le_16 n = made_le 16 n
+
+-- ---- what a call's octets are
+
+pub are_be : (k n : ℕ) → n < 256 ^ k → AreOctetsOf be k n (octets_be k n)
+are_be k n fits = record { many = length_be k n; each = each_be k n; value = value_be k n fits }
+
+pub are_le : (k n : ℕ) → n < 256 ^ k → AreOctetsOf le k n (octets_le k n)
+are_le k n fits = record { many = length_le k n; each = each_le k n; value = value_le k n fits }
+
+pub are_signed_be : (k : ℕ) (z : ℤ) → IsSigned k z → AreOctetsOf (λ octets. signed k (be octets)) k z (octets_be k (unsigned k z))
+are_signed_be k z fits =
+    let sum = signed_unsigned k z fits in
+    record { many = length_be k (unsigned k z); each = each_be k (unsigned k z); value = ap (signed k) (value_be k (unsigned k z) sum.0) ∙ sum.1 }
+
+pub are_signed_le : (k : ℕ) (z : ℤ) → IsSigned k z → AreOctetsOf (λ octets. signed k (le octets)) k z (octets_le k (unsigned k z))
+are_signed_le k z fits =
+    let sum = signed_unsigned k z fits in
+    record { many = length_le k (unsigned k z); each = each_le k (unsigned k z); value = ap (signed k) (value_le k (unsigned k z) sum.0) ∙ sum.1 }
+
+-- ---- the widths that integers have
+
+is_signed_1 : (z : ℤ) → FitsSigned w8 z → IsSigned 1 z
+is_signed_1 (pos n) fits = grind (arith, ints)
+is_signed_1 (negsuc n) fits = grind (arith, ints)
+
+pub cast_1 : (z : ℤ) → FitsSigned w8 z → cast_unsigned w8 z ≡ unsigned 1 z
+unfolding unsigned
+cast_1 (pos n) fits = grind (arith, ints)
+cast_1 (negsuc n) fits = grind (arith, ints)
+
+is_signed_2 : (z : ℤ) → FitsSigned w16 z → IsSigned 2 z
+is_signed_2 (pos n) fits = grind (arith, ints)
+is_signed_2 (negsuc n) fits = grind (arith, ints)
+
+pub cast_2 : (z : ℤ) → FitsSigned w16 z → cast_unsigned w16 z ≡ unsigned 2 z
+unfolding unsigned
+cast_2 (pos n) fits = grind (arith, ints)
+cast_2 (negsuc n) fits = grind (arith, ints)
+
+is_signed_4 : (z : ℤ) → FitsSigned w32 z → IsSigned 4 z
+is_signed_4 (pos n) fits = grind (arith, ints)
+is_signed_4 (negsuc n) fits = grind (arith, ints)
+
+pub cast_4 : (z : ℤ) → FitsSigned w32 z → cast_unsigned w32 z ≡ unsigned 4 z
+unfolding unsigned
+cast_4 (pos n) fits = grind (arith, ints)
+cast_4 (negsuc n) fits = grind (arith, ints)
+
+is_signed_8 : (z : ℤ) → FitsSigned w64 z → IsSigned 8 z
+is_signed_8 (pos n) fits = grind (arith, ints)
+is_signed_8 (negsuc n) fits = grind (arith, ints)
+
+pub cast_8 : (z : ℤ) → FitsSigned w64 z → cast_unsigned w64 z ≡ unsigned 8 z
+unfolding unsigned
+cast_8 (pos n) fits = grind (arith, ints)
+cast_8 (negsuc n) fits = grind (arith, ints)
+
+is_signed_16 : (z : ℤ) → FitsSigned w128 z → IsSigned 16 z
+is_signed_16 (pos n) fits = grind (arith, ints)
+is_signed_16 (negsuc n) fits = grind (arith, ints)
+
+pub cast_16 : (z : ℤ) → FitsSigned w128 z → cast_unsigned w128 z ≡ unsigned 16 z
+unfolding unsigned
+cast_16 (pos n) fits = grind (arith, ints)
+cast_16 (negsuc n) fits = grind (arith, ints)
+
+pub are_be_1 : (n : ℕ) → Fits w8 n → AreOctetsOf be 1 n (octets_be 1 n)
+are_be_1 n fits = are_be 1 n (Fits-lt-pow fits)
+
+pub are_signed_be_1 : (z : ℤ) → FitsSigned w8 z → AreOctetsOf (λ octets. signed 1 (be octets)) 1 z (octets_be 1 (unsigned 1 z))
+are_signed_be_1 z fits = are_signed_be 1 z (is_signed_1 z fits)
+
+pub are_be_2 : (n : ℕ) → Fits w16 n → AreOctetsOf be 2 n (octets_be 2 n)
+are_be_2 n fits = are_be 2 n (Fits-lt-pow fits)
+
+pub are_signed_be_2 : (z : ℤ) → FitsSigned w16 z → AreOctetsOf (λ octets. signed 2 (be octets)) 2 z (octets_be 2 (unsigned 2 z))
+are_signed_be_2 z fits = are_signed_be 2 z (is_signed_2 z fits)
+
+pub are_le_2 : (n : ℕ) → Fits w16 n → AreOctetsOf le 2 n (octets_le 2 n)
+are_le_2 n fits = are_le 2 n (Fits-lt-pow fits)
+
+pub are_signed_le_2 : (z : ℤ) → FitsSigned w16 z → AreOctetsOf (λ octets. signed 2 (le octets)) 2 z (octets_le 2 (unsigned 2 z))
+are_signed_le_2 z fits = are_signed_le 2 z (is_signed_2 z fits)
+
+pub are_be_4 : (n : ℕ) → Fits w32 n → AreOctetsOf be 4 n (octets_be 4 n)
+are_be_4 n fits = are_be 4 n (Fits-lt-pow fits)
+
+pub are_signed_be_4 : (z : ℤ) → FitsSigned w32 z → AreOctetsOf (λ octets. signed 4 (be octets)) 4 z (octets_be 4 (unsigned 4 z))
+are_signed_be_4 z fits = are_signed_be 4 z (is_signed_4 z fits)
+
+pub are_le_4 : (n : ℕ) → Fits w32 n → AreOctetsOf le 4 n (octets_le 4 n)
+are_le_4 n fits = are_le 4 n (Fits-lt-pow fits)
+
+pub are_signed_le_4 : (z : ℤ) → FitsSigned w32 z → AreOctetsOf (λ octets. signed 4 (le octets)) 4 z (octets_le 4 (unsigned 4 z))
+are_signed_le_4 z fits = are_signed_le 4 z (is_signed_4 z fits)
+
+pub are_be_8 : (n : ℕ) → Fits w64 n → AreOctetsOf be 8 n (octets_be 8 n)
+are_be_8 n fits = are_be 8 n (Fits-lt-pow fits)
+
+pub are_signed_be_8 : (z : ℤ) → FitsSigned w64 z → AreOctetsOf (λ octets. signed 8 (be octets)) 8 z (octets_be 8 (unsigned 8 z))
+are_signed_be_8 z fits = are_signed_be 8 z (is_signed_8 z fits)
+
+pub are_le_8 : (n : ℕ) → Fits w64 n → AreOctetsOf le 8 n (octets_le 8 n)
+are_le_8 n fits = are_le 8 n (Fits-lt-pow fits)
+
+pub are_signed_le_8 : (z : ℤ) → FitsSigned w64 z → AreOctetsOf (λ octets. signed 8 (le octets)) 8 z (octets_le 8 (unsigned 8 z))
+are_signed_le_8 z fits = are_signed_le 8 z (is_signed_8 z fits)
+
+pub are_be_16 : (n : ℕ) → Fits w128 n → AreOctetsOf be 16 n (octets_be 16 n)
+are_be_16 n fits = are_be 16 n (Fits-lt-pow fits)
+
+pub are_signed_be_16 : (z : ℤ) → FitsSigned w128 z → AreOctetsOf (λ octets. signed 16 (be octets)) 16 z (octets_be 16 (unsigned 16 z))
+are_signed_be_16 z fits = are_signed_be 16 z (is_signed_16 z fits)
+
+pub are_le_16 : (n : ℕ) → Fits w128 n → AreOctetsOf le 16 n (octets_le 16 n)
+are_le_16 n fits = are_le 16 n (Fits-lt-pow fits)
+
+pub are_signed_le_16 : (z : ℤ) → FitsSigned w128 z → AreOctetsOf (λ octets. signed 16 (le octets)) 16 z (octets_le 16 (unsigned 16 z))
+are_signed_le_16 z fits = are_signed_le 16 z (is_signed_16 z fits)
+
+-- those of each width
+pub ruleset written_1 = (are_be_1, made_be_1, are_signed_be_1, cast_1)
+
+pub ruleset written_2 = (are_be_2, made_be_2, are_signed_be_2, are_le_2, made_le_2, are_signed_le_2, cast_2)
+
+pub ruleset written_4 = (are_be_4, made_be_4, are_signed_be_4, are_le_4, made_le_4, are_signed_le_4, cast_4)
+
+pub ruleset written_8 = (are_be_8, made_be_8, are_signed_be_8, are_le_8, made_le_8, are_signed_le_8, cast_8)
+
+pub ruleset written_16 = (are_be_16, made_be_16, are_signed_be_16, are_le_16, made_le_16, are_signed_le_16, cast_16)

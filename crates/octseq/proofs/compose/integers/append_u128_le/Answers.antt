@@ -1,0 +1,10 @@
+use Rattle.std.proofs.Common.{◌∙◌}
+use Rattle.octseq.proofs.Written.{appends, are_le_16, made_le_16}
+use Rattle.octseq.proofs.compose.integers.append_u128_le.Goals as goal
+
+pub returns-clause-octets : goal.returns-clause-octets
+returns-clause-octets g c = are_le_16 c.args.value c.ranges.value
+
+pub returns-clause-appended : goal.returns-clause-appended
+returns-clause-appended g c = let said = c.append_slice.ensures in
+    appends (c.to_le_bytes.ensures ∙ made_le_16 c.args.value) said.ok said.err said.short said.memory

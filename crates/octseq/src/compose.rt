@@ -1,0 +1,43 @@
+//! Composing messages: integers and parts behind the content of a builder.
+//!
+//! An integer is appended as the octets that [`Parser`](crate::Parser) reads it from. A part is its length,
+//! big-endian in as many octets as the call's name says, and then its octets.
+ghost use Rattle.std.specs.Prelude.{◌≡◌};
+
+use octseq_core::builder::AppendError;
+
+mod integers;
+mod laws;
+mod parts;
+
+pub use crate::compose::integers::{
+    append_i8, append_i16_be, append_i16_le, append_i32_be, append_i32_le, append_i64_be,
+    append_i64_le, append_i128_be, append_i128_le, append_u8, append_u16_be, append_u16_le,
+    append_u32_be, append_u32_le, append_u64_be, append_u64_le, append_u128_be, append_u128_le,
+};
+pub use crate::compose::laws::{integers_are_read_back, parts_are_read_back};
+pub use crate::compose::parts::{append_part_u8, append_part_u16_be, append_part_u32_be};
+
+/// Why a part was not appended.
+#[derive(Debug, PartialEq, Eq, Drop)]
+pub enum ComposeError {
+    /// Its length doesn't fit the octets that it is to have.
+    TooLong,
+    /// The content would pass the limit of its type.
+    Short,
+    /// A request for memory was refused.
+    Memory,
+}
+
+impl From<AppendError> for ComposeError {
+    ghost use Rattle.octseq.specs.Composer.{refusal_of};
+
+    ghost from_gives = { λ e made. made ≡ refusal_of e };
+
+    fn from(e: AppendError) -> ComposeError {
+        match e {
+            AppendError::Short(_) => ComposeError::Short,
+            AppendError::Memory => ComposeError::Memory,
+        }
+    }
+}

@@ -1,0 +1,29 @@
+//! What was appended is read back. Each law stands on a function that does nothing, so that a check asks for
+//! its proof.
+ghost use Rattle.std.specs.Prelude.{◌≡◌, ℕ, ℤ, ◌<◌, ◌≤◌, ◌^◌, ◌++◌, List, length};
+ghost use Rattle.octseq.specs.Integer.{be, le, signed, octets_be, octets_le, IsSigned, unsigned};
+ghost use Rattle.octseq.specs.Part.{part_of, HasPart, part, past_part};
+ghost use Rattle.octseq.specs.Window.{left, rest, next, past, behind};
+
+/// The octets of an integer, read from the place where they begin, have its value, and what stands behind
+/// them is left.
+pub fn integers_are_read_back()
+    ensures be { (front after : List ℕ) (k n : ℕ) → n < 256 ^ k
+        → (k ≤ left (behind front (octets_be k n ++ after)))
+        × (be (next k (behind front (octets_be k n ++ after))) ≡ n)
+        × (rest (past k (behind front (octets_be k n ++ after))) ≡ after) }
+    ensures le { (front after : List ℕ) (k n : ℕ) → n < 256 ^ k
+        → (k ≤ left (behind front (octets_le k n ++ after)))
+        × (le (next k (behind front (octets_le k n ++ after))) ≡ n)
+        × (rest (past k (behind front (octets_le k n ++ after))) ≡ after) }
+    ensures signed { (k : ℕ) (z : ℤ) → IsSigned k z
+        → (unsigned k z < 256 ^ k) × (signed k (unsigned k z) ≡ z) }
+{}
+
+/// A part, read from the place where it begins, is whole, has its octets, and what stands behind it is left.
+pub fn parts_are_read_back()
+    ensures { (front octets after : List ℕ) (k : ℕ) → length octets < 256 ^ k
+        → HasPart k (behind front (part_of k octets ++ after))
+        × (rest (part k (behind front (part_of k octets ++ after))) ≡ octets)
+        × (rest (past_part k (behind front (part_of k octets ++ after))) ≡ after) }
+{}

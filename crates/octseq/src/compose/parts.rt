@@ -1,0 +1,112 @@
+//! Parts at the end of a content: octets behind their length.
+ghost use Rattle.std.specs.Prelude.{◌≡◌, ◌+◌, ◌++◌, ◌↔◌, true, length, IsFalse, OnOk, OnErr};
+ghost use Rattle.octseq_core.specs.Limit.{IsPast};
+ghost use Rattle.octseq.specs.Composer.{AppendsPart, IsPartTooLong, IsPartShort, IsPartMemory};
+
+use super::ComposeError;
+use octseq_core::builder::{OctetsBuilder, Truncate};
+
+/// Appends a part with its length in one octet.
+///
+/// # Errors
+///
+/// `TooLong` where the part has more than 255 octets. Else `Short` where the content, with the length and the
+/// part behind it, would pass the limit of its type, and else `Memory` where a request for memory was refused.
+/// The content is then as it was.
+#[tactic(auto, using(crate::proofs::Written::written_1))]
+pub fn append_part_u8<B: OctetsBuilder + Truncate>(
+    builder: &mut B,
+    part: &[u8],
+) -> Result<(), ComposeError>
+    ensures appended { AppendsPart B.limit B.asks result 1 part.now
+        (B.content builder.old) (B.content builder.new) }
+    ensures borrows { B.borrows builder.new ≡ B.borrows builder.old }
+{
+    let Ok(len) = u8::try_from(part.len()) else {
+        return Err(ComposeError::TooLong);
+    };
+    append_both(builder, &len.to_be_bytes(), part)
+}
+
+/// Appends a part with its length in 2 octets, big-endian.
+///
+/// # Errors
+///
+/// `TooLong` where the part has more than 65,535 octets. Else `Short` where the content, with the length and
+/// the part behind it, would pass the limit of its type, and else `Memory` where a request for memory was
+/// refused. The content is then as it was.
+#[tactic(auto, using(crate::proofs::Written::written_2))]
+pub fn append_part_u16_be<B: OctetsBuilder + Truncate>(
+    builder: &mut B,
+    part: &[u8],
+) -> Result<(), ComposeError>
+    ensures appended { AppendsPart B.limit B.asks result 2 part.now
+        (B.content builder.old) (B.content builder.new) }
+    ensures borrows { B.borrows builder.new ≡ B.borrows builder.old }
+{
+    let Ok(len) = u16::try_from(part.len()) else {
+        return Err(ComposeError::TooLong);
+    };
+    append_both(builder, &len.to_be_bytes(), part)
+}
+
+/// Appends a part with its length in 4 octets, big-endian.
+///
+/// # Errors
+///
+/// `TooLong` where the part has more than 4,294,967,295 octets. Else `Short` where the content, with the
+/// length and the part behind it, would pass the limit of its type, and else `Memory` where a request for
+/// memory was refused. The content is then as it was.
+#[tactic(auto, using(crate::proofs::Written::written_4))]
+pub fn append_part_u32_be<B: OctetsBuilder + Truncate>(
+    builder: &mut B,
+    part: &[u8],
+) -> Result<(), ComposeError>
+    ensures appended { AppendsPart B.limit B.asks result 4 part.now
+        (B.content builder.old) (B.content builder.new) }
+    ensures borrows { B.borrows builder.new ≡ B.borrows builder.old }
+{
+    let Ok(len) = u32::try_from(part.len()) else {
+        return Err(ComposeError::TooLong);
+    };
+    append_both(builder, &len.to_be_bytes(), part)
+}
+
+/// Whether a builder has room for so many octets and so many more. One with no limit has.
+fn has_room<B: OctetsBuilder>(builder: &B, first: usize, more: usize) -> bool
+    ensures { IsFalse result ↔ IsPast B.limit (length (B.content builder.now) + (first + more)) }
+{
+    match B::limit() {
+        None => true,
+        Some(limit) => {
+            let room = limit - builder.as_ref().len();
+            first <= room && more <= room - first
+        }
+    }
+}
+
+/// Appends both slices or none. The limit is asked first, so a content that would pass it requests no memory.
+fn append_both<B: OctetsBuilder + Truncate>(
+    builder: &mut B,
+    first: &[u8],
+    more: &[u8],
+) -> Result<(), ComposeError>
+    ensures ok { OnOk result (B.content builder.new ≡ B.content builder.old ++ (first.now ++ more.now)) }
+    ensures err { OnErr result (B.content builder.new ≡ B.content builder.old) }
+    ensures fits { ¬ IsPartTooLong result }
+    ensures short { IsPartShort result
+        ↔ IsPast B.limit (length (B.content builder.old) + (length first.now + length more.now)) }
+    ensures memory { IsPartMemory result → B.asks ≡ true }
+    ensures borrows { B.borrows builder.new ≡ B.borrows builder.old }
+{
+    if !has_room(builder, first.len(), more.len()) {
+        return Err(ComposeError::Short);
+    }
+    let before = builder.as_ref().len();
+    builder.append_slice(first)?;
+    let appended = builder.append_slice(more);
+    if appended.is_err() {
+        builder.truncate(before);
+    }
+    Ok(appended?)
+}

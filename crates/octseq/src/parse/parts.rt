@@ -1,0 +1,55 @@
+//! Parts: octets behind their length.
+ghost use Rattle.std.specs.Prelude.{◌≡◌, IfOk};
+ghost use Rattle.octseq.specs.Parser.{window, sequence};
+ghost use Rattle.octseq.specs.Part.{part, TakesPart};
+
+use super::{Parser, ShortInput};
+use octseq_core::builder::AsOctets;
+
+/// Each call takes a length, and a parser of that many octets behind it. It reads the same sequence, so its
+/// position and its end are counted from there.
+///
+/// # Errors
+///
+/// `ShortInput` where fewer octets are left than the length has, or fewer behind it than it says. The parser
+/// is then as it was.
+impl<R: AsOctets + Copy> Parser<R> {
+    /// The next part, whose length is one octet.
+    pub fn parse_part_u8(&mut self) -> Result<Self, ShortInput>
+        ensures taken { TakesPart result 1 self.old self.new }
+        ensures window { IfOk result (λ parser. window parser ≡ part 1 (window self.old)) }
+        ensures sequence { IfOk result (λ parser. sequence parser ≡ sequence self.old) }
+    {
+        let mut behind = *self;
+        let len = behind.parse_u8()?;
+        let part = behind.parse_parser(usize::from(len))?;
+        *self = behind;
+        Ok(part)
+    }
+
+    /// The next part, whose length is 2 octets, big-endian.
+    pub fn parse_part_u16_be(&mut self) -> Result<Self, ShortInput>
+        ensures taken { TakesPart result 2 self.old self.new }
+        ensures window { IfOk result (λ parser. window parser ≡ part 2 (window self.old)) }
+        ensures sequence { IfOk result (λ parser. sequence parser ≡ sequence self.old) }
+    {
+        let mut behind = *self;
+        let len = behind.parse_u16_be()?;
+        let part = behind.parse_parser(usize::from(len))?;
+        *self = behind;
+        Ok(part)
+    }
+
+    /// The next part, whose length is 4 octets, big-endian.
+    pub fn parse_part_u32_be(&mut self) -> Result<Self, ShortInput>
+        ensures taken { TakesPart result 4 self.old self.new }
+        ensures window { IfOk result (λ parser. window parser ≡ part 4 (window self.old)) }
+        ensures sequence { IfOk result (λ parser. sequence parser ≡ sequence self.old) }
+    {
+        let mut behind = *self;
+        let len = behind.parse_u32_be()?;
+        let part = behind.parse_parser(len as usize)?;
+        *self = behind;
+        Ok(part)
+    }
+}
