@@ -20,3 +20,6 @@ pub mod Order
 pub mod Boundaries
 pub mod Ends
 pub mod OneRun
+pub mod BadParts
+pub mod Settling
+pub mod Piecewise

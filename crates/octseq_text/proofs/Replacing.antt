@@ -28,10 +28,10 @@ module _ (rest : List ℕ) (fault : Fault) (f : IsFault rest fault) where
   pub end_bounds : (fault.place < fault_end rest fault) × (fault_end rest fault ≤ length rest)
   end_bounds = let some = bad_some f.first in (omega (arith, end_is), omega (arith, end_is, whole_length))
 
-  front_is : take fault.place rest ≡ f.before
+  pub front_is : take fault.place rest ≡ f.before
   front_is = ap (λ x. take fault.place x) f.whole ∙ ap (λ n. take n (f.before ++ (f.bad ++ f.after))) f.place ∙ take-append_seam f.before (f.bad ++ f.after)
 
-  behind_is : drop (fault_end rest fault) rest ≡ f.after
+  pub behind_is : drop (fault_end rest fault) rest ≡ f.after
   behind_is =
       let cut : rest ≡ (f.before ++ f.bad) ++ f.after = f.whole ∙ sym (append_assoc f.before f.bad f.after) in
       let long : fault_end rest fault ≡ length (f.before ++ f.bad) = let place = f.place in omega (arith, end_is, length-append f.before f.bad) in

@@ -2,6 +2,7 @@ pub mod Encoding
 pub mod Fault
 pub mod Front
 pub mod Parts
+pub mod Pieces
 pub mod Range
 pub mod Reading
 pub mod Refused

@@ -1,10 +1,11 @@
 -- How the finder reads: what the first octet says of the others, and how many octets at the front fit. A second account of the table,
 -- which computes. The proofs show it to be the same, and public contracts don't cite it.
-use Rattle.std.specs.Prelude.{◌≡◌, ℕ, ◌+◌, ◌*◌, ◌≤◌, ◌++◌, drop, zero, suc, ◌-◌, max, Bool, nat_lt, ◌==◌, ◌&&◌, List, [], ◌∷◌, length, take, slice_index, if◌then◌else◌}
+use Rattle.std.specs.Prelude.{◌≡◌, ◌≢◌, ℕ, ◌+◌, ◌*◌, ◌≤◌, ◌++◌, drop, zero, suc, ◌-◌, max, Bool, nat_lt, ◌==◌, ◌&&◌, List, [], ◌∷◌, length, take, slice_index, Option, if◌then◌else◌}
 use Rattle.std.specs.Int.{is_in_range}
+use Rattle.octseq_core.specs.Limit.{IsPast}
 use Rattle.octseq_text.specs.Encoding.{number_of}
 use Rattle.octseq_text.specs.Fault.{Fault, fault_end}
-use Rattle.octseq_text.specs.Parts.{Part, Char, Bad, text_with}
+use Rattle.octseq_text.specs.Parts.{IsBeginning, Part, Char, Bad, text_with, text}
 
 -- how many octets an encoding that begins with this octet has, or 0 where none does
 unfoldable pub width_of : ℕ → ℕ
@@ -60,3 +61,24 @@ pub record IsReplaced (replacement : ℕ) (octets : List ℕ) (first : Fault) (m
   pub whole : made ++ rest ≡ text_with replacement (parts_of octets)
   pub turns : now ≤ old + length (parts_of (drop (fault_end octets first) octets))
   pub passed : length octets + 16 * old ≤ 16 * now + fault_end octets first
+
+-- Of octets some parts were read, and a rest is left: whatever follows, the other parts are those of the rest and of what follows.
+pub record Reads (octets rest : List ℕ) (parts : List Part) : Type 0 where
+  pub whatever : (more : List ℕ) → parts_of (octets ++ more) ≡ parts ++ parts_of (rest ++ more)
+
+-- Parts of octets were read, and their text was added.
+pub record IsRead (octets rest old new : List ℕ) : Type 0 where
+  pub parts : List Part
+  pub reads : Reads octets rest parts
+  pub grown : new ≡ old ++ text parts
+
+-- The text of parts that can be read of octets passes the limit.
+pub record IsTooLong (limit : Option ℕ) (octets old : List ℕ) : Type 0 where
+  pub rest : List ℕ
+  pub new : List ℕ
+  pub read : IsRead octets rest old new
+  pub past : IsPast limit (length new)
+
+-- nothing, or a beginning
+abbrev pub IsOpenEnd : List ℕ → Type 0
+IsOpenEnd end = end ≢ [] → IsBeginning end

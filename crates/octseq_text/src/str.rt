@@ -6,11 +6,13 @@ mod ends;
 mod error;
 mod laws;
 mod lossy;
+mod pieces;
 mod text;
 
 pub use builder::StrBuilder;
 pub use commands::{Command, Reply, run};
 pub use ends::{boundary, last_char};
 pub use error::FromUtf8Error;
-pub use laws::one_run;
+pub use laws::{one_run, one_settling};
+pub use pieces::LossyPieces;
 pub use text::Str;

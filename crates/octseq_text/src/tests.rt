@@ -11,6 +11,7 @@ use std::test::Fail;
 mod capped;
 mod conversions;
 mod hostile;
+mod pieces;
 mod plain;
 mod rationed;
 mod replacements;
@@ -265,16 +266,11 @@ fn a_refusal_of_memory_leaves_the_text(rt: HostRuntime) -> Result<(), Fail> {
     Ok(())
 }
 
-/// The lossy text of octets over a vector.
-fn lossy(alloc: Global, octets: &[u8]) -> Result<StrBuilder<Vec<u8>>, Fail> {
-    Ok(StrBuilder::try_from_utf8_lossy_counted(alloc, octets.to_vec(alloc)?, &mut Turns::new())?)
-}
-
-#[test]
-fn each_bad_part_becomes_one_replacement(rt: HostRuntime) -> Result<(), Fail> {
-    let cases = [
+/// Octets and their lossy texts.
+fn lossy_texts() -> [(&'static [u8], &'static str); 16] {
+    [
         (
-            b"Hello\xC0\x80 There\xE6\x83 Goodbye".as_slice(),
+            b"Hello\xC0\x80 There\xE6\x83 Goodbye",
             "Hello\u{FFFD}\u{FFFD} There\u{FFFD} Goodbye",
         ),
         (
@@ -320,8 +316,17 @@ fn each_bad_part_becomes_one_replacement(rt: HostRuntime) -> Result<(), Fail> {
             b"\xE1\x80\xE2\xF0\x91\x92\xF1\xBFA",
             "\u{FFFD}\u{FFFD}\u{FFFD}\u{FFFD}A",
         ),
-    ];
-    for (octets, text) in cases {
+    ]
+}
+
+/// The lossy text of octets over a vector.
+fn lossy(alloc: Global, octets: &[u8]) -> Result<StrBuilder<Vec<u8>>, Fail> {
+    Ok(StrBuilder::try_from_utf8_lossy_counted(alloc, octets.to_vec(alloc)?, &mut Turns::new())?)
+}
+
+#[test]
+fn each_bad_part_becomes_one_replacement(rt: HostRuntime) -> Result<(), Fail> {
+    for (octets, text) in lossy_texts() {
         assert_eq!(rt; lossy(rt.alloc(), octets)?.as_str(), text);
         let read = StrBuilder::from_utf8_lossy(rt.alloc(), octets.to_vec(rt.alloc())?)?;
         assert_eq!(rt; read.as_str(), text);

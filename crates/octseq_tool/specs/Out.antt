@@ -58,6 +58,12 @@ Out (Some Records) input output Refused = (parts : List (List ℕ)) × (rest : L
 Out None input output Usage = output ≡ codes "usage: octseq_tool check|lossy|lossy64|records\n"
 Out _ input output _ = ⊥
 
+-- An answer to a command, made of all that a reader had left: the reader's known octets are the whole input.
+pub record Answers (command : Command) (given : Option (List ℕ)) (output : List ℕ) (status : Status) : Type 0 where
+  pub input : List ℕ
+  pub whole : IfSome given (λ octets. input ≡ octets)
+  pub answered : Out (Some command) input output status
+
 -- A run to its end: the word it was given, what the reader had left, and what the writer held before and after. The known octets of
 -- the reader are the whole input.
 pub record Ran (word : List ℕ) (given before after : Option (List ℕ)) (status : Status) : Type 0 where

@@ -1,9 +1,10 @@
 //! The program over any reader and any writer.
-ghost use Rattle.std.specs.Prelude.{◌≡◌, ℕ, ◌<◌, ◌∷◌, ◌++◌, length, codes, Some, List, Option, IfOk, IfErr, IfSome, OnOk, OnErr};
-ghost use Rattle.std.specs.Io.KnownBytes.{Appends, IsAtEnd};
+ghost use Rattle.std.specs.Prelude.{◌≡◌, ℕ, ◌<◌, ◌∷◌, ◌++◌, [], length, codes, Some, List, Option, IsFalse, IfOk, IfErr, IfSome, OnOk, OnErr};
+ghost use Rattle.std.specs.Io.KnownBytes.{Appends, Consumes, IsAtEnd};
 ghost use Rattle.octseq.specs.Parser.{window};
 ghost use Rattle.octseq.specs.Window.{left, rest};
-ghost use Rattle.octseq_tool.specs.Out.{IsNamed, IsCommand, HasText, IsCut, Out, Ran};
+ghost use Rattle.octseq_text.specs.Pieces.{StandsFor};
+ghost use Rattle.octseq_tool.specs.Out.{IsNamed, IsCommand, HasText, IsCut, Out, Answers, Ran};
 ghost use Rattle.octseq_tool.specs.declared.engine.Command.{Command};
 ghost use Rattle.octseq_tool.specs.declared.engine.Command.TheVariants.{Check, Lossy, Lossy64, Records};
 ghost use Rattle.octseq_tool.specs.declared.engine.Status.{Status};
@@ -12,13 +13,16 @@ ghost use Rattle.octseq_tool.specs.declared.engine.Status.TheVariants.{Refused};
 use octseq::array::Array;
 use octseq::builder::{AppendError, ShortBuf};
 use octseq::parse::{self, Parser, ShortInput};
-use octseq::str::StrBuilder;
+use octseq::str::{LossyPieces, StrBuilder};
 use octseq::utf8;
 use std::alloc::{AllocError, Global};
-use std::io::{ErrorKind, Read, Write};
+use std::io::{self, ErrorKind, Read, Write};
 
 #[cfg(test)]
 mod tests;
+
+/// How many octets a read asks for where a text is made of pieces.
+const PIECE: usize = 64 * 1024;
 
 /// The line for a word that names no command.
 const USAGE: &str = "usage: octseq_tool check|lossy|lossy64|records\n";
@@ -120,16 +124,74 @@ fn check(alloc: Global, input: Vec<u8>) -> Result<Answer, AllocError>
     }
 }
 
-/// The lossy text of the octets.
-fn lossy(alloc: Global, input: Vec<u8>) -> Result<Answer, AllocError>
-    ensures { IfOk result (λ answer. Out (Some Lossy) input.items answer.output.items answer.status) }
+/// The lossy text of all that the reader has left. It is made as the octets are read, so that they stand in memory
+/// as text alone.
+fn lossy<R: Read>(alloc: Global, reader: &mut R) -> Result<Answer, ToolFault>
+    ensures ok { IfOk result (λ answer. Answers Lossy (R.remaining reader.old) answer.output.items answer.status) }
+    ensures end { OnOk result (IsAtEnd (R.remaining reader.new)) }
 {
-    utf8::one_splitting();
-    let text = StrBuilder::from_utf8_lossy(alloc, input)?;
+    let mut pieces = LossyPieces::new(alloc)?;
+    feed_all(alloc, reader, &mut pieces)?;
+    // (a vector has no limit, so all that it refuses is for want of memory)
+    let Ok(text) = pieces.finish() else {
+        return Err(ToolFault::Memory);
+    };
     Ok(Answer {
         output: text.into_octets_builder(),
         status: Status::Fine,
     })
+}
+
+/// Feeds all that the reader has left, each piece as it was read.
+fn feed_all<R: Read>(
+    alloc: Global,
+    reader: &mut R,
+    pieces: &mut LossyPieces<Vec<u8>>,
+) -> Result<(), ToolFault>
+    requires { StandsFor pieces.old [] }
+    ensures ok { OnOk result ((input : List ℕ) × StandsFor pieces.new input
+        × IfSome (R.remaining reader.old) (λ octets. input ≡ octets)) }
+    ensures end { OnOk result (IsAtEnd (R.remaining reader.new)) }
+{
+    let mut piece = Vec::from_elem(alloc, 0, PIECE)?;
+    for _ in 0..u64::MAX {
+        if !feed_next(reader, piece.as_mut_slice(), pieces)? {
+            return Ok(());
+        }
+    }
+    Err(ToolFault::Read)
+}
+
+/// Feeds what one read gives, and tells whether there may be more.
+fn feed_next<R: Read>(
+    reader: &mut R,
+    room: &mut [u8],
+    pieces: &mut LossyPieces<Vec<u8>>,
+) -> Result<bool, ToolFault>
+    requires { 0 < length room.old }
+    ensures room { length room.new ≡ length room.old }
+    ensures fed { OnOk result ((octets : List ℕ)
+        × Consumes (R.remaining reader.old) (R.remaining reader.new) octets
+        × ((before : List ℕ) → StandsFor pieces.old before → StandsFor pieces.new (before ++ octets))) }
+    ensures end { IfOk result (λ is_more. IsFalse is_more → IsAtEnd (R.remaining reader.new)) }
+{
+    match reader.read(room) {
+        Ok(count) => match pieces.feed(&room[..count]) {
+            Ok(()) => Ok(count > 0),
+            // (a vector has no limit, so all that it refuses is for want of memory)
+            Err(_) => Err(ToolFault::Memory),
+        },
+        Err(e) if e.kind() == ErrorKind::Interrupted => Ok(true),
+        Err(e) => Err(failed_read(&e)),
+    }
+}
+
+/// Why a read failed. A reader tells so that it lacks memory.
+fn failed_read(e: &io::Error) -> ToolFault {
+    match e.kind() {
+        ErrorKind::OutOfMemory => ToolFault::Memory,
+        _ => ToolFault::Read,
+    }
 }
 
 /// The lossy text of the octets, where an array of 64 octets can hold it.
@@ -216,15 +278,17 @@ fn records(alloc: Global, input: &[u8]) -> Result<Answer, AllocError>
     })
 }
 
-/// What a command makes of its input.
-fn carry_out(alloc: Global, command: Command, input: Vec<u8>) -> Result<Answer, AllocError>
-    ensures { IfOk result (λ answer. Out (Some command) input.items answer.output.items answer.status) }
+/// What a command makes of all that the reader has left.
+#[tactic(auto, using(crate::proofs::Feeding::answers))]
+fn carry_out<R: Read>(alloc: Global, command: Command, reader: &mut R) -> Result<Answer, ToolFault>
+    ensures ok { IfOk result (λ answer. Answers command (R.remaining reader.old) answer.output.items answer.status) }
+    ensures end { OnOk result (IsAtEnd (R.remaining reader.new)) }
 {
     match command {
-        Command::Check => check(alloc, input),
-        Command::Lossy => lossy(alloc, input),
-        Command::Lossy64 => lossy64(alloc, input.as_slice()),
-        Command::Records => records(alloc, input.as_slice()),
+        Command::Check => Ok(check(alloc, read_all(alloc, reader)?)?),
+        Command::Lossy => lossy(alloc, reader),
+        Command::Lossy64 => Ok(lossy64(alloc, read_all(alloc, reader)?.as_slice())?),
+        Command::Records => Ok(records(alloc, read_all(alloc, reader)?.as_slice())?),
     }
 }
 
@@ -236,8 +300,7 @@ fn read_all<R: Read>(alloc: Global, reader: &mut R) -> Result<Vec<u8>, ToolFault
     let mut input = Vec::new(alloc);
     match reader.read_to_end(&mut input) {
         Ok(_) => Ok(input),
-        Err(e) if e.kind() == ErrorKind::OutOfMemory => Err(ToolFault::Memory),
-        Err(_) => Err(ToolFault::Read),
+        Err(e) => Err(failed_read(&e)),
     }
 }
 
@@ -274,8 +337,7 @@ pub fn engine<R: Read, W: Write>(
         write_all(writer, USAGE.as_bytes())?;
         return Ok(Status::Usage);
     };
-    let input = read_all(alloc, reader)?;
-    let answer = carry_out(alloc, command, input)?;
+    let answer = carry_out(alloc, command, reader)?;
     write_all(writer, answer.output.as_slice())?;
     Ok(answer.status)
 }

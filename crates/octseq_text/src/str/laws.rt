@@ -1,5 +1,8 @@
-//! What lists of commands on a text answer, whatever the text is kept in.
+//! Laws about texts: what lists of commands answer whatever the text is kept in, and what of octets that
+//! come in pieces is settled.
 ghost use Rattle.std.specs.Prelude.{◌≡◌, ℕ, Bool, false, Option, List};
+ghost use Rattle.octseq_text.specs.Parts.{Part};
+ghost use Rattle.octseq_text.specs.Pieces.{Settles};
 ghost use Rattle.octseq_text.specs.Run.{Run, IsWithoutMemory};
 ghost use Rattle.octseq_text.specs.declared.str.commands.Command.{Command};
 ghost use Rattle.octseq_text.specs.declared.str.commands.Reply.{Reply};
@@ -18,4 +21,13 @@ pub fn one_run()
     ensures without_memory { (limit : Option ℕ) (before : List ℕ) (commands : List Command)
         (replies : List Reply) (after : List ℕ)
         → Run limit false before commands replies after → IsWithoutMemory replies }
+{}
+
+/// Octets have exactly one list of settled parts, and one open end.
+pub fn one_settling()
+    ensures exists { (octets : List ℕ)
+        → (settled : List Part) × (end : List ℕ) × Settles octets settled end }
+    ensures only { (octets end last : List ℕ) (settled others : List Part)
+        → Settles octets settled end → Settles octets others last
+        → (settled ≡ others) × (end ≡ last) }
 {}

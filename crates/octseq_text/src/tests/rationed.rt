@@ -1,7 +1,10 @@
 //! A vector whose n-th append is refused for memory.
 ghost use Rattle.std.specs.Prelude.{◌≡◌, true, None};
 
-use octseq_core::builder::{AppendError, AsOctets, OctetsBuilder, OctetsLimit, Truncate};
+use octseq_core::builder::{
+    AppendError, AsOctets, EmptyBuilder, OctetsBuilder, OctetsLimit, Truncate,
+};
+use std::alloc::{AllocError, Global};
 
 #[derive(Drop)]
 pub struct Rationed {
@@ -58,5 +61,16 @@ impl OctetsBuilder for Rationed {
 impl Truncate for Rationed {
     fn truncate(&mut self, len: usize) {
         self.octets.truncate(len);
+    }
+}
+
+/// An empty one refuses its second append.
+impl EmptyBuilder for Rationed {
+    fn empty(alloc: Global) -> Result<Self, AllocError> {
+        Ok(Rationed::new(Vec::new(alloc), 2))
+    }
+
+    fn with_capacity(alloc: Global, capacity: usize) -> Result<Self, AllocError> {
+        Ok(Rationed::new(Vec::with_capacity(alloc, capacity)?, 2))
     }
 }

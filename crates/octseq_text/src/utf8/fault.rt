@@ -59,6 +59,14 @@ impl Utf8Fault {
         &octets[..self.valid_up_to]
     }
 
+    /// The octets from the fault on.
+    pub(crate) fn onward<'a>(&self, octets: &'a [u8]) -> &'a [u8]
+        requires { self.now.place ≤ length octets.now }
+        ensures { result.now ≡ drop self.now.place octets.now }
+    {
+        &octets[self.valid_up_to..]
+    }
+
     /// The octets behind the fault.
     pub(crate) fn behind<'a>(&self, octets: &'a [u8]) -> &'a [u8]
         requires place { self.now.place ≤ length octets.now }

@@ -1,8 +1,10 @@
 //! Texts: what they are made of, pushes, lossy readings and lists of commands.
 use bytes::{Bytes, BytesMut};
-use octseq_core::builder::{EmptyBuilder, FreezeBuilder, FromBuilder, OctetsBuilder, Truncate};
+use octseq_core::builder::{
+    AppendError, EmptyBuilder, FreezeBuilder, FromBuilder, OctetsBuilder, Truncate,
+};
 use octseq_core::cow::CowOctets;
-use octseq_text::str::{Command, Reply, Str, StrBuilder, run};
+use octseq_text::str::{Command, LossyPieces, Reply, Str, StrBuilder, run};
 use smallvec::SmallVec;
 use std::alloc::{AllocError, Global};
 use std::process::Abort;
@@ -106,6 +108,27 @@ fn octets_are_read_lossily(rt: HostRuntime) -> Result<(), Fail> {
     is_read::<Vec<u8>>(&rt, rt.alloc())?;
     is_read::<BytesMut>(&rt, rt.alloc())?;
     is_read::<SmallVec<u8, 2>>(&rt, rt.alloc())
+}
+
+#[test]
+fn pieces_are_read(rt: HostRuntime) -> Result<(), Fail> {
+    let mut pieces = LossyPieces::<Vec<u8>>::new(rt.alloc())?;
+    let cut = [
+        b"0123456789\xE2".as_slice(),
+        b"\x82\xACabcdefgh\xFF",
+        b"ijklmnopqrstuvwxyz\xF1\x80",
+    ];
+    for piece in cut {
+        let fed = pieces.feed(piece);
+        if fed.is_err() {
+            assert_eq!(rt; pieces.feed(b""), Err(AppendError::Memory));
+            assert_eq!(rt; pieces.finish().err(), Some(AppendError::Memory));
+            return Ok(fed?);
+        }
+    }
+    let whole = "0123456789€abcdefgh\u{FFFD}ijklmnopqrstuvwxyz\u{FFFD}";
+    assert_eq!(rt; pieces.finish()?.as_str(), whole);
+    Ok(())
 }
 
 /// Runs commands on an empty text, of which one at most is refused for memory. The later ones are answered

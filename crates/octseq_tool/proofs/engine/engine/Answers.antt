@@ -22,10 +22,10 @@ returns-in_default-clause-ran g c = record {
 pub returns-clause-ran : goal.returns-clause-ran
 returns-clause-ran g c = record {
   command = Some c.in-Some.command;
-  input = c.in_ok-input.input.items;
+  input = c.in_ok-answer.ensures.ok.input;
   output = c.as_slice.result.now;
   named = c.in-Some.ensures;
-  whole = c.in_ok-input.ensures.whole;
-  answered = rw c.as_slice.ensures.value c.in_ok-answer.ensures;
+  whole = c.in_ok-answer.ensures.ok.whole;
+  answered = rw c.as_slice.ensures.value c.in_ok-answer.ensures.ok.answered;
   written = c.in_ok-write_all-2.ensures.ok;
 }

@@ -55,6 +55,42 @@ fn a_cut_end_counts_three_octets(rt: HostRuntime) -> Result<(), Fail> {
     Ok(())
 }
 
+#[test]
+fn lossy_writes_the_same_however_octets_are_read(rt: HostRuntime) -> Result<(), Fail> {
+    let alloc = rt.alloc();
+    let octets =
+        b"a\xF0\x9F\x98\x80\xE2\x82\xE2\x82\xAC\xF1\x80b\xC3\xA9\xFF\xF0\x90\x80".as_slice();
+    let text = "a\u{1F600}\u{FFFD}€\u{FFFD}bé\u{FFFD}\u{FFFD}";
+    for at_once in [1, 2, 3, 4, 5, usize::MAX] {
+        let mut reader = Drip {
+            rest: octets,
+            at_once,
+            reads: usize::MAX,
+        };
+        let mut written = Vec::new(alloc);
+        let answer = engine(alloc, "lossy", &mut reader, &mut written);
+        assert_eq!(rt; answer, Ok(Status::Fine));
+        assert_eq!(rt; written.as_slice(), text.as_bytes(), "{at_once} at once");
+    }
+    Ok(())
+}
+
+#[test]
+fn lossy_reads_more_than_a_piece(rt: HostRuntime) -> Result<(), Fail> {
+    let alloc = rt.alloc();
+    // (characters of three octets, so that one is cut at each place where a read of 65,536 may end)
+    let mut octets = "€".as_bytes().repeat(alloc, 50_000)?;
+    octets.push(0xE2)?;
+    let mut reader = octets.as_slice();
+    let mut written = Vec::new(alloc);
+    let answer = engine(alloc, "lossy", &mut reader, &mut written);
+    assert_eq!(rt; answer, Ok(Status::Fine));
+    octets.truncate(150_000);
+    octets.extend_from_slice("\u{FFFD}".as_bytes())?;
+    assert_eq!(rt; written.as_slice(), octets.as_slice());
+    Ok(())
+}
+
 /// What each command writes for `\x03a\xFFb`.
 const OUTPUTS: [(&str, Status, &str); 5] = [
     (

@@ -1,0 +1,10 @@
+use Rattle.std.proofs.Common.{◌≡◌, ◌++◌, take}
+use Rattle.octseq_text.specs.Parts.{IsBeginning}
+use Rattle.octseq_text.proofs.str.pieces.close.Given as goal
+
+abbrev pub invariant-loop-at : goal.invariant-loop-at
+invariant-loop-at g l = record {
+  begun : l.begun.content ≡ l.fn.begun.content ++ take l.at l.piece;
+  begins : IsBeginning l.begun.content;
+  text : g.B.AsOctets.content l.text ≡ g.B.AsOctets.content l.fn.text;
+}

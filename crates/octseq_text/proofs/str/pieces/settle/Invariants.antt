@@ -1,0 +1,9 @@
+use Rattle.std.proofs.Common.{length}
+use Rattle.octseq_text.specs.Reading.{IsRead}
+use Rattle.octseq_text.proofs.str.pieces.settle.Given as goal
+
+abbrev pub invariant-loop-fault : goal.invariant-loop-fault
+invariant-loop-fault g l = IsRead l.fn.octets l.rest (g.B.AsOctets.content l.fn.text) (g.B.AsOctets.content l.text)
+
+abbrev pub decreases-loop-fault : goal.decreases-loop-fault
+decreases-loop-fault g l = length l.rest

@@ -1,0 +1,291 @@
+//! The lossy reading of octets that come in pieces.
+ghost use Rattle.std.specs.Prelude.{◌≡◌, ◌≢◌, ℕ, ◌+◌, ◌<◌, ◌≤◌, ◌↔◌, true, Some, List, [], ◌∷◌, ◌++◌, length, IsErr, IfOk, IfErr, IfSome, IfNone, OnOk, OnErr};
+ghost use Rattle.octseq_core.specs.Limit.{IsWithin, IsPast};
+ghost use Rattle.octseq_core.specs.Refusal.{IsShort, IsMemory};
+ghost use Rattle.octseq_core.specs.declared.builder.AppendError.{AppendError};
+ghost use Rattle.octseq_text.specs.Encoding.{encoding_of};
+ghost use Rattle.octseq_text.specs.Parts.{IsBeginning, Part, Splits, text};
+ghost use Rattle.octseq_text.specs.Pieces.{Settles, StandsFor};
+ghost use Rattle.octseq_text.specs.Reading.{IsOpenEnd, IsRead, IsTooLong};
+ghost use Rattle.octseq_text.specs.Text.{IsWellFormed};
+
+use super::builder::StrBuilder;
+use crate::utf8::{Turns, first_fault};
+use octseq_core::array::Array;
+use octseq_core::builder::{
+    AppendError, AsOctets, EmptyBuilder, OctetsBuilder, ShortBuf, infallible,
+};
+use std::alloc::{AllocError, Global};
+use std::marker::Model;
+use std::mem::replace;
+
+/// A lossy reading of octets that come in pieces. However they are cut, the text is that of
+/// [`StrBuilder::try_from_utf8_lossy`].
+///
+/// It holds the text of what is settled, and at most three octets of a character that isn't whole yet.
+/// Once a request for memory or the limit of the type refused a piece, it has failed for good.
+///
+/// Contracts see the text, those octets, and the refusal.
+#[derive(Drop)]
+pub struct LossyPieces<B: EmptyBuilder> {
+    text: B,
+    end: Array<4>,
+    refusal: Option<AppendError>,
+}
+
+impl<B: EmptyBuilder> Model for LossyPieces<B> {
+    ghost use Rattle.octseq_text.specs.Pieces.{Held, IsSound};
+
+    ghost Value = { Held };
+
+    ghost view = { λ pieces.
+        record { settled_text = B.content pieces.text; end = pieces.end.content; refusal = pieces.refusal } };
+
+    ghost invariant = { λ pieces. IsSound B.limit B.asks
+        (record { settled_text = B.content pieces.text; end = pieces.end.content; refusal = pieces.refusal }) };
+}
+
+impl<B: EmptyBuilder> LossyPieces<B> {
+    /// A reading of no octets yet.
+    ///
+    /// # Errors
+    ///
+    /// `AllocError` where a request for memory was refused.
+    pub fn new(alloc: Global) -> Result<Self, AllocError>
+        ensures stands { IfOk result (λ made. StandsFor made []) }
+        ensures memory { OnErr result (B.asks ≡ true) }
+    {
+        let text = B::empty(alloc)?;
+        Ok(LossyPieces {
+            text,
+            end: Array::new(),
+            refusal: None,
+        })
+    }
+
+    /// Reads the next piece.
+    ///
+    /// # Errors
+    ///
+    /// `Short` where the text of what is settled passes the limit of the type, `Memory` where a request
+    /// for memory was refused. Every later call answers that refusal again.
+    #[tactic(auto, using(crate::proofs::Settling::one_settling, crate::proofs::Settling::settling))]
+    pub fn feed(&mut self, piece: &[u8]) -> Result<(), AppendError>
+        // Octets have exactly one list of settled parts, and one open end.
+        ensures one_settling { (octets end last : List ℕ) (settled others : List Part)
+            → Settles octets settled end → Settles octets others last
+            → (settled ≡ others) × (end ≡ last) }
+        ensures settling { (octets : List ℕ)
+            → (settled : List Part) × (end : List ℕ) × Settles octets settled end }
+
+        // What stood for octets stands for them and the piece behind them.
+        ensures stands { OnOk result ((octets : List ℕ)
+            → StandsFor self.old octets → StandsFor self.new (octets ++ piece.now)) }
+
+        // It is refused as short exactly where the text of their settled parts passes the limit, memory
+        // aside.
+        ensures short { IsShort result → (octets end : List ℕ) (settled : List Part)
+            → StandsFor self.old octets → Settles (octets ++ piece.now) settled end
+            → IsPast B.limit (length (text settled)) }
+        ensures past { (octets end : List ℕ) (settled : List Part)
+            → StandsFor self.old octets → Settles (octets ++ piece.now) settled end
+            → IsPast B.limit (length (text settled)) → IsErr result }
+        ensures memory { IsMemory result → B.asks ≡ true }
+
+        // A refusal is kept, and is the answer from then on.
+        ensures kept { IfErr result (λ refusal. self.new.refusal ≡ Some refusal) }
+        ensures again { (refusal : AppendError)
+            → self.old.refusal ≡ Some refusal → result ≡ Err refusal }
+    {
+        if let Some(refusal) = &self.refusal {
+            return Err(same(refusal));
+        }
+        let end = replace(&mut self.end, Array::new());
+        match read(&mut self.text, end, piece) {
+            Ok(end) => {
+                self.end = end;
+                Ok(())
+            }
+            Err(refusal) => {
+                self.refusal = Some(same(&refusal));
+                Err(refusal)
+            }
+        }
+    }
+
+    /// The text of all that was read. Octets of a character that never became whole are one bad part.
+    ///
+    /// # Errors
+    ///
+    /// `Short` where the text passes the limit of the type, `Memory` where a request for memory was
+    /// refused. Where a piece was refused, that refusal.
+    #[tactic(auto, using(crate::proofs::Splitting::one_splitting, crate::proofs::Settling::splitting))]
+    pub fn finish(self) -> Result<StrBuilder<B>, AppendError>
+        // Exactly one list of parts splits octets.
+        ensures one_splitting { (octets : List ℕ) (parts others : List Part)
+            → Splits octets parts → Splits octets others → parts ≡ others }
+        ensures splitting { (octets : List ℕ) → (parts : List Part) × Splits octets parts }
+
+        // The answer is the text of all parts of what it stands for.
+        ensures text { IfOk result (λ made. (octets : List ℕ) (parts : List Part)
+            → StandsFor self octets → Splits octets parts → B.content made ≡ text parts) }
+        ensures well_formed { IfOk result (λ made. IsWellFormed (B.content made)) }
+
+        // It is refused as short exactly where that text passes the limit, memory aside.
+        ensures short { IsShort result → (octets : List ℕ) (parts : List Part)
+            → StandsFor self octets → Splits octets parts → IsPast B.limit (length (text parts)) }
+        ensures past { (octets : List ℕ) (parts : List Part)
+            → StandsFor self octets → Splits octets parts
+            → IsPast B.limit (length (text parts)) → IsErr result }
+        ensures memory { IsMemory result → B.asks ≡ true }
+
+        // A refusal that was met is the answer.
+        ensures again { (refusal : AppendError) → self.refusal ≡ Some refusal → result ≡ Err refusal }
+    {
+        let LossyPieces {
+            mut text,
+            end,
+            refusal,
+        } = self;
+        if let Some(refusal) = refusal {
+            return Err(refusal);
+        }
+        append_end(&mut text, &end)?;
+        Ok(StrBuilder::from_utf8_unchecked(text))
+    }
+}
+
+/// The same refusal.
+fn same(refusal: &AppendError) -> AppendError
+    ensures { result ≡ refusal.now }
+{
+    match refusal {
+        AppendError::Short(_) => AppendError::Short(ShortBuf),
+        AppendError::Memory => AppendError::Memory,
+    }
+}
+
+/// Reads the piece behind the open end, and answers the open end of both.
+fn read<B: OctetsBuilder>(
+    text: &mut B,
+    end: Array<4>,
+    piece: &[u8],
+) -> Result<Array<4>, AppendError>
+    requires open_end { IsOpenEnd end.content }
+    requires within { IsWithin B.limit (length (B.content text.old)) }
+    ensures read { IfOk result (λ left.
+        IsRead (end.content ++ piece.now) left.content (B.content text.old) (B.content text.new)) }
+    ensures open_end { IfOk result (λ left. IsOpenEnd left.content) }
+    ensures within { OnOk result (IsWithin B.limit (length (B.content text.new))) }
+    ensures short { IsShort result → IsTooLong B.limit (end.content ++ piece.now) (B.content text.old) }
+    ensures memory { IsMemory result → B.asks ≡ true }
+{
+    if end.as_slice().is_empty() {
+        return settle(text, piece);
+    }
+    let mut begun = end;
+    match close(text, &mut begun, piece)? {
+        Some(rest) => settle(text, rest),
+        None => Ok(begun),
+    }
+}
+
+/// Adds octets of the piece to a beginning until it is a character or none can come of it, appends what
+/// became of it, and answers the rest of the piece. Where the piece ends first, it is still a beginning.
+fn close<'a, B: OctetsBuilder>(
+    text: &mut B,
+    begun: &mut Array<4>,
+    piece: &'a [u8],
+) -> Result<Option<&'a [u8]>, AppendError>
+    requires { IsBeginning begun.old.content }
+    ensures closed { IfOk result (λ left. IfSome left (λ rest.
+        IsRead (begun.old.content ++ piece.now) rest.now (B.content text.old) (B.content text.new))) }
+    ensures begins { IfOk result (λ left. IfNone left (IsBeginning begun.new.content)) }
+    ensures begun { IfOk result (λ left. IfNone left (begun.new.content ≡ begun.old.content ++ piece.now)) }
+    ensures text { IfOk result (λ left. IfNone left (B.content text.new ≡ B.content text.old)) }
+    ensures short { IsShort result → IsTooLong B.limit (begun.old.content ++ piece.now) (B.content text.old) }
+    ensures memory { IsMemory result → B.asks ≡ true }
+{
+    for (at, octet) in piece.iter().enumerate() {
+        push(begun, *octet);
+        match first_fault(begun.as_slice(), &mut Turns::new()) {
+            None => {
+                text.append_slice(begun.as_slice())?;
+                return Ok(Some(&piece[at + 1..]));
+            }
+            Some(fault) => {
+                if fault.error_len().is_some() {
+                    append_replacement(text)?;
+                    return Ok(Some(&piece[at..]));
+                }
+            }
+        }
+    }
+    Ok(None)
+}
+
+/// Appends the text of the settled parts of the octets, and answers the open end.
+fn settle<B: OctetsBuilder>(text: &mut B, octets: &[u8]) -> Result<Array<4>, AppendError>
+    ensures read { IfOk result (λ left.
+        IsRead octets.now left.content (B.content text.old) (B.content text.new)) }
+    ensures open_end { IfOk result (λ left. IsOpenEnd left.content) }
+    ensures within { OnOk result (IsWithin B.limit (length (B.content text.new))) }
+    ensures short { IsShort result → IsTooLong B.limit octets.now (B.content text.old) }
+    ensures memory { IsMemory result → B.asks ≡ true }
+{
+    let mut rest = octets;
+    while let Some(fault) = first_fault(rest, &mut Turns::new()) {
+        text.append_slice(fault.before(rest))?;
+        if fault.error_len().is_none() {
+            return Ok(open_end(fault.onward(rest)));
+        }
+        append_replacement(text)?;
+        rest = fault.behind(rest);
+    }
+    text.append_slice(rest)?;
+    Ok(Array::new())
+}
+
+/// Appends what becomes of an open end that nothing follows: the replacement character, if there is one.
+fn append_end<B: OctetsBuilder>(text: &mut B, end: &Array<4>) -> Result<(), AppendError>
+    requires { IsWithin B.limit (length (B.content text.old)) }
+    ensures none { OnOk result (end.now.content ≡ [] → B.content text.new ≡ B.content text.old) }
+    ensures some { OnOk result (end.now.content ≢ []
+        → B.content text.new ≡ B.content text.old ++ encoding_of 0xFFFD) }
+    ensures within { OnOk result (IsWithin B.limit (length (B.content text.new))) }
+    ensures short { IsShort result → (end.now.content ≢ [])
+        × IsPast B.limit (length (B.content text.old) + length (encoding_of 0xFFFD)) }
+    ensures memory { IsMemory result → B.asks ≡ true }
+{
+    if end.as_slice().is_empty() {
+        return Ok(());
+    }
+    append_replacement(text)
+}
+
+/// Appends the replacement character.
+#[tactic(auto, unfolding(crate::specs::Encoding::encoding_of))]
+fn append_replacement<B: OctetsBuilder>(text: &mut B) -> Result<(), AppendError>
+    ensures ok { OnOk result (B.content text.new ≡ B.content text.old ++ encoding_of 0xFFFD) }
+    ensures short { IsShort result
+        ↔ IsPast B.limit (length (B.content text.old) + length (encoding_of 0xFFFD)) }
+    ensures memory { IsMemory result → B.asks ≡ true }
+{
+    text.append_slice(b"\xEF\xBF\xBD")
+}
+
+/// One octet more behind a beginning.
+fn push(begun: &mut Array<4>, octet: u8)
+    requires { length begun.old.content < 4 }
+    ensures { begun.new.content ≡ begun.old.content ++ octet ∷ [] }
+{
+    infallible(begun.append_slice(&[octet]));
+}
+
+/// The octets as an open end.
+fn open_end(octets: &[u8]) -> Array<4>
+    requires { length octets.now ≤ 4 }
+    ensures { result.content ≡ octets.now }
+{
+    infallible(Array::try_from(octets))
+}

@@ -1,0 +1,12 @@
+use Rattle.std.proofs.Common.{ap, ◌∙◌}
+use Rattle.octseq_tool.proofs.engine.lossy.Goals as goal
+
+pub returns-clause-ok : goal.returns-clause-ok
+returns-clause-ok g c =
+    let fed = c.in_ok-feed_all.ensures.ok in
+    let parts = c.finish.ensures.splitting fed.0 in
+    record {
+      input = fed.0;
+      whole = fed.2;
+      answered = (parts.0, parts.1, ap (λ made. made.items) c.into_octets_builder.ensures.same ∙ c.in-Ok.ensures.text fed.0 parts.0 fed.1 parts.1);
+    }
