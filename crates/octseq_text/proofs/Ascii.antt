@@ -1,4 +1,4 @@
--- Masks of lanes that are below 0x80.
+-- The mask of a lane has a bit for each octet that is 0x80 or more. So it is 0 where all are ASCII, and even where the first one is.
 use Rattle.std.proofs.Common.{◌≡◌, ◌≢◌, ℕ, ◌+◌, ◌*◌, ◌%◌, ◌^◌, ◌<◌, ◌≤◌, ◌↔◌, Bool, true, false, cond, leb, List, [], ◌∷◌, map, length, replicate, take, drop, get_or, refl, ap, sym, ◌∙◌, arith, w8}
 use Rattle.std.proofs.lemmas.Bool.Decides.{nat_tests}
 use Rattle.std.proofs.lemmas.List.Elements.{All-nil, All-cons, All-head, All-tail, All-take, All-drop}
@@ -7,9 +7,12 @@ use Rattle.std.proofs.lemmas.List.{length-map}
 use Rattle.std.specs.List.{All}
 use lib.Lanes.{mask_l, top, zip2}
 
+-- an octet more at the front of a lane, by its bit
 none_more : (y : ℕ) (ys : List ℕ) → (mask_l (map (leb 128) ys) ≡ 0 → All (λ o. o < 128) ys) → (b : Bool) → leb 128 y ≡ b → cond b 1 0 + 2 * mask_l (map (leb 128) ys) ≡ 0 → All (λ o. o < 128) (y ∷ ys)
 none_more y ys rec true e h = absurd (omega arith)
 none_more y ys rec false e h = All-cons (λ o. o < 128) y ys (grind (arith, nat_tests)) (rec (omega arith))
+
+-- a mask of 0 has no octet that isn't ASCII, and where none is the mask is 0
 
 none_high : (ys : List ℕ) → mask_l (map (leb 128) ys) ≡ 0 → All (λ o. o < 128) ys
 none_high [] h = All-nil (λ o. o < 128)
@@ -22,16 +25,18 @@ high_none (y ∷ ys) h =
     let e : leb 128 y ≡ false = grind (arith, nat_tests) in
     ap (λ b. cond b 1 0 + 2 * mask_l (map (leb 128) ys)) e ∙ (let k = high_none ys (All-tail (λ o. o < 128) y ys h) in omega arith)
 
--- the mask that the code computes
+-- the mask that the code computes, by comparing the lane with sixteen times 0x80
 pub mask_is : (ys : List ℕ) → length ys ≡ 16 → mask_l (map (top 7) (zip2 (λ (a b : ℕ). cond (leb a b) 255 0) (replicate 16 128) ys)) % 2 ^ 64 ≡ mask_l (map (leb 128) ys)
 mask_is ys long =
     ap (λ l. mask_l l % 2 ^ 64) (tops_compared w8 leb (replicate 16 128) ys ∙ zip2_splat_left leb 128 16 ys long)
     ∙ mask_l-mod (map (leb 128) ys) 64 (omega (arith, length-map ys (leb 128)))
 
+-- what the code tests: the mask is 0 exactly where the lane is ASCII
 pub lane_none : (ys : List ℕ) → length ys ≡ 16
     → (mask_l (map (top 7) (zip2 (λ (a b : ℕ). cond (leb a b) 255 0) (replicate 16 128) ys)) % 2 ^ 64 ≡ 0) ↔ All (λ o. o < 128) ys
 lane_none ys long = (λ h. none_high ys (sym (mask_is ys long) ∙ h), λ h. mask_is ys long ∙ high_none ys h)
 
+-- the lowest bit is that of the first octet
 first_of : (ys : List ℕ) → 1 ≤ length ys → (mask_l (map (leb 128) ys) % 2 ≡ 0) ↔ (get_or ys 0 0 < 128)
 first_of [] h = absurd (omega arith)
 first_of (y ∷ ys) h = go (leb 128 y) refl
@@ -40,6 +45,7 @@ first_of (y ∷ ys) h = go (leb 128 y) refl
     go true e = (λ k. absurd (let f = ap (λ b. (cond b 1 0 + 2 * mask_l (map (leb 128) ys)) % 2) e in omega arith), λ k. absurd (grind (arith, nat_tests)))
     go false e = (λ k. grind (arith, nat_tests), λ k. ap (λ b. (cond b 1 0 + 2 * mask_l (map (leb 128) ys)) % 2) e ∙ omega arith)
 
+-- what the code tests next: the mask is even exactly where the octet at hand is ASCII
 pub lane_first : (x : List ℕ) (i : ℕ) → length (take 16 (drop i x)) ≡ 16
     → (mask_l (map (top 7) (zip2 (λ (a b : ℕ). cond (leb a b) 255 0) (replicate 16 128) (take 16 (drop i x)))) % 2 ^ 64 % 2 ≡ 0) ↔ (get_or x i 0 < 128)
 lane_first x i long =

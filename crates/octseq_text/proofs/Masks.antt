@@ -1,4 +1,6 @@
--- Masks of four octets in a word.
+-- Four octets in a word, the first one lowest. A mask of the word is a mask of each octet, and an octet's mask tells its range; what the
+-- code tests of the word so puts each octet in the range that a row of the table gives it. Only this direction is needed: what no mask
+-- accepts is looked at octet by octet.
 use Rattle.std.proofs.Common.{◌≡◌, ◌≢◌, ℕ, zero, suc, ◌+◌, ◌*◌, ◌/◌, ◌%◌, ◌-◌, ◌<◌, ◌≤◌, ◌⊎◌, inl, inr, List, [], ◌∷◌, ap, ◌∙◌, arith, bit_and, bit_or, take, drop, length, get_or, take_all, length-take, length-drop, Fits, w8}
 use Rattle.std.specs.Int.{IsInRange, w32, to_le_bytes, from_le_bytes}
 use lib.Lanes.{Each1}
@@ -9,11 +11,11 @@ use Rattle.std.specs.Int.Bits.{and_zero_r}
 use Rattle.std.proofs.lemmas.Bool.{cases_eq, cases_lt}
 use Rattle.octseq_text.specs.Encoding.{IsEncoding, row_C2_DF, row_E0, row_E1_EC, row_ED, row_EE_EF, row_F0, row_F1_F3, row_F4}
 
--- a mask octet by octet
+-- a mask of a number is one of its lowest octet and one of the rest
 and_2 : (w x a m n : ℕ) → w ≡ x * 256 + a → a < 256 → m < 256 → bit_and w (n * 256 + m) ≡ bit_and x n * 256 + bit_and a m
 and_2 w x a m n e ha hm = ap (λ v. bit_and v (n * 256 + m)) e ∙ and_block 8 x n a m ha hm
 
--- the fields of an octet
+-- the bits of an octet that say its width, or that it is a continuation
 top_2 : (b : ℕ) → b < 256 → bit_and b 0xC0 ≡ b / 64 * 64
 top_2 b h = and_high b 2 6 ∙ omega arith
 
@@ -29,6 +31,7 @@ fifth b = and_high b 1 5
 low_4 : (b : ℕ) → bit_and b 0x0F ≡ b % 16
 low_4 b = and_mask b 4
 
+-- two octets: C2..DF and 80..BF, as one range of the masked word
 pub two : (w a b : ℕ) → a ≡ w % 256 → b ≡ w / 256 % 256 → 0x80C2 ≤ bit_and w 0xC0FF → bit_and w 0xC0FF ≤ 0x80DF → IsEncoding (a ∷ b ∷ [])
 two w a b ea eb low high =
     let ha : a < 256 = omega arith in
@@ -42,6 +45,7 @@ two w a b ea eb low high =
     let tb = top_2 b hb in
     row_C2_DF (omega arith, omega arith) (omega arith, omega arith)
 
+-- the rows of three octets, whose second octet's range depends on E0 and ED
 row_three : (a b c : ℕ) → IsInRange 0xE0 0xEF a → IsInRange 0x80 0xBF b → IsInRange 0x80 0xBF c → (a ≡ 0xE0 → 0xA0 ≤ b) → (a ≡ 0xED → b ≤ 0x9F) → IsEncoding (a ∷ b ∷ c ∷ [])
 row_three a b c ra rb rc e0 ed = go (cases_eq a 0xE0) (cases_eq a 0xED) (cases_lt a 0xED)
   where
@@ -51,6 +55,7 @@ row_three a b c ra rb rc e0 ed = go (cases_eq a 0xE0) (cases_eq a 0xED) (cases_l
     go (inr h) (inr k) (inl l) = row_E1_EC (omega arith, omega arith) rb rc
     go (inr h) (inr k) (inr l) = row_EE_EF (omega arith, omega arith) rb rc
 
+-- three octets: the masked word is that of the row, and the bits that E0 and ED look at are neither all 0 nor those of a surrogate
 pub three : (w a b c : ℕ) → a ≡ w % 256 → b ≡ w / 256 % 256 → c ≡ w / 65536 % 256 → bit_and w 0xC0C0F0 ≡ 0x8080E0 → bit_and w 0x200F ≢ 0 → bit_and w 0x200F ≢ 0x200D → IsEncoding (a ∷ b ∷ c ∷ [])
 three w a b c ea eb ec h k l =
     let ha : a < 256 = omega arith in
@@ -73,6 +78,7 @@ three w a b c ea eb ec h k l =
     let fb = fifth b in
     row_three a b c (omega arith, omega arith) (omega arith, omega arith) (omega arith, omega arith) (λ q. omega arith) (λ q. omega arith)
 
+-- the rows of four octets, whose second octet's range depends on F0 and F4
 row_four : (a b c d : ℕ) → IsInRange 0xF0 0xF4 a → IsInRange 0x80 0xBF b → IsInRange 0x80 0xBF c → IsInRange 0x80 0xBF d → (a ≡ 0xF0 → 0x90 ≤ b) → (a ≡ 0xF4 → b ≤ 0x8F) → IsEncoding (a ∷ b ∷ c ∷ d ∷ [])
 row_four a b c d ra rb rc rd f0 f4 = go (cases_eq a 0xF0) (cases_eq a 0xF4)
   where
@@ -89,6 +95,8 @@ high_is w =
     ap (λ k. bit_or k (bit_and (w / 256) 63)) (let g : bit_and w 7 * 256 % 4294967296 ≡ (w % 8) * 256 = omega arith in g)
     ∙ ap (λ k. bit_or ((w % 8) * 256) k) f ∙ or_shifted (w % 8) 8 (w / 256 % 64) (omega arith)
 
+-- four octets: the masked word is that of the row, and the bits of the first two octets are a number from 0x10 to 0x40F, that is a character from
+-- U+10000 to U+10FFFF
 pub four : (w a b c d : ℕ) → a ≡ w % 256 → b ≡ w / 256 % 256 → c ≡ w / 65536 % 256 → d ≡ w / 16777216 % 256 → bit_and w 0xC0C0C0F8 ≡ 0x808080F0
     → (bit_or (bit_and w 7 * 256 % 4294967296) (bit_and (w / 256) 63) + 4294967280) % 4294967296 < 1024 → IsEncoding (a ∷ b ∷ c ∷ d ∷ [])
 four w a b c d ea eb ec ed h k =
