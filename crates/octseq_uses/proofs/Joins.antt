@@ -1,0 +1,48 @@
+-- What is still to come of joined words.
+use Rattle.std.proofs.Common.{◌≡◌, ℕ, suc, ◌<◌, ◌≤◌, List, ◌∷◌, ◌++◌, length, drop, map, get_or, sym, ap, ◌∙◌, append_assoc}
+use Rattle.std.proofs.Math.ListN.{drop_of_length-le}
+use Rattle.std.proofs.Math.Seq.{drop-cons}
+use Rattle.std.proofs.lemmas.List.{append-nil}
+use Rattle.std.specs.List.{flat_map}
+use Rattle.std.specs.Prelude.{Result, Ok, Err, OnErr}
+use Rattle.octseq_uses.specs.Joined.{joined}
+
+-- the words, each behind a separator
+abbrev pub spread : List ℕ → List (List ℕ) → List ℕ
+spread separator words = flat_map (λ other. separator ++ other) words
+
+-- words of which those from a place on are still to come
+abbrev pub ToCome : {W : Type 0} → (W → List ℕ) → List ℕ → List W → ℕ → List ℕ → List ℕ → Type 0
+ToCome show separator others place text all = text ++ spread separator (map show (drop place others)) ≡ all
+
+pub to_come_first : {W : Type 0} (show : W → List ℕ) (separator old text : List ℕ) (words others : List W) (first : W) → words ≡ first ∷ others → text ≡ old ++ show first
+    → ToCome show separator others 0 text (old ++ joined separator (map show words))
+to_come_first show separator old text words others first split e =
+    ap (λ t. t ++ spread separator (map show others)) e ∙ append_assoc old (show first) (spread separator (map show others))
+    ∙ ap (λ ws. old ++ joined separator (map show ws)) (sym split)
+
+pub to_come_word : {W : Type 0} (show : W → List ℕ) (separator text between all : List ℕ) (others : List W) (default : W) (i : ℕ) → i < length others
+    → ToCome show separator others i text all → between ≡ text ++ separator
+    → between ++ (show (get_or others i default) ++ spread separator (map show (drop (suc i) others))) ≡ all
+to_come_word show separator text between all others default i within so_far e =
+    let word = get_or others i default in
+    let more = spread separator (map show (drop (suc i) others)) in
+    ap (λ t. t ++ (show word ++ more)) e ∙ append_assoc text separator (show word ++ more) ∙ ap (λ x. text ++ x) (sym (append_assoc separator (show word) more))
+    ∙ ap (λ ws. text ++ spread separator (map show ws)) (sym (drop-cons others i default within)) ∙ so_far
+
+pub to_come_next : {W : Type 0} (show : W → List ℕ) (separator text between made all : List ℕ) (others : List W) (default : W) (i next : ℕ) → i < length others → next ≡ suc i
+    → ToCome show separator others i text all → between ≡ text ++ separator → made ≡ between ++ show (get_or others i default) → ToCome show separator others next made all
+to_come_next show separator text between made all others default i next within step so_far e f =
+    let word = get_or others i default in
+    let more = spread separator (map show (drop (suc i) others)) in
+    ap (λ n. made ++ spread separator (map show (drop n others))) step ∙ ap (λ t. t ++ more) f ∙ append_assoc between (show word) more
+    ∙ to_come_word show separator text between all others default i within so_far e
+
+pub on_err : {T E : Type 0} {P : Type 0} (result : Result T E) → P → OnErr result P
+on_err (Ok value) p = tt
+on_err (Err e) p = p
+
+pub to_come_none : {W : Type 0} (show : W → List ℕ) (separator text all : List ℕ) (others : List W) (i : ℕ) → length others ≤ i
+    → ToCome show separator others i text all → text ≡ all
+to_come_none show separator text all others i past so_far =
+    sym (append-nil text) ∙ ap (λ ws. text ++ spread separator (map show ws)) (sym (drop_of_length-le others past)) ∙ so_far

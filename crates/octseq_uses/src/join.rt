@@ -1,0 +1,34 @@
+//! Words joined in a text.
+ghost use Rattle.std.specs.Prelude.{◌≡◌, ◌++◌, true, map, List, ℕ, OnOk, OnErr};
+ghost use Rattle.octseq_core.specs.Refusal.{IsMemory};
+ghost use Rattle.octseq_uses.specs.Joined.{joined};
+
+use octseq::StrBuilder;
+use octseq::builder::{AppendError, OctetsBuilder};
+
+/// Appends the words, with the separator between each two of them.
+///
+/// # Errors
+///
+/// As `try_push_str`. The text then ends with a front of what was to be appended.
+pub fn join<B: OctetsBuilder>(
+    text: &mut StrBuilder<B>,
+    words: &[&str],
+    separator: &str,
+) -> Result<(), AppendError>
+    ensures ok { OnOk result (B.content text.new
+        ≡ B.content text.old ++ joined separator.now (map (λ word. word.now) words.now)) }
+    ensures memory { IsMemory result → B.asks ≡ true }
+    ensures front { OnErr result ((cut : List ℕ) × (B.content text.new ++ cut
+        ≡ B.content text.old ++ joined separator.now (map (λ word. word.now) words.now))) }
+{
+    let Some((first, others)) = words.split_first() else {
+        return Ok(());
+    };
+    text.try_push_str(first)?;
+    for word in others {
+        text.try_push_str(separator)?;
+        text.try_push_str(word)?;
+    }
+    Ok(())
+}

@@ -1,0 +1,12 @@
+//! Callers of the crate octseq, proved from its public contracts, and from what a parser's holder knows of its
+//! window.
+//!
+//! Each module is what an outside crate would write: its code sees no private field, and its contracts speak
+//! of lists of octets.
+#![tactic(auto)]
+
+pub mod join;
+pub mod records;
+pub mod swap;
+#[cfg(test)]
+mod tests;

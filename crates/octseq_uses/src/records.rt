@@ -1,0 +1,116 @@
+//! Records: a key and a value each, one behind another.
+ghost use Rattle.std.specs.Prelude.{◌≡◌, ℕ, ◌+◌, ◌<◌, ◌++◌, ◌↔◌, true, length, map, List, Err, IfOk, OnOk, OnErr};
+ghost use Rattle.octseq_core.specs.Limit.{IsPast};
+ghost use Rattle.octseq.specs.Composer.{IsPartTooLong, IsPartShort, IsPartMemory};
+ghost use Rattle.octseq.specs.Integer.{octets_be};
+ghost use Rattle.octseq.specs.Parser.{window};
+ghost use Rattle.octseq.specs.Window.{left, rest};
+ghost use Rattle.octseq_uses.specs.Record.{record_of, IsRecord, AreRecords, HasRecord};
+
+use octseq::builder::{OctetsBuilder, Truncate};
+use octseq::compose::{ComposeError, append_part_u8, append_u16_be};
+use octseq::parse::{self, ParseOctetsError};
+use octseq::{Octets, Parser};
+use std::alloc::Global;
+
+/// A record that was read.
+#[derive(Drop)]
+pub struct Record<V> {
+    /// The key.
+    pub key: u16,
+    /// The octets of the value.
+    pub value: V,
+}
+
+/// Why octets were not read as records.
+#[derive(Clone, Copy, Debug, PartialEq, Eq)]
+pub enum ReadError {
+    /// They are not the octets of any records.
+    Cut,
+    /// A request for memory was refused.
+    Memory,
+}
+
+/// Appends a record: the key in 2 octets, big-endian, the length of the value in one octet, and the value.
+///
+/// # Errors
+///
+/// `TooLong` where the value has more than 255 octets. Else `Short` only where the content, with the whole
+/// record behind it, would pass the limit of its type, and `Memory` only where a request for memory was
+/// refused. The content is then as it was.
+pub fn append_record<B: OctetsBuilder + Truncate>(
+    builder: &mut B,
+    key: u16,
+    value: &[u8],
+) -> Result<(), ComposeError>
+    ensures ok { OnOk result (B.content builder.new ≡ B.content builder.old ++ record_of key value.now) }
+    ensures err { OnErr result (B.content builder.new ≡ B.content builder.old) }
+    ensures too_long { IsPartTooLong result ↔ (255 < length value.now) }
+    ensures short { IsPartShort result
+        → IsPast B.limit (length (B.content builder.old) + length (record_of key value.now)) }
+    ensures memory { IsPartMemory result → B.asks ≡ true }
+    ensures borrows { B.borrows builder.new ≡ B.borrows builder.old }
+{
+    if value.len() > 255 {
+        return Err(ComposeError::TooLong);
+    }
+    let before = builder.as_ref().len();
+    append_u16_be(builder, key)?;
+    let appended = append_part_u8(builder, value);
+    if appended.is_err() {
+        builder.truncate(before);
+    }
+    appended
+}
+
+/// The key and the length that three octets stand for.
+fn opened(head: &[u8; 3]) -> (u16, u8)
+    ensures { octets_be 2 result.0 ++ octets_be 1 result.1 ≡ head.now }
+{
+    (u16::from_be_bytes([head[0], head[1]]), head[2])
+}
+
+/// Takes the next record.
+fn next_record<R: Octets>(parser: &mut Parser<R>) -> Result<Record<R::Range>, ReadError>
+    ensures fits { IfOk result (λ read. IsRecord (read.key, R.Range.content read.value)) }
+    ensures taken { IfOk result (λ read. rest (window parser.old)
+        ≡ record_of read.key (R.Range.content read.value) ++ rest (window parser.new)) }
+    ensures less { OnOk result (left (window parser.new) < left (window parser.old)) }
+    ensures cut { result ≡ Err ReadError.Cut → ¬ HasRecord (rest (window parser.old)) }
+{
+    parse::nothing_is_lost();
+    let mut head = [0; 3];
+    let Ok(()) = parser.parse_buf(&mut head) else {
+        return Err(ReadError::Cut);
+    };
+    let (key, len) = opened(&head);
+    match parser.parse_octets(usize::from(len)) {
+        Ok(value) => Ok(Record { key, value }),
+        Err(ParseOctetsError::Short(_)) => Err(ReadError::Cut),
+        Err(ParseOctetsError::Memory) => Err(ReadError::Memory),
+    }
+}
+
+/// Reads all of the octets as records, one behind another: each a key in 2 octets, big-endian, and a value
+/// behind its length in one octet.
+///
+/// # Errors
+///
+/// `Cut` where the octets are not those of any records, and `Memory` only where a request for memory was
+/// refused.
+pub fn read_records<R: Octets>(alloc: Global, octets: R) -> Result<Vec<Record<R::Range>>, ReadError>
+    ensures ok { IfOk result (λ records. AreRecords (R.content octets)
+        (map (λ read. (read.key, R.Range.content read.value)) records.items)) }
+    ensures cut { result ≡ Err ReadError.Cut
+        → (records : List (ℕ × List ℕ)) → ¬ AreRecords (R.content octets) records }
+{
+    let mut parser = Parser::from_ref(octets);
+    let mut records = Vec::new(alloc);
+    while parser.remaining() > 0 {
+        let read = next_record(&mut parser)?;
+        if records.push(read).is_err() {
+            return Err(ReadError::Memory);
+        }
+    }
+    Ok(records)
+}

@@ -1,0 +1,24 @@
+//! One theorem for every builder: to take another builder changes no clause.
+ghost use Rattle.std.specs.Prelude.{◌≡◌, ◌+◌, ◌++◌, true, length, IfOk};
+ghost use Rattle.octseq_core.specs.Limit.{IsPast};
+ghost use Rattle.octseq_core.specs.Refusal.{IsShort, IsMemory};
+
+use octseq::builder::{AppendError, EmptyBuilder};
+use std::alloc::Global;
+
+/// A builder with the octets of both slices, the second behind the first.
+///
+/// # Errors
+///
+/// `Short` only where both together pass the limit of the type, and `Memory` only where a request for memory
+/// was refused.
+pub fn paired<B: EmptyBuilder>(alloc: Global, first: &[u8], second: &[u8]) -> Result<B, AppendError>
+    ensures ok { IfOk result (λ builder. B.content builder ≡ first.now ++ second.now) }
+    ensures short { IsShort result → IsPast B.limit (length first.now + length second.now) }
+    ensures memory { IsMemory result → B.asks ≡ true }
+{
+    let mut builder = B::empty(alloc)?;
+    builder.append_slice(first)?;
+    builder.append_slice(second)?;
+    Ok(builder)
+}
