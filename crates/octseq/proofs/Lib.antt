@@ -5,3 +5,4 @@ pub mod Steps
 pub mod Values
 pub mod Windows
 pub mod Written
+pub mod WrittenBack

@@ -14,7 +14,7 @@ use Rattle.octseq_core.specs.declared.builder.AppendError.{AppendError}
 use Rattle.octseq.specs.Composer.{AreOctetsOf, Appends}
 use Rattle.octseq.specs.Integer.{sum_of_first, be, le, signed, octets_be, octets_le, IsSigned, unsigned}
 
-positive : (k : ℕ) → 0 < 256 ^ k
+pub positive : (k : ℕ) → 0 < 256 ^ k
 positive zero = omega arith
 positive (suc k) = let p = positive k in let e = pow-suc 256 k in omega arith
 
@@ -41,7 +41,7 @@ scaled (suc k) f =
 
 -- ---- the value of one octet more
 
-be_nil : be [] ≡ 0
+pub be_nil : be [] ≡ 0
 unfolding be
 be_nil = refl
 
@@ -49,7 +49,7 @@ le_nil : le [] ≡ 0
 unfolding le
 le_nil = refl
 
-be_cons : (x : ℕ) (xs : List ℕ) → be (x ∷ xs) ≡ x * 256 ^ length xs + be xs
+pub be_cons : (x : ℕ) (xs : List ℕ) → be (x ∷ xs) ≡ x * 256 ^ length xs + be xs
 unfolding be
 be_cons x xs =
     let n = length xs in
@@ -79,7 +79,7 @@ le_snoc (a ∷ xs) x =
 reverse_cons : (x : ℕ) (xs : List ℕ) → reverse (x ∷ xs) ≡ reverse xs ++ x ∷ []
 reverse_cons x xs = reverse-append (x ∷ []) xs
 
-le_reverse : (xs : List ℕ) → le (reverse xs) ≡ be xs
+pub le_reverse : (xs : List ℕ) → le (reverse xs) ≡ be xs
 le_reverse [] = le_nil ∙ sym be_nil
 le_reverse (x ∷ xs) =
     let before : le (reverse xs) ≡ be xs = le_reverse xs in
@@ -134,7 +134,7 @@ each_snoc : (xs : List ℕ) (x : ℕ) → AllByRecursion (λ octet. octet < 256)
 each_snoc [] x each small = (small, tt)
 each_snoc (a ∷ xs) x (first, each) small = (first, each_snoc xs x each small)
 
-each_reverse : (xs : List ℕ) → AllByRecursion (λ octet. octet < 256) xs → AllByRecursion (λ octet. octet < 256) (reverse xs)
+pub each_reverse : (xs : List ℕ) → AllByRecursion (λ octet. octet < 256) xs → AllByRecursion (λ octet. octet < 256) (reverse xs)
 each_reverse [] each = tt
 each_reverse (x ∷ xs) (small, each) = rw (reverse_cons x xs) (each_snoc (reverse xs) x (each_reverse xs each) small)
 

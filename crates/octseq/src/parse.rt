@@ -123,7 +123,8 @@ impl<R: AsOctets> Parser<R> {
 
     /// The position, counted from the first octet of the sequence.
     pub fn pos(&self) -> usize
-        ensures { result ≡ (window self.now).position }
+        ensures position { result ≡ (window self.now).position }
+        ensures ordered { result ≤ (window self.now).end }
     {
         self.pos
     }
@@ -131,7 +132,8 @@ impl<R: AsOctets> Parser<R> {
     /// The window's end, counted from the first octet of the sequence. How many octets are left is what
     /// [`remaining`](Self::remaining) tells.
     pub fn len(&self) -> usize
-        ensures { result ≡ (window self.now).end }
+        ensures end { result ≡ (window self.now).end }
+        ensures within { result ≤ length (window self.now).octets }
     {
         self.len
     }
@@ -145,14 +147,16 @@ impl<R: AsOctets> Parser<R> {
 
     /// The octets from the first one of the sequence to the window's end, wherever the position is.
     pub fn as_slice(&self) -> &[u8]
-        ensures { result.now ≡ front (window self.now) }
+        ensures content { result.now ≡ front (window self.now) }
+        ensures length { length result.now ≡ (window self.now).end }
     {
         &self.octets.as_ref()[..self.len]
     }
 
     /// How many octets are left.
     pub fn remaining(&self) -> usize
-        ensures { result ≡ left (window self.now) }
+        ensures left { result ≡ left (window self.now) }
+        ensures rest { result ≡ length (rest (window self.now)) }
     {
         self.len - self.pos
     }
@@ -165,6 +169,7 @@ impl<R: AsOctets> Parser<R> {
     pub fn peek(&self, len: usize) -> Result<&[u8], ShortInput>
         ensures variant { IsOk result ↔ (len ≤ left (window self.now)) }
         ensures ok { IfOk result (λ octets. octets.now ≡ next len (window self.now)) }
+        ensures length { IfOk result (λ octets. length octets.now ≡ len) }
     {
         Ok(&self.octets.as_ref()[self.pos..self.place_past(len)?])
     }
@@ -251,6 +256,7 @@ impl<R: AsOctets> Parser<R> {
         ensures short { IsShort result ↔ (left (window self.old) < len) }
         ensures memory { IsMemory result → R.Range.asks ≡ true }
         ensures value { IfOk result (λ range. R.Range.content range ≡ next len (window self.old)) }
+        ensures length { IfOk result (λ range. length (R.Range.content range) ≡ len) }
         ensures ok { OnOk result (window self.new ≡ past len (window self.old)) }
         ensures err { OnErr result (window self.new ≡ window self.old) }
         ensures same { sequence self.new ≡ sequence self.old }

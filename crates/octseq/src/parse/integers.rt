@@ -1,28 +1,39 @@
 //! The integers that the next octets stand for.
-ghost use Rattle.std.specs.Prelude.{◌≡◌, IfOk};
+ghost use Rattle.std.specs.Prelude.{◌≡◌, ◌<◌, ◌≤◌, ◌↔◌, length, take, IsSome, IfSome, IfOk};
+ghost use Rattle.std.specs.List.{AllByRecursion};
 ghost use Rattle.octseq.specs.Window.{next};
-ghost use Rattle.octseq.specs.Integer.{be, le, signed};
+ghost use Rattle.octseq.specs.Integer.{be, le, signed, octets_be, octets_le, unsigned};
 ghost use Rattle.octseq.specs.Parser.{window, Takes};
 
 use super::{Parser, ShortInput};
 use octseq_core::builder::AsOctets;
 
-/// Each call takes as many octets as its integer has, and gives their value in the order that its name says.
+/// The first `N` of the octets.
+fn first_octets<const N: usize>(octets: &[u8]) -> Option<[u8; N]>
+    ensures variant { IsSome result ↔ (N ≤ length octets.now) }
+    ensures some { IfSome result (λ first. first ≡ take N octets.now) }
+    ensures each { IfSome result (λ first. AllByRecursion (λ octet. octet < 256) first) }
+{
+    Some(*octets.first_chunk()?)
+}
+
+/// Each call takes as many octets as its integer has, and gives their value in the order that its name says:
+/// they are the octets that the call of that name in [`compose`](crate::compose) appends of it.
 ///
 /// # Errors
 ///
 /// `ShortInput` where fewer octets are left. The parser is then as it was.
-#[tactic(auto, using(crate::proofs::Values::values, crate::proofs::Windows::next_of_rest))]
+#[tactic(auto, using(crate::proofs::Values::values, crate::proofs::WrittenBack::back, crate::proofs::Windows::next_of_rest))]
 impl<R: AsOctets> Parser<R> {
     /// The next `N` octets.
     fn parse_array<const N: usize>(&mut self) -> Result<[u8; N], ShortInput>
         ensures taken { Takes result N self.old self.new }
         ensures value { IfOk result (λ octets. octets ≡ next N (window self.old)) }
+        ensures each { IfOk result (λ octets. AllByRecursion (λ octet. octet < 256) octets) }
     {
-        let Some(octets) = self.peek_all().first_chunk() else {
+        let Some(octets) = first_octets(self.peek_all()) else {
             return Err(ShortInput);
         };
-        let octets = *octets;
         self.pos += N;
         Ok(octets)
     }
@@ -31,6 +42,7 @@ impl<R: AsOctets> Parser<R> {
     pub fn parse_i8(&mut self) -> Result<i8, ShortInput>
         ensures taken { Takes result 1 self.old self.new }
         ensures value { IfOk result (λ value. value ≡ signed 1 (be (next 1 (window self.old)))) }
+        ensures octets { IfOk result (λ value. octets_be 1 (unsigned 1 value) ≡ next 1 (window self.old)) }
     {
         Ok(self.parse_u8()?.cast_signed())
     }
@@ -39,6 +51,7 @@ impl<R: AsOctets> Parser<R> {
     pub fn parse_u8(&mut self) -> Result<u8, ShortInput>
         ensures taken { Takes result 1 self.old self.new }
         ensures value { IfOk result (λ value. value ≡ be (next 1 (window self.old))) }
+        ensures octets { IfOk result (λ value. octets_be 1 value ≡ next 1 (window self.old)) }
     {
         Ok(u8::from_be_bytes(self.parse_array()?))
     }
@@ -47,6 +60,7 @@ impl<R: AsOctets> Parser<R> {
     pub fn parse_i16_be(&mut self) -> Result<i16, ShortInput>
         ensures taken { Takes result 2 self.old self.new }
         ensures value { IfOk result (λ value. value ≡ signed 2 (be (next 2 (window self.old)))) }
+        ensures octets { IfOk result (λ value. octets_be 2 (unsigned 2 value) ≡ next 2 (window self.old)) }
     {
         Ok(self.parse_u16_be()?.cast_signed())
     }
@@ -55,6 +69,7 @@ impl<R: AsOctets> Parser<R> {
     pub fn parse_i16_le(&mut self) -> Result<i16, ShortInput>
         ensures taken { Takes result 2 self.old self.new }
         ensures value { IfOk result (λ value. value ≡ signed 2 (le (next 2 (window self.old)))) }
+        ensures octets { IfOk result (λ value. octets_le 2 (unsigned 2 value) ≡ next 2 (window self.old)) }
     {
         Ok(self.parse_u16_le()?.cast_signed())
     }
@@ -63,6 +78,7 @@ impl<R: AsOctets> Parser<R> {
     pub fn parse_u16_be(&mut self) -> Result<u16, ShortInput>
         ensures taken { Takes result 2 self.old self.new }
         ensures value { IfOk result (λ value. value ≡ be (next 2 (window self.old))) }
+        ensures octets { IfOk result (λ value. octets_be 2 value ≡ next 2 (window self.old)) }
     {
         Ok(u16::from_be_bytes(self.parse_array()?))
     }
@@ -71,6 +87,7 @@ impl<R: AsOctets> Parser<R> {
     pub fn parse_u16_le(&mut self) -> Result<u16, ShortInput>
         ensures taken { Takes result 2 self.old self.new }
         ensures value { IfOk result (λ value. value ≡ le (next 2 (window self.old))) }
+        ensures octets { IfOk result (λ value. octets_le 2 value ≡ next 2 (window self.old)) }
     {
         Ok(u16::from_le_bytes(self.parse_array()?))
     }
@@ -79,6 +96,7 @@ impl<R: AsOctets> Parser<R> {
     pub fn parse_i32_be(&mut self) -> Result<i32, ShortInput>
         ensures taken { Takes result 4 self.old self.new }
         ensures value { IfOk result (λ value. value ≡ signed 4 (be (next 4 (window self.old)))) }
+        ensures octets { IfOk result (λ value. octets_be 4 (unsigned 4 value) ≡ next 4 (window self.old)) }
     {
         Ok(self.parse_u32_be()?.cast_signed())
     }
@@ -87,6 +105,7 @@ impl<R: AsOctets> Parser<R> {
     pub fn parse_i32_le(&mut self) -> Result<i32, ShortInput>
         ensures taken { Takes result 4 self.old self.new }
         ensures value { IfOk result (λ value. value ≡ signed 4 (le (next 4 (window self.old)))) }
+        ensures octets { IfOk result (λ value. octets_le 4 (unsigned 4 value) ≡ next 4 (window self.old)) }
     {
         Ok(self.parse_u32_le()?.cast_signed())
     }
@@ -95,6 +114,7 @@ impl<R: AsOctets> Parser<R> {
     pub fn parse_u32_be(&mut self) -> Result<u32, ShortInput>
         ensures taken { Takes result 4 self.old self.new }
         ensures value { IfOk result (λ value. value ≡ be (next 4 (window self.old))) }
+        ensures octets { IfOk result (λ value. octets_be 4 value ≡ next 4 (window self.old)) }
     {
         Ok(u32::from_be_bytes(self.parse_array()?))
     }
@@ -103,6 +123,7 @@ impl<R: AsOctets> Parser<R> {
     pub fn parse_u32_le(&mut self) -> Result<u32, ShortInput>
         ensures taken { Takes result 4 self.old self.new }
         ensures value { IfOk result (λ value. value ≡ le (next 4 (window self.old))) }
+        ensures octets { IfOk result (λ value. octets_le 4 value ≡ next 4 (window self.old)) }
     {
         Ok(u32::from_le_bytes(self.parse_array()?))
     }
@@ -111,6 +132,7 @@ impl<R: AsOctets> Parser<R> {
     pub fn parse_i64_be(&mut self) -> Result<i64, ShortInput>
         ensures taken { Takes result 8 self.old self.new }
         ensures value { IfOk result (λ value. value ≡ signed 8 (be (next 8 (window self.old)))) }
+        ensures octets { IfOk result (λ value. octets_be 8 (unsigned 8 value) ≡ next 8 (window self.old)) }
     {
         Ok(self.parse_u64_be()?.cast_signed())
     }
@@ -119,6 +141,7 @@ impl<R: AsOctets> Parser<R> {
     pub fn parse_i64_le(&mut self) -> Result<i64, ShortInput>
         ensures taken { Takes result 8 self.old self.new }
         ensures value { IfOk result (λ value. value ≡ signed 8 (le (next 8 (window self.old)))) }
+        ensures octets { IfOk result (λ value. octets_le 8 (unsigned 8 value) ≡ next 8 (window self.old)) }
     {
         Ok(self.parse_u64_le()?.cast_signed())
     }
@@ -127,6 +150,7 @@ impl<R: AsOctets> Parser<R> {
     pub fn parse_u64_be(&mut self) -> Result<u64, ShortInput>
         ensures taken { Takes result 8 self.old self.new }
         ensures value { IfOk result (λ value. value ≡ be (next 8 (window self.old))) }
+        ensures octets { IfOk result (λ value. octets_be 8 value ≡ next 8 (window self.old)) }
     {
         Ok(u64::from_be_bytes(self.parse_array()?))
     }
@@ -135,6 +159,7 @@ impl<R: AsOctets> Parser<R> {
     pub fn parse_u64_le(&mut self) -> Result<u64, ShortInput>
         ensures taken { Takes result 8 self.old self.new }
         ensures value { IfOk result (λ value. value ≡ le (next 8 (window self.old))) }
+        ensures octets { IfOk result (λ value. octets_le 8 value ≡ next 8 (window self.old)) }
     {
         Ok(u64::from_le_bytes(self.parse_array()?))
     }
@@ -143,6 +168,7 @@ impl<R: AsOctets> Parser<R> {
     pub fn parse_i128_be(&mut self) -> Result<i128, ShortInput>
         ensures taken { Takes result 16 self.old self.new }
         ensures value { IfOk result (λ value. value ≡ signed 16 (be (next 16 (window self.old)))) }
+        ensures octets { IfOk result (λ value. octets_be 16 (unsigned 16 value) ≡ next 16 (window self.old)) }
     {
         Ok(self.parse_u128_be()?.cast_signed())
     }
@@ -151,6 +177,7 @@ impl<R: AsOctets> Parser<R> {
     pub fn parse_i128_le(&mut self) -> Result<i128, ShortInput>
         ensures taken { Takes result 16 self.old self.new }
         ensures value { IfOk result (λ value. value ≡ signed 16 (le (next 16 (window self.old)))) }
+        ensures octets { IfOk result (λ value. octets_le 16 (unsigned 16 value) ≡ next 16 (window self.old)) }
     {
         Ok(self.parse_u128_le()?.cast_signed())
     }
@@ -159,6 +186,7 @@ impl<R: AsOctets> Parser<R> {
     pub fn parse_u128_be(&mut self) -> Result<u128, ShortInput>
         ensures taken { Takes result 16 self.old self.new }
         ensures value { IfOk result (λ value. value ≡ be (next 16 (window self.old))) }
+        ensures octets { IfOk result (λ value. octets_be 16 value ≡ next 16 (window self.old)) }
     {
         Ok(u128::from_be_bytes(self.parse_array()?))
     }
@@ -167,6 +195,7 @@ impl<R: AsOctets> Parser<R> {
     pub fn parse_u128_le(&mut self) -> Result<u128, ShortInput>
         ensures taken { Takes result 16 self.old self.new }
         ensures value { IfOk result (λ value. value ≡ le (next 16 (window self.old))) }
+        ensures octets { IfOk result (λ value. octets_le 16 value ≡ next 16 (window self.old)) }
     {
         Ok(u128::from_le_bytes(self.parse_array()?))
     }

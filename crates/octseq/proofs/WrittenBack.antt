@@ -1,0 +1,111 @@
+-- Octets are those of the integer that they stand for.
+use Rattle.std.proofs.Common.{◌≡◌, ℕ, zero, suc, ◌+◌, ◌*◌, ◌^◌, ◌/◌, ◌%◌, ◌<◌, List, [], ◌∷◌, length, reverse, refl, sym, ap, ◌∙◌, subst, arith}
+use Rattle.std.proofs.lemmas.Int.{ints}
+use Rattle.std.proofs.lemmas.List.{reverse-reverse, length-reverse}
+use Rattle.std.proofs.lemmas.Nat.{div-mul-add, mul-add-lt}
+use Rattle.std.proofs.Math.Nat.{pow-suc, mul_comm, mul_assoc, mul-add-div_right}
+use Rattle.std.specs.Int.{w8, w16, w32, w64, w128, from_be_bytes, from_le_bytes, cast_signed}
+use Rattle.std.specs.List.{AllByRecursion}
+use Rattle.std.specs.Prelude.{slice_index}
+use Rattle.octseq.specs.Integer.{be, le, octets_be, octets_le, unsigned}
+use Rattle.octseq.proofs.Values.{be_1, be_2, le_2, be_4, le_4, be_8, le_8, be_16, le_16}
+use Rattle.octseq.proofs.Written.{positive, be_nil, be_cons, le_reverse, each_reverse}
+
+abbrev pub AreOctets : List ℕ → Type 0
+AreOctets xs = AllByRecursion (λ octet. octet < 256) xs
+
+small_be : (xs : List ℕ) → AreOctets xs → be xs < 256 ^ length xs
+small_be [] each = omega (arith, be_nil)
+small_be (x ∷ xs) (small, each) =
+    let n = length xs in
+    let rest : be xs < 256 ^ n = small_be xs each in
+    let more : x * 256 ^ n + be xs < 256 ^ n * 256 = mul-add-lt x (256 ^ n) (be xs) 256 small rest in
+    let power : 256 ^ suc n ≡ 256 ^ n * 256 = pow-suc 256 n in
+    let cons : be (x ∷ xs) ≡ x * 256 ^ n + be xs = be_cons x xs in
+    omega (arith, more, power, cons)
+
+-- what counts 256 ^ k or more has no place in k octets
+low_octets : (k a n : ℕ) → octets_be k (a * 256 ^ k + n) ≡ octets_be k n
+unfolding octets_be
+low_octets zero a n = refl
+low_octets (suc k) a n =
+    let scaled : a * 256 ^ suc k ≡ a * 256 * 256 ^ k = ap (λ p. a * p) (pow-suc 256 k ∙ mul_comm (256 ^ k) 256) ∙ sym (mul_assoc a 256 (256 ^ k)) in
+    let digit : (a * 256 * 256 ^ k + n) / 256 ^ k ≡ a * 256 + n / 256 ^ k = mul-add-div_right (positive k) (a * 256) n in
+    let first : (a * 256 * 256 ^ k + n) / 256 ^ k % 256 ≡ n / 256 ^ k % 256 = omega (arith, digit) in
+    let rest : octets_be k (a * 256 * 256 ^ k + n) ≡ octets_be k n = low_octets k (a * 256) n in
+    ap (λ s. (s + n) / 256 ^ k % 256 ∷ octets_be k (s + n)) scaled ∙ ap (λ x. x ∷ octets_be k (a * 256 * 256 ^ k + n)) first ∙ ap (λ xs. n / 256 ^ k % 256 ∷ xs) rest
+
+pub back_be : (xs : List ℕ) → AreOctets xs → octets_be (length xs) (be xs) ≡ xs
+unfolding octets_be
+back_be [] each = refl
+back_be (x ∷ xs) (small, each) =
+    let n = length xs in
+    let cons : be (x ∷ xs) ≡ x * 256 ^ n + be xs = be_cons x xs in
+    let digit : (x * 256 ^ n + be xs) / 256 ^ n ≡ x = div-mul-add x (256 ^ n) (be xs) (small_be xs each) in
+    let first : (x * 256 ^ n + be xs) / 256 ^ n % 256 ≡ x = omega (arith, digit, small) in
+    ap (octets_be (suc n)) cons ∙ ap (λ y. y ∷ octets_be n (x * 256 ^ n + be xs)) first ∙ ap (λ ys. x ∷ ys) (low_octets n x (be xs) ∙ back_be xs each)
+
+pub back_le : (xs : List ℕ) → AreOctets xs → octets_le (length xs) (le xs) ≡ xs
+unfolding octets_le
+back_le xs each =
+    let turned : le xs ≡ be (reverse xs) = ap le (sym (reverse-reverse xs)) ∙ le_reverse (reverse xs) in
+    let count : length xs ≡ length (reverse xs) = sym (length-reverse xs) in
+    ap (λ n. reverse (octets_be (length xs) n)) turned ∙ ap (λ k. reverse (octets_be k (be (reverse xs)))) count
+    ∙ ap reverse (back_be (reverse xs) (each_reverse xs each)) ∙ reverse-reverse xs
+
+as_be : (k : ℕ) (xs : List ℕ) → length xs ≡ k → AreOctets xs → octets_be k (be xs) ≡ xs
+as_be k xs many each = subst (λ k. octets_be k (be xs) ≡ xs) many (back_be xs each)
+
+as_le : (k : ℕ) (xs : List ℕ) → length xs ≡ k → AreOctets xs → octets_le k (le xs) ≡ xs
+as_le k xs many each = subst (λ k. octets_le k (le xs) ≡ xs) many (back_le xs each)
+
+-- ---- the widths that integers have
+
+pub back_be_1 : (xs : List ℕ) → length xs ≡ 1 → AreOctets xs → octets_be 1 (slice_index xs 0) ≡ xs
+back_be_1 xs many each = ap (octets_be 1) (be_1 xs many) ∙ as_be 1 xs many each
+
+pub back_be_2 : (xs : List ℕ) → length xs ≡ 2 → AreOctets xs → octets_be 2 (from_be_bytes w16 xs) ≡ xs
+back_be_2 xs many each = ap (octets_be 2) (be_2 xs many) ∙ as_be 2 xs many each
+
+pub back_le_2 : (xs : List ℕ) → length xs ≡ 2 → AreOctets xs → octets_le 2 (from_le_bytes w16 xs) ≡ xs
+back_le_2 xs many each = ap (octets_le 2) (le_2 xs many) ∙ as_le 2 xs many each
+
+pub back_be_4 : (xs : List ℕ) → length xs ≡ 4 → AreOctets xs → octets_be 4 (from_be_bytes w32 xs) ≡ xs
+back_be_4 xs many each = ap (octets_be 4) (be_4 xs many) ∙ as_be 4 xs many each
+
+pub back_le_4 : (xs : List ℕ) → length xs ≡ 4 → AreOctets xs → octets_le 4 (from_le_bytes w32 xs) ≡ xs
+back_le_4 xs many each = ap (octets_le 4) (le_4 xs many) ∙ as_le 4 xs many each
+
+pub back_be_8 : (xs : List ℕ) → length xs ≡ 8 → AreOctets xs → octets_be 8 (from_be_bytes w64 xs) ≡ xs
+back_be_8 xs many each = ap (octets_be 8) (be_8 xs many) ∙ as_be 8 xs many each
+
+pub back_le_8 : (xs : List ℕ) → length xs ≡ 8 → AreOctets xs → octets_le 8 (from_le_bytes w64 xs) ≡ xs
+back_le_8 xs many each = ap (octets_le 8) (le_8 xs many) ∙ as_le 8 xs many each
+
+pub back_be_16 : (xs : List ℕ) → length xs ≡ 16 → AreOctets xs → octets_be 16 (from_be_bytes w128 xs) ≡ xs
+back_be_16 xs many each = ap (octets_be 16) (be_16 xs many) ∙ as_be 16 xs many each
+
+pub back_le_16 : (xs : List ℕ) → length xs ≡ 16 → AreOctets xs → octets_le 16 (from_le_bytes w128 xs) ≡ xs
+back_le_16 xs many each = ap (octets_le 16) (le_16 xs many) ∙ as_le 16 xs many each
+
+pub unsigned_1 : (n : ℕ) → n < 2 ^ 8 → unsigned 1 (cast_signed w8 n) ≡ n
+unfolding unsigned
+unsigned_1 n small = grind (arith, ints)
+
+pub unsigned_2 : (n : ℕ) → n < 2 ^ 16 → unsigned 2 (cast_signed w16 n) ≡ n
+unfolding unsigned
+unsigned_2 n small = grind (arith, ints)
+
+pub unsigned_4 : (n : ℕ) → n < 2 ^ 32 → unsigned 4 (cast_signed w32 n) ≡ n
+unfolding unsigned
+unsigned_4 n small = grind (arith, ints)
+
+pub unsigned_8 : (n : ℕ) → n < 2 ^ 64 → unsigned 8 (cast_signed w64 n) ≡ n
+unfolding unsigned
+unsigned_8 n small = grind (arith, ints)
+
+pub unsigned_16 : (n : ℕ) → n < 2 ^ 128 → unsigned 16 (cast_signed w128 n) ≡ n
+unfolding unsigned
+unsigned_16 n small = grind (arith, ints)
+
+pub ruleset back = (back_be_1, back_be_2, back_le_2, back_be_4, back_le_4, back_be_8, back_le_8, back_be_16, back_le_16, unsigned_1, unsigned_2, unsigned_4, unsigned_8, unsigned_16)
