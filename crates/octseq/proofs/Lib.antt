@@ -1,5 +1,7 @@
 pub mod Behind
+pub mod Codes
 pub mod OneRun
+pub mod Repeats
 pub mod Runs
 pub mod Steps
 pub mod Values
