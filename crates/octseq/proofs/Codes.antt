@@ -1,11 +1,14 @@
 -- Codes: ways to write things as octets such that a thing is told from the front of the octets. These are laws for callers
 -- who write and read formats of their own: of integers and parts, of one thing behind another, and of the windows that read them.
-use Rattle.std.proofs.Common.{◌≡◌, ℕ, ◌+◌, ◌-◌, ◌^◌, ◌<◌, ◌≤◌, List, ◌++◌, length, take, drop, sym, ap, ◌∙◌, append_assoc, arith}
+use Rattle.std.proofs.Common.{◌≡◌, ℕ, false, true, Ok, Err, refl, ◌+◌, ◌-◌, ◌^◌, ◌<◌, ◌≤◌, List, ◌++◌, length, take, drop, sym, ap, ◌∙◌, append_assoc, arith}
 use Rattle.std.proofs.Math.Seq.{take-append_seam, drop-append_seam, take-length}
 use Rattle.std.proofs.lemmas.List.{length-append, length-take, length-drop}
 use Rattle.octseq.specs.Integer.{be, octets_be, signed, unsigned, IsSigned}
+use Rattle.octseq_core.specs.declared.builder.AsOctets.{Ghosts}
+use Rattle.octseq.specs.Parser.{window, Takes}
 use Rattle.octseq.specs.Part.{part_of}
 use Rattle.octseq.specs.Window.{Window, left, rest, next, past, whole}
+use Rattle.octseq.specs.declared.parse.Parser.{Parser}
 use Rattle.octseq.proofs.Windows.{next_and_rest}
 use Rattle.octseq.proofs.Written.{length_be, value_be, signed_unsigned}
 
@@ -82,8 +85,20 @@ pub length_rest : (w : Window) → length (rest w) ≤ left w
 length_rest w = omega (arith, length-take {A = ℕ}, length-drop {A = ℕ})
 
 -- what was taken stood at the front
-pub taken : (w v : Window) (n : ℕ) (octets : List ℕ) → n ≤ left w → v ≡ past n w → octets ≡ next n w → rest w ≡ octets ++ rest v
-taken w v n octets room moved e = sym (next_and_rest w n room) ∙ ap (λ octets. octets ++ rest (past n w)) (sym e) ∙ ap (λ v. octets ++ rest v) (sym moved)
+pub taken : (w v : Window) (n : ℕ) (octets : List ℕ) → (left w < n → ⊥) → v ≡ past n w → octets ≡ next n w → rest w ≡ octets ++ rest v
+taken w v n octets enough moved e =
+    sym (next_and_rest w n (omega (arith, enough))) ∙ ap (λ octets. octets ++ rest (past n w)) (sym e) ∙ ap (λ v. octets ++ rest v) (sym moved)
+
+-- so of a call that took its octets
+pub took : {R T E : Type 0} {g : Ghosts R} {value : T} {n : ℕ} {p q : Parser R g} (octets : List ℕ) → Takes {E = E} (Ok value) n p q → octets ≡ next n (window p)
+    → rest (window p) ≡ octets ++ rest (window q)
+took {n = n} {p = p} {q = q} octets takes e =
+    let room : n ≤ left (window p) = takes.variant.0 refl in
+    taken (window p) (window q) n octets (λ less. omega arith) takes.ok e
+
+-- and of one that was refused
+pub not_taken : {R T E : Type 0} {g : Ghosts R} {e : E} {n : ℕ} {p q : Parser R g} → Takes {T = T} (Err e) n p q → n ≤ left (window p) → ⊥
+not_taken takes room = let bad : false ≡ true = takes.variant.1 room in absurd (cc)
 
 -- fewer octets are left than any thing has
 pub too_few : {A : Type 0} (Fits : A → Type 0) (code : A → List ℕ) (w : Window) (n : ℕ) → ((a : A) → n ≤ length (code a)) → (n ≤ left w → ⊥) → ¬ HasFront Fits code (rest w)
@@ -92,6 +107,12 @@ too_few Fits code w n least few (a, more, fits, e) =
     let enough = least a in
     let left = length_rest w in
     few (omega arith)
+
+pub no_integer : (w : Window) (k : ℕ) → (k ≤ left w → ⊥) → ¬ HasFront (λ n. n < 256 ^ k) (octets_be k) (rest w)
+no_integer w k few = too_few (λ n. n < 256 ^ k) (octets_be k) w k (λ n. let all = length_be k n in omega arith) few
+
+pub no_signed : (w : Window) (k : ℕ) → (k ≤ left w → ⊥) → ¬ HasFront (IsSigned k) (λ z. octets_be k (unsigned k z)) (rest w)
+no_signed w k few = too_few (IsSigned k) (λ z. octets_be k (unsigned k z)) w k (λ z. let all = length_be k (unsigned k z) in omega arith) few
 
 -- a part was read
 pub part_front : (octets between behind value : List ℕ) (k n : ℕ) → octets ≡ octets_be k n ++ between → between ≡ value ++ behind → length value ≡ n → octets ≡ part_of k value ++ behind

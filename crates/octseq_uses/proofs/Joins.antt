@@ -1,10 +1,11 @@
 -- What is still to come of joined words.
-use Rattle.std.proofs.Common.{◌≡◌, ℕ, suc, ◌<◌, ◌≤◌, List, ◌∷◌, ◌++◌, length, drop, map, get_or, sym, ap, ◌∙◌, append_assoc}
+use Rattle.std.proofs.Common.{◌≡◌, ℕ, suc, ◌+◌, ◌<◌, ◌≤◌, List, ◌∷◌, ◌++◌, length, drop, map, get_or, Option, Some, None, subst, sym, ap, ◌∙◌, append_assoc, arith}
 use Rattle.std.proofs.Math.ListN.{drop_of_length-le}
 use Rattle.std.proofs.Math.Seq.{drop-cons}
-use Rattle.std.proofs.lemmas.List.{append-nil}
+use Rattle.std.proofs.lemmas.List.{append-nil, length-append}
 use Rattle.std.specs.List.{flat_map}
 use Rattle.std.specs.Prelude.{Result, Ok, Err, OnErr}
+use Rattle.octseq_core.specs.Limit.{IsPast}
 use Rattle.octseq_uses.specs.Joined.{joined}
 
 -- the words, each behind a separator
@@ -46,3 +47,19 @@ pub to_come_none : {W : Type 0} (show : W → List ℕ) (separator text all : Li
     → ToCome show separator others i text all → text ≡ all
 to_come_none show separator text all others i past so_far =
     sym (append-nil text) ∙ ap (λ ws. text ++ spread separator (map show ws)) (sym (drop_of_length-le others past)) ∙ so_far
+
+-- ---- limits
+
+-- what was appended is within the limit
+pub within_still : (limit : Option ℕ) (old piece new : List ℕ) → new ≡ old ++ piece → (IsPast limit (length old + length piece) → ⊥) → IsPast limit (length new) → ⊥
+within_still limit old piece new e fine past = fine (subst (IsPast limit) (ap length e ∙ length-append old piece) past)
+
+past_more : (limit : Option ℕ) (m n : ℕ) → m ≤ n → IsPast limit m → IsPast limit n
+past_more (Some limit) m n less past = omega arith
+past_more None m n less past = past
+
+-- the whole passes the limit where a piece on the way did
+pub past_whole : (limit : Option ℕ) (text piece more all : List ℕ) → text ++ (piece ++ more) ≡ all → IsPast limit (length text + length piece) → IsPast limit (length all)
+past_whole limit text piece more all e past =
+    let long : length all ≡ length text + (length piece + length more) = ap length (sym e) ∙ length-append text (piece ++ more) ∙ ap (λ n. length text + n) (length-append piece more) in
+    past_more limit (length text + length piece) (length all) (omega arith) past

@@ -1,6 +1,7 @@
 //! Words joined in a text.
-ghost use Rattle.std.specs.Prelude.{◌≡◌, ◌++◌, true, map, List, ℕ, OnOk, OnErr};
-ghost use Rattle.octseq_core.specs.Refusal.{IsMemory};
+ghost use Rattle.std.specs.Prelude.{◌≡◌, ◌≢◌, ◌++◌, true, length, map, [], List, ℕ, IsErr, OnOk, OnErr};
+ghost use Rattle.octseq_core.specs.Limit.{IsPast};
+ghost use Rattle.octseq_core.specs.Refusal.{IsShort, IsMemory};
 ghost use Rattle.octseq_uses.specs.Joined.{joined};
 
 use octseq::StrBuilder;
@@ -10,7 +11,9 @@ use octseq::builder::{AppendError, OctetsBuilder};
 ///
 /// # Errors
 ///
-/// As `try_push_str`. The text then ends with a front of what was to be appended.
+/// `Short` where the text, with all of it behind, would pass the limit of its type, or `Memory` where a request
+/// for memory was refused: where both are so, either of them. The text then ends with a front of what was to be
+/// appended.
 pub fn join<B: OctetsBuilder>(
     text: &mut StrBuilder<B>,
     words: &[&str],
@@ -18,6 +21,10 @@ pub fn join<B: OctetsBuilder>(
 ) -> Result<(), AppendError>
     ensures ok { OnOk result (B.content text.new
         ≡ B.content text.old ++ joined separator.now (map (λ word. word.now) words.now)) }
+    ensures short { IsShort result → IsPast B.limit (length (B.content text.old
+        ++ joined separator.now (map (λ word. word.now) words.now))) }
+    ensures past { words.now ≢ [] → IsPast B.limit (length (B.content text.old
+        ++ joined separator.now (map (λ word. word.now) words.now))) → IsErr result }
     ensures memory { IsMemory result → B.asks ≡ true }
     ensures front { OnErr result ((cut : List ℕ) × (B.content text.new ++ cut
         ≡ B.content text.old ++ joined separator.now (map (λ word. word.now) words.now))) }

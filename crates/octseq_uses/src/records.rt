@@ -1,15 +1,14 @@
 //! Records: a key and a value each, one behind another.
-ghost use Rattle.std.specs.Prelude.{◌≡◌, ℕ, ◌+◌, ◌<◌, ◌++◌, ◌↔◌, true, length, map, List, Err, IfOk, OnOk, OnErr};
+ghost use Rattle.std.specs.Prelude.{◌≡◌, ℕ, ◌+◌, ◌<◌, ◌++◌, ◌↔◌, true, length, map, List, Err, IsErr, IfOk, OnOk, OnErr};
 ghost use Rattle.octseq_core.specs.Limit.{IsPast};
 ghost use Rattle.octseq.specs.Composer.{IsPartTooLong, IsPartShort, IsPartMemory};
-ghost use Rattle.octseq.specs.Integer.{octets_be};
 ghost use Rattle.octseq.specs.Parser.{window};
 ghost use Rattle.octseq.specs.Window.{left, rest};
 ghost use Rattle.octseq_uses.specs.Record.{record_of, IsRecord, AreRecords, HasRecord};
 
 use octseq::builder::{OctetsBuilder, Truncate};
 use octseq::compose::{ComposeError, append_part_u8, append_u16_be};
-use octseq::parse::{self, ParseOctetsError};
+use octseq::parse::{ParseOctetsError, ShortInput};
 use octseq::{Octets, Parser};
 use std::alloc::Global;
 
@@ -31,13 +30,36 @@ pub enum ReadError {
     Memory,
 }
 
+impl From<ShortInput> for ReadError {
+    ghost use Rattle.octseq_uses.specs.declared.records.ReadError.TheVariants.{Cut};
+
+    ghost from_gives = { λ _ made. made ≡ Cut };
+
+    fn from(_e: ShortInput) -> ReadError {
+        ReadError::Cut
+    }
+}
+
+impl From<ParseOctetsError> for ReadError {
+    ghost use Rattle.octseq_uses.specs.Refusal.{read_error_of};
+
+    ghost from_gives = { λ e made. made ≡ read_error_of e };
+
+    fn from(e: ParseOctetsError) -> ReadError {
+        match e {
+            ParseOctetsError::Short(_) => ReadError::Cut,
+            ParseOctetsError::Memory => ReadError::Memory,
+        }
+    }
+}
+
 /// Appends a record: the key in 2 octets, big-endian, the length of the value in one octet, and the value.
 ///
 /// # Errors
 ///
-/// `TooLong` where the value has more than 255 octets. Else `Short` only where the content, with the whole
-/// record behind it, would pass the limit of its type, and `Memory` only where a request for memory was
-/// refused. The content is then as it was.
+/// `TooLong` where the value has more than 255 octets. Else `Short` where the content, with the whole record
+/// behind it, would pass the limit of its type, or `Memory` where a request for memory was refused: where
+/// both are so, either of them. The content is then as it was.
 pub fn append_record<B: OctetsBuilder + Truncate>(
     builder: &mut B,
     key: u16,
@@ -48,6 +70,8 @@ pub fn append_record<B: OctetsBuilder + Truncate>(
     ensures too_long { IsPartTooLong result ↔ (255 < length value.now) }
     ensures short { IsPartShort result
         → IsPast B.limit (length (B.content builder.old) + length (record_of key value.now)) }
+    ensures past { IsPast B.limit (length (B.content builder.old) + length (record_of key value.now))
+        → IsErr result }
     ensures memory { IsPartMemory result → B.asks ≡ true }
     ensures borrows { B.borrows builder.new ≡ B.borrows builder.old }
 {
@@ -63,13 +87,6 @@ pub fn append_record<B: OctetsBuilder + Truncate>(
     appended
 }
 
-/// The key and the length that three octets stand for.
-fn opened(head: &[u8; 3]) -> (u16, u8)
-    ensures { octets_be 2 result.0 ++ octets_be 1 result.1 ≡ head.now }
-{
-    (u16::from_be_bytes([head[0], head[1]]), head[2])
-}
-
 /// Takes the next record.
 fn next_record<R: Octets>(parser: &mut Parser<R>) -> Result<Record<R::Range>, ReadError>
     ensures fits { IfOk result (λ read. IsRecord (read.key, R.Range.content read.value)) }
@@ -78,17 +95,35 @@ fn next_record<R: Octets>(parser: &mut Parser<R>) -> Result<Record<R::Range>, Re
     ensures less { OnOk result (left (window parser.new) < left (window parser.old)) }
     ensures cut { result ≡ Err ReadError.Cut → ¬ HasRecord (rest (window parser.old)) }
 {
-    parse::nothing_is_lost();
-    let mut head = [0; 3];
-    let Ok(()) = parser.parse_buf(&mut head) else {
-        return Err(ReadError::Cut);
-    };
-    let (key, len) = opened(&head);
-    match parser.parse_octets(usize::from(len)) {
-        Ok(value) => Ok(Record { key, value }),
-        Err(ParseOctetsError::Short(_)) => Err(ReadError::Cut),
-        Err(ParseOctetsError::Memory) => Err(ReadError::Memory),
+    let key = parser.parse_u16_be()?;
+    let len = parser.parse_u8()?;
+    let value = parser.parse_octets(usize::from(len))?;
+    Ok(Record { key, value })
+}
+
+/// Takes all that is left as records, one behind another.
+///
+/// # Errors
+///
+/// `Cut` where the octets are not those of any records, and `Memory` only where a request for memory was
+/// refused.
+pub fn take_records<R: Octets>(
+    alloc: Global,
+    parser: &mut Parser<R>,
+) -> Result<Vec<Record<R::Range>>, ReadError>
+    ensures ok { IfOk result (λ records. AreRecords (rest (window parser.old))
+        (map (λ read. (read.key, R.Range.content read.value)) records.items)) }
+    ensures cut { result ≡ Err ReadError.Cut
+        → (records : List (ℕ × List ℕ)) → ¬ AreRecords (rest (window parser.old)) records }
+{
+    let mut records = Vec::new(alloc);
+    while parser.remaining() > 0 {
+        let read = next_record(parser)?;
+        if records.push(read).is_err() {
+            return Err(ReadError::Memory);
+        }
     }
+    Ok(records)
 }
 
 /// Reads all of the octets as records, one behind another: each a key in 2 octets, big-endian, and a value
@@ -104,13 +139,5 @@ pub fn read_records<R: Octets>(alloc: Global, octets: R) -> Result<Vec<Record<R:
     ensures cut { result ≡ Err ReadError.Cut
         → (records : List (ℕ × List ℕ)) → ¬ AreRecords (R.content octets) records }
 {
-    let mut parser = Parser::from_ref(octets);
-    let mut records = Vec::new(alloc);
-    while parser.remaining() > 0 {
-        let read = next_record(&mut parser)?;
-        if records.push(read).is_err() {
-            return Err(ReadError::Memory);
-        }
-    }
-    Ok(records)
+    take_records(alloc, &mut Parser::from_ref(octets))
 }

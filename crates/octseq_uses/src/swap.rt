@@ -1,5 +1,5 @@
 //! One theorem for every builder: to take another builder changes no clause.
-ghost use Rattle.std.specs.Prelude.{◌≡◌, ◌+◌, ◌++◌, true, length, IfOk};
+ghost use Rattle.std.specs.Prelude.{◌≡◌, ◌+◌, ◌++◌, true, length, IsErr, IfOk};
 ghost use Rattle.octseq_core.specs.Limit.{IsPast};
 ghost use Rattle.octseq_core.specs.Refusal.{IsShort, IsMemory};
 
@@ -10,11 +10,12 @@ use std::alloc::Global;
 ///
 /// # Errors
 ///
-/// `Short` only where both together pass the limit of the type, and `Memory` only where a request for memory
-/// was refused.
+/// `Short` where both together pass the limit of the type, or `Memory` where a request for memory was refused:
+/// where both are so, either of them.
 pub fn paired<B: EmptyBuilder>(alloc: Global, first: &[u8], second: &[u8]) -> Result<B, AppendError>
     ensures ok { IfOk result (λ builder. B.content builder ≡ first.now ++ second.now) }
     ensures short { IsShort result → IsPast B.limit (length first.now + length second.now) }
+    ensures past { IsPast B.limit (length first.now + length second.now) → IsErr result }
     ensures memory { IsMemory result → B.asks ≡ true }
 {
     let mut builder = B::empty(alloc)?;

@@ -1,28 +1,47 @@
-use Rattle.std.proofs.Common.{◌≡◌, ◌<◌, ◌≤◌, ◌∙◌, ap, arith, length, refl, false, true}
+use Rattle.std.proofs.Common.{◌<◌, ◌∙◌, length, rules, arith}
+use Rattle.octseq.proofs.Codes.{taken, took, not_taken, pair_front, part_front, no_first, no_second, no_integer, no_part_length, no_part_value, integer_code}
+use Rattle.octseq.specs.Integer.{octets_be}
 use Rattle.octseq.specs.Parser.{window}
-use Rattle.octseq.specs.Window.{left}
-use Rattle.octseq_uses.proofs.Fronts.{made, whole_front, no_head, no_value, length_next, not_less}
+use Rattle.octseq.specs.Part.{part_of}
+use Rattle.octseq.specs.Window.{rest}
+use Rattle.octseq_uses.proofs.RecordCode.{short_of}
 use Rattle.octseq_uses.proofs.records.next_record.Goals as goal
 
-pub returns-in_default-clause-cut : goal.returns-in_default-clause-cut
-returns-in_default-clause-cut g c = λ _. no_head (window c.args.parser.now) (λ room. let bad : false ≡ true = c.in_default.ensures.taken.variant.1 room in absurd (cc))
-
-pub returns-in-Ok-parse_octets-clause-taken : goal.returns-in-Ok-parse_octets-clause-taken
-returns-in-Ok-parse_octets-clause-taken g c =
+pub returns-in_err-key-clause-cut : goal.returns-in_err-key-clause-cut
+returns-in_err-key-clause-cut g c = λ _.
     let w = window c.args.parser.now in
-    let w1 = window c.parse_buf.new.self in
-    let head = c.parse_buf.new.buf in
-    let n = c.from.result in
-    let value = g.R.Range.AsOctets.content c.in-Ok-parse_octets.value in
-    let fits : n ≤ left w1 = not_less (left w1) n c.in-Ok-parse_octets.ensures.short.1 in
-    let long : length value ≡ n = ap length c.in-Ok-parse_octets.ensures.value ∙ length_next w1 n c.parse_buf.new.self.within fits c.parse_buf.new.self.ordered in
-    whole_front w w1 (window c.parse_octets.new.self) head value c.opened-key.result.0 n c.nothing_is_lost.ensures (c.in-Ok.ensures.taken.variant.0 refl)
-    c.in-Ok.ensures.filled c.in-Ok.ensures.taken.ok fits c.in-Ok-parse_octets.ensures.value c.in-Ok-parse_octets.ensures.ok
-    (made head value c.opened-key.result.0 c.opened-key.result.1 c.opened-key.ensures (long ∙ c.from.ensures))
+    no_first (λ key. key < 65536) (octets_be 2) (λ value. length value < 256) (part_of 1) (rest w) (no_integer w 2 (not_taken c.in_err-key.ensures.taken))
 
-pub returns-in-Err-Short-clause-cut : goal.returns-in-Err-Short-clause-cut
-returns-in-Err-Short-clause-cut g c = λ _.
+pub returns-in_err-len-clause-cut : goal.returns-in_err-len-clause-cut
+returns-in_err-len-clause-cut g c = λ _.
+    let key = c.in_ok-key.key in
     let w = window c.args.parser.now in
-    let few : left (window c.parse_buf.new.self) < c.from.result = (rw c.in-Err-Short.field-0-is at c.in-Err-Short.ensures.short).0 tt in
-    no_value w (window c.parse_buf.new.self) c.parse_buf.new.buf c.opened-key.result.0 c.opened-key.result.1 c.nothing_is_lost.ensures (c.in-Ok.ensures.taken.variant.0 refl) c.opened-key.ensures (omega arith)
-    c.in-Ok.ensures.filled c.in-Ok.ensures.taken.ok (rw c.from.ensures at few)
+    let v = window c.parse_u16_be.new.self in
+    no_second (λ key. key < 65536) (octets_be 2) (λ value. length value < 256) (part_of 1) (rest w) (rest v) key (integer_code 2) (omega arith)
+    (took (octets_be 2 key) c.in_ok-key.ensures.taken c.in_ok-key.ensures.octets) (no_part_length v 1 (not_taken c.in_err-len.ensures.taken))
+
+pub returns-in_err-value-clause-cut : goal.returns-in_err-value-clause-cut
+returns-in_err-value-clause-cut g c = λ cut.
+    let key = c.in_ok-key.key in
+    let len = c.in_ok-len.len in
+    let w = window c.args.parser.now in
+    let v = window c.parse_u16_be.new.self in
+    let u = window c.parse_u8.new.self in
+    let few = c.in_err-value.ensures.short.0 (short_of (g.row.R-Range.Denot) c.in_err-value.field-0.0 (search rules)) in
+    no_second (λ key. key < 65536) (octets_be 2) (λ value. length value < 256) (part_of 1) (rest w) (rest v) key (integer_code 2) (omega arith)
+    (took (octets_be 2 key) c.in_ok-key.ensures.taken c.in_ok-key.ensures.octets)
+    (no_part_value (rest v) u 1 len (omega arith) (took (octets_be 1 len) c.in_ok-len.ensures.taken c.in_ok-len.ensures.octets) (omega arith))
+
+pub returns-clause-taken : goal.returns-clause-taken
+returns-clause-taken g c =
+    let key = c.in_ok-key.key in
+    let len = c.in_ok-len.len in
+    let value = g.R.Range.AsOctets.content c.in_ok-value.value in
+    let w = window c.args.parser.now in
+    let v = window c.parse_u16_be.new.self in
+    let u = window c.parse_u8.new.self in
+    let t = window c.parse_octets.new.self in
+    let given = c.in_ok-value.ensures in
+    pair_front (rest w) (rest v) (rest t) (octets_be 2 key) (part_of 1 value) (took (octets_be 2 key) c.in_ok-key.ensures.taken c.in_ok-key.ensures.octets)
+    (part_front (rest v) (rest u) (rest t) value 1 len (took (octets_be 1 len) c.in_ok-len.ensures.taken c.in_ok-len.ensures.octets)
+    (taken u t c.from.result value given.short.1 given.ok given.value) (given.length ∙ c.from.ensures))

@@ -1,13 +1,15 @@
 -- The octets were read as the records so far, and each turn takes one of what is left.
 use Rattle.std.proofs.Common.{map}
+use Rattle.octseq.proofs.Repeats.{IsReadTo}
 use Rattle.octseq.specs.Parser.{window}
 use Rattle.octseq.specs.Window.{left, rest}
-use Rattle.octseq_uses.proofs.Fronts.{IsReadTo}
-use Rattle.octseq_uses.proofs.records.read_records.Given as goal
+use Rattle.octseq_uses.proofs.RecordCode.{spelled}
+use Rattle.octseq_uses.specs.Record.{IsRecord}
+use Rattle.octseq_uses.proofs.records.take_records.Given as goal
 
 abbrev pub invariant-loop-parser : goal.invariant-loop-parser
 invariant-loop-parser g l =
-    IsReadTo (g.R.AsOctets.content l.fn.octets) (rest (window l.parser)) (map (λ read. (read.key, g.R.Range.AsOctets.content read.value)) l.records.items)
+    IsReadTo IsRecord spelled (rest (window l.fn.parser)) (rest (window l.parser)) (map (λ read. (read.key, g.R.Range.AsOctets.content read.value)) l.records.items)
 
 abbrev pub decreases-loop-parser : goal.decreases-loop-parser
 decreases-loop-parser g l = left (window l.parser)
