@@ -1,3 +1,4 @@
 pub mod Fronts
 pub mod Joins
+pub mod LineFronts
 pub mod Names

@@ -1,3 +1,4 @@
 pub mod Joined
+pub mod Line
 pub mod Name
 pub mod Record

@@ -6,6 +6,7 @@
 #![tactic(auto)]
 
 pub mod join;
+pub mod lines;
 pub mod name;
 pub mod records;
 pub mod swap;
