@@ -105,6 +105,11 @@ one_settling (open_end {end = q} {settled = settled} s b) (no_end t n) = absurd 
 one_settling (no_end s n) (open_end {end = r} {settled = others} t c) = absurd (n others r (one_splitting s t) c)
 one_settling (no_end s n) (no_end t m) = (one_splitting s t, refl)
 
+-- what is settled is a front of all parts
+pub settled_front : {x q : List ℕ} {settled parts : List Part} → Settles x settled q → Splits x parts → (others : List Part) × (parts ≡ settled ++ others)
+settled_front (open_end {end = q} s b) t = (Bad q ∷ [], one_splitting t s)
+settled_front (no_end {parts = settled} s n) t = ([], one_splitting t s ∙ sym (append-nil settled))
+
 -- a last part that is bad is the bad part of itself
 last_bad : {x : List ℕ} {parts : List Part} → Splits x parts → (front : List Part) (q : List ℕ) → parts ≡ front ++ Bad q ∷ [] → IsBadPart (q ++ []) q
 last_bad nothing front q h = absurd (snoc_some front (Bad q) (sym h))

@@ -1,2 +1,4 @@
 pub mod Joins
+pub mod LineFronts
+pub mod Names
 pub mod RecordCode

@@ -1,3 +1,5 @@
 pub mod Joined
+pub mod Line
+pub mod Name
 pub mod Record
 pub mod Refusal

@@ -6,6 +6,8 @@
 #![tactic(auto)]
 
 pub mod join;
+pub mod lines;
+pub mod name;
 pub mod records;
 pub mod swap;
 #[cfg(test)]

@@ -9,6 +9,9 @@ use std::alloc::Global;
 use std::process::Abort;
 use std::test::Fail;
 
+mod lines;
+mod name;
+
 #[test]
 fn a_record_is_appended_whole_or_not_at_all(rt: HostRuntime) -> Result<(), Fail> {
     let mut octets = Array::<8>::try_from(b"a".as_slice())?;

@@ -1,7 +1,7 @@
 //! Laws about texts: what lists of commands answer whatever the text is kept in, and what of octets that
 //! come in pieces is settled.
-ghost use Rattle.std.specs.Prelude.{◌≡◌, ℕ, Bool, false, Option, List};
-ghost use Rattle.octseq_text.specs.Parts.{Part};
+ghost use Rattle.std.specs.Prelude.{◌≡◌, ℕ, Bool, false, Option, List, ◌++◌};
+ghost use Rattle.octseq_text.specs.Parts.{Part, Splits};
 ghost use Rattle.octseq_text.specs.Pieces.{Settles};
 ghost use Rattle.octseq_text.specs.Run.{Run, IsWithoutMemory};
 ghost use Rattle.octseq_text.specs.declared.str.commands.Command.{Command};
@@ -23,11 +23,14 @@ pub fn one_run()
         → Run limit false before commands replies after → IsWithoutMemory replies }
 {}
 
-/// Octets have exactly one list of settled parts, and one open end.
+/// Octets have exactly one list of settled parts, and one open end. The settled parts are a front of all parts.
 pub fn one_settling()
     ensures exists { (octets : List ℕ)
         → (settled : List Part) × (end : List ℕ) × Settles octets settled end }
     ensures only { (octets end last : List ℕ) (settled others : List Part)
         → Settles octets settled end → Settles octets others last
         → (settled ≡ others) × (end ≡ last) }
+    ensures front { (octets end : List ℕ) (settled parts : List Part)
+        → Settles octets settled end → Splits octets parts
+        → (others : List Part) × (parts ≡ settled ++ others) }
 {}

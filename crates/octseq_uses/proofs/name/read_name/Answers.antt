@@ -1,0 +1,48 @@
+use Rattle.std.proofs.Common.{◌≡◌, ◌-◌, ◌+◌, [], ◌∷◌, ◌++◌, length, map, ap, ◌∙◌, arith, refl}
+use Rattle.std.proofs.lemmas.List.{map-append}
+use Rattle.std.proofs.lemmas.Result.{err_from_is_err_and}
+use Rattle.octseq.specs.Parser.{window}
+use Rattle.octseq.specs.Window.{rest}
+use Rattle.octseq_uses.specs.declared.name.NameError.{NameError}
+use Rattle.octseq_uses.proofs.Fronts.{same_refusal}
+use Rattle.octseq_uses.proofs.Names.{read_none, read_more, read_name, read_root}
+use Rattle.octseq_uses.proofs.name.read_name.Goals as goal
+
+pub loop-labels-init : goal.loop-labels-init
+loop-labels-init g c = record {
+  read = rw c.new-labels.ensures.items (read_none (rest (window c.args.parser.now)));
+  same = refl;
+}
+
+pub returns-in_err-label-clause-no_name : goal.returns-in_err-label-clause-no_name
+returns-in_err-label-clause-no_name g c = λ e has.
+    let p = err_from_is_err_and c.from_residual.result c.from_residual.ensures.1 in
+    let none = c.next_label.ensures.no_name (same_refusal c.next_label.result c.from_residual.result p.0 c.in_err-label.field-0.0 NameError.NoName p.1 p.2 e c.in_err-label.was) in
+    none (c.loop-labels.invariant.read.behind has)
+
+pub loop-labels-smaller : goal.loop-labels-smaller
+loop-labels-smaller g c = omega arith
+
+pub loop-labels-preserved : goal.loop-labels-preserved
+loop-labels-preserved g c =
+    let content = g.R.Range.AsOctets.content in
+    let pushed : c.push.new.self.items ≡ c.loop-labels.labels.items ++ c.in-Some.label ∷ [] = grind (arith, c.push.ensures.items, c.is_err.ensures) in
+    record {
+      read = read_more (rest (window c.args.parser.now)) (rest (window c.loop-labels.ahead)) (rest (window c.next_label.new.parser)) (content c.in-Some.label)
+          (map content c.loop-labels.labels.items) (map content c.push.new.self.items) c.loop-labels.room _ c.loop-labels.invariant.read
+          (rw c.in-Some.is at c.in_ok-label.ensures.label) (rw c.in-Some.is at c.in_ok-label.ensures.room) (rw c.in-Some.is at c.in_ok-label.ensures.taken)
+          (ap (map content) pushed ∙ map-append content c.loop-labels.labels.items (c.in-Some.label ∷ []))
+          (ap (λ octets. c.loop-labels.room - (1 + length octets)) c.as_ref.ensures.value);
+      same = c.next_label.ensures.same ∙ c.loop-labels.invariant.same;
+    }
+
+pub returns-clause-name : goal.returns-clause-name
+returns-clause-name g c = read_name (rest (window c.args.parser.now)) (rest (window c.loop-labels.ahead)) (map g.R.Range.AsOctets.content c.loop-labels.labels.items) c.loop-labels.room c.loop-labels.invariant.read
+
+pub returns-clause-taken : goal.returns-clause-taken
+returns-clause-taken g c =
+    read_root (rest (window c.args.parser.now)) (rest (window c.loop-labels.ahead)) (rest (window c.next_label.new.parser))
+    (map g.R.Range.AsOctets.content c.loop-labels.labels.items) c.loop-labels.room c.loop-labels.invariant.read (rw c.in_default.is at c.in_ok-label.ensures.root)
+
+pub returns-clause-same : goal.returns-clause-same
+returns-clause-same g c = c.next_label.ensures.same ∙ c.loop-labels.invariant.same

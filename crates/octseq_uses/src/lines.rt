@@ -1,0 +1,88 @@
+//! Lines of octets, read as texts.
+ghost use Rattle.std.specs.Prelude.{◌≡◌, ◌≢◌, ℕ, ◌+◌, ◌<◌, ◌≤◌, ◌↔◌, true, List, ◌∷◌, ◌++◌, length, take, drop, IsErr, IsNone, IfOk, IfSome, IfNone, OnErr};
+ghost use Rattle.octseq_core.specs.Limit.{IsPast};
+ghost use Rattle.octseq_core.specs.Refusal.{IsShort, IsMemory};
+ghost use Rattle.octseq_text.specs.Parts.{Part, Splits, text};
+ghost use Rattle.octseq.specs.Parser.{sequence, window};
+ghost use Rattle.octseq.specs.Window.{left, rest};
+ghost use Rattle.octseq_uses.specs.Line.{IsLine, TakesLine};
+
+use octseq::builder::{AppendError, AsOctets, EmptyBuilder, infallible};
+use octseq::str::{self, LossyPieces};
+use octseq::{Parser, StrBuilder, parse};
+use std::alloc::Global;
+
+/// Where the first line feed stands.
+fn line_feed(octets: &[u8]) -> Option<usize>
+    ensures line { IfSome result (λ place. IsLine (take place octets.now)) }
+    ensures feed { IfSome result (λ place. octets.now ≡ take place octets.now ++ 10 ∷ drop (place + 1) octets.now) }
+    ensures within { IfSome result (λ place. place < length octets.now) }
+    ensures none { IfNone result (IsLine octets.now) }
+{
+    octets.iter().position(|octet| *octet == b'\n')
+}
+
+/// The first line, and how many octets it has together with the line feed that ends it.
+fn first_line(octets: &[u8]) -> (&[u8], usize)
+    ensures line { TakesLine octets.now result.0.now (drop result.1 octets.now) }
+    ensures within { result.1 ≤ length octets.now }
+    ensures some { length octets.now ≢ 0 → 0 < result.1 }
+{
+    match line_feed(octets) {
+        Some(place) => (&octets[..place], place + 1),
+        None => (octets, octets.len()),
+    }
+}
+
+/// The octets as a text, a replacement character in the place of each bad part.
+fn lossy<B: EmptyBuilder>(alloc: Global, octets: &[u8]) -> Result<StrBuilder<B>, AppendError>
+    ensures text { IfOk result (λ made. (parts : List Part)
+        → Splits octets.now parts → B.content made ≡ text parts) }
+    ensures short { IsShort result → (parts : List Part)
+        → Splits octets.now parts → IsPast B.limit (length (text parts)) }
+    ensures past { (parts : List Part)
+        → Splits octets.now parts → IsPast B.limit (length (text parts)) → IsErr result }
+    ensures memory { IsMemory result → B.asks ≡ true }
+{
+    str::one_settling();
+    let mut pieces = LossyPieces::new(alloc)?;
+    pieces.feed(octets)?;
+    pieces.finish()
+}
+
+/// Takes the next line, which a line feed or the end of the octets ends, as a text without the line feed. The
+/// replacement character stands in the place of each bad part. `None` where no octets are left.
+///
+/// # Errors
+///
+/// `Short` where the text passes the limit of the type, and `Memory` only where a request for memory was
+/// refused. The parser is then as it was.
+pub fn next_line<R: AsOctets, B: EmptyBuilder>(
+    alloc: Global,
+    parser: &mut Parser<R>,
+) -> Result<Option<StrBuilder<B>>, AppendError>
+    ensures none { IfOk result (λ read. IsNone read ↔ (left (window parser.old) ≡ 0)) }
+    ensures text { IfOk result (λ read. IfSome read (λ made. (line : List ℕ)
+        × TakesLine (rest (window parser.old)) line (rest (window parser.new))
+        × ((parts : List Part) → Splits line parts → B.content made ≡ text parts))) }
+    ensures less { IfOk result (λ read. IfSome read (λ made. left (window parser.new) < left (window parser.old))) }
+    ensures short { IsShort result → (line more : List ℕ) (parts : List Part)
+        → TakesLine (rest (window parser.old)) line more → Splits line parts
+        → IsPast B.limit (length (text parts)) }
+    ensures past { (line more : List ℕ) (parts : List Part)
+        → TakesLine (rest (window parser.old)) line more → Splits line parts
+        → IsPast B.limit (length (text parts)) → IsErr result }
+    ensures memory { IsMemory result → B.asks ≡ true }
+    ensures kept { OnErr result (window parser.new ≡ window parser.old) }
+    ensures same { sequence parser.new ≡ sequence parser.old }
+{
+    parse::nothing_is_lost();
+    let octets = parser.peek_all();
+    if octets.is_empty() {
+        return Ok(None);
+    }
+    let (line, len) = first_line(octets);
+    let text = lossy(alloc, line)?;
+    infallible(parser.advance(len));
+    Ok(Some(text))
+}

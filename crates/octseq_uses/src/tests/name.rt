@@ -1,0 +1,103 @@
+//! Names.
+use crate::name::{NameError, read_name};
+use bytes::Bytes;
+use octseq::{Array, AsOctets, Octets, Parser};
+use std::alloc::Global;
+use std::process::Abort;
+use std::test::Fail;
+
+/// A name comes next, with these labels, and the parser is past it then. Or none comes next.
+fn is_read<R: Octets + Copy>(
+    rt: &impl Abort,
+    alloc: Global,
+    octets: R,
+    wanted: Option<&[&[u8]]>,
+    behind: usize,
+) -> Result<(), Fail> {
+    let mut parser = Parser::from_ref(octets);
+    match (read_name(alloc, &mut parser), wanted) {
+        (Ok(labels), Some(wanted)) => {
+            assert_eq!(rt; labels.len(), wanted.len());
+            for (label, other) in labels.iter().zip(wanted) {
+                assert_eq!(rt; AsOctets::as_ref(label), *other);
+            }
+        }
+        (Err(error), None) => assert_eq!(rt; error, NameError::NoName),
+        (Ok(_), None) => assert!(rt; false, "it was read"),
+        (Err(_), Some(_)) => assert!(rt; false, "it was refused"),
+    }
+    assert_eq!(rt; parser.pos(), behind);
+    Ok(())
+}
+
+#[test]
+fn a_name_is_read_from_each_kind_of_octets(rt: HostRuntime) -> Result<(), Fail> {
+    let alloc = rt.alloc();
+    let octets = b"\x03www\x07example\x00ab".as_slice();
+    let wanted: Option<&[&[u8]]> = Some(&[b"www", b"example"]);
+    is_read(&rt, alloc, octets, wanted, 13)?;
+    is_read(&rt, alloc, &octets.to_vec(alloc)?, wanted, 13)?;
+    is_read(&rt, alloc, &Array::<16>::try_from(octets)?, wanted, 13)?;
+    is_read(
+        &rt,
+        alloc,
+        &Bytes::copy_from_slice(alloc, octets)?,
+        wanted,
+        13,
+    )
+}
+
+#[test]
+fn the_root_alone_has_no_labels(rt: HostRuntime) -> Result<(), Fail> {
+    is_read(&rt, rt.alloc(), b"\x00".as_slice(), Some(&[]), 1)?;
+    is_read(&rt, rt.alloc(), b"\x00\x00".as_slice(), Some(&[]), 1)
+}
+
+#[test]
+fn octets_that_are_cut_are_no_name(rt: HostRuntime) -> Result<(), Fail> {
+    for octets in [
+        b"".as_slice(),
+        b"\x03",
+        b"\x03ww",
+        b"\x03www",
+        b"\x03www\x01",
+    ] {
+        is_read(&rt, rt.alloc(), octets, None, 0)?;
+    }
+    Ok(())
+}
+
+#[test]
+fn a_label_has_63_octets_at_most(rt: HostRuntime) -> Result<(), Fail> {
+    let mut octets = [b'a'; 66];
+    octets[0] = 63;
+    octets[64] = 0;
+    is_read(&rt, rt.alloc(), octets.as_slice(), Some(&[&[b'a'; 63]]), 65)?;
+    octets[0] = 64;
+    octets[64] = b'a';
+    octets[65] = 0;
+    is_read(&rt, rt.alloc(), octets.as_slice(), None, 0)
+}
+
+#[test]
+fn a_pointer_is_no_label(rt: HostRuntime) -> Result<(), Fail> {
+    is_read(&rt, rt.alloc(), b"\x01a\xC0\x00\x00".as_slice(), None, 0)
+}
+
+#[test]
+fn a_name_has_255_octets_at_most(rt: HostRuntime) -> Result<(), Fail> {
+    let mut octets = [b'a'; 256];
+    for start in [0, 64, 128] {
+        octets[start] = 63;
+    }
+    octets[192] = 61;
+    octets[254] = 0;
+    let label: &[u8] = &[b'a'; 63];
+    let last: &[u8] = &[b'a'; 61];
+    let wanted: Option<&[&[u8]]> = Some(&[label, label, label, last]);
+    is_read(&rt, rt.alloc(), octets.as_slice(), wanted, 255)?;
+    octets[192] = 62;
+    octets[254] = b'a';
+    octets[255] = 0;
+    is_read(&rt, rt.alloc(), octets.as_slice(), None, 0)
+}
