@@ -1,8 +1,9 @@
--- Codes: ways to write things as octets such that a thing is told from the front of the octets. These are laws for callers
--- who write and read formats of their own: of integers and parts, of one thing behind another, and of the windows that read them.
+-- Laws of codes, for callers who write and read formats of their own: of integers and parts, of one thing behind another, and of
+-- the windows that read them.
 use Rattle.std.proofs.Common.{◌≡◌, ℕ, false, true, Ok, Err, refl, ◌+◌, ◌-◌, ◌^◌, ◌<◌, ◌≤◌, List, ◌++◌, length, take, drop, sym, ap, ◌∙◌, append_assoc, arith}
 use Rattle.std.proofs.Math.Seq.{take-append_seam, drop-append_seam, take-length}
 use Rattle.std.proofs.lemmas.List.{length-append, length-take, length-drop}
+use Rattle.octseq.specs.Code.{HasFront, IsCode}
 use Rattle.octseq.specs.Integer.{be, octets_be, signed, unsigned, IsSigned}
 use Rattle.octseq_core.specs.declared.builder.AsOctets.{Ghosts}
 use Rattle.octseq.specs.Parser.{window, Takes}
@@ -11,14 +12,6 @@ use Rattle.octseq.specs.Window.{Window, left, rest, next, past, whole}
 use Rattle.octseq.specs.declared.parse.Parser.{Parser}
 use Rattle.octseq.proofs.Windows.{next_and_rest}
 use Rattle.octseq.proofs.Written.{length_be, value_be, signed_unsigned}
-
--- a thing that fits stands at the front of the octets
-abbrev pub HasFront : {A : Type 0} → (A → Type 0) → (A → List ℕ) → List ℕ → Type 0
-HasFront {A} Fits code octets = (a : A) × (more : List ℕ) × Fits a × (octets ≡ code a ++ more)
-
--- which thing it is, and what stands behind it, is told from the octets
-abbrev pub IsCode : {A : Type 0} → (A → Type 0) → (A → List ℕ) → Type 0
-IsCode {A} Fits code = (a b : A) (x y : List ℕ) → Fits a → Fits b → code a ++ x ≡ code b ++ y → (a ≡ b) × (x ≡ y)
 
 -- ---- integers and parts
 

@@ -3,7 +3,7 @@ use Rattle.std.proofs.Common.{◌≡◌, ℕ, ◌+◌, ◌<◌, List, [], ◌∷
 use Rattle.std.proofs.lemmas.Grind.{flat_map-append}
 use Rattle.std.proofs.lemmas.List.{append-nil, length-append}
 use Rattle.std.specs.List.{AllByRecursion, flat_map}
-use Rattle.octseq.proofs.Codes.{HasFront, IsCode}
+use Rattle.octseq.specs.Code.{HasFront, IsCode}
 
 -- the octets are those of things that fit
 abbrev pub IsWhole : {A : Type 0} → (A → Type 0) → (A → List ℕ) → List ℕ → Type 0

@@ -1,3 +1,4 @@
+pub mod Code
 pub mod Composer
 pub mod Integer
 pub mod Parser

@@ -2,3 +2,4 @@ pub mod Joins
 pub mod LineFronts
 pub mod Names
 pub mod RecordCode
+pub mod Refusals

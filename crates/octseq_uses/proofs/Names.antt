@@ -1,113 +1,91 @@
 -- Names at the front of octets.
-use Rattle.std.proofs.Common.{◌≡◌, ◌≢◌, ℕ, ◌+◌, ◌-◌, ◌/◌, ◌%◌, ◌^◌, ◌<◌, ◌≤◌, List, [], ◌∷◌, ◌++◌, length, drop, refl, sym, ap, ◌∙◌, subst, append_assoc, arith}
-use Rattle.std.proofs.Math.Seq.{drop-append_seam}
+use Rattle.std.proofs.Common.{◌≡◌, ◌≢◌, ℕ, ◌+◌, ◌-◌, ◌^◌, ◌<◌, ◌≤◌, List, [], ◌∷◌, ◌++◌, length, refl, sym, ap, ◌∙◌, subst, append_assoc, arith}
 use Rattle.std.proofs.lemmas.Grind.{flat_map-append}
-use Rattle.std.proofs.lemmas.List.{append-nil, length-append, length-take, length-drop}
+use Rattle.std.proofs.lemmas.List.{append-nil, length-append}
 use Rattle.std.specs.List.{AllByRecursion}
+use Rattle.octseq.proofs.Codes.{integer_code, part_code, length_rest}
+use Rattle.octseq.proofs.Written.{length_be}
+use Rattle.octseq.specs.Code.{IsCode}
 use Rattle.octseq.specs.Integer.{octets_be}
 use Rattle.octseq.specs.Part.{part_of}
-use Rattle.octseq.specs.Window.{Window, left, rest, next, past}
+use Rattle.octseq.specs.Window.{Window, left, rest}
 use Rattle.octseq_uses.specs.Name.{IsLabel, labels_of, name_of, IsName, HasNameWithin, HasName}
 
--- one octet is its value
-one_octet : (n : ℕ) → n < 256 → octets_be 1 n ≡ n ∷ []
-unfolding octets_be
-one_octet n small = let same : n / 256 ^ 0 % 256 ≡ n = omega arith in ap (λ x. x ∷ []) same
-
-shape : (label : List ℕ) → length label ≤ 63 → part_of 1 label ≡ length label ∷ label
-shape label short = ap (λ x. x ++ label) (one_octet (length label) (omega arith))
-
-root_shape : part_of 1 [] ≡ 0 ∷ []
-root_shape = ap (λ x. x ++ []) (one_octet 0 (omega arith))
+length_part : (label : List ℕ) → length (part_of 1 label) ≡ 1 + length label
+length_part label = length-append (octets_be 1 (length label)) label ∙ ap (λ n. n + length label) (length_be 1 (length label))
 
 -- the first label, and the name of the others
-name_step : (label : List ℕ) (labels : List (List ℕ)) → name_of (label ∷ labels) ≡ part_of 1 label ++ name_of labels
-name_step label labels = append_assoc (part_of 1 label) (labels_of labels) (part_of 1 [])
-
-name_front : (label more : List ℕ) (labels : List (List ℕ)) → length label ≤ 63 → name_of (label ∷ labels) ++ more ≡ length label ∷ (label ++ (name_of labels ++ more))
-name_front label more labels short =
-    ap (λ x. x ++ more) (name_step label labels) ∙ append_assoc (part_of 1 label) (name_of labels) more ∙ ap (λ x. x ++ (name_of labels ++ more)) (shape label short)
+first_label : (label more : List ℕ) (labels : List (List ℕ)) → name_of (label ∷ labels) ++ more ≡ part_of 1 label ++ (name_of labels ++ more)
+first_label label more labels =
+    ap (λ x. x ++ more) (append_assoc (part_of 1 label) (labels_of labels) (part_of 1 [])) ∙ append_assoc (part_of 1 label) (name_of labels) more
 
 long_name : (labels : List (List ℕ)) → 1 ≤ length (name_of labels)
-long_name labels = let root = ap length root_shape in omega (arith, length-append (labels_of labels) (part_of 1 []), root)
+long_name labels = let root = length_part [] in omega (arith, length-append (labels_of labels) (part_of 1 []), root)
 
-longer_name : (label : List ℕ) (labels : List (List ℕ)) → length label ≤ 63 → length (name_of (label ∷ labels)) ≡ 1 + length label + length (name_of labels)
-longer_name label labels short =
-    let part = ap length (shape label short) in
-    ap length (name_step label labels) ∙ omega (arith, length-append (part_of 1 label) (name_of labels), part)
+longer_name : (label : List ℕ) (labels : List (List ℕ)) → length (name_of (label ∷ labels)) ≡ 1 + length label + length (name_of labels)
+longer_name label labels =
+    let part = length_part label in
+    ap length (append_assoc (part_of 1 label) (labels_of labels) (part_of 1 [])) ∙ omega (arith, length-append (part_of 1 label) (name_of labels), part)
 
--- lists with fronts of one length
-same_behind : (a b x y : List ℕ) → length a ≡ length b → a ++ x ≡ b ++ y → x ≡ y
-same_behind a b x y long e = sym (drop-append_seam a x) ∙ ap (λ n. drop n (a ++ x)) long ∙ ap (drop (length b)) e ∙ drop-append_seam b y
+-- a label isn't the root's
+not_root : (label x y : List ℕ) → IsLabel label → part_of 1 label ++ x ≡ part_of 1 [] ++ y → ⊥
+not_root label x y is e =
+    let same = ap length (part_code 1 label [] x y (omega (arith, is)) (omega arith) e).0 in
+    let low = is.0 in
+    omega arith
+
+same_name : (labels others : List (List ℕ)) (x y : List ℕ) → AllByRecursion IsLabel labels → AllByRecursion IsLabel others
+    → name_of labels ++ x ≡ name_of others ++ y → (labels ≡ others) × (x ≡ y)
+same_name [] [] x y each all e = (refl, (part_code 1 [] [] x y (omega arith) (omega arith) e).1)
+same_name [] (b ∷ others) x y each (is, all) e = absurd (not_root b (name_of others ++ y) x is (sym (first_label b y others) ∙ sym e))
+same_name (a ∷ labels) [] x y (is, each) all e = absurd (not_root a (name_of labels ++ x) y is (sym (first_label a x labels) ∙ e))
+same_name (a ∷ labels) (b ∷ others) x y (is, each) (also, all) e =
+    let short = is.1 in
+    let low = also.1 in
+    let first = part_code 1 a b (name_of labels ++ x) (name_of others ++ y) (omega arith) (omega arith) (sym (first_label a x labels) ∙ e ∙ first_label b y others) in
+    let behind = same_name labels others x y each all first.1 in
+    (ap (λ a. a ∷ labels) first.0 ∙ ap (λ labels. b ∷ labels) behind.0, behind.1)
+
+pub name_code : IsCode IsName name_of
+name_code labels others x y is also e = same_name labels others x y is.0 also.0 e
 
 -- where an octet other than 0 stands in front of a name, it is the length of a label behind it
-pub has_label : (room n : ℕ) (octets more : List ℕ) → n < 256 → n ≢ 0 → octets_be 1 n ++ more ≡ octets → HasNameWithin room octets
+pub has_label : (room n : ℕ) (octets more : List ℕ) → n < 256 → n ≢ 0 → octets ≡ octets_be 1 n ++ more → HasNameWithin room octets
     → (n ≤ 63) × (n + 1 < room) × (n ≤ length more)
 has_label room n octets more small some front ([], behind, is, whole) =
-    let same : n ∷ more ≡ 0 ∷ behind = ap (λ x. x ++ more) (sym (one_octet n small)) ∙ front ∙ whole ∙ ap (λ x. x ++ behind) root_shape in
-    let none : n ≡ 0 = cc in
-    absurd (some none)
+    absurd (some (integer_code 1 n 0 more behind small (omega arith) (sym front ∙ whole ∙ ap (λ x. x ++ behind) (append-nil (octets_be 1 0)))).0)
 has_label room n octets more small some front ((label ∷ labels), behind, ((here, each), within), whole) =
-    let same : n ∷ more ≡ length label ∷ (label ++ (name_of labels ++ behind)) =
-    ap (λ x. x ++ more) (sym (one_octet n small)) ∙ front ∙ whole ∙ name_front label behind labels here.1 in
-    let count : n ≡ length label = cc in
-    let rest : more ≡ label ++ (name_of labels ++ behind) = cc in
-    let long = ap length rest ∙ length-append label (name_of labels ++ behind) in
+    let low = here.0 in
     let high = here.1 in
-    let whole_long = longer_name label labels high in
+    let one = integer_code 1 n (length label) more (label ++ (name_of labels ++ behind)) small (omega arith)
+    (sym front ∙ whole ∙ first_label label behind labels ∙ append_assoc (octets_be 1 (length label)) label (name_of labels ++ behind)) in
+    let count = one.0 in
+    let long = ap length one.1 ∙ length-append label (name_of labels ++ behind) in
+    let all = longer_name label labels in
     let others = long_name labels in
     (omega arith, omega arith, omega arith)
 
 -- what stands behind the first label of a name is a name
 has_others : (room less : ℕ) (octets more label : List ℕ) → IsLabel label → octets ≡ part_of 1 label ++ more → less ≡ room - (1 + length label)
     → HasNameWithin room octets → HasNameWithin less more
-has_others room less octets more label is front count_less ([], behind, none, whole) =
-    let low = is.0 in
-    let same : length label ∷ (label ++ more) ≡ 0 ∷ behind =
-    ap (λ x. x ++ more) (sym (shape label is.1)) ∙ sym front ∙ whole ∙ ap (λ x. x ++ behind) root_shape in
-    let empty : length label ≡ 0 = cc in
-    absurd (omega arith)
+has_others room less octets more label is front count_less ([], behind, none, whole) = absurd (not_root label more behind is (sym front ∙ whole))
 has_others room less octets more label is front count_less ((first ∷ others), behind, ((here, each), within), whole) =
-    let same : length label ∷ (label ++ more) ≡ length first ∷ (first ++ (name_of others ++ behind)) =
-    ap (λ x. x ++ more) (sym (shape label is.1)) ∙ sym front ∙ whole ∙ name_front first behind others here.1 in
-    let count : length label ≡ length first = cc in
-    let rest : label ++ more ≡ first ++ (name_of others ++ behind) = cc in
-    let whole_long = longer_name first others here.1 in
-    (others, behind, (each, omega arith), same_behind label first more (name_of others ++ behind) count rest)
-
--- what a call takes, and what is left
-abbrev pub NothingIsLost : Type 0
-NothingIsLost = (w : Window) (n : ℕ) → n ≤ left w → next n w ++ rest (past n w) ≡ rest w
-
--- an octet is taken
-pub octet_front : (w w1 : Window) (n : ℕ) → NothingIsLost → 1 ≤ left w → octets_be 1 n ≡ next 1 w → w1 ≡ past 1 w → octets_be 1 n ++ rest w1 ≡ rest w
-octet_front w w1 n law room value moved = ap (λ x. x ++ rest w1) value ∙ ap (λ v. next 1 w ++ rest v) moved ∙ law w 1 room
-
-pub root_front : (octets more : List ℕ) (n : ℕ) → n ≡ 0 → octets_be 1 n ++ more ≡ octets → octets ≡ part_of 1 [] ++ more
-root_front octets more n none front = sym front ∙ ap (λ k. octets_be 1 k ++ more) none ∙ ap (λ x. x ++ more) (sym (append-nil (octets_be 1 0)))
-
-pub label_front : (octets label : List ℕ) (w w1 : Window) (n len : ℕ) → NothingIsLost → octets_be 1 n ++ rest w ≡ octets → len ≡ n → len ≤ left w
-    → label ≡ next len w → length label ≡ len → w1 ≡ past len w → octets ≡ part_of 1 label ++ rest w1
-label_front octets label w w1 n len law front count fits value long moved =
-    let behind : label ++ rest w1 ≡ rest w = ap (λ x. x ++ rest w1) value ∙ ap (λ v. next len w ++ rest v) moved ∙ law w len fits in
-    sym front ∙ ap (λ x. octets_be 1 n ++ x) (sym behind) ∙ sym (append_assoc (octets_be 1 n) label (rest w1))
-    ∙ ap (λ k. (octets_be 1 k ++ label) ++ rest w1) (sym (long ∙ count))
-
-pub at_most_left : (w : Window) → length (rest w) ≤ left w
-at_most_left w = omega (arith, length-take {A = ℕ}, length-drop {A = ℕ})
-
-pub not_less : (a b : ℕ) → (a < b → ⊥) → b ≤ a
-not_less a b less = omega arith
+    let low = is.1 in
+    let high = here.1 in
+    let one = part_code 1 label first more (name_of others ++ behind) (omega arith) (omega arith) (sym front ∙ whole ∙ first_label first behind others) in
+    let same = ap length one.0 in
+    let long = longer_name first others in
+    (others, behind, (each, omega arith), one.1)
 
 -- no octet is left
 pub no_octet : (room : ℕ) (w : Window) → (1 ≤ left w → ⊥) → ¬ HasNameWithin room (rest w)
 no_octet room w none (labels, behind, is, whole) =
-    let few = at_most_left w in
+    let few = length_rest w in
     let many = ap length whole ∙ length-append (name_of labels) behind in
     let some = long_name labels in
     none (omega arith)
 
--- ---- the names read so far
+-- ---- the labels read so far
 
 each_snoc : (labels : List (List ℕ)) (label : List ℕ) → AllByRecursion IsLabel labels → IsLabel label → AllByRecursion IsLabel (labels ++ label ∷ [])
 each_snoc [] label each is = (is, tt)
@@ -130,7 +108,7 @@ pub read_more : (octets before after label : List ℕ) (labels made : List (List
 read_more octets before after label labels made room less so_far is fits front made_is count_less =
     let joined : labels_of made ≡ labels_of labels ++ part_of 1 label =
     ap labels_of made_is ∙ flat_map-append (part_of 1) labels (label ∷ []) ∙ ap (λ x. labels_of labels ++ x) (append-nil (part_of 1 label)) in
-    let part = ap length (shape label is.1) in
+    let part = length_part label in
     let long = ap length joined ∙ length-append (labels_of labels) (part_of 1 label) in
     let count = so_far.count in
     record {
@@ -145,7 +123,7 @@ pub read_name : (octets rest : List ℕ) (labels : List (List ℕ)) (room : ℕ)
 read_name octets rest labels room so_far =
     let count = so_far.count in
     let some = so_far.some in
-    let root = ap length root_shape in
+    let root = length_part [] in
     let long = length-append (labels_of labels) (part_of 1 []) in
     (so_far.each, omega arith)
 

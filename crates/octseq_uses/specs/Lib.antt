@@ -1,5 +1,6 @@
 pub mod Joined
 pub mod Line
+pub mod Message
 pub mod Name
 pub mod Record
 pub mod Refusal

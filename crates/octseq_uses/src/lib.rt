@@ -5,6 +5,7 @@
 //! of lists of octets.
 #![tactic(auto)]
 
+pub mod error;
 pub mod join;
 pub mod lines;
 pub mod name;

@@ -6,9 +6,9 @@ ghost use Rattle.octseq.specs.Parser.{window};
 ghost use Rattle.octseq.specs.Window.{left, rest};
 ghost use Rattle.octseq_uses.specs.Record.{record_of, IsRecord, AreRecords, HasRecord};
 
+use crate::error::ReadError;
 use octseq::builder::{OctetsBuilder, Truncate};
 use octseq::compose::{ComposeError, append_part_u8, append_u16_be};
-use octseq::parse::{ParseOctetsError, ShortInput};
 use octseq::{Octets, Parser};
 use std::alloc::Global;
 
@@ -19,38 +19,6 @@ pub struct Record<V> {
     pub key: u16,
     /// The octets of the value.
     pub value: V,
-}
-
-/// Why octets were not read as records.
-#[derive(Clone, Copy, Debug, PartialEq, Eq)]
-pub enum ReadError {
-    /// They are not the octets of any records.
-    Cut,
-    /// A request for memory was refused.
-    Memory,
-}
-
-impl From<ShortInput> for ReadError {
-    ghost use Rattle.octseq_uses.specs.declared.records.ReadError.TheVariants.{Cut};
-
-    ghost from_gives = { λ _ made. made ≡ Cut };
-
-    fn from(_e: ShortInput) -> ReadError {
-        ReadError::Cut
-    }
-}
-
-impl From<ParseOctetsError> for ReadError {
-    ghost use Rattle.octseq_uses.specs.Refusal.{read_error_of};
-
-    ghost from_gives = { λ e made. made ≡ read_error_of e };
-
-    fn from(e: ParseOctetsError) -> ReadError {
-        match e {
-            ParseOctetsError::Short(_) => ReadError::Cut,
-            ParseOctetsError::Memory => ReadError::Memory,
-        }
-    }
 }
 
 /// Appends a record: the key in 2 octets, big-endian, the length of the value in one octet, and the value.
@@ -93,7 +61,7 @@ fn next_record<R: Octets>(parser: &mut Parser<R>) -> Result<Record<R::Range>, Re
     ensures taken { IfOk result (λ read. rest (window parser.old)
         ≡ record_of read.key (R.Range.content read.value) ++ rest (window parser.new)) }
     ensures less { OnOk result (left (window parser.new) < left (window parser.old)) }
-    ensures cut { result ≡ Err ReadError.Cut → ¬ HasRecord (rest (window parser.old)) }
+    ensures malformed { result ≡ Err ReadError.Malformed → ¬ HasRecord (rest (window parser.old)) }
 {
     let key = parser.parse_u16_be()?;
     let len = parser.parse_u8()?;
@@ -105,7 +73,7 @@ fn next_record<R: Octets>(parser: &mut Parser<R>) -> Result<Record<R::Range>, Re
 ///
 /// # Errors
 ///
-/// `Cut` where the octets are not those of any records, and `Memory` only where a request for memory was
+/// `Malformed` where the octets are not those of any records, and `Memory` only where a request for memory was
 /// refused.
 pub fn take_records<R: Octets>(
     alloc: Global,
@@ -113,7 +81,7 @@ pub fn take_records<R: Octets>(
 ) -> Result<Vec<Record<R::Range>>, ReadError>
     ensures ok { IfOk result (λ records. AreRecords (rest (window parser.old))
         (map (λ read. (read.key, R.Range.content read.value)) records.items)) }
-    ensures cut { result ≡ Err ReadError.Cut
+    ensures malformed { result ≡ Err ReadError.Malformed
         → (records : List (ℕ × List ℕ)) → ¬ AreRecords (rest (window parser.old)) records }
 {
     let mut records = Vec::new(alloc);
@@ -131,12 +99,12 @@ pub fn take_records<R: Octets>(
 ///
 /// # Errors
 ///
-/// `Cut` where the octets are not those of any records, and `Memory` only where a request for memory was
+/// `Malformed` where the octets are not those of any records, and `Memory` only where a request for memory was
 /// refused.
 pub fn read_records<R: Octets>(alloc: Global, octets: R) -> Result<Vec<Record<R::Range>>, ReadError>
     ensures ok { IfOk result (λ records. AreRecords (R.content octets)
         (map (λ read. (read.key, R.Range.content read.value)) records.items)) }
-    ensures cut { result ≡ Err ReadError.Cut
+    ensures malformed { result ≡ Err ReadError.Malformed
         → (records : List (ℕ × List ℕ)) → ¬ AreRecords (R.content octets) records }
 {
     take_records(alloc, &mut Parser::from_ref(octets))

@@ -1,6 +1,7 @@
 //! Each caller, used.
+use crate::error::ReadError;
 use crate::join::join;
-use crate::records::{ReadError, append_record, read_records};
+use crate::records::{append_record, read_records};
 use crate::swap::paired;
 use octseq::builder::{AppendError, AsOctets, EmptyBuilder, ShortBuf};
 use octseq::compose::ComposeError;
@@ -45,7 +46,7 @@ fn records_are_read_whole(rt: HostRuntime) -> Result<(), Fail> {
     }
     assert_eq!(rt; again.as_slice(), octets.as_slice());
     let cut = read_records(rt.alloc(), b"\x12\x34\x02b".as_slice());
-    assert_eq!(rt; cut.err(), Some(ReadError::Cut));
+    assert_eq!(rt; cut.err(), Some(ReadError::Malformed));
     Ok(())
 }
 

@@ -1,5 +1,6 @@
 //! Names.
-use crate::name::{NameError, read_name};
+use crate::error::ReadError;
+use crate::name::read_name;
 use bytes::Bytes;
 use octseq::{Array, AsOctets, Octets, Parser};
 use std::alloc::Global;
@@ -22,7 +23,7 @@ fn is_read<R: Octets + Copy>(
                 assert_eq!(rt; AsOctets::as_ref(label), *other);
             }
         }
-        (Err(error), None) => assert_eq!(rt; error, NameError::NoName),
+        (Err(error), None) => assert_eq!(rt; error, ReadError::Malformed),
         (Ok(_), None) => assert!(rt; false, "it was read"),
         (Err(_), Some(_)) => assert!(rt; false, "it was refused"),
     }

@@ -3,8 +3,8 @@ use Rattle.std.proofs.lemmas.List.{map-append}
 use Rattle.std.proofs.lemmas.Result.{err_from_is_err_and}
 use Rattle.octseq.specs.Parser.{window}
 use Rattle.octseq.specs.Window.{rest}
-use Rattle.octseq_uses.specs.declared.name.NameError.{NameError}
-use Rattle.octseq_uses.proofs.Fronts.{same_refusal}
+use Rattle.octseq_uses.specs.declared.error.ReadError.{ReadError}
+use Rattle.octseq_uses.proofs.Refusals.{same_refusal}
 use Rattle.octseq_uses.proofs.Names.{read_none, read_more, read_name, read_root}
 use Rattle.octseq_uses.proofs.name.read_name.Goals as goal
 
@@ -14,10 +14,10 @@ loop-labels-init g c = record {
   same = refl;
 }
 
-pub returns-in_err-label-clause-no_name : goal.returns-in_err-label-clause-no_name
-returns-in_err-label-clause-no_name g c = λ e has.
+pub returns-in_err-label-clause-malformed : goal.returns-in_err-label-clause-malformed
+returns-in_err-label-clause-malformed g c = λ e has.
     let p = err_from_is_err_and c.from_residual.result c.from_residual.ensures.1 in
-    let none = c.next_label.ensures.no_name (same_refusal c.next_label.result c.from_residual.result p.0 c.in_err-label.field-0.0 NameError.NoName p.1 p.2 e c.in_err-label.was) in
+    let none = c.next_label.ensures.malformed (same_refusal c.next_label.result c.from_residual.result p.0 c.in_err-label.field-0.0 ReadError.Malformed p.1 p.2 e c.in_err-label.was) in
     none (c.loop-labels.invariant.read.behind has)
 
 pub loop-labels-smaller : goal.loop-labels-smaller

@@ -4,24 +4,24 @@ use Rattle.octseq.specs.Integer.{octets_be}
 use Rattle.octseq.specs.Parser.{window}
 use Rattle.octseq.specs.Part.{part_of}
 use Rattle.octseq.specs.Window.{rest}
-use Rattle.octseq_uses.proofs.RecordCode.{short_of}
+use Rattle.octseq_uses.proofs.Refusals.{short_of}
 use Rattle.octseq_uses.proofs.records.next_record.Goals as goal
 
-pub returns-in_err-key-clause-cut : goal.returns-in_err-key-clause-cut
-returns-in_err-key-clause-cut g c = λ _.
+pub returns-in_err-key-clause-malformed : goal.returns-in_err-key-clause-malformed
+returns-in_err-key-clause-malformed g c = λ _.
     let w = window c.args.parser.now in
     no_first (λ key. key < 65536) (octets_be 2) (λ value. length value < 256) (part_of 1) (rest w) (no_integer w 2 (not_taken c.in_err-key.ensures.taken))
 
-pub returns-in_err-len-clause-cut : goal.returns-in_err-len-clause-cut
-returns-in_err-len-clause-cut g c = λ _.
+pub returns-in_err-len-clause-malformed : goal.returns-in_err-len-clause-malformed
+returns-in_err-len-clause-malformed g c = λ _.
     let key = c.in_ok-key.key in
     let w = window c.args.parser.now in
     let v = window c.parse_u16_be.new.self in
     no_second (λ key. key < 65536) (octets_be 2) (λ value. length value < 256) (part_of 1) (rest w) (rest v) key (integer_code 2) (omega arith)
     (took (octets_be 2 key) c.in_ok-key.ensures.taken c.in_ok-key.ensures.octets) (no_part_length v 1 (not_taken c.in_err-len.ensures.taken))
 
-pub returns-in_err-value-clause-cut : goal.returns-in_err-value-clause-cut
-returns-in_err-value-clause-cut g c = λ cut.
+pub returns-in_err-value-clause-malformed : goal.returns-in_err-value-clause-malformed
+returns-in_err-value-clause-malformed g c = λ malformed.
     let key = c.in_ok-key.key in
     let len = c.in_ok-len.len in
     let w = window c.args.parser.now in

@@ -4,16 +4,17 @@ use Rattle.std.proofs.lemmas.Result.{err_from_is_err_and}
 use Rattle.octseq.proofs.Repeats.{read_more, read_cut}
 use Rattle.octseq.specs.Parser.{window}
 use Rattle.octseq.specs.Window.{rest}
-use Rattle.octseq_uses.proofs.RecordCode.{spelled, record_code, has_octets, same_refusal}
+use Rattle.octseq_uses.proofs.RecordCode.{spelled, record_code, has_octets}
+use Rattle.octseq_uses.proofs.Refusals.{same_refusal}
 use Rattle.octseq_uses.specs.Record.{IsRecord}
-use Rattle.octseq_uses.specs.declared.records.ReadError.{ReadError}
+use Rattle.octseq_uses.specs.declared.error.ReadError.{ReadError}
 use Rattle.octseq_uses.specs.declared.records.Record.{Record}
 use Rattle.octseq_uses.proofs.records.take_records.Goals as goal
 
-pub returns-in_err-read-clause-cut : goal.returns-in_err-read-clause-cut
-returns-in_err-read-clause-cut g c = λ e records are.
+pub returns-in_err-read-clause-malformed : goal.returns-in_err-read-clause-malformed
+returns-in_err-read-clause-malformed g c = λ e records are.
     let p = err_from_is_err_and c.from_residual.result c.from_residual.ensures.1 in
-    let cut = c.next_record.ensures.cut (same_refusal c.next_record.result c.from_residual.result p.0 c.in_err-read.field-0.0 ReadError.Cut p.1 p.2 e c.in_err-read.was) in
+    let cut = c.next_record.ensures.malformed (same_refusal c.next_record.result c.from_residual.result p.0 c.in_err-read.field-0.0 ReadError.Malformed p.1 p.2 e c.in_err-read.was) in
     read_cut IsRecord spelled (rest (window c.args.parser.now)) (rest (window c.loop-parser.parser)) _ c.loop-parser.invariant (omega arith) cut (records, are.0, are.1)
 
 pub loop-parser-preserved : goal.loop-parser-preserved

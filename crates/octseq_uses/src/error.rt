@@ -1,0 +1,34 @@
+//! Why octets were not read.
+ghost use Rattle.std.specs.Prelude.{◌≡◌};
+ghost use Rattle.octseq_uses.specs.Refusal.{read_error_of};
+ghost use Rattle.octseq_uses.specs.declared.error.ReadError.TheVariants.{Malformed};
+
+use octseq::parse::{ParseOctetsError, ShortInput};
+
+/// Why octets were not read.
+#[derive(Clone, Copy, Debug, PartialEq, Eq)]
+pub enum ReadError {
+    /// They don't have the form that was to be read.
+    Malformed,
+    /// A request for memory was refused.
+    Memory,
+}
+
+impl From<ShortInput> for ReadError {
+    ghost from_gives = { λ _ made. made ≡ Malformed };
+
+    fn from(_e: ShortInput) -> ReadError {
+        ReadError::Malformed
+    }
+}
+
+impl From<ParseOctetsError> for ReadError {
+    ghost from_gives = { λ e made. made ≡ read_error_of e };
+
+    fn from(e: ParseOctetsError) -> ReadError {
+        match e {
+            ParseOctetsError::Short(_) => ReadError::Malformed,
+            ParseOctetsError::Memory => ReadError::Memory,
+        }
+    }
+}
