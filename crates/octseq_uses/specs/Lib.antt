@@ -4,3 +4,4 @@ pub mod Message
 pub mod Name
 pub mod Record
 pub mod Refusal
+pub mod Said

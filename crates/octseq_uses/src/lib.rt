@@ -8,6 +8,7 @@
 pub mod error;
 pub mod join;
 pub mod lines;
+pub mod message;
 pub mod name;
 pub mod records;
 pub mod swap;
