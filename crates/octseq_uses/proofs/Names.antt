@@ -2,12 +2,13 @@
 use Rattle.std.proofs.Common.{◌≡◌, ◌≢◌, ℕ, ◌+◌, ◌-◌, ◌/◌, ◌%◌, ◌^◌, ◌<◌, ◌≤◌, List, [], ◌∷◌, ◌++◌, length, drop, refl, sym, ap, ◌∙◌, subst, append_assoc, arith}
 use Rattle.std.proofs.Math.Seq.{drop-append_seam}
 use Rattle.std.proofs.lemmas.Grind.{flat_map-append}
-use Rattle.std.proofs.lemmas.List.{append-nil, length-append, length-take, length-drop}
+use Rattle.std.proofs.lemmas.List.{append-nil, length-append}
 use Rattle.std.specs.List.{AllByRecursion}
 use Rattle.octseq.specs.Integer.{octets_be}
 use Rattle.octseq.specs.Part.{part_of}
 use Rattle.octseq.specs.Window.{Window, left, rest, next, past}
 use Rattle.octseq_uses.specs.Name.{IsLabel, labels_of, name_of, IsName, HasNameWithin, HasName}
+use Rattle.octseq_uses.proofs.Calls.{NothingIsLost, at_most_left}
 
 -- one octet is its value
 one_octet : (n : ℕ) → n < 256 → octets_be 1 n ≡ n ∷ []
@@ -17,21 +18,21 @@ one_octet n small = let same : n / 256 ^ 0 % 256 ≡ n = omega arith in ap (λ x
 shape : (label : List ℕ) → length label ≤ 63 → part_of 1 label ≡ length label ∷ label
 shape label short = ap (λ x. x ++ label) (one_octet (length label) (omega arith))
 
-root_shape : part_of 1 [] ≡ 0 ∷ []
+pub root_shape : part_of 1 [] ≡ 0 ∷ []
 root_shape = ap (λ x. x ++ []) (one_octet 0 (omega arith))
 
 -- the first label, and the name of the others
-name_step : (label : List ℕ) (labels : List (List ℕ)) → name_of (label ∷ labels) ≡ part_of 1 label ++ name_of labels
+pub name_step : (label : List ℕ) (labels : List (List ℕ)) → name_of (label ∷ labels) ≡ part_of 1 label ++ name_of labels
 name_step label labels = append_assoc (part_of 1 label) (labels_of labels) (part_of 1 [])
 
 name_front : (label more : List ℕ) (labels : List (List ℕ)) → length label ≤ 63 → name_of (label ∷ labels) ++ more ≡ length label ∷ (label ++ (name_of labels ++ more))
 name_front label more labels short =
     ap (λ x. x ++ more) (name_step label labels) ∙ append_assoc (part_of 1 label) (name_of labels) more ∙ ap (λ x. x ++ (name_of labels ++ more)) (shape label short)
 
-long_name : (labels : List (List ℕ)) → 1 ≤ length (name_of labels)
+pub long_name : (labels : List (List ℕ)) → 1 ≤ length (name_of labels)
 long_name labels = let root = ap length root_shape in omega (arith, length-append (labels_of labels) (part_of 1 []), root)
 
-longer_name : (label : List ℕ) (labels : List (List ℕ)) → length label ≤ 63 → length (name_of (label ∷ labels)) ≡ 1 + length label + length (name_of labels)
+pub longer_name : (label : List ℕ) (labels : List (List ℕ)) → length label ≤ 63 → length (name_of (label ∷ labels)) ≡ 1 + length label + length (name_of labels)
 longer_name label labels short =
     let part = ap length (shape label short) in
     ap length (name_step label labels) ∙ omega (arith, length-append (part_of 1 label) (name_of labels), part)
@@ -75,10 +76,6 @@ has_others room less octets more label is front count_less ((first ∷ others), 
     let whole_long = longer_name first others here.1 in
     (others, behind, (each, omega arith), same_behind label first more (name_of others ++ behind) count rest)
 
--- what a call takes, and what is left
-abbrev pub NothingIsLost : Type 0
-NothingIsLost = (w : Window) (n : ℕ) → n ≤ left w → next n w ++ rest (past n w) ≡ rest w
-
 -- an octet is taken
 pub octet_front : (w w1 : Window) (n : ℕ) → NothingIsLost → 1 ≤ left w → octets_be 1 n ≡ next 1 w → w1 ≡ past 1 w → octets_be 1 n ++ rest w1 ≡ rest w
 octet_front w w1 n law room value moved = ap (λ x. x ++ rest w1) value ∙ ap (λ v. next 1 w ++ rest v) moved ∙ law w 1 room
@@ -92,12 +89,6 @@ label_front octets label w w1 n len law front count fits value long moved =
     let behind : label ++ rest w1 ≡ rest w = ap (λ x. x ++ rest w1) value ∙ ap (λ v. next len w ++ rest v) moved ∙ law w len fits in
     sym front ∙ ap (λ x. octets_be 1 n ++ x) (sym behind) ∙ sym (append_assoc (octets_be 1 n) label (rest w1))
     ∙ ap (λ k. (octets_be 1 k ++ label) ++ rest w1) (sym (long ∙ count))
-
-pub at_most_left : (w : Window) → length (rest w) ≤ left w
-at_most_left w = omega (arith, length-take {A = ℕ}, length-drop {A = ℕ})
-
-pub not_less : (a b : ℕ) → (a < b → ⊥) → b ≤ a
-not_less a b less = omega arith
 
 -- no octet is left
 pub no_octet : (room : ℕ) (w : Window) → (1 ≤ left w → ⊥) → ¬ HasNameWithin room (rest w)

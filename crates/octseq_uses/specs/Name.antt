@@ -3,6 +3,9 @@
 use Rattle.std.specs.List.{AllByRecursion, flat_map}
 use Rattle.std.specs.Prelude.{◌≡◌, ℕ, ◌≤◌, List, [], ◌++◌, length}
 use Rattle.octseq.specs.Part.{part_of}
+use Rattle.octseq.specs.declared.compose.ComposeError.{ComposeError}
+use Rattle.octseq.specs.declared.compose.ComposeError.TheVariants.{TooLong, Short, Memory}
+use Rattle.octseq_uses.specs.declared.name.AppendNameError.{AppendNameError}
 
 -- a label other than the root's: a length octet of 64 or more, as of a compression pointer, is no label
 abbrev pub IsLabel : List ℕ → Type 0
@@ -30,3 +33,9 @@ IsName labels = IsNameWithin 255 labels
 
 abbrev pub HasName : List ℕ → Type 0
 HasName octets = HasNameWithin 255 octets
+
+-- the refusal of a name of which a label was refused
+abbrev pub refusal_of : ComposeError → AppendNameError
+refusal_of TooLong = AppendNameError.NoName
+refusal_of Short = AppendNameError.Short
+refusal_of Memory = AppendNameError.Memory

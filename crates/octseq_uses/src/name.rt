@@ -1,10 +1,14 @@
 //! Domain names in wire form.
-ghost use Rattle.std.specs.Prelude.{◌≡◌, ◌<◌, ◌++◌, [], length, map, Err, IfOk, IfSome, IfNone, OnErr};
+ghost use Rattle.std.specs.Prelude.{◌≡◌, ◌+◌, ◌<◌, ◌++◌, ◌↔◌, true, [], length, map, take, Err, IsTrue, IsErr, IfOk, IfSome, IfNone, OnOk, OnErr};
+ghost use Rattle.octseq_core.specs.Limit.{IsPast};
+ghost use Rattle.octseq.specs.Composer.{IsPartTooLong, IsPartShort, IsPartMemory};
 ghost use Rattle.octseq.specs.Parser.{sequence, window};
 ghost use Rattle.octseq.specs.Part.{part_of};
 ghost use Rattle.octseq.specs.Window.{rest};
 ghost use Rattle.octseq_uses.specs.Name.{IsLabel, name_of, IsName, HasName, HasNameWithin};
 
+use octseq::builder::{OctetsBuilder, Truncate};
+use octseq::compose::{ComposeError, append_part_u8};
 use octseq::parse::{self, ParseOctetsError};
 use octseq::{AsOctets, Octets, Parser};
 use std::alloc::Global;
@@ -22,6 +26,31 @@ pub enum NameError {
     NoName,
     /// A request for memory was refused.
     Memory,
+}
+
+/// Why a name was not appended.
+#[derive(Clone, Copy, Debug, PartialEq, Eq)]
+pub enum AppendNameError {
+    /// The labels are not those of a name.
+    NoName,
+    /// The content would pass the limit of its type.
+    Short,
+    /// A request for memory was refused.
+    Memory,
+}
+
+impl From<ComposeError> for AppendNameError {
+    ghost use Rattle.octseq_uses.specs.Name.{refusal_of};
+
+    ghost from_gives = { λ e made. made ≡ refusal_of e };
+
+    fn from(e: ComposeError) -> AppendNameError {
+        match e {
+            ComposeError::TooLong => AppendNameError::NoName,
+            ComposeError::Short => AppendNameError::Short,
+            ComposeError::Memory => AppendNameError::Memory,
+        }
+    }
 }
 
 /// Takes the next label of a name that may have so many octets more, as a range of the sequence, or the root
@@ -86,4 +115,78 @@ pub fn read_name<R: Octets + Copy>(
     }
     *parser = ahead;
     Ok(labels)
+}
+
+/// Whether these are the labels of a name.
+fn is_name(labels: &[&[u8]]) -> bool
+    ensures { IsTrue result ↔ IsName (map (λ label. label.now) labels.now) }
+{
+    let mut room = NAME_MOST;
+    for label in labels {
+        let len = label.len();
+        if len == 0 || len > LABEL_MOST || len + 1 >= room {
+            return false;
+        }
+        room -= 1 + len;
+    }
+    true
+}
+
+/// Appends the labels and the root label.
+///
+/// # Errors
+///
+/// As `append_part_u8`. The content then ends with a front of what was to be appended.
+fn append_labels<B: OctetsBuilder + Truncate>(
+    builder: &mut B,
+    labels: &[&[u8]],
+) -> Result<(), ComposeError>
+    ensures ok { OnOk result (B.content builder.new
+        ≡ B.content builder.old ++ name_of (map (λ label. label.now) labels.now)) }
+    ensures front { take (length (B.content builder.old)) (B.content builder.new) ≡ B.content builder.old }
+    ensures too_long { IsPartTooLong result → ¬ IsName (map (λ label. label.now) labels.now) }
+    ensures short { IsPartShort result → IsPast B.limit
+        (length (B.content builder.old) + length (name_of (map (λ label. label.now) labels.now))) }
+    ensures past { IsPast B.limit
+        (length (B.content builder.old) + length (name_of (map (λ label. label.now) labels.now))) → IsErr result }
+    ensures memory { IsPartMemory result → B.asks ≡ true }
+    ensures borrows { B.borrows builder.new ≡ B.borrows builder.old }
+{
+    for label in labels {
+        append_part_u8(builder, label)?;
+    }
+    append_part_u8(builder, b"")
+}
+
+/// Appends the name of these labels, the root label behind them.
+///
+/// # Errors
+///
+/// `NoName` where they are not the labels of a name. Else `Short` where the content, with the whole name behind
+/// it, would pass the limit of its type, and `Memory` only where a request for memory was refused. The content
+/// is then as it was.
+pub fn append_name<B: OctetsBuilder + Truncate>(
+    builder: &mut B,
+    labels: &[&[u8]],
+) -> Result<(), AppendNameError>
+    ensures ok { OnOk result (B.content builder.new
+        ≡ B.content builder.old ++ name_of (map (λ label. label.now) labels.now)) }
+    ensures err { OnErr result (B.content builder.new ≡ B.content builder.old) }
+    ensures no_name { result ≡ Err AppendNameError.NoName ↔ ¬ IsName (map (λ label. label.now) labels.now) }
+    ensures short { result ≡ Err AppendNameError.Short → IsPast B.limit
+        (length (B.content builder.old) + length (name_of (map (λ label. label.now) labels.now))) }
+    ensures past { IsPast B.limit
+        (length (B.content builder.old) + length (name_of (map (λ label. label.now) labels.now))) → IsErr result }
+    ensures memory { result ≡ Err AppendNameError.Memory → B.asks ≡ true }
+    ensures borrows { B.borrows builder.new ≡ B.borrows builder.old }
+{
+    if !is_name(labels) {
+        return Err(AppendNameError::NoName);
+    }
+    let before = builder.as_ref().len();
+    let appended = append_labels(builder, labels);
+    if appended.is_err() {
+        builder.truncate(before);
+    }
+    Ok(appended?)
 }

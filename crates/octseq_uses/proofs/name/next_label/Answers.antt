@@ -1,7 +1,8 @@
 use Rattle.std.proofs.Common.{◌≡◌, ◌<◌, ◌≤◌, ◌∙◌, sym, arith, refl, false, true}
 use Rattle.octseq.specs.Parser.{window}
 use Rattle.octseq.specs.Window.{left, rest}
-use Rattle.octseq_uses.proofs.Names.{octet_front, root_front, label_front, has_label, no_octet, not_less, at_most_left}
+use Rattle.octseq_uses.proofs.Calls.{not_less, at_most_left}
+use Rattle.octseq_uses.proofs.Names.{octet_front, root_front, label_front, has_label, no_octet}
 use Rattle.octseq_uses.proofs.name.next_label.Goals as goal
 
 pub returns-in_default-clause-no_name : goal.returns-in_default-clause-no_name
