@@ -1,7 +1,6 @@
 -- What a caller's proof needs of the calls below, whatever it is about.
-use Rattle.std.proofs.Common.{◌≡◌, ℕ, ◌<◌, ◌≤◌, ◌++◌, length, drop, sym, ap, ◌∙◌, subst, arith}
-use Rattle.std.proofs.Math.Seq.{drop-append_seam}
-use Rattle.std.proofs.lemmas.List.{length-take, length-drop}
+use Rattle.std.proofs.Common.{◌≡◌, ℕ, ◌+◌, ◌-◌, ◌<◌, ◌≤◌, ◌++◌, length, take, drop, sym, ap, ◌∙◌, subst, arith}
+use Rattle.std.proofs.lemmas.List.{drop-take, drop-drop, length-take, length-drop}
 use Rattle.std.specs.Prelude.{Option, Some, None, Result, Err}
 use Rattle.octseq_core.specs.Limit.{IsPast}
 use Rattle.octseq_core.specs.Refusal.{IsShort}
@@ -17,10 +16,12 @@ pub at_most_left : (w : Window) → length (rest w) ≤ left w
 at_most_left w = omega (arith, length-take {A = ℕ}, length-drop {A = ℕ})
 
 -- what is left behind what a call took
-pub rest_past : (w v : Window) (n : ℕ) → NothingIsLost → length (rest w) ≡ left w → n ≤ left w → v ≡ past n w → drop n (rest w) ≡ rest v
-rest_past w v n law all fits moved =
-    let long : length (next n w) ≡ n = omega (arith, all, fits, length-take {A = ℕ}, length-drop {A = ℕ}) in
-    ap (drop n) (sym (law w n fits)) ∙ ap (λ k. drop k (next n w ++ rest (past n w))) (sym long) ∙ drop-append_seam (next n w) (rest (past n w)) ∙ ap rest (sym moved)
+pub rest_past : (w v : Window) (n : ℕ) → n ≤ left w → v ≡ past n w → drop n (rest w) ≡ rest v
+rest_past w v n fits moved =
+    let ahead = drop w.position w.octets in
+    let behind = w.end - (w.position + n) in
+    let all : left w ≡ n + behind = omega arith in
+    ap (λ k. drop n (take k ahead)) all ∙ drop-take n behind ahead ∙ ap (take behind) (drop-drop n w.position w.octets) ∙ ap rest (sym moved)
 
 pub not_less : (a b : ℕ) → (a < b → ⊥) → b ≤ a
 not_less a b less = omega arith

@@ -1,5 +1,5 @@
 -- Lines at the front of octets, and the texts of their parts.
-use Rattle.std.proofs.Common.{◌≡◌, ℕ, inl, inr, List, [], ◌∷◌, ◌++◌, length, refl, sym, ap, ◌∙◌, arith}
+use Rattle.std.proofs.Common.{◌≡◌, ◌≢◌, ℕ, ◌⊎◌, inl, inr, List, [], ◌∷◌, ◌++◌, length, refl, sym, ap, ◌∙◌, arith}
 use Rattle.std.proofs.lemmas.Grind.{flat_map-append}
 use Rattle.std.proofs.lemmas.List.{length-append}
 use Rattle.std.specs.Prelude.{Option}
@@ -21,18 +21,33 @@ no_feed (y ∷ line) (x ∷ other) more (here, is) e = let behind : other ≡ li
 no_feed [] [] more is e = cc
 no_feed (y ∷ line) [] more is e = cc
 
-same_line : (line other more rest : List ℕ) → IsLine line → IsLine other → line ++ 10 ∷ more ≡ other ++ 10 ∷ rest → line ≡ other
-same_line [] [] more rest is other_is e = refl
+same_line : (line other more rest : List ℕ) → IsLine line → IsLine other → line ++ 10 ∷ more ≡ other ++ 10 ∷ rest → (line ≡ other) × (more ≡ rest)
+same_line [] [] more rest is other_is e = (refl, cc)
 same_line [] (y ∷ other) more rest is (here, other_is) e = let same : y ≡ 10 = cc in absurd (here same)
 same_line (x ∷ line) [] more rest (here, is) other_is e = let same : x ≡ 10 = cc in absurd (here same)
 same_line (x ∷ line) (y ∷ other) more rest (here, is) (there, other_is) e =
     let first : x ≡ y = cc in
     let behind : line ++ 10 ∷ more ≡ other ++ 10 ∷ rest = cc in
-    ap (λ z. z ∷ line) first ∙ ap (λ octets. y ∷ octets) (same_line line other more rest is other_is behind)
+    let same = same_line line other more rest is other_is behind in
+    (ap (λ z. z ∷ line) first ∙ ap (λ octets. y ∷ octets) same.0, same.1)
 
 -- one line stands at the front
-pub one_line : (octets line other more rest : List ℕ) → TakesLine octets line more → TakesLine octets other rest → line ≡ other
+pub one_line : (octets line other more rest : List ℕ) → TakesLine octets line more → TakesLine octets other rest → (line ≡ other) × (more ≡ rest)
 one_line octets line other more rest (is, inl e) (other_is, inl f) = same_line line other more rest is other_is (sym e ∙ f)
 one_line octets line other more rest (is, inl e) (other_is, inr (f, none)) = absurd (no_feed line other more other_is (sym f ∙ e))
 one_line octets line other more rest (is, inr (e, none)) (other_is, inl f) = absurd (no_feed other line rest is (sym e ∙ f))
-one_line octets line other more rest (is, inr (e, none)) (other_is, inr (f, others)) = sym e ∙ f
+one_line octets line other more rest (is, inr (e, none)) (other_is, inr (f, others)) = (sym e ∙ f, none ∙ sym others)
+
+line_more : (x : ℕ) (octets line more : List ℕ) → x ≢ 10 → TakesLine octets line more → TakesLine (x ∷ octets) (x ∷ line) more
+line_more x octets line more other (is, inl e) = ((other, is), inl (ap (λ xs. x ∷ xs) e))
+line_more x octets line more other (is, inr (e, none)) = ((other, is), inr (ap (λ xs. x ∷ xs) e, none))
+
+pub some_line : (octets : List ℕ) → (line : List ℕ) × (more : List ℕ) × TakesLine octets line more
+some_line [] = ([], [], (tt, inr (refl, refl)))
+some_line (x ∷ octets) =
+    let feed_or : (x ≡ 10) ⊎ (x ≢ 10) = grind arith in
+    let behind = some_line octets in
+    elim feed_or [
+      | inl feed ↦ ([], octets, (tt, inl (ap (λ y. y ∷ octets) feed)))
+      | inr other ↦ (x ∷ behind.0, behind.1, line_more x octets behind.0 behind.1 other behind.2)
+    ]

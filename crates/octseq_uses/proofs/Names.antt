@@ -1,6 +1,6 @@
 -- Names at the front of octets.
-use Rattle.std.proofs.Common.{◌≡◌, ◌≢◌, ℕ, ◌+◌, ◌-◌, ◌/◌, ◌%◌, ◌^◌, ◌<◌, ◌≤◌, List, [], ◌∷◌, ◌++◌, length, drop, refl, sym, ap, ◌∙◌, subst, append_assoc, arith}
-use Rattle.std.proofs.Math.Seq.{drop-append_seam}
+use Rattle.std.proofs.Common.{◌≡◌, ◌≢◌, ℕ, ◌+◌, ◌-◌, ◌/◌, ◌%◌, ◌^◌, ◌<◌, ◌≤◌, List, [], ◌∷◌, ◌++◌, length, take, drop, refl, sym, ap, ◌∙◌, subst, append_assoc, arith}
+use Rattle.std.proofs.Math.Seq.{take-append_seam, drop-append_seam}
 use Rattle.std.proofs.lemmas.Grind.{flat_map-append}
 use Rattle.std.proofs.lemmas.List.{append-nil, length-append}
 use Rattle.std.specs.List.{AllByRecursion}
@@ -38,8 +38,35 @@ longer_name label labels short =
     ap length (name_step label labels) ∙ omega (arith, length-append (part_of 1 label) (name_of labels), part)
 
 -- lists with fronts of one length
+same_front : (a b x y : List ℕ) → length a ≡ length b → a ++ x ≡ b ++ y → a ≡ b
+same_front a b x y long e = sym (take-append_seam a x) ∙ ap (λ n. take n (a ++ x)) long ∙ ap (take (length b)) e ∙ take-append_seam b y
+
 same_behind : (a b x y : List ℕ) → length a ≡ length b → a ++ x ≡ b ++ y → x ≡ y
 same_behind a b x y long e = sym (drop-append_seam a x) ∙ ap (λ n. drop n (a ++ x)) long ∙ ap (drop (length b)) e ∙ drop-append_seam b y
+
+-- the root label and a label differ in their first octet
+root_or_label : (more rest label : List ℕ) (labels : List (List ℕ)) → IsLabel label → name_of [] ++ more ≡ name_of (label ∷ labels) ++ rest → ⊥
+root_or_label more rest label labels is e =
+    let low = is.0 in
+    let same : 0 ∷ more ≡ length label ∷ (label ++ (name_of labels ++ rest)) = ap (λ x. x ++ more) (sym root_shape) ∙ e ∙ name_front label rest labels is.1 in
+    let none : 0 ≡ length label = cc in
+    omega arith
+
+pub same_name : (labels others : List (List ℕ)) (more rest : List ℕ) → AllByRecursion IsLabel labels → AllByRecursion IsLabel others
+    → name_of labels ++ more ≡ name_of others ++ rest → (labels ≡ others) × (more ≡ rest)
+same_name [] [] more rest each all e =
+    let same : 0 ∷ more ≡ 0 ∷ rest = ap (λ x. x ++ more) (sym root_shape) ∙ e ∙ ap (λ x. x ++ rest) root_shape in
+    (refl, cc)
+same_name [] (other ∷ others) more rest each (there, all) e = absurd (root_or_label more rest other others there e)
+same_name (label ∷ labels) [] more rest (here, each) all e = absurd (root_or_label rest more label labels here (sym e))
+same_name (label ∷ labels) (other ∷ others) more rest (here, each) (there, all) e =
+    let same : length label ∷ (label ++ (name_of labels ++ more)) ≡ length other ∷ (other ++ (name_of others ++ rest)) =
+    sym (name_front label more labels here.1) ∙ e ∙ name_front other rest others there.1 in
+    let count : length label ≡ length other = cc in
+    let behind : label ++ (name_of labels ++ more) ≡ other ++ (name_of others ++ rest) = cc in
+    let first = same_front label other (name_of labels ++ more) (name_of others ++ rest) count behind in
+    let next_ones = same_name labels others more rest each all (same_behind label other (name_of labels ++ more) (name_of others ++ rest) count behind) in
+    (ap (λ l. l ∷ labels) first ∙ ap (λ ls. other ∷ ls) next_ones.0, next_ones.1)
 
 -- where an octet other than 0 stands in front of a name, it is the length of a label behind it
 pub has_label : (room n : ℕ) (octets more : List ℕ) → n < 256 → n ≢ 0 → octets_be 1 n ++ more ≡ octets → HasNameWithin room octets

@@ -1,5 +1,5 @@
 //! Domain names in wire form.
-ghost use Rattle.std.specs.Prelude.{◌≡◌, ◌+◌, ◌<◌, ◌++◌, ◌↔◌, true, [], length, map, take, Err, IsTrue, IsErr, IfOk, IfSome, IfNone, OnOk, OnErr};
+ghost use Rattle.std.specs.Prelude.{◌≡◌, ℕ, List, ◌+◌, ◌<◌, ◌++◌, ◌↔◌, true, [], length, map, take, Err, IsTrue, IsErr, IfOk, IfSome, IfNone, OnOk, OnErr};
 ghost use Rattle.octseq_core.specs.Limit.{IsPast};
 ghost use Rattle.octseq.specs.Composer.{IsPartTooLong, IsPartShort, IsPartMemory};
 ghost use Rattle.octseq.specs.Parser.{sequence, window};
@@ -52,6 +52,14 @@ impl From<ComposeError> for AppendNameError {
         }
     }
 }
+
+/// Octets begin with one name at most: what was appended is what is read.
+///
+/// It does nothing. A caller that calls it has the law in its proof.
+pub fn one_name()
+    ensures { (labels others : List (List ℕ)) (more rest : List ℕ) → IsName labels → IsName others
+        → name_of labels ++ more ≡ name_of others ++ rest → (labels ≡ others) × (more ≡ rest) }
+{}
 
 /// Takes the next label of a name that may have so many octets more, as a range of the sequence, or the root
 /// label, for which it answers `None`.
