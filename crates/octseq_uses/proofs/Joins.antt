@@ -1,11 +1,12 @@
 -- What is still to come of joined words.
-use Rattle.std.proofs.Common.{◌≡◌, ℕ, suc, ◌+◌, ◌<◌, ◌≤◌, List, ◌∷◌, ◌++◌, length, drop, map, get_or, Option, Some, None, subst, sym, ap, ◌∙◌, append_assoc, arith}
+use Rattle.std.proofs.Common.{◌≡◌, ℕ, suc, ◌+◌, ◌<◌, ◌≤◌, List, ◌∷◌, ◌++◌, length, drop, map, get_or, Option, subst, sym, ap, ◌∙◌, append_assoc, arith}
 use Rattle.std.proofs.Math.ListN.{drop_of_length-le}
 use Rattle.std.proofs.Math.Seq.{drop-cons}
 use Rattle.std.proofs.lemmas.List.{append-nil, length-append}
 use Rattle.std.specs.List.{flat_map}
 use Rattle.std.specs.Prelude.{Result, Ok, Err, OnErr}
 use Rattle.octseq_core.specs.Limit.{IsPast}
+use Rattle.octseq_uses.proofs.Calls.{past_more}
 use Rattle.octseq_uses.specs.Joined.{joined}
 
 -- the words, each behind a separator
@@ -53,10 +54,6 @@ to_come_none show separator text all others i past so_far =
 -- what was appended is within the limit
 pub within_still : (limit : Option ℕ) (old piece new : List ℕ) → new ≡ old ++ piece → (IsPast limit (length old + length piece) → ⊥) → IsPast limit (length new) → ⊥
 within_still limit old piece new e fine past = fine (subst (IsPast limit) (ap length e ∙ length-append old piece) past)
-
-past_more : (limit : Option ℕ) (m n : ℕ) → m ≤ n → IsPast limit m → IsPast limit n
-past_more (Some limit) m n less past = omega arith
-past_more None m n less past = past
 
 -- the whole passes the limit where a piece on the way did
 pub past_whole : (limit : Option ℕ) (text piece more all : List ℕ) → text ++ (piece ++ more) ≡ all → IsPast limit (length text + length piece) → IsPast limit (length all)

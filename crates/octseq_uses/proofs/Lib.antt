@@ -1,4 +1,6 @@
+pub mod Calls
 pub mod Joins
+pub mod LabelsToCome
 pub mod LineFronts
 pub mod MessageCode
 pub mod Names

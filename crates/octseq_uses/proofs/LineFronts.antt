@@ -1,27 +1,12 @@
 -- Lines at the front of octets, and the texts of their parts.
-use Rattle.std.proofs.Common.{◌≡◌, ℕ, ◌≤◌, inl, inr, List, [], ◌∷◌, ◌++◌, length, drop, refl, sym, ap, ◌∙◌, subst, arith}
-use Rattle.std.proofs.Math.Seq.{drop-append_seam}
+use Rattle.std.proofs.Common.{◌≡◌, ◌≢◌, ℕ, ◌⊎◌, inl, inr, List, [], ◌∷◌, ◌++◌, length, refl, sym, ap, ◌∙◌, arith}
 use Rattle.std.proofs.lemmas.Grind.{flat_map-append}
-use Rattle.std.proofs.lemmas.List.{length-append, length-take, length-drop}
-use Rattle.std.specs.Prelude.{Option, Some, None, Result, Err}
+use Rattle.std.proofs.lemmas.List.{length-append}
+use Rattle.std.specs.Prelude.{Option}
 use Rattle.octseq_core.specs.Limit.{IsPast}
-use Rattle.octseq_core.specs.Refusal.{IsShort}
-use Rattle.octseq_core.specs.declared.builder.AppendError.{AppendError}
-use Rattle.octseq_core.specs.declared.builder.AppendError.TheVariants.{Short, Memory}
 use Rattle.octseq_text.specs.Parts.{Part, octets_with, text}
-use Rattle.octseq.specs.Window.{Window, left, rest, next, past}
 use Rattle.octseq_uses.specs.Line.{IsLine, TakesLine}
-use Rattle.octseq_uses.proofs.Names.{NothingIsLost}
-
--- a refusal that is passed on
-pub same_short : {S T : Type 0} (here : Result S AppendError) (given : Result T AppendError) (passed refusal : AppendError) → given ≡ Err passed → passed ≡ refusal
-    → here ≡ Err refusal → IsShort given → IsShort here
-same_short here given (Short e) refusal is same was short = subst IsShort (sym (was ∙ ap Err (sym same))) tt
-same_short here given Memory refusal is same was short = absurd (subst IsShort is short)
-
-past_more : (limit : Option ℕ) (n m : ℕ) → n ≤ m → IsPast limit n → IsPast limit m
-past_more (Some limit) n m more past = omega arith
-past_more None n m more past = past
+use Rattle.octseq_uses.proofs.Calls.{past_more}
 
 -- where the text of some parts passes the limit, so does that of these parts and others
 pub past_front : (limit : Option ℕ) (front others parts : List Part) → parts ≡ front ++ others → IsPast limit (length (text front)) → IsPast limit (length (text parts))
@@ -36,24 +21,33 @@ no_feed (y ∷ line) (x ∷ other) more (here, is) e = let behind : other ≡ li
 no_feed [] [] more is e = cc
 no_feed (y ∷ line) [] more is e = cc
 
-same_line : (line other more rest : List ℕ) → IsLine line → IsLine other → line ++ 10 ∷ more ≡ other ++ 10 ∷ rest → line ≡ other
-same_line [] [] more rest is other_is e = refl
+same_line : (line other more rest : List ℕ) → IsLine line → IsLine other → line ++ 10 ∷ more ≡ other ++ 10 ∷ rest → (line ≡ other) × (more ≡ rest)
+same_line [] [] more rest is other_is e = (refl, cc)
 same_line [] (y ∷ other) more rest is (here, other_is) e = let same : y ≡ 10 = cc in absurd (here same)
 same_line (x ∷ line) [] more rest (here, is) other_is e = let same : x ≡ 10 = cc in absurd (here same)
 same_line (x ∷ line) (y ∷ other) more rest (here, is) (there, other_is) e =
     let first : x ≡ y = cc in
     let behind : line ++ 10 ∷ more ≡ other ++ 10 ∷ rest = cc in
-    ap (λ z. z ∷ line) first ∙ ap (λ octets. y ∷ octets) (same_line line other more rest is other_is behind)
+    let same = same_line line other more rest is other_is behind in
+    (ap (λ z. z ∷ line) first ∙ ap (λ octets. y ∷ octets) same.0, same.1)
 
 -- one line stands at the front
-pub one_line : (octets line other more rest : List ℕ) → TakesLine octets line more → TakesLine octets other rest → line ≡ other
+pub one_line : (octets line other more rest : List ℕ) → TakesLine octets line more → TakesLine octets other rest → (line ≡ other) × (more ≡ rest)
 one_line octets line other more rest (is, inl e) (other_is, inl f) = same_line line other more rest is other_is (sym e ∙ f)
 one_line octets line other more rest (is, inl e) (other_is, inr (f, none)) = absurd (no_feed line other more other_is (sym f ∙ e))
 one_line octets line other more rest (is, inr (e, none)) (other_is, inl f) = absurd (no_feed other line rest is (sym e ∙ f))
-one_line octets line other more rest (is, inr (e, none)) (other_is, inr (f, others)) = sym e ∙ f
+one_line octets line other more rest (is, inr (e, none)) (other_is, inr (f, others)) = (sym e ∙ f, none ∙ sym others)
 
--- what is left behind what a call took
-pub rest_past : (w v : Window) (n : ℕ) → NothingIsLost → length (rest w) ≡ left w → n ≤ left w → v ≡ past n w → drop n (rest w) ≡ rest v
-rest_past w v n law all fits moved =
-    let long : length (next n w) ≡ n = omega (arith, all, fits, length-take {A = ℕ}, length-drop {A = ℕ}) in
-    ap (drop n) (sym (law w n fits)) ∙ ap (λ k. drop k (next n w ++ rest (past n w))) (sym long) ∙ drop-append_seam (next n w) (rest (past n w)) ∙ ap rest (sym moved)
+line_more : (x : ℕ) (octets line more : List ℕ) → x ≢ 10 → TakesLine octets line more → TakesLine (x ∷ octets) (x ∷ line) more
+line_more x octets line more other (is, inl e) = ((other, is), inl (ap (λ xs. x ∷ xs) e))
+line_more x octets line more other (is, inr (e, none)) = ((other, is), inr (ap (λ xs. x ∷ xs) e, none))
+
+pub some_line : (octets : List ℕ) → (line : List ℕ) × (more : List ℕ) × TakesLine octets line more
+some_line [] = ([], [], (tt, inr (refl, refl)))
+some_line (x ∷ octets) =
+    let feed_or : (x ≡ 10) ⊎ (x ≢ 10) = grind arith in
+    let behind = some_line octets in
+    elim feed_or [
+      | inl feed ↦ ([], octets, (tt, inl (ap (λ y. y ∷ octets) feed)))
+      | inr other ↦ (x ∷ behind.0, behind.1, line_more x octets behind.0 behind.1 other behind.2)
+    ]

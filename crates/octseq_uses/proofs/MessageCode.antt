@@ -1,6 +1,5 @@
 -- Messages: a message is told from its octets, and octets are those of no message where a piece of it doesn't stand in its place.
-use Rattle.std.proofs.Common.{◌≡◌, ◌≢◌, ℕ, ◌<◌, ◌^◌, List, [], ◌++◌, length, refl, sym, ap, ◌∙◌}
-use Rattle.std.proofs.lemmas.List.{append-nil}
+use Rattle.std.proofs.Common.{◌≡◌, ◌≢◌, ℕ, ◌<◌, ◌^◌, List, ◌++◌, refl, sym, ap, ◌∙◌}
 use Rattle.octseq.proofs.Codes.{integer_code, part_code, pair_code}
 use Rattle.octseq.proofs.Repeats.{one_list}
 use Rattle.octseq.specs.Code.{IsCode, HasFront}

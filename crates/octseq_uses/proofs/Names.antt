@@ -1,5 +1,5 @@
 -- Names at the front of octets.
-use Rattle.std.proofs.Common.{◌≡◌, ◌≢◌, ℕ, ◌+◌, ◌-◌, ◌^◌, ◌<◌, ◌≤◌, List, [], ◌∷◌, ◌++◌, length, refl, sym, ap, ◌∙◌, subst, append_assoc, arith}
+use Rattle.std.proofs.Common.{◌≡◌, ◌≢◌, ℕ, ◌+◌, ◌-◌, ◌<◌, ◌≤◌, List, [], ◌∷◌, ◌++◌, length, refl, sym, ap, ◌∙◌, subst, append_assoc, arith}
 use Rattle.std.proofs.lemmas.Grind.{flat_map-append}
 use Rattle.std.proofs.lemmas.List.{append-nil, length-append}
 use Rattle.std.specs.List.{AllByRecursion}
@@ -11,21 +11,24 @@ use Rattle.octseq.specs.Part.{part_of}
 use Rattle.octseq.specs.Window.{Window, left, rest}
 use Rattle.octseq_uses.specs.Name.{IsLabel, labels_of, name_of, IsName, HasNameWithin, HasName}
 
-length_part : (label : List ℕ) → length (part_of 1 label) ≡ 1 + length label
+pub length_part : (label : List ℕ) → length (part_of 1 label) ≡ 1 + length label
 length_part label = length-append (octets_be 1 (length label)) label ∙ ap (λ n. n + length label) (length_be 1 (length label))
 
 -- the first label, and the name of the others
+pub name_step : (label : List ℕ) (labels : List (List ℕ)) → name_of (label ∷ labels) ≡ part_of 1 label ++ name_of labels
+name_step label labels = append_assoc (part_of 1 label) (labels_of labels) (part_of 1 [])
+
 first_label : (label more : List ℕ) (labels : List (List ℕ)) → name_of (label ∷ labels) ++ more ≡ part_of 1 label ++ (name_of labels ++ more)
 first_label label more labels =
-    ap (λ x. x ++ more) (append_assoc (part_of 1 label) (labels_of labels) (part_of 1 [])) ∙ append_assoc (part_of 1 label) (name_of labels) more
+    ap (λ x. x ++ more) (name_step label labels) ∙ append_assoc (part_of 1 label) (name_of labels) more
 
-long_name : (labels : List (List ℕ)) → 1 ≤ length (name_of labels)
+pub long_name : (labels : List (List ℕ)) → 1 ≤ length (name_of labels)
 long_name labels = let root = length_part [] in omega (arith, length-append (labels_of labels) (part_of 1 []), root)
 
-longer_name : (label : List ℕ) (labels : List (List ℕ)) → length (name_of (label ∷ labels)) ≡ 1 + length label + length (name_of labels)
+pub longer_name : (label : List ℕ) (labels : List (List ℕ)) → length (name_of (label ∷ labels)) ≡ 1 + length label + length (name_of labels)
 longer_name label labels =
     let part = length_part label in
-    ap length (append_assoc (part_of 1 label) (labels_of labels) (part_of 1 [])) ∙ omega (arith, length-append (part_of 1 label) (name_of labels), part)
+    ap length (name_step label labels) ∙ omega (arith, length-append (part_of 1 label) (name_of labels), part)
 
 -- a label isn't the root's
 not_root : (label x y : List ℕ) → IsLabel label → part_of 1 label ++ x ≡ part_of 1 [] ++ y → ⊥
@@ -34,7 +37,7 @@ not_root label x y is e =
     let low = is.0 in
     omega arith
 
-same_name : (labels others : List (List ℕ)) (x y : List ℕ) → AllByRecursion IsLabel labels → AllByRecursion IsLabel others
+pub same_name : (labels others : List (List ℕ)) (x y : List ℕ) → AllByRecursion IsLabel labels → AllByRecursion IsLabel others
     → name_of labels ++ x ≡ name_of others ++ y → (labels ≡ others) × (x ≡ y)
 same_name [] [] x y each all e = (refl, (part_code 1 [] [] x y (omega arith) (omega arith) e).1)
 same_name [] (b ∷ others) x y each (is, all) e = absurd (not_root b (name_of others ++ y) x is (sym (first_label b y others) ∙ sym e))

@@ -1,8 +1,16 @@
--- Why octets were not read.
+-- Why octets were not read, and why they were not written.
 use Rattle.octseq.specs.declared.parse.error.ParseOctetsError.{ParseOctetsError}
+use Rattle.octseq.specs.declared.compose.ComposeError.{ComposeError}
 use Rattle.octseq_uses.specs.declared.error.ReadError.{ReadError}
+use Rattle.octseq_uses.specs.declared.error.WriteError.{WriteError}
 
 -- a refusal of the parser's
 abbrev pub read_error_of : ParseOctetsError → ReadError
 read_error_of (ParseOctetsError.Short e) = ReadError.Malformed
 read_error_of ParseOctetsError.Memory = ReadError.Memory
+
+-- a refusal of a composer's
+abbrev pub write_error_of : ComposeError → WriteError
+write_error_of ComposeError.TooLong = WriteError.Malformed
+write_error_of ComposeError.Short = WriteError.Short
+write_error_of ComposeError.Memory = WriteError.Memory

@@ -1,8 +1,9 @@
-//! Why octets were not read.
+//! Why octets were not read, and why they were not written.
 ghost use Rattle.std.specs.Prelude.{◌≡◌};
-ghost use Rattle.octseq_uses.specs.Refusal.{read_error_of};
+ghost use Rattle.octseq_uses.specs.Refusal.{read_error_of, write_error_of};
 ghost use Rattle.octseq_uses.specs.declared.error.ReadError.TheVariants.{Malformed};
 
+use octseq::compose::ComposeError;
 use octseq::parse::{ParseOctetsError, ShortInput};
 
 /// Why octets were not read.
@@ -29,6 +30,29 @@ impl From<ParseOctetsError> for ReadError {
         match e {
             ParseOctetsError::Short(_) => ReadError::Malformed,
             ParseOctetsError::Memory => ReadError::Memory,
+        }
+    }
+}
+
+/// Why a thing was not written.
+#[derive(Clone, Copy, Debug, PartialEq, Eq)]
+pub enum WriteError {
+    /// It doesn't have the form that is written.
+    Malformed,
+    /// The content would pass the limit of its type.
+    Short,
+    /// A request for memory was refused.
+    Memory,
+}
+
+impl From<ComposeError> for WriteError {
+    ghost from_gives = { λ e made. made ≡ write_error_of e };
+
+    fn from(e: ComposeError) -> WriteError {
+        match e {
+            ComposeError::TooLong => WriteError::Malformed,
+            ComposeError::Short => WriteError::Short,
+            ComposeError::Memory => WriteError::Memory,
         }
     }
 }

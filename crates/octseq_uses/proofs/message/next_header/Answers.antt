@@ -1,4 +1,4 @@
-use Rattle.std.proofs.Common.{◌<◌, ◌^◌, ◌++◌, arith}
+use Rattle.std.proofs.Common.{◌<◌, ◌^◌, arith}
 use Rattle.octseq.proofs.Codes.{took, not_taken, pair_front, no_first, no_second, no_integer, integer_code}
 use Rattle.octseq.specs.Integer.{octets_be}
 use Rattle.octseq.specs.Parser.{window}

@@ -37,6 +37,6 @@ returns-in_err-records-clause-malformed g c = λ e.
     let name = map g.R.Range.AsOctets.content c.in_ok-name.name.items in
     let p = err_from_is_err_and c.from_residual-in_err-records.result c.from_residual-in_err-records.ensures.1 in
     let none = c.take_records.ensures.malformed
-        (same_refusal c.take_records.result c.from_residual-in_err-records.result p.0 c.in_err-records.field-0.0 ReadError.Malformed p.1 p.2 e c.in_err-records.was) in
+    (same_refusal c.take_records.result c.from_residual-in_err-records.result p.0 c.in_err-records.field-0.0 ReadError.Malformed p.1 p.2 e c.in_err-records.was) in
     no_records octets (rest (window c.next_header.new.parser)) (rest (window c.read_name.new.parser)) (rest (window c.next_text.new.parser)) header name
     (g.R.Range.AsOctets.content c.in_ok-text.text) c.in_ok-id.ensures.fits all c.in_ok-name.ensures.name c.in_ok-name.ensures.taken c.in_ok-text.ensures.fits c.in_ok-text.ensures.taken none
