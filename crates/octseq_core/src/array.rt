@@ -1,5 +1,5 @@
 //! A builder of a fixed size that requests no memory.
-ghost use Rattle.std.specs.Prelude.{◌≡◌, ◌-◌, ◌+◌, ◌<◌, ◌≤◌, ◌++◌, ◌↔◌, Bool, true, false, Option, Some, List, take, drop, length, IsOk, OnOk, OnErr, MatchResult, nat_eq, refl};
+ghost use Rattle.std.specs.Prelude.{◌≡◌, ◌-◌, ◌+◌, ◌<◌, ◌≤◌, ◌++◌, ◌↔◌, Bool, true, false, Option, Some, List, [], take, drop, length, IsOk, IfOk, OnOk, OnErr, MatchResult, nat_eq, refl};
 ghost use Rattle.std.specs.Borrow.{sem};
 ghost use Rattle.std.specs.Cmp.{partial_equiv_from_equiv, on_per, on_equiv, on_po, on_total};
 ghost use Rattle.std.specs.Cmp.Lexicographic.{pointwise, slice_cmp, nat_list_eq_equiv, nat_list_cmp_total, texts_ties, texts_po};
@@ -155,11 +155,19 @@ impl<const N: usize> Truncate for Array<N> {
 }
 
 impl<const N: usize> EmptyBuilder for Array<N> {
-    fn empty(_alloc: Global) -> Result<Self, AllocError> {
+    fn empty(_alloc: Global) -> Result<Self, AllocError>
+        ensures ok { IfOk result (λ builder. builder.content ≡ []) }
+        ensures memory { OnErr result (false ≡ true) }
+        ensures blank { IfOk result (λ builder. builder ≡ blank N) }
+    {
         Ok(Array::new())
     }
 
-    fn with_capacity(_alloc: Global, _capacity: usize) -> Result<Self, AllocError> {
+    fn with_capacity(_alloc: Global, _capacity: usize) -> Result<Self, AllocError>
+        ensures ok { IfOk result (λ builder. builder.content ≡ []) }
+        ensures memory { OnErr result (false ≡ true) }
+        ensures blank { IfOk result (λ builder. builder ≡ blank N) }
+    {
         Ok(Array::new())
     }
 }
@@ -167,7 +175,11 @@ impl<const N: usize> EmptyBuilder for Array<N> {
 impl<const N: usize> FreezeBuilder for Array<N> {
     type Octets = Array<N>;
 
-    fn freeze(self) -> Result<Self, AllocError> {
+    fn freeze(self) -> Result<Self, AllocError>
+        ensures ok { IfOk result (λ octets. octets.content ≡ self.entry.content) }
+        ensures memory { OnErr result (false ≡ true) }
+        ensures same { IfOk result (λ octets. octets ≡ self.entry) }
+    {
         Ok(self)
     }
 }
@@ -175,7 +187,11 @@ impl<const N: usize> FreezeBuilder for Array<N> {
 impl<const N: usize> IntoBuilder for Array<N> {
     type Builder = Array<N>;
 
-    fn into_builder(self, _alloc: Global) -> Result<Self, AllocError> {
+    fn into_builder(self, _alloc: Global) -> Result<Self, AllocError>
+        ensures ok { IfOk result (λ builder. builder.content ≡ self.entry.content) }
+        ensures memory { OnErr result (false ≡ true) }
+        ensures same { IfOk result (λ builder. builder ≡ self.entry) }
+    {
         Ok(self)
     }
 }
@@ -183,13 +199,22 @@ impl<const N: usize> IntoBuilder for Array<N> {
 impl<const N: usize> FromBuilder for Array<N> {
     type Builder = Array<N>;
 
-    fn from_builder(builder: Self) -> Result<Self, AllocError> {
+    fn from_builder(builder: Self) -> Result<Self, AllocError>
+        ensures ok { IfOk result (λ octets. octets.content ≡ builder.entry.content) }
+        ensures memory { OnErr result (false ≡ true) }
+        ensures same { IfOk result (λ octets. octets ≡ builder.entry) }
+    {
         Ok(builder)
     }
 }
 
 impl<const N: usize> CloneOctets for Array<N> {
-    fn clone_octets(&self, _alloc: Global) -> Result<Self, AllocError> {
+    /// Copies the hidden octets too.
+    fn clone_octets(&self, _alloc: Global) -> Result<Self, AllocError>
+        ensures ok { IfOk result (λ octets. octets.content ≡ self.now.content) }
+        ensures memory { OnErr result (false ≡ true) }
+        ensures same { IfOk result (λ octets. octets ≡ self.now) }
+    {
         Ok(self.clone())
     }
 }

@@ -66,6 +66,7 @@ pub record IsReplacing (w : ℕ) (x : List ℕ) (first : Fault) (made rest : Lis
   pub is_fault : IsFault rest fault
   pub turns : now + length (parts_of (drop (fault_end rest fault) rest)) ≤ old + length (parts_of (drop (fault_end x first) x))
   pub passed : length x + fault_end rest fault + 16 * old ≤ 16 * now + length rest + fault_end x first
+  pub kept : old ≤ now
 
 pub replacing_first : (w : ℕ) (x : List ℕ) (first : Fault) (made : List ℕ) (t : ℕ) → IsFault x first → made ≡ [] → IsReplacing w x first made x first t t
 replacing_first w x first made t f none = record {
@@ -73,6 +74,7 @@ replacing_first w x first made t f none = record {
   is_fault = f;
   turns = omega arith;
   passed = omega arith;
+  kept = omega arith;
 }
 
 -- what was made, with what lies before the fault and the replacement
@@ -107,6 +109,7 @@ replacing_next w x first made made' rest rest' fault next old now new s behind m
       is_fault = f;
       turns = omega arith;
       passed = omega arith;
+      kept = omega (arith, s.kept);
     }
 
 -- no fault is left

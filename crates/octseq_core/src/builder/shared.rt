@@ -1,5 +1,5 @@
 //! `Bytes`, which shares its octets, and `BytesMut`, its builder.
-ghost use Rattle.std.specs.Prelude.{true, None};
+ghost use Rattle.std.specs.Prelude.{◌≡◌, true, None, [], IsOk, IfOk, OnErr};
 
 use super::{
     AppendError, AsOctets, CloneOctets, EmptyBuilder, FreezeBuilder, FromBuilder, IntoBuilder,
@@ -99,7 +99,11 @@ impl Truncate for BytesMut {
 }
 
 impl EmptyBuilder for BytesMut {
-    fn empty(alloc: Global) -> Result<Self, AllocError> {
+    fn empty(alloc: Global) -> Result<Self, AllocError>
+        ensures ok { IfOk result (λ builder. builder.items ≡ []) }
+        ensures memory { OnErr result (true ≡ true) }
+        ensures never { IsOk result }
+    {
         Ok(BytesMut::new(alloc))
     }
 

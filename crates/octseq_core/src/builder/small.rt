@@ -1,5 +1,5 @@
 //! A vector that begins inline. It requests memory where it outgrows that.
-ghost use Rattle.std.specs.Prelude.{◌≡◌, true, None, IsOk, IfOk, OnErr};
+ghost use Rattle.std.specs.Prelude.{◌≡◌, ◌≤◌, true, None, [], length, IsOk, IfOk, OnErr};
 
 use super::{
     AppendError, AsOctets, CloneOctets, EmptyBuilder, FreezeBuilder, FromBuilder, IntoBuilder,
@@ -44,11 +44,19 @@ impl<const N: usize> Truncate for SmallVec<u8, N> {
 }
 
 impl<const N: usize> EmptyBuilder for SmallVec<u8, N> {
-    fn empty(alloc: Global) -> Result<Self, AllocError> {
+    fn empty(alloc: Global) -> Result<Self, AllocError>
+        ensures ok { IfOk result (λ builder. builder.items ≡ []) }
+        ensures memory { OnErr result (true ≡ true) }
+        ensures never { IsOk result }
+    {
         Ok(SmallVec::new(alloc))
     }
 
-    fn with_capacity(alloc: Global, capacity: usize) -> Result<Self, AllocError> {
+    fn with_capacity(alloc: Global, capacity: usize) -> Result<Self, AllocError>
+        ensures ok { IfOk result (λ builder. builder.items ≡ []) }
+        ensures memory { OnErr result (true ≡ true) }
+        ensures never { capacity ≤ N → IsOk result }
+    {
         SmallVec::with_capacity(alloc, capacity)
     }
 }
@@ -90,7 +98,11 @@ impl<const N: usize> FromBuilder for SmallVec<u8, N> {
 }
 
 impl<const N: usize> CloneOctets for SmallVec<u8, N> {
-    fn clone_octets(&self, alloc: Global) -> Result<Self, AllocError> {
+    fn clone_octets(&self, alloc: Global) -> Result<Self, AllocError>
+        ensures ok { IfOk result (λ octets. octets.items ≡ self.now.items) }
+        ensures memory { OnErr result (true ≡ true) }
+        ensures never { length self.now.items ≤ N → IsOk result }
+    {
         SmallVec::from_slice(alloc, self.as_slice())
     }
 }

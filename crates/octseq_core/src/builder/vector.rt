@@ -1,5 +1,5 @@
 //! A vector as a builder: it has no limit, and requests memory as it grows.
-ghost use Rattle.std.specs.Prelude.{◌≡◌, true, None, IsOk, IfOk};
+ghost use Rattle.std.specs.Prelude.{◌≡◌, true, None, [], IsOk, IfOk};
 
 use super::{
     AppendError, AsOctets, CloneOctets, EmptyBuilder, FreezeBuilder, FromBuilder, IntoBuilder,
@@ -43,7 +43,10 @@ impl Truncate for Vec<u8> {
 }
 
 impl EmptyBuilder for Vec<u8> {
-    fn empty(alloc: Global) -> Result<Self, AllocError> {
+    fn empty(alloc: Global) -> Result<Self, AllocError>
+        ensures ok { IfOk result (λ builder. builder.items ≡ []) }
+        ensures never { IsOk result }
+    {
         Ok(Vec::new(alloc))
     }
 

@@ -1,4 +1,9 @@
 //! The types that are made from other sequences.
+ghost use Rattle.std.specs.Prelude.{◌≡◌, ◌≤◌, ◌↔◌, true, false, Some, None, length, IsOk, IfOk};
+ghost use Rattle.octseq_core.specs.ArrayOctets.{padded};
+ghost use Rattle.octseq_core.specs.Limit.{IsPast};
+ghost use Rattle.octseq_core.specs.Refusal.{IsShort, IsMemory};
+
 use super::OctetsFrom;
 use arrayvec::ArrayVec;
 use bytes::{Bytes, BytesMut};
@@ -26,7 +31,12 @@ impl<Source: AsOctets> OctetsFrom<Source> for BytesMut {
 }
 
 impl<Source: AsOctets, const N: usize> OctetsFrom<Source> for SmallVec<u8, N> {
-    fn try_octets_from(alloc: Global, source: Source) -> Result<Self, AppendError> {
+    fn try_octets_from(alloc: Global, source: Source) -> Result<Self, AppendError>
+        ensures ok { IfOk result (λ octets. octets.items ≡ Source.content source) }
+        ensures short { IsShort result ↔ IsPast None (length (Source.content source)) }
+        ensures memory { IsMemory result → true ≡ true }
+        ensures never { length (Source.content source) ≤ N → IsOk result }
+    {
         Ok(SmallVec::from_slice(alloc, source.as_ref())?)
     }
 }
@@ -40,7 +50,12 @@ impl<Source: AsOctets, const N: usize> OctetsFrom<Source> for ArrayVec<u8, N> {
 }
 
 impl<Source: AsOctets, const N: usize> OctetsFrom<Source> for Array<N> {
-    fn try_octets_from(_alloc: Global, source: Source) -> Result<Self, AppendError> {
+    fn try_octets_from(_alloc: Global, source: Source) -> Result<Self, AppendError>
+        ensures ok { IfOk result (λ octets. octets.content ≡ Source.content source) }
+        ensures short { IsShort result ↔ IsPast (Some N) (length (Source.content source)) }
+        ensures memory { IsMemory result → false ≡ true }
+        ensures padded { IfOk result (λ octets. octets ≡ padded N (Source.content source)) }
+    {
         let mut octets = Array::new();
         octets.append_slice(source.as_ref())?;
         Ok(octets)

@@ -1,5 +1,6 @@
 //! A text that grows.
 ghost use Rattle.std.specs.Prelude.{◌≡◌, ℕ, ◌+◌, ◌<◌, ◌↔◌, true, None, List, [], ◌∷◌, ◌++◌, length, take, IsTrue, IsOk, IsSome, IfOk, IfErr, IfSome, IfNone, OnOk, OnErr};
+ghost use Rattle.octseq_core.specs.ArrayOctets.{blank};
 ghost use Rattle.octseq_core.specs.Limit.{IsWithin, IsPast};
 ghost use Rattle.octseq_core.specs.Refusal.{IsShort, IsMemory};
 ghost use Rattle.octseq_text.specs.Encoding.{IsEncoding, number_of, encoding_of};
@@ -327,7 +328,7 @@ impl<Octets: OctetsLimit> OctetsLimit for StrBuilder<Octets> {
 }
 
 impl<const N: usize> Default for StrBuilder<Array<N>> {
-    ghost is_default = { λ text. text.content ≡ [] };
+    ghost is_default = { λ text. text ≡ blank N };
 
     fn default() -> Self {
         StrBuilder {

@@ -14,6 +14,7 @@ pub(super) fn last_encoding(octets: &[u8], turns: &mut Turns) -> Option<(char, u
     ensures width { IfSome result (λ last. last.1 ≡ length (encoding_of last.0)) }
     ensures none { IfNone result (octets.now ≡ []) }
     ensures read { octets.now ≢ [] → turns.old < turns.new }
+    ensures kept { turns.old ≤ turns.new }
     ensures turns { turns.new ≤ turns.old + 4 }
 {
     let len = octets.len();
@@ -54,6 +55,7 @@ pub fn last_char(octets: &[u8], turns: &mut Turns) -> Option<char>
     ensures some { IfSome result (EndsWith octets.now) }
     ensures none { IfNone result (octets.now ≡ []) }
     ensures read { octets.now ≢ [] → turns.old < turns.new }
+    ensures kept { turns.old ≤ turns.new }
     ensures turns { turns.new ≤ turns.old + 4 }
 {
     let (last, _) = last_encoding(octets, turns)?;
@@ -68,6 +70,7 @@ pub fn boundary(octets: &[u8], place: usize, turns: &mut Turns) -> bool
     requires { IsWellFormed octets.now }
     ensures between { IsTrue result ↔ IsBoundary octets.now place }
     ensures read { place < length octets.now → turns.old < turns.new }
+    ensures kept { turns.old ≤ turns.new }
     ensures turns { turns.new ≤ turns.old + 1 }
 {
     match octets.get(place) {

@@ -87,6 +87,7 @@ impl<Octets: AsOctets> StrBuilder<Octets> {
         ensures turns { (parts : List Part) → Splits (Octets.content octets) parts
             → turns.new ≤ turns.old + length parts }
         ensures passed { OnOk result (length (Octets.content octets) + 16 * turns.old ≤ 16 * turns.new) }
+        ensures kept { turns.old ≤ turns.new }
 
         // A second reading changes nothing, and a first one changes all that isn't well formed.
         ensures again { IfOk result (λ made. (parts : List Part)
@@ -204,6 +205,7 @@ impl<Octets: AsOctets> StrBuilder<Octets> {
         ensures turns { (parts : List Part) → Splits (Octets.content octets) parts
             → turns.new ≤ turns.old + length parts }
         ensures passed { OnOk result (length (Octets.content octets) + 16 * turns.old ≤ 16 * turns.new) }
+        ensures kept { turns.old ≤ turns.new }
 
         // A second reading changes nothing, with any character as the replacement.
         ensures again { IfOk result (λ made. (w : ℕ) (parts : List Part)
@@ -227,6 +229,7 @@ fn read_with<B: EmptyBuilder>(
     ensures memory { IsMemory result → (B.asks ≡ true) × ¬ IsWellFormed (B.content octets) }
     ensures turns { turns.new ≤ turns.old + length (parts_of (B.content octets)) }
     ensures passed { OnOk result (length (B.content octets) + 16 * turns.old ≤ 16 * turns.new) }
+    ensures kept { turns.old ≤ turns.new }
 {
     let content = octets.as_ref();
     match first_fault(content, turns) {
@@ -255,6 +258,7 @@ fn replaced<B: EmptyBuilder>(
     ensures memory { IsMemory result → B.asks ≡ true }
     ensures turns { turns.new ≤ turns.old + length (parts_of (drop (fault_end octets.now first) octets.now)) }
     ensures passed { OnOk result (length octets.now + 16 * turns.old ≤ 16 * turns.new + fault_end octets.now first) }
+    ensures kept { turns.old ≤ turns.new }
 {
     let mut made = B::with_capacity(alloc, octets.len())?;
     let rest = replace_faults(&mut made, octets, first, replacement, turns)?;
@@ -276,6 +280,7 @@ fn replace_faults<'a, B: OctetsBuilder>(
     ensures short { IsShort result → IsPast B.limit (length (text_with replacement (parts_of octets.now))) }
     ensures memory { IsMemory result → B.asks ≡ true }
     ensures turns { turns.new ≤ turns.old + length (parts_of (drop (fault_end octets.now first) octets.now)) }
+    ensures kept { turns.old ≤ turns.new }
 {
     let mut encoded = [0; 4];
     let replacement = replacement.encode_utf8(&mut encoded[..]).as_bytes();

@@ -1,5 +1,6 @@
 //! A text that doesn't grow.
 ghost use Rattle.std.specs.Prelude.{◌≡◌, ◌↔◌, ◌⊎◌, true, None, [], length, string_bytes, IsTrue, IsOk, IfOk, IfErr, OnErr};
+ghost use Rattle.octseq_core.specs.ArrayOctets.{blank};
 ghost use Rattle.octseq_core.specs.Limit.{IsWithin, IsPast};
 ghost use Rattle.octseq_core.specs.Refusal.{IsShort, IsMemory};
 ghost use Rattle.octseq_text.specs.Fault.{IsFault};
@@ -252,7 +253,7 @@ impl<Source: AsOctets, Octets: OctetsFrom<Source>> OctetsFrom<Str<Source>> for S
 }
 
 impl<const N: usize> Default for Str<Array<N>> {
-    ghost is_default = { λ text. text.content ≡ [] };
+    ghost is_default = { λ text. text ≡ blank N };
 
     fn default() -> Self {
         Str {

@@ -178,6 +178,21 @@ fn vectors_stay_what_they_are(rt: HostRuntime) -> Result<(), Fail> {
 }
 
 #[test]
+fn empty_builders_and_inline_octets_take_none(rt: HostRuntime) -> Result<(), Fail> {
+    let alloc = rt.alloc();
+    given(<Vec<u8> as EmptyBuilder>::empty(alloc))?;
+    given(<BytesMut as EmptyBuilder>::empty(alloc))?;
+    given(<SmallVec<u8, 4> as EmptyBuilder>::empty(alloc))?;
+    given(<SmallVec<u8, 4> as EmptyBuilder>::with_capacity(alloc, 4))?;
+    let octets = given(SmallVec::<u8, 4>::try_octets_from(alloc, b"abcd".as_slice()))?;
+    assert_eq!(rt;
+        given(octets.clone_octets(alloc))?.as_ref(),
+        b"abcd".as_slice()
+    );
+    Ok(())
+}
+
+#[test]
 fn shared_octets_are_read_where_they_lie(rt: HostRuntime) -> Result<(), Fail> {
     let alloc = rt.alloc();
     let octets = BytesMut::copy_from_slice(alloc, b"0123456789")?;

@@ -20,6 +20,9 @@ returns-in_err-append_both-clause-short g c =
     rw (p.1, p.2)
     (λ h. past_more g.B.AsOctets.limit _ _ (omega (arith, ap length mark, ap length c.before-in-faults.ensures)) (c.in_err-append_both.ensures.short h))
 
+pub returns-in_err-append_both-clause-kept : goal.returns-in_err-append_both-clause-kept
+returns-in_err-append_both-clause-kept g c = c.faults.invariant.kept
+
 pub faults-preserved : goal.faults-preserved
 faults-preserved g c =
     let mark = c.as_bytes-replacement.ensures.value ∙ c.encode_utf8.ensures.value ∙ encode-is c.args.replacement in
