@@ -18,7 +18,7 @@ cut_at octets len = record { content = take len octets; hidden = drop len octets
 abbrev pub blank : ℕ → ArrayOctets
 blank n = record { content = []; hidden = replicate n 0 }
 
--- n octets with this content, and zeros behind it, and zeros behind it
+-- n octets with this content, and zeros behind it
 abbrev pub padded : ℕ → List ℕ → ArrayOctets
 padded n octets = record { content = octets; hidden = replicate (n - length octets) 0 }
 
