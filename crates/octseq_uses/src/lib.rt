@@ -6,6 +6,7 @@
 #![tactic(auto)]
 
 pub mod error;
+pub mod first;
 pub mod join;
 pub mod lines;
 pub mod message;

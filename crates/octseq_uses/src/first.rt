@@ -1,0 +1,71 @@
+//! A first caller for modules that the others don't show.
+ghost use Rattle.std.specs.Prelude.{◌≡◌, ◌≤◌, ◌++◌, ◌↔◌, [], length, take, true, IsSome, IfSome, IfOk, OnOk, OnErr};
+ghost use Rattle.octseq_core.specs.Cow.{cow_content, is_borrowed};
+ghost use Rattle.octseq_text.specs.Range.{RangeExists, range_of};
+ghost use Rattle.octseq_text.specs.Text.{IsWellFormed};
+ghost use Rattle.octseq_text.specs.declared.octets.Bound.TheVariants.{Included, Excluded};
+
+use octseq::builder::{AppendError, AsOctets, OctetsBuilder};
+use octseq::octets::{Bound, range_exists};
+use octseq::utf8::{Turns, first_fault};
+use octseq::{Array, CowOctets, Octets};
+use std::alloc::AllocError;
+
+/// The octets in an array of their own, or `None` where they don't fit.
+pub fn kept<const N: usize>(octets: &[u8]) -> Option<Array<N>>
+    ensures variant { IsSome result ↔ (length octets.now ≤ N) }
+    ensures some { IfSome result (λ array. array.content ≡ octets.now) }
+{
+    Array::try_from(octets).ok()
+}
+
+/// Appends to octets that may be borrowed. They stay borrowed where nothing is appended.
+///
+/// # Errors
+///
+/// `Memory` where a request for memory was refused. The octets are then as they were.
+pub fn extended(octets: &mut CowOctets<'_>, more: &[u8]) -> Result<(), AppendError>
+    ensures ok { OnOk result (cow_content octets.new ≡ cow_content octets.old ++ more.now) }
+    ensures err { OnErr result (cow_content octets.new ≡ cow_content octets.old) }
+    ensures borrowed { more.now ≡ [] → is_borrowed octets.new ≡ is_borrowed octets.old }
+{
+    if more.is_empty() {
+        return Ok(());
+    }
+    octets.append_slice(more)
+}
+
+/// The field from `start` up to `end`, or `None` where the octets don't have it.
+///
+/// # Errors
+///
+/// `AllocError` where a request for memory was refused, which a range that is a slice never makes.
+pub fn field<T: Octets>(
+    octets: &T,
+    start: usize,
+    end: usize,
+) -> Result<Option<T::Range>, AllocError>
+    ensures variant { IfOk result (λ field. IsSome field
+        ↔ RangeExists (length (T.content octets.now)) (Included start, Excluded end)) }
+    ensures some { IfOk result (λ field. IfSome field (λ range.
+        T.Range.content range ≡ range_of (T.content octets.now) (Included start, Excluded end))) }
+    ensures memory { OnErr result (T.Range.asks ≡ true) }
+{
+    let bounds = (Bound::Included(start), Bound::Excluded(end));
+    if !range_exists(octets.as_ref().len(), bounds) {
+        return Ok(None);
+    }
+    Ok(Some(octets.range(bounds)?))
+}
+
+/// The front of the octets that is a text: all of them, or those before the first fault.
+pub fn text_front(octets: &[u8]) -> &[u8]
+    ensures text { IsWellFormed result.now }
+    ensures front { result.now ≡ take (length result.now) octets.now }
+    ensures whole { IsWellFormed octets.now → result.now ≡ octets.now }
+{
+    match first_fault(octets, &mut Turns::new()) {
+        None => octets,
+        Some(fault) => &octets[..fault.valid_up_to()],
+    }
+}
