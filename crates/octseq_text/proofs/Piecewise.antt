@@ -16,7 +16,8 @@ use Rattle.octseq_text.proofs.BadParts.{bad_more}
 use Rattle.octseq_text.proofs.Beginnings.{beginning_fits, beginning_short, nil_or_some}
 use Rattle.octseq_text.proofs.Fits.{get_left}
 use Rattle.octseq_text.proofs.LossyTexts.{replacement_is_character, text_well_formed}
-use Rattle.octseq_text.proofs.Replacing.{front_is, behind_is, past_more}
+use Rattle.octseq_core.proofs.Limits.{past_more}
+use Rattle.octseq_text.proofs.Replacing.{front_is, behind_is}
 use Rattle.octseq_text.proofs.Rows.{width_le}
 use Rattle.octseq_text.proofs.Settling.{reads_none, reads_more, reads_then, reads_good, reads_bad, settles_reads, one_settling, reads_settles, text-append, text-chars, text_read, snoc_some}
 use Rattle.octseq_text.proofs.Splitting.{bad_some, encoding_fitting, splits, one_splitting}

@@ -1,9 +1,8 @@
 -- The replacing of bad parts, from fault to fault.
-use Rattle.std.proofs.Common.{◌≡◌, ℕ, ◌+◌, ◌-◌, ◌*◌, ◌<◌, ◌≤◌, List, [], ◌∷◌, ◌++◌, map, length, take, drop, arith, inl, inr, ap, sym, ◌∙◌, append_assoc, length-append, length-drop, Option, Some, None}
+use Rattle.std.proofs.Common.{◌≡◌, ℕ, ◌+◌, ◌-◌, ◌*◌, ◌<◌, ◌≤◌, List, [], ◌∷◌, ◌++◌, map, length, take, drop, arith, inl, inr, ap, sym, ◌∙◌, append_assoc, length-append, length-drop, Option}
 use Rattle.std.specs.Prelude.{unwrap_or}
 use Rattle.std.proofs.lemmas.List.{length-map}
 use Rattle.std.proofs.Math.Seq.{take-append_seam, drop-append_seam}
-use Rattle.octseq_core.specs.Limit.{IsWithin, IsPast}
 use Rattle.octseq_text.specs.Encoding.{encoding_of}
 use Rattle.octseq_text.specs.Fault.{Fault, IsFault, IsFaultSize, fault_end}
 use Rattle.octseq_text.specs.Parts.{Char, Bad, text_with}
@@ -130,13 +129,3 @@ replacing_last w x first made made' rest rest' fault old now new s behind more g
       turns = omega arith;
       passed = omega arith;
     }
-
--- a longer length passes a limit too
-pub past_more : (limit : Option ℕ) (m n : ℕ) → m ≤ n → IsPast limit m → IsPast limit n
-past_more (Some limit) m n h p = omega arith
-past_more None m n h p = absurd p
-
--- a length within a limit isn't past it
-pub within_not_past : (limit : Option ℕ) (n : ℕ) → IsWithin limit n → IsPast limit n → ⊥
-within_not_past (Some limit) n h p = omega arith
-within_not_past None n h p = p

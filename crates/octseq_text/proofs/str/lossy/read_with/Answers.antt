@@ -1,5 +1,6 @@
 use Rattle.std.proofs.Common.{refl, arith, sym}
-use Rattle.octseq_text.proofs.Replacing.{parts_at_fault, parts_well_formed, text_well_formed_is, within_not_past}
+use Rattle.octseq_core.proofs.Limits.{within_not_past}
+use Rattle.octseq_text.proofs.Replacing.{parts_at_fault, parts_well_formed, text_well_formed_is}
 use Rattle.octseq_text.proofs.str.lossy.read_with.Goals as goal
 
 pub returns-in-None-clause-text : goal.returns-in-None-clause-text

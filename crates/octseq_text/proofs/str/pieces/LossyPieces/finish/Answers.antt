@@ -2,7 +2,7 @@ use Rattle.std.proofs.Common.{length, ap, sym, ◌∙◌, subst}
 use Rattle.std.proofs.lemmas.Result.{err_from_is_err_and}
 use Rattle.octseq_core.specs.Limit.{IsPast}
 use Rattle.octseq_text.proofs.Piecewise.{finish_text, finish_well_formed, finish_too_long}
-use Rattle.octseq_text.proofs.Replacing.{within_not_past}
+use Rattle.octseq_core.proofs.Limits.{within_not_past}
 use Rattle.octseq_text.proofs.str.pieces.LossyPieces.finish.Goals as goal
 
 pub returns-in_err-append_end-clause-short : goal.returns-in_err-append_end-clause-short
