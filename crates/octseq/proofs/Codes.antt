@@ -15,7 +15,8 @@ use Rattle.octseq.proofs.Written.{length_be, value_be, signed_unsigned}
 
 -- ---- integers and parts
 
-halves : (a b x y : List ℕ) → length a ≡ length b → a ++ x ≡ b ++ y → (a ≡ b) × (x ≡ y)
+-- equal lists whose fronts have one length
+pub halves : (a b x y : List ℕ) → length a ≡ length b → a ++ x ≡ b ++ y → (a ≡ b) × (x ≡ y)
 halves a b x y long e = (
   sym (take-append_seam a x) ∙ ap (λ n. take n (a ++ x)) long ∙ ap (take (length b)) e ∙ take-append_seam b y,
   sym (drop-append_seam a x) ∙ ap (λ n. drop n (a ++ x)) long ∙ ap (drop (length b)) e ∙ drop-append_seam b y,

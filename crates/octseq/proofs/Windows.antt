@@ -1,6 +1,6 @@
 -- What is left of a window, and the front of it.
 use Rattle.std.proofs.Common.{◌≡◌, ℕ, ◌+◌, ◌-◌, ◌≤◌, List, ◌++◌, take, drop, arith, sym, ap, ◌∙◌}
-use Rattle.std.proofs.lemmas.List.{take-take, drop-drop}
+use Rattle.std.proofs.lemmas.List.{take-take, drop-take, drop-drop}
 use Rattle.std.proofs.Math.Seq.{take-add}
 use Rattle.std.specs.Prelude.{slice_range}
 use Rattle.octseq.specs.Window.{Window, left, rest, next, past}
@@ -22,3 +22,11 @@ next_and_rest w n within =
     ap (λ k. take k ahead ++ take behind (drop (w.position + n) w.octets)) one
     ∙ ap (λ octets. take n ahead ++ take behind octets) (sym (drop-drop n w.position w.octets))
     ∙ sym (take-add n behind ahead) ∙ ap (λ k. take k ahead) all
+
+-- what is left behind a call is the rest of what was left
+pub rest_past : (w v : Window) (n : ℕ) → n ≤ left w → v ≡ past n w → drop n (rest w) ≡ rest v
+rest_past w v n within moved =
+    let ahead = drop w.position w.octets in
+    let behind = w.end - (w.position + n) in
+    let all : left w ≡ n + behind = omega arith in
+    ap (λ k. drop n (take k ahead)) all ∙ drop-take n behind ahead ∙ ap (take behind) (drop-drop n w.position w.octets) ∙ ap rest (sym moved)
