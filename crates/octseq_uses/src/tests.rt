@@ -11,6 +11,7 @@ use std::process::Abort;
 use std::test::Fail;
 
 mod lines;
+mod message;
 mod name;
 
 #[test]

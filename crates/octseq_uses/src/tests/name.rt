@@ -2,7 +2,7 @@
 use crate::error::{ReadError, WriteError};
 use crate::name::{append_name, read_name};
 use bytes::{Bytes, BytesMut};
-use octseq::{Array, AsOctets, EmptyBuilder, Octets, Parser, Truncate};
+use octseq::{Array, AsOctets, EmptyBuilder, Octets, OctetsBuilder, Parser, Truncate};
 use std::alloc::Global;
 use std::process::Abort;
 use std::test::Fail;
@@ -103,13 +103,18 @@ fn a_name_has_255_octets_at_most(rt: HostRuntime) -> Result<(), Fail> {
     is_read(&rt, rt.alloc(), octets.as_slice(), None, 0)
 }
 
+/// Appends the name of these labels, which are slices.
+fn named<B: OctetsBuilder + Truncate>(builder: &mut B, labels: &[&[u8]]) -> Result<(), WriteError> {
+    append_name(builder, labels)
+}
+
 /// The name of these labels stands behind the octets that were there, and is read again.
 fn is_appended<B: EmptyBuilder + Truncate>(rt: &impl Abort, alloc: Global) -> Result<(), Fail> {
     let mut builder = B::empty(alloc)?;
     builder.append_slice(b"a")?;
-    assert_eq!(rt; append_name(&mut builder, &[]), Ok(()));
+    assert_eq!(rt; named(&mut builder, &[]), Ok(()));
     assert_eq!(rt; builder.as_ref(), b"a\x00".as_slice());
-    assert_eq!(rt; append_name(&mut builder, &[b"www", b"example"]), Ok(()));
+    assert_eq!(rt; named(&mut builder, &[b"www", b"example"]), Ok(()));
     assert_eq!(rt; builder.as_ref(), b"a\x00\x03www\x07example\x00".as_slice());
     let wanted: Option<&[&[u8]]> = Some(&[b"www", b"example"]);
     is_read(rt, alloc, &builder.as_ref()[2..], wanted, 13)
@@ -126,15 +131,15 @@ fn a_name_is_appended_to_each_kind_of_builder(rt: HostRuntime) -> Result<(), Fai
 fn a_name_is_appended_whole_or_not_at_all(rt: HostRuntime) -> Result<(), Fail> {
     let mut octets = Array::<8>::try_from(b"a".as_slice())?;
     let short = Err(WriteError::Short);
-    assert_eq!(rt; append_name(&mut octets, &[b"www", b"ab"]), short);
+    assert_eq!(rt; named(&mut octets, &[b"www", b"ab"]), short);
     assert_eq!(rt;
-        append_name(&mut octets, &[b"www", b"a", b""]),
+        named(&mut octets, &[b"www", b"a", b""]),
         Err(WriteError::Malformed)
     );
     assert_eq!(rt; octets.as_slice(), b"a".as_slice());
-    assert_eq!(rt; append_name(&mut octets, &[b"www", b"a"]), Ok(()));
+    assert_eq!(rt; named(&mut octets, &[b"www", b"a"]), Ok(()));
     assert_eq!(rt; octets.as_slice(), b"a\x03www\x01a\x00".as_slice());
-    assert_eq!(rt; append_name(&mut octets, &[]), short);
+    assert_eq!(rt; named(&mut octets, &[]), short);
     Ok(())
 }
 
@@ -143,14 +148,14 @@ fn labels_that_are_too_long_are_not_appended(rt: HostRuntime) -> Result<(), Fail
     let mut octets = Vec::new(rt.alloc());
     let none = Err(WriteError::Malformed);
     let label: &[u8] = &[b'a'; 63];
-    assert_eq!(rt; append_name(&mut octets, &[b"a", &[b'a'; 64]]), none);
+    assert_eq!(rt; named(&mut octets, &[b"a", &[b'a'; 64]]), none);
     assert_eq!(rt;
-        append_name(&mut octets, &[label, label, label, &[b'a'; 62]]),
+        named(&mut octets, &[label, label, label, &[b'a'; 62]]),
         none
     );
     assert_eq!(rt; octets.len(), 0);
     assert_eq!(rt;
-        append_name(&mut octets, &[label, label, label, &[b'a'; 61]]),
+        named(&mut octets, &[label, label, label, &[b'a'; 61]]),
         Ok(())
     );
     assert_eq!(rt; octets.len(), 255);
