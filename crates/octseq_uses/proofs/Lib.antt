@@ -6,3 +6,4 @@ pub mod MessageCode
 pub mod Names
 pub mod RecordCode
 pub mod Refusals
+pub mod Writing

@@ -5,3 +5,4 @@ pub mod Name
 pub mod Record
 pub mod Refusal
 pub mod Said
+pub mod Writes

@@ -1,8 +1,10 @@
 //! Why octets were not read, and why they were not written.
 ghost use Rattle.std.specs.Prelude.{◌≡◌};
+ghost use Rattle.octseq.specs.Composer.{refusal_of};
 ghost use Rattle.octseq_uses.specs.Refusal.{read_error_of, write_error_of};
 ghost use Rattle.octseq_uses.specs.declared.error.ReadError.TheVariants.{Malformed};
 
+use octseq::builder::AppendError;
 use octseq::compose::ComposeError;
 use octseq::parse::{ParseOctetsError, ShortInput};
 
@@ -53,6 +55,17 @@ impl From<ComposeError> for WriteError {
             ComposeError::TooLong => WriteError::Malformed,
             ComposeError::Short => WriteError::Short,
             ComposeError::Memory => WriteError::Memory,
+        }
+    }
+}
+
+impl From<AppendError> for WriteError {
+    ghost from_gives = { λ e made. made ≡ write_error_of (refusal_of e) };
+
+    fn from(e: AppendError) -> WriteError {
+        match e {
+            AppendError::Short(_) => WriteError::Short,
+            AppendError::Memory => WriteError::Memory,
         }
     }
 }

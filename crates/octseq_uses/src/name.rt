@@ -137,6 +137,7 @@ pub fn append_name<B: OctetsBuilder + Truncate, L: AsOctets>(
 ) -> Result<(), WriteError>
     ensures ok { OnOk result (B.content builder.new
         ≡ B.content builder.old ++ name_of (map L.content labels.now)) }
+    ensures name { OnOk result (IsName (map L.content labels.now)) }
     ensures err { OnErr result (B.content builder.new ≡ B.content builder.old) }
     ensures malformed { result ≡ Err WriteError.Malformed ↔ ¬ IsName (map L.content labels.now) }
     ensures short { result ≡ Err WriteError.Short → IsPast B.limit

@@ -12,6 +12,7 @@ use std::test::Fail;
 
 mod first;
 mod lines;
+mod message;
 mod name;
 
 #[test]

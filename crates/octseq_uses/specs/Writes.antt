@@ -1,0 +1,13 @@
+-- What a step of writing does, so that steps compose.
+use Rattle.std.specs.Prelude.{◌≡◌, ℕ, Bool, true, ◌+◌, Option, List, ◌++◌, length, take, Result, Err, OnOk}
+use Rattle.octseq_core.specs.Limit.{IsWithin, IsPast}
+use Rattle.octseq_uses.specs.declared.error.WriteError.{WriteError}
+
+-- A call adds the octets at the end of a content, and keeps it within its limit. Where it is refused the content begins as it was; it is
+-- refused as short only where the content would pass its limit, for memory only where the type requests memory.
+pub record Writes {T : Type 0} (limit : Option ℕ) (asks : Bool) (result : Result T WriteError) (octets old new : List ℕ) : Type 0 where
+  pub ok : OnOk result (new ≡ old ++ octets)
+  pub front : take (length old) new ≡ old
+  pub short : result ≡ Err WriteError.Short → IsPast limit (length old + length octets)
+  pub within : IsWithin limit (length old) → OnOk result (IsWithin limit (length new))
+  pub memory : result ≡ Err WriteError.Memory → asks ≡ true
