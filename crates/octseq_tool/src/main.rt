@@ -6,6 +6,10 @@
 //! and with no argument it is `check`.
 #![tactic(auto)]
 
+ghost use Rattle.std.specs.Prelude.{◌≡◌};
+ghost use Rattle.std.specs.Process.{exit_status};
+ghost use Rattle.octseq_tool.specs.Out.{status_of};
+
 use engine::{Status, ToolFault, engine};
 use std::process::ExitCode;
 use std::{env, io};
@@ -13,7 +17,9 @@ use std::{env, io};
 mod engine;
 
 /// The status that the program ends with.
-fn exit_code(ended: Result<Status, ToolFault>) -> ExitCode {
+fn exit_code(ended: Result<Status, ToolFault>) -> ExitCode
+    ensures { exit_status result ≡ status_of ended }
+{
     ExitCode::from(match ended {
         Ok(Status::Fine) => 0,
         Ok(Status::Refused) => 1,
