@@ -1,5 +1,5 @@
 -- Laws of limits, also for callers.
-use Rattle.std.proofs.Common.{ℕ, ◌<◌, ◌≤◌, Option, Some, None, arith}
+use Rattle.std.proofs.Common.{ℕ, ◌≤◌, Option, Some, None, arith}
 use Rattle.octseq_core.specs.Limit.{IsWithin, IsPast}
 
 -- a longer length passes a limit too
@@ -11,3 +11,8 @@ past_more None m n less past = absurd past
 pub within_not_past : (limit : Option ℕ) (n : ℕ) → IsWithin limit n → IsPast limit n → ⊥
 within_not_past (Some limit) n within past = omega arith
 within_not_past None n within past = past
+
+-- and one that isn't past it is within it
+pub within_if_not_past : (limit : Option ℕ) (n : ℕ) → (IsPast limit n → ⊥) → IsWithin limit n
+within_if_not_past (Some limit) n past = omega arith
+within_if_not_past None n past = tt

@@ -1,5 +1,5 @@
 -- What the program writes for a command and its input, and how it ends.
-use Rattle.std.specs.Prelude.{◌≡◌, ℕ, ◌<◌, ◌≤◌, List, [], ◌∷◌, ◌++◌, length, codes, Option, Some, None, IfSome}
+use Rattle.std.specs.Prelude.{◌≡◌, ℕ, ◌<◌, ◌≤◌, List, [], ◌∷◌, ◌++◌, length, codes, Option, Some, None, Result, Ok, Err, IfSome}
 use Rattle.std.specs.Fmt.{decimal}
 use Rattle.std.specs.Io.KnownBytes.{Appends}
 use Rattle.std.specs.List.{flat_map}
@@ -10,6 +10,8 @@ use Rattle.octseq_tool.specs.declared.engine.Command.{Command}
 use Rattle.octseq_tool.specs.declared.engine.Command.TheVariants.{Check, Lossy, Lossy64, Records}
 use Rattle.octseq_tool.specs.declared.engine.Status.{Status}
 use Rattle.octseq_tool.specs.declared.engine.Status.TheVariants.{Fine, Refused, Usage}
+use Rattle.octseq_tool.specs.declared.engine.ToolFault.{ToolFault}
+use Rattle.octseq_tool.specs.declared.engine.ToolFault.TheVariants.{Memory, Read, Write}
 
 -- the word that names a command
 abbrev pub name_of : Command → List ℕ
@@ -74,3 +76,12 @@ pub record Ran (word : List ℕ) (given before after : Option (List ℕ)) (statu
   pub whole : IfSome given (λ octets. input ≡ octets)
   pub answered : Out command input output status
   pub written : Appends before after output
+
+-- the number that the process ends with
+abbrev pub status_of : Result Status ToolFault → ℕ
+status_of (Ok Fine) = 0
+status_of (Ok Refused) = 1
+status_of (Ok Usage) = 2
+status_of (Err Memory) = 3
+status_of (Err Read) = 4
+status_of (Err Write) = 4

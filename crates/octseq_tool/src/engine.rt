@@ -1,6 +1,7 @@
 //! The program over any reader and any writer.
-ghost use Rattle.std.specs.Prelude.{◌≡◌, ℕ, ◌<◌, ◌∷◌, ◌++◌, [], length, codes, Some, List, Option, IsFalse, IfOk, IfErr, IfSome, OnOk, OnErr};
+ghost use Rattle.std.specs.Prelude.{◌≡◌, ◌≢◌, ℕ, ◌<◌, ◌∷◌, ◌++◌, [], length, codes, Some, List, Option, IsFalse, IfOk, IfErr, IfSome, OnOk, OnErr};
 ghost use Rattle.std.specs.Io.KnownBytes.{Appends, Consumes, IsAtEnd};
+ghost use Rattle.std.specs.IoError.{error_kind};
 ghost use Rattle.octseq.specs.Parser.{window};
 ghost use Rattle.octseq.specs.Window.{left, rest};
 ghost use Rattle.octseq_text.specs.Pieces.{StandsFor};
@@ -129,6 +130,7 @@ fn check(alloc: Global, input: Vec<u8>) -> Result<Answer, AllocError>
 fn lossy<R: Read>(alloc: Global, reader: &mut R) -> Result<Answer, ToolFault>
     ensures ok { IfOk result (λ answer. Answers Lossy (R.remaining reader.old) answer.output.items answer.status) }
     ensures end { OnOk result (IsAtEnd (R.remaining reader.new)) }
+    ensures err { IfErr result (λ fault. fault ≢ ToolFault.Write) }
 {
     let mut pieces = LossyPieces::new(alloc)?;
     feed_all(alloc, reader, &mut pieces)?;
@@ -152,6 +154,7 @@ fn feed_all<R: Read>(
     ensures ok { OnOk result ((input : List ℕ) × StandsFor pieces.new input
         × IfSome (R.remaining reader.old) (λ octets. input ≡ octets)) }
     ensures end { OnOk result (IsAtEnd (R.remaining reader.new)) }
+    ensures err { IfErr result (λ fault. fault ≢ ToolFault.Write) }
 {
     let mut piece = Vec::from_elem(alloc, 0, PIECE)?;
     for _ in 0..u64::MAX {
@@ -174,6 +177,7 @@ fn feed_next<R: Read>(
         × Consumes (R.remaining reader.old) (R.remaining reader.new) octets
         × ((before : List ℕ) → StandsFor pieces.old before → StandsFor pieces.new (before ++ octets))) }
     ensures end { IfOk result (λ is_more. IsFalse is_more → IsAtEnd (R.remaining reader.new)) }
+    ensures err { IfErr result (λ fault. fault ≢ ToolFault.Write) }
 {
     match reader.read(room) {
         Ok(count) => match pieces.feed(&room[..count]) {
@@ -187,7 +191,11 @@ fn feed_next<R: Read>(
 }
 
 /// Why a read failed. A reader tells so that it lacks memory.
-fn failed_read(e: &io::Error) -> ToolFault {
+fn failed_read(e: &io::Error) -> ToolFault
+    ensures memory { error_kind e.now ≡ ErrorKind.OutOfMemory → result ≡ ToolFault.Memory }
+    ensures read { error_kind e.now ≢ ErrorKind.OutOfMemory → result ≡ ToolFault.Read }
+    ensures other { result ≢ ToolFault.Write }
+{
     match e.kind() {
         ErrorKind::OutOfMemory => ToolFault::Memory,
         _ => ToolFault::Read,
@@ -283,6 +291,7 @@ fn records(alloc: Global, input: &[u8]) -> Result<Answer, AllocError>
 fn carry_out<R: Read>(alloc: Global, command: Command, reader: &mut R) -> Result<Answer, ToolFault>
     ensures ok { IfOk result (λ answer. Answers command (R.remaining reader.old) answer.output.items answer.status) }
     ensures end { OnOk result (IsAtEnd (R.remaining reader.new)) }
+    ensures err { IfErr result (λ fault. fault ≢ ToolFault.Write) }
 {
     match command {
         Command::Check => Ok(check(alloc, read_all(alloc, reader)?)?),
@@ -296,6 +305,7 @@ fn carry_out<R: Read>(alloc: Global, command: Command, reader: &mut R) -> Result
 fn read_all<R: Read>(alloc: Global, reader: &mut R) -> Result<Vec<u8>, ToolFault>
     ensures whole { IfOk result (λ input. IfSome (R.remaining reader.old) (λ octets. input.items ≡ octets)) }
     ensures end { OnOk result (IsAtEnd (R.remaining reader.new)) }
+    ensures err { IfErr result (λ fault. fault ≢ ToolFault.Write) }
 {
     let mut input = Vec::new(alloc);
     match reader.read_to_end(&mut input) {
@@ -328,8 +338,10 @@ pub fn engine<R: Read, W: Write>(
 
     // A word that names no command reads nothing, whatever the answer.
     ensures usage { ¬ IsCommand command.now → reader.new ≡ reader.old }
+    ensures never { ¬ IsCommand command.now → IfErr result (λ fault. fault ≡ ToolFault.Write) }
 
-    // All of the output is made before the first write.
+    // All of the input is read, and all of the output made, before the first write.
+    ensures write { result ≡ Err ToolFault.Write → IsCommand command.now → IsAtEnd (R.remaining reader.new) }
     ensures read { result ≡ Err ToolFault.Read → writer.new ≡ writer.old }
     ensures memory { result ≡ Err ToolFault.Memory → writer.new ≡ writer.old }
 {

@@ -6,6 +6,12 @@
 //! and with no argument it is `check`.
 #![tactic(auto)]
 
+ghost use Rattle.std.specs.Prelude.{◌≡◌, Result, None, IfOk};
+ghost use Rattle.std.specs.Process.{exit_status};
+ghost use Rattle.octseq_tool.specs.Out.{Ran, status_of};
+ghost use Rattle.octseq_tool.specs.declared.engine.Status.{Status};
+ghost use Rattle.octseq_tool.specs.declared.engine.ToolFault.{ToolFault};
+
 use engine::{Status, ToolFault, engine};
 use std::process::ExitCode;
 use std::{env, io};
@@ -13,7 +19,9 @@ use std::{env, io};
 mod engine;
 
 /// The status that the program ends with.
-fn exit_code(ended: Result<Status, ToolFault>) -> ExitCode {
+fn exit_code(ended: Result<Status, ToolFault>) -> ExitCode
+    ensures { exit_status result ≡ status_of ended }
+{
     ExitCode::from(match ended {
         Ok(Status::Fine) => 0,
         Ok(Status::Refused) => 1,
@@ -23,8 +31,12 @@ fn exit_code(ended: Result<Status, ToolFault>) -> ExitCode {
     })
 }
 
-/// Runs a command on the standard streams.
-fn run(rt: &HostRuntime, command: &str) -> ExitCode {
+/// Runs a command on the standard streams. The status is that of a run on some input, as no contract can say
+/// what standard input gives.
+fn run(rt: &HostRuntime, command: &str) -> ExitCode
+    ensures { (ended : Result Status ToolFault) × (exit_status result ≡ status_of ended)
+        × IfOk ended (Ran command.now None None None) }
+{
     exit_code(engine(rt.alloc(), command, &mut rt.reader(), &mut io::writer(rt)))
 }
 

@@ -6,7 +6,7 @@ use Rattle.std.proofs.lemmas.List.{append-nil, length-append}
 use Rattle.std.specs.List.{flat_map}
 use Rattle.std.specs.Prelude.{Result, Ok, Err, OnErr}
 use Rattle.octseq_core.specs.Limit.{IsPast}
-use Rattle.octseq_uses.proofs.Calls.{past_more}
+use Rattle.octseq_core.proofs.Limits.{past_more}
 use Rattle.octseq_uses.specs.Joined.{joined}
 
 -- the words, each behind a separator

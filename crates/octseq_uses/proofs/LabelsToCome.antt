@@ -11,7 +11,7 @@ use Rattle.octseq.specs.Part.{part_of}
 use Rattle.octseq.specs.declared.compose.ComposeError.{ComposeError}
 use Rattle.octseq.specs.declared.compose.ComposeError.TheVariants.{TooLong, Short, Memory}
 use Rattle.octseq_uses.specs.Name.{IsLabel, name_of, IsNameWithin, IsName}
-use Rattle.octseq_uses.proofs.Calls.{past_more}
+use Rattle.octseq_core.proofs.Limits.{past_more}
 use Rattle.octseq_uses.proofs.Names.{length_part, name_step, long_name, longer_name}
 
 -- The labels from a place on are those of a name in so much room, exactly where all are those of a name.

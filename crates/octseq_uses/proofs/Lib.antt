@@ -1,4 +1,3 @@
-pub mod Calls
 pub mod Joins
 pub mod LabelsToCome
 pub mod LineFronts

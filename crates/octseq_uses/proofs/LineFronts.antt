@@ -6,7 +6,7 @@ use Rattle.std.specs.Prelude.{Option}
 use Rattle.octseq_core.specs.Limit.{IsPast}
 use Rattle.octseq_text.specs.Parts.{Part, octets_with, text}
 use Rattle.octseq_uses.specs.Line.{IsLine, TakesLine}
-use Rattle.octseq_uses.proofs.Calls.{past_more}
+use Rattle.octseq_core.proofs.Limits.{past_more}
 
 -- where the text of some parts passes the limit, so does that of these parts and others
 pub past_front : (limit : Option ℕ) (front others parts : List Part) → parts ≡ front ++ others → IsPast limit (length (text front)) → IsPast limit (length (text parts))

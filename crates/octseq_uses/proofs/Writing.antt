@@ -5,7 +5,7 @@ use Rattle.std.proofs.lemmas.Grind.{flat_map-append}
 use Rattle.std.proofs.lemmas.List.{length-append, take-take, append-nil, map-append, take-append-drop}
 use Rattle.std.proofs.lemmas.Result.{on_ok_weaker}
 use Rattle.std.specs.List.{AllByRecursion}
-use Rattle.std.specs.Prelude.{Option, Some, None, Result, Ok, Err, IsErr}
+use Rattle.std.specs.Prelude.{Option, Result, Ok, Err, IsErr}
 use Rattle.octseq_core.specs.Limit.{IsWithin, IsPast}
 use Rattle.octseq.specs.Composer.{IsPartTooLong, IsPartShort, IsPartMemory}
 use Rattle.octseq.specs.declared.compose.ComposeError.{ComposeError}
@@ -14,14 +14,10 @@ use Rattle.octseq_uses.specs.Record.{records_of}
 use Rattle.octseq_uses.specs.Refusal.{write_error_of}
 use Rattle.octseq_uses.specs.Writes.{Writes}
 use Rattle.octseq_uses.specs.declared.error.WriteError.{WriteError}
-use Rattle.octseq_uses.proofs.Calls.{past_more}
+use Rattle.octseq_core.proofs.Limits.{past_more, within_if_not_past}
 use Rattle.octseq_uses.proofs.RecordCode.{spelled}
 
 -- ---- the calls below
-
-not_past : (limit : Option ℕ) (n : ℕ) → (IsPast limit n → ⊥) → IsWithin limit n
-not_past (Some limit) n past = omega arith
-not_past None n past = tt
 
 -- a content that grew begins as it was
 grown : (octets old new : List ℕ) → new ≡ old ++ octets → take (length old) new ≡ old
@@ -38,7 +34,7 @@ added limit asks value octets old new is past = record {
   ok = is;
   front = grown octets old new is;
   short = λ e. absurd (cc);
-  within = λ _. subst (IsWithin limit) (sym (ap length is ∙ length-append old octets)) (not_past limit (length old + length octets) past);
+  within = λ _. subst (IsWithin limit) (sym (ap length is ∙ length-append old octets)) (within_if_not_past limit (length old + length octets) past);
   memory = λ e. absurd (cc);
 }
 

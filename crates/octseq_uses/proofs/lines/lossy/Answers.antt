@@ -1,6 +1,6 @@
 use Rattle.std.proofs.Common.{[]}
 use Rattle.std.proofs.lemmas.Result.{err_from_is_err_and}
-use Rattle.octseq_uses.proofs.Calls.{same_short}
+use Rattle.octseq_uses.proofs.Refusals.{same_short}
 use Rattle.octseq_uses.proofs.LineFronts.{past_front}
 use Rattle.octseq_uses.proofs.lines.lossy.Goals as goal
 

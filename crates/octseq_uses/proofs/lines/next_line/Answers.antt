@@ -4,7 +4,8 @@ use Rattle.octseq_text.specs.Parts.{Splits}
 use Rattle.octseq.specs.Parser.{window}
 use Rattle.octseq.specs.Window.{left, rest}
 use Rattle.octseq_uses.specs.Line.{TakesLine}
-use Rattle.octseq_uses.proofs.Calls.{same_short, rest_past}
+use Rattle.octseq.proofs.Windows.{rest_past}
+use Rattle.octseq_uses.proofs.Refusals.{same_short}
 use Rattle.octseq_uses.proofs.LineFronts.{one_line}
 use Rattle.octseq_uses.proofs.lines.next_line.Goals as goal
 
