@@ -228,6 +228,7 @@ pub fn written_and_read<'b, B: OctetsBuilder + Truncate, V: AsOctets>(
     ensures malformed { result ≡ Err WriteError.Malformed → ¬ IsMessage (said_by V.content message.now) }
     ensures short { result ≡ Err WriteError.Short
         → IsPast B.limit (length (message_of (said_by V.content message.now))) }
+    ensures past { IsPast B.limit (length (message_of (said_by V.content message.now))) → IsErr result }
 {
     one_message();
     builder.truncate(0);
