@@ -12,7 +12,7 @@ use octseq::compose::{ComposeError, append_part_u8, append_u16_be};
 use octseq::{Octets, Parser};
 use std::alloc::Global;
 
-/// A record that was read.
+/// A record, read or to be written.
 #[derive(Drop)]
 pub struct Record<V> {
     /// The key.
