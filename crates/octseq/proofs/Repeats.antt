@@ -41,7 +41,8 @@ has_front : {A : Type 0} (Fits : A → Type 0) (code : A → List ℕ) (octets :
 has_front Fits code octets some ([], each, all) = let none : length octets ≡ 0 = ap length all in absurd (omega arith)
 has_front Fits code octets some ((a ∷ others), (here, each), all) = (a, flat_map code others, here, all)
 
-each_snoc : {A : Type 0} (Fits : A → Type 0) (things : List A) (a : A) → AllByRecursion Fits things → Fits a → AllByRecursion Fits (things ++ a ∷ [])
+-- what holds of each holds with one more
+pub each_snoc : {A : Type 0} (Fits : A → Type 0) (things : List A) (a : A) → AllByRecursion Fits things → Fits a → AllByRecursion Fits (things ++ a ∷ [])
 each_snoc Fits [] a each fits = (fits, tt)
 each_snoc Fits (b ∷ things) a (first, each) fits = (first, each_snoc Fits things a each fits)
 

@@ -4,6 +4,7 @@ use Rattle.std.proofs.lemmas.Grind.{flat_map-append}
 use Rattle.std.proofs.lemmas.List.{append-nil, length-append}
 use Rattle.std.specs.List.{AllByRecursion}
 use Rattle.octseq.proofs.Codes.{integer_code, part_code, length_rest}
+use Rattle.octseq.proofs.Repeats.{each_snoc}
 use Rattle.octseq.proofs.Written.{length_be}
 use Rattle.octseq.specs.Code.{IsCode}
 use Rattle.octseq.specs.Integer.{octets_be}
@@ -90,10 +91,6 @@ no_octet room w none (labels, behind, is, whole) =
 
 -- ---- the labels read so far
 
-each_snoc : (labels : List (List ℕ)) (label : List ℕ) → AllByRecursion IsLabel labels → IsLabel label → AllByRecursion IsLabel (labels ++ label ∷ [])
-each_snoc [] label each is = (is, tt)
-each_snoc (first ∷ labels) label (here, each) is = (here, each_snoc labels label each is)
-
 -- The octets begin with these labels. Behind them stands this rest, in which a name that began here has so much room.
 pub record IsReadTo (octets rest : List ℕ) (labels : List (List ℕ)) (room : ℕ) : Type 0 where
   pub each : AllByRecursion IsLabel labels
@@ -115,7 +112,7 @@ read_more octets before after label labels made room less so_far is fits front m
     let long = ap length joined ∙ length-append (labels_of labels) (part_of 1 label) in
     let count = so_far.count in
     record {
-      each = subst (AllByRecursion IsLabel) (sym made_is) (each_snoc labels label so_far.each is);
+      each = subst (AllByRecursion IsLabel) (sym made_is) (each_snoc IsLabel labels label so_far.each is);
       front = so_far.front ∙ ap (λ x. labels_of labels ++ x) front ∙ sym (append_assoc (labels_of labels) (part_of 1 label) after) ∙ ap (λ x. x ++ after) (sym joined);
       count = omega arith;
       some = omega arith;

@@ -1,6 +1,7 @@
 //! A first caller for modules that the others don't show.
-ghost use Rattle.std.specs.Prelude.{◌≡◌, ◌≤◌, ◌++◌, ◌↔◌, [], length, take, true, IsSome, IfSome, IfOk, OnOk, OnErr};
+ghost use Rattle.std.specs.Prelude.{◌≡◌, ◌≢◌, ◌≤◌, ◌++◌, ◌↔◌, [], length, take, true, false, IsSome, IfSome, IfOk, OnOk, OnErr};
 ghost use Rattle.octseq_core.specs.Cow.{cow_content, is_borrowed};
+ghost use Rattle.octseq_core.specs.Refusal.{IsShort};
 ghost use Rattle.octseq_text.specs.Range.{RangeExists, range_of};
 ghost use Rattle.octseq_text.specs.Text.{IsWellFormed};
 ghost use Rattle.octseq_text.specs.declared.octets.Bound.TheVariants.{Included, Excluded};
@@ -27,7 +28,10 @@ pub fn kept<const N: usize>(octets: &[u8]) -> Option<Array<N>>
 pub fn extended(octets: &mut CowOctets<'_>, more: &[u8]) -> Result<(), AppendError>
     ensures ok { OnOk result (cow_content octets.new ≡ cow_content octets.old ++ more.now) }
     ensures err { OnErr result (cow_content octets.new ≡ cow_content octets.old) }
+    ensures memory { ¬ IsShort result }
     ensures borrowed { more.now ≡ [] → is_borrowed octets.new ≡ is_borrowed octets.old }
+    ensures owned { OnOk result (more.now ≢ [] → is_borrowed octets.new ≡ false) }
+    ensures unchanged { OnErr result (is_borrowed octets.new ≡ is_borrowed octets.old) }
 {
     if more.is_empty() {
         return Ok(());

@@ -64,8 +64,8 @@ fn lossy<B: EmptyBuilder>(alloc: Global, octets: &[u8]) -> Result<StrBuilder<B>,
 ///
 /// # Errors
 ///
-/// `Short` where the text passes the limit of the type, and `Memory` only where a request for memory was
-/// refused. The parser is then as it was.
+/// `Short` where the text passes the limit of the type, or `Memory` where a request for memory was refused: where
+/// both are so, either of them. The parser is then as it was.
 pub fn next_line<R: AsOctets, B: EmptyBuilder>(
     alloc: Global,
     parser: &mut Parser<R>,

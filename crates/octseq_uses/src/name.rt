@@ -129,8 +129,8 @@ fn append_labels<B: OctetsBuilder + Truncate, L: AsOctets>(
 /// # Errors
 ///
 /// `Malformed` where they are not the labels of a name. Else `Short` where the content, with the whole name behind
-/// it, would pass the limit of its type, and `Memory` only where a request for memory was refused. The content
-/// is then as it was.
+/// it, would pass the limit of its type, or `Memory` where a request for memory was refused: where both are so,
+/// either of them. The content is then as it was.
 pub fn append_name<B: OctetsBuilder + Truncate, L: AsOctets>(
     builder: &mut B,
     labels: &[L],
