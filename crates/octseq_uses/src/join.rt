@@ -26,6 +26,7 @@ pub fn join<B: OctetsBuilder>(
     ensures past { words.now ≢ [] → IsPast B.limit (length (B.content text.old
         ++ joined separator.now (map (λ word. word.now) words.now))) → IsErr result }
     ensures memory { IsMemory result → B.asks ≡ true }
+    ensures borrows { B.borrows text.new ≡ B.borrows text.old }
     ensures front { OnErr result ((cut : List ℕ) × (B.content text.new ++ cut
         ≡ B.content text.old ++ joined separator.now (map (λ word. word.now) words.now))) }
 {

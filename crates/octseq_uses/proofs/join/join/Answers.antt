@@ -12,6 +12,7 @@ loop-word-init g c = (
   to_come_first (λ word. word.now) c.args.separator.now (g.B.AsOctets.content c.args.text.now) (g.B.AsOctets.content c.try_push_str.new.self)
       c.args.words.now c.in-Some.others.now c.in-Some.first.now c.in-Some.ensures.cases.0 c.in_ok-try_push_str.ensures.ok,
   within_still g.B.AsOctets.limit (g.B.AsOctets.content c.args.text.now) c.in-Some.first.now.now (g.B.AsOctets.content c.try_push_str.new.self) c.in_ok-try_push_str.ensures.ok c.in_ok-try_push_str.ensures.short.1,
+  c.in_ok-try_push_str.ensures.borrows,
 )
 
 pub returns-in_err-try_push_str-2-clause-short : goal.returns-in_err-try_push_str-2-clause-short
