@@ -6,8 +6,6 @@
 
 pub mod compose;
 pub mod parse;
-#[cfg(test)]
-mod tests;
 
 pub use octseq_core::array::Array;
 pub use octseq_core::builder::{

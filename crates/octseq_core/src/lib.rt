@@ -8,5 +8,3 @@
 pub mod array;
 pub mod builder;
 pub mod cow;
-#[cfg(test)]
-mod tests;

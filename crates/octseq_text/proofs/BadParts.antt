@@ -2,12 +2,12 @@
 use Rattle.std.proofs.Common.{◌≡◌, ℕ, ◌+◌, ◌<◌, ◌≤◌, List, [], ◌∷◌, ◌++◌, length, take, drop, arith, ◌⊎◌, inl, inr, ap, sym, ◌∙◌, subst, append_assoc, length-append}
 use Rattle.std.proofs.Math.Seq.{take-append_seam}
 use Rattle.std.proofs.lemmas.List.{append-nil, take-append-drop}
-use Rattle.octseq_text.specs.Parts.{IsFront, IsBeginning, IsBadPart, Bad}
-use Rattle.octseq_text.specs.Reading.{width_of, width, fitting, part_len, parts_of}
-use Rattle.octseq_text.proofs.Beginnings.{beginning_fits, beginning_short, nil_or_some}
-use Rattle.octseq_text.proofs.Fits.{Fits, fits_more, fits_less, fits_fewer, get_left}
-use Rattle.octseq_text.proofs.Fitting.{fitting_fits, fitting_within, fitting_wide, fits_fitting}
-use Rattle.octseq_text.proofs.Splitting.{bad_of, bad_only, bad_some, fitting_beginning, parts_bad, parts_nil}
+use Rattle.octseq_utf8.specs.Parts.{IsFront, IsBeginning, IsBadPart, Bad}
+use Rattle.octseq_utf8.specs.Reading.{width_of, width, fitting, part_len, parts_of}
+use Rattle.octseq_utf8.proofs.Beginnings.{beginning_fits, beginning_short, nil_or_some}
+use Rattle.octseq_utf8.proofs.Fits.{Fits, fits_more, fits_less, fits_fewer, get_left}
+use Rattle.octseq_utf8.proofs.Fitting.{fitting_fits, fitting_within, fitting_wide, fits_fitting}
+use Rattle.octseq_utf8.proofs.Splitting.{bad_of, bad_only, bad_some, fitting_beginning, parts_bad, parts_nil}
 
 -- the front of p ++ t that is as long as the first part, where no encoding begins
 bad_at : (p t : List ℕ) → 1 ≤ length p → (width (p ++ t) ≡ 0) ⊎ (fitting (p ++ t) < width (p ++ t)) → part_len (p ++ t) ≡ length p → IsBadPart (p ++ t) p

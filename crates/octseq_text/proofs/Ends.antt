@@ -5,11 +5,11 @@ use Rattle.std.proofs.Math.Seq.{take-append_seam}
 use Rattle.std.specs.Int.{IsInRange}
 use Rattle.std.specs.List.{concat, AllByRecursion}
 use Rattle.std.specs.Char.{IsScalar}
-use Rattle.octseq_text.specs.Encoding.{IsEncoding, row_00_7F, row_C2_DF, row_E0, row_E1_EC, row_ED, row_EE_EF, row_F0, row_F1_F3, row_F4, number_of, encoding_of}
-use Rattle.octseq_text.specs.Text.{Spells, IsWellFormed, chars, EndsWith}
-use Rattle.octseq_text.proofs.Bridge.{scalar_from}
-use Rattle.octseq_text.proofs.Numbers.{encoding_of-number_of, number_is_character, number_of_1, number_of_2, number_of_3, number_of_4}
-use Rattle.octseq_text.proofs.Spelling.{chars_of, spells_nothing, spells_one, spells-append}
+use Rattle.octseq_utf8.specs.Encoding.{IsEncoding, row_00_7F, row_C2_DF, row_E0, row_E1_EC, row_ED, row_EE_EF, row_F0, row_F1_F3, row_F4, number_of, encoding_of}
+use Rattle.octseq_utf8.specs.Text.{Spells, IsWellFormed, chars, EndsWith}
+use Rattle.octseq_utf8.proofs.Bridge.{scalar_from}
+use Rattle.octseq_utf8.proofs.Numbers.{encoding_of-number_of, number_is_character, number_of_1, number_of_2, number_of_3, number_of_4}
+use Rattle.octseq_utf8.proofs.Spelling.{chars_of, spells_nothing, spells_one, spells-append}
 
 -- Octets in front of a last encoding.
 record Ending (x : List ℕ) : Type 0 where

@@ -2,14 +2,14 @@
 use Rattle.std.proofs.Common.{◌≡◌, ◌≢◌, ℕ, Bool, true, false, IsTrue, ◌↔◌, ◌⊎◌, inl, inr, ⊎_elim, List, [], ◌∷◌, ◌++◌, length, Option, Some, None, refl, arith, ap, sym, ◌∙◌, subst, length-append}
 use Rattle.std.proofs.lemmas.Bool.{cases_lt}
 use Rattle.octseq_core.specs.Limit.{IsWithin, IsPast}
-use Rattle.octseq_text.specs.Encoding.{encoding_of}
+use Rattle.octseq_utf8.specs.Encoding.{encoding_of}
 use Rattle.octseq_text.specs.Run.{Appends, CutsTo, Cuts, Pops, Step, Run, IsWithoutMemory}
-use Rattle.octseq_text.specs.Text.{chars, octets_of, IsFrontOf}
+use Rattle.octseq_utf8.specs.Text.{chars, octets_of, IsFrontOf}
 use Rattle.octseq_text.specs.declared.str.commands.Command.{Command}
 use Rattle.octseq_text.specs.declared.str.commands.Command.TheVariants as command
 use Rattle.octseq_text.specs.declared.str.commands.Reply.{Reply}
 use Rattle.octseq_text.specs.declared.str.commands.Reply.TheVariants as reply
-use Rattle.octseq_text.proofs.Numbers.{encoding_some}
+use Rattle.octseq_utf8.proofs.Numbers.{encoding_some}
 
 -- an answer is another
 abbrev Same : Reply → List ℕ → Reply → List ℕ → Type 0

@@ -9,10 +9,10 @@ use Rattle.std.specs.Cmp.Lexicographic.{pointwise, slice_cmp}
 use Rattle.std.specs.Ordering.{nat_cmp, ordering_then, ordering_reverse, is_eq}
 use Rattle.std.specs.declared.cmp.Ordering.{Ordering}
 use Rattle.std.specs.declared.cmp.Ordering.TheVariants.{Less, Equal, Greater}
-use Rattle.octseq_text.specs.Encoding.{encoding_of}
-use Rattle.octseq_text.specs.Text.{IsWellFormed, chars, octets_of}
-use Rattle.octseq_text.proofs.Numbers.{encoding_of_1, encoding_of_2, encoding_of_3, encoding_of_4}
-use Rattle.octseq_text.proofs.Texts.{octets_of-chars}
+use Rattle.octseq_utf8.specs.Encoding.{encoding_of}
+use Rattle.octseq_utf8.specs.Text.{IsWellFormed, chars, octets_of}
+use Rattle.octseq_utf8.proofs.Numbers.{encoding_of_1, encoding_of_2, encoding_of_3, encoding_of_4}
+use Rattle.octseq_utf8.proofs.Texts.{octets_of-chars}
 
 nat_cmp_less : (a b : ℕ) → a < b → nat_cmp a b ≡ Less
 nat_cmp_less a b h = grind (arith, nat_tests)

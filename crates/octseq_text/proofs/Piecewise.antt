@@ -6,21 +6,22 @@ use Rattle.std.proofs.lemmas.List.{append-nil, take-append-drop}
 use Rattle.std.specs.List.{concat, AllByRecursion}
 use Rattle.octseq_core.specs.Limit.{IsWithin, IsPast}
 use Rattle.octseq_core.specs.declared.builder.AppendError.{AppendError}
-use Rattle.octseq_text.specs.Encoding.{IsEncoding, encoding_of}
-use Rattle.octseq_text.specs.Fault.{Fault, IsFault, IsFaultSize, fault_end}
-use Rattle.octseq_text.specs.Parts.{IsFront, IsBeginning, IsBadPart, Part, Char, Bad, Splits, nothing, text}
+use Rattle.octseq_utf8.specs.Encoding.{IsEncoding, encoding_of}
+use Rattle.octseq_utf8.specs.Fault.{Fault, IsFault, IsFaultSize, fault_end}
+use Rattle.octseq_utf8.specs.Parts.{IsFront, IsBeginning, IsBadPart, Part, Char, Bad, Splits, nothing, text}
 use Rattle.octseq_text.specs.Pieces.{Settles, open_end, no_end, Held, StandsFor, IsSound}
-use Rattle.octseq_text.specs.Reading.{width_of, width, parts_of, Reads, IsRead, IsTooLong, IsOpenEnd}
-use Rattle.octseq_text.specs.Text.{Spells, IsWellFormed}
+use Rattle.octseq_utf8.specs.Reading.{width_of, width, parts_of}
+use Rattle.octseq_text.specs.Progress.{Reads, IsRead, IsTooLong, IsOpenEnd}
+use Rattle.octseq_utf8.specs.Text.{Spells, IsWellFormed}
 use Rattle.octseq_text.proofs.BadParts.{bad_more}
-use Rattle.octseq_text.proofs.Beginnings.{beginning_fits, beginning_short, nil_or_some}
-use Rattle.octseq_text.proofs.Fits.{get_left}
-use Rattle.octseq_text.proofs.LossyTexts.{replacement_is_character, text_well_formed}
+use Rattle.octseq_utf8.proofs.Beginnings.{beginning_fits, beginning_short, nil_or_some}
+use Rattle.octseq_utf8.proofs.Fits.{get_left}
+use Rattle.octseq_utf8.proofs.LossyTexts.{replacement_is_character, text_well_formed}
 use Rattle.octseq_core.proofs.Limits.{past_more}
 use Rattle.octseq_text.proofs.Replacing.{front_is, behind_is}
-use Rattle.octseq_text.proofs.Rows.{width_le}
+use Rattle.octseq_utf8.proofs.Rows.{width_le}
 use Rattle.octseq_text.proofs.Settling.{reads_none, reads_more, reads_then, reads_good, reads_bad, settles_reads, one_settling, reads_settles, text-append, text-chars, text_read, snoc_some}
-use Rattle.octseq_text.proofs.Splitting.{bad_some, encoding_fitting, splits, one_splitting}
+use Rattle.octseq_utf8.proofs.Splitting.{bad_some, encoding_fitting, splits, one_splitting}
 
 -- the text grows
 

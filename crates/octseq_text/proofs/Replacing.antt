@@ -3,14 +3,15 @@ use Rattle.std.proofs.Common.{◌≡◌, ℕ, ◌+◌, ◌-◌, ◌*◌, ◌<◌
 use Rattle.std.specs.Prelude.{unwrap_or}
 use Rattle.std.proofs.lemmas.List.{length-map}
 use Rattle.std.proofs.Math.Seq.{take-append_seam, drop-append_seam}
-use Rattle.octseq_text.specs.Encoding.{encoding_of}
-use Rattle.octseq_text.specs.Fault.{Fault, IsFault, IsFaultSize, fault_end}
-use Rattle.octseq_text.specs.Parts.{Char, Bad, text_with}
-use Rattle.octseq_text.specs.Reading.{parts_of, IsReplaced}
-use Rattle.octseq_text.specs.Text.{IsWellFormed, chars}
-use Rattle.octseq_text.proofs.Spelling.{chars_of}
-use Rattle.octseq_text.proofs.Splitting.{bad_some}
-use Rattle.octseq_text.proofs.Joins.{parts_fault, parts_spelled, text_fault, text_spelled}
+use Rattle.octseq_utf8.specs.Encoding.{encoding_of}
+use Rattle.octseq_utf8.specs.Fault.{Fault, IsFault, IsFaultSize, fault_end}
+use Rattle.octseq_utf8.specs.Parts.{Char, Bad, text_with}
+use Rattle.octseq_utf8.specs.Reading.{parts_of}
+use Rattle.octseq_text.specs.Progress.{IsReplaced}
+use Rattle.octseq_utf8.specs.Text.{IsWellFormed, chars}
+use Rattle.octseq_utf8.proofs.Spelling.{chars_of}
+use Rattle.octseq_utf8.proofs.Splitting.{bad_some}
+use Rattle.octseq_utf8.proofs.Joins.{parts_fault, parts_spelled, text_fault, text_spelled}
 
 -- at a fault
 module _ (rest : List ℕ) (fault : Fault) (f : IsFault rest fault) where

@@ -2,14 +2,15 @@
 use Rattle.std.proofs.Common.{◌≡◌, ◌≢◌, ℕ, ◌≤◌, List, [], ◌∷◌, ◌++◌, map, length, refl, arith, ◌⊎◌, inl, inr, ⊎_elim, ap, sym, ◌∙◌, subst, append_assoc, length-append}
 use Rattle.std.proofs.lemmas.Grind.{flat_map-append}
 use Rattle.std.proofs.lemmas.List.{append-nil}
-use Rattle.octseq_text.specs.Encoding.{IsEncoding, number_of}
-use Rattle.octseq_text.specs.Parts.{IsBeginning, IsBadPart, Part, Char, Bad, Splits, nothing, encoding, bad_part, text}
+use Rattle.octseq_utf8.specs.Encoding.{IsEncoding, number_of}
+use Rattle.octseq_utf8.specs.Parts.{IsBeginning, IsBadPart, Part, Char, Bad, Splits, nothing, encoding, bad_part, text}
 use Rattle.octseq_text.specs.Pieces.{Settles, open_end, no_end}
-use Rattle.octseq_text.specs.Reading.{parts_of, Reads, IsOpenEnd}
-use Rattle.octseq_text.specs.Text.{Spells}
+use Rattle.octseq_utf8.specs.Reading.{parts_of}
+use Rattle.octseq_text.specs.Progress.{Reads, IsOpenEnd}
+use Rattle.octseq_utf8.specs.Text.{Spells}
 use Rattle.octseq_text.proofs.BadParts.{bad_more, parts_self}
-use Rattle.octseq_text.proofs.Joins.{parts_front, parts_spelled, text_spelled}
-use Rattle.octseq_text.proofs.Splitting.{parts_nil, parts_encoding, parts_bad, splits, only_parts, one_splitting}
+use Rattle.octseq_utf8.proofs.Joins.{parts_front, parts_spelled, text_spelled}
+use Rattle.octseq_utf8.proofs.Splitting.{parts_nil, parts_encoding, parts_bad, splits, only_parts, one_splitting}
 
 -- what was read, whatever follows
 

@@ -6,8 +6,8 @@ use Rattle.octseq_core.specs.Refusal.{IsShort, IsMemory}
 use Rattle.octseq_core.specs.declared.builder.AppendError.{AppendError}
 use Rattle.octseq_core.specs.declared.builder.AppendError.TheVariants.{Short, Memory}
 use Rattle.octseq_text.specs.Run.{Appends, append_reply}
-use Rattle.octseq_text.specs.Text.{IsWellFormed, chars, octets_of}
-use Rattle.octseq_text.proofs.Texts.{well_formed-append, chars-append, octets_of-append}
+use Rattle.octseq_utf8.specs.Text.{IsWellFormed, chars, octets_of}
+use Rattle.octseq_utf8.proofs.Texts.{well_formed-append, chars-append, octets_of-append}
 
 -- what isn't past a limit is within it
 pub within : (limit : Option ℕ) (n : ℕ) → ¬ IsPast limit n → IsWithin limit n

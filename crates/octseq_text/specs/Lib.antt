@@ -1,11 +1,10 @@
-pub mod Encoding
-pub mod Fault
-pub mod Front
-pub mod Parts
 pub mod Pieces
+pub mod Progress
 pub mod Range
-pub mod Reading
 pub mod Refused
 pub mod Run
-pub mod Text
-pub mod Turns
+pub use Rattle.octseq_utf8.specs.Encoding
+pub use Rattle.octseq_utf8.specs.Fault
+pub use Rattle.octseq_utf8.specs.Parts
+pub use Rattle.octseq_utf8.specs.Text
+pub use Rattle.octseq_utf8.specs.Turns

@@ -3,7 +3,7 @@ use Rattle.std.specs.Prelude.{◌≡◌, ℕ, Bool, true, List, [], ◌∷◌, �
 use Rattle.octseq_core.specs.Limit.{IsWithin}
 use Rattle.octseq_core.specs.declared.builder.AppendError.{AppendError}
 use Rattle.octseq_core.specs.declared.builder.AppendError.TheVariants.{Memory}
-use Rattle.octseq_text.specs.Parts.{IsBeginning, Part, Bad, Splits, text}
+use Rattle.octseq_utf8.specs.Parts.{IsBeginning, Part, Bad, Splits, text}
 
 -- The settled parts of octets, and their open end. A last bad part reaches the end of the octets; where it is a beginning, it is the open end
 -- and isn't settled. Else all parts are settled, and the open end is empty.

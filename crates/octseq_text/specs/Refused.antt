@@ -1,5 +1,5 @@
 -- Octets that were refused as text, and why.
-use Rattle.octseq_text.specs.Fault.{Fault}
+use Rattle.octseq_utf8.specs.Fault.{Fault}
 
 pub record Refused (Octets : Type 0) : Type 0 where
   pub octets : Octets

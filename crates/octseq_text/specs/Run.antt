@@ -4,7 +4,7 @@ use Rattle.std.specs.List.{AllByRecursion}
 use Rattle.octseq_core.specs.Limit.{IsWithin, IsPast}
 use Rattle.octseq_core.specs.declared.builder.AppendError.{AppendError}
 use Rattle.octseq_core.specs.declared.builder.AppendError.TheVariants as error
-use Rattle.octseq_text.specs.Text.{chars, octets_of, IsFrontOf}
+use Rattle.octseq_utf8.specs.Text.{chars, octets_of, IsFrontOf}
 use Rattle.octseq_text.specs.declared.str.commands.Command.{Command}
 use Rattle.octseq_text.specs.declared.str.commands.Command.TheVariants as command
 use Rattle.octseq_text.specs.declared.str.commands.Reply.{Reply}

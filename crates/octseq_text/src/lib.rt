@@ -6,6 +6,4 @@
 
 pub mod octets;
 pub mod str;
-#[cfg(test)]
-mod tests;
 pub mod utf8;

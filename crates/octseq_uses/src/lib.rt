@@ -5,13 +5,14 @@
 //! of lists of octets.
 #![tactic(auto)]
 
+pub mod capped;
 pub mod error;
 pub mod first;
 pub mod join;
 pub mod lines;
 pub mod message;
 pub mod name;
+pub mod rationed;
 pub mod records;
+pub mod scarce;
 pub mod swap;
-#[cfg(test)]
-mod tests;

@@ -3,10 +3,10 @@ ghost use Rattle.std.specs.Prelude.{◌≡◌, ℕ, ◌+◌, ◌<◌, ◌↔◌,
 ghost use Rattle.octseq_core.specs.ArrayOctets.{blank};
 ghost use Rattle.octseq_core.specs.Limit.{IsWithin, IsPast};
 ghost use Rattle.octseq_core.specs.Refusal.{IsShort, IsMemory};
-ghost use Rattle.octseq_text.specs.Encoding.{IsEncoding, number_of, encoding_of};
-ghost use Rattle.octseq_text.specs.Fault.{IsFault};
+ghost use Rattle.octseq_utf8.specs.Encoding.{IsEncoding, number_of, encoding_of};
+ghost use Rattle.octseq_utf8.specs.Fault.{IsFault};
 ghost use Rattle.octseq_text.specs.Run.{Appends, append_reply, CutsTo, Pops};
-ghost use Rattle.octseq_text.specs.Text.{IsWellFormed, IsBoundary, chars, octets_of};
+ghost use Rattle.octseq_utf8.specs.Text.{IsWellFormed, IsBoundary, chars, octets_of};
 
 use super::ends::{boundary, last_encoding};
 use super::error::FromUtf8Error;
@@ -122,7 +122,7 @@ impl<Octets: AsOctets> StrBuilder<Octets> {
     }
 
     /// The text.
-    #[tactic(auto, using(crate::proofs::Bridge::utf8_from_well_formed))]
+    #[tactic(auto, using(octseq_utf8::proofs::Bridge::utf8_from_well_formed))]
     pub fn as_str(&self) -> &str
         ensures { result.now ≡ Octets.content self.now }
     {

@@ -1,6 +1,6 @@
 //! Lists of commands on a text.
 ghost use Rattle.std.specs.Prelude.{◌≡◌, List, IfOk, OnErr};
-ghost use Rattle.octseq_text.specs.Text.{chars};
+ghost use Rattle.octseq_utf8.specs.Text.{chars};
 ghost use Rattle.octseq_text.specs.Run.{append_reply, Cuts, Step, Run};
 
 use super::builder::StrBuilder;

@@ -6,7 +6,7 @@ ghost use Rattle.std.specs.Cmp.Rules.{comparing, hashing};
 ghost use Rattle.std.specs.Hash as fed;
 ghost use Rattle.std.specs.Ordering.{nat_cmp, on, as_partial_cmp};
 ghost use Rattle.std.proofs.Common.{rules};
-ghost use Rattle.octseq_text.specs.Text.{chars, octets_of};
+ghost use Rattle.octseq_utf8.specs.Text.{chars, octets_of};
 
 use super::builder::StrBuilder;
 use super::text::Str;

@@ -1,9 +1,10 @@
 //! Where characters end: the last of a text, and the places between two.
 ghost use Rattle.std.specs.Prelude.{◌≡◌, ◌≢◌, ◌+◌, ◌<◌, ◌≤◌, ◌↔◌, [], length, IsTrue, IfSome, IfNone};
-ghost use Rattle.octseq_text.specs.Encoding.{encoding_of};
-ghost use Rattle.octseq_text.specs.Text.{IsWellFormed, IsBoundary, EndsWith};
+ghost use Rattle.octseq_utf8.specs.Encoding.{encoding_of};
+ghost use Rattle.octseq_utf8.specs.Text.{IsWellFormed, IsBoundary, EndsWith};
 
-use crate::utf8::{Turns, is_continuation};
+use crate::utf8::Turns;
+use octseq_utf8::is_continuation;
 
 /// The last character of well-formed octets, and how many octets it has.
 ///

@@ -1,6 +1,6 @@
 //! The refusal of octets that are no text.
 ghost use Rattle.std.specs.Prelude.{◌≡◌, true, Some, IfOk, OnErr};
-ghost use Rattle.octseq_text.specs.Fault.{IsFault, fault_text};
+ghost use Rattle.octseq_utf8.specs.Fault.{IsFault, fault_text};
 
 use crate::utf8::Utf8Fault;
 use octseq_core::builder::{AsOctets, CloneOctets};
@@ -19,7 +19,7 @@ pub struct FromUtf8Error<Octets: AsOctets> {
 }
 
 impl<Octets: AsOctets> Model for FromUtf8Error<Octets> {
-    ghost use Rattle.octseq_text.specs.Fault.{IsFault};
+    ghost use Rattle.octseq_utf8.specs.Fault.{IsFault};
     ghost use Rattle.octseq_text.specs.Refused.{Refused};
 
     ghost Value = { Refused Octets };
@@ -89,7 +89,7 @@ impl<Octets: AsOctets> PartialEq for FromUtf8Error<Octets> {
     ghost use Rattle.std.specs.Cmp.Rules.{comparing};
     ghost use Rattle.std.specs.Ordering.{on, eq_of_both};
     ghost use Rattle.std.proofs.Common.{rules};
-    ghost use Rattle.octseq_text.specs.Fault.{fault_eq};
+    ghost use Rattle.octseq_utf8.specs.Fault.{fault_eq};
 
     ghost eq = { eq_of_both (on (λ e. e.fault) fault_eq) (on (λ e. Octets.content e.octets) (pointwise nat_eq)) };
 

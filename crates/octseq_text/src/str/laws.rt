@@ -1,7 +1,7 @@
 //! Laws about texts: what lists of commands answer whatever the text is kept in, and what of octets that
 //! come in pieces is settled.
 ghost use Rattle.std.specs.Prelude.{◌≡◌, ℕ, Bool, false, Option, List, ◌++◌};
-ghost use Rattle.octseq_text.specs.Parts.{Part, Splits};
+ghost use Rattle.octseq_utf8.specs.Parts.{Part, Splits};
 ghost use Rattle.octseq_text.specs.Pieces.{Settles};
 ghost use Rattle.octseq_text.specs.Run.{Run, IsWithoutMemory};
 ghost use Rattle.octseq_text.specs.declared.str.commands.Command.{Command};

@@ -2,14 +2,16 @@
 ghost use Rattle.std.specs.Prelude.{◌≡◌, ◌≢◌, ℕ, ◌+◌, ◌*◌, ◌≤◌, true, None, List, [], ◌++◌, length, drop, IsErr, IfOk, OnOk, OnErr};
 ghost use Rattle.octseq_core.specs.Limit.{IsPast};
 ghost use Rattle.octseq_core.specs.Refusal.{IsShort, IsMemory};
-ghost use Rattle.octseq_text.specs.Encoding.{encoding_of};
-ghost use Rattle.octseq_text.specs.Fault.{IsFault, fault_end};
-ghost use Rattle.octseq_text.specs.Parts.{Part, Splits, text_with, text};
-ghost use Rattle.octseq_text.specs.Reading.{parts_of, IsReplaced};
-ghost use Rattle.octseq_text.specs.Text.{IsWellFormed};
+ghost use Rattle.octseq_utf8.specs.Encoding.{encoding_of};
+ghost use Rattle.octseq_utf8.specs.Fault.{IsFault, fault_end};
+ghost use Rattle.octseq_utf8.specs.Parts.{Part, Splits, text_with, text};
+ghost use Rattle.octseq_utf8.specs.Reading.{parts_of};
+ghost use Rattle.octseq_text.specs.Progress.{IsReplaced};
+ghost use Rattle.octseq_utf8.specs.Text.{IsWellFormed};
 
 use super::builder::StrBuilder;
 use crate::utf8::{Turns, Utf8Fault, first_fault};
+use octseq_utf8::{before, behind};
 use octseq_core::builder::{AppendError, AsOctets, EmptyBuilder, OctetsBuilder, OctetsLimit};
 use std::alloc::{AllocError, Global};
 
@@ -287,8 +289,8 @@ fn replace_faults<'a, B: OctetsBuilder>(
     let mut rest = octets;
     let mut fault = first;
     'faults: loop {
-        append_both(made, fault.before(rest), replacement)?;
-        rest = fault.behind(rest);
+        append_both(made, before(rest, &fault), replacement)?;
+        rest = behind(rest, &fault);
         match first_fault(rest, turns) {
             Some(next) => fault = next,
             None => return Ok(rest),

@@ -3,14 +3,15 @@ ghost use Rattle.std.specs.Prelude.{◌≡◌, ◌≢◌, ℕ, ◌+◌, ◌<◌,
 ghost use Rattle.octseq_core.specs.Limit.{IsWithin, IsPast};
 ghost use Rattle.octseq_core.specs.Refusal.{IsShort, IsMemory};
 ghost use Rattle.octseq_core.specs.declared.builder.AppendError.{AppendError};
-ghost use Rattle.octseq_text.specs.Encoding.{encoding_of};
-ghost use Rattle.octseq_text.specs.Parts.{IsBeginning, Part, Splits, text};
+ghost use Rattle.octseq_utf8.specs.Encoding.{encoding_of};
+ghost use Rattle.octseq_utf8.specs.Parts.{IsBeginning, Part, Splits, text};
 ghost use Rattle.octseq_text.specs.Pieces.{Settles, StandsFor};
-ghost use Rattle.octseq_text.specs.Reading.{IsOpenEnd, IsRead, IsTooLong};
-ghost use Rattle.octseq_text.specs.Text.{IsWellFormed};
+ghost use Rattle.octseq_text.specs.Progress.{IsOpenEnd, IsRead, IsTooLong};
+ghost use Rattle.octseq_utf8.specs.Text.{IsWellFormed};
 
 use super::builder::StrBuilder;
 use crate::utf8::{Turns, first_fault};
+use octseq_utf8::{before, behind, onward};
 use octseq_core::array::Array;
 use octseq_core::builder::{
     AppendError, AsOctets, EmptyBuilder, OctetsBuilder, ShortBuf, infallible,
@@ -119,7 +120,7 @@ impl<B: EmptyBuilder> LossyPieces<B> {
     ///
     /// `Short` where the text passes the limit of the type, `Memory` where a request for memory was
     /// refused. Where a piece was refused, that refusal.
-    #[tactic(auto, using(crate::proofs::Splitting::one_splitting, crate::proofs::Settling::splitting))]
+    #[tactic(auto, using(octseq_utf8::proofs::Splitting::one_splitting, crate::proofs::Settling::splitting))]
     pub fn finish(self) -> Result<StrBuilder<B>, AppendError>
         // Exactly one list of parts splits octets.
         ensures one_splitting { (octets : List ℕ) (parts others : List Part)
@@ -235,12 +236,12 @@ fn settle<B: OctetsBuilder>(text: &mut B, octets: &[u8]) -> Result<Array<4>, App
 {
     let mut rest = octets;
     while let Some(fault) = first_fault(rest, &mut Turns::new()) {
-        text.append_slice(fault.before(rest))?;
+        text.append_slice(before(rest, &fault))?;
         if fault.error_len().is_none() {
-            return Ok(open_end(fault.onward(rest)));
+            return Ok(open_end(onward(rest, &fault)));
         }
         append_replacement(text)?;
-        rest = fault.behind(rest);
+        rest = behind(rest, &fault);
     }
     text.append_slice(rest)?;
     Ok(Array::new())
@@ -264,7 +265,7 @@ fn append_end<B: OctetsBuilder>(text: &mut B, end: &Array<4>) -> Result<(), Appe
 }
 
 /// Appends the replacement character.
-#[tactic(auto, unfolding(crate::specs::Encoding::encoding_of))]
+#[tactic(auto, unfolding(octseq_utf8::specs::Encoding::encoding_of))]
 fn append_replacement<B: OctetsBuilder>(text: &mut B) -> Result<(), AppendError>
     ensures ok { OnOk result (B.content text.new ≡ B.content text.old ++ encoding_of 0xFFFD) }
     ensures short { IsShort result

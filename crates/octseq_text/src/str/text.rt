@@ -3,8 +3,8 @@ ghost use Rattle.std.specs.Prelude.{◌≡◌, ◌↔◌, ◌⊎◌, true, None,
 ghost use Rattle.octseq_core.specs.ArrayOctets.{blank};
 ghost use Rattle.octseq_core.specs.Limit.{IsWithin, IsPast};
 ghost use Rattle.octseq_core.specs.Refusal.{IsShort, IsMemory};
-ghost use Rattle.octseq_text.specs.Fault.{IsFault};
-ghost use Rattle.octseq_text.specs.Text.{IsWellFormed, chars, octets_of};
+ghost use Rattle.octseq_utf8.specs.Fault.{IsFault};
+ghost use Rattle.octseq_utf8.specs.Text.{IsWellFormed, chars, octets_of};
 
 use super::error::FromUtf8Error;
 use crate::octets::OctetsFrom;
@@ -134,7 +134,7 @@ impl<Octets: AsOctets> Str<Octets> {
     }
 
     /// The text.
-    #[tactic(auto, using(crate::proofs::Bridge::utf8_from_well_formed))]
+    #[tactic(auto, using(octseq_utf8::proofs::Bridge::utf8_from_well_formed))]
     pub fn as_str(&self) -> &str
         ensures { result.now ≡ Octets.content self.now }
     {
@@ -200,7 +200,7 @@ impl<'a> Str<&'a [u8]> {
     }
 
     /// The octets of `s` as a text. They are borrowed.
-    #[tactic(auto, using(crate::proofs::Bridge::well_formed_from_utf8))]
+    #[tactic(auto, using(octseq_utf8::proofs::Bridge::well_formed_from_utf8))]
     pub fn from_str(s: &'a str) -> Self
         ensures { result.now ≡ s.now }
     {

@@ -2,6 +2,7 @@
 //!
 //! `.ci/refused` runs these tests with their n-th request refused, for each n up to the last of them. A refusal
 //! ends a test by the error that it was answered with, once the test has seen that nothing was written.
+use octseq_testing::{assert_equal, assert_true};
 use crate::engine::{Status, ToolFault, engine};
 use octseq::array::Array;
 use octseq::builder::OctetsBuilder;
@@ -43,12 +44,12 @@ fn is_told(
     let answer = engine(alloc, command, &mut { octets }, &mut writer);
     match answer {
         Ok(status) => {
-            assert_eq!(rt; writer.taken.as_slice(), output);
+            assert_equal(rt, writer.taken.as_slice(), output);
             Ok(status)
         }
         Err(fault) => {
-            assert_eq!(rt; fault, ToolFault::Memory);
-            assert!(rt; writer.taken.as_slice().is_empty());
+            assert_equal(rt, fault, ToolFault::Memory);
+            assert_true(rt, writer.taken.as_slice().is_empty());
             Err(Fail::from(AllocError))
         }
     }
@@ -81,6 +82,6 @@ fn records_tells_all_or_nothing(rt: HostRuntime) -> Result<(), Fail> {
 fn another_word_requests_nothing(rt: HostRuntime) -> Result<(), Fail> {
     let usage = "usage: octseq_tool check|lossy|lossy64|records\n".as_bytes();
     let status = is_told(&rt, rt.alloc(), "chek", b"a", usage)?;
-    assert_eq!(rt; status, Status::Usage);
+    assert_equal(&rt, status, Status::Usage);
     Ok(())
 }

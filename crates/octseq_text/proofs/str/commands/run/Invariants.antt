@@ -1,7 +1,7 @@
 -- The replies so far are a run of the commands so far, and there is room for the rest.
 use Rattle.std.proofs.Common.{◌≡◌, ◌≤◌, length, take, vec_len, vec_capacity}
 use Rattle.octseq_text.specs.Run.{Run}
-use Rattle.octseq_text.specs.Text.{chars}
+use Rattle.octseq_utf8.specs.Text.{chars}
 use Rattle.octseq_text.proofs.str.commands.run.Given as goal
 
 abbrev pub invariant-loop-command : goal.invariant-loop-command

@@ -1,7 +1,7 @@
 use Rattle.std.proofs.Common.{◌≡◌, ◌↔◌, refl, ap, rules, IsTrue}
-use Rattle.octseq_text.specs.Text.{chars}
-use Rattle.octseq_text.proofs.Bridge.{well_formed_from_utf8}
-use Rattle.octseq_text.proofs.Texts.{same_text}
+use Rattle.octseq_utf8.specs.Text.{chars}
+use Rattle.octseq_utf8.proofs.Bridge.{well_formed_from_utf8}
+use Rattle.octseq_utf8.proofs.Texts.{same_text}
 use Rattle.octseq_text.proofs.str.commands.step.Goals as goal
 
 pub returns-in-Is-clause-step : goal.returns-in-Is-clause-step

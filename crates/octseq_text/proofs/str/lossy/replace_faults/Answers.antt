@@ -1,7 +1,7 @@
 use Rattle.std.proofs.Common.{◌≡◌, ℕ, List, ◌++◌, length, refl, arith, ap, ◌∙◌}
 use Rattle.std.proofs.lemmas.Result.{err_from_is_err_and}
-use Rattle.octseq_text.specs.Encoding.{encoding_of}
-use Rattle.octseq_text.proofs.Bridge.{encode-is}
+use Rattle.octseq_utf8.specs.Encoding.{encoding_of}
+use Rattle.octseq_utf8.proofs.Bridge.{encode-is}
 use Rattle.octseq_core.proofs.Limits.{past_more}
 use Rattle.octseq_text.proofs.Replacing.{replacing_next, replacing_last, made_length}
 use Rattle.octseq_text.proofs.str.lossy.replace_faults.Goals as goal

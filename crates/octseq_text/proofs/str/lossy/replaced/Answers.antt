@@ -1,9 +1,9 @@
 use Rattle.std.proofs.Common.{◌≡◌, ◌∙◌}
-use Rattle.octseq_text.specs.Parts.{text_with}
-use Rattle.octseq_text.specs.Reading.{parts_of}
-use Rattle.octseq_text.proofs.Bridge.{from_scalar}
-use Rattle.octseq_text.proofs.LossyTexts.{text_well_formed}
-use Rattle.octseq_text.proofs.Splitting.{splits}
+use Rattle.octseq_utf8.specs.Parts.{text_with}
+use Rattle.octseq_utf8.specs.Reading.{parts_of}
+use Rattle.octseq_utf8.proofs.Bridge.{from_scalar}
+use Rattle.octseq_utf8.proofs.LossyTexts.{text_well_formed}
+use Rattle.octseq_utf8.proofs.Splitting.{splits}
 use Rattle.octseq_text.proofs.str.lossy.replaced.Goals as goal
 
 pub returns-clause-well_formed : goal.returns-clause-well_formed

@@ -1,7 +1,7 @@
 use Rattle.std.proofs.Common.{◌+◌, refl, arith, sym, ◌∙◌}
 use Rattle.std.proofs.lemmas.Result.{err_from_is_err_and}
-use Rattle.octseq_text.specs.Encoding.{encoding_of}
-use Rattle.octseq_text.proofs.Faults.{rest_of}
+use Rattle.octseq_utf8.specs.Encoding.{encoding_of}
+use Rattle.octseq_utf8.proofs.Faults.{rest_of}
 use Rattle.octseq_text.proofs.Piecewise.{read_none, too_long, beginning_few, begun_more, closed_whole, closed_bad, still_begins, size_none, size_some}
 use Rattle.octseq_text.proofs.str.pieces.close.Goals as goal
 

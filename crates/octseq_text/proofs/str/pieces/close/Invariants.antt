@@ -1,5 +1,5 @@
 use Rattle.std.proofs.Common.{◌≡◌, ◌++◌, take}
-use Rattle.octseq_text.specs.Parts.{IsBeginning}
+use Rattle.octseq_utf8.specs.Parts.{IsBeginning}
 use Rattle.octseq_text.proofs.str.pieces.close.Given as goal
 
 abbrev pub invariant-loop-at : goal.invariant-loop-at

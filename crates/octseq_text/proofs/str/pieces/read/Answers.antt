@@ -1,5 +1,5 @@
 use Rattle.std.proofs.lemmas.Result.{IfOk-weaker}
-use Rattle.octseq_text.specs.Reading.{IsRead}
+use Rattle.octseq_text.specs.Progress.{IsRead}
 use Rattle.octseq_text.proofs.Piecewise.{read_then, too_long_then}
 use Rattle.octseq_text.proofs.str.pieces.read.Goals as goal
 

@@ -1,6 +1,6 @@
 use Rattle.std.proofs.Common.{length, drop, take, refl, arith, ap}
 use Rattle.std.proofs.lemmas.Result.{err_from_is_err_and}
-use Rattle.octseq_text.specs.Encoding.{encoding_of}
+use Rattle.octseq_utf8.specs.Encoding.{encoding_of}
 use Rattle.octseq_text.proofs.Piecewise.{read_then, read_before, read_to_fault, read_fault, read_last, too_long, fault_begins, beginning_few, size_none, size_some}
 use Rattle.octseq_text.proofs.str.pieces.settle.Goals as goal
 

@@ -1,5 +1,5 @@
 use Rattle.std.proofs.Common.{length}
-use Rattle.octseq_text.specs.Reading.{IsRead}
+use Rattle.octseq_text.specs.Progress.{IsRead}
 use Rattle.octseq_text.proofs.str.pieces.settle.Given as goal
 
 abbrev pub invariant-loop-fault : goal.invariant-loop-fault

@@ -1,4 +1,4 @@
-use Rattle.octseq_text.proofs.Spelling.{chars_of, spells_nothing}
+use Rattle.octseq_utf8.proofs.Spelling.{chars_of, spells_nothing}
 use Rattle.octseq_text.proofs.str.builder.StrBuilder.clear.Goals as goal
 
 pub returns-clause-characters : goal.returns-clause-characters

@@ -1,8 +1,8 @@
 use Rattle.std.proofs.Common.{◌≡◌, ◌-◌, length, ap, refl, sym, ◌∙◌}
-use Rattle.octseq_text.specs.Encoding.{encoding_of}
-use Rattle.octseq_text.specs.Text.{chars}
+use Rattle.octseq_utf8.specs.Encoding.{encoding_of}
+use Rattle.octseq_utf8.specs.Text.{chars}
 use Rattle.octseq_text.proofs.Ends.{encoding_short, IsPopped, popped}
-use Rattle.octseq_text.proofs.Spelling.{chars_of, spells_nothing}
+use Rattle.octseq_utf8.proofs.Spelling.{chars_of, spells_nothing}
 use Rattle.octseq_text.proofs.str.builder.StrBuilder.pop.Goals as goal
 use Rattle.octseq_text.proofs.str.builder.StrBuilder.pop.Given as given
 

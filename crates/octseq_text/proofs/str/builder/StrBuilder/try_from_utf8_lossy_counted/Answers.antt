@@ -1,9 +1,9 @@
 use Rattle.std.proofs.Common.{◌≡◌, ℕ, List}
 use Rattle.std.proofs.lemmas.Result.{IfOk-weaker}
-use Rattle.octseq_text.specs.Parts.{Part, Splits, text_with}
-use Rattle.octseq_text.specs.Reading.{parts_of}
-use Rattle.octseq_text.proofs.LossyTexts.{text_long}
-use Rattle.octseq_text.proofs.Splitting.{splits}
+use Rattle.octseq_utf8.specs.Parts.{Part, Splits, text_with}
+use Rattle.octseq_utf8.specs.Reading.{parts_of}
+use Rattle.octseq_utf8.proofs.LossyTexts.{text_long}
+use Rattle.octseq_utf8.proofs.Splitting.{splits}
 use Rattle.octseq_text.proofs.str.builder.StrBuilder.try_from_utf8_lossy_counted.Goals as goal
 
 pub returns-clause-again : goal.returns-clause-again

@@ -1,11 +1,11 @@
 use Rattle.std.proofs.Common.{◌≡◌, ◌+◌, ◌≤◌, length, ap, sym, ◌∙◌, subst}
 use Rattle.std.proofs.lemmas.Result.{IfOk-weaker}
 use Rattle.octseq_core.specs.Limit.{IsPast}
-use Rattle.octseq_text.specs.Parts.{text_with}
-use Rattle.octseq_text.specs.Reading.{parts_of}
-use Rattle.octseq_text.proofs.Bridge.{from_scalar}
-use Rattle.octseq_text.proofs.LossyTexts.{text_well_formed, text_same}
-use Rattle.octseq_text.proofs.Splitting.{splits, only_parts, one_splitting}
+use Rattle.octseq_utf8.specs.Parts.{text_with}
+use Rattle.octseq_utf8.specs.Reading.{parts_of}
+use Rattle.octseq_utf8.proofs.Bridge.{from_scalar}
+use Rattle.octseq_utf8.proofs.LossyTexts.{text_well_formed, text_same}
+use Rattle.octseq_utf8.proofs.Splitting.{splits, only_parts, one_splitting}
 use Rattle.octseq_text.proofs.str.builder.StrBuilder.try_from_utf8_lossy_with_counted.Goals as goal
 
 pub returns-clause-one_splitting : goal.returns-clause-one_splitting

@@ -1,9 +1,9 @@
 use Rattle.std.proofs.Common.{◌≡◌, [], ◌∷◌, ap, sym, ◌∙◌}
-use Rattle.octseq_text.specs.Encoding.{encoding_of}
-use Rattle.octseq_text.specs.Text.{chars}
-use Rattle.octseq_text.proofs.Bridge.{encode-is, from_scalar}
-use Rattle.octseq_text.proofs.Numbers.{encoding_is_of, one_encoding}
-use Rattle.octseq_text.proofs.Texts.{chars-encoding}
+use Rattle.octseq_utf8.specs.Encoding.{encoding_of}
+use Rattle.octseq_utf8.specs.Text.{chars}
+use Rattle.octseq_utf8.proofs.Bridge.{encode-is, from_scalar}
+use Rattle.octseq_utf8.proofs.Numbers.{encoding_is_of, one_encoding}
+use Rattle.octseq_utf8.proofs.Texts.{chars-encoding}
 use Rattle.octseq_text.proofs.str.builder.StrBuilder.try_push.Goals as goal
 
 pub returns-clause-ok : goal.returns-clause-ok

@@ -1,4 +1,4 @@
-use Rattle.octseq_text.proofs.Bridge.{well_formed_from_utf8}
+use Rattle.octseq_utf8.proofs.Bridge.{well_formed_from_utf8}
 use Rattle.octseq_text.proofs.Steps.{appends, well_formed-appended}
 use Rattle.octseq_text.proofs.str.builder.StrBuilder.try_push_str.Goals as goal
 

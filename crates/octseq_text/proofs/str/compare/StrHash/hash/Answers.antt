@@ -1,5 +1,5 @@
-use Rattle.octseq_text.proofs.Bridge.{well_formed_from_utf8}
-use Rattle.octseq_text.proofs.Texts.{octets_of-chars}
+use Rattle.octseq_utf8.proofs.Bridge.{well_formed_from_utf8}
+use Rattle.octseq_utf8.proofs.Texts.{octets_of-chars}
 use Rattle.octseq_text.proofs.str.compare.StrHash.hash.Goals as goal
 
 pub returns : goal.returns

@@ -1,5 +1,5 @@
 use Rattle.std.proofs.lemmas.Str.{IsUtf8-string_bytes}
-use Rattle.octseq_text.proofs.Bridge.{well_formed_from_utf8}
+use Rattle.octseq_utf8.proofs.Bridge.{well_formed_from_utf8}
 use Rattle.octseq_text.proofs.str.text.Str+Vec+u8.from_string.Goals as goal
 
 pub invariant_of-result : goal.invariant_of-result

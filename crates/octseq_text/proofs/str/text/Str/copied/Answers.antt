@@ -1,6 +1,6 @@
 use Rattle.std.proofs.Common.{◌≡◌, rules, sym, subst}
-use Rattle.octseq_text.specs.Text.{IsWellFormed}
-use Rattle.octseq_text.proofs.Bridge.{well_formed_from_utf8}
+use Rattle.octseq_utf8.specs.Text.{IsWellFormed}
+use Rattle.octseq_utf8.proofs.Bridge.{well_formed_from_utf8}
 use Rattle.octseq_text.proofs.str.text.Str.copied.Goals as goal
 
 pub invariant_of-result : goal.invariant_of-result

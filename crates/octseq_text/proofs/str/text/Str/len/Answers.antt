@@ -1,5 +1,5 @@
 use Rattle.std.proofs.Common.{length, ap, sym}
-use Rattle.octseq_text.proofs.Texts.{octets_of-chars}
+use Rattle.octseq_utf8.proofs.Texts.{octets_of-chars}
 use Rattle.octseq_text.proofs.str.text.Str.len.Goals as goal
 
 pub returns-clause-characters : goal.returns-clause-characters

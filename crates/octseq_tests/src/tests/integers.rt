@@ -1,0 +1,172 @@
+use bytes::Bytes;
+use octseq::array::Array;
+use octseq::builder::AsOctets;
+use octseq::parse::{Parser, ShortInput};
+use octseq_testing::assert_equal;
+use std::process::Abort;
+use std::test::Fail;
+
+/// Reads two integers, after which too few octets are left for a third.
+macro_rules! reads {
+    ($rt:expr, $octets:expr, $call:ident, $first:expr, $second:expr) => {{
+        let mut parser = Parser::from_ref($octets);
+        assert_equal($rt, parser.$call(), Ok($first));
+        assert_equal($rt, parser.$call(), Ok($second));
+        let pos = parser.pos();
+        assert_equal($rt, parser.$call(), Err(ShortInput));
+        assert_equal($rt, parser.pos(), pos);
+    }};
+}
+
+fn reads_single_octets<R: AsOctets + Copy>(rt: &impl Abort, octets: R) -> Result<(), Fail> {
+    reads!(rt, octets, parse_i8, 18, -42);
+    reads!(rt, octets, parse_u8, 18, 214);
+    Ok(())
+}
+
+fn reads_16_bits_be<R: AsOctets + Copy>(rt: &impl Abort, octets: R) -> Result<(), Fail> {
+    reads!(rt, octets, parse_i16_be, 4660, -4242);
+    reads!(rt, octets, parse_u16_be, 4660, 61294);
+    Ok(())
+}
+
+fn reads_16_bits_le<R: AsOctets + Copy>(rt: &impl Abort, octets: R) -> Result<(), Fail> {
+    reads!(rt, octets, parse_i16_le, 4660, -4242);
+    reads!(rt, octets, parse_u16_le, 4660, 61294);
+    Ok(())
+}
+
+fn reads_32_bits_be<R: AsOctets + Copy>(rt: &impl Abort, octets: R) -> Result<(), Fail> {
+    reads!(rt, octets, parse_i32_be, 0x12345678, -42424242);
+    reads!(rt, octets, parse_u32_be, 0x12345678, 0xfd78a84e);
+    Ok(())
+}
+
+fn reads_32_bits_le<R: AsOctets + Copy>(rt: &impl Abort, octets: R) -> Result<(), Fail> {
+    reads!(rt, octets, parse_i32_le, 0x12345678, -42424242);
+    reads!(rt, octets, parse_u32_le, 0x12345678, 0xfd78a84e);
+    Ok(())
+}
+
+fn reads_64_bits_be<R: AsOctets + Copy>(rt: &impl Abort, octets: R) -> Result<(), Fail> {
+    reads!(
+        rt,
+        octets,
+        parse_i64_be,
+        0x12345678fd78a84e,
+        -3568335078657414759
+    );
+    reads!(
+        rt,
+        octets,
+        parse_u64_be,
+        0x12345678fd78a84e,
+        0xce7aba26dd0f2999
+    );
+    Ok(())
+}
+
+fn reads_64_bits_le<R: AsOctets + Copy>(rt: &impl Abort, octets: R) -> Result<(), Fail> {
+    reads!(
+        rt,
+        octets,
+        parse_i64_le,
+        0x12345678fd78a84e,
+        -3568335078657414759
+    );
+    reads!(
+        rt,
+        octets,
+        parse_u64_le,
+        0x12345678fd78a84e,
+        0xce7aba26dd0f2999
+    );
+    Ok(())
+}
+
+fn reads_128_bits_be<R: AsOctets + Copy>(rt: &impl Abort, octets: R) -> Result<(), Fail> {
+    reads!(
+        rt,
+        octets,
+        parse_i128_be,
+        0x12345678fd78a84ece7aba26dd0f2999,
+        -9605457846724395475894107919101750112
+    );
+    reads!(
+        rt,
+        octets,
+        parse_u128_be,
+        0x12345678fd78a84ece7aba26dd0f2999,
+        0xf8c60e5d3f5e3a7438388f3f57a794a0
+    );
+    Ok(())
+}
+
+fn reads_128_bits_le<R: AsOctets + Copy>(rt: &impl Abort, octets: R) -> Result<(), Fail> {
+    reads!(
+        rt,
+        octets,
+        parse_i128_le,
+        0x12345678fd78a84ece7aba26dd0f2999,
+        -9605457846724395475894107919101750112
+    );
+    reads!(
+        rt,
+        octets,
+        parse_u128_le,
+        0x12345678fd78a84ece7aba26dd0f2999,
+        0xf8c60e5d3f5e3a7438388f3f57a794a0
+    );
+    Ok(())
+}
+
+#[test]
+fn integers_are_read_in_both_orders(rt: HostRuntime) -> Result<(), Fail> {
+    over_each!(&rt, reads_single_octets, b"\x12\xD6")?;
+    over_each!(&rt, reads_16_bits_be, b"\x12\x34\xEF\x6E\x00")?;
+    over_each!(&rt, reads_16_bits_le, b"\x34\x12\x6E\xEF\x00")?;
+    over_each!(
+        &rt,
+        reads_32_bits_be,
+        b"\x12\x34\x56\x78\xFD\x78\xA8\x4E\x00\x00\x00"
+    )?;
+    over_each!(
+        &rt,
+        reads_32_bits_le,
+        b"\x78\x56\x34\x12\x4E\xA8\x78\xFD\x00\x00\x00"
+    )?;
+    over_each!(
+        &rt,
+        reads_64_bits_be,
+        b"\x12\x34\x56\x78\xFD\x78\xA8\x4E\xCE\x7A\xBA\x26\xDD\x0F\x29\x99\x00\x00\x00"
+    )?;
+    over_each!(
+        &rt,
+        reads_64_bits_le,
+        b"\x4E\xA8\x78\xFD\x78\x56\x34\x12\x99\x29\x0F\xDD\x26\xBA\x7A\xCE\x00\x00\x00"
+    )?;
+    over_each!(
+        &rt,
+        reads_128_bits_be,
+        b"\x12\x34\x56\x78\xFD\x78\xA8\x4E\xCE\x7A\xBA\x26\xDD\x0F\x29\x99\xF8\xC6\x0E\x5D\x3F\x5E\x3A\x74\x38\x38\x8F\x3F\x57\xA7\x94\xA0\x00\x00\x00\x00\x00"
+    )?;
+    over_each!(
+        &rt,
+        reads_128_bits_le,
+        b"\x99\x29\x0F\xDD\x26\xBA\x7A\xCE\x4E\xA8\x78\xFD\x78\x56\x34\x12\xA0\x94\xA7\x57\x3F\x8F\x38\x38\x74\x3A\x5E\x3F\x5D\x0E\xC6\xF8\x00\x00\x00\x00\x00"
+    )
+}
+
+#[test]
+fn the_order_of_the_octets_counts(rt: HostRuntime) {
+    assert_equal(
+        &rt,
+        Parser::from_static(b"\xEF\x6E").parse_i16_be(),
+        Ok(-4242),
+    );
+    assert_equal(
+        &rt,
+        Parser::from_static(b"\xEF\x6E").parse_u16_le(),
+        Ok(28399),
+    );
+}

@@ -1,0 +1,251 @@
+use bytes::Bytes;
+use octseq::array::Array;
+use octseq::builder::AsOctets;
+use octseq::octets::Octets;
+use octseq::parse::{Kind, ParserCall, ParserCommand, ParserReply, run};
+use octseq_testing::assert_equal;
+use octseq_uses::scarce::Scarce;
+use std::alloc::{AllocGlobal, Global};
+use std::process::Abort;
+use std::test::Fail;
+
+/// Octets as the text that they are in these tests.
+fn text(octets: &[u8]) -> &str {
+    str::from_utf8(octets).unwrap_or("?")
+}
+
+fn shown<R: Octets>(alloc: Global, reply: &ParserReply<R>) -> Result<String, Fail> {
+    Ok(match reply {
+        ParserReply::Done => format!(in alloc; "Done")?,
+        ParserReply::Short => format!(in alloc; "Short")?,
+        ParserReply::Memory => format!(in alloc; "Memory")?,
+        ParserReply::NoParser => format!(in alloc; "NoParser")?,
+        ParserReply::Number(n) => format!(in alloc; "Number({n})")?,
+        ParserReply::Flag(b) => format!(in alloc; "Flag({b})")?,
+        ParserReply::Slice(v) => format!(in alloc; "Slice({})", text(v.as_slice()))?,
+        ParserReply::Range(r) => format!(in alloc; "Range({})", text(r.as_ref()))?,
+        ParserReply::Parser(n) => format!(in alloc; "Parser({n})")?,
+        ParserReply::Signed(n) => format!(in alloc; "Signed({n})")?,
+        ParserReply::Unsigned(n) => format!(in alloc; "Unsigned({n})")?,
+    })
+}
+
+/// Runs commands, each with the reply that it is to get.
+fn answers<R: Octets + Copy>(
+    rt: &(impl Abort + AllocGlobal),
+    octets: R,
+    cases: &[(usize, ParserCall, &str)],
+) -> Result<(), Fail> {
+    let mut commands = Vec::new(rt.alloc());
+    for (parser, call, _) in cases {
+        commands.push(ParserCommand {
+            parser: *parser,
+            call: *call,
+        })?;
+    }
+    let replies = run(rt.alloc(), octets, &commands)?;
+    assert_equal(rt, replies.len(), cases.len());
+    for ((parser, _, wanted), reply) in cases.iter().zip(&replies) {
+        assert_eq!(rt;
+            shown(rt.alloc(), reply)?.as_str(),
+            *wanted,
+            "of parser {parser}"
+        );
+    }
+    Ok(())
+}
+
+fn has_one_reply_a_command<R: Octets + Copy>(
+    rt: &(impl Abort + AllocGlobal),
+    octets: R,
+) -> Result<(), Fail> {
+    let cases = [
+        (0, ParserCall::Advance(2), "Done"),
+        (0, ParserCall::Nested(4), "Parser(1)"),
+        (1, ParserCall::PeekAll, "Slice(2345)"),
+        (1, ParserCall::Seek(0), "Done"),
+        (1, ParserCall::PeekAll, "Slice(012345)"),
+        (1, ParserCall::Seek(7), "Short"),
+        (1, ParserCall::Pos, "Number(0)"),
+        (0, ParserCall::PeekAll, "Slice(6789)"),
+        (2, ParserCall::Pos, "NoParser"),
+        (0, ParserCall::Duplicate, "Parser(2)"),
+        (2, ParserCall::AdvanceToEnd, "Done"),
+        (0, ParserCall::Remaining, "Number(4)"),
+        (0, ParserCall::Buf(5), "Short"),
+        (0, ParserCall::Int(Kind::U8), "Unsigned(54)"),
+        (0, ParserCall::Octets(3), "Range(789)"),
+        (0, ParserCall::Remaining, "Number(0)"),
+    ];
+    answers(rt, octets, &cases)
+}
+
+fn seeks_and_advances<R: Octets + Copy>(
+    rt: &(impl Abort + AllocGlobal),
+    octets: R,
+) -> Result<(), Fail> {
+    let seeks = [
+        (0, ParserCall::Peek(1), "Slice(0)"),
+        (0, ParserCall::Pos, "Number(0)"),
+        (0, ParserCall::Remaining, "Number(10)"),
+        (0, ParserCall::Seek(2), "Done"),
+        (0, ParserCall::Pos, "Number(2)"),
+        (0, ParserCall::Remaining, "Number(8)"),
+        (0, ParserCall::Peek(1), "Slice(2)"),
+        (0, ParserCall::Seek(10), "Done"),
+        (0, ParserCall::Pos, "Number(10)"),
+        (0, ParserCall::Remaining, "Number(0)"),
+        (0, ParserCall::PeekAll, "Slice()"),
+        (0, ParserCall::Seek(11), "Short"),
+        (0, ParserCall::Pos, "Number(10)"),
+        (0, ParserCall::Remaining, "Number(0)"),
+    ];
+    answers(rt, octets, &seeks)?;
+    let advances = [
+        (0, ParserCall::Pos, "Number(0)"),
+        (0, ParserCall::Peek(1), "Slice(0)"),
+        (0, ParserCall::Advance(2), "Done"),
+        (0, ParserCall::Pos, "Number(2)"),
+        (0, ParserCall::Peek(1), "Slice(2)"),
+        (0, ParserCall::Advance(9), "Short"),
+        (0, ParserCall::Advance(8), "Done"),
+        (0, ParserCall::Pos, "Number(10)"),
+        (0, ParserCall::PeekAll, "Slice()"),
+    ];
+    answers(rt, octets, &advances)
+}
+
+fn peeks_and_nests<R: Octets + Copy>(
+    rt: &(impl Abort + AllocGlobal),
+    octets: R,
+) -> Result<(), Fail> {
+    let peeks = [
+        (0, ParserCall::Peek(2), "Slice(01)"),
+        (0, ParserCall::Peek(10), "Slice(0123456789)"),
+        (0, ParserCall::Peek(11), "Short"),
+        (0, ParserCall::CheckLen(2), "Done"),
+        (0, ParserCall::CheckLen(10), "Done"),
+        (0, ParserCall::CheckLen(11), "Short"),
+        (0, ParserCall::Advance(2), "Done"),
+        (0, ParserCall::Peek(2), "Slice(23)"),
+        (0, ParserCall::Peek(8), "Slice(23456789)"),
+        (0, ParserCall::Peek(9), "Short"),
+        (0, ParserCall::CheckLen(2), "Done"),
+        (0, ParserCall::CheckLen(8), "Done"),
+        (0, ParserCall::CheckLen(9), "Short"),
+    ];
+    answers(rt, octets, &peeks)?;
+    let nests = [
+        (0, ParserCall::PeekAll, "Slice(0123456789)"),
+        (0, ParserCall::Advance(2), "Done"),
+        (0, ParserCall::PeekAll, "Slice(23456789)"),
+        (0, ParserCall::Nested(4), "Parser(1)"),
+        (1, ParserCall::PeekAll, "Slice(2345)"),
+        (1, ParserCall::Advance(2), "Done"),
+        (1, ParserCall::PeekAll, "Slice(45)"),
+        (0, ParserCall::PeekAll, "Slice(6789)"),
+    ];
+    answers(rt, octets, &nests)
+}
+
+fn copies_what_it_is_asked<R: Octets + Copy>(
+    rt: &(impl Abort + AllocGlobal),
+    octets: R,
+) -> Result<(), Fail> {
+    let cases = [
+        (0, ParserCall::IsEmpty, "Flag(false)"),
+        (0, ParserCall::CheckLen(10), "Done"),
+        (0, ParserCall::CheckLen(11), "Short"),
+        (0, ParserCall::Advance(1), "Done"),
+        (0, ParserCall::Peek(usize::MAX), "Short"),
+        (0, ParserCall::Buf(usize::MAX), "Short"),
+        (0, ParserCall::Pos, "Number(1)"),
+        (0, ParserCall::Seek(0), "Done"),
+        (0, ParserCall::Peek(2), "Slice(01)"),
+        (0, ParserCall::Buf(3), "Slice(012)"),
+        (0, ParserCall::Nested(8), "Short"),
+        (0, ParserCall::Octets(8), "Short"),
+        (0, ParserCall::Nested(0), "Parser(1)"),
+        (1, ParserCall::AsSlice, "Slice(012)"),
+        (1, ParserCall::Len, "Number(3)"),
+        (1, ParserCall::Int(Kind::I8), "Short"),
+        (0, ParserCall::Len, "Number(10)"),
+        (0, ParserCall::Pos, "Number(3)"),
+        (usize::MAX, ParserCall::Pos, "NoParser"),
+    ];
+    answers(rt, octets, &cases)
+}
+
+#[test]
+fn commands_are_answered_in_turn(rt: HostRuntime) -> Result<(), Fail> {
+    over_each!(&rt, has_one_reply_a_command, b"0123456789")?;
+    over_each!(&rt, seeks_and_advances, b"0123456789")?;
+    over_each!(&rt, peeks_and_nests, b"0123456789")?;
+    over_each!(&rt, copies_what_it_is_asked, b"0123456789")
+}
+
+/// Each integer at the front of FD 78 A8 4E CE 7A BA 26 DD 0F 29 99 F8 C6 0E 5D.
+const INTEGERS: [(Kind, &str); 18] = [
+    (Kind::I8, "Signed(-3)"),
+    (Kind::U8, "Unsigned(253)"),
+    (Kind::I16Be, "Signed(-648)"),
+    (Kind::I16Le, "Signed(30973)"),
+    (Kind::U16Be, "Unsigned(64888)"),
+    (Kind::U16Le, "Unsigned(30973)"),
+    (Kind::I32Be, "Signed(-42424242)"),
+    (Kind::I32Le, "Signed(1319663869)"),
+    (Kind::U32Be, "Unsigned(4252543054)"),
+    (Kind::U32Le, "Unsigned(1319663869)"),
+    (Kind::I64Be, "Signed(-182210728483440090)"),
+    (Kind::I64Le, "Signed(2790677945610959101)"),
+    (Kind::U64Be, "Unsigned(18264533345226111526)"),
+    (Kind::U64Le, "Unsigned(2790677945610959101)"),
+    (
+        Kind::I128Be,
+        "Signed(-3361194675818198659777052566785487267)",
+    ),
+    (
+        Kind::I128Le,
+        "Signed(123694931377103337711441504900489967869)",
+    ),
+    (
+        Kind::U128Be,
+        "Unsigned(336921172245120264803597554864982724189)",
+    ),
+    (
+        Kind::U128Le,
+        "Unsigned(123694931377103337711441504900489967869)",
+    ),
+];
+
+fn reads_each_kind<R: Octets + Copy>(
+    rt: &(impl Abort + AllocGlobal),
+    octets: R,
+) -> Result<(), Fail> {
+    for (kind, reply) in INTEGERS {
+        answers(rt, octets, &[(0, ParserCall::Int(kind), reply)])?;
+    }
+    Ok(())
+}
+
+#[test]
+fn each_kind_of_integer_is_read(rt: HostRuntime) -> Result<(), Fail> {
+    over_each!(
+        &rt,
+        reads_each_kind,
+        b"\xFD\x78\xA8\x4E\xCE\x7A\xBA\x26\xDD\x0F\x29\x99\xF8\xC6\x0E\x5D"
+    )
+}
+
+#[test]
+fn a_range_that_is_refused_for_memory_moves_nothing(rt: HostRuntime) -> Result<(), Fail> {
+    let cases = [
+        (0, ParserCall::Advance(1), "Done"),
+        (0, ParserCall::Octets(2), "Memory"),
+        (0, ParserCall::Pos, "Number(1)"),
+        (0, ParserCall::Octets(3), "Short"),
+        (0, ParserCall::Buf(2), "Slice(bc)"),
+        (0, ParserCall::Octets(1), "Short"),
+    ];
+    answers(&rt, Scarce(*b"abc"), &cases)
+}

@@ -1,0 +1,380 @@
+use octseq::array::Array;
+use octseq::builder::{AppendError, EmptyBuilder, OctetsBuilder, ShortBuf, Truncate};
+use octseq::str::{Command, Reply, StrBuilder, run};
+use octseq::utf8::{Turns, first_fault};
+use octseq_testing::{assert_equal, assert_true};
+use octseq_uses::capped::Capped;
+use octseq_uses::rationed::Rationed;
+use std::alloc::Global;
+use std::process::Abort;
+use std::test::Fail;
+
+mod conversions;
+mod hostile;
+mod pieces;
+mod plain;
+mod replacements;
+mod table;
+mod texts;
+
+#[test]
+fn thai_and_chinese_are_read(rt: HostRuntime) -> Result<(), Fail> {
+    let octets = "ประเทศไทย中".as_bytes().to_vec(rt.alloc())?;
+    let text = StrBuilder::from_utf8(octets).ok().ok_or("refused")?;
+    assert_equal(&rt, text.len(), 30);
+    assert_true(&rt, !text.is_empty());
+    assert_equal(&rt, text.as_str(), "ประเทศไทย中");
+    assert_equal(&rt, text.as_slice(), "ประเทศไทย中".as_bytes());
+    assert_equal(&rt, text.into_octets_builder().len(), 30);
+    Ok(())
+}
+
+#[test]
+fn octets_that_are_no_text_are_handed_back(rt: HostRuntime) -> Result<(), Fail> {
+    let octets = Array::<4>::try_from(b"a\xC0".as_slice())?;
+    let error = StrBuilder::from_utf8(octets).err().ok_or("accepted")?;
+    assert_equal(&rt, error.as_slice(), b"a\xC0".as_slice());
+    let fault = error.utf8_error();
+    assert_equal(&rt, (fault.valid_up_to(), fault.error_len()), (1, Some(1)));
+    let copy = error.clone(rt.alloc())?;
+    assert_true(&rt, copy == error);
+    assert_equal(&rt, copy.into_octets().as_slice(), b"a\xC0".as_slice());
+    let other = Array::<4>::try_from(b"b\xC0".as_slice())?;
+    assert_true(
+        &rt,
+        StrBuilder::from_utf8(other).err().ok_or("accepted")? != error,
+    );
+    assert_equal(
+        &rt,
+        format!(in rt.alloc(); "{error:?}")?.as_str(),
+        "FromUtf8Error { fault: Utf8Fault { valid_up_to: 1, error_len: Some(1) }, .. }",
+    );
+    Ok(())
+}
+
+#[test]
+fn faults_are_found_and_shown(rt: HostRuntime) -> Result<(), Fail> {
+    let cases = [
+        (
+            b"a\xF1\x80\x80".as_slice(),
+            1,
+            None,
+            "incomplete utf-8 byte sequence from index 1",
+        ),
+        (
+            b"a\xC0",
+            1,
+            Some(1),
+            "invalid utf-8 sequence of 1 bytes from index 1",
+        ),
+        (
+            b"\xE2\x82A",
+            0,
+            Some(2),
+            "invalid utf-8 sequence of 2 bytes from index 0",
+        ),
+        (
+            b"\xC3\xA9\xF0\x9F\x98A",
+            2,
+            Some(3),
+            "invalid utf-8 sequence of 3 bytes from index 2",
+        ),
+        (
+            b"\xED\xA0\x80",
+            0,
+            Some(1),
+            "invalid utf-8 sequence of 1 bytes from index 0",
+        ),
+    ];
+    for (octets, place, length, text) in cases {
+        let fault = first_fault(octets, &mut Turns::new()).ok_or("none")?;
+        assert_equal(&rt, fault.valid_up_to(), place);
+        assert_equal(&rt, fault.error_len(), length);
+        assert_equal(&rt, fault.to_string(rt.alloc())?.as_str(), text);
+        let error = StrBuilder::from_utf8(octets).err().ok_or("accepted")?;
+        assert_equal(&rt, error.to_string(rt.alloc())?.as_str(), text);
+    }
+    assert_equal(&rt, first_fault(b"", &mut Turns::new()), None);
+    Ok(())
+}
+
+/// The lengths of the ill-formed parts, from the left.
+fn bad_lengths(alloc: Global, octets: &[u8]) -> Result<Vec<usize>, Fail> {
+    let mut lengths = Vec::new(alloc);
+    let mut at = 0;
+    for _ in octets {
+        let Some(fault) = first_fault(&octets[at.min(octets.len())..], &mut Turns::new()) else {
+            break;
+        };
+        let length = fault.error_len().ok_or("cut")?;
+        lengths.push(length)?;
+        at = at
+            .saturating_add(fault.valid_up_to())
+            .saturating_add(length);
+    }
+    Ok(lengths)
+}
+
+/// The examples of the Unicode Standard, chapter 3, on the replacement of maximal subparts.
+#[test]
+fn maximal_subparts_are_those_of_the_standard(rt: HostRuntime) -> Result<(), Fail> {
+    let cases = [
+        (
+            b"\xC0\xAF\xE0\x80\xBF\xF0\x81\x82A".as_slice(),
+            [1, 1, 1, 1, 1, 1, 1, 1].as_slice(),
+        ),
+        (
+            b"\xED\xA0\x80\xED\xBF\xBF\xED\xAFA",
+            &[1, 1, 1, 1, 1, 1, 1, 1],
+        ),
+        (b"\xF4\x91\x92\x93\xFFA\x80\xBFB", &[1, 1, 1, 1, 1, 1, 1]),
+        (b"\xE1\x80\xE2\xF0\x91\x92\xF1\xBFA", &[2, 1, 3, 2]),
+    ];
+    for (octets, lengths) in cases {
+        assert_equal(&rt, bad_lengths(rt.alloc(), octets)?.as_slice(), lengths);
+    }
+    Ok(())
+}
+
+/// Makes texts through the traits alone.
+fn make<B: EmptyBuilder>(rt: &impl Abort, alloc: Global) -> Result<(), Fail> {
+    assert_true(rt, StrBuilder::<B>::new(alloc)?.is_empty());
+    assert_true(rt, StrBuilder::<B>::with_capacity(alloc, 8)?.is_empty());
+    let text = StrBuilder::from_utf8_unchecked(B::empty(alloc)?);
+    assert_equal(rt, text.as_str(), "");
+    Ok(())
+}
+
+#[test]
+fn texts_are_made_empty(rt: HostRuntime) -> Result<(), Fail> {
+    make::<Vec<u8>>(&rt, rt.alloc())?;
+    make::<Array<0>>(&rt, rt.alloc())
+}
+
+#[test]
+fn characters_are_pushed(rt: HostRuntime) -> Result<(), Fail> {
+    let octets = "ประเทศไทย中".as_bytes().to_vec(rt.alloc())?;
+    let mut text = StrBuilder::from_utf8(octets).ok().ok_or("refused")?;
+    for ch in ['华', 'b', '¢', '€', '𤭢'] {
+        text.push(ch)?;
+    }
+    assert_equal(&rt, text.len(), 43);
+    assert_equal(&rt, text.as_str(), "ประเทศไทย中华b¢€𤭢");
+    Ok(())
+}
+
+#[test]
+fn texts_are_pushed(rt: HostRuntime) -> Result<(), Fail> {
+    let mut text = StrBuilder::<Vec<u8>>::new(rt.alloc())?;
+    text.push_str("")?;
+    assert_equal(&rt, text.as_str(), "");
+    text.push_str("abc")?;
+    assert_equal(&rt, text.as_str(), "abc");
+    text.push_str("ประเทศไทย中华Việt Nam")?;
+    assert_equal(&rt, text.as_str(), "abcประเทศไทย中华Việt Nam");
+    assert_equal(&rt, text.len(), 46);
+    Ok(())
+}
+
+#[test]
+fn a_push_that_passes_the_limit_is_refused(rt: HostRuntime) -> Result<(), Fail> {
+    let mut text = StrBuilder::<Array<4>>::new(rt.alloc())?;
+    assert_equal(&rt, text.try_push_str("abc"), Ok(()));
+    assert_equal(&rt, text.try_push('¢'), Err(AppendError::Short(ShortBuf)));
+    assert_equal(
+        &rt,
+        text.try_push_str("de"),
+        Err(AppendError::Short(ShortBuf)),
+    );
+    assert_equal(&rt, text.try_push('d'), Ok(()));
+    assert_equal(&rt, text.as_str(), "abcd");
+    Ok(())
+}
+
+/// The replies to commands on an empty text, which are the ones that are wanted.
+fn replies<B: EmptyBuilder + Truncate>(
+    rt: &impl Abort,
+    alloc: Global,
+    commands: &[Command],
+    wanted: &[Reply],
+) -> Result<(), Fail> {
+    let mut text = StrBuilder::<B>::new(alloc)?;
+    let replies = run(alloc, &mut text, commands)?;
+    assert_equal(rt, replies.as_slice(), wanted);
+    Ok(())
+}
+
+#[test]
+fn commands_are_answered(rt: HostRuntime) -> Result<(), Fail> {
+    let alloc = rt.alloc();
+    let commands = [
+        Command::Push('€'),
+        Command::Push('¢'),
+        Command::Push('b'),
+        Command::PushStr(""),
+        Command::Len,
+        Command::Is("€b"),
+    ];
+    let at_four = [
+        Reply::Done,
+        Reply::Short,
+        Reply::Done,
+        Reply::Done,
+        Reply::Len(4),
+        Reply::Is(true),
+    ];
+    replies::<Array<4>>(&rt, alloc, &commands, &at_four)?;
+    let unlimited = [
+        Reply::Done,
+        Reply::Done,
+        Reply::Done,
+        Reply::Done,
+        Reply::Len(6),
+        Reply::Is(false),
+    ];
+    replies::<Vec<u8>>(&rt, alloc, &commands, &unlimited)?;
+    let to_none = [Command::PushStr(""), Command::Push('a'), Command::Len];
+    let at_none = [Reply::Done, Reply::Short, Reply::Len(0)];
+    replies::<Array<0>>(&rt, alloc, &to_none, &at_none)?;
+    let to_five = [
+        Command::Push('€'),
+        Command::Push('é'),
+        Command::Push('a'),
+        Command::Len,
+    ];
+    let at_five = [Reply::Done, Reply::Done, Reply::Short, Reply::Len(5)];
+    replies::<Capped>(&rt, alloc, &to_five, &at_five)
+}
+
+#[test]
+fn a_refusal_of_memory_leaves_the_text(rt: HostRuntime) -> Result<(), Fail> {
+    let alloc = rt.alloc();
+    let commands = [
+        Command::PushStr("ab"),
+        Command::Push('é'),
+        Command::PushStr("c"),
+    ];
+    let texts = ["abéc", "éc", "abc", "abé"];
+    for (n, text) in texts.iter().enumerate() {
+        let rationed = Rationed::new(Vec::new(alloc), n);
+        let mut builder = StrBuilder::from_utf8(rationed).ok().ok_or("refused")?;
+        let replies = run(alloc, &mut builder, &commands)?;
+        assert_equal(&rt, builder.as_str(), *text);
+        assert_equal(&rt, replies.len(), 3);
+        for (i, reply) in replies.iter().enumerate() {
+            let wanted = if i + 1 == n {
+                Reply::Memory
+            } else {
+                Reply::Done
+            };
+            assert_eq!(rt; *reply, wanted, "reply {i} of run {n}");
+        }
+    }
+    Ok(())
+}
+
+/// Octets and their lossy texts.
+fn lossy_texts() -> [(&'static [u8], &'static str); 16] {
+    [
+        (
+            b"Hello\xC0\x80 There\xE6\x83 Goodbye",
+            "Hello\u{FFFD}\u{FFFD} There\u{FFFD} Goodbye",
+        ),
+        (
+            b"\xF1foo\xF1\x80bar\xF1\x80\x80baz",
+            "\u{FFFD}foo\u{FFFD}bar\u{FFFD}baz",
+        ),
+        (
+            b"\xF0\x80\x80\x80foo\xF0\x90\x80\x80bar",
+            "\u{FFFD}\u{FFFD}\u{FFFD}\u{FFFD}foo\u{10000}bar",
+        ),
+        (
+            b"\xED\xA0\x80foo\xED\xBF\xBFbar",
+            "\u{FFFD}\u{FFFD}\u{FFFD}foo\u{FFFD}\u{FFFD}\u{FFFD}bar",
+        ),
+        (
+            b"\xF4foo\xF4\x80bar\xF4\xBFbaz",
+            "\u{FFFD}foo\u{FFFD}bar\u{FFFD}\u{FFFD}baz",
+        ),
+        (b"a\xF1\x80\x80", "a\u{FFFD}"),
+        (b"a\xC0", "a\u{FFFD}"),
+        (
+            b"Hello\xC2 There\xFF Goodbye",
+            "Hello\u{FFFD} There\u{FFFD} Goodbye",
+        ),
+        (b"\xF5foo\xF5\x80bar", "\u{FFFD}foo\u{FFFD}\u{FFFD}bar"),
+        (b"hello", "hello"),
+        ("ศไทย中华Việt Nam".as_bytes(), "ศไทย中华Việt Nam"),
+        (b"", ""),
+        // The examples of the Unicode Standard, chapter 3.
+        (
+            b"\xC0\xAF\xE0\x80\xBF\xF0\x81\x82A",
+            "\u{FFFD}\u{FFFD}\u{FFFD}\u{FFFD}\u{FFFD}\u{FFFD}\u{FFFD}\u{FFFD}A",
+        ),
+        (
+            b"\xED\xA0\x80\xED\xBF\xBF\xED\xAFA",
+            "\u{FFFD}\u{FFFD}\u{FFFD}\u{FFFD}\u{FFFD}\u{FFFD}\u{FFFD}\u{FFFD}A",
+        ),
+        (
+            b"\xF4\x91\x92\x93\xFFA\x80\xBFB",
+            "\u{FFFD}\u{FFFD}\u{FFFD}\u{FFFD}\u{FFFD}A\u{FFFD}\u{FFFD}B",
+        ),
+        (
+            b"\xE1\x80\xE2\xF0\x91\x92\xF1\xBFA",
+            "\u{FFFD}\u{FFFD}\u{FFFD}\u{FFFD}A",
+        ),
+    ]
+}
+
+/// The lossy text of octets over a vector.
+fn lossy(alloc: Global, octets: &[u8]) -> Result<StrBuilder<Vec<u8>>, Fail> {
+    Ok(StrBuilder::try_from_utf8_lossy_counted(alloc, octets.to_vec(alloc)?, &mut Turns::new())?)
+}
+
+#[test]
+fn each_bad_part_becomes_one_replacement(rt: HostRuntime) -> Result<(), Fail> {
+    for (octets, text) in lossy_texts() {
+        assert_equal(&rt, lossy(rt.alloc(), octets)?.as_str(), text);
+        let read = StrBuilder::from_utf8_lossy(rt.alloc(), octets.to_vec(rt.alloc())?)?;
+        assert_equal(&rt, read.as_str(), text);
+    }
+    assert_equal(
+        &rt,
+        lossy(rt.alloc(), b"Hello\xC0\x80 There\xE6\x83 Goodbye")?.len(),
+        28,
+    );
+    Ok(())
+}
+
+/// What a builder of another kind answers for these octets.
+fn lossy_over<B: EmptyBuilder>(
+    rt: &impl Abort,
+    alloc: Global,
+    octets: &[u8],
+    wanted: Result<&str, AppendError>,
+) -> Result<(), Fail> {
+    let mut builder = B::empty(alloc)?;
+    builder.append_slice(octets)?;
+    let text = StrBuilder::try_from_utf8_lossy(alloc, builder);
+    match (text, wanted) {
+        (Ok(text), Ok(wanted)) => assert_equal(rt, text.as_str(), wanted),
+        (Err(error), Err(wanted)) => assert_equal(rt, error, wanted),
+        (Ok(_), Err(_)) => assert!(rt; false, "it was read"),
+        (Err(_), Ok(_)) => assert!(rt; false, "it was refused"),
+    }
+    Ok(())
+}
+
+#[test]
+fn a_lossy_text_that_passes_the_limit_is_refused(rt: HostRuntime) -> Result<(), Fail> {
+    let alloc = rt.alloc();
+    let short = || Err(AppendError::Short(ShortBuf));
+    lossy_over::<Array<0>>(&rt, alloc, b"", Ok(""))?;
+    lossy_over::<Array<4>>(&rt, alloc, b"a\xFF\xFF", short())?;
+    lossy_over::<Array<7>>(&rt, alloc, b"a\xFF\xFF", Ok("a\u{FFFD}\u{FFFD}"))?;
+    lossy_over::<Capped>(&rt, alloc, b"a\xFF", Ok("a\u{FFFD}"))?;
+    lossy_over::<Capped>(&rt, alloc, b"\xFF\xFF", short())?;
+    let refused = Array::<0>::new().append_slice(b"a");
+    assert_equal(&rt, refused, Err(AppendError::Short(ShortBuf)));
+    Ok(())
+}

@@ -1,0 +1,178 @@
+//! Ranges and conversions.
+use arrayvec::ArrayVec;
+use bytes::{Bytes, BytesMut};
+use octseq::array::Array;
+use octseq::builder::{AppendError, AsOctets, CloneOctets, OctetsBuilder, ShortBuf};
+use octseq::cow::CowOctets;
+use octseq::octets::{Bound, Octets, OctetsFrom, OctetsInto, SmallOctets, range_exists, span};
+use octseq_testing::{assert_equal, assert_true};
+use smallvec::SmallVec;
+use std::alloc::Global;
+use std::process::Abort;
+use std::rc::RcSlice;
+use std::test::Fail;
+
+/// The octets of a range that exists, or none.
+fn cut<O: Octets>(octets: O, bounds: (Bound, Bound)) -> Option<O::Range> {
+    if range_exists(octets.as_ref().len(), bounds) {
+        octets.range(bounds).ok()
+    } else {
+        None
+    }
+}
+
+#[test]
+fn ranges_are_cut_where_they_lie(rt: HostRuntime) -> Result<(), Fail> {
+    let alloc = rt.alloc();
+    let shared = Bytes::copy_from_slice(alloc, b"abcdef")?;
+    let inner = cut(&shared, (Bound::Included(1), Bound::Excluded(4))).ok_or("no range")?;
+    assert_equal(&rt, inner.as_slice(), b"bcd".as_slice());
+    let again = cut(&inner, (Bound::Excluded(0), Bound::Unbounded)).ok_or("no range")?;
+    assert_equal(&rt, again.as_slice(), b"cd".as_slice());
+    let slice = b"abc".as_slice();
+    let middle = Some(b"bc".as_slice());
+    assert_equal(&rt, cut(slice, span(1, 3)), middle);
+    assert_equal(&rt, cut(&slice.to_vec(alloc)?, span(1, 3)), middle);
+    assert_equal(
+        &rt,
+        cut(&CowOctets::borrowed(alloc, slice), span(1, 3)),
+        middle,
+    );
+    assert_equal(
+        &rt,
+        cut(&SmallVec::<u8, 2>::from_slice(alloc, slice)?, span(1, 3)),
+        middle,
+    );
+    assert_equal(&rt, cut(&Array::<4>::try_from(slice)?, span(1, 3)), middle);
+    assert_equal(
+        &rt,
+        cut(&RcSlice::<u8>::from_slice(alloc, slice)?, span(1, 3)),
+        middle,
+    );
+    let mut fixed = ArrayVec::<u8, 4>::new();
+    fixed.append_slice(slice)?;
+    assert_equal(&rt, cut(&fixed, span(1, 3)), middle);
+    Ok(())
+}
+
+#[test]
+fn the_greatest_bounds_are_told_apart(rt: HostRuntime) {
+    let most = usize::MAX;
+    assert_true(&rt, range_exists(3, (Bound::Excluded(2), Bound::Unbounded)));
+    assert_true(
+        &rt,
+        !range_exists(3, (Bound::Excluded(3), Bound::Unbounded)),
+    );
+    assert_true(
+        &rt,
+        range_exists(most, (Bound::Excluded(most - 1), Bound::Unbounded)),
+    );
+    assert_true(
+        &rt,
+        !range_exists(most, (Bound::Unbounded, Bound::Included(most))),
+    );
+    assert_true(
+        &rt,
+        !range_exists(3, (Bound::Excluded(most), Bound::Unbounded)),
+    );
+    assert_true(
+        &rt,
+        !range_exists(3, (Bound::Unbounded, Bound::Included(most))),
+    );
+}
+
+/// Each bound of a place up to 5, with the start and the end in octets of a length that it stands for.
+fn each_bound(alloc: Global, len: usize) -> Result<Vec<(Bound, usize, usize)>, Fail> {
+    let mut bounds = Vec::new(alloc);
+    bounds.push((Bound::Unbounded, 0, len))?;
+    for n in 0..6 {
+        bounds.push((Bound::Included(n), n, n + 1))?;
+        bounds.push((Bound::Excluded(n), n + 1, n))?;
+    }
+    Ok(bounds)
+}
+
+#[test]
+fn ranges_are_those_of_whole_numbers(rt: HostRuntime) -> Result<(), Fail> {
+    for octets in [b"".as_slice(), b"x", b"xy", b"xyz"] {
+        let len = octets.len();
+        let bounds = each_bound(rt.alloc(), len)?;
+        for (first, start, _) in &bounds {
+            for (last, _, end) in &bounds {
+                let exists = *start <= *end && *end <= len;
+                let found = cut(octets, (*first, *last));
+                assert_eq!(rt; found.is_some(), exists, "{first:?} {last:?} of {len}");
+                if let Some(range) = found {
+                    let mut wanted = Vec::new(rt.alloc());
+                    for (place, octet) in octets.iter().enumerate() {
+                        if *start <= place && place < *end {
+                            wanted.push(*octet)?;
+                        }
+                    }
+                    assert_eq!(rt; range, wanted.as_slice(), "{first:?} {last:?} of {len}");
+                }
+            }
+        }
+    }
+    Ok(())
+}
+
+/// A conversion keeps the octets.
+fn converts<S: AsOctets, T: OctetsFrom<S>>(
+    rt: &impl Abort,
+    alloc: Global,
+    source: S,
+) -> Result<(), Fail> {
+    let octets = T::try_octets_from(alloc, source)?;
+    assert_equal(rt, octets.as_ref(), b"abc".as_slice());
+    Ok(())
+}
+
+/// Every conversion of a source.
+fn into_each<S: CloneOctets>(rt: &impl Abort, alloc: Global, source: S) -> Result<(), Fail> {
+    converts::<S, Vec<u8>>(rt, alloc, source.clone_octets(alloc)?)?;
+    converts::<S, Bytes>(rt, alloc, source.clone_octets(alloc)?)?;
+    converts::<S, BytesMut>(rt, alloc, source.clone_octets(alloc)?)?;
+    converts::<S, SmallVec<u8, 2>>(rt, alloc, source.clone_octets(alloc)?)?;
+    converts::<S, ArrayVec<u8, 3>>(rt, alloc, source.clone_octets(alloc)?)?;
+    converts::<S, Array<3>>(rt, alloc, source.clone_octets(alloc)?)?;
+    converts::<&S, &[u8]>(rt, alloc, &source)?;
+    converts::<&S, Vec<u8>>(rt, alloc, &source)
+}
+
+#[test]
+fn each_sequence_is_made_into_each_other(rt: HostRuntime) -> Result<(), Fail> {
+    let alloc = rt.alloc();
+    let slice = b"abc".as_slice();
+    into_each(&rt, alloc, slice)?;
+    into_each(&rt, alloc, slice.to_vec(alloc)?)?;
+    into_each(&rt, alloc, CowOctets::borrowed(alloc, slice))?;
+    into_each(&rt, alloc, Bytes::copy_from_slice(alloc, slice)?)?;
+    into_each(&rt, alloc, BytesMut::copy_from_slice(alloc, slice)?)?;
+    into_each(&rt, alloc, SmallVec::<u8, 2>::from_slice(alloc, slice)?)?;
+    into_each(&rt, alloc, RcSlice::<u8>::from_slice(alloc, slice)?)?;
+    into_each(&rt, alloc, Array::<4>::try_from(slice)?)?;
+    let mut fixed = ArrayVec::<u8, 4>::new();
+    fixed.append_slice(slice)?;
+    into_each(&rt, alloc, fixed)
+}
+
+#[test]
+fn a_conversion_that_passes_the_limit_is_refused(rt: HostRuntime) -> Result<(), Fail> {
+    let alloc = rt.alloc();
+    let octets = b"abcd".as_slice().to_vec(alloc)?;
+    let short: Result<Array<3>, AppendError> = (&octets).try_octets_into(alloc);
+    assert_equal(&rt, short.err(), Some(AppendError::Short(ShortBuf)));
+    let whole: Array<4> = (&octets).try_octets_into(alloc)?;
+    assert_equal(&rt, whole.as_slice(), b"abcd".as_slice());
+    let fixed = ArrayVec::<u8, 4>::try_octets_from(alloc, &octets)?;
+    assert_equal(&rt, fixed.as_slice(), b"abcd".as_slice());
+    let shared: Bytes = octets.octets_into(alloc)?;
+    assert_equal(&rt, shared.as_slice(), b"abcd".as_slice());
+    let long = [7u8; 25];
+    let small = SmallOctets::try_octets_from(alloc, long.as_slice())?;
+    assert_equal(&rt, small.as_slice(), long.as_slice());
+    let vec = Vec::octets_from(alloc, long.as_slice())?;
+    assert_equal(&rt, vec.as_slice(), long.as_slice());
+    Ok(())
+}

@@ -1,0 +1,110 @@
+//! The finder beside a plain one, which reads the table octet by octet and knows no lanes and no words.
+use super::table::{ROWS, edges, plain_fault};
+use octseq::str::StrBuilder;
+use octseq::utf8::{Turns, first_fault};
+use octseq_testing::assert_equal;
+use std::alloc::Global;
+use std::process::Abort;
+use std::test::Fail;
+
+/// What both answer.
+fn agrees(rt: &impl Abort, octets: &[u8]) {
+    let found = first_fault(octets, &mut Turns::new());
+    let found = found.map(|fault| (fault.valid_up_to(), fault.error_len()));
+    assert_eq!(rt; found, plain_fault(octets), "{octets:?}");
+}
+
+/// An encoding behind so many octets of ASCII, and others behind it: whole, cut at each place, and cut
+/// with another octet behind.
+fn agrees_around(
+    rt: &impl Abort,
+    alloc: Global,
+    before: usize,
+    encoding: &[u8],
+) -> Result<(), Fail> {
+    for after in [0, 1, 20] {
+        for len in 0..=encoding.len() {
+            let mut octets = Vec::from_elem(alloc, b'a', before)?;
+            octets.extend_from_slice(&encoding[..len])?;
+            agrees(rt, octets.as_slice());
+            octets.extend_from_slice(Vec::from_elem(alloc, b'z', after)?.as_slice())?;
+            agrees(rt, octets.as_slice());
+            octets.push(0x80)?;
+            agrees(rt, octets.as_slice());
+        }
+    }
+    Ok(())
+}
+
+#[test]
+fn each_row_is_found_as_by_the_table(rt: HostRuntime) -> Result<(), Fail> {
+    for row in ROWS {
+        for before in [0, 1, 3, 12, 13, 15, 16, 17, 31, 33] {
+            let (least, greatest) = edges(rt.alloc(), row)?;
+            agrees_around(&rt, rt.alloc(), before, least.as_slice())?;
+            agrees_around(&rt, rt.alloc(), before, greatest.as_slice())?;
+        }
+    }
+    Ok(())
+}
+
+#[test]
+fn each_octet_out_of_its_range_is_found_as_by_the_table(rt: HostRuntime) -> Result<(), Fail> {
+    for row in ROWS {
+        for wrong in 0..row.len() {
+            let mut below = Vec::new(rt.alloc());
+            let mut above = Vec::new(rt.alloc());
+            for (place, (low, high)) in row.iter().enumerate() {
+                let is_wrong = place == wrong;
+                below.push(if is_wrong { low.wrapping_sub(1) } else { *low })?;
+                above.push(if is_wrong {
+                    high.wrapping_add(1)
+                } else {
+                    *high
+                })?;
+            }
+            for before in [0, 13, 16] {
+                agrees_around(&rt, rt.alloc(), before, below.as_slice())?;
+                agrees_around(&rt, rt.alloc(), before, above.as_slice())?;
+            }
+        }
+    }
+    Ok(())
+}
+
+/// So many octets of ASCII with others put in place of those from one on.
+fn ascii_with(alloc: Global, len: usize, place: usize, others: &[u8]) -> Result<Vec<u8>, Fail> {
+    let mut octets = Vec::from_elem(alloc, b'a', len)?;
+    for (octet, other) in octets.as_mut_slice().iter_mut().skip(place).zip(others) {
+        *octet = *other;
+    }
+    Ok(octets)
+}
+
+#[test]
+fn lanes_are_passed_and_faults_within_them_found(rt: HostRuntime) -> Result<(), Fail> {
+    let alloc = rt.alloc();
+    for len in [0, 15, 16, 17, 31, 32, 48] {
+        let octets = ascii_with(alloc, len, 0, b"")?;
+        assert_equal(&rt, first_fault(octets.as_slice(), &mut Turns::new()), None);
+    }
+    for place in 0..48 {
+        let octets = ascii_with(alloc, 48, place, b"\xFF")?;
+        let fault = first_fault(octets.as_slice(), &mut Turns::new()).ok_or("none")?;
+        assert_equal(
+            &rt,
+            (fault.valid_up_to(), fault.error_len()),
+            (place, Some(1)),
+        );
+        let text = StrBuilder::try_from_utf8_lossy(alloc, octets)?;
+        assert_equal(&rt, text.len(), 50);
+    }
+    let whole = ascii_with(alloc, 48, 15, b"\xC3\xA9")?;
+    assert_equal(&rt, first_fault(whole.as_slice(), &mut Turns::new()), None);
+    for (place, cut) in [(47, b"\xC3".as_slice()), (46, b"\xE2\x82")] {
+        let octets = ascii_with(alloc, 48, place, cut)?;
+        let fault = first_fault(octets.as_slice(), &mut Turns::new()).ok_or("none")?;
+        assert_equal(&rt, (fault.valid_up_to(), fault.error_len()), (place, None));
+    }
+    Ok(())
+}

@@ -1,0 +1,333 @@
+//! Texts whole: makers, views, cuts, comparisons, and lists of commands over each representation.
+use arrayvec::ArrayVec;
+use bytes::BytesMut;
+use octseq::array::Array;
+use octseq::builder::{
+    AppendError, AsOctets, EmptyBuilder, OctetsBuilder, OctetsLimit, ShortBuf, Truncate,
+};
+use octseq::cow::CowOctets;
+use octseq::octets::OctetsFrom;
+use octseq::str::{Command, Reply, Str, StrBuilder, boundary, last_char, run};
+use octseq::utf8::Turns;
+use octseq_testing::{assert_equal, assert_true};
+use smallvec::SmallVec;
+use std::alloc::Global;
+use std::cmp::Ordering;
+use std::hash::{BuildHasher, BuildHasherDefault, DefaultHasher};
+use std::process::Abort;
+use std::test::Fail;
+
+#[test]
+fn texts_are_made(rt: HostRuntime) -> Result<(), Fail> {
+    let alloc = rt.alloc();
+    let text = Str::from_utf8(b"abc".as_slice().to_vec(alloc)?)
+        .ok()
+        .ok_or("refused")?;
+    assert_equal(&rt, text.as_str(), "abc");
+    assert_equal(&rt, text.as_slice(), b"abc".as_slice());
+    assert_equal(&rt, text.as_octets().as_slice(), b"abc".as_slice());
+    assert_equal(&rt, text.len(), 3);
+    assert_true(&rt, !text.is_empty());
+    assert_true(&rt, text.clone(alloc)? == text);
+    assert_equal(&rt, text.into_octets().as_slice(), b"abc".as_slice());
+    let error = Str::from_utf8(b"a\xC0".as_slice()).err().ok_or("accepted")?;
+    assert_equal(&rt, error.into_octets(), b"a\xC0".as_slice());
+    let borrowed = Str::from_utf8_slice("é".as_bytes()).ok().ok_or("refused")?;
+    assert_equal(&rt, borrowed.as_str(), "é");
+    let fault = Str::from_utf8_slice(b"a\xF1\x80").err().ok_or("accepted")?;
+    assert_equal(&rt, (fault.valid_up_to(), fault.error_len()), (1, None));
+    assert_equal(&rt, Str::from_utf8_unchecked("é".as_bytes()).len(), 2);
+    let string = String::from_str(alloc, "été")?;
+    assert_equal(&rt, Str::from_string(string).as_str(), "été");
+    assert_true(&rt, Str::<Array<2>>::default().is_empty());
+    assert_true(&rt, Str::<&[u8]>::default().is_empty());
+    assert_true(&rt, StrBuilder::<Array<2>>::default().is_empty());
+    Ok(())
+}
+
+#[test]
+fn texts_are_copied_where_the_limit_allows(rt: HostRuntime) -> Result<(), Fail> {
+    let alloc = rt.alloc();
+    let short = Str::<ArrayVec<u8, 2>>::try_copy_from_str(alloc, "abc");
+    assert_equal(&rt, short.err(), Some(AppendError::Short(ShortBuf)));
+    let whole = Str::<ArrayVec<u8, 3>>::try_copy_from_str(alloc, "abc")?;
+    assert_equal(&rt, whole.as_str(), "abc");
+    let copied = Str::<Vec<u8>>::copy_from_str(alloc, "ab€")?;
+    assert_equal(&rt, copied.as_str(), "ab€");
+    let source = Str::<Vec<u8>>::copy_from_str(alloc, "€b")?;
+    let short = Str::<Array<3>>::try_octets_from(alloc, source);
+    assert_equal(&rt, short.err(), Some(AppendError::Short(ShortBuf)));
+    let source = Str::<Vec<u8>>::copy_from_str(alloc, "€b")?;
+    let whole = Str::<Array<4>>::try_octets_from(alloc, source)?;
+    assert_equal(&rt, whole.as_str(), "€b");
+    Ok(())
+}
+
+#[test]
+fn a_text_has_the_facts_of_its_octets(rt: HostRuntime) -> Result<(), Fail> {
+    assert_equal(
+        &rt,
+        (Str::<Array<4>>::limit(), Str::<Array<4>>::asks_memory()),
+        (Some(4), false),
+    );
+    assert_equal(&rt, <&Str<Array<4>>>::limit(), Some(4));
+    assert_equal(&rt, <&StrBuilder<Array<4>>>::limit(), Some(4));
+    assert_equal(&rt, StrBuilder::<Vec<u8>>::limit(), None);
+    assert_true(&rt, StrBuilder::<Vec<u8>>::asks_memory());
+    let text = Str::from_str("ab");
+    assert_equal(&rt, AsOctets::as_ref(&&text), b"ab".as_slice());
+    let mut builder = StrBuilder::<BytesMut>::new(rt.alloc())?;
+    builder.push_str("ab")?;
+    assert_equal(&rt, AsOctets::as_ref(&&builder), b"ab".as_slice());
+    assert_equal(&rt, builder.freeze()?.as_str(), "ab");
+    Ok(())
+}
+
+/// The hash of a text.
+fn hash<Octets: AsOctets>(text: &Str<Octets>) -> u64 {
+    BuildHasherDefault::<DefaultHasher>::new().hash_one(text)
+}
+
+#[test]
+fn texts_are_ordered_by_their_characters(rt: HostRuntime) -> Result<(), Fail> {
+    let ordered = ["", "a", "ab", "z", "é", "\u{FFFF}", "\u{10000}"];
+    for (i, text) in ordered.iter().enumerate() {
+        for (j, other) in ordered.iter().enumerate() {
+            let (left, right) = (Str::from_str(text), Str::from_str(other));
+            assert_equal(&rt, left.cmp(&right), i.cmp(&j));
+            assert_equal(&rt, left.partial_cmp(&right), Some(i.cmp(&j)));
+            assert_equal(&rt, left == right, i == j);
+            let grown = StrBuilder::from_utf8(text.as_bytes())
+                .ok()
+                .ok_or("refused")?;
+            let shrunk = StrBuilder::from_utf8(other.as_bytes())
+                .ok()
+                .ok_or("refused")?;
+            assert_equal(&rt, grown.cmp(&shrunk), i.cmp(&j));
+            assert_equal(&rt, grown == shrunk, i == j);
+        }
+    }
+    let fixed = Str::<Array<4>>::try_copy_from_str(rt.alloc(), "abc")?;
+    let grown = Str::<Vec<u8>>::copy_from_str(rt.alloc(), "abc")?;
+    assert_equal(&rt, fixed.as_str(), grown.as_str());
+    assert_equal(&rt, hash(&fixed), hash(&grown));
+    assert_equal(&rt, fixed.cmp(&fixed), Ordering::Equal);
+    Ok(())
+}
+
+#[test]
+fn texts_are_shown(rt: HostRuntime) -> Result<(), Fail> {
+    let alloc = rt.alloc();
+    let text = Str::from_str("ab");
+    assert_equal(&rt, format!(in alloc; "{text}")?.as_str(), "ab");
+    assert_equal(&rt, format!(in alloc; "{text:>4}")?.as_str(), "  ab");
+    assert_equal(&rt, format!(in alloc; "{text:?}")?.as_str(), "\"ab\"");
+    let builder = StrBuilder::from_utf8(b"ab".as_slice())
+        .ok()
+        .ok_or("refused")?;
+    assert_equal(&rt, format!(in alloc; "{builder}")?.as_str(), "ab");
+    assert_equal(&rt, format!(in alloc; "{builder:>4}")?.as_str(), "  ab");
+    assert_equal(&rt, format!(in alloc; "{builder:?}")?.as_str(), "\"ab\"");
+    Ok(())
+}
+
+#[test]
+fn the_last_character_is_found(rt: HostRuntime) -> Result<(), Fail> {
+    let cases = [
+        ("", None),
+        ("a", Some('a')),
+        ("aé", Some('é')),
+        ("a\u{7FF}", Some('\u{7FF}')),
+        ("é€", Some('€')),
+        ("𤭢", Some('𤭢')),
+        ("a\u{10FFFF}", Some('\u{10FFFF}')),
+        ("€a", Some('a')),
+    ];
+    for (text, last) in cases {
+        let text = Str::from_str(text);
+        assert_equal(&rt, last_char(text.as_slice(), &mut Turns::new()), last);
+    }
+    let many = [0xC3, 0xA9].repeat(rt.alloc(), 1000)?;
+    let many = Str::from_utf8(many).ok().ok_or("refused")?;
+    assert_equal(
+        &rt,
+        last_char(many.as_slice(), &mut Turns::new()),
+        Some('é'),
+    );
+    Ok(())
+}
+
+#[test]
+fn places_between_characters_are_boundaries(rt: HostRuntime) -> Result<(), Fail> {
+    let text = Str::from_str("𤭢");
+    let wanted = [true, false, false, false, true, false];
+    for (place, is_boundary) in wanted.iter().enumerate() {
+        assert_equal(
+            &rt,
+            boundary(text.as_slice(), place, &mut Turns::new()),
+            *is_boundary,
+        );
+    }
+    assert_true(
+        &rt,
+        !boundary(text.as_slice(), usize::MAX, &mut Turns::new()),
+    );
+    assert_true(
+        &rt,
+        boundary(Str::from_str("").as_slice(), 0, &mut Turns::new()),
+    );
+    let builder = StrBuilder::from_utf8("aé".as_bytes())
+        .ok()
+        .ok_or("refused")?;
+    let wanted = [true, true, false, true, false];
+    for (place, is_boundary) in wanted.iter().enumerate() {
+        assert_equal(&rt, builder.is_char_boundary(place), *is_boundary);
+    }
+    Ok(())
+}
+
+#[test]
+fn characters_are_popped(rt: HostRuntime) -> Result<(), Fail> {
+    let octets = "ประเทศไทย中华b¢€𤭢".as_bytes().to_vec(rt.alloc())?;
+    let mut text = StrBuilder::from_utf8(octets).ok().ok_or("refused")?;
+    assert_equal(&rt, text.len(), 43);
+    for ch in ['𤭢', '€', '¢', 'b', '华'] {
+        assert_equal(&rt, text.pop(), Some(ch));
+    }
+    assert_equal(&rt, text.len(), 30);
+    assert_equal(&rt, text.as_str(), "ประเทศไทย中");
+    text.truncate(usize::MAX);
+    assert_equal(&rt, text.len(), 30);
+    text.clear();
+    assert_true(&rt, text.is_empty());
+    assert_equal(&rt, text.pop(), None);
+    Ok(())
+}
+
+#[test]
+fn cuts_within_a_character_are_refused(rt: HostRuntime) -> Result<(), Fail> {
+    let alloc = rt.alloc();
+    let mut text = StrBuilder::<Vec<u8>>::new(alloc)?;
+    let commands = [
+        Command::Push('é'),
+        Command::Truncate(1),
+        Command::Len,
+        Command::Truncate(usize::MAX),
+        Command::Is("é"),
+        Command::Clear,
+        Command::Pop,
+    ];
+    let wanted = [
+        Reply::Done,
+        Reply::NoBoundary,
+        Reply::Len(2),
+        Reply::Done,
+        Reply::Is(true),
+        Reply::Done,
+        Reply::Popped(None),
+    ];
+    assert_equal(
+        &rt,
+        run(alloc, &mut text, &commands)?.as_slice(),
+        wanted.as_slice(),
+    );
+    let borrowed = CowOctets::borrowed(alloc, "€".as_bytes());
+    let mut text = StrBuilder::from_utf8(borrowed).ok().ok_or("refused")?;
+    let commands = [
+        Command::Push('b'),
+        Command::Truncate(1),
+        Command::Truncate(3),
+        Command::Pop,
+        Command::Pop,
+        Command::Len,
+    ];
+    let wanted = [
+        Reply::Done,
+        Reply::NoBoundary,
+        Reply::Done,
+        Reply::Popped(Some('€')),
+        Reply::Popped(None),
+        Reply::Len(0),
+    ];
+    assert_equal(
+        &rt,
+        run(alloc, &mut text, &commands)?.as_slice(),
+        wanted.as_slice(),
+    );
+    Ok(())
+}
+
+/// The replies to a list of commands on an empty text.
+fn replies<B: OctetsBuilder + Truncate>(alloc: Global, builder: B) -> Result<Vec<Reply>, Fail> {
+    let commands = [
+        Command::Push('€'),
+        Command::Push('¢'),
+        Command::Push('b'),
+        Command::Pop,
+        Command::Push('b'),
+        Command::PushStr(""),
+        Command::Len,
+        Command::Is("€b"),
+    ];
+    let mut text = StrBuilder::from_utf8(builder).ok().ok_or("refused")?;
+    Ok(run(alloc, &mut text, &commands)?)
+}
+
+#[test]
+fn each_representation_answers_by_its_limit(rt: HostRuntime) -> Result<(), Fail> {
+    let alloc = rt.alloc();
+    let at_four = [
+        Reply::Done,
+        Reply::Short,
+        Reply::Done,
+        Reply::Popped(Some('b')),
+        Reply::Done,
+        Reply::Done,
+        Reply::Len(4),
+        Reply::Is(true),
+    ];
+    let at_four = at_four.as_slice();
+    assert_equal(&rt, replies(alloc, Array::<4>::new())?.as_slice(), at_four);
+    assert_equal(
+        &rt,
+        replies(alloc, ArrayVec::<u8, 4>::new())?.as_slice(),
+        at_four,
+    );
+    let unlimited = [
+        Reply::Done,
+        Reply::Done,
+        Reply::Done,
+        Reply::Popped(Some('b')),
+        Reply::Done,
+        Reply::Done,
+        Reply::Len(6),
+        Reply::Is(false),
+    ];
+    let unlimited = unlimited.as_slice();
+    assert_equal(
+        &rt,
+        replies(alloc, Vec::empty(alloc)?)?.as_slice(),
+        unlimited,
+    );
+    assert_equal(
+        &rt,
+        replies(alloc, BytesMut::empty(alloc)?)?.as_slice(),
+        unlimited,
+    );
+    assert_equal(
+        &rt,
+        replies(alloc, SmallVec::<u8, 2>::empty(alloc)?)?.as_slice(),
+        unlimited,
+    );
+    assert_equal(
+        &rt,
+        replies(alloc, CowOctets::borrowed(alloc, b""))?.as_slice(),
+        unlimited,
+    );
+    assert_equal(
+        &rt,
+        replies(alloc, &mut Array::<4>::new())?.as_slice(),
+        at_four,
+    );
+    Ok(())
+}

@@ -1,0 +1,213 @@
+use bytes::Bytes;
+use octseq::array::Array;
+use octseq::builder::AsOctets;
+use octseq::octets::{Bound, Octets, range_exists, span};
+use octseq::parse::{ParseOctetsError, Parser, ShortInput};
+use octseq_testing::{assert_equal, assert_true};
+use std::process::Abort;
+use std::test::Fail;
+
+fn nests<R: Octets + Copy>(rt: &impl Abort, octets: R) -> Result<(), Fail> {
+    let mut outer = Parser::from_ref(octets);
+    outer.advance(2)?;
+    let mut nested = outer.parse_parser(4)?;
+    assert_equal(rt, (nested.pos(), nested.len()), (2, 6));
+    assert_equal(rt, nested.peek_all(), b"2345".as_slice());
+    nested.seek(0)?;
+    assert_equal(rt, nested.peek_all(), b"012345".as_slice());
+    assert_equal(rt, nested.seek(7), Err(ShortInput));
+    assert_equal(rt, nested.pos(), 0);
+    assert_equal(rt, outer.peek_all(), b"6789".as_slice());
+    Ok(())
+}
+
+fn moves_by_itself<R: Octets + Copy>(rt: &impl Abort, octets: R) -> Result<(), Fail> {
+    let mut parser = Parser::from_ref(octets);
+    let copy = parser;
+    parser.check_len(10)?;
+    parser.advance_to_end();
+    assert_equal(rt, (parser.pos(), copy.pos()), (10, 0));
+    assert_equal(rt, copy.peek(2)?, b"01".as_slice());
+    assert_equal(rt, parser.clone()?.pos(), 10);
+    assert_equal(rt, parser.octets_ref().as_ref(), b"0123456789".as_slice());
+    Ok(())
+}
+
+#[test]
+fn a_nested_parser_has_a_window_of_its_own(rt: HostRuntime) -> Result<(), Fail> {
+    over_each!(&rt, nests, b"0123456789")?;
+    over_each!(&rt, moves_by_itself, b"0123456789")
+}
+
+fn takes_ranges<R: Octets + Copy>(rt: &impl Abort, octets: R) -> Result<(), Fail> {
+    let mut parser = Parser::from_ref(octets);
+    assert_equal(rt, parser.parse_octets(2)?.as_ref(), b"01".as_slice());
+    assert_equal(rt, parser.parse_octets(2)?.as_ref(), b"23".as_slice());
+    let short = Err(ParseOctetsError::Short(ShortInput));
+    assert_equal(rt, parser.parse_octets(7).map(|_| ()), short);
+    assert_equal(rt, parser.parse_octets(6)?.as_ref(), b"456789".as_slice());
+    Ok(())
+}
+
+fn fills_buffers<R: Octets + Copy>(rt: &impl Abort, octets: R) -> Result<(), Fail> {
+    let mut parser = Parser::from_ref(octets);
+    let mut two = [0; 2];
+    for wanted in [b"01", b"23"] {
+        parser.parse_buf(&mut two)?;
+        assert_equal(rt, &two, wanted);
+    }
+    let mut seven = [7; 7];
+    assert_equal(rt, parser.parse_buf(&mut seven), Err(ShortInput));
+    assert_equal(rt, (seven, parser.pos()), ([7; 7], 4));
+    let mut six = [0; 6];
+    parser.parse_buf(&mut six)?;
+    assert_equal(rt, &six, b"456789");
+    assert_equal(rt, parser.parse_buf(&mut []), Ok(()));
+    Ok(())
+}
+
+#[test]
+fn octets_are_taken_as_ranges_and_into_buffers(rt: HostRuntime) -> Result<(), Fail> {
+    over_each!(&rt, takes_ranges, b"0123456789")?;
+    over_each!(&rt, fills_buffers, b"0123456789")
+}
+
+#[test]
+fn a_range_of_shared_octets_is_shared(rt: HostRuntime) -> Result<(), Fail> {
+    let octets = Bytes::copy_from_slice(rt.alloc(), b"0123456789")?;
+    let mut parser = Parser::from_ref(&octets);
+    parser.advance(4)?;
+    let range: Bytes = parser.parse_octets(3)?;
+    assert_equal(&rt, range.as_slice(), b"456".as_slice());
+    Ok(())
+}
+
+fn refuses_the_greatest<R: Octets + Copy>(rt: &impl Abort, octets: R) -> Result<(), Fail> {
+    let most = usize::MAX;
+    let mut parser = Parser::from_ref(octets);
+    parser.advance(1)?;
+    assert_equal(rt, parser.peek(most), Err(ShortInput));
+    assert_equal(rt, parser.check_len(most), Err(ShortInput));
+    assert_equal(rt, parser.seek(most), Err(ShortInput));
+    assert_equal(rt, parser.advance(most), Err(ShortInput));
+    let short = Err(ParseOctetsError::Short(ShortInput));
+    assert_equal(rt, parser.parse_octets(most).map(|_| ()), short);
+    assert_true(rt, parser.parse_parser(most).is_err());
+    assert_equal(rt, (parser.pos(), parser.len()), (1, 10));
+    Ok(())
+}
+
+#[test]
+fn the_greatest_numbers_are_refused(rt: HostRuntime) -> Result<(), Fail> {
+    over_each!(&rt, refuses_the_greatest, b"0123456789")
+}
+
+fn begins_with_ranges<R: Octets + Copy>(rt: &impl Abort, octets: R) -> Result<(), Fail> {
+    let most = usize::MAX;
+    let cases = [
+        (
+            (Bound::Unbounded, Bound::Unbounded),
+            Some([1, 2, 3].as_slice()),
+        ),
+        ((Bound::Included(1), Bound::Included(2)), Some(&[2, 3])),
+        ((Bound::Excluded(0), Bound::Excluded(3)), Some(&[2, 3])),
+        ((Bound::Excluded(2), Bound::Unbounded), Some(&[])),
+        ((Bound::Excluded(3), Bound::Unbounded), None),
+        ((Bound::Unbounded, Bound::Included(3)), None),
+        ((Bound::Included(2), Bound::Excluded(1)), None),
+        ((Bound::Excluded(most), Bound::Unbounded), None),
+        ((Bound::Unbounded, Bound::Included(most)), None),
+    ];
+    for (bounds, left) in cases {
+        let parser = Parser::try_with_range(octets, bounds);
+        assert_equal(rt, parser.is_some(), left.is_some());
+        if let (Some(parser), Some(left)) = (parser, left) {
+            assert_equal(rt, parser.peek_all(), left);
+        }
+    }
+    let empty = Parser::try_with_range(octets, (Bound::Included(2), Bound::Excluded(2)));
+    let parser = empty.ok_or("no range")?;
+    assert_true(rt, !parser.is_empty());
+    assert_equal(rt, (parser.len(), parser.remaining()), (2, 0));
+    assert_equal(rt, parser.as_slice(), [1, 2].as_slice());
+    Ok(())
+}
+
+#[test]
+fn a_parser_begins_with_a_range(rt: HostRuntime) -> Result<(), Fail> {
+    over_each!(&rt, begins_with_ranges, &[1, 2, 3])
+}
+
+/// Each bound of a place up to 5, with the start and the end in three octets that it stands for.
+const BOUNDS: [(Bound, usize, usize); 13] = [
+    (Bound::Unbounded, 0, 3),
+    (Bound::Included(0), 0, 1),
+    (Bound::Included(1), 1, 2),
+    (Bound::Included(2), 2, 3),
+    (Bound::Included(3), 3, 4),
+    (Bound::Included(4), 4, 5),
+    (Bound::Included(5), 5, 6),
+    (Bound::Excluded(0), 1, 0),
+    (Bound::Excluded(1), 2, 1),
+    (Bound::Excluded(2), 3, 2),
+    (Bound::Excluded(3), 4, 3),
+    (Bound::Excluded(4), 5, 4),
+    (Bound::Excluded(5), 6, 5),
+];
+
+fn has_each_range<R: Octets + Copy>(rt: &impl Abort, octets: R) -> Result<(), Fail> {
+    for (first, start, _) in BOUNDS {
+        for (last, _, end) in BOUNDS {
+            let wanted = [1, 2, 3].as_slice().get(start..end);
+            assert_equal(rt, range_exists(3, (first, last)), wanted.is_some());
+            let parser = Parser::try_with_range(octets, (first, last));
+            assert_equal(rt, parser.is_some(), wanted.is_some());
+            if let (Some(parser), Some(wanted)) = (parser, wanted) {
+                assert_equal(rt, parser.peek_all(), wanted);
+            }
+        }
+    }
+    Ok(())
+}
+
+#[test]
+fn a_parser_begins_with_each_range(rt: HostRuntime) -> Result<(), Fail> {
+    over_each!(&rt, has_each_range, &[1, 2, 3])
+}
+
+fn has_no_octets<R: Octets + Copy>(rt: &impl Abort, octets: R) -> Result<(), Fail> {
+    let most = usize::MAX;
+    let cases = [
+        ((Bound::Unbounded, Bound::Unbounded), true),
+        ((Bound::Included(0), Bound::Excluded(0)), true),
+        ((Bound::Excluded(0), Bound::Unbounded), false),
+        ((Bound::Included(most), Bound::Unbounded), false),
+        ((Bound::Unbounded, Bound::Excluded(most)), false),
+        ((Bound::Excluded(most), Bound::Included(most)), false),
+    ];
+    for (bounds, exists) in cases {
+        assert_equal(rt, Parser::try_with_range(octets, bounds).is_some(), exists);
+    }
+    let parser = Parser::from_ref(octets);
+    assert_true(rt, parser.is_empty());
+    assert_true(rt, parser.as_slice().is_empty());
+    Ok(())
+}
+
+#[test]
+fn no_octets_have_one_range(rt: HostRuntime) -> Result<(), Fail> {
+    over_each!(&rt, has_no_octets, &[])
+}
+
+#[test]
+fn a_range_that_is_known_needs_no_test(rt: HostRuntime) -> Result<(), Fail> {
+    let parser = Parser::with_range(b"0123".as_slice(), span(1, 3));
+    assert_equal(&rt, parser.peek_all(), b"12".as_slice());
+    let parser = Parser::from_static(b"ab");
+    assert_equal(
+        &rt,
+        format!(in rt.alloc(); "{parser:?}")?.as_str(),
+        "Parser { octets: [97, 98], pos: 0, len: 2 }",
+    );
+    Ok(())
+}

@@ -1,9 +1,0 @@
-use Rattle.std.proofs.Common.{length, ◌-◌}
-use Rattle.octseq_text.proofs.Faults.{IsAt}
-use Rattle.octseq_text.proofs.utf8.finder.fault_by_parts.Given as goal
-
-abbrev pub invariant-loop-at : goal.invariant-loop-at
-invariant-loop-at l = IsAt l.octets l.at l.fn.turns l.turns
-
-abbrev pub decreases-loop-at : goal.decreases-loop-at
-decreases-loop-at l = length l.initial.octets - l.at

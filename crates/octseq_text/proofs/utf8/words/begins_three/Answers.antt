@@ -1,7 +1,0 @@
-use Rattle.std.proofs.Common.{refl, arith}
-use Rattle.std.proofs.lemmas.Bool.Decides.{nat_tests}
-use Rattle.octseq_text.proofs.Masks.{three}
-use Rattle.octseq_text.proofs.utf8.words.begins_three.Goals as goal
-
-pub returns : goal.returns
-returns c h = three c.args.word _ _ _ refl refl refl (omega arith) (omega arith) (grind (arith, nat_tests))

@@ -1,9 +1,0 @@
--- How many turns were counted.
-use Rattle.std.specs.Prelude.{ℕ, ◌+◌}
-use Rattle.octseq_text.specs.declared.utf8.turns.Count.{Count}
-use Rattle.octseq_text.specs.declared.utf8.turns.Count.TheVariants.{Zero, After'}
-
--- how many counts came before this one
-abbrev pub counts_before : Count → ℕ
-counts_before Zero = 0
-counts_before (After' _ before) = counts_before before + 1

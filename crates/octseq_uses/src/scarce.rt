@@ -1,0 +1,39 @@
+//! Octets of a caller's own, of which each range is refused for memory.
+ghost use Rattle.std.specs.Prelude.{true, None};
+
+use octseq::builder::{AsOctets, OctetsLimit};
+use octseq::octets::{Bound, Octets};
+use std::alloc::AllocError;
+
+#[derive(Clone, Copy)]
+pub struct Scarce(pub [u8; 3]);
+
+impl AsOctets for Scarce {
+    ghost content = { λ scarce. scarce.0 };
+
+    ghost limit = { None };
+
+    ghost asks = { true };
+
+    fn as_ref(&self) -> &[u8] {
+        self.0.as_slice()
+    }
+}
+
+impl OctetsLimit for Scarce {
+    fn limit() -> Option<usize> {
+        None
+    }
+
+    fn asks_memory() -> bool {
+        true
+    }
+}
+
+impl Octets for Scarce {
+    type Range = Self;
+
+    fn range(&self, _bounds: (Bound, Bound)) -> Result<Self, AllocError> {
+        Err(AllocError)
+    }
+}

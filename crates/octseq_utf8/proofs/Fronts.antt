@@ -1,0 +1,58 @@
+-- What stands at the front of octets, by how many fit.
+use Rattle.std.proofs.Common.{◌≡◌, ◌≢◌, ℕ, ◌-◌, ◌<◌, List, length, get_or, take, drop, refl, arith, inl, inr, ap, sym, ◌∙◌, subst, length-take, length-drop, Some, None}
+use Rattle.std.proofs.lemmas.List.{take-append-drop, drop_all}
+use Rattle.octseq_utf8.specs.Encoding.{IsEncoding}
+use Rattle.octseq_utf8.specs.Front.{StandsInFront}
+use Rattle.octseq_utf8.specs.Parts.{IsBeginning, IsBadPart}
+use Rattle.octseq_utf8.specs.Reading.{width, fitting, part_len}
+use Rattle.octseq_utf8.specs.declared.finder.Front.TheVariants.{Encoding, Bad}
+use Rattle.octseq_utf8.proofs.Fitting.{fitting_within, fitting_wide, fitting_fits}
+use Rattle.octseq_utf8.proofs.Rows.{width_le}
+use Rattle.octseq_utf8.proofs.Splitting.{whole_encoding, bad_of, beginning_fitting, fitting_beginning}
+
+-- all of the width fits
+pub front_encoding : (x : List ℕ) → 0 < length x → width x ≢ 0 → fitting x ≡ width x → StandsInFront x (Encoding (width x))
+front_encoding x some lead same =
+    let within = fitting_within x some in
+    let n : part_len x ≡ width x = omega arith in
+    (omega arith, subst (λ k. IsEncoding (take k x)) n (whole_encoding x some (omega arith) same))
+
+-- no encoding begins with the first octet
+pub front_lead : (x : List ℕ) → 0 < length x → width x ≡ 0 → StandsInFront x (Bad (Some 1))
+front_lead x some none =
+    let wide = fitting_wide x in
+    let one : part_len x ≡ 1 = omega arith in
+    let long : length (take 1 x) ≡ 1 = length-take 1 x ∙ omega arith in
+    record {
+      within = some;
+      few = omega arith;
+      bad = subst (λ k. IsBadPart x (take k x)) one (bad_of x some (inl none));
+      size = inr (ap Some (sym long), λ b. let k = (beginning_fitting x (take 1 x) (drop 1 x, sym (take-append-drop 1 x)) b.0).1 in omega arith);
+    }
+
+-- the octets end within an encoding
+pub front_cut : (x : List ℕ) → 0 < length x → width x ≢ 0 → fitting x ≢ width x → fitting x ≡ length x → StandsInFront x (Bad None)
+front_cut x some lead short whole =
+    let wide = fitting_wide x in
+    let n : part_len x ≡ length x = omega arith in
+    record {
+      within = omega arith;
+      few = omega (arith, width_le (get_or x 0 0));
+      bad = subst (λ k. IsBadPart x (take k x)) n (bad_of x some (inr (omega arith)));
+      size = inl (refl, subst (λ k. IsBeginning (take k x)) whole (fitting_beginning x some (omega arith) (omega arith)), drop_all (length x) x (omega arith));
+    }
+
+-- an octet stands where the encoding wants another
+pub front_other : (x : List ℕ) → 0 < length x → width x ≢ 0 → fitting x ≢ width x → fitting x ≢ length x → StandsInFront x (Bad (Some (fitting x)))
+front_other x some lead short more =
+    let wide = fitting_wide x in
+    let within = fitting_within x some in
+    let f = (fitting_fits x some (omega arith)).some in
+    let n : part_len x ≡ fitting x = omega arith in
+    let long : length (take (fitting x) x) ≡ fitting x = length-take (fitting x) x ∙ omega arith in
+    record {
+      within = within;
+      few = omega (arith, width_le (get_or x 0 0));
+      bad = subst (λ k. IsBadPart x (take k x)) n (bad_of x some (inr (omega arith)));
+      size = inr (ap Some (sym long), λ b. let none : length x - fitting x ≡ 0 = sym (length-drop (fitting x) x) ∙ ap length b.1 in absurd (more (omega arith)));
+    }

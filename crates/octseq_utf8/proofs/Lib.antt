@@ -1,0 +1,15 @@
+pub mod Numbers
+pub mod Spelling
+pub mod Bridge
+pub mod Texts
+pub mod Rows
+pub mod Fits
+pub mod Beginnings
+pub mod Fitting
+pub mod Splitting
+pub mod Joins
+pub mod Fronts
+pub mod Masks
+pub mod Ascii
+pub mod Faults
+pub mod LossyTexts

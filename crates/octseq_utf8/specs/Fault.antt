@@ -1,0 +1,44 @@
+-- Where octets stop being well formed.
+use Rattle.std.specs.Prelude.{◌≡◌, ℕ, ◌+◌, ◌-◌, ◌⊎◌, List, [], ◌++◌, length, codes, Option, Some, None, unwrap_or, Bool, nat_eq}
+use Rattle.std.specs.Option.{option_eq}
+use Rattle.std.specs.Fmt.{decimal}
+use Rattle.std.specs.Ordering.{on, eq_of_both}
+use Rattle.octseq_utf8.specs.Parts.{IsBeginning, IsBadPart}
+use Rattle.octseq_utf8.specs.Text.{IsWellFormed}
+
+-- How many octets before it are well formed, and how many it has, or none where the octets end within a character.
+pub record Fault : Type 0 where
+  pub place : ℕ
+  pub size : Option ℕ
+
+-- The size of a fault: none where the bad part is a beginning that reaches the end, and else that of the bad part.
+abbrev pub IsFaultSize : List ℕ → List ℕ → Option ℕ → Type 0
+IsFaultSize bad after size = ((size ≡ None) × IsBeginning bad × (after ≡ []))
+    ⊎ ((size ≡ Some (length bad)) × ¬ (IsBeginning bad × (after ≡ [])))
+
+-- The fault of octets that aren't well formed: the bad part behind the encodings at their front.
+pub record IsFault (octets : List ℕ) (fault : Fault) : Type 0 where
+  pub before : List ℕ
+  pub bad : List ℕ
+  pub after : List ℕ
+  pub whole : octets ≡ before ++ (bad ++ after)
+  pub good : IsWellFormed before
+  pub first : IsBadPart (bad ++ after) bad
+  pub place : fault.place ≡ length before
+  pub size : IsFaultSize bad after fault.size
+
+-- Where the bad part of the fault ends.
+abbrev pub fault_end : List ℕ → Fault → ℕ
+fault_end octets fault = fault.place + unwrap_or fault.size (length octets - fault.place)
+
+-- What a fault prints.
+abbrev pub text_of_size : ℕ → Option ℕ → List ℕ
+text_of_size place (Some size) = codes "invalid utf-8 sequence of " ++ (decimal size ++ (codes " bytes from index " ++ decimal place))
+text_of_size place None = codes "incomplete utf-8 byte sequence from index " ++ decimal place
+
+abbrev pub fault_text : Fault → List ℕ
+fault_text fault = text_of_size fault.place fault.size
+
+-- whether two faults are the same
+abbrev pub fault_eq : Fault → Fault → Bool
+fault_eq = eq_of_both (on (λ fault. fault.place) nat_eq) (on (λ fault. fault.size) (option_eq nat_eq))

@@ -1,0 +1,19 @@
+-- What stands at the front of octets.
+use Rattle.std.specs.Prelude.{ℕ, ◌≤◌, List, length, take, drop, Option, unwrap_or}
+use Rattle.octseq_utf8.specs.Encoding.{IsEncoding}
+use Rattle.octseq_utf8.specs.Fault.{IsFaultSize}
+use Rattle.octseq_utf8.specs.Parts.{IsBadPart}
+use Rattle.octseq_utf8.specs.declared.finder.Front.{Front}
+use Rattle.octseq_utf8.specs.declared.finder.Front.TheVariants.{Encoding, Bad}
+
+-- the first len octets are the bad part, and its size as a fault is the one told
+pub record IsBadFront (octets : List ℕ) (told : Option ℕ) (len : ℕ) : Type 0 where
+  pub within : len ≤ length octets
+  pub few : len ≤ 3
+  pub bad : IsBadPart octets (take len octets)
+  pub size : IsFaultSize (take len octets) (drop len octets) told
+
+-- an encoding, or the bad part by its size as a fault
+abbrev pub StandsInFront : List ℕ → Front → Type 0
+StandsInFront octets (Encoding len) = (len ≤ length octets) × IsEncoding (take len octets)
+StandsInFront octets (Bad size) = IsBadFront octets size (unwrap_or size (length octets))

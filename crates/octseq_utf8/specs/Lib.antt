@@ -1,0 +1,7 @@
+pub mod Encoding
+pub mod Fault
+pub mod Front
+pub mod Parts
+pub mod Reading
+pub mod Text
+pub mod Turns

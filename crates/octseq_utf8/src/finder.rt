@@ -1,0 +1,195 @@
+//! The finder of the first fault.
+ghost use Rattle.std.specs.Prelude.{◌≡◌, ℕ, ◌+◌, ◌*◌, ◌/◌, ◌%◌, ◌<◌, ◌≤◌, ◌↔◌, length, take, slice_index, IsNone, IfNone, IfSome};
+ghost use Rattle.std.specs.Int.{is_in_range};
+ghost use Rattle.std.specs.List.{All};
+ghost use Rattle.octseq_utf8.specs.Fault.{IsFault, fault_end};
+ghost use Rattle.octseq_utf8.specs.Front.{StandsInFront};
+ghost use Rattle.octseq_utf8.specs.Reading.{width_of, least_second, greatest_second, fitting};
+ghost use Rattle.octseq_utf8.specs.Text.{IsWellFormed, chars};
+
+use crate::fault::Utf8Fault;
+use crate::lanes::high_lanes;
+use crate::turns::Turns;
+use crate::words::{begins_three, begins_two, is_four, word_at};
+
+/// How many octets an encoding that begins with this one has, or 0 where none does.
+#[tactic(auto, unfolding(crate::specs::Reading::width_of))]
+fn width(first: u8) -> usize
+    ensures { result ≡ width_of first }
+{
+    match first {
+        0x00..=0x7F => 1,
+        0xC2..=0xDF => 2,
+        0xE0..=0xEF => 3,
+        0xF0..=0xF4 => 4,
+        _ => 0,
+    }
+}
+
+/// Whether an octet may stand second behind this one.
+#[tactic(auto, unfolding(crate::specs::Reading::least_second, crate::specs::Reading::greatest_second))]
+fn may_stand_second(first: u8, second: u8) -> bool
+    ensures { result ≡ is_in_range (least_second first) (greatest_second first) second }
+{
+    match first {
+        0xE0 => 0xA0 <= second && second <= 0xBF,
+        0xED => 0x80 <= second && second <= 0x9F,
+        0xF0 => 0x90 <= second && second <= 0xBF,
+        0xF4 => 0x80 <= second && second <= 0x8F,
+        _ => 0x80 <= second && second <= 0xBF,
+    }
+}
+
+/// Whether an octet is a continuation: one of 80..BF, which may stand third and fourth, and never first.
+pub fn is_continuation(octet: u8) -> bool
+    ensures { result ≡ is_in_range 0x80 0xBF octet }
+{
+    0x80 <= octet && octet <= 0xBF
+}
+
+/// How many octets at the front fit an encoding that begins with the first.
+#[tactic(auto, unfolding(crate::specs::Reading::fitting_by))]
+fn fitting_len(octets: &[u8], width: usize) -> usize
+    requires some { 0 < length octets.now }
+    requires width { width ≡ width_of (slice_index octets.now 0) }
+    ensures { result ≡ fitting octets.now }
+{
+    if width < 2 {
+        return width;
+    }
+    if octets.len() < 2 || !may_stand_second(octets[0], octets[1]) {
+        return 1;
+    }
+    if width < 3 || octets.len() < 3 || !is_continuation(octets[2]) {
+        return 2;
+    }
+    if width < 4 || octets.len() < 4 || !is_continuation(octets[3]) {
+        return 3;
+    }
+    4
+}
+
+/// What stands at the front of octets.
+#[derive(Drop)]
+enum Front {
+    /// An encoding of this many octets.
+    Encoding(usize),
+    /// A bad part of this many octets, or one that reaches the end and wants more.
+    Bad(Option<usize>),
+}
+
+/// What stands at the front of octets, by the table.
+#[inline(always)]
+fn part_at_front(octets: &[u8]) -> Front
+    requires { 0 < length octets.now }
+    ensures { StandsInFront octets.now result }
+{
+    let width = width(octets[0]);
+    let fitting = fitting_len(octets, width);
+    if width == 0 {
+        Front::Bad(Some(1))
+    } else if fitting == width {
+        Front::Encoding(width)
+    } else if fitting == octets.len() {
+        Front::Bad(None)
+    } else {
+        Front::Bad(Some(fitting))
+    }
+}
+
+/// The first fault of the octets, one part a turn.
+fn fault_by_parts(octets: &[u8], turns: &mut Turns) -> Option<Utf8Fault>
+    ensures none { IsNone result ↔ IsWellFormed octets.now }
+    ensures fault { IfSome result (IsFault octets.now) }
+    ensures turns { IfNone result (turns.new ≤ turns.old + length (chars octets.now)) }
+    ensures turns_to_fault { IfSome result (λ fault.
+        turns.new ≤ turns.old + length (chars (take fault.place octets.now)) + 1) }
+    ensures passed { IfNone result (length octets.now + 16 * turns.old ≤ 16 * turns.new) }
+    ensures passed_to_fault { IfSome result (λ fault.
+        fault_end octets.now fault + 16 * turns.old ≤ 16 * turns.new) }
+    ensures octets { turns.new ≤ turns.old + length octets.now }
+{
+    let mut at = 0;
+    while at < octets.len() {
+        turns.tick();
+        if octets[at] < 0x80 {
+            at += 1;
+            continue;
+        }
+        if octets.len() - at >= 4 {
+            let word = word_at(octets, at);
+            if begins_two(word) {
+                at += 2;
+                continue;
+            }
+            if begins_three(word) {
+                at += 3;
+                continue;
+            }
+            if is_four(word) {
+                at += 4;
+                continue;
+            }
+        }
+        match part_at_front(&octets[at..]) {
+            Front::Encoding(len) => at += len,
+            Front::Bad(size) => return Some(Utf8Fault::new(at, size)),
+        }
+    }
+    None
+}
+
+/// The first fault of the octets, or none where they are well-formed UTF-8.
+///
+/// Where sixteen octets are left it takes one turn for them if all are below 80, and else one for the
+/// character or the fault that stands there; at the end one for each. It takes no memory.
+pub fn first_fault(octets: &[u8], turns: &mut Turns) -> Option<Utf8Fault>
+    ensures none { IsNone result ↔ IsWellFormed octets.now }
+    ensures fault { IfSome result (IsFault octets.now) }
+
+    // No more turns than parts, and a turn for every sixteen octets that were passed.
+    ensures turns { IfNone result (turns.new ≤ turns.old + length (chars octets.now)) }
+    ensures turns_to_fault { IfSome result (λ fault.
+        turns.new ≤ turns.old + length (chars (take fault.place octets.now)) + 1) }
+    ensures passed { IfNone result (length octets.now + 16 * turns.old ≤ 16 * turns.new) }
+    ensures passed_to_fault { IfSome result (λ fault.
+        fault_end octets.now fault + 16 * turns.old ≤ 16 * turns.new) }
+
+    // ASCII is passed sixteen octets a turn.
+    ensures ascii { All (λ octet. octet < 0x80) octets.now
+        → turns.new ≤ turns.old + length octets.now / 16 + length octets.now % 16 }
+{
+    let mut at = 0;
+    let lanes = octets.len().saturating_sub(15);
+    while at < lanes {
+        turns.tick();
+        let high = high_lanes(octets, at);
+        if high == 0 {
+            at += 16;
+            continue;
+        }
+        if high % 2 == 0 {
+            at += 1;
+            continue;
+        }
+        let word = word_at(octets, at);
+        if begins_two(word) {
+            at += 2;
+            continue;
+        }
+        if begins_three(word) {
+            at += 3;
+            continue;
+        }
+        if is_four(word) {
+            at += 4;
+            continue;
+        }
+        match part_at_front(&octets[at..]) {
+            Front::Encoding(len) => at += len,
+            Front::Bad(size) => return Some(Utf8Fault::new(at, size)),
+        }
+    }
+    let fault = fault_by_parts(&octets[at..], turns)?;
+    Some(Utf8Fault::new(at + fault.valid_up_to(), fault.error_len()))
+}

@@ -1,0 +1,17 @@
+//! UTF-8: where octets stop being well formed, and laws about what that means.
+//!
+//! The definitions stand in `specs/`, by the Unicode Standard; the contracts here cite them. The crate
+//! `octseq_text` passes on what is public to its callers, as `utf8`.
+#![tactic(auto)]
+
+mod fault;
+mod finder;
+mod lanes;
+mod laws;
+mod turns;
+mod words;
+
+pub use fault::{Utf8Fault, before, behind, onward};
+pub use finder::{first_fault, is_continuation};
+pub use laws::{lossy_text, one_encoding, one_fault, one_spelling, one_splitting, same_in_std};
+pub use turns::Turns;

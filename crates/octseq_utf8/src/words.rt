@@ -1,0 +1,54 @@
+//! Encodings told from a word of four octets, by one mask each.
+ghost use Rattle.std.specs.Prelude.{◌≡◌, ◌+◌, ◌≤◌, true, length, take, drop};
+ghost use Rattle.std.specs.Int.{w32, to_le_bytes};
+ghost use Rattle.octseq_utf8.specs.Encoding.{IsEncoding};
+
+/// The four octets from there on, the first lowest.
+#[inline(always)]
+pub(crate) fn word_at(octets: &[u8], at: usize) -> u32
+    requires { at + 4 ≤ length octets.now }
+    ensures { to_le_bytes w32 result ≡ take 4 (drop at octets.now) }
+{
+    match octets[at..at + 4].split_first_chunk::<4>() {
+        Some((four, _)) => u32::from_le_bytes(*four),
+        None => 0,
+    }
+}
+
+/// Whether an encoding of two octets begins the word: the first is in C2..DF, and the second has the top bits 10.
+#[inline(always)]
+pub(crate) fn begins_two(word: u32) -> bool
+    ensures { result ≡ true → IsEncoding (take 2 (to_le_bytes w32 word)) }
+{
+    let lead = word & 0xC0FF;
+    0x80C2 <= lead && lead <= 0x80DF
+}
+
+/// Whether an encoding of three octets begins the word: the top bits are those of the table, and the first
+/// and the second octet aren't E0 80..9F or ED A0..BF.
+#[inline(always)]
+pub(crate) fn begins_three(word: u32) -> bool
+    ensures { result ≡ true → IsEncoding (take 3 (to_le_bytes w32 word)) }
+{
+    if word & 0xC0_C0F0 != 0x80_80E0 {
+        return false;
+    }
+    let nibbles = word & 0x200F;
+    if nibbles == 0 {
+        return false;
+    }
+    nibbles != 0x200D
+}
+
+/// Whether the word is an encoding of four octets: the top bits are those of the table, and what the first
+/// two octets hold of the number is that of 10000..10FFFF.
+#[inline(always)]
+pub(crate) fn is_four(word: u32) -> bool
+    ensures { result ≡ true → IsEncoding (to_le_bytes w32 word) }
+{
+    if word & 0xC0C0_C0F8 != 0x8080_80F0 {
+        return false;
+    }
+    let high = (word & 7) << 8 | (word >> 8) & 0x3F;
+    high.wrapping_sub(0x10) < 0x400
+}
