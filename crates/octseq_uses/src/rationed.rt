@@ -1,9 +1,7 @@
 //! A vector whose n-th append is refused for memory.
 ghost use Rattle.std.specs.Prelude.{◌≡◌, true, None};
 
-use octseq::builder::{
-    AppendError, AsOctets, EmptyBuilder, OctetsBuilder, OctetsLimit, Truncate,
-};
+use octseq::builder::{AppendError, AsOctets, EmptyBuilder, OctetsBuilder, OctetsLimit, Truncate};
 use std::alloc::{AllocError, Global};
 
 #[derive(Drop)]

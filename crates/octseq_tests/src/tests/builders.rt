@@ -312,8 +312,8 @@ fn errors_are_shown(rt: HostRuntime) -> Result<(), Fail> {
     let alloc = rt.alloc();
     let short = AppendError::from(ShortBuf);
     let memory = AppendError::from(AllocError);
-    assert_equal(&rt, short, AppendError::Short(ShortBuf.clone()?));
-    assert_equal(&rt, memory, AppendError::Memory);
+    assert_equal(&rt, &short, &AppendError::Short(ShortBuf.clone()?));
+    assert_equal(&rt, &memory, &AppendError::Memory);
     assert_equal(
         &rt,
         ShortBuf.to_string(alloc)?.as_str(),

@@ -1,4 +1,4 @@
-use crate::ShortInput;
+use octseq::ShortInput;
 use octseq::parse::ParseOctetsError;
 use octseq_testing::{assert_equal, assert_true};
 use std::alloc::{AllocError, Global};

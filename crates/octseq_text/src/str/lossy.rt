@@ -11,8 +11,8 @@ ghost use Rattle.octseq_utf8.specs.Text.{IsWellFormed};
 
 use super::builder::StrBuilder;
 use crate::utf8::{Turns, Utf8Fault, first_fault};
-use octseq_utf8::{before, behind};
 use octseq_core::builder::{AppendError, AsOctets, EmptyBuilder, OctetsBuilder, OctetsLimit};
+use octseq_utf8::{before, behind};
 use std::alloc::{AllocError, Global};
 
 impl<Octets: AsOctets> StrBuilder<Octets> {

@@ -11,11 +11,11 @@ ghost use Rattle.octseq_utf8.specs.Text.{IsWellFormed};
 
 use super::builder::StrBuilder;
 use crate::utf8::{Turns, first_fault};
-use octseq_utf8::{before, behind, onward};
 use octseq_core::array::Array;
 use octseq_core::builder::{
     AppendError, AsOctets, EmptyBuilder, OctetsBuilder, ShortBuf, infallible,
 };
+use octseq_utf8::{before, behind, onward};
 use std::alloc::{AllocError, Global};
 use std::marker::Model;
 use std::mem::replace;

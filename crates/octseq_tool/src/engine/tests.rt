@@ -1,5 +1,5 @@
-use octseq_testing::assert_equal;
 use super::{Status, ToolFault, engine};
+use octseq_testing::assert_equal;
 use std::alloc::Global;
 use std::io;
 use std::io::{Error, ErrorKind, Read, Write};
@@ -146,7 +146,11 @@ fn lossy64_holds_64_octets(rt: HostRuntime) -> Result<(), Fail> {
     ] {
         let (answer, written) = ran(alloc, "lossy64", long.as_slice());
         assert_equal(&rt, answer, Ok(Status::Refused));
-        assert_equal(&rt, written.as_slice(), b"buffer size exceeded\n".as_slice());
+        assert_equal(
+            &rt,
+            written.as_slice(),
+            b"buffer size exceeded\n".as_slice(),
+        );
     }
     Ok(())
 }

@@ -21,7 +21,7 @@ fn a_refused_range_moves_nothing(rt: HostRuntime) -> Result<(), Fail> {
             Ok(())
         }
         Err(error) => {
-            assert_equal(&rt, error, ParseOctetsError::Memory);
+            assert_equal(&rt, &error, &ParseOctetsError::Memory);
             assert_equal(&rt, (parser.pos(), parser.len()), (1, 10));
             Err(Fail::from(error))
         }

@@ -1,7 +1,7 @@
 //! Hostile input, and streams that fail.
-use octseq_testing::{assert_equal, assert_true};
 use super::{Drip, Narrow, ran, repeated};
 use crate::engine::{Status, ToolFault, engine};
+use octseq_testing::{assert_equal, assert_true};
 use std::alloc::Global;
 use std::process::Abort;
 use std::test::Fail;
@@ -34,7 +34,11 @@ fn each_octet_once_is_told_of(rt: HostRuntime) -> Result<(), Fail> {
     assert_equal(&rt, written.as_slice(), wanted.as_slice());
     let (answer, written) = ran(alloc, "lossy64", octets.as_slice());
     assert_equal(&rt, answer, Ok(Status::Refused));
-    assert_equal(&rt, written.as_slice(), b"buffer size exceeded\n".as_slice());
+    assert_equal(
+        &rt,
+        written.as_slice(),
+        b"buffer size exceeded\n".as_slice(),
+    );
     Ok(())
 }
 
@@ -51,7 +55,11 @@ fn a_cut_end_counts_three_octets(rt: HostRuntime) -> Result<(), Fail> {
     ] {
         let (answer, written) = ran(alloc, "lossy64", long.as_slice());
         assert_equal(&rt, answer, Ok(Status::Refused));
-        assert_equal(&rt, written.as_slice(), b"buffer size exceeded\n".as_slice());
+        assert_equal(
+            &rt,
+            written.as_slice(),
+            b"buffer size exceeded\n".as_slice(),
+        );
     }
     Ok(())
 }

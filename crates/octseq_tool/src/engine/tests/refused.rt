@@ -2,10 +2,10 @@
 //!
 //! `.ci/refused` runs these tests with their n-th request refused, for each n up to the last of them. A refusal
 //! ends a test by the error that it was answered with, once the test has seen that nothing was written.
-use octseq_testing::{assert_equal, assert_true};
 use crate::engine::{Status, ToolFault, engine};
 use octseq::array::Array;
 use octseq::builder::OctetsBuilder;
+use octseq_testing::{assert_equal, assert_true};
 use std::alloc::{AllocError, Global};
 use std::io::{self, Error, ErrorKind, Write};
 use std::process::Abort;
