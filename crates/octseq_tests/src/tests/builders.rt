@@ -9,7 +9,6 @@ use octseq::builder::{
     with_infallible,
 };
 use octseq::cow::CowOctets;
-use octseq_testing::{assert_equal, assert_true};
 use smallvec::SmallVec;
 use std::alloc::{AllocError, Global};
 use std::cmp::Ordering;
@@ -23,30 +22,30 @@ fn array_keeps_what_it_hides(rt: HostRuntime) -> Result<(), Fail> {
     let mut array = Array::<4>::new();
     array.append_slice(b"abcd")?;
     array.truncate(1);
-    assert_equal(&rt, array.resize_raw(3), Ok(()));
-    assert_equal(&rt, array.as_slice(), b"abc".as_slice());
-    assert_equal(&rt, array.resize_raw(5), Err(ShortBuf));
-    assert_equal(&rt, array.as_slice(), b"abc".as_slice());
+    assert_equal!(&rt, array.resize_raw(3), Ok(()));
+    assert_equal!(&rt, array.as_slice(), b"abc".as_slice());
+    assert_equal!(&rt, array.resize_raw(5), Err(ShortBuf));
+    assert_equal!(&rt, array.as_slice(), b"abc".as_slice());
     Ok(())
 }
 
 #[test]
 fn array_refuses_what_passes_its_end(rt: HostRuntime) -> Result<(), Fail> {
     let mut array = Array::<4>::try_from(b"abcd".as_slice())?;
-    assert_equal(&rt, array.append_slice(b""), Ok(()));
-    assert_equal(
+    assert_equal!(&rt, array.append_slice(b""), Ok(()));
+    assert_equal!(
         &rt,
         array.append_slice(b"e"),
         Err(AppendError::Short(ShortBuf)),
     );
-    assert_equal(&rt, array.as_slice(), b"abcd".as_slice());
+    assert_equal!(&rt, array.as_slice(), b"abcd".as_slice());
     array.truncate(2);
-    assert_equal(
+    assert_equal!(
         &rt,
         array.append_slice(b"xyz"),
         Err(AppendError::Short(ShortBuf)),
     );
-    assert_equal(&rt, array.as_slice(), b"ab".as_slice());
+    assert_equal!(&rt, array.as_slice(), b"ab".as_slice());
     Ok(())
 }
 
@@ -54,15 +53,15 @@ fn array_refuses_what_passes_its_end(rt: HostRuntime) -> Result<(), Fail> {
 fn array_is_written_in_place(rt: HostRuntime) -> Result<(), Fail> {
     let mut array = Array::<4>::try_from(b"abc".as_slice())?;
     array.as_slice_mut().reverse();
-    assert_equal(&rt, array.as_slice(), b"cba".as_slice());
-    assert_equal(&rt, array.resize_raw(4), Ok(()));
-    assert_equal(&rt, array.as_slice(), b"cba\0".as_slice());
-    assert_equal(
+    assert_equal!(&rt, array.as_slice(), b"cba".as_slice());
+    assert_equal!(&rt, array.resize_raw(4), Ok(()));
+    assert_equal!(&rt, array.as_slice(), b"cba\0".as_slice());
+    assert_equal!(
         &rt,
         Array::<2>::try_from(b"abc".as_slice()).err(),
         Some(ShortBuf),
     );
-    assert_equal(&rt, Array::<2>::default().as_slice(), b"".as_slice());
+    assert_equal!(&rt, Array::<2>::default().as_slice(), b"".as_slice());
     Ok(())
 }
 
@@ -70,21 +69,21 @@ fn array_is_written_in_place(rt: HostRuntime) -> Result<(), Fail> {
 fn fill<B: EmptyBuilder + Truncate>(rt: &impl Abort, alloc: Global) -> Result<(), AppendError> {
     let mut builder = B::empty(alloc)?;
     builder.append_slice(b"abcd")?;
-    assert_equal(rt, builder.as_ref(), b"abcd".as_slice());
+    assert_equal!(rt, builder.as_ref(), b"abcd".as_slice());
     builder.truncate(1);
     builder.append_slice(b"e")?;
-    assert_equal(rt, builder.as_ref(), b"ae".as_slice());
+    assert_equal!(rt, builder.as_ref(), b"ae".as_slice());
     let reserved = B::with_capacity(alloc, 4)?;
-    assert_equal(rt, reserved.as_ref(), b"".as_slice());
+    assert_equal!(rt, reserved.as_ref(), b"".as_slice());
     Ok(())
 }
 
 #[test]
 fn each_builder_is_filled(rt: HostRuntime) {
     let alloc = rt.alloc();
-    assert_equal(&rt, fill::<Vec<u8>>(&rt, alloc), Ok(()));
-    assert_equal(&rt, fill::<Array<4>>(&rt, alloc), Ok(()));
-    assert_equal(&rt, fill::<BytesMut>(&rt, alloc), Ok(()));
+    assert_equal!(&rt, fill::<Vec<u8>>(&rt, alloc), Ok(()));
+    assert_equal!(&rt, fill::<Array<4>>(&rt, alloc), Ok(()));
+    assert_equal!(&rt, fill::<BytesMut>(&rt, alloc), Ok(()));
     assert_eq!(rt; fill::<SmallVec<u8, 2>>(&rt, alloc), Ok(()));
     assert_eq!(rt; fill::<ArrayVec<u8, 4>>(&rt, alloc), Ok(()));
 }
@@ -96,23 +95,23 @@ fn facts<T: OctetsLimit>() -> (Option<usize>, bool) {
 
 #[test]
 fn types_tell_their_limits(rt: HostRuntime) {
-    assert_equal(&rt, facts::<Vec<u8>>(), (None, true));
-    assert_equal(&rt, facts::<Array<7>>(), (Some(7), false));
-    assert_equal(&rt, facts::<&[u8]>(), (None, false));
-    assert_equal(&rt, facts::<CowOctets>(), (None, true));
-    assert_equal(&rt, facts::<Bytes>(), (None, true));
-    assert_equal(&rt, facts::<BytesMut>(), (None, true));
+    assert_equal!(&rt, facts::<Vec<u8>>(), (None, true));
+    assert_equal!(&rt, facts::<Array<7>>(), (Some(7), false));
+    assert_equal!(&rt, facts::<&[u8]>(), (None, false));
+    assert_equal!(&rt, facts::<CowOctets>(), (None, true));
+    assert_equal!(&rt, facts::<Bytes>(), (None, true));
+    assert_equal!(&rt, facts::<BytesMut>(), (None, true));
     assert_eq!(rt; facts::<SmallVec<u8, 2>>(), (None, true));
     assert_eq!(rt; facts::<ArrayVec<u8, 7>>(), (Some(7), false));
-    assert_equal(&rt, facts::<RcSlice<u8>>(), (None, true));
-    assert_equal(&rt, facts::<&Array<7>>(), (Some(7), false));
-    assert_equal(&rt, facts::<&mut Array<4>>(), (Some(4), false));
+    assert_equal!(&rt, facts::<RcSlice<u8>>(), (None, true));
+    assert_equal!(&rt, facts::<&Array<7>>(), (Some(7), false));
+    assert_equal!(&rt, facts::<&mut Array<4>>(), (Some(4), false));
 }
 
 /// A copy of a sequence has its content.
 fn copied<T: CloneOctets>(rt: &impl Abort, alloc: Global, octets: &T) -> Result<(), AllocError> {
     let copy = octets.clone_octets(alloc)?;
-    assert_equal(rt, copy.as_ref(), octets.as_ref());
+    assert_equal!(rt, copy.as_ref(), octets.as_ref());
     Ok(())
 }
 
@@ -135,8 +134,8 @@ fn each_sequence_is_copied(rt: HostRuntime) -> Result<(), Fail> {
     array.truncate(1);
     copied(&rt, alloc, &array)?;
     let mut copy = array.clone_octets(alloc)?;
-    assert_equal(&rt, copy.resize_raw(4), Ok(()));
-    assert_equal(&rt, copy.as_slice(), b"abc\0".as_slice());
+    assert_equal!(&rt, copy.resize_raw(4), Ok(()));
+    assert_equal!(&rt, copy.as_slice(), b"abc\0".as_slice());
     Ok(())
 }
 
@@ -151,10 +150,10 @@ where
     let mut builder = B::empty(alloc)?;
     builder.append_slice(b"abc")?;
     let octets = builder.freeze()?;
-    assert_equal(rt, octets.as_ref(), b"abc".as_slice());
+    assert_equal!(rt, octets.as_ref(), b"abc".as_slice());
     let mut builder = octets.into_builder(alloc)?;
     builder.append_slice(b"d")?;
-    assert_equal(rt, builder.as_ref(), b"abcd".as_slice());
+    assert_equal!(rt, builder.as_ref(), b"abcd".as_slice());
     Ok(())
 }
 
@@ -162,7 +161,7 @@ where
 fn is_built<O: FromBuilder>(rt: &impl Abort, mut builder: O::Builder) -> Result<(), AppendError> {
     builder.append_slice(b"d")?;
     let octets = O::from_builder(builder)?;
-    assert_equal(rt, octets.as_ref(), b"abcd".as_slice());
+    assert_equal!(rt, octets.as_ref(), b"abcd".as_slice());
     Ok(())
 }
 
@@ -198,16 +197,16 @@ fn a_reference_grows_what_it_refers_to(rt: HostRuntime) -> Result<(), Fail> {
     let mut reference = &mut octets;
     OctetsBuilder::append_slice(&mut reference, b"cd")?;
     Truncate::truncate(&mut reference, 3);
-    assert_equal(&rt, AsOctets::as_ref(&reference), b"abc".as_slice());
-    assert_equal(&rt, AsOctets::as_ref(&&octets), b"abc".as_slice());
+    assert_equal!(&rt, AsOctets::as_ref(&reference), b"abc".as_slice());
+    assert_equal!(&rt, AsOctets::as_ref(&&octets), b"abc".as_slice());
     let mut slice = b"abc".as_slice();
     Truncate::truncate(&mut slice, 5);
-    assert_equal(&rt, slice, b"abc".as_slice());
+    assert_equal!(&rt, slice, b"abc".as_slice());
     Truncate::truncate(&mut slice, 2);
-    assert_equal(&rt, slice, b"ab".as_slice());
+    assert_equal!(&rt, slice, b"ab".as_slice());
     let mut shared = Bytes::copy_from_slice(rt.alloc(), b"abc")?;
     Truncate::truncate(&mut shared, 2);
-    assert_equal(&rt, AsOctets::as_ref(&shared), b"ab".as_slice());
+    assert_equal!(&rt, AsOctets::as_ref(&shared), b"ab".as_slice());
     Ok(())
 }
 
@@ -215,23 +214,23 @@ fn a_reference_grows_what_it_refers_to(rt: HostRuntime) -> Result<(), Fail> {
 fn borrowed_octets_are_copied_at_the_first_append(rt: HostRuntime) -> Result<(), Fail> {
     let mut cow = CowOctets::borrowed(rt.alloc(), b"abc");
     cow.truncate(5);
-    assert_equal(&rt, cow.as_ref(), b"abc".as_slice());
-    assert_true(&rt, cow.is_borrowed());
+    assert_equal!(&rt, cow.as_ref(), b"abc".as_slice());
+    assert_true!(&rt, cow.is_borrowed());
     cow.append_slice(b"d")?;
-    assert_equal(&rt, cow.as_ref(), b"abcd".as_slice());
-    assert_true(&rt, !cow.is_borrowed());
+    assert_equal!(&rt, cow.as_ref(), b"abcd".as_slice());
+    assert_true!(&rt, !cow.is_borrowed());
     cow.truncate(2);
-    assert_equal(&rt, cow.as_ref(), b"ab".as_slice());
+    assert_equal!(&rt, cow.as_ref(), b"ab".as_slice());
     let mut empty = CowOctets::borrowed(rt.alloc(), b"");
     empty.append_slice(b"")?;
-    assert_true(&rt, !empty.is_borrowed());
+    assert_true!(&rt, !empty.is_borrowed());
     Ok(())
 }
 
 /// Takes no octet away at the greatest length.
 fn keeps_all<T: Truncate>(rt: &impl Abort, mut octets: T) {
     octets.truncate(usize::MAX);
-    assert_equal(rt, octets.as_ref(), b"ab".as_slice());
+    assert_equal!(rt, octets.as_ref(), b"ab".as_slice());
 }
 
 #[test]
@@ -249,7 +248,7 @@ fn the_greatest_length_takes_nothing_away(rt: HostRuntime) -> Result<(), Fail> {
     fixed.append_slice(slice)?;
     keeps_all(&rt, fixed);
     let mut array = Array::<4>::try_from(slice)?;
-    assert_equal(&rt, array.resize_raw(usize::MAX), Err(ShortBuf));
+    assert_equal!(&rt, array.resize_raw(usize::MAX), Err(ShortBuf));
     keeps_all(&rt, array);
     Ok(())
 }
@@ -257,22 +256,22 @@ fn the_greatest_length_takes_nothing_away(rt: HostRuntime) -> Result<(), Fail> {
 #[test]
 fn the_greatest_capacity_is_refused_or_ignored(rt: HostRuntime) -> Result<(), Fail> {
     let (alloc, most) = (rt.alloc(), usize::MAX);
-    assert_true(
+    assert_true!(
         &rt,
         <Vec<u8> as EmptyBuilder>::with_capacity(alloc, most).is_err(),
     );
-    assert_true(
+    assert_true!(
         &rt,
         <BytesMut as EmptyBuilder>::with_capacity(alloc, most).is_err(),
     );
     assert!(rt; <SmallVec<u8, 2> as EmptyBuilder>::with_capacity(alloc, most).is_err());
-    assert_equal(
+    assert_equal!(
         &rt,
         Array::<4>::with_capacity(alloc, most)?.as_slice(),
         b"".as_slice(),
     );
     let fixed = <ArrayVec<u8, 4> as EmptyBuilder>::with_capacity(alloc, most)?;
-    assert_equal(&rt, fixed.as_slice(), b"".as_slice());
+    assert_equal!(&rt, fixed.as_slice(), b"".as_slice());
     Ok(())
 }
 
@@ -281,15 +280,15 @@ fn arrays_are_compared_by_content(rt: HostRuntime) -> Result<(), Fail> {
     let mut cut = Array::<4>::try_from(b"ab".as_slice())?;
     cut.truncate(1);
     let mut whole = Array::<4>::try_from(b"a".as_slice())?;
-    assert_true(&rt, cut == whole);
-    assert_equal(&rt, cut.cmp(&whole), Ordering::Equal);
+    assert_true!(&rt, cut == whole);
+    assert_equal!(&rt, cut.cmp(&whole), Ordering::Equal);
     let hasher = BuildHasherDefault::<FoldHasher>::default();
-    assert_equal(&rt, hasher.hash_one(&cut), hasher.hash_one(&whole));
-    assert_equal(&rt, cut.resize_raw(2), Ok(()));
-    assert_equal(&rt, whole.resize_raw(2), Ok(()));
-    assert_true(&rt, cut != whole);
-    assert_equal(&rt, cut.partial_cmp(&whole), Some(Ordering::Greater));
-    assert_equal(
+    assert_equal!(&rt, hasher.hash_one(&cut), hasher.hash_one(&whole));
+    assert_equal!(&rt, cut.resize_raw(2), Ok(()));
+    assert_equal!(&rt, whole.resize_raw(2), Ok(()));
+    assert_true!(&rt, cut != whole);
+    assert_equal!(&rt, cut.partial_cmp(&whole), Some(Ordering::Greater));
+    assert_equal!(
         &rt,
         format!(in rt.alloc(); "{cut:?}")?.as_str(),
         "octets::Array([97, 98])",
@@ -300,11 +299,11 @@ fn arrays_are_compared_by_content(rt: HostRuntime) -> Result<(), Fail> {
 #[test]
 fn results_known_to_be_ok_give_their_values(rt: HostRuntime) {
     let seven: Result<u8, BuilderAppendError> = Ok(7);
-    assert_equal(&rt, infallible(seven), 7);
+    assert_equal!(&rt, infallible(seven), 7);
     let op = || -> Result<u8, AppendError>
         ensures { result ≡ Ok 7 }
     { Ok(7) };
-    assert_equal(&rt, with_infallible(op), 7);
+    assert_equal!(&rt, with_infallible(op), 7);
 }
 
 #[test]
@@ -312,20 +311,20 @@ fn errors_are_shown(rt: HostRuntime) -> Result<(), Fail> {
     let alloc = rt.alloc();
     let short = AppendError::from(ShortBuf);
     let memory = AppendError::from(AllocError);
-    assert_equal(&rt, &short, &AppendError::Short(ShortBuf.clone()?));
-    assert_equal(&rt, &memory, &AppendError::Memory);
-    assert_equal(
+    assert_equal!(&rt, &short, &AppendError::Short(ShortBuf.clone()?));
+    assert_equal!(&rt, &memory, &AppendError::Memory);
+    assert_equal!(
         &rt,
         ShortBuf.to_string(alloc)?.as_str(),
         "buffer size exceeded",
     );
-    assert_equal(
+    assert_equal!(
         &rt,
         short.to_string(alloc)?.as_str(),
         "buffer size exceeded",
     );
-    assert_equal(&rt, memory.to_string(alloc)?.as_str(), "out of memory");
-    assert_equal(
+    assert_equal!(&rt, memory.to_string(alloc)?.as_str(), "out of memory");
+    assert_equal!(
         &rt,
         format!(in alloc; "{short:?} {memory:?}")?.as_str(),
         "Short(ShortBuf) Memory",

@@ -2,7 +2,6 @@ use bytes::Bytes;
 use octseq::array::Array;
 use octseq::builder::AsOctets;
 use octseq::parse::{Parser, ShortInput};
-use octseq_testing::assert_equal;
 use std::process::Abort;
 use std::test::Fail;
 
@@ -10,11 +9,11 @@ use std::test::Fail;
 macro_rules! reads {
     ($rt:expr, $octets:expr, $call:ident, $first:expr, $second:expr) => {{
         let mut parser = Parser::from_ref($octets);
-        assert_equal($rt, parser.$call(), Ok($first));
-        assert_equal($rt, parser.$call(), Ok($second));
+        assert_equal!($rt, parser.$call(), Ok($first));
+        assert_equal!($rt, parser.$call(), Ok($second));
         let pos = parser.pos();
-        assert_equal($rt, parser.$call(), Err(ShortInput));
-        assert_equal($rt, parser.pos(), pos);
+        assert_equal!($rt, parser.$call(), Err(ShortInput));
+        assert_equal!($rt, parser.pos(), pos);
     }};
 }
 
@@ -159,12 +158,12 @@ fn integers_are_read_in_both_orders(rt: HostRuntime) -> Result<(), Fail> {
 
 #[test]
 fn the_order_of_the_octets_counts(rt: HostRuntime) {
-    assert_equal(
+    assert_equal!(
         &rt,
         Parser::from_static(b"\xEF\x6E").parse_i16_be(),
         Ok(-4242),
     );
-    assert_equal(
+    assert_equal!(
         &rt,
         Parser::from_static(b"\xEF\x6E").parse_u16_le(),
         Ok(28399),

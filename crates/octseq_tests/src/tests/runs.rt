@@ -3,7 +3,6 @@ use octseq::array::Array;
 use octseq::builder::AsOctets;
 use octseq::octets::Octets;
 use octseq::parse::{Kind, ParserCall, ParserCommand, ParserReply, run};
-use octseq_testing::assert_equal;
 use octseq_uses::scarce::Scarce;
 use std::alloc::{AllocGlobal, Global};
 use std::process::Abort;
@@ -44,7 +43,7 @@ fn answers<R: Octets + Copy>(
         })?;
     }
     let replies = run(rt.alloc(), octets, &commands)?;
-    assert_equal(rt, replies.len(), cases.len());
+    assert_equal!(rt, replies.len(), cases.len());
     for ((parser, _, wanted), reply) in cases.iter().zip(&replies) {
         assert_eq!(rt;
             shown(rt.alloc(), reply)?.as_str(),

@@ -2,7 +2,6 @@ use octseq::array::Array;
 use octseq::builder::{AppendError, EmptyBuilder, OctetsBuilder, ShortBuf, Truncate};
 use octseq::str::{Command, Reply, StrBuilder, run};
 use octseq::utf8::{Turns, first_fault};
-use octseq_testing::{assert_equal, assert_true};
 use octseq_uses::capped::Capped;
 use octseq_uses::rationed::Rationed;
 use std::alloc::Global;
@@ -21,11 +20,11 @@ mod texts;
 fn thai_and_chinese_are_read(rt: HostRuntime) -> Result<(), Fail> {
     let octets = "ประเทศไทย中".as_bytes().to_vec(rt.alloc())?;
     let text = StrBuilder::from_utf8(octets).ok().ok_or("refused")?;
-    assert_equal(&rt, text.len(), 30);
-    assert_true(&rt, !text.is_empty());
-    assert_equal(&rt, text.as_str(), "ประเทศไทย中");
-    assert_equal(&rt, text.as_slice(), "ประเทศไทย中".as_bytes());
-    assert_equal(&rt, text.into_octets_builder().len(), 30);
+    assert_equal!(&rt, text.len(), 30);
+    assert_true!(&rt, !text.is_empty());
+    assert_equal!(&rt, text.as_str(), "ประเทศไทย中");
+    assert_equal!(&rt, text.as_slice(), "ประเทศไทย中".as_bytes());
+    assert_equal!(&rt, text.into_octets_builder().len(), 30);
     Ok(())
 }
 
@@ -33,18 +32,18 @@ fn thai_and_chinese_are_read(rt: HostRuntime) -> Result<(), Fail> {
 fn octets_that_are_no_text_are_handed_back(rt: HostRuntime) -> Result<(), Fail> {
     let octets = Array::<4>::try_from(b"a\xC0".as_slice())?;
     let error = StrBuilder::from_utf8(octets).err().ok_or("accepted")?;
-    assert_equal(&rt, error.as_slice(), b"a\xC0".as_slice());
+    assert_equal!(&rt, error.as_slice(), b"a\xC0".as_slice());
     let fault = error.utf8_error();
-    assert_equal(&rt, (fault.valid_up_to(), fault.error_len()), (1, Some(1)));
+    assert_equal!(&rt, (fault.valid_up_to(), fault.error_len()), (1, Some(1)));
     let copy = error.clone(rt.alloc())?;
-    assert_true(&rt, copy == error);
-    assert_equal(&rt, copy.into_octets().as_slice(), b"a\xC0".as_slice());
+    assert_true!(&rt, copy == error);
+    assert_equal!(&rt, copy.into_octets().as_slice(), b"a\xC0".as_slice());
     let other = Array::<4>::try_from(b"b\xC0".as_slice())?;
-    assert_true(
+    assert_true!(
         &rt,
         StrBuilder::from_utf8(other).err().ok_or("accepted")? != error,
     );
-    assert_equal(
+    assert_equal!(
         &rt,
         format!(in rt.alloc(); "{error:?}")?.as_str(),
         "FromUtf8Error { fault: Utf8Fault { valid_up_to: 1, error_len: Some(1) }, .. }",
@@ -88,13 +87,13 @@ fn faults_are_found_and_shown(rt: HostRuntime) -> Result<(), Fail> {
     ];
     for (octets, place, length, text) in cases {
         let fault = first_fault(octets, &mut Turns::new()).ok_or("none")?;
-        assert_equal(&rt, fault.valid_up_to(), place);
-        assert_equal(&rt, fault.error_len(), length);
-        assert_equal(&rt, fault.to_string(rt.alloc())?.as_str(), text);
+        assert_equal!(&rt, fault.valid_up_to(), place);
+        assert_equal!(&rt, fault.error_len(), length);
+        assert_equal!(&rt, fault.to_string(rt.alloc())?.as_str(), text);
         let error = StrBuilder::from_utf8(octets).err().ok_or("accepted")?;
-        assert_equal(&rt, error.to_string(rt.alloc())?.as_str(), text);
+        assert_equal!(&rt, error.to_string(rt.alloc())?.as_str(), text);
     }
-    assert_equal(&rt, first_fault(b"", &mut Turns::new()), None);
+    assert_equal!(&rt, first_fault(b"", &mut Turns::new()), None);
     Ok(())
 }
 
@@ -131,17 +130,17 @@ fn maximal_subparts_are_those_of_the_standard(rt: HostRuntime) -> Result<(), Fai
         (b"\xE1\x80\xE2\xF0\x91\x92\xF1\xBFA", &[2, 1, 3, 2]),
     ];
     for (octets, lengths) in cases {
-        assert_equal(&rt, bad_lengths(rt.alloc(), octets)?.as_slice(), lengths);
+        assert_equal!(&rt, bad_lengths(rt.alloc(), octets)?.as_slice(), lengths);
     }
     Ok(())
 }
 
 /// Makes texts through the traits alone.
 fn make<B: EmptyBuilder>(rt: &impl Abort, alloc: Global) -> Result<(), Fail> {
-    assert_true(rt, StrBuilder::<B>::new(alloc)?.is_empty());
-    assert_true(rt, StrBuilder::<B>::with_capacity(alloc, 8)?.is_empty());
+    assert_true!(rt, StrBuilder::<B>::new(alloc)?.is_empty());
+    assert_true!(rt, StrBuilder::<B>::with_capacity(alloc, 8)?.is_empty());
     let text = StrBuilder::from_utf8_unchecked(B::empty(alloc)?);
-    assert_equal(rt, text.as_str(), "");
+    assert_equal!(rt, text.as_str(), "");
     Ok(())
 }
 
@@ -158,8 +157,8 @@ fn characters_are_pushed(rt: HostRuntime) -> Result<(), Fail> {
     for ch in ['华', 'b', '¢', '€', '𤭢'] {
         text.push(ch)?;
     }
-    assert_equal(&rt, text.len(), 43);
-    assert_equal(&rt, text.as_str(), "ประเทศไทย中华b¢€𤭢");
+    assert_equal!(&rt, text.len(), 43);
+    assert_equal!(&rt, text.as_str(), "ประเทศไทย中华b¢€𤭢");
     Ok(())
 }
 
@@ -167,27 +166,27 @@ fn characters_are_pushed(rt: HostRuntime) -> Result<(), Fail> {
 fn texts_are_pushed(rt: HostRuntime) -> Result<(), Fail> {
     let mut text = StrBuilder::<Vec<u8>>::new(rt.alloc())?;
     text.push_str("")?;
-    assert_equal(&rt, text.as_str(), "");
+    assert_equal!(&rt, text.as_str(), "");
     text.push_str("abc")?;
-    assert_equal(&rt, text.as_str(), "abc");
+    assert_equal!(&rt, text.as_str(), "abc");
     text.push_str("ประเทศไทย中华Việt Nam")?;
-    assert_equal(&rt, text.as_str(), "abcประเทศไทย中华Việt Nam");
-    assert_equal(&rt, text.len(), 46);
+    assert_equal!(&rt, text.as_str(), "abcประเทศไทย中华Việt Nam");
+    assert_equal!(&rt, text.len(), 46);
     Ok(())
 }
 
 #[test]
 fn a_push_that_passes_the_limit_is_refused(rt: HostRuntime) -> Result<(), Fail> {
     let mut text = StrBuilder::<Array<4>>::new(rt.alloc())?;
-    assert_equal(&rt, text.try_push_str("abc"), Ok(()));
-    assert_equal(&rt, text.try_push('¢'), Err(AppendError::Short(ShortBuf)));
-    assert_equal(
+    assert_equal!(&rt, text.try_push_str("abc"), Ok(()));
+    assert_equal!(&rt, text.try_push('¢'), Err(AppendError::Short(ShortBuf)));
+    assert_equal!(
         &rt,
         text.try_push_str("de"),
         Err(AppendError::Short(ShortBuf)),
     );
-    assert_equal(&rt, text.try_push('d'), Ok(()));
-    assert_equal(&rt, text.as_str(), "abcd");
+    assert_equal!(&rt, text.try_push('d'), Ok(()));
+    assert_equal!(&rt, text.as_str(), "abcd");
     Ok(())
 }
 
@@ -200,7 +199,7 @@ fn replies<B: EmptyBuilder + Truncate>(
 ) -> Result<(), Fail> {
     let mut text = StrBuilder::<B>::new(alloc)?;
     let replies = run(alloc, &mut text, commands)?;
-    assert_equal(rt, replies.as_slice(), wanted);
+    assert_equal!(rt, replies.as_slice(), wanted);
     Ok(())
 }
 
@@ -259,8 +258,8 @@ fn a_refusal_of_memory_leaves_the_text(rt: HostRuntime) -> Result<(), Fail> {
         let rationed = Rationed::new(Vec::new(alloc), n);
         let mut builder = StrBuilder::from_utf8(rationed).ok().ok_or("refused")?;
         let replies = run(alloc, &mut builder, &commands)?;
-        assert_equal(&rt, builder.as_str(), *text);
-        assert_equal(&rt, replies.len(), 3);
+        assert_equal!(&rt, builder.as_str(), *text);
+        assert_equal!(&rt, replies.len(), 3);
         for (i, reply) in replies.iter().enumerate() {
             let wanted = if i + 1 == n {
                 Reply::Memory
@@ -334,11 +333,11 @@ fn lossy(alloc: Global, octets: &[u8]) -> Result<StrBuilder<Vec<u8>>, Fail> {
 #[test]
 fn each_bad_part_becomes_one_replacement(rt: HostRuntime) -> Result<(), Fail> {
     for (octets, text) in lossy_texts() {
-        assert_equal(&rt, lossy(rt.alloc(), octets)?.as_str(), text);
+        assert_equal!(&rt, lossy(rt.alloc(), octets)?.as_str(), text);
         let read = StrBuilder::from_utf8_lossy(rt.alloc(), octets.to_vec(rt.alloc())?)?;
-        assert_equal(&rt, read.as_str(), text);
+        assert_equal!(&rt, read.as_str(), text);
     }
-    assert_equal(
+    assert_equal!(
         &rt,
         lossy(rt.alloc(), b"Hello\xC0\x80 There\xE6\x83 Goodbye")?.len(),
         28,
@@ -357,8 +356,8 @@ fn lossy_over<B: EmptyBuilder>(
     builder.append_slice(octets)?;
     let text = StrBuilder::try_from_utf8_lossy(alloc, builder);
     match (text, wanted) {
-        (Ok(text), Ok(wanted)) => assert_equal(rt, text.as_str(), wanted),
-        (Err(error), Err(wanted)) => assert_equal(rt, error, wanted),
+        (Ok(text), Ok(wanted)) => assert_equal!(rt, text.as_str(), wanted),
+        (Err(error), Err(wanted)) => assert_equal!(rt, error, wanted),
         (Ok(_), Err(_)) => assert!(rt; false, "it was read"),
         (Err(_), Ok(_)) => assert!(rt; false, "it was refused"),
     }
@@ -375,6 +374,6 @@ fn a_lossy_text_that_passes_the_limit_is_refused(rt: HostRuntime) -> Result<(), 
     lossy_over::<Capped>(&rt, alloc, b"a\xFF", Ok("a\u{FFFD}"))?;
     lossy_over::<Capped>(&rt, alloc, b"\xFF\xFF", short())?;
     let refused = Array::<0>::new().append_slice(b"a");
-    assert_equal(&rt, refused, Err(AppendError::Short(ShortBuf)));
+    assert_equal!(&rt, refused, Err(AppendError::Short(ShortBuf)));
     Ok(())
 }

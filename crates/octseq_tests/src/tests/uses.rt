@@ -2,7 +2,6 @@
 use octseq::builder::{AppendError, AsOctets, EmptyBuilder, ShortBuf};
 use octseq::compose::ComposeError;
 use octseq::{Array, StrBuilder};
-use octseq_testing::assert_equal;
 use octseq_uses::error::ReadError;
 use octseq_uses::join::join;
 use octseq_uses::records::{append_record, read_records};
@@ -19,49 +18,49 @@ mod name;
 #[test]
 fn a_record_is_appended_whole_or_not_at_all(rt: HostRuntime) -> Result<(), Fail> {
     let mut octets = Array::<8>::try_from(b"a".as_slice())?;
-    assert_equal(&rt, append_record(&mut octets, 0x1234, b"bc"), Ok(()));
-    assert_equal(&rt, octets.as_slice(), b"a\x12\x34\x02bc".as_slice());
-    assert_equal(
+    assert_equal!(&rt, append_record(&mut octets, 0x1234, b"bc"), Ok(()));
+    assert_equal!(&rt, octets.as_slice(), b"a\x12\x34\x02bc".as_slice());
+    assert_equal!(
         &rt,
         append_record(&mut octets, 1, b""),
         Err(ComposeError::Short),
     );
-    assert_equal(
+    assert_equal!(
         &rt,
         append_record(&mut octets, 1, &[0; 256]),
         Err(ComposeError::TooLong),
     );
-    assert_equal(&rt, octets.as_slice(), b"a\x12\x34\x02bc".as_slice());
+    assert_equal!(&rt, octets.as_slice(), b"a\x12\x34\x02bc".as_slice());
     Ok(())
 }
 
 #[test]
 fn records_are_read_whole(rt: HostRuntime) -> Result<(), Fail> {
     let mut octets = Vec::new(rt.alloc());
-    assert_equal(&rt, append_record(&mut octets, 0x1234, b"bc"), Ok(()));
-    assert_equal(&rt, append_record(&mut octets, 7, b""), Ok(()));
+    assert_equal!(&rt, append_record(&mut octets, 0x1234, b"bc"), Ok(()));
+    assert_equal!(&rt, append_record(&mut octets, 7, b""), Ok(()));
     let read = read_records(rt.alloc(), octets.as_slice());
-    assert_equal(&rt, read.is_ok(), true);
+    assert_equal!(&rt, read.is_ok(), true);
     let mut again = Vec::new(rt.alloc());
     if let Ok(records) = read {
-        assert_equal(&rt, records.len(), 2);
+        assert_equal!(&rt, records.len(), 2);
         for record in &records {
-            assert_equal(
+            assert_equal!(
                 &rt,
                 append_record(&mut again, record.key, record.value),
                 Ok(()),
             );
         }
     }
-    assert_equal(&rt, again.as_slice(), octets.as_slice());
+    assert_equal!(&rt, again.as_slice(), octets.as_slice());
     let cut = read_records(rt.alloc(), b"\x12\x34\x02b".as_slice());
-    assert_equal(&rt, cut.err(), Some(ReadError::Malformed));
+    assert_equal!(&rt, cut.err(), Some(ReadError::Malformed));
     Ok(())
 }
 
 fn pairs<B: EmptyBuilder>(rt: &impl Abort, alloc: Global) -> Result<(), Fail> {
     let both: B = paired(alloc, b"ab", b"c")?;
-    assert_equal(rt, both.as_ref(), b"abc".as_slice());
+    assert_equal!(rt, both.as_ref(), b"abc".as_slice());
     Ok(())
 }
 
@@ -70,17 +69,17 @@ fn a_builder_is_swapped_for_another(rt: HostRuntime) -> Result<(), Fail> {
     pairs::<Vec<u8>>(&rt, rt.alloc())?;
     pairs::<Array<4>>(&rt, rt.alloc())?;
     let full = paired::<Array<2>>(rt.alloc(), b"ab", b"c");
-    assert_equal(&rt, full.err(), Some(AppendError::Short(ShortBuf)));
+    assert_equal!(&rt, full.err(), Some(AppendError::Short(ShortBuf)));
     Ok(())
 }
 
 #[test]
 fn words_are_joined(rt: HostRuntime) -> Result<(), Fail> {
     let mut text = StrBuilder::<Array<8>>::new(rt.alloc())?;
-    assert_equal(&rt, join(&mut text, &["ab", "", "c"], ", "), Ok(()));
-    assert_equal(&rt, text.as_str(), "ab, , c");
+    assert_equal!(&rt, join(&mut text, &["ab", "", "c"], ", "), Ok(()));
+    assert_equal!(&rt, text.as_str(), "ab, , c");
     let full = join(&mut text, &["d", "e"], "-");
-    assert_equal(&rt, full, Err(AppendError::Short(ShortBuf)));
-    assert_equal(&rt, text.as_str(), "ab, , cd");
+    assert_equal!(&rt, full, Err(AppendError::Short(ShortBuf)));
+    assert_equal!(&rt, text.as_str(), "ab, , cd");
     Ok(())
 }

@@ -3,7 +3,6 @@ use octseq::array::Array;
 use octseq::builder::AsOctets;
 use octseq::octets::{Bound, Octets, range_exists, span};
 use octseq::parse::{ParseOctetsError, Parser, ShortInput};
-use octseq_testing::{assert_equal, assert_true};
 use std::process::Abort;
 use std::test::Fail;
 
@@ -11,13 +10,13 @@ fn nests<R: Octets + Copy>(rt: &impl Abort, octets: R) -> Result<(), Fail> {
     let mut outer = Parser::from_ref(octets);
     outer.advance(2)?;
     let mut nested = outer.parse_parser(4)?;
-    assert_equal(rt, (nested.pos(), nested.len()), (2, 6));
-    assert_equal(rt, nested.peek_all(), b"2345".as_slice());
+    assert_equal!(rt, (nested.pos(), nested.len()), (2, 6));
+    assert_equal!(rt, nested.peek_all(), b"2345".as_slice());
     nested.seek(0)?;
-    assert_equal(rt, nested.peek_all(), b"012345".as_slice());
-    assert_equal(rt, nested.seek(7), Err(ShortInput));
-    assert_equal(rt, nested.pos(), 0);
-    assert_equal(rt, outer.peek_all(), b"6789".as_slice());
+    assert_equal!(rt, nested.peek_all(), b"012345".as_slice());
+    assert_equal!(rt, nested.seek(7), Err(ShortInput));
+    assert_equal!(rt, nested.pos(), 0);
+    assert_equal!(rt, outer.peek_all(), b"6789".as_slice());
     Ok(())
 }
 
@@ -26,10 +25,10 @@ fn moves_by_itself<R: Octets + Copy>(rt: &impl Abort, octets: R) -> Result<(), F
     let copy = parser;
     parser.check_len(10)?;
     parser.advance_to_end();
-    assert_equal(rt, (parser.pos(), copy.pos()), (10, 0));
-    assert_equal(rt, copy.peek(2)?, b"01".as_slice());
-    assert_equal(rt, parser.clone()?.pos(), 10);
-    assert_equal(rt, parser.octets_ref().as_ref(), b"0123456789".as_slice());
+    assert_equal!(rt, (parser.pos(), copy.pos()), (10, 0));
+    assert_equal!(rt, copy.peek(2)?, b"01".as_slice());
+    assert_equal!(rt, parser.clone()?.pos(), 10);
+    assert_equal!(rt, parser.octets_ref().as_ref(), b"0123456789".as_slice());
     Ok(())
 }
 
@@ -41,11 +40,11 @@ fn a_nested_parser_has_a_window_of_its_own(rt: HostRuntime) -> Result<(), Fail> 
 
 fn takes_ranges<R: Octets + Copy>(rt: &impl Abort, octets: R) -> Result<(), Fail> {
     let mut parser = Parser::from_ref(octets);
-    assert_equal(rt, parser.parse_octets(2)?.as_ref(), b"01".as_slice());
-    assert_equal(rt, parser.parse_octets(2)?.as_ref(), b"23".as_slice());
+    assert_equal!(rt, parser.parse_octets(2)?.as_ref(), b"01".as_slice());
+    assert_equal!(rt, parser.parse_octets(2)?.as_ref(), b"23".as_slice());
     let short = Err(ParseOctetsError::Short(ShortInput));
-    assert_equal(rt, parser.parse_octets(7).map(|_| ()), short);
-    assert_equal(rt, parser.parse_octets(6)?.as_ref(), b"456789".as_slice());
+    assert_equal!(rt, parser.parse_octets(7).map(|_| ()), short);
+    assert_equal!(rt, parser.parse_octets(6)?.as_ref(), b"456789".as_slice());
     Ok(())
 }
 
@@ -54,15 +53,15 @@ fn fills_buffers<R: Octets + Copy>(rt: &impl Abort, octets: R) -> Result<(), Fai
     let mut two = [0; 2];
     for wanted in [b"01", b"23"] {
         parser.parse_buf(&mut two)?;
-        assert_equal(rt, &two, wanted);
+        assert_equal!(rt, &two, wanted);
     }
     let mut seven = [7; 7];
-    assert_equal(rt, parser.parse_buf(&mut seven), Err(ShortInput));
-    assert_equal(rt, (seven, parser.pos()), ([7; 7], 4));
+    assert_equal!(rt, parser.parse_buf(&mut seven), Err(ShortInput));
+    assert_equal!(rt, (seven, parser.pos()), ([7; 7], 4));
     let mut six = [0; 6];
     parser.parse_buf(&mut six)?;
-    assert_equal(rt, &six, b"456789");
-    assert_equal(rt, parser.parse_buf(&mut []), Ok(()));
+    assert_equal!(rt, &six, b"456789");
+    assert_equal!(rt, parser.parse_buf(&mut []), Ok(()));
     Ok(())
 }
 
@@ -78,7 +77,7 @@ fn a_range_of_shared_octets_is_shared(rt: HostRuntime) -> Result<(), Fail> {
     let mut parser = Parser::from_ref(&octets);
     parser.advance(4)?;
     let range: Bytes = parser.parse_octets(3)?;
-    assert_equal(&rt, range.as_slice(), b"456".as_slice());
+    assert_equal!(&rt, range.as_slice(), b"456".as_slice());
     Ok(())
 }
 
@@ -86,14 +85,14 @@ fn refuses_the_greatest<R: Octets + Copy>(rt: &impl Abort, octets: R) -> Result<
     let most = usize::MAX;
     let mut parser = Parser::from_ref(octets);
     parser.advance(1)?;
-    assert_equal(rt, parser.peek(most), Err(ShortInput));
-    assert_equal(rt, parser.check_len(most), Err(ShortInput));
-    assert_equal(rt, parser.seek(most), Err(ShortInput));
-    assert_equal(rt, parser.advance(most), Err(ShortInput));
+    assert_equal!(rt, parser.peek(most), Err(ShortInput));
+    assert_equal!(rt, parser.check_len(most), Err(ShortInput));
+    assert_equal!(rt, parser.seek(most), Err(ShortInput));
+    assert_equal!(rt, parser.advance(most), Err(ShortInput));
     let short = Err(ParseOctetsError::Short(ShortInput));
-    assert_equal(rt, parser.parse_octets(most).map(|_| ()), short);
-    assert_true(rt, parser.parse_parser(most).is_err());
-    assert_equal(rt, (parser.pos(), parser.len()), (1, 10));
+    assert_equal!(rt, parser.parse_octets(most).map(|_| ()), short);
+    assert_true!(rt, parser.parse_parser(most).is_err());
+    assert_equal!(rt, (parser.pos(), parser.len()), (1, 10));
     Ok(())
 }
 
@@ -120,16 +119,16 @@ fn begins_with_ranges<R: Octets + Copy>(rt: &impl Abort, octets: R) -> Result<()
     ];
     for (bounds, left) in cases {
         let parser = Parser::try_with_range(octets, bounds);
-        assert_equal(rt, parser.is_some(), left.is_some());
+        assert_equal!(rt, parser.is_some(), left.is_some());
         if let (Some(parser), Some(left)) = (parser, left) {
-            assert_equal(rt, parser.peek_all(), left);
+            assert_equal!(rt, parser.peek_all(), left);
         }
     }
     let empty = Parser::try_with_range(octets, (Bound::Included(2), Bound::Excluded(2)));
     let parser = empty.ok_or("no range")?;
-    assert_true(rt, !parser.is_empty());
-    assert_equal(rt, (parser.len(), parser.remaining()), (2, 0));
-    assert_equal(rt, parser.as_slice(), [1, 2].as_slice());
+    assert_true!(rt, !parser.is_empty());
+    assert_equal!(rt, (parser.len(), parser.remaining()), (2, 0));
+    assert_equal!(rt, parser.as_slice(), [1, 2].as_slice());
     Ok(())
 }
 
@@ -159,11 +158,11 @@ fn has_each_range<R: Octets + Copy>(rt: &impl Abort, octets: R) -> Result<(), Fa
     for (first, start, _) in BOUNDS {
         for (last, _, end) in BOUNDS {
             let wanted = [1, 2, 3].as_slice().get(start..end);
-            assert_equal(rt, range_exists(3, (first, last)), wanted.is_some());
+            assert_equal!(rt, range_exists(3, (first, last)), wanted.is_some());
             let parser = Parser::try_with_range(octets, (first, last));
-            assert_equal(rt, parser.is_some(), wanted.is_some());
+            assert_equal!(rt, parser.is_some(), wanted.is_some());
             if let (Some(parser), Some(wanted)) = (parser, wanted) {
-                assert_equal(rt, parser.peek_all(), wanted);
+                assert_equal!(rt, parser.peek_all(), wanted);
             }
         }
     }
@@ -186,11 +185,11 @@ fn has_no_octets<R: Octets + Copy>(rt: &impl Abort, octets: R) -> Result<(), Fai
         ((Bound::Excluded(most), Bound::Included(most)), false),
     ];
     for (bounds, exists) in cases {
-        assert_equal(rt, Parser::try_with_range(octets, bounds).is_some(), exists);
+        assert_equal!(rt, Parser::try_with_range(octets, bounds).is_some(), exists);
     }
     let parser = Parser::from_ref(octets);
-    assert_true(rt, parser.is_empty());
-    assert_true(rt, parser.as_slice().is_empty());
+    assert_true!(rt, parser.is_empty());
+    assert_true!(rt, parser.as_slice().is_empty());
     Ok(())
 }
 
@@ -202,9 +201,9 @@ fn no_octets_have_one_range(rt: HostRuntime) -> Result<(), Fail> {
 #[test]
 fn a_range_that_is_known_needs_no_test(rt: HostRuntime) -> Result<(), Fail> {
     let parser = Parser::with_range(b"0123".as_slice(), span(1, 3));
-    assert_equal(&rt, parser.peek_all(), b"12".as_slice());
+    assert_equal!(&rt, parser.peek_all(), b"12".as_slice());
     let parser = Parser::from_static(b"ab");
-    assert_equal(
+    assert_equal!(
         &rt,
         format!(in rt.alloc(); "{parser:?}")?.as_str(),
         "Parser { octets: [97, 98], pos: 0, len: 2 }",

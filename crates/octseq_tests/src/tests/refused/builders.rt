@@ -6,7 +6,6 @@ use octseq::builder::{
     OctetsBuilder,
 };
 use octseq::cow::CowOctets;
-use octseq_testing::{assert_equal, assert_true};
 use smallvec::SmallVec;
 use std::alloc::{AllocError, Global};
 use std::process::Abort;
@@ -22,7 +21,7 @@ fn grows<B: OctetsBuilder>(rt: &impl Abort, mut builder: B) -> Result<(), Append
         if appended.is_ok() {
             len = len.saturating_add(slice.len());
         }
-        assert_equal(rt, Some(builder.as_ref()), octets.get(..len));
+        assert_equal!(rt, Some(builder.as_ref()), octets.get(..len));
         appended?;
     }
     Ok(())
@@ -54,16 +53,16 @@ fn borrowed_octets_become_owned_or_stay_borrowed(rt: HostRuntime) -> Result<(), 
     } else {
         b"abc"
     };
-    assert_equal(&rt, octets.as_ref(), wanted);
-    assert_equal(&rt, octets.is_borrowed(), appended.is_err());
+    assert_equal!(&rt, octets.as_ref(), wanted);
+    assert_equal!(&rt, octets.is_borrowed(), appended.is_err());
     appended?;
     Ok(grows(&rt, CowOctets::borrowed(rt.alloc(), b""))?)
 }
 
 /// Makes empty builders.
 fn is_made<B: EmptyBuilder>(rt: &impl Abort, alloc: Global) -> Result<(), AllocError> {
-    assert_true(rt, B::empty(alloc)?.as_ref().is_empty());
-    assert_true(rt, B::with_capacity(alloc, 8)?.as_ref().is_empty());
+    assert_true!(rt, B::empty(alloc)?.as_ref().is_empty());
+    assert_true!(rt, B::with_capacity(alloc, 8)?.as_ref().is_empty());
     Ok(())
 }
 
@@ -78,8 +77,8 @@ fn builders_are_made(rt: HostRuntime) -> Result<(), Fail> {
 /// Copies a sequence, which stands whatever the answer.
 fn is_copied<T: CloneOctets>(rt: &impl Abort, alloc: Global, octets: T) -> Result<(), AllocError> {
     let copy = octets.clone_octets(alloc);
-    assert_equal(rt, octets.as_ref(), b"abc".as_slice());
-    assert_equal(rt, copy?.as_ref(), b"abc".as_slice());
+    assert_equal!(rt, octets.as_ref(), b"abc".as_slice());
+    assert_equal!(rt, copy?.as_ref(), b"abc".as_slice());
     Ok(())
 }
 
@@ -106,13 +105,13 @@ fn shared_octets_go_round(rt: HostRuntime) -> Result<(), Fail> {
     let alloc = rt.alloc();
     let builder = BytesMut::copy_from_slice(alloc, b"abc")?;
     let octets = FreezeBuilder::freeze(builder)?;
-    assert_equal(&rt, octets.as_slice(), b"abc".as_slice());
+    assert_equal!(&rt, octets.as_slice(), b"abc".as_slice());
     let other = octets.clone_octets(alloc)?;
     // (with another handle on the octets a builder has to copy them)
     let builder = octets.into_builder(alloc)?;
-    assert_equal(&rt, builder.as_slice(), b"abc".as_slice());
-    assert_equal(&rt, other.as_slice(), b"abc".as_slice());
-    assert_equal(
+    assert_equal!(&rt, builder.as_slice(), b"abc".as_slice());
+    assert_equal!(&rt, other.as_slice(), b"abc".as_slice());
+    assert_equal!(
         &rt,
         Bytes::from_builder(builder)?.as_slice(),
         b"abc".as_slice(),
@@ -123,6 +122,6 @@ fn shared_octets_go_round(rt: HostRuntime) -> Result<(), Fail> {
 #[test]
 fn a_slice_is_made_into_a_builder(rt: HostRuntime) -> Result<(), Fail> {
     let builder = b"abc".as_slice().into_builder(rt.alloc())?;
-    assert_equal(&rt, builder.as_slice(), b"abc".as_slice());
+    assert_equal!(&rt, builder.as_slice(), b"abc".as_slice());
     Ok(())
 }

@@ -3,7 +3,6 @@ use bytes::BytesMut;
 use octseq::builder::{EmptyBuilder, OctetsBuilder, Truncate};
 use octseq::compose::{ComposeError, append_part_u8, append_part_u16_be, append_u64_be};
 use octseq::cow::CowOctets;
-use octseq_testing::assert_equal;
 use smallvec::SmallVec;
 use std::alloc::AllocError;
 use std::process::Abort;
@@ -14,22 +13,22 @@ fn grows<B: OctetsBuilder + Truncate>(rt: &impl Abort, mut builder: B) -> Result
     let whole = b"\0\0\0\0\0\0\0\x07\x0Aabcdefghij\0\x14abcdefghijabcdefghij".as_slice();
     let appended = append_u64_be(&mut builder, 7);
     let len = if appended.is_ok() { 8 } else { 0 };
-    assert_equal(rt, Some(builder.as_ref()), whole.get(..len));
+    assert_equal!(rt, Some(builder.as_ref()), whole.get(..len));
     appended?;
     let appended = append_part_u8(&mut builder, b"abcdefghij");
     let len = if appended.is_ok() { 19 } else { 8 };
-    assert_equal(rt, Some(builder.as_ref()), whole.get(..len));
+    assert_equal!(rt, Some(builder.as_ref()), whole.get(..len));
     told(rt, appended)?;
     let appended = append_part_u16_be(&mut builder, b"abcdefghijabcdefghij");
     let len = if appended.is_ok() { 41 } else { 19 };
-    assert_equal(rt, Some(builder.as_ref()), whole.get(..len));
+    assert_equal!(rt, Some(builder.as_ref()), whole.get(..len));
     told(rt, appended)
 }
 
 /// The refusal of a part, which is that of memory.
 fn told(rt: &impl Abort, appended: Result<(), ComposeError>) -> Result<(), Fail> {
     if let Err(error) = appended {
-        assert_equal(rt, error, ComposeError::Memory);
+        assert_equal!(rt, error, ComposeError::Memory);
         return Err(Fail::from(AllocError));
     }
     Ok(())

@@ -4,7 +4,6 @@ use bytes::{Bytes, BytesMut};
 use octseq::builder::{AppendError, AsOctets};
 use octseq::octets::{Octets, OctetsFrom, OctetsInto, span};
 use octseq::str::Str;
-use octseq_testing::assert_equal;
 use smallvec::SmallVec;
 use std::alloc::Global;
 use std::process::Abort;
@@ -17,7 +16,7 @@ fn is_made_of<S: AsOctets, T: OctetsFrom<S>>(
     source: S,
 ) -> Result<(), AppendError> {
     let octets = T::try_octets_from(alloc, source)?;
-    assert_equal(rt, octets.as_ref(), b"abc".as_slice());
+    assert_equal!(rt, octets.as_ref(), b"abc".as_slice());
     Ok(())
 }
 
@@ -30,7 +29,7 @@ fn octets_are_converted(rt: HostRuntime) -> Result<(), Fail> {
     is_made_of::<&[u8], SmallVec<u8, 2>>(&rt, alloc, slice)?;
     let octets = Vec::<u8>::octets_from(alloc, slice)?;
     let octets: Bytes = octets.octets_into(alloc)?;
-    assert_equal(&rt, octets.as_slice(), slice);
+    assert_equal!(&rt, octets.as_slice(), slice);
     Ok(())
 }
 
@@ -38,9 +37,9 @@ fn octets_are_converted(rt: HostRuntime) -> Result<(), Fail> {
 fn texts_are_converted(rt: HostRuntime) -> Result<(), Fail> {
     let alloc = rt.alloc();
     let text = Str::<Vec<u8>>::try_octets_from(alloc, Str::from_str("abc"))?;
-    assert_equal(&rt, text.as_str(), "abc");
+    assert_equal!(&rt, text.as_str(), "abc");
     let text = Str::<Bytes>::try_octets_from(alloc, text)?;
-    assert_equal(&rt, text.as_str(), "abc");
+    assert_equal!(&rt, text.as_str(), "abc");
     Ok(())
 }
 
@@ -48,7 +47,7 @@ fn texts_are_converted(rt: HostRuntime) -> Result<(), Fail> {
 fn a_range_of_shared_octets_is_cut(rt: HostRuntime) -> Result<(), Fail> {
     let octets = Bytes::copy_from_slice(rt.alloc(), b"abcdef")?;
     let range = (&octets).range(span(1, 4));
-    assert_equal(&rt, octets.as_slice(), b"abcdef".as_slice());
-    assert_equal(&rt, range?.as_slice(), b"bcd".as_slice());
+    assert_equal!(&rt, octets.as_slice(), b"abcdef".as_slice());
+    assert_equal!(&rt, range?.as_slice(), b"bcd".as_slice());
     Ok(())
 }

@@ -4,7 +4,6 @@ use octseq::array::Array;
 use octseq::builder::AsOctets;
 use octseq::octets::Octets;
 use octseq::parse::{ParseOctetsError, Parser, ParserCall, ParserCommand, ParserReply, run};
-use octseq_testing::{assert_equal, assert_true};
 use std::alloc::{AllocError, AllocGlobal};
 use std::process::Abort;
 use std::test::Fail;
@@ -16,13 +15,13 @@ fn a_refused_range_moves_nothing(rt: HostRuntime) -> Result<(), Fail> {
     parser.advance(1)?;
     match parser.parse_octets(3) {
         Ok(range) => {
-            assert_equal(&rt, range.as_slice(), b"123".as_slice());
-            assert_equal(&rt, parser.pos(), 4);
+            assert_equal!(&rt, range.as_slice(), b"123".as_slice());
+            assert_equal!(&rt, parser.pos(), 4);
             Ok(())
         }
         Err(error) => {
-            assert_equal(&rt, &error, &ParseOctetsError::Memory);
-            assert_equal(&rt, (parser.pos(), parser.len()), (1, 10));
+            assert_equal!(&rt, &error, &ParseOctetsError::Memory);
+            assert_equal!(&rt, (parser.pos(), parser.len()), (1, 10));
             Err(Fail::from(error))
         }
     }
@@ -32,15 +31,15 @@ fn a_refused_range_moves_nothing(rt: HostRuntime) -> Result<(), Fail> {
 fn gives<R: Octets>(rt: &impl Abort, reply: Option<ParserReply<R>>, wanted: Option<&[u8]>) -> bool {
     match reply {
         Some(ParserReply::Slice(octets)) => {
-            assert_equal(rt, Some(octets.as_slice()), wanted);
+            assert_equal!(rt, Some(octets.as_slice()), wanted);
             true
         }
         Some(ParserReply::Range(range)) => {
-            assert_equal(rt, Some(range.as_ref()), wanted);
+            assert_equal!(rt, Some(range.as_ref()), wanted);
             true
         }
         reply => {
-            assert_true(rt, matches!(reply, Some(ParserReply::Memory)));
+            assert_true!(rt, matches!(reply, Some(ParserReply::Memory)));
             false
         }
     }
@@ -68,11 +67,11 @@ fn is_run<R: Octets + Copy>(rt: &(impl Abort + AllocGlobal), octets: R) -> Resul
     let is_shown = gives(rt, replies.next(), whole.get(at..));
     let is_whole = gives(rt, replies.next(), Some(whole));
     let left = replies.next();
-    assert_true(
+    assert_true!(
         rt,
         matches!(left, Some(ParserReply::Number(n)) if n == 10 - at),
     );
-    assert_true(rt, replies.next().is_none());
+    assert_true!(rt, replies.next().is_none());
     if is_peeked && is_cut && is_filled && is_shown && is_whole {
         Ok(())
     } else {

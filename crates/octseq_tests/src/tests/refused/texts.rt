@@ -5,7 +5,6 @@ use octseq::builder::{
 };
 use octseq::cow::CowOctets;
 use octseq::str::{Command, LossyPieces, Reply, Str, StrBuilder, run};
-use octseq_testing::{assert_equal, assert_true};
 use smallvec::SmallVec;
 use std::alloc::{AllocError, Global};
 use std::process::Abort;
@@ -21,12 +20,12 @@ fn grows<B: OctetsBuilder>(rt: &impl Abort, builder: B) -> Result<(), Fail> {
         if pushed.is_ok() {
             len = len.saturating_add(ch.len_utf8());
         }
-        assert_equal(rt, Some(text.as_slice()), whole.as_bytes().get(..len));
+        assert_equal!(rt, Some(text.as_slice()), whole.as_bytes().get(..len));
         pushed?;
     }
     let pushed = text.try_push_str("0123456789abcdefghijklmnopqrstuvwxyz");
     let wanted = if pushed.is_ok() { 61 } else { 25 };
-    assert_equal(rt, text.len(), wanted);
+    assert_equal!(rt, text.len(), wanted);
     Ok(pushed?)
 }
 
@@ -46,13 +45,13 @@ fn texts_in_other_buffers_grow(rt: HostRuntime) -> Result<(), Fail> {
 fn texts_without_a_limit_grow(rt: HostRuntime) -> Result<(), Fail> {
     let mut text = StrBuilder::<Vec<u8>>::new(rt.alloc())?;
     let pushed = text.push_str("abc");
-    assert_equal(&rt, text.as_str(), if pushed.is_ok() { "abc" } else { "" });
+    assert_equal!(&rt, text.as_str(), if pushed.is_ok() { "abc" } else { "" });
     pushed?;
     for _ in 0..8 {
         let before = text.len();
         let pushed = text.push('€');
         let more = if pushed.is_ok() { 3 } else { 0 };
-        assert_equal(&rt, text.len(), before.saturating_add(more));
+        assert_equal!(&rt, text.len(), before.saturating_add(more));
         pushed?;
     }
     Ok(())
@@ -63,10 +62,10 @@ fn is_made<B: EmptyBuilder + FreezeBuilder<Octets = O>, O: FromBuilder<Builder =
     rt: &impl Abort,
     alloc: Global,
 ) -> Result<(), Fail> {
-    assert_true(rt, StrBuilder::<B>::new(alloc)?.is_empty());
-    assert_true(rt, StrBuilder::<B>::with_capacity(alloc, 8)?.is_empty());
+    assert_true!(rt, StrBuilder::<B>::new(alloc)?.is_empty());
+    assert_true!(rt, StrBuilder::<B>::with_capacity(alloc, 8)?.is_empty());
     let text = Str::<O>::try_copy_from_str(alloc, "ab€")?;
-    assert_equal(rt, text.as_str(), "ab€");
+    assert_equal!(rt, text.as_str(), "ab€");
     Ok(())
 }
 
@@ -82,16 +81,16 @@ fn texts_are_copied_and_frozen(rt: HostRuntime) -> Result<(), Fail> {
     let alloc = rt.alloc();
     let text = Str::<Vec<u8>>::copy_from_str(alloc, "ab€")?;
     let copy = text.clone(alloc);
-    assert_equal(&rt, text.as_str(), "ab€");
-    assert_equal(&rt, copy?.as_str(), "ab€");
+    assert_equal!(&rt, text.as_str(), "ab€");
+    assert_equal!(&rt, copy?.as_str(), "ab€");
     let octets = b"a\xC0".as_slice().to_vec(alloc)?;
     let error = StrBuilder::from_utf8(octets).err().ok_or("accepted")?;
     let copy = error.clone(alloc);
-    assert_equal(&rt, error.as_slice(), b"a\xC0".as_slice());
-    assert_true(&rt, copy? == error);
+    assert_equal!(&rt, error.as_slice(), b"a\xC0".as_slice());
+    assert_true!(&rt, copy? == error);
     let mut text = StrBuilder::<BytesMut>::new(alloc)?;
     text.push_str("ab€")?;
-    assert_equal(&rt, text.freeze()?.as_str(), "ab€");
+    assert_equal!(&rt, text.freeze()?.as_str(), "ab€");
     Ok(())
 }
 
@@ -100,7 +99,7 @@ fn is_read<B: EmptyBuilder>(rt: &impl Abort, alloc: Global) -> Result<(), Fail> 
     let mut octets = B::empty(alloc)?;
     octets.append_slice(b"0123456789\xFFabcdefgh\xF1\x80\x80")?;
     let text = StrBuilder::try_from_utf8_lossy(alloc, octets)?;
-    assert_equal(rt, text.as_str(), "0123456789\u{FFFD}abcdefgh\u{FFFD}");
+    assert_equal!(rt, text.as_str(), "0123456789\u{FFFD}abcdefgh\u{FFFD}");
     Ok(())
 }
 
@@ -122,13 +121,13 @@ fn pieces_are_read(rt: HostRuntime) -> Result<(), Fail> {
     for piece in cut {
         let fed = pieces.feed(piece);
         if fed.is_err() {
-            assert_equal(&rt, pieces.feed(b""), Err(AppendError::Memory));
-            assert_equal(&rt, pieces.finish().err(), Some(AppendError::Memory));
+            assert_equal!(&rt, pieces.feed(b""), Err(AppendError::Memory));
+            assert_equal!(&rt, pieces.finish().err(), Some(AppendError::Memory));
             return Ok(fed?);
         }
     }
     let whole = "0123456789€abcdefgh\u{FFFD}ijklmnopqrstuvwxyz\u{FFFD}";
-    assert_equal(&rt, pieces.finish()?.as_str(), whole);
+    assert_equal!(&rt, pieces.finish()?.as_str(), whole);
     Ok(())
 }
 
@@ -148,7 +147,7 @@ fn is_run<B: OctetsBuilder + Truncate>(
     let mut text = StrBuilder::from_utf8(builder).ok().ok_or("no text")?;
     let replies = run(alloc, &mut text, &commands);
     if replies.is_err() {
-        assert_true(rt, text.is_empty());
+        assert_true!(rt, text.is_empty());
     }
     let replies = replies?;
     let refused = replies.iter().position(|reply| *reply == Reply::Memory);
@@ -158,8 +157,8 @@ fn is_run<B: OctetsBuilder + Truncate>(
         Some(1) => "0123456789abcdefghijklmnopqrstuvwxyz",
         Some(_) => "0123456789é",
     };
-    assert_equal(rt, text.as_str(), wanted);
-    assert_equal(rt, replies.len(), 4);
+    assert_equal!(rt, text.as_str(), wanted);
+    assert_equal!(rt, replies.len(), 4);
     for (place, reply) in replies.iter().enumerate() {
         let answer = if place == 3 {
             Reply::Len(wanted.len())

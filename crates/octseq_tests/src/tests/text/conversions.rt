@@ -5,7 +5,6 @@ use octseq::array::Array;
 use octseq::builder::{AppendError, AsOctets, CloneOctets, OctetsBuilder, ShortBuf};
 use octseq::cow::CowOctets;
 use octseq::octets::{Bound, Octets, OctetsFrom, OctetsInto, SmallOctets, range_exists, span};
-use octseq_testing::{assert_equal, assert_true};
 use smallvec::SmallVec;
 use std::alloc::Global;
 use std::process::Abort;
@@ -26,56 +25,56 @@ fn ranges_are_cut_where_they_lie(rt: HostRuntime) -> Result<(), Fail> {
     let alloc = rt.alloc();
     let shared = Bytes::copy_from_slice(alloc, b"abcdef")?;
     let inner = cut(&shared, (Bound::Included(1), Bound::Excluded(4))).ok_or("no range")?;
-    assert_equal(&rt, inner.as_slice(), b"bcd".as_slice());
+    assert_equal!(&rt, inner.as_slice(), b"bcd".as_slice());
     let again = cut(&inner, (Bound::Excluded(0), Bound::Unbounded)).ok_or("no range")?;
-    assert_equal(&rt, again.as_slice(), b"cd".as_slice());
+    assert_equal!(&rt, again.as_slice(), b"cd".as_slice());
     let slice = b"abc".as_slice();
     let middle = Some(b"bc".as_slice());
-    assert_equal(&rt, cut(slice, span(1, 3)), middle);
-    assert_equal(&rt, cut(&slice.to_vec(alloc)?, span(1, 3)), middle);
-    assert_equal(
+    assert_equal!(&rt, cut(slice, span(1, 3)), middle);
+    assert_equal!(&rt, cut(&slice.to_vec(alloc)?, span(1, 3)), middle);
+    assert_equal!(
         &rt,
         cut(&CowOctets::borrowed(alloc, slice), span(1, 3)),
         middle,
     );
-    assert_equal(
+    assert_equal!(
         &rt,
         cut(&SmallVec::<u8, 2>::from_slice(alloc, slice)?, span(1, 3)),
         middle,
     );
-    assert_equal(&rt, cut(&Array::<4>::try_from(slice)?, span(1, 3)), middle);
-    assert_equal(
+    assert_equal!(&rt, cut(&Array::<4>::try_from(slice)?, span(1, 3)), middle);
+    assert_equal!(
         &rt,
         cut(&RcSlice::<u8>::from_slice(alloc, slice)?, span(1, 3)),
         middle,
     );
     let mut fixed = ArrayVec::<u8, 4>::new();
     fixed.append_slice(slice)?;
-    assert_equal(&rt, cut(&fixed, span(1, 3)), middle);
+    assert_equal!(&rt, cut(&fixed, span(1, 3)), middle);
     Ok(())
 }
 
 #[test]
 fn the_greatest_bounds_are_told_apart(rt: HostRuntime) {
     let most = usize::MAX;
-    assert_true(&rt, range_exists(3, (Bound::Excluded(2), Bound::Unbounded)));
-    assert_true(
+    assert_true!(&rt, range_exists(3, (Bound::Excluded(2), Bound::Unbounded)));
+    assert_true!(
         &rt,
         !range_exists(3, (Bound::Excluded(3), Bound::Unbounded)),
     );
-    assert_true(
+    assert_true!(
         &rt,
         range_exists(most, (Bound::Excluded(most - 1), Bound::Unbounded)),
     );
-    assert_true(
+    assert_true!(
         &rt,
         !range_exists(most, (Bound::Unbounded, Bound::Included(most))),
     );
-    assert_true(
+    assert_true!(
         &rt,
         !range_exists(3, (Bound::Excluded(most), Bound::Unbounded)),
     );
-    assert_true(
+    assert_true!(
         &rt,
         !range_exists(3, (Bound::Unbounded, Bound::Included(most))),
     );
@@ -124,7 +123,7 @@ fn converts<S: AsOctets, T: OctetsFrom<S>>(
     source: S,
 ) -> Result<(), Fail> {
     let octets = T::try_octets_from(alloc, source)?;
-    assert_equal(rt, octets.as_ref(), b"abc".as_slice());
+    assert_equal!(rt, octets.as_ref(), b"abc".as_slice());
     Ok(())
 }
 
@@ -162,17 +161,17 @@ fn a_conversion_that_passes_the_limit_is_refused(rt: HostRuntime) -> Result<(), 
     let alloc = rt.alloc();
     let octets = b"abcd".as_slice().to_vec(alloc)?;
     let short: Result<Array<3>, AppendError> = (&octets).try_octets_into(alloc);
-    assert_equal(&rt, short.err(), Some(AppendError::Short(ShortBuf)));
+    assert_equal!(&rt, short.err(), Some(AppendError::Short(ShortBuf)));
     let whole: Array<4> = (&octets).try_octets_into(alloc)?;
-    assert_equal(&rt, whole.as_slice(), b"abcd".as_slice());
+    assert_equal!(&rt, whole.as_slice(), b"abcd".as_slice());
     let fixed = ArrayVec::<u8, 4>::try_octets_from(alloc, &octets)?;
-    assert_equal(&rt, fixed.as_slice(), b"abcd".as_slice());
+    assert_equal!(&rt, fixed.as_slice(), b"abcd".as_slice());
     let shared: Bytes = octets.octets_into(alloc)?;
-    assert_equal(&rt, shared.as_slice(), b"abcd".as_slice());
+    assert_equal!(&rt, shared.as_slice(), b"abcd".as_slice());
     let long = [7u8; 25];
     let small = SmallOctets::try_octets_from(alloc, long.as_slice())?;
-    assert_equal(&rt, small.as_slice(), long.as_slice());
+    assert_equal!(&rt, small.as_slice(), long.as_slice());
     let vec = Vec::octets_from(alloc, long.as_slice())?;
-    assert_equal(&rt, vec.as_slice(), long.as_slice());
+    assert_equal!(&rt, vec.as_slice(), long.as_slice());
     Ok(())
 }

@@ -6,7 +6,6 @@ use octseq::array::Array;
 use octseq::builder::{AppendError, EmptyBuilder, ShortBuf};
 use octseq::str::Str;
 use octseq::utf8::{Turns, first_fault};
-use octseq_testing::assert_equal;
 use std::alloc::Global;
 use std::process::Abort;
 use std::test::Fail;
@@ -18,15 +17,15 @@ fn fault(octets: &[u8]) -> Option<(usize, Option<usize>)> {
 
 /// Whole an encoding is well formed. Cut it is one ill-formed part, which reaches the end or what follows.
 fn is_whole_or_cut(rt: &impl Abort, alloc: Global, encoding: &[u8]) -> Result<(), Fail> {
-    assert_equal(rt, fault(encoding), None);
-    assert_equal(rt, lossy(alloc, encoding)?.as_slice(), encoding);
+    assert_equal!(rt, fault(encoding), None);
+    assert_equal!(rt, lossy(alloc, encoding)?.as_slice(), encoding);
     for count in 1..encoding.len() {
         let mut cut = encoding[..count].to_vec(alloc)?;
-        assert_equal(rt, fault(cut.as_slice()), Some((0, None)));
-        assert_equal(rt, lossy(alloc, cut.as_slice())?.as_str(), "\u{FFFD}");
+        assert_equal!(rt, fault(cut.as_slice()), Some((0, None)));
+        assert_equal!(rt, lossy(alloc, cut.as_slice())?.as_str(), "\u{FFFD}");
         cut.push(b'A')?;
-        assert_equal(rt, fault(cut.as_slice()), Some((0, Some(count))));
-        assert_equal(rt, lossy(alloc, cut.as_slice())?.as_str(), "\u{FFFD}A");
+        assert_equal!(rt, fault(cut.as_slice()), Some((0, Some(count))));
+        assert_equal!(rt, lossy(alloc, cut.as_slice())?.as_str(), "\u{FFFD}A");
     }
     Ok(())
 }
@@ -56,8 +55,8 @@ fn the_edges_of_the_rows_have_their_numbers(rt: HostRuntime) -> Result<(), Fail>
     for (octets, number) in cases {
         let text = Str::from_utf8(octets).ok().ok_or("refused")?;
         let mut chars = text.as_str().chars();
-        assert_equal(&rt, chars.next().map(u32::from), Some(number));
-        assert_equal(&rt, chars.next(), None);
+        assert_equal!(&rt, chars.next().map(u32::from), Some(number));
+        assert_equal!(&rt, chars.next(), None);
     }
     Ok(())
 }
@@ -81,8 +80,8 @@ fn each_octet_out_of_its_range_ends_its_part(rt: HostRuntime) -> Result<(), Fail
         (b"\xF1\x80\x80\xC0", 3, "\u{FFFD}\u{FFFD}"),
     ];
     for (octets, length, text) in cases {
-        assert_equal(&rt, fault(octets), Some((0, Some(length))));
-        assert_equal(&rt, lossy(rt.alloc(), octets)?.as_str(), text);
+        assert_equal!(&rt, fault(octets), Some((0, Some(length))));
+        assert_equal!(&rt, lossy(rt.alloc(), octets)?.as_str(), text);
     }
     Ok(())
 }

@@ -3,7 +3,6 @@ use super::lossy_texts;
 use octseq::array::Array;
 use octseq::builder::{AppendError, EmptyBuilder, ShortBuf};
 use octseq::str::LossyPieces;
-use octseq_testing::assert_equal;
 use octseq_uses::rationed::Rationed;
 use std::alloc::Global;
 use std::process::Abort;
@@ -18,11 +17,11 @@ fn is_read<B: EmptyBuilder>(
 ) -> Result<(), Fail> {
     let mut reading = LossyPieces::<B>::new(alloc)?;
     for piece in pieces {
-        assert_equal(rt, reading.feed(piece), Ok(()));
+        assert_equal!(rt, reading.feed(piece), Ok(()));
     }
     match (reading.finish(), wanted) {
-        (Ok(text), Some(wanted)) => assert_equal(rt, text.as_str(), wanted),
-        (Err(error), None) => assert_equal(rt, error, AppendError::Short(ShortBuf)),
+        (Ok(text), Some(wanted)) => assert_equal!(rt, text.as_str(), wanted),
+        (Err(error), None) => assert_equal!(rt, error, AppendError::Short(ShortBuf)),
         (Ok(_), None) => assert!(rt; false, "it was read"),
         (Err(_), Some(_)) => assert!(rt; false, "it was refused"),
     }
@@ -54,24 +53,24 @@ fn stays_refused<B: EmptyBuilder>(
     refusal: &AppendError,
 ) {
     for piece in [b"".as_slice(), b"a"] {
-        assert_equal(rt, reading.feed(piece).err().as_ref(), Some(refusal));
+        assert_equal!(rt, reading.feed(piece).err().as_ref(), Some(refusal));
     }
-    assert_equal(rt, reading.finish().err().as_ref(), Some(refusal));
+    assert_equal!(rt, reading.finish().err().as_ref(), Some(refusal));
 }
 
 #[test]
 fn a_refusal_is_answered_from_then_on(rt: HostRuntime) -> Result<(), Fail> {
     let alloc = rt.alloc();
     let mut short = LossyPieces::<Array<2>>::new(alloc)?;
-    assert_equal(&rt, short.feed(b"\xFF"), Err(AppendError::Short(ShortBuf)));
+    assert_equal!(&rt, short.feed(b"\xFF"), Err(AppendError::Short(ShortBuf)));
     stays_refused(&rt, short, &AppendError::Short(ShortBuf));
     let mut memory = LossyPieces::<Rationed>::new(alloc)?;
-    assert_equal(&rt, memory.feed(b"ab"), Ok(()));
-    assert_equal(&rt, memory.feed(b"c"), Err(AppendError::Memory));
+    assert_equal!(&rt, memory.feed(b"ab"), Ok(()));
+    assert_equal!(&rt, memory.feed(b"c"), Err(AppendError::Memory));
     stays_refused(&rt, memory, &AppendError::Memory);
     let mut at_the_end = LossyPieces::<Rationed>::new(alloc)?;
-    assert_equal(&rt, at_the_end.feed(b"ab\xF1"), Ok(()));
-    assert_equal(&rt, at_the_end.finish().err(), Some(AppendError::Memory));
+    assert_equal!(&rt, at_the_end.feed(b"ab\xF1"), Ok(()));
+    assert_equal!(&rt, at_the_end.finish().err(), Some(AppendError::Memory));
     Ok(())
 }
 
@@ -85,9 +84,9 @@ fn each_cut_gives_the_same_text(rt: HostRuntime) -> Result<(), Fail> {
         }
         let mut singly = LossyPieces::<Vec<u8>>::new(alloc)?;
         for octet in octets {
-            assert_equal(&rt, singly.feed(&[*octet]), Ok(()));
+            assert_equal!(&rt, singly.feed(&[*octet]), Ok(()));
         }
-        assert_equal(&rt, singly.finish()?.as_str(), text);
+        assert_equal!(&rt, singly.finish()?.as_str(), text);
     }
     Ok(())
 }

@@ -2,7 +2,6 @@
 use super::table::{ROWS, edges, plain_fault};
 use octseq::str::StrBuilder;
 use octseq::utf8::{Turns, first_fault};
-use octseq_testing::assert_equal;
 use std::alloc::Global;
 use std::process::Abort;
 use std::test::Fail;
@@ -86,25 +85,25 @@ fn lanes_are_passed_and_faults_within_them_found(rt: HostRuntime) -> Result<(), 
     let alloc = rt.alloc();
     for len in [0, 15, 16, 17, 31, 32, 48] {
         let octets = ascii_with(alloc, len, 0, b"")?;
-        assert_equal(&rt, first_fault(octets.as_slice(), &mut Turns::new()), None);
+        assert_equal!(&rt, first_fault(octets.as_slice(), &mut Turns::new()), None);
     }
     for place in 0..48 {
         let octets = ascii_with(alloc, 48, place, b"\xFF")?;
         let fault = first_fault(octets.as_slice(), &mut Turns::new()).ok_or("none")?;
-        assert_equal(
+        assert_equal!(
             &rt,
             (fault.valid_up_to(), fault.error_len()),
             (place, Some(1)),
         );
         let text = StrBuilder::try_from_utf8_lossy(alloc, octets)?;
-        assert_equal(&rt, text.len(), 50);
+        assert_equal!(&rt, text.len(), 50);
     }
     let whole = ascii_with(alloc, 48, 15, b"\xC3\xA9")?;
-    assert_equal(&rt, first_fault(whole.as_slice(), &mut Turns::new()), None);
+    assert_equal!(&rt, first_fault(whole.as_slice(), &mut Turns::new()), None);
     for (place, cut) in [(47, b"\xC3".as_slice()), (46, b"\xE2\x82")] {
         let octets = ascii_with(alloc, 48, place, cut)?;
         let fault = first_fault(octets.as_slice(), &mut Turns::new()).ok_or("none")?;
-        assert_equal(&rt, (fault.valid_up_to(), fault.error_len()), (place, None));
+        assert_equal!(&rt, (fault.valid_up_to(), fault.error_len()), (place, None));
     }
     Ok(())
 }

@@ -3,7 +3,6 @@ use octseq::array::Array;
 use octseq::builder::{AppendError, EmptyBuilder, ShortBuf};
 use octseq::str::StrBuilder;
 use octseq::utf8::Turns;
-use octseq_testing::assert_equal;
 use std::alloc::Global;
 use std::process::Abort;
 use std::test::Fail;
@@ -26,8 +25,8 @@ fn replaces<B: EmptyBuilder>(
             StrBuilder::try_from_utf8_lossy_with(alloc, builder, replacement)
         };
         match (text, wanted) {
-            (Ok(text), Some(wanted)) => assert_equal(rt, text.as_slice(), wanted),
-            (Err(error), None) => assert_equal(rt, error, AppendError::Short(ShortBuf)),
+            (Ok(text), Some(wanted)) => assert_equal!(rt, text.as_slice(), wanted),
+            (Err(error), None) => assert_equal!(rt, error, AppendError::Short(ShortBuf)),
             (Ok(_), None) => assert!(rt; false, "it was read"),
             (Err(_), Some(_)) => assert!(rt; false, "it was refused"),
         }

@@ -9,7 +9,6 @@ use octseq::cow::CowOctets;
 use octseq::octets::OctetsFrom;
 use octseq::str::{Command, Reply, Str, StrBuilder, boundary, last_char, run};
 use octseq::utf8::Turns;
-use octseq_testing::{assert_equal, assert_true};
 use smallvec::SmallVec;
 use std::alloc::Global;
 use std::cmp::Ordering;
@@ -23,25 +22,25 @@ fn texts_are_made(rt: HostRuntime) -> Result<(), Fail> {
     let text = Str::from_utf8(b"abc".as_slice().to_vec(alloc)?)
         .ok()
         .ok_or("refused")?;
-    assert_equal(&rt, text.as_str(), "abc");
-    assert_equal(&rt, text.as_slice(), b"abc".as_slice());
-    assert_equal(&rt, text.as_octets().as_slice(), b"abc".as_slice());
-    assert_equal(&rt, text.len(), 3);
-    assert_true(&rt, !text.is_empty());
-    assert_true(&rt, text.clone(alloc)? == text);
-    assert_equal(&rt, text.into_octets().as_slice(), b"abc".as_slice());
+    assert_equal!(&rt, text.as_str(), "abc");
+    assert_equal!(&rt, text.as_slice(), b"abc".as_slice());
+    assert_equal!(&rt, text.as_octets().as_slice(), b"abc".as_slice());
+    assert_equal!(&rt, text.len(), 3);
+    assert_true!(&rt, !text.is_empty());
+    assert_true!(&rt, text.clone(alloc)? == text);
+    assert_equal!(&rt, text.into_octets().as_slice(), b"abc".as_slice());
     let error = Str::from_utf8(b"a\xC0".as_slice()).err().ok_or("accepted")?;
-    assert_equal(&rt, error.into_octets(), b"a\xC0".as_slice());
+    assert_equal!(&rt, error.into_octets(), b"a\xC0".as_slice());
     let borrowed = Str::from_utf8_slice("é".as_bytes()).ok().ok_or("refused")?;
-    assert_equal(&rt, borrowed.as_str(), "é");
+    assert_equal!(&rt, borrowed.as_str(), "é");
     let fault = Str::from_utf8_slice(b"a\xF1\x80").err().ok_or("accepted")?;
-    assert_equal(&rt, (fault.valid_up_to(), fault.error_len()), (1, None));
-    assert_equal(&rt, Str::from_utf8_unchecked("é".as_bytes()).len(), 2);
+    assert_equal!(&rt, (fault.valid_up_to(), fault.error_len()), (1, None));
+    assert_equal!(&rt, Str::from_utf8_unchecked("é".as_bytes()).len(), 2);
     let string = String::from_str(alloc, "été")?;
-    assert_equal(&rt, Str::from_string(string).as_str(), "été");
-    assert_true(&rt, Str::<Array<2>>::default().is_empty());
-    assert_true(&rt, Str::<&[u8]>::default().is_empty());
-    assert_true(&rt, StrBuilder::<Array<2>>::default().is_empty());
+    assert_equal!(&rt, Str::from_string(string).as_str(), "été");
+    assert_true!(&rt, Str::<Array<2>>::default().is_empty());
+    assert_true!(&rt, Str::<&[u8]>::default().is_empty());
+    assert_true!(&rt, StrBuilder::<Array<2>>::default().is_empty());
     Ok(())
 }
 
@@ -49,37 +48,37 @@ fn texts_are_made(rt: HostRuntime) -> Result<(), Fail> {
 fn texts_are_copied_where_the_limit_allows(rt: HostRuntime) -> Result<(), Fail> {
     let alloc = rt.alloc();
     let short = Str::<ArrayVec<u8, 2>>::try_copy_from_str(alloc, "abc");
-    assert_equal(&rt, short.err(), Some(AppendError::Short(ShortBuf)));
+    assert_equal!(&rt, short.err(), Some(AppendError::Short(ShortBuf)));
     let whole = Str::<ArrayVec<u8, 3>>::try_copy_from_str(alloc, "abc")?;
-    assert_equal(&rt, whole.as_str(), "abc");
+    assert_equal!(&rt, whole.as_str(), "abc");
     let copied = Str::<Vec<u8>>::copy_from_str(alloc, "ab€")?;
-    assert_equal(&rt, copied.as_str(), "ab€");
+    assert_equal!(&rt, copied.as_str(), "ab€");
     let source = Str::<Vec<u8>>::copy_from_str(alloc, "€b")?;
     let short = Str::<Array<3>>::try_octets_from(alloc, source);
-    assert_equal(&rt, short.err(), Some(AppendError::Short(ShortBuf)));
+    assert_equal!(&rt, short.err(), Some(AppendError::Short(ShortBuf)));
     let source = Str::<Vec<u8>>::copy_from_str(alloc, "€b")?;
     let whole = Str::<Array<4>>::try_octets_from(alloc, source)?;
-    assert_equal(&rt, whole.as_str(), "€b");
+    assert_equal!(&rt, whole.as_str(), "€b");
     Ok(())
 }
 
 #[test]
 fn a_text_has_the_facts_of_its_octets(rt: HostRuntime) -> Result<(), Fail> {
-    assert_equal(
+    assert_equal!(
         &rt,
         (Str::<Array<4>>::limit(), Str::<Array<4>>::asks_memory()),
         (Some(4), false),
     );
-    assert_equal(&rt, <&Str<Array<4>>>::limit(), Some(4));
-    assert_equal(&rt, <&StrBuilder<Array<4>>>::limit(), Some(4));
-    assert_equal(&rt, StrBuilder::<Vec<u8>>::limit(), None);
-    assert_true(&rt, StrBuilder::<Vec<u8>>::asks_memory());
+    assert_equal!(&rt, <&Str<Array<4>>>::limit(), Some(4));
+    assert_equal!(&rt, <&StrBuilder<Array<4>>>::limit(), Some(4));
+    assert_equal!(&rt, StrBuilder::<Vec<u8>>::limit(), None);
+    assert_true!(&rt, StrBuilder::<Vec<u8>>::asks_memory());
     let text = Str::from_str("ab");
-    assert_equal(&rt, AsOctets::as_ref(&&text), b"ab".as_slice());
+    assert_equal!(&rt, AsOctets::as_ref(&&text), b"ab".as_slice());
     let mut builder = StrBuilder::<BytesMut>::new(rt.alloc())?;
     builder.push_str("ab")?;
-    assert_equal(&rt, AsOctets::as_ref(&&builder), b"ab".as_slice());
-    assert_equal(&rt, builder.freeze()?.as_str(), "ab");
+    assert_equal!(&rt, AsOctets::as_ref(&&builder), b"ab".as_slice());
+    assert_equal!(&rt, builder.freeze()?.as_str(), "ab");
     Ok(())
 }
 
@@ -94,24 +93,24 @@ fn texts_are_ordered_by_their_characters(rt: HostRuntime) -> Result<(), Fail> {
     for (i, text) in ordered.iter().enumerate() {
         for (j, other) in ordered.iter().enumerate() {
             let (left, right) = (Str::from_str(text), Str::from_str(other));
-            assert_equal(&rt, left.cmp(&right), i.cmp(&j));
-            assert_equal(&rt, left.partial_cmp(&right), Some(i.cmp(&j)));
-            assert_equal(&rt, left == right, i == j);
+            assert_equal!(&rt, left.cmp(&right), i.cmp(&j));
+            assert_equal!(&rt, left.partial_cmp(&right), Some(i.cmp(&j)));
+            assert_equal!(&rt, left == right, i == j);
             let grown = StrBuilder::from_utf8(text.as_bytes())
                 .ok()
                 .ok_or("refused")?;
             let shrunk = StrBuilder::from_utf8(other.as_bytes())
                 .ok()
                 .ok_or("refused")?;
-            assert_equal(&rt, grown.cmp(&shrunk), i.cmp(&j));
-            assert_equal(&rt, grown == shrunk, i == j);
+            assert_equal!(&rt, grown.cmp(&shrunk), i.cmp(&j));
+            assert_equal!(&rt, grown == shrunk, i == j);
         }
     }
     let fixed = Str::<Array<4>>::try_copy_from_str(rt.alloc(), "abc")?;
     let grown = Str::<Vec<u8>>::copy_from_str(rt.alloc(), "abc")?;
-    assert_equal(&rt, fixed.as_str(), grown.as_str());
-    assert_equal(&rt, hash(&fixed), hash(&grown));
-    assert_equal(&rt, fixed.cmp(&fixed), Ordering::Equal);
+    assert_equal!(&rt, fixed.as_str(), grown.as_str());
+    assert_equal!(&rt, hash(&fixed), hash(&grown));
+    assert_equal!(&rt, fixed.cmp(&fixed), Ordering::Equal);
     Ok(())
 }
 
@@ -119,15 +118,15 @@ fn texts_are_ordered_by_their_characters(rt: HostRuntime) -> Result<(), Fail> {
 fn texts_are_shown(rt: HostRuntime) -> Result<(), Fail> {
     let alloc = rt.alloc();
     let text = Str::from_str("ab");
-    assert_equal(&rt, format!(in alloc; "{text}")?.as_str(), "ab");
-    assert_equal(&rt, format!(in alloc; "{text:>4}")?.as_str(), "  ab");
-    assert_equal(&rt, format!(in alloc; "{text:?}")?.as_str(), "\"ab\"");
+    assert_equal!(&rt, format!(in alloc; "{text}")?.as_str(), "ab");
+    assert_equal!(&rt, format!(in alloc; "{text:>4}")?.as_str(), "  ab");
+    assert_equal!(&rt, format!(in alloc; "{text:?}")?.as_str(), "\"ab\"");
     let builder = StrBuilder::from_utf8(b"ab".as_slice())
         .ok()
         .ok_or("refused")?;
-    assert_equal(&rt, format!(in alloc; "{builder}")?.as_str(), "ab");
-    assert_equal(&rt, format!(in alloc; "{builder:>4}")?.as_str(), "  ab");
-    assert_equal(&rt, format!(in alloc; "{builder:?}")?.as_str(), "\"ab\"");
+    assert_equal!(&rt, format!(in alloc; "{builder}")?.as_str(), "ab");
+    assert_equal!(&rt, format!(in alloc; "{builder:>4}")?.as_str(), "  ab");
+    assert_equal!(&rt, format!(in alloc; "{builder:?}")?.as_str(), "\"ab\"");
     Ok(())
 }
 
@@ -145,11 +144,11 @@ fn the_last_character_is_found(rt: HostRuntime) -> Result<(), Fail> {
     ];
     for (text, last) in cases {
         let text = Str::from_str(text);
-        assert_equal(&rt, last_char(text.as_slice(), &mut Turns::new()), last);
+        assert_equal!(&rt, last_char(text.as_slice(), &mut Turns::new()), last);
     }
     let many = [0xC3, 0xA9].repeat(rt.alloc(), 1000)?;
     let many = Str::from_utf8(many).ok().ok_or("refused")?;
-    assert_equal(
+    assert_equal!(
         &rt,
         last_char(many.as_slice(), &mut Turns::new()),
         Some('é'),
@@ -162,17 +161,17 @@ fn places_between_characters_are_boundaries(rt: HostRuntime) -> Result<(), Fail>
     let text = Str::from_str("𤭢");
     let wanted = [true, false, false, false, true, false];
     for (place, is_boundary) in wanted.iter().enumerate() {
-        assert_equal(
+        assert_equal!(
             &rt,
             boundary(text.as_slice(), place, &mut Turns::new()),
             *is_boundary,
         );
     }
-    assert_true(
+    assert_true!(
         &rt,
         !boundary(text.as_slice(), usize::MAX, &mut Turns::new()),
     );
-    assert_true(
+    assert_true!(
         &rt,
         boundary(Str::from_str("").as_slice(), 0, &mut Turns::new()),
     );
@@ -181,7 +180,7 @@ fn places_between_characters_are_boundaries(rt: HostRuntime) -> Result<(), Fail>
         .ok_or("refused")?;
     let wanted = [true, true, false, true, false];
     for (place, is_boundary) in wanted.iter().enumerate() {
-        assert_equal(&rt, builder.is_char_boundary(place), *is_boundary);
+        assert_equal!(&rt, builder.is_char_boundary(place), *is_boundary);
     }
     Ok(())
 }
@@ -190,17 +189,17 @@ fn places_between_characters_are_boundaries(rt: HostRuntime) -> Result<(), Fail>
 fn characters_are_popped(rt: HostRuntime) -> Result<(), Fail> {
     let octets = "ประเทศไทย中华b¢€𤭢".as_bytes().to_vec(rt.alloc())?;
     let mut text = StrBuilder::from_utf8(octets).ok().ok_or("refused")?;
-    assert_equal(&rt, text.len(), 43);
+    assert_equal!(&rt, text.len(), 43);
     for ch in ['𤭢', '€', '¢', 'b', '华'] {
-        assert_equal(&rt, text.pop(), Some(ch));
+        assert_equal!(&rt, text.pop(), Some(ch));
     }
-    assert_equal(&rt, text.len(), 30);
-    assert_equal(&rt, text.as_str(), "ประเทศไทย中");
+    assert_equal!(&rt, text.len(), 30);
+    assert_equal!(&rt, text.as_str(), "ประเทศไทย中");
     text.truncate(usize::MAX);
-    assert_equal(&rt, text.len(), 30);
+    assert_equal!(&rt, text.len(), 30);
     text.clear();
-    assert_true(&rt, text.is_empty());
-    assert_equal(&rt, text.pop(), None);
+    assert_true!(&rt, text.is_empty());
+    assert_equal!(&rt, text.pop(), None);
     Ok(())
 }
 
@@ -226,7 +225,7 @@ fn cuts_within_a_character_are_refused(rt: HostRuntime) -> Result<(), Fail> {
         Reply::Done,
         Reply::Popped(None),
     ];
-    assert_equal(
+    assert_equal!(
         &rt,
         run(alloc, &mut text, &commands)?.as_slice(),
         wanted.as_slice(),
@@ -249,7 +248,7 @@ fn cuts_within_a_character_are_refused(rt: HostRuntime) -> Result<(), Fail> {
         Reply::Popped(None),
         Reply::Len(0),
     ];
-    assert_equal(
+    assert_equal!(
         &rt,
         run(alloc, &mut text, &commands)?.as_slice(),
         wanted.as_slice(),
@@ -287,8 +286,8 @@ fn each_representation_answers_by_its_limit(rt: HostRuntime) -> Result<(), Fail>
         Reply::Is(true),
     ];
     let at_four = at_four.as_slice();
-    assert_equal(&rt, replies(alloc, Array::<4>::new())?.as_slice(), at_four);
-    assert_equal(
+    assert_equal!(&rt, replies(alloc, Array::<4>::new())?.as_slice(), at_four);
+    assert_equal!(
         &rt,
         replies(alloc, ArrayVec::<u8, 4>::new())?.as_slice(),
         at_four,
@@ -304,27 +303,27 @@ fn each_representation_answers_by_its_limit(rt: HostRuntime) -> Result<(), Fail>
         Reply::Is(false),
     ];
     let unlimited = unlimited.as_slice();
-    assert_equal(
+    assert_equal!(
         &rt,
         replies(alloc, Vec::empty(alloc)?)?.as_slice(),
         unlimited,
     );
-    assert_equal(
+    assert_equal!(
         &rt,
         replies(alloc, BytesMut::empty(alloc)?)?.as_slice(),
         unlimited,
     );
-    assert_equal(
+    assert_equal!(
         &rt,
         replies(alloc, SmallVec::<u8, 2>::empty(alloc)?)?.as_slice(),
         unlimited,
     );
-    assert_equal(
+    assert_equal!(
         &rt,
         replies(alloc, CowOctets::borrowed(alloc, b""))?.as_slice(),
         unlimited,
     );
-    assert_equal(
+    assert_equal!(
         &rt,
         replies(alloc, &mut Array::<4>::new())?.as_slice(),
         at_four,

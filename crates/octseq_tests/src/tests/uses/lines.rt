@@ -1,7 +1,6 @@
 //! Lines.
 use octseq::builder::{AppendError, EmptyBuilder, ShortBuf};
 use octseq::{Array, AsOctets, Parser, StrBuilder};
-use octseq_testing::{assert_equal, assert_true};
 use octseq_uses::lines::next_line;
 use std::alloc::Global;
 use std::process::Abort;
@@ -17,11 +16,11 @@ fn are_read<R: AsOctets, B: EmptyBuilder>(
     let mut parser = Parser::from_ref(octets);
     for (line, behind) in wanted {
         let read: Option<StrBuilder<B>> = next_line(alloc, &mut parser)?;
-        assert_equal(rt, read.as_ref().map(|text| text.as_str()), Some(*line));
-        assert_equal(rt, parser.pos(), *behind);
+        assert_equal!(rt, read.as_ref().map(|text| text.as_str()), Some(*line));
+        assert_equal!(rt, parser.pos(), *behind);
     }
     let none: Option<StrBuilder<B>> = next_line(alloc, &mut parser)?;
-    assert_true(rt, none.is_none());
+    assert_true!(rt, none.is_none());
     Ok(())
 }
 
@@ -51,15 +50,15 @@ fn a_line_that_is_too_long_is_left(rt: HostRuntime) -> Result<(), Fail> {
         rt.alloc(),
         &mut parser,
     );
-    assert_equal(&rt, read.err(), Some(AppendError::Short(ShortBuf)));
-    assert_equal(&rt, parser.pos(), 0);
+    assert_equal!(&rt, read.err(), Some(AppendError::Short(ShortBuf)));
+    assert_equal!(&rt, parser.pos(), 0);
     let read: Option<StrBuilder<Array<5>>> = next_line(rt.alloc(), &mut parser)?;
-    assert_equal(&rt, read.as_ref().map(|text| text.as_str()), Some("abc"));
+    assert_equal!(&rt, read.as_ref().map(|text| text.as_str()), Some("abc"));
     let read: Result<Option<StrBuilder<Array<5>>>, AppendError> = next_line(
         rt.alloc(),
         &mut parser,
     );
-    assert_equal(&rt, read.err(), Some(AppendError::Short(ShortBuf)));
-    assert_equal(&rt, parser.pos(), 4);
+    assert_equal!(&rt, read.err(), Some(AppendError::Short(ShortBuf)));
+    assert_equal!(&rt, parser.pos(), 4);
     Ok(())
 }

@@ -1,7 +1,6 @@
 //! Messages.
 use octseq::builder::{EmptyBuilder, Truncate};
 use octseq::{Array, AsOctets, Str};
-use octseq_testing::assert_equal;
 use octseq_uses::error::{ReadError, WriteError};
 use octseq_uses::message::{Message, append_message, read_message, written_and_read};
 use octseq_uses::records::Record;
@@ -34,25 +33,25 @@ fn wanted(alloc: Global, label: &'static [u8]) -> Result<Message<&'static [u8]>,
 
 /// It says what the message that `wanted` makes says.
 fn is_wanted(rt: &impl Abort, read: &Message<&[u8]>) -> Result<(), Fail> {
-    assert_equal(rt, read.id, 0x1234);
-    assert_equal(rt, read.serial, 0x0102_0304);
-    assert_equal(rt, read.name.len(), 2);
-    assert_equal(rt, read.name[0], b"www".as_slice());
-    assert_equal(rt, read.name[1], b"example".as_slice());
-    assert_equal(rt, read.text.as_str(), "hé");
-    assert_equal(rt, read.records.len(), 2);
-    assert_equal(rt, read.records[0].key, 7);
-    assert_equal(rt, read.records[0].value, b"a".as_slice());
-    assert_equal(rt, read.records[1].key, 256);
-    assert_equal(rt, read.records[1].value, b"".as_slice());
+    assert_equal!(rt, read.id, 0x1234);
+    assert_equal!(rt, read.serial, 0x0102_0304);
+    assert_equal!(rt, read.name.len(), 2);
+    assert_equal!(rt, read.name[0], b"www".as_slice());
+    assert_equal!(rt, read.name[1], b"example".as_slice());
+    assert_equal!(rt, read.text.as_str(), "hé");
+    assert_equal!(rt, read.records.len(), 2);
+    assert_equal!(rt, read.records[0].key, 7);
+    assert_equal!(rt, read.records[0].value, b"a".as_slice());
+    assert_equal!(rt, read.records[1].key, 256);
+    assert_equal!(rt, read.records[1].value, b"".as_slice());
     Ok(())
 }
 
 fn comes_back<B: EmptyBuilder + Truncate>(rt: &impl Abort, alloc: Global) -> Result<(), Fail> {
     let message = wanted(alloc, b"example")?;
     let mut builder = B::empty(alloc)?;
-    assert_equal(rt, append_message(&mut builder, &message), Ok(()));
-    assert_equal(rt, AsOctets::as_ref(&builder), OCTETS);
+    assert_equal!(rt, append_message(&mut builder, &message), Ok(()));
+    assert_equal!(rt, AsOctets::as_ref(&builder), OCTETS);
     match read_message(alloc, AsOctets::as_ref(&builder)) {
         Ok(read) => is_wanted(rt, &read)?,
         Err(_) => assert!(rt; false, "it was refused"),
@@ -75,22 +74,22 @@ fn a_message_is_appended_whole_or_not_at_all(rt: HostRuntime) -> Result<(), Fail
     let alloc = rt.alloc();
     let message = wanted(alloc, b"example")?;
     let mut octets = Array::<31>::try_from(b"a".as_slice())?;
-    assert_equal(
+    assert_equal!(
         &rt,
         append_message(&mut octets, &message),
         Err(WriteError::Short),
     );
-    assert_equal(&rt, octets.as_slice(), b"a".as_slice());
+    assert_equal!(&rt, octets.as_slice(), b"a".as_slice());
     let rootless = wanted(alloc, b"")?;
-    assert_equal(
+    assert_equal!(
         &rt,
         append_message(&mut octets, &rootless),
         Err(WriteError::Malformed),
     );
-    assert_equal(&rt, octets.as_slice(), b"a".as_slice());
+    assert_equal!(&rt, octets.as_slice(), b"a".as_slice());
     octets.truncate(0);
-    assert_equal(&rt, append_message(&mut octets, &message), Ok(()));
-    assert_equal(&rt, octets.as_slice(), OCTETS);
+    assert_equal!(&rt, append_message(&mut octets, &message), Ok(()));
+    assert_equal!(&rt, octets.as_slice(), OCTETS);
     Ok(())
 }
 
@@ -98,7 +97,7 @@ fn a_message_is_appended_whole_or_not_at_all(rt: HostRuntime) -> Result<(), Fail
 fn malformed_octets_are_no_message(rt: HostRuntime) -> Result<(), Fail> {
     let malformed = Some(ReadError::Malformed);
     for end in [0, 5, 18, 20, 23, 30] {
-        assert_equal(
+        assert_equal!(
             &rt,
             read_message(rt.alloc(), &OCTETS[..end]).err(),
             malformed,
@@ -106,7 +105,7 @@ fn malformed_octets_are_no_message(rt: HostRuntime) -> Result<(), Fail> {
     }
     let mut stray = Array::<31>::try_from(OCTETS)?;
     stray.as_slice_mut()[23] = 0xFF;
-    assert_equal(
+    assert_equal!(
         &rt,
         read_message(rt.alloc(), stray.as_slice()).err(),
         malformed,

@@ -1,7 +1,6 @@
 //! Names.
 use bytes::{Bytes, BytesMut};
 use octseq::{Array, AsOctets, EmptyBuilder, Octets, OctetsBuilder, Parser, Truncate};
-use octseq_testing::assert_equal;
 use octseq_uses::error::{ReadError, WriteError};
 use octseq_uses::name::{append_name, read_name};
 use std::alloc::Global;
@@ -19,16 +18,16 @@ fn is_read<R: Octets + Copy>(
     let mut parser = Parser::from_ref(octets);
     match (read_name(alloc, &mut parser), wanted) {
         (Ok(labels), Some(wanted)) => {
-            assert_equal(rt, labels.len(), wanted.len());
+            assert_equal!(rt, labels.len(), wanted.len());
             for (label, other) in labels.iter().zip(wanted) {
-                assert_equal(rt, AsOctets::as_ref(label), *other);
+                assert_equal!(rt, AsOctets::as_ref(label), *other);
             }
         }
-        (Err(error), None) => assert_equal(rt, error, ReadError::Malformed),
+        (Err(error), None) => assert_equal!(rt, error, ReadError::Malformed),
         (Ok(_), None) => assert!(rt; false, "it was read"),
         (Err(_), Some(_)) => assert!(rt; false, "it was refused"),
     }
-    assert_equal(rt, parser.pos(), behind);
+    assert_equal!(rt, parser.pos(), behind);
     Ok(())
 }
 
@@ -113,10 +112,10 @@ fn named<B: OctetsBuilder + Truncate>(builder: &mut B, labels: &[&[u8]]) -> Resu
 fn is_appended<B: EmptyBuilder + Truncate>(rt: &impl Abort, alloc: Global) -> Result<(), Fail> {
     let mut builder = B::empty(alloc)?;
     builder.append_slice(b"a")?;
-    assert_equal(rt, named(&mut builder, &[]), Ok(()));
-    assert_equal(rt, builder.as_ref(), b"a\x00".as_slice());
-    assert_equal(rt, named(&mut builder, &[b"www", b"example"]), Ok(()));
-    assert_equal(
+    assert_equal!(rt, named(&mut builder, &[]), Ok(()));
+    assert_equal!(rt, builder.as_ref(), b"a\x00".as_slice());
+    assert_equal!(rt, named(&mut builder, &[b"www", b"example"]), Ok(()));
+    assert_equal!(
         rt,
         builder.as_ref(),
         b"a\x00\x03www\x07example\x00".as_slice(),
@@ -136,16 +135,16 @@ fn a_name_is_appended_to_each_kind_of_builder(rt: HostRuntime) -> Result<(), Fai
 fn a_name_is_appended_whole_or_not_at_all(rt: HostRuntime) -> Result<(), Fail> {
     let mut octets = Array::<8>::try_from(b"a".as_slice())?;
     let short = Err(WriteError::Short);
-    assert_equal(&rt, named(&mut octets, &[b"www", b"ab"]), short);
-    assert_equal(
+    assert_equal!(&rt, named(&mut octets, &[b"www", b"ab"]), short);
+    assert_equal!(
         &rt,
         named(&mut octets, &[b"www", b"a", b""]),
         Err(WriteError::Malformed),
     );
-    assert_equal(&rt, octets.as_slice(), b"a".as_slice());
-    assert_equal(&rt, named(&mut octets, &[b"www", b"a"]), Ok(()));
-    assert_equal(&rt, octets.as_slice(), b"a\x03www\x01a\x00".as_slice());
-    assert_equal(&rt, named(&mut octets, &[]), short);
+    assert_equal!(&rt, octets.as_slice(), b"a".as_slice());
+    assert_equal!(&rt, named(&mut octets, &[b"www", b"a"]), Ok(()));
+    assert_equal!(&rt, octets.as_slice(), b"a\x03www\x01a\x00".as_slice());
+    assert_equal!(&rt, named(&mut octets, &[]), short);
     Ok(())
 }
 
@@ -154,18 +153,18 @@ fn labels_that_are_too_long_are_not_appended(rt: HostRuntime) -> Result<(), Fail
     let mut octets = Vec::new(rt.alloc());
     let none = Err(WriteError::Malformed);
     let label: &[u8] = &[b'a'; 63];
-    assert_equal(&rt, named(&mut octets, &[b"a", &[b'a'; 64]]), none);
-    assert_equal(
+    assert_equal!(&rt, named(&mut octets, &[b"a", &[b'a'; 64]]), none);
+    assert_equal!(
         &rt,
         named(&mut octets, &[label, label, label, &[b'a'; 62]]),
         none,
     );
-    assert_equal(&rt, octets.len(), 0);
-    assert_equal(
+    assert_equal!(&rt, octets.len(), 0);
+    assert_equal!(
         &rt,
         named(&mut octets, &[label, label, label, &[b'a'; 61]]),
         Ok(()),
     );
-    assert_equal(&rt, octets.len(), 255);
+    assert_equal!(&rt, octets.len(), 255);
     Ok(())
 }

@@ -1,7 +1,6 @@
 //! Hostile input, and streams that fail.
 use super::{Drip, Narrow, ran, repeated};
 use crate::engine::{Status, ToolFault, engine};
-use octseq_testing::{assert_equal, assert_true};
 use std::alloc::Global;
 use std::process::Abort;
 use std::test::Fail;
@@ -20,21 +19,21 @@ fn each_octet_once_is_told_of(rt: HostRuntime) -> Result<(), Fail> {
     let alloc = rt.alloc();
     let octets = each_octet(alloc)?;
     let (answer, written) = ran(alloc, "check", octets.as_slice());
-    assert_equal(&rt, answer, Ok(Status::Refused));
+    assert_equal!(&rt, answer, Ok(Status::Refused));
     let line = "invalid utf-8 sequence of 1 bytes from index 128\n";
-    assert_equal(&rt, written.as_slice(), line.as_bytes());
+    assert_equal!(&rt, written.as_slice(), line.as_bytes());
     let (answer, written) = ran(alloc, "lossy", octets.as_slice());
-    assert_equal(&rt, answer, Ok(Status::Fine));
+    assert_equal!(&rt, answer, Ok(Status::Fine));
     let mut wanted = Vec::new(alloc);
     for octet in 0..128 {
         wanted.push(octet)?;
     }
     wanted.extend_from_slice("\u{FFFD}".as_bytes().repeat(alloc, 128)?.as_slice())?;
-    assert_equal(&rt, wanted.len(), 512);
-    assert_equal(&rt, written.as_slice(), wanted.as_slice());
+    assert_equal!(&rt, wanted.len(), 512);
+    assert_equal!(&rt, written.as_slice(), wanted.as_slice());
     let (answer, written) = ran(alloc, "lossy64", octets.as_slice());
-    assert_equal(&rt, answer, Ok(Status::Refused));
-    assert_equal(
+    assert_equal!(&rt, answer, Ok(Status::Refused));
+    assert_equal!(
         &rt,
         written.as_slice(),
         b"buffer size exceeded\n".as_slice(),
@@ -47,15 +46,15 @@ fn a_cut_end_counts_three_octets(rt: HostRuntime) -> Result<(), Fail> {
     let alloc = rt.alloc();
     let fits = repeated(alloc, &[(b'a', 61), (0xC3, 1)])?;
     let (answer, written) = ran(alloc, "lossy64", fits.as_slice());
-    assert_equal(&rt, answer, Ok(Status::Fine));
-    assert_equal(&rt, written.len(), 64);
+    assert_equal!(&rt, answer, Ok(Status::Fine));
+    assert_equal!(&rt, written.len(), 64);
     for long in [
         repeated(alloc, &[(b'a', 62), (0xC3, 1)])?,
         repeated(alloc, &[(b'a', 65)])?,
     ] {
         let (answer, written) = ran(alloc, "lossy64", long.as_slice());
-        assert_equal(&rt, answer, Ok(Status::Refused));
-        assert_equal(
+        assert_equal!(&rt, answer, Ok(Status::Refused));
+        assert_equal!(
             &rt,
             written.as_slice(),
             b"buffer size exceeded\n".as_slice(),
@@ -78,7 +77,7 @@ fn lossy_writes_the_same_however_octets_are_read(rt: HostRuntime) -> Result<(), 
         };
         let mut written = Vec::new(alloc);
         let answer = engine(alloc, "lossy", &mut reader, &mut written);
-        assert_equal(&rt, answer, Ok(Status::Fine));
+        assert_equal!(&rt, answer, Ok(Status::Fine));
         assert_eq!(rt; written.as_slice(), text.as_bytes(), "{at_once} at once");
     }
     Ok(())
@@ -93,10 +92,10 @@ fn lossy_reads_more_than_a_piece(rt: HostRuntime) -> Result<(), Fail> {
     let mut reader = octets.as_slice();
     let mut written = Vec::new(alloc);
     let answer = engine(alloc, "lossy", &mut reader, &mut written);
-    assert_equal(&rt, answer, Ok(Status::Fine));
+    assert_equal!(&rt, answer, Ok(Status::Fine));
     octets.truncate(150_000);
     octets.extend_from_slice("\u{FFFD}".as_bytes())?;
-    assert_equal(&rt, written.as_slice(), octets.as_slice());
+    assert_equal!(&rt, written.as_slice(), octets.as_slice());
     Ok(())
 }
 
@@ -133,12 +132,12 @@ fn failed_reads(
         let mut written = Vec::new(alloc);
         let answer = engine(alloc, command, &mut reader, &mut written);
         if answer.is_ok() {
-            assert_equal(rt, answer, Ok(status));
-            assert_equal(rt, written.as_slice(), output.as_bytes());
+            assert_equal!(rt, answer, Ok(status));
+            assert_equal!(rt, written.as_slice(), output.as_bytes());
             return reads;
         }
-        assert_equal(rt, answer, Err(ToolFault::Read));
-        assert_true(rt, written.is_empty());
+        assert_equal!(rt, answer, Err(ToolFault::Read));
+        assert_true!(rt, written.is_empty());
     }
     16
 }
@@ -176,8 +175,8 @@ fn a_failed_write_is_told(rt: HostRuntime) {
                 };
                 assert_eq!(rt; answer, wanted, "{command} of {calls}");
                 let taken = writer.taken.as_slice();
-                assert_equal(&rt, output.as_bytes().get(..taken.len()), Some(taken));
-                assert_true(&rt, answer.is_err() || taken.len() == output.len());
+                assert_equal!(&rt, output.as_bytes().get(..taken.len()), Some(taken));
+                assert_true!(&rt, answer.is_err() || taken.len() == output.len());
             }
         }
     }

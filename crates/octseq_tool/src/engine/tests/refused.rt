@@ -5,7 +5,6 @@
 use crate::engine::{Status, ToolFault, engine};
 use octseq::array::Array;
 use octseq::builder::OctetsBuilder;
-use octseq_testing::{assert_equal, assert_true};
 use std::alloc::{AllocError, Global};
 use std::io::{self, Error, ErrorKind, Write};
 use std::process::Abort;
@@ -44,12 +43,12 @@ fn is_told(
     let answer = engine(alloc, command, &mut { octets }, &mut writer);
     match answer {
         Ok(status) => {
-            assert_equal(rt, writer.taken.as_slice(), output);
+            assert_equal!(rt, writer.taken.as_slice(), output);
             Ok(status)
         }
         Err(fault) => {
-            assert_equal(rt, fault, ToolFault::Memory);
-            assert_true(rt, writer.taken.as_slice().is_empty());
+            assert_equal!(rt, fault, ToolFault::Memory);
+            assert_true!(rt, writer.taken.as_slice().is_empty());
             Err(Fail::from(AllocError))
         }
     }
@@ -82,6 +81,6 @@ fn records_tells_all_or_nothing(rt: HostRuntime) -> Result<(), Fail> {
 fn another_word_requests_nothing(rt: HostRuntime) -> Result<(), Fail> {
     let usage = "usage: octseq_tool check|lossy|lossy64|records\n".as_bytes();
     let status = is_told(&rt, rt.alloc(), "chek", b"a", usage)?;
-    assert_equal(&rt, status, Status::Usage);
+    assert_equal!(&rt, status, Status::Usage);
     Ok(())
 }
