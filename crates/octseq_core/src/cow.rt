@@ -135,7 +135,7 @@ impl<'a> FreezeBuilder for CowOctets<'a> {
         ensures never { IsOk result }
         ensures unchanged { IfOk result (λ octets. is_borrowed octets ≡ is_borrowed self.entry) }
     {
-        Ok(self)
+        CowOctets::from_builder(self)
     }
 }
 

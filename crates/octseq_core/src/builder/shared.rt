@@ -51,7 +51,12 @@ impl IntoBuilder for Bytes {
 impl FromBuilder for Bytes {
     type Builder = BytesMut;
 
-    fn from_builder(builder: BytesMut) -> Result<Self, AllocError> {
+    /// An empty builder takes no memory.
+    fn from_builder(builder: BytesMut) -> Result<Self, AllocError>
+        ensures ok { IfOk result (λ octets. octets ≡ builder.items) }
+        ensures memory { OnErr result (true ≡ true) }
+        ensures never { builder.items ≡ [] → IsOk result }
+    {
         Ok(builder.freeze()?)
     }
 }
@@ -115,7 +120,12 @@ impl EmptyBuilder for BytesMut {
 impl FreezeBuilder for BytesMut {
     type Octets = Bytes;
 
-    fn freeze(self) -> Result<Bytes, AllocError> {
+    /// An empty builder takes no memory.
+    fn freeze(self) -> Result<Bytes, AllocError>
+        ensures ok { IfOk result (λ octets. octets ≡ self.items) }
+        ensures memory { OnErr result (true ≡ true) }
+        ensures never { self.items ≡ [] → IsOk result }
+    {
         Ok(self.freeze()?)
     }
 }
