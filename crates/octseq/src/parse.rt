@@ -21,7 +21,8 @@ pub use crate::parse::laws::{nothing_is_lost, one_run};
 /// A window on a sequence of octets: a position, at which reading goes on, and an end. Both are counted
 /// from the first octet of the sequence, also in a parser that was cut from another.
 ///
-/// A parser is a value: a copy has the same window and moves by itself. A refused call changes nothing.
+/// A parser is a value: a copy of it has the same window, and neither follows the other's moves. A refused call changes
+/// nothing.
 #[derive(Debug)]
 pub struct Parser<R: AsOctets> {
     octets: R,

@@ -120,7 +120,7 @@ impl<const N: usize> OctetsLimit for Array<N> {
 }
 
 impl<const N: usize> OctetsBuilder for Array<N> {
-    /// Writes the slice behind the content. The hidden octets behind that stay.
+    /// The slice takes the place of as many hidden octets; the others stay hidden, as they are.
     fn append_slice(&mut self, slice: &[u8]) -> Result<(), AppendError>
         ensures ok { OnOk result (self.new.content ≡ self.old.content ++ slice.now) }
         ensures err { OnErr result (self.new.content ≡ self.old.content) }
