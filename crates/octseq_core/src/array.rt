@@ -21,8 +21,8 @@ use std::fmt;
 use std::hash::{Hash, Hasher};
 use std::marker::Model;
 
-/// `N` octets and a length of at most `N`. The front of that length is the content, and the octets
-/// behind it are hidden.
+/// Octets in a buffer of the fixed size `N`. The front of the buffer is the content; what the buffer has behind it is
+/// hidden.
 #[derive(Drop)]
 pub struct Array<const N: usize> {
     octets: [u8; N],
