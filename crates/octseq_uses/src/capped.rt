@@ -1,4 +1,4 @@
-//! A builder of a caller's own: a vector of at most five octets.
+//! A builder of a caller's own with a limit. It needs no proof.
 ghost use Rattle.std.specs.Prelude.{◌≤◌, true, Some, vec_len};
 
 use octseq::builder::{
@@ -6,6 +6,7 @@ use octseq::builder::{
 };
 use std::alloc::{AllocError, Global};
 
+/// A vector of at most five octets.
 #[derive(Drop)]
 pub struct Capped {
     octets: Vec<u8>,

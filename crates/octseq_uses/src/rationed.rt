@@ -1,9 +1,10 @@
-//! A vector whose n-th append is refused for memory.
+//! A builder of a caller's own that answers `Memory` by a rule of its own. It needs no proof.
 ghost use Rattle.std.specs.Prelude.{◌≡◌, true, None};
 
 use octseq::builder::{AppendError, AsOctets, EmptyBuilder, OctetsBuilder, OctetsLimit, Truncate};
 use std::alloc::{AllocError, Global};
 
+/// A vector whose n-th append is refused for memory.
 #[derive(Drop)]
 pub struct Rationed {
     octets: Vec<u8>,

@@ -1,10 +1,11 @@
-//! Octets of a caller's own, of which each range is refused for memory.
+//! A sequence of a caller's own, whose ranges may be refused.
 ghost use Rattle.std.specs.Prelude.{true, None};
 
 use octseq::builder::{AsOctets, OctetsLimit};
 use octseq::octets::{Bound, Octets};
 use std::alloc::AllocError;
 
+/// Three octets, of which each range is refused for memory.
 #[derive(Clone, Copy)]
 pub struct Scarce(pub [u8; 3]);
 
