@@ -15,6 +15,7 @@ use Rattle.octseq_utf8.specs.Front.{StandsInFront}
 use Rattle.octseq_utf8.specs.Text.{Spells, IsWellFormed, chars}
 use Rattle.octseq_utf8.specs.declared.finder.Front.TheVariants.{Encoding}
 use Rattle.octseq_utf8.proofs.Faults.{take-add}
+use Rattle.octseq_utf8.proofs.Rows.{length_of}
 use Rattle.octseq_utf8.proofs.Spelling.{chars_of}
 use Rattle.octseq_utf8.proofs.Splitting.{bad_some}
 
@@ -47,18 +48,6 @@ encoding_high (row_F0 {a} {b} {c} {d} p q r s) = inr (two_high a b (c ∷ d ∷ 
 encoding_high (row_F1_F3 {a} {b} {c} {d} p q r s) = inr (two_high a b (c ∷ d ∷ []) (omega arith) (omega arith))
 encoding_high (row_F4 {a} {b} {c} {d} p q r s) = inr (two_high a b (c ∷ d ∷ []) (omega arith) (omega arith))
 
--- and an octet at least
-encoding_some : {e : List ℕ} → IsEncoding e → 1 ≤ length e
-encoding_some (row_00_7F p) = omega arith
-encoding_some (row_C2_DF p q) = omega arith
-encoding_some (row_E0 p q r) = omega arith
-encoding_some (row_E1_EC p q r) = omega arith
-encoding_some (row_ED p q r) = omega arith
-encoding_some (row_EE_EF p q r) = omega arith
-encoding_some (row_F0 p q r s) = omega arith
-encoding_some (row_F1_F3 p q r s) = omega arith
-encoding_some (row_F4 p q r s) = omega arith
-
 -- so it is with well-formed octets, which have no more characters than octets
 
 encodings_high : (es : List (List ℕ)) → AllByRecursion IsEncoding es → (high_count (concat es) ≡ 0) ⊎ (2 ≤ high_count (concat es))
@@ -71,7 +60,7 @@ encodings_high (e ∷ es) h =
 
 encodings_few : (es : List (List ℕ)) → AllByRecursion IsEncoding es → length es ≤ length (concat es)
 encodings_few [] h = omega arith
-encodings_few (e ∷ es) h = let some = encoding_some h.0 in let few = encodings_few es h.1 in omega (arith, length-append e (concat es))
+encodings_few (e ∷ es) h = let some = length_of h.0 in let few = encodings_few es h.1 in omega (arith, length-append e (concat es))
 
 spelled_high : {x cs : List ℕ} → Spells x cs → (high_count x ≡ 0) ⊎ (2 ≤ high_count x)
 spelled_high {x} {cs} s = subst (λ y. (high_count y ≡ 0) ⊎ (2 ≤ high_count y)) s.joined (encodings_high s.encodings s.each)
@@ -182,7 +171,7 @@ mixed_high x place old now len m room first (within, e) =
     let most = run_le 15 (drop (place + len) x) in
     let z : List ℕ = take len (drop place x) in
     let at : drop place x ≡ get_or x place 0 ∷ drop (suc place) x = drop-cons x place 0 room in
-    let some : 1 ≤ len = let n = encoding_some e in omega (arith, length-take len (drop place x)) in
+    let some : 1 ≤ len = let n = length_of e in omega (arith, length-take len (drop place x)) in
     let lead : 1 ≤ high_count z = front_high len (drop place x) (get_or x place 0) (drop (suc place) x) at some first in
     let two : 2 ≤ high_count z = ⊎_elim (λ h. absurd (omega arith)) (λ h. h) (encoding_high e) in
     let wide : 2 ≤ len = omega (arith, count_by-le-length (λ o. leb 0x80 o) z, length-take len (drop place x)) in
