@@ -65,7 +65,7 @@ impl<Octets: AsOctets> Hash for Str<Octets> {
     }
 }
 
-/// Prints the text.
+/// Prints the text. A width, a fill and a precision go by characters, as for a `str`.
 impl<Octets: AsOctets> fmt::Display for Str<Octets> {
     ghost output = { λ text. Some (Octets.content text) };
 
@@ -76,6 +76,7 @@ impl<Octets: AsOctets> fmt::Display for Str<Octets> {
     }
 }
 
+/// Prints the text in quotes, with escapes, as for a `str`.
 impl<Octets: AsOctets> fmt::Debug for Str<Octets> {
     ghost debug_output = { λ text. debug_str (Octets.content text) };
 
@@ -133,7 +134,7 @@ impl<Octets: AsOctets> Hash for StrBuilder<Octets> {
     }
 }
 
-/// Prints the text.
+/// Prints the text. A width, a fill and a precision go by characters, as for a `str`.
 impl<Octets: AsOctets> fmt::Display for StrBuilder<Octets> {
     ghost output = { λ text. Some (Octets.content text) };
 
@@ -144,10 +145,11 @@ impl<Octets: AsOctets> fmt::Display for StrBuilder<Octets> {
     }
 }
 
+/// Prints the text in quotes, with escapes, as for a `str`.
 impl<Octets: AsOctets> fmt::Debug for StrBuilder<Octets> {
     ghost debug_output = { λ text. debug_str (Octets.content text) };
 
     fn fmt<W: fmt::Write>(&self, f: &mut fmt::Formatter<W>) -> fmt::Result {
-        fmt::Debug::fmt(self.as_str(), f)
+        fmt::Debug::fmt(&self.as_text(), f)
     }
 }

@@ -108,11 +108,7 @@ impl<B: EmptyBuilder> LossyPieces<B> {
     /// `Short` where the text of what is settled passes the limit of the type, `Memory` where a request
     /// for memory was refused. Every later call answers that refusal again.
     #[tactic(auto, using(crate::proofs::Settling::one_settling, crate::proofs::Settling::settling))]
-    pub fn feed_counted(
-        &mut self,
-        piece: &[u8],
-        turns: &mut Turns,
-    ) -> Result<(), AppendError>
+    pub fn feed_counted(&mut self, piece: &[u8], turns: &mut Turns) -> Result<(), AppendError>
         // Octets have exactly one list of settled parts, and one open end.
         ensures one_settling { (octets end last : List ℕ) (settled others : List Part)
             → Settles octets settled end → Settles octets others last

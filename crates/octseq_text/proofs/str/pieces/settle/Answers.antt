@@ -57,8 +57,8 @@ loop-fault-preserved g c =
     rw (c.behind-rest.ensures, c.in_ok-append_replacement.ensures.ok)
     (record {
       read = read_then
-        (read_to_fault _ _ _ _ _ _ fault f c.loop-fault.invariant.read c.before-in-Some.ensures c.in_ok-append_slice.ensures.ok)
-        (read_fault rest fault f (size_some fault.size c.error_len.result c.error_len.ensures c.if-is_none.ensures) (g.B.AsOctets.content c.append_slice.new.self));
+          (read_to_fault _ _ _ _ _ _ fault f c.loop-fault.invariant.read c.before-in-Some.ensures c.in_ok-append_slice.ensures.ok)
+          (read_fault rest fault f (size_some fault.size c.error_len.result c.error_len.ensures c.if-is_none.ensures) (g.B.AsOctets.content c.append_slice.new.self));
       turns = counted_fault (length c.args.octets.now) rest c.args.turns.now c.loop-fault.turns _ c.loop-fault.invariant.turns fault f c.in-Some.ensures.turns_to_fault;
       passed = omega arith;
       kept = omega arith;
