@@ -8,3 +8,4 @@ pub mod OneRun
 pub mod BadParts
 pub mod Settling
 pub mod Piecewise
+pub mod Counting

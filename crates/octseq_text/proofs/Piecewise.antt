@@ -111,7 +111,7 @@ beginning_few q b = let short = beginning_short b in omega (arith, width_le (get
 
 -- at a fault of a beginning with one octet behind it
 module _ (b : List ℕ) (o : ℕ) (begins : IsBeginning b) (fault : Fault) (f : IsFault (b ++ o ∷ []) fault) where
-  none_before : (es : List (List ℕ)) → AllByRecursion IsEncoding es → concat es ≡ f.before → f.before ≡ []
+  pub none_before : (es : List (List ℕ)) → AllByRecursion IsEncoding es → concat es ≡ f.before → f.before ≡ []
   none_before [] a e = sym e
   none_before (c ∷ es) a e =
       let all : b ++ o ∷ [] ≡ c ++ (concat es ++ (f.bad ++ f.after)) = f.whole ∙ ap (λ y. y ++ (f.bad ++ f.after)) (sym e) ∙ append_assoc c (concat es) (f.bad ++ f.after) in

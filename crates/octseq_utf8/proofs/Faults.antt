@@ -39,7 +39,7 @@ at_start x t = record { characters = []; within = omega arith; spelled = spells_
 pub lanes_start : (x : List ℕ) (t : ℕ) → IsInLanes x 0 t t
 lanes_start x t = record { at = at_start x t; lanes = λ low. omega arith }
 
-take-add : (x : List ℕ) (i n : ℕ) → i ≤ length x → take (i + n) x ≡ take i x ++ take n (drop i x)
+pub take-add : (x : List ℕ) (i n : ℕ) → i ≤ length x → take (i + n) x ≡ take i x ++ take n (drop i x)
 take-add x i n h =
     let cut : take i x ++ drop i x ≡ x = take-append-drop i x in
     let long : length (take i x) ≡ i = length-take i x ∙ omega arith in

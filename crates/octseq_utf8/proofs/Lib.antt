@@ -12,4 +12,5 @@ pub mod Fronts
 pub mod Masks
 pub mod Ascii
 pub mod Faults
+pub mod Mixed
 pub mod LossyTexts

@@ -32,13 +32,17 @@ replacement_length : length (encoding_of 0xFFFD) ≡ 3
 unfolding encoding_of
 replacement_length = refl
 
--- so the lossy text is no shorter than its source
+-- so with a replacement of three octets or more the text is no shorter than its source
+
+pub text_with_long : (w : ℕ) → 3 ≤ length (encoding_of w) → {x : List ℕ} {parts : List Part} → Splits x parts → length x ≤ length (text_with w parts)
+text_with_long w h nothing = omega arith
+text_with_long w h (encoding {e} {rest = r} {parts = parts} p s) =
+    let k = text_with_long w h s in omega (arith, length-append e r, length-append (encoding_of (number_of e)) (text_with w parts), ap length (encoding_of-number_of p))
+text_with_long w h (bad_part {bad = p} {rest = r} {parts = parts} b s) =
+    let k = text_with_long w h s in let l = bad_length b in omega (arith, length-append p r, length-append (encoding_of w) (text_with w parts))
+
 pub text_long : {x : List ℕ} {parts : List Part} → Splits x parts → length x ≤ length (text parts)
-text_long nothing = omega arith
-text_long (encoding {e} {rest = r} {parts = parts} p s) =
-    let k = text_long s in omega (arith, length-append e r, length-append (encoding_of (number_of e)) (text parts), ap length (encoding_of-number_of p))
-text_long (bad_part {bad = p} {rest = r} {parts = parts} b s) =
-    let k = text_long s in let l = bad_length b in omega (arith, length-append p r, length-append (encoding_of 0xFFFD) (text parts), replacement_length)
+text_long s = text_with_long 0xFFFD (omega (arith, replacement_length)) s
 
 -- the text of well-formed octets is those octets
 pub text_same : (w : ℕ) (x : List ℕ) (parts : List Part) → IsWellFormed x → Splits x parts → text_with w parts ≡ x

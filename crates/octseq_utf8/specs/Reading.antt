@@ -1,10 +1,9 @@
 -- How the finder reads: what the first octet says of the others, and how many octets at the front fit. A second account of the table,
 -- which computes. The proofs show it to be the same, and public contracts don't cite it.
-use Rattle.std.specs.Prelude.{◌≡◌, ◌≢◌, ℕ, ◌+◌, ◌*◌, ◌≤◌, ◌++◌, drop, zero, suc, ◌-◌, max, Bool, nat_lt, ◌==◌, ◌&&◌, List, [], ◌∷◌, length, take, slice_index, Option, if◌then◌else◌}
+use Rattle.std.specs.Prelude.{ℕ, zero, suc, ◌-◌, max, Bool, nat_lt, ◌==◌, ◌&&◌, List, [], ◌∷◌, length, take, slice_index, if◌then◌else◌}
 use Rattle.std.specs.Int.{is_in_range}
 use Rattle.octseq_utf8.specs.Encoding.{number_of}
-use Rattle.octseq_utf8.specs.Fault.{Fault, fault_end}
-use Rattle.octseq_utf8.specs.Parts.{IsBeginning, Part, Char, Bad, text_with, text}
+use Rattle.octseq_utf8.specs.Parts.{Part, Char, Bad}
 
 -- how many octets an encoding that begins with this octet has, or 0 where none does
 unfoldable pub width_of : ℕ → ℕ

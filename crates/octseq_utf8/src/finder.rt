@@ -1,5 +1,5 @@
 //! The finder of the first fault.
-ghost use Rattle.std.specs.Prelude.{◌≡◌, ℕ, ◌+◌, ◌*◌, ◌/◌, ◌%◌, ◌<◌, ◌≤◌, ◌↔◌, length, take, slice_index, IsNone, IfNone, IfSome};
+ghost use Rattle.std.specs.Prelude.{◌≡◌, ℕ, ◌+◌, ◌*◌, ◌/◌, ◌%◌, ◌<◌, ◌≤◌, ◌↔◌, length, take, slice_index, count_by, nat_le, IsNone, IfNone, IfSome};
 ghost use Rattle.std.specs.Int.{is_in_range};
 ghost use Rattle.std.specs.List.{All};
 ghost use Rattle.octseq_utf8.specs.Fault.{IsFault, fault_end};
@@ -158,6 +158,10 @@ pub fn first_fault(octets: &[u8], turns: &mut Turns) -> Option<Utf8Fault>
     // ASCII is passed sixteen octets a turn.
     ensures ascii { All (λ octet. octet < 0x80) octets.now
         → turns.new ≤ turns.old + length octets.now / 16 + length octets.now % 16 }
+
+    // Mixed with ASCII, an octet of 80 or more costs eight turns at most; the end costs fifteen.
+    ensures mixed { turns.new ≤ turns.old + length octets.now / 16
+        + 8 * count_by (λ octet. nat_le 0x80 octet) octets.now + 15 }
 {
     let mut at = 0;
     let lanes = octets.len().saturating_sub(15);

@@ -2,6 +2,7 @@
 ghost use Rattle.std.specs.Prelude.{◌≡◌, Some, nat_eq};
 ghost use Rattle.std.specs.Cmp.{partial_order_from_own_ties};
 ghost use Rattle.std.specs.Cmp.Lexicographic.{pointwise, slice_cmp};
+ghost use Rattle.std.specs.Fmt.{debug_str, styled_text};
 ghost use Rattle.std.specs.Cmp.Rules.{comparing, hashing};
 ghost use Rattle.std.specs.Hash as fed;
 ghost use Rattle.std.specs.Ordering.{nat_cmp, on, as_partial_cmp};
@@ -64,16 +65,21 @@ impl<Octets: AsOctets> Hash for Str<Octets> {
     }
 }
 
-/// Prints the text.
+/// Prints the text. A width, a fill and a precision go by characters, as for a `str`.
 impl<Octets: AsOctets> fmt::Display for Str<Octets> {
     ghost output = { λ text. Some (Octets.content text) };
+
+    ghost styled_output = { λ text options. Some (styled_text options (Octets.content text)) };
 
     fn fmt<W: fmt::Write>(&self, f: &mut fmt::Formatter<W>) -> fmt::Result {
         f.pad(self.as_str())
     }
 }
 
+/// Prints the text in quotes, with escapes, as for a `str`.
 impl<Octets: AsOctets> fmt::Debug for Str<Octets> {
+    ghost debug_output = { λ text. debug_str (Octets.content text) };
+
     fn fmt<W: fmt::Write>(&self, f: &mut fmt::Formatter<W>) -> fmt::Result {
         fmt::Debug::fmt(self.as_str(), f)
     }
@@ -128,17 +134,22 @@ impl<Octets: AsOctets> Hash for StrBuilder<Octets> {
     }
 }
 
-/// Prints the text.
+/// Prints the text. A width, a fill and a precision go by characters, as for a `str`.
 impl<Octets: AsOctets> fmt::Display for StrBuilder<Octets> {
     ghost output = { λ text. Some (Octets.content text) };
+
+    ghost styled_output = { λ text options. Some (styled_text options (Octets.content text)) };
 
     fn fmt<W: fmt::Write>(&self, f: &mut fmt::Formatter<W>) -> fmt::Result {
         fmt::Display::fmt(&self.as_text(), f)
     }
 }
 
+/// Prints the text in quotes, with escapes, as for a `str`.
 impl<Octets: AsOctets> fmt::Debug for StrBuilder<Octets> {
+    ghost debug_output = { λ text. debug_str (Octets.content text) };
+
     fn fmt<W: fmt::Write>(&self, f: &mut fmt::Formatter<W>) -> fmt::Result {
-        fmt::Debug::fmt(self.as_str(), f)
+        fmt::Debug::fmt(&self.as_text(), f)
     }
 }

@@ -17,6 +17,8 @@ pub(super) fn last_encoding(octets: &[u8], turns: &mut Turns) -> Option<(char, u
     ensures read { octets.now ≢ [] → turns.old < turns.new }
     ensures kept { turns.old ≤ turns.new }
     ensures turns { turns.new ≤ turns.old + 4 }
+    ensures exact { IfSome result (λ last. turns.new ≡ turns.old + last.1) }
+    ensures nothing { IfNone result (turns.new ≡ turns.old) }
 {
     let len = octets.len();
     if len == 0 {
@@ -58,6 +60,10 @@ pub fn last_char(octets: &[u8], turns: &mut Turns) -> Option<char>
     ensures read { octets.now ≢ [] → turns.old < turns.new }
     ensures kept { turns.old ≤ turns.new }
     ensures turns { turns.new ≤ turns.old + 4 }
+
+    // As many turns as the character has octets, and none where there is no character.
+    ensures exact { IfSome result (λ c. turns.new ≡ turns.old + length (encoding_of c)) }
+    ensures nothing { IfNone result (turns.new ≡ turns.old) }
 {
     let (last, _) = last_encoding(octets, turns)?;
     Some(last)
@@ -73,6 +79,9 @@ pub fn boundary(octets: &[u8], place: usize, turns: &mut Turns) -> bool
     ensures read { place < length octets.now → turns.old < turns.new }
     ensures kept { turns.old ≤ turns.new }
     ensures turns { turns.new ≤ turns.old + 1 }
+
+    // At the length and past it there is no octet to read.
+    ensures nothing { length octets.now ≤ place → turns.new ≡ turns.old }
 {
     match octets.get(place) {
         Some(&octet) => {

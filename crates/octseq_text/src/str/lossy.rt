@@ -49,6 +49,8 @@ impl<Octets: AsOctets> StrBuilder<Octets> {
         ensures other { ¬ IsWellFormed (Octets.content octets)
             → IfOk result (λ made. Octets.content made ≢ Octets.content octets) }
         ensures longer { IfOk result (λ made. length (Octets.content octets) ≤ length (Octets.content made)) }
+        ensures no_shorter { (parts : List Part) → Splits (Octets.content octets) parts
+            → length (Octets.content octets) ≤ length (text parts) }
     {
         StrBuilder::try_from_utf8_lossy_counted(alloc, octets, &mut Turns::new())
     }
@@ -91,12 +93,15 @@ impl<Octets: AsOctets> StrBuilder<Octets> {
         ensures passed { OnOk result (length (Octets.content octets) + 16 * turns.old ≤ 16 * turns.new) }
         ensures kept { turns.old ≤ turns.new }
 
-        // A second reading changes nothing, and a first one changes all that isn't well formed.
+        // A second reading changes nothing, and a first one changes all that isn't well formed. The text is no
+        // shorter than its source, also where it is refused.
         ensures again { IfOk result (λ made. (parts : List Part)
             → Splits (Octets.content made) parts → text parts ≡ Octets.content made) }
         ensures other { ¬ IsWellFormed (Octets.content octets)
             → IfOk result (λ made. Octets.content made ≢ Octets.content octets) }
         ensures longer { IfOk result (λ made. length (Octets.content octets) ≤ length (Octets.content made)) }
+        ensures no_shorter { (parts : List Part) → Splits (Octets.content octets) parts
+            → length (Octets.content octets) ≤ length (text parts) }
     {
         StrBuilder::try_from_utf8_lossy_with_counted(
             alloc,
@@ -128,6 +133,8 @@ impl<Octets: AsOctets> StrBuilder<Octets> {
         ensures other { ¬ IsWellFormed (Octets.content octets)
             → IfOk result (λ made. Octets.content made ≢ Octets.content octets) }
         ensures longer { IfOk result (λ made. length (Octets.content octets) ≤ length (Octets.content made)) }
+        ensures no_shorter { (parts : List Part) → Splits (Octets.content octets) parts
+            → length (Octets.content octets) ≤ length (text parts) }
     {
         match StrBuilder::try_from_utf8_lossy(alloc, octets) {
             Ok(text) => Ok(text),
@@ -166,6 +173,9 @@ impl<Octets: AsOctets> StrBuilder<Octets> {
 
         ensures again { IfOk result (λ made. (w : ℕ) (parts : List Part)
             → Splits (Octets.content made) parts → text_with w parts ≡ Octets.content made) }
+        ensures no_shorter { 3 ≤ length (encoding_of replacement)
+            → (parts : List Part) → Splits (Octets.content octets) parts
+            → length (Octets.content octets) ≤ length (text_with replacement parts) }
     {
         StrBuilder::try_from_utf8_lossy_with_counted(alloc, octets, replacement, &mut Turns::new())
     }
@@ -209,9 +219,13 @@ impl<Octets: AsOctets> StrBuilder<Octets> {
         ensures passed { OnOk result (length (Octets.content octets) + 16 * turns.old ≤ 16 * turns.new) }
         ensures kept { turns.old ≤ turns.new }
 
-        // A second reading changes nothing, with any character as the replacement.
+        // A second reading changes nothing, with any character as the replacement. With one of three octets or
+        // more the text is no shorter than its source, also where it is refused.
         ensures again { IfOk result (λ made. (w : ℕ) (parts : List Part)
             → Splits (Octets.content made) parts → text_with w parts ≡ Octets.content made) }
+        ensures no_shorter { 3 ≤ length (encoding_of replacement)
+            → (parts : List Part) → Splits (Octets.content octets) parts
+            → length (Octets.content octets) ≤ length (text_with replacement parts) }
     {
         read_with(alloc, octets, replacement, turns)
     }

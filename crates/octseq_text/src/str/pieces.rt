@@ -1,5 +1,5 @@
 //! The lossy reading of octets that come in pieces.
-ghost use Rattle.std.specs.Prelude.{◌≡◌, ◌≢◌, ℕ, ◌+◌, ◌<◌, ◌≤◌, ◌↔◌, true, Some, List, [], ◌∷◌, ◌++◌, length, IsErr, IfOk, IfErr, IfSome, IfNone, OnOk, OnErr};
+ghost use Rattle.std.specs.Prelude.{◌≡◌, ◌≢◌, ℕ, ◌+◌, ◌*◌, ◌<◌, ◌≤◌, ◌↔◌, true, Some, List, [], ◌∷◌, ◌++◌, length, IsErr, IfOk, IfErr, IfSome, IfNone, OnOk, OnErr};
 ghost use Rattle.octseq_core.specs.Limit.{IsWithin, IsPast};
 ghost use Rattle.octseq_core.specs.Refusal.{IsShort, IsMemory};
 ghost use Rattle.octseq_core.specs.declared.builder.AppendError.{AppendError};
@@ -70,7 +70,6 @@ impl<B: EmptyBuilder> LossyPieces<B> {
     ///
     /// `Short` where the text of what is settled passes the limit of the type, `Memory` where a request
     /// for memory was refused. Every later call answers that refusal again.
-    #[tactic(auto, using(crate::proofs::Settling::one_settling, crate::proofs::Settling::settling))]
     pub fn feed(&mut self, piece: &[u8]) -> Result<(), AppendError>
         // Octets have exactly one list of settled parts, and one open end.
         ensures one_settling { (octets end last : List ℕ) (settled others : List Part)
@@ -98,11 +97,57 @@ impl<B: EmptyBuilder> LossyPieces<B> {
         ensures again { (refusal : AppendError)
             → self.old.refusal ≡ Some refusal → result ≡ Err refusal }
     {
+        self.feed_counted(piece, &mut Turns::new())
+    }
+
+    /// As [`LossyPieces::feed`], and counts the turns of the search: at most one for each octet of the piece,
+    /// and one more where one of them shows what was held to be no character.
+    ///
+    /// # Errors
+    ///
+    /// `Short` where the text of what is settled passes the limit of the type, `Memory` where a request
+    /// for memory was refused. Every later call answers that refusal again.
+    #[tactic(auto, using(crate::proofs::Settling::one_settling, crate::proofs::Settling::settling))]
+    pub fn feed_counted(&mut self, piece: &[u8], turns: &mut Turns) -> Result<(), AppendError>
+        // Octets have exactly one list of settled parts, and one open end.
+        ensures one_settling { (octets end last : List ℕ) (settled others : List Part)
+            → Settles octets settled end → Settles octets others last
+            → (settled ≡ others) × (end ≡ last) }
+        ensures settling { (octets : List ℕ)
+            → (settled : List Part) × (end : List ℕ) × Settles octets settled end }
+
+        // What stood for octets stands for them and the piece behind them.
+        ensures stands { OnOk result ((octets : List ℕ)
+            → StandsFor self.old octets → StandsFor self.new (octets ++ piece.now)) }
+
+        // It is refused as short exactly where the text of their settled parts passes the limit, memory
+        // aside.
+        ensures short { IsShort result → (octets end : List ℕ) (settled : List Part)
+            → StandsFor self.old octets → Settles (octets ++ piece.now) settled end
+            → IsPast B.limit (length (text settled)) }
+        ensures past { (octets end : List ℕ) (settled : List Part)
+            → StandsFor self.old octets → Settles (octets ++ piece.now) settled end
+            → IsPast B.limit (length (text settled)) → IsErr result }
+        ensures memory { IsMemory result → B.asks ≡ true }
+
+        // A refusal is kept, and is the answer from then on.
+        ensures kept { IfErr result (λ refusal. self.new.refusal ≡ Some refusal) }
+        ensures again { (refusal : AppendError)
+            → self.old.refusal ≡ Some refusal → result ≡ Err refusal }
+
+        // No more turns than octets and one, whatever the answer, and a turn for every sixteen octets that
+        // were read; none behind a refusal.
+        ensures turns { turns.new ≤ turns.old + length piece.now + 1 }
+        ensures passed { OnOk result (length piece.now + 16 * turns.old ≤ 16 * turns.new) }
+        ensures turns_kept { turns.old ≤ turns.new }
+        ensures nothing { (refusal : AppendError)
+            → self.old.refusal ≡ Some refusal → turns.new ≡ turns.old }
+    {
         if let Some(refusal) = &self.refusal {
             return Err(same(refusal));
         }
         let end = replace(&mut self.end, Array::new());
-        match read(&mut self.text, end, piece) {
+        match read(&mut self.text, end, piece, turns) {
             Ok(end) => {
                 self.end = end;
                 Ok(())
@@ -120,7 +165,6 @@ impl<B: EmptyBuilder> LossyPieces<B> {
     ///
     /// `Short` where the text passes the limit of the type, `Memory` where a request for memory was
     /// refused. Where a piece was refused, that refusal.
-    #[tactic(auto, using(octseq_utf8::proofs::Splitting::one_splitting, crate::proofs::Settling::splitting))]
     pub fn finish(self) -> Result<StrBuilder<B>, AppendError>
         // Exactly one list of parts splits octets.
         ensures one_splitting { (octets : List ℕ) (parts others : List Part)
@@ -142,6 +186,41 @@ impl<B: EmptyBuilder> LossyPieces<B> {
 
         // A refusal that was met is the answer.
         ensures again { (refusal : AppendError) → self.refusal ≡ Some refusal → result ≡ Err refusal }
+    {
+        self.finish_counted(&mut Turns::new())
+    }
+
+    /// As [`LossyPieces::finish`], and counts the turns of the search: there are none, as no octet is looked
+    /// at again.
+    ///
+    /// # Errors
+    ///
+    /// `Short` where the text passes the limit of the type, `Memory` where a request for memory was
+    /// refused. Where a piece was refused, that refusal.
+    #[tactic(auto, using(octseq_utf8::proofs::Splitting::one_splitting, crate::proofs::Settling::splitting))]
+    pub fn finish_counted(self, turns: &mut Turns) -> Result<StrBuilder<B>, AppendError>
+        // Exactly one list of parts splits octets.
+        ensures one_splitting { (octets : List ℕ) (parts others : List Part)
+            → Splits octets parts → Splits octets others → parts ≡ others }
+        ensures splitting { (octets : List ℕ) → (parts : List Part) × Splits octets parts }
+
+        // The answer is the text of all parts of what it stands for.
+        ensures text { IfOk result (λ made. (octets : List ℕ) (parts : List Part)
+            → StandsFor self octets → Splits octets parts → B.content made ≡ text parts) }
+        ensures well_formed { IfOk result (λ made. IsWellFormed (B.content made)) }
+
+        // It is refused as short exactly where that text passes the limit, memory aside.
+        ensures short { IsShort result → (octets : List ℕ) (parts : List Part)
+            → StandsFor self octets → Splits octets parts → IsPast B.limit (length (text parts)) }
+        ensures past { (octets : List ℕ) (parts : List Part)
+            → StandsFor self octets → Splits octets parts
+            → IsPast B.limit (length (text parts)) → IsErr result }
+        ensures memory { IsMemory result → B.asks ≡ true }
+
+        // A refusal that was met is the answer.
+        ensures again { (refusal : AppendError) → self.refusal ≡ Some refusal → result ≡ Err refusal }
+
+        ensures turns { turns.new ≡ turns.old }
     {
         let LossyPieces {
             mut text,
@@ -171,6 +250,7 @@ fn read<B: OctetsBuilder>(
     text: &mut B,
     end: Array<4>,
     piece: &[u8],
+    turns: &mut Turns,
 ) -> Result<Array<4>, AppendError>
     requires open_end { IsOpenEnd end.content }
     requires within { IsWithin B.limit (length (B.content text.old)) }
@@ -180,13 +260,16 @@ fn read<B: OctetsBuilder>(
     ensures within { OnOk result (IsWithin B.limit (length (B.content text.new))) }
     ensures short { IsShort result → IsTooLong B.limit (end.content ++ piece.now) (B.content text.old) }
     ensures memory { IsMemory result → B.asks ≡ true }
+    ensures turns { turns.new ≤ turns.old + length piece.now + 1 }
+    ensures passed { OnOk result (length piece.now + 16 * turns.old ≤ 16 * turns.new) }
+    ensures kept { turns.old ≤ turns.new }
 {
     if end.as_slice().is_empty() {
-        return settle(text, piece);
+        return settle(text, piece, turns);
     }
     let mut begun = end;
-    match close(text, &mut begun, piece)? {
-        Some(rest) => settle(text, rest),
+    match close(text, &mut begun, piece, turns)? {
+        Some(rest) => settle(text, rest, turns),
         None => Ok(begun),
     }
 }
@@ -197,6 +280,7 @@ fn close<'a, B: OctetsBuilder>(
     text: &mut B,
     begun: &mut Array<4>,
     piece: &'a [u8],
+    turns: &mut Turns,
 ) -> Result<Option<&'a [u8]>, AppendError>
     requires { IsBeginning begun.old.content }
     ensures closed { IfOk result (λ left. IfSome left (λ rest.
@@ -206,10 +290,17 @@ fn close<'a, B: OctetsBuilder>(
     ensures text { IfOk result (λ left. IfNone left (B.content text.new ≡ B.content text.old)) }
     ensures short { IsShort result → IsTooLong B.limit (begun.old.content ++ piece.now) (B.content text.old) }
     ensures memory { IsMemory result → B.asks ≡ true }
+    ensures turns { turns.new ≤ turns.old + length piece.now }
+    ensures turns_closed { IfOk result (λ left. IfSome left (λ rest.
+        turns.new + length rest.now ≤ turns.old + length piece.now + 1)) }
+    ensures passed { IfOk result (λ left. IfNone left (length piece.now + 16 * turns.old ≤ 16 * turns.new)) }
+    ensures passed_closed { IfOk result (λ left. IfSome left (λ rest.
+        length piece.now + 16 * turns.old ≤ 16 * turns.new + length rest.now)) }
+    ensures kept { turns.old ≤ turns.new }
 {
     for (at, octet) in piece.iter().enumerate() {
         push(begun, *octet);
-        match first_fault(begun.as_slice(), &mut Turns::new()) {
+        match first_fault(begun.as_slice(), turns) {
             None => {
                 text.append_slice(begun.as_slice())?;
                 return Ok(Some(&piece[at + 1..]));
@@ -226,16 +317,23 @@ fn close<'a, B: OctetsBuilder>(
 }
 
 /// Appends the text of the settled parts of the octets, and answers the open end.
-fn settle<B: OctetsBuilder>(text: &mut B, octets: &[u8]) -> Result<Array<4>, AppendError>
+fn settle<B: OctetsBuilder>(
+    text: &mut B,
+    octets: &[u8],
+    turns: &mut Turns,
+) -> Result<Array<4>, AppendError>
     ensures read { IfOk result (λ left.
         IsRead octets.now left.content (B.content text.old) (B.content text.new)) }
     ensures open_end { IfOk result (λ left. IsOpenEnd left.content) }
     ensures within { OnOk result (IsWithin B.limit (length (B.content text.new))) }
     ensures short { IsShort result → IsTooLong B.limit octets.now (B.content text.old) }
     ensures memory { IsMemory result → B.asks ≡ true }
+    ensures turns { turns.new ≤ turns.old + length octets.now }
+    ensures passed { OnOk result (length octets.now + 16 * turns.old ≤ 16 * turns.new) }
+    ensures kept { turns.old ≤ turns.new }
 {
     let mut rest = octets;
-    while let Some(fault) = first_fault(rest, &mut Turns::new()) {
+    while let Some(fault) = first_fault(rest, turns) {
         text.append_slice(before(rest, &fault))?;
         if fault.error_len().is_none() {
             return Ok(open_end(onward(rest, &fault)));

@@ -18,3 +18,6 @@ returns-clause-longer g c =
     let x = g.Octets.AsOctets.content c.args.octets in
     IfOk-weaker call.result (λ made. (parts : List Part) → Splits x parts → g.Octets.AsOctets.content made ≡ text_with 0xFFFD parts) _
     (λ made text. rw (text (parts_of x) (splits x)) (text_long (splits x))) call.ensures.text
+
+pub returns-clause-no_shorter : goal.returns-clause-no_shorter
+returns-clause-no_shorter g c = λ parts s. text_long s

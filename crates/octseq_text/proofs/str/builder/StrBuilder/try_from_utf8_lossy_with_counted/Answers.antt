@@ -4,7 +4,7 @@ use Rattle.octseq_core.specs.Limit.{IsPast}
 use Rattle.octseq_utf8.specs.Parts.{text_with}
 use Rattle.octseq_utf8.specs.Reading.{parts_of}
 use Rattle.octseq_utf8.proofs.Bridge.{from_scalar}
-use Rattle.octseq_utf8.proofs.LossyTexts.{text_well_formed, text_same}
+use Rattle.octseq_utf8.proofs.LossyTexts.{text_well_formed, text_same, text_with_long}
 use Rattle.octseq_utf8.proofs.Splitting.{splits, only_parts, one_splitting}
 use Rattle.octseq_text.proofs.str.builder.StrBuilder.try_from_utf8_lossy_with_counted.Goals as goal
 
@@ -37,3 +37,6 @@ returns-clause-again g c =
     let good = text_well_formed w (from_scalar w c.ranges.replacement.0) (splits x) in
     IfOk-weaker c.read_with.result (λ made. g.Octets.AsOctets.content made ≡ text_with w (parts_of x)) _
     (λ made e other parts s. text_same other (g.Octets.AsOctets.content made) parts (rw e good) s) c.read_with.ensures.text
+
+pub returns-clause-no_shorter : goal.returns-clause-no_shorter
+returns-clause-no_shorter g c = λ three parts s. text_with_long c.args.replacement three s

@@ -3,7 +3,7 @@ use Rattle.std.proofs.lemmas.Result.{err_from_is_err_and}
 use Rattle.octseq_core.specs.Limit.{IsPast}
 use Rattle.octseq_text.proofs.Piecewise.{finish_text, finish_well_formed, finish_too_long}
 use Rattle.octseq_core.proofs.Limits.{within_not_past}
-use Rattle.octseq_text.proofs.str.pieces.LossyPieces.finish.Goals as goal
+use Rattle.octseq_text.proofs.str.pieces.LossyPieces.finish_counted.Goals as goal
 
 pub returns-in_err-append_end-clause-short : goal.returns-in_err-append_end-clause-short
 returns-in_err-append_end-clause-short g c =

@@ -2,7 +2,7 @@ use Rattle.std.proofs.Common.{◌++◌, length, sym, subst}
 use Rattle.octseq_core.specs.Limit.{IsPast}
 use Rattle.octseq_text.proofs.Piecewise.{feed_stands, feed_text, feed_too_long, sound_standing}
 use Rattle.octseq_core.proofs.Limits.{within_not_past}
-use Rattle.octseq_text.proofs.str.pieces.LossyPieces.feed.Goals as goal
+use Rattle.octseq_text.proofs.str.pieces.LossyPieces.feed_counted.Goals as goal
 
 pub invariant_of-self : goal.invariant_of-self
 invariant_of-self g c =

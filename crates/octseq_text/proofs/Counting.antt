@@ -1,0 +1,75 @@
+-- The turns of a reading in pieces.
+use Rattle.std.specs.Prelude.{unwrap_or}
+use Rattle.std.proofs.Common.{◌≡◌, ℕ, ◌+◌, ◌-◌, ◌≤◌, List, [], ◌∷◌, ◌++◌, length, take, drop, arith, ap, sym, subst, ◌∙◌, length-append, length-drop, None}
+use Rattle.std.proofs.lemmas.List.{length-map}
+use Rattle.std.specs.List.{concat, AllByRecursion}
+use Rattle.octseq_utf8.specs.Encoding.{IsEncoding, number_of}
+use Rattle.octseq_utf8.specs.Fault.{Fault, IsFault, fault_end}
+use Rattle.octseq_utf8.specs.Parts.{IsBeginning}
+use Rattle.octseq_utf8.specs.Reading.{width_of, width}
+use Rattle.octseq_utf8.specs.Text.{IsWellFormed, chars}
+use Rattle.octseq_utf8.proofs.Beginnings.{beginning_fits, beginning_short}
+use Rattle.octseq_utf8.proofs.Fits.{get_left}
+use Rattle.octseq_utf8.proofs.Mixed.{spelled_few}
+use Rattle.octseq_utf8.proofs.Rows.{length_of}
+use Rattle.octseq_utf8.proofs.Spelling.{chars_of}
+use Rattle.octseq_utf8.proofs.Splitting.{encoding_fitting}
+use Rattle.octseq_text.proofs.Piecewise.{none_before}
+use Rattle.octseq_text.proofs.Replacing.{end_bounds, front_is}
+
+-- there are no more characters than octets
+pub chars_few : (x : List ℕ) → IsWellFormed x → length (chars x) ≤ length x
+chars_few x (cs, s) = omega (arith, spelled_few s, ap length (chars_of s))
+
+-- nor more turns to a fault than octets to its end
+pub turns_few : (x : List ℕ) (fault : Fault) → IsFault x fault → (length (chars (take fault.place x)) + 1 ≤ fault_end x fault) × (fault_end x fault ≤ length x)
+turns_few x fault f =
+    let bounds = end_bounds x fault f in
+    let here = f.place in
+    let few = spelled_few f.good.1 in
+    let same : chars (take fault.place x) ≡ f.good.0 = ap chars (front_is x fault f) ∙ chars_of f.good.1 in
+    (omega (arith, ap length same), omega arith)
+
+-- a fault that reaches the end
+pub open_end_is : (x : List ℕ) (fault : Fault) → IsFault x fault → fault.size ≡ None → fault_end x fault ≡ length x
+open_end_is x fault f none =
+    let bounds = end_bounds x fault f in
+    let e = ap (λ size. fault.place + unwrap_or size (length x - fault.place)) none in
+    omega arith
+
+-- Of n octets a rest is left, and there were no more turns than octets before it: so it is behind the fault of the rest, and behind its end.
+
+module _ (n : ℕ) (rest : List ℕ) (old mid now : ℕ) (few : mid + length rest ≤ old + n) where
+  pub counted_fault : (fault : Fault) → IsFault rest fault → now ≤ mid + length (chars (take fault.place rest)) + 1 → now + length (drop (fault_end rest fault) rest) ≤ old + n
+  counted_fault fault f turns = let most = turns_few rest fault f in omega (arith, length-drop (fault_end rest fault) rest)
+
+  pub counted_last : IsWellFormed rest → now ≤ mid + length (chars rest) → now ≤ old + n
+  counted_last w turns = let most = chars_few rest w in omega arith
+
+-- A beginning with one octet behind it has one turn.
+
+module _ (b : List ℕ) (o : ℕ) (begins : IsBeginning b) where
+  one_encoding : (es : List (List ℕ)) → AllByRecursion IsEncoding es → concat es ≡ b ++ o ∷ [] → length es ≤ 1
+  one_encoding [] a e = omega arith
+  one_encoding (c ∷ []) a e = omega arith
+  one_encoding (c ∷ d ∷ es) a e =
+      let first = encoding_fitting a.0 (d ++ concat es) in
+      let wide : width (b ++ o ∷ []) ≡ length c = ap width (sym e) ∙ first.1 in
+      let some = (beginning_fits begins).some in
+      let lead : width (b ++ o ∷ []) ≡ width b = ap width_of (get_left b (o ∷ []) 0 some) in
+      let short = beginning_short begins in
+      let more = length_of a.1.0 in
+      absurd (omega (arith, ap length e, length-append b (o ∷ []), length-append c (d ++ concat es), length-append d (concat es)))
+
+pub one_character : (b seen : List ℕ) (o : ℕ) → IsBeginning b → seen ≡ b ++ o ∷ [] → IsWellFormed seen → length (chars seen) ≤ 1
+one_character b seen o begins e (cs, s) =
+    let few = one_encoding b o begins s.encodings s.each (s.joined ∙ e) in
+    omega (arith, ap length (chars_of s), ap length s.numbers, length-map s.encodings number_of)
+
+pub none_before_fault : (b seen : List ℕ) (o : ℕ) → IsBeginning b → seen ≡ b ++ o ∷ [] → (fault : Fault) → IsFault seen fault → length (chars (take fault.place seen)) ≡ 0
+none_before_fault b seen o begins e fault f =
+    let at = subst (λ y. IsFault y fault) e f in
+    let none = none_before b o begins fault at at.good.1.encodings at.good.1.each at.good.1.joined in
+    let few = spelled_few at.good.1 in
+    let same : chars (take fault.place seen) ≡ at.good.0 = ap (λ y. chars (take fault.place y)) e ∙ ap chars (front_is (b ++ o ∷ []) fault at) ∙ chars_of at.good.1 in
+    omega (arith, ap length same, ap length none)
