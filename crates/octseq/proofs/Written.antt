@@ -236,7 +236,7 @@ are_signed_le k z fits =
 
 -- ---- the widths that integers have
 
-is_signed_1 : (z : ℤ) → FitsSigned w8 z → IsSigned 1 z
+pub is_signed_1 : (z : ℤ) → FitsSigned w8 z → IsSigned 1 z
 is_signed_1 (pos n) fits = grind (arith, ints)
 is_signed_1 (negsuc n) fits = grind (arith, ints)
 
@@ -245,7 +245,7 @@ unfolding unsigned
 cast_1 (pos n) fits = grind (arith, ints)
 cast_1 (negsuc n) fits = grind (arith, ints)
 
-is_signed_2 : (z : ℤ) → FitsSigned w16 z → IsSigned 2 z
+pub is_signed_2 : (z : ℤ) → FitsSigned w16 z → IsSigned 2 z
 is_signed_2 (pos n) fits = grind (arith, ints)
 is_signed_2 (negsuc n) fits = grind (arith, ints)
 
@@ -254,7 +254,7 @@ unfolding unsigned
 cast_2 (pos n) fits = grind (arith, ints)
 cast_2 (negsuc n) fits = grind (arith, ints)
 
-is_signed_4 : (z : ℤ) → FitsSigned w32 z → IsSigned 4 z
+pub is_signed_4 : (z : ℤ) → FitsSigned w32 z → IsSigned 4 z
 is_signed_4 (pos n) fits = grind (arith, ints)
 is_signed_4 (negsuc n) fits = grind (arith, ints)
 
@@ -263,7 +263,7 @@ unfolding unsigned
 cast_4 (pos n) fits = grind (arith, ints)
 cast_4 (negsuc n) fits = grind (arith, ints)
 
-is_signed_8 : (z : ℤ) → FitsSigned w64 z → IsSigned 8 z
+pub is_signed_8 : (z : ℤ) → FitsSigned w64 z → IsSigned 8 z
 is_signed_8 (pos n) fits = grind (arith, ints)
 is_signed_8 (negsuc n) fits = grind (arith, ints)
 
@@ -272,7 +272,7 @@ unfolding unsigned
 cast_8 (pos n) fits = grind (arith, ints)
 cast_8 (negsuc n) fits = grind (arith, ints)
 
-is_signed_16 : (z : ℤ) → FitsSigned w128 z → IsSigned 16 z
+pub is_signed_16 : (z : ℤ) → FitsSigned w128 z → IsSigned 16 z
 is_signed_16 (pos n) fits = grind (arith, ints)
 is_signed_16 (negsuc n) fits = grind (arith, ints)
 

@@ -1,3 +1,4 @@
 pub mod Feeding
 pub mod OneAnswer
 pub mod Records
+pub mod Writing

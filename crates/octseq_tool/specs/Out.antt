@@ -4,7 +4,7 @@ use Rattle.std.specs.Fmt.{decimal}
 use Rattle.std.specs.Io.KnownBytes.{Appends}
 use Rattle.std.specs.List.{flat_map}
 use Rattle.octseq_text.specs.Fault.{Fault, IsFault, fault_text}
-use Rattle.octseq_text.specs.Parts.{Part, Splits, text}
+use Rattle.octseq_text.specs.Parts.{Part, Splits, IsFront, text}
 use Rattle.octseq_text.specs.Text.{IsWellFormed}
 use Rattle.octseq_tool.specs.declared.engine.Command.{Command}
 use Rattle.octseq_tool.specs.declared.engine.Command.TheVariants.{Check, Lossy, Lossy64, Records}
@@ -76,6 +76,19 @@ pub record Ran (word : List ℕ) (given before after : Option (List ℕ)) (statu
   pub whole : IfSome given (λ octets. input ≡ octets)
   pub answered : Out command input output status
   pub written : Appends before after output
+
+-- A run that ended with a failed write: what went out is a front of what the whole run writes.
+pub record Broke (word : List ℕ) (given before after : Option (List ℕ)) : Type 0 where
+  pub command : Option Command
+  pub input : List ℕ
+  pub output : List ℕ
+  pub status : Status
+  pub front : List ℕ
+  pub named : IsNamed word command
+  pub whole : IfSome given (λ octets. input ≡ octets)
+  pub answered : Out command input output status
+  pub begins : IsFront front output
+  pub written : Appends before after front
 
 -- the number that the process ends with
 abbrev pub status_of : Result Status ToolFault → ℕ

@@ -1,11 +1,12 @@
 //! The program over any reader and any writer.
-ghost use Rattle.std.specs.Prelude.{◌≡◌, ◌≢◌, ℕ, ◌<◌, ◌∷◌, ◌++◌, [], length, codes, Some, List, Option, IsFalse, IfOk, IfErr, IfSome, OnOk, OnErr};
+ghost use Rattle.std.specs.Prelude.{◌≡◌, ◌≢◌, ℕ, ◌<◌, ◌≤◌, ◌∷◌, ◌++◌, [], length, map, take, codes, string_bytes, Some, List, Option, IsFalse, IfOk, IfErr, IfSome, OnOk, OnErr};
 ghost use Rattle.std.specs.Io.KnownBytes.{Appends, Consumes, IsAtEnd};
 ghost use Rattle.std.specs.IoError.{error_kind};
 ghost use Rattle.octseq.specs.Parser.{window};
 ghost use Rattle.octseq.specs.Window.{left, rest};
+ghost use Rattle.octseq_text.specs.Parts.{IsFront};
 ghost use Rattle.octseq_text.specs.Pieces.{StandsFor};
-ghost use Rattle.octseq_tool.specs.Out.{IsNamed, IsCommand, HasText, IsCut, Out, Answers, Ran};
+ghost use Rattle.octseq_tool.specs.Out.{IsNamed, IsCommand, HasText, IsCut, Out, Answers, Ran, Broke};
 ghost use Rattle.octseq_tool.specs.declared.engine.Command.{Command};
 ghost use Rattle.octseq_tool.specs.declared.engine.Command.TheVariants.{Check, Lossy, Lossy64, Records};
 ghost use Rattle.octseq_tool.specs.declared.engine.Status.{Status};
@@ -91,6 +92,20 @@ pub fn one_answer()
 {
     utf8::one_fault();
     utf8::one_splitting();
+}
+
+/// The word for the command, of the program's arguments, of which the first is its own name: the one argument behind
+/// that, or `check` where there is none. Where there are more, it is a word that names no command.
+pub fn command_word(args: &[String]) -> &str
+    ensures none { length args.now ≤ 1 → result.now ≡ codes "check" }
+    ensures one { (name word : List ℕ) → map string_bytes args.now ≡ name ∷ word ∷ [] → result.now ≡ word }
+    ensures more { 2 < length args.now → ¬ IsCommand result.now }
+{
+    match args {
+        [] | [_] => "check",
+        [_, word] => word.as_str(),
+        _ => "",
+    }
 }
 
 /// The command of this name.
@@ -314,15 +329,37 @@ fn read_all<R: Read>(alloc: Global, reader: &mut R) -> Result<Vec<u8>, ToolFault
     }
 }
 
-/// Writes all of the output, through any buffer of the writer's own.
+/// Writes all of the output, through any buffer of the writer's own. What it wrote before a failure stays.
 fn write_all<W: Write>(writer: &mut W, output: &[u8]) -> Result<(), ToolFault>
     ensures ok { OnOk result (Appends (W.contents writer.old) (W.contents writer.new) output.now) }
     ensures err { IfErr result (λ fault. fault ≡ ToolFault.Write) }
+    ensures front { (front : List ℕ) × IsFront front output.now
+        × Appends (W.contents writer.old) (W.contents writer.new) front }
 {
-    if writer.write_all(output).is_err() || writer.flush().is_err() {
-        return Err(ToolFault::Write);
+    let mut rest = output;
+    for _ in 0..u64::MAX {
+        if rest.is_empty() {
+            return writer.flush().map_err(|_| ToolFault::Write);
+        }
+        let count = write_next(writer, rest)?;
+        rest = &rest[count..];
     }
-    Ok(())
+    Err(ToolFault::Write)
+}
+
+/// How many of the octets one write took, none where it was interrupted.
+fn write_next<W: Write>(writer: &mut W, octets: &[u8]) -> Result<usize, ToolFault>
+    ensures ok { IfOk result (λ count. (count ≤ length octets.now)
+        × Appends (W.contents writer.old) (W.contents writer.new) (take count octets.now)) }
+    ensures kept { OnErr result (Appends (W.contents writer.old) (W.contents writer.new) []) }
+    ensures err { IfErr result (λ fault. fault ≡ ToolFault.Write) }
+{
+    match writer.write(octets) {
+        Ok(0) => Err(ToolFault::Write),
+        Ok(count) => Ok(count),
+        Err(e) if e.kind() == ErrorKind::Interrupted => Ok(0),
+        Err(_) => Err(ToolFault::Write),
+    }
 }
 
 /// Reads the whole input, does what the command says, and writes the answer to it.
@@ -342,6 +379,8 @@ pub fn engine<R: Read, W: Write>(
 
     // All of the input is read, and all of the output made, before the first write.
     ensures write { result ≡ Err ToolFault.Write → IsCommand command.now → IsAtEnd (R.remaining reader.new) }
+    ensures front { result ≡ Err ToolFault.Write
+        → Broke command.now (R.remaining reader.old) (W.contents writer.old) (W.contents writer.new) }
     ensures read { result ≡ Err ToolFault.Read → writer.new ≡ writer.old }
     ensures memory { result ≡ Err ToolFault.Memory → writer.new ≡ writer.old }
 {

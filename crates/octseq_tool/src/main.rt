@@ -12,7 +12,8 @@ ghost use Rattle.octseq_tool.specs.Out.{Ran, status_of};
 ghost use Rattle.octseq_tool.specs.declared.engine.Status.{Status};
 ghost use Rattle.octseq_tool.specs.declared.engine.ToolFault.{ToolFault};
 
-use engine::{Status, ToolFault, engine};
+use engine::{Status, ToolFault, command_word, engine};
+use std::alloc::AllocError;
 use std::process::ExitCode;
 use std::{env, io};
 
@@ -44,10 +45,9 @@ fn main(rt: HostRuntime) -> ExitCode {
     let Ok(args) = env::args(&rt) else {
         return run(&rt, "");
     };
-    let mut words = args.skip(1);
-    match (words.next(), words.next()) {
-        (None, _) => run(&rt, "check"),
-        (Some(word), None) => run(&rt, word.as_str()),
-        (Some(_), Some(_)) => run(&rt, ""),
+    let args: Result<Vec<String>, AllocError> = args.collect(rt.alloc());
+    match args {
+        Ok(args) => run(&rt, command_word(&args)),
+        Err(_) => exit_code(Err(ToolFault::Memory)),
     }
 }

@@ -1,4 +1,5 @@
 pub mod Joined
+pub mod Levels
 pub mod Line
 pub mod Message
 pub mod Name

@@ -2,13 +2,14 @@
 ghost use Rattle.std.specs.Prelude.{◌≡◌, ◌≢◌, ◌≤◌, ◌++◌, ◌↔◌, [], length, take, true, false, IsSome, IfSome, IfOk, OnOk, OnErr};
 ghost use Rattle.octseq_core.specs.Cow.{cow_content, is_borrowed};
 ghost use Rattle.octseq_core.specs.Refusal.{IsShort};
+ghost use Rattle.octseq_text.specs.Fault.{Fault, IsFault};
 ghost use Rattle.octseq_text.specs.Range.{RangeExists, range_of};
 ghost use Rattle.octseq_text.specs.Text.{IsWellFormed};
 ghost use Rattle.octseq_text.specs.declared.octets.Bound.TheVariants.{Included, Excluded};
 
 use octseq::builder::{AppendError, AsOctets, OctetsBuilder};
 use octseq::octets::{Bound, range_exists};
-use octseq::utf8::{Turns, first_fault};
+use octseq::utf8::{Turns, first_fault, one_fault};
 use octseq::{Array, CowOctets, Octets};
 use std::alloc::AllocError;
 
@@ -67,7 +68,9 @@ pub fn text_front(octets: &[u8]) -> &[u8]
     ensures text { IsWellFormed result.now }
     ensures front { result.now ≡ take (length result.now) octets.now }
     ensures whole { IsWellFormed octets.now → result.now ≡ octets.now }
+    ensures cut { (fault : Fault) → IsFault octets.now fault → length result.now ≡ fault.place }
 {
+    one_fault();
     match first_fault(octets, &mut Turns::new()) {
         None => octets,
         Some(fault) => &octets[..fault.valid_up_to()],

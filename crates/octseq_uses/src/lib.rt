@@ -9,6 +9,7 @@ pub mod capped;
 pub mod error;
 pub mod first;
 pub mod join;
+pub mod levels;
 pub mod lines;
 pub mod message;
 pub mod name;

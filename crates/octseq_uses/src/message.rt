@@ -1,6 +1,6 @@
 //! Messages: a header of integers, a name, a text and records.
 ghost use Rattle.std.specs.List.{AllByRecursion};
-ghost use Rattle.std.specs.Prelude.{◌≡◌, ◌≢◌, ℕ, ◌+◌, ◌<◌, ◌++◌, true, List, length, map, take, Err, IsErr, IfOk, OnOk, OnErr};
+ghost use Rattle.std.specs.Prelude.{◌≡◌, ◌≢◌, ℕ, ◌+◌, ◌<◌, ◌++◌, true, List, length, map, take, [], Err, IsErr, IfOk, OnOk, OnErr};
 ghost use Rattle.octseq_core.specs.Limit.{IsPast};
 ghost use Rattle.octseq.specs.Code.{HasFront};
 ghost use Rattle.octseq.specs.Parser.{window};
@@ -62,6 +62,7 @@ fn next_text<R: Octets>(parser: &mut Parser<R>) -> Result<Str<R::Range>, ReadErr
         ≡ part_of 2 (R.Range.content text) ++ rest (window parser.new)) }
     ensures malformed { result ≡ Err ReadError.Malformed
         → ¬ HasFront IsText (part_of 2) (rest (window parser.old)) }
+    ensures memory { result ≡ Err ReadError.Memory → R.Range.asks ≡ true }
 {
     let len = parser.parse_u16_be()?;
     let octets = parser.parse_octets(usize::from(len))?;
@@ -213,12 +214,35 @@ pub fn append_message<B: OctetsBuilder + Truncate, V: AsOctets>(
     appended
 }
 
+/// Writes the message into the builder, in place of what it has.
+///
+/// # Errors
+///
+/// As [`append_message`], `Short` where the message alone would pass the limit. The builder is then empty.
+fn write_message<B: OctetsBuilder + Truncate, V: AsOctets>(
+    builder: &mut B,
+    message: &Message<V>,
+) -> Result<(), WriteError>
+    ensures ok { OnOk result (B.content builder.new ≡ message_of (said_by V.content message.now)) }
+    ensures fits { OnOk result (IsMessage (said_by V.content message.now)) }
+    ensures err { OnErr result (B.content builder.new ≡ []) }
+    ensures malformed { result ≡ Err WriteError.Malformed → ¬ IsMessage (said_by V.content message.now) }
+    ensures short { result ≡ Err WriteError.Short
+        → IsPast B.limit (length (message_of (said_by V.content message.now))) }
+    ensures past { IsPast B.limit (length (message_of (said_by V.content message.now))) → IsErr result }
+    ensures memory { result ≡ Err WriteError.Memory → B.asks ≡ true }
+    ensures borrows { B.borrows builder.new ≡ B.borrows builder.old }
+{
+    builder.truncate(0);
+    append_message(builder, message)
+}
+
 /// Writes the message into the builder, in place of what it has, and reads it back from there.
 ///
 /// # Errors
 ///
-/// As [`append_message`], `Short` where the message alone would pass the limit, and `Memory` also where reading
-/// requested memory.
+/// As [`append_message`], `Short` where the message alone would pass the limit: the builder is then empty.
+/// `Memory` also where reading requested memory: the builder then has the message.
 pub fn written_and_read<'b, B: OctetsBuilder + Truncate, V: AsOctets>(
     alloc: Global,
     builder: &'b mut B,
@@ -231,8 +255,7 @@ pub fn written_and_read<'b, B: OctetsBuilder + Truncate, V: AsOctets>(
     ensures past { IsPast B.limit (length (message_of (said_by V.content message.now))) → IsErr result }
 {
     one_message();
-    builder.truncate(0);
-    append_message(builder, message)?;
+    write_message(builder, message)?;
     match read_message(alloc, B::as_ref(builder)) {
         Ok(read) => Ok(read),
         Err(ReadError::Malformed) => unreachable!(),

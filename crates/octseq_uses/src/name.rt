@@ -41,6 +41,7 @@ fn next_label<R: Octets>(parser: &mut Parser<R>, room: usize) -> Result<Option<R
     ensures root { IfOk result (λ read. IfNone read (rest (window parser.old)
         ≡ part_of 1 [] ++ rest (window parser.new))) }
     ensures malformed { result ≡ Err ReadError.Malformed → ¬ HasNameWithin room (rest (window parser.old)) }
+    ensures memory { result ≡ Err ReadError.Memory → R.Range.asks ≡ true }
     ensures same { sequence parser.new ≡ sequence parser.old }
 {
     let len = usize::from(parser.parse_u8()?);

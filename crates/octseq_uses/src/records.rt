@@ -2,8 +2,8 @@
 ghost use Rattle.std.specs.Prelude.{◌≡◌, ℕ, ◌+◌, ◌<◌, ◌++◌, ◌↔◌, true, length, map, List, Err, IsErr, IfOk, OnOk, OnErr};
 ghost use Rattle.octseq_core.specs.Limit.{IsPast};
 ghost use Rattle.octseq.specs.Composer.{IsPartTooLong, IsPartShort, IsPartMemory};
-ghost use Rattle.octseq.specs.Parser.{window};
-ghost use Rattle.octseq.specs.Window.{left, rest};
+ghost use Rattle.octseq.specs.Parser.{sequence, window};
+ghost use Rattle.octseq.specs.Window.{left, rest, at};
 ghost use Rattle.octseq_uses.specs.Record.{record_of, IsRecord, AreRecords, HasRecord};
 
 use crate::error::ReadError;
@@ -62,6 +62,9 @@ fn next_record<R: Octets>(parser: &mut Parser<R>) -> Result<Record<R::Range>, Re
         ≡ record_of read.key (R.Range.content read.value) ++ rest (window parser.new)) }
     ensures less { OnOk result (left (window parser.new) < left (window parser.old)) }
     ensures malformed { result ≡ Err ReadError.Malformed → ¬ HasRecord (rest (window parser.old)) }
+    ensures memory { result ≡ Err ReadError.Memory → R.Range.asks ≡ true }
+    ensures limit { (window parser.new).end ≡ (window parser.old).end }
+    ensures same { sequence parser.new ≡ sequence parser.old }
 {
     let key = parser.parse_u16_be()?;
     let len = parser.parse_u8()?;
@@ -69,7 +72,7 @@ fn next_record<R: Octets>(parser: &mut Parser<R>) -> Result<Record<R::Range>, Re
     Ok(Record { key, value })
 }
 
-/// Takes all that is left as records, one behind another.
+/// Takes all that is left as records, one behind another, and leaves nothing.
 ///
 /// # Errors
 ///
@@ -83,6 +86,8 @@ pub fn take_records<R: Octets>(
         (map (λ read. (read.key, R.Range.content read.value)) records.items)) }
     ensures malformed { result ≡ Err ReadError.Malformed
         → (records : List (ℕ × List ℕ)) → ¬ AreRecords (rest (window parser.old)) records }
+    ensures end { OnOk result (window parser.new ≡ at (window parser.old).end (window parser.old)) }
+    ensures same { sequence parser.new ≡ sequence parser.old }
 {
     let mut records = Vec::new(alloc);
     while parser.remaining() > 0 {

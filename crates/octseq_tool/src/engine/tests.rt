@@ -1,4 +1,4 @@
-use super::{Status, ToolFault, engine};
+use super::{Status, ToolFault, command_word, engine};
 use std::alloc::Global;
 use std::fmt::Debug;
 use std::io;
@@ -109,6 +109,26 @@ fn check_tells_what_it_read(rt: HostRuntime) {
         assert_equal!(&rt, answer, Ok(status));
         assert_equal!(&rt, written.as_slice(), line.as_bytes());
     }
+}
+
+#[test]
+fn one_argument_is_the_command(rt: HostRuntime) -> Result<(), Fail> {
+    let alloc = rt.alloc();
+    let cases = [
+        ([].as_slice(), "check"),
+        (&["octseq_tool"], "check"),
+        (&["octseq_tool", "lossy"], "lossy"),
+        (&["octseq_tool", "lossy", "check"], ""),
+        (&["octseq_tool", "check", "check", "check"], ""),
+    ];
+    for (words, wanted) in cases {
+        let mut args = Vec::new(alloc);
+        for word in words {
+            args.push(String::from_str(alloc, word)?)?;
+        }
+        assert_equal!(&rt, command_word(&args), wanted);
+    }
+    Ok(())
 }
 
 #[test]

@@ -1,6 +1,8 @@
 //! The first callers.
 use octseq::CowOctets;
+use octseq_uses::error::ReadError;
 use octseq_uses::first::{extended, field, kept, text_front};
+use octseq_uses::levels::read_levels;
 use std::test::Fail;
 
 #[test]
@@ -42,4 +44,16 @@ fn a_front_is_a_text(rt: HostRuntime) -> Result<(), Fail> {
     assert_equal!(&rt, text_front(b"h\xC3\xA9\xC3"), b"h\xC3\xA9".as_slice());
     assert_equal!(&rt, text_front(b"\xFFh"), b"".as_slice());
     Ok(())
+}
+
+#[test]
+fn levels_are_signed(rt: HostRuntime) {
+    let read = read_levels(rt.alloc(), b"\x00\x01\xFF\xFE\x80\x00".as_slice());
+    assert_equal!(
+        &rt,
+        read.as_ref().ok().map(|levels| levels.as_slice()),
+        Some([1, -2, -32768].as_slice()),
+    );
+    let cut = read_levels(rt.alloc(), b"\x00\x01\xFF".as_slice());
+    assert_equal!(&rt, cut.err(), Some(ReadError::Malformed));
 }

@@ -1,5 +1,6 @@
 use Rattle.std.proofs.Common.{◌≡◌, List, Option, Some, None, [], refl}
 use Rattle.std.specs.Prelude.{IfSome, unwrap_or}
+use Rattle.octseq_tool.specs.declared.engine.Status.TheVariants.{Usage}
 use Rattle.octseq_tool.proofs.engine.engine.Goals as goal
 
 -- octets that stand in the place of others where those are known
@@ -17,6 +18,20 @@ returns-in_default-clause-ran g c = record {
   whole = known (g.R.Read.remaining c.args.reader.now);
   answered = c.as_bytes.ensures.value;
   written = c.in_ok-write_all.ensures.ok;
+}
+
+pub returns-in_err-write_all-clause-front : goal.returns-in_err-write_all-clause-front
+returns-in_err-write_all-clause-front g c = λ _. record {
+  command = None;
+  input = unwrap_or (g.R.Read.remaining c.args.reader.now) [];
+  output = c.as_bytes.result.now;
+  status = Usage;
+  front = c.write_all.ensures.front.0;
+  named = c.in_default.ensures;
+  whole = known (g.R.Read.remaining c.args.reader.now);
+  answered = c.as_bytes.ensures.value;
+  begins = c.write_all.ensures.front.1;
+  written = c.write_all.ensures.front.2;
 }
 
 pub returns-clause-ran : goal.returns-clause-ran

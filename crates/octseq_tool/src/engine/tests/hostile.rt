@@ -2,6 +2,7 @@
 use super::{Drip, Narrow, ran, repeated};
 use crate::engine::{Status, ToolFault, engine};
 use std::alloc::Global;
+use std::io::{self, Error, ErrorKind, Write};
 use std::process::Abort;
 use std::test::Fail;
 
@@ -178,6 +179,54 @@ fn a_failed_write_is_told(rt: HostRuntime) {
                 assert_equal!(&rt, output.as_bytes().get(..taken.len()), Some(taken));
                 assert_true!(&rt, answer.is_err() || taken.len() == output.len());
             }
+        }
+    }
+}
+
+/// A writer that takes one octet at a time, fails at one call, and goes on behind it.
+#[derive(Drop)]
+struct Faltering {
+    taken: Vec<u8>,
+    until_failure: usize,
+    kind: ErrorKind,
+}
+
+impl Write for Faltering {
+    fn write(&mut self, buf: &[u8]) -> io::Result<usize> {
+        let fails = self.until_failure == 1;
+        self.until_failure = self.until_failure.saturating_sub(1);
+        if fails {
+            return Err(Error::from(self.kind));
+        }
+        self.taken.write(&buf[..buf.len().min(1)])
+    }
+
+    fn flush(&mut self) -> io::Result<()> {
+        Ok(())
+    }
+}
+
+#[test]
+fn nothing_is_written_behind_a_failure(rt: HostRuntime) {
+    let output = b"a\xEF\xBF\xBDb".as_slice();
+    for failed in 1..=output.len() {
+        for (kind, answer, taken) in [
+            (
+                ErrorKind::BrokenPipe,
+                Err(ToolFault::Write),
+                &output[..failed - 1],
+            ),
+            (ErrorKind::Interrupted, Ok(Status::Fine), output),
+        ] {
+            let mut writer = Faltering {
+                taken: Vec::new(rt.alloc()),
+                until_failure: failed,
+                kind,
+            };
+            let octets = b"a\xFFb".as_slice();
+            let told = engine(rt.alloc(), "lossy", &mut { octets }, &mut writer);
+            assert_equal!(&rt, told, answer);
+            assert_equal!(&rt, writer.taken.as_slice(), taken);
         }
     }
 }

@@ -1,9 +1,9 @@
 use Rattle.std.proofs.Common.{◌≡◌, ℕ, List, [], ◌∷◌, ◌++◌, ◌∙◌, map, ap, arith}
 use Rattle.std.proofs.lemmas.List.{map-append}
 use Rattle.std.proofs.lemmas.Result.{err_from_is_err_and}
-use Rattle.octseq.proofs.Repeats.{read_more, read_cut}
+use Rattle.octseq.proofs.Repeats.{read_more, read_all, read_cut}
 use Rattle.octseq.specs.Parser.{window}
-use Rattle.octseq.specs.Window.{rest}
+use Rattle.octseq.specs.Window.{Window, rest, at}
 use Rattle.octseq_uses.proofs.RecordCode.{spelled, record_code, has_octets}
 use Rattle.octseq_uses.proofs.Refusals.{same_refusal}
 use Rattle.octseq_uses.specs.Record.{IsRecord}
@@ -11,16 +11,35 @@ use Rattle.octseq_uses.specs.declared.error.ReadError.{ReadError}
 use Rattle.octseq_uses.specs.declared.records.Record.{Record}
 use Rattle.octseq_uses.proofs.records.take_records.Goals as goal
 
+-- a window of the same octets and the same end, with nothing left
+at_end : (w v : Window) → w.octets ≡ v.octets → w.end ≡ v.end → w.position ≡ w.end → w ≡ at v.end v
+at_end w v octets limit none =
+    ap (λ octets. record { octets = octets; position = w.position; end = w.end }) octets
+    ∙ ap (λ position. record { octets = v.octets; position = position; end = w.end }) (none ∙ limit)
+    ∙ ap (λ end. record { octets = v.octets; position = v.end; end = end }) limit
+
 pub returns-in_err-read-clause-malformed : goal.returns-in_err-read-clause-malformed
 returns-in_err-read-clause-malformed g c = λ e records are.
     let p = err_from_is_err_and c.from_residual.result c.from_residual.ensures.1 in
     let cut = c.next_record.ensures.malformed (same_refusal c.next_record.result c.from_residual.result p.0 c.in_err-read.field-0.0 ReadError.Malformed p.1 p.2 e c.in_err-read.was) in
-    read_cut IsRecord spelled (rest (window c.args.parser.now)) (rest (window c.loop-parser.parser)) _ c.loop-parser.invariant (omega arith) cut (records, are.0, are.1)
+    read_cut IsRecord spelled (rest (window c.args.parser.now)) (rest (window c.loop-parser.parser)) _ c.loop-parser.invariant.read (omega arith) cut (records, are.0, are.1)
 
 pub loop-parser-preserved : goal.loop-parser-preserved
 loop-parser-preserved g c =
     let shown : Record (g.row.R-Range.Denot) → ℕ × List ℕ = λ read. (read.key, g.R.Range.AsOctets.content read.value) in
     let pushed : c.push.new.self.items ≡ c.loop-parser.records.items ++ c.in_ok-read.read ∷ [] = grind (arith, c.push.ensures.items, c.is_err.ensures) in
-    read_more IsRecord spelled record_code has_octets (rest (window c.args.parser.now)) (rest (window c.loop-parser.parser)) (rest (window c.next_record.new.parser))
-    (map shown c.loop-parser.records.items) (map shown c.push.new.self.items) (shown c.in_ok-read.read) c.loop-parser.invariant c.in_ok-read.ensures.fits c.in_ok-read.ensures.taken
-    (ap (map shown) pushed ∙ map-append shown c.loop-parser.records.items (c.in_ok-read.read ∷ []))
+    record {
+      read = read_more IsRecord spelled record_code has_octets (rest (window c.args.parser.now)) (rest (window c.loop-parser.parser)) (rest (window c.next_record.new.parser))
+          (map shown c.loop-parser.records.items) (map shown c.push.new.self.items) (shown c.in_ok-read.read) c.loop-parser.invariant.read c.in_ok-read.ensures.fits c.in_ok-read.ensures.taken
+          (ap (map shown) pushed ∙ map-append shown c.loop-parser.records.items (c.in_ok-read.read ∷ []));
+      limit = c.next_record.ensures.limit ∙ c.loop-parser.invariant.limit;
+      same = c.next_record.ensures.same ∙ c.loop-parser.invariant.same;
+    }
+
+pub returns-clause-ok : goal.returns-clause-ok
+returns-clause-ok g c = read_all IsRecord spelled (rest (window c.args.parser.now)) (rest (window c.loop-parser.parser)) _ c.loop-parser.invariant.read (omega arith)
+
+pub returns-clause-end : goal.returns-clause-end
+returns-clause-end g c =
+    let ordered = c.loop-parser.parser.ordered in
+    at_end (window c.loop-parser.parser) (window c.args.parser.now) (ap g.R.AsOctets.content c.loop-parser.invariant.same) c.loop-parser.invariant.limit (omega arith)

@@ -1,0 +1,31 @@
+//! Levels: signed integers, one behind another.
+ghost use Rattle.std.specs.List.{AllByRecursion, flat_map};
+ghost use Rattle.std.specs.Prelude.{◌≡◌, ◌≢◌, ℤ, List, Err, IfOk};
+ghost use Rattle.octseq.specs.Integer.{IsSigned};
+ghost use Rattle.octseq_uses.specs.Levels.{level_of};
+
+use crate::error::ReadError;
+use octseq::{AsOctets, Parser};
+use std::alloc::Global;
+
+/// Reads all of the octets as levels, one behind another: each a signed integer of 2 octets, big-endian.
+///
+/// # Errors
+///
+/// `Malformed` where the octets are not those of any levels, and `Memory` only where a request for memory was
+/// refused.
+pub fn read_levels<R: AsOctets>(alloc: Global, octets: R) -> Result<Vec<i16>, ReadError>
+    ensures ok { IfOk result (λ levels. R.content octets ≡ flat_map level_of levels.items) }
+    ensures malformed { result ≡ Err ReadError.Malformed → (levels : List ℤ)
+        → AllByRecursion (IsSigned 2) levels → R.content octets ≢ flat_map level_of levels }
+{
+    let mut parser = Parser::from_ref(octets);
+    let mut levels = Vec::new(alloc);
+    while parser.remaining() > 0 {
+        let level = parser.parse_i16_be()?;
+        if levels.push(level).is_err() {
+            return Err(ReadError::Memory);
+        }
+    }
+    Ok(levels)
+}
