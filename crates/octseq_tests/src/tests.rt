@@ -1,4 +1,6 @@
 use octseq::array::Array;
+use octseq::builder::{AppendError, AsOctets, ShortBuf};
+use octseq::str::StrBuilder;
 use std::fmt::Debug;
 use std::process::Abort;
 
@@ -18,6 +20,17 @@ macro_rules! assert_true {
 
 fn equal<T: PartialEq + Debug + Drop>(rt: &impl Abort, what: &str, left: T, right: T) {
     assert_eq!(rt; left, right, "{what}");
+}
+
+/// The answer is the text that is wanted, or where none is, the refusal of what passes the limit.
+fn is_text_or_short<B: AsOctets>(
+    rt: &impl Abort,
+    answer: Result<StrBuilder<B>, AppendError>,
+    wanted: Option<&str>,
+) {
+    let wanted = wanted.ok_or(AppendError::Short(ShortBuf));
+    let text = answer.as_ref().map(|text| text.as_str());
+    assert_equal!(rt, text, wanted.as_ref().map(|text| *text));
 }
 
 /// Calls a test on the same octets in each representation that a parser may read.

@@ -38,6 +38,39 @@ fn a_nested_parser_has_a_window_of_its_own(rt: HostRuntime) -> Result<(), Fail> 
     over_each!(&rt, moves_by_itself, b"0123456789")
 }
 
+/// A parser of "0123456789" stands at a place, and shows what is left and no more.
+fn stands(rt: &impl Abort, parser: &Parser<&[u8]>, pos: usize) {
+    let left = b"0123456789".get(pos..).unwrap_or(b"");
+    assert_equal!(rt, (parser.pos(), parser.remaining()), (pos, left.len()));
+    assert_equal!(rt, parser.peek_all(), left);
+    for n in 0..12 {
+        assert_equal!(rt, parser.peek(n).ok(), left.get(..n));
+        assert_equal!(rt, parser.check_len(n).is_ok(), n <= left.len());
+    }
+}
+
+#[test]
+fn a_parser_moves_within_its_window(rt: HostRuntime) -> Result<(), Fail> {
+    let mut parser = Parser::from_static(b"0123456789");
+    for (place, pos) in [(0, 0), (2, 2), (10, 10), (11, 10)] {
+        assert_equal!(&rt, parser.seek(place).is_ok(), place == pos);
+        stands(&rt, &parser, pos);
+    }
+    let mut parser = Parser::from_static(b"0123456789");
+    for (len, is_moved, pos) in [(0, true, 0), (2, true, 2), (9, false, 2), (8, true, 10)] {
+        assert_equal!(&rt, parser.advance(len).is_ok(), is_moved);
+        stands(&rt, &parser, pos);
+    }
+    let mut outer = Parser::from_static(b"0123456789");
+    outer.advance(2)?;
+    let mut nested = outer.parse_parser(4)?;
+    assert_equal!(&rt, nested.peek_all(), b"2345".as_slice());
+    nested.advance(2)?;
+    assert_equal!(&rt, nested.peek_all(), b"45".as_slice());
+    stands(&rt, &outer, 6);
+    Ok(())
+}
+
 fn takes_ranges<R: Octets + Copy>(rt: &impl Abort, octets: R) -> Result<(), Fail> {
     let mut parser = Parser::from_ref(octets);
     assert_equal!(rt, parser.parse_octets(2)?.as_ref(), b"01".as_slice());
@@ -129,6 +162,13 @@ fn begins_with_ranges<R: Octets + Copy>(rt: &impl Abort, octets: R) -> Result<()
     assert_true!(rt, !parser.is_empty());
     assert_equal!(rt, (parser.len(), parser.remaining()), (2, 0));
     assert_equal!(rt, parser.as_slice(), [1, 2].as_slice());
+    let mut whole = Parser::from_ref(octets);
+    whole.advance(1)?;
+    assert_true!(
+        rt,
+        matches!(whole.parse_octets(most), Err(ParseOctetsError::Short(_)))
+    );
+    assert_equal!(rt, whole.pos(), 1);
     Ok(())
 }
 
