@@ -68,9 +68,8 @@ fn grows_without_a_limit<B: OctetsBuilder>(rt: &impl Abort, builder: B) -> Resul
 
 #[test]
 fn texts_in_vectors_grow_without_a_limit(rt: HostRuntime) -> Result<(), Fail> {
-    let mut vec = Vec::empty(rt.alloc())?;
-    grows_without_a_limit(&rt, &mut vec)?;
-    grows_without_a_limit(&rt, vec)?;
+    grows_without_a_limit(&rt, Vec::empty(rt.alloc())?)?;
+    grows_without_a_limit(&rt, &mut Vec::empty(rt.alloc())?)?;
     grows_without_a_limit(&rt, CowOctets::borrowed(rt.alloc(), b""))
 }
 
