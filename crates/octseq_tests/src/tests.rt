@@ -1,6 +1,16 @@
+use arrayvec::ArrayVec;
+use bytes::Bytes;
 use octseq::array::Array;
+use octseq::builder::{AppendError, AsOctets, ShortBuf};
+use octseq::cow::CowOctets;
+use octseq::octets::{Octets, OctetsFrom};
+use octseq::str::StrBuilder;
+use smallvec::SmallVec;
+use std::alloc::AllocGlobal;
 use std::fmt::Debug;
 use std::process::Abort;
+use std::rc::RcSlice;
+use std::test::Fail;
 
 /// Ends the test where two values differ. A call is proved in a tenth of the time of an `assert_eq!`.
 macro_rules! assert_equal {
@@ -20,15 +30,44 @@ fn equal<T: PartialEq + Debug + Drop>(rt: &impl Abort, what: &str, left: T, righ
     assert_eq!(rt; left, right, "{what}");
 }
 
-/// Calls a test on the same octets in each representation that a parser may read.
-macro_rules! over_each {
-    ($rt:expr, $case:ident, $octets:expr) => {{
-        let octets: &[u8] = $octets;
-        $case($rt, octets)?;
-        $case($rt, &octets.to_vec($rt.alloc())?)?;
-        $case($rt, &Array::<64>::try_from(octets)?)?;
-        $case($rt, &Bytes::copy_from_slice($rt.alloc(), octets)?)
-    }};
+/// The answer is the text that is wanted, or where none is, the refusal of what passes the limit.
+fn is_text_or_short<B: AsOctets>(
+    rt: &impl Abort,
+    answer: Result<StrBuilder<B>, AppendError>,
+    wanted: Option<&str>,
+) {
+    let short = AppendError::Short(ShortBuf);
+    let text = match &answer {
+        Ok(text) => Ok(text.as_str()),
+        Err(error) => Err(error),
+    };
+    assert_equal!(rt, text, wanted.ok_or(&short));
+}
+
+/// A test over octets, whatever holds them.
+trait Case {
+    fn holds<H: Abort + AllocGlobal, R: Octets + Copy>(
+        &self,
+        rt: &H,
+        octets: R,
+    ) -> Result<(), Fail>;
+}
+
+/// The test on the same octets in each representation that a parser may read.
+fn over_each<C: Case>(
+    rt: &(impl Abort + AllocGlobal),
+    case: &C,
+    octets: &[u8],
+) -> Result<(), Fail> {
+    let alloc = rt.alloc();
+    case.holds(rt, octets)?;
+    case.holds(rt, &octets.to_vec(alloc)?)?;
+    case.holds(rt, &CowOctets::borrowed(alloc, octets))?;
+    case.holds(rt, &Bytes::copy_from_slice(alloc, octets)?)?;
+    case.holds(rt, &RcSlice::<u8>::from_slice(alloc, octets)?)?;
+    case.holds(rt, &SmallVec::<u8, 8>::from_slice(alloc, octets)?)?;
+    case.holds(rt, &ArrayVec::<u8, 64>::try_octets_from(alloc, octets)?)?;
+    case.holds(rt, &Array::<64>::try_from(octets)?)
 }
 
 mod builders;

@@ -137,8 +137,10 @@ fn a_message_is_read_back(rt: HostRuntime) -> Result<(), Fail> {
 fn parts_stand_behind_their_lengths(rt: HostRuntime) -> Result<(), Fail> {
     let mut octets = Vec::new(rt.alloc());
     assert_equal!(&rt, append_part_u8(&mut octets, b""), Ok(()));
+    assert_equal!(&rt, octets.as_slice(), b"\0".as_slice());
+    octets.clear();
     assert_equal!(&rt, append_part_u8(&mut octets, b"z"), Ok(()));
-    assert_equal!(&rt, octets.as_slice(), b"\0\x01z".as_slice());
+    assert_equal!(&rt, octets.as_slice(), b"\x01z".as_slice());
     octets.clear();
     assert_equal!(&rt, append_part_u16_be(&mut octets, b"ab"), Ok(()));
     assert_equal!(&rt, octets.as_slice(), b"\0\x02ab".as_slice());

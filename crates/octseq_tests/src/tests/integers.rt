@@ -1,7 +1,7 @@
-use bytes::Bytes;
-use octseq::array::Array;
-use octseq::builder::AsOctets;
+use super::{Case, over_each};
+use octseq::octets::Octets;
 use octseq::parse::{Parser, ShortInput};
+use std::alloc::AllocGlobal;
 use std::process::Abort;
 use std::test::Fail;
 
@@ -17,142 +17,223 @@ macro_rules! reads {
     }};
 }
 
-fn reads_single_octets<R: AsOctets + Copy>(rt: &impl Abort, octets: R) -> Result<(), Fail> {
-    reads!(rt, octets, parse_i8, 18, -42);
-    reads!(rt, octets, parse_u8, 18, 214);
-    Ok(())
+#[derive(Drop)]
+struct ReadsSingleOctets;
+
+impl Case for ReadsSingleOctets {
+    fn holds<H: Abort + AllocGlobal, R: Octets + Copy>(
+        &self,
+        rt: &H,
+        octets: R,
+    ) -> Result<(), Fail> {
+        reads!(rt, octets, parse_i8, 18, -42);
+        reads!(rt, octets, parse_u8, 18, 214);
+        Ok(())
+    }
 }
 
-fn reads_16_bits_be<R: AsOctets + Copy>(rt: &impl Abort, octets: R) -> Result<(), Fail> {
-    reads!(rt, octets, parse_i16_be, 4660, -4242);
-    reads!(rt, octets, parse_u16_be, 4660, 61294);
-    Ok(())
+#[derive(Drop)]
+struct Reads16BitsBe;
+
+impl Case for Reads16BitsBe {
+    fn holds<H: Abort + AllocGlobal, R: Octets + Copy>(
+        &self,
+        rt: &H,
+        octets: R,
+    ) -> Result<(), Fail> {
+        reads!(rt, octets, parse_i16_be, 4660, -4242);
+        reads!(rt, octets, parse_u16_be, 4660, 61294);
+        Ok(())
+    }
 }
 
-fn reads_16_bits_le<R: AsOctets + Copy>(rt: &impl Abort, octets: R) -> Result<(), Fail> {
-    reads!(rt, octets, parse_i16_le, 4660, -4242);
-    reads!(rt, octets, parse_u16_le, 4660, 61294);
-    Ok(())
+#[derive(Drop)]
+struct Reads16BitsLe;
+
+impl Case for Reads16BitsLe {
+    fn holds<H: Abort + AllocGlobal, R: Octets + Copy>(
+        &self,
+        rt: &H,
+        octets: R,
+    ) -> Result<(), Fail> {
+        reads!(rt, octets, parse_i16_le, 4660, -4242);
+        reads!(rt, octets, parse_u16_le, 4660, 61294);
+        Ok(())
+    }
 }
 
-fn reads_32_bits_be<R: AsOctets + Copy>(rt: &impl Abort, octets: R) -> Result<(), Fail> {
-    reads!(rt, octets, parse_i32_be, 0x12345678, -42424242);
-    reads!(rt, octets, parse_u32_be, 0x12345678, 0xfd78a84e);
-    Ok(())
+#[derive(Drop)]
+struct Reads32BitsBe;
+
+impl Case for Reads32BitsBe {
+    fn holds<H: Abort + AllocGlobal, R: Octets + Copy>(
+        &self,
+        rt: &H,
+        octets: R,
+    ) -> Result<(), Fail> {
+        reads!(rt, octets, parse_i32_be, 0x12345678, -42424242);
+        reads!(rt, octets, parse_u32_be, 0x12345678, 0xfd78a84e);
+        Ok(())
+    }
 }
 
-fn reads_32_bits_le<R: AsOctets + Copy>(rt: &impl Abort, octets: R) -> Result<(), Fail> {
-    reads!(rt, octets, parse_i32_le, 0x12345678, -42424242);
-    reads!(rt, octets, parse_u32_le, 0x12345678, 0xfd78a84e);
-    Ok(())
+#[derive(Drop)]
+struct Reads32BitsLe;
+
+impl Case for Reads32BitsLe {
+    fn holds<H: Abort + AllocGlobal, R: Octets + Copy>(
+        &self,
+        rt: &H,
+        octets: R,
+    ) -> Result<(), Fail> {
+        reads!(rt, octets, parse_i32_le, 0x12345678, -42424242);
+        reads!(rt, octets, parse_u32_le, 0x12345678, 0xfd78a84e);
+        Ok(())
+    }
 }
 
-fn reads_64_bits_be<R: AsOctets + Copy>(rt: &impl Abort, octets: R) -> Result<(), Fail> {
-    reads!(
-        rt,
-        octets,
-        parse_i64_be,
-        0x12345678fd78a84e,
-        -3568335078657414759
-    );
-    reads!(
-        rt,
-        octets,
-        parse_u64_be,
-        0x12345678fd78a84e,
-        0xce7aba26dd0f2999
-    );
-    Ok(())
+#[derive(Drop)]
+struct Reads64BitsBe;
+
+impl Case for Reads64BitsBe {
+    fn holds<H: Abort + AllocGlobal, R: Octets + Copy>(
+        &self,
+        rt: &H,
+        octets: R,
+    ) -> Result<(), Fail> {
+        reads!(
+            rt,
+            octets,
+            parse_i64_be,
+            0x12345678fd78a84e,
+            -3568335078657414759
+        );
+        reads!(
+            rt,
+            octets,
+            parse_u64_be,
+            0x12345678fd78a84e,
+            0xce7aba26dd0f2999
+        );
+        Ok(())
+    }
 }
 
-fn reads_64_bits_le<R: AsOctets + Copy>(rt: &impl Abort, octets: R) -> Result<(), Fail> {
-    reads!(
-        rt,
-        octets,
-        parse_i64_le,
-        0x12345678fd78a84e,
-        -3568335078657414759
-    );
-    reads!(
-        rt,
-        octets,
-        parse_u64_le,
-        0x12345678fd78a84e,
-        0xce7aba26dd0f2999
-    );
-    Ok(())
+#[derive(Drop)]
+struct Reads64BitsLe;
+
+impl Case for Reads64BitsLe {
+    fn holds<H: Abort + AllocGlobal, R: Octets + Copy>(
+        &self,
+        rt: &H,
+        octets: R,
+    ) -> Result<(), Fail> {
+        reads!(
+            rt,
+            octets,
+            parse_i64_le,
+            0x12345678fd78a84e,
+            -3568335078657414759
+        );
+        reads!(
+            rt,
+            octets,
+            parse_u64_le,
+            0x12345678fd78a84e,
+            0xce7aba26dd0f2999
+        );
+        Ok(())
+    }
 }
 
-fn reads_128_bits_be<R: AsOctets + Copy>(rt: &impl Abort, octets: R) -> Result<(), Fail> {
-    reads!(
-        rt,
-        octets,
-        parse_i128_be,
-        0x12345678fd78a84ece7aba26dd0f2999,
-        -9605457846724395475894107919101750112
-    );
-    reads!(
-        rt,
-        octets,
-        parse_u128_be,
-        0x12345678fd78a84ece7aba26dd0f2999,
-        0xf8c60e5d3f5e3a7438388f3f57a794a0
-    );
-    Ok(())
+#[derive(Drop)]
+struct Reads128BitsBe;
+
+impl Case for Reads128BitsBe {
+    fn holds<H: Abort + AllocGlobal, R: Octets + Copy>(
+        &self,
+        rt: &H,
+        octets: R,
+    ) -> Result<(), Fail> {
+        reads!(
+            rt,
+            octets,
+            parse_i128_be,
+            0x12345678fd78a84ece7aba26dd0f2999,
+            -9605457846724395475894107919101750112
+        );
+        reads!(
+            rt,
+            octets,
+            parse_u128_be,
+            0x12345678fd78a84ece7aba26dd0f2999,
+            0xf8c60e5d3f5e3a7438388f3f57a794a0
+        );
+        Ok(())
+    }
 }
 
-fn reads_128_bits_le<R: AsOctets + Copy>(rt: &impl Abort, octets: R) -> Result<(), Fail> {
-    reads!(
-        rt,
-        octets,
-        parse_i128_le,
-        0x12345678fd78a84ece7aba26dd0f2999,
-        -9605457846724395475894107919101750112
-    );
-    reads!(
-        rt,
-        octets,
-        parse_u128_le,
-        0x12345678fd78a84ece7aba26dd0f2999,
-        0xf8c60e5d3f5e3a7438388f3f57a794a0
-    );
-    Ok(())
+#[derive(Drop)]
+struct Reads128BitsLe;
+
+impl Case for Reads128BitsLe {
+    fn holds<H: Abort + AllocGlobal, R: Octets + Copy>(
+        &self,
+        rt: &H,
+        octets: R,
+    ) -> Result<(), Fail> {
+        reads!(
+            rt,
+            octets,
+            parse_i128_le,
+            0x12345678fd78a84ece7aba26dd0f2999,
+            -9605457846724395475894107919101750112
+        );
+        reads!(
+            rt,
+            octets,
+            parse_u128_le,
+            0x12345678fd78a84ece7aba26dd0f2999,
+            0xf8c60e5d3f5e3a7438388f3f57a794a0
+        );
+        Ok(())
+    }
 }
 
 #[test]
 fn integers_are_read_in_both_orders(rt: HostRuntime) -> Result<(), Fail> {
-    over_each!(&rt, reads_single_octets, b"\x12\xD6")?;
-    over_each!(&rt, reads_16_bits_be, b"\x12\x34\xEF\x6E\x00")?;
-    over_each!(&rt, reads_16_bits_le, b"\x34\x12\x6E\xEF\x00")?;
-    over_each!(
+    over_each(&rt, &ReadsSingleOctets, b"\x12\xD6")?;
+    over_each(&rt, &Reads16BitsBe, b"\x12\x34\xEF\x6E\x00")?;
+    over_each(&rt, &Reads16BitsLe, b"\x34\x12\x6E\xEF\x00")?;
+    over_each(
         &rt,
-        reads_32_bits_be,
-        b"\x12\x34\x56\x78\xFD\x78\xA8\x4E\x00\x00\x00"
+        &Reads32BitsBe,
+        b"\x12\x34\x56\x78\xFD\x78\xA8\x4E\x00\x00\x00",
     )?;
-    over_each!(
+    over_each(
         &rt,
-        reads_32_bits_le,
-        b"\x78\x56\x34\x12\x4E\xA8\x78\xFD\x00\x00\x00"
+        &Reads32BitsLe,
+        b"\x78\x56\x34\x12\x4E\xA8\x78\xFD\x00\x00\x00",
     )?;
-    over_each!(
+    over_each(
         &rt,
-        reads_64_bits_be,
-        b"\x12\x34\x56\x78\xFD\x78\xA8\x4E\xCE\x7A\xBA\x26\xDD\x0F\x29\x99\x00\x00\x00"
+        &Reads64BitsBe,
+        b"\x12\x34\x56\x78\xFD\x78\xA8\x4E\xCE\x7A\xBA\x26\xDD\x0F\x29\x99\x00\x00\x00",
     )?;
-    over_each!(
+    over_each(
         &rt,
-        reads_64_bits_le,
-        b"\x4E\xA8\x78\xFD\x78\x56\x34\x12\x99\x29\x0F\xDD\x26\xBA\x7A\xCE\x00\x00\x00"
+        &Reads64BitsLe,
+        b"\x4E\xA8\x78\xFD\x78\x56\x34\x12\x99\x29\x0F\xDD\x26\xBA\x7A\xCE\x00\x00\x00",
     )?;
-    over_each!(
+    over_each(
         &rt,
-        reads_128_bits_be,
-        b"\x12\x34\x56\x78\xFD\x78\xA8\x4E\xCE\x7A\xBA\x26\xDD\x0F\x29\x99\xF8\xC6\x0E\x5D\x3F\x5E\x3A\x74\x38\x38\x8F\x3F\x57\xA7\x94\xA0\x00\x00\x00\x00\x00"
+        &Reads128BitsBe,
+        b"\x12\x34\x56\x78\xFD\x78\xA8\x4E\xCE\x7A\xBA\x26\xDD\x0F\x29\x99\xF8\xC6\x0E\x5D\x3F\x5E\x3A\x74\x38\x38\x8F\x3F\x57\xA7\x94\xA0\x00\x00\x00\x00\x00",
     )?;
-    over_each!(
+    over_each(
         &rt,
-        reads_128_bits_le,
-        b"\x99\x29\x0F\xDD\x26\xBA\x7A\xCE\x4E\xA8\x78\xFD\x78\x56\x34\x12\xA0\x94\xA7\x57\x3F\x8F\x38\x38\x74\x3A\x5E\x3F\x5D\x0E\xC6\xF8\x00\x00\x00\x00\x00"
+        &Reads128BitsLe,
+        b"\x99\x29\x0F\xDD\x26\xBA\x7A\xCE\x4E\xA8\x78\xFD\x78\x56\x34\x12\xA0\x94\xA7\x57\x3F\x8F\x38\x38\x74\x3A\x5E\x3F\x5D\x0E\xC6\xF8\x00\x00\x00\x00\x00",
     )
 }
 

@@ -1,5 +1,4 @@
-use bytes::Bytes;
-use octseq::array::Array;
+use super::{Case, over_each};
 use octseq::builder::AsOctets;
 use octseq::octets::Octets;
 use octseq::parse::{Kind, ParserCall, ParserCommand, ParserReply, run};
@@ -29,35 +28,34 @@ fn shown<R: Octets>(alloc: Global, reply: &ParserReply<R>) -> Result<String, Fai
     })
 }
 
-/// Runs commands, each with the reply that it is to get.
-fn answers<R: Octets + Copy>(
-    rt: &(impl Abort + AllocGlobal),
-    octets: R,
-    cases: &[(usize, ParserCall, &str)],
-) -> Result<(), Fail> {
-    let mut commands = Vec::new(rt.alloc());
-    for (parser, call, _) in cases {
-        commands.push(ParserCommand {
-            parser: *parser,
-            call: *call,
-        })?;
+/// Commands, each with the reply that it is to get.
+#[derive(Drop)]
+struct Answers<'a>(&'a [(usize, ParserCall, &'a str)]);
+
+impl Case for Answers<'_> {
+    fn holds<H: Abort + AllocGlobal, R: Octets + Copy>(
+        &self,
+        rt: &H,
+        octets: R,
+    ) -> Result<(), Fail> {
+        let mut commands = Vec::new(rt.alloc());
+        for (parser, call, _) in self.0 {
+            commands.push(ParserCommand {
+                parser: *parser,
+                call: *call,
+            })?;
+        }
+        let replies = run(rt.alloc(), octets, &commands)?;
+        assert_equal!(rt, replies.len(), self.0.len());
+        for ((_, _, wanted), reply) in self.0.iter().zip(&replies) {
+            assert_equal!(rt, shown(rt.alloc(), reply)?.as_str(), *wanted);
+        }
+        Ok(())
     }
-    let replies = run(rt.alloc(), octets, &commands)?;
-    assert_equal!(rt, replies.len(), cases.len());
-    for ((parser, _, wanted), reply) in cases.iter().zip(&replies) {
-        assert_eq!(rt;
-            shown(rt.alloc(), reply)?.as_str(),
-            *wanted,
-            "of parser {parser}"
-        );
-    }
-    Ok(())
 }
 
-fn has_one_reply_a_command<R: Octets + Copy>(
-    rt: &(impl Abort + AllocGlobal),
-    octets: R,
-) -> Result<(), Fail> {
+#[test]
+fn a_run_has_one_reply_a_command(rt: HostRuntime) -> Result<(), Fail> {
     let cases = [
         (0, ParserCall::Advance(2), "Done"),
         (0, ParserCall::Nested(4), "Parser(1)"),
@@ -76,14 +74,12 @@ fn has_one_reply_a_command<R: Octets + Copy>(
         (0, ParserCall::Octets(3), "Range(789)"),
         (0, ParserCall::Remaining, "Number(0)"),
     ];
-    answers(rt, octets, &cases)
+    over_each(&rt, &Answers(&cases), b"0123456789")
 }
 
-fn seeks_and_advances<R: Octets + Copy>(
-    rt: &(impl Abort + AllocGlobal),
-    octets: R,
-) -> Result<(), Fail> {
-    let seeks = [
+#[test]
+fn a_run_seeks(rt: HostRuntime) -> Result<(), Fail> {
+    let cases = [
         (0, ParserCall::Peek(1), "Slice(0)"),
         (0, ParserCall::Pos, "Number(0)"),
         (0, ParserCall::Remaining, "Number(10)"),
@@ -99,8 +95,12 @@ fn seeks_and_advances<R: Octets + Copy>(
         (0, ParserCall::Pos, "Number(10)"),
         (0, ParserCall::Remaining, "Number(0)"),
     ];
-    answers(rt, octets, &seeks)?;
-    let advances = [
+    over_each(&rt, &Answers(&cases), b"0123456789")
+}
+
+#[test]
+fn a_run_advances(rt: HostRuntime) -> Result<(), Fail> {
+    let cases = [
         (0, ParserCall::Pos, "Number(0)"),
         (0, ParserCall::Peek(1), "Slice(0)"),
         (0, ParserCall::Advance(2), "Done"),
@@ -111,14 +111,12 @@ fn seeks_and_advances<R: Octets + Copy>(
         (0, ParserCall::Pos, "Number(10)"),
         (0, ParserCall::PeekAll, "Slice()"),
     ];
-    answers(rt, octets, &advances)
+    over_each(&rt, &Answers(&cases), b"0123456789")
 }
 
-fn peeks_and_nests<R: Octets + Copy>(
-    rt: &(impl Abort + AllocGlobal),
-    octets: R,
-) -> Result<(), Fail> {
-    let peeks = [
+#[test]
+fn a_run_peeks_and_checks(rt: HostRuntime) -> Result<(), Fail> {
+    let cases = [
         (0, ParserCall::Peek(2), "Slice(01)"),
         (0, ParserCall::Peek(10), "Slice(0123456789)"),
         (0, ParserCall::Peek(11), "Short"),
@@ -133,8 +131,12 @@ fn peeks_and_nests<R: Octets + Copy>(
         (0, ParserCall::CheckLen(8), "Done"),
         (0, ParserCall::CheckLen(9), "Short"),
     ];
-    answers(rt, octets, &peeks)?;
-    let nests = [
+    over_each(&rt, &Answers(&cases), b"0123456789")
+}
+
+#[test]
+fn a_run_nests(rt: HostRuntime) -> Result<(), Fail> {
+    let cases = [
         (0, ParserCall::PeekAll, "Slice(0123456789)"),
         (0, ParserCall::Advance(2), "Done"),
         (0, ParserCall::PeekAll, "Slice(23456789)"),
@@ -144,13 +146,11 @@ fn peeks_and_nests<R: Octets + Copy>(
         (1, ParserCall::PeekAll, "Slice(45)"),
         (0, ParserCall::PeekAll, "Slice(6789)"),
     ];
-    answers(rt, octets, &nests)
+    over_each(&rt, &Answers(&cases), b"0123456789")
 }
 
-fn copies_what_it_is_asked<R: Octets + Copy>(
-    rt: &(impl Abort + AllocGlobal),
-    octets: R,
-) -> Result<(), Fail> {
+#[test]
+fn a_run_copies_what_it_is_asked(rt: HostRuntime) -> Result<(), Fail> {
     let cases = [
         (0, ParserCall::IsEmpty, "Flag(false)"),
         (0, ParserCall::CheckLen(10), "Done"),
@@ -172,15 +172,7 @@ fn copies_what_it_is_asked<R: Octets + Copy>(
         (0, ParserCall::Pos, "Number(3)"),
         (usize::MAX, ParserCall::Pos, "NoParser"),
     ];
-    answers(rt, octets, &cases)
-}
-
-#[test]
-fn commands_are_answered_in_turn(rt: HostRuntime) -> Result<(), Fail> {
-    over_each!(&rt, has_one_reply_a_command, b"0123456789")?;
-    over_each!(&rt, seeks_and_advances, b"0123456789")?;
-    over_each!(&rt, peeks_and_nests, b"0123456789")?;
-    over_each!(&rt, copies_what_it_is_asked, b"0123456789")
+    over_each(&rt, &Answers(&cases), b"0123456789")
 }
 
 /// Each integer at the front of FD 78 A8 4E CE 7A BA 26 DD 0F 29 99 F8 C6 0E 5D.
@@ -217,23 +209,14 @@ const INTEGERS: [(Kind, &str); 18] = [
     ),
 ];
 
-fn reads_each_kind<R: Octets + Copy>(
-    rt: &(impl Abort + AllocGlobal),
-    octets: R,
-) -> Result<(), Fail> {
-    for (kind, reply) in INTEGERS {
-        answers(rt, octets, &[(0, ParserCall::Int(kind), reply)])?;
-    }
-    Ok(())
-}
-
 #[test]
 fn each_kind_of_integer_is_read(rt: HostRuntime) -> Result<(), Fail> {
-    over_each!(
-        &rt,
-        reads_each_kind,
-        b"\xFD\x78\xA8\x4E\xCE\x7A\xBA\x26\xDD\x0F\x29\x99\xF8\xC6\x0E\x5D"
-    )
+    let octets = b"\xFD\x78\xA8\x4E\xCE\x7A\xBA\x26\xDD\x0F\x29\x99\xF8\xC6\x0E\x5D";
+    for (kind, reply) in INTEGERS {
+        let cases = [(0, ParserCall::Int(kind), reply)];
+        over_each(&rt, &Answers(&cases), octets)?;
+    }
+    Ok(())
 }
 
 #[test]
@@ -246,5 +229,5 @@ fn a_range_that_is_refused_for_memory_moves_nothing(rt: HostRuntime) -> Result<(
         (0, ParserCall::Buf(2), "Slice(bc)"),
         (0, ParserCall::Octets(1), "Short"),
     ];
-    answers(&rt, Scarce(*b"abc"), &cases)
+    Answers(&cases).holds(&rt, Scarce(*b"abc"))
 }

@@ -1,3 +1,4 @@
+use super::is_text_or_short;
 use octseq::array::Array;
 use octseq::builder::{AppendError, EmptyBuilder, OctetsBuilder, ShortBuf, Truncate};
 use octseq::str::{Command, Reply, StrBuilder, run};
@@ -91,6 +92,7 @@ fn faults_are_found_and_shown(rt: HostRuntime) -> Result<(), Fail> {
         assert_equal!(&rt, fault.error_len(), length);
         assert_equal!(&rt, fault.to_string(rt.alloc())?.as_str(), text);
         let error = StrBuilder::from_utf8(octets).err().ok_or("accepted")?;
+        assert_equal!(&rt, error.utf8_error(), fault);
         assert_equal!(&rt, error.to_string(rt.alloc())?.as_str(), text);
     }
     assert_equal!(&rt, first_fault(b"", &mut Turns::new()), None);
@@ -345,34 +347,36 @@ fn each_bad_part_becomes_one_replacement(rt: HostRuntime) -> Result<(), Fail> {
     Ok(())
 }
 
-/// What a builder of another kind answers for these octets.
+/// Octets in a builder.
+fn filled<B: EmptyBuilder>(alloc: Global, octets: &[u8]) -> Result<B, AppendError> {
+    let mut builder = B::empty(alloc)?;
+    builder.append_slice(octets)?;
+    Ok(builder)
+}
+
+/// What both calls answer for these octets in a builder: the text that is wanted, or that it is too long.
 fn lossy_over<B: EmptyBuilder>(
     rt: &impl Abort,
     alloc: Global,
     octets: &[u8],
-    wanted: Result<&str, AppendError>,
-) -> Result<(), Fail> {
-    let mut builder = B::empty(alloc)?;
-    builder.append_slice(octets)?;
-    let text = StrBuilder::try_from_utf8_lossy(alloc, builder);
-    match (text, wanted) {
-        (Ok(text), Ok(wanted)) => assert_equal!(rt, text.as_str(), wanted),
-        (Err(error), Err(wanted)) => assert_equal!(rt, error, wanted),
-        (Ok(_), Err(_)) => assert!(rt; false, "it was read"),
-        (Err(_), Ok(_)) => assert!(rt; false, "it was refused"),
-    }
+    wanted: Option<&str>,
+) -> Result<(), AppendError> {
+    let text = StrBuilder::try_from_utf8_lossy(alloc, filled::<B>(alloc, octets)?);
+    is_text_or_short(rt, text, wanted);
+    let builder = filled::<B>(alloc, octets)?;
+    let text = StrBuilder::try_from_utf8_lossy_counted(alloc, builder, &mut Turns::new());
+    is_text_or_short(rt, text, wanted);
     Ok(())
 }
 
 #[test]
 fn a_lossy_text_that_passes_the_limit_is_refused(rt: HostRuntime) -> Result<(), Fail> {
     let alloc = rt.alloc();
-    let short = || Err(AppendError::Short(ShortBuf));
-    lossy_over::<Array<0>>(&rt, alloc, b"", Ok(""))?;
-    lossy_over::<Array<4>>(&rt, alloc, b"a\xFF\xFF", short())?;
-    lossy_over::<Array<7>>(&rt, alloc, b"a\xFF\xFF", Ok("a\u{FFFD}\u{FFFD}"))?;
-    lossy_over::<Capped>(&rt, alloc, b"a\xFF", Ok("a\u{FFFD}"))?;
-    lossy_over::<Capped>(&rt, alloc, b"\xFF\xFF", short())?;
+    lossy_over::<Array<0>>(&rt, alloc, b"", Some(""))?;
+    lossy_over::<Array<4>>(&rt, alloc, b"a\xFF\xFF", None)?;
+    lossy_over::<Array<7>>(&rt, alloc, b"a\xFF\xFF", Some("a\u{FFFD}\u{FFFD}"))?;
+    lossy_over::<Capped>(&rt, alloc, b"a\xFF", Some("a\u{FFFD}"))?;
+    lossy_over::<Capped>(&rt, alloc, b"\xFF\xFF", None)?;
     let refused = Array::<0>::new().append_slice(b"a");
     assert_equal!(&rt, refused, Err(AppendError::Short(ShortBuf)));
     Ok(())

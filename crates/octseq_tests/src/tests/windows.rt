@@ -1,74 +1,144 @@
+use super::{Case, over_each};
 use bytes::Bytes;
-use octseq::array::Array;
 use octseq::builder::AsOctets;
 use octseq::octets::{Bound, Octets, range_exists, span};
 use octseq::parse::{ParseOctetsError, Parser, ShortInput};
+use std::alloc::AllocGlobal;
 use std::process::Abort;
 use std::test::Fail;
 
-fn nests<R: Octets + Copy>(rt: &impl Abort, octets: R) -> Result<(), Fail> {
-    let mut outer = Parser::from_ref(octets);
-    outer.advance(2)?;
-    let mut nested = outer.parse_parser(4)?;
-    assert_equal!(rt, (nested.pos(), nested.len()), (2, 6));
-    assert_equal!(rt, nested.peek_all(), b"2345".as_slice());
-    nested.seek(0)?;
-    assert_equal!(rt, nested.peek_all(), b"012345".as_slice());
-    assert_equal!(rt, nested.seek(7), Err(ShortInput));
-    assert_equal!(rt, nested.pos(), 0);
-    assert_equal!(rt, outer.peek_all(), b"6789".as_slice());
-    Ok(())
+#[derive(Drop)]
+struct Nests;
+
+impl Case for Nests {
+    fn holds<H: Abort + AllocGlobal, R: Octets + Copy>(
+        &self,
+        rt: &H,
+        octets: R,
+    ) -> Result<(), Fail> {
+        let mut outer = Parser::from_ref(octets);
+        outer.advance(2)?;
+        let mut nested = outer.parse_parser(4)?;
+        assert_equal!(rt, (nested.pos(), nested.len()), (2, 6));
+        assert_equal!(rt, nested.peek_all(), b"2345".as_slice());
+        nested.seek(0)?;
+        assert_equal!(rt, nested.peek_all(), b"012345".as_slice());
+        assert_equal!(rt, nested.seek(7), Err(ShortInput));
+        assert_equal!(rt, nested.pos(), 0);
+        assert_equal!(rt, outer.peek_all(), b"6789".as_slice());
+        Ok(())
+    }
 }
 
-fn moves_by_itself<R: Octets + Copy>(rt: &impl Abort, octets: R) -> Result<(), Fail> {
-    let mut parser = Parser::from_ref(octets);
-    let copy = parser;
-    parser.check_len(10)?;
-    parser.advance_to_end();
-    assert_equal!(rt, (parser.pos(), copy.pos()), (10, 0));
-    assert_equal!(rt, copy.peek(2)?, b"01".as_slice());
-    assert_equal!(rt, parser.clone()?.pos(), 10);
-    assert_equal!(rt, parser.octets_ref().as_ref(), b"0123456789".as_slice());
-    Ok(())
+#[derive(Drop)]
+struct MovesByItself;
+
+impl Case for MovesByItself {
+    fn holds<H: Abort + AllocGlobal, R: Octets + Copy>(
+        &self,
+        rt: &H,
+        octets: R,
+    ) -> Result<(), Fail> {
+        let mut parser = Parser::from_ref(octets);
+        let copy = parser;
+        parser.check_len(10)?;
+        parser.advance_to_end();
+        assert_equal!(rt, (parser.pos(), copy.pos()), (10, 0));
+        assert_equal!(rt, copy.peek(2)?, b"01".as_slice());
+        assert_equal!(rt, parser.clone()?.pos(), 10);
+        assert_equal!(rt, parser.octets_ref().as_ref(), b"0123456789".as_slice());
+        Ok(())
+    }
 }
 
 #[test]
 fn a_nested_parser_has_a_window_of_its_own(rt: HostRuntime) -> Result<(), Fail> {
-    over_each!(&rt, nests, b"0123456789")?;
-    over_each!(&rt, moves_by_itself, b"0123456789")
+    over_each(&rt, &Nests, b"0123456789")?;
+    over_each(&rt, &MovesByItself, b"0123456789")
 }
 
-fn takes_ranges<R: Octets + Copy>(rt: &impl Abort, octets: R) -> Result<(), Fail> {
-    let mut parser = Parser::from_ref(octets);
-    assert_equal!(rt, parser.parse_octets(2)?.as_ref(), b"01".as_slice());
-    assert_equal!(rt, parser.parse_octets(2)?.as_ref(), b"23".as_slice());
-    let short = Err(ParseOctetsError::Short(ShortInput));
-    assert_equal!(rt, parser.parse_octets(7).map(|_| ()), short);
-    assert_equal!(rt, parser.parse_octets(6)?.as_ref(), b"456789".as_slice());
-    Ok(())
-}
-
-fn fills_buffers<R: Octets + Copy>(rt: &impl Abort, octets: R) -> Result<(), Fail> {
-    let mut parser = Parser::from_ref(octets);
-    let mut two = [0; 2];
-    for wanted in [b"01", b"23"] {
-        parser.parse_buf(&mut two)?;
-        assert_equal!(rt, &two, wanted);
+/// A parser of "0123456789" stands at a place, and shows what is left and no more.
+fn stands(rt: &impl Abort, parser: &Parser<&[u8]>, pos: usize) {
+    let left = b"0123456789".get(pos..).unwrap_or(b"");
+    assert_equal!(rt, (parser.pos(), parser.remaining()), (pos, left.len()));
+    assert_equal!(rt, parser.peek_all(), left);
+    for n in 0..12 {
+        assert_equal!(rt, parser.peek(n).ok(), left.get(..n));
+        assert_equal!(rt, parser.check_len(n).is_ok(), n <= left.len());
     }
-    let mut seven = [7; 7];
-    assert_equal!(rt, parser.parse_buf(&mut seven), Err(ShortInput));
-    assert_equal!(rt, (seven, parser.pos()), ([7; 7], 4));
-    let mut six = [0; 6];
-    parser.parse_buf(&mut six)?;
-    assert_equal!(rt, &six, b"456789");
-    assert_equal!(rt, parser.parse_buf(&mut []), Ok(()));
+}
+
+#[test]
+fn a_parser_moves_within_its_window(rt: HostRuntime) -> Result<(), Fail> {
+    let mut parser = Parser::from_static(b"0123456789");
+    for (place, pos) in [(0, 0), (2, 2), (10, 10), (11, 10)] {
+        assert_equal!(&rt, parser.seek(place).is_ok(), place == pos);
+        stands(&rt, &parser, pos);
+    }
+    let mut parser = Parser::from_static(b"0123456789");
+    for (len, is_moved, pos) in [(0, true, 0), (2, true, 2), (9, false, 2), (8, true, 10)] {
+        assert_equal!(&rt, parser.advance(len).is_ok(), is_moved);
+        stands(&rt, &parser, pos);
+    }
+    let mut outer = Parser::from_static(b"0123456789");
+    outer.advance(2)?;
+    let mut nested = outer.parse_parser(4)?;
+    assert_equal!(&rt, nested.peek_all(), b"2345".as_slice());
+    nested.advance(2)?;
+    assert_equal!(&rt, nested.peek_all(), b"45".as_slice());
+    stands(&rt, &outer, 6);
     Ok(())
+}
+
+#[derive(Drop)]
+struct TakesRanges;
+
+impl Case for TakesRanges {
+    fn holds<H: Abort + AllocGlobal, R: Octets + Copy>(
+        &self,
+        rt: &H,
+        octets: R,
+    ) -> Result<(), Fail> {
+        let mut parser = Parser::from_ref(octets);
+        assert_equal!(rt, parser.parse_octets(2)?.as_ref(), b"01".as_slice());
+        assert_equal!(rt, parser.parse_octets(2)?.as_ref(), b"23".as_slice());
+        let short = Err(ParseOctetsError::Short(ShortInput));
+        assert_equal!(rt, parser.parse_octets(7).map(|_| ()), short);
+        assert_equal!(rt, parser.parse_octets(6)?.as_ref(), b"456789".as_slice());
+        Ok(())
+    }
+}
+
+#[derive(Drop)]
+struct FillsBuffers;
+
+impl Case for FillsBuffers {
+    fn holds<H: Abort + AllocGlobal, R: Octets + Copy>(
+        &self,
+        rt: &H,
+        octets: R,
+    ) -> Result<(), Fail> {
+        let mut parser = Parser::from_ref(octets);
+        let mut two = [0; 2];
+        for wanted in [b"01", b"23"] {
+            parser.parse_buf(&mut two)?;
+            assert_equal!(rt, &two, wanted);
+        }
+        let mut seven = [7; 7];
+        assert_equal!(rt, parser.parse_buf(&mut seven), Err(ShortInput));
+        assert_equal!(rt, (seven, parser.pos()), ([7; 7], 4));
+        let mut six = [0; 6];
+        parser.parse_buf(&mut six)?;
+        assert_equal!(rt, &six, b"456789");
+        assert_equal!(rt, parser.parse_buf(&mut []), Ok(()));
+        Ok(())
+    }
 }
 
 #[test]
 fn octets_are_taken_as_ranges_and_into_buffers(rt: HostRuntime) -> Result<(), Fail> {
-    over_each!(&rt, takes_ranges, b"0123456789")?;
-    over_each!(&rt, fills_buffers, b"0123456789")
+    over_each(&rt, &TakesRanges, b"0123456789")?;
+    over_each(&rt, &FillsBuffers, b"0123456789")
 }
 
 #[test]
@@ -81,60 +151,85 @@ fn a_range_of_shared_octets_is_shared(rt: HostRuntime) -> Result<(), Fail> {
     Ok(())
 }
 
-fn refuses_the_greatest<R: Octets + Copy>(rt: &impl Abort, octets: R) -> Result<(), Fail> {
-    let most = usize::MAX;
-    let mut parser = Parser::from_ref(octets);
-    parser.advance(1)?;
-    assert_equal!(rt, parser.peek(most), Err(ShortInput));
-    assert_equal!(rt, parser.check_len(most), Err(ShortInput));
-    assert_equal!(rt, parser.seek(most), Err(ShortInput));
-    assert_equal!(rt, parser.advance(most), Err(ShortInput));
-    let short = Err(ParseOctetsError::Short(ShortInput));
-    assert_equal!(rt, parser.parse_octets(most).map(|_| ()), short);
-    assert_true!(rt, parser.parse_parser(most).is_err());
-    assert_equal!(rt, (parser.pos(), parser.len()), (1, 10));
-    Ok(())
+#[derive(Drop)]
+struct RefusesTheGreatest;
+
+impl Case for RefusesTheGreatest {
+    fn holds<H: Abort + AllocGlobal, R: Octets + Copy>(
+        &self,
+        rt: &H,
+        octets: R,
+    ) -> Result<(), Fail> {
+        let most = usize::MAX;
+        let mut parser = Parser::from_ref(octets);
+        parser.advance(1)?;
+        assert_equal!(rt, parser.peek(most), Err(ShortInput));
+        assert_equal!(rt, parser.check_len(most), Err(ShortInput));
+        assert_equal!(rt, parser.seek(most), Err(ShortInput));
+        assert_equal!(rt, parser.advance(most), Err(ShortInput));
+        let short = Err(ParseOctetsError::Short(ShortInput));
+        assert_equal!(rt, parser.parse_octets(most).map(|_| ()), short);
+        assert_true!(rt, parser.parse_parser(most).is_err());
+        assert_equal!(rt, (parser.pos(), parser.len()), (1, 10));
+        Ok(())
+    }
 }
 
 #[test]
 fn the_greatest_numbers_are_refused(rt: HostRuntime) -> Result<(), Fail> {
-    over_each!(&rt, refuses_the_greatest, b"0123456789")
+    over_each(&rt, &RefusesTheGreatest, b"0123456789")
 }
 
-fn begins_with_ranges<R: Octets + Copy>(rt: &impl Abort, octets: R) -> Result<(), Fail> {
-    let most = usize::MAX;
-    let cases = [
-        (
-            (Bound::Unbounded, Bound::Unbounded),
-            Some([1, 2, 3].as_slice()),
-        ),
-        ((Bound::Included(1), Bound::Included(2)), Some(&[2, 3])),
-        ((Bound::Excluded(0), Bound::Excluded(3)), Some(&[2, 3])),
-        ((Bound::Excluded(2), Bound::Unbounded), Some(&[])),
-        ((Bound::Excluded(3), Bound::Unbounded), None),
-        ((Bound::Unbounded, Bound::Included(3)), None),
-        ((Bound::Included(2), Bound::Excluded(1)), None),
-        ((Bound::Excluded(most), Bound::Unbounded), None),
-        ((Bound::Unbounded, Bound::Included(most)), None),
-    ];
-    for (bounds, left) in cases {
-        let parser = Parser::try_with_range(octets, bounds);
-        assert_equal!(rt, parser.is_some(), left.is_some());
-        if let (Some(parser), Some(left)) = (parser, left) {
-            assert_equal!(rt, parser.peek_all(), left);
+#[derive(Drop)]
+struct BeginsWithRanges;
+
+impl Case for BeginsWithRanges {
+    fn holds<H: Abort + AllocGlobal, R: Octets + Copy>(
+        &self,
+        rt: &H,
+        octets: R,
+    ) -> Result<(), Fail> {
+        let most = usize::MAX;
+        let cases = [
+            (
+                (Bound::Unbounded, Bound::Unbounded),
+                Some([1, 2, 3].as_slice()),
+            ),
+            ((Bound::Included(1), Bound::Included(2)), Some(&[2, 3])),
+            ((Bound::Excluded(0), Bound::Excluded(3)), Some(&[2, 3])),
+            ((Bound::Excluded(2), Bound::Unbounded), Some(&[])),
+            ((Bound::Excluded(3), Bound::Unbounded), None),
+            ((Bound::Unbounded, Bound::Included(3)), None),
+            ((Bound::Included(2), Bound::Excluded(1)), None),
+            ((Bound::Excluded(most), Bound::Unbounded), None),
+            ((Bound::Unbounded, Bound::Included(most)), None),
+        ];
+        for (bounds, left) in cases {
+            let parser = Parser::try_with_range(octets, bounds);
+            assert_equal!(rt, parser.is_some(), left.is_some());
+            if let (Some(parser), Some(left)) = (parser, left) {
+                assert_equal!(rt, parser.peek_all(), left);
+            }
         }
+        let empty = Parser::try_with_range(octets, (Bound::Included(2), Bound::Excluded(2)));
+        let parser = empty.ok_or("no range")?;
+        assert_true!(rt, !parser.is_empty());
+        assert_equal!(rt, (parser.len(), parser.remaining()), (2, 0));
+        assert_equal!(rt, parser.as_slice(), [1, 2].as_slice());
+        let mut whole = Parser::from_ref(octets);
+        whole.advance(1)?;
+        assert_true!(
+            rt,
+            matches!(whole.parse_octets(most), Err(ParseOctetsError::Short(_)))
+        );
+        assert_equal!(rt, whole.pos(), 1);
+        Ok(())
     }
-    let empty = Parser::try_with_range(octets, (Bound::Included(2), Bound::Excluded(2)));
-    let parser = empty.ok_or("no range")?;
-    assert_true!(rt, !parser.is_empty());
-    assert_equal!(rt, (parser.len(), parser.remaining()), (2, 0));
-    assert_equal!(rt, parser.as_slice(), [1, 2].as_slice());
-    Ok(())
 }
 
 #[test]
 fn a_parser_begins_with_a_range(rt: HostRuntime) -> Result<(), Fail> {
-    over_each!(&rt, begins_with_ranges, &[1, 2, 3])
+    over_each(&rt, &BeginsWithRanges, &[1, 2, 3])
 }
 
 /// Each bound of a place up to 5, with the start and the end in three octets that it stands for.
@@ -154,48 +249,66 @@ const BOUNDS: [(Bound, usize, usize); 13] = [
     (Bound::Excluded(5), 6, 5),
 ];
 
-fn has_each_range<R: Octets + Copy>(rt: &impl Abort, octets: R) -> Result<(), Fail> {
-    for (first, start, _) in BOUNDS {
-        for (last, _, end) in BOUNDS {
-            let wanted = [1, 2, 3].as_slice().get(start..end);
-            assert_equal!(rt, range_exists(3, (first, last)), wanted.is_some());
-            let parser = Parser::try_with_range(octets, (first, last));
-            assert_equal!(rt, parser.is_some(), wanted.is_some());
-            if let (Some(parser), Some(wanted)) = (parser, wanted) {
-                assert_equal!(rt, parser.peek_all(), wanted);
+#[derive(Drop)]
+struct HasEachRange;
+
+impl Case for HasEachRange {
+    fn holds<H: Abort + AllocGlobal, R: Octets + Copy>(
+        &self,
+        rt: &H,
+        octets: R,
+    ) -> Result<(), Fail> {
+        for (first, start, _) in BOUNDS {
+            for (last, _, end) in BOUNDS {
+                let wanted = [1, 2, 3].as_slice().get(start..end);
+                assert_equal!(rt, range_exists(3, (first, last)), wanted.is_some());
+                let parser = Parser::try_with_range(octets, (first, last));
+                assert_equal!(rt, parser.is_some(), wanted.is_some());
+                if let (Some(parser), Some(wanted)) = (parser, wanted) {
+                    assert_equal!(rt, parser.peek_all(), wanted);
+                }
             }
         }
+        Ok(())
     }
-    Ok(())
 }
 
 #[test]
 fn a_parser_begins_with_each_range(rt: HostRuntime) -> Result<(), Fail> {
-    over_each!(&rt, has_each_range, &[1, 2, 3])
+    over_each(&rt, &HasEachRange, &[1, 2, 3])
 }
 
-fn has_no_octets<R: Octets + Copy>(rt: &impl Abort, octets: R) -> Result<(), Fail> {
-    let most = usize::MAX;
-    let cases = [
-        ((Bound::Unbounded, Bound::Unbounded), true),
-        ((Bound::Included(0), Bound::Excluded(0)), true),
-        ((Bound::Excluded(0), Bound::Unbounded), false),
-        ((Bound::Included(most), Bound::Unbounded), false),
-        ((Bound::Unbounded, Bound::Excluded(most)), false),
-        ((Bound::Excluded(most), Bound::Included(most)), false),
-    ];
-    for (bounds, exists) in cases {
-        assert_equal!(rt, Parser::try_with_range(octets, bounds).is_some(), exists);
+#[derive(Drop)]
+struct HasNoOctets;
+
+impl Case for HasNoOctets {
+    fn holds<H: Abort + AllocGlobal, R: Octets + Copy>(
+        &self,
+        rt: &H,
+        octets: R,
+    ) -> Result<(), Fail> {
+        let most = usize::MAX;
+        let cases = [
+            ((Bound::Unbounded, Bound::Unbounded), true),
+            ((Bound::Included(0), Bound::Excluded(0)), true),
+            ((Bound::Excluded(0), Bound::Unbounded), false),
+            ((Bound::Included(most), Bound::Unbounded), false),
+            ((Bound::Unbounded, Bound::Excluded(most)), false),
+            ((Bound::Excluded(most), Bound::Included(most)), false),
+        ];
+        for (bounds, exists) in cases {
+            assert_equal!(rt, Parser::try_with_range(octets, bounds).is_some(), exists);
+        }
+        let parser = Parser::from_ref(octets);
+        assert_true!(rt, parser.is_empty());
+        assert_true!(rt, parser.as_slice().is_empty());
+        Ok(())
     }
-    let parser = Parser::from_ref(octets);
-    assert_true!(rt, parser.is_empty());
-    assert_true!(rt, parser.as_slice().is_empty());
-    Ok(())
 }
 
 #[test]
 fn no_octets_have_one_range(rt: HostRuntime) -> Result<(), Fail> {
-    over_each!(&rt, has_no_octets, &[])
+    over_each(&rt, &HasNoOctets, &[])
 }
 
 #[test]

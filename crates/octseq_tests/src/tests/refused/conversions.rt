@@ -1,46 +1,110 @@
 //! Conversions and ranges.
+ghost use Rattle.std.specs.Prelude.{◌≡◌, None};
+
 use arrayvec::ArrayVec;
 use bytes::{Bytes, BytesMut};
-use octseq::builder::{AppendError, AsOctets};
+use octseq::array::Array;
+use octseq::builder::{AppendError, AsOctets, CloneOctets};
+use octseq::cow::CowOctets;
 use octseq::octets::{Octets, OctetsFrom, OctetsInto, span};
 use octseq::str::Str;
 use smallvec::SmallVec;
 use std::alloc::Global;
 use std::process::Abort;
+use std::rc::RcSlice;
 use std::test::Fail;
 
-/// Makes a sequence of the octets of another.
-fn is_made_of<S: AsOctets, T: OctetsFrom<S>>(
+/// The sequence stands, and the octets that are made of a copy of it are its own, unless they were refused.
+fn holds<S: AsOctets, T: AsOctets, E: Drop>(
+    rt: &impl Abort,
+    source: &S,
+    made: Result<T, E>,
+) -> Result<(), E> {
+    assert_equal!(rt, source.as_ref(), b"abc".as_slice());
+    assert_equal!(rt, made?.as_ref(), b"abc".as_slice());
+    Ok(())
+}
+
+/// Makes octets of copies of a sequence by each of the calls.
+fn is_made_of<S: CloneOctets, T: OctetsFrom<S>>(
+    rt: &impl Abort,
+    alloc: Global,
+    source: &S,
+) -> Result<(), AppendError>
+    requires { T.limit ≡ None }
+{
+    let copy = source.clone_octets(alloc)?;
+    holds(rt, source, T::try_octets_from(alloc, copy))?;
+    let copy = source.clone_octets(alloc)?;
+    holds(rt, source, T::octets_from(alloc, copy))?;
+    let copy = source.clone_octets(alloc)?;
+    let made: Result<T, AppendError> = copy.try_octets_into(alloc);
+    holds(rt, source, made)?;
+    let copy = source.clone_octets(alloc)?;
+    Ok(holds::<S, T, _>(rt, source, copy.octets_into(alloc))?)
+}
+
+/// Makes octets of each type that requests memory.
+fn is_made_into_each<S: CloneOctets>(
     rt: &impl Abort,
     alloc: Global,
     source: S,
 ) -> Result<(), AppendError> {
-    let octets = T::try_octets_from(alloc, source)?;
-    assert_equal!(rt, octets.as_ref(), b"abc".as_slice());
-    Ok(())
+    is_made_of::<S, Vec<u8>>(rt, alloc, &source)?;
+    is_made_of::<S, Bytes>(rt, alloc, &source)?;
+    is_made_of::<S, BytesMut>(rt, alloc, &source)?;
+    is_made_of::<S, SmallVec<u8, 2>>(rt, alloc, &source)
 }
 
 #[test]
-fn octets_are_converted(rt: HostRuntime) -> Result<(), Fail> {
+fn vectors_and_slices_are_converted(rt: HostRuntime) -> Result<(), Fail> {
     let (alloc, slice) = (rt.alloc(), b"abc".as_slice());
-    is_made_of::<&[u8], Vec<u8>>(&rt, alloc, slice)?;
-    is_made_of::<&[u8], Bytes>(&rt, alloc, slice)?;
-    is_made_of::<&[u8], BytesMut>(&rt, alloc, slice)?;
-    is_made_of::<&[u8], SmallVec<u8, 2>>(&rt, alloc, slice)?;
-    let octets = Vec::<u8>::octets_from(alloc, slice)?;
-    let octets: Bytes = octets.octets_into(alloc)?;
-    assert_equal!(&rt, octets.as_slice(), slice);
+    is_made_into_each(&rt, alloc, slice)?;
+    is_made_into_each(&rt, alloc, slice.to_vec(alloc)?)?;
+    Ok(is_made_into_each(&rt, alloc, CowOctets::borrowed(alloc, slice))?)
+}
+
+#[test]
+fn shared_octets_are_converted(rt: HostRuntime) -> Result<(), Fail> {
+    let (alloc, slice) = (rt.alloc(), b"abc".as_slice());
+    is_made_into_each(&rt, alloc, Bytes::copy_from_slice(alloc, slice)?)?;
+    is_made_into_each(&rt, alloc, BytesMut::copy_from_slice(alloc, slice)?)?;
+    Ok(is_made_into_each(&rt, alloc, RcSlice::<u8>::from_slice(alloc, slice)?)?)
+}
+
+#[test]
+fn inline_octets_are_converted(rt: HostRuntime) -> Result<(), Fail> {
+    let (alloc, slice) = (rt.alloc(), b"abc".as_slice());
+    is_made_into_each(&rt, alloc, SmallVec::<u8, 2>::from_slice(alloc, slice)?)?;
+    is_made_into_each(
+        &rt,
+        alloc,
+        ArrayVec::<u8, 4>::try_octets_from(alloc, slice)?,
+    )?;
+    Ok(is_made_into_each(&rt, alloc, Array::<4>::try_from(slice)?)?)
+}
+
+/// Makes texts of a text.
+fn is_a_text_of<T: OctetsFrom<&'static [u8]>>(
+    rt: &impl Abort,
+    alloc: Global,
+) -> Result<(), AppendError>
+    requires { T.limit ≡ None }
+{
+    let text = Str::<T>::try_octets_from(alloc, Str::from_str("abc"))?;
+    assert_equal!(rt, text.as_str(), "abc");
+    let text: Str<T> = Str::from_str("abc").octets_into(alloc)?;
+    assert_equal!(rt, text.as_str(), "abc");
     Ok(())
 }
 
 #[test]
 fn texts_are_converted(rt: HostRuntime) -> Result<(), Fail> {
     let alloc = rt.alloc();
-    let text = Str::<Vec<u8>>::try_octets_from(alloc, Str::from_str("abc"))?;
-    assert_equal!(&rt, text.as_str(), "abc");
-    let text = Str::<Bytes>::try_octets_from(alloc, text)?;
-    assert_equal!(&rt, text.as_str(), "abc");
-    Ok(())
+    is_a_text_of::<Vec<u8>>(&rt, alloc)?;
+    is_a_text_of::<Bytes>(&rt, alloc)?;
+    is_a_text_of::<BytesMut>(&rt, alloc)?;
+    Ok(is_a_text_of::<SmallVec<u8, 2>>(&rt, alloc)?)
 }
 
 #[test]

@@ -1,11 +1,15 @@
 //! Parsers: ranges of shared octets, and lists of commands.
+use arrayvec::ArrayVec;
 use bytes::Bytes;
 use octseq::array::Array;
 use octseq::builder::AsOctets;
-use octseq::octets::Octets;
+use octseq::cow::CowOctets;
+use octseq::octets::{Octets, OctetsFrom};
 use octseq::parse::{ParseOctetsError, Parser, ParserCall, ParserCommand, ParserReply, run};
+use smallvec::SmallVec;
 use std::alloc::{AllocError, AllocGlobal};
 use std::process::Abort;
+use std::rc::RcSlice;
 use std::test::Fail;
 
 #[test]
@@ -85,11 +89,26 @@ fn commands_are_answered_over_slices(rt: HostRuntime) -> Result<(), Fail> {
 }
 
 #[test]
-fn commands_are_answered_over_arrays(rt: HostRuntime) -> Result<(), Fail> {
-    is_run(&rt, &Array::<10>::try_from(b"0123456789".as_slice())?)
+fn commands_are_answered_over_vectors(rt: HostRuntime) -> Result<(), Fail> {
+    let octets = b"0123456789".as_slice();
+    is_run(&rt, &octets.to_vec(rt.alloc())?)?;
+    is_run(&rt, &CowOctets::borrowed(rt.alloc(), octets))?;
+    is_run(&rt, &SmallVec::<u8, 2>::from_slice(rt.alloc(), octets)?)
+}
+
+#[test]
+fn commands_are_answered_over_fixed_buffers(rt: HostRuntime) -> Result<(), Fail> {
+    let octets = b"0123456789".as_slice();
+    is_run(&rt, &Array::<10>::try_from(octets)?)?;
+    is_run(
+        &rt,
+        &ArrayVec::<u8, 10>::try_octets_from(rt.alloc(), octets)?,
+    )
 }
 
 #[test]
 fn commands_are_answered_over_shared_octets(rt: HostRuntime) -> Result<(), Fail> {
-    is_run(&rt, &Bytes::copy_from_slice(rt.alloc(), b"0123456789")?)
+    let octets = b"0123456789".as_slice();
+    is_run(&rt, &Bytes::copy_from_slice(rt.alloc(), octets)?)?;
+    is_run(&rt, &RcSlice::<u8>::from_slice(rt.alloc(), octets)?)
 }

@@ -1,4 +1,7 @@
 //! Calls that request no memory. What is set up for them may.
+ghost use Rattle.std.specs.Prelude.{◌≡◌, None};
+
+use crate::tests::is_text_or_short;
 use arrayvec::ArrayVec;
 use bytes::{Bytes, BytesMut};
 use octseq::array::Array;
@@ -7,15 +10,14 @@ use octseq::builder::{
     OctetsBuilder, ShortBuf, Truncate,
 };
 use octseq::cow::CowOctets;
-use octseq::octets::{Octets, OctetsFrom, range_exists, span};
+use octseq::octets::{Octets, OctetsFrom, OctetsInto, range_exists, span};
 use octseq::parse::Parser;
-use octseq::str::{Str, StrBuilder, boundary, last_char};
+use octseq::str::{LossyPieces, Str, StrBuilder, boundary, last_char};
 use octseq::utf8::{Turns, first_fault};
 use smallvec::SmallVec;
 use std::alloc::Global;
-use std::cmp::Ordering;
-use std::fmt::Debug;
 use std::process::Abort;
+use std::rc::RcSlice;
 use std::test::Fail;
 
 /// The value of a call that requests no memory.
@@ -23,42 +25,185 @@ fn given<T, E: Drop>(answer: Result<T, E>) -> Result<T, Fail> {
     Ok(answer.ok().ok_or("it was refused")?)
 }
 
-/// Takes a fixed builder through each of its calls.
-fn goes_round<B>(rt: &impl Abort, alloc: Global) -> Result<(), Fail>
+/// Freezes octets, takes them for a builder, and reads them.
+fn stays<B>(rt: &impl Abort, alloc: Global, octets: B) -> Result<(), Fail>
 where
-    B: EmptyBuilder
-        + Truncate
-        + CloneOctets
-        + FreezeBuilder<Octets = B>
-        + OctetsFrom<&'static [u8]>,
-    B: IntoBuilder<Builder = B> + FromBuilder<Builder = B>,
+    B: FreezeBuilder<Octets = B> + IntoBuilder<Builder = B> + FromBuilder<Builder = B>,
 {
-    given(B::empty(alloc))?;
-    let mut builder = given(B::with_capacity(alloc, usize::MAX))?;
-    given(builder.append_slice(b"abcd"))?;
-    builder.truncate(3);
-    let octets = given(given(builder.freeze())?.into_builder(alloc))?;
+    let octets = given(given(octets.freeze())?.into_builder(alloc))?;
     let octets = given(B::from_builder(octets))?;
-    assert_equal!(
-        rt,
-        given(octets.clone_octets(alloc))?.as_ref(),
-        b"abc".as_slice(),
-    );
-    let octets = given(B::try_octets_from(alloc, b"abc".as_slice()))?;
-    assert_equal!(rt, octets.as_ref(), b"abc".as_slice());
+    let text = StrBuilder::from_utf8(octets).ok().ok_or("refused")?;
+    let text = given(text.freeze())?;
+    assert_equal!(rt, text.as_str(), "ab€");
     Ok(())
 }
 
 #[test]
-fn fixed_builders_go_round(rt: HostRuntime) -> Result<(), Fail> {
-    goes_round::<Array<4>>(&rt, rt.alloc())?;
-    goes_round::<ArrayVec<u8, 4>>(&rt, rt.alloc())
+fn vectors_stay_what_they_are(rt: HostRuntime) -> Result<(), Fail> {
+    let (alloc, octets) = (rt.alloc(), "ab€".as_bytes());
+    stays(&rt, alloc, octets.to_vec(alloc)?)?;
+    stays(&rt, alloc, SmallVec::<u8, 2>::from_slice(alloc, octets)?)?;
+    stays(&rt, alloc, CowOctets::borrowed(alloc, octets))?;
+    stays(&rt, alloc, CowOctets::owned(octets.to_vec(alloc)?))
+}
+
+#[test]
+fn fixed_buffers_stay_what_they_are(rt: HostRuntime) -> Result<(), Fail> {
+    let (alloc, octets) = (rt.alloc(), "ab€".as_bytes());
+    stays(&rt, alloc, Array::<5>::try_from(octets)?)?;
+    stays(
+        &rt,
+        alloc,
+        ArrayVec::<u8, 6>::try_octets_from(alloc, octets)?,
+    )
+}
+
+/// Makes a fixed builder, and texts in it.
+fn is_made<B>(rt: &impl Abort, alloc: Global) -> Result<(), Fail>
+where
+    B: EmptyBuilder + Truncate + FreezeBuilder<Octets = B> + FromBuilder<Builder = B>,
+{
+    assert_true!(rt, given(StrBuilder::<B>::new(alloc))?.is_empty());
+    let mut text = given(StrBuilder::<B>::with_capacity(alloc, usize::MAX))?;
+    given(text.try_push_str("ab"))?;
+    given(text.try_push('€'))?;
+    assert_equal!(rt, text.as_str(), "ab€");
+    let text = given(Str::<B>::try_copy_from_str(alloc, "ab€"))?;
+    assert_equal!(rt, text.as_str(), "ab€");
+    let mut builder = given(B::with_capacity(alloc, usize::MAX))?;
+    given(builder.append_slice(b"abcd"))?;
+    let mut lent = &mut builder;
+    lent.truncate(3);
+    given(lent.append_slice(b"de"))?;
+    assert_equal!(rt, builder.as_ref(), b"abcde".as_slice());
+    Ok(())
+}
+
+#[test]
+fn fixed_builders_are_made(rt: HostRuntime) -> Result<(), Fail> {
+    is_made::<Array<5>>(&rt, rt.alloc())?;
+    is_made::<ArrayVec<u8, 5>>(&rt, rt.alloc())
+}
+
+/// Makes octets of copies of a sequence.
+fn is_made_of<S: CloneOctets, T: OctetsFrom<S>>(
+    rt: &impl Abort,
+    alloc: Global,
+    source: &S,
+) -> Result<(), Fail> {
+    let copy = source.clone_octets(alloc)?;
+    let octets = given(T::try_octets_from(alloc, copy))?;
+    assert_equal!(rt, octets.as_ref(), b"abc".as_slice());
+    let copy = source.clone_octets(alloc)?;
+    let octets: T = given(copy.try_octets_into(alloc))?;
+    assert_equal!(rt, octets.as_ref(), b"abc".as_slice());
+    Ok(())
+}
+
+/// Makes octets of each type that requests none, or none inline, and lends them as a slice.
+fn is_made_into_each<S: CloneOctets>(
+    rt: &impl Abort,
+    alloc: Global,
+    source: S,
+) -> Result<(), Fail> {
+    is_made_of::<S, Array<3>>(rt, alloc, &source)?;
+    is_made_of::<S, ArrayVec<u8, 3>>(rt, alloc, &source)?;
+    is_made_of::<S, SmallVec<u8, 3>>(rt, alloc, &source)?;
+    let lent = given(<&[u8]>::try_octets_from(alloc, &source))?;
+    assert_equal!(rt, given(<&[u8]>::octets_from(alloc, &source))?, lent);
+    let other: &[u8] = given((&source).try_octets_into(alloc))?;
+    assert_equal!(rt, other, lent);
+    let other: &[u8] = given((&source).octets_into(alloc))?;
+    assert_equal!(rt, other, b"abc".as_slice());
+    Ok(())
+}
+
+#[test]
+fn vectors_and_slices_are_converted(rt: HostRuntime) -> Result<(), Fail> {
+    let (alloc, slice) = (rt.alloc(), b"abc".as_slice());
+    is_made_into_each(&rt, alloc, slice)?;
+    is_made_into_each(&rt, alloc, slice.to_vec(alloc)?)?;
+    is_made_into_each(&rt, alloc, CowOctets::borrowed(alloc, slice))
+}
+
+#[test]
+fn shared_octets_are_converted(rt: HostRuntime) -> Result<(), Fail> {
+    let (alloc, slice) = (rt.alloc(), b"abc".as_slice());
+    is_made_into_each(&rt, alloc, Bytes::copy_from_slice(alloc, slice)?)?;
+    is_made_into_each(&rt, alloc, BytesMut::copy_from_slice(alloc, slice)?)?;
+    is_made_into_each(&rt, alloc, RcSlice::<u8>::from_slice(alloc, slice)?)
+}
+
+#[test]
+fn inline_octets_are_converted(rt: HostRuntime) -> Result<(), Fail> {
+    let (alloc, slice) = (rt.alloc(), b"abc".as_slice());
+    is_made_into_each(&rt, alloc, SmallVec::<u8, 2>::from_slice(alloc, slice)?)?;
+    is_made_into_each(
+        &rt,
+        alloc,
+        ArrayVec::<u8, 4>::try_octets_from(alloc, slice)?,
+    )?;
+    is_made_into_each(&rt, alloc, Array::<4>::try_from(slice)?)
+}
+
+/// Cuts a range, as octets and as a parser.
+fn is_cut<R: Octets + Copy>(rt: &impl Abort, octets: R) -> Result<(), Fail> {
+    if !range_exists(octets.as_ref().len(), span(1, 3)) {
+        return Err(Fail::from("no range"));
+    }
+    let range = given(octets.range(span(1, 3)))?;
+    assert_equal!(rt, range.as_ref(), b"bc".as_slice());
+    let mut parser = Parser::from_ref(octets);
+    given(parser.advance(1))?;
+    let range = given(parser.parse_octets(2))?;
+    assert_equal!(rt, range.as_ref(), b"bc".as_slice());
+    assert_equal!(rt, parser.pos(), 3);
+    Ok(())
+}
+
+#[test]
+fn ranges_that_are_slices_are_cut(rt: HostRuntime) -> Result<(), Fail> {
+    let (alloc, slice) = (rt.alloc(), b"abc".as_slice());
+    is_cut(&rt, slice)?;
+    is_cut(&rt, &slice.to_vec(alloc)?)?;
+    is_cut(&rt, &CowOctets::borrowed(alloc, slice))?;
+    is_cut(&rt, &SmallVec::<u8, 2>::from_slice(alloc, slice)?)
+}
+
+#[test]
+fn ranges_of_fixed_and_counted_octets_are_cut(rt: HostRuntime) -> Result<(), Fail> {
+    let (alloc, slice) = (rt.alloc(), b"abc".as_slice());
+    is_cut(&rt, &Array::<4>::try_from(slice)?)?;
+    is_cut(&rt, &ArrayVec::<u8, 4>::try_octets_from(alloc, slice)?)?;
+    is_cut(&rt, &RcSlice::<u8>::from_slice(alloc, slice)?)
+}
+
+/// Octets that aren't well formed, in a fixed builder.
+fn unread<B: EmptyBuilder>(alloc: Global, octets: &[u8]) -> Result<B, Fail> {
+    let mut builder = given(B::empty(alloc))?;
+    given(builder.append_slice(octets))?;
+    Ok(builder)
+}
+
+/// Reads octets lossily by each of the calls, and as they come.
+fn is_read<B: EmptyBuilder>(rt: &impl Abort, alloc: Global) -> Result<(), Fail> {
+    let (octets, wanted) = (b"a\xFF\xFF".as_slice(), "a??");
+    let text = StrBuilder::try_from_utf8_lossy_with(alloc, unread::<B>(alloc, octets)?, '?');
+    assert_equal!(rt, given(text)?.as_str(), wanted);
+    let builder = unread::<B>(alloc, octets)?;
+    let turns = &mut Turns::new();
+    let text = StrBuilder::try_from_utf8_lossy_with_counted(alloc, builder, '?', turns);
+    assert_equal!(rt, given(text)?.as_str(), wanted);
+    let mut pieces = given(LossyPieces::<B>::new(alloc))?;
+    given(pieces.feed(b"a\xFF\xE2"))?;
+    given(pieces.feed(b"\x82\xAC\xF1"))?;
+    assert_equal!(rt, given(pieces.finish())?.as_str(), "a\u{FFFD}€\u{FFFD}");
+    Ok(())
 }
 
 /// Reads octets lossily into a fixed builder, pushes to the text, and takes from it.
-fn is_read<B: EmptyBuilder + Truncate>(rt: &impl Abort, alloc: Global) -> Result<(), Fail> {
-    let mut octets = B::empty(alloc).ok().ok_or("it was refused")?;
-    given(octets.append_slice(b"a\xFF\xFF"))?;
+fn is_changed<B: EmptyBuilder + Truncate>(rt: &impl Abort, alloc: Global) -> Result<(), Fail> {
+    let octets = unread::<B>(alloc, b"a\xFF\xFF")?;
     let mut text = given(StrBuilder::try_from_utf8_lossy(alloc, octets))?;
     given(text.try_push('é'))?;
     given(text.try_push_str("z"))?;
@@ -75,7 +220,9 @@ fn is_read<B: EmptyBuilder + Truncate>(rt: &impl Abort, alloc: Global) -> Result
 #[test]
 fn texts_in_fixed_builders_are_read_and_changed(rt: HostRuntime) -> Result<(), Fail> {
     is_read::<Array<10>>(&rt, rt.alloc())?;
-    is_read::<ArrayVec<u8, 10>>(&rt, rt.alloc())
+    is_read::<ArrayVec<u8, 10>>(&rt, rt.alloc())?;
+    is_changed::<Array<10>>(&rt, rt.alloc())?;
+    is_changed::<ArrayVec<u8, 10>>(&rt, rt.alloc())
 }
 
 /// Reads octets lossily into a fixed builder that can hold the text, or can't.
@@ -85,15 +232,11 @@ fn is_read_or_short<B: EmptyBuilder>(
     octets: &[u8],
     wanted: Option<&str>,
 ) -> Result<(), Fail> {
-    let mut builder = given(B::empty(alloc))?;
-    given(builder.append_slice(octets))?;
-    match (StrBuilder::try_from_utf8_lossy(alloc, builder), wanted) {
-        (Ok(text), Some(wanted)) => assert_equal!(rt, text.as_str(), wanted),
-        (answer, wanted) => {
-            assert_true!(rt, wanted.is_none());
-            assert_equal!(rt, answer.err(), Some(AppendError::Short(ShortBuf)));
-        }
-    }
+    let text = StrBuilder::try_from_utf8_lossy(alloc, unread::<B>(alloc, octets)?);
+    is_text_or_short(rt, text, wanted);
+    let builder = unread::<B>(alloc, octets)?;
+    let text = StrBuilder::try_from_utf8_lossy_counted(alloc, builder, &mut Turns::new());
+    is_text_or_short(rt, text, wanted);
     Ok(())
 }
 
@@ -110,16 +253,37 @@ fn texts_at_the_limit_of_fixed_builders_are_read(rt: HostRuntime) -> Result<(), 
     is_read_or_short::<ArrayVec<u8, 6>>(&rt, alloc, b"\xFF\xFF", Some("\u{FFFD}\u{FFFD}"))
 }
 
-#[test]
-fn texts_in_fixed_builders_are_copied_and_frozen(rt: HostRuntime) -> Result<(), Fail> {
-    let alloc = rt.alloc();
-    let text = given(Str::<Array<4>>::try_copy_from_str(alloc, "ab€".get(..2).unwrap_or("")))?;
-    assert_true!(&rt, given(text.clone(alloc))? == text);
-    let octets = Array::<4>::try_from(b"ab".as_slice())?;
-    let builder = StrBuilder::from_utf8(octets).ok().ok_or("refused")?;
-    let frozen = given(builder.freeze())?;
-    assert_equal!(&rt, frozen.cmp(&text), Ordering::Equal);
+/// Copies a text, a refusal of octets that are none, and those octets.
+fn is_copied<O: CloneOctets>(rt: &impl Abort, alloc: Global, good: O, bad: O) -> Result<(), Fail> {
+    let text = Str::from_utf8(good).ok().ok_or("refused")?;
+    assert_true!(rt, given(text.clone(alloc))? == text);
+    let error = Str::from_utf8(bad).err().ok_or("accepted")?;
+    assert_true!(rt, given(error.clone(alloc))? == error);
+    let octets = given(error.into_octets().clone_octets(alloc))?;
+    assert_equal!(rt, octets.as_ref(), b"a\xC0".as_slice());
     Ok(())
+}
+
+#[test]
+fn fixed_inline_and_borrowed_texts_are_copied(rt: HostRuntime) -> Result<(), Fail> {
+    let (alloc, good, bad) = (rt.alloc(), "ab€".as_bytes(), b"a\xC0".as_slice());
+    is_copied(&rt, alloc, good, bad)?;
+    is_copied(
+        &rt,
+        alloc,
+        CowOctets::borrowed(alloc, good),
+        CowOctets::borrowed(alloc, bad),
+    )?;
+    is_copied(
+        &rt,
+        alloc,
+        Array::<5>::try_from(good)?,
+        Array::try_from(bad)?,
+    )?;
+    let fixed = ArrayVec::<u8, 6>::try_octets_from(alloc, good)?;
+    is_copied(&rt, alloc, fixed, ArrayVec::try_octets_from(alloc, bad)?)?;
+    let small = SmallVec::<u8, 5>::from_slice(alloc, good)?;
+    is_copied(&rt, alloc, small, SmallVec::from_slice(alloc, bad)?)
 }
 
 #[test]
@@ -136,10 +300,7 @@ fn slices_are_read_where_they_lie(rt: HostRuntime) -> Result<(), Fail> {
     );
     assert_true!(&rt, !boundary(text.as_slice(), 3, &mut Turns::new()));
     assert_true!(&rt, first_fault(b"a\xC0", &mut Turns::new()).is_some());
-    assert_equal!(&rt, given(octets.clone_octets(alloc))?, octets);
-    let lent = given(<&[u8]>::try_octets_from(alloc, &octets))?;
-    assert_true!(&rt, range_exists(lent.len(), span(2, 5)));
-    assert_equal!(&rt, CowOctets::borrowed(alloc, lent).as_ref(), octets);
+    assert_equal!(&rt, CowOctets::borrowed(alloc, octets).as_ref(), octets);
     Ok(())
 }
 
@@ -160,28 +321,35 @@ fn parsers_of_slices_take_what_they_read(rt: HostRuntime) -> Result<(), Fail> {
     Ok(())
 }
 
-/// Freezes octets, takes them for a builder, and reads them.
-fn stays<B>(rt: &impl Abort, alloc: Global, octets: B) -> Result<(), Fail>
-where
-    B: EmptyBuilder + FreezeBuilder<Octets = B> + IntoBuilder<Builder = B>,
-    B: FromBuilder<Builder = B>,
+/// Reads octets that are well formed, which stay where they are, by each of the calls.
+fn is_read_as_it_is<B: EmptyBuilder>(rt: &impl Abort, alloc: Global, octets: B) -> Result<(), Fail>
+    requires { B.limit ≡ None }
 {
-    let octets = given(given(octets.freeze())?.into_builder(alloc))?;
-    let octets = given(B::from_builder(octets))?;
-    let text = StrBuilder::from_utf8(octets).ok().ok_or("refused")?;
-    let text = given(StrBuilder::try_from_utf8_lossy(alloc, text.into_octets_builder()))?;
-    assert_equal!(rt, text.as_str(), "ab€");
+    let text = given(StrBuilder::try_from_utf8_lossy(alloc, octets))?;
+    let text = given(StrBuilder::from_utf8_lossy(alloc, text.into_octets_builder()))?;
+    let (octets, turns) = (text.into_octets_builder(), &mut Turns::new());
+    let text = given(StrBuilder::try_from_utf8_lossy_counted(alloc, octets, turns))?;
+    let octets = text.into_octets_builder();
+    let text = given(StrBuilder::try_from_utf8_lossy_with(alloc, octets, '?'))?;
+    let octets = text.into_octets_builder();
+    let text = StrBuilder::try_from_utf8_lossy_with_counted(alloc, octets, '?', turns);
+    assert_equal!(rt, given(text)?.as_str(), "ab€");
     Ok(())
 }
 
 #[test]
-fn vectors_stay_what_they_are(rt: HostRuntime) -> Result<(), Fail> {
+fn well_formed_octets_are_read_as_they_are(rt: HostRuntime) -> Result<(), Fail> {
     let (alloc, octets) = (rt.alloc(), "ab€".as_bytes());
-    stays(&rt, alloc, octets.to_vec(alloc)?)?;
-    stays(&rt, alloc, SmallVec::<u8, 2>::from_slice(alloc, octets)?)?;
-    let text = Str::from_string(String::from_str(alloc, "ab€")?);
+    is_read_as_it_is(&rt, alloc, octets.to_vec(alloc)?)?;
+    is_read_as_it_is(&rt, alloc, BytesMut::copy_from_slice(alloc, octets)?)?;
+    is_read_as_it_is(&rt, alloc, SmallVec::<u8, 2>::from_slice(alloc, octets)?)
+}
+
+#[test]
+fn strings_are_taken_over(rt: HostRuntime) -> Result<(), Fail> {
+    let text = Str::from_string(String::from_str(rt.alloc(), "ab€")?);
     let octets = text.into_octets();
-    assert_equal!(&rt, given((&octets).range(span(0, 2)))?, b"ab".as_slice());
+    assert_equal!(&rt, octets.as_slice(), "ab€".as_bytes());
     assert_true!(&rt, !CowOctets::owned(octets).is_borrowed());
     Ok(())
 }
@@ -193,21 +361,17 @@ fn empty_builders_and_inline_octets_take_none(rt: HostRuntime) -> Result<(), Fai
     given(<BytesMut as EmptyBuilder>::empty(alloc))?;
     given(<SmallVec<u8, 4> as EmptyBuilder>::empty(alloc))?;
     given(<SmallVec<u8, 4> as EmptyBuilder>::with_capacity(alloc, 4))?;
-    let octets = given(SmallVec::<u8, 4>::try_octets_from(alloc, b"abcd".as_slice()))?;
-    assert_equal!(
-        &rt,
-        given(octets.clone_octets(alloc))?.as_ref(),
-        b"abcd".as_slice(),
-    );
+    let slice = b"abcd".as_slice();
+    let octets = given(SmallVec::<u8, 4>::octets_from(alloc, slice))?;
+    assert_equal!(&rt, octets.as_slice(), slice);
+    let octets: SmallVec<u8, 4> = given(slice.octets_into(alloc))?;
+    assert_equal!(&rt, octets.as_slice(), slice);
     Ok(())
 }
 
 #[test]
 fn shared_octets_are_read_where_they_lie(rt: HostRuntime) -> Result<(), Fail> {
     let alloc = rt.alloc();
-    let octets = BytesMut::copy_from_slice(alloc, b"0123456789")?;
-    let text = given(StrBuilder::try_from_utf8_lossy(alloc, octets))?;
-    assert_equal!(&rt, text.as_str(), "0123456789");
     let mut octets = Bytes::copy_from_slice(alloc, b"0123456789")?;
     Truncate::truncate(&mut octets, usize::MAX);
     let mut parser = Parser::from_ref(&octets);

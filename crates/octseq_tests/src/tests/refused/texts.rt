@@ -1,13 +1,20 @@
 //! Texts: what they are made of, pushes, lossy readings and lists of commands.
+ghost use Rattle.std.specs.Prelude.{◌≡◌, None};
+
+use arrayvec::ArrayVec;
 use bytes::{Bytes, BytesMut};
+use octseq::array::Array;
 use octseq::builder::{
-    AppendError, EmptyBuilder, FreezeBuilder, FromBuilder, OctetsBuilder, Truncate,
+    AppendError, AsOctets, CloneOctets, EmptyBuilder, FreezeBuilder, FromBuilder, OctetsBuilder,
+    Truncate,
 };
 use octseq::cow::CowOctets;
 use octseq::str::{Command, LossyPieces, Reply, Str, StrBuilder, run};
+use octseq::utf8::Turns;
 use smallvec::SmallVec;
 use std::alloc::{AllocError, Global};
 use std::process::Abort;
+use std::rc::RcSlice;
 use std::test::Fail;
 
 /// Pushes to an empty text. It has all of the characters after each push, or none of them.
@@ -41,30 +48,49 @@ fn texts_in_other_buffers_grow(rt: HostRuntime) -> Result<(), Fail> {
     grows(&rt, SmallVec::<u8, 20>::empty(rt.alloc())?)
 }
 
-#[test]
-fn texts_without_a_limit_grow(rt: HostRuntime) -> Result<(), Fail> {
-    let mut text = StrBuilder::<Vec<u8>>::new(rt.alloc())?;
+/// Pushes to an empty text with no limit by the calls that ask for that.
+fn grows_without_a_limit<B: OctetsBuilder>(rt: &impl Abort, builder: B) -> Result<(), Fail>
+    requires { B.limit ≡ None }
+{
+    let mut text = StrBuilder::from_utf8(builder).ok().ok_or("no text")?;
     let pushed = text.push_str("abc");
-    assert_equal!(&rt, text.as_str(), if pushed.is_ok() { "abc" } else { "" });
+    assert_equal!(rt, text.as_str(), if pushed.is_ok() { "abc" } else { "" });
     pushed?;
     for _ in 0..8 {
         let before = text.len();
         let pushed = text.push('€');
         let more = if pushed.is_ok() { 3 } else { 0 };
-        assert_equal!(&rt, text.len(), before.saturating_add(more));
+        assert_equal!(rt, text.len(), before.saturating_add(more));
         pushed?;
     }
     Ok(())
 }
 
-/// Makes a text of characters, copies it, and begins an empty one.
+#[test]
+fn texts_in_vectors_grow_without_a_limit(rt: HostRuntime) -> Result<(), Fail> {
+    grows_without_a_limit(&rt, Vec::empty(rt.alloc())?)?;
+    grows_without_a_limit(&rt, &mut Vec::empty(rt.alloc())?)?;
+    grows_without_a_limit(&rt, CowOctets::borrowed(rt.alloc(), b""))
+}
+
+#[test]
+fn texts_in_other_buffers_grow_without_a_limit(rt: HostRuntime) -> Result<(), Fail> {
+    grows_without_a_limit(&rt, BytesMut::empty(rt.alloc())?)?;
+    grows_without_a_limit(&rt, SmallVec::<u8, 2>::empty(rt.alloc())?)
+}
+
+/// Begins empty texts, and makes texts of characters.
 fn is_made<B: EmptyBuilder + FreezeBuilder<Octets = O>, O: FromBuilder<Builder = B>>(
     rt: &impl Abort,
     alloc: Global,
-) -> Result<(), Fail> {
+) -> Result<(), Fail>
+    requires { B.limit ≡ None }
+{
     assert_true!(rt, StrBuilder::<B>::new(alloc)?.is_empty());
     assert_true!(rt, StrBuilder::<B>::with_capacity(alloc, 8)?.is_empty());
     let text = Str::<O>::try_copy_from_str(alloc, "ab€")?;
+    assert_equal!(rt, text.as_str(), "ab€");
+    let text = Str::<O>::copy_from_str(alloc, "ab€")?;
     assert_equal!(rt, text.as_str(), "ab€");
     Ok(())
 }
@@ -77,29 +103,81 @@ fn texts_are_made(rt: HostRuntime) -> Result<(), Fail> {
 }
 
 #[test]
-fn texts_are_copied_and_frozen(rt: HostRuntime) -> Result<(), Fail> {
-    let alloc = rt.alloc();
-    let text = Str::<Vec<u8>>::copy_from_str(alloc, "ab€")?;
-    let copy = text.clone(alloc);
-    assert_equal!(&rt, text.as_str(), "ab€");
-    assert_equal!(&rt, copy?.as_str(), "ab€");
-    let octets = b"a\xC0".as_slice().to_vec(alloc)?;
-    let error = StrBuilder::from_utf8(octets).err().ok_or("accepted")?;
-    let copy = error.clone(alloc);
-    assert_equal!(&rt, error.as_slice(), b"a\xC0".as_slice());
-    assert_true!(&rt, copy? == error);
-    let mut text = StrBuilder::<BytesMut>::new(alloc)?;
+fn a_shared_text_is_frozen(rt: HostRuntime) -> Result<(), Fail> {
+    let mut text = StrBuilder::<BytesMut>::new(rt.alloc())?;
     text.push_str("ab€")?;
     assert_equal!(&rt, text.freeze()?.as_str(), "ab€");
     Ok(())
 }
 
-/// Reads octets that aren't well formed.
-fn is_read<B: EmptyBuilder>(rt: &impl Abort, alloc: Global) -> Result<(), Fail> {
+/// Copies a text, and a refusal of octets that are none. Both stand whatever the answer.
+fn is_copied<O: CloneOctets>(rt: &impl Abort, alloc: Global, good: O, bad: O) -> Result<(), Fail> {
+    let text = Str::from_utf8(good).ok().ok_or("no text")?;
+    let copy = text.clone(alloc);
+    assert_equal!(rt, text.as_str(), "ab€");
+    assert_equal!(rt, copy?.as_str(), "ab€");
+    let error = StrBuilder::from_utf8(bad).err().ok_or("accepted")?;
+    let copy = error.clone(alloc);
+    assert_equal!(rt, error.as_slice(), b"a\xC0".as_slice());
+    assert_true!(rt, copy? == error);
+    Ok(())
+}
+
+#[test]
+fn texts_in_vectors_are_copied(rt: HostRuntime) -> Result<(), Fail> {
+    let (alloc, good, bad) = (rt.alloc(), "ab€".as_bytes(), b"a\xC0".as_slice());
+    is_copied(&rt, alloc, good.to_vec(alloc)?, bad.to_vec(alloc)?)?;
+    let owned = CowOctets::owned(good.to_vec(alloc)?);
+    is_copied(&rt, alloc, owned, CowOctets::owned(bad.to_vec(alloc)?))?;
+    let small = SmallVec::<u8, 1>::from_slice(alloc, good)?;
+    is_copied(&rt, alloc, small, SmallVec::from_slice(alloc, bad)?)
+}
+
+#[test]
+fn shared_texts_are_copied(rt: HostRuntime) -> Result<(), Fail> {
+    let (alloc, good, bad) = (rt.alloc(), "ab€".as_bytes(), b"a\xC0".as_slice());
+    let shared = Bytes::copy_from_slice(alloc, good)?;
+    is_copied(&rt, alloc, shared, Bytes::copy_from_slice(alloc, bad)?)?;
+    let buffer = BytesMut::copy_from_slice(alloc, good)?;
+    is_copied(&rt, alloc, buffer, BytesMut::copy_from_slice(alloc, bad)?)?;
+    let counted = RcSlice::<u8>::from_slice(alloc, good)?;
+    is_copied(&rt, alloc, counted, RcSlice::<u8>::from_slice(alloc, bad)?)
+}
+
+/// Octets that aren't well formed, in a builder.
+fn unread<B: EmptyBuilder>(alloc: Global) -> Result<B, AppendError> {
     let mut octets = B::empty(alloc)?;
     octets.append_slice(b"0123456789\xFFabcdefgh\xF1\x80\x80")?;
-    let text = StrBuilder::try_from_utf8_lossy(alloc, octets)?;
+    Ok(octets)
+}
+
+/// The text is the lossy one of those octets.
+fn is_lossy<B: AsOctets>(rt: &impl Abort, text: &StrBuilder<B>) {
     assert_equal!(rt, text.as_str(), "0123456789\u{FFFD}abcdefgh\u{FFFD}");
+}
+
+/// Reads octets that aren't well formed by each of the calls.
+fn is_read<B: EmptyBuilder>(rt: &impl Abort, alloc: Global) -> Result<(), AppendError>
+    requires { B.limit ≡ None }
+{
+    let (replacement, turns) = (char::REPLACEMENT_CHARACTER, &mut Turns::new());
+    let octets = unread::<B>(alloc)?;
+    is_lossy(rt, &StrBuilder::try_from_utf8_lossy(alloc, octets)?);
+    let octets = unread::<B>(alloc)?;
+    is_lossy(rt, &StrBuilder::from_utf8_lossy(alloc, octets)?);
+    let octets = unread::<B>(alloc)?;
+    is_lossy(
+        rt,
+        &StrBuilder::try_from_utf8_lossy_counted(alloc, octets, turns)?,
+    );
+    let octets = unread::<B>(alloc)?;
+    is_lossy(
+        rt,
+        &StrBuilder::try_from_utf8_lossy_with(alloc, octets, replacement)?,
+    );
+    let octets = unread::<B>(alloc)?;
+    let text = StrBuilder::try_from_utf8_lossy_with_counted(alloc, octets, replacement, turns)?;
+    is_lossy(rt, &text);
     Ok(())
 }
 
@@ -107,12 +185,12 @@ fn is_read<B: EmptyBuilder>(rt: &impl Abort, alloc: Global) -> Result<(), Fail> 
 fn octets_are_read_lossily(rt: HostRuntime) -> Result<(), Fail> {
     is_read::<Vec<u8>>(&rt, rt.alloc())?;
     is_read::<BytesMut>(&rt, rt.alloc())?;
-    is_read::<SmallVec<u8, 2>>(&rt, rt.alloc())
+    Ok(is_read::<SmallVec<u8, 2>>(&rt, rt.alloc())?)
 }
 
-#[test]
-fn pieces_are_read(rt: HostRuntime) -> Result<(), Fail> {
-    let mut pieces = LossyPieces::<Vec<u8>>::new(rt.alloc())?;
+/// Reads octets in pieces. A refusal is answered from then on.
+fn is_read_in_pieces<B: EmptyBuilder>(rt: &impl Abort, alloc: Global) -> Result<(), AppendError> {
+    let mut pieces = LossyPieces::<B>::new(alloc)?;
     let cut = [
         b"0123456789\xE2".as_slice(),
         b"\x82\xACabcdefgh\xFF",
@@ -121,14 +199,21 @@ fn pieces_are_read(rt: HostRuntime) -> Result<(), Fail> {
     for piece in cut {
         let fed = pieces.feed(piece);
         if fed.is_err() {
-            assert_equal!(&rt, pieces.feed(b""), Err(AppendError::Memory));
-            assert_equal!(&rt, pieces.finish().err(), Some(AppendError::Memory));
-            return Ok(fed?);
+            assert_equal!(rt, pieces.feed(b""), Err(AppendError::Memory));
+            assert_equal!(rt, pieces.finish().err(), Some(AppendError::Memory));
+            return fed;
         }
     }
     let whole = "0123456789€abcdefgh\u{FFFD}ijklmnopqrstuvwxyz\u{FFFD}";
-    assert_equal!(&rt, pieces.finish()?.as_str(), whole);
+    assert_equal!(rt, pieces.finish()?.as_str(), whole);
     Ok(())
+}
+
+#[test]
+fn pieces_are_read(rt: HostRuntime) -> Result<(), Fail> {
+    is_read_in_pieces::<Vec<u8>>(&rt, rt.alloc())?;
+    is_read_in_pieces::<BytesMut>(&rt, rt.alloc())?;
+    Ok(is_read_in_pieces::<SmallVec<u8, 2>>(&rt, rt.alloc())?)
 }
 
 /// Runs commands on an empty text, of which one at most is refused for memory. The later ones are answered
@@ -167,7 +252,7 @@ fn is_run<B: OctetsBuilder + Truncate>(
         } else {
             Reply::Done
         };
-        assert_eq!(rt; *reply, answer, "at {place}");
+        assert_equal!(rt, reply, &answer);
     }
     match refused {
         None => Ok(()),
@@ -185,4 +270,10 @@ fn commands_are_answered_over_vectors(rt: HostRuntime) -> Result<(), Fail> {
 fn commands_are_answered_over_other_buffers(rt: HostRuntime) -> Result<(), Fail> {
     is_run(&rt, rt.alloc(), BytesMut::empty(rt.alloc())?)?;
     is_run(&rt, rt.alloc(), SmallVec::<u8, 2>::empty(rt.alloc())?)
+}
+
+#[test]
+fn commands_are_answered_over_fixed_buffers(rt: HostRuntime) -> Result<(), Fail> {
+    is_run(&rt, rt.alloc(), Array::<38>::new())?;
+    is_run(&rt, rt.alloc(), ArrayVec::<u8, 38>::new())
 }

@@ -159,19 +159,26 @@ fn each_sequence_is_made_into_each_other(rt: HostRuntime) -> Result<(), Fail> {
 #[test]
 fn a_conversion_that_passes_the_limit_is_refused(rt: HostRuntime) -> Result<(), Fail> {
     let alloc = rt.alloc();
-    let octets = b"abcd".as_slice().to_vec(alloc)?;
-    let short: Result<Array<3>, AppendError> = (&octets).try_octets_into(alloc);
+    let slice = b"abcd".as_slice();
+    let short: Result<Array<3>, AppendError> = slice.to_vec(alloc)?.try_octets_into(alloc);
     assert_equal!(&rt, short.err(), Some(AppendError::Short(ShortBuf)));
-    let whole: Array<4> = (&octets).try_octets_into(alloc)?;
-    assert_equal!(&rt, whole.as_slice(), b"abcd".as_slice());
-    let fixed = ArrayVec::<u8, 4>::try_octets_from(alloc, &octets)?;
-    assert_equal!(&rt, fixed.as_slice(), b"abcd".as_slice());
-    let shared: Bytes = octets.octets_into(alloc)?;
-    assert_equal!(&rt, shared.as_slice(), b"abcd".as_slice());
-    let long = [7u8; 25];
-    let small = SmallOctets::try_octets_from(alloc, long.as_slice())?;
-    assert_equal!(&rt, small.as_slice(), long.as_slice());
-    let vec = Vec::octets_from(alloc, long.as_slice())?;
-    assert_equal!(&rt, vec.as_slice(), long.as_slice());
+    let whole: Array<4> = slice.to_vec(alloc)?.try_octets_into(alloc)?;
+    assert_equal!(&rt, whole.as_slice(), slice);
+    let fixed = ArrayVec::<u8, 4>::try_octets_from(alloc, slice.to_vec(alloc)?)?;
+    assert_equal!(&rt, fixed.as_slice(), slice);
+    let short = Array::<3>::try_octets_from(alloc, slice.to_vec(alloc)?);
+    assert_equal!(&rt, short.err(), Some(AppendError::Short(ShortBuf)));
+    Ok(())
+}
+
+#[test]
+fn octets_of_any_length_are_converted(rt: HostRuntime) -> Result<(), Fail> {
+    let (alloc, long) = (rt.alloc(), [7u8; 25].as_slice());
+    let shared: Bytes = long.to_vec(alloc)?.octets_into(alloc)?;
+    assert_equal!(&rt, shared.as_slice(), long);
+    let small = SmallOctets::try_octets_from(alloc, long.to_vec(alloc)?)?;
+    assert_equal!(&rt, small.as_slice(), long);
+    let vec = Vec::octets_from(alloc, long)?;
+    assert_equal!(&rt, vec.as_slice(), long);
     Ok(())
 }

@@ -3,7 +3,7 @@ use super::table::{ROWS, edges};
 use super::{lossy, lossy_over};
 use arrayvec::ArrayVec;
 use octseq::array::Array;
-use octseq::builder::{AppendError, EmptyBuilder, ShortBuf};
+use octseq::builder::{AppendError, EmptyBuilder};
 use octseq::str::Str;
 use octseq::utf8::{Turns, first_fault};
 use std::alloc::Global;
@@ -92,11 +92,9 @@ fn is_read_within<A: EmptyBuilder, B: EmptyBuilder>(
     alloc: Global,
     octets: &[u8],
     text: Option<&str>,
-) -> Result<(), Fail> {
-    let short = AppendError::Short(ShortBuf);
-    lossy_over::<A>(rt, alloc, octets, text.ok_or(short))?;
-    let short = AppendError::Short(ShortBuf);
-    lossy_over::<B>(rt, alloc, octets, text.ok_or(short))
+) -> Result<(), AppendError> {
+    lossy_over::<A>(rt, alloc, octets, text)?;
+    lossy_over::<B>(rt, alloc, octets, text)
 }
 
 #[test]
@@ -109,5 +107,6 @@ fn texts_reach_the_limit_and_no_further(rt: HostRuntime) -> Result<(), Fail> {
     is_read_within::<Array<2>, ArrayVec<u8, 2>>(&rt, alloc, b"\xFF", None)?;
     is_read_within::<Array<3>, ArrayVec<u8, 3>>(&rt, alloc, b"\xFF", Some("\u{FFFD}"))?;
     is_read_within::<Array<5>, ArrayVec<u8, 5>>(&rt, alloc, b"\xFF\xFF", None)?;
-    is_read_within::<Array<6>, ArrayVec<u8, 6>>(&rt, alloc, b"\xFF\xFF", Some("\u{FFFD}\u{FFFD}"))
+    let whole = Some("\u{FFFD}\u{FFFD}");
+    Ok(is_read_within::<Array<6>, ArrayVec<u8, 6>>(&rt, alloc, b"\xFF\xFF", whole)?)
 }

@@ -1,5 +1,6 @@
 //! The lossy reading in pieces.
 use super::lossy_texts;
+use crate::tests::is_text_or_short;
 use octseq::array::Array;
 use octseq::builder::{AppendError, EmptyBuilder, ShortBuf};
 use octseq::str::LossyPieces;
@@ -19,12 +20,7 @@ fn is_read<B: EmptyBuilder>(
     for piece in pieces {
         assert_equal!(rt, reading.feed(piece), Ok(()));
     }
-    match (reading.finish(), wanted) {
-        (Ok(text), Some(wanted)) => assert_equal!(rt, text.as_str(), wanted),
-        (Err(error), None) => assert_equal!(rt, error, AppendError::Short(ShortBuf)),
-        (Ok(_), None) => assert!(rt; false, "it was read"),
-        (Err(_), Some(_)) => assert!(rt; false, "it was refused"),
-    }
+    is_text_or_short(rt, reading.finish(), wanted);
     Ok(())
 }
 

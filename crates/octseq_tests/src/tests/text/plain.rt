@@ -1,6 +1,6 @@
 //! The finder beside a plain one, which reads the table octet by octet and knows no lanes and no words.
+use super::lossy;
 use super::table::{ROWS, edges, plain_fault};
-use octseq::str::StrBuilder;
 use octseq::utf8::{Turns, first_fault};
 use std::alloc::Global;
 use std::process::Abort;
@@ -95,8 +95,7 @@ fn lanes_are_passed_and_faults_within_them_found(rt: HostRuntime) -> Result<(), 
             (fault.valid_up_to(), fault.error_len()),
             (place, Some(1)),
         );
-        let text = StrBuilder::try_from_utf8_lossy(alloc, octets)?;
-        assert_equal!(&rt, text.len(), 50);
+        assert_equal!(&rt, lossy(alloc, octets.as_slice())?.len(), 50);
     }
     let whole = ascii_with(alloc, 48, 15, b"\xC3\xA9")?;
     assert_equal!(&rt, first_fault(whole.as_slice(), &mut Turns::new()), None);

@@ -3,7 +3,8 @@ use arrayvec::ArrayVec;
 use bytes::BytesMut;
 use octseq::array::Array;
 use octseq::builder::{
-    AppendError, AsOctets, EmptyBuilder, OctetsBuilder, OctetsLimit, ShortBuf, Truncate,
+    AppendError, AsOctets, CloneOctets, EmptyBuilder, OctetsBuilder, OctetsLimit, ShortBuf,
+    Truncate,
 };
 use octseq::cow::CowOctets;
 use octseq::octets::OctetsFrom;
@@ -12,7 +13,7 @@ use octseq::utf8::Turns;
 use smallvec::SmallVec;
 use std::alloc::Global;
 use std::cmp::Ordering;
-use std::hash::{BuildHasher, BuildHasherDefault, DefaultHasher};
+use std::hash::{BuildHasher, BuildHasherDefault, DefaultHasher, Hash};
 use std::process::Abort;
 use std::test::Fail;
 
@@ -83,8 +84,37 @@ fn a_text_has_the_facts_of_its_octets(rt: HostRuntime) -> Result<(), Fail> {
 }
 
 /// The hash of a text.
-fn hash<Octets: AsOctets>(text: &Str<Octets>) -> u64 {
+fn hash<T: Hash>(text: &T) -> u64 {
     BuildHasherDefault::<DefaultHasher>::new().hash_one(text)
+}
+
+/// Texts are ordered so, and have one hash where they are equal.
+fn are_ordered<T: Ord + Hash + Drop>(rt: &impl Abort, left: T, right: T, order: Ordering) {
+    assert_equal!(rt, left.cmp(&right), order);
+    assert_equal!(rt, left.partial_cmp(&right), Some(order));
+    assert_equal!(rt, left == right, order == Ordering::Equal);
+    assert_equal!(rt, hash(&left) == hash(&right), order == Ordering::Equal);
+}
+
+/// Well-formed octets as a text and as a text that grows are ordered so.
+fn are_texts_ordered<O: CloneOctets>(
+    rt: &impl Abort,
+    alloc: Global,
+    left: O,
+    right: O,
+    order: Ordering,
+) -> Result<(), Fail> {
+    let first = Str::from_utf8(left.clone_octets(alloc)?)
+        .ok()
+        .ok_or("refused")?;
+    let second = Str::from_utf8(right.clone_octets(alloc)?)
+        .ok()
+        .ok_or("refused")?;
+    are_ordered(rt, first, second, order);
+    let first = StrBuilder::from_utf8(left).ok().ok_or("refused")?;
+    let second = StrBuilder::from_utf8(right).ok().ok_or("refused")?;
+    are_ordered(rt, first, second, order);
+    Ok(())
 }
 
 #[test]
@@ -92,20 +122,18 @@ fn texts_are_ordered_by_their_characters(rt: HostRuntime) -> Result<(), Fail> {
     let ordered = ["", "a", "ab", "z", "é", "\u{FFFF}", "\u{10000}"];
     for (i, text) in ordered.iter().enumerate() {
         for (j, other) in ordered.iter().enumerate() {
-            let (left, right) = (Str::from_str(text), Str::from_str(other));
-            assert_equal!(&rt, left.cmp(&right), i.cmp(&j));
-            assert_equal!(&rt, left.partial_cmp(&right), Some(i.cmp(&j)));
-            assert_equal!(&rt, left == right, i == j);
-            let grown = StrBuilder::from_utf8(text.as_bytes())
-                .ok()
-                .ok_or("refused")?;
-            let shrunk = StrBuilder::from_utf8(other.as_bytes())
-                .ok()
-                .ok_or("refused")?;
-            assert_equal!(&rt, grown.cmp(&shrunk), i.cmp(&j));
-            assert_equal!(&rt, grown == shrunk, i == j);
+            let (left, right, order) = (text.as_bytes(), other.as_bytes(), i.cmp(&j));
+            are_ordered(&rt, Str::from_str(text), Str::from_str(other), order);
+            are_texts_ordered(&rt, rt.alloc(), left, right, order)?;
+            let (left, right) = (left.to_vec(rt.alloc())?, right.to_vec(rt.alloc())?);
+            are_texts_ordered(&rt, rt.alloc(), left, right, order)?;
         }
     }
+    Ok(())
+}
+
+#[test]
+fn texts_are_the_same_in_each_representation(rt: HostRuntime) -> Result<(), Fail> {
     let fixed = Str::<Array<4>>::try_copy_from_str(rt.alloc(), "abc")?;
     let grown = Str::<Vec<u8>>::copy_from_str(rt.alloc(), "abc")?;
     assert_equal!(&rt, fixed.as_str(), grown.as_str());
