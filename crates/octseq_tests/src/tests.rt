@@ -36,12 +36,13 @@ fn is_text_or_short<B: AsOctets>(
     answer: Result<StrBuilder<B>, AppendError>,
     wanted: Option<&str>,
 ) {
-    let short = AppendError::Short(ShortBuf);
-    let text = match &answer {
-        Ok(text) => Ok(text.as_str()),
-        Err(error) => Err(error),
-    };
-    assert_equal!(rt, text, wanted.ok_or(&short));
+    match answer {
+        Ok(text) => assert_equal!(rt, Some(text.as_str()), wanted),
+        Err(error) => {
+            assert_true!(rt, wanted.is_none());
+            assert_equal!(rt, error, AppendError::Short(ShortBuf));
+        }
+    }
 }
 
 /// A test over octets, whatever holds them.

@@ -84,28 +84,29 @@ fn each_builder_is_filled(rt: HostRuntime) {
     assert_equal!(&rt, fill::<Vec<u8>>(&rt, alloc), Ok(()));
     assert_equal!(&rt, fill::<Array<4>>(&rt, alloc), Ok(()));
     assert_equal!(&rt, fill::<BytesMut>(&rt, alloc), Ok(()));
-    assert_eq!(rt; fill::<SmallVec<u8, 2>>(&rt, alloc), Ok(()));
-    assert_eq!(rt; fill::<ArrayVec<u8, 4>>(&rt, alloc), Ok(()));
+    assert_equal!(&rt, fill::<SmallVec<u8, 2>>(&rt, alloc), Ok(()));
+    assert_equal!(&rt, fill::<ArrayVec<u8, 4>>(&rt, alloc), Ok(()));
 }
 
 /// A type's limit and whether it asks for memory.
-fn facts<T: OctetsLimit>() -> (Option<usize>, bool) {
-    (T::limit(), T::asks_memory())
+fn has_facts<T: OctetsLimit>(rt: &impl Abort, limit: Option<usize>, asks_memory: bool) {
+    assert_equal!(rt, T::limit(), limit);
+    assert_equal!(rt, T::asks_memory(), asks_memory);
 }
 
 #[test]
 fn types_tell_their_limits(rt: HostRuntime) {
-    assert_equal!(&rt, facts::<Vec<u8>>(), (None, true));
-    assert_equal!(&rt, facts::<Array<7>>(), (Some(7), false));
-    assert_equal!(&rt, facts::<&[u8]>(), (None, false));
-    assert_equal!(&rt, facts::<CowOctets>(), (None, true));
-    assert_equal!(&rt, facts::<Bytes>(), (None, true));
-    assert_equal!(&rt, facts::<BytesMut>(), (None, true));
-    assert_eq!(rt; facts::<SmallVec<u8, 2>>(), (None, true));
-    assert_eq!(rt; facts::<ArrayVec<u8, 7>>(), (Some(7), false));
-    assert_equal!(&rt, facts::<RcSlice<u8>>(), (None, true));
-    assert_equal!(&rt, facts::<&Array<7>>(), (Some(7), false));
-    assert_equal!(&rt, facts::<&mut Array<4>>(), (Some(4), false));
+    has_facts::<Vec<u8>>(&rt, None, true);
+    has_facts::<Array<7>>(&rt, Some(7), false);
+    has_facts::<&[u8]>(&rt, None, false);
+    has_facts::<CowOctets>(&rt, None, true);
+    has_facts::<Bytes>(&rt, None, true);
+    has_facts::<BytesMut>(&rt, None, true);
+    has_facts::<SmallVec<u8, 2>>(&rt, None, true);
+    has_facts::<ArrayVec<u8, 7>>(&rt, Some(7), false);
+    has_facts::<RcSlice<u8>>(&rt, None, true);
+    has_facts::<&Array<7>>(&rt, Some(7), false);
+    has_facts::<&mut Array<4>>(&rt, Some(4), false);
 }
 
 /// A copy of a sequence has its content.
@@ -168,21 +169,28 @@ fn is_built<O: FromBuilder>(rt: &impl Abort, mut builder: O::Builder) -> Result<
 #[test]
 fn builders_and_sequences_go_round(rt: HostRuntime) -> Result<(), Fail> {
     let alloc = rt.alloc();
-    let slice = b"abc".as_slice();
     goes_round::<Vec<u8>>(&rt, alloc)?;
     goes_round::<Array<4>>(&rt, alloc)?;
     goes_round::<BytesMut>(&rt, alloc)?;
     goes_round::<SmallVec<u8, 2>>(&rt, alloc)?;
     goes_round::<ArrayVec<u8, 4>>(&rt, alloc)?;
+    Ok(())
+}
+
+#[test]
+fn sequences_are_made_by_their_builders(rt: HostRuntime) -> Result<(), Fail> {
+    let (alloc, slice) = (rt.alloc(), b"abc".as_slice());
     is_built::<Vec<u8>>(&rt, slice.into_builder(alloc)?)?;
     is_built::<Array<4>>(&rt, Array::try_from(slice)?)?;
     is_built::<SmallVec<u8, 2>>(&rt, SmallVec::from_slice(alloc, slice)?)?;
-    is_built::<CowOctets>(
-        &rt,
-        CowOctets::borrowed(alloc, slice)
-            .freeze()?
-            .into_builder(alloc)?,
-    )?;
+    let borrowed = CowOctets::borrowed(alloc, slice).freeze()?;
+    is_built::<CowOctets>(&rt, borrowed.into_builder(alloc)?)?;
+    Ok(())
+}
+
+#[test]
+fn fixed_and_shared_octets_are_made_by_their_builders(rt: HostRuntime) -> Result<(), Fail> {
+    let (alloc, slice) = (rt.alloc(), b"abc".as_slice());
     let mut fixed = ArrayVec::<u8, 4>::new();
     fixed.append_slice(slice)?;
     is_built::<ArrayVec<u8, 4>>(&rt, fixed)?;
@@ -264,7 +272,10 @@ fn the_greatest_capacity_is_refused_or_ignored(rt: HostRuntime) -> Result<(), Fa
         &rt,
         <BytesMut as EmptyBuilder>::with_capacity(alloc, most).is_err(),
     );
-    assert!(rt; <SmallVec<u8, 2> as EmptyBuilder>::with_capacity(alloc, most).is_err());
+    assert_true!(
+        &rt,
+        <SmallVec<u8, 2> as EmptyBuilder>::with_capacity(alloc, most).is_err()
+    );
     assert_equal!(
         &rt,
         Array::<4>::with_capacity(alloc, most)?.as_slice(),
@@ -282,17 +293,22 @@ fn arrays_are_compared_by_content(rt: HostRuntime) -> Result<(), Fail> {
     let mut whole = Array::<4>::try_from(b"a".as_slice())?;
     assert_true!(&rt, cut == whole);
     assert_equal!(&rt, cut.cmp(&whole), Ordering::Equal);
-    let hasher = BuildHasherDefault::<FoldHasher>::default();
-    assert_equal!(&rt, hasher.hash_one(&cut), hasher.hash_one(&whole));
     assert_equal!(&rt, cut.resize_raw(2), Ok(()));
     assert_equal!(&rt, whole.resize_raw(2), Ok(()));
     assert_true!(&rt, cut != whole);
     assert_equal!(&rt, cut.partial_cmp(&whole), Some(Ordering::Greater));
-    assert_equal!(
-        &rt,
-        format!(in rt.alloc(); "{cut:?}")?.as_str(),
-        "octets::Array([97, 98])",
-    );
+    Ok(())
+}
+
+#[test]
+fn arrays_are_hashed_and_shown_by_content(rt: HostRuntime) -> Result<(), Fail> {
+    let mut cut = Array::<4>::try_from(b"abc".as_slice())?;
+    cut.truncate(2);
+    let whole = Array::<4>::try_from(b"ab".as_slice())?;
+    let hasher = BuildHasherDefault::<FoldHasher>::default();
+    assert_equal!(&rt, hasher.hash_one(&cut), hasher.hash_one(&whole));
+    let shown = format!(in rt.alloc(); "{cut:?}")?;
+    assert_equal!(&rt, shown.as_str(), "octets::Array([97, 98])");
     Ok(())
 }
 

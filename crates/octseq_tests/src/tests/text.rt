@@ -268,7 +268,7 @@ fn a_refusal_of_memory_leaves_the_text(rt: HostRuntime) -> Result<(), Fail> {
             } else {
                 Reply::Done
             };
-            assert_eq!(rt; *reply, wanted, "reply {i} of run {n}");
+            assert_equal!(&rt, reply, &wanted);
         }
     }
     Ok(())

@@ -28,29 +28,24 @@ fn ranges_are_cut_where_they_lie(rt: HostRuntime) -> Result<(), Fail> {
     assert_equal!(&rt, inner.as_slice(), b"bcd".as_slice());
     let again = cut(&inner, (Bound::Excluded(0), Bound::Unbounded)).ok_or("no range")?;
     assert_equal!(&rt, again.as_slice(), b"cd".as_slice());
-    let slice = b"abc".as_slice();
-    let middle = Some(b"bc".as_slice());
-    assert_equal!(&rt, cut(slice, span(1, 3)), middle);
-    assert_equal!(&rt, cut(&slice.to_vec(alloc)?, span(1, 3)), middle);
-    assert_equal!(
-        &rt,
-        cut(&CowOctets::borrowed(alloc, slice), span(1, 3)),
-        middle,
-    );
-    assert_equal!(
-        &rt,
-        cut(&SmallVec::<u8, 2>::from_slice(alloc, slice)?, span(1, 3)),
-        middle,
-    );
-    assert_equal!(&rt, cut(&Array::<4>::try_from(slice)?, span(1, 3)), middle);
-    assert_equal!(
-        &rt,
-        cut(&RcSlice::<u8>::from_slice(alloc, slice)?, span(1, 3)),
-        middle,
-    );
-    let mut fixed = ArrayVec::<u8, 4>::new();
-    fixed.append_slice(slice)?;
-    assert_equal!(&rt, cut(&fixed, span(1, 3)), middle);
+    Ok(())
+}
+
+/// A range of "abc" is the slice "bc".
+fn is_cut<'a, R: Octets<Range = &'a [u8]>>(rt: &impl Abort, octets: R) {
+    assert_equal!(rt, cut(octets, span(1, 3)), Some(b"bc".as_slice()));
+}
+
+#[test]
+fn ranges_of_octets_that_are_not_shared_are_slices(rt: HostRuntime) -> Result<(), Fail> {
+    let (alloc, slice) = (rt.alloc(), b"abc".as_slice());
+    is_cut(&rt, slice);
+    is_cut(&rt, &slice.to_vec(alloc)?);
+    is_cut(&rt, &CowOctets::borrowed(alloc, slice));
+    is_cut(&rt, &SmallVec::<u8, 2>::from_slice(alloc, slice)?);
+    is_cut(&rt, &Array::<4>::try_from(slice)?);
+    is_cut(&rt, &RcSlice::<u8>::from_slice(alloc, slice)?);
+    is_cut(&rt, &ArrayVec::<u8, 4>::try_octets_from(alloc, slice)?);
     Ok(())
 }
 
@@ -94,22 +89,11 @@ fn each_bound(alloc: Global, len: usize) -> Result<Vec<(Bound, usize, usize)>, F
 #[test]
 fn ranges_are_those_of_whole_numbers(rt: HostRuntime) -> Result<(), Fail> {
     for octets in [b"".as_slice(), b"x", b"xy", b"xyz"] {
-        let len = octets.len();
-        let bounds = each_bound(rt.alloc(), len)?;
+        let bounds = each_bound(rt.alloc(), octets.len())?;
         for (first, start, _) in &bounds {
             for (last, _, end) in &bounds {
-                let exists = *start <= *end && *end <= len;
-                let found = cut(octets, (*first, *last));
-                assert_eq!(rt; found.is_some(), exists, "{first:?} {last:?} of {len}");
-                if let Some(range) = found {
-                    let mut wanted = Vec::new(rt.alloc());
-                    for (place, octet) in octets.iter().enumerate() {
-                        if *start <= place && place < *end {
-                            wanted.push(*octet)?;
-                        }
-                    }
-                    assert_eq!(rt; range, wanted.as_slice(), "{first:?} {last:?} of {len}");
-                }
+                let wanted = octets.get(*start..*end);
+                assert_equal!(&rt, cut(octets, (*first, *last)), wanted);
             }
         }
     }

@@ -30,6 +30,13 @@ fn texts_are_made(rt: HostRuntime) -> Result<(), Fail> {
     assert_true!(&rt, !text.is_empty());
     assert_true!(&rt, text.clone(alloc)? == text);
     assert_equal!(&rt, text.into_octets().as_slice(), b"abc".as_slice());
+    let string = String::from_str(alloc, "été")?;
+    assert_equal!(&rt, Str::from_string(string).as_str(), "été");
+    Ok(())
+}
+
+#[test]
+fn texts_are_borrowed(rt: HostRuntime) -> Result<(), Fail> {
     let error = Str::from_utf8(b"a\xC0".as_slice()).err().ok_or("accepted")?;
     assert_equal!(&rt, error.into_octets(), b"a\xC0".as_slice());
     let borrowed = Str::from_utf8_slice("é".as_bytes()).ok().ok_or("refused")?;
@@ -37,12 +44,14 @@ fn texts_are_made(rt: HostRuntime) -> Result<(), Fail> {
     let fault = Str::from_utf8_slice(b"a\xF1\x80").err().ok_or("accepted")?;
     assert_equal!(&rt, (fault.valid_up_to(), fault.error_len()), (1, None));
     assert_equal!(&rt, Str::from_utf8_unchecked("é".as_bytes()).len(), 2);
-    let string = String::from_str(alloc, "été")?;
-    assert_equal!(&rt, Str::from_string(string).as_str(), "été");
+    Ok(())
+}
+
+#[test]
+fn texts_begin_empty(rt: HostRuntime) {
     assert_true!(&rt, Str::<Array<2>>::default().is_empty());
     assert_true!(&rt, Str::<&[u8]>::default().is_empty());
     assert_true!(&rt, StrBuilder::<Array<2>>::default().is_empty());
-    Ok(())
 }
 
 #[test]
