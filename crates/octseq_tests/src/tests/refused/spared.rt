@@ -370,6 +370,19 @@ fn empty_builders_and_inline_octets_take_none(rt: HostRuntime) -> Result<(), Fai
 }
 
 #[test]
+fn texts_that_stay_inline_take_none(rt: HostRuntime) -> Result<(), Fail> {
+    let mut text = given(StrBuilder::<SmallVec<u8, 5>>::new(rt.alloc()))?;
+    given(text.push_str("ab"))?;
+    given(text.push('€'))?;
+    assert_equal!(&rt, text.as_str(), "ab€");
+    let text = given(Str::<SmallVec<u8, 5>>::copy_from_str(rt.alloc(), "ab€"))?;
+    assert_equal!(&rt, text.as_str(), "ab€");
+    let empty = given(StrBuilder::<BytesMut>::new(rt.alloc()))?;
+    assert_true!(&rt, given(empty.freeze())?.is_empty());
+    Ok(())
+}
+
+#[test]
 fn shared_octets_are_read_where_they_lie(rt: HostRuntime) -> Result<(), Fail> {
     let alloc = rt.alloc();
     let mut octets = Bytes::copy_from_slice(alloc, b"0123456789")?;
