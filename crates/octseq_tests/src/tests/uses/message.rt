@@ -35,15 +35,15 @@ fn wanted(alloc: Global, label: &'static [u8]) -> Result<Message<&'static [u8]>,
 fn is_wanted(rt: &impl Abort, read: &Message<&[u8]>) -> Result<(), Fail> {
     assert_equal!(rt, read.id, 0x1234);
     assert_equal!(rt, read.serial, 0x0102_0304);
-    assert_equal!(rt, read.name.len(), 2);
-    assert_equal!(rt, read.name[0], b"www".as_slice());
-    assert_equal!(rt, read.name[1], b"example".as_slice());
+    let labels: [&[u8]; 2] = [b"www", b"example"];
+    assert_equal!(rt, read.name.as_slice(), labels.as_slice());
     assert_equal!(rt, read.text.as_str(), "hé");
     assert_equal!(rt, read.records.len(), 2);
-    assert_equal!(rt, read.records[0].key, 7);
-    assert_equal!(rt, read.records[0].value, b"a".as_slice());
-    assert_equal!(rt, read.records[1].key, 256);
-    assert_equal!(rt, read.records[1].value, b"".as_slice());
+    let records: [(u64, &[u8]); 2] = [(7, b"a"), (256, b"")];
+    for (record, (key, value)) in read.records.iter().zip(records) {
+        assert_equal!(rt, u64::from(record.key), key);
+        assert_equal!(rt, record.value, value);
+    }
     Ok(())
 }
 

@@ -121,7 +121,8 @@ fn is_appended<B: EmptyBuilder + Truncate>(rt: &impl Abort, alloc: Global) -> Re
         b"a\x00\x03www\x07example\x00".as_slice(),
     );
     let wanted: Option<&[&[u8]]> = Some(&[b"www", b"example"]);
-    is_read(rt, alloc, &builder.as_ref()[2..], wanted, 13)
+    let name = builder.as_ref().get(2..).ok_or("no name")?;
+    is_read(rt, alloc, name, wanted, 13)
 }
 
 #[test]
