@@ -78,6 +78,3 @@ signed_8 n small = grind (arith, ints)
 pub signed_16 : (n : ℕ) → n < 2 ^ 128 → cast_signed w128 n ≡ signed 16 n
 unfolding signed
 signed_16 n small = grind (arith, ints)
-
--- each of them
-pub ruleset values = (be_1, be_2, le_2, be_4, le_4, be_8, le_8, be_16, le_16, signed_1, signed_2, signed_4, signed_8, signed_16)

@@ -8,7 +8,7 @@ use Rattle.std.specs.Int.{w8, w16, w32, w64, w128, from_be_bytes, from_le_bytes,
 use Rattle.std.specs.List.{AllByRecursion}
 use Rattle.std.specs.Prelude.{slice_index}
 use Rattle.octseq.specs.Integer.{be, le, octets_be, octets_le, unsigned}
-use Rattle.octseq.proofs.Values.{be_1, be_2, le_2, be_4, le_4, be_8, le_8, be_16, le_16}
+use Rattle.octseq.proofs.Values.{be_1, be_2, le_2, be_4, le_4, be_8, le_8, be_16, le_16, signed_1, signed_2, signed_4, signed_8, signed_16}
 use Rattle.octseq.proofs.Written.{positive, be_nil, be_cons, le_reverse, each_reverse}
 
 abbrev pub AreOctets : List ℕ → Type 0
@@ -108,4 +108,13 @@ pub unsigned_16 : (n : ℕ) → n < 2 ^ 128 → unsigned 16 (cast_signed w128 n)
 unfolding unsigned
 unsigned_16 n small = grind (arith, ints)
 
-pub ruleset back = (back_be_1, back_be_2, back_le_2, back_be_4, back_le_4, back_be_8, back_le_8, back_be_16, back_le_16, unsigned_1, unsigned_2, unsigned_4, unsigned_8, unsigned_16)
+-- what each width is read by
+pub ruleset read_1 = (be_1, signed_1, back_be_1, unsigned_1)
+
+pub ruleset read_2 = (be_2, le_2, signed_2, back_be_2, back_le_2, unsigned_2)
+
+pub ruleset read_4 = (be_4, le_4, signed_4, back_be_4, back_le_4, unsigned_4)
+
+pub ruleset read_8 = (be_8, le_8, signed_8, back_be_8, back_le_8, unsigned_8)
+
+pub ruleset read_16 = (be_16, le_16, signed_16, back_be_16, back_le_16, unsigned_16)

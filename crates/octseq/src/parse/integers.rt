@@ -23,9 +23,9 @@ fn first_octets<const N: usize>(octets: &[u8]) -> Option<[u8; N]>
 /// # Errors
 ///
 /// `ShortInput` where fewer octets are left. The parser is then as it was.
-#[tactic(auto, using(crate::proofs::Values::values, crate::proofs::WrittenBack::back, crate::proofs::Windows::next_of_rest))]
 impl<R: AsOctets> Parser<R> {
     /// The next `N` octets.
+    #[tactic(auto, using(crate::proofs::Windows::next_of_rest))]
     fn parse_array<const N: usize>(&mut self) -> Result<[u8; N], ShortInput>
         ensures taken { Takes result N self.old self.new }
         ensures value { IfOk result (λ octets. octets ≡ next N (window self.old)) }
@@ -39,6 +39,7 @@ impl<R: AsOctets> Parser<R> {
     }
 
     /// The next octet, signed.
+    #[tactic(auto, using(crate::proofs::WrittenBack::read_1, crate::proofs::Windows::next_of_rest))]
     pub fn parse_i8(&mut self) -> Result<i8, ShortInput>
         ensures taken { Takes result 1 self.old self.new }
         ensures value { IfOk result (λ value. value ≡ signed 1 (be (next 1 (window self.old)))) }
@@ -48,6 +49,7 @@ impl<R: AsOctets> Parser<R> {
     }
 
     /// The next octet, unsigned.
+    #[tactic(auto, using(crate::proofs::WrittenBack::read_1, crate::proofs::Windows::next_of_rest))]
     pub fn parse_u8(&mut self) -> Result<u8, ShortInput>
         ensures taken { Takes result 1 self.old self.new }
         ensures value { IfOk result (λ value. value ≡ be (next 1 (window self.old))) }
@@ -57,6 +59,7 @@ impl<R: AsOctets> Parser<R> {
     }
 
     /// The next 2 octets, big-endian, signed.
+    #[tactic(auto, using(crate::proofs::WrittenBack::read_2, crate::proofs::Windows::next_of_rest))]
     pub fn parse_i16_be(&mut self) -> Result<i16, ShortInput>
         ensures taken { Takes result 2 self.old self.new }
         ensures value { IfOk result (λ value. value ≡ signed 2 (be (next 2 (window self.old)))) }
@@ -66,6 +69,7 @@ impl<R: AsOctets> Parser<R> {
     }
 
     /// The next 2 octets, little-endian, signed.
+    #[tactic(auto, using(crate::proofs::WrittenBack::read_2, crate::proofs::Windows::next_of_rest))]
     pub fn parse_i16_le(&mut self) -> Result<i16, ShortInput>
         ensures taken { Takes result 2 self.old self.new }
         ensures value { IfOk result (λ value. value ≡ signed 2 (le (next 2 (window self.old)))) }
@@ -75,6 +79,7 @@ impl<R: AsOctets> Parser<R> {
     }
 
     /// The next 2 octets, big-endian, unsigned.
+    #[tactic(auto, using(crate::proofs::WrittenBack::read_2, crate::proofs::Windows::next_of_rest))]
     pub fn parse_u16_be(&mut self) -> Result<u16, ShortInput>
         ensures taken { Takes result 2 self.old self.new }
         ensures value { IfOk result (λ value. value ≡ be (next 2 (window self.old))) }
@@ -84,6 +89,7 @@ impl<R: AsOctets> Parser<R> {
     }
 
     /// The next 2 octets, little-endian, unsigned.
+    #[tactic(auto, using(crate::proofs::WrittenBack::read_2, crate::proofs::Windows::next_of_rest))]
     pub fn parse_u16_le(&mut self) -> Result<u16, ShortInput>
         ensures taken { Takes result 2 self.old self.new }
         ensures value { IfOk result (λ value. value ≡ le (next 2 (window self.old))) }
@@ -93,6 +99,7 @@ impl<R: AsOctets> Parser<R> {
     }
 
     /// The next 4 octets, big-endian, signed.
+    #[tactic(auto, using(crate::proofs::WrittenBack::read_4, crate::proofs::Windows::next_of_rest))]
     pub fn parse_i32_be(&mut self) -> Result<i32, ShortInput>
         ensures taken { Takes result 4 self.old self.new }
         ensures value { IfOk result (λ value. value ≡ signed 4 (be (next 4 (window self.old)))) }
@@ -102,6 +109,7 @@ impl<R: AsOctets> Parser<R> {
     }
 
     /// The next 4 octets, little-endian, signed.
+    #[tactic(auto, using(crate::proofs::WrittenBack::read_4, crate::proofs::Windows::next_of_rest))]
     pub fn parse_i32_le(&mut self) -> Result<i32, ShortInput>
         ensures taken { Takes result 4 self.old self.new }
         ensures value { IfOk result (λ value. value ≡ signed 4 (le (next 4 (window self.old)))) }
@@ -111,6 +119,7 @@ impl<R: AsOctets> Parser<R> {
     }
 
     /// The next 4 octets, big-endian, unsigned.
+    #[tactic(auto, using(crate::proofs::WrittenBack::read_4, crate::proofs::Windows::next_of_rest))]
     pub fn parse_u32_be(&mut self) -> Result<u32, ShortInput>
         ensures taken { Takes result 4 self.old self.new }
         ensures value { IfOk result (λ value. value ≡ be (next 4 (window self.old))) }
@@ -120,6 +129,7 @@ impl<R: AsOctets> Parser<R> {
     }
 
     /// The next 4 octets, little-endian, unsigned.
+    #[tactic(auto, using(crate::proofs::WrittenBack::read_4, crate::proofs::Windows::next_of_rest))]
     pub fn parse_u32_le(&mut self) -> Result<u32, ShortInput>
         ensures taken { Takes result 4 self.old self.new }
         ensures value { IfOk result (λ value. value ≡ le (next 4 (window self.old))) }
@@ -129,6 +139,7 @@ impl<R: AsOctets> Parser<R> {
     }
 
     /// The next 8 octets, big-endian, signed.
+    #[tactic(auto, using(crate::proofs::WrittenBack::read_8, crate::proofs::Windows::next_of_rest))]
     pub fn parse_i64_be(&mut self) -> Result<i64, ShortInput>
         ensures taken { Takes result 8 self.old self.new }
         ensures value { IfOk result (λ value. value ≡ signed 8 (be (next 8 (window self.old)))) }
@@ -138,6 +149,7 @@ impl<R: AsOctets> Parser<R> {
     }
 
     /// The next 8 octets, little-endian, signed.
+    #[tactic(auto, using(crate::proofs::WrittenBack::read_8, crate::proofs::Windows::next_of_rest))]
     pub fn parse_i64_le(&mut self) -> Result<i64, ShortInput>
         ensures taken { Takes result 8 self.old self.new }
         ensures value { IfOk result (λ value. value ≡ signed 8 (le (next 8 (window self.old)))) }
@@ -147,6 +159,7 @@ impl<R: AsOctets> Parser<R> {
     }
 
     /// The next 8 octets, big-endian, unsigned.
+    #[tactic(auto, using(crate::proofs::WrittenBack::read_8, crate::proofs::Windows::next_of_rest))]
     pub fn parse_u64_be(&mut self) -> Result<u64, ShortInput>
         ensures taken { Takes result 8 self.old self.new }
         ensures value { IfOk result (λ value. value ≡ be (next 8 (window self.old))) }
@@ -156,6 +169,7 @@ impl<R: AsOctets> Parser<R> {
     }
 
     /// The next 8 octets, little-endian, unsigned.
+    #[tactic(auto, using(crate::proofs::WrittenBack::read_8, crate::proofs::Windows::next_of_rest))]
     pub fn parse_u64_le(&mut self) -> Result<u64, ShortInput>
         ensures taken { Takes result 8 self.old self.new }
         ensures value { IfOk result (λ value. value ≡ le (next 8 (window self.old))) }
@@ -165,6 +179,7 @@ impl<R: AsOctets> Parser<R> {
     }
 
     /// The next 16 octets, big-endian, signed.
+    #[tactic(auto, using(crate::proofs::WrittenBack::read_16, crate::proofs::Windows::next_of_rest))]
     pub fn parse_i128_be(&mut self) -> Result<i128, ShortInput>
         ensures taken { Takes result 16 self.old self.new }
         ensures value { IfOk result (λ value. value ≡ signed 16 (be (next 16 (window self.old)))) }
@@ -174,6 +189,7 @@ impl<R: AsOctets> Parser<R> {
     }
 
     /// The next 16 octets, little-endian, signed.
+    #[tactic(auto, using(crate::proofs::WrittenBack::read_16, crate::proofs::Windows::next_of_rest))]
     pub fn parse_i128_le(&mut self) -> Result<i128, ShortInput>
         ensures taken { Takes result 16 self.old self.new }
         ensures value { IfOk result (λ value. value ≡ signed 16 (le (next 16 (window self.old)))) }
@@ -183,6 +199,7 @@ impl<R: AsOctets> Parser<R> {
     }
 
     /// The next 16 octets, big-endian, unsigned.
+    #[tactic(auto, using(crate::proofs::WrittenBack::read_16, crate::proofs::Windows::next_of_rest))]
     pub fn parse_u128_be(&mut self) -> Result<u128, ShortInput>
         ensures taken { Takes result 16 self.old self.new }
         ensures value { IfOk result (λ value. value ≡ be (next 16 (window self.old))) }
@@ -192,6 +209,7 @@ impl<R: AsOctets> Parser<R> {
     }
 
     /// The next 16 octets, little-endian, unsigned.
+    #[tactic(auto, using(crate::proofs::WrittenBack::read_16, crate::proofs::Windows::next_of_rest))]
     pub fn parse_u128_le(&mut self) -> Result<u128, ShortInput>
         ensures taken { Takes result 16 self.old self.new }
         ensures value { IfOk result (λ value. value ≡ le (next 16 (window self.old))) }
