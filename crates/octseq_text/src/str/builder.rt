@@ -154,7 +154,7 @@ impl<Octets: AsOctets> StrBuilder<Octets> {
         self.as_slice().is_empty()
     }
 
-    /// Whether whole characters make exactly the first `place` octets. It never is past the length.
+    /// Whether a character ends at this place, or the text begins there. No place past the length is one.
     pub fn is_char_boundary(&self, place: usize) -> bool
         ensures { IsTrue result ↔ IsBoundary (Octets.content self.now) place }
     {

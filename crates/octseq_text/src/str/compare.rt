@@ -30,7 +30,8 @@ impl<Octets: AsOctets> Eq for Str<Octets> {
     ghost laws = { Prim.search (comparing, rules) };
 }
 
-/// By the characters' numbers at the first place where they differ; a proper front comes first.
+/// As lists of the characters' numbers: the first two that differ decide, and a text comes before one that goes on
+/// behind it.
 impl<Octets: AsOctets> Ord for Str<Octets> {
     ghost cmp = { on (λ text. chars (Octets.content text)) (slice_cmp nat_cmp) };
 
@@ -99,7 +100,8 @@ impl<Octets: AsOctets> Eq for StrBuilder<Octets> {
     ghost laws = { Prim.search (comparing, rules) };
 }
 
-/// By the characters' numbers at the first place where they differ; a proper front comes first.
+/// As lists of the characters' numbers: the first two that differ decide, and a text comes before one that goes on
+/// behind it.
 impl<Octets: AsOctets> Ord for StrBuilder<Octets> {
     ghost cmp = { on (λ text. chars (Octets.content text)) (slice_cmp nat_cmp) };
 
