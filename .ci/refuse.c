@@ -1,4 +1,4 @@
-/* Refuses one request for memory: the n-th of a process, for n in REFUSED_REQUEST. It is loaded before the C library. */
+/* Refuses one request for memory: the n-th of a process, for n in REFUSED_REQUEST. Loaded before the C library. */
 #define _GNU_SOURCE
 #include <dlfcn.h>
 #include <errno.h>
