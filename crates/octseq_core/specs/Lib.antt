@@ -3,4 +3,5 @@ pub mod Cow
 pub mod Lends
 pub mod Limit
 pub mod Refusal
+pub mod Rewritten
 pub mod Shown

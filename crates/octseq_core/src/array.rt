@@ -17,9 +17,11 @@ use crate::builder::{
 };
 use std::alloc::{AllocError, Global};
 use std::cmp::Ordering;
+use std::convert::AsSlice;
 use std::fmt;
 use std::hash::{Hash, Hasher};
 use std::marker::Model;
+use std::ops::{DerefSlice, DerefSliceMut};
 
 /// Octets in a buffer of the fixed size `N`. The front of the buffer is the content; what the buffer has behind it is
 /// hidden.
@@ -94,6 +96,36 @@ impl<const N: usize> Array<N> {
             octets: self.octets,
             len: self.len,
         }
+    }
+}
+
+impl<const N: usize> DerefSlice for Array<N> {
+    type Elem = u8;
+
+    ghost deref_gives = { λ a octets. (octets ≡ a.content) × (length octets + length a.hidden ≡ N) };
+
+    fn deref(&self) -> &[u8] {
+        self.as_slice()
+    }
+}
+
+impl<const N: usize> DerefSliceMut for Array<N> {
+    ghost use Rattle.octseq_core.specs.Lends.{lends_content};
+
+    /// The hidden octets stay.
+    fn deref_mut(&mut self) -> &mut [u8]
+        ensures* writes_back { sem 𝓛 (lends_content N.row self.entry result) }
+        ensures content { result.now ≡ self.old.content }
+    {
+        self.as_slice_mut()
+    }
+}
+
+impl<const N: usize> AsSlice<u8> for Array<N> {
+    ghost items = { λ a. a.content };
+
+    fn as_slice(&self) -> &[u8] {
+        self.as_slice()
     }
 }
 

@@ -1,6 +1,7 @@
 //! What octet sequences and builders can do.
-ghost use Rattle.std.specs.Prelude.{◌≡◌, ℕ, Bool, true, Option, Some, List, [], ◌++◌, ◌+◌, ◌↔◌, take, length, codes, Result, Ok, IsOk, IfOk, OnOk, OnErr};
-ghost use Rattle.std.specs.Borrow.{GName};
+ghost use Rattle.std.specs.Prelude.{◌≡◌, ℕ, Bool, true, Option, Some, List, [], ◌++◌, ◌+◌, ◌↔◌, take, length, codes, Result, Ok, IsTrue, IsOk, IfOk, OnOk, OnErr};
+ghost use Rattle.std.specs.Borrow.{GName, sem};
+ghost use Rattle.octseq_core.specs.Lends.{lends_octets};
 ghost use Rattle.octseq_core.specs.Limit.{IsWithin, IsPast};
 ghost use Rattle.octseq_core.specs.Refusal.{IsShort, IsMemory};
 
@@ -15,6 +16,7 @@ mod shared;
 mod slice;
 mod small;
 mod vector;
+mod written;
 
 /// A sequence of octets.
 ///
@@ -37,6 +39,38 @@ pub trait AsOctets: Drop {
     fn as_ref(&self) -> &[u8]
         ensures value { result.now ≡ content self.now }
         ensures within { IsWithin limit (length (content self.now)) };
+
+    /// The length of the content in octets.
+    fn len(&self) -> usize
+        ensures { result ≡ length (content self.now) }
+    {
+        self.as_ref().len()
+    }
+
+    /// Whether the content has no octets.
+    fn is_empty(&self) -> bool
+        ensures { IsTrue result ↔ (content self.now ≡ []) }
+    {
+        self.as_ref().is_empty()
+    }
+}
+
+/// A sequence of octets whose content can be written over in place. It keeps its length.
+pub trait AsOctetsMut: AsOctets {
+    // The value with another content of the same length.
+    ghost with_content: { Self → List ℕ → Self };
+
+    /// Lends the content for writing.
+    fn as_mut(&mut self) -> &mut [u8]
+        ensures* writes_back { sem 𝓛 (lends_octets Self.row with_content self.entry result) }
+        ensures value { result.now ≡ Self.content self.old };
+
+    // That content is what it then stands for,
+    ghost written: { (x : Self) (octets : List ℕ) → length octets ≡ length (Self.content x)
+        → Self.content (with_content x octets) ≡ octets };
+
+    // and the borrows that it holds stay.
+    ghost kept: { (x : Self) (octets : List ℕ) → Self.borrows (with_content x octets) ≡ Self.borrows x };
 }
 
 /// Two facts about a type of octet sequences.
@@ -155,7 +189,7 @@ pub trait CloneOctets: OctetsLimit {
 }
 
 /// An append would have made the content longer than the type's limit.
-#[derive(Clone, Debug, PartialEq, Eq, Drop)]
+#[derive(Clone, Copy, Debug, PartialEq, Eq)]
 pub struct ShortBuf;
 
 impl Error for ShortBuf {}
@@ -169,7 +203,7 @@ impl fmt::Display for ShortBuf {
 }
 
 /// Why an append or a conversion was refused.
-#[derive(Debug, PartialEq, Eq, Drop)]
+#[derive(Clone, Copy, Debug, PartialEq, Eq)]
 pub enum AppendError {
     /// The content would have passed the limit of its type.
     Short(ShortBuf),
