@@ -41,14 +41,18 @@ pub trait AsOctets: Drop {
         ensures within { IsWithin limit (length (content self.now)) };
 
     /// The length of the content in octets.
-    fn len(&self) -> usize
+    final fn len(&self) -> usize
+    where
+        Self: Sized,
         ensures { result ≡ length (content self.now) }
     {
         self.as_ref().len()
     }
 
     /// Whether the content has no octets.
-    fn is_empty(&self) -> bool
+    final fn is_empty(&self) -> bool
+    where
+        Self: Sized,
         ensures { IsTrue result ↔ (content self.now ≡ []) }
     {
         self.as_ref().is_empty()
