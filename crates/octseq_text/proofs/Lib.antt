@@ -1,3 +1,4 @@
+pub mod Edges
 pub mod Steps
 pub mod Runs
 pub mod Replacing

@@ -1,3 +1,4 @@
+pub mod Display
 pub mod Pieces
 pub mod Progress
 pub mod Range

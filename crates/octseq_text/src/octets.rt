@@ -1,12 +1,14 @@
 //! Ranges of octet sequences, and conversions between them.
-ghost use Rattle.std.specs.Prelude.{◌≡◌, ◌+◌, ◌^◌, ◌<◌, ◌≤◌, ◌↔◌, true, None, List, slice_range, length, IsTrue, IfOk, OnErr};
+ghost use Rattle.std.specs.Prelude.{◌≡◌, ◌≤◌, ◌↔◌, true, None, slice_range, length, IsTrue, IfOk, OnErr};
 ghost use Rattle.octseq_core.specs.Limit.{IsPast};
 ghost use Rattle.octseq_core.specs.Refusal.{IsShort, IsMemory};
-ghost use Rattle.octseq_text.specs.Range.{start_of, end_of, RangeExists, range_of};
+ghost use Rattle.octseq_text.specs.Range.{RangeExists, range_of};
+ghost use Rattle.std.specs.declared.ops.Bound.TheVariants.{Included, Excluded};
 
 use octseq_core::builder::{AppendError, AsOctets, OctetsLimit};
 use smallvec::SmallVec;
 use std::alloc::{AllocError, Global};
+use std::ops::{self, RangeBounds};
 
 mod conversions;
 mod ranges;
@@ -14,39 +16,32 @@ mod ranges;
 /// Octets that stay inline up to 24, which many names and addresses don't pass.
 pub type SmallOctets = SmallVec<u8, 24>;
 
-/// One end of a range of octets.
-#[derive(Clone, Copy, Debug, PartialEq, Eq)]
-pub enum Bound {
-    /// The start or the end of the octets.
-    Unbounded,
-    /// This place, which is in the range.
-    Included(usize),
-    /// This place, which isn't in the range.
-    Excluded(usize),
-}
+/// One end of a range of octets: a place, which is in the range or isn't, or the start or the end of the octets.
+pub type Bound = ops::Bound<usize>;
 
 /// The bounds of the range from one place up to another, which isn't in it.
 pub fn span(start: usize, end: usize) -> (Bound, Bound)
-    ensures { result ≡ (Bound.Included start, Bound.Excluded end) }
+    ensures { result ≡ (Included start, Excluded end) }
 {
     (Bound::Included(start), Bound::Excluded(end))
 }
 
-/// Whether the range exists in octets of this length: its start is at most its end, and its end at most
-/// the length.
-pub fn range_exists(len: usize, bounds: (Bound, Bound)) -> bool
-    ensures { IsTrue result ↔ RangeExists len bounds }
+/// Whether a range exists in octets of this length: its start is at most its end, and its end at most the length.
+/// `has_bounds` holds of each of std's ranges but of an `a..=b` that was iterated to its end.
+pub fn range_exists<R: RangeBounds<usize>>(len: usize, range: R) -> bool
+    requires { R.has_bounds range }
+    ensures { IsTrue result ↔ RangeExists len (R.start_bound range, R.end_bound range) }
 {
-    let end = match bounds.1 {
-        Bound::Unbounded => len,
-        Bound::Included(last) if last < len => last + 1,
-        Bound::Included(_) => return false,
-        Bound::Excluded(end) => end,
+    let end = match range.end_bound() {
+        ops::Bound::Unbounded => len,
+        ops::Bound::Included(last) if *last < len => *last + 1,
+        ops::Bound::Included(_) => return false,
+        ops::Bound::Excluded(end) => *end,
     };
-    let is_ordered = match bounds.0 {
-        Bound::Unbounded => true,
-        Bound::Included(start) => start <= end,
-        Bound::Excluded(before) => before < end,
+    let is_ordered = match range.start_bound() {
+        ops::Bound::Unbounded => true,
+        ops::Bound::Included(start) => *start <= end,
+        ops::Bound::Excluded(before) => *before < end,
     };
     is_ordered && end <= len
 }
@@ -56,14 +51,17 @@ pub trait Octets: AsOctets {
     /// A range of the octets.
     type Range: AsOctets + OctetsLimit;
 
-    /// The octets of a range that exists, which `range_exists` tells.
+    /// The octets of a range that exists, which `range_exists` tells. A range is written as Rust's are: `1..3`,
+    /// `at..`, `..=last`, or a pair of bounds.
     ///
     /// # Errors
     ///
     /// `AllocError` where a request for memory was refused, which a range that is a slice never makes.
-    fn range(&self, bounds: (Bound, Bound)) -> Result<Self::Range, AllocError>
-        requires { RangeExists (length (Self.content self.now)) bounds }
-        ensures ok { IfOk result (λ range. Self.Range.content range ≡ range_of (Self.content self.now) bounds) }
+    fn range<R: RangeBounds<usize>>(&self, range: R) -> Result<Self::Range, AllocError>
+        requires known { R.has_bounds range }
+        requires exists { RangeExists (length (Self.content self.now)) (R.start_bound range, R.end_bound range) }
+        ensures ok { IfOk result (λ octets. Self.Range.content octets
+            ≡ range_of (Self.content self.now) (R.start_bound range, R.end_bound range)) }
         ensures memory { OnErr result (Self.Range.asks ≡ true) };
 }
 

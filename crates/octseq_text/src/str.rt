@@ -2,6 +2,8 @@
 mod builder;
 mod commands;
 mod compare;
+mod deref;
+mod display;
 mod ends;
 mod error;
 mod laws;
@@ -11,6 +13,7 @@ mod text;
 
 pub use builder::StrBuilder;
 pub use commands::{Command, Reply, run};
+pub use display::DisplayError;
 pub use ends::{boundary, last_char};
 pub use error::FromUtf8Error;
 pub use laws::{one_run, one_settling};

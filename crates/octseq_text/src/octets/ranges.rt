@@ -1,8 +1,8 @@
 //! The references from which ranges are cut.
-ghost use Rattle.std.specs.Prelude.{◌≡◌, ◌^◌, ◌<◌, ◌≤◌, length};
-ghost use Rattle.octseq_text.specs.Range.{start_of, end_of, RangeExists, range_of};
+ghost use Rattle.std.specs.Prelude.{◌≡◌, length};
+ghost use Rattle.octseq_text.specs.Range.{RangeExists, range_of};
 
-use super::{Bound, Octets};
+use super::Octets;
 use arrayvec::ArrayVec;
 use bytes::Bytes;
 use octseq_core::array::Array;
@@ -10,40 +10,18 @@ use octseq_core::builder::{AsOctets, OctetsLimit};
 use octseq_core::cow::CowOctets;
 use smallvec::SmallVec;
 use std::alloc::AllocError;
+use std::ops::RangeBounds;
 use std::rc::RcSlice;
-
-/// Where a range starts.
-fn start_index(start: Bound) -> usize
-    requires { start_of start < 2 ^ 64 }
-    ensures { result ≡ start_of start }
-{
-    match start {
-        Bound::Unbounded => 0,
-        Bound::Included(n) => n,
-        Bound::Excluded(n) => n + 1,
-    }
-}
-
-/// Where a range ends in octets of this length.
-fn end_index(len: usize, end: Bound) -> usize
-    requires { end_of len end < 2 ^ 64 }
-    ensures { result ≡ end_of len end }
-{
-    match end {
-        Bound::Unbounded => len,
-        Bound::Included(n) => n + 1,
-        Bound::Excluded(n) => n,
-    }
-}
+use std::slice;
 
 /// The part of a slice that a range names.
-fn part(octets: &[u8], bounds: (Bound, Bound)) -> &[u8]
-    requires { RangeExists (length octets.now) bounds }
-    ensures { result.now ≡ range_of octets.now bounds }
+fn part<R: RangeBounds<usize>>(octets: &[u8], range: R) -> &[u8]
+    requires known { R.has_bounds range }
+    requires exists { RangeExists (length octets.now) (R.start_bound range, R.end_bound range) }
+    ensures { result.now ≡ range_of octets.now (R.start_bound range, R.end_bound range) }
 {
-    let start = start_index(bounds.0);
-    let end = end_index(octets.len(), bounds.1);
-    &octets[start..end]
+    let range = slice::range(range, ..octets.len());
+    &octets[range.start..range.end]
 }
 
 /// The types of which a range is a slice.
@@ -64,18 +42,18 @@ impl SliceRange for RcSlice<u8> {}
 impl<'a, T: SliceRange> Octets for &'a T {
     type Range = &'a [u8];
 
-    fn range(&self, bounds: (Bound, Bound)) -> Result<&'a [u8], AllocError> {
+    fn range<R: RangeBounds<usize>>(&self, range: R) -> Result<&'a [u8], AllocError> {
         let octets: &'a T = *self;
-        Ok(part(octets.as_ref(), bounds))
+        Ok(part(octets.as_ref(), range))
     }
 }
 
 impl<'a> Octets for &'a [u8] {
     type Range = &'a [u8];
 
-    fn range(&self, bounds: (Bound, Bound)) -> Result<&'a [u8], AllocError> {
+    fn range<R: RangeBounds<usize>>(&self, range: R) -> Result<&'a [u8], AllocError> {
         let octets: &'a [u8] = *self;
-        Ok(part(octets, bounds))
+        Ok(part(octets, range))
     }
 }
 
@@ -83,9 +61,7 @@ impl<'a> Octets for &'a Bytes {
     type Range = Bytes;
 
     /// Shares the octets, and copies none.
-    fn range(&self, bounds: (Bound, Bound)) -> Result<Bytes, AllocError> {
-        let end = end_index(self.len(), bounds.1);
-        let start = start_index(bounds.0);
-        self.slice(start..end)
+    fn range<R: RangeBounds<usize>>(&self, range: R) -> Result<Bytes, AllocError> {
+        self.slice(range)
     }
 }

@@ -45,6 +45,7 @@ impl<Octets: AsOctets> StrBuilder<Octets> {
     where
         Octets: EmptyBuilder,
         ensures ok { IfOk result (λ text. Octets.content text ≡ []) }
+        ensures characters { IfOk result (λ text. chars (Octets.content text) ≡ []) }
         ensures memory { OnErr result (Octets.asks ≡ true) }
     {
         let octets = Octets::empty(alloc)?;
@@ -60,6 +61,7 @@ impl<Octets: AsOctets> StrBuilder<Octets> {
     where
         Octets: EmptyBuilder,
         ensures ok { IfOk result (λ text. Octets.content text ≡ []) }
+        ensures characters { IfOk result (λ text. chars (Octets.content text) ≡ []) }
         ensures memory { OnErr result (Octets.asks ≡ true) }
     {
         let octets = Octets::with_capacity(alloc, capacity)?;
@@ -297,7 +299,7 @@ impl<Octets: AsOctets> StrBuilder<Octets> {
         ensures step { Pops (chars (Octets.content self.old)) result (chars (Octets.content self.new)) }
     {
         let (last, width) = last_encoding(self.as_slice(), &mut Turns::new())?;
-        let rest = self.len() - width;
+        let rest = StrBuilder::len(self) - width;
         self.octets.truncate(rest);
         Some(last)
     }

@@ -61,7 +61,7 @@ fn truncate<B: OctetsBuilder + Truncate>(builder: &mut StrBuilder<B>, len: usize
     ensures step { Cuts (chars (B.content builder.old)) len result (chars (B.content builder.new)) }
     ensures borrows { B.borrows builder.new ≡ B.borrows builder.old }
 {
-    if len < builder.len() && !builder.is_char_boundary(len) {
+    if len < StrBuilder::len(builder) && !builder.is_char_boundary(len) {
         return Reply::NoBoundary;
     }
     builder.truncate(len);
@@ -82,7 +82,7 @@ fn step<B: OctetsBuilder + Truncate>(builder: &mut StrBuilder<B>, command: &Comm
             Reply::Done
         }
         Command::Pop => Reply::Popped(builder.pop()),
-        Command::Len => Reply::Len(builder.len()),
+        Command::Len => Reply::Len(StrBuilder::len(builder)),
         Command::Is(s) => Reply::Is(builder.as_slice() == s.as_bytes()),
     }
 }

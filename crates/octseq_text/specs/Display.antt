@@ -1,0 +1,15 @@
+-- Why a value was not shown at the end of a text.
+use Rattle.std.specs.Prelude.{ℕ, List, codes}
+use Rattle.octseq_core.specs.declared.builder.AppendError.{AppendError}
+use Rattle.octseq_text.specs.declared.str.display.DisplayError.{DisplayError}
+
+-- the refusal of an append
+abbrev pub display_error_of : AppendError → DisplayError
+display_error_of (AppendError.Short e) = DisplayError.Short
+display_error_of AppendError.Memory = DisplayError.Memory
+
+-- what it prints
+abbrev pub display_error_text : DisplayError → List ℕ
+display_error_text DisplayError.Short = codes "buffer size exceeded"
+display_error_text DisplayError.Memory = codes "out of memory"
+display_error_text DisplayError.Display = codes "a value can't be shown"

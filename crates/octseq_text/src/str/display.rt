@@ -1,0 +1,179 @@
+//! Values that are shown at the end of a text.
+ghost use Rattle.std.specs.Prelude.{◌≡◌, ◌≢◌, ◌++◌, ℕ, List, [], Some, None, Err, true, false, take, drop, length, IfSome, OnOk, OnErr};
+ghost use Rattle.std.specs.Borrow.{GName};
+ghost use Rattle.octseq_text.specs.declared.str.display.DisplayError.TheVariants.{Short, Memory, Display};
+ghost use Rattle.octseq_utf8.specs.Text.{begins_within};
+
+use super::builder::StrBuilder;
+use octseq_core::builder::{AppendError, AsOctets, OctetsBuilder, Truncate};
+use std::error::Error;
+use std::fmt::{self, Display, Write};
+use std::marker::{Brand, PhantomData};
+
+/// Why a value was not appended.
+#[derive(Clone, Copy, Debug, PartialEq, Eq)]
+pub enum DisplayError {
+    /// The text would have passed the limit of its type.
+    Short,
+    /// A request for memory was refused.
+    Memory,
+    /// The value's own `fmt` answered an error, and no append was refused.
+    Display,
+}
+
+impl From<AppendError> for DisplayError {
+    ghost use Rattle.octseq_text.specs.Display.{display_error_of};
+
+    ghost from_gives = { λ e made. made ≡ display_error_of e };
+
+    fn from(e: AppendError) -> DisplayError {
+        match e {
+            AppendError::Short(_) => DisplayError::Short,
+            AppendError::Memory => DisplayError::Memory,
+        }
+    }
+}
+
+impl Error for DisplayError {}
+
+impl fmt::Display for DisplayError {
+    ghost use Rattle.octseq_text.specs.Display.{display_error_text};
+
+    ghost output = { λ e. Some (display_error_text e) };
+
+    fn fmt<W: fmt::Write>(&self, f: &mut fmt::Formatter<W>) -> fmt::Result {
+        match self {
+            DisplayError::Short => f.write_str("buffer size exceeded"),
+            DisplayError::Memory => f.write_str("out of memory"),
+            DisplayError::Display => f.write_str("a value can't be shown"),
+        }
+    }
+}
+
+impl<Octets: OctetsBuilder> fmt::Write for StrBuilder<Octets> {
+    ghost write_str_gives = { λ before octets after. (Octets.content after ≡ Octets.content before ++ octets)
+        × (Octets.borrows after ≡ Octets.borrows before) };
+
+    /// Appends all of `s`, or nothing. An error doesn't tell which refusal it was.
+    fn write_str(&mut self, s: &str) -> fmt::Result {
+        match self.try_push_str(s) {
+            Ok(()) => Ok(()),
+            Err(_) => Err(fmt::Error),
+        }
+    }
+}
+
+impl<Octets: OctetsBuilder + Truncate> StrBuilder<Octets> {
+    /// Appends a value as `{}` shows it, or nothing.
+    ///
+    /// # Errors
+    ///
+    /// `Short` where the text would pass the limit of its type, `Memory` where a request for memory was refused,
+    /// and `Display` where the value's own `fmt` answered an error though nothing was refused. The text is then as it
+    /// was.
+    pub fn try_push_display<D: Display + Drop>(&mut self, value: D) -> Result<(), DisplayError>
+        ensures ok { OnOk result (IfSome (D.output value)
+            (λ octets. Octets.content self.new ≡ Octets.content self.old ++ octets)) }
+        ensures err { OnErr result (Octets.content self.new ≡ Octets.content self.old) }
+        ensures front { take (length (Octets.content self.old)) (Octets.content self.new) ≡ Octets.content self.old }
+        ensures short { result ≡ Err DisplayError.Short → Octets.limit ≢ None }
+        ensures memory { result ≡ Err DisplayError.Memory → Octets.asks ≡ true }
+        ensures borrows { Octets.borrows self.new ≡ Octets.borrows self.old }
+    {
+        append_from::<Brand, Octets, D>(self, value).answer
+    }
+}
+
+/// What a text was before a value was appended, and whose it is.
+trait Begun {
+    ghost before: { List ℕ };
+
+    ghost lender: { GName };
+
+    ghost borrows: { List GName };
+}
+
+impl Begun for Brand {
+    ghost before = { [] };
+
+    ghost lender = { 0 };
+
+    ghost borrows = { [] };
+}
+
+/// A text that a value writes to. What it was stays at its front.
+#[derive(Drop)]
+struct Appending<'a, K: Begun, B: AsOctets> {
+    text: &'a mut StrBuilder<B>,
+    refusal: DisplayError,
+    of: PhantomData<K>,
+    ghost front: { take (length K.before) (B.content text.now) ≡ K.before },
+    ghost edge: { begins_within (drop (length K.before) (B.content text.now)) ≡ false },
+    ghost same: { text.ghost_name ≡ K.lender },
+    ghost borrows: { B.borrows text.now ≡ K.borrows },
+    ghost short: { refusal ≡ Short → B.limit ≢ None },
+    ghost memory: { refusal ≡ Memory → B.asks ≡ true },
+}
+
+impl<'a, K: Begun, B: OctetsBuilder> fmt::Write for Appending<'a, K, B> {
+    ghost write_str_gives = { λ before octets after.
+        B.content after.text.now ≡ B.content before.text.now ++ octets };
+
+    fn write_str(&mut self, s: &str) -> fmt::Result {
+        match self.text.try_push_str(s) {
+            Ok(()) => Ok(()),
+            Err(e) => {
+                self.refusal = e.into();
+                Err(fmt::Error)
+            }
+        }
+    }
+}
+
+/// A text, and what an append to it answered.
+#[derive(Drop)]
+struct Appended<'a, B: AsOctets> {
+    text: &'a mut StrBuilder<B>,
+    answer: Result<(), DisplayError>,
+}
+
+/// Appends a value, or cuts the text where it ended before.
+fn append_from<'a, K: Begun, B: OctetsBuilder + Truncate, D: Display + Drop>(
+    text: &'a mut StrBuilder<B>,
+    value: D,
+) -> Appended<'a, B>
+    requires begun { K.before ≡ B.content text.old }
+    requires lender { K.lender ≡ text.ghost_name }
+    requires borrows { K.borrows ≡ B.borrows text.old }
+    ensures same { result.text.ghost_name ≡ text.entry.ghost_name }
+    ensures ok { OnOk result.answer (IfSome (D.output value)
+        (λ octets. B.content result.text.now ≡ B.content text.old ++ octets)) }
+    ensures err { OnErr result.answer (B.content result.text.now ≡ B.content text.old) }
+    ensures front { take (length (B.content text.old)) (B.content result.text.now) ≡ B.content text.old }
+    ensures short { result.answer ≡ Err Short → B.limit ≢ None }
+    ensures memory { result.answer ≡ Err Memory → B.asks ≡ true }
+    ensures borrows { B.borrows result.text.now ≡ B.borrows text.old }
+{
+    let len = text.len();
+    let mut writer = Appending {
+        text,
+        refusal: DisplayError::Display,
+        of: PhantomData::<K>,
+    };
+    let written = writer.write(value);
+    let Appending { text, refusal, .. } = writer;
+    match written {
+        Ok(()) => Appended {
+            text,
+            answer: Ok(()),
+        },
+        Err(_) => {
+            let _well_formed = text.as_slice();
+            text.truncate(len);
+            Appended {
+                text,
+                answer: Err(refusal),
+            }
+        }
+    }
+}
