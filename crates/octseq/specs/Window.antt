@@ -1,7 +1,7 @@
 -- A window on octets: the place where reading goes on, and the end of what may be read.
 use Rattle.std.specs.Prelude.{ℕ, ◌+◌, ◌-◌, List, ◌++◌, length, slice_range}
 use Rattle.octseq_text.specs.Range.{start_of, end_of}
-use Rattle.octseq_text.specs.declared.octets.Bound.{Bound}
+use Rattle.std.specs.declared.ops.Bound.{Bound}
 
 -- The position and the end are counted from the first of the octets, also in a window that was cut from another.
 pub record Window : Type 0 where
@@ -42,7 +42,7 @@ abbrev pub whole : List ℕ → Window
 whole octets = record { octets = octets; position = 0; end = length octets }
 
 -- the window of a range of the octets
-abbrev pub window_of_range : List ℕ → Bound × Bound → Window
+abbrev pub window_of_range : List ℕ → Bound ℕ × Bound ℕ → Window
 window_of_range octets bounds = record { octets = octets; position = start_of bounds.0; end = end_of (length octets) bounds.1 }
 
 -- the window on what stands behind a front

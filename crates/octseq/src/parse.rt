@@ -1,12 +1,14 @@
 //! Reading octets from the left: windows that move over a sequence.
 ghost use Rattle.std.specs.Prelude.{◌≡◌, ◌+◌, ◌<◌, ◌≤◌, ◌↔◌, ⊤, true, length, IsTrue, IsOk, IfOk, IsSome, IfSome, OnOk, OnErr};
-ghost use Rattle.octseq_text.specs.Range.{start_of, end_of, RangeExists};
+ghost use Rattle.octseq_text.specs.Range.{RangeExists};
 ghost use Rattle.octseq.specs.Refusal.{IsShort, IsMemory};
 ghost use Rattle.octseq.specs.Window.{left, rest, next, front, at, past, nested, whole, window_of_range};
 
 use octseq_core::builder::AsOctets;
-use octseq_text::octets::{Bound, Octets, range_exists, span};
+use octseq_text::octets::{Octets, try_range};
 use std::alloc::AllocError;
+use std::ops::RangeBounds;
+use std::slice;
 
 mod commands;
 mod error;
@@ -44,24 +46,6 @@ impl<R: AsOctets + Copy> Clone for Parser<R> {
     }
 }
 
-/// The position and the end of the window on a range of octets of this length.
-fn ends(len: usize, bounds: (Bound, Bound)) -> (usize, usize)
-    requires { RangeExists len bounds }
-    ensures { result ≡ (start_of bounds.0, end_of len bounds.1) }
-{
-    let start = match bounds.0 {
-        Bound::Unbounded => 0,
-        Bound::Included(start) => start,
-        Bound::Excluded(before) => before + 1,
-    };
-    let end = match bounds.1 {
-        Bound::Unbounded => len,
-        Bound::Included(last) => last + 1,
-        Bound::Excluded(end) => end,
-    };
-    (start, end)
-}
-
 impl<'a> Parser<&'a [u8]> {
     ghost use Rattle.octseq.specs.Parser.{sequence, window};
 
@@ -91,26 +75,37 @@ impl<R: AsOctets> Parser<R> {
     }
 
     /// A parser of a range that exists, which `range_exists` tells: it begins at the range's start and ends
-    /// at its end.
-    pub fn with_range(octets: R, bounds: (Bound, Bound)) -> Self
-        requires { RangeExists (length (R.content octets)) bounds }
+    /// at its end. A range is written as Rust's are: `1..3`, `at..`, `..=last`, or a pair of bounds.
+    pub fn with_range<B: RangeBounds<usize>>(octets: R, range: B) -> Self
+        requires known { B.has_bounds range }
+        requires exists { RangeExists (length (R.content octets)) (B.start_bound range, B.end_bound range) }
         ensures sequence { sequence result ≡ octets }
-        ensures window { window result ≡ window_of_range (R.content octets) bounds }
+        ensures window { window result
+            ≡ window_of_range (R.content octets) (B.start_bound range, B.end_bound range) }
     {
-        let (pos, len) = ends(octets.as_ref().len(), bounds);
-        Parser { octets, pos, len }
+        let range = slice::range(range, ..octets.as_ref().len());
+        Parser {
+            octets,
+            pos: range.start,
+            len: range.end,
+        }
     }
 
     /// A parser of a range, or `None` where the range doesn't exist.
-    pub fn try_with_range(octets: R, bounds: (Bound, Bound)) -> Option<Self>
-        ensures variant { IsSome result ↔ RangeExists (length (R.content octets)) bounds }
+    pub fn try_with_range<B: RangeBounds<usize>>(octets: R, range: B) -> Option<Self>
+        requires { B.has_bounds range }
+        ensures variant { IsSome result
+            ↔ RangeExists (length (R.content octets)) (B.start_bound range, B.end_bound range) }
         ensures sequence { IfSome result (λ parser. sequence parser ≡ octets) }
-        ensures window { IfSome result (λ parser. window parser ≡ window_of_range (R.content octets) bounds) }
+        ensures window { IfSome result (λ parser. window parser
+            ≡ window_of_range (R.content octets) (B.start_bound range, B.end_bound range)) }
     {
-        if !range_exists(octets.as_ref().len(), bounds) {
-            return None;
-        }
-        Some(Parser::with_range(octets, bounds))
+        let range = try_range(octets.as_ref().len(), range)?;
+        Some(Parser {
+            octets,
+            pos: range.start,
+            len: range.end,
+        })
     }
 
     /// The sequence that is read, whole.
@@ -263,7 +258,7 @@ impl<R: AsOctets> Parser<R> {
         ensures same { sequence self.new ≡ sequence self.old }
     {
         let end = self.place_past(len)?;
-        let range = self.octets.range(span(self.pos, end))?;
+        let range = self.octets.range(self.pos..end)?;
         self.pos = end;
         Ok(range)
     }

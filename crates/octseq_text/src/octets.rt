@@ -1,14 +1,14 @@
 //! Ranges of octet sequences, and conversions between them.
-ghost use Rattle.std.specs.Prelude.{◌≡◌, ◌≤◌, ◌↔◌, true, None, slice_range, length, IsTrue, IfOk, OnErr};
+ghost use Rattle.std.specs.Prelude.{◌≡◌, ◌≤◌, ◌↔◌, true, None, slice_range, length, IsTrue, IsSome, IfSome, IfOk, OnErr};
 ghost use Rattle.octseq_core.specs.Limit.{IsPast};
 ghost use Rattle.octseq_core.specs.Refusal.{IsShort, IsMemory};
-ghost use Rattle.octseq_text.specs.Range.{RangeExists, range_of};
+ghost use Rattle.octseq_text.specs.Range.{start_of, end_of, RangeExists, range_of};
 ghost use Rattle.std.specs.declared.ops.Bound.TheVariants.{Included, Excluded};
 
 use octseq_core::builder::{AppendError, AsOctets, OctetsLimit};
 use smallvec::SmallVec;
 use std::alloc::{AllocError, Global};
-use std::ops::{self, RangeBounds};
+use std::ops::{self, Range, RangeBounds};
 
 mod conversions;
 mod ranges;
@@ -32,18 +32,30 @@ pub fn range_exists<R: RangeBounds<usize>>(len: usize, range: R) -> bool
     requires { R.has_bounds range }
     ensures { IsTrue result ↔ RangeExists len (R.start_bound range, R.end_bound range) }
 {
+    try_range(len, range).is_some()
+}
+
+/// Where a range starts and ends in octets of this length, or `None` where it doesn't exist.
+pub fn try_range<R: RangeBounds<usize>>(len: usize, range: R) -> Option<Range<usize>>
+    requires { R.has_bounds range }
+    ensures variant { IsSome result ↔ RangeExists len (R.start_bound range, R.end_bound range) }
+    ensures start { IfSome result (λ found. found.start ≡ start_of (R.start_bound range)) }
+    ensures end { IfSome result (λ found. found.end ≡ end_of len (R.end_bound range)) }
+{
+    let start = match range.start_bound() {
+        ops::Bound::Unbounded => 0,
+        ops::Bound::Included(start) => *start,
+        ops::Bound::Excluded(before) => before.checked_add(1)?,
+    };
     let end = match range.end_bound() {
         ops::Bound::Unbounded => len,
-        ops::Bound::Included(last) if *last < len => *last + 1,
-        ops::Bound::Included(_) => return false,
+        ops::Bound::Included(last) => last.checked_add(1)?,
         ops::Bound::Excluded(end) => *end,
     };
-    let is_ordered = match range.start_bound() {
-        ops::Bound::Unbounded => true,
-        ops::Bound::Included(start) => *start <= end,
-        ops::Bound::Excluded(before) => *before < end,
-    };
-    is_ordered && end <= len
+    if start > end || end > len {
+        return None;
+    }
+    Some(start..end)
 }
 
 /// A reference to octets, from which ranges are cut.
