@@ -13,15 +13,16 @@ mod parts;
 pub use crate::compose::integers::{
     append_i8, append_i16_be, append_i16_le, append_i32_be, append_i32_le, append_i64_be,
     append_i64_le, append_i128_be, append_i128_le, append_u8, append_u16_be, append_u16_le,
-    append_u32_be, append_u32_le, append_u64_be, append_u64_le, append_u128_be, append_u128_le,
+    append_u24_be, append_u24_le, append_u32_be, append_u32_le, append_u48_be, append_u48_le,
+    append_u64_be, append_u64_le, append_u128_be, append_u128_le,
 };
 pub use crate::compose::laws::{integers_are_read_back, parts_are_read_back};
 pub use crate::compose::parts::{append_part_u8, append_part_u16_be, append_part_u32_be};
 
-/// Why a part was not appended.
+/// Why a part, or an integer that may not fit its octets, was not appended.
 #[derive(Debug, PartialEq, Eq, Drop)]
 pub enum ComposeError {
-    /// Its length doesn't fit the octets that it is to have.
+    /// The integer, or the part's length, doesn't fit the octets that it is to have.
     TooLong,
     /// The content would pass the limit of its type.
     Short,
