@@ -2,9 +2,11 @@
 //!
 //! An integer is appended as the octets that [`Parser`](crate::Parser) reads it from. A part is its length,
 //! big-endian in as many octets as the call's name says, and then its octets.
-ghost use Rattle.std.specs.Prelude.{◌≡◌};
+ghost use Rattle.std.specs.Prelude.{◌≡◌, Some};
 
 use octseq_core::builder::AppendError;
+use std::error::Error;
+use std::fmt;
 
 mod integers;
 mod laws;
@@ -20,7 +22,7 @@ pub use crate::compose::laws::{integers_are_read_back, parts_are_read_back};
 pub use crate::compose::parts::{append_part_u8, append_part_u16_be, append_part_u32_be};
 
 /// Why a part, or an integer that may not fit its octets, was not appended.
-#[derive(Debug, PartialEq, Eq, Drop)]
+#[derive(Clone, Copy, Debug, PartialEq, Eq)]
 pub enum ComposeError {
     /// The integer, or the part's length, doesn't fit the octets that it is to have.
     TooLong,
@@ -28,6 +30,22 @@ pub enum ComposeError {
     Short,
     /// A request for memory was refused.
     Memory,
+}
+
+impl Error for ComposeError {}
+
+impl fmt::Display for ComposeError {
+    ghost use Rattle.octseq.specs.Shown.{compose_error_text};
+
+    ghost output = { λ e. Some (compose_error_text e) };
+
+    fn fmt<W: fmt::Write>(&self, f: &mut fmt::Formatter<W>) -> fmt::Result {
+        match self {
+            ComposeError::TooLong => f.write_str("long data"),
+            ComposeError::Short => f.write_str("buffer size exceeded"),
+            ComposeError::Memory => f.write_str("out of memory"),
+        }
+    }
 }
 
 impl From<AppendError> for ComposeError {
