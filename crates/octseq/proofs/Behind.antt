@@ -4,13 +4,17 @@ use Rattle.std.proofs.Math.Seq.{take-append_seam, take-length, drop-append_seam}
 use Rattle.std.proofs.lemmas.List.{length-append}
 use Rattle.octseq.specs.Integer.{be, le, octets_be, octets_le}
 use Rattle.octseq.specs.Part.{part_of, part_length, HasPart, part, past_part}
-use Rattle.octseq.specs.Window.{left, rest, next, past, at, whole, behind}
+use Rattle.octseq.specs.Window.{Window, left, rest, next, past, at, whole, behind}
+use Rattle.octseq.proofs.Codes.{length_rest}
+use Rattle.octseq.proofs.Windows.{next_of_rest, rest_past}
 use Rattle.octseq.proofs.Written.{length_be, length_le, value_be, value_le}
 
-left_behind : (front xs : List ℕ) → left (behind front xs) ≡ length xs
+-- behind a front, as many octets are left as stand there
+pub left_behind : (front xs : List ℕ) → left (behind front xs) ≡ length xs
 left_behind front xs = let all : length (front ++ xs) ≡ length front + length xs = length-append front xs in omega arith
 
-rest_behind : (front xs : List ℕ) → rest (behind front xs) ≡ xs
+-- and they are those that stand there
+pub rest_behind : (front xs : List ℕ) → rest (behind front xs) ≡ xs
 rest_behind front xs =
     ap (λ n. take n (drop (length front) (front ++ xs))) (left_behind front xs)
     ∙ ap (take (length xs)) (drop-append_seam front xs) ∙ take-length xs
@@ -27,6 +31,26 @@ past_behind front octets after k many =
     let place : length front + k ≡ length (front ++ octets) = omega (arith, many, long) in
     ap (λ p. at p (whole (front ++ (octets ++ after)))) place
     ∙ ap (λ all. at (length (front ++ octets)) (whole all)) (sym (append_assoc front octets after))
+
+-- ---- what a parser reads behind a front
+
+-- where a front of n octets is left and more behind it, the front comes next, and the rest is left behind it
+pub front_comes_next : (w : Window) (front more : List ℕ) (n : ℕ) → rest w ≡ front ++ more → length front ≡ n
+    → (n ≤ left w) × (next n w ≡ front) × (rest (past n w) ≡ more)
+front_comes_next w front more n is many =
+    let all : length (rest w) ≡ length front + length more = ap length is ∙ length-append front more in
+    let most = length_rest w in
+    let room : n ≤ left w = omega arith in (
+      room,
+      sym (next_of_rest w.octets w.position w.end n room) ∙ ap (take n) is ∙ ap (λ n. take n (front ++ more)) (sym many) ∙ take-append_seam front more,
+      sym (rest_past w (past n w) n room refl) ∙ ap (drop n) is ∙ ap (λ n. drop n (front ++ more)) (sym many) ∙ drop-append_seam front more,
+    )
+
+-- a parser of all the octets that moved past a front of n stands behind that front
+pub past_whole : (front more : List ℕ) (n : ℕ) → length front ≡ n → past n (whole (front ++ more)) ≡ behind front more
+past_whole front more n many =
+    let place : 0 + n ≡ length front = omega arith in
+    ap (λ p. at p (whole (front ++ more))) place
 
 -- ---- what the laws say
 

@@ -1,5 +1,6 @@
 pub mod Behind
 pub mod Codes
+pub mod Errors
 pub mod OneRun
 pub mod Repeats
 pub mod Runs

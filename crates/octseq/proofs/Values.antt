@@ -1,9 +1,10 @@
 -- The values of octets, as std computes them.
-use Rattle.std.proofs.Common.{◌≡◌, ℕ, zero, suc, ◌-◌, ◌*◌, ◌^◌, ◌<◌, ◌≤◌, List, length, refl, sym, ap, ◌∙◌, zero-add, arith}
+use Rattle.std.proofs.Common.{◌≡◌, ℕ, zero, suc, ◌-◌, ◌*◌, ◌^◌, ◌<◌, ◌≤◌, List, [], ◌∷◌, ◌++◌, length, refl, sym, ap, ◌∙◌, zero-add, arith}
 use Rattle.std.proofs.lemmas.Int.{ints}
 use Rattle.std.specs.Prelude.{slice_index}
 use Rattle.std.specs.Int.{w8, w16, w32, w64, w128, from_be_bytes, from_le_bytes, cast_signed, byte_worth, sum_through}
 use Rattle.octseq.specs.Integer.{sum_of_first, be, le, signed}
+use Rattle.octseq.proofs.Written.{be_cons, le_snoc}
 
 -- what std says that an octet counts
 worth : (i b : ℕ) → byte_worth i b ≡ b * 256 ^ i
@@ -58,6 +59,52 @@ be_16 xs e = be_is 15 xs e
 
 pub le_16 : (xs : List ℕ) → length xs ≡ 16 → from_le_bytes w128 xs ≡ le xs
 le_16 xs e = le_is 15 xs e
+
+-- ---- 3 octets and 6, with zeros where they count most
+
+be_zero : (xs : List ℕ) → be (0 ∷ xs) ≡ be xs
+be_zero xs = be_cons 0 xs ∙ omega arith
+
+le_zero : (xs : List ℕ) → le (xs ++ 0 ∷ []) ≡ le xs
+le_zero xs = le_snoc xs 0 ∙ omega arith
+
+-- so many octets, one by one
+abbrev pub first_3 : List ℕ → List ℕ
+first_3 xs = slice_index xs 0 ∷ slice_index xs 1 ∷ slice_index xs 2 ∷ []
+
+are_first_3 : (xs : List ℕ) → length xs ≡ 3 → first_3 xs ≡ xs
+are_first_3 [] many = absurd (omega arith)
+are_first_3 (a ∷ []) many = absurd (omega arith)
+are_first_3 (a ∷ b ∷ []) many = absurd (omega arith)
+are_first_3 (a ∷ b ∷ c ∷ []) many = refl
+are_first_3 (a ∷ b ∷ c ∷ d ∷ xs) many = absurd (omega arith)
+
+abbrev pub first_6 : List ℕ → List ℕ
+first_6 xs = slice_index xs 0 ∷ slice_index xs 1 ∷ slice_index xs 2 ∷ slice_index xs 3 ∷ slice_index xs 4 ∷ slice_index xs 5 ∷ []
+
+are_first_6 : (xs : List ℕ) → length xs ≡ 6 → first_6 xs ≡ xs
+are_first_6 [] many = absurd (omega arith)
+are_first_6 (a ∷ []) many = absurd (omega arith)
+are_first_6 (a ∷ b ∷ []) many = absurd (omega arith)
+are_first_6 (a ∷ b ∷ c ∷ []) many = absurd (omega arith)
+are_first_6 (a ∷ b ∷ c ∷ d ∷ []) many = absurd (omega arith)
+are_first_6 (a ∷ b ∷ c ∷ d ∷ e ∷ []) many = absurd (omega arith)
+are_first_6 (a ∷ b ∷ c ∷ d ∷ e ∷ f ∷ []) many = refl
+are_first_6 (a ∷ b ∷ c ∷ d ∷ e ∷ f ∷ g ∷ xs) many = absurd (omega arith)
+
+pub be_3 : (xs : List ℕ) → length xs ≡ 3 → from_be_bytes w32 (0 ∷ first_3 xs) ≡ be xs
+be_3 xs e = be_4 (0 ∷ first_3 xs) refl ∙ be_zero (first_3 xs) ∙ ap be (are_first_3 xs e)
+
+pub le_3 : (xs : List ℕ) → length xs ≡ 3 → from_le_bytes w32 (first_3 xs ++ 0 ∷ []) ≡ le xs
+le_3 xs e = le_4 (first_3 xs ++ 0 ∷ []) refl ∙ le_zero (first_3 xs) ∙ ap le (are_first_3 xs e)
+
+pub be_6 : (xs : List ℕ) → length xs ≡ 6 → from_be_bytes w64 (0 ∷ 0 ∷ first_6 xs) ≡ be xs
+be_6 xs e = be_8 (0 ∷ 0 ∷ first_6 xs) refl ∙ be_zero (0 ∷ first_6 xs) ∙ be_zero (first_6 xs) ∙ ap be (are_first_6 xs e)
+
+pub le_6 : (xs : List ℕ) → length xs ≡ 6 → from_le_bytes w64 (first_6 xs ++ 0 ∷ 0 ∷ []) ≡ le xs
+le_6 xs e = le_8 (first_6 xs ++ 0 ∷ 0 ∷ []) refl ∙ le_zero (first_6 xs ++ 0 ∷ []) ∙ le_zero (first_6 xs) ∙ ap le (are_first_6 xs e)
+
+-- ---- signed integers
 
 pub signed_1 : (n : ℕ) → n < 2 ^ 8 → cast_signed w8 n ≡ signed 1 n
 unfolding signed

@@ -1,9 +1,9 @@
 -- What is left of a window, and the front of it.
-use Rattle.std.proofs.Common.{◌≡◌, ℕ, ◌+◌, ◌-◌, ◌≤◌, List, ◌++◌, take, drop, arith, sym, ap, ◌∙◌}
+use Rattle.std.proofs.Common.{◌≡◌, ℕ, ◌+◌, ◌-◌, ◌≤◌, List, ◌++◌, take, drop, arith, refl, sym, ap, ◌∙◌}
 use Rattle.std.proofs.lemmas.List.{take-take, drop-take, drop-drop}
 use Rattle.std.proofs.Math.Seq.{take-add}
 use Rattle.std.specs.Prelude.{slice_range}
-use Rattle.octseq.specs.Window.{Window, left, rest, next, past}
+use Rattle.octseq.specs.Window.{Window, left, rest, next, past, nested}
 
 -- the front of what is left is what comes next
 pub next_of_rest : (octets : List ℕ) (position end n : ℕ) → n ≤ end - position
@@ -23,10 +23,24 @@ next_and_rest w n within =
     ∙ ap (λ octets. take n ahead ++ take behind octets) (sym (drop-drop n w.position w.octets))
     ∙ sym (take-add n behind ahead) ∙ ap (λ k. take k ahead) all
 
--- what is left behind a call is the rest of what was left
+-- what is left behind a call is what was left, without the octets that the call took
 pub rest_past : (w v : Window) (n : ℕ) → n ≤ left w → v ≡ past n w → drop n (rest w) ≡ rest v
 rest_past w v n within moved =
     let ahead = drop w.position w.octets in
     let behind = w.end - (w.position + n) in
     let all : left w ≡ n + behind = omega arith in
     ap (λ k. drop n (take k ahead)) all ∙ drop-take n behind ahead ∙ ap (take behind) (drop-drop n w.position w.octets) ∙ ap rest (sym moved)
+
+-- ---- windows cut from another
+
+-- a window of the next n octets alone has n left
+pub left_nested : (n : ℕ) (w : Window) → left (nested n w) ≡ n
+left_nested n w = omega arith
+
+-- and those are what comes next
+pub rest_nested : (n : ℕ) (w : Window) → rest (nested n w) ≡ next n w
+rest_nested n w = refl
+
+-- past the next n octets, n fewer are left
+pub left_past : (n : ℕ) (w : Window) → left (past n w) ≡ left w - n
+left_past n w = omega arith

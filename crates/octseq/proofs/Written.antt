@@ -6,7 +6,7 @@ use Rattle.std.proofs.Math.Arith.{mod-mul}
 use Rattle.std.proofs.Math.Facts.{Fits-lt-pow}
 use Rattle.std.proofs.Math.Nat.{pow-suc, mod-eq_of_lt, mul_comm}
 use Rattle.std.specs.List.{AllByRecursion}
-use Rattle.std.specs.Prelude.{◌↔◌, slice_index, FitsSigned, Result, OnOk, OnErr}
+use Rattle.std.specs.Prelude.{◌↔◌, slice_index, slice_range, FitsSigned, Result, OnOk, OnErr}
 use Rattle.std.specs.Int.{w8, w16, w32, w64, w128, cast_unsigned, to_be_bytes, to_le_bytes, bytes_low_first, bytes_high_first, byte_at}
 use Rattle.octseq_core.specs.Limit.{IsPast}
 use Rattle.octseq_core.specs.Refusal.{IsShort, IsMemory}
@@ -67,7 +67,7 @@ le_cons x xs =
     sum_first n (λ i. slice_index (x ∷ xs) i * 256 ^ i)
     ∙ (let tail = scaled n (λ i. slice_index xs i) in omega (arith, tail))
 
-le_snoc : (xs : List ℕ) (x : ℕ) → le (xs ++ x ∷ []) ≡ le xs + x * 256 ^ length xs
+pub le_snoc : (xs : List ℕ) (x : ℕ) → le (xs ++ x ∷ []) ≡ le xs + x * 256 ^ length xs
 le_snoc [] x = let last = le_cons x [] in omega (arith, last, le_nil)
 le_snoc (a ∷ xs) x =
     let before : le (xs ++ x ∷ []) ≡ le xs + x * 256 ^ length xs = le_snoc xs x in
@@ -216,6 +216,20 @@ made_le_8 n = made_le 8 n
 pub made_le_16 : (n : ℕ) → to_le_bytes w128 n ≡ octets_le 16 n
 made_le_16 n = made_le 16 n
 
+-- 3 octets and 6, cut from those that count most
+
+pub made_be_3 : (n : ℕ) → slice_range (to_be_bytes w32 n) 1 4 ≡ octets_be 3 n
+made_be_3 n = made_be 3 n
+
+pub made_le_3 : (n : ℕ) → slice_range (to_le_bytes w32 n) 0 3 ≡ octets_le 3 n
+made_le_3 n = made_le 3 n
+
+pub made_be_6 : (n : ℕ) → slice_range (to_be_bytes w64 n) 2 8 ≡ octets_be 6 n
+made_be_6 n = made_be 6 n
+
+pub made_le_6 : (n : ℕ) → slice_range (to_le_bytes w64 n) 0 6 ≡ octets_le 6 n
+made_le_6 n = made_le 6 n
+
 -- ---- what a call's octets are
 
 pub are_be : (k n : ℕ) → n < 256 ^ k → AreOctetsOf be k n (octets_be k n)
@@ -299,6 +313,12 @@ are_le_2 n fits = are_le 2 n (Fits-lt-pow fits)
 pub are_signed_le_2 : (z : ℤ) → FitsSigned w16 z → AreOctetsOf (λ octets. signed 2 (le octets)) 2 z (octets_le 2 (unsigned 2 z))
 are_signed_le_2 z fits = are_signed_le 2 z (is_signed_2 z fits)
 
+pub are_be_3 : (n : ℕ) → n < 256 ^ 3 → AreOctetsOf be 3 n (octets_be 3 n)
+are_be_3 n fits = are_be 3 n fits
+
+pub are_le_3 : (n : ℕ) → n < 256 ^ 3 → AreOctetsOf le 3 n (octets_le 3 n)
+are_le_3 n fits = are_le 3 n fits
+
 pub are_be_4 : (n : ℕ) → Fits w32 n → AreOctetsOf be 4 n (octets_be 4 n)
 are_be_4 n fits = are_be 4 n (Fits-lt-pow fits)
 
@@ -310,6 +330,12 @@ are_le_4 n fits = are_le 4 n (Fits-lt-pow fits)
 
 pub are_signed_le_4 : (z : ℤ) → FitsSigned w32 z → AreOctetsOf (λ octets. signed 4 (le octets)) 4 z (octets_le 4 (unsigned 4 z))
 are_signed_le_4 z fits = are_signed_le 4 z (is_signed_4 z fits)
+
+pub are_be_6 : (n : ℕ) → n < 256 ^ 6 → AreOctetsOf be 6 n (octets_be 6 n)
+are_be_6 n fits = are_be 6 n fits
+
+pub are_le_6 : (n : ℕ) → n < 256 ^ 6 → AreOctetsOf le 6 n (octets_le 6 n)
+are_le_6 n fits = are_le 6 n fits
 
 pub are_be_8 : (n : ℕ) → Fits w64 n → AreOctetsOf be 8 n (octets_be 8 n)
 are_be_8 n fits = are_be 8 n (Fits-lt-pow fits)
@@ -340,7 +366,11 @@ pub ruleset written_1 = (are_be_1, made_be_1, are_signed_be_1, cast_1)
 
 pub ruleset written_2 = (are_be_2, made_be_2, are_signed_be_2, are_le_2, made_le_2, are_signed_le_2, cast_2)
 
+pub ruleset written_3 = (are_be_3, made_be_3, are_le_3, made_le_3)
+
 pub ruleset written_4 = (are_be_4, made_be_4, are_signed_be_4, are_le_4, made_le_4, are_signed_le_4, cast_4)
+
+pub ruleset written_6 = (are_be_6, made_be_6, are_le_6, made_le_6)
 
 pub ruleset written_8 = (are_be_8, made_be_8, are_signed_be_8, are_le_8, made_le_8, are_signed_le_8, cast_8)
 

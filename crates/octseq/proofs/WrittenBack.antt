@@ -1,5 +1,5 @@
 -- Octets are those of the integer that they stand for.
-use Rattle.std.proofs.Common.{◌≡◌, ℕ, zero, suc, ◌+◌, ◌*◌, ◌^◌, ◌/◌, ◌%◌, ◌<◌, List, [], ◌∷◌, length, reverse, refl, sym, ap, ◌∙◌, subst, arith}
+use Rattle.std.proofs.Common.{◌≡◌, ℕ, zero, suc, ◌+◌, ◌*◌, ◌^◌, ◌/◌, ◌%◌, ◌<◌, List, [], ◌∷◌, ◌++◌, length, reverse, refl, sym, ap, ◌∙◌, subst, arith}
 use Rattle.std.proofs.lemmas.Int.{ints}
 use Rattle.std.proofs.lemmas.List.{reverse-reverse, length-reverse}
 use Rattle.std.proofs.lemmas.Nat.{div-mul-add, mul-add-lt}
@@ -8,7 +8,7 @@ use Rattle.std.specs.Int.{w8, w16, w32, w64, w128, from_be_bytes, from_le_bytes,
 use Rattle.std.specs.List.{AllByRecursion}
 use Rattle.std.specs.Prelude.{slice_index}
 use Rattle.octseq.specs.Integer.{be, le, octets_be, octets_le, unsigned}
-use Rattle.octseq.proofs.Values.{be_1, be_2, le_2, be_4, le_4, be_8, le_8, be_16, le_16, signed_1, signed_2, signed_4, signed_8, signed_16}
+use Rattle.octseq.proofs.Values.{first_3, first_6, be_1, be_2, le_2, be_3, le_3, be_4, le_4, be_6, le_6, be_8, le_8, be_16, le_16, signed_1, signed_2, signed_4, signed_8, signed_16}
 use Rattle.octseq.proofs.Written.{positive, be_nil, be_cons, le_reverse, each_reverse}
 
 abbrev pub AreOctets : List ℕ → Type 0
@@ -70,11 +70,23 @@ back_be_2 xs many each = ap (octets_be 2) (be_2 xs many) ∙ as_be 2 xs many eac
 pub back_le_2 : (xs : List ℕ) → length xs ≡ 2 → AreOctets xs → octets_le 2 (from_le_bytes w16 xs) ≡ xs
 back_le_2 xs many each = ap (octets_le 2) (le_2 xs many) ∙ as_le 2 xs many each
 
+pub back_be_3 : (xs : List ℕ) → length xs ≡ 3 → AreOctets xs → octets_be 3 (from_be_bytes w32 (0 ∷ first_3 xs)) ≡ xs
+back_be_3 xs many each = ap (octets_be 3) (be_3 xs many) ∙ as_be 3 xs many each
+
+pub back_le_3 : (xs : List ℕ) → length xs ≡ 3 → AreOctets xs → octets_le 3 (from_le_bytes w32 (first_3 xs ++ 0 ∷ [])) ≡ xs
+back_le_3 xs many each = ap (octets_le 3) (le_3 xs many) ∙ as_le 3 xs many each
+
 pub back_be_4 : (xs : List ℕ) → length xs ≡ 4 → AreOctets xs → octets_be 4 (from_be_bytes w32 xs) ≡ xs
 back_be_4 xs many each = ap (octets_be 4) (be_4 xs many) ∙ as_be 4 xs many each
 
 pub back_le_4 : (xs : List ℕ) → length xs ≡ 4 → AreOctets xs → octets_le 4 (from_le_bytes w32 xs) ≡ xs
 back_le_4 xs many each = ap (octets_le 4) (le_4 xs many) ∙ as_le 4 xs many each
+
+pub back_be_6 : (xs : List ℕ) → length xs ≡ 6 → AreOctets xs → octets_be 6 (from_be_bytes w64 (0 ∷ 0 ∷ first_6 xs)) ≡ xs
+back_be_6 xs many each = ap (octets_be 6) (be_6 xs many) ∙ as_be 6 xs many each
+
+pub back_le_6 : (xs : List ℕ) → length xs ≡ 6 → AreOctets xs → octets_le 6 (from_le_bytes w64 (first_6 xs ++ 0 ∷ 0 ∷ [])) ≡ xs
+back_le_6 xs many each = ap (octets_le 6) (le_6 xs many) ∙ as_le 6 xs many each
 
 pub back_be_8 : (xs : List ℕ) → length xs ≡ 8 → AreOctets xs → octets_be 8 (from_be_bytes w64 xs) ≡ xs
 back_be_8 xs many each = ap (octets_be 8) (be_8 xs many) ∙ as_be 8 xs many each
@@ -113,7 +125,11 @@ pub ruleset read_1 = (be_1, signed_1, back_be_1, unsigned_1)
 
 pub ruleset read_2 = (be_2, le_2, signed_2, back_be_2, back_le_2, unsigned_2)
 
+pub ruleset read_3 = (be_3, le_3, back_be_3, back_le_3)
+
 pub ruleset read_4 = (be_4, le_4, signed_4, back_be_4, back_le_4, unsigned_4)
+
+pub ruleset read_6 = (be_6, le_6, back_be_6, back_le_6)
 
 pub ruleset read_8 = (be_8, le_8, signed_8, back_be_8, back_le_8, unsigned_8)
 

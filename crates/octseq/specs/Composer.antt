@@ -22,12 +22,12 @@ pub record Appends (limit : Option ℕ) (asks : Bool) (result : Result (Unit {0}
   pub short : IsShort result ↔ IsPast limit (length old + length octets)
   pub memory : IsMemory result → asks ≡ true
 
--- the refusal of a part whose append was refused
+-- the refusal of a part, or of an integer that fits its octets, whose append was refused
 abbrev pub refusal_of : AppendError → ComposeError
 refusal_of (AppendError.Short e) = Short
 refusal_of AppendError.Memory = Memory
 
--- the length doesn't fit the octets that it is to have
+-- the length, or the integer, doesn't fit the octets that it is to have
 abbrev pub IsPartTooLong : Result (Unit {0}) ComposeError → Type 0
 IsPartTooLong (Ok value) = ⊥
 IsPartTooLong (Err TooLong) = Unit {0}
@@ -55,4 +55,13 @@ pub record AppendsPart (limit : Option ℕ) (asks : Bool) (result : Result (Unit
   pub err : OnErr result (new ≡ old)
   pub too_long : IsPartTooLong result ↔ (256 ^ k ≤ length part)
   pub short : IsPartShort result ↔ (length part < 256 ^ k) × IsPast limit (length old + length (part_of k part))
+  pub memory : IsPartMemory result → asks ≡ true
+
+-- A call adds the octets of an integer, k of them. It is refused as too long exactly where the integer doesn't fit them, else as short
+-- exactly where the content would pass its limit, for memory only where the type requests memory, and then the content stays.
+pub record AppendsInteger (limit : Option ℕ) (asks : Bool) (result : Result (Unit {0}) ComposeError) (k integer : ℕ) (octets old new : List ℕ) : Type 0 where
+  pub ok : OnOk result (new ≡ old ++ octets)
+  pub err : OnErr result (new ≡ old)
+  pub too_long : IsPartTooLong result ↔ (256 ^ k ≤ integer)
+  pub short : IsPartShort result ↔ (integer < 256 ^ k) × IsPast limit (length old + length octets)
   pub memory : IsPartMemory result → asks ≡ true

@@ -1,5 +1,6 @@
 pub mod Code
 pub mod Composer
+pub mod Error
 pub mod Integer
 pub mod Parser
 pub mod Part

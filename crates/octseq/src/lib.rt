@@ -1,12 +1,15 @@
 //! Generic octet sequences: builders, ranges and conversions, texts, a parser and a composer.
 //!
 //! A sequence or a builder has a content, a list of octets, and everything here speaks of that content, however
-//! it is kept. This crate has [`parse`] and [`compose`], and beside them all modules of the crates that it stands on.
+//! it is kept. This crate has [`parse`], [`compose`] and [`error`], and beside them all modules of the crates that it
+//! stands on.
 #![tactic(auto)]
 
 pub mod compose;
+pub mod error;
 pub mod parse;
 
+pub use error::{ReadError, WriteError};
 pub use octseq_core::array::Array;
 pub use octseq_core::builder::{
     AppendError, AsOctets, CloneOctets, EmptyBuilder, FreezeBuilder, FromBuilder, IntoBuilder,

@@ -1,6 +1,7 @@
 //! Reading octets from the left: windows that move over a sequence.
 ghost use Rattle.std.specs.Prelude.{◌≡◌, ◌+◌, ◌<◌, ◌≤◌, ◌↔◌, ⊤, true, length, IsTrue, IsOk, IfOk, IsSome, IfSome, OnOk, OnErr};
 ghost use Rattle.octseq_text.specs.Range.{RangeExists};
+ghost use Rattle.octseq.specs.Integer.{be, octets_be};
 ghost use Rattle.octseq.specs.Refusal.{IsShort, IsMemory};
 ghost use Rattle.octseq.specs.Window.{left, rest, next, front, at, past, nested, whole, window_of_range};
 
@@ -83,11 +84,11 @@ impl<R: AsOctets> Parser<R> {
         ensures window { window result
             ≡ window_of_range (R.content octets) (B.start_bound range, B.end_bound range) }
     {
-        let range = slice::range(range, ..octets.as_ref().len());
+        let within = slice::range(range, ..octets.as_ref().len());
         Parser {
             octets,
-            pos: range.start,
-            len: range.end,
+            pos: within.start,
+            len: within.end,
         }
     }
 
@@ -168,6 +169,20 @@ impl<R: AsOctets> Parser<R> {
         ensures length { IfOk result (λ octets. length octets.now ≡ len) }
     {
         Ok(&self.octets.as_ref()[self.pos..self.place_past(len)?])
+    }
+
+    /// The next octet, unsigned. The position stays.
+    ///
+    /// # Errors
+    ///
+    /// `ShortInput` where no octet is left.
+    #[tactic(auto, using(crate::proofs::WrittenBack::read_1))]
+    pub fn peek_u8(&self) -> Result<u8, ShortInput>
+        ensures variant { IsOk result ↔ (1 ≤ left (window self.now)) }
+        ensures value { IfOk result (λ value. value ≡ be (next 1 (window self.now))) }
+        ensures octets { IfOk result (λ value. octets_be 1 value ≡ next 1 (window self.now)) }
+    {
+        Ok(self.peek(1)?[0])
     }
 
     /// The octets that are left. The position stays.

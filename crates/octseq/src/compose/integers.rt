@@ -1,8 +1,9 @@
 //! Integers as octets at the end of a content.
-ghost use Rattle.std.specs.Prelude.{◌≡◌};
-ghost use Rattle.octseq.specs.Composer.{AreOctetsOf, Appends};
+ghost use Rattle.std.specs.Prelude.{◌≡◌, ◌<◌, ◌^◌};
+ghost use Rattle.octseq.specs.Composer.{AreOctetsOf, Appends, AppendsInteger};
 ghost use Rattle.octseq.specs.Integer.{be, le, signed, octets_be, octets_le, unsigned};
 
+use super::ComposeError;
 use octseq_core::builder::{AppendError, OctetsBuilder};
 
 /// Appends a signed integer in one octet.
@@ -101,6 +102,44 @@ pub fn append_u16_le<B: OctetsBuilder>(builder: &mut B, value: u16) -> Result<()
     builder.append_slice(&value.to_le_bytes())
 }
 
+/// Appends an unsigned integer in 3 octets, big-endian.
+///
+/// # Errors
+///
+/// `TooLong` where the integer is more than 16,777,215. Else `Short` where the content would pass the limit of
+/// its type, and else `Memory` where a request for memory was refused. The content is then as it was.
+#[tactic(auto, using(crate::proofs::Written::written_3))]
+pub fn append_u24_be<B: OctetsBuilder>(builder: &mut B, value: u32) -> Result<(), ComposeError>
+    ensures octets { value < 256 ^ 3 → AreOctetsOf be 3 value (octets_be 3 value) }
+    ensures appended { AppendsInteger B.limit B.asks result 3 value (octets_be 3 value)
+        (B.content builder.old) (B.content builder.new) }
+    ensures borrows { B.borrows builder.new ≡ B.borrows builder.old }
+{
+    if value > 0xFF_FFFF {
+        return Err(ComposeError::TooLong);
+    }
+    Ok(builder.append_slice(&value.to_be_bytes()[1..])?)
+}
+
+/// Appends an unsigned integer in 3 octets, little-endian.
+///
+/// # Errors
+///
+/// `TooLong` where the integer is more than 16,777,215. Else `Short` where the content would pass the limit of
+/// its type, and else `Memory` where a request for memory was refused. The content is then as it was.
+#[tactic(auto, using(crate::proofs::Written::written_3))]
+pub fn append_u24_le<B: OctetsBuilder>(builder: &mut B, value: u32) -> Result<(), ComposeError>
+    ensures octets { value < 256 ^ 3 → AreOctetsOf le 3 value (octets_le 3 value) }
+    ensures appended { AppendsInteger B.limit B.asks result 3 value (octets_le 3 value)
+        (B.content builder.old) (B.content builder.new) }
+    ensures borrows { B.borrows builder.new ≡ B.borrows builder.old }
+{
+    if value > 0xFF_FFFF {
+        return Err(ComposeError::TooLong);
+    }
+    Ok(builder.append_slice(&value.to_le_bytes()[..3])?)
+}
+
 /// Appends a signed integer in 4 octets, big-endian.
 ///
 /// # Errors
@@ -163,6 +202,44 @@ pub fn append_u32_le<B: OctetsBuilder>(builder: &mut B, value: u32) -> Result<()
     ensures borrows { B.borrows builder.new ≡ B.borrows builder.old }
 {
     builder.append_slice(&value.to_le_bytes())
+}
+
+/// Appends an unsigned integer in 6 octets, big-endian.
+///
+/// # Errors
+///
+/// `TooLong` where the integer is more than 281,474,976,710,655. Else `Short` where the content would pass the limit of
+/// its type, and else `Memory` where a request for memory was refused. The content is then as it was.
+#[tactic(auto, using(crate::proofs::Written::written_6))]
+pub fn append_u48_be<B: OctetsBuilder>(builder: &mut B, value: u64) -> Result<(), ComposeError>
+    ensures octets { value < 256 ^ 6 → AreOctetsOf be 6 value (octets_be 6 value) }
+    ensures appended { AppendsInteger B.limit B.asks result 6 value (octets_be 6 value)
+        (B.content builder.old) (B.content builder.new) }
+    ensures borrows { B.borrows builder.new ≡ B.borrows builder.old }
+{
+    if value > 0xFFFF_FFFF_FFFF {
+        return Err(ComposeError::TooLong);
+    }
+    Ok(builder.append_slice(&value.to_be_bytes()[2..])?)
+}
+
+/// Appends an unsigned integer in 6 octets, little-endian.
+///
+/// # Errors
+///
+/// `TooLong` where the integer is more than 281,474,976,710,655. Else `Short` where the content would pass the limit of
+/// its type, and else `Memory` where a request for memory was refused. The content is then as it was.
+#[tactic(auto, using(crate::proofs::Written::written_6))]
+pub fn append_u48_le<B: OctetsBuilder>(builder: &mut B, value: u64) -> Result<(), ComposeError>
+    ensures octets { value < 256 ^ 6 → AreOctetsOf le 6 value (octets_le 6 value) }
+    ensures appended { AppendsInteger B.limit B.asks result 6 value (octets_le 6 value)
+        (B.content builder.old) (B.content builder.new) }
+    ensures borrows { B.borrows builder.new ≡ B.borrows builder.old }
+{
+    if value > 0xFFFF_FFFF_FFFF {
+        return Err(ComposeError::TooLong);
+    }
+    Ok(builder.append_slice(&value.to_le_bytes()[..6])?)
 }
 
 /// Appends a signed integer in 8 octets, big-endian.

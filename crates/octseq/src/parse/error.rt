@@ -20,7 +20,7 @@ impl fmt::Display for ShortInput {
 }
 
 /// Why a range of octets was refused.
-#[derive(Debug, PartialEq, Eq, Drop)]
+#[derive(Clone, Copy, Debug, PartialEq, Eq)]
 pub enum ParseOctetsError {
     /// Fewer octets were left.
     Short(ShortInput),

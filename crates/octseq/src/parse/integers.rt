@@ -98,6 +98,28 @@ impl<R: AsOctets> Parser<R> {
         Ok(u16::from_le_bytes(self.parse_array()?))
     }
 
+    /// The next 3 octets, big-endian, unsigned.
+    #[tactic(auto, using(crate::proofs::WrittenBack::read_3, crate::proofs::Windows::next_of_rest))]
+    pub fn parse_u24_be(&mut self) -> Result<u32, ShortInput>
+        ensures taken { Takes result 3 self.old self.new }
+        ensures value { IfOk result (λ value. value ≡ be (next 3 (window self.old))) }
+        ensures octets { IfOk result (λ value. octets_be 3 value ≡ next 3 (window self.old)) }
+    {
+        let octets: [u8; 3] = self.parse_array()?;
+        Ok(u32::from_be_bytes([0, octets[0], octets[1], octets[2]]))
+    }
+
+    /// The next 3 octets, little-endian, unsigned.
+    #[tactic(auto, using(crate::proofs::WrittenBack::read_3, crate::proofs::Windows::next_of_rest))]
+    pub fn parse_u24_le(&mut self) -> Result<u32, ShortInput>
+        ensures taken { Takes result 3 self.old self.new }
+        ensures value { IfOk result (λ value. value ≡ le (next 3 (window self.old))) }
+        ensures octets { IfOk result (λ value. octets_le 3 value ≡ next 3 (window self.old)) }
+    {
+        let octets: [u8; 3] = self.parse_array()?;
+        Ok(u32::from_le_bytes([octets[0], octets[1], octets[2], 0]))
+    }
+
     /// The next 4 octets, big-endian, signed.
     #[tactic(auto, using(crate::proofs::WrittenBack::read_4, crate::proofs::Windows::next_of_rest))]
     pub fn parse_i32_be(&mut self) -> Result<i32, ShortInput>
@@ -136,6 +158,32 @@ impl<R: AsOctets> Parser<R> {
         ensures octets { IfOk result (λ value. octets_le 4 value ≡ next 4 (window self.old)) }
     {
         Ok(u32::from_le_bytes(self.parse_array()?))
+    }
+
+    /// The next 6 octets, big-endian, unsigned.
+    #[tactic(auto, using(crate::proofs::WrittenBack::read_6, crate::proofs::Windows::next_of_rest))]
+    pub fn parse_u48_be(&mut self) -> Result<u64, ShortInput>
+        ensures taken { Takes result 6 self.old self.new }
+        ensures value { IfOk result (λ value. value ≡ be (next 6 (window self.old))) }
+        ensures octets { IfOk result (λ value. octets_be 6 value ≡ next 6 (window self.old)) }
+    {
+        let octets: [u8; 6] = self.parse_array()?;
+        Ok(u64::from_be_bytes([
+            0, 0, octets[0], octets[1], octets[2], octets[3], octets[4], octets[5],
+        ]))
+    }
+
+    /// The next 6 octets, little-endian, unsigned.
+    #[tactic(auto, using(crate::proofs::WrittenBack::read_6, crate::proofs::Windows::next_of_rest))]
+    pub fn parse_u48_le(&mut self) -> Result<u64, ShortInput>
+        ensures taken { Takes result 6 self.old self.new }
+        ensures value { IfOk result (λ value. value ≡ le (next 6 (window self.old))) }
+        ensures octets { IfOk result (λ value. octets_le 6 value ≡ next 6 (window self.old)) }
+    {
+        let octets: [u8; 6] = self.parse_array()?;
+        Ok(u64::from_le_bytes([
+            octets[0], octets[1], octets[2], octets[3], octets[4], octets[5], 0, 0,
+        ]))
     }
 
     /// The next 8 octets, big-endian, signed.

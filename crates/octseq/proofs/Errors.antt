@@ -1,0 +1,75 @@
+-- Refusals that a reader or a writer passes on. These are laws for callers who answer `ReadError` or `WriteError`.
+use Rattle.std.proofs.Common.{◌≡◌, ◌∙◌, sym, ap, subst, Result, Err}
+use Rattle.octseq_core.specs.Refusal as Builder
+use Rattle.octseq_core.specs.declared.builder.AppendError.{AppendError}
+use Rattle.octseq.specs.Composer.{refusal_of, IsPartTooLong, IsPartShort, IsPartMemory}
+use Rattle.octseq.specs.Error.{read_error_of, write_error_of}
+use Rattle.octseq.specs.Refusal.{IsShort, IsMemory}
+use Rattle.octseq.specs.declared.compose.ComposeError.{ComposeError}
+use Rattle.octseq.specs.declared.error.ReadError.{ReadError}
+use Rattle.octseq.specs.declared.error.WriteError.{WriteError}
+use Rattle.octseq.specs.declared.parse.error.ParseOctetsError.{ParseOctetsError}
+
+-- ---- of a parser
+
+-- a refusal that is told as malformed was for want of octets
+pub short_of : (T : Type 0) (e : ParseOctetsError) → read_error_of e ≡ ReadError.Malformed → IsShort {T = T} (Err e)
+short_of T (ParseOctetsError.Short e) told = tt
+short_of T ParseOctetsError.Memory told = absurd (cc)
+
+-- one that is told as memory was for want of memory
+pub memory_of : (T : Type 0) (e : ParseOctetsError) → read_error_of e ≡ ReadError.Memory → IsMemory {T = T} (Err e)
+memory_of T (ParseOctetsError.Short e) told = absurd (cc)
+memory_of T ParseOctetsError.Memory told = tt
+
+-- ---- of a composer
+
+-- a refusal that is told as malformed was for an integer or a length that doesn't fit its octets
+pub too_long_of : (e : ComposeError) → write_error_of e ≡ WriteError.Malformed → IsPartTooLong (Err e)
+too_long_of ComposeError.TooLong told = tt
+too_long_of ComposeError.Short told = absurd (cc)
+too_long_of ComposeError.Memory told = absurd (cc)
+
+-- one that is told as short was for want of room
+pub part_short_of : (e : ComposeError) → write_error_of e ≡ WriteError.Short → IsPartShort (Err e)
+part_short_of ComposeError.TooLong told = absurd (cc)
+part_short_of ComposeError.Short told = tt
+part_short_of ComposeError.Memory told = absurd (cc)
+
+-- one that is told as memory was for want of memory
+pub part_memory_of : (e : ComposeError) → write_error_of e ≡ WriteError.Memory → IsPartMemory (Err e)
+part_memory_of ComposeError.TooLong told = absurd (cc)
+part_memory_of ComposeError.Short told = absurd (cc)
+part_memory_of ComposeError.Memory told = tt
+
+-- ---- of a builder
+
+-- a refusal of a builder's is never told as malformed
+pub append_not_malformed : (e : AppendError) → write_error_of (refusal_of e) ≡ WriteError.Malformed → ⊥
+append_not_malformed (AppendError.Short e) told = cc
+append_not_malformed AppendError.Memory told = cc
+
+-- one that is told as short was for want of room
+pub append_short_of : (T : Type 0) (e : AppendError) → write_error_of (refusal_of e) ≡ WriteError.Short → Builder.IsShort {T = T} (Err e)
+append_short_of T (AppendError.Short e) told = tt
+append_short_of T AppendError.Memory told = absurd (cc)
+
+-- one that is told as memory was for want of memory
+pub append_memory_of : (T : Type 0) (e : AppendError) → write_error_of (refusal_of e) ≡ WriteError.Memory → Builder.IsMemory {T = T} (Err e)
+append_memory_of T (AppendError.Short e) told = absurd (cc)
+append_memory_of T AppendError.Memory told = tt
+
+-- ---- passed on as it is
+
+-- a call answers the refusal that another answered it
+pub same_refusal : {S T E : Type 0} (here : Result S E) (given : Result T E) (passed refusal wanted : E) → given ≡ Err passed → passed ≡ refusal → given ≡ Err wanted
+    → here ≡ Err refusal → here ≡ Err wanted
+same_refusal here given passed refusal wanted e is f was =
+    let same : passed ≡ wanted = cc in
+    was ∙ ap Err (sym is ∙ same)
+
+-- so of a builder's, as short
+pub same_short : {S T : Type 0} (here : Result S AppendError) (given : Result T AppendError) (passed refusal : AppendError) → given ≡ Err passed → passed ≡ refusal
+    → here ≡ Err refusal → Builder.IsShort given → Builder.IsShort here
+same_short here given (AppendError.Short e) refusal is same was short = subst Builder.IsShort (sym (was ∙ ap Err (sym same))) tt
+same_short here given AppendError.Memory refusal is same was short = absurd (subst Builder.IsShort is short)

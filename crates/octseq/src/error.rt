@@ -1,0 +1,131 @@
+//! Errors that readers and writers of formats share, so that `?` passes each refusal on.
+ghost use Rattle.std.specs.Prelude.{◌≡◌, Some};
+
+use crate::compose::ComposeError;
+use crate::parse::{ParseOctetsError, ShortInput};
+use octseq_core::builder::AppendError;
+use std::alloc::AllocError;
+use std::error::Error;
+use std::fmt;
+
+/// Why octets were not read.
+#[derive(Clone, Copy, Debug, PartialEq, Eq)]
+pub enum ReadError {
+    /// They don't have the form that was to be read.
+    Malformed,
+    /// A request for memory was refused.
+    Memory,
+}
+
+impl Error for ReadError {}
+
+impl fmt::Display for ReadError {
+    ghost use Rattle.octseq.specs.Shown.{read_error_text};
+
+    ghost output = { λ e. Some (read_error_text e) };
+
+    fn fmt<W: fmt::Write>(&self, f: &mut fmt::Formatter<W>) -> fmt::Result {
+        match self {
+            ReadError::Malformed => f.write_str("malformed data"),
+            ReadError::Memory => f.write_str("out of memory"),
+        }
+    }
+}
+
+impl From<ShortInput> for ReadError {
+    ghost use Rattle.octseq.specs.declared.error.ReadError.TheVariants.{Malformed};
+
+    ghost from_gives = { λ _ made. made ≡ Malformed };
+
+    fn from(_e: ShortInput) -> ReadError {
+        ReadError::Malformed
+    }
+}
+
+impl From<ParseOctetsError> for ReadError {
+    ghost use Rattle.octseq.specs.Error.{read_error_of};
+
+    ghost from_gives = { λ e made. made ≡ read_error_of e };
+
+    fn from(e: ParseOctetsError) -> ReadError {
+        match e {
+            ParseOctetsError::Short(_) => ReadError::Malformed,
+            ParseOctetsError::Memory => ReadError::Memory,
+        }
+    }
+}
+
+impl From<AllocError> for ReadError {
+    ghost use Rattle.octseq.specs.declared.error.ReadError.TheVariants.{Memory};
+
+    ghost from_gives = { λ _ made. made ≡ Memory };
+
+    fn from(_e: AllocError) -> ReadError {
+        ReadError::Memory
+    }
+}
+
+/// Why a thing was not written.
+#[derive(Clone, Copy, Debug, PartialEq, Eq)]
+pub enum WriteError {
+    /// It doesn't have the form that is written.
+    Malformed,
+    /// The content would pass the limit of its type.
+    Short,
+    /// A request for memory was refused.
+    Memory,
+}
+
+impl Error for WriteError {}
+
+impl fmt::Display for WriteError {
+    ghost use Rattle.octseq.specs.Shown.{write_error_text};
+
+    ghost output = { λ e. Some (write_error_text e) };
+
+    fn fmt<W: fmt::Write>(&self, f: &mut fmt::Formatter<W>) -> fmt::Result {
+        match self {
+            WriteError::Malformed => f.write_str("malformed data"),
+            WriteError::Short => f.write_str("buffer size exceeded"),
+            WriteError::Memory => f.write_str("out of memory"),
+        }
+    }
+}
+
+impl From<ComposeError> for WriteError {
+    ghost use Rattle.octseq.specs.Error.{write_error_of};
+
+    ghost from_gives = { λ e made. made ≡ write_error_of e };
+
+    fn from(e: ComposeError) -> WriteError {
+        match e {
+            ComposeError::TooLong => WriteError::Malformed,
+            ComposeError::Short => WriteError::Short,
+            ComposeError::Memory => WriteError::Memory,
+        }
+    }
+}
+
+impl From<AppendError> for WriteError {
+    ghost use Rattle.octseq.specs.Composer.{refusal_of};
+    ghost use Rattle.octseq.specs.Error.{write_error_of};
+
+    ghost from_gives = { λ e made. made ≡ write_error_of (refusal_of e) };
+
+    fn from(e: AppendError) -> WriteError {
+        match e {
+            AppendError::Short(_) => WriteError::Short,
+            AppendError::Memory => WriteError::Memory,
+        }
+    }
+}
+
+impl From<AllocError> for WriteError {
+    ghost use Rattle.octseq.specs.declared.error.WriteError.TheVariants.{Memory};
+
+    ghost from_gives = { λ _ made. made ≡ Memory };
+
+    fn from(_e: AllocError) -> WriteError {
+        WriteError::Memory
+    }
+}
