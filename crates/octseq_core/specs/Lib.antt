@@ -1,3 +1,4 @@
+pub mod Appends
 pub mod ArrayOctets
 pub mod Cow
 pub mod Lends

@@ -1,16 +1,38 @@
--- Which refusal a call answered.
+-- Why a call was refused, in words that mean the same for every error. The first argument of a word is what the error tells.
 use Rattle.std.specs.Prelude.{Result, Ok, Err}
 use Rattle.octseq_core.specs.declared.builder.AppendError.{AppendError}
-use Rattle.octseq_core.specs.declared.builder.AppendError.TheVariants.{Short, Memory}
 
--- the content would have passed its type's limit
-abbrev pub IsShort : {T : Type 0} → Result T AppendError → Type 0
-IsShort (Ok value) = ⊥
-IsShort (Err (Short e)) = Unit {0}
-IsShort (Err Memory) = ⊥
+-- A content would have passed its type's limit, or fewer octets were left than were asked for; a request for memory was refused; a number
+-- doesn't fit its octets; octets don't have their form.
+pub data Refusal : Type 0 where
+  short memory too_long malformed : Refusal
 
--- a request for memory was refused
-abbrev pub IsMemory : {T : Type 0} → Result T AppendError → Type 0
-IsMemory (Ok value) = ⊥
-IsMemory (Err (Short e)) = ⊥
-IsMemory (Err Memory) = Unit {0}
+-- it is this refusal
+abbrev Is : Refusal → Refusal → Type 0
+Is Refusal.short Refusal.short = Unit {0}
+Is Refusal.memory Refusal.memory = Unit {0}
+Is Refusal.too_long Refusal.too_long = Unit {0}
+Is Refusal.malformed Refusal.malformed = Unit {0}
+Is _ _ = ⊥
+
+-- a call was refused, and its error tells so
+abbrev pub IsRefused : {T E : Type 0} → Refusal → (E → Refusal) → Result T E → Type 0
+IsRefused refusal tells (Ok value) = ⊥
+IsRefused refusal tells (Err e) = Is refusal (tells e)
+
+abbrev pub IsShort : {T E : Type 0} → (E → Refusal) → Result T E → Type 0
+IsShort tells result = IsRefused Refusal.short tells result
+
+abbrev pub IsMemory : {T E : Type 0} → (E → Refusal) → Result T E → Type 0
+IsMemory tells result = IsRefused Refusal.memory tells result
+
+abbrev pub IsTooLong : {T E : Type 0} → (E → Refusal) → Result T E → Type 0
+IsTooLong tells result = IsRefused Refusal.too_long tells result
+
+abbrev pub IsMalformed : {T E : Type 0} → (E → Refusal) → Result T E → Type 0
+IsMalformed tells result = IsRefused Refusal.malformed tells result
+
+-- what an append's error tells
+abbrev pub append_error : AppendError → Refusal
+append_error (AppendError.Short e) = Refusal.short
+append_error AppendError.Memory = Refusal.memory

@@ -8,8 +8,7 @@ ghost use Rattle.std.specs.Hash as fed;
 ghost use Rattle.std.specs.Ordering.{nat_cmp};
 ghost use Rattle.std.proofs.Common.{rules};
 ghost use Rattle.octseq_core.specs.ArrayOctets.{all_octets, cut_at, blank, padded};
-ghost use Rattle.octseq_core.specs.Limit.{IsPast};
-ghost use Rattle.octseq_core.specs.Refusal.{IsShort, IsMemory};
+ghost use Rattle.octseq_core.specs.Appends.{Appends};
 
 use crate::builder::{
     AppendError, AsOctets, CloneOctets, EmptyBuilder, FreezeBuilder, FromBuilder, IntoBuilder,
@@ -154,11 +153,7 @@ impl<const N: usize> OctetsLimit for Array<N> {
 impl<const N: usize> OctetsBuilder for Array<N> {
     /// The slice takes the place of as many hidden octets; the others stay hidden, as they are.
     fn append_slice(&mut self, slice: &[u8]) -> Result<(), AppendError>
-        ensures ok { OnOk result (self.new.content ≡ self.old.content ++ slice.now) }
-        ensures err { OnErr result (self.new.content ≡ self.old.content) }
-        ensures short { IsShort result ↔ IsPast (Some N) (length self.old.content + length slice.now) }
-        ensures memory { IsMemory result → false ≡ true }
-
+        ensures appended { Appends (Some N) false result slice.now self.old.content self.new.content }
         ensures hidden { OnOk result (self.new.hidden ≡ drop (length slice.now) self.old.hidden) }
         ensures unchanged { OnErr result (self.new ≡ self.old) }
     {

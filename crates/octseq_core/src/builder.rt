@@ -2,8 +2,8 @@
 ghost use Rattle.std.specs.Prelude.{◌≡◌, ℕ, Bool, true, Option, Some, List, [], ◌++◌, ◌+◌, ◌↔◌, take, length, codes, Result, Ok, IsTrue, IsOk, IfOk, OnOk, OnErr};
 ghost use Rattle.std.specs.Borrow.{GName, sem};
 ghost use Rattle.octseq_core.specs.Lends.{lends_octets};
-ghost use Rattle.octseq_core.specs.Limit.{IsWithin, IsPast};
-ghost use Rattle.octseq_core.specs.Refusal.{IsShort, IsMemory};
+ghost use Rattle.octseq_core.specs.Appends.{Appends};
+ghost use Rattle.octseq_core.specs.Limit.{IsWithin};
 
 use std::alloc::{AllocError, Global};
 use std::error::Error;
@@ -97,11 +97,8 @@ pub trait OctetsBuilder: OctetsLimit {
     /// `Short` where the content would pass the type's limit, and else `Memory` where a request for
     /// memory was refused. The content is then as it was.
     fn append_slice(&mut self, slice: &[u8]) -> Result<(), AppendError>
-        ensures ok { OnOk result (Self.content self.new ≡ Self.content self.old ++ slice.now) }
-        ensures err { OnErr result (Self.content self.new ≡ Self.content self.old) }
-        ensures short { IsShort result
-            ↔ IsPast Self.limit (length (Self.content self.old) + length slice.now) }
-        ensures memory { IsMemory result → Self.asks ≡ true }
+        ensures appended { Appends Self.limit Self.asks result slice.now
+            (Self.content self.old) (Self.content self.new) }
         ensures borrows { Self.borrows self.new ≡ Self.borrows self.old };
 }
 

@@ -1,8 +1,7 @@
 //! Octets that are borrowed until more are appended.
 ghost use Rattle.std.specs.Prelude.{◌≡◌, ◌+◌, Bool, true, false, Option, None, List, ◌++◌, ◌↔◌, take, length, IsTrue, IsOk, IfOk, OnOk, OnErr};
+ghost use Rattle.octseq_core.specs.Appends.{Appends};
 ghost use Rattle.octseq_core.specs.Cow.{cow_content, is_borrowed};
-ghost use Rattle.octseq_core.specs.Limit.{IsPast};
-ghost use Rattle.octseq_core.specs.Refusal.{IsShort, IsMemory};
 
 use crate::builder::{
     AppendError, AsOctets, CloneOctets, FreezeBuilder, FromBuilder, IntoBuilder, OctetsBuilder,
@@ -90,11 +89,7 @@ impl OctetsBuilder for CowOctets<'_> {
     /// Makes borrowed octets owned, also where the slice is empty. They are copied first, so a refusal
     /// leaves them borrowed.
     fn append_slice(&mut self, slice: &[u8]) -> Result<(), AppendError>
-        ensures ok { OnOk result (cow_content self.new ≡ cow_content self.old ++ slice.now) }
-        ensures err { OnErr result (cow_content self.new ≡ cow_content self.old) }
-        ensures short { IsShort result ↔ IsPast None (length (cow_content self.old) + length slice.now) }
-        ensures memory { IsMemory result → true ≡ true }
-
+        ensures appended { Appends None true result slice.now (cow_content self.old) (cow_content self.new) }
         ensures owned { OnOk result (is_borrowed self.new ≡ false) }
         ensures unchanged { OnErr result (is_borrowed self.new ≡ is_borrowed self.old) }
     {

@@ -2,7 +2,7 @@
 use Rattle.std.proofs.Common.{◌≡◌, ℕ, ◌+◌, Bool, true, Option, Some, None, List, ◌++◌, length, Result, Ok, Err, OnOk, OnErr, ◌↔◌, ap, sym, ◌∙◌, subst, ⊎_elim, length-append}
 use Rattle.std.proofs.lemmas.Bool.{cases_lt}
 use Rattle.octseq_core.specs.Limit.{IsWithin, IsPast}
-use Rattle.octseq_core.specs.Refusal.{IsShort, IsMemory}
+use Rattle.octseq_core.specs.Refusal.{IsShort, IsMemory, append_error}
 use Rattle.octseq_core.specs.declared.builder.AppendError.{AppendError}
 use Rattle.octseq_core.specs.declared.builder.AppendError.TheVariants.{Short, Memory}
 use Rattle.octseq_text.specs.Run.{Appends, append_reply}
@@ -24,7 +24,7 @@ well_formed-appended (Err e) new old more ok err v w = subst IsWellFormed (sym e
 
 appends_with : (limit : Option ℕ) (asks : Bool) (r : Result (Unit {0}) AppendError) (new old more : List ℕ)
     → OnOk r (new ≡ old ++ more) → OnErr r (new ≡ old)
-    → (IsShort r ↔ IsPast limit (length (octets_of (chars old ++ chars more)))) → (IsMemory r → asks ≡ true)
+    → (IsShort append_error r ↔ IsPast limit (length (octets_of (chars old ++ chars more)))) → (IsMemory append_error r → asks ≡ true)
     → (OnOk r (new ≡ old ++ more) → OnOk r (chars new ≡ chars old ++ chars more))
     → Appends limit asks (chars old) (chars more) (append_reply r) (chars new)
 appends_with limit asks (Ok u) new old more ok err short memory characters = (within limit _ (λ p. short.1 p), characters ok)
@@ -37,7 +37,7 @@ on_ok (Err e) P Q f p = tt
 
 pub appends : (limit : Option ℕ) (asks : Bool) (r : Result (Unit {0}) AppendError) (new old more : List ℕ)
     → OnOk r (new ≡ old ++ more) → OnErr r (new ≡ old)
-    → (IsShort r ↔ IsPast limit (length old + length more)) → (IsMemory r → asks ≡ true)
+    → (IsShort append_error r ↔ IsPast limit (length old + length more)) → (IsMemory append_error r → asks ≡ true)
     → IsWellFormed old → IsWellFormed more
     → Appends limit asks (chars old) (chars more) (append_reply r) (chars new)
 appends limit asks r new old more ok err short memory v w =

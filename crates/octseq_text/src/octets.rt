@@ -1,7 +1,7 @@
 //! Ranges of octet sequences, and conversions between them.
 ghost use Rattle.std.specs.Prelude.{◌≡◌, ◌≤◌, ◌↔◌, true, None, slice_range, length, IsTrue, IsSome, IfSome, IfOk, OnErr};
 ghost use Rattle.octseq_core.specs.Limit.{IsPast};
-ghost use Rattle.octseq_core.specs.Refusal.{IsShort, IsMemory};
+ghost use Rattle.octseq_core.specs.Refusal.{IsShort, IsMemory, append_error};
 ghost use Rattle.octseq_text.specs.Range.{start_of, end_of, RangeExists, range_of};
 ghost use Rattle.std.specs.declared.ops.Bound.TheVariants.{Included, Excluded};
 
@@ -87,8 +87,8 @@ pub trait OctetsFrom<Source: AsOctets>: OctetsLimit {
     /// was refused. The source is then given up.
     fn try_octets_from(alloc: Global, source: Source) -> Result<Self, AppendError>
         ensures ok { IfOk result (λ octets. Self.content octets ≡ Source.content source) }
-        ensures short { IsShort result ↔ IsPast Self.limit (length (Source.content source)) }
-        ensures memory { IsMemory result → Self.asks ≡ true };
+        ensures short { IsShort append_error result ↔ IsPast Self.limit (length (Source.content source)) }
+        ensures memory { IsMemory append_error result → Self.asks ≡ true };
 
     /// The source's octets, for a type with no limit.
     ///
@@ -119,8 +119,8 @@ pub trait OctetsInto<Target: OctetsLimit>: AsOctets {
     /// As `OctetsFrom::try_octets_from`.
     fn try_octets_into(self, alloc: Global) -> Result<Target, AppendError>
         ensures ok { IfOk result (λ octets. Target.content octets ≡ Self.content self) }
-        ensures short { IsShort result ↔ IsPast Target.limit (length (Self.content self)) }
-        ensures memory { IsMemory result → Target.asks ≡ true };
+        ensures short { IsShort append_error result ↔ IsPast Target.limit (length (Self.content self)) }
+        ensures memory { IsMemory append_error result → Target.asks ≡ true };
 
     /// The octets in the other type, which has no limit.
     ///

@@ -1,7 +1,6 @@
 //! A vector that begins inline. It requests memory where it outgrows that.
 ghost use Rattle.std.specs.Prelude.{◌≡◌, ◌+◌, ◌≤◌, ◌++◌, ◌↔◌, true, None, [], length, IsOk, IfOk, OnOk, OnErr};
-ghost use Rattle.octseq_core.specs.Limit.{IsPast};
-ghost use Rattle.octseq_core.specs.Refusal.{IsShort, IsMemory};
+ghost use Rattle.octseq_core.specs.Appends.{Appends};
 
 use super::{
     AppendError, AsOctets, CloneOctets, EmptyBuilder, FreezeBuilder, FromBuilder, IntoBuilder,
@@ -35,10 +34,7 @@ impl<const N: usize> OctetsLimit for SmallVec<u8, N> {
 impl<const N: usize> OctetsBuilder for SmallVec<u8, N> {
     /// A content that stays inline takes no memory.
     fn append_slice(&mut self, slice: &[u8]) -> Result<(), AppendError>
-        ensures ok { OnOk result (self.new.items ≡ self.old.items ++ slice.now) }
-        ensures err { OnErr result (self.new.items ≡ self.old.items) }
-        ensures short { IsShort result ↔ IsPast None (length self.old.items + length slice.now) }
-        ensures memory { IsMemory result → true ≡ true }
+        ensures appended { Appends None true result slice.now self.old.items self.new.items }
         ensures never { length self.old.items + length slice.now ≤ N → IsOk result }
     {
         prove!(self.capacity() >= N);

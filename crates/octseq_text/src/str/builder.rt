@@ -2,7 +2,7 @@
 ghost use Rattle.std.specs.Prelude.{◌≡◌, ℕ, ◌+◌, ◌<◌, ◌↔◌, true, None, List, [], ◌∷◌, ◌++◌, length, take, IsTrue, IsOk, IsSome, IfOk, IfErr, IfSome, IfNone, OnOk, OnErr};
 ghost use Rattle.octseq_core.specs.ArrayOctets.{blank};
 ghost use Rattle.octseq_core.specs.Limit.{IsWithin, IsPast};
-ghost use Rattle.octseq_core.specs.Refusal.{IsShort, IsMemory};
+ghost use Rattle.octseq_core.specs.Refusal.{IsShort, IsMemory, append_error};
 ghost use Rattle.octseq_utf8.specs.Encoding.{IsEncoding, number_of, encoding_of};
 ghost use Rattle.octseq_utf8.specs.Fault.{IsFault};
 ghost use Rattle.octseq_text.specs.Run.{Appends, append_reply, CutsTo, Pops};
@@ -174,9 +174,9 @@ impl<Octets: AsOctets> StrBuilder<Octets> {
         Octets: OctetsBuilder,
         ensures ok { OnOk result (Octets.content self.new ≡ Octets.content self.old ++ s.now) }
         ensures err { OnErr result (Octets.content self.new ≡ Octets.content self.old) }
-        ensures short { IsShort result
+        ensures short { IsShort append_error result
             ↔ IsPast Octets.limit (length (Octets.content self.old) + length s.now) }
-        ensures memory { IsMemory result → Octets.asks ≡ true }
+        ensures memory { IsMemory append_error result → Octets.asks ≡ true }
         ensures borrows { Octets.borrows self.new ≡ Octets.borrows self.old }
 
         // The same of the characters.
@@ -197,9 +197,9 @@ impl<Octets: AsOctets> StrBuilder<Octets> {
         Octets: OctetsBuilder,
         ensures ok { OnOk result (Octets.content self.new ≡ Octets.content self.old ++ encoding_of ch) }
         ensures err { OnErr result (Octets.content self.new ≡ Octets.content self.old) }
-        ensures short { IsShort result
+        ensures short { IsShort append_error result
             ↔ IsPast Octets.limit (length (Octets.content self.old) + length (encoding_of ch)) }
-        ensures memory { IsMemory result → Octets.asks ≡ true }
+        ensures memory { IsMemory append_error result → Octets.asks ≡ true }
         ensures borrows { Octets.borrows self.new ≡ Octets.borrows self.old }
 
         // The character has one encoding, and no other.

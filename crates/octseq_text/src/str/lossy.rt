@@ -1,7 +1,7 @@
 //! The lossy reading: octets as text, with a replacement for what is no text.
 ghost use Rattle.std.specs.Prelude.{◌≡◌, ◌≢◌, ℕ, ◌+◌, ◌*◌, ◌≤◌, true, None, List, [], ◌++◌, length, drop, IsErr, IfOk, OnOk, OnErr};
 ghost use Rattle.octseq_core.specs.Limit.{IsPast};
-ghost use Rattle.octseq_core.specs.Refusal.{IsShort, IsMemory};
+ghost use Rattle.octseq_core.specs.Refusal.{IsShort, IsMemory, append_error};
 ghost use Rattle.octseq_utf8.specs.Encoding.{encoding_of};
 ghost use Rattle.octseq_utf8.specs.Fault.{IsFault, fault_end};
 ghost use Rattle.octseq_utf8.specs.Parts.{Part, Splits, text_with, text};
@@ -38,11 +38,11 @@ impl<Octets: AsOctets> StrBuilder<Octets> {
         ensures well_formed { IfOk result (λ made. IsWellFormed (Octets.content made)) }
         ensures same { IsWellFormed (Octets.content octets) → result ≡ Ok octets }
 
-        ensures short { IsShort result → (parts : List Part)
+        ensures short { IsShort append_error result → (parts : List Part)
             → Splits (Octets.content octets) parts → IsPast Octets.limit (length (text parts)) }
         ensures past { (parts : List Part) → Splits (Octets.content octets) parts
             → IsPast Octets.limit (length (text parts)) → IsErr result }
-        ensures memory { IsMemory result → (Octets.asks ≡ true) × ¬ IsWellFormed (Octets.content octets) }
+        ensures memory { IsMemory append_error result → (Octets.asks ≡ true) × ¬ IsWellFormed (Octets.content octets) }
 
         ensures again { IfOk result (λ made. (parts : List Part)
             → Splits (Octets.content made) parts → text parts ≡ Octets.content made) }
@@ -81,11 +81,11 @@ impl<Octets: AsOctets> StrBuilder<Octets> {
         ensures same { IsWellFormed (Octets.content octets) → result ≡ Ok octets }
 
         // It is refused as short exactly where that text passes the limit, memory aside.
-        ensures short { IsShort result → (parts : List Part)
+        ensures short { IsShort append_error result → (parts : List Part)
             → Splits (Octets.content octets) parts → IsPast Octets.limit (length (text parts)) }
         ensures past { (parts : List Part) → Splits (Octets.content octets) parts
             → IsPast Octets.limit (length (text parts)) → IsErr result }
-        ensures memory { IsMemory result → (Octets.asks ≡ true) × ¬ IsWellFormed (Octets.content octets) }
+        ensures memory { IsMemory append_error result → (Octets.asks ≡ true) × ¬ IsWellFormed (Octets.content octets) }
 
         // No more turns than parts, whatever the answer, and a turn for every sixteen octets.
         ensures turns { (parts : List Part) → Splits (Octets.content octets) parts
@@ -165,11 +165,11 @@ impl<Octets: AsOctets> StrBuilder<Octets> {
         ensures well_formed { IfOk result (λ made. IsWellFormed (Octets.content made)) }
         ensures same { IsWellFormed (Octets.content octets) → result ≡ Ok octets }
 
-        ensures short { IsShort result → (parts : List Part) → Splits (Octets.content octets) parts
+        ensures short { IsShort append_error result → (parts : List Part) → Splits (Octets.content octets) parts
             → IsPast Octets.limit (length (text_with replacement parts)) }
         ensures past { (parts : List Part) → Splits (Octets.content octets) parts
             → IsPast Octets.limit (length (text_with replacement parts)) → IsErr result }
-        ensures memory { IsMemory result → (Octets.asks ≡ true) × ¬ IsWellFormed (Octets.content octets) }
+        ensures memory { IsMemory append_error result → (Octets.asks ≡ true) × ¬ IsWellFormed (Octets.content octets) }
 
         ensures again { IfOk result (λ made. (w : ℕ) (parts : List Part)
             → Splits (Octets.content made) parts → text_with w parts ≡ Octets.content made) }
@@ -207,11 +207,11 @@ impl<Octets: AsOctets> StrBuilder<Octets> {
         ensures same { IsWellFormed (Octets.content octets) → result ≡ Ok octets }
 
         // It is refused as short exactly where that text passes the limit, memory aside.
-        ensures short { IsShort result → (parts : List Part) → Splits (Octets.content octets) parts
+        ensures short { IsShort append_error result → (parts : List Part) → Splits (Octets.content octets) parts
             → IsPast Octets.limit (length (text_with replacement parts)) }
         ensures past { (parts : List Part) → Splits (Octets.content octets) parts
             → IsPast Octets.limit (length (text_with replacement parts)) → IsErr result }
-        ensures memory { IsMemory result → (Octets.asks ≡ true) × ¬ IsWellFormed (Octets.content octets) }
+        ensures memory { IsMemory append_error result → (Octets.asks ≡ true) × ¬ IsWellFormed (Octets.content octets) }
 
         // No more turns than parts, whatever the answer, and a turn for every sixteen octets.
         ensures turns { (parts : List Part) → Splits (Octets.content octets) parts
@@ -240,9 +240,9 @@ fn read_with<B: EmptyBuilder>(
 ) -> Result<StrBuilder<B>, AppendError>
     ensures text { IfOk result (λ made. B.content made ≡ text_with replacement (parts_of (B.content octets))) }
     ensures same { IsWellFormed (B.content octets) → result ≡ Ok octets }
-    ensures short { IsShort result → IsPast B.limit (length (text_with replacement (parts_of (B.content octets)))) }
+    ensures short { IsShort append_error result → IsPast B.limit (length (text_with replacement (parts_of (B.content octets)))) }
     ensures past { IsPast B.limit (length (text_with replacement (parts_of (B.content octets)))) → IsErr result }
-    ensures memory { IsMemory result → (B.asks ≡ true) × ¬ IsWellFormed (B.content octets) }
+    ensures memory { IsMemory append_error result → (B.asks ≡ true) × ¬ IsWellFormed (B.content octets) }
     ensures turns { turns.new ≤ turns.old + length (parts_of (B.content octets)) }
     ensures passed { OnOk result (length (B.content octets) + 16 * turns.old ≤ 16 * turns.new) }
     ensures kept { turns.old ≤ turns.new }
@@ -269,9 +269,9 @@ fn replaced<B: EmptyBuilder>(
     requires { IsFault octets.now first }
     ensures text { IfOk result (λ made. B.content made ≡ text_with replacement (parts_of octets.now)) }
     ensures well_formed { IfOk result (λ made. IsWellFormed (B.content made)) }
-    ensures short { IsShort result → IsPast B.limit (length (text_with replacement (parts_of octets.now))) }
+    ensures short { IsShort append_error result → IsPast B.limit (length (text_with replacement (parts_of octets.now))) }
     ensures past { IsPast B.limit (length (text_with replacement (parts_of octets.now))) → IsErr result }
-    ensures memory { IsMemory result → B.asks ≡ true }
+    ensures memory { IsMemory append_error result → B.asks ≡ true }
     ensures turns { turns.new ≤ turns.old + length (parts_of (drop (fault_end octets.now first) octets.now)) }
     ensures passed { OnOk result (length octets.now + 16 * turns.old ≤ 16 * turns.new + fault_end octets.now first) }
     ensures kept { turns.old ≤ turns.new }
@@ -293,8 +293,8 @@ fn replace_faults<'a, B: OctetsBuilder>(
     requires empty { B.content made.old ≡ [] }
     requires fault { IsFault octets.now first }
     ensures ok { IfOk result (λ rest. IsReplaced replacement octets.now first (B.content made.new) rest.now turns.old turns.new) }
-    ensures short { IsShort result → IsPast B.limit (length (text_with replacement (parts_of octets.now))) }
-    ensures memory { IsMemory result → B.asks ≡ true }
+    ensures short { IsShort append_error result → IsPast B.limit (length (text_with replacement (parts_of octets.now))) }
+    ensures memory { IsMemory append_error result → B.asks ≡ true }
     ensures turns { turns.new ≤ turns.old + length (parts_of (drop (fault_end octets.now first) octets.now)) }
     ensures kept { turns.old ≤ turns.new }
 {
@@ -319,9 +319,9 @@ fn append_both<B: OctetsBuilder>(
     replacement: &[u8],
 ) -> Result<(), AppendError>
     ensures ok { OnOk result (B.content builder.new ≡ B.content builder.old ++ (good.now ++ replacement.now)) }
-    ensures short { IsShort result
+    ensures short { IsShort append_error result
         → IsPast B.limit (length (B.content builder.old) + length good.now + length replacement.now) }
-    ensures memory { IsMemory result → B.asks ≡ true }
+    ensures memory { IsMemory append_error result → B.asks ≡ true }
 {
     builder.append_slice(good)?;
     builder.append_slice(replacement)

@@ -1,7 +1,7 @@
 //! The lossy reading of octets that come in pieces.
 ghost use Rattle.std.specs.Prelude.{◌≡◌, ◌≢◌, ℕ, ◌+◌, ◌*◌, ◌<◌, ◌≤◌, ◌↔◌, true, Some, List, [], ◌∷◌, ◌++◌, length, IsErr, IfOk, IfErr, IfSome, IfNone, OnOk, OnErr};
 ghost use Rattle.octseq_core.specs.Limit.{IsWithin, IsPast};
-ghost use Rattle.octseq_core.specs.Refusal.{IsShort, IsMemory};
+ghost use Rattle.octseq_core.specs.Refusal.{IsShort, IsMemory, append_error};
 ghost use Rattle.octseq_core.specs.declared.builder.AppendError.{AppendError};
 ghost use Rattle.octseq_utf8.specs.Encoding.{encoding_of};
 ghost use Rattle.octseq_utf8.specs.Parts.{IsBeginning, Part, Splits, text};
@@ -84,13 +84,13 @@ impl<B: EmptyBuilder> LossyPieces<B> {
 
         // It is refused as short exactly where the text of their settled parts passes the limit, memory
         // aside.
-        ensures short { IsShort result → (octets end : List ℕ) (settled : List Part)
+        ensures short { IsShort append_error result → (octets end : List ℕ) (settled : List Part)
             → StandsFor self.old octets → Settles (octets ++ piece.now) settled end
             → IsPast B.limit (length (text settled)) }
         ensures past { (octets end : List ℕ) (settled : List Part)
             → StandsFor self.old octets → Settles (octets ++ piece.now) settled end
             → IsPast B.limit (length (text settled)) → IsErr result }
-        ensures memory { IsMemory result → B.asks ≡ true }
+        ensures memory { IsMemory append_error result → B.asks ≡ true }
 
         // A refusal is kept, and is the answer from then on.
         ensures kept { IfErr result (λ refusal. self.new.refusal ≡ Some refusal) }
@@ -122,13 +122,13 @@ impl<B: EmptyBuilder> LossyPieces<B> {
 
         // It is refused as short exactly where the text of their settled parts passes the limit, memory
         // aside.
-        ensures short { IsShort result → (octets end : List ℕ) (settled : List Part)
+        ensures short { IsShort append_error result → (octets end : List ℕ) (settled : List Part)
             → StandsFor self.old octets → Settles (octets ++ piece.now) settled end
             → IsPast B.limit (length (text settled)) }
         ensures past { (octets end : List ℕ) (settled : List Part)
             → StandsFor self.old octets → Settles (octets ++ piece.now) settled end
             → IsPast B.limit (length (text settled)) → IsErr result }
-        ensures memory { IsMemory result → B.asks ≡ true }
+        ensures memory { IsMemory append_error result → B.asks ≡ true }
 
         // A refusal is kept, and is the answer from then on.
         ensures kept { IfErr result (λ refusal. self.new.refusal ≡ Some refusal) }
@@ -177,12 +177,12 @@ impl<B: EmptyBuilder> LossyPieces<B> {
         ensures well_formed { IfOk result (λ made. IsWellFormed (B.content made)) }
 
         // It is refused as short exactly where that text passes the limit, memory aside.
-        ensures short { IsShort result → (octets : List ℕ) (parts : List Part)
+        ensures short { IsShort append_error result → (octets : List ℕ) (parts : List Part)
             → StandsFor self octets → Splits octets parts → IsPast B.limit (length (text parts)) }
         ensures past { (octets : List ℕ) (parts : List Part)
             → StandsFor self octets → Splits octets parts
             → IsPast B.limit (length (text parts)) → IsErr result }
-        ensures memory { IsMemory result → B.asks ≡ true }
+        ensures memory { IsMemory append_error result → B.asks ≡ true }
 
         // A refusal that was met is the answer.
         ensures again { (refusal : AppendError) → self.refusal ≡ Some refusal → result ≡ Err refusal }
@@ -210,12 +210,12 @@ impl<B: EmptyBuilder> LossyPieces<B> {
         ensures well_formed { IfOk result (λ made. IsWellFormed (B.content made)) }
 
         // It is refused as short exactly where that text passes the limit, memory aside.
-        ensures short { IsShort result → (octets : List ℕ) (parts : List Part)
+        ensures short { IsShort append_error result → (octets : List ℕ) (parts : List Part)
             → StandsFor self octets → Splits octets parts → IsPast B.limit (length (text parts)) }
         ensures past { (octets : List ℕ) (parts : List Part)
             → StandsFor self octets → Splits octets parts
             → IsPast B.limit (length (text parts)) → IsErr result }
-        ensures memory { IsMemory result → B.asks ≡ true }
+        ensures memory { IsMemory append_error result → B.asks ≡ true }
 
         // A refusal that was met is the answer.
         ensures again { (refusal : AppendError) → self.refusal ≡ Some refusal → result ≡ Err refusal }
@@ -258,8 +258,8 @@ fn read<B: OctetsBuilder>(
         IsRead (end.content ++ piece.now) left.content (B.content text.old) (B.content text.new)) }
     ensures open_end { IfOk result (λ left. IsOpenEnd left.content) }
     ensures within { OnOk result (IsWithin B.limit (length (B.content text.new))) }
-    ensures short { IsShort result → IsTooLong B.limit (end.content ++ piece.now) (B.content text.old) }
-    ensures memory { IsMemory result → B.asks ≡ true }
+    ensures short { IsShort append_error result → IsTooLong B.limit (end.content ++ piece.now) (B.content text.old) }
+    ensures memory { IsMemory append_error result → B.asks ≡ true }
     ensures turns { turns.new ≤ turns.old + length piece.now + 1 }
     ensures passed { OnOk result (length piece.now + 16 * turns.old ≤ 16 * turns.new) }
     ensures kept { turns.old ≤ turns.new }
@@ -288,8 +288,8 @@ fn close<'a, B: OctetsBuilder>(
     ensures begins { IfOk result (λ left. IfNone left (IsBeginning begun.new.content)) }
     ensures begun { IfOk result (λ left. IfNone left (begun.new.content ≡ begun.old.content ++ piece.now)) }
     ensures text { IfOk result (λ left. IfNone left (B.content text.new ≡ B.content text.old)) }
-    ensures short { IsShort result → IsTooLong B.limit (begun.old.content ++ piece.now) (B.content text.old) }
-    ensures memory { IsMemory result → B.asks ≡ true }
+    ensures short { IsShort append_error result → IsTooLong B.limit (begun.old.content ++ piece.now) (B.content text.old) }
+    ensures memory { IsMemory append_error result → B.asks ≡ true }
     ensures turns { turns.new ≤ turns.old + length piece.now }
     ensures turns_closed { IfOk result (λ left. IfSome left (λ rest.
         turns.new + length rest.now ≤ turns.old + length piece.now + 1)) }
@@ -326,8 +326,8 @@ fn settle<B: OctetsBuilder>(
         IsRead octets.now left.content (B.content text.old) (B.content text.new)) }
     ensures open_end { IfOk result (λ left. IsOpenEnd left.content) }
     ensures within { OnOk result (IsWithin B.limit (length (B.content text.new))) }
-    ensures short { IsShort result → IsTooLong B.limit octets.now (B.content text.old) }
-    ensures memory { IsMemory result → B.asks ≡ true }
+    ensures short { IsShort append_error result → IsTooLong B.limit octets.now (B.content text.old) }
+    ensures memory { IsMemory append_error result → B.asks ≡ true }
     ensures turns { turns.new ≤ turns.old + length octets.now }
     ensures passed { OnOk result (length octets.now + 16 * turns.old ≤ 16 * turns.new) }
     ensures kept { turns.old ≤ turns.new }
@@ -352,9 +352,9 @@ fn append_end<B: OctetsBuilder>(text: &mut B, end: &Array<4>) -> Result<(), Appe
     ensures some { OnOk result (end.now.content ≢ []
         → B.content text.new ≡ B.content text.old ++ encoding_of 0xFFFD) }
     ensures within { OnOk result (IsWithin B.limit (length (B.content text.new))) }
-    ensures short { IsShort result → (end.now.content ≢ [])
+    ensures short { IsShort append_error result → (end.now.content ≢ [])
         × IsPast B.limit (length (B.content text.old) + length (encoding_of 0xFFFD)) }
-    ensures memory { IsMemory result → B.asks ≡ true }
+    ensures memory { IsMemory append_error result → B.asks ≡ true }
 {
     if end.as_slice().is_empty() {
         return Ok(());
@@ -366,9 +366,9 @@ fn append_end<B: OctetsBuilder>(text: &mut B, end: &Array<4>) -> Result<(), Appe
 #[tactic(auto, unfolding(octseq_utf8::specs::Encoding::encoding_of))]
 fn append_replacement<B: OctetsBuilder>(text: &mut B) -> Result<(), AppendError>
     ensures ok { OnOk result (B.content text.new ≡ B.content text.old ++ encoding_of 0xFFFD) }
-    ensures short { IsShort result
+    ensures short { IsShort append_error result
         ↔ IsPast B.limit (length (B.content text.old) + length (encoding_of 0xFFFD)) }
-    ensures memory { IsMemory result → B.asks ≡ true }
+    ensures memory { IsMemory append_error result → B.asks ≡ true }
 {
     text.append_slice(b"\xEF\xBF\xBD")
 }

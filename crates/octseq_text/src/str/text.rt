@@ -2,7 +2,7 @@
 ghost use Rattle.std.specs.Prelude.{◌≡◌, ◌↔◌, ◌⊎◌, true, None, [], length, string_bytes, IsTrue, IsOk, IfOk, IfErr, OnErr};
 ghost use Rattle.octseq_core.specs.ArrayOctets.{blank};
 ghost use Rattle.octseq_core.specs.Limit.{IsWithin, IsPast};
-ghost use Rattle.octseq_core.specs.Refusal.{IsShort, IsMemory};
+ghost use Rattle.octseq_core.specs.Refusal.{IsShort, IsMemory, append_error};
 ghost use Rattle.octseq_utf8.specs.Fault.{IsFault};
 ghost use Rattle.octseq_utf8.specs.Text.{IsWellFormed, chars, octets_of};
 
@@ -72,8 +72,8 @@ impl<Octets: AsOctets> Str<Octets> {
         Octets: FromBuilder,
         Octets::Builder: EmptyBuilder,
         ensures ok { IfOk result (λ text. Octets.content text ≡ s.now) }
-        ensures short { IsShort result ↔ IsPast Octets.Builder.limit (length s.now) }
-        ensures memory { IsMemory result → (Octets.Builder.asks ≡ true) ⊎ (Octets.asks ≡ true) }
+        ensures short { IsShort append_error result ↔ IsPast Octets.Builder.limit (length s.now) }
+        ensures memory { IsMemory append_error result → (Octets.Builder.asks ≡ true) ⊎ (Octets.asks ≡ true) }
     {
         match Octets::Builder::limit() {
             Some(limit) if limit < s.len() => Err(AppendError::Short(ShortBuf)),
