@@ -143,17 +143,23 @@ pub fixed_code : {A : Type 0} (Fits : A → Type 0) (octets : List ℕ) → ((a 
 fixed_code Fits octets one a b x y fits also e = (one a b, (halves octets octets x y refl e).1)
 
 -- fewer octets are left than the fixed ones
-pub no_fixed : {A : Type 0} (Fits : A → Type 0) (octets : List ℕ) (w : Window) → (length octets ≤ left w → ⊥) → ¬ HasFront Fits (λ _. octets) (rest w)
-no_fixed Fits octets w few = too_few Fits (λ _. octets) w (length octets) (λ _. omega arith) few
+pub no_fixed : {A : Type 0} (Fits : A → Type 0) (octets : List ℕ) (w : Window) (n : ℕ) → length octets ≡ n → (n ≤ left w → ⊥) → ¬ HasFront Fits (λ _. octets) (rest w)
+no_fixed Fits octets w n long few = too_few Fits (λ _. octets) w n (λ _. omega arith) few
 
 -- others were read in the place of the fixed ones
 pub no_fixed_value : {A : Type 0} (Fits : A → Type 0) (fixed octets found more : List ℕ) → octets ≡ found ++ more → length found ≡ length fixed → (found ≡ fixed → ⊥)
     → ¬ HasFront Fits (λ _. fixed) octets
 no_fixed_value Fits fixed octets found more read long other (a, behind, fits, e) = other (halves found fixed more behind long (sym read ∙ e)).0
 
--- integers that fit k octets are equal where their octets are, so a magic number may be read as an integer
+-- integers that fit k octets are equal where their octets are
 pub same_integer : (k m n : ℕ) → m < 256 ^ k → n < 256 ^ k → octets_be k m ≡ octets_be k n → m ≡ n
 same_integer k m n fits also e = sym (value_be k m fits) ∙ ap be e ∙ value_be k n also
+
+-- the fixed octets are those of an integer, and another one was read in their place
+pub no_fixed_integer : {A : Type 0} (Fits : A → Type 0) (k fixed n : ℕ) (octets more : List ℕ) → fixed < 256 ^ k → n < 256 ^ k → octets ≡ octets_be k n ++ more → (n ≡ fixed → ⊥)
+    → ¬ HasFront Fits (λ _. octets_be k fixed) octets
+no_fixed_integer Fits k fixed n octets more fits also read other =
+    no_fixed_value Fits (octets_be k fixed) octets (octets_be k n) more read (length_be k n ∙ sym (length_be k fixed)) (λ e. other (same_integer k n fixed also fits e))
 
 -- a thing behind fixed octets
 pub marked_code : {A : Type 0} (Fits : A → Type 0) (code : A → List ℕ) (mark : List ℕ) → IsCode Fits code → IsCode Fits (λ a. mark ++ code a)

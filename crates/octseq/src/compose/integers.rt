@@ -6,6 +6,12 @@ ghost use Rattle.octseq.specs.Integer.{be, le, signed, octets_be, octets_le, uns
 use super::ComposeError;
 use octseq_core::builder::{AppendError, OctetsBuilder};
 
+/// The greatest integer of 3 octets.
+const MAX_U24: u32 = 0xFF_FFFF;
+
+/// The greatest integer of 6 octets.
+const MAX_U48: u64 = 0xFFFF_FFFF_FFFF;
+
 /// Appends a signed integer in one octet.
 ///
 /// # Errors
@@ -115,7 +121,7 @@ pub fn append_u24_be<B: OctetsBuilder>(builder: &mut B, value: u32) -> Result<()
         (B.content builder.old) (B.content builder.new) }
     ensures borrows { B.borrows builder.new ≡ B.borrows builder.old }
 {
-    if value > 0xFF_FFFF {
+    if value > MAX_U24 {
         return Err(ComposeError::TooLong);
     }
     Ok(builder.append_slice(&value.to_be_bytes()[1..])?)
@@ -134,7 +140,7 @@ pub fn append_u24_le<B: OctetsBuilder>(builder: &mut B, value: u32) -> Result<()
         (B.content builder.old) (B.content builder.new) }
     ensures borrows { B.borrows builder.new ≡ B.borrows builder.old }
 {
-    if value > 0xFF_FFFF {
+    if value > MAX_U24 {
         return Err(ComposeError::TooLong);
     }
     Ok(builder.append_slice(&value.to_le_bytes()[..3])?)
@@ -217,7 +223,7 @@ pub fn append_u48_be<B: OctetsBuilder>(builder: &mut B, value: u64) -> Result<()
         (B.content builder.old) (B.content builder.new) }
     ensures borrows { B.borrows builder.new ≡ B.borrows builder.old }
 {
-    if value > 0xFFFF_FFFF_FFFF {
+    if value > MAX_U48 {
         return Err(ComposeError::TooLong);
     }
     Ok(builder.append_slice(&value.to_be_bytes()[2..])?)
@@ -236,7 +242,7 @@ pub fn append_u48_le<B: OctetsBuilder>(builder: &mut B, value: u64) -> Result<()
         (B.content builder.old) (B.content builder.new) }
     ensures borrows { B.borrows builder.new ≡ B.borrows builder.old }
 {
-    if value > 0xFFFF_FFFF_FFFF {
+    if value > MAX_U48 {
         return Err(ComposeError::TooLong);
     }
     Ok(builder.append_slice(&value.to_le_bytes()[..6])?)
