@@ -1,10 +1,9 @@
 -- Refusals that a reader or a writer passes on. These are laws for callers who answer `ReadError` or `WriteError`.
 use Rattle.std.proofs.Common.{◌≡◌, ◌∙◌, sym, ap, subst, Result, Err}
-use Rattle.octseq_core.specs.Refusal as Builder
 use Rattle.octseq_core.specs.declared.builder.AppendError.{AppendError}
-use Rattle.octseq.specs.Composer.{refusal_of, IsPartTooLong, IsPartShort, IsPartMemory}
+use Rattle.octseq.specs.Composer.{refusal_of}
 use Rattle.octseq.specs.Error.{read_error_of, write_error_of}
-use Rattle.octseq.specs.Refusal.{IsShort, IsMemory}
+use Rattle.octseq.specs.Refusal.{IsShort, IsMemory, IsTooLong, append_error, parse_octets_error, compose_error}
 use Rattle.octseq.specs.declared.compose.ComposeError.{ComposeError}
 use Rattle.octseq.specs.declared.error.ReadError.{ReadError}
 use Rattle.octseq.specs.declared.error.WriteError.{WriteError}
@@ -13,31 +12,31 @@ use Rattle.octseq.specs.declared.parse.error.ParseOctetsError.{ParseOctetsError}
 -- ---- of a parser
 
 -- a refusal that is told as malformed was for want of octets
-pub short_of : (T : Type 0) (e : ParseOctetsError) → read_error_of e ≡ ReadError.Malformed → IsShort {T = T} (Err e)
+pub short_of : (T : Type 0) (e : ParseOctetsError) → read_error_of e ≡ ReadError.Malformed → IsShort {T = T} parse_octets_error (Err e)
 short_of T (ParseOctetsError.Short e) told = tt
 short_of T ParseOctetsError.Memory told = absurd (cc)
 
 -- one that is told as memory was for want of memory
-pub memory_of : (T : Type 0) (e : ParseOctetsError) → read_error_of e ≡ ReadError.Memory → IsMemory {T = T} (Err e)
+pub memory_of : (T : Type 0) (e : ParseOctetsError) → read_error_of e ≡ ReadError.Memory → IsMemory {T = T} parse_octets_error (Err e)
 memory_of T (ParseOctetsError.Short e) told = absurd (cc)
 memory_of T ParseOctetsError.Memory told = tt
 
 -- ---- of a composer
 
 -- a refusal that is told as malformed was for an integer or a length that doesn't fit its octets
-pub too_long_of : (e : ComposeError) → write_error_of e ≡ WriteError.Malformed → IsPartTooLong (Err e)
+pub too_long_of : (e : ComposeError) → write_error_of e ≡ WriteError.Malformed → IsTooLong {T = Unit {0}} compose_error (Err e)
 too_long_of ComposeError.TooLong told = tt
 too_long_of ComposeError.Short told = absurd (cc)
 too_long_of ComposeError.Memory told = absurd (cc)
 
 -- one that is told as short was for want of room
-pub part_short_of : (e : ComposeError) → write_error_of e ≡ WriteError.Short → IsPartShort (Err e)
+pub part_short_of : (e : ComposeError) → write_error_of e ≡ WriteError.Short → IsShort {T = Unit {0}} compose_error (Err e)
 part_short_of ComposeError.TooLong told = absurd (cc)
 part_short_of ComposeError.Short told = tt
 part_short_of ComposeError.Memory told = absurd (cc)
 
 -- one that is told as memory was for want of memory
-pub part_memory_of : (e : ComposeError) → write_error_of e ≡ WriteError.Memory → IsPartMemory (Err e)
+pub part_memory_of : (e : ComposeError) → write_error_of e ≡ WriteError.Memory → IsMemory {T = Unit {0}} compose_error (Err e)
 part_memory_of ComposeError.TooLong told = absurd (cc)
 part_memory_of ComposeError.Short told = absurd (cc)
 part_memory_of ComposeError.Memory told = tt
@@ -50,12 +49,12 @@ append_not_malformed (AppendError.Short e) told = cc
 append_not_malformed AppendError.Memory told = cc
 
 -- one that is told as short was for want of room
-pub append_short_of : (T : Type 0) (e : AppendError) → write_error_of (refusal_of e) ≡ WriteError.Short → Builder.IsShort {T = T} (Err e)
+pub append_short_of : (T : Type 0) (e : AppendError) → write_error_of (refusal_of e) ≡ WriteError.Short → IsShort {T = T} append_error (Err e)
 append_short_of T (AppendError.Short e) told = tt
 append_short_of T AppendError.Memory told = absurd (cc)
 
 -- one that is told as memory was for want of memory
-pub append_memory_of : (T : Type 0) (e : AppendError) → write_error_of (refusal_of e) ≡ WriteError.Memory → Builder.IsMemory {T = T} (Err e)
+pub append_memory_of : (T : Type 0) (e : AppendError) → write_error_of (refusal_of e) ≡ WriteError.Memory → IsMemory {T = T} append_error (Err e)
 append_memory_of T (AppendError.Short e) told = absurd (cc)
 append_memory_of T AppendError.Memory told = tt
 
@@ -70,6 +69,6 @@ same_refusal here given passed refusal wanted e is f was =
 
 -- so of a builder's, as short
 pub same_short : {S T : Type 0} (here : Result S AppendError) (given : Result T AppendError) (passed refusal : AppendError) → given ≡ Err passed → passed ≡ refusal
-    → here ≡ Err refusal → Builder.IsShort given → Builder.IsShort here
-same_short here given (AppendError.Short e) refusal is same was short = subst Builder.IsShort (sym (was ∙ ap Err (sym same))) tt
-same_short here given AppendError.Memory refusal is same was short = absurd (subst Builder.IsShort is short)
+    → here ≡ Err refusal → IsShort append_error given → IsShort append_error here
+same_short here given (AppendError.Short e) refusal is same was short = subst (IsShort append_error) (sym (was ∙ ap Err (sym same))) tt
+same_short here given AppendError.Memory refusal is same was short = absurd (subst (IsShort append_error) is short)

@@ -4,17 +4,17 @@ use Rattle.std.proofs.lemmas.List.{append-nil, map-append, map-set, length-map}
 use Rattle.std.proofs.lemmas.Option.{slice_get-map, slice_get_read}
 use Rattle.std.specs.Option.{option_map}
 use Rattle.std.specs.Prelude.{slice_get, slice_set}
-use Rattle.octseq.specs.Reply.{Reply}
-use Rattle.octseq.specs.Run.{Outcome, outcome, Does, StepOn, Step}
+use Rattle.octseq.specs.WindowReply.{WindowReply}
+use Rattle.octseq.specs.WindowRun.{Outcome, outcome, Does, StepOn, WindowStep}
 use Rattle.octseq.specs.Window.{Window}
 use Rattle.octseq.specs.declared.parse.commands.ParserCommand.{ParserCommand}
 
 -- The parser of the command's number is replaced by what the call made of it, and the parsers that it made stand behind the others.
-pub step_of : {P : Type 0} (view : P → Window) (asks : Bool) (command : ParserCommand) (count : ℕ) (ps new made : List P) (before after : P) (reply : Reply)
+pub step_of : {P : Type 0} (view : P → Window) (asks : Bool) (command : ParserCommand) (count : ℕ) (ps new made : List P) (before after : P) (reply : WindowReply)
     → count ≡ length ps → command.parser < count → before ≡ get_or ps command.parser before
     → Does asks (view before) (outcome count (view before) command.call) (record { reply = reply; window = view after; added = map view made })
     → new ≡ slice_set ps command.parser after ++ made
-    → Step asks (map view ps) command reply (map view new)
+    → WindowStep asks (map view ps) command reply (map view new)
 step_of view asks command count ps new made before after reply counted within read does behind =
     let done : Outcome = record { reply = reply; window = view after; added = map view made } in
     let found : slice_get (map view ps) command.parser ≡ Some (view before) =
@@ -27,9 +27,9 @@ step_of view asks command count ps new made before after reply counted within re
     subst S (sym found) (done, subst D all does, refl, left)
 
 -- the same where no parser is made
-pub step_alone : {P : Type 0} (view : P → Window) (asks : Bool) (command : ParserCommand) (count : ℕ) (ps : List P) (before after : P) (reply : Reply)
+pub step_alone : {P : Type 0} (view : P → Window) (asks : Bool) (command : ParserCommand) (count : ℕ) (ps : List P) (before after : P) (reply : WindowReply)
     → count ≡ length ps → command.parser < count → before ≡ get_or ps command.parser before
     → Does asks (view before) (outcome count (view before) command.call) (record { reply = reply; window = view after; added = [] })
-    → Step asks (map view ps) command reply (map view (slice_set ps command.parser after))
+    → WindowStep asks (map view ps) command reply (map view (slice_set ps command.parser after))
 step_alone view asks command count ps before after reply counted within read does =
     step_of view asks command count ps _ [] before after reply counted within read does (sym (append-nil _))

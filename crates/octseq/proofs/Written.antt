@@ -6,12 +6,11 @@ use Rattle.std.proofs.Math.Arith.{mod-mul}
 use Rattle.std.proofs.Math.Facts.{Fits-lt-pow}
 use Rattle.std.proofs.Math.Nat.{pow-suc, mod-eq_of_lt, mul_comm}
 use Rattle.std.specs.List.{AllByRecursion}
-use Rattle.std.specs.Prelude.{◌↔◌, slice_index, slice_range, FitsSigned, Result, OnOk, OnErr}
+use Rattle.std.specs.Prelude.{slice_index, slice_range, FitsSigned, Result}
 use Rattle.std.specs.Int.{w8, w16, w32, w64, w128, cast_unsigned, to_be_bytes, to_le_bytes, bytes_low_first, bytes_high_first, byte_at}
-use Rattle.octseq_core.specs.Limit.{IsPast}
-use Rattle.octseq_core.specs.Refusal.{IsShort, IsMemory}
+use Rattle.octseq_core.specs.Appends.{Appends}
 use Rattle.octseq_core.specs.declared.builder.AppendError.{AppendError}
-use Rattle.octseq.specs.Composer.{AreOctetsOf, Appends}
+use Rattle.octseq.specs.Composer.{AreOctetsOf}
 use Rattle.octseq.specs.Integer.{sum_of_first, be, le, signed, octets_be, octets_le, IsSigned, unsigned}
 
 pub positive : (k : ℕ) → 0 < 256 ^ k
@@ -181,10 +180,8 @@ made_le k n = low_is k n ∙ ap reverse (made_be k n)
 -- ---- what an append says
 
 pub appends : {limit : Option ℕ} {asks : Bool} {result : Result (Unit {0}) AppendError} {slice octets old new : List ℕ} → slice ≡ octets
-    → OnOk result (new ≡ old ++ slice) → OnErr result (new ≡ old) → (IsShort result ↔ IsPast limit (length old + length slice))
-    → (IsMemory result → asks ≡ true) → Appends limit asks result octets old new
-appends {limit} {asks} {result} {slice} {octets} {old} {new} same ok err short memory =
-    subst (λ octets. Appends limit asks result octets old new) same (record { ok = ok; err = err; short = short; memory = memory })
+    → Appends limit asks result slice old new → Appends limit asks result octets old new
+appends {limit} {asks} {result} {slice} {octets} {old} {new} same appended = subst (λ octets. Appends limit asks result octets old new) same appended
 
 -- ---- the widths that integers have
 

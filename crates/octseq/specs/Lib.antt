@@ -5,7 +5,7 @@ pub mod Integer
 pub mod Parser
 pub mod Part
 pub mod Refusal
-pub mod Reply
-pub mod Run
+pub mod WindowReply
+pub mod WindowRun
 pub mod Shown
 pub mod Window

@@ -1,16 +1,28 @@
--- Which refusal `parse_octets` answered.
-use Rattle.std.specs.Prelude.{Result, Ok, Err}
+-- What the errors of this crate tell, for the words of refusals, which are those of `octseq_core`.
+use Rattle.octseq.specs.declared.compose.ComposeError.{ComposeError}
+use Rattle.octseq.specs.declared.error.ReadError.{ReadError}
+use Rattle.octseq.specs.declared.error.WriteError.{WriteError}
 use Rattle.octseq.specs.declared.parse.error.ParseOctetsError.{ParseOctetsError}
-use Rattle.octseq.specs.declared.parse.error.ParseOctetsError.TheVariants.{Short, Memory}
+pub use Rattle.octseq_core.specs.Refusal.{Refusal, IsRefused, IsShort, IsMemory, IsTooLong, IsMalformed, append_error}
 
--- fewer octets were left than were asked for
-abbrev pub IsShort : {T : Type 0} → Result T ParseOctetsError → Type 0
-IsShort (Ok value) = ⊥
-IsShort (Err (Short e)) = Unit {0}
-IsShort (Err Memory) = ⊥
+-- fewer octets were left than `parse_octets` was to take, or a request for memory was refused
+abbrev pub parse_octets_error : ParseOctetsError → Refusal
+parse_octets_error (ParseOctetsError.Short e) = Refusal.short
+parse_octets_error ParseOctetsError.Memory = Refusal.memory
 
--- a request for memory was refused
-abbrev pub IsMemory : {T : Type 0} → Result T ParseOctetsError → Type 0
-IsMemory (Ok value) = ⊥
-IsMemory (Err (Short e)) = ⊥
-IsMemory (Err Memory) = Unit {0}
+-- a length or an integer doesn't fit its octets, or an append was refused
+abbrev pub compose_error : ComposeError → Refusal
+compose_error ComposeError.TooLong = Refusal.too_long
+compose_error ComposeError.Short = Refusal.short
+compose_error ComposeError.Memory = Refusal.memory
+
+-- why octets were not read
+abbrev pub read_error : ReadError → Refusal
+read_error ReadError.Malformed = Refusal.malformed
+read_error ReadError.Memory = Refusal.memory
+
+-- why a thing was not written
+abbrev pub write_error : WriteError → Refusal
+write_error WriteError.Malformed = Refusal.malformed
+write_error WriteError.Short = Refusal.short
+write_error WriteError.Memory = Refusal.memory

@@ -2,7 +2,7 @@
 ghost use Rattle.std.specs.Prelude.{◌≡◌, ◌+◌, ◌<◌, ◌≤◌, ◌↔◌, ⊤, true, length, IsTrue, IsOk, IfOk, IsSome, IfSome, OnOk, OnErr};
 ghost use Rattle.octseq_text.specs.Range.{RangeExists};
 ghost use Rattle.octseq.specs.Integer.{be, octets_be};
-ghost use Rattle.octseq.specs.Refusal.{IsShort, IsMemory};
+ghost use Rattle.octseq.specs.Refusal.{IsShort, IsMemory, parse_octets_error};
 ghost use Rattle.octseq.specs.Window.{left, rest, next, front, at, past, nested, whole, window_of_range};
 
 use octseq_core::builder::AsOctets;
@@ -264,8 +264,8 @@ impl<R: AsOctets> Parser<R> {
     pub fn parse_octets(&mut self, len: usize) -> Result<R::Range, ParseOctetsError>
     where
         R: Octets,
-        ensures short { IsShort result ↔ (left (window self.old) < len) }
-        ensures memory { IsMemory result → R.Range.asks ≡ true }
+        ensures short { IsShort parse_octets_error result ↔ (left (window self.old) < len) }
+        ensures memory { IsMemory parse_octets_error result → R.Range.asks ≡ true }
         ensures value { IfOk result (λ range. R.Range.content range ≡ next len (window self.old)) }
         ensures length { IfOk result (λ range. length (R.Range.content range) ≡ len) }
         ensures ok { OnOk result (window self.new ≡ past len (window self.old)) }

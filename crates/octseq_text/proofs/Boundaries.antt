@@ -6,7 +6,7 @@ use Rattle.std.proofs.Math.Seq.{take-append_seam, drop-append_seam, drop-append-
 use Rattle.std.specs.Int.{is_in_range}
 use Rattle.std.specs.List.{concat, AllByRecursion}
 use Rattle.octseq_utf8.specs.Encoding.{IsEncoding, row_00_7F, row_C2_DF, row_E0, row_E1_EC, row_ED, row_EE_EF, row_F0, row_F1_F3, row_F4, number_of}
-use Rattle.octseq_text.specs.Run.{CutsTo}
+use Rattle.octseq_text.specs.TextRun.{CutsTo}
 use Rattle.octseq_utf8.specs.Text.{Spells, IsWellFormed, begins_within, chars, octets_of, IsFrontOf, IsBoundary}
 use Rattle.octseq_utf8.proofs.Spelling.{inside, plain, begins_all, octets_of_numbers, chars_of, octets_of_spelled, concat-append}
 use Rattle.octseq_utf8.proofs.Texts.{spelled, octets_of-chars}

@@ -3,7 +3,7 @@ use Rattle.std.proofs.Common.{◌≡◌, ◌≢◌, ℕ, Bool, true, false, IsTr
 use Rattle.std.proofs.lemmas.Bool.{cases_lt}
 use Rattle.octseq_core.specs.Limit.{IsWithin, IsPast}
 use Rattle.octseq_utf8.specs.Encoding.{encoding_of}
-use Rattle.octseq_text.specs.Run.{Appends, CutsTo, Cuts, Pops, Step, Run, IsWithoutMemory}
+use Rattle.octseq_text.specs.TextRun.{AppendsCharacters, CutsTo, Cuts, Pops, TextStep, TextRun, IsWithoutMemory}
 use Rattle.octseq_utf8.specs.Text.{chars, octets_of, IsFrontOf}
 use Rattle.octseq_text.specs.declared.str.commands.Command.{Command}
 use Rattle.octseq_text.specs.declared.str.commands.Command.TheVariants as command
@@ -23,7 +23,7 @@ IsDone limit before more r after = (r ≡ reply.Done) × IsWithin limit (length 
 abbrev IsRefused : Option ℕ → List ℕ → List ℕ → Reply → List ℕ → Type 0
 IsRefused limit before more r after = (r ≡ reply.Short) × IsPast limit (length (octets_of (before ++ more))) × (after ≡ before)
 
-done_or_refused : (limit : Option ℕ) (asks : Bool) (b m : List ℕ) (r : Reply) (x : List ℕ) → Appends limit asks b m r x → r ≢ reply.Memory
+done_or_refused : (limit : Option ℕ) (asks : Bool) (b m : List ℕ) (r : Reply) (x : List ℕ) → AppendsCharacters limit asks b m r x → r ≢ reply.Memory
     → IsDone limit b m r x ⊎ IsRefused limit b m r x
 done_or_refused limit asks b m reply.Done x (w, e) kept = inl (refl, w, e)
 done_or_refused limit asks b m reply.Short x (p, e) kept = inr (refl, p, e)
@@ -37,7 +37,7 @@ not_both : (limit : Option ℕ) (n : ℕ) → IsWithin limit n → IsPast limit 
 not_both None n w p = p
 not_both (Some l) n w p = omega arith
 
-one_append : (limit : Option ℕ) (asks other : Bool) (b m : List ℕ) (r s : Reply) (x y : List ℕ) → Appends limit asks b m r x → Appends limit other b m s y
+one_append : (limit : Option ℕ) (asks other : Bool) (b m : List ℕ) (r s : Reply) (x y : List ℕ) → AppendsCharacters limit asks b m r x → AppendsCharacters limit other b m s y
     → r ≢ reply.Memory → s ≢ reply.Memory → Same r x s y
 one_append limit asks other b m r s x y a c kept also_kept =
     ⊎_elim
@@ -95,7 +95,7 @@ one_truth Fact false false a c = refl
 one_truth Fact true false a c = let h = c.1 (a.0 refl) in cc
 one_truth Fact false true a c = let h = a.1 (c.0 refl) in cc
 
-one_step : (limit : Option ℕ) (asks other : Bool) (b : List ℕ) (c : Command) (r s : Reply) (x y : List ℕ) → Step limit asks b c r x → Step limit other b c s y
+one_step : (limit : Option ℕ) (asks other : Bool) (b : List ℕ) (c : Command) (r s : Reply) (x y : List ℕ) → TextStep limit asks b c r x → TextStep limit other b c s y
     → r ≢ reply.Memory → s ≢ reply.Memory → Same r x s y
 one_step limit asks other b (command.PushStr t) r s x y p q kept also_kept = one_append limit asks other b (chars t.now) r s x y p q kept also_kept
 one_step limit asks other b (command.Push c) r s x y p q kept also_kept = one_append limit asks other b (c ∷ []) r s x y p q kept also_kept
@@ -106,7 +106,7 @@ one_step limit asks other b command.Len r s x y p q kept also_kept = (p.0 ∙ sy
 one_step limit asks other b (command.Is t) r s x y (c, e, p, u) (d, f, q, v) kept also_kept = (e ∙ ap (λ z. reply.Is z) (one_truth _ c d p q) ∙ sym f, u ∙ sym v)
 
 pub one_run : (limit : Option ℕ) (asks other : Bool) (b : List ℕ) (commands : List Command) (rs ss : List Reply) (x y : List ℕ)
-    → Run limit asks b commands rs x → Run limit other b commands ss y → IsWithoutMemory rs → IsWithoutMemory ss → (rs ≡ ss) × (x ≡ y)
+    → TextRun limit asks b commands rs x → TextRun limit other b commands ss y → IsWithoutMemory rs → IsWithoutMemory ss → (rs ≡ ss) × (x ≡ y)
 one_run limit asks other b [] [] [] x y p q kept also_kept = (refl, p ∙ sym q)
 one_run limit asks other b [] (r ∷ rs) ss x y p q kept also_kept = absurd p
 one_run limit asks other b [] [] (s ∷ ss) x y p q kept also_kept = absurd q
@@ -114,13 +114,13 @@ one_run limit asks other b (c ∷ commands) [] ss x y p q kept also_kept = absur
 one_run limit asks other b (c ∷ commands) (r ∷ rs) [] x y p q kept also_kept = absurd q
 one_run limit asks other b (c ∷ commands) (r ∷ rs) (s ∷ ss) x y (m, p, t) (n, q, u) (kept, rest_kept) (also_kept, rest_also_kept) =
     let first = one_step limit asks other b c r s m n p q kept also_kept in
-    let on : Run limit asks n commands rs x = subst (λ z. Run limit asks z commands rs x) first.1 t in
+    let on : TextRun limit asks n commands rs x = subst (λ z. TextRun limit asks z commands rs x) first.1 t in
     let rest = one_run limit asks other n commands rs ss x y on u rest_kept rest_also_kept in
     let same : r ≡ s = first.0 in
     let others : rs ≡ ss = rest.0 in
     (cc, rest.1)
 
-no_memory : (limit : Option ℕ) (b : List ℕ) (c : Command) (x : List ℕ) → Step limit false b c reply.Memory x → ⊥
+no_memory : (limit : Option ℕ) (b : List ℕ) (c : Command) (x : List ℕ) → TextStep limit false b c reply.Memory x → ⊥
 no_memory limit b (command.PushStr t) x p = let asks = p.1 in cc
 no_memory limit b (command.Push c) x p = let asks = p.1 in cc
 no_memory limit b (command.Truncate n) x (inl p) = let e = p.0 in cc
@@ -130,8 +130,8 @@ no_memory limit b command.Pop x (c, e, p) = cc
 no_memory limit b command.Len x p = let e = p.0 in cc
 no_memory limit b (command.Is t) x (c, e, p, u) = cc
 
-pub without_memory : (limit : Option ℕ) (b : List ℕ) (commands : List Command) (rs : List Reply) (x : List ℕ) → Run limit false b commands rs x → IsWithoutMemory rs
+pub without_memory : (limit : Option ℕ) (b : List ℕ) (commands : List Command) (rs : List Reply) (x : List ℕ) → TextRun limit false b commands rs x → IsWithoutMemory rs
 without_memory limit b commands [] x p = tt
 without_memory limit b [] (r ∷ rs) x p = absurd p
 without_memory limit b (c ∷ commands) (r ∷ rs) x (m, p, t) =
-    ((λ e. no_memory limit b c m (subst (λ s. Step limit false b c s m) e p)), without_memory limit m commands rs x t)
+    ((λ e. no_memory limit b c m (subst (λ s. TextStep limit false b c s m) e p)), without_memory limit m commands rs x t)

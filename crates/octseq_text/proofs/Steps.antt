@@ -5,7 +5,7 @@ use Rattle.octseq_core.specs.Limit.{IsWithin, IsPast}
 use Rattle.octseq_core.specs.Refusal.{IsShort, IsMemory, append_error}
 use Rattle.octseq_core.specs.declared.builder.AppendError.{AppendError}
 use Rattle.octseq_core.specs.declared.builder.AppendError.TheVariants.{Short, Memory}
-use Rattle.octseq_text.specs.Run.{Appends, append_reply}
+use Rattle.octseq_text.specs.TextRun.{AppendsCharacters, append_reply}
 use Rattle.octseq_utf8.specs.Text.{IsWellFormed, chars, octets_of}
 use Rattle.octseq_utf8.proofs.Texts.{well_formed-append, chars-append, octets_of-append}
 
@@ -26,7 +26,7 @@ appends_with : (limit : Option ℕ) (asks : Bool) (r : Result (Unit {0}) AppendE
     → OnOk r (new ≡ old ++ more) → OnErr r (new ≡ old)
     → (IsShort append_error r ↔ IsPast limit (length (octets_of (chars old ++ chars more)))) → (IsMemory append_error r → asks ≡ true)
     → (OnOk r (new ≡ old ++ more) → OnOk r (chars new ≡ chars old ++ chars more))
-    → Appends limit asks (chars old) (chars more) (append_reply r) (chars new)
+    → AppendsCharacters limit asks (chars old) (chars more) (append_reply r) (chars new)
 appends_with limit asks (Ok u) new old more ok err short memory characters = (within limit _ (λ p. short.1 p), characters ok)
 appends_with limit asks (Err (Short s)) new old more ok err short memory characters = (short.0 tt, ap chars err)
 appends_with limit asks (Err Memory) new old more ok err short memory characters = (within limit _ (λ p. short.1 p), memory tt, ap chars err)
@@ -39,7 +39,7 @@ pub appends : (limit : Option ℕ) (asks : Bool) (r : Result (Unit {0}) AppendEr
     → OnOk r (new ≡ old ++ more) → OnErr r (new ≡ old)
     → (IsShort append_error r ↔ IsPast limit (length old + length more)) → (IsMemory append_error r → asks ≡ true)
     → IsWellFormed old → IsWellFormed more
-    → Appends limit asks (chars old) (chars more) (append_reply r) (chars new)
+    → AppendsCharacters limit asks (chars old) (chars more) (append_reply r) (chars new)
 appends limit asks r new old more ok err short memory v w =
     let long : length old + length more ≡ length (octets_of (chars old ++ chars more)) =
     sym (ap length (octets_of-append old more v w) ∙ length-append old more) in

@@ -3,7 +3,7 @@ pub mod Pieces
 pub mod Progress
 pub mod Range
 pub mod Refused
-pub mod Run
+pub mod TextRun
 pub use Rattle.octseq_utf8.specs.Encoding
 pub use Rattle.octseq_utf8.specs.Fault
 pub use Rattle.octseq_utf8.specs.Parts

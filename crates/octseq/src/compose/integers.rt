@@ -1,6 +1,7 @@
 //! Integers as octets at the end of a content.
 ghost use Rattle.std.specs.Prelude.{◌≡◌, ◌<◌, ◌^◌};
-ghost use Rattle.octseq.specs.Composer.{AreOctetsOf, Appends, AppendsInteger};
+ghost use Rattle.octseq_core.specs.Appends.{Appends};
+ghost use Rattle.octseq.specs.Composer.{AreOctetsOf, AppendsInteger};
 ghost use Rattle.octseq.specs.Integer.{be, le, signed, octets_be, octets_le, unsigned};
 
 use super::ComposeError;

@@ -1,7 +1,8 @@
 //! Parts at the end of a content: octets behind their length.
 ghost use Rattle.std.specs.Prelude.{◌≡◌, ◌+◌, ◌++◌, ◌↔◌, true, length, IsFalse, OnOk, OnErr};
 ghost use Rattle.octseq_core.specs.Limit.{IsPast};
-ghost use Rattle.octseq.specs.Composer.{AppendsPart, IsPartTooLong, IsPartShort, IsPartMemory};
+ghost use Rattle.octseq.specs.Composer.{AppendsPart};
+ghost use Rattle.octseq.specs.Refusal.{IsShort, IsMemory, IsTooLong, compose_error};
 
 use super::ComposeError;
 use octseq_core::builder::{OctetsBuilder, Truncate};
@@ -79,7 +80,7 @@ fn has_room<B: OctetsBuilder>(builder: &B, first: usize, more: usize) -> bool
     match B::limit() {
         None => true,
         Some(limit) => {
-            let room = limit - builder.as_ref().len();
+            let room = limit - builder.len();
             first <= room && more <= room - first
         }
     }
@@ -93,16 +94,16 @@ fn append_both<B: OctetsBuilder + Truncate>(
 ) -> Result<(), ComposeError>
     ensures ok { OnOk result (B.content builder.new ≡ B.content builder.old ++ (first.now ++ more.now)) }
     ensures err { OnErr result (B.content builder.new ≡ B.content builder.old) }
-    ensures fits { ¬ IsPartTooLong result }
-    ensures short { IsPartShort result
+    ensures fits { ¬ IsTooLong compose_error result }
+    ensures short { IsShort compose_error result
         ↔ IsPast B.limit (length (B.content builder.old) + (length first.now + length more.now)) }
-    ensures memory { IsPartMemory result → B.asks ≡ true }
+    ensures memory { IsMemory compose_error result → B.asks ≡ true }
     ensures borrows { B.borrows builder.new ≡ B.borrows builder.old }
 {
     if !has_room(builder, first.len(), more.len()) {
         return Err(ComposeError::Short);
     }
-    let before = builder.as_ref().len();
+    let before = builder.len();
     builder.append_slice(first)?;
     let appended = builder.append_slice(more);
     if appended.is_err() {

@@ -1,9 +1,9 @@
 //! Lists of commands on parsers of the same octets.
 ghost use Rattle.std.specs.Prelude.{◌≡◌, ℕ, ◌+◌, ◌≤◌, ◌<◌, ◌↔◌, [], ◌∷◌, ◌++◌, Some, IfOk, OnOk, OnErr, MatchResult, map, option_to_list, vec_len, vec_capacity};
 ghost use Rattle.octseq.specs.Parser.{window, Takes};
-ghost use Rattle.octseq.specs.Refusal.{IsShort, IsMemory};
-ghost use Rattle.octseq.specs.Reply.{Reply, shown};
-ghost use Rattle.octseq.specs.Run.{reading, Outcome, outcome, says, MayLackMemory, Step, Run};
+ghost use Rattle.octseq.specs.Refusal.{IsShort, IsMemory, parse_octets_error};
+ghost use Rattle.octseq.specs.WindowReply.{WindowReply, shown};
+ghost use Rattle.octseq.specs.WindowRun.{reading, Outcome, outcome, says, MayLackMemory, WindowStep, WindowRun};
 ghost use Rattle.octseq.specs.Window.{left, next, past, whole};
 
 use super::{ParseOctetsError, Parser, ShortInput};
@@ -123,7 +123,7 @@ fn done<R: Octets>(answer: Result<(), ShortInput>) -> Result<ParserReply<R>, Sho
 
 /// The reply with a copy of octets.
 fn copied<R: Octets>(alloc: Global, octets: &[u8]) -> Result<ParserReply<R>, AllocError>
-    ensures { IfOk result (λ reply. shown R.Range.content reply ≡ Reply.slice octets.now) }
+    ensures { IfOk result (λ reply. shown R.Range.content reply ≡ WindowReply.slice octets.now) }
 {
     Ok(ParserReply::Slice(Vec::from_slice(alloc, octets)?))
 }
@@ -134,7 +134,7 @@ fn buffer<R: AsOctets>(
     parser: &mut Parser<R>,
     len: usize,
 ) -> Result<Vec<u8>, ParseOctetsError>
-    ensures short { IsShort result ↔ (left (window parser.old) < len) }
+    ensures short { IsShort parse_octets_error result ↔ (left (window parser.old) < len) }
     ensures value { IfOk result (λ buf. buf.items ≡ next len (window parser.old)) }
     ensures ok { OnOk result (window parser.new ≡ past len (window parser.old)) }
     ensures err { OnErr result (window parser.new ≡ window parser.old) }
@@ -186,9 +186,9 @@ fn carry_out<R: Octets + Copy>(
           window = window parser.new;
           added = map window (option_to_list answer.made);
         }) }
-    ensures short { IsShort result
-        → outcome count (window parser.old) call ≡ says Reply.short (window parser.old) }
-    ensures memory { IsMemory result → MayLackMemory R.Range.asks (outcome count (window parser.old) call).reply }
+    ensures short { IsShort parse_octets_error result
+        → outcome count (window parser.old) call ≡ says WindowReply.short (window parser.old) }
+    ensures memory { IsMemory parse_octets_error result → MayLackMemory R.Range.asks (outcome count (window parser.old) call).reply }
     ensures err { OnErr result (window parser.new ≡ window parser.old) }
 {
     let reply = match call {
@@ -232,7 +232,7 @@ fn step<R: Octets + Copy>(
     command: ParserCommand,
 ) -> ParserReply<R>
     requires { vec_len parsers.old < vec_capacity parsers.old }
-    ensures step { Step R.Range.asks (map window parsers.old.items) command
+    ensures step { WindowStep R.Range.asks (map window parsers.old.items) command
         (shown R.Range.content result) (map window parsers.new.items) }
     ensures len { vec_len parsers.new ≤ vec_len parsers.old + 1 }
     ensures capacity { vec_capacity parsers.old ≤ vec_capacity parsers.new }
@@ -265,7 +265,7 @@ pub fn run<R: Octets + Copy>(
     octets: R,
     commands: &[ParserCommand],
 ) -> Result<Vec<ParserReply<R>>, AllocError>
-    ensures { IfOk result (λ replies. Run R.Range.asks (whole (R.content octets) ∷ []) commands.now
+    ensures { IfOk result (λ replies. WindowRun R.Range.asks (whole (R.content octets) ∷ []) commands.now
         (map (shown R.Range.content) replies.items)) }
 {
     let mut replies = Vec::with_capacity(alloc, commands.len())?;

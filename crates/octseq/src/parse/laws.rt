@@ -1,8 +1,8 @@
 //! What holds of windows and of their runs. Each law stands on a function that does nothing, so that a check
 //! asks for its proof.
 ghost use Rattle.std.specs.Prelude.{◌≡◌, ℕ, ◌≤◌, ◌++◌, Bool, List};
-ghost use Rattle.octseq.specs.Reply.{Reply};
-ghost use Rattle.octseq.specs.Run.{IsWithoutMemory, Run};
+ghost use Rattle.octseq.specs.WindowReply.{WindowReply};
+ghost use Rattle.octseq.specs.WindowRun.{IsWithoutMemory, WindowRun};
 ghost use Rattle.octseq.specs.Window.{Window, left, rest, next, past};
 ghost use Rattle.octseq.specs.declared.parse.commands.ParserCommand.{ParserCommand};
 
@@ -14,6 +14,6 @@ pub fn nothing_is_lost()
 /// Where no reply is `Memory`, the replies are a function of the windows and the commands, however the octets
 /// are kept.
 pub fn one_run()
-    ensures { (asks others : Bool) (windows : List Window) (commands : List ParserCommand) (x y : List Reply)
-        → Run asks windows commands x → Run others windows commands y → IsWithoutMemory x → IsWithoutMemory y → x ≡ y }
+    ensures { (asks others : Bool) (windows : List Window) (commands : List ParserCommand) (x y : List WindowReply)
+        → WindowRun asks windows commands x → WindowRun others windows commands y → IsWithoutMemory x → IsWithoutMemory y → x ≡ y }
 {}

@@ -1,11 +1,11 @@
 //! A text that grows.
 ghost use Rattle.std.specs.Prelude.{◌≡◌, ℕ, ◌+◌, ◌<◌, ◌↔◌, true, None, List, [], ◌∷◌, ◌++◌, length, take, IsTrue, IsOk, IsSome, IfOk, IfErr, IfSome, IfNone, OnOk, OnErr};
+ghost use Rattle.octseq_core.specs.Appends.{Appends};
 ghost use Rattle.octseq_core.specs.ArrayOctets.{blank};
-ghost use Rattle.octseq_core.specs.Limit.{IsWithin, IsPast};
-ghost use Rattle.octseq_core.specs.Refusal.{IsShort, IsMemory, append_error};
+ghost use Rattle.octseq_core.specs.Limit.{IsWithin};
 ghost use Rattle.octseq_utf8.specs.Encoding.{IsEncoding, number_of, encoding_of};
 ghost use Rattle.octseq_utf8.specs.Fault.{IsFault};
-ghost use Rattle.octseq_text.specs.Run.{Appends, append_reply, CutsTo, Pops};
+ghost use Rattle.octseq_text.specs.TextRun.{AppendsCharacters, append_reply, CutsTo, Pops};
 ghost use Rattle.octseq_utf8.specs.Text.{IsWellFormed, IsBoundary, chars, octets_of};
 
 use super::ends::{boundary, last_encoding};
@@ -172,15 +172,12 @@ impl<Octets: AsOctets> StrBuilder<Octets> {
     pub fn try_push_str(&mut self, s: &str) -> Result<(), AppendError>
     where
         Octets: OctetsBuilder,
-        ensures ok { OnOk result (Octets.content self.new ≡ Octets.content self.old ++ s.now) }
-        ensures err { OnErr result (Octets.content self.new ≡ Octets.content self.old) }
-        ensures short { IsShort append_error result
-            ↔ IsPast Octets.limit (length (Octets.content self.old) + length s.now) }
-        ensures memory { IsMemory append_error result → Octets.asks ≡ true }
+        ensures appended { Appends Octets.limit Octets.asks result s.now
+            (Octets.content self.old) (Octets.content self.new) }
         ensures borrows { Octets.borrows self.new ≡ Octets.borrows self.old }
 
         // The same of the characters.
-        ensures step { Appends Octets.limit Octets.asks (chars (Octets.content self.old)) (chars s.now)
+        ensures step { AppendsCharacters Octets.limit Octets.asks (chars (Octets.content self.old)) (chars s.now)
             (append_reply result) (chars (Octets.content self.new)) }
     {
         self.octets.append_slice(s.as_bytes())
@@ -195,11 +192,8 @@ impl<Octets: AsOctets> StrBuilder<Octets> {
     pub fn try_push(&mut self, ch: char) -> Result<(), AppendError>
     where
         Octets: OctetsBuilder,
-        ensures ok { OnOk result (Octets.content self.new ≡ Octets.content self.old ++ encoding_of ch) }
-        ensures err { OnErr result (Octets.content self.new ≡ Octets.content self.old) }
-        ensures short { IsShort append_error result
-            ↔ IsPast Octets.limit (length (Octets.content self.old) + length (encoding_of ch)) }
-        ensures memory { IsMemory append_error result → Octets.asks ≡ true }
+        ensures appended { Appends Octets.limit Octets.asks result (encoding_of ch)
+            (Octets.content self.old) (Octets.content self.new) }
         ensures borrows { Octets.borrows self.new ≡ Octets.borrows self.old }
 
         // The character has one encoding, and no other.
@@ -207,7 +201,7 @@ impl<Octets: AsOctets> StrBuilder<Octets> {
         ensures only { (e : List ℕ) → IsEncoding e → number_of e ≡ ch → e ≡ encoding_of ch }
 
         // The same of the characters.
-        ensures step { Appends Octets.limit Octets.asks (chars (Octets.content self.old)) (ch ∷ [])
+        ensures step { AppendsCharacters Octets.limit Octets.asks (chars (Octets.content self.old)) (ch ∷ [])
             (append_reply result) (chars (Octets.content self.new)) }
     {
         let mut octets = [0; 4];

@@ -1,7 +1,7 @@
 //! Lists of commands on a text.
 ghost use Rattle.std.specs.Prelude.{◌≡◌, List, IfOk, OnErr};
 ghost use Rattle.octseq_utf8.specs.Text.{chars};
-ghost use Rattle.octseq_text.specs.Run.{append_reply, Cuts, Step, Run};
+ghost use Rattle.octseq_text.specs.TextRun.{append_reply, Cuts, TextStep, TextRun};
 
 use super::builder::StrBuilder;
 use octseq_core::builder::{AppendError, AsOctets, OctetsBuilder, OctetsLimit, Truncate};
@@ -70,7 +70,7 @@ fn truncate<B: OctetsBuilder + Truncate>(builder: &mut StrBuilder<B>, len: usize
 
 /// One command.
 fn step<B: OctetsBuilder + Truncate>(builder: &mut StrBuilder<B>, command: &Command) -> Reply
-    ensures step { Step B.limit B.asks (chars (B.content builder.old)) command.now result (chars (B.content builder.new)) }
+    ensures step { TextStep B.limit B.asks (chars (B.content builder.old)) command.now result (chars (B.content builder.new)) }
     ensures borrows { B.borrows builder.new ≡ B.borrows builder.old }
 {
     match *command {
@@ -98,7 +98,7 @@ pub fn run<B: OctetsBuilder + Truncate>(
     builder: &mut StrBuilder<B>,
     commands: &[Command],
 ) -> Result<Vec<Reply>, AllocError>
-    ensures run { IfOk result (λ replies. Run B.limit B.asks
+    ensures run { IfOk result (λ replies. TextRun B.limit B.asks
         (chars (B.content builder.old)) commands.now replies.items (chars (B.content builder.new))) }
     ensures err { OnErr result (builder.new ≡ builder.old) }
     ensures borrows { B.borrows builder.new ≡ B.borrows builder.old }

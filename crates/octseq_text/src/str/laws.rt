@@ -3,7 +3,7 @@
 ghost use Rattle.std.specs.Prelude.{◌≡◌, ℕ, Bool, false, Option, List, ◌++◌};
 ghost use Rattle.octseq_utf8.specs.Parts.{Part, Splits};
 ghost use Rattle.octseq_text.specs.Pieces.{Settles};
-ghost use Rattle.octseq_text.specs.Run.{Run, IsWithoutMemory};
+ghost use Rattle.octseq_text.specs.TextRun.{TextRun, IsWithoutMemory};
 ghost use Rattle.octseq_text.specs.declared.str.commands.Command.{Command};
 ghost use Rattle.octseq_text.specs.declared.str.commands.Reply.{Reply};
 
@@ -16,11 +16,11 @@ ghost use Rattle.octseq_text.specs.declared.str.commands.Reply.{Reply};
 pub fn one_run()
     ensures alike { (limit : Option ℕ) (asks other_asks : Bool) (before : List ℕ) (commands : List Command)
         (replies others : List Reply) (after other_after : List ℕ)
-        → Run limit asks before commands replies after → Run limit other_asks before commands others other_after
+        → TextRun limit asks before commands replies after → TextRun limit other_asks before commands others other_after
         → IsWithoutMemory replies → IsWithoutMemory others → (replies ≡ others) × (after ≡ other_after) }
     ensures without_memory { (limit : Option ℕ) (before : List ℕ) (commands : List Command)
         (replies : List Reply) (after : List ℕ)
-        → Run limit false before commands replies after → IsWithoutMemory replies }
+        → TextRun limit false before commands replies after → IsWithoutMemory replies }
 {}
 
 /// Octets have exactly one list of settled parts, and one open end. The settled parts are a front of all parts.

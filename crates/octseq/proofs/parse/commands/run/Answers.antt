@@ -1,7 +1,7 @@
 use Rattle.std.proofs.Common.{◌≡◌, ◌+◌, [], ◌∷◌, ◌++◌, map, vec_len, ap, ◌∙◌, arith}
 use Rattle.std.proofs.lemmas.List.{map-append}
 use Rattle.octseq.proofs.Runs.{runs_more, runs_all}
-use Rattle.octseq.specs.Reply.{shown}
+use Rattle.octseq.specs.WindowReply.{shown}
 use Rattle.octseq.proofs.parse.commands.run.Goals as goal
 
 pub loop-command-preserved : goal.loop-command-preserved

@@ -2,7 +2,7 @@
 use Rattle.std.proofs.Common.{◌≡◌, ◌+◌, ◌≤◌, [], ◌∷◌, length, map, vec_len, vec_capacity}
 use Rattle.octseq.proofs.Runs.{RunsOn}
 use Rattle.octseq.specs.Parser.{window}
-use Rattle.octseq.specs.Reply.{shown}
+use Rattle.octseq.specs.WindowReply.{shown}
 use Rattle.octseq.specs.Window.{whole}
 use Rattle.octseq.proofs.parse.commands.run.Given as goal
 

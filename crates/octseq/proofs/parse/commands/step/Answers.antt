@@ -3,8 +3,8 @@ use Rattle.std.proofs.lemmas.List.{append-nil}
 use Rattle.std.specs.Prelude.{option_to_list, slice_set}
 use Rattle.octseq.proofs.Steps.{step_of, step_alone}
 use Rattle.octseq.specs.Parser.{window}
-use Rattle.octseq.specs.Reply.{Reply}
-use Rattle.octseq.specs.Run.{says}
+use Rattle.octseq.specs.WindowReply.{WindowReply}
+use Rattle.octseq.specs.WindowRun.{says}
 use Rattle.octseq.proofs.parse.commands.step.Goals as goal
 
 pub returns-in-Some-clause-step : goal.returns-in-Some-clause-step
@@ -24,11 +24,11 @@ returns-in-Err-Short-clause-step g c =
     let refused = c.in-Err-Short.ensures in
     step_alone (window {R = g.row.R.Denot} {g = g.R.AsOctets}) _ _ c.len-count.result c.args.parsers.now.items
     c.index_mut.result.now c.carry_out.new.parser _ (search rules) (omega arith) c.index_mut.ensures.value
-    (inl (ap (says Reply.short) refused.err ∙ sym (refused.short (rw c.in-Err-Short.field-0-is tt))))
+    (inl (ap (says WindowReply.short) refused.err ∙ sym (refused.short (rw c.in-Err-Short.field-0-is tt))))
 
 pub returns-in-Err-Memory-clause-step : goal.returns-in-Err-Memory-clause-step
 returns-in-Err-Memory-clause-step g c =
     let refused = c.in-Err-Memory.ensures in
     step_alone (window {R = g.row.R.Denot} {g = g.R.AsOctets}) _ _ c.len-count.result c.args.parsers.now.items
     c.index_mut.result.now c.carry_out.new.parser _ (search rules) (omega arith) c.index_mut.ensures.value
-    (inr (refused.memory (rw c.in-Err-Memory.field-0-is tt), ap (says Reply.memory) refused.err))
+    (inr (refused.memory (rw c.in-Err-Memory.field-0-is tt), ap (says WindowReply.memory) refused.err))

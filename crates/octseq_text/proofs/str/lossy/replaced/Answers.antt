@@ -9,5 +9,5 @@ use Rattle.octseq_text.proofs.str.lossy.replaced.Goals as goal
 pub returns-clause-well_formed : goal.returns-clause-well_formed
 returns-clause-well_formed g c =
     let whole : g.B.AsOctets.content c.append_slice.new.self ≡ text_with c.args.replacement (parts_of c.args.octets.now) =
-    c.in_ok-append_slice.ensures.ok ∙ c.in_ok-rest.ensures.ok.whole in
+    c.in_ok-append_slice.ensures.appended.ok ∙ c.in_ok-rest.ensures.ok.whole in
     rw whole (text_well_formed c.args.replacement (from_scalar c.args.replacement c.ranges.replacement.0) (splits c.args.octets.now))

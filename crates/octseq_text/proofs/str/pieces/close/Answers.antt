@@ -22,12 +22,12 @@ returns-in_err-append_slice-in-None-clause-short g c =
     (c.as_slice.ensures.content ∙ c.push.ensures) (c.in-None.ensures.none.0 refl) in
     rw (p.1, p.2, ← i.text)
     (λ h. too_long g.B.AsOctets.limit seen c.as_slice-in-None.result.now (c.as_slice-in-None.ensures.content ∙ sym c.as_slice.ensures.content)
-    (read_none _ a) whole (c.in_err-append_slice-in-None.ensures.short.0 h))
+    (read_none _ a) whole (c.in_err-append_slice-in-None.ensures.appended.short.0 h))
 
 pub returns-in-None-clause-closed : goal.returns-in-None-clause-closed
 returns-in-None-clause-closed g c =
     let i = c.loop-at.invariant in
-    rw (rest_of c.args.piece.now (c.loop-at.at + 1), c.in_ok-append_slice-in-None.ensures.ok, c.as_slice-in-None.ensures.content, ← c.as_slice.ensures.content, ← i.text)
+    rw (rest_of c.args.piece.now (c.loop-at.at + 1), c.in_ok-append_slice-in-None.ensures.appended.ok, c.as_slice-in-None.ensures.content, ← c.as_slice.ensures.content, ← i.text)
     (closed_whole _ _ c.loop-at.begun.content c.loop-at.at c.loop-at-test.true i.begun c.as_slice.result.now (g.B.AsOctets.content c.loop-at.text)
     (c.as_slice.ensures.content ∙ c.push.ensures) (c.in-None.ensures.none.0 refl))
 

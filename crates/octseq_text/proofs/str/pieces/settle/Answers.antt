@@ -13,7 +13,7 @@ returns-in_err-append_slice-clause-short g c =
     let fault = c.in-Some.fault in
     let before = read_before rest fault c.in-Some.ensures.fault (g.B.AsOctets.content c.loop-fault.text) in
     rw (p.1, p.2)
-    (λ h. too_long g.B.AsOctets.limit (take fault.place rest) c.before-in-Some.result.now c.before-in-Some.ensures c.loop-fault.invariant.read before (c.in_err-append_slice.ensures.short.0 h))
+    (λ h. too_long g.B.AsOctets.limit (take fault.place rest) c.before-in-Some.result.now c.before-in-Some.ensures c.loop-fault.invariant.read before (c.in_err-append_slice.ensures.appended.short.0 h))
 
 pub open_end-requires : goal.open_end-requires
 open_end-requires g c =
@@ -25,7 +25,7 @@ open_end-requires g c =
 pub returns-then-is_none-clause-read : goal.returns-then-is_none-clause-read
 returns-then-is_none-clause-read g c =
     rw (c.open_end.ensures, c.onward.ensures)
-    (read_to_fault _ _ _ _ _ _ c.in-Some.fault c.in-Some.ensures.fault c.loop-fault.invariant.read c.before-in-Some.ensures c.in_ok-append_slice.ensures.ok)
+    (read_to_fault _ _ _ _ _ _ c.in-Some.fault c.in-Some.ensures.fault c.loop-fault.invariant.read c.before-in-Some.ensures c.in_ok-append_slice.ensures.appended.ok)
 
 pub returns-then-is_none-clause-open_end : goal.returns-then-is_none-clause-open_end
 returns-then-is_none-clause-open_end g c =
@@ -41,7 +41,7 @@ returns-in_err-append_replacement-clause-short g c =
     let f = c.in-Some.ensures.fault in
     rw (p.1, p.2)
     (λ h. too_long g.B.AsOctets.limit (encoding_of 0xFFFD) (encoding_of 0xFFFD) refl
-    (read_to_fault _ _ _ _ _ _ fault f c.loop-fault.invariant.read c.before-in-Some.ensures c.in_ok-append_slice.ensures.ok)
+    (read_to_fault _ _ _ _ _ _ fault f c.loop-fault.invariant.read c.before-in-Some.ensures c.in_ok-append_slice.ensures.appended.ok)
     (read_fault c.loop-fault.rest.now fault f (size_some fault.size c.error_len.result c.error_len.ensures c.if-is_none.ensures) (g.B.AsOctets.content c.append_slice.new.self))
     (c.in_err-append_replacement.ensures.short.0 h))
 
@@ -57,7 +57,7 @@ loop-fault-preserved g c =
     rw (c.behind-rest.ensures, c.in_ok-append_replacement.ensures.ok)
     (record {
       read = read_then
-          (read_to_fault _ _ _ _ _ _ fault f c.loop-fault.invariant.read c.before-in-Some.ensures c.in_ok-append_slice.ensures.ok)
+          (read_to_fault _ _ _ _ _ _ fault f c.loop-fault.invariant.read c.before-in-Some.ensures c.in_ok-append_slice.ensures.appended.ok)
           (read_fault rest fault f (size_some fault.size c.error_len.result c.error_len.ensures c.if-is_none.ensures) (g.B.AsOctets.content c.append_slice.new.self));
       turns = counted_fault (length c.args.octets.now) rest c.args.turns.now c.loop-fault.turns _ c.loop-fault.invariant.turns fault f c.in-Some.ensures.turns_to_fault;
       passed = omega arith;
@@ -69,11 +69,11 @@ returns-in_err-append_slice-2-clause-short g c =
     let p = err_from_is_err_and c.from_residual-in_err-append_slice-2.result c.from_residual-in_err-append_slice-2.ensures.1 in
     rw (p.1, p.2)
     (λ h. too_long g.B.AsOctets.limit c.loop-fault.rest.now c.loop-fault.rest.now refl c.loop-fault.invariant.read
-    (read_last c.loop-fault.rest.now (g.B.AsOctets.content c.loop-fault.text) (c.in_default.ensures.none.0 refl)) (c.in_err-append_slice-2.ensures.short.0 h))
+    (read_last c.loop-fault.rest.now (g.B.AsOctets.content c.loop-fault.text) (c.in_default.ensures.none.0 refl)) (c.in_err-append_slice-2.ensures.appended.short.0 h))
 
 pub returns-clause-read : goal.returns-clause-read
 returns-clause-read g c =
-    rw (c.new.ensures, c.in_ok-append_slice-2.ensures.ok)
+    rw (c.new.ensures, c.in_ok-append_slice-2.ensures.appended.ok)
     (read_then c.loop-fault.invariant.read (read_last c.loop-fault.rest.now (g.B.AsOctets.content c.loop-fault.text) (c.in_default.ensures.none.0 refl)))
 
 -- the turns

@@ -6,15 +6,10 @@ use Rattle.octseq_utf8.proofs.Numbers.{encoding_is_of, one_encoding}
 use Rattle.octseq_utf8.proofs.Texts.{chars-encoding}
 use Rattle.octseq_text.proofs.str.builder.StrBuilder.try_push.Goals as goal
 
-pub returns-clause-ok : goal.returns-clause-ok
-returns-clause-ok g c =
+pub returns-clause-appended : goal.returns-clause-appended
+returns-clause-appended g c =
     let e : c.encode_utf8.result.now ≡ encoding_of c.args.ch = c.encode_utf8.ensures.value ∙ encode-is c.args.ch in
-    rw (← e) c.try_push_str.ensures.ok
-
-pub returns-clause-short : goal.returns-clause-short
-returns-clause-short g c =
-    let e : c.encode_utf8.result.now ≡ encoding_of c.args.ch = c.encode_utf8.ensures.value ∙ encode-is c.args.ch in
-    rw (← e) c.try_push_str.ensures.short
+    rw (← e) c.try_push_str.ensures.appended
 
 pub returns-clause-encoding : goal.returns-clause-encoding
 returns-clause-encoding g c = encoding_is_of c.args.ch (from_scalar c.args.ch c.ranges.ch.0)

@@ -6,5 +6,5 @@ use Rattle.octseq_text.proofs.str.display.AppendingWrite.write_str.Goals as goal
 
 pub invariant_of-self-clause-edge : goal.invariant_of-self-clause-edge
 invariant_of-self-clause-edge g c =
-    ap (λ octets. begins_within (drop (length g.K.Begun.before) octets)) c.in-Ok.ensures.ok
+    ap (λ octets. begins_within (drop (length g.K.Begun.before) octets)) c.in-Ok.ensures.appended.ok
     ∙ edge_stays _ _ _ c.args.self.now.front c.args.self.now.edge (well_formed_from_utf8 _ c.utf8.s)

@@ -2,7 +2,7 @@
 use Rattle.std.specs.List.{AllByRecursion}
 use Rattle.std.specs.Prelude.{◌≡◌, ◌≢◌, ℕ, Bool, true, List, [], ◌∷◌, ◌++◌, length, slice_get, slice_set, nat_le, ◌==◌, if◌then◌else◌, Option, Some, None, ◌⊎◌}
 use Rattle.octseq.specs.Integer.{be, le, signed}
-use Rattle.octseq.specs.Reply.{Reply}
+use Rattle.octseq.specs.WindowReply.{WindowReply}
 use Rattle.octseq.specs.Window.{Window, left, rest, next, front, at, past, nested}
 use Rattle.octseq.specs.declared.parse.commands.Kind.{Kind}
 use Rattle.octseq.specs.declared.parse.commands.Kind.TheVariants.{I8, U8, I16Be, I16Le, U16Be, U16Le, I32Be, I32Le, U32Be, U32Le, I64Be, I64Le, U64Be, U64Le, I128Be, I128Le, U128Be, U128Le}
@@ -13,14 +13,14 @@ use Rattle.octseq.specs.declared.parse.commands.ParserCommand.{ParserCommand}
 -- How an integer is read: how many octets it has, and the reply with the value that they stand for.
 pub record Reading : Type 0 where
   pub width : ℕ
-  pub reply : List ℕ → Reply
+  pub reply : List ℕ → WindowReply
 
 -- an unsigned and a signed integer of k octets, in an order
 abbrev pub unsigned_of : ℕ → (List ℕ → ℕ) → Reading
-unsigned_of k order = record { width = k; reply = λ octets. Reply.unsigned (order octets) }
+unsigned_of k order = record { width = k; reply = λ octets. WindowReply.unsigned (order octets) }
 
 abbrev pub signed_of : ℕ → (List ℕ → ℕ) → Reading
-signed_of k order = record { width = k; reply = λ octets. Reply.signed (signed k (order octets)) }
+signed_of k order = record { width = k; reply = λ octets. WindowReply.signed (signed k (order octets)) }
 
 -- how an integer of a kind is read
 abbrev pub reading : Kind → Reading
@@ -45,70 +45,70 @@ reading U128Le = unsigned_of 16 le
 
 -- What a call on a window does: its reply, the window after it, and the windows that it adds.
 pub record Outcome : Type 0 where
-  pub reply : Reply
+  pub reply : WindowReply
   pub window : Window
   pub added : List Window
 
 -- a reply, and the window after it; no window is added
-abbrev pub says : Reply → Window → Outcome
+abbrev pub says : WindowReply → Window → Outcome
 says reply w = record { reply = reply; window = w; added = [] }
 
 -- the number of the window that is added behind `count` others
 abbrev pub adds : ℕ → Window → Window → Outcome
-adds count new w = record { reply = Reply.parser count; window = w; added = new ∷ [] }
+adds count new w = record { reply = WindowReply.parser count; window = w; added = new ∷ [] }
 
 -- an outcome where n is at most the bound, and else a refusal, which leaves the window
 abbrev pub where_within : ℕ → ℕ → Window → Outcome → Outcome
-where_within bound n w outcome = if nat_le n bound then outcome else says Reply.short w
+where_within bound n w outcome = if nat_le n bound then outcome else says WindowReply.short w
 
 -- A call on one of `count` windows.
 abbrev pub outcome : ℕ → Window → ParserCall → Outcome
-outcome count w Pos = says (Reply.number w.position) w
-outcome count w Len = says (Reply.number w.end) w
-outcome count w IsEmpty = says (Reply.flag (w.end == 0)) w
-outcome count w Remaining = says (Reply.number (left w)) w
-outcome count w AsSlice = says (Reply.slice (front w)) w
-outcome count w PeekAll = says (Reply.slice (rest w)) w
-outcome count w AdvanceToEnd = says Reply.done (at w.end w)
+outcome count w Pos = says (WindowReply.number w.position) w
+outcome count w Len = says (WindowReply.number w.end) w
+outcome count w IsEmpty = says (WindowReply.flag (w.end == 0)) w
+outcome count w Remaining = says (WindowReply.number (left w)) w
+outcome count w AsSlice = says (WindowReply.slice (front w)) w
+outcome count w PeekAll = says (WindowReply.slice (rest w)) w
+outcome count w AdvanceToEnd = says WindowReply.done (at w.end w)
 outcome count w Duplicate = adds count w w
-outcome count w (Peek n) = where_within (left w) n w (says (Reply.slice (next n w)) w)
-outcome count w (Seek n) = where_within w.end n w (says Reply.done (at n w))
-outcome count w (Advance n) = where_within (left w) n w (says Reply.done (past n w))
-outcome count w (CheckLen n) = where_within (left w) n w (says Reply.done w)
-outcome count w (Octets n) = where_within (left w) n w (says (Reply.range (next n w)) (past n w))
-outcome count w (Buf n) = where_within (left w) n w (says (Reply.slice (next n w)) (past n w))
+outcome count w (Peek n) = where_within (left w) n w (says (WindowReply.slice (next n w)) w)
+outcome count w (Seek n) = where_within w.end n w (says WindowReply.done (at n w))
+outcome count w (Advance n) = where_within (left w) n w (says WindowReply.done (past n w))
+outcome count w (CheckLen n) = where_within (left w) n w (says WindowReply.done w)
+outcome count w (Octets n) = where_within (left w) n w (says (WindowReply.range (next n w)) (past n w))
+outcome count w (Buf n) = where_within (left w) n w (says (WindowReply.slice (next n w)) (past n w))
 outcome count w (Nested n) = where_within (left w) n w (adds count (nested n w) (past n w))
 outcome count w (Int kind) = let n = (reading kind).width in where_within (left w) n w (says ((reading kind).reply (next n w)) (past n w))
 
 -- A request for memory may be refused in the place of a slice, and of a range whose type requests memory.
-abbrev pub MayLackMemory : Bool → Reply → Type 0
-MayLackMemory asks (Reply.slice _) = Unit {0}
-MayLackMemory asks (Reply.range _) = asks ≡ true
+abbrev pub MayLackMemory : Bool → WindowReply → Type 0
+MayLackMemory asks (WindowReply.slice _) = Unit {0}
+MayLackMemory asks (WindowReply.range _) = asks ≡ true
 MayLackMemory asks _ = ⊥
 
 -- A call does what it is to do, or a request for memory was refused, and nothing changed.
 abbrev pub Does : Bool → Window → Outcome → Outcome → Type 0
-Does asks before wanted done = (done ≡ wanted) ⊎ (MayLackMemory asks wanted.reply × (done ≡ says Reply.memory before))
+Does asks before wanted done = (done ≡ wanted) ⊎ (MayLackMemory asks wanted.reply × (done ≡ says WindowReply.memory before))
 
 -- A command on the window of its number, if there is one: the reply, and the windows after it.
-abbrev pub StepOn : Option Window → Bool → List Window → ParserCommand → Reply → List Window → Type 0
-StepOn None asks windows command reply after = (reply ≡ Reply.no_parser) × (after ≡ windows)
+abbrev pub StepOn : Option Window → Bool → List Window → ParserCommand → WindowReply → List Window → Type 0
+StepOn None asks windows command reply after = (reply ≡ WindowReply.no_parser) × (after ≡ windows)
 StepOn (Some w) asks windows command reply after = (done : Outcome)
     × Does asks w (outcome (length windows) w command.call) done
     × (reply ≡ done.reply)
     × (after ≡ slice_set windows command.parser done.window ++ done.added)
 
-abbrev pub Step : Bool → List Window → ParserCommand → Reply → List Window → Type 0
-Step asks windows command reply after = StepOn (slice_get windows command.parser) asks windows command reply after
+abbrev pub WindowStep : Bool → List Window → ParserCommand → WindowReply → List Window → Type 0
+WindowStep asks windows command reply after = StepOn (slice_get windows command.parser) asks windows command reply after
 
 -- A list of commands, with one reply each: every step is on the windows that the step before left.
-abbrev pub Run : Bool → List Window → List ParserCommand → List Reply → Type 0
-Run asks windows [] [] = Unit {0}
-Run asks windows (command ∷ commands) (reply ∷ replies) =
-    (after : List Window) × Step asks windows command reply after × Run asks after commands replies
-Run asks windows [] (reply ∷ replies) = ⊥
-Run asks windows (command ∷ commands) [] = ⊥
+abbrev pub WindowRun : Bool → List Window → List ParserCommand → List WindowReply → Type 0
+WindowRun asks windows [] [] = Unit {0}
+WindowRun asks windows (command ∷ commands) (reply ∷ replies) =
+    (after : List Window) × WindowStep asks windows command reply after × WindowRun asks after commands replies
+WindowRun asks windows [] (reply ∷ replies) = ⊥
+WindowRun asks windows (command ∷ commands) [] = ⊥
 
 -- No reply tells that a request for memory was refused.
-abbrev pub IsWithoutMemory : List Reply → Type 0
-IsWithoutMemory replies = AllByRecursion (λ reply. reply ≢ Reply.memory) replies
+abbrev pub IsWithoutMemory : List WindowReply → Type 0
+IsWithoutMemory replies = AllByRecursion (λ reply. reply ≢ WindowReply.memory) replies

@@ -4,15 +4,15 @@ use Rattle.octseq.specs.declared.parse.commands.ParserReply.{ParserReply}
 use Rattle.octseq.specs.declared.parse.commands.ParserReply.TheVariants.{Done, Short, Memory, NoParser, Number, Flag, Slice, Range, Parser, Signed, Unsigned}
 
 -- A reply with its numbers, and with the octets of a slice or a range as a list.
-pub data Reply : Type 0 where
-  done short memory no_parser : Reply
-  number parser unsigned : ℕ → Reply
-  flag : Bool → Reply
-  slice range : List ℕ → Reply
-  signed : ℤ → Reply
+pub data WindowReply : Type 0 where
+  done short memory no_parser : WindowReply
+  number parser unsigned : ℕ → WindowReply
+  flag : Bool → WindowReply
+  slice range : List ℕ → WindowReply
+  signed : ℤ → WindowReply
 
 -- what a reply shows, where `content` gives the octets of a range
-abbrev pub shown : {R P : Type 0} → (P → List ℕ) → ParserReply R P → Reply
+abbrev pub shown : {R P : Type 0} → (P → List ℕ) → ParserReply R P → WindowReply
 shown content Done = done
 shown content Short = short
 shown content Memory = memory

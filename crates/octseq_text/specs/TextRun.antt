@@ -11,11 +11,11 @@ use Rattle.octseq_text.specs.declared.str.commands.Reply.{Reply}
 use Rattle.octseq_text.specs.declared.str.commands.Reply.TheVariants as reply
 
 -- More characters at the end, where the octets of all stay within the limit. Where the type requests memory, that may be refused.
-abbrev pub Appends : Option ℕ → Bool → List ℕ → List ℕ → Reply → List ℕ → Type 0
-Appends limit asks before more reply.Done after = IsWithin limit (length (octets_of (before ++ more))) × (after ≡ before ++ more)
-Appends limit asks before more reply.Short after = IsPast limit (length (octets_of (before ++ more))) × (after ≡ before)
-Appends limit asks before more reply.Memory after = IsWithin limit (length (octets_of (before ++ more))) × (asks ≡ true) × (after ≡ before)
-Appends limit asks before more _ after = ⊥
+abbrev pub AppendsCharacters : Option ℕ → Bool → List ℕ → List ℕ → Reply → List ℕ → Type 0
+AppendsCharacters limit asks before more reply.Done after = IsWithin limit (length (octets_of (before ++ more))) × (after ≡ before ++ more)
+AppendsCharacters limit asks before more reply.Short after = IsPast limit (length (octets_of (before ++ more))) × (after ≡ before)
+AppendsCharacters limit asks before more reply.Memory after = IsWithin limit (length (octets_of (before ++ more))) × (asks ≡ true) × (after ≡ before)
+AppendsCharacters limit asks before more _ after = ⊥
 
 -- The reply for what an append answered.
 abbrev pub append_reply : Result (Unit {0}) AppendError → Reply
@@ -38,22 +38,22 @@ Pops before (Some c) after = before ≡ after ++ c ∷ []
 Pops before None after = (before ≡ []) × (after ≡ [])
 
 -- One command: its reply, and the characters after it.
-abbrev pub Step : Option ℕ → Bool → List ℕ → Command → Reply → List ℕ → Type 0
-Step limit asks before (command.PushStr s) r after = Appends limit asks before (chars s.now) r after
-Step limit asks before (command.Push c) r after = Appends limit asks before (c ∷ []) r after
-Step limit asks before (command.Truncate n) r after = Cuts before n r after
-Step limit asks before command.Clear r after = (r ≡ reply.Done) × (after ≡ [])
-Step limit asks before command.Pop r after = (last : Option ℕ) × (r ≡ reply.Popped last) × Pops before last after
-Step limit asks before command.Len r after = (r ≡ reply.Len (length (octets_of before))) × (after ≡ before)
-Step limit asks before (command.Is s) r after = (same : Bool) × (r ≡ reply.Is same) × (IsTrue same ↔ (before ≡ chars s.now)) × (after ≡ before)
+abbrev pub TextStep : Option ℕ → Bool → List ℕ → Command → Reply → List ℕ → Type 0
+TextStep limit asks before (command.PushStr s) r after = AppendsCharacters limit asks before (chars s.now) r after
+TextStep limit asks before (command.Push c) r after = AppendsCharacters limit asks before (c ∷ []) r after
+TextStep limit asks before (command.Truncate n) r after = Cuts before n r after
+TextStep limit asks before command.Clear r after = (r ≡ reply.Done) × (after ≡ [])
+TextStep limit asks before command.Pop r after = (last : Option ℕ) × (r ≡ reply.Popped last) × Pops before last after
+TextStep limit asks before command.Len r after = (r ≡ reply.Len (length (octets_of before))) × (after ≡ before)
+TextStep limit asks before (command.Is s) r after = (same : Bool) × (r ≡ reply.Is same) × (IsTrue same ↔ (before ≡ chars s.now)) × (after ≡ before)
 
 -- A list of commands, with one reply each: every step is on the characters that the step before left.
-abbrev pub Run : Option ℕ → Bool → List ℕ → List Command → List Reply → List ℕ → Type 0
-Run limit asks before [] [] after = after ≡ before
-Run limit asks before (c ∷ commands) (r ∷ replies) after =
-    (middle : List ℕ) × Step limit asks before c r middle × Run limit asks middle commands replies after
-Run limit asks before [] (r ∷ replies) after = ⊥
-Run limit asks before (c ∷ commands) [] after = ⊥
+abbrev pub TextRun : Option ℕ → Bool → List ℕ → List Command → List Reply → List ℕ → Type 0
+TextRun limit asks before [] [] after = after ≡ before
+TextRun limit asks before (c ∷ commands) (r ∷ replies) after =
+    (middle : List ℕ) × TextStep limit asks before c r middle × TextRun limit asks middle commands replies after
+TextRun limit asks before [] (r ∷ replies) after = ⊥
+TextRun limit asks before (c ∷ commands) [] after = ⊥
 
 -- No reply says that a request for memory was refused.
 abbrev pub IsWithoutMemory : List Reply → Type 0
