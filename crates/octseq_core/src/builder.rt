@@ -44,7 +44,8 @@ pub trait AsOctets: Drop {
     final fn len(&self) -> usize
     where
         Self: Sized,
-        ensures { result ≡ length (content self.now) }
+        ensures content { result ≡ length (content self.now) }
+        ensures within { IsWithin limit result }
     {
         self.as_ref().len()
     }

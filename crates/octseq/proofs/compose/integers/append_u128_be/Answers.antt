@@ -6,5 +6,4 @@ pub returns-clause-octets : goal.returns-clause-octets
 returns-clause-octets g c = are_be_16 c.args.value c.ranges.value
 
 pub returns-clause-appended : goal.returns-clause-appended
-returns-clause-appended g c = let said = c.append_slice.ensures in
-    appends (c.to_be_bytes.ensures ∙ made_be_16 c.args.value) said.ok said.err said.short said.memory
+returns-clause-appended g c = appends (c.to_be_bytes.ensures ∙ made_be_16 c.args.value) c.append_slice.ensures.appended

@@ -10,7 +10,7 @@ truncate-requires g c = λ _.
     let now = g.B.AsOctets.content c.write-written.new.self.text.now in
     let writer = c.write-written.new.self in
     let well = subst IsWellFormed c.as_slice-well_formed.ensures.content c.as_slice-well_formed.ensures.well_formed in
-    subst (IsBoundary now) (sym (c.len-len.ensures ∙ ap length (sym c.requires.begun)))
+    subst (IsBoundary now) (sym (c.len-len.ensures.content ∙ ap length (sym c.requires.begun)))
     (boundary_there g.K.Begun.before now well writer.front writer.edge)
 
 pub returns-in-Ok-clause-ok : goal.returns-in-Ok-clause-ok
