@@ -10,3 +10,9 @@ pub mod BadParts
 pub mod Settling
 pub mod Piecewise
 pub mod Counting
+pub mod PartLimits
+pub use Rattle.octseq_utf8.proofs.Bridge
+pub use Rattle.octseq_utf8.proofs.LossyTexts
+pub use Rattle.octseq_utf8.proofs.Spelling
+pub use Rattle.octseq_utf8.proofs.Splitting
+pub use Rattle.octseq_utf8.proofs.Texts
