@@ -74,6 +74,7 @@ fn over_each<C: Case>(
 mod builders;
 mod composing;
 mod errors;
+mod habits;
 mod integers;
 mod refused;
 mod runs;

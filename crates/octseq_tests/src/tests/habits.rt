@@ -1,0 +1,202 @@
+//! Calls as Rust writes them: ranges, dereferences, `write!`, contents that are written over, errors that are shown.
+use arrayvec::ArrayVec;
+use bytes::{Bytes, BytesMut};
+use octseq::array::Array;
+use octseq::builder::{AppendError, AsOctets, AsOctetsMut, OctetsBuilder, ShortBuf};
+use octseq::compose::{ComposeError, append_u24_be, append_u24_le, append_u48_be, append_u48_le};
+use octseq::octets::{Octets, try_range};
+use octseq::parse::{Parser, ShortInput};
+use octseq::str::{DisplayError, Str, StrBuilder};
+use octseq::{ReadError, WriteError};
+use smallvec::SmallVec;
+use std::alloc::Global;
+use std::error::Error;
+use std::fmt::{self, Display, Write};
+use std::ops::RangeBounds;
+use std::process::Abort;
+use std::test::Fail;
+
+/// The octets of a range that exists, or none.
+fn cut<O: Octets, R: RangeBounds<usize>>(octets: O, range: R) -> Option<O::Range>
+    requires { R.has_bounds range }
+{
+    let found = try_range(octets.len(), range)?;
+    octets.range(found).ok()
+}
+
+#[test]
+fn ranges_are_written_as_rusts(rt: HostRuntime) -> Result<(), Fail> {
+    let octets = b"abcd".as_slice();
+    assert_equal!(&rt, cut(octets, 1..3), Some(b"bc".as_slice()));
+    assert_equal!(&rt, cut(octets, 1..=3), Some(b"bcd".as_slice()));
+    assert_equal!(&rt, cut(octets, 2..), Some(b"cd".as_slice()));
+    assert_equal!(&rt, cut(octets, ..1), Some(b"a".as_slice()));
+    assert_equal!(&rt, cut(octets, ..=1), Some(b"ab".as_slice()));
+    assert_equal!(&rt, cut(octets, ..), Some(b"abcd".as_slice()));
+    assert_equal!(&rt, cut(octets, 4..), Some(b"".as_slice()));
+    assert_equal!(&rt, cut(octets, 3..5), None);
+    assert_equal!(&rt, cut(octets, 5..), None);
+    assert_equal!(&rt, cut(octets, ..=4), None);
+    assert_equal!(&rt, try_range(4, 1..=2), Some(1..3));
+    let shared = Bytes::copy_from_slice(rt.alloc(), octets)?;
+    let inner = cut(&shared, 1..).ok_or("no range")?;
+    assert_equal!(&rt, inner.as_slice(), b"bcd".as_slice());
+    Ok(())
+}
+
+#[test]
+fn parsers_begin_with_ranges_as_rusts(rt: HostRuntime) -> Result<(), Fail> {
+    let octets = b"abcd".as_slice();
+    let parser = Parser::try_with_range(octets, 1..3).ok_or("no range")?;
+    assert_equal!(&rt, (parser.pos(), parser.len()), (1, 3));
+    let parser = Parser::try_with_range(octets, 2..).ok_or("no range")?;
+    assert_equal!(&rt, parser.peek_all(), b"cd".as_slice());
+    assert_true!(&rt, Parser::try_with_range(octets, ..=4).is_none());
+    assert_equal!(&rt, parser.peek_u8(), Ok(b'c'));
+    assert_equal!(&rt, parser.pos(), 2);
+    let end = Parser::try_with_range(octets, 4..).ok_or("no range")?;
+    assert_equal!(&rt, end.peek_u8(), Err(ShortInput));
+    Ok(())
+}
+
+#[test]
+fn arrays_are_slices(rt: HostRuntime) -> Result<(), Fail> {
+    let mut array = Array::<4>::try_from(b"abc".as_slice())?;
+    assert_equal!(&rt, array.len(), 3);
+    assert_equal!(&rt, array.first(), Some(&b'a'));
+    assert_true!(&rt, array.ends_with(b"bc"));
+    array.reverse();
+    assert_equal!(&rt, array.as_slice(), b"cba".as_slice());
+    Ok(())
+}
+
+#[test]
+fn texts_are_strs(rt: HostRuntime) -> Result<(), Fail> {
+    let text = StrBuilder::from_utf8(b"a€b".as_slice()).ok().ok_or("no text")?;
+    assert_true!(&rt, text.starts_with("a€"));
+    assert_equal!(&rt, text.find('b'), Some(4));
+    let text = Str::from_utf8(b"x, y".as_slice()).ok().ok_or("no text")?;
+    assert_true!(&rt, text.contains(", "));
+    Ok(())
+}
+
+/// A length is written over in the octets of each type.
+fn is_written_over<B: AsOctetsMut>(rt: &impl Abort, mut octets: B) {
+    assert_equal!(rt, octets.len(), 3);
+    assert_true!(rt, !octets.is_empty());
+    if let Some(first) = octets.as_mut().first_mut() {
+        *first = b'x';
+    }
+    assert_equal!(rt, octets.as_ref(), b"xbc".as_slice());
+}
+
+#[test]
+fn octets_are_written_over_in_place(rt: HostRuntime) -> Result<(), Fail> {
+    let (alloc, slice) = (rt.alloc(), b"abc".as_slice());
+    is_written_over(&rt, slice.to_vec(alloc)?);
+    is_written_over(&rt, &mut slice.to_vec(alloc)?);
+    is_written_over(&rt, BytesMut::copy_from_slice(alloc, slice)?);
+    is_written_over(&rt, SmallVec::<u8, 2>::from_slice(alloc, slice)?);
+    is_written_over(&rt, Array::<4>::try_from(slice)?);
+    let mut fixed = ArrayVec::<u8, 4>::new();
+    fixed.append_slice(slice)?;
+    is_written_over(&rt, fixed);
+    Ok(())
+}
+
+/// It shows nothing, and answers an error.
+#[derive(Drop)]
+struct Unshowable;
+
+impl Display for Unshowable {
+    fn fmt<W: fmt::Write>(&self, _f: &mut fmt::Formatter<W>) -> fmt::Result {
+        Err(fmt::Error)
+    }
+}
+
+#[test]
+fn values_are_written_to_texts(rt: HostRuntime) -> Result<(), Fail> {
+    let mut text = StrBuilder::<Array<8>>::new(rt.alloc())?;
+    assert_true!(&rt, write!(text, "{}/{}", 12_u8, "é").is_ok());
+    assert_equal!(&rt, text.as_str(), "12/é");
+    assert_true!(&rt, write!(text, "{}", 1234_u16).is_err());
+    assert_equal!(&rt, text.as_str(), "12/é");
+    Ok(())
+}
+
+#[test]
+fn values_are_pushed_whole_or_not_at_all(rt: HostRuntime) -> Result<(), Fail> {
+    let mut text = StrBuilder::<Array<8>>::new(rt.alloc())?;
+    assert_equal!(&rt, text.try_push_display(4321_u16), Ok(()));
+    assert_equal!(&rt, text.as_str(), "4321");
+    let fault = StrBuilder::from_utf8(b"\xFF".as_slice()).err().ok_or("a text")?;
+    assert_equal!(&rt, text.try_push_display(fault), Err(DisplayError::Short));
+    assert_equal!(&rt, text.as_str(), "4321");
+    let shown = text.try_push_display(Unshowable);
+    assert_equal!(&rt, shown, Err(DisplayError::Display));
+    assert_equal!(&rt, text.as_str(), "4321");
+    Ok(())
+}
+
+/// What an error prints, through the trait of errors.
+fn shows<E: Error>(rt: &impl Abort, alloc: Global, error: E, text: &str) -> Result<(), Fail> {
+    assert_equal!(rt, format!(in alloc; "{error}")?.as_str(), text);
+    Ok(())
+}
+
+#[test]
+fn errors_are_shown(rt: HostRuntime) -> Result<(), Fail> {
+    let (alloc, short, memory) = (rt.alloc(), "buffer size exceeded", "out of memory");
+    shows(&rt, alloc, ComposeError::TooLong, "long data")?;
+    shows(&rt, alloc, ComposeError::Short, short)?;
+    shows(&rt, alloc, ComposeError::Memory, memory)?;
+    shows(&rt, alloc, ReadError::Malformed, "malformed data")?;
+    shows(&rt, alloc, ReadError::Memory, memory)?;
+    shows(&rt, alloc, WriteError::Malformed, "malformed data")?;
+    shows(&rt, alloc, WriteError::Short, short)?;
+    shows(&rt, alloc, WriteError::Memory, memory)?;
+    shows(&rt, alloc, DisplayError::Short, short)?;
+    shows(&rt, alloc, DisplayError::Memory, memory)?;
+    shows(&rt, alloc, DisplayError::Display, "a value can't be shown")
+}
+
+#[test]
+fn errors_are_copied_and_passed_on(rt: HostRuntime) {
+    let error = AppendError::Short(ShortBuf);
+    assert_equal!(&rt, (error, error), (error, AppendError::Short(ShortBuf)));
+    assert_equal!(&rt, ComposeError::from(error), ComposeError::Short);
+    assert_equal!(&rt, WriteError::from(error), WriteError::Short);
+    assert_equal!(&rt, WriteError::from(ComposeError::TooLong), WriteError::Malformed);
+    assert_equal!(&rt, ReadError::from(ShortInput), ReadError::Malformed);
+    assert_equal!(&rt, DisplayError::from(AppendError::Memory), DisplayError::Memory);
+}
+
+#[test]
+fn integers_of_3_and_6_octets_are_read(rt: HostRuntime) {
+    let octets = b"\x12\x34\x56\x78\x9A\xBC".as_slice();
+    assert_equal!(&rt, Parser::from_ref(octets).parse_u24_be(), Ok(1_193_046));
+    assert_equal!(&rt, Parser::from_ref(octets).parse_u24_le(), Ok(5_649_426));
+    assert_equal!(&rt, Parser::from_ref(octets).parse_u48_be(), Ok(20_015_998_343_868));
+    assert_equal!(&rt, Parser::from_ref(octets).parse_u48_le(), Ok(207_371_629_900_818));
+    let mut short = Parser::from_ref(b"\x12\x34".as_slice());
+    assert_equal!(&rt, short.parse_u24_be(), Err(ShortInput));
+    assert_equal!(&rt, short.parse_u48_le(), Err(ShortInput));
+    assert_equal!(&rt, short.pos(), 0);
+}
+
+#[test]
+fn integers_of_3_and_6_octets_are_appended(rt: HostRuntime) -> Result<(), Fail> {
+    let mut octets = Array::<18>::new();
+    append_u24_be(&mut octets, 0x12_3456)?;
+    append_u24_le(&mut octets, 0x12_3456)?;
+    append_u48_be(&mut octets, 0x1234_5678_9ABC)?;
+    append_u48_le(&mut octets, 0x1234_5678_9ABC)?;
+    let wanted = b"\x12\x34\x56\x56\x34\x12\x12\x34\x56\x78\x9A\xBC\xBC\x9A\x78\x56\x34\x12";
+    assert_equal!(&rt, octets.as_slice(), wanted.as_slice());
+    assert_equal!(&rt, append_u24_be(&mut octets, 0), Err(ComposeError::Short));
+    assert_equal!(&rt, append_u24_le(&mut octets, 1 << 24), Err(ComposeError::TooLong));
+    assert_equal!(&rt, append_u48_be(&mut octets, 1 << 48), Err(ComposeError::TooLong));
+    assert_equal!(&rt, append_u48_le(&mut octets, (1 << 48) - 1), Err(ComposeError::Short));
+    assert_equal!(&rt, octets.as_slice(), wanted.as_slice());
+    Ok(())
+}
