@@ -5,8 +5,8 @@ use Rattle.std.proofs.Math.Seq.{drop-cons}
 use Rattle.std.proofs.lemmas.List.{append-nil, length-append}
 use Rattle.std.specs.List.{flat_map}
 use Rattle.std.specs.Prelude.{Result, Ok, Err, OnErr}
-use Rattle.octseq_core.specs.Limit.{IsPast}
-use Rattle.octseq_core.proofs.Limits.{past_more}
+use Rattle.octseq.proofs.Limits.{past_more}
+use Rattle.octseq.specs.Limit.{IsPast}
 use Rattle.octseq_uses.specs.Joined.{joined}
 
 -- the words, each behind a separator

@@ -5,14 +5,13 @@ use Rattle.std.proofs.Math.Seq.{take-length, drop-cons}
 use Rattle.std.proofs.lemmas.List.{take-append-le, length-append, length-take}
 use Rattle.std.specs.List.{AllByRecursion}
 use Rattle.std.specs.Prelude.{Option, ◌↔◌, Result, Ok, Err, IsErr}
-use Rattle.octseq_core.specs.Limit.{IsPast}
-use Rattle.octseq.specs.Composer.{IsPartShort}
-use Rattle.octseq.specs.Part.{part_of}
+use Rattle.octseq.proofs.Limits.{past_more}
 use Rattle.octseq.specs.declared.compose.ComposeError.{ComposeError}
-use Rattle.octseq.specs.declared.compose.ComposeError.TheVariants.{TooLong, Short, Memory}
-use Rattle.octseq_uses.specs.Name.{IsLabel, name_of, IsNameWithin, IsName}
-use Rattle.octseq_core.proofs.Limits.{past_more}
+use Rattle.octseq.specs.Limit.{IsPast}
+use Rattle.octseq.specs.Part.{part_of}
+use Rattle.octseq.specs.Refusal.{IsShort, compose_error}
 use Rattle.octseq_uses.proofs.Names.{length_part, name_step, long_name, longer_name}
+use Rattle.octseq_uses.specs.Name.{IsLabel, name_of, IsNameWithin, IsName}
 
 -- The labels from a place on are those of a name in so much room, exactly where all are those of a name.
 pub record IsNameFrom {W : Type 0} (show : W → List ℕ) (labels : List W) (place room : ℕ) : Type 0 where
@@ -119,8 +118,6 @@ root_room limit before now name whole =
     let same : length now + length (part_of 1 []) ≡ length before + length name = sym (length-append now (part_of 1 [])) ∙ ap length whole ∙ length-append before name in
     (subst (IsPast limit) same, subst (IsPast limit) (sym same))
 
-pub short_is_err : (result : Result (Unit {0}) ComposeError) → IsPartShort result → IsErr result
+pub short_is_err : (result : Result (Unit {0}) ComposeError) → IsShort compose_error result → IsErr result
 short_is_err (Ok value) short = absurd short
-short_is_err (Err TooLong) short = absurd short
-short_is_err (Err Short) short = refl
-short_is_err (Err Memory) short = absurd short
+short_is_err (Err e) short = refl

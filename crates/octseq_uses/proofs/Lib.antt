@@ -4,5 +4,4 @@ pub mod LineFronts
 pub mod MessageCode
 pub mod Names
 pub mod RecordCode
-pub mod Refusals
 pub mod Writing

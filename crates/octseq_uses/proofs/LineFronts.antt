@@ -1,18 +1,6 @@
--- Lines at the front of octets, and the texts of their parts.
-use Rattle.std.proofs.Common.{◌≡◌, ◌≢◌, ℕ, ◌⊎◌, inl, inr, List, [], ◌∷◌, ◌++◌, length, refl, sym, ap, ◌∙◌, arith}
-use Rattle.std.proofs.lemmas.Grind.{flat_map-append}
-use Rattle.std.proofs.lemmas.List.{length-append}
-use Rattle.std.specs.Prelude.{Option}
-use Rattle.octseq_core.specs.Limit.{IsPast}
-use Rattle.octseq_text.specs.Parts.{Part, octets_with, text}
+-- Lines at the front of octets.
+use Rattle.std.proofs.Common.{◌≡◌, ◌≢◌, ℕ, ◌⊎◌, inl, inr, List, [], ◌∷◌, ◌++◌, refl, sym, ap, ◌∙◌, arith}
 use Rattle.octseq_uses.specs.Line.{IsLine, TakesLine}
-use Rattle.octseq_core.proofs.Limits.{past_more}
-
--- where the text of some parts passes the limit, so does that of these parts and others
-pub past_front : (limit : Option ℕ) (front others parts : List Part) → parts ≡ front ++ others → IsPast limit (length (text front)) → IsPast limit (length (text parts))
-past_front limit front others parts whole past =
-    let long = ap length (ap text whole ∙ flat_map-append (octets_with 0xFFFD) front others) ∙ length-append (text front) (text others) in
-    past_more limit (length (text front)) (length (text parts)) (omega arith) past
 
 -- octets without a line feed have none behind a front
 no_feed : (line other more : List ℕ) → IsLine other → other ≡ line ++ 10 ∷ more → ⊥

@@ -5,11 +5,11 @@ use Rattle.octseq.proofs.Repeats.{one_list}
 use Rattle.octseq.specs.Code.{IsCode, HasFront}
 use Rattle.octseq.specs.Integer.{octets_be}
 use Rattle.octseq.specs.Part.{part_of}
+use Rattle.octseq_uses.proofs.Names.{name_code}
+use Rattle.octseq_uses.proofs.RecordCode.{spelled, record_code, has_octets}
 use Rattle.octseq_uses.specs.Message.{Content, IsHeader, header_of, IsText, IsMessage, message_of}
 use Rattle.octseq_uses.specs.Name.{name_of, IsName, HasName}
 use Rattle.octseq_uses.specs.Record.{IsRecord, records_of, AreRecords}
-use Rattle.octseq_uses.proofs.Names.{name_code}
-use Rattle.octseq_uses.proofs.RecordCode.{spelled, record_code, has_octets}
 
 pub header_code : IsCode IsHeader header_of
 header_code = pair_code (λ id. id < 256 ^ 2) (octets_be 2) (λ serial. serial < 256 ^ 4) (octets_be 4) (integer_code 2) (integer_code 4)

@@ -2,9 +2,9 @@
 use Rattle.std.proofs.Common.{ℕ, ◌<◌, List, length, arith}
 use Rattle.std.proofs.lemmas.List.{length-append}
 use Rattle.octseq.proofs.Codes.{integer_code, part_code, pair_code}
-use Rattle.octseq.specs.Code.{IsCode}
 use Rattle.octseq.proofs.Repeats.{HasOctets}
 use Rattle.octseq.proofs.Written.{length_be}
+use Rattle.octseq.specs.Code.{IsCode}
 use Rattle.octseq.specs.Integer.{octets_be}
 use Rattle.octseq.specs.Part.{part_of}
 use Rattle.octseq_uses.specs.Record.{record_of, IsRecord}

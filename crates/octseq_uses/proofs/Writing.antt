@@ -6,16 +6,17 @@ use Rattle.std.proofs.lemmas.List.{length-append, take-take, append-nil, map-app
 use Rattle.std.proofs.lemmas.Result.{on_ok_weaker}
 use Rattle.std.specs.List.{AllByRecursion}
 use Rattle.std.specs.Prelude.{Option, Result, Ok, Err, IsErr}
-use Rattle.octseq_core.specs.Limit.{IsWithin, IsPast}
-use Rattle.octseq.specs.Composer.{IsPartTooLong, IsPartShort, IsPartMemory}
+use Rattle.octseq.proofs.Errors.{part_short_of, part_memory_of}
+use Rattle.octseq.proofs.Limits.{past_more, within_if_not_past}
 use Rattle.octseq.specs.declared.compose.ComposeError.{ComposeError}
+use Rattle.octseq.specs.declared.error.WriteError.{WriteError}
+use Rattle.octseq.specs.Error.{write_error_of}
+use Rattle.octseq.specs.Limit.{IsWithin, IsPast}
+use Rattle.octseq.specs.Refusal.{IsShort, IsMemory, compose_error}
+use Rattle.octseq_uses.proofs.RecordCode.{spelled}
 use Rattle.octseq_uses.specs.Name.{name_of}
 use Rattle.octseq_uses.specs.Record.{records_of}
-use Rattle.octseq_uses.specs.Refusal.{write_error_of}
 use Rattle.octseq_uses.specs.Writes.{Writes}
-use Rattle.octseq_uses.specs.declared.error.WriteError.{WriteError}
-use Rattle.octseq_core.proofs.Limits.{past_more, within_if_not_past}
-use Rattle.octseq_uses.proofs.RecordCode.{spelled}
 
 -- ---- the calls below
 
@@ -82,16 +83,10 @@ refused_then limit asks (Err given) passed refusal a b old new e is first =
 -- ---- records
 
 -- why a record or a part was not appended
-not_written : (limit : Option ℕ) (asks : Bool) (e : ComposeError) (octets old new : List ℕ) → new ≡ old → (IsPartShort (Err e) → IsPast limit (length old + length octets))
-    → (IsPartMemory (Err e) → asks ≡ true) → Writes {T = Unit {0}} limit asks (Err (write_error_of e)) octets old new
-not_written limit asks ComposeError.TooLong octets old new same short memory = none_added limit asks WriteError.Malformed octets old new same (λ is. absurd (cc)) (λ is. absurd (cc))
-not_written limit asks ComposeError.Short octets old new same short memory = none_added limit asks WriteError.Short octets old new same (λ _. short tt) (λ is. absurd (cc))
-not_written limit asks ComposeError.Memory octets old new same short memory = none_added limit asks WriteError.Memory octets old new same (λ is. absurd (cc)) (λ _. memory tt)
-
-pub too_long_of : (e : ComposeError) → write_error_of e ≡ WriteError.Malformed → IsPartTooLong (Err e)
-too_long_of ComposeError.TooLong is = tt
-too_long_of ComposeError.Short is = absurd (cc)
-too_long_of ComposeError.Memory is = absurd (cc)
+not_written : (limit : Option ℕ) (asks : Bool) (e : ComposeError) (octets old new : List ℕ) → new ≡ old → (IsShort {T = Unit {0}} compose_error (Err e) → IsPast limit (length old + length octets))
+    → (IsMemory {T = Unit {0}} compose_error (Err e) → asks ≡ true) → Writes {T = Unit {0}} limit asks (Err (write_error_of e)) octets old new
+not_written limit asks e octets old new same short memory =
+    none_added limit asks (write_error_of e) octets old new same (λ told. short (part_short_of e told)) (λ told. memory (part_memory_of e told))
 
 records_next : {W : Type 0} (show : W → ℕ × List ℕ) (items : List W) (default : W) (place : ℕ) → place < length items
     → records_of (map show (take (suc place) items)) ≡ records_of (map show (take place items)) ++ spelled (show (get_or items place default))
@@ -138,7 +133,7 @@ record_written limit asks show items default place next old mid new within step 
 pub record_refused : {W : Type 0} (limit : Option ℕ) (asks : Bool) (result : Result (Unit {0}) WriteError) (passed : WriteError) (refusal : ComposeError) (show : W → ℕ × List ℕ) (items : List W)
     (default : W) (place : ℕ) (old mid new : List ℕ) → place < length items → result ≡ Err passed → passed ≡ write_error_of refusal
     → Writes limit asks (Ok (tt {0})) (records_of (map show (take place items))) old mid → new ≡ mid
-    → (IsPartShort (Err refusal) → IsPast limit (length mid + length (spelled (show (get_or items place default))))) → (IsPartMemory (Err refusal) → asks ≡ true)
+    → (IsShort {T = Unit {0}} compose_error (Err refusal) → IsPast limit (length mid + length (spelled (show (get_or items place default))))) → (IsMemory {T = Unit {0}} compose_error (Err refusal) → asks ≡ true)
     → Writes limit asks result (records_of (map show items)) old new
 record_refused limit asks result passed refusal show items default place old mid new within e is so_far same short memory =
     let one = spelled (show (get_or items place default)) in

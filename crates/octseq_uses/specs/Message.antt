@@ -3,7 +3,7 @@ use Rattle.std.specs.List.{AllByRecursion}
 use Rattle.std.specs.Prelude.{ℕ, ◌<◌, ◌^◌, List, ◌++◌, length}
 use Rattle.octseq.specs.Integer.{octets_be}
 use Rattle.octseq.specs.Part.{part_of}
-use Rattle.octseq_text.specs.Text.{IsWellFormed}
+use Rattle.octseq.specs.Text.{IsWellFormed}
 use Rattle.octseq_uses.specs.Name.{name_of, IsName}
 use Rattle.octseq_uses.specs.Record.{records_of, IsRecord}
 

@@ -1,7 +1,7 @@
 -- What a step of writing does, so that steps compose.
 use Rattle.std.specs.Prelude.{◌≡◌, ℕ, Bool, true, ◌+◌, Option, List, ◌++◌, length, take, Result, Err, OnOk}
-use Rattle.octseq_core.specs.Limit.{IsWithin, IsPast}
-use Rattle.octseq_uses.specs.declared.error.WriteError.{WriteError}
+use Rattle.octseq.specs.declared.error.WriteError.{WriteError}
+use Rattle.octseq.specs.Limit.{IsWithin, IsPast}
 
 -- A call adds the octets at the end of a content, and keeps it within its limit. Where it is refused the content begins as it was; it is
 -- refused as short only where the content would pass its limit, for memory only where the type requests memory.

@@ -1,14 +1,14 @@
 //! A first caller for modules that the others don't show.
 ghost use Rattle.std.specs.Prelude.{◌≡◌, ◌≢◌, ◌≤◌, ◌++◌, ◌↔◌, [], length, take, true, false, IsSome, IfSome, IfOk, OnOk, OnErr};
-ghost use Rattle.octseq_core.specs.Cow.{cow_content, is_borrowed};
-ghost use Rattle.octseq_core.specs.Refusal.{IsShort};
-ghost use Rattle.octseq_text.specs.Fault.{Fault, IsFault};
-ghost use Rattle.octseq_text.specs.Range.{RangeExists, range_of};
-ghost use Rattle.octseq_text.specs.Text.{IsWellFormed};
-ghost use Rattle.octseq_text.specs.declared.octets.Bound.TheVariants.{Included, Excluded};
+ghost use Rattle.std.specs.declared.ops.Bound.TheVariants.{Included, Excluded};
+ghost use Rattle.octseq.specs.Cow.{cow_content, is_borrowed};
+ghost use Rattle.octseq.specs.Fault.{Fault, IsFault};
+ghost use Rattle.octseq.specs.Range.{RangeExists, range_of};
+ghost use Rattle.octseq.specs.Refusal.{IsShort, append_error};
+ghost use Rattle.octseq.specs.Text.{IsWellFormed};
 
 use octseq::builder::{AppendError, AsOctets, OctetsBuilder};
-use octseq::octets::{Bound, range_exists};
+use octseq::octets::range_exists;
 use octseq::utf8::{Turns, first_fault, one_fault};
 use octseq::{Array, CowOctets, Octets};
 use std::alloc::AllocError;
@@ -29,7 +29,7 @@ pub fn kept<const N: usize>(octets: &[u8]) -> Option<Array<N>>
 pub fn extended(octets: &mut CowOctets<'_>, more: &[u8]) -> Result<(), AppendError>
     ensures ok { OnOk result (cow_content octets.new ≡ cow_content octets.old ++ more.now) }
     ensures err { OnErr result (cow_content octets.new ≡ cow_content octets.old) }
-    ensures memory { ¬ IsShort result }
+    ensures memory { ¬ IsShort append_error result }
     ensures borrowed { more.now ≡ [] → is_borrowed octets.new ≡ is_borrowed octets.old }
     ensures owned { OnOk result (more.now ≢ [] → is_borrowed octets.new ≡ false) }
     ensures unchanged { OnErr result (is_borrowed octets.new ≡ is_borrowed octets.old) }
@@ -56,11 +56,10 @@ pub fn field<T: Octets>(
         T.Range.content range ≡ range_of (T.content octets.now) (Included start, Excluded end))) }
     ensures memory { OnErr result (T.Range.asks ≡ true) }
 {
-    let bounds = (Bound::Included(start), Bound::Excluded(end));
-    if !range_exists(octets.as_ref().len(), bounds) {
+    if !range_exists(octets.len(), start..end) {
         return Ok(None);
     }
-    Ok(Some(octets.range(bounds)?))
+    Ok(Some(octets.range(start..end)?))
 }
 
 /// The front of the octets that is a text: all of them, or those before the first fault.

@@ -1,7 +1,7 @@
 //! Words joined in a text.
 ghost use Rattle.std.specs.Prelude.{◌≡◌, ◌≢◌, ◌++◌, true, length, map, [], List, ℕ, IsErr, OnOk, OnErr};
-ghost use Rattle.octseq_core.specs.Limit.{IsPast};
-ghost use Rattle.octseq_core.specs.Refusal.{IsShort, IsMemory};
+ghost use Rattle.octseq.specs.Limit.{IsPast};
+ghost use Rattle.octseq.specs.Refusal.{IsShort, IsMemory, append_error};
 ghost use Rattle.octseq_uses.specs.Joined.{joined};
 
 use octseq::StrBuilder;
@@ -21,11 +21,11 @@ pub fn join<B: OctetsBuilder>(
 ) -> Result<(), AppendError>
     ensures ok { OnOk result (B.content text.new
         ≡ B.content text.old ++ joined separator.now (map (λ word. word.now) words.now)) }
-    ensures short { IsShort result → IsPast B.limit (length (B.content text.old
+    ensures short { IsShort append_error result → IsPast B.limit (length (B.content text.old
         ++ joined separator.now (map (λ word. word.now) words.now))) }
     ensures past { words.now ≢ [] → IsPast B.limit (length (B.content text.old
         ++ joined separator.now (map (λ word. word.now) words.now))) → IsErr result }
-    ensures memory { IsMemory result → B.asks ≡ true }
+    ensures memory { IsMemory append_error result → B.asks ≡ true }
     ensures borrows { B.borrows text.new ≡ B.borrows text.old }
     ensures front { OnErr result ((cut : List ℕ) × (B.content text.new ++ cut
         ≡ B.content text.old ++ joined separator.now (map (λ word. word.now) words.now))) }

@@ -4,8 +4,7 @@ ghost use Rattle.std.specs.Prelude.{◌≡◌, ◌≢◌, ℤ, List, Err, IfOk};
 ghost use Rattle.octseq.specs.Integer.{IsSigned};
 ghost use Rattle.octseq_uses.specs.Levels.{level_of};
 
-use crate::error::ReadError;
-use octseq::{AsOctets, Parser};
+use octseq::{AsOctets, Parser, ReadError};
 use std::alloc::Global;
 
 /// Reads all of the octets as levels, one behind another: each a signed integer of 2 octets, big-endian.

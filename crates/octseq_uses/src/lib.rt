@@ -6,7 +6,6 @@
 #![tactic(auto)]
 
 pub mod capped;
-pub mod error;
 pub mod first;
 pub mod join;
 pub mod levels;

@@ -1,9 +1,9 @@
 //! Lines of octets, read as texts.
 ghost use Rattle.std.specs.Prelude.{◌≡◌, ◌≢◌, ℕ, ◌+◌, ◌<◌, ◌≤◌, ◌↔◌, true, List, ◌∷◌, ◌++◌, length, take, drop, IsErr, IsNone, IfOk, IfSome, IfNone, OnErr};
-ghost use Rattle.octseq_core.specs.Limit.{IsPast};
-ghost use Rattle.octseq_core.specs.Refusal.{IsShort, IsMemory};
-ghost use Rattle.octseq_text.specs.Parts.{Part, Splits, text};
+ghost use Rattle.octseq.specs.Limit.{IsPast};
 ghost use Rattle.octseq.specs.Parser.{sequence, window};
+ghost use Rattle.octseq.specs.Parts.{Part, Splits, text};
+ghost use Rattle.octseq.specs.Refusal.{IsShort, IsMemory, append_error};
 ghost use Rattle.octseq.specs.Window.{left, rest};
 ghost use Rattle.octseq_uses.specs.Line.{IsLine, TakesLine};
 
@@ -47,11 +47,11 @@ fn first_line(octets: &[u8]) -> (&[u8], usize)
 fn lossy<B: EmptyBuilder>(alloc: Global, octets: &[u8]) -> Result<StrBuilder<B>, AppendError>
     ensures text { IfOk result (λ made. (parts : List Part)
         → Splits octets.now parts → B.content made ≡ text parts) }
-    ensures short { IsShort result → (parts : List Part)
+    ensures short { IsShort append_error result → (parts : List Part)
         → Splits octets.now parts → IsPast B.limit (length (text parts)) }
     ensures past { (parts : List Part)
         → Splits octets.now parts → IsPast B.limit (length (text parts)) → IsErr result }
-    ensures memory { IsMemory result → B.asks ≡ true }
+    ensures memory { IsMemory append_error result → B.asks ≡ true }
 {
     str::one_settling();
     let mut pieces = LossyPieces::new(alloc)?;
@@ -75,13 +75,13 @@ pub fn next_line<R: AsOctets, B: EmptyBuilder>(
         × TakesLine (rest (window parser.old)) line (rest (window parser.new))
         × ((parts : List Part) → Splits line parts → B.content made ≡ text parts))) }
     ensures less { IfOk result (λ read. IfSome read (λ made. left (window parser.new) < left (window parser.old))) }
-    ensures short { IsShort result → (line more : List ℕ) (parts : List Part)
+    ensures short { IsShort append_error result → (line more : List ℕ) (parts : List Part)
         → TakesLine (rest (window parser.old)) line more → Splits line parts
         → IsPast B.limit (length (text parts)) }
     ensures past { (line more : List ℕ) (parts : List Part)
         → TakesLine (rest (window parser.old)) line more → Splits line parts
         → IsPast B.limit (length (text parts)) → IsErr result }
-    ensures memory { IsMemory result → B.asks ≡ true }
+    ensures memory { IsMemory append_error result → B.asks ≡ true }
     ensures kept { OnErr result (window parser.new ≡ window parser.old) }
     ensures same { sequence parser.new ≡ sequence parser.old }
 {

@@ -1,8 +1,8 @@
 //! Messages: a header of integers, a name, a text and records.
 ghost use Rattle.std.specs.List.{AllByRecursion};
 ghost use Rattle.std.specs.Prelude.{◌≡◌, ◌≢◌, ℕ, ◌+◌, ◌<◌, ◌++◌, true, List, length, map, take, [], Err, IsErr, IfOk, OnOk, OnErr};
-ghost use Rattle.octseq_core.specs.Limit.{IsPast};
 ghost use Rattle.octseq.specs.Code.{HasFront};
+ghost use Rattle.octseq.specs.Limit.{IsPast};
 ghost use Rattle.octseq.specs.Parser.{window};
 ghost use Rattle.octseq.specs.Part.{part_of};
 ghost use Rattle.octseq.specs.Window.{rest};
@@ -11,13 +11,12 @@ ghost use Rattle.octseq_uses.specs.Record.{IsRecord, records_of};
 ghost use Rattle.octseq_uses.specs.Said.{said_by};
 ghost use Rattle.octseq_uses.specs.Writes.{Writes};
 
-use crate::error::{ReadError, WriteError};
 use crate::name::{append_name, read_name};
 use crate::records::{Record, append_record, take_records};
 use octseq::builder::{OctetsBuilder, Truncate};
 use octseq::compose::{append_part_u16_be, append_u16_be, append_u32_be};
 use octseq::parse::ShortInput;
-use octseq::{AsOctets, Octets, Parser, Str};
+use octseq::{AsOctets, Octets, Parser, ReadError, Str, WriteError};
 use std::alloc::Global;
 
 /// A message whose name, text and values are octets of this type: slices where it is written, ranges of one
@@ -206,7 +205,7 @@ pub fn append_message<B: OctetsBuilder + Truncate, V: AsOctets>(
     ensures memory { result ≡ Err WriteError.Memory → B.asks ≡ true }
     ensures borrows { B.borrows builder.new ≡ B.borrows builder.old }
 {
-    let before = builder.as_ref().len();
+    let before = builder.len();
     let appended = append_all(builder, message);
     if appended.is_err() {
         builder.truncate(before);

@@ -1,16 +1,15 @@
 //! Domain names in wire form.
 ghost use Rattle.std.specs.Prelude.{◌≡◌, ℕ, List, ◌+◌, ◌<◌, ◌++◌, ◌↔◌, true, [], length, map, take, Err, IsTrue, IsErr, IfOk, IfSome, IfNone, OnOk, OnErr};
-ghost use Rattle.octseq_core.specs.Limit.{IsPast};
-ghost use Rattle.octseq.specs.Composer.{IsPartTooLong, IsPartShort, IsPartMemory};
+ghost use Rattle.octseq.specs.Limit.{IsPast};
 ghost use Rattle.octseq.specs.Parser.{sequence, window};
 ghost use Rattle.octseq.specs.Part.{part_of};
+ghost use Rattle.octseq.specs.Refusal.{IsShort, IsMemory, IsTooLong, compose_error};
 ghost use Rattle.octseq.specs.Window.{rest};
 ghost use Rattle.octseq_uses.specs.Name.{IsLabel, name_of, IsName, HasName, HasNameWithin};
 
-use crate::error::{ReadError, WriteError};
 use octseq::builder::{OctetsBuilder, Truncate};
 use octseq::compose::{ComposeError, append_part_u8};
-use octseq::{AsOctets, Octets, Parser};
+use octseq::{AsOctets, Octets, Parser, ReadError, WriteError};
 use std::alloc::Global;
 
 /// How many octets a label may have.
@@ -75,7 +74,7 @@ pub fn read_name<R: Octets + Copy>(
     let mut labels = Vec::new(alloc);
     let mut room = NAME_MOST;
     while let Some(label) = next_label(&mut ahead, room)? {
-        room -= 1 + label.as_ref().len();
+        room -= 1 + label.len();
         if labels.push(label).is_err() {
             return Err(ReadError::Memory);
         }
@@ -90,7 +89,7 @@ fn is_name<L: AsOctets>(labels: &[L]) -> bool
 {
     let mut room = NAME_MOST;
     for label in labels {
-        let len = label.as_ref().len();
+        let len = label.len();
         if len == 0 || len > LABEL_MOST || len + 1 >= room {
             return false;
         }
@@ -111,12 +110,12 @@ fn append_labels<B: OctetsBuilder + Truncate, L: AsOctets>(
     ensures ok { OnOk result (B.content builder.new
         ≡ B.content builder.old ++ name_of (map L.content labels.now)) }
     ensures front { take (length (B.content builder.old)) (B.content builder.new) ≡ B.content builder.old }
-    ensures too_long { IsPartTooLong result → ¬ IsName (map L.content labels.now) }
-    ensures short { IsPartShort result → IsPast B.limit
+    ensures too_long { IsTooLong compose_error result → ¬ IsName (map L.content labels.now) }
+    ensures short { IsShort compose_error result → IsPast B.limit
         (length (B.content builder.old) + length (name_of (map L.content labels.now))) }
     ensures past { IsPast B.limit
         (length (B.content builder.old) + length (name_of (map L.content labels.now))) → IsErr result }
-    ensures memory { IsPartMemory result → B.asks ≡ true }
+    ensures memory { IsMemory compose_error result → B.asks ≡ true }
     ensures borrows { B.borrows builder.new ≡ B.borrows builder.old }
 {
     for label in labels {
@@ -151,7 +150,7 @@ pub fn append_name<B: OctetsBuilder + Truncate, L: AsOctets>(
     if !is_name(labels) {
         return Err(WriteError::Malformed);
     }
-    let before = builder.as_ref().len();
+    let before = builder.len();
     let appended = append_labels(builder, labels);
     if appended.is_err() {
         builder.truncate(before);

@@ -1,15 +1,14 @@
 //! Records: a key and a value each, one behind another.
 ghost use Rattle.std.specs.Prelude.{◌≡◌, ℕ, ◌+◌, ◌<◌, ◌++◌, ◌↔◌, true, length, map, List, Err, IsErr, IfOk, OnOk, OnErr};
-ghost use Rattle.octseq_core.specs.Limit.{IsPast};
-ghost use Rattle.octseq.specs.Composer.{IsPartTooLong, IsPartShort, IsPartMemory};
+ghost use Rattle.octseq.specs.Limit.{IsPast};
 ghost use Rattle.octseq.specs.Parser.{sequence, window};
+ghost use Rattle.octseq.specs.Refusal.{IsShort, IsMemory, IsTooLong, compose_error};
 ghost use Rattle.octseq.specs.Window.{left, rest, at};
 ghost use Rattle.octseq_uses.specs.Record.{record_of, IsRecord, AreRecords, HasRecord};
 
-use crate::error::ReadError;
 use octseq::builder::{OctetsBuilder, Truncate};
 use octseq::compose::{ComposeError, append_part_u8, append_u16_be};
-use octseq::{Octets, Parser};
+use octseq::{Octets, Parser, ReadError};
 use std::alloc::Global;
 
 /// A record, read or to be written.
@@ -35,18 +34,18 @@ pub fn append_record<B: OctetsBuilder + Truncate>(
 ) -> Result<(), ComposeError>
     ensures ok { OnOk result (B.content builder.new ≡ B.content builder.old ++ record_of key value.now) }
     ensures err { OnErr result (B.content builder.new ≡ B.content builder.old) }
-    ensures too_long { IsPartTooLong result ↔ (255 < length value.now) }
-    ensures short { IsPartShort result
+    ensures too_long { IsTooLong compose_error result ↔ (255 < length value.now) }
+    ensures short { IsShort compose_error result
         → IsPast B.limit (length (B.content builder.old) + length (record_of key value.now)) }
     ensures past { IsPast B.limit (length (B.content builder.old) + length (record_of key value.now))
         → IsErr result }
-    ensures memory { IsPartMemory result → B.asks ≡ true }
+    ensures memory { IsMemory compose_error result → B.asks ≡ true }
     ensures borrows { B.borrows builder.new ≡ B.borrows builder.old }
 {
     if value.len() > 255 {
         return Err(ComposeError::TooLong);
     }
-    let before = builder.as_ref().len();
+    let before = builder.len();
     append_u16_be(builder, key)?;
     let appended = append_part_u8(builder, value);
     if appended.is_err() {

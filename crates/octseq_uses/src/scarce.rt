@@ -2,8 +2,9 @@
 ghost use Rattle.std.specs.Prelude.{true, None};
 
 use octseq::builder::{AsOctets, OctetsLimit};
-use octseq::octets::{Bound, Octets};
+use octseq::octets::Octets;
 use std::alloc::AllocError;
+use std::ops::RangeBounds;
 
 /// Three octets, of which each range is refused for memory.
 #[derive(Clone, Copy)]
@@ -34,7 +35,7 @@ impl OctetsLimit for Scarce {
 impl Octets for Scarce {
     type Range = Self;
 
-    fn range(&self, _bounds: (Bound, Bound)) -> Result<Self, AllocError> {
+    fn range<R: RangeBounds<usize>>(&self, _range: R) -> Result<Self, AllocError> {
         Err(AllocError)
     }
 }

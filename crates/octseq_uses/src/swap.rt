@@ -1,7 +1,7 @@
 //! One theorem for every builder: to take another builder changes no clause.
 ghost use Rattle.std.specs.Prelude.{◌≡◌, ◌+◌, ◌++◌, true, length, IsErr, IfOk};
-ghost use Rattle.octseq_core.specs.Limit.{IsPast};
-ghost use Rattle.octseq_core.specs.Refusal.{IsShort, IsMemory};
+ghost use Rattle.octseq.specs.Limit.{IsPast};
+ghost use Rattle.octseq.specs.Refusal.{IsShort, IsMemory, append_error};
 
 use octseq::builder::{AppendError, EmptyBuilder};
 use std::alloc::Global;
@@ -14,9 +14,9 @@ use std::alloc::Global;
 /// where both are so, either of them.
 pub fn paired<B: EmptyBuilder>(alloc: Global, first: &[u8], second: &[u8]) -> Result<B, AppendError>
     ensures ok { IfOk result (λ builder. B.content builder ≡ first.now ++ second.now) }
-    ensures short { IsShort result → IsPast B.limit (length first.now + length second.now) }
+    ensures short { IsShort append_error result → IsPast B.limit (length first.now + length second.now) }
     ensures past { IsPast B.limit (length first.now + length second.now) → IsErr result }
-    ensures memory { IsMemory result → B.asks ≡ true }
+    ensures memory { IsMemory append_error result → B.asks ≡ true }
 {
     let mut builder = B::empty(alloc)?;
     builder.append_slice(first)?;

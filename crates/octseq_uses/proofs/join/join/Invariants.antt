@@ -1,8 +1,8 @@
 -- What was appended is within the limit, and with the words still to come it is the whole. No borrow changes.
 use Rattle.std.proofs.Common.{◌≡◌, ◌++◌, length, map}
-use Rattle.octseq_core.specs.Limit.{IsPast}
-use Rattle.octseq_uses.specs.Joined.{joined}
+use Rattle.octseq.specs.Limit.{IsPast}
 use Rattle.octseq_uses.proofs.Joins.{ToCome}
+use Rattle.octseq_uses.specs.Joined.{joined}
 use Rattle.octseq_uses.proofs.join.join.Given as goal
 
 abbrev pub invariant-loop-word : goal.invariant-loop-word

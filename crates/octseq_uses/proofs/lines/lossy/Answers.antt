@@ -1,7 +1,7 @@
 use Rattle.std.proofs.Common.{[]}
 use Rattle.std.proofs.lemmas.Result.{err_from_is_err_and}
-use Rattle.octseq_uses.proofs.Refusals.{same_short}
-use Rattle.octseq_uses.proofs.LineFronts.{past_front}
+use Rattle.octseq.proofs.Errors.{same_short}
+use Rattle.octseq.proofs.PartLimits.{past_front}
 use Rattle.octseq_uses.proofs.lines.lossy.Goals as goal
 
 pub returns-in_err-feed-clause-short : goal.returns-in_err-feed-clause-short

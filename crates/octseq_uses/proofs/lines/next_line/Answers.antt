@@ -1,12 +1,12 @@
 use Rattle.std.proofs.Common.{◌≡◌, ◌≤◌, drop, arith, ap, ◌∙◌, subst}
 use Rattle.std.proofs.lemmas.Result.{err_from_is_err_and}
-use Rattle.octseq_text.specs.Parts.{Splits}
-use Rattle.octseq.specs.Parser.{window}
-use Rattle.octseq.specs.Window.{left, rest}
-use Rattle.octseq_uses.specs.Line.{TakesLine}
+use Rattle.octseq.proofs.Errors.{same_short}
 use Rattle.octseq.proofs.Windows.{rest_past}
-use Rattle.octseq_uses.proofs.Refusals.{same_short}
+use Rattle.octseq.specs.Parser.{window}
+use Rattle.octseq.specs.Parts.{Splits}
+use Rattle.octseq.specs.Window.{left, rest}
 use Rattle.octseq_uses.proofs.LineFronts.{one_line}
+use Rattle.octseq_uses.specs.Line.{TakesLine}
 use Rattle.octseq_uses.proofs.lines.next_line.Goals as goal
 
 pub returns-in_err-text-clause-short : goal.returns-in_err-text-clause-short

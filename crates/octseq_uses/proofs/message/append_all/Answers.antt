@@ -2,12 +2,12 @@ use Rattle.std.proofs.Common.{◌++◌, map, sym, ap, subst}
 use Rattle.std.proofs.lemmas.Result.{err_from_is_err_and}
 use Rattle.std.specs.List.{AllByRecursion}
 use Rattle.octseq.specs.Part.{part_of}
+use Rattle.octseq_uses.proofs.Writing.{name_then, first_then, refused_then}
 use Rattle.octseq_uses.specs.Message.{header_of}
 use Rattle.octseq_uses.specs.Name.{name_of}
 use Rattle.octseq_uses.specs.Record.{IsRecord, records_of}
 use Rattle.octseq_uses.specs.Said.{said_by}
 use Rattle.octseq_uses.specs.Writes.{Writes}
-use Rattle.octseq_uses.proofs.Writing.{name_then, first_then, refused_then}
 use Rattle.octseq_uses.proofs.message.append_all.Goals as goal
 
 pub returns-in_err-append_text-clause-written : goal.returns-in_err-append_text-clause-written

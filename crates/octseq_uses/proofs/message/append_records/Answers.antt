@@ -1,8 +1,9 @@
 use Rattle.std.proofs.Common.{◌≡◌, ◌+◌, ◌<◌, ◌++◌, length, get_or, sym, ap, ◌∙◌, subst, arith}
 use Rattle.std.proofs.lemmas.Result.{err_from_is_err_and}
-use Rattle.octseq_core.specs.Limit.{IsPast}
+use Rattle.octseq.proofs.Errors.{too_long_of}
+use Rattle.octseq.specs.Limit.{IsPast}
+use Rattle.octseq_uses.proofs.Writing.{record_written, record_refused, each_next, each_at}
 use Rattle.octseq_uses.specs.Record.{record_of, IsRecord}
-use Rattle.octseq_uses.proofs.Writing.{record_written, record_refused, too_long_of, each_next, each_at}
 use Rattle.octseq_uses.proofs.message.append_records.Goals as goal
 
 pub returns-in_err-append_record-clause-written : goal.returns-in_err-append_record-clause-written

@@ -1,11 +1,11 @@
 use Rattle.std.proofs.Common.{◌≡◌, ◌<◌, ◌++◌, ◌∙◌, length, false, true, sym, ap, subst, rules, arith}
 use Rattle.octseq.proofs.Codes.{taken, took, not_taken, part_front, no_part_length, no_part_value, part_code}
+use Rattle.octseq.proofs.Errors.{short_of}
 use Rattle.octseq.specs.Integer.{octets_be}
 use Rattle.octseq.specs.Parser.{window}
 use Rattle.octseq.specs.Part.{part_of}
+use Rattle.octseq.specs.Text.{IsWellFormed}
 use Rattle.octseq.specs.Window.{left, rest}
-use Rattle.octseq_text.specs.Text.{IsWellFormed}
-use Rattle.octseq_uses.proofs.Refusals.{short_of}
 use Rattle.octseq_uses.proofs.message.next_text.Goals as goal
 
 pub returns-in_err-len-clause-malformed : goal.returns-in_err-len-clause-malformed

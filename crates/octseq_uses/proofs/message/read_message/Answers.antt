@@ -1,12 +1,12 @@
 use Rattle.std.proofs.Common.{◌≡◌, ℕ, ◌++◌, ◌∙◌, map, sym, ap}
 use Rattle.std.proofs.lemmas.Result.{err_from_is_err_and}
 use Rattle.octseq.proofs.Codes.{rest_whole}
+use Rattle.octseq.proofs.Errors.{same_refusal}
+use Rattle.octseq.specs.declared.error.ReadError.{ReadError}
 use Rattle.octseq.specs.Parser.{window}
 use Rattle.octseq.specs.Window.{rest}
 use Rattle.octseq_uses.proofs.MessageCode.{no_name, no_text, no_records}
-use Rattle.octseq_uses.proofs.Refusals.{same_refusal}
 use Rattle.octseq_uses.specs.Message.{header_of}
-use Rattle.octseq_uses.specs.declared.error.ReadError.{ReadError}
 use Rattle.octseq_uses.proofs.message.read_message.Goals as goal
 
 pub returns-in_err-name-clause-malformed : goal.returns-in_err-name-clause-malformed

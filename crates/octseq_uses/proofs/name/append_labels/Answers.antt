@@ -1,8 +1,8 @@
 use Rattle.std.proofs.Common.{◌≡◌, ◌+◌, length, get_or, sym, ap, ◌∙◌, subst, arith, Err}
 use Rattle.std.proofs.lemmas.Result.{err_from_is_err_and}
-use Rattle.octseq_core.specs.Limit.{IsPast}
-use Rattle.octseq.specs.Composer.{IsPartShort}
+use Rattle.octseq.specs.Limit.{IsPast}
 use Rattle.octseq.specs.Part.{part_of}
+use Rattle.octseq.specs.Refusal.{IsShort, compose_error}
 use Rattle.octseq_uses.proofs.LabelsToCome.{appended_short, appended_all, root_room, short_is_err}
 use Rattle.octseq_uses.proofs.name.append_labels.Goals as goal
 
@@ -13,7 +13,7 @@ returns-in_err-append_part_u8-clause-short g c = λ short.
     appended_short g.L.AsOctets.content c.args.labels.now c.label-item.result c.loop-label.label-index g.B.AsOctets.limit (g.B.AsOctets.content c.args.builder.now)
     (g.B.AsOctets.content c.loop-label.builder) c.loop-label-test.true
     (subst (λ label. IsPast g.B.AsOctets.limit (length (g.B.AsOctets.content c.loop-label.builder) + length (part_of 1 label))) label
-    (c.append_part_u8.ensures.appended.short.0 (subst IsPartShort (p.1 ∙ ap Err p.2 ∙ sym c.in_err-append_part_u8.was) short)).1)
+    (c.append_part_u8.ensures.appended.short.0 (subst (IsShort compose_error) (p.1 ∙ ap Err p.2 ∙ sym c.in_err-append_part_u8.was) short)).1)
     c.loop-label.invariant.appended
 
 pub returns-clause-short : goal.returns-clause-short

@@ -9,7 +9,7 @@ loop-label-init g c = from_first g.L.AsOctets.content c.args.labels.now
 pub returns-then-len-eq0 : goal.returns-then-len-eq0
 returns-then-len-eq0 g c =
     let default = c.label-item.result in
-    let long = ap length (c.as_ref-len.ensures.value ∙ ap g.L.AsOctets.content c.label-item.is) in (
+    let long = c.len-len.ensures.content ∙ ap (λ label. length (g.L.AsOctets.content label)) c.label-item.is in (
       λ yes. absurd (cc),
       λ name.
           let here = from_here g.L.AsOctets.content c.args.labels.now default c.loop-label.label-index c.loop-label.room c.loop-label-test.true c.loop-label.invariant name in
@@ -23,7 +23,7 @@ returns-then-len-eq0 g c =
 pub loop-label-preserved : goal.loop-label-preserved
 loop-label-preserved g c =
     let default = c.label-item.result in
-    let long = ap length (c.as_ref-len.ensures.value ∙ ap g.L.AsOctets.content c.label-item.is) in
+    let long = c.len-len.ensures.content ∙ ap (λ label. length (g.L.AsOctets.content label)) c.label-item.is in
     from_next g.L.AsOctets.content c.args.labels.now default c.loop-label.label-index (c.loop-label.label-index + 1) c.loop-label.room _ c.loop-label-test.true (omega arith)
     (omega arith, omega arith) (omega arith) (omega arith) c.loop-label.invariant
 

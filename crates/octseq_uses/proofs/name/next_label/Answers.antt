@@ -1,10 +1,10 @@
 use Rattle.std.proofs.Common.{◌<◌, [], ◌∙◌, sym, rules, refl, arith}
 use Rattle.octseq.proofs.Codes.{taken, took, not_taken, part_front, length_rest}
+use Rattle.octseq.proofs.Errors.{short_of}
 use Rattle.octseq.specs.Integer.{octets_be}
 use Rattle.octseq.specs.Parser.{window}
 use Rattle.octseq.specs.Window.{left, rest}
 use Rattle.octseq_uses.proofs.Names.{has_label, no_octet}
-use Rattle.octseq_uses.proofs.Refusals.{short_of}
 use Rattle.octseq_uses.proofs.name.next_label.Goals as goal
 
 pub returns-in_err-parse_u8-clause-malformed : goal.returns-in_err-parse_u8-clause-malformed

@@ -1,10 +1,10 @@
-use Rattle.std.proofs.Common.{◌≡◌, ◌-◌, ◌+◌, [], ◌∷◌, ◌++◌, length, map, ap, ◌∙◌, arith, refl}
+use Rattle.std.proofs.Common.{◌≡◌, ◌-◌, ◌+◌, [], ◌∷◌, ◌++◌, map, ap, ◌∙◌, arith, refl}
 use Rattle.std.proofs.lemmas.List.{map-append}
 use Rattle.std.proofs.lemmas.Result.{err_from_is_err_and}
+use Rattle.octseq.proofs.Errors.{same_refusal}
+use Rattle.octseq.specs.declared.error.ReadError.{ReadError}
 use Rattle.octseq.specs.Parser.{window}
 use Rattle.octseq.specs.Window.{rest}
-use Rattle.octseq_uses.specs.declared.error.ReadError.{ReadError}
-use Rattle.octseq_uses.proofs.Refusals.{same_refusal}
 use Rattle.octseq_uses.proofs.Names.{read_none, read_more, read_name, read_root}
 use Rattle.octseq_uses.proofs.name.read_name.Goals as goal
 
@@ -32,7 +32,7 @@ loop-labels-preserved g c =
           (map content c.loop-labels.labels.items) (map content c.push.new.self.items) c.loop-labels.room _ c.loop-labels.invariant.read
           (rw c.in-Some.is at c.in_ok-label.ensures.label) (rw c.in-Some.is at c.in_ok-label.ensures.room) (rw c.in-Some.is at c.in_ok-label.ensures.taken)
           (ap (map content) pushed ∙ map-append content c.loop-labels.labels.items (c.in-Some.label ∷ []))
-          (ap (λ octets. c.loop-labels.room - (1 + length octets)) c.as_ref.ensures.value);
+          (ap (λ n. c.loop-labels.room - (1 + n)) c.len.ensures.content);
       same = c.next_label.ensures.same ∙ c.loop-labels.invariant.same;
     }
 

@@ -1,10 +1,10 @@
 use Rattle.std.proofs.Common.{◌<◌, ◌∙◌, length, rules, arith}
 use Rattle.octseq.proofs.Codes.{taken, took, not_taken, pair_front, part_front, no_first, no_second, no_integer, no_part_length, no_part_value, integer_code}
+use Rattle.octseq.proofs.Errors.{short_of}
 use Rattle.octseq.specs.Integer.{octets_be}
 use Rattle.octseq.specs.Parser.{window}
 use Rattle.octseq.specs.Part.{part_of}
 use Rattle.octseq.specs.Window.{rest}
-use Rattle.octseq_uses.proofs.Refusals.{short_of}
 use Rattle.octseq_uses.proofs.records.next_record.Goals as goal
 
 pub returns-in_err-key-clause-malformed : goal.returns-in_err-key-clause-malformed

@@ -1,14 +1,14 @@
 use Rattle.std.proofs.Common.{◌≡◌, ℕ, List, [], ◌∷◌, ◌++◌, ◌∙◌, map, ap, arith}
 use Rattle.std.proofs.lemmas.List.{map-append}
 use Rattle.std.proofs.lemmas.Result.{err_from_is_err_and}
+use Rattle.octseq.proofs.Errors.{same_refusal}
 use Rattle.octseq.proofs.Repeats.{read_more, read_all, read_cut}
+use Rattle.octseq.specs.declared.error.ReadError.{ReadError}
 use Rattle.octseq.specs.Parser.{window}
 use Rattle.octseq.specs.Window.{Window, rest, at}
 use Rattle.octseq_uses.proofs.RecordCode.{spelled, record_code, has_octets}
-use Rattle.octseq_uses.proofs.Refusals.{same_refusal}
-use Rattle.octseq_uses.specs.Record.{IsRecord}
-use Rattle.octseq_uses.specs.declared.error.ReadError.{ReadError}
 use Rattle.octseq_uses.specs.declared.records.Record.{Record}
+use Rattle.octseq_uses.specs.Record.{IsRecord}
 use Rattle.octseq_uses.proofs.records.take_records.Goals as goal
 
 -- a window of the same octets and the same end, with nothing left
