@@ -72,7 +72,7 @@ fn arrays_are_slices(rt: HostRuntime) -> Result<(), Fail> {
 
 #[test]
 fn texts_are_strs(rt: HostRuntime) -> Result<(), Fail> {
-    let text = StrBuilder::from_utf8(b"a€b".as_slice()).ok().ok_or("no text")?;
+    let text = StrBuilder::from_utf8("a€b".as_bytes()).ok().ok_or("no text")?;
     assert_true!(&rt, text.starts_with("a€"));
     assert_equal!(&rt, text.find('b'), Some(4));
     let text = Str::from_utf8(b"x, y".as_slice()).ok().ok_or("no text")?;

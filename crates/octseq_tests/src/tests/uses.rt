@@ -2,7 +2,7 @@
 use octseq::builder::{AppendError, AsOctets, EmptyBuilder, ShortBuf};
 use octseq::compose::ComposeError;
 use octseq::{Array, StrBuilder};
-use octseq_uses::error::ReadError;
+use octseq::error::ReadError;
 use octseq_uses::join::join;
 use octseq_uses::records::{append_record, read_records};
 use octseq_uses::swap::paired;

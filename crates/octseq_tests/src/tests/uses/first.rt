@@ -1,6 +1,6 @@
 //! The first callers.
 use octseq::CowOctets;
-use octseq_uses::error::ReadError;
+use octseq::error::ReadError;
 use octseq_uses::first::{extended, field, kept, text_front};
 use octseq_uses::levels::read_levels;
 use std::test::Fail;
