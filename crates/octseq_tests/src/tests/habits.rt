@@ -72,7 +72,9 @@ fn arrays_are_slices(rt: HostRuntime) -> Result<(), Fail> {
 
 #[test]
 fn texts_are_strs(rt: HostRuntime) -> Result<(), Fail> {
-    let text = StrBuilder::from_utf8("a€b".as_bytes()).ok().ok_or("no text")?;
+    let text = StrBuilder::from_utf8("a€b".as_bytes())
+        .ok()
+        .ok_or("no text")?;
     assert_true!(&rt, text.starts_with("a€"));
     assert_equal!(&rt, text.find('b'), Some(4));
     let text = Str::from_utf8(b"x, y".as_slice()).ok().ok_or("no text")?;
@@ -129,7 +131,9 @@ fn values_are_pushed_whole_or_not_at_all(rt: HostRuntime) -> Result<(), Fail> {
     let mut text = StrBuilder::<Array<8>>::new(rt.alloc())?;
     assert_equal!(&rt, text.try_push_display(4321_u16), Ok(()));
     assert_equal!(&rt, text.as_str(), "4321");
-    let fault = StrBuilder::from_utf8(b"\xFF".as_slice()).err().ok_or("a text")?;
+    let fault = StrBuilder::from_utf8(b"\xFF".as_slice())
+        .err()
+        .ok_or("a text")?;
     assert_equal!(&rt, text.try_push_display(fault), Err(DisplayError::Short));
     assert_equal!(&rt, text.as_str(), "4321");
     let shown = text.try_push_display(Unshowable);
@@ -166,9 +170,17 @@ fn errors_are_copied_and_passed_on(rt: HostRuntime) {
     assert_equal!(&rt, (error, error), (error, AppendError::Short(ShortBuf)));
     assert_equal!(&rt, ComposeError::from(error), ComposeError::Short);
     assert_equal!(&rt, WriteError::from(error), WriteError::Short);
-    assert_equal!(&rt, WriteError::from(ComposeError::TooLong), WriteError::Malformed);
+    assert_equal!(
+        &rt,
+        WriteError::from(ComposeError::TooLong),
+        WriteError::Malformed
+    );
     assert_equal!(&rt, ReadError::from(ShortInput), ReadError::Malformed);
-    assert_equal!(&rt, DisplayError::from(AppendError::Memory), DisplayError::Memory);
+    assert_equal!(
+        &rt,
+        DisplayError::from(AppendError::Memory),
+        DisplayError::Memory
+    );
 }
 
 #[test]
@@ -176,8 +188,16 @@ fn integers_of_3_and_6_octets_are_read(rt: HostRuntime) {
     let octets = b"\x12\x34\x56\x78\x9A\xBC".as_slice();
     assert_equal!(&rt, Parser::from_ref(octets).parse_u24_be(), Ok(1_193_046));
     assert_equal!(&rt, Parser::from_ref(octets).parse_u24_le(), Ok(5_649_426));
-    assert_equal!(&rt, Parser::from_ref(octets).parse_u48_be(), Ok(20_015_998_343_868));
-    assert_equal!(&rt, Parser::from_ref(octets).parse_u48_le(), Ok(207_371_629_900_818));
+    assert_equal!(
+        &rt,
+        Parser::from_ref(octets).parse_u48_be(),
+        Ok(20_015_998_343_868)
+    );
+    assert_equal!(
+        &rt,
+        Parser::from_ref(octets).parse_u48_le(),
+        Ok(207_371_629_900_818)
+    );
     let mut short = Parser::from_ref(b"\x12\x34".as_slice());
     assert_equal!(&rt, short.parse_u24_be(), Err(ShortInput));
     assert_equal!(&rt, short.parse_u48_le(), Err(ShortInput));
@@ -194,9 +214,21 @@ fn integers_of_3_and_6_octets_are_appended(rt: HostRuntime) -> Result<(), Fail> 
     let wanted = b"\x12\x34\x56\x56\x34\x12\x12\x34\x56\x78\x9A\xBC\xBC\x9A\x78\x56\x34\x12";
     assert_equal!(&rt, octets.as_slice(), wanted.as_slice());
     assert_equal!(&rt, append_u24_be(&mut octets, 0), Err(ComposeError::Short));
-    assert_equal!(&rt, append_u24_le(&mut octets, 1 << 24), Err(ComposeError::TooLong));
-    assert_equal!(&rt, append_u48_be(&mut octets, 1 << 48), Err(ComposeError::TooLong));
-    assert_equal!(&rt, append_u48_le(&mut octets, (1 << 48) - 1), Err(ComposeError::Short));
+    assert_equal!(
+        &rt,
+        append_u24_le(&mut octets, 1 << 24),
+        Err(ComposeError::TooLong)
+    );
+    assert_equal!(
+        &rt,
+        append_u48_be(&mut octets, 1 << 48),
+        Err(ComposeError::TooLong)
+    );
+    assert_equal!(
+        &rt,
+        append_u48_le(&mut octets, (1 << 48) - 1),
+        Err(ComposeError::Short)
+    );
     assert_equal!(&rt, octets.as_slice(), wanted.as_slice());
     Ok(())
 }

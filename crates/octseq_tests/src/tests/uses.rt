@@ -1,8 +1,8 @@
 //! Each caller, used.
 use octseq::builder::{AppendError, AsOctets, EmptyBuilder, ShortBuf};
 use octseq::compose::ComposeError;
-use octseq::{Array, StrBuilder};
 use octseq::error::ReadError;
+use octseq::{Array, StrBuilder};
 use octseq_uses::join::join;
 use octseq_uses::records::{append_record, read_records};
 use octseq_uses::swap::paired;

@@ -13,6 +13,7 @@ use octseq::str::{Command, LossyPieces, Reply, Str, StrBuilder, run};
 use octseq::utf8::Turns;
 use smallvec::SmallVec;
 use std::alloc::{AllocError, Global};
+use std::fmt::Write;
 use std::process::Abort;
 use std::rc::RcSlice;
 use std::test::Fail;
@@ -46,6 +47,31 @@ fn texts_in_vectors_grow(rt: HostRuntime) -> Result<(), Fail> {
 fn texts_in_other_buffers_grow(rt: HostRuntime) -> Result<(), Fail> {
     grows(&rt, BytesMut::empty(rt.alloc())?)?;
     grows(&rt, SmallVec::<u8, 20>::empty(rt.alloc())?)
+}
+
+/// Shows numbers at the end of a text. It has all digits of each, or none; `write!` doesn't tell which refusal it was.
+fn shows<B: OctetsBuilder + Truncate>(rt: &impl Abort, builder: B) -> Result<(), Fail> {
+    let mut text = StrBuilder::from_utf8(builder).ok().ok_or("no text")?;
+    let pushed = text.try_push_display(12_345_678_u32);
+    let wanted = if pushed.is_ok() { "12345678" } else { "" };
+    assert_equal!(rt, text.as_str(), wanted);
+    pushed?;
+    let pushed = text.try_push_display("abcdefghijklmnopqrstuvwxyzé");
+    let wanted = if pushed.is_ok() { 36 } else { 8 };
+    assert_equal!(rt, text.as_slice().len(), wanted);
+    pushed?;
+    let written = write!(text, "{}", 87_654_321_u32);
+    let wanted = if written.is_ok() { 44 } else { 36 };
+    assert_equal!(rt, text.as_slice().len(), wanted);
+    Ok(written.map_err(|_| AllocError)?)
+}
+
+#[test]
+fn values_are_shown_in_buffers_that_grow(rt: HostRuntime) -> Result<(), Fail> {
+    shows(&rt, Vec::empty(rt.alloc())?)?;
+    shows(&rt, BytesMut::empty(rt.alloc())?)?;
+    shows(&rt, SmallVec::<u8, 12>::empty(rt.alloc())?)?;
+    shows(&rt, CowOctets::borrowed(rt.alloc(), b""))
 }
 
 /// Pushes to an empty text with no limit by the calls that ask for that.

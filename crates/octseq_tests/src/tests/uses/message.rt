@@ -1,7 +1,7 @@
 //! Messages.
 use octseq::builder::{EmptyBuilder, Truncate};
-use octseq::{Array, AsOctets, Str};
 use octseq::error::{ReadError, WriteError};
+use octseq::{Array, AsOctets, Str};
 use octseq_uses::message::{Message, append_message, read_message, written_and_read};
 use octseq_uses::records::Record;
 use std::alloc::Global;

@@ -1,7 +1,7 @@
 //! Names.
 use bytes::{Bytes, BytesMut};
-use octseq::{Array, AsOctets, EmptyBuilder, Octets, OctetsBuilder, Parser, Truncate};
 use octseq::error::{ReadError, WriteError};
+use octseq::{Array, AsOctets, EmptyBuilder, Octets, OctetsBuilder, Parser, Truncate};
 use octseq_uses::name::{append_name, read_name};
 use std::alloc::Global;
 use std::process::Abort;
