@@ -5,7 +5,7 @@ use Rattle.octseq.specs.Integer.{be, le, signed}
 use Rattle.octseq.specs.WindowReply.{WindowReply}
 use Rattle.octseq.specs.Window.{Window, left, rest, next, front, at, past, nested}
 use Rattle.octseq.specs.declared.parse.commands.Kind.{Kind}
-use Rattle.octseq.specs.declared.parse.commands.Kind.TheVariants.{I8, U8, I16Be, I16Le, U16Be, U16Le, I32Be, I32Le, U32Be, U32Le, I64Be, I64Le, U64Be, U64Le, I128Be, I128Le, U128Be, U128Le}
+use Rattle.octseq.specs.declared.parse.commands.Kind.TheVariants.{I8, U8, I16Be, I16Le, U16Be, U16Le, U24Be, U24Le, I32Be, I32Le, U32Be, U32Le, U48Be, U48Le, I64Be, I64Le, U64Be, U64Le, I128Be, I128Le, U128Be, U128Le}
 use Rattle.octseq.specs.declared.parse.commands.ParserCall.{ParserCall}
 use Rattle.octseq.specs.declared.parse.commands.ParserCall.TheVariants.{Pos, Len, IsEmpty, Remaining, AsSlice, PeekAll, AdvanceToEnd, Duplicate, Peek, Seek, Advance, CheckLen, Octets, Buf, Nested, Int}
 use Rattle.octseq.specs.declared.parse.commands.ParserCommand.{ParserCommand}
@@ -30,10 +30,14 @@ reading I16Be = signed_of 2 be
 reading I16Le = signed_of 2 le
 reading U16Be = unsigned_of 2 be
 reading U16Le = unsigned_of 2 le
+reading U24Be = unsigned_of 3 be
+reading U24Le = unsigned_of 3 le
 reading I32Be = signed_of 4 be
 reading I32Le = signed_of 4 le
 reading U32Be = unsigned_of 4 be
 reading U32Le = unsigned_of 4 le
+reading U48Be = unsigned_of 6 be
+reading U48Le = unsigned_of 6 le
 reading I64Be = signed_of 8 be
 reading I64Le = signed_of 8 le
 reading U64Be = unsigned_of 8 be

@@ -20,10 +20,14 @@ pub enum Kind {
     I16Le,
     U16Be,
     U16Le,
+    U24Be,
+    U24Le,
     I32Be,
     I32Le,
     U32Be,
     U32Le,
+    U48Be,
+    U48Le,
     I64Be,
     I64Le,
     U64Be,
@@ -158,10 +162,14 @@ fn integer<R: Octets>(parser: &mut Parser<R>, kind: Kind) -> Result<ParserReply<
         Kind::I16Le => ParserReply::Signed(i128::from(parser.parse_i16_le()?)),
         Kind::U16Be => ParserReply::Unsigned(u128::from(parser.parse_u16_be()?)),
         Kind::U16Le => ParserReply::Unsigned(u128::from(parser.parse_u16_le()?)),
+        Kind::U24Be => ParserReply::Unsigned(u128::from(parser.parse_u24_be()?)),
+        Kind::U24Le => ParserReply::Unsigned(u128::from(parser.parse_u24_le()?)),
         Kind::I32Be => ParserReply::Signed(i128::from(parser.parse_i32_be()?)),
         Kind::I32Le => ParserReply::Signed(i128::from(parser.parse_i32_le()?)),
         Kind::U32Be => ParserReply::Unsigned(u128::from(parser.parse_u32_be()?)),
         Kind::U32Le => ParserReply::Unsigned(u128::from(parser.parse_u32_le()?)),
+        Kind::U48Be => ParserReply::Unsigned(u128::from(parser.parse_u48_be()?)),
+        Kind::U48Le => ParserReply::Unsigned(u128::from(parser.parse_u48_le()?)),
         Kind::I64Be => ParserReply::Signed(i128::from(parser.parse_i64_be()?)),
         Kind::I64Le => ParserReply::Signed(i128::from(parser.parse_i64_le()?)),
         Kind::U64Be => ParserReply::Unsigned(u128::from(parser.parse_u64_be()?)),
@@ -188,7 +196,8 @@ fn carry_out<R: Octets + Copy>(
         }) }
     ensures short { IsShort parse_octets_error result
         → outcome count (window parser.old) call ≡ says WindowReply.short (window parser.old) }
-    ensures memory { IsMemory parse_octets_error result → MayLackMemory R.Range.asks (outcome count (window parser.old) call).reply }
+    ensures memory { IsMemory parse_octets_error result
+        → MayLackMemory R.Range.asks (outcome count (window parser.old) call).reply }
     ensures err { OnErr result (window parser.new ≡ window parser.old) }
 {
     let reply = match call {

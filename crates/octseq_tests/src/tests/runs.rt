@@ -176,17 +176,21 @@ fn a_run_copies_what_it_is_asked(rt: HostRuntime) -> Result<(), Fail> {
 }
 
 /// Each integer at the front of FD 78 A8 4E CE 7A BA 26 DD 0F 29 99 F8 C6 0E 5D.
-const INTEGERS: [(Kind, &str); 18] = [
+const INTEGERS: [(Kind, &str); 22] = [
     (Kind::I8, "Signed(-3)"),
     (Kind::U8, "Unsigned(253)"),
     (Kind::I16Be, "Signed(-648)"),
     (Kind::I16Le, "Signed(30973)"),
     (Kind::U16Be, "Unsigned(64888)"),
     (Kind::U16Le, "Unsigned(30973)"),
+    (Kind::U24Be, "Unsigned(16611496)"),
+    (Kind::U24Le, "Unsigned(11041021)"),
     (Kind::I32Be, "Signed(-42424242)"),
     (Kind::I32Le, "Signed(1319663869)"),
     (Kind::U32Be, "Unsigned(4252543054)"),
     (Kind::U32Le, "Unsigned(1319663869)"),
+    (Kind::U48Be, "Unsigned(278694661639802)"),
+    (Kind::U48Le, "Unsigned(135026501515517)"),
     (Kind::I64Be, "Signed(-182210728483440090)"),
     (Kind::I64Le, "Signed(2790677945610959101)"),
     (Kind::U64Be, "Unsigned(18264533345226111526)"),
