@@ -1,0 +1,81 @@
+//! Frames: octets behind their length, which is known when all of them stand there.
+ghost use Rattle.std.specs.Prelude.{◌≡◌, ◌+◌, ◌<◌, ◌≤◌, ◌++◌, true, length, take, drop, IsErr, OnOk, OnErr};
+ghost use Rattle.octseq.specs.Integer.{octets_be};
+ghost use Rattle.octseq.specs.Limit.{IsPast};
+ghost use Rattle.octseq.specs.Part.{part_of};
+ghost use Rattle.octseq.specs.Refusal.{IsShort, IsMemory, IsMalformed, write_error};
+
+use octseq::builder::AsOctetsMut;
+use octseq::compose::append_u16_be;
+use octseq::{OctetsBuilder, Truncate, WriteError};
+
+/// Writes an integer over the two octets at a place, big-endian.
+pub fn put_u16_be<B: AsOctetsMut>(octets: &mut B, at: usize, value: u16)
+    requires { at + 2 ≤ length (B.content octets.old) }
+    ensures content { B.content octets.new
+        ≡ take at (B.content octets.old) ++ (octets_be 2 value ++ drop (at + 2) (B.content octets.old)) }
+    ensures borrows { B.borrows octets.new ≡ B.borrows octets.old }
+{
+    octets.as_mut()[at..at + 2].copy_from_slice(&value.to_be_bytes());
+}
+
+/// Appends a frame piece by piece. Where it is refused the content ends with a front of it.
+fn append_pieces<B: OctetsBuilder + AsOctetsMut>(
+    builder: &mut B,
+    name: &[u8],
+    value: &[u8],
+) -> Result<(), WriteError>
+    ensures ok { OnOk result (B.content builder.new
+        ≡ B.content builder.old ++ part_of 2 (name.now ++ value.now)) }
+    ensures front { take (length (B.content builder.old)) (B.content builder.new) ≡ B.content builder.old }
+    ensures malformed { IsMalformed write_error result → 65535 < length name.now + length value.now }
+    ensures long { 65535 < length name.now + length value.now → IsErr result }
+    ensures short { IsShort write_error result
+        → IsPast B.limit (length (B.content builder.old) + length (part_of 2 (name.now ++ value.now))) }
+    ensures past { IsPast B.limit (length (B.content builder.old) + length (part_of 2 (name.now ++ value.now)))
+        → IsErr result }
+    ensures memory { IsMemory write_error result → B.asks ≡ true }
+    ensures borrows { B.borrows builder.new ≡ B.borrows builder.old }
+{
+    let at = builder.len();
+    append_u16_be(builder, 0)?;
+    builder.append_slice(name)?;
+    builder.append_slice(value)?;
+    let Ok(len) = u16::try_from(builder.len() - at - 2) else {
+        return Err(WriteError::Malformed);
+    };
+    put_u16_be(builder, at, len);
+    Ok(())
+}
+
+/// Appends a frame: a name and a value behind the length of both, in 2 octets, big-endian.
+///
+/// # Errors
+///
+/// `Malformed` only where both have more than 65,535 octets. `Short` only where the content, with the whole frame
+/// behind it, would pass the limit of its type, and `Memory` only where a request for memory was refused. The
+/// content is then as it was.
+pub fn append_frame<B: OctetsBuilder + AsOctetsMut + Truncate>(
+    builder: &mut B,
+    name: &[u8],
+    value: &[u8],
+) -> Result<(), WriteError>
+    ensures ok { OnOk result (B.content builder.new
+        ≡ B.content builder.old ++ part_of 2 (name.now ++ value.now)) }
+    ensures err { OnErr result (B.content builder.new ≡ B.content builder.old) }
+    ensures malformed { IsMalformed write_error result → 65535 < length name.now + length value.now }
+    ensures long { 65535 < length name.now + length value.now → IsErr result }
+    ensures short { IsShort write_error result
+        → IsPast B.limit (length (B.content builder.old) + length (part_of 2 (name.now ++ value.now))) }
+    ensures past { IsPast B.limit (length (B.content builder.old) + length (part_of 2 (name.now ++ value.now)))
+        → IsErr result }
+    ensures memory { IsMemory write_error result → B.asks ≡ true }
+    ensures borrows { B.borrows builder.new ≡ B.borrows builder.old }
+{
+    let before = builder.len();
+    let appended = append_pieces(builder, name, value);
+    if appended.is_err() {
+        builder.truncate(before);
+    }
+    appended
+}

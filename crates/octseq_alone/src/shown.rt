@@ -1,0 +1,37 @@
+//! Values that are shown at the end of a text.
+ghost use Rattle.std.specs.Prelude.{◌≡◌, ◌≢◌, ◌++◌, None, Err, true, decimal, codes, OnOk, OnErr};
+
+use octseq::str::DisplayError;
+use octseq::{OctetsBuilder, StrBuilder, Truncate};
+use std::fmt::{self, Write};
+
+/// Appends a number in decimal, by a macro. A text of any builder takes it.
+///
+/// # Errors
+///
+/// `fmt::Error` where the text has no room for all of it, or memory was refused. The text may then end with a front
+/// of it.
+pub fn write_number<B: OctetsBuilder>(text: &mut StrBuilder<B>, n: u32) -> fmt::Result
+    ensures { OnOk result (B.content text.new ≡ B.content text.old ++ decimal n) }
+{
+    write!(text, "{n}")
+}
+
+/// Appends a number in decimal whole, or nothing.
+///
+/// # Errors
+///
+/// `Short` where the text would pass the limit of its type, and `Memory` where a request for memory was refused.
+/// The text is then as it was.
+pub fn push_number<B: OctetsBuilder + Truncate>(
+    text: &mut StrBuilder<B>,
+    n: u32,
+) -> Result<(), DisplayError>
+    ensures ok { OnOk result (B.content text.new ≡ B.content text.old ++ decimal n) }
+    ensures err { OnErr result (B.content text.new ≡ B.content text.old) }
+    ensures short { result ≡ Err DisplayError.Short → B.limit ≢ None }
+    ensures memory { result ≡ Err DisplayError.Memory → B.asks ≡ true }
+    ensures borrows { B.borrows text.new ≡ B.borrows text.old }
+{
+    text.try_push_display(n)
+}
