@@ -1,5 +1,6 @@
 //! Values that are shown at the end of a text.
-ghost use Rattle.std.specs.Prelude.{◌≡◌, ◌≢◌, ◌++◌, None, Err, true, decimal, codes, OnOk, OnErr};
+ghost use Rattle.std.specs.Prelude.{◌≡◌, ◌≢◌, ◌++◌, None, true, decimal, codes, OnOk, OnErr};
+ghost use Rattle.octseq.specs.Refusal.{IsShort, IsMemory, display_error};
 
 use octseq::str::DisplayError;
 use octseq::{OctetsBuilder, StrBuilder, Truncate};
@@ -29,8 +30,8 @@ pub fn push_number<B: OctetsBuilder + Truncate>(
 ) -> Result<(), DisplayError>
     ensures ok { OnOk result (B.content text.new ≡ B.content text.old ++ decimal n) }
     ensures err { OnErr result (B.content text.new ≡ B.content text.old) }
-    ensures short { result ≡ Err DisplayError.Short → B.limit ≢ None }
-    ensures memory { result ≡ Err DisplayError.Memory → B.asks ≡ true }
+    ensures short { IsShort display_error result → B.limit ≢ None }
+    ensures memory { IsMemory display_error result → B.asks ≡ true }
     ensures borrows { B.borrows text.new ≡ B.borrows text.old }
 {
     text.try_push_display(n)

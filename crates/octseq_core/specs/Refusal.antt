@@ -3,12 +3,12 @@ use Rattle.std.specs.Prelude.{Result, Ok, Err}
 use Rattle.octseq_core.specs.declared.builder.AppendError.{AppendError}
 
 -- A content would have passed its type's limit, or fewer octets were left than were asked for; a request for memory was refused; a number
--- doesn't fit its octets; octets don't have their form.
+-- doesn't fit its octets; octets don't have their form, or a value has none that can be shown.
 pub data Refusal : Type 0 where
   short memory too_long malformed : Refusal
 
 -- it is this refusal
-abbrev Is : Refusal → Refusal → Type 0
+abbrev pub Is : Refusal → Refusal → Type 0
 Is Refusal.short Refusal.short = Unit {0}
 Is Refusal.memory Refusal.memory = Unit {0}
 Is Refusal.too_long Refusal.too_long = Unit {0}

@@ -1,7 +1,8 @@
 //! Values that are shown at the end of a text.
-ghost use Rattle.std.specs.Prelude.{◌≡◌, ◌≢◌, ◌++◌, ℕ, List, [], Some, None, Err, true, false, take, drop, length, IfSome, OnOk, OnErr};
+ghost use Rattle.std.specs.Prelude.{◌≡◌, ◌≢◌, ◌++◌, ℕ, List, [], Some, None, true, false, take, drop, length, IfSome, OnOk, OnErr};
 ghost use Rattle.std.specs.Borrow.{GName};
-ghost use Rattle.octseq_text.specs.declared.str.display.DisplayError.TheVariants.{Short, Memory, Display};
+ghost use Rattle.octseq_core.specs.Refusal.{Refusal, Is, IsShort, IsMemory};
+ghost use Rattle.octseq_text.specs.Display.{display_error};
 ghost use Rattle.octseq_utf8.specs.Text.{begins_within};
 
 use super::builder::StrBuilder;
@@ -76,8 +77,8 @@ impl<Octets: OctetsBuilder + Truncate> StrBuilder<Octets> {
             (λ octets. Octets.content self.new ≡ Octets.content self.old ++ octets)) }
         ensures err { OnErr result (Octets.content self.new ≡ Octets.content self.old) }
         ensures front { take (length (Octets.content self.old)) (Octets.content self.new) ≡ Octets.content self.old }
-        ensures short { result ≡ Err DisplayError.Short → Octets.limit ≢ None }
-        ensures memory { result ≡ Err DisplayError.Memory → Octets.asks ≡ true }
+        ensures short { IsShort display_error result → Octets.limit ≢ None }
+        ensures memory { IsMemory display_error result → Octets.asks ≡ true }
         ensures borrows { Octets.borrows self.new ≡ Octets.borrows self.old }
     {
         append_from::<Brand, Octets, D>(self, value).answer
@@ -111,8 +112,8 @@ struct Appending<'a, K: Begun, B: AsOctets> {
     ghost edge: { begins_within (drop (length K.before) (B.content text.now)) ≡ false },
     ghost same: { text.ghost_name ≡ K.lender },
     ghost borrows: { B.borrows text.now ≡ K.borrows },
-    ghost short: { refusal ≡ Short → B.limit ≢ None },
-    ghost memory: { refusal ≡ Memory → B.asks ≡ true },
+    ghost short: { Is Refusal.short (display_error refusal) → B.limit ≢ None },
+    ghost memory: { Is Refusal.memory (display_error refusal) → B.asks ≡ true },
 }
 
 impl<'a, K: Begun, B: OctetsBuilder> fmt::Write for Appending<'a, K, B> {
@@ -150,8 +151,8 @@ fn append_from<'a, K: Begun, B: OctetsBuilder + Truncate, D: Display + Drop>(
         (λ octets. B.content result.text.now ≡ B.content text.old ++ octets)) }
     ensures err { OnErr result.answer (B.content result.text.now ≡ B.content text.old) }
     ensures front { take (length (B.content text.old)) (B.content result.text.now) ≡ B.content text.old }
-    ensures short { result.answer ≡ Err Short → B.limit ≢ None }
-    ensures memory { result.answer ≡ Err Memory → B.asks ≡ true }
+    ensures short { IsShort display_error result.answer → B.limit ≢ None }
+    ensures memory { IsMemory display_error result.answer → B.asks ≡ true }
     ensures borrows { B.borrows result.text.now ≡ B.borrows text.old }
 {
     let len = text.len();
