@@ -3,7 +3,7 @@ use Rattle.std.proofs.Common.{◌≡◌, ℕ, List, [], ◌++◌, Option, Some, 
 use Rattle.std.proofs.lemmas.List.{append-nil}
 use Rattle.std.specs.Io.KnownBytes.{Consumes, Keeps, IsAtEnd}
 use Rattle.std.specs.Prelude.{IfSome}
-use Rattle.octseq_text.specs.Pieces.{Held, StandsFor}
+use Rattle.octseq.specs.Pieces.{Held, StandsFor}
 use Rattle.octseq_tool.specs.Out.{Out, Answers}
 use Rattle.octseq_tool.specs.declared.engine.Command.{Command}
 use Rattle.octseq_tool.specs.declared.engine.Status.{Status}

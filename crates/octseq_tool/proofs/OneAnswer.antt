@@ -2,9 +2,9 @@
 use Rattle.std.proofs.Common.{◌≡◌, ◌≢◌, inl, inr, get_or, refl, sym, ◌∙◌, ap, subst, arith, List, [], ◌∷◌, ◌++◌, length, codes, ℕ, Option, Some, None}
 use Rattle.std.proofs.lemmas.List.{append-nil}
 use Rattle.octseq_tool.proofs.Records.{IsRest, one_reading}
-use Rattle.octseq_text.specs.Fault.{Fault, IsFault, fault_text}
-use Rattle.octseq_text.specs.Parts.{Part, Splits, text}
-use Rattle.octseq_text.specs.Text.{IsWellFormed}
+use Rattle.octseq.specs.Fault.{Fault, IsFault, fault_text}
+use Rattle.octseq.specs.Parts.{Part, Splits, text}
+use Rattle.octseq.specs.Text.{IsWellFormed}
 use Rattle.octseq_tool.specs.Out.{name_of, IsNamed, HasText, records_of, IsCut, HasLines, Out}
 use Rattle.octseq_tool.specs.declared.engine.Command.{Command}
 use Rattle.octseq_tool.specs.declared.engine.Command.TheVariants.{Check, Lossy, Lossy64, Records}

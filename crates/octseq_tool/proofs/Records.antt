@@ -7,18 +7,12 @@ use Rattle.std.specs.Prelude.{◌↔◌, Result, Ok, Err, IsOk, IfOk, OnOk, OnEr
 use Rattle.octseq.specs.Integer.{be}
 use Rattle.octseq.specs.Part.{part_length, HasPart, part, past_part}
 use Rattle.octseq.specs.Window.{Window, left, rest, next, past, nested}
+use Rattle.octseq.proofs.Codes.{halves}
 use Rattle.octseq_tool.specs.Out.{HasText, records_of, IsCut, HasLines}
 
 -- no whole record stands at the front
 abbrev pub IsRest : List ℕ → Type 0
 IsRest rest = (rest ≡ []) ⊎ IsCut rest
-
--- lists with fronts of one length
-same_halves : (a b x y : List ℕ) → length a ≡ length b → a ++ x ≡ b ++ y → (a ≡ b) × (x ≡ y)
-same_halves a b x y long e = (
-  sym (take-append_seam a x) ∙ ap (λ n. take n (a ++ x)) long ∙ ap (take (length b)) e ∙ take-append_seam b y,
-  sym (drop-append_seam a x) ∙ ap (λ n. drop n (a ++ x)) long ∙ ap (drop (length b)) e ∙ drop-append_seam b y,
-)
 
 no_record : {P : Type 0} (rest part more : List ℕ) → IsRest rest → rest ≡ length part ∷ (part ++ more) → P
 no_record [] part more h e = absurd (cc)
@@ -36,10 +30,10 @@ one_reading (a ∷ parts) [] x y h k e = no_record y a (records_of parts ++ x) k
 one_reading (a ∷ parts) (b ∷ others) x y h k e =
     let long : length a ≡ length b = cc in
     let behind : (a ++ records_of parts) ++ x ≡ (b ++ records_of others) ++ y = cc in
-    let halves = same_halves a b (records_of parts ++ x) (records_of others ++ y) long
+    let both = halves a b (records_of parts ++ x) (records_of others ++ y) long
     (sym (append_assoc a (records_of parts) x) ∙ behind ∙ append_assoc b (records_of others) y) in
-    let rest = one_reading parts others x y h k halves.1 in
-    (ap (λ p. p ∷ parts) halves.0 ∙ ap (λ ps. b ∷ ps) rest.0, rest.1)
+    let rest = one_reading parts others x y h k both.1 in
+    (ap (λ p. p ∷ parts) both.0 ∙ ap (λ ps. b ∷ ps) rest.0, rest.1)
 
 -- the value of one octet
 one_octet : (b : ℕ) → be (b ∷ []) ≡ b

@@ -3,9 +3,9 @@ use Rattle.std.specs.Prelude.{◌≡◌, ℕ, ◌<◌, ◌≤◌, List, [], ◌�
 use Rattle.std.specs.Fmt.{decimal}
 use Rattle.std.specs.Io.KnownBytes.{Appends}
 use Rattle.std.specs.List.{flat_map}
-use Rattle.octseq_text.specs.Fault.{Fault, IsFault, fault_text}
-use Rattle.octseq_text.specs.Parts.{Part, Splits, IsFront, text}
-use Rattle.octseq_text.specs.Text.{IsWellFormed}
+use Rattle.octseq.specs.Fault.{Fault, IsFault, fault_text}
+use Rattle.octseq.specs.Parts.{Part, Splits, IsFront, text}
+use Rattle.octseq.specs.Text.{IsWellFormed}
 use Rattle.octseq_tool.specs.declared.engine.Command.{Command}
 use Rattle.octseq_tool.specs.declared.engine.Command.TheVariants.{Check, Lossy, Lossy64, Records}
 use Rattle.octseq_tool.specs.declared.engine.Status.{Status}

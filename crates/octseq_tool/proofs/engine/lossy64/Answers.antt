@@ -1,6 +1,6 @@
 use Rattle.std.proofs.Common.{◌≡◌, ℕ, ◌<◌, List, length, codes, Some, Result, Ok, Err, refl, arith, ap, sym, subst}
 use Rattle.std.specs.Prelude.{IfOk}
-use Rattle.octseq_text.specs.Parts.{Part, Splits, text}
+use Rattle.octseq.specs.Parts.{Part, Splits, text}
 use Rattle.octseq_tool.specs.Out.{Out}
 use Rattle.octseq_tool.specs.declared.engine.Answer.{Answer}
 use Rattle.octseq_tool.specs.declared.engine.Command.TheVariants.{Lossy64}
