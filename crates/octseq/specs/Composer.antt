@@ -1,12 +1,12 @@
 -- What a composer's call adds to a content, and when it is refused.
 use Rattle.std.specs.List.{AllByRecursion}
-use Rattle.std.specs.Prelude.{◌≡◌, ℕ, Bool, true, ◌+◌, ◌<◌, ◌≤◌, ◌^◌, ◌↔◌, Option, List, ◌++◌, length, Result, Ok, Err, OnOk, OnErr}
+use Rattle.std.specs.Prelude.{◌≡◌, ℕ, Bool, true, ◌+◌, ◌<◌, ◌≤◌, ◌^◌, ◌↔◌, Option, List, ◌++◌, length, Result, OnOk, OnErr}
 use Rattle.octseq_core.specs.Limit.{IsPast}
 use Rattle.octseq_core.specs.declared.builder.AppendError.{AppendError}
 use Rattle.octseq.specs.Part.{part_of}
 use Rattle.octseq.specs.Refusal.{IsShort, IsMemory, IsTooLong, compose_error}
 use Rattle.octseq.specs.declared.compose.ComposeError.{ComposeError}
-use Rattle.octseq.specs.declared.compose.ComposeError.TheVariants.{TooLong, Short, Memory}
+use Rattle.octseq.specs.declared.compose.ComposeError.TheVariants.{Short, Memory}
 
 -- Octets of an integer: k of them, each from 0 to 255, which are read as that integer.
 pub record AreOctetsOf {A : Type 0} (reading : List ℕ → A) (k : ℕ) (integer : A) (octets : List ℕ) : Type 0 where

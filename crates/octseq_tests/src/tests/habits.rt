@@ -10,6 +10,7 @@ use octseq::str::{DisplayError, Str, StrBuilder};
 use octseq::{ReadError, WriteError};
 use smallvec::SmallVec;
 use std::alloc::Global;
+use std::convert::{AsSlice, AsStr};
 use std::error::Error;
 use std::fmt::{self, Display, Write};
 use std::ops::RangeBounds;
@@ -67,6 +68,31 @@ fn arrays_are_slices(rt: HostRuntime) -> Result<(), Fail> {
     assert_true!(&rt, array.ends_with(b"bc"));
     array.reverse();
     assert_equal!(&rt, array.as_slice(), b"cba".as_slice());
+    Ok(())
+}
+
+/// A call that takes any text.
+fn len_of<S: AsStr>(text: &S) -> usize {
+    text.as_str().len()
+}
+
+/// A call that takes any octets.
+fn first_of<S: AsSlice<u8>>(octets: &S) -> Option<u8> {
+    octets.as_slice().first().copied()
+}
+
+#[test]
+fn calls_take_texts_and_arrays(rt: HostRuntime) -> Result<(), Fail> {
+    let text = StrBuilder::from_utf8("a€b".as_bytes())
+        .ok()
+        .ok_or("no text")?;
+    assert_equal!(&rt, (len_of(&text), first_of(&text)), (5, Some(b'a')));
+    assert_equal!(&rt, Some(text).as_deref(), Some("a€b"));
+    let text = Str::from_utf8("é".as_bytes()).ok().ok_or("no text")?;
+    assert_equal!(&rt, (len_of(&text), first_of(&text)), (2, Some(0xC3)));
+    assert_equal!(&rt, Some(text).as_deref(), Some("é"));
+    let array = Array::<4>::try_from(b"xy".as_slice())?;
+    assert_equal!(&rt, first_of(&array), Some(b'x'));
     Ok(())
 }
 

@@ -12,9 +12,7 @@ ghost use Rattle.octseq_utf8.specs.Text.{IsWellFormed};
 use super::builder::StrBuilder;
 use crate::utf8::{Turns, first_fault};
 use octseq_core::array::Array;
-use octseq_core::builder::{
-    AppendError, AsOctets, EmptyBuilder, OctetsBuilder, ShortBuf, infallible,
-};
+use octseq_core::builder::{AppendError, AsOctets, EmptyBuilder, OctetsBuilder, infallible};
 use octseq_utf8::{before, behind, onward};
 use std::alloc::{AllocError, Global};
 use std::marker::Model;
@@ -143,8 +141,8 @@ impl<B: EmptyBuilder> LossyPieces<B> {
         ensures nothing { (refusal : AppendError)
             → self.old.refusal ≡ Some refusal → turns.new ≡ turns.old }
     {
-        if let Some(refusal) = &self.refusal {
-            return Err(same(refusal));
+        if let Some(refusal) = self.refusal {
+            return Err(refusal);
         }
         let end = replace(&mut self.end, Array::new());
         match read(&mut self.text, end, piece, turns) {
@@ -153,7 +151,7 @@ impl<B: EmptyBuilder> LossyPieces<B> {
                 Ok(())
             }
             Err(refusal) => {
-                self.refusal = Some(same(&refusal));
+                self.refusal = Some(refusal);
                 Err(refusal)
             }
         }
@@ -232,16 +230,6 @@ impl<B: EmptyBuilder> LossyPieces<B> {
         }
         append_end(&mut text, &end)?;
         Ok(StrBuilder::from_utf8_unchecked(text))
-    }
-}
-
-/// The same refusal.
-fn same(refusal: &AppendError) -> AppendError
-    ensures { result ≡ refusal.now }
-{
-    match refusal {
-        AppendError::Short(_) => AppendError::Short(ShortBuf),
-        AppendError::Memory => AppendError::Memory,
     }
 }
 

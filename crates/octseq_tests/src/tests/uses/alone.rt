@@ -1,0 +1,66 @@
+//! The caller that lists `octseq` alone.
+use octseq::builder::OctetsBuilder;
+use octseq::str::{DisplayError, Str, StrBuilder};
+use octseq::{Array, Parser, WriteError};
+use octseq_alone::frame::append_frame;
+use octseq_alone::note::{append_note, kept, read_note};
+use octseq_alone::ranges::{behind_two, key, onward};
+use octseq_alone::shown::{push_number, write_number};
+use octseq_alone::views::{fourth, is_comment};
+use std::test::Fail;
+
+#[test]
+fn a_frame_has_its_length_in_front(rt: HostRuntime) {
+    let mut octets = Array::<9>::new();
+    assert_equal!(&rt, append_frame(&mut octets, b"ab", b"c"), Ok(()));
+    let full = append_frame(&mut octets, b"abc", b"");
+    assert_equal!(&rt, full, Err(WriteError::Short));
+    assert_equal!(&rt, octets.as_slice(), b"\x00\x03abc".as_slice());
+}
+
+#[test]
+fn a_note_is_written_and_read(rt: HostRuntime) -> Result<(), Fail> {
+    let mut octets = Array::<8>::new();
+    assert_true!(&rt, append_note(&mut octets, 258, "hé").is_ok());
+    assert_true!(&rt, append_note(&mut octets, 1, "h").is_err());
+    let wanted = b"N\x01\x02\x03h\xC3\xA9";
+    assert_equal!(&rt, octets.as_slice(), wanted.as_slice());
+    let mut parser = Parser::from_ref(wanted.as_slice());
+    let note = read_note(&mut parser).ok().ok_or("no note")?;
+    assert_equal!(&rt, (note.number, note.words.as_str()), (258, "hé"));
+    assert_equal!(&rt, parser.remaining(), 0);
+    let cut = read_note(&mut Parser::from_ref(b"N\x01".as_slice()));
+    assert_true!(&rt, cut.is_err());
+    let other = read_note(&mut Parser::from_ref(b"n\x01\x02\x00".as_slice()));
+    assert_true!(&rt, other.is_err());
+    assert_true!(&rt, kept(&[0; 64]).is_ok());
+    assert_true!(&rt, kept(&[0; 65]).is_err());
+    Ok(())
+}
+
+#[test]
+fn ranges_of_any_octets_are_cut(rt: HostRuntime) -> Result<(), Fail> {
+    let octets = b"abcd".as_slice();
+    assert_equal!(&rt, key(&octets)?, Some(b"bc".as_slice()));
+    assert_equal!(&rt, key(&b"ab".as_slice())?, None);
+    assert_equal!(&rt, onward(&octets, 4)?, Some(b"".as_slice()));
+    assert_equal!(&rt, onward(&octets, 5)?, None);
+    if octets.len() >= 2 {
+        assert_equal!(&rt, behind_two(octets).peek_all(), b"cd".as_slice());
+    }
+    Ok(())
+}
+
+#[test]
+fn numbers_are_shown_and_views_are_asked(rt: HostRuntime) -> Result<(), Fail> {
+    let mut text = StrBuilder::<Array<4>>::new(rt.alloc())?;
+    assert_true!(&rt, write_number(&mut text, 123).is_ok());
+    assert_equal!(&rt, push_number(&mut text, 45), Err(DisplayError::Short));
+    assert_equal!(&rt, text.as_str(), "123");
+    let line = Str::from_utf8(b"# x".as_slice()).ok().ok_or("no text")?;
+    assert_true!(&rt, is_comment(&line));
+    let mut array = Array::<8>::new();
+    array.append_slice(b"abcd")?;
+    assert_equal!(&rt, fourth(&array), Some(b'd'));
+    Ok(())
+}
