@@ -1,5 +1,5 @@
 //! Values that are shown at the end of a text.
-ghost use Rattle.std.specs.Prelude.{◌≡◌, ◌≢◌, ◌++◌, None, Err, true, decimal, codes, OnOk, OnErr};
+ghost use Rattle.std.specs.Prelude.{◌≡◌, ◌≢◌, ◌++◌, None, Err, true, decimal, OnOk, OnErr};
 
 use octseq::str::DisplayError;
 use octseq::{OctetsBuilder, StrBuilder, Truncate};

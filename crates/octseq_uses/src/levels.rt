@@ -1,6 +1,6 @@
 //! Levels: signed integers, one behind another.
 ghost use Rattle.std.specs.List.{AllByRecursion, flat_map};
-ghost use Rattle.std.specs.Prelude.{◌≡◌, ◌≢◌, ℤ, List, Err, IfOk};
+ghost use Rattle.std.specs.Prelude.{◌≡◌, ◌≢◌, ℤ, List, IfOk};
 ghost use Rattle.octseq.specs.Integer.{IsSigned};
 ghost use Rattle.octseq.specs.Refusal.{IsMalformed, read_error};
 ghost use Rattle.octseq_uses.specs.Levels.{level_of};

@@ -1,6 +1,6 @@
 //! Messages: a header of integers, a name, a text and records.
 ghost use Rattle.std.specs.List.{AllByRecursion};
-ghost use Rattle.std.specs.Prelude.{◌≡◌, ◌≢◌, ℕ, ◌+◌, ◌<◌, ◌++◌, true, List, length, map, take, [], Err, IsErr, IfOk, OnOk, OnErr};
+ghost use Rattle.std.specs.Prelude.{◌≡◌, ◌≢◌, ◌+◌, ◌++◌, true, length, map, [], IsErr, IfOk, OnOk, OnErr};
 ghost use Rattle.octseq.specs.Code.{HasFront};
 ghost use Rattle.octseq.specs.Limit.{IsPast};
 ghost use Rattle.octseq.specs.Parser.{window};

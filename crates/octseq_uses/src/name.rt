@@ -1,5 +1,5 @@
 //! Domain names in wire form.
-ghost use Rattle.std.specs.Prelude.{◌≡◌, ℕ, List, ◌+◌, ◌<◌, ◌++◌, ◌↔◌, true, [], length, map, take, Err, IsTrue, IsErr, IfOk, IfSome, IfNone, OnOk, OnErr};
+ghost use Rattle.std.specs.Prelude.{◌≡◌, ℕ, List, ◌+◌, ◌<◌, ◌++◌, ◌↔◌, true, [], length, map, take, IsTrue, IsErr, IfOk, IfSome, IfNone, OnOk, OnErr};
 ghost use Rattle.octseq.specs.Limit.{IsPast};
 ghost use Rattle.octseq.specs.Parser.{sequence, window};
 ghost use Rattle.octseq.specs.Part.{part_of};
