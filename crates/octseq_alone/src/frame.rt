@@ -9,7 +9,7 @@ use octseq::builder::AsOctetsMut;
 use octseq::compose::append_u16_be;
 use octseq::{OctetsBuilder, Truncate, WriteError};
 
-/// Writes an integer over the two octets at a place, big-endian.
+/// Writes an integer over the two octets at a place, which stand there, big-endian.
 pub fn put_u16_be<B: AsOctetsMut>(octets: &mut B, at: usize, value: u16)
     requires { at + 2 ≤ length (B.content octets.old) }
     ensures content { B.content octets.new

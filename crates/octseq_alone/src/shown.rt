@@ -1,5 +1,5 @@
 //! Values that are shown at the end of a text.
-ghost use Rattle.std.specs.Prelude.{◌≡◌, ◌≢◌, ◌++◌, None, true, decimal, codes, OnOk, OnErr};
+ghost use Rattle.std.specs.Prelude.{◌≡◌, ◌≢◌, ◌++◌, None, true, decimal, OnOk, OnErr};
 ghost use Rattle.octseq.specs.Refusal.{IsShort, IsMemory, display_error};
 
 use octseq::str::DisplayError;

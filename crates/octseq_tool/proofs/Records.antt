@@ -1,6 +1,6 @@
 -- Records are read from the front, and in one way.
 use Rattle.std.proofs.Common.{◌≡◌, ◌⊎◌, false, true, ℕ, ◌+◌, ◌-◌, ◌<◌, ◌≤◌, suc, add-one, get_or, codes, subst, List, [], ◌∷◌, ◌++◌, length, take, drop, refl, sym, ap, ◌∙◌, inl, inr, append_assoc, arith}
-use Rattle.std.proofs.Math.Seq.{take-append_seam, drop-append_seam, drop-cons}
+use Rattle.std.proofs.Math.Seq.{drop-cons}
 use Rattle.std.proofs.lemmas.List.{append-nil, length-append, length-take, length-drop}
 use Rattle.std.proofs.lemmas.Grind.{flat_map-append}
 use Rattle.std.specs.Prelude.{◌↔◌, Result, Ok, Err, IsOk, IfOk, OnOk, OnErr, slice_range}

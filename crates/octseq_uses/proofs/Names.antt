@@ -3,14 +3,14 @@ use Rattle.std.proofs.Common.{◌≡◌, ◌≢◌, ℕ, ◌+◌, ◌-◌, ◌<�
 use Rattle.std.proofs.lemmas.Grind.{flat_map-append}
 use Rattle.std.proofs.lemmas.List.{append-nil, length-append}
 use Rattle.std.specs.List.{AllByRecursion}
-use Rattle.octseq.proofs.Codes.{integer_code, part_code, length_rest}
+use Rattle.octseq.proofs.Codes.{integer_code, part_code, too_few}
 use Rattle.octseq.proofs.Repeats.{each_snoc}
 use Rattle.octseq.proofs.Written.{length_be}
 use Rattle.octseq.specs.Code.{IsCode}
 use Rattle.octseq.specs.Integer.{octets_be}
 use Rattle.octseq.specs.Part.{part_of}
 use Rattle.octseq.specs.Window.{Window, left, rest}
-use Rattle.octseq_uses.specs.Name.{IsLabel, labels_of, name_of, IsName, HasNameWithin, HasName}
+use Rattle.octseq_uses.specs.Name.{IsLabel, labels_of, name_of, IsNameWithin, IsName, HasNameWithin, HasName}
 
 pub length_part : (label : List ℕ) → length (part_of 1 label) ≡ 1 + length label
 length_part label = length-append (octets_be 1 (length label)) label ∙ ap (λ n. n + length label) (length_be 1 (length label))
@@ -83,11 +83,7 @@ has_others room less octets more label is front count_less ((first ∷ others), 
 
 -- no octet is left
 pub no_octet : (room : ℕ) (w : Window) → (1 ≤ left w → ⊥) → ¬ HasNameWithin room (rest w)
-no_octet room w none (labels, behind, is, whole) =
-    let few = length_rest w in
-    let many = ap length whole ∙ length-append (name_of labels) behind in
-    let some = long_name labels in
-    none (omega arith)
+no_octet room w none = too_few (IsNameWithin room) name_of w 1 long_name none
 
 -- ---- the labels read so far
 

@@ -6,13 +6,12 @@ use Rattle.std.proofs.lemmas.List.{length-append, take-take, append-nil, map-app
 use Rattle.std.proofs.lemmas.Result.{on_ok_weaker}
 use Rattle.std.specs.List.{AllByRecursion}
 use Rattle.std.specs.Prelude.{Option, Result, Ok, Err, IsErr}
-use Rattle.octseq.proofs.Errors.{part_short_of, part_memory_of}
 use Rattle.octseq.proofs.Limits.{past_more, within_if_not_past}
 use Rattle.octseq.specs.declared.compose.ComposeError.{ComposeError}
 use Rattle.octseq.specs.declared.error.WriteError.{WriteError}
 use Rattle.octseq.specs.Error.{write_error_of}
 use Rattle.octseq.specs.Limit.{IsWithin, IsPast}
-use Rattle.octseq.specs.Refusal.{IsShort, IsMemory, compose_error}
+use Rattle.octseq.specs.Refusal.{IsShort, IsMemory, compose_error, write_error}
 use Rattle.octseq_uses.proofs.RecordCode.{spelled}
 use Rattle.octseq_uses.specs.Name.{name_of}
 use Rattle.octseq_uses.specs.Record.{records_of}
@@ -34,20 +33,20 @@ pub added : {T : Type 0} (limit : Option ℕ) (asks : Bool) (value : T) (octets 
 added limit asks value octets old new is past = record {
   ok = is;
   front = grown octets old new is;
-  short = λ e. absurd (cc);
+  short = λ refused. absurd refused;
   within = λ _. subst (IsWithin limit) (sym (ap length is ∙ length-append old octets)) (within_if_not_past limit (length old + length octets) past);
-  memory = λ e. absurd (cc);
+  memory = λ refused. absurd refused;
 }
 
 -- none were
-none_added : {T : Type 0} (limit : Option ℕ) (asks : Bool) (e : WriteError) (octets old new : List ℕ) → new ≡ old → (e ≡ WriteError.Short → IsPast limit (length old + length octets))
-    → (e ≡ WriteError.Memory → asks ≡ true) → Writes {T = T} limit asks (Err e) octets old new
+none_added : {T : Type 0} (limit : Option ℕ) (asks : Bool) (e : WriteError) (octets old new : List ℕ) → new ≡ old → (IsShort {T = T} write_error (Err e) → IsPast limit (length old + length octets))
+    → (IsMemory {T = T} write_error (Err e) → asks ≡ true) → Writes {T = T} limit asks (Err e) octets old new
 none_added limit asks e octets old new same short memory = record {
   ok = tt;
   front = stayed old new same;
-  short = λ is. short (cc);
+  short = short;
   within = λ _. tt;
-  memory = λ is. memory (cc);
+  memory = memory;
 }
 
 -- ---- one step behind another
@@ -70,14 +69,15 @@ first_then limit asks value result a b old mid new first more =
 pub refused_then : {S T : Type 0} (limit : Option ℕ) (asks : Bool) (result : Result T WriteError) (passed refusal : WriteError) (a b old new : List ℕ)
     → result ≡ Err passed → passed ≡ refusal → Writes {T = S} limit asks (Err refusal) a old new → Writes limit asks result (a ++ b) old new
 refused_then limit asks (Ok value) passed refusal a b old new e is first = absurd (cc)
-refused_then limit asks (Err given) passed refusal a b old new e is first =
+refused_then {S = S} limit asks (Err given) passed refusal a b old new e is first =
+    let same : given ≡ refusal = cc in
     let both : length (a ++ b) ≡ length a + length b = length-append a b in
     record {
       ok = tt;
       front = first.front;
-      short = λ was. past_more limit (length old + length a) (length old + length (a ++ b)) (omega arith) (first.short (cc));
+      short = λ was. past_more limit (length old + length a) (length old + length (a ++ b)) (omega arith) (first.short (subst (λ e. IsShort {T = S} write_error (Err e)) same was));
       within = λ _. tt;
-      memory = λ was. first.memory (cc);
+      memory = λ was. first.memory (subst (λ e. IsMemory {T = S} write_error (Err e)) same was);
     }
 
 -- ---- records
@@ -85,8 +85,9 @@ refused_then limit asks (Err given) passed refusal a b old new e is first =
 -- why a record or a part was not appended
 not_written : (limit : Option ℕ) (asks : Bool) (e : ComposeError) (octets old new : List ℕ) → new ≡ old → (IsShort {T = Unit {0}} compose_error (Err e) → IsPast limit (length old + length octets))
     → (IsMemory {T = Unit {0}} compose_error (Err e) → asks ≡ true) → Writes {T = Unit {0}} limit asks (Err (write_error_of e)) octets old new
-not_written limit asks e octets old new same short memory =
-    none_added limit asks (write_error_of e) octets old new same (λ told. short (part_short_of e told)) (λ told. memory (part_memory_of e told))
+not_written limit asks ComposeError.TooLong octets old new same short memory = none_added limit asks WriteError.Malformed octets old new same (λ other. absurd other) (λ other. absurd other)
+not_written limit asks ComposeError.Short octets old new same short memory = none_added limit asks WriteError.Short octets old new same short (λ other. absurd other)
+not_written limit asks ComposeError.Memory octets old new same short memory = none_added limit asks WriteError.Memory octets old new same (λ other. absurd other) memory
 
 records_next : {W : Type 0} (show : W → ℕ × List ℕ) (items : List W) (default : W) (place : ℕ) → place < length items
     → records_of (map show (take (suc place) items)) ≡ records_of (map show (take place items)) ++ spelled (show (get_or items place default))

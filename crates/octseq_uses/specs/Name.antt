@@ -1,7 +1,8 @@
 -- Domain names in wire form: labels, each behind its length in one octet, and behind them the root label, which is empty (RFC 1035,
 -- section 3.1).
 use Rattle.std.specs.List.{AllByRecursion, flat_map}
-use Rattle.std.specs.Prelude.{◌≡◌, ℕ, ◌≤◌, List, [], ◌++◌, length}
+use Rattle.std.specs.Prelude.{ℕ, ◌≤◌, List, [], ◌++◌, length}
+use Rattle.octseq.specs.Code.{HasFront}
 use Rattle.octseq.specs.Part.{part_of}
 
 -- a label other than the root's: a length octet of 64 or more, as of a compression pointer, is no label
@@ -22,7 +23,7 @@ IsNameWithin most labels = AllByRecursion IsLabel labels × (length (name_of lab
 
 -- a name of at most so many octets stands at the front
 abbrev pub HasNameWithin : ℕ → List ℕ → Type 0
-HasNameWithin most octets = (labels : List (List ℕ)) × (more : List ℕ) × IsNameWithin most labels × (octets ≡ name_of labels ++ more)
+HasNameWithin most octets = HasFront (IsNameWithin most) name_of octets
 
 -- a name has at most 255 octets (section 2.3.4)
 abbrev pub IsName : List (List ℕ) → Type 0

@@ -1,6 +1,7 @@
 -- Records: a key in 2 octets, big-endian, and a value behind its length in one octet.
 use Rattle.std.specs.List.{AllByRecursion, flat_map}
 use Rattle.std.specs.Prelude.{◌≡◌, ℕ, ◌<◌, List, ◌++◌, length}
+use Rattle.octseq.specs.Code.{HasFront}
 use Rattle.octseq.specs.Integer.{octets_be}
 use Rattle.octseq.specs.Part.{part_of}
 
@@ -22,4 +23,4 @@ AreRecords octets records = AllByRecursion IsRecord records × (octets ≡ recor
 
 -- a whole record stands at the front
 abbrev pub HasRecord : List ℕ → Type 0
-HasRecord octets = (pair : ℕ × List ℕ) × (more : List ℕ) × IsRecord pair × (octets ≡ record_of pair.0 pair.1 ++ more)
+HasRecord octets = HasFront IsRecord (λ pair. record_of pair.0 pair.1) octets

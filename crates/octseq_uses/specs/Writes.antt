@@ -1,5 +1,6 @@
 -- What a step of writing does, so that steps compose.
-use Rattle.std.specs.Prelude.{◌≡◌, ℕ, Bool, true, ◌+◌, Option, List, ◌++◌, length, take, Result, Err, OnOk}
+use Rattle.std.specs.Prelude.{◌≡◌, ℕ, Bool, true, ◌+◌, Option, List, ◌++◌, length, take, Result, OnOk}
+use Rattle.octseq.specs.Refusal.{IsShort, IsMemory, write_error}
 use Rattle.octseq.specs.declared.error.WriteError.{WriteError}
 use Rattle.octseq.specs.Limit.{IsWithin, IsPast}
 
@@ -8,6 +9,6 @@ use Rattle.octseq.specs.Limit.{IsWithin, IsPast}
 pub record Writes {T : Type 0} (limit : Option ℕ) (asks : Bool) (result : Result T WriteError) (octets old new : List ℕ) : Type 0 where
   pub ok : OnOk result (new ≡ old ++ octets)
   pub front : take (length old) new ≡ old
-  pub short : result ≡ Err WriteError.Short → IsPast limit (length old + length octets)
+  pub short : IsShort write_error result → IsPast limit (length old + length octets)
   pub within : IsWithin limit (length old) → OnOk result (IsWithin limit (length new))
-  pub memory : result ≡ Err WriteError.Memory → asks ≡ true
+  pub memory : IsMemory write_error result → asks ≡ true

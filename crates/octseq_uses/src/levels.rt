@@ -1,7 +1,8 @@
 //! Levels: signed integers, one behind another.
 ghost use Rattle.std.specs.List.{AllByRecursion, flat_map};
-ghost use Rattle.std.specs.Prelude.{◌≡◌, ◌≢◌, ℤ, List, Err, IfOk};
+ghost use Rattle.std.specs.Prelude.{◌≡◌, ◌≢◌, ℤ, List, IfOk};
 ghost use Rattle.octseq.specs.Integer.{IsSigned};
+ghost use Rattle.octseq.specs.Refusal.{IsMalformed, read_error};
 ghost use Rattle.octseq_uses.specs.Levels.{level_of};
 
 use octseq::{AsOctets, Parser, ReadError};
@@ -15,7 +16,7 @@ use std::alloc::Global;
 /// refused.
 pub fn read_levels<R: AsOctets>(alloc: Global, octets: R) -> Result<Vec<i16>, ReadError>
     ensures ok { IfOk result (λ levels. R.content octets ≡ flat_map level_of levels.items) }
-    ensures malformed { result ≡ Err ReadError.Malformed → (levels : List ℤ)
+    ensures malformed { IsMalformed read_error result → (levels : List ℤ)
         → AllByRecursion (IsSigned 2) levels → R.content octets ≢ flat_map level_of levels }
 {
     let mut parser = Parser::from_ref(octets);

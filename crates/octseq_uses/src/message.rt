@@ -1,10 +1,11 @@
 //! Messages: a header of integers, a name, a text and records.
 ghost use Rattle.std.specs.List.{AllByRecursion};
-ghost use Rattle.std.specs.Prelude.{◌≡◌, ◌≢◌, ℕ, ◌+◌, ◌<◌, ◌++◌, true, List, length, map, take, [], Err, IsErr, IfOk, OnOk, OnErr};
+ghost use Rattle.std.specs.Prelude.{◌≡◌, ◌≢◌, ◌+◌, ◌++◌, true, length, map, [], IsErr, IfOk, OnOk, OnErr};
 ghost use Rattle.octseq.specs.Code.{HasFront};
 ghost use Rattle.octseq.specs.Limit.{IsPast};
 ghost use Rattle.octseq.specs.Parser.{window};
 ghost use Rattle.octseq.specs.Part.{part_of};
+ghost use Rattle.octseq.specs.Refusal.{IsShort, IsMemory, IsMalformed, read_error, write_error};
 ghost use Rattle.octseq.specs.Window.{rest};
 ghost use Rattle.octseq_uses.specs.Message.{Content, IsHeader, header_of, IsText, IsMessage, message_of};
 ghost use Rattle.octseq_uses.specs.Record.{IsRecord, records_of};
@@ -59,9 +60,9 @@ fn next_text<R: Octets>(parser: &mut Parser<R>) -> Result<Str<R::Range>, ReadErr
     ensures fits { IfOk result (λ text. IsText (R.Range.content text)) }
     ensures taken { IfOk result (λ text. rest (window parser.old)
         ≡ part_of 2 (R.Range.content text) ++ rest (window parser.new)) }
-    ensures malformed { result ≡ Err ReadError.Malformed
+    ensures malformed { IsMalformed read_error result
         → ¬ HasFront IsText (part_of 2) (rest (window parser.old)) }
-    ensures memory { result ≡ Err ReadError.Memory → R.Range.asks ≡ true }
+    ensures memory { IsMemory read_error result → R.Range.asks ≡ true }
 {
     let len = parser.parse_u16_be()?;
     let octets = parser.parse_octets(usize::from(len))?;
@@ -83,7 +84,7 @@ pub fn read_message<R: Octets + Copy>(
 ) -> Result<Message<R::Range>, ReadError>
     ensures message { IfOk result (λ read. IsMessage (said_by R.Range.content read)) }
     ensures octets { IfOk result (λ read. R.content octets ≡ message_of (said_by R.Range.content read)) }
-    ensures malformed { result ≡ Err ReadError.Malformed
+    ensures malformed { IsMalformed read_error result
         → (said : Content) → IsMessage said → R.content octets ≢ message_of said }
 {
     let mut parser = Parser::from_ref(octets);
@@ -109,7 +110,7 @@ fn append_header<B: OctetsBuilder>(builder: &mut B, id: u16, serial: u32) -> Res
     ensures written { Writes B.limit B.asks result (header_of (id, serial))
         (B.content builder.old) (B.content builder.new) }
     ensures fits { IsHeader (id, serial) }
-    ensures possible { result ≢ Err WriteError.Malformed }
+    ensures possible { ¬ IsMalformed write_error result }
     ensures borrows { B.borrows builder.new ≡ B.borrows builder.old }
 {
     append_u16_be(builder, id)?;
@@ -129,7 +130,7 @@ fn append_text<B: OctetsBuilder + Truncate, V: AsOctets>(
     ensures written { Writes B.limit B.asks result (part_of 2 (V.content text.now))
         (B.content builder.old) (B.content builder.new) }
     ensures fits { OnOk result (IsText (V.content text.now)) }
-    ensures malformed { result ≡ Err WriteError.Malformed → ¬ IsText (V.content text.now) }
+    ensures malformed { IsMalformed write_error result → ¬ IsText (V.content text.now) }
     ensures borrows { B.borrows builder.new ≡ B.borrows builder.old }
 {
     Ok(append_part_u16_be(builder, text.as_slice())?)
@@ -149,7 +150,7 @@ fn append_records<B: OctetsBuilder + Truncate, V: AsOctets>(
         (B.content builder.old) (B.content builder.new) }
     ensures fits { OnOk result
         (AllByRecursion IsRecord (map (λ one. (one.key, V.content one.value)) records.now)) }
-    ensures malformed { result ≡ Err WriteError.Malformed
+    ensures malformed { IsMalformed write_error result
         → ¬ AllByRecursion IsRecord (map (λ one. (one.key, V.content one.value)) records.now) }
     ensures borrows { B.borrows builder.new ≡ B.borrows builder.old }
 {
@@ -171,7 +172,7 @@ fn append_all<B: OctetsBuilder + Truncate, V: AsOctets>(
     ensures written { Writes B.limit B.asks result (message_of (said_by V.content message.now))
         (B.content builder.old) (B.content builder.new) }
     ensures fits { OnOk result (IsMessage (said_by V.content message.now)) }
-    ensures malformed { result ≡ Err WriteError.Malformed → ¬ IsMessage (said_by V.content message.now) }
+    ensures malformed { IsMalformed write_error result → ¬ IsMessage (said_by V.content message.now) }
     ensures borrows { B.borrows builder.new ≡ B.borrows builder.old }
 {
     append_header(builder, message.id, message.serial)?;
@@ -197,12 +198,12 @@ pub fn append_message<B: OctetsBuilder + Truncate, V: AsOctets>(
         ≡ B.content builder.old ++ message_of (said_by V.content message.now)) }
     ensures fits { OnOk result (IsMessage (said_by V.content message.now)) }
     ensures err { OnErr result (B.content builder.new ≡ B.content builder.old) }
-    ensures malformed { result ≡ Err WriteError.Malformed → ¬ IsMessage (said_by V.content message.now) }
-    ensures short { result ≡ Err WriteError.Short → IsPast B.limit
+    ensures malformed { IsMalformed write_error result → ¬ IsMessage (said_by V.content message.now) }
+    ensures short { IsShort write_error result → IsPast B.limit
         (length (B.content builder.old) + length (message_of (said_by V.content message.now))) }
     ensures past { IsPast B.limit
         (length (B.content builder.old) + length (message_of (said_by V.content message.now))) → IsErr result }
-    ensures memory { result ≡ Err WriteError.Memory → B.asks ≡ true }
+    ensures memory { IsMemory write_error result → B.asks ≡ true }
     ensures borrows { B.borrows builder.new ≡ B.borrows builder.old }
 {
     let before = builder.len();
@@ -225,11 +226,11 @@ fn write_message<B: OctetsBuilder + Truncate, V: AsOctets>(
     ensures ok { OnOk result (B.content builder.new ≡ message_of (said_by V.content message.now)) }
     ensures fits { OnOk result (IsMessage (said_by V.content message.now)) }
     ensures err { OnErr result (B.content builder.new ≡ []) }
-    ensures malformed { result ≡ Err WriteError.Malformed → ¬ IsMessage (said_by V.content message.now) }
-    ensures short { result ≡ Err WriteError.Short
+    ensures malformed { IsMalformed write_error result → ¬ IsMessage (said_by V.content message.now) }
+    ensures short { IsShort write_error result
         → IsPast B.limit (length (message_of (said_by V.content message.now))) }
     ensures past { IsPast B.limit (length (message_of (said_by V.content message.now))) → IsErr result }
-    ensures memory { result ≡ Err WriteError.Memory → B.asks ≡ true }
+    ensures memory { IsMemory write_error result → B.asks ≡ true }
     ensures borrows { B.borrows builder.new ≡ B.borrows builder.old }
 {
     builder.truncate(0);
@@ -248,8 +249,8 @@ pub fn written_and_read<'b, B: OctetsBuilder + Truncate, V: AsOctets>(
     message: &Message<V>,
 ) -> Result<Message<&'b [u8]>, WriteError>
     ensures same { IfOk result (λ read. said_by (λ octets. octets.now) read ≡ said_by V.content message.now) }
-    ensures malformed { result ≡ Err WriteError.Malformed → ¬ IsMessage (said_by V.content message.now) }
-    ensures short { result ≡ Err WriteError.Short
+    ensures malformed { IsMalformed write_error result → ¬ IsMessage (said_by V.content message.now) }
+    ensures short { IsShort write_error result
         → IsPast B.limit (length (message_of (said_by V.content message.now))) }
     ensures past { IsPast B.limit (length (message_of (said_by V.content message.now))) → IsErr result }
 {

@@ -1,9 +1,9 @@
 //! Domain names in wire form.
-ghost use Rattle.std.specs.Prelude.{◌≡◌, ℕ, List, ◌+◌, ◌<◌, ◌++◌, ◌↔◌, true, [], length, map, take, Err, IsTrue, IsErr, IfOk, IfSome, IfNone, OnOk, OnErr};
+ghost use Rattle.std.specs.Prelude.{◌≡◌, ℕ, List, ◌+◌, ◌<◌, ◌++◌, ◌↔◌, true, [], length, map, take, IsTrue, IsErr, IfOk, IfSome, IfNone, OnOk, OnErr};
 ghost use Rattle.octseq.specs.Limit.{IsPast};
 ghost use Rattle.octseq.specs.Parser.{sequence, window};
 ghost use Rattle.octseq.specs.Part.{part_of};
-ghost use Rattle.octseq.specs.Refusal.{IsShort, IsMemory, IsTooLong, compose_error};
+ghost use Rattle.octseq.specs.Refusal.{IsShort, IsMemory, IsTooLong, IsMalformed, compose_error, read_error, write_error};
 ghost use Rattle.octseq.specs.Window.{rest};
 ghost use Rattle.octseq_uses.specs.Name.{IsLabel, name_of, IsName, HasName, HasNameWithin};
 
@@ -39,8 +39,8 @@ fn next_label<R: Octets>(parser: &mut Parser<R>, room: usize) -> Result<Option<R
         ≡ part_of 1 (R.Range.content label) ++ rest (window parser.new))) }
     ensures root { IfOk result (λ read. IfNone read (rest (window parser.old)
         ≡ part_of 1 [] ++ rest (window parser.new))) }
-    ensures malformed { result ≡ Err ReadError.Malformed → ¬ HasNameWithin room (rest (window parser.old)) }
-    ensures memory { result ≡ Err ReadError.Memory → R.Range.asks ≡ true }
+    ensures malformed { IsMalformed read_error result → ¬ HasNameWithin room (rest (window parser.old)) }
+    ensures memory { IsMemory read_error result → R.Range.asks ≡ true }
     ensures same { sequence parser.new ≡ sequence parser.old }
 {
     let len = usize::from(parser.parse_u8()?);
@@ -66,7 +66,7 @@ pub fn read_name<R: Octets + Copy>(
     ensures name { IfOk result (λ labels. IsName (map R.Range.content labels.items)) }
     ensures taken { IfOk result (λ labels. rest (window parser.old)
         ≡ name_of (map R.Range.content labels.items) ++ rest (window parser.new)) }
-    ensures malformed { result ≡ Err ReadError.Malformed → ¬ HasName (rest (window parser.old)) }
+    ensures malformed { IsMalformed read_error result → ¬ HasName (rest (window parser.old)) }
     ensures kept { OnErr result (window parser.new ≡ window parser.old) }
     ensures same { sequence parser.new ≡ sequence parser.old }
 {
@@ -139,12 +139,12 @@ pub fn append_name<B: OctetsBuilder + Truncate, L: AsOctets>(
         ≡ B.content builder.old ++ name_of (map L.content labels.now)) }
     ensures name { OnOk result (IsName (map L.content labels.now)) }
     ensures err { OnErr result (B.content builder.new ≡ B.content builder.old) }
-    ensures malformed { result ≡ Err WriteError.Malformed ↔ ¬ IsName (map L.content labels.now) }
-    ensures short { result ≡ Err WriteError.Short → IsPast B.limit
+    ensures malformed { IsMalformed write_error result ↔ ¬ IsName (map L.content labels.now) }
+    ensures short { IsShort write_error result → IsPast B.limit
         (length (B.content builder.old) + length (name_of (map L.content labels.now))) }
     ensures past { IsPast B.limit
         (length (B.content builder.old) + length (name_of (map L.content labels.now))) → IsErr result }
-    ensures memory { result ≡ Err WriteError.Memory → B.asks ≡ true }
+    ensures memory { IsMemory write_error result → B.asks ≡ true }
     ensures borrows { B.borrows builder.new ≡ B.borrows builder.old }
 {
     if !is_name(labels) {

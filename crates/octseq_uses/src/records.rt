@@ -1,8 +1,8 @@
 //! Records: a key and a value each, one behind another.
-ghost use Rattle.std.specs.Prelude.{◌≡◌, ℕ, ◌+◌, ◌<◌, ◌++◌, ◌↔◌, true, length, map, List, Err, IsErr, IfOk, OnOk, OnErr};
+ghost use Rattle.std.specs.Prelude.{◌≡◌, ℕ, ◌+◌, ◌<◌, ◌++◌, ◌↔◌, true, length, map, List, IsErr, IfOk, OnOk, OnErr};
 ghost use Rattle.octseq.specs.Limit.{IsPast};
 ghost use Rattle.octseq.specs.Parser.{sequence, window};
-ghost use Rattle.octseq.specs.Refusal.{IsShort, IsMemory, IsTooLong, compose_error};
+ghost use Rattle.octseq.specs.Refusal.{IsShort, IsMemory, IsTooLong, IsMalformed, compose_error, read_error};
 ghost use Rattle.octseq.specs.Window.{left, rest, at};
 ghost use Rattle.octseq_uses.specs.Record.{record_of, IsRecord, AreRecords, HasRecord};
 
@@ -60,8 +60,8 @@ fn next_record<R: Octets>(parser: &mut Parser<R>) -> Result<Record<R::Range>, Re
     ensures taken { IfOk result (λ read. rest (window parser.old)
         ≡ record_of read.key (R.Range.content read.value) ++ rest (window parser.new)) }
     ensures less { OnOk result (left (window parser.new) < left (window parser.old)) }
-    ensures malformed { result ≡ Err ReadError.Malformed → ¬ HasRecord (rest (window parser.old)) }
-    ensures memory { result ≡ Err ReadError.Memory → R.Range.asks ≡ true }
+    ensures malformed { IsMalformed read_error result → ¬ HasRecord (rest (window parser.old)) }
+    ensures memory { IsMemory read_error result → R.Range.asks ≡ true }
     ensures limit { (window parser.new).end ≡ (window parser.old).end }
     ensures same { sequence parser.new ≡ sequence parser.old }
 {
@@ -83,7 +83,7 @@ pub fn take_records<R: Octets>(
 ) -> Result<Vec<Record<R::Range>>, ReadError>
     ensures ok { IfOk result (λ records. AreRecords (rest (window parser.old))
         (map (λ read. (read.key, R.Range.content read.value)) records.items)) }
-    ensures malformed { result ≡ Err ReadError.Malformed
+    ensures malformed { IsMalformed read_error result
         → (records : List (ℕ × List ℕ)) → ¬ AreRecords (rest (window parser.old)) records }
     ensures end { OnOk result (window parser.new ≡ at (window parser.old).end (window parser.old)) }
     ensures same { sequence parser.new ≡ sequence parser.old }
@@ -108,7 +108,7 @@ pub fn take_records<R: Octets>(
 pub fn read_records<R: Octets>(alloc: Global, octets: R) -> Result<Vec<Record<R::Range>>, ReadError>
     ensures ok { IfOk result (λ records. AreRecords (R.content octets)
         (map (λ read. (read.key, R.Range.content read.value)) records.items)) }
-    ensures malformed { result ≡ Err ReadError.Malformed
+    ensures malformed { IsMalformed read_error result
         → (records : List (ℕ × List ℕ)) → ¬ AreRecords (R.content octets) records }
 {
     take_records(alloc, &mut Parser::from_ref(octets))

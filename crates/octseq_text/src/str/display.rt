@@ -169,6 +169,7 @@ fn append_from<'a, K: Begun, B: OctetsBuilder + Truncate, D: Display + Drop>(
             answer: Ok(()),
         },
         Err(_) => {
+            // That the text is well formed is what its cut asks.
             let _well_formed = text.as_slice();
             text.truncate(len);
             Appended {

@@ -240,7 +240,8 @@ fn read_with<B: EmptyBuilder>(
 ) -> Result<StrBuilder<B>, AppendError>
     ensures text { IfOk result (λ made. B.content made ≡ text_with replacement (parts_of (B.content octets))) }
     ensures same { IsWellFormed (B.content octets) → result ≡ Ok octets }
-    ensures short { IsShort append_error result → IsPast B.limit (length (text_with replacement (parts_of (B.content octets)))) }
+    ensures short { IsShort append_error result
+        → IsPast B.limit (length (text_with replacement (parts_of (B.content octets)))) }
     ensures past { IsPast B.limit (length (text_with replacement (parts_of (B.content octets)))) → IsErr result }
     ensures memory { IsMemory append_error result → (B.asks ≡ true) × ¬ IsWellFormed (B.content octets) }
     ensures turns { turns.new ≤ turns.old + length (parts_of (B.content octets)) }
@@ -269,7 +270,8 @@ fn replaced<B: EmptyBuilder>(
     requires { IsFault octets.now first }
     ensures text { IfOk result (λ made. B.content made ≡ text_with replacement (parts_of octets.now)) }
     ensures well_formed { IfOk result (λ made. IsWellFormed (B.content made)) }
-    ensures short { IsShort append_error result → IsPast B.limit (length (text_with replacement (parts_of octets.now))) }
+    ensures short { IsShort append_error result
+        → IsPast B.limit (length (text_with replacement (parts_of octets.now))) }
     ensures past { IsPast B.limit (length (text_with replacement (parts_of octets.now))) → IsErr result }
     ensures memory { IsMemory append_error result → B.asks ≡ true }
     ensures turns { turns.new ≤ turns.old + length (parts_of (drop (fault_end octets.now first) octets.now)) }
@@ -292,8 +294,10 @@ fn replace_faults<'a, B: OctetsBuilder>(
 ) -> Result<&'a [u8], AppendError>
     requires empty { B.content made.old ≡ [] }
     requires fault { IsFault octets.now first }
-    ensures ok { IfOk result (λ rest. IsReplaced replacement octets.now first (B.content made.new) rest.now turns.old turns.new) }
-    ensures short { IsShort append_error result → IsPast B.limit (length (text_with replacement (parts_of octets.now))) }
+    ensures ok { IfOk result (λ rest.
+        IsReplaced replacement octets.now first (B.content made.new) rest.now turns.old turns.new) }
+    ensures short { IsShort append_error result
+        → IsPast B.limit (length (text_with replacement (parts_of octets.now))) }
     ensures memory { IsMemory append_error result → B.asks ≡ true }
     ensures turns { turns.new ≤ turns.old + length (parts_of (drop (fault_end octets.now first) octets.now)) }
     ensures kept { turns.old ≤ turns.new }

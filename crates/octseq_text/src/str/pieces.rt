@@ -276,7 +276,8 @@ fn close<'a, B: OctetsBuilder>(
     ensures begins { IfOk result (λ left. IfNone left (IsBeginning begun.new.content)) }
     ensures begun { IfOk result (λ left. IfNone left (begun.new.content ≡ begun.old.content ++ piece.now)) }
     ensures text { IfOk result (λ left. IfNone left (B.content text.new ≡ B.content text.old)) }
-    ensures short { IsShort append_error result → IsTooLong B.limit (begun.old.content ++ piece.now) (B.content text.old) }
+    ensures short { IsShort append_error result
+        → IsTooLong B.limit (begun.old.content ++ piece.now) (B.content text.old) }
     ensures memory { IsMemory append_error result → B.asks ≡ true }
     ensures turns { turns.new ≤ turns.old + length piece.now }
     ensures turns_closed { IfOk result (λ left. IfSome left (λ rest.

@@ -1,6 +1,4 @@
-use Rattle.std.proofs.Common.{◌≡◌, ◌≤◌, drop, arith, ap, ◌∙◌, subst}
-use Rattle.std.proofs.lemmas.Result.{err_from_is_err_and}
-use Rattle.octseq.proofs.Errors.{same_short}
+use Rattle.std.proofs.Common.{◌≡◌, ◌≤◌, drop, arith, ap, ◌∙◌, subst, rules}
 use Rattle.octseq.proofs.Windows.{rest_past}
 use Rattle.octseq.specs.Parser.{window}
 use Rattle.octseq.specs.Parts.{Splits}
@@ -13,9 +11,8 @@ pub returns-in_err-text-clause-short : goal.returns-in_err-text-clause-short
 returns-in_err-text-clause-short g c = λ short line more parts takes split.
     let octets = c.peek_all-octets.result.now in
     let here = c.first_line-len.result in
-    let p = err_from_is_err_and c.from_residual.result c.from_residual.ensures.1 in
     let same = one_line octets line here.0.now more (drop here.1 octets) (rw c.peek_all-octets.ensures.content takes) c.first_line-len.ensures.line in
-    c.lossy.ensures.short (same_short c.lossy.result c.from_residual.result p.0 c.in_err-text.field-0.0 p.1 p.2 c.in_err-text.was short) parts (subst (λ octets. Splits octets parts) same.0 split)
+    c.in_err-text.ensures.short (search rules) parts (subst (λ octets. Splits octets parts) same.0 split)
 
 pub returns-clause-text : goal.returns-clause-text
 returns-clause-text g c =

@@ -1,4 +1,4 @@
-use Rattle.std.proofs.Common.{◌≡◌, ◌+◌, ◌<◌, ◌++◌, length, get_or, sym, ap, ◌∙◌, subst, arith}
+use Rattle.std.proofs.Common.{◌≡◌, ◌+◌, ◌<◌, ◌++◌, length, get_or, sym, ap, ◌∙◌, subst, rules, arith}
 use Rattle.std.proofs.lemmas.Result.{err_from_is_err_and}
 use Rattle.octseq.proofs.Errors.{too_long_of}
 use Rattle.octseq.specs.Limit.{IsPast}
@@ -25,7 +25,7 @@ returns-in_err-append_record-clause-malformed g c = λ malformed each.
     let content = g.V.AsOctets.content in
     let item = c.record-item.result in
     let p = err_from_is_err_and c.from_residual.result c.from_residual.ensures.1 in
-    let long : 255 < length c.as_ref.result.now = c.in_err-append_record.ensures.too_long.0 (too_long_of c.in_err-append_record.field-0.0 (cc (p.1, p.2, malformed))) in
+    let long : 255 < length c.as_ref.result.now = c.in_err-append_record.ensures.too_long.0 (too_long_of c.in_err-append_record.field-0.0 (search rules)) in
     let same = ap length (c.as_ref.ensures.value ∙ ap (λ one. content one.value) c.record-item.is) in
     let fits = (each_at IsRecord (λ one. (one.key, content one.value)) c.args.records.now item c.loop-record.record-index c.loop-record-test.true each).1 in
     omega arith

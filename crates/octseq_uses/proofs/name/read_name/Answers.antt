@@ -1,8 +1,5 @@
-use Rattle.std.proofs.Common.{◌≡◌, ◌-◌, ◌+◌, [], ◌∷◌, ◌++◌, map, ap, ◌∙◌, arith, refl}
+use Rattle.std.proofs.Common.{◌≡◌, ◌-◌, ◌+◌, [], ◌∷◌, ◌++◌, map, ap, ◌∙◌, arith, refl, rules}
 use Rattle.std.proofs.lemmas.List.{map-append}
-use Rattle.std.proofs.lemmas.Result.{err_from_is_err_and}
-use Rattle.octseq.proofs.Errors.{same_refusal}
-use Rattle.octseq.specs.declared.error.ReadError.{ReadError}
 use Rattle.octseq.specs.Parser.{window}
 use Rattle.octseq.specs.Window.{rest}
 use Rattle.octseq_uses.proofs.Names.{read_none, read_more, read_name, read_root}
@@ -16,8 +13,7 @@ loop-labels-init g c = record {
 
 pub returns-in_err-label-clause-malformed : goal.returns-in_err-label-clause-malformed
 returns-in_err-label-clause-malformed g c = λ e has.
-    let p = err_from_is_err_and c.from_residual.result c.from_residual.ensures.1 in
-    let none = c.next_label.ensures.malformed (same_refusal c.next_label.result c.from_residual.result p.0 c.in_err-label.field-0.0 ReadError.Malformed p.1 p.2 e c.in_err-label.was) in
+    let none = c.in_err-label.ensures.malformed (search rules) in
     none (c.loop-labels.invariant.read.behind has)
 
 pub loop-labels-smaller : goal.loop-labels-smaller

@@ -1,9 +1,6 @@
-use Rattle.std.proofs.Common.{◌≡◌, ℕ, List, [], ◌∷◌, ◌++◌, ◌∙◌, map, ap, arith}
+use Rattle.std.proofs.Common.{◌≡◌, ℕ, List, [], ◌∷◌, ◌++◌, ◌∙◌, map, ap, arith, rules}
 use Rattle.std.proofs.lemmas.List.{map-append}
-use Rattle.std.proofs.lemmas.Result.{err_from_is_err_and}
-use Rattle.octseq.proofs.Errors.{same_refusal}
 use Rattle.octseq.proofs.Repeats.{read_more, read_all, read_cut}
-use Rattle.octseq.specs.declared.error.ReadError.{ReadError}
 use Rattle.octseq.specs.Parser.{window}
 use Rattle.octseq.specs.Window.{Window, rest, at}
 use Rattle.octseq_uses.proofs.RecordCode.{spelled, record_code, has_octets}
@@ -20,8 +17,7 @@ at_end w v octets limit none =
 
 pub returns-in_err-read-clause-malformed : goal.returns-in_err-read-clause-malformed
 returns-in_err-read-clause-malformed g c = λ e records are.
-    let p = err_from_is_err_and c.from_residual.result c.from_residual.ensures.1 in
-    let cut = c.next_record.ensures.malformed (same_refusal c.next_record.result c.from_residual.result p.0 c.in_err-read.field-0.0 ReadError.Malformed p.1 p.2 e c.in_err-read.was) in
+    let cut = c.in_err-read.ensures.malformed (search rules) in
     read_cut IsRecord spelled (rest (window c.args.parser.now)) (rest (window c.loop-parser.parser)) _ c.loop-parser.invariant.read (omega arith) cut (records, are.0, are.1)
 
 pub loop-parser-preserved : goal.loop-parser-preserved
