@@ -220,7 +220,7 @@ ascii_turns x place old mid now l end more low =
 
 -- a fault is one, and refutes
 
-no_bad : (cs ds : List ℕ) (p : List ℕ) (ps : List Part) → map Char cs ++ (BadPart p ∷ ps) ≡ map Char ds → ⊥
+pub no_bad : (cs ds : List ℕ) (p : List ℕ) (ps : List Part) → map Char cs ++ (BadPart p ∷ ps) ≡ map Char ds → ⊥
 no_bad [] [] p ps h = cc
 no_bad [] (d ∷ ds) p ps h = cc
 no_bad (c ∷ cs) [] p ps h = cc

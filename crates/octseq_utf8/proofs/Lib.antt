@@ -14,3 +14,5 @@ pub mod Ascii
 pub mod Faults
 pub mod Mixed
 pub mod LossyTexts
+pub mod AtFault
+pub mod ByChunk

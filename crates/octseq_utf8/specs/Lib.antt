@@ -1,3 +1,4 @@
+pub mod Chunk
 pub mod Encoding
 pub mod Fault
 pub mod Front

@@ -2,9 +2,11 @@
 //! that a check asks for its proof and callers can cite it.
 ghost use Rattle.std.specs.Prelude.{◌≡◌, ℕ, ◌≤◌, ◌↔◌, List, [], ◌∷◌, ◌++◌, map, length, encode_utf8, Some};
 ghost use Rattle.std.specs.Str.{IsUtf8};
+ghost use Rattle.std.specs.List.{flat_map};
+ghost use Rattle.octseq_utf8.specs.Chunk.{Chunk, IsFirstChunk, AreChunks, chunk_parts, chunk_text};
 ghost use Rattle.octseq_utf8.specs.Encoding.{IsEncoding, IsCharacter, number_of, encoding_of};
 ghost use Rattle.octseq_utf8.specs.Fault.{Fault, IsFault};
-ghost use Rattle.octseq_utf8.specs.Parts.{IsBadPart, Part, Char, Bad, Splits, text};
+ghost use Rattle.octseq_utf8.specs.Parts.{IsBadPart, Part, Char, Bad, Splits, text_with, text};
 ghost use Rattle.octseq_utf8.specs.Text.{Spells, IsWellFormed, chars, octets_of};
 
 /// Each character has one encoding, each encoding is that of one character, and none begins another.
@@ -52,4 +54,16 @@ pub fn lossy_text()
     ensures same { (octets : List ℕ) (parts : List Part) → IsWellFormed octets → Splits octets parts → text parts ≡ octets }
     ensures again { (octets : List ℕ) (parts others : List Part)
         → Splits octets parts → Splits (text parts) others → text others ≡ text parts }
+{}
+
+/// The chunks of octets are their one splitting: each is its characters, and the bad part behind them. So the
+/// lossy text is that of the first chunk, and that of what is behind it.
+pub fn chunks_are_parts()
+    ensures splits { (octets : List ℕ) (chunks : List Chunk)
+        → AreChunks octets chunks → Splits octets (flat_map chunk_parts chunks) }
+    ensures first { (octets behind : List ℕ) (chunk : Chunk) (parts rest : List Part)
+        → IsFirstChunk octets chunk behind → Splits octets parts → Splits behind rest → parts ≡ chunk_parts chunk ++ rest }
+    ensures text { (octets behind : List ℕ) (chunk : Chunk) (parts rest : List Part) (w : ℕ)
+        → IsFirstChunk octets chunk behind → Splits octets parts → Splits behind rest
+        → text_with w parts ≡ chunk_text w chunk ++ text_with w rest }
 {}

@@ -4,6 +4,7 @@
 //! `octseq_text` passes on what is public to its callers, as `utf8`.
 #![tactic(auto)]
 
+mod chunk;
 mod fault;
 mod finder;
 mod lanes;
@@ -11,7 +12,8 @@ mod laws;
 mod turns;
 mod words;
 
+pub use chunk::{Utf8Chunk, Utf8Chunks, chunks};
 pub use fault::{Utf8Fault, before, behind, onward};
 pub use finder::{first_fault, is_continuation};
-pub use laws::{lossy_text, one_encoding, one_fault, one_spelling, one_splitting, same_in_std};
+pub use laws::{chunks_are_parts, lossy_text, one_encoding, one_fault, one_spelling, one_splitting, same_in_std};
 pub use turns::Turns;

@@ -1,0 +1,153 @@
+//! Octets in chunks of text, as Rust's `utf8_chunks` has them. What reads octets as text walks by these.
+ghost use Rattle.std.specs.Prelude.{◌≡◌, ◌≤◌, ◌+◌, ◌*◌, false, List, [], length, drop, slice_range};
+ghost use Rattle.octseq_utf8.specs.Chunk.{GivesChunk, IsFirstChunk};
+ghost use Rattle.octseq_utf8.specs.Fault.{IsFault, fault_end};
+ghost use Rattle.octseq_utf8.specs.Parts.{Part, Splits};
+ghost use Rattle.octseq_utf8.specs.Text.{IsWellFormed};
+
+use crate::fault::{Utf8Fault, before, behind, onward};
+use crate::finder::first_fault;
+use crate::turns::Turns;
+use std::marker::Model;
+
+/// A text, and the maximal ill-formed part behind it.
+#[derive(Drop)]
+pub struct Utf8Chunk<'a> {
+    valid: &'a str,
+    invalid: &'a [u8],
+    incomplete: bool,
+}
+
+impl<'a> Model for Utf8Chunk<'a> {
+    ghost use Rattle.octseq_utf8.specs.Chunk.{Chunk};
+
+    ghost Value = { Chunk };
+
+    ghost view = { λ chunk.
+        record { valid = chunk.valid.now; invalid = chunk.invalid.now; incomplete = chunk.incomplete } };
+}
+
+impl<'a> Utf8Chunk<'a> {
+    /// The text.
+    pub fn valid(&self) -> &'a str
+        ensures { result.now ≡ self.now.valid }
+    {
+        self.valid
+    }
+
+    /// The maximal ill-formed part behind the text, of 1 to 3 octets. It is empty only at the end of the
+    /// octets.
+    pub fn invalid(&self) -> &'a [u8]
+        ensures { result.now ≡ self.now.invalid }
+    {
+        self.invalid
+    }
+
+    /// Whether the octets end within a character: the ill-formed part begins one, and nothing is left
+    /// behind it.
+    pub fn is_incomplete(&self) -> bool
+        ensures { result ≡ self.now.incomplete }
+    {
+        self.incomplete
+    }
+}
+
+/// The chunks of octets, from the left. Nothing is copied, and no memory is requested.
+///
+/// Contracts see the octets that are left.
+#[derive(Drop)]
+pub struct Utf8Chunks<'a> {
+    rest: &'a [u8],
+}
+
+impl<'a> Model for Utf8Chunks<'a> {
+    ghost use Rattle.std.specs.Prelude.{ℕ, List};
+
+    ghost Value = { List ℕ };
+
+    ghost view = { λ chunks. chunks.rest.now };
+}
+
+/// The chunks of these octets, by the practice of the Unicode Standard, chapter 3, on maximal subparts.
+pub fn chunks(octets: &[u8]) -> Utf8Chunks<'_>
+    ensures { result ≡ octets.now }
+{
+    Utf8Chunks { rest: octets }
+}
+
+impl<'a> Utf8Chunks<'a> {
+    /// The next chunk, or `None` where nothing is left. Counts the turns of the search: at most one for each
+    /// part of the chunk, and at least one for every sixteen octets of it.
+    pub fn next_counted(&mut self, turns: &mut Turns) -> Option<Utf8Chunk<'a>>
+        ensures gives { GivesChunk self.old result self.new }
+        ensures turns { (parts rest : List Part) → Splits self.old parts → Splits self.new rest
+            → turns.new + length rest ≤ turns.old + length parts }
+        ensures passed { length self.old + 16 * turns.old ≤ 16 * turns.new + length self.new }
+    {
+        let octets = self.rest;
+        if octets.is_empty() {
+            return None;
+        }
+        match first_fault(octets, turns) {
+            None => {
+                self.rest = &octets[octets.len()..];
+                Some(last_chunk(octets))
+            }
+            Some(fault) => {
+                self.rest = behind(octets, &fault);
+                Some(chunk_to(octets, &fault))
+            }
+        }
+    }
+}
+
+/// The chunk of octets that are a text.
+fn last_chunk(octets: &[u8]) -> Utf8Chunk<'_>
+    requires { IsWellFormed octets.now }
+    ensures { result ≡ record { valid = octets.now; invalid = []; incomplete = false } }
+{
+    Utf8Chunk {
+        valid: unsafe { std::str::from_utf8_unchecked(octets) },
+        invalid: &octets[octets.len()..],
+        incomplete: false,
+    }
+}
+
+/// The chunk that ends with the fault.
+fn chunk_to<'a>(octets: &'a [u8], fault: &Utf8Fault) -> Utf8Chunk<'a>
+    requires { IsFault octets.now fault.now }
+    ensures { IsFirstChunk octets.now result (drop (fault_end octets.now fault.now) octets.now) }
+{
+    let valid = before(octets, fault);
+    Utf8Chunk {
+        valid: unsafe { std::str::from_utf8_unchecked(valid) },
+        invalid: bad_part(octets, fault),
+        incomplete: fault.error_len().is_none(),
+    }
+}
+
+/// The ill-formed part at the fault.
+fn bad_part<'a>(octets: &'a [u8], fault: &Utf8Fault) -> &'a [u8]
+    requires { IsFault octets.now fault.now }
+    ensures { result.now ≡ slice_range octets.now fault.now.place (fault_end octets.now fault.now) }
+{
+    let onward = onward(octets, fault);
+    match fault.error_len() {
+        Some(len) => &onward[..len],
+        None => onward,
+    }
+}
+
+impl<'a> Iterator for Utf8Chunks<'a> {
+    ghost use Rattle.std.specs.Iterator.{at_most};
+
+    type Item = Utf8Chunk<'a>;
+
+    ghost next_gives = { GivesChunk };
+
+    ghost remaining = { λ octets. at_most (length octets) };
+
+    fn next(&mut self) -> Option<Utf8Chunk<'a>> {
+        self.next_counted(&mut Turns::new())
+    }
+}
