@@ -36,3 +36,7 @@ IsMalformed tells result = IsRefused Refusal.malformed tells result
 abbrev pub append_error : AppendError → Refusal
 append_error (AppendError.Short e) = Refusal.short
 append_error AppendError.Memory = Refusal.memory
+
+-- an error of memory alone
+abbrev pub alloc_error : {E : Type 0} → E → Refusal
+alloc_error e = Refusal.memory

@@ -1,9 +1,11 @@
 pub mod Display
+pub mod Lossy
 pub mod Pieces
 pub mod Progress
 pub mod Range
 pub mod Refused
 pub mod TextRun
+pub use Rattle.octseq_utf8.specs.Chunk
 pub use Rattle.octseq_utf8.specs.Encoding
 pub use Rattle.octseq_utf8.specs.Fault
 pub use Rattle.octseq_utf8.specs.Parts

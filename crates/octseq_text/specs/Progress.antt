@@ -5,13 +5,6 @@ use Rattle.octseq_utf8.specs.Fault.{Fault, fault_end}
 use Rattle.octseq_utf8.specs.Parts.{IsBeginning, Part, text_with, text}
 use Rattle.octseq_utf8.specs.Reading.{parts_of}
 
--- What was made of octets from their first fault on, as far as a rest that is well formed: with that rest it is the whole text. The turns
--- since that fault are no more than the parts behind it, and sixteen times as many reach from its end to that of the octets.
-pub record IsReplaced (replacement : ℕ) (octets : List ℕ) (first : Fault) (made rest : List ℕ) (old now : ℕ) : Type 0 where
-  pub whole : made ++ rest ≡ text_with replacement (parts_of octets)
-  pub turns : now ≤ old + length (parts_of (drop (fault_end octets first) octets))
-  pub passed : length octets + 16 * old ≤ 16 * now + fault_end octets first
-
 -- Of octets some parts were read, and a rest is left: whatever follows, the other parts are those of the rest and of what follows.
 pub record Reads (octets rest : List ℕ) (parts : List Part) : Type 0 where
   pub whatever : (more : List ℕ) → parts_of (octets ++ more) ≡ parts ++ parts_of (rest ++ more)

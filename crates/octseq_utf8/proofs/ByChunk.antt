@@ -162,3 +162,15 @@ pub text_by_chunk : (x behind : List ℕ) (chunk : Chunk) (parts rest : List Par
     → text_with w parts ≡ chunk_text w chunk ++ text_with w rest
 text_by_chunk x behind chunk parts rest w c s t =
     ap (text_with w) (only_parts s) ∙ text_at_chunk w x chunk behind c ∙ ap (λ ps. chunk_text w chunk ++ text_with w ps) (sym (only_parts t))
+
+-- a text that grows by chunks is, with the text of what is left, the whole text
+
+pub grown : (w : ℕ) (x made made' all : List ℕ) (chunk : Chunk) (behind : List ℕ) → made ++ text_with w (parts_of x) ≡ all → IsFirstChunk x chunk behind
+    → made' ≡ made ++ chunk_text w chunk → made' ++ text_with w (parts_of behind) ≡ all
+grown w x made made' all chunk behind before c more =
+    ap (λ y. y ++ text_with w (parts_of behind)) more ∙ append_assoc made (chunk_text w chunk) (text_with w (parts_of behind))
+    ∙ ap (λ y. made ++ y) (sym (text_at_chunk w x chunk behind c)) ∙ before
+
+pub all_made : (w : ℕ) (made all x : List ℕ) → made ++ text_with w (parts_of x) ≡ all → x ≡ [] → made ≡ all
+all_made w made all x whole nothing =
+    sym (append-nil made) ∙ ap (λ y. made ++ y) (sym (ap (λ y. text_with w (parts_of y)) nothing ∙ text_spelled w spells_nothing)) ∙ whole

@@ -83,6 +83,7 @@ impl<'a> Utf8Chunks<'a> {
         ensures turns { (parts rest : List Part) → Splits self.old parts → Splits self.new rest
             → turns.new + length rest ≤ turns.old + length parts }
         ensures passed { length self.old + 16 * turns.old ≤ 16 * turns.new + length self.new }
+        ensures kept { turns.old ≤ turns.new }
     {
         let octets = self.rest;
         if octets.is_empty() {

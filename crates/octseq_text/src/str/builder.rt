@@ -208,6 +208,45 @@ impl<Octets: AsOctets> StrBuilder<Octets> {
         self.try_push_str(ch.encode_utf8(&mut octets[..]))
     }
 
+    /// Appends the octets as a text in which each maximal ill-formed part became one U+FFFD, or nothing.
+    ///
+    /// # Errors
+    ///
+    /// `Short` where the text would pass the limit of its type, `Memory` where a request for memory was
+    /// refused. The text is then as it was.
+    pub fn try_push_lossy(&mut self, octets: &[u8]) -> Result<(), AppendError>
+    where
+        Octets: OctetsBuilder + Truncate,
+        ensures answer { ReadsLossily append_error Octets.limit (Octets.asks ≡ true)
+            0xFFFD (Octets.content self.old) octets.now (λ _. Octets.content self.new) result }
+        ensures err { OnErr result (Octets.content self.new ≡ Octets.content self.old) }
+        ensures borrows { Octets.borrows self.new ≡ Octets.borrows self.old }
+    {
+        self.try_push_lossy_with(octets, char::REPLACEMENT_CHARACTER)
+    }
+
+    /// As [`StrBuilder::try_push_lossy`], with `replacement` for each maximal ill-formed part.
+    ///
+    /// # Errors
+    ///
+    /// `Short` where the text would pass the limit of its type, `Memory` where a request for memory was
+    /// refused. The text is then as it was.
+    pub fn try_push_lossy_with(&mut self, octets: &[u8], replacement: char) -> Result<(), AppendError>
+    where
+        Octets: OctetsBuilder + Truncate,
+        ensures answer { ReadsLossily append_error Octets.limit (Octets.asks ≡ true)
+            replacement (Octets.content self.old) octets.now (λ _. Octets.content self.new) result }
+        ensures err { OnErr result (Octets.content self.new ≡ Octets.content self.old) }
+        ensures borrows { Octets.borrows self.new ≡ Octets.borrows self.old }
+    {
+        let len = self.as_slice().len();
+        let pushed = append_lossy(&mut self.octets, octets, replacement);
+        if pushed.is_err() {
+            self.octets.truncate(len);
+        }
+        pushed
+    }
+
     /// Appends all of `s`, or nothing, in a builder with no limit.
     ///
     /// # Errors

@@ -1,18 +1,20 @@
 //! The lossy reading: octets as text, with a replacement for what is no text.
-ghost use Rattle.std.specs.Prelude.{◌≡◌, ◌≢◌, ℕ, ◌+◌, ◌*◌, ◌≤◌, true, None, List, [], ◌++◌, length, drop, IsErr, IfOk, OnOk, OnErr};
-ghost use Rattle.octseq_core.specs.Limit.{IsPast};
-ghost use Rattle.octseq_core.specs.Refusal.{IsShort, IsMemory, append_error};
+//!
+//! Every call here walks by chunks: a text, and the bad part behind it. What a call answers is one record,
+//! `ReadsLossily` of `specs/Lossy.antt`; [`StrBuilder::try_from_utf8_lossy_counted`] says it at length besides.
+ghost use Rattle.std.specs.Prelude.{◌≡◌, ◌≢◌, ℕ, ◌+◌, ◌*◌, ◌≤◌, true, None, List, [], ◌++◌, length, IsErr, IfOk, OnOk, OnErr};
+ghost use Rattle.octseq_core.specs.Limit.{IsWithin, IsPast};
+ghost use Rattle.octseq_core.specs.Refusal.{IsShort, IsMemory, append_error, alloc_error};
+ghost use Rattle.octseq_utf8.specs.Chunk.{mark_of, chunk_text};
 ghost use Rattle.octseq_utf8.specs.Encoding.{encoding_of};
-ghost use Rattle.octseq_utf8.specs.Fault.{IsFault, fault_end};
-ghost use Rattle.octseq_utf8.specs.Parts.{Part, Splits, text_with, text};
+ghost use Rattle.octseq_utf8.specs.Parts.{IsFront, Part, Splits, text_with, text};
 ghost use Rattle.octseq_utf8.specs.Reading.{parts_of};
-ghost use Rattle.octseq_text.specs.Progress.{IsReplaced};
+ghost use Rattle.octseq_text.specs.Lossy.{ReadsLossily};
 ghost use Rattle.octseq_utf8.specs.Text.{IsWellFormed};
 
 use super::builder::StrBuilder;
-use crate::utf8::{Turns, Utf8Fault, first_fault};
+use crate::utf8::{Turns, Utf8Chunk, Utf8Chunks, chunks};
 use octseq_core::builder::{AppendError, AsOctets, EmptyBuilder, OctetsBuilder, OctetsLimit};
-use octseq_utf8::{before, behind};
 use std::alloc::{AllocError, Global};
 
 impl<Octets: AsOctets> StrBuilder<Octets> {
@@ -29,28 +31,10 @@ impl<Octets: AsOctets> StrBuilder<Octets> {
     pub fn try_from_utf8_lossy(alloc: Global, octets: Octets) -> Result<Self, AppendError>
     where
         Octets: EmptyBuilder,
-        ensures one_splitting { (parts others : List Part)
-            → Splits (Octets.content octets) parts → Splits (Octets.content octets) others → parts ≡ others }
-        ensures splitting { (parts : List Part) × Splits (Octets.content octets) parts }
-
-        ensures text { IfOk result (λ made. (parts : List Part)
-            → Splits (Octets.content octets) parts → Octets.content made ≡ text parts) }
-        ensures well_formed { IfOk result (λ made. IsWellFormed (Octets.content made)) }
+        ensures answer { ReadsLossily append_error Octets.limit ((Octets.asks ≡ true) × ¬ IsWellFormed (Octets.content octets))
+            0xFFFD [] (Octets.content octets) Octets.content result }
+        // Well-formed octets are handed back.
         ensures same { IsWellFormed (Octets.content octets) → result ≡ Ok octets }
-
-        ensures short { IsShort append_error result → (parts : List Part)
-            → Splits (Octets.content octets) parts → IsPast Octets.limit (length (text parts)) }
-        ensures past { (parts : List Part) → Splits (Octets.content octets) parts
-            → IsPast Octets.limit (length (text parts)) → IsErr result }
-        ensures memory { IsMemory append_error result → (Octets.asks ≡ true) × ¬ IsWellFormed (Octets.content octets) }
-
-        ensures again { IfOk result (λ made. (parts : List Part)
-            → Splits (Octets.content made) parts → text parts ≡ Octets.content made) }
-        ensures other { ¬ IsWellFormed (Octets.content octets)
-            → IfOk result (λ made. Octets.content made ≢ Octets.content octets) }
-        ensures longer { IfOk result (λ made. length (Octets.content octets) ≤ length (Octets.content made)) }
-        ensures no_shorter { (parts : List Part) → Splits (Octets.content octets) parts
-            → length (Octets.content octets) ≤ length (text parts) }
     {
         StrBuilder::try_from_utf8_lossy_counted(alloc, octets, &mut Turns::new())
     }
@@ -69,6 +53,10 @@ impl<Octets: AsOctets> StrBuilder<Octets> {
     ) -> Result<Self, AppendError>
     where
         Octets: EmptyBuilder,
+        // What every lossy reading answers. The clauses below say it at length.
+        ensures answer { ReadsLossily append_error Octets.limit ((Octets.asks ≡ true) × ¬ IsWellFormed (Octets.content octets))
+            0xFFFD [] (Octets.content octets) Octets.content result }
+
         // Exactly one list of parts splits the octets.
         ensures one_splitting { (parts others : List Part)
             → Splits (Octets.content octets) parts → Splits (Octets.content octets) others → parts ≡ others }
@@ -120,21 +108,10 @@ impl<Octets: AsOctets> StrBuilder<Octets> {
     where
         Octets: EmptyBuilder,
         requires { Octets.limit ≡ None }
-        ensures one_splitting { (parts others : List Part)
-            → Splits (Octets.content octets) parts → Splits (Octets.content octets) others → parts ≡ others }
-        ensures splitting { (parts : List Part) × Splits (Octets.content octets) parts }
-        ensures text { IfOk result (λ made. (parts : List Part)
-            → Splits (Octets.content octets) parts → Octets.content made ≡ text parts) }
-        ensures well_formed { IfOk result (λ made. IsWellFormed (Octets.content made)) }
+        ensures answer { ReadsLossily alloc_error Octets.limit ((Octets.asks ≡ true) × ¬ IsWellFormed (Octets.content octets))
+            0xFFFD [] (Octets.content octets) Octets.content result }
+        // Well-formed octets are handed back.
         ensures same { IsWellFormed (Octets.content octets) → result ≡ Ok octets }
-        ensures memory { OnErr result ((Octets.asks ≡ true) × ¬ IsWellFormed (Octets.content octets)) }
-        ensures again { IfOk result (λ made. (parts : List Part)
-            → Splits (Octets.content made) parts → text parts ≡ Octets.content made) }
-        ensures other { ¬ IsWellFormed (Octets.content octets)
-            → IfOk result (λ made. Octets.content made ≢ Octets.content octets) }
-        ensures longer { IfOk result (λ made. length (Octets.content octets) ≤ length (Octets.content made)) }
-        ensures no_shorter { (parts : List Part) → Splits (Octets.content octets) parts
-            → length (Octets.content octets) ≤ length (text parts) }
     {
         match StrBuilder::try_from_utf8_lossy(alloc, octets) {
             Ok(text) => Ok(text),
@@ -156,26 +133,10 @@ impl<Octets: AsOctets> StrBuilder<Octets> {
     ) -> Result<Self, AppendError>
     where
         Octets: EmptyBuilder,
-        ensures one_splitting { (parts others : List Part)
-            → Splits (Octets.content octets) parts → Splits (Octets.content octets) others → parts ≡ others }
-        ensures splitting { (parts : List Part) × Splits (Octets.content octets) parts }
-
-        ensures text { IfOk result (λ made. (parts : List Part)
-            → Splits (Octets.content octets) parts → Octets.content made ≡ text_with replacement parts) }
-        ensures well_formed { IfOk result (λ made. IsWellFormed (Octets.content made)) }
+        ensures answer { ReadsLossily append_error Octets.limit ((Octets.asks ≡ true) × ¬ IsWellFormed (Octets.content octets))
+            replacement [] (Octets.content octets) Octets.content result }
+        // Well-formed octets are handed back.
         ensures same { IsWellFormed (Octets.content octets) → result ≡ Ok octets }
-
-        ensures short { IsShort append_error result → (parts : List Part) → Splits (Octets.content octets) parts
-            → IsPast Octets.limit (length (text_with replacement parts)) }
-        ensures past { (parts : List Part) → Splits (Octets.content octets) parts
-            → IsPast Octets.limit (length (text_with replacement parts)) → IsErr result }
-        ensures memory { IsMemory append_error result → (Octets.asks ≡ true) × ¬ IsWellFormed (Octets.content octets) }
-
-        ensures again { IfOk result (λ made. (w : ℕ) (parts : List Part)
-            → Splits (Octets.content made) parts → text_with w parts ≡ Octets.content made) }
-        ensures no_shorter { 3 ≤ length (encoding_of replacement)
-            → (parts : List Part) → Splits (Octets.content octets) parts
-            → length (Octets.content octets) ≤ length (text_with replacement parts) }
     {
         StrBuilder::try_from_utf8_lossy_with_counted(alloc, octets, replacement, &mut Turns::new())
     }
@@ -195,39 +156,55 @@ impl<Octets: AsOctets> StrBuilder<Octets> {
     ) -> Result<Self, AppendError>
     where
         Octets: EmptyBuilder,
-        // Exactly one list of parts splits the octets.
-        ensures one_splitting { (parts others : List Part)
-            → Splits (Octets.content octets) parts → Splits (Octets.content octets) others → parts ≡ others }
-        ensures splitting { (parts : List Part) × Splits (Octets.content octets) parts }
-
-        // The answer is the text of those parts with the replacement. Well-formed octets are handed back.
-        ensures text { IfOk result (λ made. (parts : List Part)
-            → Splits (Octets.content octets) parts → Octets.content made ≡ text_with replacement parts) }
-        ensures well_formed { IfOk result (λ made. IsWellFormed (Octets.content made)) }
+        ensures answer { ReadsLossily append_error Octets.limit ((Octets.asks ≡ true) × ¬ IsWellFormed (Octets.content octets))
+            replacement [] (Octets.content octets) Octets.content result }
+        // Well-formed octets are handed back.
         ensures same { IsWellFormed (Octets.content octets) → result ≡ Ok octets }
-
-        // It is refused as short exactly where that text passes the limit, memory aside.
-        ensures short { IsShort append_error result → (parts : List Part) → Splits (Octets.content octets) parts
-            → IsPast Octets.limit (length (text_with replacement parts)) }
-        ensures past { (parts : List Part) → Splits (Octets.content octets) parts
-            → IsPast Octets.limit (length (text_with replacement parts)) → IsErr result }
-        ensures memory { IsMemory append_error result → (Octets.asks ≡ true) × ¬ IsWellFormed (Octets.content octets) }
 
         // No more turns than parts, whatever the answer, and a turn for every sixteen octets.
         ensures turns { (parts : List Part) → Splits (Octets.content octets) parts
             → turns.new ≤ turns.old + length parts }
         ensures passed { OnOk result (length (Octets.content octets) + 16 * turns.old ≤ 16 * turns.new) }
         ensures kept { turns.old ≤ turns.new }
-
-        // A second reading changes nothing, with any character as the replacement. With one of three octets or
-        // more the text is no shorter than its source, also where it is refused.
-        ensures again { IfOk result (λ made. (w : ℕ) (parts : List Part)
-            → Splits (Octets.content made) parts → text_with w parts ≡ Octets.content made) }
-        ensures no_shorter { 3 ≤ length (encoding_of replacement)
-            → (parts : List Part) → Splits (Octets.content octets) parts
-            → length (Octets.content octets) ≤ length (text_with replacement parts) }
     {
         read_with(alloc, octets, replacement, turns)
+    }
+
+    /// A text of the octets in which each maximal ill-formed part became one U+FFFD. The octets are only
+    /// looked at: nothing but the text is copied.
+    ///
+    /// # Errors
+    ///
+    /// `Short` where the text passes the limit of the type, `Memory` where a request for memory was
+    /// refused.
+    pub fn try_copy_lossy(alloc: Global, octets: &[u8]) -> Result<Self, AppendError>
+    where
+        Octets: EmptyBuilder,
+        ensures answer { ReadsLossily append_error Octets.limit (Octets.asks ≡ true)
+            0xFFFD [] octets.now Octets.content result }
+    {
+        StrBuilder::try_copy_lossy_with(alloc, octets, char::REPLACEMENT_CHARACTER)
+    }
+
+    /// As [`StrBuilder::try_copy_lossy`], with `replacement` for each maximal ill-formed part.
+    ///
+    /// # Errors
+    ///
+    /// `Short` where the text passes the limit of the type, `Memory` where a request for memory was
+    /// refused.
+    pub fn try_copy_lossy_with(
+        alloc: Global,
+        octets: &[u8],
+        replacement: char,
+    ) -> Result<Self, AppendError>
+    where
+        Octets: EmptyBuilder,
+        ensures answer { ReadsLossily append_error Octets.limit (Octets.asks ≡ true)
+            replacement [] octets.now Octets.content result }
+    {
+        let mut made = Octets::with_capacity(alloc, octets.len())?;
+        append_lossy(&mut made, octets, replacement)?;
+        Ok(StrBuilder::from_utf8_unchecked(made))
     }
 }
 
@@ -249,84 +226,92 @@ fn read_with<B: EmptyBuilder>(
     ensures kept { turns.old ≤ turns.new }
 {
     let content = octets.as_ref();
-    match first_fault(content, turns) {
+    let mut chunks = chunks(content);
+    match chunks.next_counted(turns) {
         None => Ok(StrBuilder::from_utf8_unchecked(octets)),
-        Some(fault) => {
-            let made = replaced(alloc, content, fault, replacement, turns)?;
+        Some(first) => {
+            if first.invalid().is_empty() {
+                return Ok(StrBuilder::from_utf8_unchecked(octets));
+            }
+            let mut made = B::with_capacity(alloc, content.len())?;
+            append_chunks(&mut made, first, chunks, replacement, turns)?;
             Ok(StrBuilder::from_utf8_unchecked(made))
         }
     }
 }
 
-/// The octets with the replacement for each bad part, from the first fault on. The search goes on behind
-/// each fault, so no octet is looked at again.
-fn replaced<B: EmptyBuilder>(
-    alloc: Global,
+/// Appends the octets as a text with the replacement for each bad part. A refusal leaves a front of it behind.
+pub(super) fn append_lossy<B: OctetsBuilder>(
+    builder: &mut B,
     octets: &[u8],
-    first: Utf8Fault,
     replacement: char,
-    turns: &mut Turns,
-) -> Result<B, AppendError>
-    requires { IsFault octets.now first }
-    ensures text { IfOk result (λ made. B.content made ≡ text_with replacement (parts_of octets.now)) }
-    ensures well_formed { IfOk result (λ made. IsWellFormed (B.content made)) }
+) -> Result<(), AppendError>
+    requires { IsWithin B.limit (length (B.content builder.old)) }
+    ensures text { OnOk result (B.content builder.new
+        ≡ B.content builder.old ++ text_with replacement (parts_of octets.now)) }
+    ensures front { OnErr result (IsFront (B.content builder.old) (B.content builder.new)) }
     ensures short { IsShort append_error result
-        → IsPast B.limit (length (text_with replacement (parts_of octets.now))) }
-    ensures past { IsPast B.limit (length (text_with replacement (parts_of octets.now))) → IsErr result }
+        → IsPast B.limit (length (B.content builder.old ++ text_with replacement (parts_of octets.now))) }
+    ensures within { OnOk result (IsWithin B.limit (length (B.content builder.new))) }
     ensures memory { IsMemory append_error result → B.asks ≡ true }
-    ensures turns { turns.new ≤ turns.old + length (parts_of (drop (fault_end octets.now first) octets.now)) }
-    ensures passed { OnOk result (length octets.now + 16 * turns.old ≤ 16 * turns.new + fault_end octets.now first) }
-    ensures kept { turns.old ≤ turns.new }
+    ensures borrows { B.borrows builder.new ≡ B.borrows builder.old }
 {
-    let mut made = B::with_capacity(alloc, octets.len())?;
-    let rest = replace_faults(&mut made, octets, first, replacement, turns)?;
-    made.append_slice(rest)?;
-    Ok(made)
-}
-
-/// Fills an empty builder as far as the last bad part, and answers the rest, which is well formed.
-fn replace_faults<'a, B: OctetsBuilder>(
-    made: &mut B,
-    octets: &'a [u8],
-    first: Utf8Fault,
-    replacement: char,
-    turns: &mut Turns,
-) -> Result<&'a [u8], AppendError>
-    requires empty { B.content made.old ≡ [] }
-    requires fault { IsFault octets.now first }
-    ensures ok { IfOk result (λ rest.
-        IsReplaced replacement octets.now first (B.content made.new) rest.now turns.old turns.new) }
-    ensures short { IsShort append_error result
-        → IsPast B.limit (length (text_with replacement (parts_of octets.now))) }
-    ensures memory { IsMemory append_error result → B.asks ≡ true }
-    ensures turns { turns.new ≤ turns.old + length (parts_of (drop (fault_end octets.now first) octets.now)) }
-    ensures kept { turns.old ≤ turns.new }
-{
-    let mut encoded = [0; 4];
-    let replacement = replacement.encode_utf8(&mut encoded[..]).as_bytes();
-    let mut rest = octets;
-    let mut fault = first;
-    'faults: loop {
-        append_both(made, before(rest, &fault), replacement)?;
-        rest = behind(rest, &fault);
-        match first_fault(rest, turns) {
-            Some(next) => fault = next,
-            None => return Ok(rest),
-        }
+    let mut turns = Turns::new();
+    let mut chunks = chunks(octets);
+    match chunks.next_counted(&mut turns) {
+        None => Ok(()),
+        Some(first) => append_chunks(builder, first, chunks, replacement, &mut turns),
     }
 }
 
-/// Appends one slice and another. A refusal leaves the first behind, or nothing.
-fn append_both<B: OctetsBuilder>(
+/// Appends the text of a chunk, and of those behind it.
+fn append_chunks<B: OctetsBuilder>(
     builder: &mut B,
-    good: &[u8],
-    replacement: &[u8],
+    first: Utf8Chunk<'_>,
+    rest: Utf8Chunks<'_>,
+    replacement: char,
+    turns: &mut Turns,
 ) -> Result<(), AppendError>
-    ensures ok { OnOk result (B.content builder.new ≡ B.content builder.old ++ (good.now ++ replacement.now)) }
-    ensures short { IsShort append_error result
-        → IsPast B.limit (length (B.content builder.old) + length good.now + length replacement.now) }
+    ensures text { OnOk result (B.content builder.new
+        ≡ B.content builder.old ++ (chunk_text replacement first.entry ++ text_with replacement (parts_of rest.entry))) }
+    ensures front { OnErr result (IsFront (B.content builder.old) (B.content builder.new)) }
+    ensures short { IsShort append_error result → IsPast B.limit (length
+        (B.content builder.old ++ (chunk_text replacement first.entry ++ text_with replacement (parts_of rest.entry)))) }
+    ensures within { OnOk result (IsWithin B.limit (length (B.content builder.new))) }
     ensures memory { IsMemory append_error result → B.asks ≡ true }
+    ensures borrows { B.borrows builder.new ≡ B.borrows builder.old }
+    ensures turns { turns.new ≤ turns.old + length (parts_of rest.entry) }
+    ensures passed { OnOk result (length rest.entry + 16 * turns.old ≤ 16 * turns.new) }
+    ensures kept { turns.old ≤ turns.new }
 {
-    builder.append_slice(good)?;
-    builder.append_slice(replacement)
+    let mut encoded = [0; 4];
+    let mark = replacement.encode_utf8(&mut encoded[..]).as_bytes();
+    let mut rest = rest;
+    append_chunk(builder, &first, mark)?;
+    while let Some(chunk) = rest.next_counted(turns) {
+        append_chunk(builder, &chunk, mark)?;
+    }
+    Ok(())
+}
+
+/// Appends the text of a chunk, with the mark in the place of its bad part.
+fn append_chunk<B: OctetsBuilder>(
+    builder: &mut B,
+    chunk: &Utf8Chunk<'_>,
+    mark: &[u8],
+) -> Result<(), AppendError>
+    ensures text { OnOk result (B.content builder.new
+        ≡ B.content builder.old ++ (chunk.now.valid ++ mark_of mark.now chunk.now.invalid)) }
+    ensures front { OnErr result (IsFront (B.content builder.old) (B.content builder.new)) }
+    ensures short { IsShort append_error result → IsPast B.limit
+        (length (B.content builder.old ++ (chunk.now.valid ++ mark_of mark.now chunk.now.invalid))) }
+    ensures within { OnOk result (IsWithin B.limit (length (B.content builder.new))) }
+    ensures memory { IsMemory append_error result → B.asks ≡ true }
+    ensures borrows { B.borrows builder.new ≡ B.borrows builder.old }
+{
+    builder.append_slice(chunk.valid().as_bytes())?;
+    if chunk.invalid().is_empty() {
+        return Ok(());
+    }
+    builder.append_slice(mark)
 }

@@ -1,0 +1,73 @@
+-- What lossy readings answer.
+use Rattle.std.proofs.Common.{◌≡◌, ℕ, List, ◌++◌, length, Option, Result, Ok, Err, IfOk, IsErr, refl, ap, sym, ◌∙◌, subst}
+use Rattle.std.proofs.lemmas.Result.{IfOk-weaker}
+use Rattle.octseq_core.specs.Limit.{IsPast}
+use Rattle.octseq_core.specs.Refusal.{Refusal, IsShort, IsMemory}
+use Rattle.octseq_utf8.specs.Encoding.{IsCharacter}
+use Rattle.octseq_utf8.specs.Parts.{Part, Splits, text_with}
+use Rattle.octseq_utf8.specs.Reading.{parts_of}
+use Rattle.octseq_utf8.specs.Text.{IsWellFormed}
+use Rattle.octseq_utf8.proofs.LossyTexts.{text_well_formed, text_same, text_with_long}
+use Rattle.octseq_utf8.proofs.Splitting.{splits, only_parts, one_splitting}
+use Rattle.octseq_utf8.proofs.Texts.{well_formed-append}
+use Rattle.octseq_text.specs.Lossy.{ReadsLossily}
+
+-- a call that answers the text of the octets' parts as the finder reads them reads lossily
+module _ {A E : Type 0} (tells : E → Refusal) (limit : Option ℕ) (requests : Type 0) (w : ℕ) (front octets : List ℕ) (content : A → List ℕ) (result : Result A E) where
+  whole : List Part → List ℕ
+  whole parts = front ++ text_with w parts
+
+  all_good : IsCharacter w → IsWellFormed front → IfOk result (λ made. content made ≡ whole (parts_of octets)) → IfOk result (λ made. IsWellFormed (content made))
+  all_good h good text = IfOk-weaker result (λ made. content made ≡ whole (parts_of octets)) _
+      (λ made e. subst IsWellFormed (sym e) (well_formed-append front (text_with w (parts_of octets)) good (text_well_formed w h (splits octets)))) text
+
+  pub reads_lossily : IsCharacter w → IsWellFormed front
+      → IfOk result (λ made. content made ≡ front ++ text_with w (parts_of octets))
+      → (IsShort tells result → IsPast limit (length (front ++ text_with w (parts_of octets))))
+      → (IsPast limit (length (front ++ text_with w (parts_of octets))) → IsErr result)
+      → (IsMemory tells result → requests)
+      → ReadsLossily tells limit requests w front octets content result
+  reads_lossily h good text short past memory = record {
+    one_splitting = λ parts others s t. one_splitting s t;
+    splitting = (parts_of octets, splits octets);
+    text = IfOk-weaker result (λ made. content made ≡ whole (parts_of octets)) _ (λ made e parts s. e ∙ ap whole (sym (only_parts s))) text;
+    well_formed = all_good h good text;
+    short = λ refused parts s. subst (λ ps. IsPast limit (length (whole ps))) (sym (only_parts s)) (short refused);
+    past = λ parts s p. past (subst (λ ps. IsPast limit (length (whole ps))) (only_parts s) p);
+    memory = memory;
+    again = IfOk-weaker result (λ made. IsWellFormed (content made)) _ (λ made made_good v parts s. text_same v (content made) parts made_good s) (all_good h good text);
+    other = λ n. IfOk-weaker result (λ made. IsWellFormed (content made)) _ (λ made made_good e. n (subst IsWellFormed e made_good)) (all_good h good text);
+    no_shorter = λ three parts s. text_with_long w three s;
+  }
+
+-- The same answer, told by another error. Where there is no limit, none is short.
+
+module _ {A E F : Type 0} (tells : E → Refusal) (told : F → Refusal) (limit : Option ℕ) (requests : Type 0) (w : ℕ) (front octets : List ℕ) (content : A → List ℕ) where
+  pub ok_again : (made : A) → ReadsLossily tells limit requests w front octets content (Ok made) → ReadsLossily told limit requests w front octets content (Ok made)
+  ok_again made r = record {
+    one_splitting = r.one_splitting;
+    splitting = r.splitting;
+    text = r.text;
+    well_formed = r.well_formed;
+    short = λ refused. absurd refused;
+    past = r.past;
+    memory = λ refused. absurd refused;
+    again = r.again;
+    other = r.other;
+    no_shorter = r.no_shorter;
+  }
+
+  pub memory_again : (e : E) (f : F) → IsMemory tells (Err {T = A} e) → (IsShort told (Err {T = A} f) → ⊥) → ReadsLossily tells limit requests w front octets content (Err e)
+      → ReadsLossily told limit requests w front octets content (Err f)
+  memory_again e f memory long r = record {
+    one_splitting = r.one_splitting;
+    splitting = r.splitting;
+    text = tt;
+    well_formed = tt;
+    short = λ refused. absurd (long refused);
+    past = λ parts s p. refl;
+    memory = λ refused. r.memory memory;
+    again = tt;
+    other = λ n. tt;
+    no_shorter = r.no_shorter;
+  }
