@@ -36,7 +36,8 @@ signed_code k z v x y fits also e =
 
 -- a part is as long as its length's octets and its own together
 pub length_part : (k : ℕ) (octets : List ℕ) → length (part_of k octets) ≡ k + length octets
-length_part k octets = length-append (octets_be k (length octets)) octets ∙ ap (λ n. n + length octets) (length_be k (length octets))
+length_part k octets =
+    length-append (octets_be k (length octets)) octets ∙ ap (λ n. n + length octets) (length_be k (length octets))
 
 pub part_code : (k : ℕ) → IsCode (λ octets. length octets < 256 ^ k) (part_of k)
 part_code k a b x y fits also e =

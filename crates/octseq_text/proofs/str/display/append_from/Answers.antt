@@ -27,5 +27,6 @@ returns-in-Ok-clause-past g c =
     let limit = g.B.AsOctets.limit in
     let content = g.B.AsOctets.content c.args.text.now in
     IfSome_then (g.D.Display.output c.args.value) (returns-in-Ok-clause-ok g c)
-    (λ octets appended past. absurd (within_not_past limit _ c.as_slice-lent.ensures.within
-        (subst (IsPast limit) (sym (ap length (c.as_slice-lent.ensures.content ∙ appended) ∙ length-append content octets)) past)))
+    (λ octets appended past.
+    let long = ap length (c.as_slice-lent.ensures.content ∙ appended) ∙ length-append content octets in
+    absurd (within_not_past limit _ c.as_slice-lent.ensures.within (subst (IsPast limit) (sym long) past)))
