@@ -11,10 +11,10 @@ pub mod Written
 pub mod WrittenBack
 pub use Rattle.octseq_core.proofs.Limits
 pub use Rattle.octseq_text.proofs.Boundaries
-pub use Rattle.octseq_text.proofs.Order
-pub use Rattle.octseq_text.proofs.PartLimits
 pub use Rattle.octseq_text.proofs.Bridge
 pub use Rattle.octseq_text.proofs.LossyTexts
+pub use Rattle.octseq_text.proofs.Order
+pub use Rattle.octseq_text.proofs.PartLimits
 pub use Rattle.octseq_text.proofs.Spelling
 pub use Rattle.octseq_text.proofs.Splitting
 pub use Rattle.octseq_text.proofs.Texts

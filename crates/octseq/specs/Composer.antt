@@ -19,20 +19,18 @@ abbrev pub refusal_of : AppendError → ComposeError
 refusal_of (AppendError.Short e) = Short
 refusal_of AppendError.Memory = Memory
 
--- A call adds a part, with its length in k octets. It is refused as too long exactly where its length doesn't fit them, else as short
--- exactly where the content would pass its limit, for memory only where the type requests memory, and then the content stays.
-pub record AppendsPart (limit : Option ℕ) (asks : Bool) (result : Result (Unit {0}) ComposeError) (k : ℕ) (part old new : List ℕ) : Type 0 where
-  pub ok : OnOk result (new ≡ old ++ part_of k part)
-  pub err : OnErr result (new ≡ old)
-  pub too_long : IsTooLong compose_error result ↔ (256 ^ k ≤ length part)
-  pub short : IsShort compose_error result ↔ (length part < 256 ^ k) × IsPast limit (length old + length (part_of k part))
-  pub memory : IsMemory compose_error result → asks ≡ true
-
--- A call adds the octets of an integer, k of them. It is refused as too long exactly where the integer doesn't fit them, else as short
--- exactly where the content would pass its limit, for memory only where the type requests memory, and then the content stays.
+-- A call adds the octets of an integer, k of them. It is refused as too long exactly where the integer doesn't fit
+-- them, else as short exactly where the content would pass its limit, for memory only where the type requests memory,
+-- and then the content stays.
 pub record AppendsInteger (limit : Option ℕ) (asks : Bool) (result : Result (Unit {0}) ComposeError) (k integer : ℕ) (octets old new : List ℕ) : Type 0 where
   pub ok : OnOk result (new ≡ old ++ octets)
   pub err : OnErr result (new ≡ old)
   pub too_long : IsTooLong compose_error result ↔ (256 ^ k ≤ integer)
   pub short : IsShort compose_error result ↔ (integer < 256 ^ k) × IsPast limit (length old + length octets)
   pub memory : IsMemory compose_error result → asks ≡ true
+
+-- A call adds a part: its length, an integer in k octets, and its own octets behind it. It is refused as too long
+-- exactly where its length doesn't fit them, and for the rest as that integer with octets behind it would be.
+abbrev pub AppendsPart : (limit : Option ℕ) (asks : Bool) (result : Result (Unit {0}) ComposeError) (k : ℕ)
+    → (part old new : List ℕ) → Type 0
+AppendsPart limit asks result k part old new = AppendsInteger limit asks result k (length part) (part_of k part) old new

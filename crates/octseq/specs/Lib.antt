@@ -5,15 +5,16 @@ pub mod Integer
 pub mod Parser
 pub mod Part
 pub mod Refusal
-pub mod WindowReply
-pub mod WindowRun
 pub mod Shown
 pub mod Window
+pub mod WindowReply
+pub mod WindowRun
 pub use Rattle.octseq_core.specs.Appends
 pub use Rattle.octseq_core.specs.ArrayOctets
 pub use Rattle.octseq_core.specs.Cow
 pub use Rattle.octseq_core.specs.Lends
 pub use Rattle.octseq_core.specs.Limit
+pub use Rattle.octseq_core.specs.Shown as AppendShown
 pub use Rattle.octseq_text.specs.Display
 pub use Rattle.octseq_text.specs.Encoding
 pub use Rattle.octseq_text.specs.Fault

@@ -1,5 +1,6 @@
 //! Values that are shown at the end of a text.
-ghost use Rattle.std.specs.Prelude.{◌≡◌, ◌≢◌, ◌++◌, None, true, decimal, OnOk, OnErr};
+ghost use Rattle.std.specs.Prelude.{◌≡◌, ◌≢◌, ◌+◌, ◌++◌, None, true, length, decimal, IsErr, OnOk, OnErr};
+ghost use Rattle.octseq.specs.Limit.{IsPast};
 ghost use Rattle.octseq.specs.Refusal.{IsShort, IsMemory, display_error};
 
 use octseq::str::DisplayError;
@@ -31,6 +32,7 @@ pub fn push_number<B: OctetsBuilder + Truncate>(
     ensures ok { OnOk result (B.content text.new ≡ B.content text.old ++ decimal n) }
     ensures err { OnErr result (B.content text.new ≡ B.content text.old) }
     ensures short { IsShort display_error result → B.limit ≢ None }
+    ensures past { IsPast B.limit (length (B.content text.old) + length (decimal n)) → IsErr result }
     ensures memory { IsMemory display_error result → B.asks ≡ true }
     ensures borrows { B.borrows text.new ≡ B.borrows text.old }
 {

@@ -1,9 +1,10 @@
--- Why a call was refused, in words that mean the same for every error. The first argument of a word is what the error tells.
+-- Why a call was refused, in words that mean the same for every error. The first argument of a word is what the
+-- error tells.
 use Rattle.std.specs.Prelude.{Result, Ok, Err}
 use Rattle.octseq_core.specs.declared.builder.AppendError.{AppendError}
 
--- A content would have passed its type's limit, or fewer octets were left than were asked for; a request for memory was refused; a number
--- doesn't fit its octets; octets don't have their form, or a value has none that can be shown.
+-- A content would have passed its type's limit, or fewer octets were left than were asked for; a request for memory
+-- was refused; a number doesn't fit its octets; octets don't have their form, or a value has none that can be shown.
 pub data Refusal : Type 0 where
   short memory too_long malformed : Refusal
 
@@ -20,15 +21,19 @@ abbrev pub IsRefused : {T E : Type 0} → Refusal → (E → Refusal) → Result
 IsRefused refusal tells (Ok value) = ⊥
 IsRefused refusal tells (Err e) = Is refusal (tells e)
 
+-- refused as short: by a limit, or as too few octets were left
 abbrev pub IsShort : {T E : Type 0} → (E → Refusal) → Result T E → Type 0
 IsShort tells result = IsRefused Refusal.short tells result
 
+-- refused as a request for memory was refused
 abbrev pub IsMemory : {T E : Type 0} → (E → Refusal) → Result T E → Type 0
 IsMemory tells result = IsRefused Refusal.memory tells result
 
+-- refused as a length or an integer doesn't fit its octets
 abbrev pub IsTooLong : {T E : Type 0} → (E → Refusal) → Result T E → Type 0
 IsTooLong tells result = IsRefused Refusal.too_long tells result
 
+-- refused as octets don't have their form, or a value can't be shown
 abbrev pub IsMalformed : {T E : Type 0} → (E → Refusal) → Result T E → Type 0
 IsMalformed tells result = IsRefused Refusal.malformed tells result
 

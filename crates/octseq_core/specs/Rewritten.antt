@@ -1,4 +1,5 @@
--- A content that was written over.
+-- A content that was written over. The law stands here since an `impl` cites it, which can't cite a proof of its own
+-- crate.
 use Rattle.std.specs.Prelude.{◌≡◌, ℕ, List, ◌++◌, length, take}
 use Rattle.std.proofs.Common.{subst}
 use Rattle.std.proofs.Math.Seq.{take-append_seam}
@@ -6,4 +7,5 @@ use Rattle.std.proofs.Math.Seq.{take-append_seam}
 -- the first of these octets, as many as there are, whatever stands behind them
 pub taken_whole : (octets behind : List ℕ) (n : ℕ) → length octets ≡ n → take n (octets ++ behind) ≡ octets
 taken_whole octets behind n same =
-    let Front : ℕ → Type 0 = λ m. take m (octets ++ behind) ≡ octets in subst Front same (take-append_seam octets behind)
+    let Front : ℕ → Type 0 = λ m. take m (octets ++ behind) ≡ octets in
+    subst Front same (take-append_seam octets behind)

@@ -5,12 +5,13 @@ use Rattle.std.proofs.Math.Seq.{take-length, drop-cons}
 use Rattle.std.proofs.lemmas.List.{take-append-le, length-append, length-take}
 use Rattle.std.specs.List.{AllByRecursion}
 use Rattle.std.specs.Prelude.{Option, ◌↔◌, Result, Ok, Err, IsErr}
+use Rattle.octseq.proofs.Codes.{length_part}
 use Rattle.octseq.proofs.Limits.{past_more}
 use Rattle.octseq.specs.declared.compose.ComposeError.{ComposeError}
 use Rattle.octseq.specs.Limit.{IsPast}
 use Rattle.octseq.specs.Part.{part_of}
 use Rattle.octseq.specs.Refusal.{IsShort, compose_error}
-use Rattle.octseq_uses.proofs.Names.{length_part, name_step, long_name, longer_name}
+use Rattle.octseq_uses.proofs.Names.{name_step, long_name, longer_name}
 use Rattle.octseq_uses.specs.Name.{IsLabel, name_of, IsNameWithin, IsName}
 
 -- The labels from a place on are those of a name in so much room, exactly where all are those of a name.
@@ -45,7 +46,7 @@ from_next show labels default place next room less within step is fits count so_
 pub from_last : {W : Type 0} (show : W → List ℕ) (labels : List W) (place room : ℕ) → length labels ≤ place → IsNameFrom show labels place room → IsName (map show labels)
 from_last show labels place room past so_far =
     let some = so_far.some in
-    let root = length_part [] in
+    let root = length_part 1 [] in
     so_far.back (subst (λ others. IsNameWithin room (map show others)) (sym (drop_of_length-le labels past)) (tt, omega arith))
 
 -- the label at a place in a name

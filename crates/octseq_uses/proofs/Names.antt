@@ -3,17 +3,13 @@ use Rattle.std.proofs.Common.{◌≡◌, ◌≢◌, ℕ, ◌+◌, ◌-◌, ◌<�
 use Rattle.std.proofs.lemmas.Grind.{flat_map-append}
 use Rattle.std.proofs.lemmas.List.{append-nil, length-append}
 use Rattle.std.specs.List.{AllByRecursion}
-use Rattle.octseq.proofs.Codes.{integer_code, part_code, too_few}
+use Rattle.octseq.proofs.Codes.{integer_code, part_code, length_part, too_few}
 use Rattle.octseq.proofs.Repeats.{each_snoc}
-use Rattle.octseq.proofs.Written.{length_be}
 use Rattle.octseq.specs.Code.{IsCode}
 use Rattle.octseq.specs.Integer.{octets_be}
 use Rattle.octseq.specs.Part.{part_of}
 use Rattle.octseq.specs.Window.{Window, left, rest}
 use Rattle.octseq_uses.specs.Name.{IsLabel, labels_of, name_of, IsNameWithin, IsName, HasNameWithin, HasName}
-
-pub length_part : (label : List ℕ) → length (part_of 1 label) ≡ 1 + length label
-length_part label = length-append (octets_be 1 (length label)) label ∙ ap (λ n. n + length label) (length_be 1 (length label))
 
 -- the first label, and the name of the others
 pub name_step : (label : List ℕ) (labels : List (List ℕ)) → name_of (label ∷ labels) ≡ part_of 1 label ++ name_of labels
@@ -24,11 +20,11 @@ first_label label more labels =
     ap (λ x. x ++ more) (name_step label labels) ∙ append_assoc (part_of 1 label) (name_of labels) more
 
 pub long_name : (labels : List (List ℕ)) → 1 ≤ length (name_of labels)
-long_name labels = let root = length_part [] in omega (arith, length-append (labels_of labels) (part_of 1 []), root)
+long_name labels = let root = length_part 1 [] in omega (arith, length-append (labels_of labels) (part_of 1 []), root)
 
 pub longer_name : (label : List ℕ) (labels : List (List ℕ)) → length (name_of (label ∷ labels)) ≡ 1 + length label + length (name_of labels)
 longer_name label labels =
-    let part = length_part label in
+    let part = length_part 1 label in
     ap length (name_step label labels) ∙ omega (arith, length-append (part_of 1 label) (name_of labels), part)
 
 -- a label isn't the root's
@@ -104,7 +100,7 @@ pub read_more : (octets before after label : List ℕ) (labels made : List (List
 read_more octets before after label labels made room less so_far is fits front made_is count_less =
     let joined : labels_of made ≡ labels_of labels ++ part_of 1 label =
     ap labels_of made_is ∙ flat_map-append (part_of 1) labels (label ∷ []) ∙ ap (λ x. labels_of labels ++ x) (append-nil (part_of 1 label)) in
-    let part = length_part label in
+    let part = length_part 1 label in
     let long = ap length joined ∙ length-append (labels_of labels) (part_of 1 label) in
     let count = so_far.count in
     record {
@@ -119,7 +115,7 @@ pub read_name : (octets rest : List ℕ) (labels : List (List ℕ)) (room : ℕ)
 read_name octets rest labels room so_far =
     let count = so_far.count in
     let some = so_far.some in
-    let root = length_part [] in
+    let root = length_part 1 [] in
     let long = length-append (labels_of labels) (part_of 1 []) in
     (so_far.each, omega arith)
 

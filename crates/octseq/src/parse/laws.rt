@@ -15,5 +15,6 @@ pub fn nothing_is_lost()
 /// are kept.
 pub fn one_run()
     ensures { (asks others : Bool) (windows : List Window) (commands : List ParserCommand) (x y : List WindowReply)
-        → WindowRun asks windows commands x → WindowRun others windows commands y → IsWithoutMemory x → IsWithoutMemory y → x ≡ y }
+        → WindowRun asks windows commands x → WindowRun others windows commands y
+        → IsWithoutMemory x → IsWithoutMemory y → x ≡ y }
 {}

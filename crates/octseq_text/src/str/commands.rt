@@ -70,7 +70,8 @@ fn truncate<B: OctetsBuilder + Truncate>(builder: &mut StrBuilder<B>, len: usize
 
 /// One command.
 fn step<B: OctetsBuilder + Truncate>(builder: &mut StrBuilder<B>, command: &Command) -> Reply
-    ensures step { TextStep B.limit B.asks (chars (B.content builder.old)) command.now result (chars (B.content builder.new)) }
+    ensures step { TextStep B.limit B.asks (chars (B.content builder.old)) command.now result
+        (chars (B.content builder.new)) }
     ensures borrows { B.borrows builder.new ≡ B.borrows builder.old }
 {
     match *command {

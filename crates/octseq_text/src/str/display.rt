@@ -1,6 +1,7 @@
 //! Values that are shown at the end of a text.
-ghost use Rattle.std.specs.Prelude.{◌≡◌, ◌≢◌, ◌++◌, ℕ, List, [], Some, None, true, false, take, drop, length, IfSome, OnOk, OnErr};
+ghost use Rattle.std.specs.Prelude.{◌≡◌, ◌≢◌, ◌+◌, ◌++◌, ℕ, List, [], Some, None, true, false, take, drop, length, IsErr, IfSome, OnOk, OnErr};
 ghost use Rattle.std.specs.Borrow.{GName};
+ghost use Rattle.octseq_core.specs.Limit.{IsPast};
 ghost use Rattle.octseq_core.specs.Refusal.{Refusal, Is, IsShort, IsMemory};
 ghost use Rattle.octseq_text.specs.Display.{display_error};
 ghost use Rattle.octseq_utf8.specs.Text.{begins_within};
@@ -65,7 +66,7 @@ impl<Octets: OctetsBuilder> fmt::Write for StrBuilder<Octets> {
 }
 
 impl<Octets: OctetsBuilder + Truncate> StrBuilder<Octets> {
-    /// Appends a value as `{}` shows it, or nothing.
+    /// Appends a value as `{}` shows it, or nothing. A value whose text would pass the limit is never appended.
     ///
     /// # Errors
     ///
@@ -78,6 +79,8 @@ impl<Octets: OctetsBuilder + Truncate> StrBuilder<Octets> {
         ensures err { OnErr result (Octets.content self.new ≡ Octets.content self.old) }
         ensures front { take (length (Octets.content self.old)) (Octets.content self.new) ≡ Octets.content self.old }
         ensures short { IsShort display_error result → Octets.limit ≢ None }
+        ensures past { IfSome (D.output value)
+            (λ octets. IsPast Octets.limit (length (Octets.content self.old) + length octets) → IsErr result) }
         ensures memory { IsMemory display_error result → Octets.asks ≡ true }
         ensures borrows { Octets.borrows self.new ≡ Octets.borrows self.old }
     {
@@ -152,6 +155,8 @@ fn append_from<'a, K: Begun, B: OctetsBuilder + Truncate, D: Display + Drop>(
     ensures err { OnErr result.answer (B.content result.text.now ≡ B.content text.old) }
     ensures front { take (length (B.content text.old)) (B.content result.text.now) ≡ B.content text.old }
     ensures short { IsShort display_error result.answer → B.limit ≢ None }
+    ensures past { IfSome (D.output value)
+        (λ octets. IsPast B.limit (length (B.content text.old) + length octets) → IsErr result.answer) }
     ensures memory { IsMemory display_error result.answer → B.asks ≡ true }
     ensures borrows { B.borrows result.text.now ≡ B.borrows text.old }
 {
@@ -163,14 +168,14 @@ fn append_from<'a, K: Begun, B: OctetsBuilder + Truncate, D: Display + Drop>(
     };
     let written = writer.write(value);
     let Appending { text, refusal, .. } = writer;
+    // What is lent is well formed, as the cut asks, and within the limit.
+    let _lent = text.as_slice();
     match written {
         Ok(()) => Appended {
             text,
             answer: Ok(()),
         },
         Err(_) => {
-            // That the text is well formed is what its cut asks.
-            let _well_formed = text.as_slice();
             text.truncate(len);
             Appended {
                 text,
