@@ -5,7 +5,7 @@ use Rattle.std.proofs.lemmas.List.{length-map}
 use Rattle.std.specs.List.{concat, AllByRecursion}
 use Rattle.octseq_utf8.specs.Encoding.{IsEncoding, number_of}
 use Rattle.octseq_utf8.specs.Fault.{Fault, IsFault, fault_end}
-use Rattle.octseq_utf8.specs.Parts.{IsBeginning}
+use Rattle.octseq_utf8.specs.Parts.{IsBeginning, Part, Splits, nothing, encoding, bad_part}
 use Rattle.octseq_utf8.specs.Reading.{width_of, width}
 use Rattle.octseq_utf8.specs.Text.{IsWellFormed, chars}
 use Rattle.octseq_utf8.proofs.Beginnings.{beginning_fits, beginning_short}
@@ -13,13 +13,15 @@ use Rattle.octseq_utf8.proofs.Fits.{get_left}
 use Rattle.octseq_utf8.proofs.Mixed.{spelled_few}
 use Rattle.octseq_utf8.proofs.Rows.{length_of}
 use Rattle.octseq_utf8.proofs.Spelling.{chars_of}
-use Rattle.octseq_utf8.proofs.Splitting.{encoding_fitting}
+use Rattle.octseq_utf8.proofs.Splitting.{bad_some, encoding_fitting}
 use Rattle.octseq_text.proofs.Piecewise.{none_before}
-use Rattle.octseq_text.proofs.Replacing.{end_bounds, front_is}
+use Rattle.octseq_utf8.proofs.AtFault.{end_bounds, front_is}
 
--- there are no more characters than octets
-pub chars_few : (x : List ℕ) → IsWellFormed x → length (chars x) ≤ length x
-chars_few x (cs, s) = omega (arith, spelled_few s, ap length (chars_of s))
+-- there are no more parts than octets
+pub parts_few : {x : List ℕ} {parts : List Part} → Splits x parts → length parts ≤ length x
+parts_few nothing = omega arith
+parts_few (encoding {e} {rest = r} p s) = let few = parts_few s in let long = length_of p in omega (arith, length-append e r)
+parts_few (bad_part {bad = p} {rest = r} b s) = let few = parts_few s in let some = bad_some b in omega (arith, length-append p r)
 
 -- nor more turns to a fault than octets to its end
 pub turns_few : (x : List ℕ) (fault : Fault) → IsFault x fault → (length (chars (take fault.place x)) + 1 ≤ fault_end x fault) × (fault_end x fault ≤ length x)
@@ -29,22 +31,6 @@ turns_few x fault f =
     let few = spelled_few f.good.1 in
     let same : chars (take fault.place x) ≡ f.good.0 = ap chars (front_is x fault f) ∙ chars_of f.good.1 in
     (omega (arith, ap length same), omega arith)
-
--- a fault that reaches the end
-pub open_end_is : (x : List ℕ) (fault : Fault) → IsFault x fault → fault.size ≡ None → fault_end x fault ≡ length x
-open_end_is x fault f none =
-    let bounds = end_bounds x fault f in
-    let e = ap (λ size. fault.place + unwrap_or size (length x - fault.place)) none in
-    omega arith
-
--- Of n octets a rest is left, and there were no more turns than octets before it: so it is behind the fault of the rest, and behind its end.
-
-module _ (n : ℕ) (rest : List ℕ) (old mid now : ℕ) (few : mid + length rest ≤ old + n) where
-  pub counted_fault : (fault : Fault) → IsFault rest fault → now ≤ mid + length (chars (take fault.place rest)) + 1 → now + length (drop (fault_end rest fault) rest) ≤ old + n
-  counted_fault fault f turns = let most = turns_few rest fault f in omega (arith, length-drop (fault_end rest fault) rest)
-
-  pub counted_last : IsWellFormed rest → now ≤ mid + length (chars rest) → now ≤ old + n
-  counted_last w turns = let most = chars_few rest w in omega arith
 
 -- A beginning with one octet behind it has one turn.
 

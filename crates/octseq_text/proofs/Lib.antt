@@ -2,6 +2,7 @@ pub mod Edges
 pub mod Steps
 pub mod Runs
 pub mod Replacing
+pub mod LossyReadings
 pub mod Order
 pub mod Boundaries
 pub mod Ends
@@ -12,6 +13,7 @@ pub mod Piecewise
 pub mod Counting
 pub mod PartLimits
 pub use Rattle.octseq_utf8.proofs.Bridge
+pub use Rattle.octseq_utf8.proofs.ByChunk
 pub use Rattle.octseq_utf8.proofs.LossyTexts
 pub use Rattle.octseq_utf8.proofs.Spelling
 pub use Rattle.octseq_utf8.proofs.Splitting

@@ -1,5 +1,5 @@
 -- What lossy readings answer.
-use Rattle.std.proofs.Common.{◌≡◌, ℕ, List, ◌++◌, length, Option, Result, Ok, Err, IfOk, IsErr, refl, ap, sym, ◌∙◌, subst}
+use Rattle.std.proofs.Common.{◌≡◌, ℕ, List, ◌++◌, length, Option, Result, IfOk, IsErr, ap, sym, ◌∙◌, subst}
 use Rattle.std.proofs.lemmas.Result.{IfOk-weaker}
 use Rattle.octseq_core.specs.Limit.{IsPast}
 use Rattle.octseq_core.specs.Refusal.{Refusal, IsShort, IsMemory}
@@ -14,7 +14,7 @@ use Rattle.octseq_text.specs.Lossy.{ReadsLossily}
 
 -- a call that answers the text of the octets' parts as the finder reads them reads lossily
 module _ {A E : Type 0} (tells : E → Refusal) (limit : Option ℕ) (requests : Type 0) (w : ℕ) (front octets : List ℕ) (content : A → List ℕ) (result : Result A E) where
-  whole : List Part → List ℕ
+  abbrev whole : List Part → List ℕ
   whole parts = front ++ text_with w parts
 
   all_good : IsCharacter w → IsWellFormed front → IfOk result (λ made. content made ≡ whole (parts_of octets)) → IfOk result (λ made. IsWellFormed (content made))
@@ -38,36 +38,4 @@ module _ {A E : Type 0} (tells : E → Refusal) (limit : Option ℕ) (requests :
     again = IfOk-weaker result (λ made. IsWellFormed (content made)) _ (λ made made_good v parts s. text_same v (content made) parts made_good s) (all_good h good text);
     other = λ n. IfOk-weaker result (λ made. IsWellFormed (content made)) _ (λ made made_good e. n (subst IsWellFormed e made_good)) (all_good h good text);
     no_shorter = λ three parts s. text_with_long w three s;
-  }
-
--- The same answer, told by another error. Where there is no limit, none is short.
-
-module _ {A E F : Type 0} (tells : E → Refusal) (told : F → Refusal) (limit : Option ℕ) (requests : Type 0) (w : ℕ) (front octets : List ℕ) (content : A → List ℕ) where
-  pub ok_again : (made : A) → ReadsLossily tells limit requests w front octets content (Ok made) → ReadsLossily told limit requests w front octets content (Ok made)
-  ok_again made r = record {
-    one_splitting = r.one_splitting;
-    splitting = r.splitting;
-    text = r.text;
-    well_formed = r.well_formed;
-    short = λ refused. absurd refused;
-    past = r.past;
-    memory = λ refused. absurd refused;
-    again = r.again;
-    other = r.other;
-    no_shorter = r.no_shorter;
-  }
-
-  pub memory_again : (e : E) (f : F) → IsMemory tells (Err {T = A} e) → (IsShort told (Err {T = A} f) → ⊥) → ReadsLossily tells limit requests w front octets content (Err e)
-      → ReadsLossily told limit requests w front octets content (Err f)
-  memory_again e f memory long r = record {
-    one_splitting = r.one_splitting;
-    splitting = r.splitting;
-    text = tt;
-    well_formed = tt;
-    short = λ refused. absurd (long refused);
-    past = λ parts s p. refl;
-    memory = λ refused. r.memory memory;
-    again = tt;
-    other = λ n. tt;
-    no_shorter = r.no_shorter;
   }

@@ -1,11 +1,12 @@
 -- A lossy reading in pieces: what is read of a piece, and what is then held.
-use Rattle.std.specs.Prelude.{is_some}
+use Rattle.std.specs.Prelude.{is_some, IsTrue}
 use Rattle.std.proofs.Common.{Bool, true, false, ◌≡◌, ◌≢◌, ℕ, suc, ◌+◌, ◌<◌, ◌≤◌, List, [], ◌∷◌, ◌++◌, map, length, get_or, take, drop, refl, arith, ◌⊎◌, inl, inr, ⊎_elim, ap, sym, ◌∙◌, subst, append_assoc, length-append, Option, Some, None}
 use Rattle.std.proofs.Math.Seq.{take-append_seam, drop-append_seam, drop-cons, take-suc}
 use Rattle.std.proofs.lemmas.List.{append-nil, take-append-drop}
 use Rattle.std.specs.List.{concat, AllByRecursion}
 use Rattle.octseq_core.specs.Limit.{IsWithin, IsPast}
 use Rattle.octseq_core.specs.declared.builder.AppendError.{AppendError}
+use Rattle.octseq_utf8.specs.Chunk.{Chunk, IsFirstChunk}
 use Rattle.octseq_utf8.specs.Encoding.{IsEncoding, encoding_of}
 use Rattle.octseq_utf8.specs.Fault.{Fault, IsFault, IsFaultSize, fault_end}
 use Rattle.octseq_utf8.specs.Parts.{IsFront, IsBeginning, IsBadPart, Part, Char, Bad, Splits, nothing, text}
@@ -18,10 +19,13 @@ use Rattle.octseq_utf8.proofs.Beginnings.{beginning_fits, beginning_short, nil_o
 use Rattle.octseq_utf8.proofs.Fits.{get_left}
 use Rattle.octseq_utf8.proofs.LossyTexts.{replacement_is_character, text_well_formed}
 use Rattle.octseq_core.proofs.Limits.{past_more}
-use Rattle.octseq_text.proofs.Replacing.{front_is, behind_is}
 use Rattle.octseq_utf8.proofs.Rows.{width_le}
 use Rattle.octseq_text.proofs.Settling.{reads_none, reads_more, reads_then, reads_good, reads_bad, settles_reads, one_settling, reads_settles, text-append, text-chars, text_read, snoc_some}
 use Rattle.octseq_utf8.proofs.Splitting.{bad_some, encoding_fitting, splits, one_splitting}
+
+nil_from_length : (x : List ℕ) → length x ≡ 0 → x ≡ []
+nil_from_length [] h = refl
+nil_from_length (a ∷ x) h = absurd (omega arith)
 
 -- the text grows
 
@@ -34,6 +38,10 @@ read_then {x} {y} {z} {a} s t = record {
   reads = reads_then x y z s.parts t.parts s.reads t.reads;
   grown = t.grown ∙ ap (λ u. u ++ text t.parts) s.grown ∙ append_assoc a (text s.parts) (text t.parts) ∙ ap (λ u. a ++ u) (sym (text-append s.parts t.parts));
 }
+
+-- what was appended is read
+pub read_more : {x y z t : List ℕ} (a made seen more : List ℕ) → IsRead x y t a → made ≡ a ++ seen → seen ≡ more → IsRead y z a (a ++ more) → IsRead x z t made
+read_more {x} {z = z} {t = t} a made seen more s m e r = subst (IsRead x z t) (sym (m ∙ ap (λ y. a ++ y) e)) (read_then s r)
 
 -- what can't be appended is too long
 pub too_long : (limit : Option ℕ) (more seen : List ℕ) {x y z a b : List ℕ} → seen ≡ more → IsRead x y a b → IsRead y z b (b ++ more) → IsPast limit (length b + length seen) → IsTooLong limit x a
@@ -57,44 +65,32 @@ read_good {g} {cs} z a s = record { parts = map Char cs; reads = reads_good z s;
 pub read_last : (x a : List ℕ) → IsWellFormed x → IsRead x [] a (a ++ x)
 read_last x a w = subst (λ y. IsRead y [] a (a ++ x)) (append-nil x) (read_good [] a w.1)
 
--- at a fault
-module _ (rest : List ℕ) (fault : Fault) (f : IsFault rest fault) where
-  from_fault : drop fault.place rest ≡ f.bad ++ f.after
-  from_fault = ap (λ y. drop fault.place y) f.whole ∙ ap (λ k. drop k (f.before ++ (f.bad ++ f.after))) f.place ∙ drop-append_seam f.before (f.bad ++ f.after)
+-- at a chunk
+module _ (x : List ℕ) (chunk : Chunk) (behind : List ℕ) (c : IsFirstChunk x chunk behind) where
+  -- what is valid is read
+  pub read_valid : (a : List ℕ) → IsRead x (chunk.invalid ++ behind) a (a ++ chunk.valid)
+  read_valid a = subst (λ y. IsRead y (chunk.invalid ++ behind) a (a ++ chunk.valid)) (sym c.whole) (read_good (chunk.invalid ++ behind) a c.good.1)
 
-  -- what lies before it is read
-  pub read_before : (a : List ℕ) → IsRead rest (drop fault.place rest) a (a ++ take fault.place rest)
-  read_before a =
-      let good : IsRead (f.before ++ (f.bad ++ f.after)) (f.bad ++ f.after) a (a ++ f.before) = read_good (f.bad ++ f.after) a f.good.1 in
-      subst (λ y. IsRead rest (drop fault.place rest) a (a ++ y)) (sym (front_is rest fault f))
-      (subst (λ y. IsRead rest y a (a ++ f.before)) (sym from_fault) (subst (λ y. IsRead y (f.bad ++ f.after) a (a ++ f.before)) (sym f.whole) good))
+  -- which is all, where no bad part is behind it
+  pub read_chunk : length chunk.invalid ≡ 0 → (a : List ℕ) → IsRead x behind a (a ++ chunk.valid)
+  read_chunk none a = subst (λ y. IsRead x y a (a ++ chunk.valid)) (ap (λ y. y ++ behind) (nil_from_length chunk.invalid none)) (read_valid a)
 
-  isnt_open : (size : Option ℕ) → size ≢ None → IsFaultSize f.bad f.after size → ¬ (IsBeginning f.bad × (f.after ≡ []))
-  isnt_open size n (inl h) = absurd (n h.0)
-  isnt_open size n (inr h) = h.1
+  by_cases : ¬ IsTrue chunk.incomplete → 1 ≤ length chunk.invalid → ((chunk.invalid ≡ []) × (behind ≡ [])) ⊎ IsBadPart (chunk.invalid ++ behind) chunk.invalid
+      → Reads (chunk.invalid ++ behind) behind (Bad chunk.invalid ∷ [])
+  by_cases n some (inl none) = absurd (omega (arith, ap length none.0))
+  by_cases n some (inr bad) = reads_bad chunk.invalid behind bad (λ k. n (c.cut.1 k))
 
   -- and the bad part, where it isn't an open end
-  pub read_fault : fault.size ≢ None → (a : List ℕ) → IsRead (drop fault.place rest) (drop (fault_end rest fault) rest) a (a ++ encoding_of 0xFFFD)
-  read_fault n a =
-      let bad = read_bad f.bad f.after a (reads_bad f.bad f.after f.first (isnt_open fault.size n f.size)) in
-      subst (λ y. IsRead y (drop (fault_end rest fault) rest) a (a ++ encoding_of 0xFFFD)) (sym from_fault)
-      (subst (λ y. IsRead (f.bad ++ f.after) y a (a ++ encoding_of 0xFFFD)) (sym (behind_is rest fault f)) bad)
+  pub read_invalid : ¬ IsTrue chunk.incomplete → 1 ≤ length chunk.invalid → (a : List ℕ) → IsRead (chunk.invalid ++ behind) behind a (a ++ encoding_of 0xFFFD)
+  read_invalid n some a = read_bad chunk.invalid behind a (by_cases n some c.bad)
 
-  is_open : (size : Option ℕ) → size ≡ None → IsFaultSize f.bad f.after size → IsBeginning f.bad × (f.after ≡ [])
-  is_open size e (inl h) = (h.1, h.2)
-  is_open size e (inr h) = let some = h.0 in absurd (cc)
+  -- an open end is left
+  pub read_to_end : IsTrue chunk.incomplete → (a : List ℕ) → IsRead x chunk.invalid a (a ++ chunk.valid)
+  read_to_end t a = subst (λ y. IsRead x y a (a ++ chunk.valid)) (ap (λ y. chunk.invalid ++ y) (c.cut.0 t).1 ∙ append-nil chunk.invalid) (read_valid a)
 
-  -- which is a beginning
-  pub fault_begins : fault.size ≡ None → IsBeginning (drop fault.place rest)
-  fault_begins e =
-      let o = is_open fault.size e f.size in
-      subst IsBeginning (sym (from_fault ∙ ap (λ y. f.bad ++ y) o.1 ∙ append-nil f.bad)) o.0
-
--- what lies before a fault was appended
-pub read_to_fault : (x rest t a good made : List ℕ) (fault : Fault) → IsFault rest fault → IsRead x rest t a → good ≡ take fault.place rest → made ≡ a ++ good
-    → IsRead x (drop fault.place rest) t made
-read_to_fault x rest t a good made fault f s e m =
-    subst (IsRead x (drop fault.place rest) t) (sym (m ∙ ap (λ y. a ++ y) e)) (read_then s (read_before rest fault f a))
+-- what a test answers
+pub not_so : (is told : Bool) → told ≡ is → told ≡ false → ¬ IsTrue is
+not_so is told e f t = let no : true ≡ false = sym t ∙ sym e ∙ f in absurd (cc)
 
 -- whether a fault has a size, as a test of a copy tells it
 

@@ -14,6 +14,10 @@ pub within : (limit : Option ℕ) (n : ℕ) → ¬ IsPast limit n → IsWithin l
 within None n h = tt
 within (Some l) n h = ⊎_elim (λ p. absurd (h p)) (λ q. q) (cases_lt l n)
 
+-- an append that wasn't refused as short leaves a content within the limit
+pub within_appended : (limit : Option ℕ) (new old more : List ℕ) → new ≡ old ++ more → ¬ IsPast limit (length old + length more) → IsWithin limit (length new)
+within_appended limit new old more e n = subst (IsWithin limit) (sym (ap length e ∙ length-append old more)) (within limit (length old + length more) n)
+
 -- an append that adds all or nothing keeps octets well formed
 pub well_formed-appended : {T E : Type 0} (r : Result T E) (new old more : List ℕ) → OnOk r (new ≡ old ++ more) → OnErr r (new ≡ old)
     → IsWellFormed old → IsWellFormed more → IsWellFormed new

@@ -3,13 +3,16 @@ ghost use Rattle.std.specs.Prelude.{◌≡◌, ℕ, ◌+◌, ◌<◌, ◌↔◌,
 ghost use Rattle.octseq_core.specs.Appends.{Appends};
 ghost use Rattle.octseq_core.specs.ArrayOctets.{blank};
 ghost use Rattle.octseq_core.specs.Limit.{IsWithin};
+ghost use Rattle.octseq_core.specs.Refusal.{append_error};
 ghost use Rattle.octseq_utf8.specs.Encoding.{IsEncoding, number_of, encoding_of};
 ghost use Rattle.octseq_utf8.specs.Fault.{IsFault};
+ghost use Rattle.octseq_text.specs.Lossy.{ReadsLossily};
 ghost use Rattle.octseq_text.specs.TextRun.{AppendsCharacters, append_reply, CutsTo, Pops};
 ghost use Rattle.octseq_utf8.specs.Text.{IsWellFormed, IsBoundary, chars, octets_of};
 
 use super::ends::{boundary, last_encoding};
 use super::error::FromUtf8Error;
+use super::lossy::append_lossy;
 use super::text::Str;
 use crate::utf8::{Turns, first_fault};
 use octseq_core::array::Array;
@@ -240,11 +243,13 @@ impl<Octets: AsOctets> StrBuilder<Octets> {
         ensures borrows { Octets.borrows self.new ≡ Octets.borrows self.old }
     {
         let len = self.as_slice().len();
-        let pushed = append_lossy(&mut self.octets, octets, replacement);
-        if pushed.is_err() {
-            self.octets.truncate(len);
+        match append_lossy(&mut self.octets, octets, replacement) {
+            Ok(()) => Ok(()),
+            Err(refusal) => {
+                self.octets.truncate(len);
+                Err(refusal)
+            }
         }
-        pushed
     }
 
     /// Appends all of `s`, or nothing, in a builder with no limit.

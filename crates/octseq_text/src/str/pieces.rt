@@ -10,10 +10,9 @@ ghost use Rattle.octseq_text.specs.Progress.{IsOpenEnd, IsRead, IsTooLong};
 ghost use Rattle.octseq_utf8.specs.Text.{IsWellFormed};
 
 use super::builder::StrBuilder;
-use crate::utf8::{Turns, first_fault};
+use crate::utf8::{Turns, chunks, first_fault};
 use octseq_core::array::Array;
 use octseq_core::builder::{AppendError, AsOctets, EmptyBuilder, OctetsBuilder, infallible};
-use octseq_utf8::{before, behind, onward};
 use std::alloc::{AllocError, Global};
 use std::marker::Model;
 use std::mem::replace;
@@ -270,12 +269,14 @@ fn close<'a, B: OctetsBuilder>(
     piece: &'a [u8],
     turns: &mut Turns,
 ) -> Result<Option<&'a [u8]>, AppendError>
-    requires { IsBeginning begun.old.content }
+    requires begins { IsBeginning begun.old.content }
+    requires within { IsWithin B.limit (length (B.content text.old)) }
     ensures closed { IfOk result (λ left. IfSome left (λ rest.
         IsRead (begun.old.content ++ piece.now) rest.now (B.content text.old) (B.content text.new))) }
     ensures begins { IfOk result (λ left. IfNone left (IsBeginning begun.new.content)) }
     ensures begun { IfOk result (λ left. IfNone left (begun.new.content ≡ begun.old.content ++ piece.now)) }
     ensures text { IfOk result (λ left. IfNone left (B.content text.new ≡ B.content text.old)) }
+    ensures within { OnOk result (IsWithin B.limit (length (B.content text.new))) }
     ensures short { IsShort append_error result
         → IsTooLong B.limit (begun.old.content ++ piece.now) (B.content text.old) }
     ensures memory { IsMemory append_error result → B.asks ≡ true }
@@ -311,6 +312,7 @@ fn settle<B: OctetsBuilder>(
     octets: &[u8],
     turns: &mut Turns,
 ) -> Result<Array<4>, AppendError>
+    requires within { IsWithin B.limit (length (B.content text.old)) }
     ensures read { IfOk result (λ left.
         IsRead octets.now left.content (B.content text.old) (B.content text.new)) }
     ensures open_end { IfOk result (λ left. IsOpenEnd left.content) }
@@ -321,16 +323,16 @@ fn settle<B: OctetsBuilder>(
     ensures passed { OnOk result (length octets.now + 16 * turns.old ≤ 16 * turns.new) }
     ensures kept { turns.old ≤ turns.new }
 {
-    let mut rest = octets;
-    while let Some(fault) = first_fault(rest, turns) {
-        text.append_slice(before(rest, &fault))?;
-        if fault.error_len().is_none() {
-            return Ok(open_end(onward(rest, &fault)));
+    let mut chunks = chunks(octets);
+    while let Some(chunk) = chunks.next_counted(turns) {
+        text.append_slice(chunk.valid().as_bytes())?;
+        if chunk.is_incomplete() {
+            return Ok(open_end(chunk.invalid()));
         }
-        append_replacement(text)?;
-        rest = behind(rest, &fault);
+        if !chunk.invalid().is_empty() {
+            append_replacement(text)?;
+        }
     }
-    text.append_slice(rest)?;
     Ok(Array::new())
 }
 

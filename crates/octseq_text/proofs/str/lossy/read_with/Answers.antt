@@ -29,7 +29,7 @@ returns-in-None-clause-past g c =
     let x = g.B.AsOctets.content c.args.octets in
     let nothing = sym whole ∙ c.in-None.ensures.gives.0 in
     let same = nothing ∙ nothing_added c.args.replacement [] x nothing in
-    λ p. absurd (within_not_past g.B.AsOctets.limit (length x) (subst (λ y. IsWithin g.B.AsOctets.limit (length y)) c.as_ref-content.ensures.value c.as_ref-content.ensures.within) (subst (λ y. IsPast g.B.AsOctets.limit (length y)) (sym same) p))
+    λ p. absurd (within_not_past g.B.AsOctets.limit (length x) c.as_ref-content.ensures.within (subst (λ y. IsPast g.B.AsOctets.limit (length y)) (sym same) p))
 
 pub returns-in-None-clause-turns : goal.returns-in-None-clause-turns
 returns-in-None-clause-turns g c =
@@ -57,7 +57,7 @@ returns-then-is_empty-clause-past g c =
     let chunk = subst (λ y. IsFirstChunk y c.in-Some.first c.next_counted.new.self) whole c.in-Some.ensures.gives in
     let none : length c.in-Some.first.invalid ≡ 0 = search rules in
     let good = whole_text _ _ _ chunk none in
-    λ p. absurd (within_not_past g.B.AsOctets.limit (length x) (subst (λ y. IsWithin g.B.AsOctets.limit (length y)) c.as_ref-content.ensures.value c.as_ref-content.ensures.within)
+    λ p. absurd (within_not_past g.B.AsOctets.limit (length x) c.as_ref-content.ensures.within
     (subst (λ y. IsPast g.B.AsOctets.limit (length y)) (text_well_formed_is c.args.replacement x good) p))
 
 pub returns-then-is_empty-clause-turns : goal.returns-then-is_empty-clause-turns

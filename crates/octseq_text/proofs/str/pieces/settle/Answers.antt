@@ -1,102 +1,126 @@
-use Rattle.std.proofs.Common.{length, drop, take, refl, arith, ap, length-drop}
+use Rattle.std.proofs.Common.{rules, ◌≡◌, ◌≤◌, ◌++◌, length, refl, arith, ap, sym, ◌∙◌}
 use Rattle.std.proofs.lemmas.Result.{err_from_is_err_and}
 use Rattle.octseq_utf8.specs.Encoding.{encoding_of}
-use Rattle.octseq_text.proofs.Piecewise.{read_then, read_before, read_to_fault, read_fault, read_last, too_long, fault_begins, beginning_few, size_none, size_some}
-use Rattle.octseq_utf8.specs.Fault.{fault_end}
-use Rattle.octseq_text.proofs.Counting.{counted_fault, counted_last}
+use Rattle.octseq_utf8.proofs.Splitting.{splits}
+use Rattle.octseq_text.proofs.Counting.{parts_few}
+use Rattle.octseq_text.proofs.Piecewise.{read_then, read_more, read_valid, read_chunk, read_invalid, read_to_end, too_long, beginning_few, not_so}
+use Rattle.octseq_text.proofs.Steps.{within_appended}
 use Rattle.octseq_text.proofs.str.pieces.settle.Goals as goal
 
 pub returns-in_err-append_slice-clause-short : goal.returns-in_err-append_slice-clause-short
 returns-in_err-append_slice-clause-short g c =
+    let a = g.B.AsOctets.content c.loop-chunk.text in
+    let gives = c.in-Some.ensures.gives in
+    let bytes = c.as_bytes.ensures.value ∙ c.valid.ensures in
     let p = err_from_is_err_and c.from_residual.result c.from_residual.ensures.1 in
-    let rest = c.loop-fault.rest.now in
-    let fault = c.in-Some.fault in
-    let before = read_before rest fault c.in-Some.ensures.fault (g.B.AsOctets.content c.loop-fault.text) in
     rw (p.1, p.2)
-    (λ h. too_long g.B.AsOctets.limit (take fault.place rest) c.before-in-Some.result.now c.before-in-Some.ensures c.loop-fault.invariant.read before (c.in_err-append_slice.ensures.appended.short.0 h))
+    (λ h. too_long g.B.AsOctets.limit c.in-Some.chunk.valid c.as_bytes.result.now bytes c.loop-chunk.invariant.read (read_valid _ _ _ gives a) (c.in_err-append_slice.ensures.appended.short.0 h))
+
+-- the octets end within a character
 
 pub open_end-requires : goal.open_end-requires
 open_end-requires g c =
-    let rest = c.loop-fault.rest.now in
-    let fault = c.in-Some.fault in
-    let few = beginning_few (drop fault.place rest) (fault_begins rest fault c.in-Some.ensures.fault (size_none fault.size c.error_len.result c.error_len.ensures c.if-is_none.ensures)) in
-    omega (arith, ap length c.onward.ensures)
+    let cut = sym c.is_incomplete.ensures ∙ c.if-is_incomplete.true in
+    omega (arith, ap length c.invalid.ensures, beginning_few c.in-Some.chunk.invalid (c.in-Some.ensures.gives.cut.0 cut).0)
 
-pub returns-then-is_none-clause-read : goal.returns-then-is_none-clause-read
-returns-then-is_none-clause-read g c =
-    rw (c.open_end.ensures, c.onward.ensures)
-    (read_to_fault _ _ _ _ _ _ c.in-Some.fault c.in-Some.ensures.fault c.loop-fault.invariant.read c.before-in-Some.ensures c.in_ok-append_slice.ensures.appended.ok)
+pub returns-then-is_incomplete-clause-read : goal.returns-then-is_incomplete-clause-read
+returns-then-is_incomplete-clause-read g c =
+    let a = g.B.AsOctets.content c.loop-chunk.text in
+    let gives = c.in-Some.ensures.gives in
+    let bytes = c.as_bytes.ensures.value ∙ c.valid.ensures in
+    let made = g.B.AsOctets.content c.append_slice.new.self in
+    let cut = sym c.is_incomplete.ensures ∙ c.if-is_incomplete.true in
+    rw (c.open_end.ensures, c.invalid.ensures)
+    (read_more a made c.as_bytes.result.now c.in-Some.chunk.valid c.loop-chunk.invariant.read c.in_ok-append_slice.ensures.appended.ok bytes (read_to_end _ _ _ gives cut a))
 
-pub returns-then-is_none-clause-open_end : goal.returns-then-is_none-clause-open_end
-returns-then-is_none-clause-open_end g c =
-    let fault = c.in-Some.fault in
-    rw (c.open_end.ensures, c.onward.ensures)
-    (λ some. fault_begins c.loop-fault.rest.now fault c.in-Some.ensures.fault (size_none fault.size c.error_len.result c.error_len.ensures c.if-is_none.ensures))
+-- a bad part stands behind the text
 
-pub returns-in_err-append_replacement-clause-short :
-    goal.returns-in_err-append_replacement-clause-short
+pub returns-in_err-append_replacement-clause-short : goal.returns-in_err-append_replacement-clause-short
 returns-in_err-append_replacement-clause-short g c =
+    let a = g.B.AsOctets.content c.loop-chunk.text in
+    let gives = c.in-Some.ensures.gives in
+    let bytes = c.as_bytes.ensures.value ∙ c.valid.ensures in
+    let made = g.B.AsOctets.content c.append_slice.new.self in
+    let uncut = not_so c.in-Some.chunk.incomplete c.is_incomplete.result c.is_incomplete.ensures c.if-is_incomplete.false in
+    let some : 1 ≤ length c.in-Some.chunk.invalid = search rules in
+    let valid = read_more a made c.as_bytes.result.now c.in-Some.chunk.valid c.loop-chunk.invariant.read c.in_ok-append_slice.ensures.appended.ok bytes (read_valid _ _ _ gives a) in
     let p = err_from_is_err_and c.from_residual-in_err-append_replacement.result c.from_residual-in_err-append_replacement.ensures.1 in
-    let fault = c.in-Some.fault in
-    let f = c.in-Some.ensures.fault in
     rw (p.1, p.2)
-    (λ h. too_long g.B.AsOctets.limit (encoding_of 0xFFFD) (encoding_of 0xFFFD) refl
-    (read_to_fault _ _ _ _ _ _ fault f c.loop-fault.invariant.read c.before-in-Some.ensures c.in_ok-append_slice.ensures.appended.ok)
-    (read_fault c.loop-fault.rest.now fault f (size_some fault.size c.error_len.result c.error_len.ensures c.if-is_none.ensures) (g.B.AsOctets.content c.append_slice.new.self))
-    (c.in_err-append_replacement.ensures.short.0 h))
+    (λ h. too_long g.B.AsOctets.limit (encoding_of 0xFFFD) (encoding_of 0xFFFD) refl valid (read_invalid _ _ _ gives uncut some made) (c.in_err-append_replacement.ensures.short.0 h))
 
-pub loop-fault-preserved : goal.loop-fault-preserved
-loop-fault-preserved g c =
-    let rest = c.loop-fault.rest.now in
-    let fault = c.in-Some.fault in
-    let f = c.in-Some.ensures.fault in
-    let left = length-drop (fault_end rest fault) rest in
-    let passed = c.in-Some.ensures.passed_to_fault in
-    let before = c.loop-fault.invariant.passed in
-    let kept = c.loop-fault.invariant.kept in
-    rw (c.behind-rest.ensures, c.in_ok-append_replacement.ensures.ok)
+pub loop-chunk-preserved-in-Continue-branch-2 : goal.loop-chunk-preserved-in-Continue-branch-2
+loop-chunk-preserved-in-Continue-branch-2 g c =
+    let a = g.B.AsOctets.content c.loop-chunk.text in
+    let gives = c.in-Some.ensures.gives in
+    let bytes = c.as_bytes.ensures.value ∙ c.valid.ensures in
+    let made = g.B.AsOctets.content c.append_slice.new.self in
+    let uncut = not_so c.in-Some.chunk.incomplete c.is_incomplete.result c.is_incomplete.ensures c.if-is_incomplete.false in
+    let some : 1 ≤ length c.in-Some.chunk.invalid = search rules in
+    let valid = read_more a made c.as_bytes.result.now c.in-Some.chunk.valid c.loop-chunk.invariant.read c.in_ok-append_slice.ensures.appended.ok bytes (read_valid _ _ _ gives a) in
+    let counted = c.in-Some.ensures.turns _ _ (splits _) (splits _) in
+    let before = c.loop-chunk.invariant.turns in
+    let passed = c.loop-chunk.invariant.passed in
+    let reached = c.in-Some.ensures.passed in
+    let kept = c.loop-chunk.invariant.kept in
+    let still = c.in-Some.ensures.kept in
+    rw c.in_ok-append_replacement.ensures.ok
     (record {
-      read = read_then
-          (read_to_fault _ _ _ _ _ _ fault f c.loop-fault.invariant.read c.before-in-Some.ensures c.in_ok-append_slice.ensures.appended.ok)
-          (read_fault rest fault f (size_some fault.size c.error_len.result c.error_len.ensures c.if-is_none.ensures) (g.B.AsOctets.content c.append_slice.new.self));
-      turns = counted_fault (length c.args.octets.now) rest c.args.turns.now c.loop-fault.turns _ c.loop-fault.invariant.turns fault f c.in-Some.ensures.turns_to_fault;
+      read = read_then valid (read_invalid _ _ _ gives uncut some made);
+      within = within_appended g.B.AsOctets.limit _ made (encoding_of 0xFFFD) refl (λ p. c.in_ok-append_replacement.ensures.short.1 p);
+      turns = omega arith;
       passed = omega arith;
       kept = omega arith;
     })
 
-pub returns-in_err-append_slice-2-clause-short : goal.returns-in_err-append_slice-2-clause-short
-returns-in_err-append_slice-2-clause-short g c =
-    let p = err_from_is_err_and c.from_residual-in_err-append_slice-2.result c.from_residual-in_err-append_slice-2.ensures.1 in
-    rw (p.1, p.2)
-    (λ h. too_long g.B.AsOctets.limit c.loop-fault.rest.now c.loop-fault.rest.now refl c.loop-fault.invariant.read
-    (read_last c.loop-fault.rest.now (g.B.AsOctets.content c.loop-fault.text) (c.in_default.ensures.none.0 refl)) (c.in_err-append_slice-2.ensures.appended.short.0 h))
+-- or none does
 
-pub returns-clause-read : goal.returns-clause-read
-returns-clause-read g c =
-    rw (c.new.ensures, c.in_ok-append_slice-2.ensures.appended.ok)
-    (read_then c.loop-fault.invariant.read (read_last c.loop-fault.rest.now (g.B.AsOctets.content c.loop-fault.text) (c.in_default.ensures.none.0 refl)))
+pub loop-chunk-preserved : goal.loop-chunk-preserved
+loop-chunk-preserved g c =
+    let a = g.B.AsOctets.content c.loop-chunk.text in
+    let gives = c.in-Some.ensures.gives in
+    let bytes = c.as_bytes.ensures.value ∙ c.valid.ensures in
+    let made = g.B.AsOctets.content c.append_slice.new.self in
+    let none : length c.in-Some.chunk.invalid ≡ 0 = search rules in
+    let counted = c.in-Some.ensures.turns _ _ (splits _) (splits _) in
+    let before = c.loop-chunk.invariant.turns in
+    let passed = c.loop-chunk.invariant.passed in
+    let reached = c.in-Some.ensures.passed in
+    let kept = c.loop-chunk.invariant.kept in
+    let still = c.in-Some.ensures.kept in
+    record {
+      read = read_more a made c.as_bytes.result.now c.in-Some.chunk.valid c.loop-chunk.invariant.read c.in_ok-append_slice.ensures.appended.ok bytes (read_chunk _ _ _ gives none a);
+      within = within_appended g.B.AsOctets.limit made a c.as_bytes.result.now c.in_ok-append_slice.ensures.appended.ok (λ p. c.in_ok-append_slice.ensures.appended.short.1 p);
+      turns = omega arith;
+      passed = omega arith;
+      kept = omega arith;
+    }
 
 -- the turns
 
 pub returns-in_err-append_slice-clause-turns : goal.returns-in_err-append_slice-clause-turns
 returns-in_err-append_slice-clause-turns g c =
-    let most = counted_fault (length c.args.octets.now) c.loop-fault.rest.now c.args.turns.now c.loop-fault.turns _ c.loop-fault.invariant.turns c.in-Some.fault c.in-Some.ensures.fault c.in-Some.ensures.turns_to_fault in
+    let counted = c.in-Some.ensures.turns _ _ (splits _) (splits _) in
+    let before = c.loop-chunk.invariant.turns in
+    let few = parts_few (splits c.args.octets.now) in
     omega arith
 
-pub returns-then-is_none-clause-turns : goal.returns-then-is_none-clause-turns
-returns-then-is_none-clause-turns g c =
-    let most = counted_fault (length c.args.octets.now) c.loop-fault.rest.now c.args.turns.now c.loop-fault.turns _ c.loop-fault.invariant.turns c.in-Some.fault c.in-Some.ensures.fault c.in-Some.ensures.turns_to_fault in
+pub returns-then-is_incomplete-clause-turns : goal.returns-then-is_incomplete-clause-turns
+returns-then-is_incomplete-clause-turns g c =
+    let counted = c.in-Some.ensures.turns _ _ (splits _) (splits _) in
+    let before = c.loop-chunk.invariant.turns in
+    let few = parts_few (splits c.args.octets.now) in
     omega arith
 
 pub returns-in_err-append_replacement-clause-turns : goal.returns-in_err-append_replacement-clause-turns
 returns-in_err-append_replacement-clause-turns g c =
-    let most = counted_fault (length c.args.octets.now) c.loop-fault.rest.now c.args.turns.now c.loop-fault.turns _ c.loop-fault.invariant.turns c.in-Some.fault c.in-Some.ensures.fault c.in-Some.ensures.turns_to_fault in
+    let counted = c.in-Some.ensures.turns _ _ (splits _) (splits _) in
+    let before = c.loop-chunk.invariant.turns in
+    let few = parts_few (splits c.args.octets.now) in
     omega arith
-
-pub returns-in_err-append_slice-2-clause-turns : goal.returns-in_err-append_slice-2-clause-turns
-returns-in_err-append_slice-2-clause-turns g c =
-    counted_last (length c.args.octets.now) c.loop-fault.rest.now c.args.turns.now c.loop-fault.turns _ c.loop-fault.invariant.turns (c.in_default.ensures.none.0 refl) c.in_default.ensures.turns
 
 pub returns-clause-turns : goal.returns-clause-turns
 returns-clause-turns g c =
-    counted_last (length c.args.octets.now) c.loop-fault.rest.now c.args.turns.now c.loop-fault.turns _ c.loop-fault.invariant.turns (c.in_default.ensures.none.0 refl) c.in_default.ensures.turns
+    let counted = c.in_default.ensures.turns _ _ (splits _) (splits _) in
+    let before = c.loop-chunk.invariant.turns in
+    let few = parts_few (splits c.args.octets.now) in
+    omega arith
