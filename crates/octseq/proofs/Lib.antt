@@ -12,6 +12,7 @@ pub mod WrittenBack
 pub use Rattle.octseq_core.proofs.Limits
 pub use Rattle.octseq_text.proofs.Boundaries
 pub use Rattle.octseq_text.proofs.Bridge
+pub use Rattle.octseq_text.proofs.ByChunk
 pub use Rattle.octseq_text.proofs.LossyTexts
 pub use Rattle.octseq_text.proofs.Order
 pub use Rattle.octseq_text.proofs.PartLimits

@@ -15,9 +15,11 @@ pub use Rattle.octseq_core.specs.Cow
 pub use Rattle.octseq_core.specs.Lends
 pub use Rattle.octseq_core.specs.Limit
 pub use Rattle.octseq_core.specs.Shown as AppendShown
+pub use Rattle.octseq_text.specs.Chunk
 pub use Rattle.octseq_text.specs.Display
 pub use Rattle.octseq_text.specs.Encoding
 pub use Rattle.octseq_text.specs.Fault
+pub use Rattle.octseq_text.specs.Lossy
 pub use Rattle.octseq_text.specs.Parts
 pub use Rattle.octseq_text.specs.Pieces
 pub use Rattle.octseq_text.specs.Range

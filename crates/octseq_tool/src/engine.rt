@@ -221,12 +221,7 @@ fn failed_read(e: &io::Error) -> ToolFault
 fn lossy64(alloc: Global, input: &[u8]) -> Result<Answer, AllocError>
     ensures { IfOk result (λ answer. Out (Some Lossy64) input.now answer.output.items answer.status) }
 {
-    utf8::one_splitting();
-    utf8::lossy_text();
-    let Ok(octets) = Array::<64>::try_from(input) else {
-        return too_long(alloc);
-    };
-    match StrBuilder::try_from_utf8_lossy(alloc, octets) {
+    match StrBuilder::<Array<64>>::try_copy_lossy(alloc, input) {
         Ok(text) => Ok(Answer {
             output: Vec::from_slice(alloc, text.as_slice())?,
             status: Status::Fine,
@@ -259,44 +254,48 @@ fn next_part<'a>(parser: &mut Parser<&'a [u8]>) -> Result<Parser<&'a [u8]>, Shor
 }
 
 /// Appends the lossy text of the octets, and a newline.
-fn push_line(alloc: Global, output: &mut Vec<u8>, octets: &[u8]) -> Result<(), AllocError>
+fn push_line(output: &mut StrBuilder<Vec<u8>>, octets: &[u8]) -> Result<(), AllocError>
     ensures { OnOk result ((line : List ℕ) × HasText octets.now line
         × (output.new.items ≡ output.old.items ++ (line ++ codes "\n"))) }
 {
-    utf8::one_splitting();
-    let text = StrBuilder::from_utf8_lossy(alloc, Vec::from_slice(alloc, octets)?)?;
-    output.extend_from_slice(text.as_slice())?;
-    output.push(b'\n')?;
-    Ok(())
+    // (a vector has no limit, so all that it refuses is for want of memory)
+    let Ok(()) = output.try_push_lossy(octets) else {
+        return Err(AllocError);
+    };
+    output.push_str("\n")
 }
 
 /// The refusal of a rest that is no whole record, behind the lines of the records before it.
-fn cut_off(alloc: Global, lines: Vec<u8>, short: ShortInput) -> Result<Answer, AllocError>
+fn cut_off(lines: StrBuilder<Vec<u8>>, short: ShortInput) -> Result<Answer, AllocError>
     ensures output { IfOk result (λ answer. answer.output.items ≡ lines.items ++ codes "unexpected end of input\n") }
     ensures status { IfOk result (λ answer. answer.status ≡ Refused) }
 {
     let mut output = lines;
-    output.extend_from_slice(format!(in alloc; "{short}\n")?.as_bytes())?;
+    let Ok(()) = output.try_push_display(short) else {
+        return Err(AllocError);
+    };
+    output.push_str("\n")?;
     Ok(Answer {
-        output,
+        output: output.into_octets_builder(),
         status: Status::Refused,
     })
 }
 
-/// The lossy text of each record on a line.
+/// The lossy text of each record on a line. A line is at least as long as its record, so there is room for all of
+/// them at once where no part is ill-formed.
 fn records(alloc: Global, input: &[u8]) -> Result<Answer, AllocError>
     ensures { IfOk result (λ answer. Out (Some Records) input.now answer.output.items answer.status) }
 {
     let mut parser = Parser::from_static(input);
-    let mut output = Vec::new(alloc);
+    let mut output = StrBuilder::<Vec<u8>>::with_capacity(alloc, input.len())?;
     while parser.remaining() > 0 {
         match next_part(&mut parser) {
-            Ok(part) => push_line(alloc, &mut output, part.peek_all())?,
-            Err(short) => return cut_off(alloc, output, short),
+            Ok(part) => push_line(&mut output, part.peek_all())?,
+            Err(short) => return cut_off(output, short),
         }
     }
     Ok(Answer {
-        output,
+        output: output.into_octets_builder(),
         status: Status::Fine,
     })
 }

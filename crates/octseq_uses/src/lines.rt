@@ -8,7 +8,6 @@ ghost use Rattle.octseq.specs.Window.{left, rest};
 ghost use Rattle.octseq_uses.specs.Line.{IsLine, TakesLine};
 
 use octseq::builder::{AppendError, AsOctets, EmptyBuilder, infallible};
-use octseq::str::{self, LossyPieces};
 use octseq::{Parser, StrBuilder};
 use std::alloc::Global;
 
@@ -43,22 +42,6 @@ fn first_line(octets: &[u8]) -> (&[u8], usize)
     }
 }
 
-/// The octets as a text, a replacement character in the place of each bad part.
-fn lossy<B: EmptyBuilder>(alloc: Global, octets: &[u8]) -> Result<StrBuilder<B>, AppendError>
-    ensures text { IfOk result (λ made. (parts : List Part)
-        → Splits octets.now parts → B.content made ≡ text parts) }
-    ensures short { IsShort append_error result → (parts : List Part)
-        → Splits octets.now parts → IsPast B.limit (length (text parts)) }
-    ensures past { (parts : List Part)
-        → Splits octets.now parts → IsPast B.limit (length (text parts)) → IsErr result }
-    ensures memory { IsMemory append_error result → B.asks ≡ true }
-{
-    str::one_settling();
-    let mut pieces = LossyPieces::new(alloc)?;
-    pieces.feed(octets)?;
-    pieces.finish()
-}
-
 /// Takes the next line, which a line feed or the end of the octets ends, as a text without the line feed. The
 /// replacement character stands in the place of each bad part. `None` where no octets are left.
 ///
@@ -90,7 +73,7 @@ pub fn next_line<R: AsOctets, B: EmptyBuilder>(
         return Ok(None);
     }
     let (line, len) = first_line(octets);
-    let text = lossy(alloc, line)?;
+    let text = StrBuilder::try_copy_lossy(alloc, line)?;
     infallible(parser.advance(len));
     Ok(Some(text))
 }

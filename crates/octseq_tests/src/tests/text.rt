@@ -9,6 +9,7 @@ use std::alloc::Global;
 use std::process::Abort;
 use std::test::Fail;
 
+mod chunks;
 mod conversions;
 mod hostile;
 mod pieces;
@@ -338,6 +339,9 @@ fn each_bad_part_becomes_one_replacement(rt: HostRuntime) -> Result<(), Fail> {
         assert_equal!(&rt, lossy(rt.alloc(), octets)?.as_str(), text);
         let read = StrBuilder::from_utf8_lossy(rt.alloc(), octets.to_vec(rt.alloc())?)?;
         assert_equal!(&rt, read.as_str(), text);
+        let mut pushed = StrBuilder::<Vec<u8>>::try_copy_lossy(rt.alloc(), b"\xC3")?;
+        pushed.try_push_lossy(octets)?;
+        assert_equal!(&rt, pushed.as_str().strip_prefix("\u{FFFD}"), Some(text));
     }
     assert_equal!(
         &rt,
@@ -366,6 +370,7 @@ fn lossy_over<B: EmptyBuilder>(
     let builder = filled::<B>(alloc, octets)?;
     let text = StrBuilder::try_from_utf8_lossy_counted(alloc, builder, &mut Turns::new());
     is_text_or_short(rt, text, wanted);
+    is_text_or_short(rt, StrBuilder::<B>::try_copy_lossy(alloc, octets), wanted);
     Ok(())
 }
 

@@ -242,7 +242,8 @@ impl<Octets: AsOctets> StrBuilder<Octets> {
         ensures err { OnErr result (Octets.content self.new ≡ Octets.content self.old) }
         ensures borrows { Octets.borrows self.new ≡ Octets.borrows self.old }
     {
-        let len = self.as_slice().len();
+        let before = self.as_slice();
+        let len = before.len();
         match append_lossy(&mut self.octets, octets, replacement) {
             Ok(()) => Ok(()),
             Err(refusal) => {

@@ -204,7 +204,38 @@ fn is_read<B: EmptyBuilder>(rt: &impl Abort, alloc: Global) -> Result<(), Append
     let octets = unread::<B>(alloc)?;
     let text = StrBuilder::try_from_utf8_lossy_with_counted(alloc, octets, replacement, turns)?;
     is_lossy(rt, &text);
+    copies_lossily::<B>(rt, alloc)
+}
+
+/// Lossy readings of a slice, and at the end of a text, which has all of it afterwards or is as it was.
+fn copies_lossily<B: EmptyBuilder>(rt: &impl Abort, alloc: Global) -> Result<(), AppendError> {
+    let octets = unread::<Vec<u8>>(alloc)?;
+    is_lossy(rt, &StrBuilder::<B>::try_copy_lossy(alloc, octets.as_slice())?);
+    let text = StrBuilder::<B>::try_copy_lossy_with(alloc, octets.as_slice(), '\u{FFFD}')?;
+    is_lossy(rt, &text);
     Ok(())
+}
+
+/// A push at the end of a text of ten octets, which has all of the lossy text afterwards or is as it was.
+fn pushes_lossily<B: OctetsBuilder + Truncate>(rt: &impl Abort, builder: B) -> Result<(), Fail> {
+    let mut text = StrBuilder::from_utf8(builder).ok().ok_or("no text")?;
+    let front = text.len();
+    let pushed = text.try_push_lossy(b"0123456789\xF1\x80abcdefgh\xFF");
+    let wanted = if pushed.is_ok() { 24 } else { 0 };
+    assert_equal!(rt, text.len(), front.saturating_add(wanted));
+    pushed?;
+    let pushed = text.try_push_lossy_with(b"abcdefghijklmnopqrstuvwxyz\xE2\x82", 'é');
+    let wanted = if pushed.is_ok() { 52 } else { 24 };
+    assert_equal!(rt, text.len(), front.saturating_add(wanted));
+    Ok(pushed?)
+}
+
+#[test]
+fn octets_are_pushed_as_text_or_not_at_all(rt: HostRuntime) -> Result<(), Fail> {
+    pushes_lossily(&rt, Vec::empty(rt.alloc())?)?;
+    pushes_lossily(&rt, CowOctets::borrowed(rt.alloc(), b"0123456789"))?;
+    pushes_lossily(&rt, BytesMut::empty(rt.alloc())?)?;
+    pushes_lossily(&rt, SmallVec::<u8, 20>::empty(rt.alloc())?)
 }
 
 #[test]

@@ -23,6 +23,8 @@ fn replaces<B: EmptyBuilder>(
     let (builder, turns) = (filled::<B>(alloc, octets)?, &mut Turns::new());
     let text = StrBuilder::try_from_utf8_lossy_with_counted(alloc, builder, replacement, turns);
     is_text_or_short(rt, text, wanted);
+    let text = StrBuilder::<B>::try_copy_lossy_with(alloc, octets, replacement);
+    is_text_or_short(rt, text, wanted);
     Ok(())
 }
 

@@ -1,4 +1,4 @@
-use Rattle.std.proofs.Common.{◌≡◌, ℕ, ◌<◌, List, length, codes, Some, Result, Ok, Err, refl, arith, ap, sym, subst}
+use Rattle.std.proofs.Common.{◌≡◌, ℕ, ◌<◌, List, length, codes, Some, Result, Ok, Err, refl, sym, subst}
 use Rattle.std.specs.Prelude.{IfOk}
 use Rattle.octseq.specs.Parts.{Part, Splits, text}
 use Rattle.octseq_tool.specs.Out.{Out}
@@ -15,15 +15,8 @@ refused (Ok answer) input parts s long line status =
     subst (Out (Some Lossy64) input answer.output.items) (sym status) (text parts, (parts, s, refl), long, line)
 refused (Err e) input parts s long line status = tt
 
-pub returns-in_default : goal.returns-in_default
-returns-in_default c =
-    let p = c.one_splitting.ensures.exists c.args.input.now in
-    let past : 64 < length c.args.input.now = c.in_default.ensures in
-    refused c.too_long.result c.args.input.now p.0 p.1 (omega (arith, c.lossy_text.ensures.longer c.args.input.now p.0 p.1)) c.too_long.ensures.output c.too_long.ensures.status
-
 pub returns-in-Err-Short : goal.returns-in-Err-Short
 returns-in-Err-Short c =
-    let p = c.one_splitting.ensures.exists c.args.input.now in
-    let taken : c.in-Ok.octets.content ≡ c.args.input.now = ap (λ array. array.content) c.in-Ok.ensures.1 in
-    refused c.too_long-in-Err-Short.result c.args.input.now p.0 p.1 (c.in-Err-Short.ensures.short (rw c.in-Err-Short.field-0-is tt) p.0 (rw taken p.1))
-    c.too_long-in-Err-Short.ensures.output c.too_long-in-Err-Short.ensures.status
+    let answer = c.in-Err-Short.ensures.answer in
+    let p = answer.splitting in
+    refused c.too_long.result c.args.input.now p.0 p.1 (answer.short (rw c.in-Err-Short.field-0-is tt) p.0 p.1) c.too_long.ensures.output c.too_long.ensures.status
