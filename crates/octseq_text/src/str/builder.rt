@@ -189,6 +189,7 @@ impl<Octets: AsOctets> StrBuilder<Octets> {
     ///
     /// `Short` where the text would pass the limit of its type, and else `Memory` where a request for
     /// memory was refused. The text is then as it was.
+    #[inline(always)]
     pub fn try_push(&mut self, ch: char) -> Result<(), AppendError>
     where
         Octets: OctetsBuilder,
@@ -205,7 +206,8 @@ impl<Octets: AsOctets> StrBuilder<Octets> {
             (append_reply result) (chars (Octets.content self.new)) }
     {
         let mut octets = [0; 4];
-        self.try_push_str(ch.encode_utf8(&mut octets[..]))
+        let encoding = ch.encode_utf8(&mut octets[..]);
+        append_encoding(&mut self.octets, encoding.as_bytes())
     }
 
     /// Appends all of `s`, or nothing, in a builder with no limit.
@@ -236,6 +238,7 @@ impl<Octets: AsOctets> StrBuilder<Octets> {
     /// # Errors
     ///
     /// `AllocError` where a request for memory was refused. The text is then as it was.
+    #[inline(always)]
     pub fn push(&mut self, ch: char) -> Result<(), AllocError>
     where
         Octets: OctetsBuilder,
@@ -296,6 +299,24 @@ impl<Octets: AsOctets> StrBuilder<Octets> {
         let rest = StrBuilder::len(self) - width;
         self.octets.truncate(rest);
         Some(last)
+    }
+}
+
+/// Appends the octets of one character, by a copy whose size is known where it is compiled.
+#[inline(always)]
+fn append_encoding<Builder: OctetsBuilder>(
+    builder: &mut Builder,
+    encoding: &[u8],
+) -> Result<(), AppendError>
+    ensures appended { Appends Builder.limit Builder.asks result encoding.now
+        (Builder.content builder.old) (Builder.content builder.new) }
+    ensures borrows { Builder.borrows builder.new ≡ Builder.borrows builder.old }
+{
+    match encoding.len() {
+        1 => builder.append_slice(&encoding[..1]),
+        2 => builder.append_slice(&encoding[..2]),
+        3 => builder.append_slice(&encoding[..3]),
+        _ => builder.append_slice(encoding),
     }
 }
 
