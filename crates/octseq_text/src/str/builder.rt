@@ -1,5 +1,5 @@
 //! A text that grows.
-ghost use Rattle.std.specs.Prelude.{◌≡◌, ℕ, ◌+◌, ◌<◌, ◌↔◌, true, None, List, [], ◌∷◌, ◌++◌, length, take, IsTrue, IsOk, IsSome, IfOk, IfErr, IfSome, IfNone, OnOk, OnErr};
+ghost use Rattle.std.specs.Prelude.{◌≡◌, ℕ, ◌+◌, ◌-◌, ◌<◌, ◌≤◌, ◌↔◌, true, None, List, [], ◌∷◌, ◌++◌, length, take, IsTrue, IsOk, IsSome, IfOk, IfErr, IfSome, IfNone, OnOk, OnErr};
 ghost use Rattle.octseq_core.specs.Appends.{Appends};
 ghost use Rattle.octseq_core.specs.ArrayOctets.{blank};
 ghost use Rattle.octseq_core.specs.Limit.{IsWithin};
@@ -296,8 +296,7 @@ impl<Octets: AsOctets> StrBuilder<Octets> {
         ensures step { Pops (chars (Octets.content self.old)) result (chars (Octets.content self.new)) }
     {
         let (last, width) = last_encoding(self.as_slice(), &mut Turns::new())?;
-        let rest = StrBuilder::len(self) - width;
-        self.octets.truncate(rest);
+        shorten(&mut self.octets, width);
         Some(last)
     }
 }
@@ -317,6 +316,22 @@ fn append_encoding<Builder: OctetsBuilder>(
         2 => builder.append_slice(&encoding[..2]),
         3 => builder.append_slice(&encoding[..3]),
         _ => builder.append_slice(encoding),
+    }
+}
+
+/// Takes so many octets off the end. One has a branch of its own, where the compiler knows the lesser length.
+#[inline(always)]
+fn shorten<Builder: AsOctets + Truncate>(builder: &mut Builder, width: usize)
+    requires { width ≤ length (Builder.content builder.old) }
+    ensures content { Builder.content builder.new
+        ≡ take (length (Builder.content builder.old) - width) (Builder.content builder.old) }
+    ensures borrows { Builder.borrows builder.new ≡ Builder.borrows builder.old }
+{
+    let len = builder.as_ref().len();
+    if width == 1 {
+        builder.truncate(len - 1);
+    } else {
+        builder.truncate(len - width);
     }
 }
 
