@@ -190,7 +190,7 @@ fn lossy_inputs(len: usize) -> [Vec<(&'static str, Vec<u8>)>; 2] {
 fn lossy(bench: &mut Bench) {
     // What is read, by which call, and whether its time has that of a copy of the source in it.
     let readings: &[(&str, OfOctets, bool)] = &[
-        ("`try_from_utf8_lossy` and the copy it takes", octseq_lossy_len, true),
+        ("`try_from_utf8_lossy` of a copy", octseq_lossy_len, true),
         #[cfg(slice)]
         ("`try_copy_lossy`", octseq_lossy_len_of_slice, false),
     ];
@@ -240,7 +240,7 @@ fn pushes(bench: &mut Bench) {
             let times = 1024;
             let octets = filled(ASCII, len);
             let theirs = octets.clone();
-            section.add(&format!("{len} octets"), times,
+            section.add(&format!("of {len}"), times,
                 move || unsafe { call(octets.as_ptr(), black_box(len), black_box(times)) },
                 move || rust(black_box(&theirs), black_box(times)));
         }

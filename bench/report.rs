@@ -198,7 +198,7 @@ impl Bench {
 
     /// A bar a section from 0 to its mean, a thin line on to its greatest, and a line at 1.
     fn picture(&self, when: &str) -> String {
-        const LEFT: f64 = 400.0;
+        const LEFT: f64 = 420.0;
         const ONE: f64 = 190.0;
         const MOST: f64 = 2.0;
         const ROW: f64 = 20.0;
@@ -213,22 +213,22 @@ impl Bench {
             }
             let ratios = section.ratios();
             let (mean, greatest) = (mean(&ratios), greatest(&ratios));
-            let color = if mean <= 1.0 { "#2f81c7" } else { "#c4633a" };
+            let color = if mean < 1.005 { "#2f81c7" } else { "#c4633a" };
             let what = section.what.replace('`', "").replace('&', "&amp;").replace('<', "&lt;").replace('>', "&gt;");
             let _ = writeln!(bars, r#"<text x="24" y="{:.0}">{what}</text>"#, y + 14.0);
-            let (middle, end) = (y + ROW / 2.0, across(greatest));
-            let _ = writeln!(bars, r#"<path d="M{LEFT} {middle}H{end:.0}" stroke="{color}" stroke-width="2"/>"#);
+            let _ = writeln!(bars, r#"<text x="{:.0}" y="{:.0}" text-anchor="end">{mean:.2}</text>"#, LEFT - 8.0, y + 14.0);
+            let _ = writeln!(bars, r#"<path d="M{LEFT} {}H{:.0}" stroke="{color}" stroke-width="2"/>"#,
+                y + ROW / 2.0, across(greatest));
             let _ = writeln!(bars, r#"<rect x="{LEFT}" y="{}" width="{:.0}" height="12" fill="{color}"/>"#,
                 y + 4.0, across(mean) - LEFT);
-            let _ = writeln!(bars, r#"<text x="{:.0}" y="{:.0}">{mean:.2}</text>"#, end + 6.0, y + 14.0);
             y += ROW;
         }
-        let (width, height, one) = (LEFT + MOST * ONE + 50.0, y + 12.0, across(1.0));
+        let (width, height, one) = (LEFT + MOST * ONE + 20.0, y + 12.0, across(1.0));
         format!(
             r##"<svg xmlns="http://www.w3.org/2000/svg" viewBox="0 0 {width} {height}" width="{width}" height="{height}" font-family="sans-serif" font-size="12" fill="#6e7781">
 <title>Time of octseq over that of Rust's std</title>
 <text x="12" y="20" font-size="15" font-weight="bold">Time over that of Rust's std, shorter is faster</text>
-<text x="12" y="38">{when}. The bar is the mean, the thin line goes on to the greatest.</text>
+<text x="12" y="38">{when}. A bar is a mean over inputs; the thin line goes on to the greatest.</text>
 {bars}<path d="M{one} 60V{}" stroke="#6e7781" stroke-dasharray="4 3"/>
 <text x="{one}" y="56" text-anchor="middle">Rust: 1.0</text>
 </svg>
