@@ -1,7 +1,8 @@
 //! Times `octseq` beside Rust's own, on the same inputs in one process.
 //!
-//! Each call of ours crosses into the library, so no call of Rust's is compiled into the loop that times it either, and
-//! both read what they push from memory. What a builder holds is looked at on both sides alike.
+//! Each call of ours crosses into the library, and Rust's loops over what is pushed stand in functions that aren't
+//! compiled into their callers either. Both read what they push from memory, by lengths that the compiler doesn't know,
+//! and both look at what a builder holds.
 mod inputs;
 mod report;
 

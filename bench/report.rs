@@ -216,7 +216,8 @@ impl Bench {
             let color = if mean < 1.005 { "#2f81c7" } else { "#c4633a" };
             let what = section.what.replace('`', "").replace('&', "&amp;").replace('<', "&lt;").replace('>', "&gt;");
             let _ = writeln!(bars, r#"<text x="24" y="{:.0}">{what}</text>"#, y + 14.0);
-            let _ = writeln!(bars, r#"<text x="{:.0}" y="{:.0}" text-anchor="end">{mean:.2}</text>"#, LEFT - 8.0, y + 14.0);
+            let _ = writeln!(bars, r#"<text x="{:.0}" y="{:.0}" text-anchor="end">{mean:.2}</text>"#,
+                LEFT - 8.0, y + 14.0);
             let _ = writeln!(bars, r#"<path d="M{LEFT} {}H{:.0}" stroke="{color}" stroke-width="2"/>"#,
                 y + ROW / 2.0, across(greatest));
             let _ = writeln!(bars, r#"<rect x="{LEFT}" y="{}" width="{:.0}" height="12" fill="{color}"/>"#,
@@ -225,7 +226,8 @@ impl Bench {
         }
         let (width, height, one) = (LEFT + MOST * ONE + 20.0, y + 12.0, across(1.0));
         format!(
-            r##"<svg xmlns="http://www.w3.org/2000/svg" viewBox="0 0 {width} {height}" width="{width}" height="{height}" font-family="sans-serif" font-size="12" fill="#6e7781">
+            r##"<svg xmlns="http://www.w3.org/2000/svg" viewBox="0 0 {width} {height}" width="{width}" height="{height}"
+ font-family="sans-serif" font-size="12" fill="#6e7781">
 <title>Time of octseq over that of Rust's std</title>
 <text x="12" y="20" font-size="15" font-weight="bold">Time over that of Rust's std, shorter is faster</text>
 <text x="12" y="38">{when}. A bar is a mean over inputs; the thin line goes on to the greatest.</text>
