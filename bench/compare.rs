@@ -1,64 +1,46 @@
 //! Times `octseq` beside Rust's own, on the same inputs in one process.
+//!
+//! Each call of ours crosses into the library, and Rust's loops over what is pushed stand in functions that aren't
+//! compiled into their callers either. Both read what they push from memory, by lengths that the compiler doesn't know,
+//! and both look at what a builder holds.
+mod inputs;
+mod report;
+
+use inputs::*;
+use report::{Bench, Section};
 use std::hint::black_box;
-use std::time::Instant;
 
 unsafe extern "C" {
     fn octseq_valid_up_to(octets: *const u8, len: usize) -> usize;
     fn octseq_faults(octets: *const u8, len: usize) -> usize;
+    fn octseq_copy_len(octets: *const u8, len: usize) -> usize;
     fn octseq_lossy_len(octets: *const u8, len: usize) -> usize;
-    fn octseq_push(number: u32, times: usize) -> usize;
-    fn octseq_push_array(number: u32, times: usize) -> usize;
+    #[cfg(slice)]
+    fn octseq_lossy_len_of_slice(octets: *const u8, len: usize) -> usize;
+    fn octseq_push(numbers: *const u32, count: usize) -> usize;
+    fn octseq_push_array(numbers: *const u32, count: usize) -> usize;
     fn octseq_push_str(more: *const u8, len: usize, times: usize) -> usize;
     fn octseq_push_str_array(more: *const u8, len: usize, times: usize) -> usize;
-    fn octseq_pop(text: *const u8, len: usize) -> u64;
+    fn octseq_pop(text: *const u8, len: usize, times: usize) -> u64;
     fn octseq_sum_u16_be(octets: *const u8, len: usize) -> u64;
     fn octseq_sum_u32_le(octets: *const u8, len: usize) -> u64;
     fn octseq_sum_u64_be(octets: *const u8, len: usize) -> u64;
 }
 
-/// The best time of many rounds of a call, in seconds.
-fn best<T>(calls: usize, mut call: impl FnMut() -> T) -> f64 {
-    let mut least = f64::MAX;
-    for _ in 0..21 {
-        let start = Instant::now();
-        for _ in 0..calls {
-            black_box(call());
-        }
-        least = least.min(start.elapsed().as_secs_f64());
-    }
-    least / calls as f64
-}
+type OfOctets = unsafe extern "C" fn(*const u8, usize) -> usize;
+type OfNumbers = unsafe extern "C" fn(*const u32, usize) -> usize;
+type OfTimes = unsafe extern "C" fn(*const u8, usize, usize) -> usize;
 
-/// Ratios of our time to Rust's, of which the mean is geometric.
-#[derive(Default)]
-struct Ratios {
-    logarithms: f64,
-    count: usize,
-    greatest: f64,
-}
-
-impl Ratios {
-    fn add<T: PartialEq + std::fmt::Debug>(
-        &mut self,
-        name: &str,
-        octets: usize,
-        ours: impl Fn() -> T,
-        theirs: impl Fn() -> T,
-    ) {
-        assert_eq!(ours(), theirs(), "{name}");
-        let calls = (1 << 21) / octets.max(1) + 1;
-        let (a, b) = (best(calls, &ours), best(calls, &theirs));
-        println!("  {name:<28} {:>9.3} {:>9.3} {:>6.2}", a * 1e9 / octets as f64, b * 1e9 / octets as f64, a / b);
-        self.logarithms += (a / b).ln();
-        self.count += 1;
-        self.greatest = self.greatest.max(a / b);
-    }
-
-    fn tell(&self, what: &str) {
-        println!("{what}: mean {:.2}, greatest {:.2}\n", (self.logarithms / self.count as f64).exp(), self.greatest);
+/// The place up to which octets are well formed.
+fn valid_up_to(octets: &[u8]) -> usize {
+    match std::str::from_utf8(octets) {
+        Ok(text) => text.len(),
+        Err(error) => error.valid_up_to(),
     }
 }
 
+/// How many faults there are, where the search goes on behind each.
+#[inline(never)]
 fn faults(octets: &[u8]) -> usize {
     let (mut rest, mut faults) = (octets, 0);
     while let Err(error) = std::str::from_utf8(rest) {
@@ -69,167 +51,78 @@ fn faults(octets: &[u8]) -> usize {
     faults
 }
 
-fn valid_up_to(octets: &[u8]) -> usize {
-    match std::str::from_utf8(octets) {
-        Ok(text) => text.len(),
-        Err(error) => error.valid_up_to(),
-    }
+fn lossy_len(octets: &[u8]) -> usize {
+    String::from_utf8_lossy(octets).into_owned().len()
 }
 
-/// The text again and again, up to this length.
-fn filled(text: &str, len: usize) -> Vec<u8> {
-    let mut octets = text.repeat(len / text.len() + 1).into_bytes();
-    while octets.len() > len || std::str::from_utf8(&octets).is_err() {
-        octets.pop();
-    }
-    octets
+/// The length of the octets, and the one in their middle, so that somebody reads what was pushed.
+fn taken(octets: &[u8]) -> usize {
+    octets.get(octets.len() / 2).map_or(0, |&octet| octets.len() + usize::from(octet))
 }
 
-/// The octets with one put out of order in every so many.
-fn damaged(mut octets: Vec<u8>, every: usize) -> Vec<u8> {
-    for place in (every / 2..octets.len()).step_by(every) {
-        octets[place] = 0xFF;
+#[inline(never)]
+fn push(numbers: &[u32]) -> usize {
+    let mut text = String::new();
+    for &number in numbers {
+        let Some(ch) = char::from_u32(number) else { continue };
+        text.push(ch);
     }
-    octets
+    taken(text.as_bytes())
 }
 
-/// Octets of no order.
-fn random(len: usize) -> Vec<u8> {
-    let mut state = 0x2545_F491_4F6C_DD1D_u64;
-    let mut octets = Vec::new();
-    while octets.len() < len {
-        state ^= state << 13;
-        state ^= state >> 7;
-        state ^= state << 17;
-        octets.push((state >> 32) as u8);
+#[inline(never)]
+fn push_256(numbers: &[u32]) -> usize {
+    let mut text = String::with_capacity(256);
+    let mut total = 0;
+    for &number in numbers {
+        let Some(ch) = char::from_u32(number) else { continue };
+        if text.len() + ch.len_utf8() > 256 {
+            total += taken(text.as_bytes());
+            text.clear();
+        }
+        text.push(ch);
     }
-    octets
+    total + taken(text.as_bytes())
 }
 
-const ASCII: &str = "A line protocol sends lines of ASCII text, and little else. ";
-const RARE: &str = "A line protocol sends lines of ASCII text, and little else; now and then there is a word as caf\u{e9}. ";
-const LATIN: &str = "Le c\u{153}ur d\u{e9}\u{e7}u mais l'\u{e2}me plut\u{f4}t na\u{ef}ve, Lou\u{ff}s r\u{ea}va de crapa\u{fc}ter. ";
-const CYRILLIC: &str = "Съешь же ещё этих мягких французских булок, да выпей чаю. ";
-const GREEK: &str = "Ξεσκεπάζω την ψυχοφθόρα βδελυγμία. ";
-const THAI: &str = "ประเทศไทยรวมเลือดเนื้อชาติเชื้อไทย";
-const CHINESE: &str = "天地玄黄宇宙洪荒日月盈昃辰宿列张";
-const EMOJI: &str = "😀😁😂🤣😃😄😅😆";
-
-fn finder() {
-    let mut ratios = Ratios::default();
-    let mut inputs: Vec<(String, Vec<u8>)> = Vec::new();
-    for (name, text) in [
-        ("ASCII", ASCII), ("1% two octets", RARE), ("Latin", LATIN), ("Cyrillic", CYRILLIC),
-        ("Greek", GREEK), ("Thai", THAI), ("Chinese", CHINESE), ("emoji", EMOJI),
-    ] {
-        inputs.push((format!("{name}, 4 KiB"), filled(text, 4096)));
+#[inline(never)]
+fn push_str(octets: &[u8], times: usize) -> usize {
+    let more = std::str::from_utf8(octets).unwrap_or("");
+    let mut text = String::new();
+    for _ in 0..times {
+        text.push_str(more);
     }
-    inputs.push(("ASCII, 64 MiB".into(), filled(ASCII, 64 << 20)));
-    for (name, text) in [("ASCII", ASCII), ("Latin", LATIN), ("Chinese", CHINESE)] {
-        for len in [7, 15, 24, 40] {
-            inputs.push((format!("{name}, {len} octets"), filled(text, len)));
+    taken(text.as_bytes())
+}
+
+#[inline(never)]
+fn push_str_256(octets: &[u8], times: usize) -> usize {
+    let more = std::str::from_utf8(octets).unwrap_or("");
+    let mut text = String::with_capacity(256);
+    let mut total = 0;
+    for _ in 0..times {
+        if text.len() + more.len() > 256 {
+            total += taken(text.as_bytes());
+            text.clear();
+        }
+        text.push_str(more);
+    }
+    total + taken(text.as_bytes())
+}
+
+/// Pushes a text and pops its characters, so many times. That the octets are a text is tested once.
+#[inline(never)]
+fn pop(octets: &[u8], times: usize) -> u64 {
+    let whole = std::str::from_utf8(octets).unwrap_or("");
+    let mut text = String::new();
+    let mut sum = 0_u64;
+    for _ in 0..times {
+        text.push_str(whole);
+        while let Some(ch) = text.pop() {
+            sum = sum.wrapping_add(u64::from(ch));
         }
     }
-    for (name, octets) in &inputs {
-        ratios.add(name, octets.len(),
-            || unsafe { octseq_valid_up_to(octets.as_ptr(), octets.len()) },
-            || valid_up_to(black_box(octets)));
-    }
-    for (name, octets) in bad() {
-        ratios.add(&format!("{name}, resumed"), octets.len(),
-            || unsafe { octseq_faults(octets.as_ptr(), octets.len()) },
-            || faults(black_box(&octets)));
-    }
-    ratios.tell("first_fault, over str::from_utf8");
-}
-
-/// Inputs that aren't well formed.
-fn bad() -> Vec<(&'static str, Vec<u8>)> {
-    vec![
-        ("damaged ASCII", damaged(filled(ASCII, 4096), 50)),
-        ("damaged Latin", damaged(filled(LATIN, 4096), 50)),
-        ("damaged wide", damaged(filled(CHINESE, 4096), 50)),
-        ("random", random(4096)),
-    ]
-}
-
-fn lossy() {
-    let mut ratios = Ratios::default();
-    for (name, octets) in bad() {
-        ratios.add(name, octets.len(),
-            || unsafe { octseq_lossy_len(octets.as_ptr(), octets.len()) },
-            || String::from_utf8_lossy(black_box(&octets)).into_owned().len());
-    }
-    ratios.tell("try_from_utf8_lossy with a copy of the source, over String::from_utf8_lossy(..).into_owned()");
-}
-
-fn texts() {
-    let mut ratios = Ratios::default();
-    for ch in ['a', 'é', '€', '😀'] {
-        let times = 4096;
-        ratios.add(&format!("push {ch}, vector"), times,
-            || unsafe { octseq_push(black_box(ch).into(), times) },
-            || {
-                let mut text = String::new();
-                for _ in 0..times {
-                    text.push(black_box(ch));
-                }
-                text.len()
-            });
-        ratios.add(&format!("push {ch}, array"), times,
-            || unsafe { octseq_push_array(black_box(ch).into(), times) },
-            || {
-                let mut text = String::with_capacity(256);
-                for _ in 0..times {
-                    if text.len() + ch.len_utf8() > 256 {
-                        text.clear();
-                    } else {
-                        text.push(black_box(ch));
-                    }
-                }
-                text.len()
-            });
-    }
-    for more in ["a", "example", "a label of a domain name, and some more of it"] {
-        let times = 1024;
-        ratios.add(&format!("push_str of {}, vector", more.len()), times * more.len(),
-            || unsafe { octseq_push_str(more.as_ptr(), more.len(), times) },
-            || {
-                let mut text = String::new();
-                for _ in 0..times {
-                    text.push_str(black_box(more));
-                }
-                text.len()
-            });
-        ratios.add(&format!("push_str of {}, array", more.len()), times * more.len(),
-            || unsafe { octseq_push_str_array(more.as_ptr(), more.len(), times) },
-            || {
-                let mut text = String::with_capacity(256);
-                for _ in 0..times {
-                    if text.len() + more.len() > 256 {
-                        text.clear();
-                    } else {
-                        text.push_str(black_box(more));
-                    }
-                }
-                text.len()
-            });
-    }
-    for (name, text) in [("ASCII", ASCII), ("Latin", LATIN), ("Chinese", CHINESE), ("emoji", EMOJI)] {
-        let octets = filled(text, 4096);
-        let text = std::str::from_utf8(&octets).unwrap();
-        ratios.add(&format!("pop, {name}"), octets.len(),
-            || unsafe { octseq_pop(octets.as_ptr(), octets.len()) },
-            || {
-                let mut text = String::from_utf8(black_box(text).as_bytes().to_vec()).unwrap();
-                let mut sum = 0_u64;
-                while let Some(ch) = text.pop() {
-                    sum += u64::from(u32::from(ch));
-                }
-                sum
-            });
-    }
-    ratios.tell("pushes and pops, over String");
+    sum
 }
 
 /// The sum of the integers of `N` octets each, by chunks.
@@ -241,26 +134,164 @@ fn sum<const N: usize>(octets: &[u8], value: impl Fn([u8; N]) -> u64) -> u64 {
     sum
 }
 
-fn integers() {
-    let mut ratios = Ratios::default();
-    let octets = random(4096);
-    let (start, len) = (octets.as_ptr(), octets.len());
-    ratios.add("u16, big-endian", len,
-        || unsafe { octseq_sum_u16_be(start, len) },
-        || sum(black_box(&octets), |o| u16::from_be_bytes(o).into()));
-    ratios.add("u32, little-endian", len,
-        || unsafe { octseq_sum_u32_le(start, len) },
-        || sum(black_box(&octets), |o| u32::from_le_bytes(o).into()));
-    ratios.add("u64, big-endian", len,
-        || unsafe { octseq_sum_u64_be(start, len) },
-        || sum(black_box(&octets), u64::from_be_bytes));
-    ratios.tell("integers, over chunks_exact with from_be_bytes");
+/// Hands octets to a call of ours.
+fn ours(call: OfOctets, octets: &[u8]) -> usize {
+    unsafe { call(octets.as_ptr(), octets.len()) }
+}
+
+const FROM_UTF8: &str = "`str::from_utf8`";
+const RESUMED: &str = "`str::from_utf8`, resumed behind each fault";
+const LOSSY: &str = "`String::from_utf8_lossy(..).into_owned()`";
+
+fn finder(bench: &mut Bench) {
+    let mut section = Section::new("finding the first fault", "`first_fault`, well-formed text", FROM_UTF8);
+    let kinds = [("ASCII", ASCII), ("1% two octets", RARE), ("Latin", LATIN), ("Cyrillic", CYRILLIC),
+        ("Greek", GREEK), ("Thai", THAI), ("Chinese", CHINESE), ("emoji", EMOJI)];
+    let add = |section: &mut Section, name: &str, octets: Vec<u8>| {
+        let theirs = octets.clone();
+        section.add(name, octets.len(),
+            move || ours(octseq_valid_up_to, &octets), move || valid_up_to(black_box(&theirs)));
+    };
+    for (name, text) in kinds {
+        add(&mut section, &format!("{name}, 4 KiB"), filled(text, 4096));
+    }
+    add(&mut section, "ASCII, 64 MiB", filled(ASCII, 64 << 20));
+    bench.add(section);
+
+    let mut section = Section::new("finding the first fault", "`first_fault`, 7 to 40 octets of text", FROM_UTF8);
+    for (name, text) in [("ASCII", ASCII), ("Latin", LATIN), ("Chinese", CHINESE)] {
+        for len in [7, 15, 24, 40] {
+            add(&mut section, &format!("{name}, {len} octets"), filled(text, len));
+        }
+    }
+    bench.add(section);
+
+    let add = |section: &mut Section, name: &str, octets: Vec<u8>| {
+        let theirs = octets.clone();
+        section.add(name, octets.len(), move || ours(octseq_faults, &octets), move || faults(black_box(&theirs)));
+    };
+    let mut section = Section::new("finding the first fault", "`first_fault`, damaged text, resumed", RESUMED);
+    for (name, text) in [("ASCII", ASCII), ("Latin", LATIN), ("Chinese", CHINESE)] {
+        add(&mut section, &format!("damaged {name}, resumed"), damaged(filled(text, 4096), 50));
+    }
+    bench.add(section);
+    let mut section = Section::new("finding the first fault", "`first_fault`, octets of no order, resumed", RESUMED);
+    add(&mut section, "octets of no order, resumed", random(4096));
+    bench.add(section);
+}
+
+fn lossy_inputs(len: usize) -> [Vec<(&'static str, Vec<u8>)>; 2] {
+    let damaged = |name, text| (name, harmed(filled(text, len), 50));
+    [
+        vec![damaged("ASCII", ASCII), damaged("Latin", LATIN), damaged("wide", WIDE)],
+        vec![("octets of no order", random(len))],
+    ]
+}
+
+fn lossy(bench: &mut Bench) {
+    // What is read, by which call, and whether its time has that of a copy of the source in it.
+    let readings: &[(&str, OfOctets, bool)] = &[
+        ("`try_from_utf8_lossy` of a copy", octseq_lossy_len, true),
+        #[cfg(slice)]
+        ("`try_copy_lossy`", octseq_lossy_len_of_slice, false),
+    ];
+    for &(reading, call, copies) in readings {
+        for (size, len) in [("4 KiB", 4096), ("16 MiB", 16 << 20)] {
+            for (kind, inputs) in ["damaged text", "octets of no order"].into_iter().zip(lossy_inputs(len)) {
+                let what = format!("{reading}, {kind}, {size}");
+                let mut section = Section::new("lossy reading", &what, LOSSY);
+                for (name, octets) in inputs {
+                    let (copied, theirs) = (octets.clone(), octets.clone());
+                    section.add(&format!("{name}, {size}"), octets.len(),
+                        move || ours(call, &octets), move || lossy_len(black_box(&theirs)));
+                    if copies {
+                        section.apart(move || ours(octseq_copy_len, &copied));
+                    }
+                }
+                bench.add(section);
+            }
+        }
+    }
+}
+
+fn pushes(bench: &mut Bench) {
+    const COUNT: usize = 1 << 14;
+    let kinds = || [("ASCII", numbers(ASCII, COUNT)), ("Latin", numbers(LATIN, COUNT)),
+        ("wide", numbers(WIDE, COUNT)), ("mixed", mixed(COUNT))];
+    let builders: [(&str, &str, OfNumbers, fn(&[u32]) -> usize); 2] = [
+        ("`Vec<u8>`", "`String::push`", octseq_push, push),
+        ("`Array<256>`", "`String` of capacity 256", octseq_push_array, push_256),
+    ];
+    for (builder, beside, call, rust) in builders {
+        for (kind, numbers) in kinds() {
+            let mut section = Section::new("pushing", &format!("`try_push` onto {builder}, {kind}"), beside);
+            let theirs = numbers.clone();
+            section.add(kind, numbers.len(),
+                move || unsafe { call(numbers.as_ptr(), numbers.len()) }, move || rust(black_box(&theirs)));
+            bench.add(section);
+        }
+    }
+    let builders: [(&str, &str, OfTimes, fn(&[u8], usize) -> usize); 2] = [
+        ("`Vec<u8>`", "`String::push_str`", octseq_push_str, push_str),
+        ("`Array<256>`", "`String` of capacity 256", octseq_push_str_array, push_str_256),
+    ];
+    for (builder, beside, call, rust) in builders {
+        let mut section = Section::new("pushing", &format!("`try_push_str` onto {builder}, 1 to 100 octets"), beside);
+        for len in [1, 3, 5, 8, 12, 20, 40, 100] {
+            let times = 1024;
+            let octets = filled(ASCII, len);
+            let theirs = octets.clone();
+            section.add(&format!("of {len}"), times,
+                move || unsafe { call(octets.as_ptr(), black_box(len), black_box(times)) },
+                move || rust(black_box(&theirs), black_box(times)));
+        }
+        bench.add(section);
+    }
+}
+
+fn pops(bench: &mut Bench) {
+    for (kind, text) in [("ASCII", ASCII), ("Latin", LATIN), ("wide", WIDE)] {
+        let times = 16;
+        let octets = filled(text, 4096);
+        let characters = std::str::from_utf8(&octets).unwrap().chars().count();
+        let mut section = Section::new("popping", &format!("`pop` off `Vec<u8>`, {kind}"), "`String::pop`");
+        let theirs = octets.clone();
+        section.add(kind, times * characters,
+            move || unsafe { octseq_pop(octets.as_ptr(), octets.len(), black_box(times)) },
+            move || pop(black_box(&theirs), black_box(times)));
+        bench.add(section);
+    }
+}
+
+fn integers(bench: &mut Bench) {
+    let beside = "`chunks_exact` with `from_be_bytes`, `from_le_bytes`";
+    let mut section = Section::new("parsing", "integers of 2, 4 and 8 octets", beside);
+    type Sum = unsafe extern "C" fn(*const u8, usize) -> u64;
+    let widths: [(&str, Sum, fn(&[u8]) -> u64); 3] = [
+        ("`u16`, big-endian", octseq_sum_u16_be, |octets| sum(octets, |o| u16::from_be_bytes(o).into())),
+        ("`u32`, little-endian", octseq_sum_u32_le, |octets| sum(octets, |o| u32::from_le_bytes(o).into())),
+        ("`u64`, big-endian", octseq_sum_u64_be, |octets| sum(octets, u64::from_be_bytes)),
+    ];
+    for (name, call, rust) in widths {
+        let octets = random(4096);
+        let theirs = octets.clone();
+        section.add(name, octets.len(),
+            move || unsafe { call(octets.as_ptr(), octets.len()) }, move || rust(black_box(&theirs)));
+    }
+    bench.add(section);
 }
 
 fn main() {
-    println!("  {:<28} {:>9} {:>9} {:>6}", "input, ns an octet", "octseq", "Rust", "ratio");
-    finder();
-    lossy();
-    texts();
-    integers();
+    let mut bench = Bench::default();
+    finder(&mut bench);
+    lossy(&mut bench);
+    pushes(&mut bench);
+    pops(&mut bench);
+    integers(&mut bench);
+    bench.measure(3);
+    bench.tell();
+    let mut words = std::env::args().skip(1);
+    if let (Some(folder), Some(when)) = (words.next(), words.next()) {
+        bench.write(&folder, &when).expect("docs/SPEED.md and docs/speed.svg are written");
+    }
 }

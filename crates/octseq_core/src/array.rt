@@ -152,6 +152,7 @@ impl<const N: usize> OctetsLimit for Array<N> {
 
 impl<const N: usize> OctetsBuilder for Array<N> {
     /// The slice takes the place of as many hidden octets; the others stay hidden, as they are.
+    #[inline(always)]
     fn append_slice(&mut self, slice: &[u8]) -> Result<(), AppendError>
         ensures appended { Appends (Some N) false result slice.now self.old.content self.new.content }
         ensures hidden { OnOk result (self.new.hidden ≡ drop (length slice.now) self.old.hidden) }

@@ -1,5 +1,5 @@
 //! A text that grows.
-ghost use Rattle.std.specs.Prelude.{◌≡◌, ℕ, ◌+◌, ◌<◌, ◌↔◌, true, None, List, [], ◌∷◌, ◌++◌, length, take, IsTrue, IsOk, IsSome, IfOk, IfErr, IfSome, IfNone, OnOk, OnErr};
+ghost use Rattle.std.specs.Prelude.{◌≡◌, ℕ, ◌+◌, ◌-◌, ◌<◌, ◌≤◌, ◌↔◌, true, None, List, [], ◌∷◌, ◌++◌, length, take, IsTrue, IsOk, IsSome, IfOk, IfErr, IfSome, IfNone, OnOk, OnErr};
 ghost use Rattle.octseq_core.specs.Appends.{Appends};
 ghost use Rattle.octseq_core.specs.ArrayOctets.{blank};
 ghost use Rattle.octseq_core.specs.Limit.{IsWithin};
@@ -192,6 +192,7 @@ impl<Octets: AsOctets> StrBuilder<Octets> {
     ///
     /// `Short` where the text would pass the limit of its type, and else `Memory` where a request for
     /// memory was refused. The text is then as it was.
+    #[inline(always)]
     pub fn try_push(&mut self, ch: char) -> Result<(), AppendError>
     where
         Octets: OctetsBuilder,
@@ -208,7 +209,8 @@ impl<Octets: AsOctets> StrBuilder<Octets> {
             (append_reply result) (chars (Octets.content self.new)) }
     {
         let mut octets = [0; 4];
-        self.try_push_str(ch.encode_utf8(&mut octets[..]))
+        let encoding = ch.encode_utf8(&mut octets[..]);
+        append_encoding(&mut self.octets, encoding.as_bytes())
     }
 
     /// Appends the octets as a text in which each maximal ill-formed part became one U+FFFD, or nothing.
@@ -281,6 +283,7 @@ impl<Octets: AsOctets> StrBuilder<Octets> {
     /// # Errors
     ///
     /// `AllocError` where a request for memory was refused. The text is then as it was.
+    #[inline(always)]
     pub fn push(&mut self, ch: char) -> Result<(), AllocError>
     where
         Octets: OctetsBuilder,
@@ -338,9 +341,42 @@ impl<Octets: AsOctets> StrBuilder<Octets> {
         ensures step { Pops (chars (Octets.content self.old)) result (chars (Octets.content self.new)) }
     {
         let (last, width) = last_encoding(self.as_slice(), &mut Turns::new())?;
-        let rest = StrBuilder::len(self) - width;
-        self.octets.truncate(rest);
+        shorten(&mut self.octets, width);
         Some(last)
+    }
+}
+
+/// Appends the octets of one character, by a copy whose size is known where it is compiled.
+#[inline(always)]
+fn append_encoding<Builder: OctetsBuilder>(
+    builder: &mut Builder,
+    encoding: &[u8],
+) -> Result<(), AppendError>
+    ensures appended { Appends Builder.limit Builder.asks result encoding.now
+        (Builder.content builder.old) (Builder.content builder.new) }
+    ensures borrows { Builder.borrows builder.new ≡ Builder.borrows builder.old }
+{
+    match encoding.len() {
+        1 => builder.append_slice(&encoding[..1]),
+        2 => builder.append_slice(&encoding[..2]),
+        3 => builder.append_slice(&encoding[..3]),
+        _ => builder.append_slice(encoding),
+    }
+}
+
+/// Takes so many octets off the end. One has a branch of its own, where the compiler knows the lesser length.
+#[inline(always)]
+fn shorten<Builder: AsOctets + Truncate>(builder: &mut Builder, width: usize)
+    requires { width ≤ length (Builder.content builder.old) }
+    ensures content { Builder.content builder.new
+        ≡ take (length (Builder.content builder.old) - width) (Builder.content builder.old) }
+    ensures borrows { Builder.borrows builder.new ≡ Builder.borrows builder.old }
+{
+    let len = builder.as_ref().len();
+    if width == 1 {
+        builder.truncate(len - 1);
+    } else {
+        builder.truncate(len - width);
     }
 }
 

@@ -11,16 +11,16 @@ returns-in_err-last-clause-step g c =
     let nothing = ap chars (sym c.as_slice.ensures.content ∙ c.in_err-last.ensures.none) ∙ chars_of spells_nothing in
     rw c.from_residual.ensures (nothing, nothing)
 
-pub overflow_sub-rest : goal.overflow_sub-rest
-overflow_sub-rest g c =
-    rw (c.in_ok-last.ensures.width, c.len.ensures.content, ← c.as_slice.ensures.content) (encoding_short _ _ c.in_ok-last.ensures.some)
+pub shorten-requires : goal.shorten-requires
+shorten-requires g c =
+    rw (c.in_ok-last.ensures.width, c.self.view_is, ← c.as_slice.ensures.content) (encoding_short _ _ c.in_ok-last.ensures.some)
 
 -- what is left of the text
-left : (g : given.Over) (c : goal.After-truncate g) → IsPopped c.as_slice.result.now (g.Octets.AsOctets.content c.truncate.new.self) c.in_ok-last.last
+left : (g : given.Over) (c : goal.After-shorten g) → IsPopped c.as_slice.result.now (g.Octets.AsOctets.content c.shorten.new.builder) c.in_ok-last.last
 left g c =
-    let cut : c.len.result - c.in_ok-last.width ≡ length c.as_slice.result.now - length (encoding_of c.in_ok-last.last) =
-    rw (c.in_ok-last.ensures.width, c.len.ensures.content, c.as_slice.ensures.content) refl in
-    popped _ _ _ _ c.in_ok-last.ensures.some cut (rw (c.as_slice.ensures.content, ← c.self.view_is) c.truncate.ensures.content)
+    let cut : length (g.Octets.AsOctets.content c.self.inside.octets) - c.in_ok-last.width ≡ length c.as_slice.result.now - length (encoding_of c.in_ok-last.last) =
+    rw (c.in_ok-last.ensures.width, c.as_slice.ensures.content, c.self.view_is) refl in
+    popped _ _ _ _ c.in_ok-last.ensures.some cut (rw (c.as_slice.ensures.content, ← c.self.view_is) c.shorten.ensures.content)
 
 pub invariant_of-self : goal.invariant_of-self
 invariant_of-self g c = (left g c).text

@@ -1,0 +1,241 @@
+//! Measures, and writes what was measured: lines, the tables of docs/SPEED.md and the picture docs/speed.svg.
+use std::fmt::{Debug, Write as _};
+use std::hint::black_box;
+use std::time::Instant;
+
+/// Makes a call so many times, and gives the seconds that this took.
+type Timed = Box<dyn Fn(usize) -> f64>;
+
+fn timed<T: 'static>(call: impl Fn() -> T + 'static) -> Timed {
+    Box::new(move |calls| {
+        let start = Instant::now();
+        for _ in 0..calls {
+            black_box(call());
+        }
+        start.elapsed().as_secs_f64()
+    })
+}
+
+/// The least time of a call, in seconds.
+struct Side {
+    call: Timed,
+    least: f64,
+}
+
+impl Side {
+    fn new(call: Timed) -> Self {
+        Side { call, least: f64::MAX }
+    }
+
+    fn round(&mut self, calls: usize) {
+        self.least = self.least.min((self.call)(calls) / calls as f64);
+    }
+}
+
+struct Input {
+    name: String,
+    items: usize,
+    ours: Side,
+    theirs: Side,
+    /// A part of our time that is told apart.
+    apart: Option<Side>,
+}
+
+impl Input {
+    /// Many rounds of all sides in turn, so that a slow moment of the machine meets each.
+    fn measure(&mut self) {
+        let calls = (1 << 21) / self.items + 1;
+        let start = Instant::now();
+        for round in 0..21 {
+            self.ours.round(calls);
+            self.theirs.round(calls);
+            if let Some(apart) = &mut self.apart {
+                apart.round(calls);
+            }
+            if round >= 4 && start.elapsed().as_secs() >= 1 {
+                break;
+            }
+        }
+    }
+
+    fn ratio(&self) -> f64 {
+        self.ours.least / self.theirs.least
+    }
+
+    /// The ratio of what is left of our time.
+    fn ratio_of_rest(&self) -> Option<f64> {
+        let apart = self.apart.as_ref()?;
+        Some((self.ours.least - apart.least) / self.theirs.least)
+    }
+}
+
+/// Inputs that make one row of the table and one bar of the picture.
+pub struct Section {
+    heading: String,
+    what: String,
+    beside: String,
+    inputs: Vec<Input>,
+}
+
+impl Section {
+    pub fn new(heading: &str, what: &str, beside: &str) -> Self {
+        Section { heading: heading.into(), what: what.into(), beside: beside.into(), inputs: Vec::new() }
+    }
+
+    /// Adds an input of so many items, octets or characters, on which both sides have to answer the same.
+    pub fn add<T: PartialEq + Debug + 'static>(
+        &mut self,
+        name: &str,
+        items: usize,
+        ours: impl Fn() -> T + 'static,
+        theirs: impl Fn() -> T + 'static,
+    ) {
+        assert_eq!(ours(), theirs(), "{}: {name}", self.what);
+        let (ours, theirs) = (Side::new(timed(ours)), Side::new(timed(theirs)));
+        self.inputs.push(Input { name: name.into(), items, ours, theirs, apart: None });
+    }
+
+    /// Tells a part of our time on the last input apart.
+    pub fn apart<T: 'static>(&mut self, call: impl Fn() -> T + 'static) {
+        if let Some(input) = self.inputs.last_mut() {
+            input.apart = Some(Side::new(timed(call)));
+        }
+    }
+
+    fn ratios(&self) -> Vec<f64> {
+        self.inputs.iter().map(Input::ratio).collect()
+    }
+
+    /// The ratios less what is told apart, where each input has it.
+    fn ratios_of_rest(&self) -> Option<Vec<f64>> {
+        self.inputs.iter().map(Input::ratio_of_rest).collect()
+    }
+}
+
+/// The geometric mean.
+fn mean(ratios: &[f64]) -> f64 {
+    (ratios.iter().map(|ratio| ratio.ln()).sum::<f64>() / ratios.len() as f64).exp()
+}
+
+fn greatest(ratios: &[f64]) -> f64 {
+    ratios.iter().copied().fold(0.0, f64::max)
+}
+
+/// A cell for the greatest of more than one ratio.
+fn cell(ratios: &[f64]) -> String {
+    if ratios.len() > 1 { format!("{:.2}", greatest(ratios)) } else { String::new() }
+}
+
+#[derive(Default)]
+pub struct Bench {
+    sections: Vec<Section>,
+}
+
+impl Bench {
+    pub fn add(&mut self, section: Section) {
+        self.sections.push(section);
+    }
+
+    /// Goes over all inputs so many times, so that none is measured in one bad minute alone.
+    pub fn measure(&mut self, times: usize) {
+        for _ in 0..times {
+            for input in self.sections.iter_mut().flat_map(|section| &mut section.inputs) {
+                input.measure();
+            }
+        }
+    }
+
+    pub fn tell(&self) {
+        println!("  {:<28} {:>9} {:>9} {:>6}", "input, ns an item", "octseq", "Rust", "ratio");
+        for section in &self.sections {
+            for input in &section.inputs {
+                let each = 1e9 / input.items as f64;
+                let (a, b) = (input.ours.least * each, input.theirs.least * each);
+                print!("  {:<28} {a:>9.3} {b:>9.3} {:>6.2}", input.name, input.ratio());
+                match input.ratio_of_rest() {
+                    Some(rest) => println!("  less the copy {rest:.2}"),
+                    None => println!(),
+                }
+            }
+            let ratios = section.ratios();
+            println!("{}: mean {:.2}, greatest {:.2}\n", section.what, mean(&ratios), greatest(&ratios));
+        }
+    }
+
+    /// Writes the tables between their marks in SPEED.md, and speed.svg beside it.
+    pub fn write(&self, folder: &str, when: &str) -> std::io::Result<()> {
+        const FROM: &str = "<!-- bench/run writes from here -->\n";
+        const TO: &str = "<!-- to here -->\n";
+        let path = format!("{folder}/SPEED.md");
+        let page = std::fs::read_to_string(&path)?;
+        let parts = page.split_once(FROM).and_then(|(before, rest)| Some((before, rest.split_once(TO)?.1)));
+        let Some((before, behind)) = parts else {
+            return Err(std::io::Error::other("SPEED.md has not both marks"));
+        };
+        std::fs::write(&path, format!("{before}{FROM}{}{TO}{behind}", self.tables(when)))?;
+        std::fs::write(format!("{folder}/speed.svg"), self.picture(when))
+    }
+
+    fn tables(&self, when: &str) -> String {
+        let mut page = format!("Measured on {when}, as time over Rust's.\n\n");
+        page.push_str("| what | beside | mean | greatest |\n|---|---|---|---|\n");
+        for section in &self.sections {
+            let ratios = section.ratios();
+            let (what, beside) = (&section.what, &section.beside);
+            let _ = writeln!(page, "| {what} | {beside} | {:.2} | {} |", mean(&ratios), cell(&ratios));
+            if let Some(rest) = section.ratios_of_rest() {
+                let _ = writeln!(page, "| the same, less the copy | the same | {:.2} | {} |", mean(&rest), cell(&rest));
+            }
+        }
+        page.push_str("\nBy input, where a row has more than one:\n\n| what | inputs |\n|---|---|\n");
+        for section in self.sections.iter().filter(|section| section.inputs.len() > 1) {
+            let inputs: Vec<String> =
+                section.inputs.iter().map(|input| format!("{} {:.2}", input.name, input.ratio())).collect();
+            let _ = writeln!(page, "| {} | {} |", section.what, inputs.join("; "));
+        }
+        page
+    }
+
+    /// A bar a section from 0 to its mean, a thin line on to its greatest, and a line at 1.
+    fn picture(&self, when: &str) -> String {
+        const LEFT: f64 = 420.0;
+        const ONE: f64 = 190.0;
+        const MOST: f64 = 2.0;
+        const ROW: f64 = 20.0;
+        let across = |ratio: f64| LEFT + ratio.min(MOST) * ONE;
+        let (mut bars, mut y, mut heading) = (String::new(), 62.0, "");
+        for section in &self.sections {
+            if section.heading != heading {
+                heading = &section.heading;
+                y += 8.0;
+                let _ = writeln!(bars, r#"<text x="12" y="{:.0}" font-weight="bold">{heading}</text>"#, y + 14.0);
+                y += ROW;
+            }
+            let ratios = section.ratios();
+            let (mean, greatest) = (mean(&ratios), greatest(&ratios));
+            let color = if mean < 1.005 { "#2f81c7" } else { "#c4633a" };
+            let what = section.what.replace('`', "").replace('&', "&amp;").replace('<', "&lt;").replace('>', "&gt;");
+            let _ = writeln!(bars, r#"<text x="24" y="{:.0}">{what}</text>"#, y + 14.0);
+            let _ = writeln!(bars, r#"<text x="{:.0}" y="{:.0}" text-anchor="end">{mean:.2}</text>"#,
+                LEFT - 8.0, y + 14.0);
+            let _ = writeln!(bars, r#"<path d="M{LEFT} {}H{:.0}" stroke="{color}" stroke-width="2"/>"#,
+                y + ROW / 2.0, across(greatest));
+            let _ = writeln!(bars, r#"<rect x="{LEFT}" y="{}" width="{:.0}" height="12" fill="{color}"/>"#,
+                y + 4.0, across(mean) - LEFT);
+            y += ROW;
+        }
+        let (width, height, one) = (LEFT + MOST * ONE + 20.0, y + 12.0, across(1.0));
+        format!(
+            r##"<svg xmlns="http://www.w3.org/2000/svg" viewBox="0 0 {width} {height}" width="{width}" height="{height}"
+ font-family="sans-serif" font-size="12" fill="#6e7781">
+<title>Time of octseq over that of Rust's std</title>
+<text x="12" y="20" font-size="15" font-weight="bold">Time over that of Rust's std, shorter is faster</text>
+<text x="12" y="38">{when}. A bar is a mean over inputs; the thin line goes on to the greatest.</text>
+{bars}<path d="M{one} 60V{}" stroke="#6e7781" stroke-dasharray="4 3"/>
+<text x="{one}" y="56" text-anchor="middle">Rust: 1.0</text>
+</svg>
+"##,
+            y + 2.0
+        )
+    }
+}
