@@ -13,4 +13,5 @@ pub mod Masks
 pub mod Ascii
 pub mod Faults
 pub mod Mixed
+pub mod Tails
 pub mod LossyTexts
