@@ -1,10 +1,13 @@
 -- The mask of a lane has a bit for each octet that is 0x80 or more. So it is 0 where all are ASCII, and even where the first one is.
-use Rattle.std.proofs.Common.{◌≡◌, ◌≢◌, ℕ, ◌+◌, ◌*◌, ◌%◌, ◌^◌, ◌<◌, ◌≤◌, ◌↔◌, Bool, true, false, cond, leb, List, [], ◌∷◌, map, length, replicate, take, drop, get_or, refl, ap, sym, ◌∙◌, arith, w8}
+use Rattle.std.proofs.Common.{◌≡◌, ◌≢◌, ℕ, zero, suc, ◌+◌, ◌*◌, ◌%◌, ◌^◌, ◌<◌, ◌≤◌, ◌-◌, ◌↔◌, ◌⊎◌, inl, inr, ⊎_elim, subst, Bool, not, true, false, cond, leb, List, [], ◌∷◌, map, length, replicate, take, drop, get_or, length-take, length-drop, refl, ap, sym, ◌∙◌, arith, w8}
 use Rattle.std.proofs.lemmas.Bool.Decides.{nat_tests}
-use Rattle.std.proofs.lemmas.List.Elements.{All-nil, All-cons, All-head, All-tail, All-take, All-drop}
-use Rattle.std.proofs.lemmas.Simd.{mask_l-mod, tops_compared, zip2_splat_left, get_or-chunk}
-use Rattle.std.proofs.lemmas.List.{length-map}
-use Rattle.std.specs.List.{All}
+use Rattle.std.proofs.lemmas.List.Elements.{All-nil, All-cons, All-head, All-tail, All-take, All-drop, All-get_or, All-from_get_or}
+use Rattle.std.proofs.lemmas.Simd.{mask_l-mod, tops_compared, zip2_splat_left, get_or-chunk, trailing_mask_l, length-chunk}
+use Rattle.std.proofs.lemmas.List.{length-map, get_or-take, get_or-drop}
+use Rattle.std.proofs.lemmas.List.Sums.{prefix_len-le-length, prefix_len_passes, prefix_len_stops}
+use Rattle.std.specs.List.{All, prefix_len}
+use Rattle.std.proofs.Math.Nat.{eq-or-lt_of_le}
+use Rattle.std.specs.Int.Count.{count_trailing_zeros}
 use lib.Lanes.{mask_l, top, zip2}
 
 -- an octet more at the front of a lane, by its bit
@@ -57,3 +60,58 @@ lane_first x i long =
 -- where a lane isn't all below 80, neither are the octets
 pub high_some : (x : List ℕ) (place high : ℕ) → (high ≡ 0) ↔ All (λ o. o < 128) (take 16 (drop place x)) → high ≢ 0 → ¬ All (λ o. o < 128) x
 high_some x place high none some all = some (none.1 (All-take (λ o. o < 128) 16 _ (All-drop (λ o. o < 128) place x all)))
+
+-- the octets before the lowest bit of a lane's mask are below 80, and the one there isn't
+pub record IsBeforeHigh (x : List ℕ) (n : ℕ) : Type 0 where
+  pub few : n < 16
+  pub low : All (λ o. o < 128) (take n x)
+  pub high : 128 ≤ get_or x n 0
+
+less_or_more : (n k : ℕ) → n ≤ k → (n < k) ⊎ (n ≡ k)
+less_or_more n k h = ⊎_elim (λ e. inr e) (λ l. inl l) (eq-or-lt_of_le h)
+
+pub before_high : (x : List ℕ) (high : ℕ) → 16 ≤ length x → high ≡ mask_l (map (leb 128) (take 16 x)) → high ≢ 0 → IsBeforeHigh x (count_trailing_zeros 64 high)
+before_high x high room same some =
+    let ys : List ℕ = take 16 x in
+    let long : length ys ≡ 16 = length-take 16 x ∙ omega arith in
+    let n : ℕ = prefix_len (λ o. not (leb 128 o)) ys in
+    let found : count_trailing_zeros 64 high ≡ n = ap (count_trailing_zeros 64) same ∙ trailing_mask_l (leb 128) 64 ys (omega arith) (omega arith) in
+    let below : (i : ℕ) → i < n → get_or ys i 0 < 128 = λ i h. not_high (get_or ys i 0) (prefix_len_passes (λ o. not (leb 128 o)) ys i 0 h) in
+    let few : n < length ys =
+    ⊎_elim
+    (λ less. less)
+    (λ all. absurd (some (same ∙ high_none ys (All-from_get_or (λ o. o < 128) ys 0 (λ i h. below i (omega arith))))))
+    (less_or_more n (length ys) (prefix_len-le-length (λ o. not (leb 128 o)) ys)) in
+    subst (IsBeforeHigh x) (sym found)
+    (record {
+      few = omega arith;
+      low = All-from_get_or (λ o. o < 128) (take n x) 0 (λ i h.
+          let less : i < n = omega (arith, length-take n x) in
+          subst (λ o. o < 128) (get_or-take 16 x i 0 (omega arith) ∙ sym (get_or-take n x i 0 less)) (below i less));
+      high = subst (λ o. 128 ≤ o) (get_or-take 16 x n 0 (omega arith)) (is_high (get_or ys n 0) (prefix_len_stops (λ o. not (leb 128 o)) ys 0 few));
+    })
+  where
+    not_high : (o : ℕ) → not (leb 128 o) ≡ true → o < 128
+    not_high o h = grind (arith, nat_tests)
+    is_high : (o : ℕ) → not (leb 128 o) ≡ false → 128 ≤ o
+    is_high o h = grind (arith, nat_tests)
+
+pub less_or_not : (i n : ℕ) → (i < n) ⊎ (n ≤ i)
+less_or_not i zero = inr (omega arith)
+less_or_not zero (suc n) = inl (omega arith)
+less_or_not (suc i) (suc n) = ⊎_elim (λ h. inl (omega arith)) (λ h. inr (omega arith)) (less_or_not i n)
+
+-- octets whose first n and last n are below 80, where those overlap or meet
+pub ends_low : (x : List ℕ) (from n : ℕ) → from + n ≤ length x → length x ≤ from + (n + n) → All (λ o. o < 128) (take n (drop from x)) → All (λ o. o < 128) (take n (drop (length x - n) x)) → All (λ o. o < 128) (drop from x)
+ends_low x from n room few first last =
+    All-from_get_or (λ o. o < 128) (drop from x) 0 (λ i h.
+    let in_x : from + i < length x = omega (arith, length-drop from x) in
+    let here : get_or (drop from x) i 0 ≡ get_or x (from + i) 0 = get_or-drop from x i 0 in
+    ⊎_elim
+    (λ less. subst (λ o. o < 128) (get_or-chunk from n x i 0 less ∙ sym here) (All-get_or (λ o. o < 128) (take n (drop from x)) i 0 (omega (arith, length-chunk from n x room)) first))
+    (λ more.
+    let k : ℕ = from + i - (length x - n) in
+    let same : (length x - n) + k ≡ from + i = omega arith in
+    subst (λ o. o < 128) (get_or-chunk (length x - n) n x k 0 (omega arith) ∙ ap (λ j. get_or x j 0) same ∙ sym here)
+    (All-get_or (λ o. o < 128) (take n (drop (length x - n) x)) k 0 (omega (arith, length-chunk (length x - n) n x (omega arith))) last))
+    (less_or_not i n))

@@ -91,7 +91,7 @@ octet_front x place lt low =
 
 -- a lane of octets below 80: each spells its character
 
-spells_low : (x : List ℕ) → All (λ o. o < 0x80) x → Spells x (map (λ o. number_of (o ∷ [])) x)
+pub spells_low : (x : List ℕ) → All (λ o. o < 0x80) x → Spells x (map (λ o. number_of (o ∷ [])) x)
 spells_low [] low = spells_nothing
 spells_low (a ∷ x) low =
     let first : a < 0x80 = All-head (λ o. o < 0x80) a x low in

@@ -1,10 +1,12 @@
 -- What stands at the front of octets, by how many fit.
-use Rattle.std.proofs.Common.{◌≡◌, ◌≢◌, ℕ, ◌-◌, ◌<◌, List, length, get_or, take, drop, refl, arith, inl, inr, ap, sym, ◌∙◌, subst, length-take, length-drop, Some, None}
+use Rattle.std.proofs.Common.{◌≡◌, ◌≢◌, ℕ, zero, suc, ◌-◌, ◌<◌, ◌≤◌, ◌⊎◌, ⊎_elim, false, List, length, get_or, take, drop, refl, arith, inl, inr, ap, sym, ◌∙◌, subst, length-take, length-drop, Some, None}
 use Rattle.std.proofs.lemmas.List.{take-append-drop, drop_all}
+use Rattle.std.proofs.lemmas.Bool.Decides.{nat_tests}
+use Rattle.std.specs.Int.{IsInRange, is_in_range}
 use Rattle.octseq_utf8.specs.Encoding.{IsEncoding}
-use Rattle.octseq_utf8.specs.Front.{StandsInFront}
+use Rattle.octseq_utf8.specs.Front.{IsBadFront, StandsInFront}
 use Rattle.octseq_utf8.specs.Parts.{IsBeginning, IsBadPart}
-use Rattle.octseq_utf8.specs.Reading.{width, fitting, part_len}
+use Rattle.octseq_utf8.specs.Reading.{width_of, least_second, greatest_second, width, fitting, part_len}
 use Rattle.octseq_utf8.specs.declared.finder.Front.TheVariants.{Encoding, Bad}
 use Rattle.octseq_utf8.proofs.Fitting.{fitting_within, fitting_wide, fitting_fits}
 use Rattle.octseq_utf8.proofs.Rows.{width_le}
@@ -56,3 +58,38 @@ front_other x some lead short more =
       bad = subst (λ k. IsBadPart x (take k x)) n (bad_of x some (inr (omega arith)));
       size = inr (ap Some (sym long), λ b. let none : length x - fitting x ≡ 0 = sym (length-drop (fitting x) x) ∙ ap length b.1 in absurd (more (omega arith)));
     }
+
+-- no octet of 80 or more is a character by itself
+width_high : (a : ℕ) → 0x80 ≤ a → width_of a ≢ 1
+unfolding width_of
+width_high a h e = absurd (grind (arith, nat_tests))
+
+-- what may stand second is a continuation
+pub second_range : (a b : ℕ) → IsInRange (least_second a) (greatest_second a) b → IsInRange 0x80 0xBF b
+unfolding least_second greatest_second
+second_range a b (l, g) = (grind (arith, nat_tests), grind (arith, nat_tests))
+
+few_or_more : (n : ℕ) → (n ≤ 1) ⊎ (1 < n)
+few_or_more zero = inl (omega arith)
+few_or_more (suc zero) = inl (omega arith)
+few_or_more (suc (suc n)) = inr (omega arith)
+
+-- where the second octet is no continuation, one octet at most fits
+fitting_one : (x : List ℕ) → 1 ≤ length x → 1 ≤ width x → is_in_range 0x80 0xBF (get_or x 1 0) ≡ false → fitting x ≡ 1
+fitting_one x some lead second =
+    let f = fitting_fits x some lead in
+    let least = f.some in
+    ⊎_elim (λ few. omega arith) (λ more. absurd (let r = second_range (get_or x 0 0) (get_or x 1 0) (f.second more) in let l = r.0 in let g = r.1 in grind (arith, nat_tests))) (few_or_more (fitting x))
+
+-- and the first octet, of 80 or more, is the bad part
+pub front_second : (x : List ℕ) → 1 < length x → 0x80 ≤ get_or x 0 0 → is_in_range 0x80 0xBF (get_or x 1 0) ≡ false → StandsInFront x (Bad (Some 1))
+front_second x more high second = ⊎_elim (λ none. front_lead x (omega arith) none) (λ lead. some lead) (zero_or_more (width x))
+  where
+    zero_or_more : (n : ℕ) → (n ≡ 0) ⊎ (1 ≤ n)
+    zero_or_more zero = inl refl
+    zero_or_more (suc n) = inr (omega arith)
+    some : 1 ≤ width x → StandsInFront x (Bad (Some 1))
+    some lead =
+        let one = fitting_one x (omega arith) lead second in
+        subst (λ k. IsBadFront x (Some k) k) one
+        (front_other x (omega arith) (λ h. omega arith) (λ h. width_high (get_or x 0 0) high (sym h ∙ one)) (λ h. omega arith))

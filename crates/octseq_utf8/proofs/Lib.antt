@@ -13,6 +13,7 @@ pub mod Masks
 pub mod Ascii
 pub mod Faults
 pub mod Mixed
+pub mod Tails
 pub mod LossyTexts
 pub mod AtFault
 pub mod ByChunk

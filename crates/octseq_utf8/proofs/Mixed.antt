@@ -138,6 +138,12 @@ pub record IsMixed (x : List ℕ) (place old now : ℕ) : Type 0 where
 pub mixed_start : (x : List ℕ) (t : ℕ) → IsMixed x 0 t t
 mixed_start x t = record { reserved = omega (arith, run_le 15 x) }
 
+-- behind fewer than sixteen octets that took a turn each, where one of 80 or more stands
+pub mixed_skipped : (x : List ℕ) (n t : ℕ) → n < 16 → n < length x → 0x80 ≤ get_or x n 0 → IsMixed x n t (t + n)
+mixed_skipped x n t few room high =
+    let none : low_run 15 (drop n x) ≡ 0 = ap (low_run 15) (drop-cons x n 0 room) ∙ run-high 14 (get_or x n 0) (drop (suc n) x) high in
+    record { reserved = omega arith }
+
 high_add : (x : List ℕ) (place n : ℕ) → place ≤ length x → high_count (take (place + n) x) ≡ high_count (take place x) + high_count (take n (drop place x))
 high_add x place n h = ap high_count (take-add x place n h) ∙ high-append (take place x) (take n (drop place x))
 

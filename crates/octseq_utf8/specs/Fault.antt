@@ -31,6 +31,10 @@ pub record IsFault (octets : List ℕ) (fault : Fault) : Type 0 where
 abbrev pub fault_end : List ℕ → Fault → ℕ
 fault_end octets fault = fault.place + unwrap_or fault.size (length octets - fault.place)
 
+-- The fault as it is in the octets from a place on.
+abbrev pub fault_from : ℕ → Fault → Fault
+fault_from from fault = record { place = fault.place - from; size = fault.size }
+
 -- What a fault prints.
 abbrev pub text_of_size : ℕ → Option ℕ → List ℕ
 text_of_size place (Some size) = codes "invalid utf-8 sequence of " ++ (decimal size ++ (codes " bytes from index " ++ decimal place))

@@ -1,16 +1,16 @@
 //! The finder of the first fault.
-ghost use Rattle.std.specs.Prelude.{◌≡◌, ℕ, ◌+◌, ◌*◌, ◌/◌, ◌%◌, ◌<◌, ◌≤◌, ◌↔◌, length, take, slice_index, count_by, nat_le, IsNone, IfNone, IfSome};
-ghost use Rattle.std.specs.Int.{is_in_range};
+ghost use Rattle.std.specs.Prelude.{◌≡◌, ℕ, ◌+◌, ◌-◌, ◌*◌, ◌/◌, ◌%◌, ◌<◌, ◌≤◌, ◌↔◌, ◌++◌, length, take, drop, replicate, slice_index, count_by, nat_le, IsNone, IfNone, IfSome};
+ghost use Rattle.std.specs.Int.{w32, to_le_bytes, is_in_range};
 ghost use Rattle.std.specs.List.{All};
-ghost use Rattle.octseq_utf8.specs.Fault.{IsFault, fault_end};
+ghost use Rattle.octseq_utf8.specs.Fault.{IsFault, fault_end, fault_from};
 ghost use Rattle.octseq_utf8.specs.Front.{StandsInFront};
 ghost use Rattle.octseq_utf8.specs.Reading.{width_of, least_second, greatest_second, fitting};
 ghost use Rattle.octseq_utf8.specs.Text.{IsWellFormed, chars};
 
 use crate::fault::Utf8Fault;
-use crate::lanes::high_lanes;
+use crate::lanes::{ascii_before_high, high_lanes, is_short_ascii};
 use crate::turns::Turns;
-use crate::words::{begins_three, begins_two, is_four, word_at};
+use crate::words::{encoding_len, last_word, word_at};
 
 /// How many octets an encoding that begins with this one has, or 0 where none does.
 #[tactic(auto, unfolding(crate::specs::Reading::width_of))]
@@ -79,11 +79,16 @@ enum Front {
 }
 
 /// What stands at the front of octets, by the table.
+///
+/// Most bad parts have one octet, which the second octet tells.
 #[inline(always)]
 fn part_at_front(octets: &[u8]) -> Front
     requires { 0 < length octets.now }
     ensures { StandsInFront octets.now result }
 {
+    if octets[0] >= 0x80 && octets.len() > 1 && !is_continuation(octets[1]) {
+        return Front::Bad(Some(1));
+    }
     let width = width(octets[0]);
     let fitting = fitting_len(octets, width);
     if width == 0 {
@@ -97,41 +102,47 @@ fn part_at_front(octets: &[u8]) -> Front
     }
 }
 
-/// The first fault of the octets, one part a turn.
-fn fault_by_parts(octets: &[u8], turns: &mut Turns) -> Option<Utf8Fault>
-    ensures none { IsNone result ↔ IsWellFormed octets.now }
-    ensures fault { IfSome result (IsFault octets.now) }
-    ensures turns { IfNone result (turns.new ≤ turns.old + length (chars octets.now)) }
-    ensures turns_to_fault { IfSome result (λ fault.
-        turns.new ≤ turns.old + length (chars (take fault.place octets.now)) + 1) }
-    ensures passed { IfNone result (length octets.now + 16 * turns.old ≤ 16 * turns.new) }
-    ensures passed_to_fault { IfSome result (λ fault.
-        fault_end octets.now fault + 16 * turns.old ≤ 16 * turns.new) }
-    ensures octets { turns.new ≤ turns.old + length octets.now }
+/// What stands at a place: an encoding of two octets or more by the word there, and all else by the table.
+#[inline(always)]
+fn part_at(octets: &[u8], at: usize, word: u32) -> Front
+    requires place { at < length octets.now }
+    requires word { to_le_bytes w32 word ≡ take 4 (drop at octets.now ++ replicate 3 0) }
+    ensures { StandsInFront (drop at octets.now) result }
 {
-    let mut at = 0;
+    let len = encoding_len(word);
+    if len == 0 {
+        part_at_front(&octets[at..])
+    } else {
+        Front::Encoding(len)
+    }
+}
+
+/// The first fault from a place on, one part a turn: octets that begin there are looked at as if alone.
+fn fault_by_parts(octets: &[u8], from: usize, turns: &mut Turns) -> Option<Utf8Fault>
+    requires { from ≤ length octets.now }
+    ensures none { IsNone result ↔ IsWellFormed (drop from octets.now) }
+    ensures place { IfSome result (λ fault. from ≤ fault.place) }
+    ensures fault { IfSome result (λ fault. IsFault (drop from octets.now) (fault_from from fault)) }
+    ensures turns { IfNone result (turns.new ≤ turns.old + length (chars (drop from octets.now))) }
+    ensures turns_to_fault { IfSome result (λ fault.
+        turns.new ≤ turns.old + length (chars (take (fault.place - from) (drop from octets.now))) + 1) }
+    ensures passed { IfNone result (length octets.now - from + 16 * turns.old ≤ 16 * turns.new) }
+    ensures passed_to_fault { IfSome result (λ fault.
+        fault_end (drop from octets.now) (fault_from from fault) + 16 * turns.old ≤ 16 * turns.new) }
+    ensures octets { turns.new ≤ turns.old + (length octets.now - from) }
+{
+    if is_short_ascii(octets, from) {
+        turns.pass(octets.len() - from);
+        return None;
+    }
+    let mut at = from;
     while at < octets.len() {
         turns.tick();
         if octets[at] < 0x80 {
             at += 1;
             continue;
         }
-        if octets.len() - at >= 4 {
-            let word = word_at(octets, at);
-            if begins_two(word) {
-                at += 2;
-                continue;
-            }
-            if begins_three(word) {
-                at += 3;
-                continue;
-            }
-            if is_four(word) {
-                at += 4;
-                continue;
-            }
-        }
-        match part_at_front(&octets[at..]) {
+        match part_at(octets, at, last_word(octets, at)) {
             Front::Encoding(len) => at += len,
             Front::Bad(size) => return Some(Utf8Fault::new(at, size)),
         }
@@ -163,7 +174,8 @@ pub fn first_fault(octets: &[u8], turns: &mut Turns) -> Option<Utf8Fault>
     ensures mixed { turns.new ≤ turns.old + length octets.now / 16
         + 8 * count_by (λ octet. nat_le 0x80 octet) octets.now + 15 }
 {
-    let mut at = 0;
+    let mut at = ascii_before_high(octets);
+    turns.pass(at);
     let lanes = octets.len().saturating_sub(15);
     while at < lanes {
         turns.tick();
@@ -176,24 +188,10 @@ pub fn first_fault(octets: &[u8], turns: &mut Turns) -> Option<Utf8Fault>
             at += 1;
             continue;
         }
-        let word = word_at(octets, at);
-        if begins_two(word) {
-            at += 2;
-            continue;
-        }
-        if begins_three(word) {
-            at += 3;
-            continue;
-        }
-        if is_four(word) {
-            at += 4;
-            continue;
-        }
-        match part_at_front(&octets[at..]) {
+        match part_at(octets, at, word_at(octets, at)) {
             Front::Encoding(len) => at += len,
             Front::Bad(size) => return Some(Utf8Fault::new(at, size)),
         }
     }
-    let fault = fault_by_parts(&octets[at..], turns)?;
-    Some(Utf8Fault::new(at + fault.valid_up_to(), fault.error_len()))
+    fault_by_parts(octets, at, turns)
 }

@@ -1,6 +1,7 @@
-//! Sixteen octets at once.
-ghost use Rattle.std.specs.Prelude.{◌≡◌, ◌+◌, ◌%◌, ◌<◌, ◌≤◌, ◌↔◌, length, take, drop, slice_index};
+//! Sixteen octets at once, or eight, or four.
+ghost use Rattle.std.specs.Prelude.{◌≡◌, ◌+◌, ◌%◌, ◌<◌, ◌≤◌, ◌↔◌, nat_le, true, false, map, length, take, drop, slice_index};
 ghost use Rattle.std.specs.List.{All};
+ghost use Rattle.std.specs.Simd.Lanes.{mask_l};
 
 use std::simd::prelude::*;
 
@@ -8,10 +9,70 @@ use std::simd::prelude::*;
 #[inline(always)]
 pub(crate) fn high_lanes(octets: &[u8], at: usize) -> u64
     requires { at + 16 ≤ length octets.now }
+    ensures mask { result ≡ mask_l (map (nat_le 0x80) (take 16 (drop at octets.now))) }
     ensures none { result ≡ 0 ↔ All (λ octet. octet < 0x80) (take 16 (drop at octets.now)) }
     ensures first { result % 2 ≡ 0 ↔ slice_index octets.now at < 0x80 }
 {
     u8x16::from_slice(&octets[at..])
         .simd_ge(u8x16::splat(0x80))
         .to_bitmask()
+}
+
+/// How many octets below 80 stand before the first of 80 or more, where that is among the first sixteen of
+/// sixteen octets or more, and else 0.
+#[inline(always)]
+pub(crate) fn ascii_before_high(octets: &[u8]) -> usize
+    ensures low { All (λ octet. octet < 0x80) (take result octets.now) }
+    ensures lane { 0 < result → (result < 16) × (16 ≤ length octets.now) }
+    ensures high { 0 < result → 0x80 ≤ slice_index octets.now result }
+{
+    if octets.len() < 16 {
+        return 0;
+    }
+    let high = high_lanes(octets, 0);
+    if high == 0 {
+        return 0;
+    }
+    high.trailing_zeros() as usize
+}
+
+/// Whether any of the eight octets from there on is 80 or more.
+#[inline(always)]
+fn is_high_in_eight(octets: &[u8], at: usize) -> bool
+    requires { at + 8 ≤ length octets.now }
+    ensures { result ≡ false → All (λ octet. octet < 0x80) (take 8 (drop at octets.now)) }
+{
+    u8x8::from_slice(&octets[at..])
+        .simd_ge(u8x8::splat(0x80))
+        .to_bitmask()
+        != 0
+}
+
+/// Whether any of the four octets from there on is 80 or more.
+#[inline(always)]
+fn is_high_in_four(octets: &[u8], at: usize) -> bool
+    requires { at + 4 ≤ length octets.now }
+    ensures { result ≡ false → All (λ octet. octet < 0x80) (take 4 (drop at octets.now)) }
+{
+    u8x4::from_slice(&octets[at..])
+        .simd_ge(u8x4::splat(0x80))
+        .to_bitmask()
+        != 0
+}
+
+/// Whether four to sixteen octets are left from there on, and all are below 80: told by the first and the last
+/// eight of them, or four, which overlap.
+#[inline(always)]
+pub(crate) fn is_short_ascii(octets: &[u8], from: usize) -> bool
+    requires { from ≤ length octets.now }
+    ensures { result ≡ true → All (λ octet. octet < 0x80) (drop from octets.now) }
+{
+    let len = octets.len() - from;
+    if len < 4 || len > 16 {
+        return false;
+    }
+    if len < 8 {
+        return !is_high_in_four(octets, from) && !is_high_in_four(octets, octets.len() - 4);
+    }
+    !is_high_in_eight(octets, from) && !is_high_in_eight(octets, octets.len() - 8)
 }

@@ -45,4 +45,14 @@ impl Turns {
         let before = replace(&mut self.count, Snapshot::of(&Count::Zero));
         self.count = Snapshot::of(&Count::After(before));
     }
+
+    /// Counts so many turns, at no time.
+    #[inline(always)]
+    pub fn pass(&mut self, count: usize)
+        ensures { self.new ≡ self.old + count }
+    {
+        for _ in 0..count {
+            self.tick();
+        }
+    }
 }

@@ -1,9 +1,9 @@
 use Rattle.std.proofs.Common.{length, ◌-◌}
-use Rattle.octseq_utf8.proofs.Faults.{IsAt}
+use Rattle.octseq_utf8.proofs.Tails.{IsBehind}
 use Rattle.octseq_utf8.proofs.finder.fault_by_parts.Given as goal
 
 abbrev pub invariant-loop-at : goal.invariant-loop-at
-invariant-loop-at l = IsAt l.octets l.at l.fn.turns l.turns
+invariant-loop-at l = IsBehind l.octets l.from l.at l.fn.turns l.turns
 
 abbrev pub decreases-loop-at : goal.decreases-loop-at
 decreases-loop-at l = length l.initial.octets - l.at

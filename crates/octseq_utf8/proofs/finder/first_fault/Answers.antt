@@ -1,13 +1,20 @@
-use Rattle.std.proofs.Common.{refl, arith, subst}
-use Rattle.octseq_utf8.specs.Text.{IsWellFormed}
-use Rattle.octseq_utf8.specs.declared.finder.Front.TheVariants.{Encoding, Bad}
-use Rattle.octseq_utf8.proofs.Faults.{IsFaultAt, lanes_start, lane_passed, other_passed, word_front, octet_front, fault_at, fault_refutes, at_place, front_some, rest_of, well_formed_behind, turns_behind, fault_behind}
+use Rattle.std.proofs.Common.{arith}
+use Rattle.std.specs.Prelude.{IfSome}
+use Rattle.std.proofs.lemmas.Option.{IfSome_then}
+use Rattle.octseq_utf8.proofs.Faults.{IsFaultAt, lane_passed, other_passed, octet_front, fault_at, fault_refutes}
 use Rattle.octseq_utf8.proofs.Ascii.{high_some}
-use Rattle.octseq_utf8.proofs.Mixed.{mixed_start, mixed_lane, mixed_low, mixed_high, first_high, mixed_fault, mixed_end, mixed_fault_behind}
+use Rattle.octseq_utf8.proofs.Mixed.{mixed_lane, mixed_low, mixed_high, first_high, mixed_fault}
+use Rattle.octseq_utf8.proofs.Tails.{lanes_from, mixed_from, tail_fault, tail_none, tail_turns, tail_mixed}
 use Rattle.octseq_utf8.proofs.finder.first_fault.Goals as goal
 
 pub loop-at-init : goal.loop-at-init
-loop-at-init c = record { lanes = lanes_start _ _; mixed = mixed_start _ _ }
+loop-at-init c =
+    let before = c.ascii_before_high-at.ensures in
+    rw c.pass.ensures
+    (record {
+      lanes = lanes_from c.args.octets.now c.ascii_before_high-at.result c.args.turns.now before.low before.lane before.high;
+      mixed = mixed_from c.args.octets.now c.ascii_before_high-at.result c.args.turns.now before.low before.lane before.high;
+    })
 
 pub loop-at-preserved-then-high-eq0 : goal.loop-at-preserved-then-high-eq0
 loop-at-preserved-then-high-eq0 c =
@@ -33,67 +40,22 @@ loop-at-preserved-then-high-eq0-2 c =
       mixed = mixed_low c.args.octets.now c.loop-at.at c.args.turns.now c.loop-at.turns c.loop-at.invariant.mixed (omega arith) low (λ all. c.if-high-eq0.false (c.high_lanes-high.ensures.none.1 all));
     })
 
--- an encoding that the word begins with
-
-pub loop-at-preserved-then-begins_three : goal.loop-at-preserved-then-begins_three
-loop-at-preserved-then-begins_three c =
-    let lanes = c.saturating_sub-lanes.ensures in
-    let front = word_front c.args.octets.now _ c.loop-at.at 3 (omega arith) c.word_at-word.ensures (omega arith) (c.begins_three.ensures c.if-begins_three.true) in
-    rw c.tick.ensures
-    (record {
-      lanes = other_passed c.args.octets.now c.loop-at.at c.args.turns.now c.loop-at.turns 3 c.loop-at.invariant.lanes front
-          (high_some c.args.octets.now c.loop-at.at c.high_lanes-high.result c.high_lanes-high.ensures.none c.if-high-eq0.false);
-      mixed = mixed_high c.args.octets.now c.loop-at.at c.args.turns.now c.loop-at.turns 3 c.loop-at.invariant.mixed (omega arith)
-          (first_high _ _ c.high_lanes-high.ensures.first c.if-high-eq0-2.false) front;
-    })
-
-pub loop-at-preserved-then-begins_two : goal.loop-at-preserved-then-begins_two
-loop-at-preserved-then-begins_two c =
-    let lanes = c.saturating_sub-lanes.ensures in
-    let front = word_front c.args.octets.now _ c.loop-at.at 2 (omega arith) c.word_at-word.ensures (omega arith) (c.begins_two.ensures c.if-begins_two.true) in
-    rw c.tick.ensures
-    (record {
-      lanes = other_passed c.args.octets.now c.loop-at.at c.args.turns.now c.loop-at.turns 2 c.loop-at.invariant.lanes front
-          (high_some c.args.octets.now c.loop-at.at c.high_lanes-high.result c.high_lanes-high.ensures.none c.if-high-eq0.false);
-      mixed = mixed_high c.args.octets.now c.loop-at.at c.args.turns.now c.loop-at.turns 2 c.loop-at.invariant.mixed (omega arith)
-          (first_high _ _ c.high_lanes-high.ensures.first c.if-high-eq0-2.false) front;
-    })
-
-pub loop-at-preserved-then-is_four : goal.loop-at-preserved-then-is_four
-loop-at-preserved-then-is_four c =
-    let lanes = c.saturating_sub-lanes.ensures in
-    let front = word_front c.args.octets.now _ c.loop-at.at 4 (omega arith) c.word_at-word.ensures (omega arith) (c.is_four.ensures c.if-is_four.true) in
-    rw c.tick.ensures
-    (record {
-      lanes = other_passed c.args.octets.now c.loop-at.at c.args.turns.now c.loop-at.turns 4 c.loop-at.invariant.lanes front
-          (high_some c.args.octets.now c.loop-at.at c.high_lanes-high.result c.high_lanes-high.ensures.none c.if-high-eq0.false);
-      mixed = mixed_high c.args.octets.now c.loop-at.at c.args.turns.now c.loop-at.turns 4 c.loop-at.invariant.mixed (omega arith)
-          (first_high _ _ c.high_lanes-high.ensures.first c.if-high-eq0-2.false) front;
-    })
-
 pub loop-at-preserved : goal.loop-at-preserved
 loop-at-preserved c =
     let lanes = c.saturating_sub-lanes.ensures in
-    let front = at_place c.args.octets.now c.loop-at.at (Encoding c.in-Encoding.len) c.in-Encoding.ensures in
     rw c.tick.ensures
     (record {
-      lanes = other_passed c.args.octets.now c.loop-at.at c.args.turns.now c.loop-at.turns c.in-Encoding.len c.loop-at.invariant.lanes front
+      lanes = other_passed c.args.octets.now c.loop-at.at c.args.turns.now c.loop-at.turns c.in-Encoding.len c.loop-at.invariant.lanes c.in-Encoding.ensures
           (high_some c.args.octets.now c.loop-at.at c.high_lanes-high.result c.high_lanes-high.ensures.none c.if-high-eq0.false);
       mixed = mixed_high c.args.octets.now c.loop-at.at c.args.turns.now c.loop-at.turns c.in-Encoding.len c.loop-at.invariant.mixed (omega arith)
-          (first_high _ _ c.high_lanes-high.ensures.first c.if-high-eq0-2.false) front;
+          (first_high _ _ c.high_lanes-high.ensures.first c.if-high-eq0-2.false) c.in-Encoding.ensures;
     })
-
-pub loop-at-smaller : goal.loop-at-smaller
-loop-at-smaller c =
-    let some = front_some c.args.octets.now c.loop-at.at c.in-Encoding.len c.in-Encoding.ensures in
-    let lanes = c.saturating_sub-lanes.ensures in
-    omega arith
 
 -- what is owed at a fault before the last octets
 owed : (c : goal.After-new) → IsFaultAt c.args.octets.now c.args.turns.now c.tick.new.self c.new.result
 owed c =
     rw (c.new.ensures, c.tick.ensures)
-    (fault_at c.args.octets.now c.loop-at.at c.args.turns.now c.loop-at.turns c.in-Bad.size c.loop-at.invariant.lanes.at (at_place c.args.octets.now c.loop-at.at (Bad c.in-Bad.size) c.in-Bad.ensures))
+    (fault_at c.args.octets.now c.loop-at.at c.args.turns.now c.loop-at.turns c.in-Bad.size c.loop-at.invariant.lanes.at c.in-Bad.ensures)
 
 pub returns-in-Bad-clause-none : goal.returns-in-Bad-clause-none
 returns-in-Bad-clause-none c = (λ h. cc, λ w. absurd (fault_refutes (owed c).is_fault w))
@@ -104,51 +66,27 @@ returns-in-Bad-clause-fault c = (owed c).is_fault
 pub returns-in-Bad-clause-turns_to_fault : goal.returns-in-Bad-clause-turns_to_fault
 returns-in-Bad-clause-turns_to_fault c = (owed c).turns
 
-pub returns-in-Bad-clause-mixed : goal.returns-in-Bad-clause-mixed
-returns-in-Bad-clause-mixed c =
-    let lanes = c.saturating_sub-lanes.ensures in
-    rw c.tick.ensures (mixed_fault c.args.octets.now c.loop-at.at c.args.turns.now c.loop-at.turns c.loop-at.invariant.mixed (omega arith))
-
 -- and what of the last octets: those that are behind the lanes
-
-pub returns-in_err-fault-clause-none : goal.returns-in_err-fault-clause-none
-returns-in_err-fault-clause-none c =
-    let w = subst IsWellFormed (rest_of c.args.octets.now c.loop-at.at) (c.in_err-fault.ensures.none.0 refl) in
-    (λ h. (well_formed_behind c.args.octets.now c.loop-at.at c.args.turns.now c.loop-at.turns c.loop-at.invariant.lanes.at w).0, λ v. rw c.from_residual.ensures refl)
-
-pub returns-in_err-fault-clause-turns : goal.returns-in_err-fault-clause-turns
-returns-in_err-fault-clause-turns c =
-    let w = subst IsWellFormed (rest_of c.args.octets.now c.loop-at.at) (c.in_err-fault.ensures.none.0 refl) in
-    let turns = rw (rest_of c.args.octets.now c.loop-at.at) at c.in_err-fault.ensures.turns in
-    rw c.from_residual.ensures (turns_behind c.args.octets.now c.loop-at.at c.args.turns.now c.loop-at.turns _ c.loop-at.invariant.lanes.at w turns)
-
-pub returns-in_err-fault-clause-mixed : goal.returns-in_err-fault-clause-mixed
-returns-in_err-fault-clause-mixed c =
-    let w = subst IsWellFormed (rest_of c.args.octets.now c.loop-at.at) (c.in_err-fault.ensures.none.0 refl) in
-    let turns = rw (rest_of c.args.octets.now c.loop-at.at) at c.in_err-fault.ensures.turns in
-    let lanes = c.saturating_sub-lanes.ensures in
-    mixed_end c.args.octets.now c.loop-at.at c.args.turns.now c.loop-at.turns c.loop-at.invariant.mixed c.loop-at.invariant.lanes.at.within (omega arith) _ w turns
-
--- the fault behind the lanes
-behind : (c : goal.After-new-2) → IsFaultAt c.args.octets.now c.args.turns.now c.fault_by_parts.new.turns c.new-2.result
+behind : (c : goal.After-fault_by_parts) → IfSome c.fault_by_parts.result (IsFaultAt c.args.octets.now c.args.turns.now c.fault_by_parts.new.turns)
 behind c =
-    let rest = rest_of c.args.octets.now c.loop-at.at in
-    rw (c.new-2.ensures, c.valid_up_to.ensures, c.error_len.ensures)
-    (fault_behind c.args.octets.now c.loop-at.at c.args.turns.now c.loop-at.turns _ _ c.loop-at.invariant.lanes.at (rw rest at c.in_ok-fault.ensures.fault)
-    (rw rest at c.in_ok-fault.ensures.turns_to_fault) (rw rest at c.in_ok-fault.ensures.passed_to_fault))
+    let tail = c.fault_by_parts.ensures in
+    tail_fault c.args.octets.now c.loop-at.at c.args.turns.now c.loop-at.turns c.fault_by_parts.new.turns c.fault_by_parts.result c.loop-at.invariant.lanes.at tail.place tail.fault tail.turns_to_fault tail.passed_to_fault
 
 pub returns-clause-none : goal.returns-clause-none
-returns-clause-none c = (λ h. cc, λ w. absurd (fault_refutes (behind c).is_fault w))
+returns-clause-none c = tail_none c.args.octets.now c.loop-at.at c.args.turns.now c.loop-at.turns c.fault_by_parts.new.turns c.fault_by_parts.result c.loop-at.invariant.lanes.at c.fault_by_parts.ensures.none (behind c)
 
 pub returns-clause-fault : goal.returns-clause-fault
-returns-clause-fault c = (behind c).is_fault
+returns-clause-fault c = IfSome_then c.fault_by_parts.result (behind c) (λ fault h. h.is_fault)
 
 pub returns-clause-turns_to_fault : goal.returns-clause-turns_to_fault
-returns-clause-turns_to_fault c = (behind c).turns
+returns-clause-turns_to_fault c = IfSome_then c.fault_by_parts.result (behind c) (λ fault h. h.turns)
+
+pub returns-clause-turns : goal.returns-clause-turns
+returns-clause-turns c =
+    tail_turns c.args.octets.now c.loop-at.at c.args.turns.now c.loop-at.turns c.fault_by_parts.new.turns c.fault_by_parts.result c.loop-at.invariant.lanes.at c.fault_by_parts.ensures.none c.fault_by_parts.ensures.turns
 
 pub returns-clause-mixed : goal.returns-clause-mixed
 returns-clause-mixed c =
-    let rest = rest_of c.args.octets.now c.loop-at.at in
     let lanes = c.saturating_sub-lanes.ensures in
-    mixed_fault_behind c.args.octets.now c.loop-at.at c.args.turns.now c.loop-at.turns c.loop-at.invariant.mixed c.loop-at.invariant.lanes.at.within (omega arith) _ _
-    (rw rest at c.in_ok-fault.ensures.fault) (rw rest at c.in_ok-fault.ensures.turns_to_fault)
+    let tail = c.fault_by_parts.ensures in
+    tail_mixed c.args.octets.now c.loop-at.at c.args.turns.now c.loop-at.turns c.fault_by_parts.new.turns c.fault_by_parts.result c.loop-at.invariant.mixed c.loop-at.invariant.lanes.at.within (omega arith) tail.none tail.turns tail.fault tail.turns_to_fault

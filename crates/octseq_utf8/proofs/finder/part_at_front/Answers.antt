@@ -1,8 +1,11 @@
-use Rattle.std.proofs.Common.{◌∙◌, sym, subst, Some}
+use Rattle.std.proofs.Common.{◌∙◌, sym, subst, arith, Some}
 use Rattle.octseq_utf8.specs.Front.{IsBadFront, StandsInFront}
 use Rattle.octseq_utf8.specs.declared.finder.Front.TheVariants.{Encoding}
-use Rattle.octseq_utf8.proofs.Fronts.{front_encoding, front_lead, front_cut, front_other}
+use Rattle.octseq_utf8.proofs.Fronts.{front_encoding, front_lead, front_cut, front_other, front_second}
 use Rattle.octseq_utf8.proofs.finder.part_at_front.Goals as goal
+
+pub returns-then-not-is_continuation : goal.returns-then-not-is_continuation
+returns-then-not-is_continuation c = front_second c.args.octets.now c.if-octets-gt1.true c.if-octets-ge128.true (grind (arith, c.is_continuation.ensures, c.if-not-is_continuation.true))
 
 pub returns-then-width-eq0 : goal.returns-then-width-eq0
 returns-then-width-eq0 c = front_lead c.args.octets.now c.requires (sym c.width-width.ensures ∙ c.if-width-eq0.true)
