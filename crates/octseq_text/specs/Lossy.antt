@@ -13,19 +13,15 @@ pub record ReadsLossily {A E : Type 0} (tells : E → Refusal) (limit : Option �
   -- Exactly one list of parts splits the octets.
   pub one_splitting : (parts others : List Part) → Splits octets parts → Splits octets others → parts ≡ others
   pub splitting : (parts : List Part) × Splits octets parts
-
   -- The answer is the text of those parts with the replacement, behind the front.
   pub text : IfOk result (λ made. (parts : List Part) → Splits octets parts → content made ≡ front ++ text_with replacement parts)
   pub well_formed : IfOk result (λ made. IsWellFormed (content made))
-
   -- It is refused as short exactly where that passes the limit, memory aside.
   pub short : IsShort tells result → (parts : List Part) → Splits octets parts → IsPast limit (length (front ++ text_with replacement parts))
   pub past : (parts : List Part) → Splits octets parts → IsPast limit (length (front ++ text_with replacement parts)) → IsErr result
   pub memory : IsMemory tells result → requests
-
   -- A second reading changes nothing, with any character as the replacement, and a first one changes what isn't well formed.
   pub again : IfOk result (λ made. (w : ℕ) (parts : List Part) → Splits (content made) parts → text_with w parts ≡ content made)
   pub other : ¬ IsWellFormed octets → IfOk result (λ made. content made ≢ octets)
-
   -- With a replacement of three octets or more, U+FFFD among them, the text is no shorter than its source, also where it is refused.
   pub no_shorter : 3 ≤ length (encoding_of replacement) → (parts : List Part) → Splits octets parts → length octets ≤ length (text_with replacement parts)

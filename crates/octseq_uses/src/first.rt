@@ -9,7 +9,7 @@ ghost use Rattle.octseq.specs.Text.{IsWellFormed};
 
 use octseq::builder::{AppendError, AsOctets, OctetsBuilder};
 use octseq::octets::range_exists;
-use octseq::utf8::{Turns, first_fault, one_fault};
+use octseq::utf8::{find_fault, one_fault};
 use octseq::{Array, CowOctets, Octets};
 use std::alloc::AllocError;
 
@@ -70,7 +70,7 @@ pub fn text_front(octets: &[u8]) -> &[u8]
     ensures cut { (fault : Fault) → IsFault octets.now fault → length result.now ≡ fault.place }
 {
     one_fault();
-    match first_fault(octets, &mut Turns::new()) {
+    match find_fault(octets) {
         None => octets,
         Some(fault) => &octets[..fault.valid_up_to()],
     }

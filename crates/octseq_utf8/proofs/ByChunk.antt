@@ -45,8 +45,8 @@ module _ (x : List ℕ) (fault : Fault) (f : IsFault x fault) where
         good = subst IsWellFormed (sym v) f.good;
         bad = inr (subst (λ y. IsBadPart (y ++ behind) y) (sym i) (subst (λ y. IsBadPart (f.bad ++ y) f.bad) (sym b) f.first));
         cut = (
-            λ t. let k = sized.0 (cut.0 t) in (subst IsBeginning (sym i) k.0, b ∙ k.1),
-            λ k. cut.1 (sized.1 (subst IsBeginning i k.0, sym b ∙ k.1)),
+          λ t. let k = sized.0 (cut.0 t) in (subst IsBeginning (sym i) k.0, b ∙ k.1),
+          λ k. cut.1 (sized.1 (subst IsBeginning i k.0, sym b ∙ k.1)),
         );
       }
 
@@ -86,6 +86,7 @@ parts_at_chunk x chunk behind c = go c.bad
   where
     front : map Char (chars chunk.valid) ≡ map Char c.good.0
     front = ap (map Char) (chars_of c.good.1)
+
     go : ((chunk.invalid ≡ []) × (behind ≡ [])) ⊎ IsBadPart (chunk.invalid ++ behind) chunk.invalid → parts_of x ≡ chunk_parts chunk ++ parts_of behind
     go (inl none) =
         let same : x ≡ chunk.valid = c.whole ∙ ap (λ y. chunk.valid ++ (y ++ behind)) none.0 ∙ ap (λ y. chunk.valid ++ y) none.1 ∙ append-nil chunk.valid in
@@ -109,7 +110,7 @@ text_at_chunk w x chunk behind c = go c.bad
     go (inl none) =
         let same : x ≡ chunk.valid = c.whole ∙ ap (λ y. chunk.valid ++ (y ++ behind)) none.0 ∙ ap (λ y. chunk.valid ++ y) none.1 ∙ append-nil chunk.valid in
         let nothing : mark_of (encoding_of w) chunk.invalid ++ text_with w (parts_of behind) ≡ [] =
-            ap (λ y. mark_of (encoding_of w) y ++ text_with w (parts_of behind)) none.0 ∙ ap (λ y. text_with w (parts_of y)) none.1 ∙ text_spelled w spells_nothing in
+        ap (λ y. mark_of (encoding_of w) y ++ text_with w (parts_of behind)) none.0 ∙ ap (λ y. text_with w (parts_of y)) none.1 ∙ text_spelled w spells_nothing in
         ap (λ y. text_with w (parts_of y)) same ∙ text_spelled w c.good.1
         ∙ sym (append_assoc chunk.valid (mark_of (encoding_of w) chunk.invalid) (text_with w (parts_of behind)) ∙ ap (λ y. chunk.valid ++ y) nothing ∙ append-nil chunk.valid)
     go (inr bad) =

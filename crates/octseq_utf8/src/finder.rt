@@ -195,3 +195,11 @@ pub fn first_fault(octets: &[u8], turns: &mut Turns) -> Option<Utf8Fault>
     }
     fault_by_parts(octets, at, turns)
 }
+
+/// As [`first_fault`], for callers that read no count.
+pub fn find_fault(octets: &[u8]) -> Option<Utf8Fault>
+    ensures none { IsNone result ↔ IsWellFormed octets.now }
+    ensures fault { IfSome result (IsFault octets.now) }
+{
+    first_fault(octets, &mut Turns::new())
+}

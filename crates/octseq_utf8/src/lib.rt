@@ -14,6 +14,8 @@ mod words;
 
 pub use chunk::{Utf8Chunk, Utf8Chunks, chunks};
 pub use fault::{Utf8Fault, before, behind, onward};
-pub use finder::{first_fault, is_continuation};
-pub use laws::{chunks_are_parts, lossy_text, one_encoding, one_fault, one_spelling, one_splitting, same_in_std};
+pub use finder::{find_fault, first_fault, is_continuation};
+pub use laws::{
+    chunks_are_parts, lossy_text, one_encoding, one_fault, one_spelling, one_splitting, same_in_std,
+};
 pub use turns::Turns;

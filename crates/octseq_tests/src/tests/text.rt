@@ -2,7 +2,7 @@ use super::is_text_or_short;
 use octseq::array::Array;
 use octseq::builder::{AppendError, EmptyBuilder, OctetsBuilder, ShortBuf, Truncate};
 use octseq::str::{Command, Reply, StrBuilder, run};
-use octseq::utf8::{Turns, first_fault};
+use octseq::utf8::{Turns, find_fault, first_fault};
 use octseq_uses::capped::Capped;
 use octseq_uses::rationed::Rationed;
 use std::alloc::Global;
@@ -96,7 +96,7 @@ fn faults_are_found_and_shown(rt: HostRuntime) -> Result<(), Fail> {
         assert_equal!(&rt, error.utf8_error(), fault);
         assert_equal!(&rt, error.to_string(rt.alloc())?.as_str(), text);
     }
-    assert_equal!(&rt, first_fault(b"", &mut Turns::new()), None);
+    assert_equal!(&rt, find_fault(b""), None);
     Ok(())
 }
 

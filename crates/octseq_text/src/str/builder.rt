@@ -14,7 +14,7 @@ use super::ends::{boundary, last_encoding};
 use super::error::FromUtf8Error;
 use super::lossy::append_lossy;
 use super::text::Str;
-use crate::utf8::{Turns, first_fault};
+use crate::utf8::{Turns, find_fault};
 use octseq_core::array::Array;
 use octseq_core::builder::{
     AppendError, AsOctets, EmptyBuilder, FreezeBuilder, OctetsBuilder, OctetsLimit, Truncate,
@@ -82,7 +82,7 @@ impl<Octets: AsOctets> StrBuilder<Octets> {
         ensures err { IfErr result (λ error. error.octets ≡ octets) }
         ensures fault { IfErr result (λ error. IsFault (Octets.content octets) error.fault) }
     {
-        match first_fault(octets.as_ref(), &mut Turns::new()) {
+        match find_fault(octets.as_ref()) {
             None => Ok(StrBuilder { octets }),
             Some(fault) => Err(FromUtf8Error::new(octets, fault)),
         }
@@ -236,7 +236,11 @@ impl<Octets: AsOctets> StrBuilder<Octets> {
     ///
     /// `Short` where the text would pass the limit of its type, `Memory` where a request for memory was
     /// refused. The text is then as it was.
-    pub fn try_push_lossy_with(&mut self, octets: &[u8], replacement: char) -> Result<(), AppendError>
+    pub fn try_push_lossy_with(
+        &mut self,
+        octets: &[u8],
+        replacement: char,
+    ) -> Result<(), AppendError>
     where
         Octets: OctetsBuilder + Truncate,
         ensures answer { ReadsLossily append_error Octets.limit (Octets.asks ≡ true)

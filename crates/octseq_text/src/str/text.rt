@@ -8,7 +8,7 @@ ghost use Rattle.octseq_utf8.specs.Text.{IsWellFormed, chars, octets_of};
 
 use super::error::FromUtf8Error;
 use crate::octets::OctetsFrom;
-use crate::utf8::{Turns, Utf8Fault, first_fault};
+use crate::utf8::{Utf8Fault, find_fault};
 use octseq_core::array::Array;
 use octseq_core::builder::{
     AppendError, AsOctets, CloneOctets, EmptyBuilder, FromBuilder, OctetsBuilder, OctetsLimit,
@@ -47,7 +47,7 @@ impl<Octets: AsOctets> Str<Octets> {
         ensures err { IfErr result (λ error. error.octets ≡ octets) }
         ensures fault { IfErr result (λ error. IsFault (Octets.content octets) error.fault) }
     {
-        match first_fault(octets.as_ref(), &mut Turns::new()) {
+        match find_fault(octets.as_ref()) {
             None => Ok(Str { octets }),
             Some(fault) => Err(FromUtf8Error::new(octets, fault)),
         }
@@ -193,7 +193,7 @@ impl<'a> Str<&'a [u8]> {
         ensures ok { IfOk result (λ text. text.now ≡ slice.now) }
         ensures fault { IfErr result (IsFault slice.now) }
     {
-        match first_fault(slice, &mut Turns::new()) {
+        match find_fault(slice) {
             None => Ok(Str { octets: slice }),
             Some(fault) => Err(fault),
         }

@@ -210,7 +210,10 @@ fn is_read<B: EmptyBuilder>(rt: &impl Abort, alloc: Global) -> Result<(), Append
 /// Lossy readings of a slice, and at the end of a text, which has all of it afterwards or is as it was.
 fn copies_lossily<B: EmptyBuilder>(rt: &impl Abort, alloc: Global) -> Result<(), AppendError> {
     let octets = unread::<Vec<u8>>(alloc)?;
-    is_lossy(rt, &StrBuilder::<B>::try_copy_lossy(alloc, octets.as_slice())?);
+    is_lossy(
+        rt,
+        &StrBuilder::<B>::try_copy_lossy(alloc, octets.as_slice())?,
+    );
     let text = StrBuilder::<B>::try_copy_lossy_with(alloc, octets.as_slice(), '\u{FFFD}')?;
     is_lossy(rt, &text);
     Ok(())
