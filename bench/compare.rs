@@ -241,7 +241,7 @@ fn pushes(bench: &mut Bench) {
             let times = 1024;
             let octets = filled(ASCII, len);
             let theirs = octets.clone();
-            section.add(&format!("of {len}"), times,
+            section.add(&format!("{len}"), times,
                 move || unsafe { call(octets.as_ptr(), black_box(len), black_box(times)) },
                 move || rust(black_box(&theirs), black_box(times)));
         }

@@ -190,7 +190,7 @@ impl Bench {
         page.push_str("\nBy input, where a row has more than one:\n\n| what | inputs |\n|---|---|\n");
         for section in self.sections.iter().filter(|section| section.inputs.len() > 1) {
             let inputs: Vec<String> =
-                section.inputs.iter().map(|input| format!("{} {:.2}", input.name, input.ratio())).collect();
+                section.inputs.iter().map(|input| format!("{}: {:.2}", input.name, input.ratio())).collect();
             let _ = writeln!(page, "| {} | {} |", section.what, inputs.join("; "));
         }
         page
