@@ -191,7 +191,7 @@ fn lossy(bench: &mut Bench) {
     // What is read, by which call, and whether its time has that of a copy of the source in it.
     let readings: &[(&str, OfOctets, bool)] = &[
         ("`try_from_utf8_lossy` of a copy", octseq_lossy_len, true),
-            ("`try_copy_lossy`", octseq_lossy_len_of_slice, false),
+        ("`try_copy_lossy`", octseq_lossy_len_of_slice, false),
     ];
     for &(reading, call, copies) in readings {
         for (size, len) in [("4 KiB", 4096), ("16 MiB", 16 << 20)] {
