@@ -1,6 +1,6 @@
 //! The finder of the first fault.
-ghost use Rattle.std.specs.Prelude.{◌≡◌, ℕ, ◌+◌, ◌-◌, ◌*◌, ◌/◌, ◌%◌, ◌<◌, ◌≤◌, ◌↔◌, ◌++◌, length, take, drop, replicate, slice_index, count_by, nat_le, IsNone, IfNone, IfSome};
-ghost use Rattle.std.specs.Int.{w32, to_le_bytes, is_in_range};
+ghost use Rattle.std.specs.Prelude.{◌≡◌, ℕ, ◌+◌, ◌-◌, ◌*◌, ◌/◌, ◌%◌, ◌<◌, ◌≤◌, ◌↔◌, length, take, drop, slice_index, count_by, nat_le, IsNone, IfNone, IfSome};
+ghost use Rattle.std.specs.Int.{is_in_range};
 ghost use Rattle.std.specs.List.{All};
 ghost use Rattle.octseq_utf8.specs.Fault.{IsFault, fault_end, fault_from};
 ghost use Rattle.octseq_utf8.specs.Front.{StandsInFront};
@@ -10,7 +10,7 @@ ghost use Rattle.octseq_utf8.specs.Text.{IsWellFormed, chars};
 use crate::fault::Utf8Fault;
 use crate::lanes::{ascii_before_high, high_lanes, is_short_ascii};
 use crate::turns::Turns;
-use crate::words::{encoding_len, last_word, word_at};
+use crate::words::{encoding_len, word_at};
 
 /// How many octets an encoding that begins with this one has, or 0 where none does.
 #[tactic(auto, unfolding(crate::specs::Reading::width_of))]
@@ -102,19 +102,19 @@ fn part_at_front(octets: &[u8]) -> Front
     }
 }
 
-/// What stands at a place: an encoding of two octets or more by the word there, and all else by the table.
+/// What stands at a place: told by the word there where four octets are left, and else by the table.
 #[inline(always)]
-fn part_at(octets: &[u8], at: usize, word: u32) -> Front
-    requires place { at < length octets.now }
-    requires word { to_le_bytes w32 word ≡ take 4 (drop at octets.now ++ replicate 3 0) }
+fn part_at(octets: &[u8], at: usize) -> Front
+    requires { at < length octets.now }
     ensures { StandsInFront (drop at octets.now) result }
 {
-    let len = encoding_len(word);
-    if len == 0 {
-        part_at_front(&octets[at..])
-    } else {
-        Front::Encoding(len)
+    if octets.len() - at >= 4 {
+        let len = encoding_len(word_at(octets, at));
+        if len > 0 {
+            return Front::Encoding(len);
+        }
     }
+    part_at_front(&octets[at..])
 }
 
 /// The first fault from a place on, one part a turn: octets that begin there are looked at as if alone.
@@ -142,7 +142,7 @@ fn fault_by_parts(octets: &[u8], from: usize, turns: &mut Turns) -> Option<Utf8F
             at += 1;
             continue;
         }
-        match part_at(octets, at, last_word(octets, at)) {
+        match part_at(octets, at) {
             Front::Encoding(len) => at += len,
             Front::Bad(size) => return Some(Utf8Fault::new(at, size)),
         }
@@ -188,7 +188,12 @@ pub fn first_fault(octets: &[u8], turns: &mut Turns) -> Option<Utf8Fault>
             at += 1;
             continue;
         }
-        match part_at(octets, at, word_at(octets, at)) {
+        let len = encoding_len(word_at(octets, at));
+        if len > 0 {
+            at += len;
+            continue;
+        }
+        match part_at_front(&octets[at..]) {
             Front::Encoding(len) => at += len,
             Front::Bad(size) => return Some(Utf8Fault::new(at, size)),
         }
