@@ -93,6 +93,7 @@ before_high x high room same some =
   where
     not_high : (o : ℕ) → not (leb 128 o) ≡ true → o < 128
     not_high o h = grind (arith, nat_tests)
+
     is_high : (o : ℕ) → not (leb 128 o) ≡ false → 128 ≤ o
     is_high o h = grind (arith, nat_tests)
 

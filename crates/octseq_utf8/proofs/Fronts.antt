@@ -88,6 +88,7 @@ front_second x more high second = ⊎_elim (λ none. front_lead x (omega arith) 
     zero_or_more : (n : ℕ) → (n ≡ 0) ⊎ (1 ≤ n)
     zero_or_more zero = inl refl
     zero_or_more (suc n) = inr (omega arith)
+
     some : 1 ≤ width x → StandsInFront x (Bad (Some 1))
     some lead =
         let one = fitting_one x (omega arith) lead second in

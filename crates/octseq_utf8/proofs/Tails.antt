@@ -1,20 +1,16 @@
 -- A search that begins at a place, and what it tells of the whole.
-use Rattle.std.proofs.Common.{◌≡◌, ℕ, zero, suc, ◌+◌, ◌-◌, ◌*◌, ◌<◌, ◌≤◌, ◌⊎◌, inl, inr, ⊎_elim, List, [], ◌∷◌, ◌++◌, map, length, take, drop, replicate, get_or, refl, arith, ap, sym, ◌∙◌, subst, length-append, length-take, length-drop, Option, Some, None}
+use Rattle.std.proofs.Common.{◌≡◌, ℕ, zero, suc, ◌+◌, ◌-◌, ◌*◌, ◌<◌, ◌≤◌, ◌⊎◌, inl, inr, ⊎_elim, List, [], ◌∷◌, map, length, take, drop, get_or, refl, arith, ap, sym, ◌∙◌, subst, length-take, length-drop, Option, Some, None}
 use Rattle.std.specs.Prelude.{IsNone, IfNone, IfSome, ◌↔◌}
-use Rattle.std.proofs.lemmas.List.{take-take, take_all, drop-drop, take-append-le, get_or-take, length-map}
+use Rattle.std.proofs.lemmas.List.{drop-drop, length-map}
 use Rattle.std.specs.List.{All}
 use Rattle.std.proofs.lemmas.List.Elements.{All-get_or}
-use Rattle.octseq_utf8.specs.Encoding.{IsEncoding, number_of}
+use Rattle.octseq_utf8.specs.Encoding.{number_of}
 use Rattle.octseq_utf8.specs.Fault.{Fault, IsFault, fault_end, fault_from}
 use Rattle.octseq_utf8.specs.Front.{StandsInFront}
-use Rattle.octseq_utf8.specs.Text.{Spells, IsWellFormed, chars}
+use Rattle.octseq_utf8.specs.Text.{IsWellFormed, chars}
 use Rattle.octseq_utf8.specs.declared.finder.Front.TheVariants.{Encoding, Bad}
-use Rattle.octseq_utf8.proofs.Ascii.{less_or_not}
 use Rattle.octseq_utf8.proofs.Faults.{IsAt, IsInLanes, IsFaultAt, at_start, at_more, at_end, fault_at, fault_refutes, fault_behind, lanes_start, spells_low, turns_behind, well_formed_behind}
-use Rattle.octseq_utf8.proofs.Fits.{fits_from}
-use Rattle.octseq_utf8.proofs.Fronts.{second_range}
 use Rattle.octseq_utf8.proofs.Mixed.{IsMixed, FewTurns, mixed_start, mixed_skipped, mixed_end, mixed_fault_behind}
-use Rattle.octseq_utf8.proofs.Rows.{length_of}
 use Rattle.octseq_utf8.proofs.Spelling.{chars_of}
 
 -- The search that began at one place is at another.

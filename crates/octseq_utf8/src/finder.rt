@@ -1,4 +1,23 @@
 //! The finder of the first fault.
+//!
+//! Text is mostly ASCII, or mostly of one script; a fault is rare. So the search takes these ways, the quickest first:
+//!
+//! - **Lanes.** Where sixteen octets are left, one load and one mask tell which of them are 80 or more. A lane with
+//!   none is passed at once. Where the octet at hand is below 80 but another of the lane isn't, one octet is passed:
+//!   the next place then hangs on a branch, which the processor foresees in text, and not on the mask. Only before
+//!   the first octet of 80 or more does the search jump by the mask, since a search that goes on behind a fault is
+//!   often at the next one soon.
+//! - **Words.** At an octet of 80 or more, four octets are loaded as one number, and a mask for each length tells
+//!   whether an encoding begins there. The masks hold the whole of the table: they leave no encoding to the next way,
+//!   but no proof needs that.
+//! - **The table.** What no mask takes is read octet by octet, as the table of the Unicode Standard has it. This plain
+//!   way alone decides that there is a fault, and of what size. It looks at the second octet first, since most bad
+//!   parts end before it.
+//! - **The tail.** Fewer than sixteen octets are left. Where all are below 80, two loads that overlap tell so; else
+//!   there is one part a step, by a word while four octets are left, and then by the table.
+//!
+//! A turn passes sixteen octets below 80 as one lane, or one part. Where octets below 80 are jumped over, a turn is
+//! counted for each.
 ghost use Rattle.std.specs.Prelude.{◌≡◌, ℕ, ◌+◌, ◌-◌, ◌*◌, ◌/◌, ◌%◌, ◌<◌, ◌≤◌, ◌↔◌, length, take, drop, slice_index, count_by, nat_le, IsNone, IfNone, IfSome};
 ghost use Rattle.std.specs.Int.{is_in_range};
 ghost use Rattle.std.specs.List.{All};

@@ -4,7 +4,7 @@ use Rattle.std.proofs.lemmas.Option.{IfSome_then}
 use Rattle.octseq_utf8.specs.declared.finder.Front.TheVariants.{Encoding, Bad}
 use Rattle.octseq_utf8.proofs.Faults.{IsFaultAt, lane_passed, other_passed, octet_front, word_front, at_place, front_some, fault_at, fault_refutes}
 use Rattle.octseq_utf8.proofs.Ascii.{high_some}
-use Rattle.octseq_utf8.proofs.Mixed.{mixed_lane, mixed_low, mixed_high, first_high, mixed_fault}
+use Rattle.octseq_utf8.proofs.Mixed.{mixed_lane, mixed_low, mixed_high, first_high}
 use Rattle.octseq_utf8.proofs.Tails.{lanes_from, mixed_from, tail_fault, tail_none, tail_turns, tail_mixed}
 use Rattle.octseq_utf8.proofs.finder.first_fault.Goals as goal
 

@@ -1,6 +1,5 @@
 use Rattle.std.proofs.Common.{arith}
-use Rattle.octseq_utf8.specs.declared.finder.Front.TheVariants.{Encoding}
-use Rattle.octseq_utf8.proofs.Faults.{word_front, at_place}
+use Rattle.octseq_utf8.proofs.Faults.{word_front}
 use Rattle.octseq_utf8.proofs.finder.part_at.Goals as goal
 
 pub returns-then-len-gt0 : goal.returns-then-len-gt0
