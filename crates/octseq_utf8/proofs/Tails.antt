@@ -1,56 +1,17 @@
--- The last octets: a word that zeros fill up, and a search that begins at a place.
-use Rattle.std.proofs.Common.{◌≡◌, ℕ, zero, suc, ◌+◌, ◌-◌, ◌*◌, ◌<◌, ◌≤◌, ◌⊎◌, inl, inr, ⊎_elim, List, [], ◌∷◌, ◌++◌, map, length, take, drop, replicate, get_or, refl, arith, ap, sym, ◌∙◌, subst, length-append, length-take, length-drop, Option, Some, None}
+-- A search that begins at a place, and what it tells of the whole.
+use Rattle.std.proofs.Common.{◌≡◌, ℕ, zero, suc, ◌+◌, ◌-◌, ◌*◌, ◌<◌, ◌≤◌, ◌⊎◌, inl, inr, ⊎_elim, List, [], ◌∷◌, map, length, take, drop, get_or, refl, arith, ap, sym, ◌∙◌, subst, length-take, length-drop, Option, Some, None}
 use Rattle.std.specs.Prelude.{IsNone, IfNone, IfSome, ◌↔◌}
-use Rattle.std.proofs.lemmas.List.{take-take, take_all, drop-drop, take-append-le, get_or-take, length-map}
+use Rattle.std.proofs.lemmas.List.{drop-drop, length-map}
 use Rattle.std.specs.List.{All}
 use Rattle.std.proofs.lemmas.List.Elements.{All-get_or}
-use Rattle.octseq_utf8.specs.Encoding.{IsEncoding, number_of}
+use Rattle.octseq_utf8.specs.Encoding.{number_of}
 use Rattle.octseq_utf8.specs.Fault.{Fault, IsFault, fault_end, fault_from}
 use Rattle.octseq_utf8.specs.Front.{StandsInFront}
-use Rattle.octseq_utf8.specs.Text.{Spells, IsWellFormed, chars}
+use Rattle.octseq_utf8.specs.Text.{IsWellFormed, chars}
 use Rattle.octseq_utf8.specs.declared.finder.Front.TheVariants.{Encoding, Bad}
-use Rattle.octseq_utf8.proofs.Ascii.{less_or_not}
 use Rattle.octseq_utf8.proofs.Faults.{IsAt, IsInLanes, IsFaultAt, at_start, at_more, at_end, fault_at, fault_refutes, fault_behind, lanes_start, spells_low, turns_behind, well_formed_behind}
-use Rattle.octseq_utf8.proofs.Fits.{fits_from}
-use Rattle.octseq_utf8.proofs.Fronts.{second_range}
 use Rattle.octseq_utf8.proofs.Mixed.{IsMixed, FewTurns, mixed_start, mixed_skipped, mixed_end, mixed_fault_behind}
-use Rattle.octseq_utf8.proofs.Rows.{length_of}
 use Rattle.octseq_utf8.proofs.Spelling.{chars_of}
-
--- behind the first, each octet of an encoding is 80 or more
-later_high : {e : List ℕ} → IsEncoding e → (i : ℕ) → 1 ≤ i → i < length e → 0x80 ≤ get_or e i 0
-later_high p zero some less = absurd (omega arith)
-later_high {e} p (suc zero) some less = (second_range (get_or e 0 0) (get_or e 1 0) ((fits_from p).second less)).0
-later_high p (suc (suc zero)) some less = ((fits_from p).third less).0
-later_high p (suc (suc (suc zero))) some less = ((fits_from p).fourth less).0
-later_high p (suc (suc (suc (suc i)))) some less = let n = length_of p in absurd (omega arith)
-
--- so none has a zero there
-zero_beyond : (four : List ℕ) (len i : ℕ) → length four ≡ 4 → len ≤ 4 → 1 ≤ i → i < len → IsEncoding (take len four) → get_or four i 0 ≡ 0 → ⊥
-zero_beyond four len i long few some less e h =
-    let high = later_high e i some (omega (arith, length-take len four)) in
-    let same = get_or-take len four i 0 less in
-    omega arith
-
--- an encoding that begins a word filled up with zeros ends before them
-filled : (y four : List ℕ) (len : ℕ) → 1 ≤ length y → four ≡ take 4 (y ++ replicate 3 0) → len ≤ 4 → IsEncoding (take len four) → len ≤ length y
-filled [] four len some same few e = absurd (omega arith)
-filled (a ∷ []) four len some same few e =
-    ⊎_elim (λ more. absurd (zero_beyond four len 1 (ap length same) few (omega arith) more e (ap (λ l. get_or l 1 0) same))) (λ h. h) (less_or_not 1 len)
-filled (a ∷ b ∷ []) four len some same few e =
-    ⊎_elim (λ more. absurd (zero_beyond four len 2 (ap length same) few (omega arith) more e (ap (λ l. get_or l 2 0) same))) (λ h. h) (less_or_not 2 len)
-filled (a ∷ b ∷ c ∷ []) four len some same few e =
-    ⊎_elim (λ more. absurd (zero_beyond four len 3 (ap length same) few (omega arith) more e (ap (λ l. get_or l 3 0) same))) (λ h. h) (less_or_not 3 len)
-filled (a ∷ b ∷ c ∷ d ∷ y) four len some same few e = omega arith
-
-pub filled_front : (x four : List ℕ) (place len : ℕ) → place < length x → four ≡ take 4 (drop place x ++ replicate 3 0) → (len ≡ 0) ⊎ ((2 ≤ len) × (len ≤ 4)) → (0 < len → IsEncoding (take len four)) → ¬ (len ≡ 0) → StandsInFront (drop place x) (Encoding len)
-filled_front x four place len room same few encoding some = ⊎_elim (λ none. absurd (some none)) (λ h. from h.0 h.1) few
-  where
-    from : 2 ≤ len → len ≤ 4 → StandsInFront (drop place x) (Encoding len)
-    from wide most =
-        let e : IsEncoding (take len four) = encoding (omega arith) in
-        let within = filled (drop place x) four len (omega (arith, length-drop place x)) same most e in
-        (within, subst IsEncoding (ap (take len) same ∙ take-take len 4 (drop place x ++ replicate 3 0) most ∙ take-append-le len (drop place x) (replicate 3 0) within) e)
 
 -- The search that began at one place is at another.
 pub record IsBehind (x : List ℕ) (from place old now : ℕ) : Type 0 where

@@ -1,6 +1,25 @@
 //! The finder of the first fault.
-ghost use Rattle.std.specs.Prelude.{◌≡◌, ℕ, ◌+◌, ◌-◌, ◌*◌, ◌/◌, ◌%◌, ◌<◌, ◌≤◌, ◌↔◌, ◌++◌, length, take, drop, replicate, slice_index, count_by, nat_le, IsNone, IfNone, IfSome};
-ghost use Rattle.std.specs.Int.{w32, to_le_bytes, is_in_range};
+//!
+//! Text is mostly ASCII, or mostly of one script; a fault is rare. So the search takes these ways, the quickest first:
+//!
+//! - **Lanes.** Where sixteen octets are left, one load and one mask tell which of them are 80 or more. A lane with
+//!   none is passed at once. Where the octet at hand is below 80 but another of the lane isn't, one octet is passed:
+//!   the next place then hangs on a branch, which the processor foresees in text, and not on the mask. Only before
+//!   the first octet of 80 or more does the search jump by the mask, since a search that goes on behind a fault is
+//!   often at the next one soon.
+//! - **Words.** At an octet of 80 or more, four octets are loaded as one number, and a mask for each length tells
+//!   whether an encoding begins there. The masks hold the whole of the table: they leave no encoding to the next way,
+//!   but no proof needs that.
+//! - **The table.** What no mask takes is read octet by octet, as the table of the Unicode Standard has it. This plain
+//!   way alone decides that there is a fault, and of what size. It looks at the second octet first, since most bad
+//!   parts end before it.
+//! - **The tail.** Fewer than sixteen octets are left. Where all are below 80, two loads that overlap tell so; else
+//!   there is one part a step, by a word while four octets are left, and then by the table.
+//!
+//! A turn passes sixteen octets below 80 as one lane, or one part. Where octets below 80 are jumped over, a turn is
+//! counted for each.
+ghost use Rattle.std.specs.Prelude.{◌≡◌, ℕ, ◌+◌, ◌-◌, ◌*◌, ◌/◌, ◌%◌, ◌<◌, ◌≤◌, ◌↔◌, length, take, drop, slice_index, count_by, nat_le, IsNone, IfNone, IfSome};
+ghost use Rattle.std.specs.Int.{is_in_range};
 ghost use Rattle.std.specs.List.{All};
 ghost use Rattle.octseq_utf8.specs.Fault.{IsFault, fault_end, fault_from};
 ghost use Rattle.octseq_utf8.specs.Front.{StandsInFront};
@@ -10,7 +29,7 @@ ghost use Rattle.octseq_utf8.specs.Text.{IsWellFormed, chars};
 use crate::fault::Utf8Fault;
 use crate::lanes::{ascii_before_high, high_lanes, is_short_ascii};
 use crate::turns::Turns;
-use crate::words::{encoding_len, last_word, word_at};
+use crate::words::{encoding_len, word_at};
 
 /// How many octets an encoding that begins with this one has, or 0 where none does.
 #[tactic(auto, unfolding(crate::specs::Reading::width_of))]
@@ -102,19 +121,19 @@ fn part_at_front(octets: &[u8]) -> Front
     }
 }
 
-/// What stands at a place: an encoding of two octets or more by the word there, and all else by the table.
+/// What stands at a place: told by the word there where four octets are left, and else by the table.
 #[inline(always)]
-fn part_at(octets: &[u8], at: usize, word: u32) -> Front
-    requires place { at < length octets.now }
-    requires word { to_le_bytes w32 word ≡ take 4 (drop at octets.now ++ replicate 3 0) }
+fn part_at(octets: &[u8], at: usize) -> Front
+    requires { at < length octets.now }
     ensures { StandsInFront (drop at octets.now) result }
 {
-    let len = encoding_len(word);
-    if len == 0 {
-        part_at_front(&octets[at..])
-    } else {
-        Front::Encoding(len)
+    if octets.len() - at >= 4 {
+        let len = encoding_len(word_at(octets, at));
+        if len > 0 {
+            return Front::Encoding(len);
+        }
     }
+    part_at_front(&octets[at..])
 }
 
 /// The first fault from a place on, one part a turn: octets that begin there are looked at as if alone.
@@ -142,7 +161,7 @@ fn fault_by_parts(octets: &[u8], from: usize, turns: &mut Turns) -> Option<Utf8F
             at += 1;
             continue;
         }
-        match part_at(octets, at, last_word(octets, at)) {
+        match part_at(octets, at) {
             Front::Encoding(len) => at += len,
             Front::Bad(size) => return Some(Utf8Fault::new(at, size)),
         }
@@ -188,7 +207,12 @@ pub fn first_fault(octets: &[u8], turns: &mut Turns) -> Option<Utf8Fault>
             at += 1;
             continue;
         }
-        match part_at(octets, at, word_at(octets, at)) {
+        let len = encoding_len(word_at(octets, at));
+        if len > 0 {
+            at += len;
+            continue;
+        }
+        match part_at_front(&octets[at..]) {
             Front::Encoding(len) => at += len,
             Front::Bad(size) => return Some(Utf8Fault::new(at, size)),
         }

@@ -68,7 +68,7 @@ pub(crate) fn is_short_ascii(octets: &[u8], from: usize) -> bool
     ensures { result ≡ true → All (λ octet. octet < 0x80) (drop from octets.now) }
 {
     let len = octets.len() - from;
-    if len < 4 || len > 16 {
+    if len < 4 || len > 16 || octets[from] >= 0x80 {
         return false;
     }
     if len < 8 {

@@ -1,5 +1,5 @@
 //! Encodings told from a word of four octets, by one mask each.
-ghost use Rattle.std.specs.Prelude.{◌≡◌, ◌+◌, ◌<◌, ◌≤◌, ◌⊎◌, ◌++◌, true, length, take, drop, replicate};
+ghost use Rattle.std.specs.Prelude.{◌≡◌, ◌+◌, ◌<◌, ◌≤◌, true, length, take, drop};
 ghost use Rattle.std.specs.Int.{w32, to_le_bytes};
 ghost use Rattle.octseq_utf8.specs.Encoding.{IsEncoding};
 
@@ -12,20 +12,6 @@ pub(crate) fn word_at(octets: &[u8], at: usize) -> u32
     match octets[at..at + 4].split_first_chunk::<4>() {
         Some((four, _)) => u32::from_le_bytes(*four),
         None => 0,
-    }
-}
-
-/// The four octets from there on, with zeros where there are no more.
-#[inline(always)]
-pub(crate) fn last_word(octets: &[u8], at: usize) -> u32
-    requires { at < length octets.now }
-    ensures { to_le_bytes w32 result ≡ take 4 (drop at octets.now ++ replicate 3 0) }
-{
-    match octets.len() - at {
-        1 => u32::from_le_bytes([octets[at], 0, 0, 0]),
-        2 => u32::from_le_bytes([octets[at], octets[at + 1], 0, 0]),
-        3 => u32::from_le_bytes([octets[at], octets[at + 1], octets[at + 2], 0]),
-        _ => word_at(octets, at),
     }
 }
 
@@ -70,7 +56,7 @@ pub(crate) fn is_four(word: u32) -> bool
 /// How many octets the encoding has that begins the word, or 0 where that is none of two octets or more.
 #[inline(always)]
 pub(crate) fn encoding_len(word: u32) -> usize
-    ensures few { (result ≡ 0) ⊎ ((2 ≤ result) × (result ≤ 4)) }
+    ensures few { result ≤ 4 }
     ensures encoding { 0 < result → IsEncoding (take result (to_le_bytes w32 word)) }
 {
     if begins_two(word) {

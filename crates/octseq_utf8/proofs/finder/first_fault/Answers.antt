@@ -1,9 +1,10 @@
 use Rattle.std.proofs.Common.{arith}
 use Rattle.std.specs.Prelude.{IfSome}
 use Rattle.std.proofs.lemmas.Option.{IfSome_then}
-use Rattle.octseq_utf8.proofs.Faults.{IsFaultAt, lane_passed, other_passed, octet_front, fault_at, fault_refutes}
+use Rattle.octseq_utf8.specs.declared.finder.Front.TheVariants.{Encoding, Bad}
+use Rattle.octseq_utf8.proofs.Faults.{IsFaultAt, lane_passed, other_passed, octet_front, word_front, at_place, front_some, fault_at, fault_refutes}
 use Rattle.octseq_utf8.proofs.Ascii.{high_some}
-use Rattle.octseq_utf8.proofs.Mixed.{mixed_lane, mixed_low, mixed_high, first_high, mixed_fault}
+use Rattle.octseq_utf8.proofs.Mixed.{mixed_lane, mixed_low, mixed_high, first_high}
 use Rattle.octseq_utf8.proofs.Tails.{lanes_from, mixed_from, tail_fault, tail_none, tail_turns, tail_mixed}
 use Rattle.octseq_utf8.proofs.finder.first_fault.Goals as goal
 
@@ -40,22 +41,42 @@ loop-at-preserved-then-high-eq0-2 c =
       mixed = mixed_low c.args.octets.now c.loop-at.at c.args.turns.now c.loop-at.turns c.loop-at.invariant.mixed (omega arith) low (λ all. c.if-high-eq0.false (c.high_lanes-high.ensures.none.1 all));
     })
 
+-- an encoding that the word begins with
+pub loop-at-preserved-then-len-gt0 : goal.loop-at-preserved-then-len-gt0
+loop-at-preserved-then-len-gt0 c =
+    let lanes = c.saturating_sub-lanes.ensures in
+    let front = word_front c.args.octets.now _ c.loop-at.at c.encoding_len-len.result (omega arith) c.word_at.ensures c.encoding_len-len.ensures.few (c.encoding_len-len.ensures.encoding c.if-len-gt0.true) in
+    rw c.tick.ensures
+    (record {
+      lanes = other_passed c.args.octets.now c.loop-at.at c.args.turns.now c.loop-at.turns c.encoding_len-len.result c.loop-at.invariant.lanes front
+          (high_some c.args.octets.now c.loop-at.at c.high_lanes-high.result c.high_lanes-high.ensures.none c.if-high-eq0.false);
+      mixed = mixed_high c.args.octets.now c.loop-at.at c.args.turns.now c.loop-at.turns c.encoding_len-len.result c.loop-at.invariant.mixed (omega arith)
+          (first_high _ _ c.high_lanes-high.ensures.first c.if-high-eq0-2.false) front;
+    })
+
 pub loop-at-preserved : goal.loop-at-preserved
 loop-at-preserved c =
     let lanes = c.saturating_sub-lanes.ensures in
+    let front = at_place c.args.octets.now c.loop-at.at (Encoding c.in-Encoding.len) c.in-Encoding.ensures in
     rw c.tick.ensures
     (record {
-      lanes = other_passed c.args.octets.now c.loop-at.at c.args.turns.now c.loop-at.turns c.in-Encoding.len c.loop-at.invariant.lanes c.in-Encoding.ensures
+      lanes = other_passed c.args.octets.now c.loop-at.at c.args.turns.now c.loop-at.turns c.in-Encoding.len c.loop-at.invariant.lanes front
           (high_some c.args.octets.now c.loop-at.at c.high_lanes-high.result c.high_lanes-high.ensures.none c.if-high-eq0.false);
       mixed = mixed_high c.args.octets.now c.loop-at.at c.args.turns.now c.loop-at.turns c.in-Encoding.len c.loop-at.invariant.mixed (omega arith)
-          (first_high _ _ c.high_lanes-high.ensures.first c.if-high-eq0-2.false) c.in-Encoding.ensures;
+          (first_high _ _ c.high_lanes-high.ensures.first c.if-high-eq0-2.false) front;
     })
+
+pub loop-at-smaller : goal.loop-at-smaller
+loop-at-smaller c =
+    let some = front_some c.args.octets.now c.loop-at.at c.in-Encoding.len c.in-Encoding.ensures in
+    let lanes = c.saturating_sub-lanes.ensures in
+    omega arith
 
 -- what is owed at a fault before the last octets
 owed : (c : goal.After-new) → IsFaultAt c.args.octets.now c.args.turns.now c.tick.new.self c.new.result
 owed c =
     rw (c.new.ensures, c.tick.ensures)
-    (fault_at c.args.octets.now c.loop-at.at c.args.turns.now c.loop-at.turns c.in-Bad.size c.loop-at.invariant.lanes.at c.in-Bad.ensures)
+    (fault_at c.args.octets.now c.loop-at.at c.args.turns.now c.loop-at.turns c.in-Bad.size c.loop-at.invariant.lanes.at (at_place c.args.octets.now c.loop-at.at (Bad c.in-Bad.size) c.in-Bad.ensures))
 
 pub returns-in-Bad-clause-none : goal.returns-in-Bad-clause-none
 returns-in-Bad-clause-none c = (λ h. cc, λ w. absurd (fault_refutes (owed c).is_fault w))
