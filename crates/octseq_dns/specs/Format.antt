@@ -24,6 +24,10 @@ abbrev pub Row : {A : Type 0} → (Window → A → Window → Type 0) → Windo
 Row Is w [] v = v ≡ w
 Row Is w (one ∷ more) v = (u : Window) × Is w one u × Row Is u more v
 
+-- so many things of one kind, one behind another
+abbrev pub Many : {A : Type 0} → ℕ → (Window → A → Window → Type 0) → Window → List A → Window → Type 0
+Many count Is w row v = (length row ≡ count) × Row Is w row v
+
 -- so many of them stand there, and these are they
 abbrev pub Holds : {A : Type 0} → (Window → A → Window → Type 0) → Window → ℕ → Type 0
-Holds {A} Is w count = (row : List A) × ∥ ((end : Window) × (length row ≡ count) × Row Is w row end) ∥₁
+Holds {A} Is w count = (row : List A) × ∥ ((end : Window) × Many count Is w row end) ∥₁

@@ -7,9 +7,15 @@
 #![tactic(auto)]
 
 pub mod error;
+pub mod header;
 pub mod iana;
+pub mod message;
 pub mod name;
+pub mod ttl;
 
 pub use error::Malformed;
-pub use iana::Rtype;
+pub use header::{Flags, Header};
+pub use iana::{Class, Opcode, Rcode, Rtype};
+pub use message::{Message, Question, Record};
 pub use name::ParsedName;
+pub use ttl::Ttl;
