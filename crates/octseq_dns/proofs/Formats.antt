@@ -12,7 +12,7 @@ use Rattle.octseq.specs.Window.{Window, next, left}
 use Rattle.octseq.specs.declared.parse.Parser.{Parser}
 use Rattle.octseq_dns.specs.Entry.{Question, Record, IsQuestion, IsRecord}
 use Rattle.octseq_dns.specs.Format.{IsNumber, IsData, ◌then◌, Row, Many, Holds}
-use Rattle.octseq_dns.specs.Name.{Name, HasName, IsName}
+use Rattle.octseq_dns.specs.Name.{HasName, IsName}
 use Rattle.octseq_dns.specs.OneEntry.{IsOne, one_row, one_many, held_once, one_named, one_number}
 use Rattle.octseq_dns.proofs.Names.{name_takes}
 

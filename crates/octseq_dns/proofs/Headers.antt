@@ -1,5 +1,5 @@
 -- At most one header stands at a place: its flags and numbers can be told from their sum.
-use Rattle.std.proofs.Common.{◌≡◌, ℕ, ◌+◌, ◌*◌, ◌<◌, ◌≤◌, Bool, true, false, List, [], ◌∷◌, length, refl, sym, ap, ◌∙◌, arith}
+use Rattle.std.proofs.Common.{◌≡◌, ℕ, ◌+◌, ◌*◌, ◌<◌, ◌≤◌, Bool, true, false, List, ◌∷◌, refl, sym, ap, ◌∙◌, arith}
 use Rattle.octseq.specs.Window.{Window, left}
 use Rattle.octseq_dns.specs.Flag.{flag}
 use Rattle.octseq_dns.specs.Format.{IsNumber}
@@ -101,8 +101,7 @@ one_header w u v h k a b =
     let qdcount = ap (λ n. n.1.1.0) six in
     let ancount = ap (λ n. n.1.1.1.0) six in
     let nscount = ap (λ n. n.1.1.1.1.0) six in
-    let arcount = ap (λ n. n.1.1.1.1.1) six in
-    (
+    let arcount = ap (λ n. n.1.1.1.1.1) six in (
       λ i. record {
         id = id i;
         flags = record { qr = bits.qr i; aa = bits.aa i; tc = bits.tc i; rd = bits.rd i; ra = bits.ra i; z = bits.z i; ad = bits.ad i; cd = bits.cd i };

@@ -1,5 +1,5 @@
 -- How a message is read: a header, four sections, and nothing behind them.
-use Rattle.std.proofs.Common.{◌≡◌, ℕ, ◌<◌, ◌≤◌, List, length, refl, sym, ap, ◌∙◌, subst, arith}
+use Rattle.std.proofs.Common.{◌≡◌, ℕ, ◌<◌, List, length, ap, subst, arith}
 use Rattle.octseq.specs.Window.{Window, left, whole}
 use Rattle.octseq_dns.specs.Entry.{Question, Record, IsQuestion, IsRecord}
 use Rattle.octseq_dns.specs.Format.{◌then◌, Many}

@@ -6,7 +6,6 @@ use Rattle.octseq.specs.Part.{HasPart, part, past_part}
 use Rattle.octseq.specs.Window.{Window, left, next, past}
 
 infixr 5 ◌then◌
-
 -- a number in k octets, big-endian
 abbrev pub IsNumber : ℕ → Window → ℕ → Window → Type 0
 IsNumber k w n v = (k ≤ left w) × (n ≡ be (next k w)) × (v ≡ past k w)

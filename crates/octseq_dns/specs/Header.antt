@@ -1,5 +1,5 @@
 -- The header of a message: RFC 1035, 4.1.1. AD and CD are those of RFC 4035, 3.1.6 and 3.2.
-use Rattle.std.specs.Prelude.{◌≡◌, ℕ, ◌+◌, ◌*◌, ◌<◌, List, [], ◌∷◌}
+use Rattle.std.specs.Prelude.{ℕ, ◌+◌, ◌*◌, ◌<◌, List, [], ◌∷◌}
 use Rattle.octseq.specs.Window.{Window}
 use Rattle.octseq_dns.specs.Flag.{flag}
 use Rattle.octseq_dns.specs.Format.{IsNumber, Row}

@@ -69,7 +69,7 @@ pub one_record : IsOne IsRecord
 unfolding record_from
 one_record w u v one other a b =
     let same = one_then HasName (IsNumber 2 then IsNumber 2 then IsNumber 4 then IsData) one_named one_body w u v
-        (one.owner, (one.rtype, (one.class, (one.ttl, one.rdata)))) (other.owner, (other.rtype, (other.class, (other.ttl, other.rdata)))) a b in
+    (one.owner, (one.rtype, (one.class, (one.ttl, one.rdata)))) (other.owner, (other.rtype, (other.class, (other.ttl, other.rdata)))) a b in
     (ap record_from same.0, same.1)
 
 same_cons : {A : Type 0} {a b : A} {more others : List A} → a ≡ b → more ≡ others → a ∷ more ≡ b ∷ others

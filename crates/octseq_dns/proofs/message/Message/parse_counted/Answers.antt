@@ -1,6 +1,6 @@
-use Rattle.std.proofs.Common.{◌≡◌, ap, ◌∙◌, refl, sym, subst, arith}
+use Rattle.std.proofs.Common.{ap, refl, subst, arith}
 use Rattle.octseq.specs.Parser.{window}
-use Rattle.octseq.specs.Window.{left, whole}
+use Rattle.octseq.specs.Window.{left}
 use Rattle.octseq_dns.specs.Entry.{IsQuestion, IsRecord}
 use Rattle.octseq_dns.specs.Format.{Many}
 use Rattle.octseq_dns.specs.Header.{IsHeader}

@@ -1,4 +1,4 @@
-use Rattle.std.proofs.Common.{◌+◌, ◌∙◌, ◌++◌, [], ◌∷◌, refl, arith}
+use Rattle.std.proofs.Common.{◌∙◌, ◌++◌, [], ◌∷◌, refl, arith}
 use Rattle.octseq.specs.Parser.{window}
 use Rattle.octseq_dns.specs.Entry.{IsQuestion}
 use Rattle.octseq_dns.specs.OneEntry.{one_question}

@@ -1,7 +1,7 @@
 use Rattle.std.proofs.Common.{◌≡◌, ◌+◌, ap, ◌∙◌, arith, sym, subst, refl, Some}
 use Rattle.octseq.specs.Parser.{window, sequence}
 use Rattle.octseq.specs.Window.{at, rest}
-use Rattle.octseq_dns.specs.Name.{IsName, wire_length}
+use Rattle.octseq_dns.specs.Name.{IsName}
 use Rattle.octseq_dns.specs.Piece.{windows, end_of}
 use Rattle.octseq_dns.proofs.Names.{Reading, with_label, with_pointer, no_next, too_long, whole_name, named_as}
 use Rattle.octseq_dns.proofs.name.ParsedName.parse_counted.Goals as goal
@@ -18,7 +18,7 @@ returns-then-len-gt-NAME_MOST-clause-malformed g c = λ _.
     let made = c.pieces.len + (1 + c.remaining.result) in
     let has = rw c.in-Label.is at c.in_ok-next_step.ensures.step in
     let read = with_label w c.pieces.start (window c.pieces.ahead) (window c.next_step.new.parser) c.pieces.len made c.pieces.pointers (windows c.pieces.behind) l c.pieces.invariant.read has
-        (ap (λ n. c.pieces.len + (1 + n)) c.remaining.ensures.rest) in
+    (ap (λ n. c.pieces.len + (1 + n)) c.remaining.ensures.rest) in
     too_long w c.pieces.start (window c.next_step.new.parser) made c.pieces.pointers (windows c.pieces.behind) read c.if-len-gt-NAME_MOST.true
 
 pub pieces-preserved-else-len-gt-NAME_MOST : goal.pieces-preserved-else-len-gt-NAME_MOST
@@ -69,7 +69,7 @@ invariant_of-name g c =
     let has = rw c.in-Root.is at c.in_ok-next_step.ensures.step in
     let so_far = c.pieces.invariant in
     let whole = whole_name (window c.args.parser.now) c.pieces.start (window c.pieces.ahead) (window c.next_step.new.parser) c.pieces.len c.pieces.pointers (windows c.pieces.behind)
-        so_far.read has so_far.short so_far.few in
+    so_far.read has so_far.short so_far.few in
     record {
       named = (so_far.read.labels, ∣ (end_of (windows c.pieces.behind) (window c.next_step.new.parser), whole) ∣₁);
       measured = so_far.read.size_is;
@@ -82,7 +82,7 @@ returns-clause-name g c =
     let w = window c.args.parser.now in
     let end = end_of (windows c.pieces.behind) (window c.next_step.new.parser) in
     let whole = whole_name w c.pieces.start (window c.pieces.ahead) (window c.next_step.new.parser) c.pieces.len c.pieces.pointers (windows c.pieces.behind)
-        so_far.read has so_far.short so_far.few in
+    so_far.read has so_far.short so_far.few in
     subst (λ end. IsName w c.result-1.given.0.0 end) (sym c.kept_or-2.ensures.window)
     (subst (λ labels. IsName w labels end) (named_as w end so_far.read.labels c.result-1.given.0 whole) whole)
 

@@ -1,8 +1,8 @@
-use Rattle.std.proofs.Common.{ℕ, ap, ◌∙◌, sym, subst, arith}
+use Rattle.std.proofs.Common.{ℕ, sym, subst, arith}
 use Rattle.octseq.specs.Parser.{window}
 use Rattle.octseq.specs.Window.{Window}
 use Rattle.octseq_dns.specs.Name.{Stands}
-use Rattle.octseq_dns.specs.OneName.{named_once, one_ahead}
+use Rattle.octseq_dns.specs.OneName.{one_ahead}
 use Rattle.octseq_dns.proofs.Names.{ahead_of_name}
 use Rattle.octseq_dns.proofs.name.labels.Labels.at.Goals as goal
 
