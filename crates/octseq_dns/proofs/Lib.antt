@@ -1,0 +1,4 @@
+pub mod Formats
+pub mod Headers
+pub mod Messages
+pub mod Names

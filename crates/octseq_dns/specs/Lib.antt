@@ -1,0 +1,13 @@
+pub mod Entry
+pub mod Flag
+pub mod Format
+pub mod Header
+pub mod Message
+pub mod Name
+pub mod OneEntry
+pub mod OneName
+pub mod Parsed
+pub mod Piece
+pub mod Read
+pub mod Said
+pub mod Walk
