@@ -29,7 +29,7 @@ ghost use Rattle.octseq_utf8.specs.Text.{IsWellFormed, chars};
 use crate::fault::Utf8Fault;
 use crate::lanes::{ascii_before_high, high_lanes, is_short_ascii};
 use crate::turns::Turns;
-use crate::words::{encoding_len, word_at};
+use crate::words::{begins_three, begins_two, encoding_len, is_four, word_at};
 
 /// How many octets an encoding that begins with this one has, or 0 where none does.
 #[tactic(auto, unfolding(crate::specs::Reading::width_of))]
@@ -207,9 +207,17 @@ pub fn first_fault(octets: &[u8], turns: &mut Turns) -> Option<Utf8Fault>
             at += 1;
             continue;
         }
-        let len = encoding_len(word_at(octets, at));
-        if len > 0 {
-            at += len;
+        let word = word_at(octets, at);
+        if begins_two(word) {
+            at += 2;
+            continue;
+        }
+        if begins_three(word) {
+            at += 3;
+            continue;
+        }
+        if is_four(word) {
+            at += 4;
             continue;
         }
         match part_at_front(&octets[at..]) {

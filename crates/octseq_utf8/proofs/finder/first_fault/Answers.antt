@@ -42,15 +42,40 @@ loop-at-preserved-then-high-eq0-2 c =
     })
 
 -- an encoding that the word begins with
-pub loop-at-preserved-then-len-gt0 : goal.loop-at-preserved-then-len-gt0
-loop-at-preserved-then-len-gt0 c =
+
+pub loop-at-preserved-then-begins_three : goal.loop-at-preserved-then-begins_three
+loop-at-preserved-then-begins_three c =
     let lanes = c.saturating_sub-lanes.ensures in
-    let front = word_front c.args.octets.now _ c.loop-at.at c.encoding_len-len.result (omega arith) c.word_at.ensures c.encoding_len-len.ensures.few (c.encoding_len-len.ensures.encoding c.if-len-gt0.true) in
+    let front = word_front c.args.octets.now _ c.loop-at.at 3 (omega arith) c.word_at-word.ensures (omega arith) (c.begins_three.ensures c.if-begins_three.true) in
     rw c.tick.ensures
     (record {
-      lanes = other_passed c.args.octets.now c.loop-at.at c.args.turns.now c.loop-at.turns c.encoding_len-len.result c.loop-at.invariant.lanes front
+      lanes = other_passed c.args.octets.now c.loop-at.at c.args.turns.now c.loop-at.turns 3 c.loop-at.invariant.lanes front
           (high_some c.args.octets.now c.loop-at.at c.high_lanes-high.result c.high_lanes-high.ensures.none c.if-high-eq0.false);
-      mixed = mixed_high c.args.octets.now c.loop-at.at c.args.turns.now c.loop-at.turns c.encoding_len-len.result c.loop-at.invariant.mixed (omega arith)
+      mixed = mixed_high c.args.octets.now c.loop-at.at c.args.turns.now c.loop-at.turns 3 c.loop-at.invariant.mixed (omega arith)
+          (first_high _ _ c.high_lanes-high.ensures.first c.if-high-eq0-2.false) front;
+    })
+
+pub loop-at-preserved-then-begins_two : goal.loop-at-preserved-then-begins_two
+loop-at-preserved-then-begins_two c =
+    let lanes = c.saturating_sub-lanes.ensures in
+    let front = word_front c.args.octets.now _ c.loop-at.at 2 (omega arith) c.word_at-word.ensures (omega arith) (c.begins_two.ensures c.if-begins_two.true) in
+    rw c.tick.ensures
+    (record {
+      lanes = other_passed c.args.octets.now c.loop-at.at c.args.turns.now c.loop-at.turns 2 c.loop-at.invariant.lanes front
+          (high_some c.args.octets.now c.loop-at.at c.high_lanes-high.result c.high_lanes-high.ensures.none c.if-high-eq0.false);
+      mixed = mixed_high c.args.octets.now c.loop-at.at c.args.turns.now c.loop-at.turns 2 c.loop-at.invariant.mixed (omega arith)
+          (first_high _ _ c.high_lanes-high.ensures.first c.if-high-eq0-2.false) front;
+    })
+
+pub loop-at-preserved-then-is_four : goal.loop-at-preserved-then-is_four
+loop-at-preserved-then-is_four c =
+    let lanes = c.saturating_sub-lanes.ensures in
+    let front = word_front c.args.octets.now _ c.loop-at.at 4 (omega arith) c.word_at-word.ensures (omega arith) (c.is_four.ensures c.if-is_four.true) in
+    rw c.tick.ensures
+    (record {
+      lanes = other_passed c.args.octets.now c.loop-at.at c.args.turns.now c.loop-at.turns 4 c.loop-at.invariant.lanes front
+          (high_some c.args.octets.now c.loop-at.at c.high_lanes-high.result c.high_lanes-high.ensures.none c.if-high-eq0.false);
+      mixed = mixed_high c.args.octets.now c.loop-at.at c.args.turns.now c.loop-at.turns 4 c.loop-at.invariant.mixed (omega arith)
           (first_high _ _ c.high_lanes-high.ensures.first c.if-high-eq0-2.false) front;
     })
 
