@@ -207,6 +207,7 @@ pub fn first_fault(octets: &[u8], turns: &mut Turns) -> Option<Utf8Fault>
             at += 1;
             continue;
         }
+        // (each width has a branch of its own here: by `encoding_len` hot text of one script takes up to half more)
         let word = word_at(octets, at);
         if begins_two(word) {
             at += 2;
