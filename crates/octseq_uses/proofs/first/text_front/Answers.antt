@@ -5,7 +5,7 @@ use Rattle.octseq_uses.proofs.first.text_front.Goals as goal
 pub returns-in-None-clause-cut : goal.returns-in-None-clause-cut
 returns-in-None-clause-cut c = λ fault is. absurd (c.one_fault.ensures.refutes c.args.octets.now fault is (c.in-None.ensures.none.0 (search rules)))
 
-pub returns-in-Some-clause-cut : goal.returns-clause-cut
+pub returns-in-Some-clause-cut : goal.returns-in-Some-clause-cut
 returns-in-Some-clause-cut c = λ fault is.
     let same = c.one_fault.ensures.only c.args.octets.now c.in-Some.fault fault c.in-Some.ensures.fault is in
     let here : c.valid_up_to.result ≡ length is.before = c.valid_up_to.ensures ∙ ap (λ f. f.place) same ∙ is.place in
