@@ -73,7 +73,6 @@ fn over_each<C: Case>(
 
 mod builders;
 mod composing;
-mod dns;
 mod errors;
 mod habits;
 mod integers;
