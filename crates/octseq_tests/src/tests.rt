@@ -73,6 +73,7 @@ fn over_each<C: Case>(
 
 mod builders;
 mod composing;
+mod dns;
 mod errors;
 mod habits;
 mod integers;

@@ -1,0 +1,319 @@
+//! Names and messages of DNS.
+use super::{Case, over_each};
+use octseq::{AsOctets, Octets, Parser};
+use octseq_dns::header::Flags;
+use octseq_dns::{Class, Header, Malformed, Message, Opcode, ParsedName, Rcode, Rtype};
+use std::alloc::{AllocGlobal, Global};
+use std::process::Abort;
+use std::test::Fail;
+
+/// Where reading goes on behind the name at a place of the octets, and the name's wire length.
+fn name_at(octets: &[u8], place: usize) -> Option<(usize, usize)> {
+    let mut parser = Parser::from_ref(octets);
+    parser.seek(place).ok()?;
+    match ParsedName::parse(&mut parser) {
+        Ok(name) => Some((parser.pos(), name.len())),
+        Err(Malformed) => None,
+    }
+}
+
+/// The labels of the name at a place are these.
+fn has_labels(rt: &impl Abort, octets: &[u8], place: usize, wanted: &[&[u8]]) -> Result<(), Fail> {
+    let mut parser = Parser::from_ref(octets);
+    parser.seek(place)?;
+    let name = ParsedName::parse(&mut parser)?;
+    assert_equal!(rt, name.label_count(), wanted.len());
+    assert_equal!(rt, name.is_root(), wanted.is_empty());
+    for (label, other) in name.labels().zip(wanted) {
+        assert_equal!(rt, label.as_slice(), *other);
+        assert_equal!(rt, label.len(), other.len());
+    }
+    Ok(())
+}
+
+#[test]
+fn the_first_octet_tells_what_stands_there(rt: HostRuntime) -> Result<(), Fail> {
+    for (octets, place, wanted) in [
+        (b"\x00".as_slice(), 0, Some((1, 1))),
+        (b"", 0, None),
+        (b"\x03www\x00\xAA", 0, Some((5, 5))),
+        (b"\x03www", 0, None),
+        (b"\x03ww", 0, None),
+        (b"\x00\xC0\x00", 1, Some((3, 1))),
+        (b"\x00\xC0", 1, None),
+        (b"\xC0\x00", 0, None),
+        (b"\xC0\x01\x00", 0, None),
+        (b"\x01a\xC0\x00", 0, None),
+        (b"\x01a\x00\x01b\xC0\x00\x09", 3, Some((7, 5))),
+        (b"\x00\x01b\xC0\x01", 1, None),
+        (b"\x00\x40", 1, None),
+        (b"\x00\xBF\x00", 1, None),
+    ] {
+        assert_equal!(&rt, name_at(octets, place), wanted);
+    }
+    Ok(())
+}
+
+#[test]
+fn labels_are_followed_through_pointers(rt: HostRuntime) -> Result<(), Fail> {
+    let octets = b"\x00\x03com\x00\x07example\xC0\x01\x03www\xC0\x06".as_slice();
+    has_labels(&rt, octets, 0, &[])?;
+    has_labels(&rt, octets, 1, &[b"com"])?;
+    has_labels(&rt, octets, 6, &[b"example", b"com"])?;
+    has_labels(&rt, octets, 16, &[b"www", b"example", b"com"])?;
+    assert_equal!(&rt, name_at(octets, 16), Some((22, 17)));
+    Ok(())
+}
+
+#[test]
+fn a_label_has_63_octets_at_most(rt: HostRuntime) -> Result<(), Fail> {
+    let mut octets = [b'a'; 66];
+    octets[0] = 63;
+    octets[64] = 0;
+    assert_equal!(&rt, name_at(&octets, 0), Some((65, 65)));
+    octets[0] = 64;
+    octets[64] = b'a';
+    octets[65] = 0;
+    assert_equal!(&rt, name_at(&octets, 0), None);
+    Ok(())
+}
+
+#[test]
+fn a_name_has_255_octets_at_most(rt: HostRuntime) -> Result<(), Fail> {
+    let mut octets = [b'a'; 256];
+    for start in [0, 64, 128] {
+        octets[start] = 63;
+    }
+    octets[192] = 61;
+    octets[254] = 0;
+    assert_equal!(&rt, name_at(&octets, 0), Some((255, 255)));
+    octets[192] = 62;
+    octets[254] = b'a';
+    octets[255] = 0;
+    assert_equal!(&rt, name_at(&octets, 0), None);
+    Ok(())
+}
+
+/// A root, and behind it so many pointers, each to the one before it and the first to the root.
+fn chain(alloc: Global, pointers: u8) -> Result<Vec<u8>, Fail> {
+    let mut octets = Vec::new(alloc);
+    octets.push(0)?;
+    for count in 0..pointers {
+        let place = (2 * u16::from(count)).saturating_sub(1);
+        for octet in (0xC000 | place).to_be_bytes() {
+            octets.push(octet)?;
+        }
+    }
+    Ok(octets)
+}
+
+#[test]
+fn a_name_has_127_pointers_at_most(rt: HostRuntime) -> Result<(), Fail> {
+    let most = chain(rt.alloc(), 127)?;
+    assert_equal!(&rt, name_at(&most, 253), Some((255, 1)));
+    let more = chain(rt.alloc(), 128)?;
+    assert_equal!(&rt, name_at(&more, 255), None);
+    Ok(())
+}
+
+#[derive(Drop)]
+struct IsRead;
+
+impl Case for IsRead {
+    fn holds<H: Abort + AllocGlobal, R: Octets + Copy>(
+        &self,
+        rt: &H,
+        octets: R,
+    ) -> Result<(), Fail> {
+        let message = Message::parse(octets)?;
+        let header = message.header();
+        assert_equal!(rt, (header.id, header.flags.qr), (4660, true));
+        let copy = message.clone()?;
+        let counts = (
+            copy.questions().count(),
+            copy.answers().count(),
+            copy.authorities().count(),
+            copy.additionals().count(),
+        );
+        assert_equal!(rt, counts, (1, 1, 0, 0));
+        for answer in message.answers() {
+            assert_equal!(rt, answer.owner.label_count(), 2);
+            assert_equal!(rt, answer.rdata.peek_all(), b"\x01\x02\x03\x04".as_slice());
+        }
+        Ok(())
+    }
+}
+
+#[test]
+fn a_message_is_read_from_each_kind_of_octets(rt: HostRuntime) -> Result<(), Fail> {
+    over_each(
+        &rt,
+        &IsRead,
+        b"\x12\x34\x85\x80\x00\x01\x00\x01\x00\x00\x00\x00\x07example\x03com\x00\x00\x01\x00\x01\
+\xC0\x0C\x00\x01\x00\x01\x00\x00\x01\x2C\x00\x04\x01\x02\x03\x04",
+    )
+}
+
+#[derive(Drop)]
+struct EveryField;
+
+impl Case for EveryField {
+    fn holds<H: Abort + AllocGlobal, R: Octets + Copy>(
+        &self,
+        rt: &H,
+        octets: R,
+    ) -> Result<(), Fail> {
+        let message = Message::parse(octets)?;
+        let header = message.header();
+        let flags = Flags {
+            qr: true,
+            aa: true,
+            rd: true,
+            ra: true,
+            ..Flags::default()
+        };
+        assert_equal!(rt, header.flags, flags);
+        assert_equal!(
+            rt,
+            (header.opcode, header.rcode),
+            (Opcode::QUERY, Rcode::NOERROR)
+        );
+        for question in message.questions() {
+            assert_equal!(rt, (question.qtype, question.qclass), (Rtype::A, Class::IN));
+            assert_equal!(rt, question.qname.parser().pos(), 12);
+        }
+        for answer in message.answers() {
+            assert_equal!(rt, (answer.rtype, answer.class), (Rtype::A, Class::IN));
+            assert_equal!(rt, answer.ttl.as_secs(), 300);
+            assert_equal!(rt, answer.owner.parser().pos(), 29);
+            assert_equal!(rt, (answer.rdata.pos(), answer.rdata.len()), (41, 45));
+        }
+        Ok(())
+    }
+}
+
+#[test]
+fn every_field_of_a_message_is_read(rt: HostRuntime) -> Result<(), Fail> {
+    let octets =
+        b"\x12\x34\x85\x80\x00\x01\x00\x01\x00\x00\x00\x00\x07example\x03com\x00\x00\x01\x00\x01\
+\xC0\x0C\x00\x01\x00\x01\x00\x00\x01\x2C\x00\x04\x01\x02\x03\x04"
+            .as_slice();
+    EveryField.holds(&rt, octets)?;
+    has_labels(&rt, octets, 29, &[b"example", b"com"])
+}
+
+/// The header of a message.
+fn header_of<R: Octets + Copy>(octets: R) -> Result<Header, Malformed> {
+    Ok(Message::parse(octets)?.header())
+}
+
+#[test]
+fn each_bit_of_a_header_has_its_place(rt: HostRuntime) -> Result<(), Fail> {
+    let none = Flags::default();
+    for (high, low, flags, opcode, rcode) in [
+        (0x80, 0, Flags { qr: true, ..none }, 0, 0),
+        (0x78, 0, none, 15, 0),
+        (0x08, 0, none, 1, 0),
+        (0x04, 0, Flags { aa: true, ..none }, 0, 0),
+        (0x02, 0, Flags { tc: true, ..none }, 0, 0),
+        (0x01, 0, Flags { rd: true, ..none }, 0, 0),
+        (0, 0x80, Flags { ra: true, ..none }, 0, 0),
+        (0, 0x40, Flags { z: true, ..none }, 0, 0),
+        (0, 0x20, Flags { ad: true, ..none }, 0, 0),
+        (0, 0x10, Flags { cd: true, ..none }, 0, 0),
+        (0, 0x0F, none, 0, 15),
+        (0, 0x01, none, 0, 1),
+    ] {
+        let mut octets = [0u8; 12];
+        octets[2] = high;
+        octets[3] = low;
+        let header = header_of(octets.as_slice())?;
+        assert_equal!(&rt, header.flags, flags);
+        assert_equal!(
+            &rt,
+            (header.opcode.to_int(), header.rcode.to_int()),
+            (opcode, rcode)
+        );
+    }
+    Ok(())
+}
+
+#[test]
+fn what_is_no_message_is_malformed(rt: HostRuntime) -> Result<(), Fail> {
+    let one = b"\x00\x00\x00\x00\x00\x01\x00\x00\x00\x00\x00\x00";
+    let update = b"\x00\x00\x28\x00\x00\x00\x00\x00\x00\x01\x00\x00";
+    for (header, body, is_message) in [
+        (
+            b"\x00\x00\x00\x00\x00\x00\x00\x00\x00\x00\x00\x00",
+            b"".as_slice(),
+            true,
+        ),
+        (
+            b"\x00\x00\x00\x00\x00\x00\x00\x00\x00\x00\x00\x00",
+            b"\x00",
+            false,
+        ),
+        (one, b"\x00\x00\x01\x00\x01", true),
+        (one, b"\x00\x00\x01\x00\x01\x00", false),
+        (one, b"\x00\x00\x01\x00", false),
+        (one, b"", false),
+        (one, b"\xC0\x0C\x00\x01\x00\x01", false),
+        (one, b"\xC0\x0E\x00\x01\x00\x01", false),
+        (one, b"\xC0\x00\x00\x01\x00\x01", true),
+        (
+            b"\x00\x00\x00\x00\x00\x02\x00\x00\x00\x00\x00\x00",
+            b"\x00\x00\x01\x00\x01",
+            false,
+        ),
+        (
+            update,
+            b"\x03www\x00\x00\x01\x00\xFF\x00\x00\x00\x00\x00\x00",
+            true,
+        ),
+        (
+            update,
+            b"\x03www\x00\x00\x01\x00\xFF\x00\x00\x00\x00\x00\x01",
+            false,
+        ),
+        (
+            update,
+            b"\x03www\x00\x00\x01\x00\xFF\x00\x00\x00\x00\x00\x01\x00",
+            true,
+        ),
+    ] {
+        let mut octets = Vec::new(rt.alloc());
+        octets.extend_from_slice(header)?;
+        octets.extend_from_slice(body)?;
+        assert_equal!(&rt, Message::parse(octets.as_slice()).is_ok(), is_message);
+    }
+    assert_true!(&rt, Message::parse([0u8; 11].as_slice()).is_err());
+    Ok(())
+}
+
+#[test]
+fn a_message_has_65535_octets_at_most(rt: HostRuntime) -> Result<(), Fail> {
+    let mut octets = Vec::new(rt.alloc());
+    octets.extend_from_slice(b"\x00\x00\x00\x00\x00\x00\x00\x00\x00\x00\x00\x02")?;
+    octets.extend_from_slice(b"\x00\x00\x00\x00\x01\x00\x00\x00\x00\xFF\xDD")?;
+    octets.resize(octets.len() + 0xFFDD, 0)?;
+    let most = octets.len();
+    octets.extend_from_slice(b"\x00\x00\x00\x00\x01\x00\x00\x00\x00\x00\x02\x00\x00")?;
+    assert_equal!(&rt, (most, octets.len()), (65524, 65537));
+    assert_true!(&rt, Message::parse(octets.as_slice()).is_err());
+    octets.truncate(65535);
+    octets[65534] = 0;
+    assert_equal!(&rt, Message::parse(octets.as_slice()).is_ok(), true);
+    Ok(())
+}
+
+#[test]
+fn a_refusal_tells_what_it_is(rt: HostRuntime) -> Result<(), Fail> {
+    let refused = header_of(b"".as_slice()).err().ok_or("it was read")?;
+    assert_equal!(
+        &rt,
+        format!(in rt.alloc(); "{refused}")?.as_str(),
+        "malformed"
+    );
+    assert_equal!(&rt, refused, Malformed);
+    Ok(())
+}
