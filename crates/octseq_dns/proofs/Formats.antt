@@ -114,7 +114,7 @@ many_ends Is one w u taken count row none less is others v other =
     row_ends Is one w u v row others none (omega (arith, less, taken, all)) is.1 other.1
 
 -- one more
-row_more : {A : Type 0} (Is : Window → A → Window → Type 0) (w u v : Window) (row : List A) (one : A) → Row Is w row u → Is u one v → Row Is w (row ++ one ∷ []) v
+pub row_more : {A : Type 0} (Is : Window → A → Window → Type 0) (w u v : Window) (row : List A) (one : A) → Row Is w row u → Is u one v → Row Is w (row ++ one ∷ []) v
 row_more Is w u v [] one a is = (v, subst (λ x. Is x one v) a is, refl)
 row_more Is w u v (x ∷ row) one a is = (a.0, a.1, row_more Is a.0 u v row one a.2 is)
 

@@ -1,3 +1,4 @@
+pub mod Data
 pub mod Entry
 pub mod Flag
 pub mod Format
@@ -6,8 +7,11 @@ pub mod Message
 pub mod Name
 pub mod OneEntry
 pub mod OneName
+pub mod OneString
 pub mod Parsed
 pub mod Piece
 pub mod Read
 pub mod Said
+pub mod Txt
+pub mod Typed
 pub mod Walk

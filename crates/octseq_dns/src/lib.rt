@@ -6,6 +6,7 @@
 //! pointers.
 #![tactic(auto)]
 
+pub mod data;
 pub mod error;
 pub mod header;
 pub mod iana;
@@ -13,6 +14,7 @@ pub mod message;
 pub mod name;
 pub mod ttl;
 
+pub use data::Data;
 pub use error::Malformed;
 pub use header::{Flags, Header};
 pub use iana::{Class, Opcode, Rcode, Rtype};

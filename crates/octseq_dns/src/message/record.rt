@@ -2,29 +2,29 @@
 ghost use Rattle.std.specs.Prelude.{◌≡◌, ◌+◌, ◌≤◌, IsErr, IfOk, OnErr, ⊤};
 ghost use Rattle.octseq.specs.Parser.{sequence, window};
 ghost use Rattle.octseq.specs.Window.{Window};
+ghost use Rattle.octseq_dns.specs.Read.{place_of};
 
+use crate::data::Data;
 use crate::error::Malformed;
 use crate::iana::{Class, Rtype};
 use crate::name::ParsedName;
 use crate::ttl::Ttl;
+use octseq::builder::infallible;
 use octseq::utf8::Turns;
 use octseq::{AsOctets, Parser};
 use std::alloc::AllocError;
 
-/// A record of a message. Its data is whatever octets: the form of a type is not looked at.
+/// A record of a message: the name that it is of, its type, its class, for how many seconds it may be kept, and where
+/// its data stands. [`data`](Self::data) tells what the data says.
 #[derive(Debug)]
 pub struct Record<R: AsOctets> {
-    /// The name that it is of.
-    pub owner: ParsedName<R>,
-    /// Its type.
-    pub rtype: Rtype,
-    /// Its class.
-    pub class: Class,
-    /// For how many seconds it may be kept.
-    pub ttl: Ttl,
-    /// The place of its data: a parser of the message that begins and ends with the data. A name in it may point to
-    /// any place of the message before it.
-    pub rdata: Parser<R>,
+    owner: ParsedName<R>,
+    rtype: Rtype,
+    class: Class,
+    ttl: Ttl,
+    rdata: Parser<R>,
+    ghost octets: { (window rdata).octets ≡ (place_of owner).octets },
+    ghost within: { (window rdata).end ≤ (place_of owner).end },
 }
 
 impl<R: AsOctets + Copy> Copy for Record<R> {}
@@ -42,7 +42,10 @@ impl<R: AsOctets + Copy> Clone for Record<R> {
 impl<R: AsOctets + Copy> Record<R> {
     ghost use Rattle.octseq_dns.specs.Entry as said;
     ghost use Rattle.octseq_dns.specs.Entry.{IsRecord};
+    ghost use Rattle.octseq_dns.specs.Data.{IsDataOf};
+    ghost use Rattle.octseq_dns.specs.Read.{name_of};
     ghost use Rattle.octseq_dns.specs.Said.{record_of};
+    ghost use Rattle.octseq_dns.specs.Typed.{form_of};
 
     /// Takes the next record of a message.
     ///
@@ -88,5 +91,65 @@ impl<R: AsOctets + Copy> Record<R> {
             ttl: Ttl::from_secs(ttl),
             rdata,
         })
+    }
+
+    /// The name that it is of.
+    pub fn owner(&self) -> ParsedName<R>
+        ensures { name_of result ≡ (record_of self.now).owner }
+    {
+        self.owner
+    }
+
+    /// Its type.
+    pub fn rtype(&self) -> Rtype
+        ensures { result ≡ (record_of self.now).rtype }
+    {
+        self.rtype
+    }
+
+    /// Its class.
+    pub fn class(&self) -> Class
+        ensures { result ≡ (record_of self.now).class }
+    {
+        self.class
+    }
+
+    /// For how many seconds it may be kept.
+    pub fn ttl(&self) -> Ttl
+        ensures { result ≡ (record_of self.now).ttl }
+    {
+        self.ttl
+    }
+
+    /// The place of its data: a parser of the message that begins and ends with the data.
+    pub fn rdata(&self) -> Parser<R>
+        ensures place { window result ≡ (record_of self.now).rdata }
+        ensures octets { (window result).octets ≡ (record_of self.now).owner.place.octets }
+        ensures within { (window result).end ≤ (record_of self.now).owner.place.end }
+    {
+        self.rdata
+    }
+
+    /// What its data says, by its type and class. Names in it are read in the message, with their pointers, and the
+    /// data ends exactly where its form does. Data that isn't of its type's form is opaque, and so is the data of a
+    /// type that has no form here.
+    pub fn data(&self) -> Data<R>
+        ensures { IsDataOf (record_of self.now) (form_of result) }
+    {
+        self.data_counted(&mut Turns::new())
+    }
+
+    /// What its data says, as [`data`](Self::data), and counts the turns that names in it take: the root, each label
+    /// and each pointer. There are at most two names.
+    pub fn data_counted(&self, turns: &mut Turns) -> Data<R>
+        ensures form { IsDataOf (record_of self.now) (form_of result) }
+        ensures turns { turns.new ≤ turns.old + 510 }
+    {
+        let mut parser = self.owner.parser();
+        infallible(parser.seek(self.rdata.pos()));
+        match Data::parse(&mut parser, self.rtype, self.class, self.rdata.len(), turns) {
+            Ok(found) => found,
+            Err(_) => Data::Opaque(self.rdata),
+        }
     }
 }

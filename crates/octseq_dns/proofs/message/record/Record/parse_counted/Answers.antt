@@ -1,9 +1,11 @@
 use Rattle.std.proofs.Common.{refl}
 use Rattle.octseq.specs.Parser.{window}
+use Rattle.octseq_dns.specs.Entry.{Record}
 use Rattle.octseq_dns.specs.Format.{IsNumber, IsData, ◌then◌}
 use Rattle.octseq_dns.specs.Name.{HasName}
-use Rattle.octseq_dns.specs.Read.{labels_of}
+use Rattle.octseq_dns.specs.Read.{labels_of, name_of}
 use Rattle.octseq_dns.proofs.Formats.{no_name, no_number, no_data, no_record, is_number, none_first, none_behind_name, none_behind_number}
+use Rattle.octseq_dns.proofs.Places.{record_of_window}
 use Rattle.octseq_dns.proofs.message.record.Record.parse_counted.Goals as goal
 
 pub returns-in_err-owner-clause-malformed : goal.returns-in_err-owner-clause-malformed
@@ -55,3 +57,30 @@ returns-in_err-rdata-clause-malformed g c = λ _.
     (none_behind_number (IsNumber 4 then IsData) x y c.in_ok-class.class (is_number c.in_ok-class.class classed.taken classed.value)
     (none_behind_number IsData y (window c.parse_u32_be.new.self) c.in_ok-ttl.ttl (is_number c.in_ok-ttl.ttl kept.taken kept.value)
     (no_data c.in_err-rdata.ensures.taken)))))
+
+pub invariant_of-result : goal.invariant_of-result
+invariant_of-result g c =
+    let typed = c.in_ok-rtype.ensures in
+    let classed = c.in_ok-class.ensures in
+    let kept = c.in_ok-ttl.ensures in
+    let part = c.in_ok-rdata.ensures in
+    let owner = name_of c.in_ok-owner.owner in
+    let entry : Record = record { owner = owner; rtype = c.in_ok-rtype.rtype; class = c.in_ok-class.class; ttl = c.in_ok-ttl.ttl; rdata = window c.in_ok-rdata.rdata } in
+    let within = record_of_window (window c.args.parser.now) (window c.parse_part_u16_be.new.self) entry (
+      window c.parse_counted.new.parser,
+      (c.in_ok-owner.ensures.place, c.in_ok-owner.ensures.name),
+      (
+        window c.parse_u16_be.new.self,
+        is_number c.in_ok-rtype.rtype typed.taken typed.value,
+        (
+          window c.parse_u16_be-2.new.self,
+          is_number c.in_ok-class.class classed.taken classed.value,
+          (
+            window c.parse_u32_be.new.self,
+            is_number c.in_ok-ttl.ttl kept.taken kept.value,
+            (part.taken.variant.0 refl, part.window, part.taken.ok),
+          ),
+        ),
+      ),
+    ) in
+    record { octets = within.0; within = within.1 }
