@@ -6,8 +6,11 @@ pub mod Message
 pub mod Name
 pub mod OneEntry
 pub mod OneName
+pub mod Order
+pub mod OrderLaws
 pub mod Parsed
 pub mod Piece
 pub mod Read
 pub mod Said
+pub mod Text
 pub mod Walk
