@@ -1,5 +1,5 @@
 -- How labels and names compare, piece by piece.
-use Rattle.std.proofs.Common.{◌≡◌, ℕ, suc, ◌+◌, ◌-◌, ◌<◌, ◌≤◌, ◌⊎◌, inl, inr, List, [], ◌∷◌, ◌++◌, length, take, drop, get_or, reverse, map, refl, sym, ap, ◌∙◌, subst, arith}
+use Rattle.std.proofs.Common.{◌≡◌, ℕ, zero, suc, min, ◌+◌, ◌-◌, ◌<◌, ◌≤◌, ◌⊎◌, inl, inr, List, [], ◌∷◌, ◌++◌, length, take, drop, get_or, reverse, refl, sym, ap, ◌∙◌, arith, Option, Some, None, MatchOption}
 use Rattle.std.proofs.lemmas.List.{drop_more, drop_all, length-drop, length-reverse, reverse-append, map-append, length-map, length-append, take-append-drop}
 use Rattle.std.specs.Char.{to_ascii_lowercase}
 use Rattle.std.specs.Cmp.{nat_cmp_is, ranks}
@@ -21,6 +21,18 @@ moved x y n Greater is = nat_cmp_is (x + n) (y + n) Greater (omega (arith, is))
 pub nat_cmp_moved : (x y n : ℕ) → nat_cmp x y ≡ nat_cmp (x + n) (y + n)
 nat_cmp_moved x y n = moved x y n (nat_cmp x y) (ranks x y)
 
+zero_or_more : (m : ℕ) → (m ≡ 0) ⊎ (0 < m)
+zero_or_more zero = inl refl
+zero_or_more (suc m) = inr (omega arith)
+
+-- the lesser of two is one of them
+lesser : (a b i : ℕ) → i ≡ min a b → (i ≤ a) × (i ≤ b) × ((a ≡ i) ⊎ (b ≡ i))
+lesser a b i is = (omega (arith, is), omega (arith, is), which (zero_or_more (a - b)))
+  where
+    which : (a - b ≡ 0) ⊎ (0 < a - b) → (a ≡ i) ⊎ (b ≡ i)
+    which (inl less) = inl (omega (arith, is, less))
+    which (inr more) = inr (omega (arith, is, more))
+
 -- ---- labels
 
 -- the octets at a place decide, or those behind them
@@ -36,13 +48,16 @@ nothing_left (x ∷ xs) [] is = nat_cmp_is (length (x ∷ xs)) 0 Greater (omega 
 nothing_left (x ∷ xs) (y ∷ ys) (inl is) = absurd (omega (arith, is))
 nothing_left (x ∷ xs) (y ∷ ys) (inr is) = absurd (omega (arith, is))
 
-pub label_cmp_end : (xs ys : List ℕ) (i : ℕ) → i ≤ length xs → i ≤ length ys → (length xs ≡ i) ⊎ (length ys ≡ i) → label_cmp (drop i xs) (drop i ys) ≡ nat_cmp (length xs) (length ys)
-label_cmp_end xs ys i few fewer is =
+pub label_cmp_end : (xs ys : List ℕ) (i : ℕ) → i ≡ min (length xs) (length ys) → label_cmp (drop i xs) (drop i ys) ≡ nat_cmp (length xs) (length ys)
+label_cmp_end xs ys i least =
+    let both = lesser (length xs) (length ys) i least in
+    let few = both.0 in
+    let fewer = both.1 in
     let left = length-drop i xs in
     let other = length-drop i ys in
     let x : length (drop i xs) + i ≡ length xs = omega (arith, left, few) in
     let y : length (drop i ys) + i ≡ length ys = omega (arith, other, fewer) in
-    nothing_left (drop i xs) (drop i ys) (ended is)
+    nothing_left (drop i xs) (drop i ys) (ended both.2)
     ∙ nat_cmp_moved (length (drop i xs)) (length (drop i ys)) i
     ∙ ap (λ n. nat_cmp n (length (drop i ys) + i)) x ∙ ap (nat_cmp (length xs)) y
   where
@@ -105,10 +120,6 @@ name_cmp_none xs ys is =
     none (inl e) = inl (canonical_length xs ∙ e)
     none (inr e) = inr (canonical_length ys ∙ e)
 
-zero_or_more : (m : ℕ) → (m ≡ 0) ⊎ (0 < m)
-zero_or_more 0 = inl refl
-zero_or_more (suc m) = inr (omega arith)
-
 -- a list is its first items and those behind them
 parts : (m : ℕ) (xs : List (List ℕ)) → length (take m xs) + length (drop m xs) ≡ length xs
 parts m xs = sym (length-append (take m xs) (drop m xs)) ∙ ap length (take-append-drop m xs)
@@ -143,3 +154,17 @@ lower_length (label ∷ labels) = let more = lower_length labels in let is = len
 -- so equal names are
 pub equal_length : (labels others : List (List ℕ)) → lower_labels labels ≡ lower_labels others → wire_length labels ≡ wire_length others
 equal_length labels others same = sym (lower_length labels) ∙ ap wire_length same ∙ lower_length others
+
+-- ---- walks
+
+-- a drop, and then one more
+drop_one : (i : ℕ) (xs : List (List ℕ)) → drop 1 (drop i xs) ≡ drop (i + 1) xs
+drop_one zero xs = refl
+drop_one (suc i) [] = sym (drop_all (suc i + 1) [] (omega arith))
+drop_one (suc i) (x ∷ xs) = let same : suc (i + 1) ≡ suc i + 1 = omega arith in drop_one i xs ∙ ap (λ k. drop k (x ∷ xs)) same
+
+-- what an iterator has left past an item more, or at its end
+pub passes : {A : Type 0} (view : A → List ℕ) (xs ys all : List (List ℕ)) (i : ℕ) (r : Option A) → MatchOption r ((xs ≡ []) × (ys ≡ [])) (λ x. xs ≡ view x ∷ ys)
+    → xs ≡ drop i all → ys ≡ drop (i + 1) all
+passes view xs ys all i None is so_far = is.1 ∙ ap (drop 1) (sym is.0 ∙ so_far) ∙ drop_one i all
+passes view xs ys all i (Some x) is so_far = ap (drop 1) (sym is ∙ so_far) ∙ drop_one i all

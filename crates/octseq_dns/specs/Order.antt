@@ -1,5 +1,5 @@
 -- How names compare. ASCII letters of either case are one: RFC 4343. The order is the canonical one: RFC 4034, 6.1.
-use Rattle.std.specs.Prelude.{ℕ, Bool, nat_eq, List, [], ◌∷◌, ◌++◌, map, reverse}
+use Rattle.std.specs.Prelude.{ℕ, Bool, nat_eq, List, [], ◌++◌, map, reverse}
 use Rattle.std.specs.Char.{to_ascii_lowercase}
 use Rattle.std.specs.Cmp.Lexicographic.{pointwise, slice_cmp}
 use Rattle.std.specs.Hash as fed

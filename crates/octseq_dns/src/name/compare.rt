@@ -1,11 +1,11 @@
 //! Names and labels compared, with ASCII letters of either case as one: RFC 4343.
 ghost use Rattle.std.specs.Prelude.{◌≡◌, ◌↔◌, ◌≤◌, length, drop, IsTrue};
-ghost use Rattle.std.specs.Cmp.{partial_order_from_own_ties};
+ghost use Rattle.std.specs.Cmp.{on_equiv, on_total, partial_equiv_from_equiv, partial_order_from_own_ties, partial_order_from_total};
 ghost use Rattle.std.specs.Cmp.Rules.{comparing, hashing};
 ghost use Rattle.std.specs.Ordering.{on, as_partial_cmp};
 ghost use Rattle.std.proofs.Common.{rules};
 ghost use Rattle.octseq_dns.specs.Order.{lower_label, lower_labels, label_eq, label_cmp, label_writes, name_eq, name_cmp, name_writes};
-ghost use Rattle.octseq_dns.specs.OrderLaws.{labels_alike, name_ties, names_alike};
+ghost use Rattle.octseq_dns.specs.OrderLaws.{name_ties, name_eq_equiv, name_cmp_total, names_alike};
 ghost use Rattle.octseq_dns.specs.Read.{labels_of, labels_left, label_octets};
 
 use crate::name::{Label, Labels, ParsedName};
@@ -166,7 +166,7 @@ fn labels_cmp<R: AsOctets + Copy, S: AsOctets + Copy>(
 impl<R: AsOctets + Copy> PartialEq for ParsedName<R> {
     ghost eq = { on labels_of name_eq };
 
-    ghost laws = { Prim.search (comparing, rules) };
+    ghost laws = { partial_equiv_from_equiv (on_equiv labels_of name_eq_equiv) };
 
     fn eq(&self, other: &Self) -> bool {
         self.name_eq(other)
@@ -174,13 +174,13 @@ impl<R: AsOctets + Copy> PartialEq for ParsedName<R> {
 }
 
 impl<R: AsOctets + Copy> Eq for ParsedName<R> {
-    ghost laws = { Prim.search (comparing, rules) };
+    ghost laws = { on_equiv labels_of name_eq_equiv };
 }
 
 impl<R: AsOctets + Copy> Ord for ParsedName<R> {
     ghost cmp = { on labels_of name_cmp };
 
-    ghost total = { Prim.search (comparing, rules) };
+    ghost total = { on_total labels_of name_cmp_total };
 
     ghost matches_partial_cmp = { Prim.search (comparing, rules) };
 
@@ -194,7 +194,7 @@ impl<R: AsOctets + Copy> Ord for ParsedName<R> {
 impl<R: AsOctets + Copy> PartialOrd for ParsedName<R> {
     ghost partial_cmp = { as_partial_cmp (on labels_of name_cmp) };
 
-    ghost laws = { partial_order_from_own_ties (Prim.search (comparing, rules))
+    ghost laws = { partial_order_from_own_ties (partial_order_from_total (on_total labels_of name_cmp_total))
         (λ one other. name_ties (labels_of one) (labels_of other)) };
 
     fn partial_cmp(&self, other: &Self) -> Option<Ordering> {

@@ -4,4 +4,4 @@ use Rattle.octseq_dns.specs.Order.{label_cmp}
 use Rattle.octseq_dns.proofs.name.compare.lowercase_cmp.Given as goal
 
 abbrev pub invariant-octets : goal.invariant-octets
-invariant-octets g l = label_cmp (drop l.at l.fn.one) (drop l.at l.fn.other) ≡ label_cmp l.fn.one l.fn.other
+invariant-octets l = label_cmp (drop l.at l.fn.one) (drop l.at l.fn.other) ≡ label_cmp l.fn.one l.fn.other

@@ -1,5 +1,5 @@
 -- What was written is the length and the octets so far.
-use Rattle.std.proofs.Common.{◌≡◌, fold, map, take, flat_map, ◌++◌, length}
+use Rattle.std.proofs.Common.{◌≡◌, fold, take, flat_map, ◌++◌, length}
 use Rattle.std.specs.Hash as fed
 use Rattle.octseq_dns.specs.Order.{lower_label}
 use Rattle.octseq_dns.specs.Read.{label_octets}

@@ -1,6 +1,6 @@
 use Rattle.std.proofs.Common.{[], ◌∷◌, ◌++◌, ap, sym, ◌∙◌, append_assoc, rules}
 use Rattle.std.proofs.Output.{has_written_append}
-use Rattle.octseq_dns.specs.Read.{labels_of, labels_left, label_octets}
+use Rattle.octseq_dns.specs.Read.{labels_left, label_octets}
 use Rattle.octseq_dns.specs.Text.{label_text, labels_text}
 use Rattle.octseq_dns.proofs.name.text.ParsedNameDisplay.fmt.Goals as goal
 
