@@ -1,3 +1,4 @@
+pub mod Comparisons
 pub mod Formats
 pub mod Forms
 pub mod Headers

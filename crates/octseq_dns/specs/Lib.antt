@@ -8,10 +8,13 @@ pub mod Name
 pub mod OneEntry
 pub mod OneName
 pub mod OneString
+pub mod Order
+pub mod OrderLaws
 pub mod Parsed
 pub mod Piece
 pub mod Read
 pub mod Said
+pub mod Text
 pub mod Txt
 pub mod Typed
 pub mod Walk

@@ -12,8 +12,10 @@ use octseq::utf8::Turns;
 use octseq::{AsOctets, Parser};
 use std::alloc::AllocError;
 
+mod compare;
 mod labels;
 mod step;
+mod text;
 
 pub use crate::name::labels::{Label, Labels};
 
