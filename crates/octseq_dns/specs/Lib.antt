@@ -3,7 +3,9 @@ pub mod Entry
 pub mod Flag
 pub mod Format
 pub mod Header
+pub mod HeaderText
 pub mod Message
+pub mod Mnemonic
 pub mod Name
 pub mod OneEntry
 pub mod OneName

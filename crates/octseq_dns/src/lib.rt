@@ -12,6 +12,7 @@ pub mod header;
 pub mod iana;
 pub mod message;
 pub mod name;
+mod text;
 pub mod ttl;
 
 pub use data::Data;
