@@ -1,10 +1,12 @@
 pub mod Data
+pub mod DataText
 pub mod Entry
 pub mod Flag
 pub mod Format
 pub mod Header
 pub mod HeaderText
 pub mod Message
+pub mod MessageText
 pub mod Mnemonic
 pub mod Name
 pub mod OneEntry
@@ -17,6 +19,7 @@ pub mod Piece
 pub mod Read
 pub mod Said
 pub mod Text
+pub mod TextFront
 pub mod Txt
 pub mod Typed
 pub mod Walk

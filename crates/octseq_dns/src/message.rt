@@ -18,6 +18,7 @@ use std::alloc::AllocError;
 mod question;
 mod record;
 mod sections;
+mod text;
 mod walk;
 
 pub use crate::message::question::Question;
