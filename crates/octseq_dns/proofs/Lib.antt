@@ -6,3 +6,4 @@ pub mod Messages
 pub mod Names
 pub mod Places
 pub mod Strings
+pub mod Texts

@@ -1,4 +1,5 @@
 pub mod Data
+pub mod DataText
 pub mod Entry
 pub mod Flag
 pub mod Format
