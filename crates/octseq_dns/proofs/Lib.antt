@@ -2,8 +2,9 @@ pub mod Comparisons
 pub mod Formats
 pub mod Forms
 pub mod Headers
+pub mod MessageTexts
 pub mod Messages
 pub mod Names
 pub mod Places
 pub mod Strings
-pub mod MessageTexts
+pub mod Texts

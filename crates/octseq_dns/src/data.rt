@@ -17,6 +17,7 @@ mod mx;
 mod soa;
 mod srv;
 mod string;
+mod text;
 mod txt;
 
 pub use crate::data::mx::Mx;

@@ -15,7 +15,7 @@ use std::alloc::AllocError;
 mod compare;
 mod labels;
 mod step;
-mod text;
+pub(crate) mod text;
 
 pub use crate::name::labels::{Label, Labels};
 

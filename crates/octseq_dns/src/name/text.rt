@@ -62,7 +62,7 @@ fn needs_backslash(octet: u8) -> bool
 }
 
 /// Writes a number in three decimal digits.
-fn write_digits<W: fmt::Write>(f: &mut fmt::Formatter<W>, number: u8) -> fmt::Result
+pub(crate) fn write_digits<W: fmt::Write>(f: &mut fmt::Formatter<W>, number: u8) -> fmt::Result
     ensures { WritesOnOk W.write_str_gives f.old result (three_digits number) f.new }
 {
     write_digit(f, number / 100)?;
