@@ -83,7 +83,10 @@ impl<R: AsOctets + Copy> Message<R> {
     ///
     /// `Short` where the text would pass the limit of its type, `Memory` where a request for memory was refused. The
     /// text is then as it was.
-    pub fn append_text<B: OctetsBuilder + Truncate>(&self, text: &mut StrBuilder<B>) -> Result<(), DisplayError>
+    pub fn append_text<B: OctetsBuilder + Truncate>(
+        &self,
+        text: &mut StrBuilder<B>,
+    ) -> Result<(), DisplayError>
         ensures text { OnOk result ((lines : List ℕ) × IsMessageText (header_of self.now) (questions_of self.now)
             (answers_of self.now) (authorities_of self.now) (additionals_of self.now) lines
             × (B.content text.new ≡ B.content text.old ++ lines)) }

@@ -23,12 +23,12 @@ loop-record-preserved g c =
       appended = then_more (g.B.AsOctets.content c.args.text.now) _ _ so_far.done shown so_far.appended c.in_ok-try_push_display.ensures.ok;
       whole = λ more text.
           let ahead = subst (λ records. IsRecordsText word records (shown ++ more)) (sym c.in-Some.ensures.steps)
-              (form_of c.data-rdata.result, more, c.data-rdata.ensures, text, refl) in
+          (form_of c.data-rdata.result, more, c.data-rdata.ensures, text, refl) in
           subst (IsRecordsText word (records_left c.args.records)) (sym (append_assoc so_far.done shown more)) (so_far.whole (shown ++ more) ahead);
     }
 
 pub returns-clause-text : goal.returns-clause-text
 returns-clause-text g c =
     let so_far = c.loop-record.invariant in
-    let none = subst (λ records. IsRecordsText c.args.word.now records []) (sym c.in-None.ensures.steps) refl in
+    let none = subst (λ records. IsRecordsText c.args.word.now records []) (sym c.in-None.ensures.steps.0) refl in
     (so_far.done ++ [], so_far.whole [] none, so_far.appended ∙ ap (λ y. g.B.AsOctets.content c.args.text.now ++ y) (sym (append-nil so_far.done)))
