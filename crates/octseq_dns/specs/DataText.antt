@@ -13,7 +13,8 @@ use Rattle.octseq_dns.specs.Text.{three_digits, name_text}
 abbrev pub is_compatible : List ℕ → Bool
 is_compatible octets = bytes_eq (take 12 octets) (replicate 12 0) && not (bytes_eq (take 2 (drop 12 octets)) (0 ∷ 0 ∷ []))
 
--- an IPv6 address of 16 octets, which std's `ipv6_text` shows otherwise, also what ends in an IPv4 address behind ten zeros and FF FF
+-- An IPv6 address of 16 octets: `::` and the IPv4 address in which it ends, or else what std's `ipv6_text` has, which also shows the IPv4
+-- address behind ten zeros and FF FF.
 abbrev pub aaaa_text : List ℕ → List ℕ
 aaaa_text octets = if is_compatible octets then codes "::" ++ ipv4_text (drop 12 octets) else ipv6_text (segments_of octets)
 
