@@ -1,10 +1,10 @@
 -- The text of data: RFC 1035, 5.1, RFC 2782 (SRV), RFC 5952 (AAAA) and RFC 3597, 5 (opaque data).
-use Rattle.std.specs.Prelude.{ℕ, ◌/◌, ◌%◌, Bool, ◌&&◌, ◌||◌, not, ◌==◌, if◌then◌else◌, List, [], ◌∷◌, ◌++◌, length, take, drop, replicate, codes, bytes_eq}
+use Rattle.std.specs.Prelude.{◌≡◌, ℕ, ◌+◌, ◌/◌, ◌%◌, ◌≤◌, Bool, ◌&&◌, ◌||◌, not, ◌==◌, if◌then◌else◌, List, [], ◌∷◌, ◌++◌, length, take, drop, replicate, codes, bytes_eq}
 use Rattle.std.specs.Char.{char_set_contains, digit_char, is_ascii_graphic}
 use Rattle.std.specs.Fmt.{decimal}
 use Rattle.std.specs.List.{flat_map}
 use Rattle.std.specs.Net.Addr.{segments_of}
-use Rattle.std.specs.Net.Text.{ipv4_text, ipv6_text}
+use Rattle.std.specs.Net.Text.{groups_text, ipv4_text, ipv6_text}
 use Rattle.octseq.specs.Window.{rest}
 use Rattle.octseq_dns.specs.Data.{Mx, Soa, Srv, Form}
 use Rattle.octseq_dns.specs.Text.{three_digits, name_text}
@@ -13,9 +13,28 @@ use Rattle.octseq_dns.specs.Text.{three_digits, name_text}
 abbrev pub is_compatible : List ℕ → Bool
 is_compatible octets = bytes_eq (take 12 octets) (replicate 12 0) && not (bytes_eq (take 2 (drop 12 octets)) (0 ∷ 0 ∷ []))
 
--- an IPv6 address of 16 octets, which std's `ipv6_text` shows otherwise, also what ends in an IPv4 address behind ten zeros and FF FF
+-- An IPv6 address of 16 octets: `::` and the IPv4 address in which it ends, or else what std's `ipv6_text` has, which also shows the IPv4
+-- address behind ten zeros and FF FF.
 abbrev pub aaaa_text : List ℕ → List ℕ
 aaaa_text octets = if is_compatible octets then codes "::" ++ ipv4_text (drop 12 octets) else ipv6_text (segments_of octets)
+
+-- from a place on so many groups are zero
+abbrev pub AreZero : List ℕ → ℕ → ℕ → Type 0
+AreZero groups start len = take len (drop start groups) ≡ replicate len 0
+
+-- They are the longest run of zero groups, and of two such runs the first.
+pub record IsFirstLongest (groups : List ℕ) (start len : ℕ) : Type 0 where
+  pub zeros : AreZero groups start len
+  pub longest : (other size : ℕ) → AreZero groups other size → size ≤ len
+  pub first : (other : ℕ) → AreZero groups other len → start ≤ other
+
+-- The text of groups: `::` in the place of the first longest run, where that has two groups or more.
+pub record IsGroupsText (groups text : List ℕ) : Type 0 where
+  pub start : ℕ
+  pub len : ℕ
+  pub run : IsFirstLongest groups start len
+  pub shortened : 2 ≤ len → text ≡ groups_text (take start groups) ++ codes "::" ++ groups_text (drop (start + len) groups)
+  pub plain : len ≤ 1 → text ≡ groups_text groups
 
 -- An octet of a string: behind a backslash (92), as itself where it is visible ASCII or a space, or as a backslash and its number.
 abbrev pub is_string_quoted : ℕ → Bool

@@ -1,8 +1,10 @@
 //! What the data of a record says, by the record's type and class: RFC 1035, 3.3 and 3.4.
-ghost use Rattle.std.specs.Prelude.{◌≡◌, ◌≢◌, ◌+◌, ◌≤◌, IsErr, IfOk, OnOk, ⊤};
+ghost use Rattle.std.specs.Prelude.{◌≡◌, ◌≢◌, ℕ, ◌+◌, ◌≤◌, List, IsTrue, IsErr, IfOk, OnOk, ⊤};
+ghost use Rattle.std.specs.Net.Addr.{IsIpv4Mapped, segments_of};
 ghost use Rattle.octseq.specs.Parser.{window};
 ghost use Rattle.octseq.specs.Window.{Window};
 ghost use Rattle.octseq_dns.specs.Data.{Form, HasForm, IsDataOf};
+ghost use Rattle.octseq_dns.specs.DataText.{IsGroupsText, is_compatible, aaaa_text};
 ghost use Rattle.octseq_dns.specs.Entry as said;
 
 use crate::data::string::take_octets;
@@ -31,6 +33,15 @@ pub use crate::data::txt::{CharStr, Strings, Txt};
 pub fn one_form_of_data()
     ensures { (entry : said.Record) (form other : Form) → IsDataOf entry form → IsDataOf entry other
         → form ≡ other }
+{}
+
+/// An IPv6 address that doesn't end in an IPv4 address shows its eight groups, with `::` in the place of the first of
+/// the longest runs of two or more zero groups: RFC 5952, 4.2.
+///
+/// It does nothing. A caller that calls it has the law in its proof.
+pub fn zero_groups_are_shortened()
+    ensures { (octets : List ℕ) → ¬ IsTrue (is_compatible octets) → ¬ IsIpv4Mapped (segments_of octets)
+        → IsGroupsText (segments_of octets) (aaaa_text octets) }
 {}
 
 /// What the data of a record says. Names in it stand in the message, and no octet of them is copied.

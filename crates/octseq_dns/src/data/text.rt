@@ -1,5 +1,5 @@
 //! The text of data: RFC 1035, 5.1.
-ghost use Rattle.std.specs.Prelude.{◌≡◌, ◌++◌, Some, codes};
+ghost use Rattle.std.specs.Prelude.{◌≡◌, Some};
 ghost use Rattle.std.specs.Fmt.{WritesOnOk};
 ghost use Rattle.std.specs.List.{flat_map};
 ghost use Rattle.std.specs.Net.Text.{ipv4_text};
