@@ -1,4 +1,5 @@
 pub mod Data
+pub mod Edns
 pub mod Entry
 pub mod Flag
 pub mod Format
@@ -7,7 +8,8 @@ pub mod Message
 pub mod Name
 pub mod OneEntry
 pub mod OneName
-pub mod OneString
+pub mod OneRow
+pub mod Opt
 pub mod Parsed
 pub mod Piece
 pub mod Read
