@@ -74,6 +74,7 @@ fn over_each<C: Case>(
 mod builders;
 mod composing;
 mod dns;
+mod dns_data;
 mod errors;
 mod habits;
 mod integers;

@@ -153,10 +153,10 @@ impl<R: AsOctets + Copy> Iterator for Strings<R> {
     ghost remaining = { item_count strings_left };
 
     fn next(&mut self) -> Option<CharStr<R>> {
-        if self.parser.pos() == self.end {
+        let mut ahead = self.parser;
+        if ahead.pos() == self.end {
             return None;
         }
-        let mut ahead = self.parser;
         match take_string(&mut ahead) {
             Ok(parser) => {
                 let end = self.end;
