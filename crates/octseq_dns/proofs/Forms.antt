@@ -2,12 +2,12 @@
 use Rattle.std.proofs.Common.{◌≡◌, ℕ, if◌then◌else◌, nat_eq, refl, sym, ap, ◌∙◌, subst, arith}
 use mathlib.Core.Logic.{inl, inr}
 use Rattle.octseq.specs.Window.{Window, at}
-use Rattle.octseq_dns.specs.Data.{Form, Mx, Soa, Srv, HasForm, HasOctets, HasStrings, HasMx, HasSoa, HasSrv, IsTyped, IsDataOf}
+use Rattle.octseq_dns.specs.Data.{Form, Mx, Soa, Srv, HasForm, HasOctets, HasString, HasStrings, HasMx, HasSoa, HasSrv, IsTyped, IsDataOf}
 use Rattle.octseq_dns.specs.Entry.{Record}
 use Rattle.octseq_dns.specs.Format.{IsNumber, ◌then◌}
 use Rattle.octseq_dns.specs.Name.{Name, HasName}
 use Rattle.octseq_dns.specs.OneEntry.{IsOne, one_named, one_number, one_then}
-use Rattle.octseq_dns.specs.OneString.{one_row_of_strings}
+use Rattle.octseq_dns.specs.OneRow.{one_row_to, one_string, string_moves}
 use Rattle.octseq_dns.proofs.Formats.{NoneAt}
 
 -- ---- each form is of one type
@@ -187,7 +187,7 @@ one_shape Kind.of_srv other_type = one_made Form.srv HasSrv one_srv
 
 -- of TXT, where they end at one place
 one_text : (w u v : Window) (form other : Form) → u.position ≡ v.position → Shape Kind.of_txt w form u → Shape Kind.of_txt w other v → form ≡ other
-one_text w u v form other same a b = a.1 ∙ ap Form.txt (one_row_of_strings w u v a.0 b.0 same a.2.1 b.2.1) ∙ sym b.1
+one_text w u v form other same a b = a.1 ∙ ap Form.txt (one_row_to HasString one_string string_moves w u v a.0 b.0 same a.2.1 b.2.1) ∙ sym b.1
 
 one_ending : (k : Kind) (w u v : Window) (form other : Form) → u.position ≡ v.position → Shape k w form u → Shape k w other v → form ≡ other
 one_ending Kind.of_txt w u v form other same a b = one_text w u v form other same a b

@@ -1,4 +1,5 @@
 pub mod Comparisons
+pub mod Edns
 pub mod Formats
 pub mod Forms
 pub mod Headers
@@ -6,5 +7,6 @@ pub mod MessageTexts
 pub mod Messages
 pub mod Names
 pub mod Places
+pub mod Rows
 pub mod Strings
 pub mod Texts

@@ -1,5 +1,6 @@
 pub mod Data
 pub mod DataText
+pub mod Edns
 pub mod Entry
 pub mod Flag
 pub mod Format
@@ -11,7 +12,9 @@ pub mod Mnemonic
 pub mod Name
 pub mod OneEntry
 pub mod OneName
+pub mod OneRow
 pub mod OneString
+pub mod Opt
 pub mod Order
 pub mod OrderLaws
 pub mod Parsed

@@ -16,6 +16,7 @@ use octseq::{AsOctets, Parser};
 use std::alloc::AllocError;
 
 mod mx;
+mod opt;
 mod soa;
 mod srv;
 mod string;
@@ -23,6 +24,7 @@ mod text;
 mod txt;
 
 pub use crate::data::mx::Mx;
+pub use crate::data::opt::{EdnsOption, Opt, Options, one_opt};
 pub use crate::data::soa::Soa;
 pub use crate::data::srv::Srv;
 pub use crate::data::txt::{CharStr, Strings, Txt};

@@ -75,6 +75,7 @@ mod builders;
 mod composing;
 mod dns;
 mod dns_text;
+mod dns_data;
 mod errors;
 mod habits;
 mod integers;

@@ -2,7 +2,8 @@
 ghost use Rattle.std.specs.Prelude.{◌≡◌, ◌≤◌, ⊤, length};
 ghost use Rattle.octseq.specs.Parser.{window};
 ghost use Rattle.octseq.specs.Window.{left};
-ghost use Rattle.octseq_dns.specs.OneString.{Strings as Held, strings_once};
+ghost use Rattle.octseq_dns.specs.Data.{HasString};
+ghost use Rattle.octseq_dns.specs.OneRow.{Reaches, strings_once};
 
 use crate::data::string::take_string;
 use crate::error::Malformed;
@@ -51,7 +52,7 @@ impl<R: AsOctets> CharStr<R> {
     pub fn is_empty(&self) -> bool
         ensures { IsTrue result ↔ (length (string_octets self.now) ≡ 0) }
     {
-        self.parser.remaining() == 0
+        self.len() == 0
     }
 
     /// The place of its first octet, behind its length, counted from the first octet of the message.
@@ -67,7 +68,7 @@ impl<R: AsOctets> CharStr<R> {
 pub struct Txt<R: AsOctets> {
     parser: Parser<R>,
     end: usize,
-    ghost strings: { Held (window parser) end } by { strings_once (window parser) end },
+    ghost strings: { Reaches HasString (window parser) end } by { strings_once (window parser) end },
     ghost some: { 1 ≤ length strings.0 },
 }
 
@@ -97,11 +98,11 @@ impl<R: AsOctets + Copy> Txt<R> {
             → HasStrings (window parser.old) strings v → ¬ (v.position ≡ end) }
     {
         let first = *parser;
-        'strings: loop {
+        if first.pos() == end {
+            return Err(Malformed);
+        }
+        'strings: while parser.pos() < end {
             let _string = take_string(parser)?;
-            if parser.pos() >= end {
-                break;
-            }
         }
         if parser.pos() > end {
             return Err(Malformed);
@@ -126,7 +127,7 @@ impl<R: AsOctets + Copy> Txt<R> {
 pub struct Strings<R: AsOctets> {
     parser: Parser<R>,
     end: usize,
-    ghost ahead: { Held (window parser) end } by { strings_once (window parser) end },
+    ghost ahead: { Reaches HasString (window parser) end } by { strings_once (window parser) end },
 }
 
 impl<R: AsOctets + Copy> Copy for Strings<R> {}
@@ -152,10 +153,10 @@ impl<R: AsOctets + Copy> Iterator for Strings<R> {
     ghost remaining = { item_count strings_left };
 
     fn next(&mut self) -> Option<CharStr<R>> {
-        if self.parser.pos() == self.end {
+        let mut ahead = self.parser;
+        if ahead.pos() == self.end {
             return None;
         }
-        let mut ahead = self.parser;
         match take_string(&mut ahead) {
             Ok(parser) => {
                 let end = self.end;

@@ -137,8 +137,12 @@ impl Case for IsRead {
         );
         assert_equal!(rt, counts, (1, 1, 0, 0));
         for answer in message.answers() {
-            assert_equal!(rt, answer.owner.label_count(), 2);
-            assert_equal!(rt, answer.rdata.peek_all(), b"\x01\x02\x03\x04".as_slice());
+            assert_equal!(rt, answer.owner().label_count(), 2);
+            assert_equal!(
+                rt,
+                answer.rdata().peek_all(),
+                b"\x01\x02\x03\x04".as_slice()
+            );
         }
         Ok(())
     }
@@ -183,10 +187,10 @@ impl Case for EveryField {
             assert_equal!(rt, question.qname.parser().pos(), 12);
         }
         for answer in message.answers() {
-            assert_equal!(rt, (answer.rtype, answer.class), (Rtype::A, Class::IN));
-            assert_equal!(rt, answer.ttl.as_secs(), 300);
-            assert_equal!(rt, answer.owner.parser().pos(), 29);
-            assert_equal!(rt, (answer.rdata.pos(), answer.rdata.len()), (41, 45));
+            assert_equal!(rt, (answer.rtype(), answer.class()), (Rtype::A, Class::IN));
+            assert_equal!(rt, answer.ttl().as_secs(), 300);
+            assert_equal!(rt, answer.owner().parser().pos(), 29);
+            assert_equal!(rt, (answer.rdata().pos(), answer.rdata().len()), (41, 45));
         }
         Ok(())
     }

@@ -1,12 +1,13 @@
 -- Strings were read, and others are ahead if there is an answer.
 use Rattle.octseq.specs.Parser.{window}
 use Rattle.octseq.specs.Window.{left}
-use Rattle.octseq_dns.proofs.Strings.{Reading}
+use Rattle.octseq_dns.specs.Data.{HasString}
+use Rattle.octseq_dns.proofs.Rows.{Reading}
 use Rattle.octseq_dns.proofs.data.txt.Txt.parse.Given as goal
 
 abbrev pub invariant-strings : goal.invariant-strings
 invariant-strings g l = record {
-  read : Reading (window l.fn.parser) (window l.parser) l.fn.end;
+  read : Reading HasString (window l.fn.parser) (window l.parser) l.fn.end;
 }
 
 abbrev pub decreases-strings : goal.decreases-strings

@@ -1,6 +1,6 @@
 use Rattle.std.proofs.Common.{ap, length, arith}
 use Rattle.octseq.specs.Parser.{window}
-use Rattle.octseq_dns.specs.OneString.{strings_once}
+use Rattle.octseq_dns.specs.OneRow.{strings_once}
 use Rattle.octseq_dns.proofs.data.txt.Txt.strings.Goals as goal
 
 pub returns-clause-strings : goal.returns-clause-strings
