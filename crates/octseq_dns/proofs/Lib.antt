@@ -3,3 +3,4 @@ pub mod Formats
 pub mod Headers
 pub mod Messages
 pub mod Names
+pub mod Wires

@@ -8,9 +8,11 @@ pub mod OneEntry
 pub mod OneName
 pub mod Order
 pub mod OrderLaws
+pub mod Owned
 pub mod Parsed
 pub mod Piece
 pub mod Read
 pub mod Said
 pub mod Text
 pub mod Walk
+pub mod Wire

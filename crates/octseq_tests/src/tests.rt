@@ -77,6 +77,7 @@ mod dns;
 mod errors;
 mod habits;
 mod integers;
+mod names;
 mod refused;
 mod runs;
 mod text;

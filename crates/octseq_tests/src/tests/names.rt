@@ -1,0 +1,131 @@
+//! Names of DNS as text, and how they compare.
+use super::{Case, over_each};
+use octseq::{Octets, Parser};
+use octseq_dns::ParsedName;
+use std::alloc::{AllocGlobal, Global};
+use std::cmp::Ordering;
+use std::hash::{DefaultHasher, Hash, Hasher};
+use std::process::Abort;
+use std::test::Fail;
+
+/// The text of the name at the octets' front.
+fn text_of(alloc: Global, octets: &[u8]) -> Result<String, Fail> {
+    let name = ParsedName::parse(&mut Parser::from_ref(octets))?;
+    Ok(format!(in alloc; "{name}")?)
+}
+
+#[test]
+fn a_name_shows_with_escapes(rt: HostRuntime) -> Result<(), Fail> {
+    for (octets, text) in [
+        (b"\x00".as_slice(), "."),
+        (b"\x07example\x03com\x00", "example.com."),
+        (
+            b"\x05a.b\\\"\x04\x00 \x7F\xFF\x00",
+            "a\\.b\\\\\\\".\\000\\032\\127\\255.",
+        ),
+        (b"\x08\"().;\\@$\x00", "\\\"\\(\\)\\.\\;\\\\\\@\\$."),
+        (b"\x06!#/~%Z\x00", "!#/~%Z."),
+        (b"\x04\x1F\x80\x99\xC8\x00", "\\031\\128\\153\\200."),
+    ] {
+        assert_equal!(&rt, text_of(rt.alloc(), octets)?.as_str(), text);
+    }
+    Ok(())
+}
+
+/// How two names compare, and whether they are equal.
+fn compared(one: &[u8], other: &[u8]) -> Result<(Ordering, bool), Fail> {
+    let name = ParsedName::parse(&mut Parser::from_ref(one))?;
+    let other_name = ParsedName::parse(&mut Parser::from_ref(other))?;
+    Ok((name.name_cmp(&other_name), name.name_eq(&other_name)))
+}
+
+#[test]
+fn names_have_the_canonical_order(rt: HostRuntime) -> Result<(), Fail> {
+    let names = [
+        b"\x07example\x00".as_slice(),
+        b"\x01a\x07example\x00",
+        b"\x08yljkjljk\x01a\x07example\x00",
+        b"\x01Z\x01a\x07example\x00",
+        b"\x04zABC\x01a\x07EXAMPLE\x00",
+        b"\x01z\x07example\x00",
+        b"\x01\x01\x01z\x07example\x00",
+        b"\x01*\x01z\x07example\x00",
+        b"\x01\xC8\x01z\x07example\x00",
+    ];
+    for (place, one) in names.iter().enumerate() {
+        for (other_place, other) in names.iter().enumerate() {
+            let wanted = (place.cmp(&other_place), place == other_place);
+            assert_equal!(&rt, compared(one, other)?, wanted);
+        }
+    }
+    Ok(())
+}
+
+#[test]
+fn ascii_letters_alone_have_two_cases(rt: HostRuntime) -> Result<(), Fail> {
+    for (one, other, wanted) in [
+        (b"\x00".as_slice(), b"\x00".as_slice(), Ordering::Equal),
+        (b"\x03wWw\x00", b"\x03WwW\x00", Ordering::Equal),
+        (b"\x02AZ\x00", b"\x02az\x00", Ordering::Equal),
+        (b"\x01@\x00", b"\x01`\x00", Ordering::Less),
+        (b"\x01[\x00", b"\x01{\x00", Ordering::Less),
+        (b"\x01\xC0\x00", b"\x01\xE0\x00", Ordering::Less),
+        (b"\x02ab\x00", b"\x01a\x01b\x00", Ordering::Less),
+        (b"\x01b\x00", b"\x02aa\x00", Ordering::Greater),
+    ] {
+        let equal = wanted == Ordering::Equal;
+        assert_equal!(&rt, compared(one, other)?, (wanted, equal));
+        assert_equal!(&rt, compared(other, one)?, (wanted.reverse(), equal));
+    }
+    Ok(())
+}
+
+/// What a name is hashed to.
+fn hash_of<T: Hash>(value: &T) -> u64 {
+    let mut hasher = DefaultHasher::new();
+    value.hash(&mut hasher);
+    hasher.finish()
+}
+
+#[derive(Drop)]
+struct IsOneName;
+
+impl Case for IsOneName {
+    fn holds<H: Abort + AllocGlobal, R: Octets + Copy>(
+        &self,
+        rt: &H,
+        octets: R,
+    ) -> Result<(), Fail> {
+        let mut parser = Parser::from_ref(octets);
+        let name = ParsedName::parse(&mut parser)?;
+        let same = ParsedName::parse(&mut parser)?;
+        let other = ParsedName::parse(&mut parser)?;
+        assert_equal!(rt, (name == same, name == other), (true, false));
+        assert_equal!(
+            rt,
+            (name.cmp(&same), name.cmp(&other)),
+            (Ordering::Equal, Ordering::Less)
+        );
+        assert_equal!(rt, (name < same, name < other), (false, true));
+        assert_equal!(rt, hash_of(&name), hash_of(&same));
+        for (label, other_label) in name.labels().zip(same.labels()) {
+            assert_equal!(
+                rt,
+                (label == other_label, label.cmp(&other_label)),
+                (true, Ordering::Equal)
+            );
+            assert_equal!(rt, hash_of(&label), hash_of(&other_label));
+        }
+        assert_equal!(rt, format!(in rt.alloc(); "{name}")?.as_str(), "wWw.A.");
+        Ok(())
+    }
+}
+
+#[test]
+fn names_of_one_message_compare(rt: HostRuntime) -> Result<(), Fail> {
+    over_each(
+        &rt,
+        &IsOneName,
+        b"\x03wWw\x01A\x00\x03WWW\x01a\x00\x01x\xC0\x04",
+    )
+}
