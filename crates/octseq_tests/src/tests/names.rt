@@ -1,6 +1,6 @@
 //! Names of DNS as text, and how they compare.
 use super::{Case, over_each};
-use octseq::{Octets, Parser};
+use octseq::{AppendError, Array, Octets, Parser, ShortBuf};
 use octseq_dns::ParsedName;
 use std::alloc::{AllocGlobal, Global};
 use std::cmp::Ordering;
@@ -128,4 +128,50 @@ fn names_of_one_message_compare(rt: HostRuntime) -> Result<(), Fail> {
         &IsOneName,
         b"\x03wWw\x01A\x00\x03WWW\x01a\x00\x01x\xC0\x04",
     )
+}
+
+#[derive(Drop)]
+struct IsCopied;
+
+impl Case for IsCopied {
+    fn holds<H: Abort + AllocGlobal, R: Octets + Copy>(
+        &self,
+        rt: &H,
+        octets: R,
+    ) -> Result<(), Fail> {
+        let mut parser = Parser::from_ref(octets);
+        let root = ParsedName::parse(&mut parser)?.try_to_name::<Array<1>>(rt.alloc())?;
+        let first = ParsedName::parse(&mut parser)?.try_to_name::<Vec<u8>>(rt.alloc())?;
+        let name = ParsedName::parse(&mut parser)?;
+        let copy = name.try_to_name::<Vec<u8>>(rt.alloc())?;
+        assert_equal!(rt, (root.is_root(), copy.is_root()), (true, false));
+        assert_equal!(
+            rt,
+            (copy.len(), copy.label_count(), copy.labels().count()),
+            (13, 2, 2)
+        );
+        assert_equal!(rt, copy.as_slice(), b"\x03www\x07example\x00".as_slice());
+        assert_equal!(rt, copy.parsed().name_eq(&name), true);
+        assert_equal!(
+            rt,
+            (first == copy, first < copy, first.cmp(&first)),
+            (false, true, Ordering::Equal)
+        );
+        assert_equal!(rt, hash_of(&copy), hash_of(&name));
+        assert_equal!(
+            rt,
+            format!(in rt.alloc(); "{root} {copy}")?.as_str(),
+            ". www.example."
+        );
+        let held = name.try_to_name::<Array<13>>(rt.alloc())?.into_octets();
+        assert_equal!(rt, held.as_slice(), copy.as_slice());
+        let refused = name.try_to_name::<Array<12>>(rt.alloc()).err();
+        assert_equal!(rt, refused, Some(AppendError::Short(ShortBuf)));
+        Ok(())
+    }
+}
+
+#[test]
+fn a_name_is_copied_with_its_octets(rt: HostRuntime) -> Result<(), Fail> {
+    over_each(&rt, &IsCopied, b"\x00\x07example\x00\x03www\xC0\x01")
 }
