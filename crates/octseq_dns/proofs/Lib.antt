@@ -3,4 +3,5 @@ pub mod Formats
 pub mod Headers
 pub mod Messages
 pub mod Names
+pub mod Spellings
 pub mod Wires

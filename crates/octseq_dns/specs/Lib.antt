@@ -13,6 +13,7 @@ pub mod Parsed
 pub mod Piece
 pub mod Read
 pub mod Said
+pub mod Spelling
 pub mod Text
 pub mod Walk
 pub mod Wire
