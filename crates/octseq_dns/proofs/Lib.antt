@@ -3,5 +3,6 @@ pub mod Formats
 pub mod Headers
 pub mod Messages
 pub mod Names
+pub mod SpellingSteps
 pub mod Spellings
 pub mod Wires

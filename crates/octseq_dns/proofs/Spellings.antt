@@ -1,9 +1,9 @@
 -- A text spells one name at most, and the text that is printed spells its name.
-use Rattle.std.proofs.Common.{◌≡◌, ℕ, ◌+◌, ◌/◌, ◌%◌, ◌<◌, ◌≤◌, Bool, true, false, cond, List, [], ◌∷◌, ◌++◌, length, get_or, drop, refl, sym, ap, ◌∙◌, subst, append_assoc, arith, rules}
+use Rattle.std.proofs.Common.{◌≡◌, ℕ, ◌+◌, ◌/◌, ◌%◌, ◌<◌, ◌≤◌, true, List, [], ◌∷◌, ◌++◌, length, get_or, drop, refl, sym, ap, ◌∙◌, subst, append_assoc, arith, rules}
 use Rattle.std.proofs.Math.Bool.{true≢false}
-use Rattle.std.specs.Char.{is_ascii_digit, is_ascii_graphic}
+use Rattle.std.specs.Char.{is_ascii_digit}
 use Rattle.octseq_dns.specs.Spelling.{SpellsOctet, SpellsLabel, SpellsLabels, SpellsName}
-use Rattle.octseq_dns.specs.Text.{is_quoted, three_digits, octet_text, label_text, labels_text, name_text}
+use Rattle.octseq_dns.specs.Text.{is_quoted}
 use Rattle.octseq_dns.specs.Wire.{AreLabels}
 
 -- ---- lists
@@ -23,7 +23,7 @@ numbers : (a b : ℕ) → 48 + a / 100 ≡ 48 + b / 100 → 48 + a / 10 % 10 ≡
 numbers a b first second third = omega (arith, first, second, third)
 
 -- a spelling of an octet tells it, and what stands behind it
-octet_once : (a b : ℕ) (s t xs ys : List ℕ) → SpellsOctet a s → SpellsOctet b t → s ++ xs ≡ t ++ ys → (a ≡ b) × (xs ≡ ys)
+pub octet_once : (a b : ℕ) (s t xs ys : List ℕ) → SpellsOctet a s → SpellsOctet b t → s ++ xs ≡ t ++ ys → (a ≡ b) × (xs ≡ ys)
 octet_once a b s t xs ys (SpellsOctet.plain bare seen) (SpellsOctet.plain other_bare other_seen) same = (head same, tail same)
 octet_once a b s t xs ys (SpellsOctet.plain bare seen) (SpellsOctet.quoted letter) same = absurd (true≢false (ap is_quoted (sym (head same)) ∙ bare))
 octet_once a b s t xs ys (SpellsOctet.plain bare seen) (SpellsOctet.numbered few) same = absurd (true≢false (ap is_quoted (sym (head same)) ∙ bare))
@@ -37,14 +37,14 @@ octet_once a b s t xs ys (SpellsOctet.numbered few) (SpellsOctet.numbered other_
     (numbers a b (head second) (head third) (head fourth), tail fourth)
 
 -- and doesn't begin with a full stop
-no_full_stop : (a : ℕ) (s xs ys : List ℕ) → SpellsOctet a s → ¬ (s ++ xs ≡ 46 ∷ ys)
+pub no_full_stop : (a : ℕ) (s xs ys : List ℕ) → SpellsOctet a s → ¬ (s ++ xs ≡ 46 ∷ ys)
 no_full_stop a s xs ys (SpellsOctet.plain bare seen) same = true≢false (ap is_quoted (sym (head same)) ∙ bare)
 no_full_stop a s xs ys (SpellsOctet.quoted letter) same = let e = head same in absurd (omega (arith, e))
 no_full_stop a s xs ys (SpellsOctet.numbered few) same = let e = head same in absurd (omega (arith, e))
 
 -- ---- labels
 
-label_once : (label other s t xs ys : List ℕ) → SpellsLabel label s → SpellsLabel other t → s ++ 46 ∷ xs ≡ t ++ 46 ∷ ys → (label ≡ other) × (xs ≡ ys)
+pub label_once : (label other s t xs ys : List ℕ) → SpellsLabel label s → SpellsLabel other t → s ++ 46 ∷ xs ≡ t ++ 46 ∷ ys → (label ≡ other) × (xs ≡ ys)
 label_once [] [] s t xs ys one two same =
     let all = ap (λ l. l ++ 46 ∷ xs) (sym one) ∙ same ∙ ap (λ l. l ++ 46 ∷ ys) two in (refl, tail all)
 label_once [] (b ∷ other) s t xs ys one two same =
@@ -57,7 +57,7 @@ label_once (a ∷ label) (b ∷ other) s t xs ys one two same =
     let rest = label_once label other one.1 two.1 xs ys one.4 two.4 first.1 in
     (ap (λ o. o ∷ label) first.0 ∙ ap (λ l. b ∷ l) rest.0, rest.1)
 
-no_end : (s ys : List ℕ) → ¬ (s ++ 46 ∷ ys ≡ [])
+pub no_end : (s ys : List ℕ) → ¬ (s ++ 46 ∷ ys ≡ [])
 no_end [] ys same = let e = ap length same in absurd (omega (arith, e))
 no_end (x ∷ s) ys same = let e = ap length same in absurd (omega (arith, e))
 

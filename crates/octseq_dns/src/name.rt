@@ -15,6 +15,7 @@ use std::alloc::AllocError;
 mod compare;
 mod labels;
 mod owned;
+mod spelling;
 mod step;
 mod text;
 mod wire;

@@ -13,6 +13,7 @@ use octseq::{AppendError, AsOctets, EmptyBuilder, OctetsBuilder, Parser, ShortBu
 use std::alloc::{AllocError, Global};
 
 mod compare;
+mod read;
 
 /// A name that owns its octets: its plain wire form, with no pointers, in a builder.
 #[derive(Debug, Drop)]

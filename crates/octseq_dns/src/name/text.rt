@@ -62,7 +62,7 @@ fn write_octet<W: fmt::Write>(f: &mut fmt::Formatter<W>, octet: u8) -> fmt::Resu
 }
 
 /// Whether an octet that is visible is written behind a backslash.
-fn needs_backslash(octet: u8) -> bool
+pub(crate) fn needs_backslash(octet: u8) -> bool
     ensures { result ≡ is_quoted octet }
 {
     matches!(
