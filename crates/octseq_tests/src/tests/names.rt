@@ -1,7 +1,7 @@
 //! Names of DNS as text, and how they compare.
 use super::{Case, over_each};
 use octseq::{AppendError, Array, Octets, Parser, ShortBuf};
-use octseq_dns::ParsedName;
+use octseq_dns::{Malformed, Name, ParsedName};
 use std::alloc::{AllocGlobal, Global};
 use std::cmp::Ordering;
 use std::hash::{DefaultHasher, Hash, Hasher};
@@ -174,4 +174,67 @@ impl Case for IsCopied {
 #[test]
 fn a_name_is_copied_with_its_octets(rt: HostRuntime) -> Result<(), Fail> {
     over_each(&rt, &IsCopied, b"\x00\x07example\x00\x03www\xC0\x01")
+}
+
+/// The plain wire form of the name that a text spells, if it spells one.
+fn wire_of(alloc: Global, text: &str) -> Result<Option<Vec<u8>>, Fail> {
+    match Name::from_text(text) {
+        Ok(name) => Ok(Some(name.as_slice().to_vec(alloc)?)),
+        Err(Malformed) => Ok(None),
+    }
+}
+
+#[test]
+fn a_name_is_read_from_its_text(rt: HostRuntime) -> Result<(), Fail> {
+    let alloc = rt.alloc();
+    for (text, octets) in [
+        (".", Some(b"\x00".as_slice())),
+        ("example.com.", Some(b"\x07example\x03com\x00")),
+        (
+            "a\\.b\\\\\\\".\\000\\032\\127\\255.",
+            Some(b"\x05a.b\\\"\x04\x00 \x7F\xFF\x00"),
+        ),
+        ("\\a\\-\\097A.", Some(b"\x04a-aA\x00")),
+        ("", None),
+        ("a", None),
+        ("..", None),
+        (".a.", None),
+        ("a..", None),
+        ("a.b", None),
+        ("a b.", None),
+        ("a\".", None),
+        ("\\", None),
+        ("\\.", None),
+        ("\\1.", None),
+        ("\\12.", None),
+        ("\\1a2.", None),
+        ("\\256.", None),
+        ("\\999.", None),
+        ("é.", None),
+    ] {
+        let wire = wire_of(alloc, text)?;
+        assert_equal!(&rt, wire.as_ref().map(|wire| wire.as_slice()), octets);
+    }
+    Ok(())
+}
+
+#[test]
+fn the_text_of_a_name_has_its_limits(rt: HostRuntime) -> Result<(), Fail> {
+    let alloc = rt.alloc();
+    for (first, last, read) in [
+        (63, 61, true),
+        (63, 62, false),
+        (64, 1, false),
+        (1, 64, false),
+    ] {
+        let mut text = String::new(alloc);
+        for len in [63, 63, first, last] {
+            for _ in 0..len {
+                text.push('a')?;
+            }
+            text.push('.')?;
+        }
+        assert_equal!(&rt, Name::from_text(text.as_str()).is_ok(), read);
+    }
+    Ok(())
 }
