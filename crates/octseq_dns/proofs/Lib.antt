@@ -8,5 +8,8 @@ pub mod Messages
 pub mod Names
 pub mod Places
 pub mod Rows
+pub mod SpellingSteps
+pub mod Spellings
 pub mod Strings
 pub mod Texts
+pub mod Wires

@@ -17,12 +17,15 @@ pub mod OneString
 pub mod Opt
 pub mod Order
 pub mod OrderLaws
+pub mod Owned
 pub mod Parsed
 pub mod Piece
 pub mod Read
 pub mod Said
+pub mod Spelling
 pub mod Text
 pub mod TextFront
 pub mod Txt
 pub mod Typed
 pub mod Walk
+pub mod Wire

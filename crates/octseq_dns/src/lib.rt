@@ -20,5 +20,5 @@ pub use error::Malformed;
 pub use header::{Flags, Header};
 pub use iana::{Class, Opcode, Rcode, Rtype};
 pub use message::{Message, Question, Record};
-pub use name::ParsedName;
+pub use name::{Name, ParsedName};
 pub use ttl::Ttl;

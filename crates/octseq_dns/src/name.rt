@@ -14,10 +14,15 @@ use std::alloc::AllocError;
 
 mod compare;
 mod labels;
+mod owned;
+mod spelling;
 mod step;
 pub(crate) mod text;
+mod wire;
 
 pub use crate::name::labels::{Label, Labels};
+pub use crate::name::owned::Name;
+pub use crate::name::text::one_name_of_a_text;
 
 /// How many octets a name may have in wire form: RFC 1035, 2.3.4.
 const NAME_MOST: usize = 255;

@@ -79,6 +79,7 @@ mod dns_data;
 mod errors;
 mod habits;
 mod integers;
+mod names;
 mod refused;
 mod runs;
 mod text;

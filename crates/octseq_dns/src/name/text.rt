@@ -1,12 +1,22 @@
 //! The text of names.
-ghost use Rattle.std.specs.Prelude.{◌≡◌, ◌<◌, ◌+◌, [], ◌∷◌, Some};
+ghost use Rattle.std.specs.Prelude.{◌≡◌, ℕ, ◌<◌, ◌+◌, List, [], ◌∷◌, Some};
 ghost use Rattle.std.specs.Fmt.{WritesOnOk};
 ghost use Rattle.octseq_dns.specs.Read.{labels_of, label_octets};
+ghost use Rattle.octseq_dns.specs.Spelling.{SpellsName};
+ghost use Rattle.octseq_dns.specs.Wire.{AreLabels};
 ghost use Rattle.octseq_dns.specs.Text.{is_quoted, three_digits, octet_text, label_text, labels_text, name_text};
 
 use crate::name::{Label, ParsedName};
 use octseq::AsOctets;
 use std::fmt;
+
+/// A text spells one name at most.
+///
+/// It does nothing. A caller that calls it has the law in its proof.
+pub fn one_name_of_a_text()
+    ensures { (labels others : List (List ℕ)) (text : List ℕ) → AreLabels labels → AreLabels others
+        → SpellsName labels text → SpellsName others text → labels ≡ others }
+{}
 
 /// Prints the octets of the label: each of `"().;\@$` behind a backslash, each other one of 21 to 7E (hexadecimal) as
 /// itself, and any other as a backslash and three decimal digits.
@@ -52,7 +62,7 @@ fn write_octet<W: fmt::Write>(f: &mut fmt::Formatter<W>, octet: u8) -> fmt::Resu
 }
 
 /// Whether an octet that is visible is written behind a backslash.
-fn needs_backslash(octet: u8) -> bool
+pub(crate) fn needs_backslash(octet: u8) -> bool
     ensures { result ≡ is_quoted octet }
 {
     matches!(

@@ -1,0 +1,240 @@
+//! Names of DNS as text, and how they compare.
+use super::{Case, over_each};
+use octseq::{AppendError, Array, Octets, Parser, ShortBuf};
+use octseq_dns::{Malformed, Name, ParsedName};
+use std::alloc::{AllocGlobal, Global};
+use std::cmp::Ordering;
+use std::hash::{DefaultHasher, Hash, Hasher};
+use std::process::Abort;
+use std::test::Fail;
+
+/// The text of the name at the octets' front.
+fn text_of(alloc: Global, octets: &[u8]) -> Result<String, Fail> {
+    let name = ParsedName::parse(&mut Parser::from_ref(octets))?;
+    Ok(format!(in alloc; "{name}")?)
+}
+
+#[test]
+fn a_name_shows_with_escapes(rt: HostRuntime) -> Result<(), Fail> {
+    for (octets, text) in [
+        (b"\x00".as_slice(), "."),
+        (b"\x07example\x03com\x00", "example.com."),
+        (
+            b"\x05a.b\\\"\x04\x00 \x7F\xFF\x00",
+            "a\\.b\\\\\\\".\\000\\032\\127\\255.",
+        ),
+        (b"\x08\"().;\\@$\x00", "\\\"\\(\\)\\.\\;\\\\\\@\\$."),
+        (b"\x06!#/~%Z\x00", "!#/~%Z."),
+        (b"\x04\x1F\x80\x99\xC8\x00", "\\031\\128\\153\\200."),
+    ] {
+        assert_equal!(&rt, text_of(rt.alloc(), octets)?.as_str(), text);
+    }
+    Ok(())
+}
+
+/// How two names compare, and whether they are equal.
+fn compared(one: &[u8], other: &[u8]) -> Result<(Ordering, bool), Fail> {
+    let name = ParsedName::parse(&mut Parser::from_ref(one))?;
+    let other_name = ParsedName::parse(&mut Parser::from_ref(other))?;
+    Ok((name.name_cmp(&other_name), name.name_eq(&other_name)))
+}
+
+#[test]
+fn names_have_the_canonical_order(rt: HostRuntime) -> Result<(), Fail> {
+    let names = [
+        b"\x07example\x00".as_slice(),
+        b"\x01a\x07example\x00",
+        b"\x08yljkjljk\x01a\x07example\x00",
+        b"\x01Z\x01a\x07example\x00",
+        b"\x04zABC\x01a\x07EXAMPLE\x00",
+        b"\x01z\x07example\x00",
+        b"\x01\x01\x01z\x07example\x00",
+        b"\x01*\x01z\x07example\x00",
+        b"\x01\xC8\x01z\x07example\x00",
+    ];
+    for (place, one) in names.iter().enumerate() {
+        for (other_place, other) in names.iter().enumerate() {
+            let wanted = (place.cmp(&other_place), place == other_place);
+            assert_equal!(&rt, compared(one, other)?, wanted);
+        }
+    }
+    Ok(())
+}
+
+#[test]
+fn ascii_letters_alone_have_two_cases(rt: HostRuntime) -> Result<(), Fail> {
+    for (one, other, wanted) in [
+        (b"\x00".as_slice(), b"\x00".as_slice(), Ordering::Equal),
+        (b"\x03wWw\x00", b"\x03WwW\x00", Ordering::Equal),
+        (b"\x02AZ\x00", b"\x02az\x00", Ordering::Equal),
+        (b"\x01@\x00", b"\x01`\x00", Ordering::Less),
+        (b"\x01[\x00", b"\x01{\x00", Ordering::Less),
+        (b"\x01\xC0\x00", b"\x01\xE0\x00", Ordering::Less),
+        (b"\x02ab\x00", b"\x01a\x01b\x00", Ordering::Less),
+        (b"\x01b\x00", b"\x02aa\x00", Ordering::Greater),
+    ] {
+        let equal = wanted == Ordering::Equal;
+        assert_equal!(&rt, compared(one, other)?, (wanted, equal));
+        assert_equal!(&rt, compared(other, one)?, (wanted.reverse(), equal));
+    }
+    Ok(())
+}
+
+/// What a name is hashed to.
+fn hash_of<T: Hash>(value: &T) -> u64 {
+    let mut hasher = DefaultHasher::new();
+    value.hash(&mut hasher);
+    hasher.finish()
+}
+
+#[derive(Drop)]
+struct IsOneName;
+
+impl Case for IsOneName {
+    fn holds<H: Abort + AllocGlobal, R: Octets + Copy>(
+        &self,
+        rt: &H,
+        octets: R,
+    ) -> Result<(), Fail> {
+        let mut parser = Parser::from_ref(octets);
+        let name = ParsedName::parse(&mut parser)?;
+        let same = ParsedName::parse(&mut parser)?;
+        let other = ParsedName::parse(&mut parser)?;
+        assert_equal!(rt, (name == same, name == other), (true, false));
+        assert_equal!(
+            rt,
+            (name.cmp(&same), name.cmp(&other)),
+            (Ordering::Equal, Ordering::Less)
+        );
+        assert_equal!(rt, (name < same, name < other), (false, true));
+        assert_equal!(rt, hash_of(&name), hash_of(&same));
+        for (label, other_label) in name.labels().zip(same.labels()) {
+            assert_equal!(
+                rt,
+                (label == other_label, label.cmp(&other_label)),
+                (true, Ordering::Equal)
+            );
+            assert_equal!(rt, hash_of(&label), hash_of(&other_label));
+        }
+        assert_equal!(rt, format!(in rt.alloc(); "{name}")?.as_str(), "wWw.A.");
+        Ok(())
+    }
+}
+
+#[test]
+fn names_of_one_message_compare(rt: HostRuntime) -> Result<(), Fail> {
+    over_each(
+        &rt,
+        &IsOneName,
+        b"\x03wWw\x01A\x00\x03WWW\x01a\x00\x01x\xC0\x04",
+    )
+}
+
+#[derive(Drop)]
+struct IsCopied;
+
+impl Case for IsCopied {
+    fn holds<H: Abort + AllocGlobal, R: Octets + Copy>(
+        &self,
+        rt: &H,
+        octets: R,
+    ) -> Result<(), Fail> {
+        let mut parser = Parser::from_ref(octets);
+        let root = ParsedName::parse(&mut parser)?.try_to_name::<Array<1>>(rt.alloc())?;
+        let first = ParsedName::parse(&mut parser)?.try_to_name::<Vec<u8>>(rt.alloc())?;
+        let name = ParsedName::parse(&mut parser)?;
+        let copy = name.try_to_name::<Vec<u8>>(rt.alloc())?;
+        assert_equal!(rt, (root.is_root(), copy.is_root()), (true, false));
+        assert_equal!(
+            rt,
+            (copy.len(), copy.label_count(), copy.labels().count()),
+            (13, 2, 2)
+        );
+        assert_equal!(rt, copy.as_slice(), b"\x03www\x07example\x00".as_slice());
+        assert_equal!(rt, copy.parsed().name_eq(&name), true);
+        assert_equal!(
+            rt,
+            (first == copy, first < copy, first.cmp(&first)),
+            (false, true, Ordering::Equal)
+        );
+        assert_equal!(rt, hash_of(&copy), hash_of(&name));
+        assert_equal!(
+            rt,
+            format!(in rt.alloc(); "{root} {copy}")?.as_str(),
+            ". www.example."
+        );
+        let held = name.try_to_name::<Array<13>>(rt.alloc())?.into_octets();
+        assert_equal!(rt, held.as_slice(), copy.as_slice());
+        let refused = name.try_to_name::<Array<12>>(rt.alloc()).err();
+        assert_equal!(rt, refused, Some(AppendError::Short(ShortBuf)));
+        Ok(())
+    }
+}
+
+#[test]
+fn a_name_is_copied_with_its_octets(rt: HostRuntime) -> Result<(), Fail> {
+    over_each(&rt, &IsCopied, b"\x00\x07example\x00\x03www\xC0\x01")
+}
+
+/// The plain wire form of the name that a text spells, if it spells one.
+fn wire_of(alloc: Global, text: &str) -> Result<Option<Vec<u8>>, Fail> {
+    match Name::from_text(text) {
+        Ok(name) => Ok(Some(name.as_slice().to_vec(alloc)?)),
+        Err(Malformed) => Ok(None),
+    }
+}
+
+#[test]
+fn a_name_is_read_from_its_text(rt: HostRuntime) -> Result<(), Fail> {
+    let alloc = rt.alloc();
+    for (text, octets) in [
+        (".", Some(b"\x00".as_slice())),
+        ("example.com.", Some(b"\x07example\x03com\x00")),
+        (
+            "a\\.b\\\\\\\".\\000\\032\\127\\255.",
+            Some(b"\x05a.b\\\"\x04\x00 \x7F\xFF\x00"),
+        ),
+        ("\\a\\-\\097A.", Some(b"\x04a-aA\x00")),
+        ("", None),
+        ("a", None),
+        ("..", None),
+        (".a.", None),
+        ("a..", None),
+        ("a.b", None),
+        ("a b.", None),
+        ("a\".", None),
+        ("\\", None),
+        ("\\.", None),
+        ("\\1.", None),
+        ("\\12.", None),
+        ("\\1a2.", None),
+        ("\\256.", None),
+        ("\\999.", None),
+        ("é.", None),
+    ] {
+        let wire = wire_of(alloc, text)?;
+        assert_equal!(&rt, wire.as_ref().map(|wire| wire.as_slice()), octets);
+    }
+    Ok(())
+}
+
+#[test]
+fn the_text_of_a_name_has_its_limits(rt: HostRuntime) -> Result<(), Fail> {
+    let alloc = rt.alloc();
+    for (first, last, read) in [
+        (63, 61, true),
+        (63, 62, false),
+        (64, 1, false),
+        (1, 64, false),
+    ] {
+        let mut text = String::new(alloc);
+        for len in [63, 63, first, last] {
+            for _ in 0..len {
+                text.push('a')?;
+            }
+            text.push('.')?;
+        }
+        assert_equal!(&rt, Name::from_text(text.as_str()).is_ok(), read);
+    }
+    Ok(())
+}
