@@ -14,10 +14,7 @@ use octseq_core::builder::{AppendError, OctetsBuilder, Truncate};
 /// How many octets are gathered.
 pub(super) const STAGE: usize = 512;
 
-/// More octets than these are appended as they are.
-const SHORT: usize = 32;
-
-/// Appends octets behind those that are staged, or stages them too.
+/// Stages the octets where there is room, and else appends what is staged and then them.
 #[inline(always)]
 pub(super) fn append_staged<B: OctetsBuilder>(
     builder: &mut B,
@@ -32,7 +29,7 @@ pub(super) fn append_staged<B: OctetsBuilder>(
     ensures memory { IsMemory append_error result → B.asks ≡ true }
     ensures borrows { B.borrows builder.new ≡ B.borrows builder.old }
 {
-    if octets.len() <= SHORT && append_encoding(staged, octets).is_ok() {
+    if append_encoding(staged, octets).is_ok() {
         return Ok(());
     }
     append_stage(builder, staged)?;

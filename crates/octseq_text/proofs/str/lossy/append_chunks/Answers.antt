@@ -86,3 +86,14 @@ returns-in_err-append_chunk-2-clause-turns g c =
     let counted = c.in-Some.ensures.turns _ _ (splits _) (splits _) in
     let before = c.loop-chunk.invariant.turns in
     omega arith
+
+pub returns-clause-text : goal.returns-clause-text
+returns-clause-text g c =
+    let made = all_made c.args.replacement _ _ c.loop-chunk.rest c.loop-chunk.invariant.text c.in_default.ensures.gives.0 in
+    rw (← made) c.append_stage.ensures.text
+
+pub returns-clause-turns : goal.returns-clause-turns
+returns-clause-turns g c =
+    let counted = c.in_default.ensures.turns _ _ (splits _) (splits _) in
+    let before = c.loop-chunk.invariant.turns in
+    omega arith
