@@ -1,5 +1,5 @@
--- What stands at a window's position, and the window behind it: the words in which RFC 1035 lays out a message (sections 2.3.2
--- and 4.1).
+-- What stands at a window's position, and the window behind it: the words in which RFC 1035 lays out a message
+-- (sections 2.3.2 and 4.1).
 use Rattle.std.specs.Prelude.{◌≡◌, ℕ, ◌≤◌, List, [], ◌∷◌, length}
 use Rattle.octseq.specs.Integer.{be}
 use Rattle.octseq.specs.Part.{HasPart, part, past_part}
@@ -15,7 +15,8 @@ abbrev pub IsData : Window → Window → Window → Type 0
 IsData w inside v = HasPart 2 w × (inside ≡ part 2 w) × (v ≡ past_part 2 w)
 
 -- one thing, and another behind it
-abbrev pub ◌then◌ : {A B : Type 0} → (Window → A → Window → Type 0) → (Window → B → Window → Type 0) → Window → A × B → Window → Type 0
+abbrev pub ◌then◌ : {A B : Type 0} → (Window → A → Window → Type 0) → (Window → B → Window → Type 0)
+    → Window → A × B → Window → Type 0
 (First then Second) w both v = (u : Window) × First w both.0 u × Second u both.1 v
 
 -- things of one kind, one behind another

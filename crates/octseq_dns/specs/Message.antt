@@ -12,10 +12,12 @@ Sections = List Question × (List Record × (List Record × List Record))
 
 -- as many of each as a header counts, one section behind another
 abbrev pub AreSections : Header → Window → Sections → Window → Type 0
-AreSections h = Many h.qdcount IsQuestion then Many h.ancount IsRecord then Many h.nscount IsRecord then Many h.arcount IsRecord
+AreSections h = Many h.qdcount IsQuestion then Many h.ancount IsRecord
+    then Many h.nscount IsRecord then Many h.arcount IsRecord
 
 -- The octets are a message, of at most 65,535 octets: a header, the sections, and nothing behind them.
-pub record IsMessage (octets : List ℕ) (header : Header) (questions : List Question) (answers authorities additionals : List Record) : Type 0 where
+pub record IsMessage (octets : List ℕ) (header : Header) (questions : List Question)
+    (answers authorities additionals : List Record) : Type 0 where
   pub size : length octets ≤ 65535
   pub past_header : Window
   pub header_is : IsHeader (whole octets) header past_header

@@ -22,8 +22,8 @@ pub record HasLabel (w : Window) (label : List ℕ) (v : Window) : Type 0 where
   pub octets : label ≡ next (octet w) (past 1 w)
   pub behind : v ≡ past (octet w) (past 1 w)
 
--- A pointer: an octet of 192 or more, and one more. What they say above 192 * 256 is a place, counted from the message's first octet. It
--- is before `start`.
+-- A pointer: an octet of 192 or more, and one more. What they say above 192 * 256 is a place, counted from the
+-- message's first octet. It is before `start`.
 pub record HasPointer (start : ℕ) (w : Window) (to : ℕ) (v : Window) : Type 0 where
   pub room : 2 ≤ left w
   pub mark : 192 ≤ octet w
@@ -31,9 +31,10 @@ pub record HasPointer (start : ℕ) (w : Window) (to : ℕ) (v : Window) : Type 
   pub before : to < start
   pub behind : v ≡ past 2 w
 
--- The labels that stand at a window's position, how many pointers lead on, and the window behind them all. They end with the root; or a
--- label stands there, and behind it the rest; or a pointer does, and where it points the rest. Reading goes on behind the first pointer.
--- A pointer points before the place where the part of the name that has it began, which is `start`.
+-- The labels that stand at a window's position, how many pointers lead on, and the window behind them all. They end
+-- with the root; or a label stands there, and behind it the rest; or a pointer does, and where it points the rest.
+-- Reading goes on behind the first pointer. A pointer points before the place where the part of the name that has it
+-- began, which is `start`.
 pub data Stands : ℕ → Window → List (List ℕ) → ℕ → Window → Type 0 where
   root : {start : ℕ} {w v : Window} → HasRoot w v → Stands start w [] 0 v
   label : {start pointers : ℕ} {w u v : Window} {l : List ℕ} {labels : List (List ℕ)}
@@ -46,8 +47,8 @@ abbrev pub wire_length : List (List ℕ) → ℕ
 wire_length [] = 1
 wire_length (l ∷ labels) = 1 + length l + wire_length labels
 
--- A name stands at a window's position: its labels, of at most 255 octets in wire form, through at most 127 pointers; and the window
--- behind it.
+-- A name stands at a window's position: its labels, of at most 255 octets in wire form, through at most 127 pointers;
+-- and the window behind it.
 pub record IsName (w : Window) (labels : List (List ℕ)) (v : Window) : Type 0 where
   pub pointers : ℕ
   pub stands : Stands w.position w labels pointers v

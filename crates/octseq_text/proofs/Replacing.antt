@@ -1,5 +1,5 @@
 -- The replacing of bad parts, chunk by chunk.
-use Rattle.std.proofs.Common.{◌≡◌, ℕ, Option, List, [], ◌++◌, length, Result, Ok, Err, OnErr, refl, ap, sym, ◌∙◌, arith, append_assoc, length-append}
+use Rattle.std.proofs.Common.{◌≡◌, ℕ, Option, List, [], ◌++◌, length, refl, ap, sym, ◌∙◌, arith, append_assoc, length-append}
 use Rattle.std.proofs.lemmas.List.{append-nil}
 use Rattle.octseq_core.specs.Limit.{IsPast}
 use Rattle.octseq_core.proofs.Limits.{past_more}
@@ -28,10 +28,6 @@ chunk_short limit w content valid invalid mark later m past =
 -- a front of a front
 pub front_then : (a b c : List ℕ) → IsFront a b → IsFront b c → IsFront a c
 front_then a b c f g = (f.0 ++ g.0, g.1 ∙ ap (λ y. y ++ g.0) f.1 ∙ append_assoc a f.0 g.0)
-
-pub front_then_err : {T E : Type 0} (r : Result T E) (a b c : List ℕ) → IsFront a b → OnErr r (IsFront b c) → OnErr r (IsFront a c)
-front_then_err (Ok x) a b c f g = tt
-front_then_err (Err e) a b c f g = front_then a b c f g
 
 -- a text with one more chunk is no longer than the whole
 pub grown_short : (limit : Option ℕ) (w : ℕ) (x made all : List ℕ) (chunk : Chunk) (behind mark : List ℕ) → made ++ text_with w (parts_of x) ≡ all → IsFirstChunk x chunk behind

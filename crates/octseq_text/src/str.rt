@@ -9,6 +9,7 @@ mod error;
 mod laws;
 mod lossy;
 mod pieces;
+mod staged;
 mod text;
 
 pub use builder::StrBuilder;

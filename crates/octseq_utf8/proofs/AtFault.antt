@@ -3,14 +3,13 @@ use Rattle.std.proofs.Common.{◌≡◌, ℕ, ◌+◌, ◌-◌, ◌<◌, ◌≤�
 use Rattle.std.specs.Prelude.{unwrap_or}
 use Rattle.std.proofs.lemmas.List.{length-map}
 use Rattle.std.proofs.Math.Seq.{take-append_seam, drop-append_seam}
-use Rattle.octseq_utf8.specs.Encoding.{encoding_of}
 use Rattle.octseq_utf8.specs.Fault.{Fault, IsFault, IsFaultSize, fault_end}
-use Rattle.octseq_utf8.specs.Parts.{Char, Bad, text_with}
+use Rattle.octseq_utf8.specs.Parts.{Char, Bad}
 use Rattle.octseq_utf8.specs.Reading.{parts_of}
 use Rattle.octseq_utf8.specs.Text.{IsWellFormed, chars}
 use Rattle.octseq_utf8.proofs.Spelling.{chars_of}
 use Rattle.octseq_utf8.proofs.Splitting.{bad_some}
-use Rattle.octseq_utf8.proofs.Joins.{parts_fault, parts_spelled, text_fault, text_spelled}
+use Rattle.octseq_utf8.proofs.Joins.{parts_fault, parts_spelled}
 
 module _ (rest : List ℕ) (fault : Fault) (f : IsFault rest fault) where
   whole_length : length rest ≡ fault.place + (length f.bad + length f.after)
@@ -39,13 +38,6 @@ module _ (rest : List ℕ) (fault : Fault) (f : IsFault rest fault) where
       let long : fault_end rest fault ≡ length (f.before ++ f.bad) = let place = f.place in omega (arith, end_is, length-append f.before f.bad) in
       ap (λ n. drop n rest) long ∙ ap (λ x. drop (length (f.before ++ f.bad)) x) cut ∙ drop-append_seam (f.before ++ f.bad) f.after
 
-  -- the text is what lies before the fault, the replacement, and the text of what lies behind
-  pub text_at_fault : (w : ℕ) → text_with w (parts_of rest) ≡ take fault.place rest ++ (encoding_of w ++ text_with w (parts_of (drop (fault_end rest fault) rest)))
-  text_at_fault w =
-      ap (λ x. text_with w (parts_of x)) f.whole ∙ text_fault w f.good.1 f.bad f.after f.first
-      ∙ ap (λ y. y ++ (encoding_of w ++ text_with w (parts_of f.after))) (sym front_is)
-      ∙ ap (λ y. take fault.place rest ++ (encoding_of w ++ text_with w (parts_of y))) (sym behind_is)
-
   -- the parts are the characters before it, the bad part, and those behind
   pub parts_at_fault : length (parts_of rest) ≡ length (chars (take fault.place rest)) + 1 + length (parts_of (drop (fault_end rest fault) rest))
   parts_at_fault =
@@ -57,7 +49,3 @@ module _ (rest : List ℕ) (fault : Fault) (f : IsFault rest fault) where
 -- of well-formed octets the parts are the characters
 pub parts_well_formed : (x : List ℕ) → IsWellFormed x → length (parts_of x) ≡ length (chars x)
 parts_well_formed x (cs, s) = ap length (parts_spelled s) ∙ length-map cs Char ∙ sym (ap length (chars_of s))
-
--- and the text is those octets
-pub text_well_formed_is : (w : ℕ) (x : List ℕ) → IsWellFormed x → text_with w (parts_of x) ≡ x
-text_well_formed_is w x (cs, s) = text_spelled w s

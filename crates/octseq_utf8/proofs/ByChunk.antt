@@ -1,5 +1,5 @@
 -- Octets by their chunks: splittings, texts, turns.
-use Rattle.std.proofs.Common.{Bool, true, false, ◌≡◌, ◌≢◌, ℕ, ◌+◌, ◌-◌, ◌≤◌, ◌⊎◌, inl, inr, List, [], ◌∷◌, ◌++◌, map, length, take, slice_range, refl, arith, ap, sym, ◌∙◌, subst, append_assoc, length-append}
+use Rattle.std.proofs.Common.{Bool, true, false, ◌≡◌, ◌≢◌, ℕ, ◌+◌, ◌-◌, ◌≤◌, ◌⊎◌, inl, inr, List, [], ◌∷◌, ◌++◌, map, length, take, slice_range, refl, arith, ap, sym, ◌∙◌, subst, append_assoc}
 use Rattle.std.specs.List.{flat_map}
 use Rattle.std.specs.Prelude.{Option, Some, None, ◌↔◌, IsTrue, is_some, not}
 use Rattle.std.proofs.Math.Seq.{take-append_seam}
@@ -72,10 +72,6 @@ pub mark_some : (mark bad : List ℕ) → 1 ≤ length bad → mark_of mark bad 
 mark_some mark [] h = absurd (omega arith)
 mark_some mark (b ∷ bad) h = refl
 
-pub mark_none : (mark bad : List ℕ) → length bad ≡ 0 → mark_of mark bad ≡ []
-mark_none mark [] h = refl
-mark_none mark (b ∷ bad) h = absurd (omega arith)
-
 parts_some : (bad : List ℕ) → 1 ≤ length bad → bad_parts bad ≡ Bad bad ∷ []
 parts_some [] h = absurd (omega arith)
 parts_some (b ∷ bad) h = refl
@@ -135,11 +131,6 @@ no_whole_text x chunk behind c some good = go c.bad
     go : ((chunk.invalid ≡ []) × (behind ≡ [])) ⊎ IsBadPart (chunk.invalid ++ behind) chunk.invalid → ⊥
     go (inl end) = absurd (omega (arith, ap length end.0))
     go (inr bad) = no_bad c.good.0 good.0 chunk.invalid (parts_of behind) (sym (ap parts_of c.whole ∙ parts_fault c.good.1 chunk.invalid behind bad) ∙ parts_spelled good.1)
-
--- the parts of the first chunk are counted with those behind it
-pub count_at_chunk : (x : List ℕ) (chunk : Chunk) (behind : List ℕ) → IsFirstChunk x chunk behind
-    → length (parts_of x) ≡ length (chunk_parts chunk) + length (parts_of behind)
-count_at_chunk x chunk behind c = ap length (parts_at_chunk x chunk behind c) ∙ length-append (chunk_parts chunk) (parts_of behind)
 
 -- the chunks of octets are their one splitting
 

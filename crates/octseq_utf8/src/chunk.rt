@@ -78,6 +78,7 @@ pub fn chunks(octets: &[u8]) -> Utf8Chunks<'_>
 impl<'a> Utf8Chunks<'a> {
     /// The next chunk, or `None` where nothing is left. Counts the turns of the search: at most one for each
     /// part of the chunk, and at least one for every sixteen octets of it.
+    #[inline(always)]
     pub fn next_counted(&mut self, turns: &mut Turns) -> Option<Utf8Chunk<'a>>
         ensures gives { GivesChunk self.old result self.new }
         ensures turns { (parts rest : List Part) → Splits self.old parts → Splits self.new rest
@@ -103,6 +104,7 @@ impl<'a> Utf8Chunks<'a> {
 }
 
 /// The chunk of octets that are a text.
+#[inline(always)]
 fn last_chunk(octets: &[u8]) -> Utf8Chunk<'_>
     requires { IsWellFormed octets.now }
     ensures { result ≡ record { valid = octets.now; invalid = []; incomplete = false } }
@@ -115,6 +117,7 @@ fn last_chunk(octets: &[u8]) -> Utf8Chunk<'_>
 }
 
 /// The chunk that ends with the fault.
+#[inline(always)]
 fn chunk_to<'a>(octets: &'a [u8], fault: &Utf8Fault) -> Utf8Chunk<'a>
     requires { IsFault octets.now fault.now }
     ensures { IsFirstChunk octets.now result (drop (fault_end octets.now fault.now) octets.now) }
@@ -128,6 +131,7 @@ fn chunk_to<'a>(octets: &'a [u8], fault: &Utf8Fault) -> Utf8Chunk<'a>
 }
 
 /// The ill-formed part at the fault.
+#[inline(always)]
 fn bad_part<'a>(octets: &'a [u8], fault: &Utf8Fault) -> &'a [u8]
     requires { IsFault octets.now fault.now }
     ensures { result.now ≡ slice_range octets.now fault.now.place (fault_end octets.now fault.now) }

@@ -53,7 +53,8 @@ impl Utf8Fault {
 }
 
 /// The octets before a fault.
-pub fn before<'a>(octets: &'a [u8], fault: &Utf8Fault) -> &'a [u8]
+#[inline(always)]
+pub(crate) fn before<'a>(octets: &'a [u8], fault: &Utf8Fault) -> &'a [u8]
     requires { fault.now.place ≤ length octets.now }
     ensures { result.now ≡ take fault.now.place octets.now }
 {
@@ -61,7 +62,8 @@ pub fn before<'a>(octets: &'a [u8], fault: &Utf8Fault) -> &'a [u8]
 }
 
 /// The octets from a fault on.
-pub fn onward<'a>(octets: &'a [u8], fault: &Utf8Fault) -> &'a [u8]
+#[inline(always)]
+pub(crate) fn onward<'a>(octets: &'a [u8], fault: &Utf8Fault) -> &'a [u8]
     requires { fault.now.place ≤ length octets.now }
     ensures { result.now ≡ drop fault.now.place octets.now }
 {
@@ -69,7 +71,8 @@ pub fn onward<'a>(octets: &'a [u8], fault: &Utf8Fault) -> &'a [u8]
 }
 
 /// The octets behind a fault.
-pub fn behind<'a>(octets: &'a [u8], fault: &Utf8Fault) -> &'a [u8]
+#[inline(always)]
+pub(crate) fn behind<'a>(octets: &'a [u8], fault: &Utf8Fault) -> &'a [u8]
     requires place { fault.now.place ≤ length octets.now }
     requires end { fault_end octets.now fault.now ≤ length octets.now }
     ensures { result.now ≡ drop (fault_end octets.now fault.now) octets.now }

@@ -13,7 +13,7 @@ mod turns;
 mod words;
 
 pub use chunk::{Utf8Chunk, Utf8Chunks, chunks};
-pub use fault::{Utf8Fault, before, behind, onward};
+pub use fault::Utf8Fault;
 pub use finder::{find_fault, first_fault, is_continuation};
 pub use laws::{
     chunks_are_parts, lossy_text, one_encoding, one_fault, one_spelling, one_splitting, same_in_std,

@@ -48,7 +48,7 @@ impl Turns {
 
     /// Counts so many turns, at no time.
     #[inline(always)]
-    pub fn pass(&mut self, count: usize)
+    pub(crate) fn pass(&mut self, count: usize)
         ensures { self.new ≡ self.old + count }
     {
         for _ in 0..count {

@@ -352,7 +352,7 @@ impl<Octets: AsOctets> StrBuilder<Octets> {
 
 /// Appends the octets of one character, by a copy whose size is known where it is compiled.
 #[inline(always)]
-fn append_encoding<Builder: OctetsBuilder>(
+pub(super) fn append_encoding<Builder: OctetsBuilder>(
     builder: &mut Builder,
     encoding: &[u8],
 ) -> Result<(), AppendError>

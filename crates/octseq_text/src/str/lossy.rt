@@ -13,7 +13,9 @@ ghost use Rattle.octseq_text.specs.Lossy.{ReadsLossily};
 ghost use Rattle.octseq_utf8.specs.Text.{IsWellFormed};
 
 use super::builder::StrBuilder;
+use super::staged::{STAGE, append_stage, append_staged};
 use crate::utf8::{Turns, Utf8Chunk, Utf8Chunks, chunks};
+use octseq_core::array::Array;
 use octseq_core::builder::{AppendError, AsOctets, EmptyBuilder, OctetsBuilder, OctetsLimit};
 use std::alloc::{AllocError, Global};
 
@@ -31,7 +33,8 @@ impl<Octets: AsOctets> StrBuilder<Octets> {
     pub fn try_from_utf8_lossy(alloc: Global, octets: Octets) -> Result<Self, AppendError>
     where
         Octets: EmptyBuilder,
-        ensures answer { ReadsLossily append_error Octets.limit ((Octets.asks ≡ true) × ¬ IsWellFormed (Octets.content octets))
+        ensures answer { ReadsLossily append_error Octets.limit
+            ((Octets.asks ≡ true) × ¬ IsWellFormed (Octets.content octets))
             0xFFFD [] (Octets.content octets) Octets.content result }
         // Well-formed octets are handed back.
         ensures same { IsWellFormed (Octets.content octets) → result ≡ Ok octets }
@@ -54,7 +57,8 @@ impl<Octets: AsOctets> StrBuilder<Octets> {
     where
         Octets: EmptyBuilder,
         // What every lossy reading answers. The clauses below say it at length.
-        ensures answer { ReadsLossily append_error Octets.limit ((Octets.asks ≡ true) × ¬ IsWellFormed (Octets.content octets))
+        ensures answer { ReadsLossily append_error Octets.limit
+            ((Octets.asks ≡ true) × ¬ IsWellFormed (Octets.content octets))
             0xFFFD [] (Octets.content octets) Octets.content result }
 
         // Exactly one list of parts splits the octets.
@@ -108,7 +112,8 @@ impl<Octets: AsOctets> StrBuilder<Octets> {
     where
         Octets: EmptyBuilder,
         requires { Octets.limit ≡ None }
-        ensures answer { ReadsLossily alloc_error Octets.limit ((Octets.asks ≡ true) × ¬ IsWellFormed (Octets.content octets))
+        ensures answer { ReadsLossily alloc_error Octets.limit
+            ((Octets.asks ≡ true) × ¬ IsWellFormed (Octets.content octets))
             0xFFFD [] (Octets.content octets) Octets.content result }
         // Well-formed octets are handed back.
         ensures same { IsWellFormed (Octets.content octets) → result ≡ Ok octets }
@@ -133,7 +138,8 @@ impl<Octets: AsOctets> StrBuilder<Octets> {
     ) -> Result<Self, AppendError>
     where
         Octets: EmptyBuilder,
-        ensures answer { ReadsLossily append_error Octets.limit ((Octets.asks ≡ true) × ¬ IsWellFormed (Octets.content octets))
+        ensures answer { ReadsLossily append_error Octets.limit
+            ((Octets.asks ≡ true) × ¬ IsWellFormed (Octets.content octets))
             replacement [] (Octets.content octets) Octets.content result }
         // Well-formed octets are handed back.
         ensures same { IsWellFormed (Octets.content octets) → result ≡ Ok octets }
@@ -156,7 +162,8 @@ impl<Octets: AsOctets> StrBuilder<Octets> {
     ) -> Result<Self, AppendError>
     where
         Octets: EmptyBuilder,
-        ensures answer { ReadsLossily append_error Octets.limit ((Octets.asks ≡ true) × ¬ IsWellFormed (Octets.content octets))
+        ensures answer { ReadsLossily append_error Octets.limit
+            ((Octets.asks ≡ true) × ¬ IsWellFormed (Octets.content octets))
             replacement [] (Octets.content octets) Octets.content result }
         // Well-formed octets are handed back.
         ensures same { IsWellFormed (Octets.content octets) → result ≡ Ok octets }
@@ -272,11 +279,11 @@ fn append_chunks<B: OctetsBuilder>(
     replacement: char,
     turns: &mut Turns,
 ) -> Result<(), AppendError>
-    ensures text { OnOk result (B.content builder.new
-        ≡ B.content builder.old ++ (chunk_text replacement first.entry ++ text_with replacement (parts_of rest.entry))) }
+    ensures text { OnOk result (B.content builder.new ≡ B.content builder.old
+        ++ (chunk_text replacement first.entry ++ text_with replacement (parts_of rest.entry))) }
     ensures front { OnErr result (IsFront (B.content builder.old) (B.content builder.new)) }
-    ensures short { IsShort append_error result → IsPast B.limit (length
-        (B.content builder.old ++ (chunk_text replacement first.entry ++ text_with replacement (parts_of rest.entry)))) }
+    ensures short { IsShort append_error result → IsPast B.limit (length (B.content builder.old
+        ++ (chunk_text replacement first.entry ++ text_with replacement (parts_of rest.entry)))) }
     ensures within { OnOk result (IsWithin B.limit (length (B.content builder.new))) }
     ensures memory { IsMemory append_error result → B.asks ≡ true }
     ensures borrows { B.borrows builder.new ≡ B.borrows builder.old }
@@ -286,32 +293,34 @@ fn append_chunks<B: OctetsBuilder>(
 {
     let mut encoded = [0; 4];
     let mark = replacement.encode_utf8(&mut encoded[..]).as_bytes();
+    let mut staged = Array::new();
     let mut rest = rest;
-    append_chunk(builder, &first, mark)?;
+    append_chunk(builder, &mut staged, &first, mark)?;
     while let Some(chunk) = rest.next_counted(turns) {
-        append_chunk(builder, &chunk, mark)?;
+        append_chunk(builder, &mut staged, &chunk, mark)?;
     }
-    Ok(())
+    append_stage(builder, &mut staged)
 }
 
-/// Appends the text of a chunk, with the mark in the place of its bad part.
+/// Appends the text of a chunk, with the mark in the place of its bad part, behind what is staged.
+#[inline(always)]
 fn append_chunk<B: OctetsBuilder>(
     builder: &mut B,
+    staged: &mut Array<STAGE>,
     chunk: &Utf8Chunk<'_>,
     mark: &[u8],
 ) -> Result<(), AppendError>
-    ensures text { OnOk result (B.content builder.new
-        ≡ B.content builder.old ++ (chunk.now.valid ++ mark_of mark.now chunk.now.invalid)) }
-    ensures front { OnErr result (IsFront (B.content builder.old) (B.content builder.new)) }
-    ensures short { IsShort append_error result → IsPast B.limit
-        (length (B.content builder.old ++ (chunk.now.valid ++ mark_of mark.now chunk.now.invalid))) }
-    ensures within { OnOk result (IsWithin B.limit (length (B.content builder.new))) }
+    ensures text { OnOk result (B.content builder.new ++ staged.new.content
+        ≡ (B.content builder.old ++ staged.old.content) ++ (chunk.now.valid ++ mark_of mark.now chunk.now.invalid)) }
+    ensures front { IsFront (B.content builder.old) (B.content builder.new) }
+    ensures short { IsShort append_error result → IsPast B.limit (length
+        ((B.content builder.old ++ staged.old.content) ++ (chunk.now.valid ++ mark_of mark.now chunk.now.invalid))) }
     ensures memory { IsMemory append_error result → B.asks ≡ true }
     ensures borrows { B.borrows builder.new ≡ B.borrows builder.old }
 {
-    builder.append_slice(chunk.valid().as_bytes())?;
+    append_staged(builder, staged, chunk.valid().as_bytes())?;
     if chunk.invalid().is_empty() {
         return Ok(());
     }
-    builder.append_slice(mark)
+    append_staged(builder, staged, mark)
 }

@@ -1,5 +1,4 @@
 use Rattle.std.proofs.Common.{◌≡◌, ◌+◌, ◌*◌, ◌≤◌, ◌++◌, length}
-use Rattle.octseq_core.specs.Limit.{IsWithin}
 use Rattle.octseq_utf8.specs.Chunk.{chunk_text}
 use Rattle.octseq_utf8.specs.Parts.{IsFront, text_with}
 use Rattle.octseq_utf8.specs.Reading.{parts_of}
@@ -7,10 +6,9 @@ use Rattle.octseq_text.proofs.str.lossy.append_chunks.Given as goal
 
 abbrev pub invariant-loop-chunk : goal.invariant-loop-chunk
 invariant-loop-chunk g l = record {
-  text : g.B.AsOctets.content l.builder ++ text_with l.fn.replacement (parts_of l.rest)
+  text : (g.B.AsOctets.content l.builder ++ l.staged.content) ++ text_with l.fn.replacement (parts_of l.rest)
       ≡ g.B.AsOctets.content l.fn.builder ++ (chunk_text l.fn.replacement l.fn.first ++ text_with l.fn.replacement (parts_of l.fn.rest));
   front : IsFront (g.B.AsOctets.content l.fn.builder) (g.B.AsOctets.content l.builder);
-  within : IsWithin g.B.AsOctets.limit (length (g.B.AsOctets.content l.builder));
   borrows : g.B.AsOctets.borrows l.builder ≡ g.B.AsOctets.borrows l.fn.builder;
   turns : l.turns + length (parts_of l.rest) ≤ l.fn.turns + length (parts_of l.fn.rest);
   passed : length l.fn.rest + 16 * l.fn.turns ≤ 16 * l.turns + length l.rest;

@@ -1,15 +1,14 @@
-use Rattle.std.proofs.Common.{rules, ◌≡◌, ◌≤◌, List, [], ◌++◌, length, refl, arith, ap, sym, ◌∙◌, subst}
+use Rattle.std.proofs.Common.{rules, ◌≡◌, ◌≤◌, [], ◌++◌, length, arith, ap, sym, ◌∙◌, subst}
 use Rattle.std.proofs.lemmas.Result.{err_from_is_err_and}
-use Rattle.octseq_core.specs.Limit.{IsWithin, IsPast}
+use Rattle.octseq_core.specs.Limit.{IsPast}
 use Rattle.octseq_core.proofs.Limits.{within_not_past}
 use Rattle.octseq_utf8.specs.Chunk.{IsFirstChunk, chunk_text}
 use Rattle.octseq_utf8.specs.Parts.{text_with}
 use Rattle.octseq_utf8.specs.Reading.{parts_of}
 use Rattle.octseq_utf8.specs.Text.{IsWellFormed}
-use Rattle.octseq_utf8.proofs.AtFault.{text_well_formed_is}
 use Rattle.octseq_utf8.proofs.Bridge.{from_scalar}
 use Rattle.octseq_utf8.proofs.ByChunk.{whole_text, no_whole_text, text_at_chunk}
-use Rattle.octseq_utf8.proofs.LossyTexts.{text_well_formed}
+use Rattle.octseq_utf8.proofs.LossyTexts.{text_same, text_well_formed}
 use Rattle.octseq_utf8.proofs.Splitting.{splits}
 use Rattle.octseq_text.proofs.Replacing.{nothing_added}
 use Rattle.octseq_text.proofs.str.lossy.read_with.Goals as goal
@@ -48,7 +47,7 @@ returns-then-is_empty-clause-text g c =
     let chunk = subst (λ y. IsFirstChunk y c.in-Some.first c.next_counted.new.self) whole c.in-Some.ensures.gives in
     let none : length c.in-Some.first.invalid ≡ 0 = search rules in
     let good = whole_text _ _ _ chunk none in
-    rw c.from_utf8_unchecked-then-is_empty.ensures (sym (text_well_formed_is c.args.replacement x good))
+    rw c.from_utf8_unchecked-then-is_empty.ensures (sym (text_same c.args.replacement x (parts_of x) good (splits x)))
 
 pub returns-then-is_empty-clause-past : goal.returns-then-is_empty-clause-past
 returns-then-is_empty-clause-past g c =
@@ -58,7 +57,7 @@ returns-then-is_empty-clause-past g c =
     let none : length c.in-Some.first.invalid ≡ 0 = search rules in
     let good = whole_text _ _ _ chunk none in
     λ p. absurd (within_not_past g.B.AsOctets.limit (length x) c.as_ref-content.ensures.within
-    (subst (λ y. IsPast g.B.AsOctets.limit (length y)) (text_well_formed_is c.args.replacement x good) p))
+    (subst (λ y. IsPast g.B.AsOctets.limit (length y)) (text_same c.args.replacement x (parts_of x) good (splits x)) p))
 
 pub returns-then-is_empty-clause-turns : goal.returns-then-is_empty-clause-turns
 returns-then-is_empty-clause-turns g c =
