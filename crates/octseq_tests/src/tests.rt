@@ -74,8 +74,9 @@ fn over_each<C: Case>(
 mod builders;
 mod composing;
 mod dns;
-mod dns_text;
 mod dns_data;
+mod dns_message;
+mod dns_text;
 mod errors;
 mod habits;
 mod integers;

@@ -1,0 +1,99 @@
+//! The text of whole messages, and a reader of messages as a caller writes it.
+use octseq::octets::Octets;
+use octseq::str::DisplayError;
+use octseq::{Array, AsOctets, StrBuilder};
+use octseq_dns::{Data, Malformed, Message};
+use std::alloc::{AllocGlobal, Global};
+use std::test::Fail;
+
+/// How many of the answers have an address of the name that is asked for.
+fn count_addresses<R: AsOctets + Copy>(octets: R) -> Result<usize, Malformed> {
+    let message = Message::parse(octets)?;
+    let mut count: usize = 0;
+    for question in message.questions() {
+        for answer in message.answers() {
+            if answer.owner().name_eq(&question.qname) {
+                match answer.data() {
+                    Data::A(_) | Data::Aaaa(_) => count = count.saturating_add(1),
+                    _ => {}
+                }
+            }
+        }
+    }
+    Ok(count)
+}
+
+/// What a message shows as.
+fn shown<R: Octets + Copy>(alloc: Global, octets: R) -> Result<StrBuilder<Vec<u8>>, Fail> {
+    let mut text = StrBuilder::<Vec<u8>>::new(alloc)?;
+    match Message::parse(octets) {
+        Ok(message) => message.append_text(&mut text)?,
+        Err(Malformed) => text.try_push_str("malformed\n")?,
+    }
+    Ok(text)
+}
+
+/// What is appended of a message to a text in an array, and the text behind it.
+fn appended<R: Octets + Copy>(
+    octets: R,
+    text: &mut StrBuilder<Array<64>>,
+) -> Result<Result<(), DisplayError>, Malformed> {
+    let message = Message::parse(octets)?;
+    Ok(message.append_text(text))
+}
+
+/// A question for `example.com.`, and an answer whose owner is a pointer to it.
+const ANSWERED: &[u8] = b"\x12\x34\x85\x80\x00\x01\x00\x01\x00\x00\x00\x00\x07example\x03com\x00\x00\x01\x00\x01\
+\xC0\x0C\x00\x01\x00\x01\x00\x00\x01\x2C\x00\x04\x01\x02\x03\x04";
+
+/// An update that takes all addresses of a name away.
+const UPDATE: &[u8] = b"\x00\x01\x28\x00\x00\x00\x00\x00\x00\x01\x00\x00\x07example\x03com\x00\x00\x01\x00\xFF\
+\x00\x00\x00\x00\x00\x00";
+
+#[test]
+fn messages_show_line_by_line(rt: HostRuntime) -> Result<(), Fail> {
+    for (octets, wanted) in [
+        (
+            b"\0\0\0\0\0\0\0\0\0\0\0\0".as_slice(),
+            "id 0 opcode 0 rcode 0 flags\n",
+        ),
+        (b"\0\0\0\0\0\0\0\0\0\0\0", "malformed\n"),
+        (
+            ANSWERED,
+            "id 4660 opcode 0 rcode 0 flags QR AA RD RA\nquestion example.com. IN A\n\
+             answer example.com. 300 IN A 1.2.3.4\n",
+        ),
+        (
+            UPDATE,
+            "id 1 opcode 5 rcode 0 flags\nauthority example.com. 0 ANY A \\# 0\n",
+        ),
+        (
+            b"\xFF\xFF\x7F\xFF\0\x01\0\0\0\0\0\0\0\x12\x34\x43\x21",
+            "id 65535 opcode 15 rcode 15 flags AA TC RD RA AD CD\nquestion . CLASS17185 TYPE4660\n",
+        ),
+    ] {
+        let text = shown(rt.alloc(), octets)?;
+        assert_equal!(&rt, text.as_str(), wanted);
+    }
+    Ok(())
+}
+
+#[test]
+fn a_text_that_would_pass_the_limit_stays(rt: HostRuntime) -> Result<(), Fail> {
+    let mut text = StrBuilder::<Array<64>>::default();
+    text.try_push_str("before ")?;
+    assert_equal!(&rt, appended(ANSWERED, &mut text)?, Err(DisplayError::Short));
+    assert_equal!(&rt, text.as_str(), "before ");
+    let nothing = b"\0\0\0\0\0\0\0\0\0\0\0\0".as_slice();
+    assert_equal!(&rt, appended(nothing, &mut text)?, Ok(()));
+    assert_equal!(&rt, text.as_str(), "before id 0 opcode 0 rcode 0 flags\n");
+    Ok(())
+}
+
+#[test]
+fn a_caller_counts_addresses(rt: HostRuntime) -> Result<(), Fail> {
+    assert_equal!(&rt, count_addresses(ANSWERED), Ok(1));
+    assert_equal!(&rt, count_addresses(UPDATE), Ok(0));
+    assert_equal!(&rt, count_addresses(b"\0".as_slice()), Err(Malformed));
+    Ok(())
+}
