@@ -3,6 +3,7 @@
 //! Each call of ours crosses into the library, and Rust's loops over what is pushed stand in functions that aren't
 //! compiled into their callers either. Both read what they push from memory, by lengths that the compiler doesn't know,
 //! and both look at what a builder holds.
+mod dns;
 mod inputs;
 mod report;
 
@@ -24,7 +25,11 @@ unsafe extern "C" {
     fn octseq_sum_u16_be(octets: *const u8, len: usize) -> u64;
     fn octseq_sum_u32_le(octets: *const u8, len: usize) -> u64;
     fn octseq_sum_u64_be(octets: *const u8, len: usize) -> u64;
+    fn octseq_dns_checked(octets: *const u8, len: usize) -> u64;
+    fn octseq_dns_read(octets: *const u8, len: usize) -> u64;
 }
+
+type Sum = unsafe extern "C" fn(*const u8, usize) -> u64;
 
 type OfOctets = unsafe extern "C" fn(*const u8, usize) -> usize;
 type OfNumbers = unsafe extern "C" fn(*const u32, usize) -> usize;
@@ -264,7 +269,6 @@ fn pops(bench: &mut Bench) {
 fn integers(bench: &mut Bench) {
     let beside = "`chunks_exact` with `from_be_bytes`, `from_le_bytes`";
     let mut section = Section::new("parsing", "integers of 2, 4 and 8 octets", beside);
-    type Sum = unsafe extern "C" fn(*const u8, usize) -> u64;
     let widths: [(&str, Sum, fn(&[u8]) -> u64); 3] = [
         ("`u16`, big-endian", octseq_sum_u16_be, |octets| sum(octets, |o| u16::from_be_bytes(o).into())),
         ("`u32`, little-endian", octseq_sum_u32_le, |octets| sum(octets, |o| u32::from_le_bytes(o).into())),
@@ -279,6 +283,25 @@ fn integers(bench: &mut Bench) {
     bench.add(section);
 }
 
+/// Messages: real traffic, and one that takes as long as its size allows.
+fn messages(bench: &mut Bench) {
+    let traffic = dns::stream_of(include_str!("messages.hex"));
+    let hostile = dns::hostile();
+    let mut alone = (hostile.len() as u16).to_be_bytes().to_vec();
+    alone.extend(hostile);
+    let calls: [(&str, Sum, fn(&[u8]) -> u64); 2] =
+        [("checked", octseq_dns_checked, dns::checked), ("checked and read", octseq_dns_read, dns::read)];
+    for (what, call, rust) in calls {
+        for (name, stream) in [("363 messages of traffic", &traffic), ("a hostile message", &alone)] {
+            let mut section = Section::new("DNS messages", &format!("{name}, {what}"), "a reader over slices, by hand");
+            let (octets, theirs) = (stream.clone(), stream.clone());
+            section.add(name, stream.len(), move || unsafe { call(octets.as_ptr(), octets.len()) },
+                move || rust(black_box(&theirs)));
+            bench.add(section);
+        }
+    }
+}
+
 fn main() {
     let mut bench = Bench::default();
     finder(&mut bench);
@@ -286,6 +309,7 @@ fn main() {
     pushes(&mut bench);
     pops(&mut bench);
     integers(&mut bench);
+    messages(&mut bench);
     bench.measure(3);
     bench.tell();
     let mut words = std::env::args().skip(1);
