@@ -83,5 +83,9 @@ option_moves w v option is =
     let octets = ap (λ v. v.position) is.2.2 in
     omega (arith, code, octets)
 
-pub options_once : (w : Window) (end : ℕ) → IsProp (Reaches HasOption w end)
-options_once = reached_once option_code HasOption one_option option_moves
+-- the options up to a window's end
+abbrev pub OptionsAhead : Window → Type 0
+OptionsAhead w = Reaches HasOption w w.end
+
+pub options_once : (w : Window) → IsProp (OptionsAhead w)
+options_once w = reached_once option_code HasOption one_option option_moves w w.end

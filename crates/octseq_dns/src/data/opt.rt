@@ -5,7 +5,7 @@ ghost use Rattle.octseq.specs.Window.{Window};
 ghost use Rattle.octseq_dns.specs.Entry.{Record as Entry};
 ghost use Rattle.octseq_dns.specs.Flag.{flag};
 ghost use Rattle.octseq_dns.specs.Format.{Row};
-ghost use Rattle.octseq_dns.specs.OneRow.{Reaches, options_once};
+ghost use Rattle.octseq_dns.specs.OneRow.{OptionsAhead, options_once};
 ghost use Rattle.octseq_dns.specs.Opt as said;
 ghost use Rattle.octseq_dns.specs.Opt.{HasOption, IsOpt};
 
@@ -67,7 +67,7 @@ pub struct Opt<R: AsOctets> {
     version: u8,
     dnssec_ok: bool,
     parser: Parser<R>,
-    ghost row: { Reaches HasOption (window parser) (window parser).end } by { options_once (window parser) (window parser).end },
+    ghost row: { OptionsAhead (window parser) } by { options_once (window parser) },
 }
 
 impl<R: AsOctets + Copy> Copy for Opt<R> {}
@@ -154,7 +154,7 @@ impl<R: AsOctets + Copy> Opt<R> {
 #[derive(Debug)]
 pub struct Options<R: AsOctets> {
     parser: Parser<R>,
-    ghost ahead: { Reaches HasOption (window parser) (window parser).end } by { options_once (window parser) (window parser).end },
+    ghost ahead: { OptionsAhead (window parser) } by { options_once (window parser) },
 }
 
 impl<R: AsOctets + Copy> Copy for Options<R> {}

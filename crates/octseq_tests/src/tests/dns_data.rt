@@ -1,8 +1,9 @@
 //! What the data of records says.
 use super::{Case, over_each};
 use octseq::octets::Octets;
-use octseq_dns::data::Data;
-use octseq_dns::{Message, ParsedName};
+use octseq::utf8::Turns;
+use octseq_dns::data::Opt;
+use octseq_dns::{Data, Malformed, Message, ParsedName};
 use std::alloc::{AllocError, AllocGlobal, Global};
 use std::process::Abort;
 use std::test::Fail;
@@ -149,6 +150,180 @@ fn data_has_the_form_of_its_type_and_class(rt: HostRuntime) -> Result<(), Fail> 
         let octets = answer(rt.alloc(), rtype, class, rdata)?;
         let text = said(rt.alloc(), octets.as_slice())?;
         assert_equal!(&rt, text.as_slice(), wanted);
+    }
+    Ok(())
+}
+
+#[test]
+fn a_zone_begins_with_two_names_and_five_numbers(rt: HostRuntime) -> Result<(), Fail> {
+    let octets = answer(
+        rt.alloc(),
+        6,
+        1,
+        b"\x02ns\xC0\x0C\x04root\xC0\x0C\x00\x00\x00\x01\x00\x00\x00\x02\
+\x00\x00\x00\x03\x00\x00\x00\x04\xFF\x00\x00\x05",
+    )?;
+    let text = said(rt.alloc(), octets.as_slice())?;
+    assert_equal!(
+        &rt,
+        text.as_slice(),
+        b"soa ns.example.com.root.example.com.\x00\x00\x00\x01\x00\x00\x00\x02\
+\x00\x00\x00\x03\x00\x00\x00\x04\xFF\x00\x00\x05"
+    );
+    let octets = answer(
+        rt.alloc(),
+        6,
+        1,
+        b"\x00\x00\x00\x00\x00\x01\x00\x00\x00\x02",
+    )?;
+    let text = said(rt.alloc(), octets.as_slice())?;
+    assert_equal!(
+        &rt,
+        text.as_slice(),
+        b"opaque \x00\x00\x00\x00\x00\x01\x00\x00\x00\x02"
+    );
+    Ok(())
+}
+
+/// Behind the data `\x01a` of a name server stands the octet 0, with which a record of the root begins.
+#[test]
+fn a_name_ends_where_its_data_does(rt: HostRuntime) -> Result<(), Fail> {
+    let octets = b"\x00\x00\x80\x00\x00\x00\x00\x02\x00\x00\x00\x00\
+\x00\x00\x02\x00\x01\x00\x00\x00\x00\x00\x02\x01a\
+\x00\x00\x10\x00\x01\x00\x00\x00\x00\x00\x02\x01b"
+        .as_slice();
+    let text = said(rt.alloc(), octets)?;
+    assert_equal!(&rt, text.as_slice(), b"opaque \x01atxt b|".as_slice());
+    Ok(())
+}
+
+#[derive(Drop)]
+struct IsService;
+
+impl Case for IsService {
+    fn holds<H: Abort + AllocGlobal, R: Octets + Copy>(
+        &self,
+        rt: &H,
+        octets: R,
+    ) -> Result<(), Fail> {
+        let text = said(rt.alloc(), octets)?;
+        assert_equal!(
+            rt,
+            text.as_slice(),
+            b"srv \x00\x01\x00\x02\x01\xBBexample.com.".as_slice()
+        );
+        Ok(())
+    }
+}
+
+#[test]
+fn data_is_read_from_each_kind_of_octets(rt: HostRuntime) -> Result<(), Fail> {
+    let octets = answer(rt.alloc(), 33, 1, b"\x00\x01\x00\x02\x01\xBB\xC0\x0C")?;
+    over_each(&rt, &IsService, octets.as_slice())
+}
+
+#[derive(Drop)]
+struct StringsStandInTheMessage;
+
+impl Case for StringsStandInTheMessage {
+    fn holds<H: Abort + AllocGlobal, R: Octets + Copy>(
+        &self,
+        rt: &H,
+        octets: R,
+    ) -> Result<(), Fail> {
+        for answer in Message::parse(octets)?.answers() {
+            let mut turns = Turns::new();
+            match answer.data_counted(&mut turns).clone()? {
+                Data::Txt(txt) => {
+                    let mut places = [(0usize, 0usize); 3];
+                    let mut count = 0usize;
+                    for string in txt.clone()?.strings().clone()? {
+                        assert_equal!(rt, string.is_empty(), string.clone()?.len() == 0);
+                        assert_true!(rt, count < 3);
+                        if count < 3 {
+                            places[count] = (string.pos(), string.len());
+                            count += 1;
+                        }
+                    }
+                    assert_equal!(rt, (count, places), (3, [(42, 1), (44, 0), (45, 2)]));
+                }
+                _ => return Err("no text".into()),
+            }
+        }
+        Ok(())
+    }
+}
+
+#[test]
+fn strings_stand_in_the_message(rt: HostRuntime) -> Result<(), Fail> {
+    let octets = answer(rt.alloc(), 16, 1, b"\x01a\x00\x02bc")?;
+    over_each(&rt, &StringsStandInTheMessage, octets.as_slice())
+}
+
+/// What a record says of EDNS: the size, the response code, the version and the bit DO.
+type Edns = Option<(u16, u8, u8, bool)>;
+
+/// What the additional record of a message says of EDNS. Each option is appended, its code before its octets.
+fn edns<R: Octets + Copy>(options: &mut Vec<u8>, octets: R) -> Result<Edns, Fail> {
+    for entry in Message::parse(octets)?.additionals() {
+        return match Opt::from_record(&entry) {
+            Ok(opt) => {
+                for option in opt.options() {
+                    options.extend_from_slice(&option.code.to_be_bytes())?;
+                    options.extend_from_slice(option.octets.peek_all())?;
+                    options.push(b'|')?;
+                }
+                Ok(Some((
+                    opt.udp_payload_size(),
+                    opt.extended_rcode(),
+                    opt.version(),
+                    opt.dnssec_ok(),
+                )))
+            }
+            Err(Malformed) => Ok(None),
+        };
+    }
+    Err("no additional record".into())
+}
+
+#[test]
+fn a_record_of_edns_has_options(rt: HostRuntime) -> Result<(), Fail> {
+    let some = Some((4096, 1, 2, true));
+    for (body, wanted, listed) in [
+        (
+            b"\x00\x00\x29\x10\x00\x01\x02\x80\x00\x00\x00".as_slice(),
+            some,
+            b"".as_slice(),
+        ),
+        (
+            b"\x00\x00\x29\x10\x00\x01\x02\x80\x00\x00\x0A\x00\x0A\x00\x02xy\x00\x0C\x00\x00",
+            some,
+            b"\x00\x0Axy|\x00\x0C|",
+        ),
+        (
+            b"\x00\x00\x29\x04\xD0\x00\x00\x7F\xFF\x00\x00",
+            Some((1232, 0, 0, false)),
+            b"",
+        ),
+        (
+            b"\x00\x00\x29\x10\x00\x01\x02\x80\x00\x00\x03\x00\x0A\x00",
+            None,
+            b"",
+        ),
+        (
+            b"\x00\x00\x29\x10\x00\x01\x02\x80\x00\x00\x05\x00\x0A\x00\x02x",
+            None,
+            b"",
+        ),
+        (b"\x00\x00\x01\x10\x00\x01\x02\x80\x00\x00\x00", None, b""),
+    ] {
+        let mut octets = Vec::new(rt.alloc());
+        octets.extend_from_slice(b"\x00\x00\x80\x00\x00\x00\x00\x00\x00\x00\x00\x01")?;
+        octets.extend_from_slice(body)?;
+        let mut options = Vec::new(rt.alloc());
+        let found = edns(&mut options, octets.as_slice())?;
+        assert_equal!(&rt, found, wanted);
+        assert_equal!(&rt, options.as_slice(), listed);
     }
     Ok(())
 }

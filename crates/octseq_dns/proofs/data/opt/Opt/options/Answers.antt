@@ -6,4 +6,4 @@ use Rattle.octseq_dns.proofs.data.opt.Opt.options.Goals as goal
 pub returns : goal.returns
 returns g c =
     let self = c.args.self.now in
-    ap (λ held. held.0) (options_once (window self.parser) (window self.parser).end c.result-2-1.given.0 self.row)
+    ap (λ held. held.0) (options_once (window self.parser) c.result-2-1.given.0 self.row)
