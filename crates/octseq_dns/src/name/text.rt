@@ -4,7 +4,7 @@ ghost use Rattle.std.specs.Fmt.{WritesOnOk};
 ghost use Rattle.octseq_dns.specs.Read.{labels_of, label_octets};
 ghost use Rattle.octseq_dns.specs.Spelling.{AreOctetLabels, SpellsName};
 ghost use Rattle.octseq_dns.specs.Wire.{AreLabels};
-ghost use Rattle.octseq_dns.specs.Text.{is_quoted, three_digits, octet_text, label_text, labels_text, name_text};
+ghost use Rattle.octseq_dns.specs.Text.{is_quoted, three_digits, octet_text, label_text, name_text};
 
 use crate::name::{Label, ParsedName};
 use octseq::AsOctets;
