@@ -1,9 +1,9 @@
 -- A text spells one name at most, and the text that is printed spells its name.
-use Rattle.std.proofs.Common.{◌≡◌, ℕ, ◌+◌, ◌/◌, ◌%◌, ◌<◌, ◌≤◌, true, List, [], ◌∷◌, ◌++◌, length, get_or, drop, refl, sym, ap, ◌∙◌, subst, append_assoc, arith, rules}
+use Rattle.std.proofs.Common.{◌≡◌, ℕ, ◌+◌, ◌/◌, ◌%◌, ◌<◌, ◌≤◌, Bool, true, false, if◌then◌else◌, List, [], ◌∷◌, ◌++◌, length, get_or, drop, refl, sym, ap, ◌∙◌, subst, append_assoc, arith, rules}
 use Rattle.std.proofs.Math.Bool.{true≢false}
-use Rattle.std.specs.Char.{is_ascii_digit}
-use Rattle.octseq_dns.specs.Spelling.{SpellsOctet, SpellsLabel, SpellsLabels, SpellsName}
-use Rattle.octseq_dns.specs.Text.{is_quoted}
+use Rattle.std.specs.Char.{is_ascii_digit, is_ascii_graphic}
+use Rattle.octseq_dns.specs.Spelling.{SpellsOctet, SpellsLabel, SpellsLabels, SpellsName, AreOctets, AreOctetLabels}
+use Rattle.octseq_dns.specs.Text.{is_quoted, three_digits, octet_text, label_text, labels_text, name_text}
 use Rattle.octseq_dns.specs.Wire.{AreLabels}
 
 -- ---- lists
@@ -82,3 +82,30 @@ name_once [] [] text are others_are one two = refl
 name_once [] (other ∷ others) text are others_are one two = absurd (not_root other others others_are.0 (subst (SpellsLabels (other ∷ others)) one two))
 name_once (label ∷ labels) [] text are others_are one two = absurd (not_root label labels are.0 (subst (SpellsLabels (label ∷ labels)) two one))
 name_once (label ∷ labels) (other ∷ others) text are others_are one two = labels_once (label ∷ labels) (other ∷ others) text one two
+
+-- ---- what is printed
+
+-- a backslash stands before no digit
+letters : (octet : ℕ) → is_quoted octet ≡ true → is_ascii_digit octet ≡ false
+letters octet told = search rules
+
+by_case : (octet : ℕ) (a b : Bool) → is_quoted octet ≡ a → is_ascii_graphic octet ≡ b → octet < 256 → SpellsOctet octet (if a then 92 ∷ octet ∷ [] else (if b then octet ∷ [] else 92 ∷ three_digits octet))
+by_case octet true b told seen few = SpellsOctet.quoted (letters octet told)
+by_case octet false true told seen few = SpellsOctet.plain told seen
+by_case octet false false told seen few = SpellsOctet.numbered few
+
+octet_spelled : (octet : ℕ) → octet < 256 → SpellsOctet octet (octet_text octet)
+octet_spelled octet few = by_case octet (is_quoted octet) (is_ascii_graphic octet) refl refl few
+
+label_spelled : (label : List ℕ) → AreOctets label → SpellsLabel label (label_text label)
+label_spelled [] are = refl
+label_spelled (octet ∷ label) are = (octet_text octet, label_text label, refl, octet_spelled octet are.0, label_spelled label are.1)
+
+labels_spelled : (labels : List (List ℕ)) → AreOctetLabels labels → SpellsLabels labels (labels_text labels)
+labels_spelled [] are = refl
+labels_spelled (label ∷ labels) are =
+    (label_text label, labels_text labels, append_assoc (label_text label) (46 ∷ []) (labels_text labels), label_spelled label are.0, labels_spelled labels are.1)
+
+pub name_spelled : (labels : List (List ℕ)) → AreOctetLabels labels → SpellsName labels (name_text labels)
+name_spelled [] are = refl
+name_spelled (label ∷ labels) are = labels_spelled (label ∷ labels) are

@@ -24,3 +24,12 @@ SpellsLabels (label ∷ labels) text = (first rest : List ℕ) × (text ≡ firs
 abbrev pub SpellsName : List (List ℕ) → List ℕ → Type 0
 SpellsName [] text = text ≡ 46 ∷ []
 SpellsName (label ∷ labels) text = SpellsLabels (label ∷ labels) text
+
+-- labels are of octets, as those of every name are
+abbrev pub AreOctets : List ℕ → Type 0
+AreOctets [] = Unit {0}
+AreOctets (octet ∷ label) = (octet < 256) × AreOctets label
+
+abbrev pub AreOctetLabels : List (List ℕ) → Type 0
+AreOctetLabels [] = Unit {0}
+AreOctetLabels (label ∷ labels) = AreOctets label × AreOctetLabels labels

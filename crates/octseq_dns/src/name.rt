@@ -22,7 +22,7 @@ mod wire;
 
 pub use crate::name::labels::{Label, Labels};
 pub use crate::name::owned::Name;
-pub use crate::name::text::one_name_of_a_text;
+pub use crate::name::text::{a_name_is_spelled_by_its_text, one_name_of_a_text};
 
 /// How many octets a name may have in wire form: RFC 1035, 2.3.4.
 const NAME_MOST: usize = 255;

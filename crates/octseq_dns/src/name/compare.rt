@@ -1,10 +1,12 @@
 //! Names and labels compared, with ASCII letters of either case as one: RFC 4343.
 ghost use Rattle.std.specs.Prelude.{◌≡◌, ◌↔◌, ◌≤◌, length, drop, IsTrue};
-ghost use Rattle.std.specs.Cmp.{on_equiv, on_total, partial_equiv_from_equiv, partial_order_from_own_ties, partial_order_from_total};
+ghost use Rattle.std.specs.Cmp.{on_equiv, on_total, partial_equiv_from_equiv};
+ghost use Rattle.std.specs.Cmp.{partial_order_from_own_ties, partial_order_from_total};
 ghost use Rattle.std.specs.Cmp.Rules.{comparing, hashing};
 ghost use Rattle.std.specs.Ordering.{on, as_partial_cmp};
 ghost use Rattle.std.proofs.Common.{rules};
-ghost use Rattle.octseq_dns.specs.Order.{lower_label, lower_labels, label_eq, label_cmp, label_writes, name_eq, name_cmp, name_writes};
+ghost use Rattle.octseq_dns.specs.Order.{lower_label, label_eq, label_cmp, label_writes};
+ghost use Rattle.octseq_dns.specs.Order.{lower_labels, name_eq, name_cmp, name_writes};
 ghost use Rattle.octseq_dns.specs.OrderLaws.{name_ties, name_eq_equiv, name_cmp_total, names_alike};
 ghost use Rattle.octseq_dns.specs.Read.{labels_of, labels_left, label_octets};
 

@@ -2,9 +2,9 @@
 ghost use Rattle.std.specs.Prelude.{◌≡◌, ℕ, ◌<◌, ◌+◌, List, [], ◌∷◌, Some};
 ghost use Rattle.std.specs.Fmt.{WritesOnOk};
 ghost use Rattle.octseq_dns.specs.Read.{labels_of, label_octets};
-ghost use Rattle.octseq_dns.specs.Spelling.{SpellsName};
+ghost use Rattle.octseq_dns.specs.Spelling.{AreOctetLabels, SpellsName};
 ghost use Rattle.octseq_dns.specs.Wire.{AreLabels};
-ghost use Rattle.octseq_dns.specs.Text.{is_quoted, three_digits, octet_text, label_text, labels_text, name_text};
+ghost use Rattle.octseq_dns.specs.Text.{is_quoted, three_digits, octet_text, label_text, name_text};
 
 use crate::name::{Label, ParsedName};
 use octseq::AsOctets;
@@ -16,6 +16,13 @@ use std::fmt;
 pub fn one_name_of_a_text()
     ensures { (labels others : List (List ℕ)) (text : List ℕ) → AreLabels labels → AreLabels others
         → SpellsName labels text → SpellsName others text → labels ≡ others }
+{}
+
+/// The text that is printed spells its name, so that it is read back as that name.
+///
+/// It does nothing. A caller that calls it has the law in its proof.
+pub fn a_name_is_spelled_by_its_text()
+    ensures { (labels : List (List ℕ)) → AreOctetLabels labels → SpellsName labels (name_text labels) }
 {}
 
 /// Prints the octets of the label: each of `"().;\@$` behind a backslash, each other one of 21 to 7E (hexadecimal) as

@@ -1,7 +1,8 @@
 //! Names that own their octets, compared and shown as those that were read.
 ghost use Rattle.std.specs.Prelude.{Some};
 ghost use Rattle.std.proofs.Common.{refl};
-ghost use Rattle.std.specs.Cmp.{on_equiv, on_total, partial_equiv_from_equiv, partial_order_from_own_ties, partial_order_from_total};
+ghost use Rattle.std.specs.Cmp.{on_equiv, on_total, partial_equiv_from_equiv};
+ghost use Rattle.std.specs.Cmp.{partial_order_from_own_ties, partial_order_from_total};
 ghost use Rattle.std.specs.Ordering.{on, as_partial_cmp};
 ghost use Rattle.octseq_dns.specs.Order.{name_eq, name_cmp, name_writes};
 ghost use Rattle.octseq_dns.specs.OrderLaws.{name_ties, name_eq_equiv, name_cmp_total, names_alike};
