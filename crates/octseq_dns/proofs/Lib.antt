@@ -10,6 +10,5 @@ pub mod Places
 pub mod Rows
 pub mod SpellingSteps
 pub mod Spellings
-pub mod Strings
 pub mod Texts
 pub mod Wires

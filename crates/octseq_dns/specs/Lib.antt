@@ -13,7 +13,6 @@ pub mod Name
 pub mod OneEntry
 pub mod OneName
 pub mod OneRow
-pub mod OneString
 pub mod Opt
 pub mod Order
 pub mod OrderLaws

@@ -23,6 +23,7 @@ mod walk;
 
 pub use crate::message::question::Question;
 pub use crate::message::record::Record;
+pub use crate::message::text::one_text_of_a_message;
 pub use crate::message::walk::{Questions, Records};
 
 /// How many octets a message may have: RFC 1035, 4.2.2.

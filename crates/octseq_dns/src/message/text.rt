@@ -5,6 +5,7 @@ ghost use Rattle.octseq.specs.Refusal.{IsShort, IsMemory};
 ghost use Rattle.octseq.specs.Display.{display_error};
 ghost use Rattle.octseq.specs.Parts.{IsFront};
 ghost use Rattle.octseq_dns.specs.Data.{Form, IsDataOf};
+ghost use Rattle.octseq_dns.specs.Entry as said;
 ghost use Rattle.octseq_dns.specs.HeaderText.{header_text, question_text};
 ghost use Rattle.octseq_dns.specs.MessageText.{record_text, line, header_line, questions_text, IsRecordsText, IsMessageText};
 ghost use Rattle.octseq_dns.specs.Parsed.{header_of, questions_of, answers_of, authorities_of, additionals_of};
@@ -18,6 +19,15 @@ use crate::message::{Message, Question, Questions, Record, Records};
 use octseq::str::DisplayError;
 use octseq::{AsOctets, OctetsBuilder, StrBuilder, Truncate};
 use std::fmt;
+
+/// A message has one text at most.
+///
+/// It does nothing. A caller that calls it has the law in its proof.
+pub fn one_text_of_a_message()
+    ensures { (header : Header) (questions : List said.Question) (answers authorities additionals : List said.Record)
+        (text other : List ℕ) → IsMessageText header questions answers authorities additionals text
+        → IsMessageText header questions answers authorities additionals other → text ≡ other }
+{}
 
 /// The line of a header.
 #[derive(Drop)]
@@ -53,20 +63,20 @@ impl<R: AsOctets + Copy> fmt::Display for QuestionLine<R> {
 #[derive(Drop)]
 struct RecordLine<'a, R: AsOctets> {
     word: &'a str,
-    record: Record<R>,
+    entry: Record<R>,
     rdata: Data<R>,
 }
 
 impl<'a, R: AsOctets + Copy> fmt::Display for RecordLine<'a, R> {
     ghost use Rattle.octseq_dns.specs.Typed.{form_of};
 
-    ghost output = { λ shown. Some (line shown.word.now (record_text (record_of shown.record) (form_of shown.rdata))) };
+    ghost output = { λ shown. Some (line shown.word.now (record_text (record_of shown.entry) (form_of shown.rdata))) };
 
     fn fmt<W: fmt::Write>(&self, f: &mut fmt::Formatter<W>) -> fmt::Result {
         let word = self.word;
         let rdata = self.rdata;
-        let (owner, ttl) = (self.record.owner(), self.record.ttl());
-        let (class, rtype) = (self.record.class(), self.record.rtype());
+        let (owner, ttl) = (self.entry.owner(), self.entry.ttl());
+        let (class, rtype) = (self.entry.class(), self.entry.rtype());
         write!(f, "{word} {owner} {ttl} {class} {rtype} {rdata}\n")
     }
 }
@@ -156,13 +166,9 @@ fn append_records<B: OctetsBuilder + Truncate, R: AsOctets + Copy>(
     ensures short { IsShort display_error result → B.limit ≢ None }
     ensures memory { IsMemory display_error result → B.asks ≡ true }
 {
-    for record in records {
-        let rdata = record.data();
-        text.try_push_display(RecordLine {
-            word,
-            record,
-            rdata,
-        })?;
+    for entry in records {
+        let rdata = entry.data();
+        text.try_push_display(RecordLine { word, entry, rdata })?;
     }
     Ok(())
 }

@@ -6,18 +6,18 @@ use Rattle.octseq_dns.specs.Walk.{records_left}
 use Rattle.octseq_dns.proofs.MessageTexts.{then_more}
 use Rattle.octseq_dns.proofs.message.text.append_records.Goals as goal
 
-pub loop-record-init : goal.loop-record-init
-loop-record-init g c = record {
+pub loop-entry-init : goal.loop-entry-init
+loop-entry-init g c = record {
   done = [];
   appended = sym (append-nil _);
-  whole = λ more text. subst (λ records. IsRecordsText c.args.word.now (records_left records) more) c.into_iter-record-iterator.ensures.into_iter_gives text;
+  whole = λ more text. subst (λ records. IsRecordsText c.args.word.now (records_left records) more) c.into_iter-entry-iterator.ensures.into_iter_gives text;
 }
 
-pub loop-record-preserved : goal.loop-record-preserved
-loop-record-preserved g c =
-    let so_far = c.loop-record.invariant in
+pub loop-entry-preserved : goal.loop-entry-preserved
+loop-entry-preserved g c =
+    let so_far = c.loop-entry.invariant in
     let word = c.args.word.now in
-    let shown = line word (record_text (record_of c.in-Some.record) (form_of c.data-rdata.result)) in
+    let shown = line word (record_text (record_of c.in-Some.entry) (form_of c.data-rdata.result)) in
     record {
       done = so_far.done ++ shown;
       appended = then_more (g.B.AsOctets.content c.args.text.now) _ _ so_far.done shown so_far.appended c.in_ok-try_push_display.ensures.ok;
@@ -29,6 +29,6 @@ loop-record-preserved g c =
 
 pub returns-clause-text : goal.returns-clause-text
 returns-clause-text g c =
-    let so_far = c.loop-record.invariant in
+    let so_far = c.loop-entry.invariant in
     let none = subst (λ records. IsRecordsText c.args.word.now records []) (sym c.in-None.ensures.steps.0) refl in
     (so_far.done ++ [], so_far.whole [] none, so_far.appended ∙ ap (λ y. g.B.AsOctets.content c.args.text.now ++ y) (sym (append-nil so_far.done)))

@@ -4,10 +4,10 @@ use Rattle.octseq_dns.specs.MessageText.{IsRecordsText}
 use Rattle.octseq_dns.specs.Walk.{records_left}
 use Rattle.octseq_dns.proofs.message.text.append_records.Given as goal
 
-abbrev pub invariant-loop-record : goal.invariant-loop-record
-invariant-loop-record g l = record {
+abbrev pub invariant-loop-entry : goal.invariant-loop-entry
+invariant-loop-entry g l = record {
   done : List ℕ;
   appended : g.B.AsOctets.content l.text ≡ g.B.AsOctets.content l.fn.text ++ done;
-  whole : (more : List ℕ) → IsRecordsText l.word (records_left l.record-iterator) more
+  whole : (more : List ℕ) → IsRecordsText l.word (records_left l.entry-iterator) more
       → IsRecordsText l.word (records_left l.fn.records) (done ++ more);
 }
