@@ -43,11 +43,13 @@ fn appended<R: Octets + Copy>(
 }
 
 /// A question for `example.com.`, and an answer whose owner is a pointer to it.
-const ANSWERED: &[u8] = b"\x12\x34\x85\x80\x00\x01\x00\x01\x00\x00\x00\x00\x07example\x03com\x00\x00\x01\x00\x01\
+const ANSWERED: &[u8] =
+    b"\x12\x34\x85\x80\x00\x01\x00\x01\x00\x00\x00\x00\x07example\x03com\x00\x00\x01\x00\x01\
 \xC0\x0C\x00\x01\x00\x01\x00\x00\x01\x2C\x00\x04\x01\x02\x03\x04";
 
 /// An update that takes all addresses of a name away.
-const UPDATE: &[u8] = b"\x00\x01\x28\x00\x00\x00\x00\x00\x00\x01\x00\x00\x07example\x03com\x00\x00\x01\x00\xFF\
+const UPDATE: &[u8] =
+    b"\x00\x01\x28\x00\x00\x00\x00\x00\x00\x01\x00\x00\x07example\x03com\x00\x00\x01\x00\xFF\
 \x00\x00\x00\x00\x00\x00";
 
 #[test]
@@ -82,7 +84,11 @@ fn messages_show_line_by_line(rt: HostRuntime) -> Result<(), Fail> {
 fn a_text_that_would_pass_the_limit_stays(rt: HostRuntime) -> Result<(), Fail> {
     let mut text = StrBuilder::<Array<64>>::default();
     text.try_push_str("before ")?;
-    assert_equal!(&rt, appended(ANSWERED, &mut text)?, Err(DisplayError::Short));
+    assert_equal!(
+        &rt,
+        appended(ANSWERED, &mut text)?,
+        Err(DisplayError::Short)
+    );
     assert_equal!(&rt, text.as_str(), "before ");
     let nothing = b"\0\0\0\0\0\0\0\0\0\0\0\0".as_slice();
     assert_equal!(&rt, appended(nothing, &mut text)?, Ok(()));
