@@ -1,11 +1,10 @@
 -- The lines of a message, joined; and that it has one text.
-use Rattle.std.proofs.Common.{◌≡◌, ℕ, ◌⊎◌, inl, inr, List, [], ◌∷◌, ◌++◌, length, take, drop, false, Result, Ok, Err, IsErr, OnOk, OnErr, codes, refl, ap, sym, ◌∙◌, subst, append_assoc, append-nil, arith, ◌≤◌}
+use Rattle.std.proofs.Common.{◌≡◌, ℕ, inl, inr, List, [], ◌∷◌, ◌++◌, length, drop, Result, Ok, Err, IsErr, OnOk, OnErr, codes, refl, ap, sym, ◌∙◌, append_assoc, arith, ◌≤◌}
 use Rattle.std.proofs.Math.Seq.{drop-append_seam}
 use Rattle.std.proofs.lemmas.List.{drop_all, length-append}
 use Rattle.octseq.specs.Parts.{IsFront}
 use Rattle.octseq.specs.Text.{IsWellFormed, IsBoundary, begins_within}
 use Rattle.octseq.proofs.Boundaries.{boundary_from}
-use Rattle.octseq_dns.specs.Data.{Form, IsDataOf}
 use Rattle.octseq_dns.specs.Entry.{Question, Record}
 use Rattle.octseq_dns.specs.MessageText.{record_text, line, header_line, questions_text, IsRecordsText, IsMessageText}
 use Rattle.octseq_dns.specs.TextFront.{BeginsAtLine}

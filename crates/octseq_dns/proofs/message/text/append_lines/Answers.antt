@@ -1,4 +1,4 @@
-use Rattle.std.proofs.Common.{◌++◌, codes, ap, sym, ◌∙◌, subst}
+use Rattle.std.proofs.Common.{◌++◌, codes, ap, ◌∙◌, subst}
 use Rattle.std.proofs.lemmas.Result.{on_ok_weaker, on_err_weaker}
 use Rattle.octseq.specs.Parts.{IsFront}
 use Rattle.octseq_dns.specs.MessageText.{header_line, questions_text, IsRecordsText}
