@@ -6,19 +6,12 @@
 //! pointers.
 #![tactic(auto)]
 
-pub mod data;
-pub mod error;
-pub mod header;
-pub mod iana;
-pub mod message;
-pub mod name;
-mod text;
-pub mod ttl;
-
-pub use data::Data;
-pub use error::Malformed;
-pub use header::{Flags, Header};
-pub use iana::{Class, Opcode, Rcode, Rtype};
-pub use message::{Message, Question, Record};
-pub use name::{Name, ParsedName};
-pub use ttl::Ttl;
+pub use octseq_dns_message::data::Data;
+pub use octseq_dns_message::header::{Flags, Header};
+pub use octseq_dns_message::iana::{Class, Opcode, Rcode, Rtype};
+pub use octseq_dns_message::message::{Message, Question, Record};
+pub use octseq_dns_message::ttl::Ttl;
+pub use octseq_dns_message::{data, header, iana, message, ttl};
+pub use octseq_dns_name::error::Malformed;
+pub use octseq_dns_name::name::{Name, ParsedName};
+pub use octseq_dns_name::{error, name};

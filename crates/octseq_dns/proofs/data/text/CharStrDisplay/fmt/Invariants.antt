@@ -1,9 +1,0 @@
--- What is written is the mark, and the text of the octets so far.
-use Rattle.std.proofs.Common.{◌∷◌, take}
-use Rattle.std.specs.Fmt.{HasWritten, IsPlainFormatter}
-use Rattle.std.specs.List.{flat_map}
-use Rattle.octseq_dns.specs.DataText.{string_octet_text}
-use Rattle.octseq_dns.proofs.data.text.CharStrDisplay.fmt.Given as goal
-
-abbrev pub invariant-loop-octet : goal.invariant-loop-octet
-invariant-loop-octet g l = IsPlainFormatter l.fn.f → HasWritten g.W.Write.write_str_gives l.fn.f (34 ∷ flat_map string_octet_text (take l.octet-index l.octet-items)) l.f

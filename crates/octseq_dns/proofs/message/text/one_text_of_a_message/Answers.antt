@@ -1,5 +1,0 @@
-use Rattle.octseq_dns.proofs.MessageTexts.{one_message_text}
-use Rattle.octseq_dns.proofs.message.text.one_text_of_a_message.Goals as goal
-
-pub returns : goal.returns
-returns c = one_message_text

@@ -1,9 +1,0 @@
--- What was written is the length and the octets so far.
-use Rattle.std.proofs.Common.{◌≡◌, fold, take, flat_map, ◌++◌, length}
-use Rattle.std.specs.Hash as fed
-use Rattle.octseq_dns.specs.Order.{lower_label}
-use Rattle.octseq_dns.specs.Read.{label_octets}
-use Rattle.octseq_dns.proofs.name.compare.LabelHash.hash.Given as goal
-
-abbrev pub invariant-loop-octet : goal.invariant-loop-octet
-invariant-loop-octet g l = l.state ≡ fold g.H.Hasher.write l.fn.state (fed.usize (length (label_octets l.fn.self)) ++ flat_map fed.u8 (lower_label (take l.octet-index l.octet-items)))

@@ -1,9 +1,0 @@
--- The labels are equal exactly where those ahead are.
-use Rattle.std.proofs.Common.{◌≡◌, ◌↔◌}
-use Rattle.octseq_dns.specs.Order.{lower_labels}
-use Rattle.octseq_dns.specs.Read.{labels_left}
-use Rattle.octseq_dns.proofs.name.compare.labels_eq.Given as goal
-
-abbrev pub invariant-loop-label : goal.invariant-loop-label
-invariant-loop-label g l =
-    (lower_labels (labels_left l.label-iterator) ≡ lower_labels (labels_left l.ahead)) ↔ (lower_labels (labels_left l.fn.labels) ≡ lower_labels (labels_left l.fn.others))

@@ -1,5 +1,0 @@
-use Rattle.octseq_dns.proofs.Spellings.{name_spelled}
-use Rattle.octseq_dns.proofs.name.text.a_name_is_spelled_by_its_text.Goals as goal
-
-pub returns : goal.returns
-returns c = name_spelled

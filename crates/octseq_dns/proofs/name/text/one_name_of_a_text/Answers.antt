@@ -1,5 +1,0 @@
-use Rattle.octseq_dns.proofs.Spellings.{name_once}
-use Rattle.octseq_dns.proofs.name.text.one_name_of_a_text.Goals as goal
-
-pub returns : goal.returns
-returns c = name_once

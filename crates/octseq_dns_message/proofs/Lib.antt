@@ -1,0 +1,9 @@
+pub mod Edns
+pub mod Formats
+pub mod Forms
+pub mod Headers
+pub mod MessageTexts
+pub mod Messages
+pub mod Places
+pub mod Rows
+pub mod Texts

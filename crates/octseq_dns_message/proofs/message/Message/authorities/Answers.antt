@@ -1,0 +1,4 @@
+use Rattle.octseq_dns_message.proofs.message.Message.authorities.Goals as goal
+
+pub returns : goal.returns
+returns g c = c.at.ensures c.args.self.now.authorized

@@ -1,0 +1,89 @@
+-- What the data of a record says, by its type and class: RFC 1035, 3.3 and 3.4, RFC 3596, 2.2 (AAAA) and RFC 2782 (SRV).
+use Rattle.std.specs.Prelude.{◌≡◌, ℕ, ◌≤◌, ◌⊎◌, List, length}
+use Rattle.octseq.specs.Part.{HasPart, part, past_part}
+use Rattle.octseq.specs.Window.{Window, left, next, rest, at, past}
+use Rattle.octseq_dns_message.specs.Entry.{Record}
+use Rattle.octseq_dns_message.specs.Format.{IsNumber, ◌then◌, Row}
+use Rattle.octseq_dns_name.specs.Name.{Name, HasName}
+
+-- so many octets
+abbrev pub HasOctets : ℕ → Window → List ℕ → Window → Type 0
+HasOctets n w octets v = (n ≤ left w) × (octets ≡ next n w) × (v ≡ past n w)
+
+-- a string: octets behind their length, which has one octet
+abbrev pub HasString : Window → List ℕ → Window → Type 0
+HasString w string v = HasPart 1 w × (string ≡ rest (part 1 w)) × (v ≡ past_part 1 w)
+
+-- strings, one behind another, at least one
+abbrev pub HasStrings : Window → List (List ℕ) → Window → Type 0
+HasStrings w strings v = (1 ≤ length strings) × Row HasString w strings v
+
+-- A mail exchange: RFC 1035, 3.3.9.
+pub record Mx : Type 0 where
+  pub preference : ℕ
+  pub exchange : Name
+
+abbrev pub HasMx : Window → Mx → Window → Type 0
+HasMx w mx v = (IsNumber 2 then HasName) w (mx.preference, mx.exchange) v
+
+-- The start of a zone of authority: RFC 1035, 3.3.13.
+pub record Soa : Type 0 where
+  pub mname : Name
+  pub rname : Name
+  pub serial : ℕ
+  pub refresh : ℕ
+  pub retry : ℕ
+  pub expire : ℕ
+  pub minimum : ℕ
+
+abbrev pub HasSoa : Window → Soa → Window → Type 0
+HasSoa w soa v = (HasName then HasName then IsNumber 4 then IsNumber 4 then IsNumber 4 then IsNumber 4 then IsNumber 4) w
+    (soa.mname, (soa.rname, (soa.serial, (soa.refresh, (soa.retry, (soa.expire, soa.minimum)))))) v
+
+-- The place of a service: RFC 2782.
+pub record Srv : Type 0 where
+  pub priority : ℕ
+  pub weight : ℕ
+  pub port : ℕ
+  pub target : Name
+
+abbrev pub HasSrv : Window → Srv → Window → Type 0
+HasSrv w srv v = (IsNumber 2 then IsNumber 2 then IsNumber 2 then HasName) w (srv.priority, (srv.weight, (srv.port, srv.target))) v
+
+-- What data says: an address of 4 octets or of 16, a name, one of the above, strings of text; or nothing that is known here, and then it
+-- is the window of the data.
+pub data Form : Type 0 where
+  a : List ℕ → Form
+  aaaa : List ℕ → Form
+  ns : Name → Form
+  cname : Name → Form
+  ptr : Name → Form
+  mx : Mx → Form
+  soa : Soa → Form
+  txt : List (List ℕ) → Form
+  srv : Srv → Form
+  opaque : Window → Form
+
+-- It stands at a window's position, in data of a type and a class. Addresses and places of services are of the class IN alone.
+abbrev pub HasForm : ℕ → ℕ → Window → Form → Window → Type 0
+HasForm rtype class w (Form.a octets) v = (rtype ≡ 1) × (class ≡ 1) × HasOctets 4 w octets v
+HasForm rtype class w (Form.aaaa octets) v = (rtype ≡ 28) × (class ≡ 1) × HasOctets 16 w octets v
+HasForm rtype class w (Form.ns name) v = (rtype ≡ 2) × HasName w name v
+HasForm rtype class w (Form.cname name) v = (rtype ≡ 5) × HasName w name v
+HasForm rtype class w (Form.ptr name) v = (rtype ≡ 12) × HasName w name v
+HasForm rtype class w (Form.mx it) v = (rtype ≡ 15) × HasMx w it v
+HasForm rtype class w (Form.soa it) v = (rtype ≡ 6) × HasSoa w it v
+HasForm rtype class w (Form.txt strings) v = (rtype ≡ 16) × HasStrings w strings v
+HasForm rtype class w (Form.srv it) v = (rtype ≡ 33) × (class ≡ 1) × HasSrv w it v
+HasForm rtype class w (Form.opaque octets) v = ⊥
+
+-- A record's data has this form: it stands where the data begins, in the message, so that names may point before it; and it ends
+-- exactly where the data does.
+pub record IsTyped (r : Record) (form : Form) : Type 0 where
+  pub end : Window
+  pub form_is : HasForm r.rtype r.class (at r.rdata.position r.owner.place) form end
+  pub ends : end.position ≡ r.rdata.end
+
+-- What a record's data says: it has the form, or it has none and is opaque.
+abbrev pub IsDataOf : Record → Form → Type 0
+IsDataOf r form = IsTyped r form ⊎ (form ≡ Form.opaque r.rdata) × ((other : Form) → ¬ IsTyped r other)

@@ -1,0 +1,29 @@
+-- The entries of a message: questions (RFC 1035, 4.1.2) and records (RFC 1035, 4.1.3). A TTL is unsigned: RFC 2181, 8.
+use Rattle.std.specs.Prelude.{ℕ}
+use Rattle.octseq.specs.Window.{Window}
+use Rattle.octseq_dns_message.specs.Format.{IsNumber, IsData, ◌then◌}
+use Rattle.octseq_dns_name.specs.Name.{Name, HasName}
+
+-- A question: the name that is asked for, and which type and class.
+pub record Question : Type 0 where
+  pub qname : Name
+  pub qtype : ℕ
+  pub qclass : ℕ
+
+-- a name, a type and a class
+abbrev pub IsQuestion : Window → Question → Window → Type 0
+IsQuestion w q v = (HasName then IsNumber 2 then IsNumber 2) w (q.qname, (q.qtype, q.qclass)) v
+
+-- A record: the name that it is of, its type and class, for how many seconds it may be kept, and the window of its data
+-- in the message.
+pub record Record : Type 0 where
+  pub owner : Name
+  pub rtype : ℕ
+  pub class : ℕ
+  pub ttl : ℕ
+  pub rdata : Window
+
+-- a name, a type, a class, a TTL, and data behind its length
+abbrev pub IsRecord : Window → Record → Window → Type 0
+IsRecord w r v = (HasName then IsNumber 2 then IsNumber 2 then IsNumber 4 then IsData)
+    w (r.owner, (r.rtype, (r.class, (r.ttl, r.rdata)))) v

@@ -1,0 +1,22 @@
+-- The header of a message: RFC 1035, 4.1.1. AD and CD are those of RFC 4035, 3.1.6 and 3.2.
+use Rattle.std.specs.Prelude.{ℕ, ◌+◌, ◌*◌, ◌<◌, List, [], ◌∷◌}
+use Rattle.octseq.specs.Window.{Window}
+use Rattle.octseq_dns_message.specs.Flag.{flag}
+use Rattle.octseq_dns_message.specs.Format.{IsNumber, Row}
+use Rattle.octseq_dns_message.specs.declared.header.Header.{Header}
+
+-- The second number of a header, from its highest bit: QR, four bits of opcode, AA, TC, RD, RA, a bit of no meaning,
+-- AD, CD, and four bits of rcode.
+abbrev pub flag_bits : Header → ℕ
+flag_bits h = flag h.flags.qr 32768 + h.opcode * 2048 + flag h.flags.aa 1024 + flag h.flags.tc 512 + flag h.flags.rd 256
+    + flag h.flags.ra 128 + flag h.flags.z 64 + flag h.flags.ad 32 + flag h.flags.cd 16 + h.rcode
+
+-- six numbers of 2 octets
+abbrev pub header_numbers : Header → List ℕ
+header_numbers h = h.id ∷ flag_bits h ∷ h.qdcount ∷ h.ancount ∷ h.nscount ∷ h.arcount ∷ []
+
+-- A header stands at a window's position.
+pub record IsHeader (w : Window) (h : Header) (v : Window) : Type 0 where
+  pub numbers : Row (IsNumber 2) w (header_numbers h) v
+  pub opcode : h.opcode < 16
+  pub rcode : h.rcode < 16

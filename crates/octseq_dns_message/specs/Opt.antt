@@ -1,0 +1,36 @@
+-- The record of EDNS: RFC 6891, 6.1.2 and 6.1.3.
+use Rattle.std.specs.Prelude.{◌≡◌, ℕ, ◌+◌, ◌*◌, ◌<◌, Bool, List}
+use Rattle.octseq.specs.Window.{Window}
+use Rattle.octseq_dns_message.specs.Entry.{Record}
+use Rattle.octseq_dns_message.specs.Flag.{flag}
+use Rattle.octseq_dns_message.specs.Format.{IsNumber, IsData, ◌then◌, Row}
+
+-- An option: its code, and the window of its octets.
+pub record EdnsOption : Type 0 where
+  pub code : ℕ
+  pub octets : Window
+
+-- a number, and octets behind their length
+abbrev pub HasOption : Window → EdnsOption → Window → Type 0
+HasOption w option v = (IsNumber 2 then IsData) w (option.code, option.octets) v
+
+-- What a record of EDNS says.
+pub record Opt : Type 0 where
+  pub udp_payload_size : ℕ
+  pub extended_rcode : ℕ
+  pub version : ℕ
+  pub dnssec_ok : Bool
+  pub options : List EdnsOption
+
+-- A record says it: its type is OPT, its class is the size, and its TTL has, from the highest bit, eight bits of a response code, eight of a
+-- version, the bit DO, and fifteen that mean nothing. Its data is options, one behind another, up to its end.
+pub record IsOpt (r : Record) (opt : Opt) : Type 0 where
+  pub rtype : r.rtype ≡ 41
+  pub size : opt.udp_payload_size ≡ r.class
+  pub z : ℕ
+  pub ttl : r.ttl ≡ opt.extended_rcode * 16777216 + opt.version * 65536 + flag opt.dnssec_ok 32768 + z
+  pub version : opt.version < 256
+  pub few : z < 32768
+  pub end : Window
+  pub options : Row HasOption r.rdata opt.options end
+  pub ends : end.position ≡ r.rdata.end

@@ -1,0 +1,45 @@
+-- What contracts see of data that was read.
+use Rattle.octseq.specs.declared.AsOctets.{Ghosts}
+use Rattle.octseq.specs.Parser.{window}
+use Rattle.octseq_dns_message.specs.Data as said
+use Rattle.octseq_dns_message.specs.Data.{Form}
+use Rattle.octseq_dns_name.specs.Read.{name_of}
+use Rattle.octseq_dns_message.specs.Txt.{strings_of}
+use Rattle.octseq_dns_message.specs.declared.data.Data.{Data}
+use Rattle.octseq_dns_message.specs.declared.data.Data.TheVariants as kind
+use Rattle.octseq_dns_message.specs.declared.data.mx.Mx.{Mx}
+use Rattle.octseq_dns_message.specs.declared.data.soa.Soa.{Soa}
+use Rattle.octseq_dns_message.specs.declared.data.srv.Srv.{Srv}
+
+-- the mail exchange that was read
+abbrev pub mx_of : {R : Type 0} {g : Ghosts R} → Mx R g → said.Mx
+mx_of mx = record { preference = mx.preference; exchange = name_of mx.exchange }
+
+-- the start of a zone of authority
+abbrev pub soa_of : {R : Type 0} {g : Ghosts R} → Soa R g → said.Soa
+soa_of soa = record {
+  mname = name_of soa.mname;
+  rname = name_of soa.rname;
+  serial = soa.serial;
+  refresh = soa.refresh;
+  retry = soa.retry;
+  expire = soa.expire;
+  minimum = soa.minimum;
+}
+
+-- the place of a service
+abbrev pub srv_of : {R : Type 0} {g : Ghosts R} → Srv R g → said.Srv
+srv_of srv = record { priority = srv.priority; weight = srv.weight; port = srv.port; target = name_of srv.target }
+
+-- what the data says
+abbrev pub form_of : {R : Type 0} {g : Ghosts R} → Data R g → Form
+form_of (kind.A octets) = Form.a octets
+form_of (kind.Aaaa octets) = Form.aaaa octets
+form_of (kind.Ns name) = Form.ns (name_of name)
+form_of (kind.Cname name) = Form.cname (name_of name)
+form_of (kind.Ptr name) = Form.ptr (name_of name)
+form_of (kind.Mx mx) = Form.mx (mx_of mx)
+form_of (kind.Soa soa) = Form.soa (soa_of soa)
+form_of (kind.Txt txt) = Form.txt (strings_of txt)
+form_of (kind.Srv srv) = Form.srv (srv_of srv)
+form_of (kind.Opaque octets) = Form.opaque (window octets)

@@ -1,0 +1,33 @@
+//! The octets and the strings that data is made of.
+ghost use Rattle.std.specs.Prelude.{◌≡◌, ◌≤◌, ℕ, List, IsErr, IfOk};
+ghost use Rattle.octseq.specs.Parser.{window};
+ghost use Rattle.octseq.specs.Window.{Window, left, rest};
+ghost use Rattle.octseq_dns_message.specs.Data.{HasOctets, HasString};
+
+use octseq::{AsOctets, Parser};
+use octseq_dns_name::Malformed;
+
+/// Takes the next `N` octets.
+pub(crate) fn take_octets<const N: usize, R: AsOctets>(
+    parser: &mut Parser<R>,
+) -> Result<[u8; N], Malformed>
+    ensures octets { IfOk result (λ octets. HasOctets N (window parser.old) octets (window parser.new)) }
+    ensures malformed { IsErr result → (octets : List ℕ) (v : Window) → ¬ HasOctets N (window parser.old) octets v }
+{
+    let mut octets = [0; N];
+    parser.parse_buf(&mut octets)?;
+    Ok(octets)
+}
+
+/// Takes the next string: a parser of its octets.
+pub(crate) fn take_string<R: AsOctets + Copy>(
+    parser: &mut Parser<R>,
+) -> Result<Parser<R>, Malformed>
+    ensures string { IfOk result (λ string.
+        HasString (window parser.old) (rest (window string)) (window parser.new)) }
+    ensures short { IfOk result (λ string. left (window string) ≤ 255) }
+    ensures malformed { IsErr result → (string : List ℕ) (v : Window) → ¬ HasString (window parser.old) string v }
+{
+    let len = parser.parse_u8()?;
+    Ok(parser.parse_parser(usize::from(len))?)
+}

@@ -1,0 +1,169 @@
+//! Strings of text: RFC 1035, 3.3 and 3.3.14.
+ghost use Rattle.std.specs.Prelude.{◌≡◌, ◌≤◌, ⊤, length};
+ghost use Rattle.octseq.specs.Parser.{window};
+ghost use Rattle.octseq.specs.Window.{left};
+ghost use Rattle.octseq_dns_message.specs.Data.{HasString};
+ghost use Rattle.octseq_dns_message.specs.OneRow.{Reaches, strings_once};
+
+use crate::data::string::take_string;
+use octseq::{AsOctets, Parser};
+use octseq_dns_name::Malformed;
+use std::alloc::AllocError;
+
+/// A string of text: at most 255 octets of a message, where they stand.
+#[derive(Debug)]
+pub struct CharStr<R: AsOctets> {
+    parser: Parser<R>,
+    ghost short: { left (window parser) ≤ 255 },
+}
+
+impl<R: AsOctets + Copy> Copy for CharStr<R> {}
+
+impl<R: AsOctets + Copy> Clone for CharStr<R> {
+    ghost is_clone = { λ string copy. copy ≡ string };
+
+    ghost is_infallible = { λ _. ⊤ };
+
+    fn clone(&self) -> Result<Self, AllocError> {
+        Ok(*self)
+    }
+}
+
+impl<R: AsOctets> CharStr<R> {
+    ghost use Rattle.std.specs.Prelude.{[], IsTrue, ◌↔◌};
+    ghost use Rattle.octseq_dns_message.specs.Txt.{string_place, string_octets};
+
+    /// Its octets.
+    pub fn as_slice(&self) -> &[u8]
+        ensures octets { result.now ≡ string_octets self.now }
+        ensures most { length result.now ≤ 255 }
+    {
+        self.parser.peek_all()
+    }
+
+    /// How many octets it has.
+    pub fn len(&self) -> usize
+        ensures { result ≡ length (string_octets self.now) }
+    {
+        self.parser.remaining()
+    }
+
+    /// Whether it has no octet.
+    pub fn is_empty(&self) -> bool
+        ensures { IsTrue result ↔ (length (string_octets self.now) ≡ 0) }
+    {
+        self.len() == 0
+    }
+
+    /// The place of its first octet, behind its length, counted from the first octet of the message.
+    pub fn pos(&self) -> usize
+        ensures { result ≡ (string_place self.now).position }
+    {
+        self.parser.pos()
+    }
+}
+
+/// Strings of text, at least one, one behind another up to the end of the data.
+#[derive(Debug)]
+pub struct Txt<R: AsOctets> {
+    parser: Parser<R>,
+    end: usize,
+    ghost strings: { Reaches HasString (window parser) end } by { strings_once (window parser) end },
+    ghost some: { 1 ≤ length strings.0 },
+}
+
+impl<R: AsOctets + Copy> Copy for Txt<R> {}
+
+impl<R: AsOctets + Copy> Clone for Txt<R> {
+    ghost is_clone = { λ txt copy. copy ≡ txt };
+
+    ghost is_infallible = { λ _. ⊤ };
+
+    fn clone(&self) -> Result<Self, AllocError> {
+        Ok(*self)
+    }
+}
+
+impl<R: AsOctets + Copy> Txt<R> {
+    ghost use Rattle.std.specs.Prelude.{ℕ, List, IsErr, IfOk, OnOk};
+    ghost use Rattle.octseq.specs.Window.{Window};
+    ghost use Rattle.octseq_dns_message.specs.Data.{HasStrings};
+    ghost use Rattle.octseq_dns_message.specs.Txt.{strings_of, strings_left};
+
+    /// Takes the strings of a message up to a place.
+    pub(crate) fn parse(parser: &mut Parser<R>, end: usize) -> Result<Txt<R>, Malformed>
+        ensures txt { IfOk result (λ txt. HasStrings (window parser.old) (strings_of txt) (window parser.new)) }
+        ensures ends { OnOk result ((window parser.new).position ≡ end) }
+        ensures malformed { IsErr result → (strings : List (List ℕ)) (v : Window)
+            → HasStrings (window parser.old) strings v → ¬ (v.position ≡ end) }
+    {
+        let first = *parser;
+        if first.pos() == end {
+            return Err(Malformed);
+        }
+        'strings: while parser.pos() < end {
+            let _string = take_string(parser)?;
+        }
+        if parser.pos() > end {
+            return Err(Malformed);
+        }
+        Ok(Txt { parser: first, end })
+    }
+
+    /// The strings, from the first one on.
+    pub fn strings(&self) -> Strings<R>
+        ensures strings { strings_left result ≡ strings_of self.now }
+        ensures some { 1 ≤ length (strings_left result) }
+    {
+        Strings {
+            parser: self.parser,
+            end: self.end,
+        }
+    }
+}
+
+/// The strings of text that are left, from the first one on.
+#[derive(Debug)]
+pub struct Strings<R: AsOctets> {
+    parser: Parser<R>,
+    end: usize,
+    ghost ahead: { Reaches HasString (window parser) end } by { strings_once (window parser) end },
+}
+
+impl<R: AsOctets + Copy> Copy for Strings<R> {}
+
+impl<R: AsOctets + Copy> Clone for Strings<R> {
+    ghost is_clone = { λ strings copy. copy ≡ strings };
+
+    ghost is_infallible = { λ _. ⊤ };
+
+    fn clone(&self) -> Result<Self, AllocError> {
+        Ok(*self)
+    }
+}
+
+impl<R: AsOctets + Copy> Iterator for Strings<R> {
+    ghost use Rattle.std.specs.Iterator.{YieldsFirstBy, item_count};
+    ghost use Rattle.octseq_dns_message.specs.Txt.{string_octets, strings_left};
+
+    type Item = CharStr<R>;
+
+    ghost next_gives = { YieldsFirstBy string_octets strings_left };
+
+    ghost remaining = { item_count strings_left };
+
+    fn next(&mut self) -> Option<CharStr<R>> {
+        let mut ahead = self.parser;
+        if ahead.pos() == self.end {
+            return None;
+        }
+        match take_string(&mut ahead) {
+            Ok(parser) => {
+                let end = self.end;
+                *self = Strings { parser: ahead, end };
+                Some(CharStr { parser })
+            }
+            Err(_) => None,
+        }
+    }
+}

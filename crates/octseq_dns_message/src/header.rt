@@ -1,0 +1,133 @@
+//! The header of a message: RFC 1035, 4.1.1.
+ghost use Rattle.std.specs.Prelude.{◌≡◌, ◌*◌, ◌/◌, ◌%◌, ◌<◌, IsErr, IfOk, OnErr};
+ghost use Rattle.octseq.specs.Parser.{sequence, window};
+ghost use Rattle.octseq.specs.Window.{Window};
+ghost use Rattle.octseq_dns_message.specs.Flag.{flag};
+
+use crate::iana::{Opcode, Rcode};
+use octseq::{AsOctets, Parser};
+use octseq_dns_name::Malformed;
+
+/// The bits of a header that have names of their own.
+#[derive(Clone, Copy, Debug, Default, PartialEq, Eq, Hash)]
+pub struct Flags {
+    /// It is a response.
+    pub qr: bool,
+    /// The answer is authoritative.
+    pub aa: bool,
+    /// It was cut off.
+    pub tc: bool,
+    /// Recursion is desired.
+    pub rd: bool,
+    /// Recursion is available.
+    pub ra: bool,
+    /// The bit of no meaning, which is kept.
+    pub z: bool,
+    /// The data is authentic: RFC 4035, 3.1.6.
+    pub ad: bool,
+    /// Checking is disabled: RFC 4035, 3.2.2.
+    pub cd: bool,
+}
+
+/// The header of a message: what it says of itself, and how many entries each section has.
+#[derive(Clone, Copy, Debug, PartialEq, Eq, Hash)]
+pub struct Header {
+    /// The number of the message.
+    pub id: u16,
+    /// Its flags.
+    pub flags: Flags,
+    /// What kind of question it is.
+    pub opcode: Opcode,
+    /// What a response tells of its success.
+    pub rcode: Rcode,
+    /// How many questions there are.
+    pub qdcount: u16,
+    /// How many answers there are.
+    pub ancount: u16,
+    /// How many records of authorities there are.
+    pub nscount: u16,
+    /// How many additional records there are.
+    pub arcount: u16,
+}
+
+/// Whether the bit that counts `weight` is set.
+fn is_set(bits: u16, weight: u16) -> bool
+    requires { 0 < weight }
+    ensures { flag result weight ≡ bits / weight % 2 * weight }
+{
+    bits / weight % 2 == 1
+}
+
+impl Flags {
+    /// The flags in the second number of a header.
+    fn from_bits(bits: u16) -> Self
+        ensures qr { flag result.qr 32768 ≡ bits / 32768 % 2 * 32768 }
+        ensures aa { flag result.aa 1024 ≡ bits / 1024 % 2 * 1024 }
+        ensures tc { flag result.tc 512 ≡ bits / 512 % 2 * 512 }
+        ensures rd { flag result.rd 256 ≡ bits / 256 % 2 * 256 }
+        ensures ra { flag result.ra 128 ≡ bits / 128 % 2 * 128 }
+        ensures z { flag result.z 64 ≡ bits / 64 % 2 * 64 }
+        ensures ad { flag result.ad 32 ≡ bits / 32 % 2 * 32 }
+        ensures cd { flag result.cd 16 ≡ bits / 16 % 2 * 16 }
+    {
+        Flags {
+            qr: is_set(bits, 32768),
+            aa: is_set(bits, 1024),
+            tc: is_set(bits, 512),
+            rd: is_set(bits, 256),
+            ra: is_set(bits, 128),
+            z: is_set(bits, 64),
+            ad: is_set(bits, 32),
+            cd: is_set(bits, 16),
+        }
+    }
+}
+
+/// The opcode in the second number of a header.
+fn opcode_in(bits: u16) -> Opcode
+    ensures { result ≡ bits / 2048 % 16 }
+{
+    Opcode::from_int((bits / 2048 % 16) as u8)
+}
+
+/// The response code in the second number of a header.
+fn rcode_in(bits: u16) -> Rcode
+    ensures { result ≡ bits % 16 }
+{
+    Rcode::from_int((bits % 16) as u8)
+}
+
+impl Header {
+    ghost use Rattle.octseq_dns_message.specs.Header.{IsHeader};
+
+    /// Takes the header of a message: 12 octets.
+    ///
+    /// # Errors
+    ///
+    /// `Malformed` where fewer octets are left. The parser is then as it was.
+    pub fn parse<R: AsOctets + Copy>(parser: &mut Parser<R>) -> Result<Header, Malformed>
+        ensures header { IfOk result (λ header. IsHeader (window parser.old) header (window parser.new)) }
+        ensures malformed { IsErr result → (header : Header) (v : Window) → ¬ IsHeader (window parser.old) header v }
+        ensures kept { OnErr result (window parser.new ≡ window parser.old) }
+        ensures same { sequence parser.new ≡ sequence parser.old }
+    {
+        let mut ahead = *parser;
+        let id = ahead.parse_u16_be()?;
+        let bits = ahead.parse_u16_be()?;
+        let qdcount = ahead.parse_u16_be()?;
+        let ancount = ahead.parse_u16_be()?;
+        let nscount = ahead.parse_u16_be()?;
+        let arcount = ahead.parse_u16_be()?;
+        *parser = ahead;
+        Ok(Header {
+            id,
+            flags: Flags::from_bits(bits),
+            opcode: opcode_in(bits),
+            rcode: rcode_in(bits),
+            qdcount,
+            ancount,
+            nscount,
+            arcount,
+        })
+    }
+}

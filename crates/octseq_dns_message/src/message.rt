@@ -1,0 +1,161 @@
+//! DNS messages: RFC 1035, 4.1.
+ghost use Rattle.std.specs.Prelude.{◌≡◌, ℕ, List, ⊤};
+ghost use Rattle.octseq.specs.Parser.{window};
+ghost use Rattle.octseq_dns_message.specs.Entry as said;
+ghost use Rattle.octseq_dns_message.specs.Entry.{IsQuestion, IsRecord};
+ghost use Rattle.octseq_dns_message.specs.Format.{Holds};
+ghost use Rattle.octseq_dns_message.specs.Message.{IsMessage};
+ghost use Rattle.octseq_dns_message.specs.OneEntry.{questions_once, records_once};
+ghost use Rattle.octseq_dns_message.specs.declared.header.Header.{Header as Fields};
+
+use crate::header::Header;
+use crate::message::sections::{pass_questions, pass_records};
+use octseq::utf8::Turns;
+use octseq::{AsOctets, Parser};
+use octseq_dns_name::Malformed;
+use std::alloc::AllocError;
+
+mod question;
+mod record;
+mod sections;
+mod text;
+mod walk;
+
+pub use crate::message::question::Question;
+pub use crate::message::record::Record;
+pub use crate::message::text::one_text_of_a_message;
+pub use crate::message::walk::{Questions, Records};
+
+/// How many octets a message may have: RFC 1035, 4.2.2.
+const MESSAGE_MOST: usize = 65535;
+
+/// Octets are a message in one way at most.
+///
+/// It does nothing. A caller that calls it has the law in its proof.
+pub fn one_message()
+    ensures { (octets : List ℕ) (h k : Fields) (q others : List said.Question)
+        (a b d x y z : List said.Record) → IsMessage octets h q a b d → IsMessage octets k others x y z
+        → (h ≡ k) × (q ≡ others) × (a ≡ x) × (b ≡ y) × (d ≡ z) }
+{}
+
+/// A message: its header, and where its sections begin. It copies no octet of them.
+#[derive(Debug)]
+pub struct Message<R: AsOctets> {
+    header: Header,
+    questions: Parser<R>,
+    answers: Parser<R>,
+    authorities: Parser<R>,
+    additionals: Parser<R>,
+    ghost asked: { Holds IsQuestion (window questions) header.qdcount } by { questions_once (window questions) header.qdcount },
+    ghost answered: { Holds IsRecord (window answers) header.ancount } by { records_once (window answers) header.ancount },
+    ghost authorized: { Holds IsRecord (window authorities) header.nscount } by { records_once (window authorities) header.nscount },
+    ghost added: { Holds IsRecord (window additionals) header.arcount } by { records_once (window additionals) header.arcount },
+}
+
+impl<R: AsOctets + Copy> Copy for Message<R> {}
+
+impl<R: AsOctets + Copy> Clone for Message<R> {
+    ghost is_clone = { λ message copy. copy ≡ message };
+
+    ghost is_infallible = { λ _. ⊤ };
+
+    fn clone(&self) -> Result<Self, AllocError> {
+        Ok(*self)
+    }
+}
+
+impl<R: AsOctets + Copy> Message<R> {
+    ghost use Rattle.std.specs.Prelude.{◌+◌, ◌*◌, ◌≤◌, length, IsErr, IfOk};
+    ghost use Rattle.octseq_dns_message.specs.Parsed.{header_of, questions_of, answers_of, authorities_of, additionals_of};
+    ghost use Rattle.octseq_dns_message.specs.Walk.{questions_left, records_left};
+
+    /// Reads all of the octets as a message. It requests no memory.
+    ///
+    /// # Errors
+    ///
+    /// `Malformed` where they are no message.
+    pub fn parse(octets: R) -> Result<Message<R>, Malformed>
+        ensures message { IfOk result (λ message. IsMessage (R.content octets) (header_of message)
+            (questions_of message) (answers_of message) (authorities_of message) (additionals_of message)) }
+        ensures malformed { IsErr result → (header : Fields) (questions : List said.Question)
+            (answers authorities additionals : List said.Record)
+            → ¬ IsMessage (R.content octets) header questions answers authorities additionals }
+    {
+        Message::parse_counted(octets, &mut Turns::new())
+    }
+
+    /// Reads all of the octets as [`parse`](Self::parse), and counts the turns that all of its names take.
+    ///
+    /// # Errors
+    ///
+    /// As `parse`.
+    pub fn parse_counted(octets: R, turns: &mut Turns) -> Result<Message<R>, Malformed>
+        ensures message { IfOk result (λ message. IsMessage (R.content octets) (header_of message)
+            (questions_of message) (answers_of message) (authorities_of message) (additionals_of message)) }
+        ensures malformed { IsErr result → (header : Fields) (questions : List said.Question)
+            (answers authorities additionals : List said.Record)
+            → ¬ IsMessage (R.content octets) header questions answers authorities additionals }
+        ensures turns { turns.new ≤ turns.old + 51 * length (R.content octets) + 255 }
+        ensures entries { IfOk result (λ message. turns.new ≤ turns.old + 255 * ((header_of message).qdcount
+            + (header_of message).ancount + (header_of message).nscount + (header_of message).arcount)) }
+    {
+        let mut parser = Parser::from_ref(octets);
+        if parser.remaining() > MESSAGE_MOST {
+            return Err(Malformed);
+        }
+        let header = Header::parse(&mut parser)?;
+        let questions = parser;
+        pass_questions(&mut parser, header.qdcount, turns)?;
+        let answers = parser;
+        pass_records(&mut parser, header.ancount, turns)?;
+        let authorities = parser;
+        pass_records(&mut parser, header.nscount, turns)?;
+        let additionals = parser;
+        pass_records(&mut parser, header.arcount, turns)?;
+        if parser.remaining() > 0 {
+            return Err(Malformed);
+        }
+        Ok(Message {
+            header,
+            questions,
+            answers,
+            authorities,
+            additionals,
+        })
+    }
+
+    /// Its header.
+    pub fn header(&self) -> Header
+        ensures { result ≡ header_of self.now }
+    {
+        self.header
+    }
+
+    /// Its questions, from the first one on.
+    pub fn questions(&self) -> Questions<R>
+        ensures { questions_left result ≡ questions_of self.now }
+    {
+        Questions::at(self.questions, self.header.qdcount)
+    }
+
+    /// Its answers, from the first one on.
+    pub fn answers(&self) -> Records<R>
+        ensures { records_left result ≡ answers_of self.now }
+    {
+        Records::at(self.answers, self.header.ancount)
+    }
+
+    /// Its records of authorities, from the first one on.
+    pub fn authorities(&self) -> Records<R>
+        ensures { records_left result ≡ authorities_of self.now }
+    {
+        Records::at(self.authorities, self.header.nscount)
+    }
+
+    /// Its additional records, from the first one on.
+    pub fn additionals(&self) -> Records<R>
+        ensures { records_left result ≡ additionals_of self.now }
+    {
+        Records::at(self.additionals, self.header.arcount)
+    }
+}

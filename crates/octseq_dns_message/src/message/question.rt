@@ -1,0 +1,84 @@
+//! Questions: RFC 1035, 4.1.2.
+ghost use Rattle.std.specs.Prelude.{◌≡◌, ◌+◌, ◌≤◌, IsErr, IfOk, OnErr, ⊤};
+ghost use Rattle.octseq.specs.Parser.{sequence, window};
+ghost use Rattle.octseq.specs.Window.{Window};
+
+use crate::iana::{Class, Rtype};
+use octseq::utf8::Turns;
+use octseq::{AsOctets, Parser};
+use octseq_dns_name::{Malformed, ParsedName};
+use std::alloc::AllocError;
+
+/// A question of a message.
+#[derive(Debug)]
+pub struct Question<R: AsOctets> {
+    /// The name that is asked for.
+    pub qname: ParsedName<R>,
+    /// Which type of records.
+    pub qtype: Rtype,
+    /// Which class.
+    pub qclass: Class,
+}
+
+impl<R: AsOctets + Copy> Copy for Question<R> {}
+
+impl<R: AsOctets + Copy> Clone for Question<R> {
+    ghost is_clone = { λ question copy. copy ≡ question };
+
+    ghost is_infallible = { λ _. ⊤ };
+
+    fn clone(&self) -> Result<Self, AllocError> {
+        Ok(*self)
+    }
+}
+
+impl<R: AsOctets + Copy> Question<R> {
+    ghost use Rattle.octseq_dns_message.specs.Entry as said;
+    ghost use Rattle.octseq_dns_message.specs.Entry.{IsQuestion};
+    ghost use Rattle.octseq_dns_message.specs.Said.{question_of};
+
+    /// Takes the next question of a message.
+    ///
+    /// # Errors
+    ///
+    /// `Malformed` where no question comes next. The parser is then as it was.
+    pub fn parse(parser: &mut Parser<R>) -> Result<Question<R>, Malformed>
+        ensures question { IfOk result (λ question.
+            IsQuestion (window parser.old) (question_of question) (window parser.new)) }
+        ensures malformed { IsErr result → (question : said.Question) (v : Window)
+            → ¬ IsQuestion (window parser.old) question v }
+        ensures kept { OnErr result (window parser.new ≡ window parser.old) }
+        ensures same { sequence parser.new ≡ sequence parser.old }
+    {
+        Question::parse_counted(parser, &mut Turns::new())
+    }
+
+    /// Takes the next question as [`parse`](Self::parse), and counts the turns that its name takes.
+    ///
+    /// # Errors
+    ///
+    /// As `parse`.
+    pub fn parse_counted(
+        parser: &mut Parser<R>,
+        turns: &mut Turns,
+    ) -> Result<Question<R>, Malformed>
+        ensures question { IfOk result (λ question.
+            IsQuestion (window parser.old) (question_of question) (window parser.new)) }
+        ensures malformed { IsErr result → (question : said.Question) (v : Window)
+            → ¬ IsQuestion (window parser.old) question v }
+        ensures kept { OnErr result (window parser.new ≡ window parser.old) }
+        ensures same { sequence parser.new ≡ sequence parser.old }
+        ensures turns { turns.new ≤ turns.old + 255 }
+    {
+        let mut ahead = *parser;
+        let qname = ParsedName::parse_counted(&mut ahead, turns)?;
+        let qtype = ahead.parse_u16_be()?;
+        let qclass = ahead.parse_u16_be()?;
+        *parser = ahead;
+        Ok(Question {
+            qname,
+            qtype: Rtype::from_int(qtype),
+            qclass: Class::from_int(qclass),
+        })
+    }
+}

@@ -1,0 +1,154 @@
+//! Records: RFC 1035, 4.1.3.
+ghost use Rattle.std.specs.Prelude.{◌≡◌, ◌+◌, ◌≤◌, IsErr, IfOk, OnErr, ⊤};
+ghost use Rattle.octseq.specs.Parser.{sequence, window};
+ghost use Rattle.octseq.specs.Window.{Window};
+ghost use Rattle.octseq_dns_name.specs.Read.{place_of};
+
+use crate::data::Data;
+use crate::iana::{Class, Rtype};
+use crate::ttl::Ttl;
+use octseq::builder::infallible;
+use octseq::utf8::Turns;
+use octseq::{AsOctets, Parser};
+use octseq_dns_name::{Malformed, ParsedName};
+use std::alloc::AllocError;
+
+/// A record of a message: the name that it is of, its type, its class, for how many seconds it may be kept, and where
+/// its data stands. [`data`](Self::data) tells what the data says.
+#[derive(Debug)]
+pub struct Record<R: AsOctets> {
+    owner: ParsedName<R>,
+    rtype: Rtype,
+    class: Class,
+    ttl: Ttl,
+    rdata: Parser<R>,
+    ghost octets: { (window rdata).octets ≡ (place_of owner).octets },
+    ghost within: { (window rdata).end ≤ (place_of owner).end },
+}
+
+impl<R: AsOctets + Copy> Copy for Record<R> {}
+
+impl<R: AsOctets + Copy> Clone for Record<R> {
+    ghost is_clone = { λ entry copy. copy ≡ entry };
+
+    ghost is_infallible = { λ _. ⊤ };
+
+    fn clone(&self) -> Result<Self, AllocError> {
+        Ok(*self)
+    }
+}
+
+impl<R: AsOctets + Copy> Record<R> {
+    ghost use Rattle.octseq_dns_message.specs.Entry as said;
+    ghost use Rattle.octseq_dns_message.specs.Entry.{IsRecord};
+    ghost use Rattle.octseq_dns_message.specs.Data.{IsDataOf};
+    ghost use Rattle.octseq_dns_name.specs.Read.{name_of};
+    ghost use Rattle.octseq_dns_message.specs.Said.{record_of};
+    ghost use Rattle.octseq_dns_message.specs.Typed.{form_of};
+
+    /// Takes the next record of a message.
+    ///
+    /// # Errors
+    ///
+    /// `Malformed` where no record comes next. The parser is then as it was.
+    pub fn parse(parser: &mut Parser<R>) -> Result<Record<R>, Malformed>
+        ensures entry { IfOk result (λ entry.
+            IsRecord (window parser.old) (record_of entry) (window parser.new)) }
+        ensures malformed { IsErr result → (entry : said.Record) (v : Window)
+            → ¬ IsRecord (window parser.old) entry v }
+        ensures kept { OnErr result (window parser.new ≡ window parser.old) }
+        ensures same { sequence parser.new ≡ sequence parser.old }
+    {
+        Record::parse_counted(parser, &mut Turns::new())
+    }
+
+    /// Takes the next record as [`parse`](Self::parse), and counts the turns that its name takes.
+    ///
+    /// # Errors
+    ///
+    /// As `parse`.
+    pub fn parse_counted(parser: &mut Parser<R>, turns: &mut Turns) -> Result<Record<R>, Malformed>
+        ensures entry { IfOk result (λ entry.
+            IsRecord (window parser.old) (record_of entry) (window parser.new)) }
+        ensures malformed { IsErr result → (entry : said.Record) (v : Window)
+            → ¬ IsRecord (window parser.old) entry v }
+        ensures kept { OnErr result (window parser.new ≡ window parser.old) }
+        ensures same { sequence parser.new ≡ sequence parser.old }
+        ensures turns { turns.new ≤ turns.old + 255 }
+    {
+        let mut ahead = *parser;
+        let owner = ParsedName::parse_counted(&mut ahead, turns)?;
+        let rtype = ahead.parse_u16_be()?;
+        let class = ahead.parse_u16_be()?;
+        let ttl = ahead.parse_u32_be()?;
+        let rdata = ahead.parse_part_u16_be()?;
+        *parser = ahead;
+        Ok(Record {
+            owner,
+            rtype: Rtype::from_int(rtype),
+            class: Class::from_int(class),
+            ttl: Ttl::from_secs(ttl),
+            rdata,
+        })
+    }
+
+    /// The name that it is of.
+    pub fn owner(&self) -> ParsedName<R>
+        ensures { name_of result ≡ (record_of self.now).owner }
+    {
+        self.owner
+    }
+
+    /// Its type.
+    pub fn rtype(&self) -> Rtype
+        ensures { result ≡ (record_of self.now).rtype }
+    {
+        self.rtype
+    }
+
+    /// Its class.
+    pub fn class(&self) -> Class
+        ensures { result ≡ (record_of self.now).class }
+    {
+        self.class
+    }
+
+    /// For how many seconds it may be kept.
+    pub fn ttl(&self) -> Ttl
+        ensures { result ≡ (record_of self.now).ttl }
+    {
+        self.ttl
+    }
+
+    /// The place of its data: a parser of the message that begins and ends with the data.
+    pub fn rdata(&self) -> Parser<R>
+        ensures place { window result ≡ (record_of self.now).rdata }
+        ensures octets { (window result).octets ≡ (record_of self.now).owner.place.octets }
+        ensures within { (window result).end ≤ (record_of self.now).owner.place.end }
+    {
+        self.rdata
+    }
+
+    /// What its data says, by its type and class. Names in it are read in the message, with their pointers, and the
+    /// data ends exactly where its form does. Data that isn't of its type's form is opaque, and so is the data of a
+    /// type that has no form here.
+    pub fn data(&self) -> Data<R>
+        ensures { IsDataOf (record_of self.now) (form_of result) }
+    {
+        self.data_counted(&mut Turns::new())
+    }
+
+    /// What its data says, as [`data`](Self::data), and counts the turns that names in it take: the root, each label
+    /// and each pointer. There are at most two names.
+    pub fn data_counted(&self, turns: &mut Turns) -> Data<R>
+        ensures form { IsDataOf (record_of self.now) (form_of result) }
+        ensures turns { turns.new ≤ turns.old + 510 }
+    {
+        let mut parser = self.owner.parser();
+        infallible(parser.seek(self.rdata.pos()));
+        match Data::parse(&mut parser, self.rtype, self.class, self.rdata.len(), turns) {
+            Ok(found) => found,
+            Err(_) => Data::Opaque(self.rdata),
+        }
+    }
+}

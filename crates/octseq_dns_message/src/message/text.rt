@@ -1,0 +1,174 @@
+//! The text of records and of whole messages.
+ghost use Rattle.std.specs.Prelude.{◌≡◌, ◌≢◌, ◌+◌, ◌++◌, ℕ, List, Some, None, true, length, codes, IsErr, OnOk, OnErr};
+ghost use Rattle.octseq.specs.Limit.{IsPast};
+ghost use Rattle.octseq.specs.Refusal.{IsShort, IsMemory};
+ghost use Rattle.octseq.specs.Display.{display_error};
+ghost use Rattle.octseq.specs.Parts.{IsFront};
+ghost use Rattle.octseq_dns_message.specs.Data.{Form, IsDataOf};
+ghost use Rattle.octseq_dns_message.specs.Entry as said;
+ghost use Rattle.octseq_dns_message.specs.HeaderText.{header_text, question_text};
+ghost use Rattle.octseq_dns_message.specs.MessageText.{record_text, line, header_line, questions_text, IsRecordsText, IsMessageText};
+ghost use Rattle.octseq_dns_message.specs.Parsed.{header_of, questions_of, answers_of, authorities_of, additionals_of};
+ghost use Rattle.octseq_dns_message.specs.Said.{question_of, record_of};
+ghost use Rattle.octseq_dns_message.specs.TextFront.{BeginsAtLine};
+ghost use Rattle.octseq_dns_message.specs.Walk.{questions_left, records_left};
+
+use crate::data::Data;
+use crate::header::Header;
+use crate::message::{Message, Question, Questions, Record, Records};
+use octseq::str::DisplayError;
+use octseq::{AsOctets, OctetsBuilder, StrBuilder, Truncate};
+use std::fmt;
+
+/// A message has one text at most.
+///
+/// It does nothing. A caller that calls it has the law in its proof.
+pub fn one_text_of_a_message()
+    ensures { (header : Header) (questions : List said.Question) (answers authorities additionals : List said.Record)
+        (text other : List ℕ) → IsMessageText header questions answers authorities additionals text
+        → IsMessageText header questions answers authorities additionals other → text ≡ other }
+{}
+
+/// The line of a header.
+#[derive(Drop)]
+struct HeaderLine {
+    header: Header,
+}
+
+impl fmt::Display for HeaderLine {
+    ghost output = { λ shown. Some (header_line shown.header) };
+
+    fn fmt<W: fmt::Write>(&self, f: &mut fmt::Formatter<W>) -> fmt::Result {
+        let header = self.header;
+        write!(f, "{header}\n")
+    }
+}
+
+/// The line of a question.
+#[derive(Drop)]
+struct QuestionLine<R: AsOctets> {
+    question: Question<R>,
+}
+
+impl<R: AsOctets + Copy> fmt::Display for QuestionLine<R> {
+    ghost output = { λ shown. Some (line (codes "question") (question_text (question_of shown.question))) };
+
+    fn fmt<W: fmt::Write>(&self, f: &mut fmt::Formatter<W>) -> fmt::Result {
+        let question = self.question;
+        write!(f, "question {question}\n")
+    }
+}
+
+/// The line of a record, behind the word of its section.
+#[derive(Drop)]
+struct RecordLine<'a, R: AsOctets> {
+    word: &'a str,
+    entry: Record<R>,
+    rdata: Data<R>,
+}
+
+impl<'a, R: AsOctets + Copy> fmt::Display for RecordLine<'a, R> {
+    ghost use Rattle.octseq_dns_message.specs.Typed.{form_of};
+
+    ghost output = { λ shown. Some (line shown.word.now (record_text (record_of shown.entry) (form_of shown.rdata))) };
+
+    fn fmt<W: fmt::Write>(&self, f: &mut fmt::Formatter<W>) -> fmt::Result {
+        let word = self.word;
+        let rdata = self.rdata;
+        let (owner, ttl) = (self.entry.owner(), self.entry.ttl());
+        let (class, rtype) = (self.entry.class(), self.entry.rtype());
+        write!(f, "{word} {owner} {ttl} {class} {rtype} {rdata}\n")
+    }
+}
+
+impl<R: AsOctets + Copy> Message<R> {
+    ghost use Rattle.octseq_dns_message.specs.Parsed.{header_of, questions_of, answers_of, authorities_of, additionals_of};
+
+    /// Appends the text of the message, or nothing: a line for its header, as
+    /// `id 4660 opcode 0 rcode 0 flags QR AA RD`; one for each question, as `question example.com. IN A`; and one for
+    /// each record behind the word of its section, as `answer example.com. 300 IN A 1.2.3.4`. Each ends with a line
+    /// feed.
+    ///
+    /// # Errors
+    ///
+    /// `Short` where the text would pass the limit of its type, `Memory` where a request for memory was refused. The
+    /// text is then as it was.
+    pub fn append_text<B: OctetsBuilder + Truncate>(
+        &self,
+        text: &mut StrBuilder<B>,
+    ) -> Result<(), DisplayError>
+        ensures text { OnOk result ((lines : List ℕ) × IsMessageText (header_of self.now) (questions_of self.now)
+            (answers_of self.now) (authorities_of self.now) (additionals_of self.now) lines
+            × (B.content text.new ≡ B.content text.old ++ lines)) }
+        ensures err { OnErr result (B.content text.new ≡ B.content text.old) }
+        ensures past { (lines : List ℕ) → IsMessageText (header_of self.now) (questions_of self.now)
+            (answers_of self.now) (authorities_of self.now) (additionals_of self.now) lines
+            → IsPast B.limit (length (B.content text.old) + length lines) → IsErr result }
+        ensures short { IsShort display_error result → B.limit ≢ None }
+        ensures memory { IsMemory display_error result → B.asks ≡ true }
+    {
+        let len = text.len();
+        let answer = append_lines(text, self);
+        let _lent = text.as_slice();
+        if answer.is_err() {
+            text.truncate(len);
+        }
+        answer
+    }
+}
+
+/// Appends the text of a message. A refusal leaves a front of it behind.
+fn append_lines<B: OctetsBuilder + Truncate, R: AsOctets + Copy>(
+    text: &mut StrBuilder<B>,
+    message: &Message<R>,
+) -> Result<(), DisplayError>
+    ensures text { OnOk result ((lines : List ℕ) × IsMessageText (header_of message.now) (questions_of message.now)
+        (answers_of message.now) (authorities_of message.now) (additionals_of message.now) lines
+        × (B.content text.new ≡ B.content text.old ++ lines)) }
+    ensures front { OnErr result (BeginsAtLine (B.content text.old) (B.content text.new)) }
+    ensures short { IsShort display_error result → B.limit ≢ None }
+    ensures memory { IsMemory display_error result → B.asks ≡ true }
+{
+    let header = message.header();
+    text.try_push_display(HeaderLine { header })?;
+    append_questions(text, message.questions())?;
+    append_records(text, "answer", message.answers())?;
+    append_records(text, "authority", message.authorities())?;
+    append_records(text, "additional", message.additionals())
+}
+
+/// Appends a line for each question. A refusal leaves some behind.
+fn append_questions<B: OctetsBuilder + Truncate, R: AsOctets + Copy>(
+    text: &mut StrBuilder<B>,
+    questions: Questions<R>,
+) -> Result<(), DisplayError>
+    ensures text { OnOk result (B.content text.new
+        ≡ B.content text.old ++ questions_text (questions_left questions)) }
+    ensures front { OnErr result (IsFront (B.content text.old) (B.content text.new)) }
+    ensures short { IsShort display_error result → B.limit ≢ None }
+    ensures memory { IsMemory display_error result → B.asks ≡ true }
+{
+    for question in questions {
+        text.try_push_display(QuestionLine { question })?;
+    }
+    Ok(())
+}
+
+/// Appends a line for each record, behind the word of its section. A refusal leaves some behind.
+fn append_records<B: OctetsBuilder + Truncate, R: AsOctets + Copy>(
+    text: &mut StrBuilder<B>,
+    word: &str,
+    records: Records<R>,
+) -> Result<(), DisplayError>
+    ensures text { OnOk result ((lines : List ℕ) × IsRecordsText word.now (records_left records) lines
+        × (B.content text.new ≡ B.content text.old ++ lines)) }
+    ensures front { OnErr result (IsFront (B.content text.old) (B.content text.new)) }
+    ensures short { IsShort display_error result → B.limit ≢ None }
+    ensures memory { IsMemory display_error result → B.asks ≡ true }
+{
+    for entry in records {
+        let rdata = entry.data();
+        text.try_push_display(RecordLine { word, entry, rdata })?;
+    }
+    Ok(())
+}

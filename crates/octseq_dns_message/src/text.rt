@@ -1,0 +1,145 @@
+//! The text of numbers with names, of headers and of questions.
+ghost use Rattle.std.specs.Prelude.{Some, ◌++◌, codes};
+ghost use Rattle.std.specs.Fmt.{WritesOnOk, decimal};
+ghost use Rattle.octseq_dns_message.specs.HeaderText.{flag_text, flags_text, header_text, question_text};
+ghost use Rattle.octseq_dns_message.specs.Mnemonic.{class_text, rtype_text};
+ghost use Rattle.octseq_dns_message.specs.Said.{question_of};
+
+use crate::header::{Flags, Header};
+use crate::iana::{Class, Opcode, Rcode, Rtype};
+use crate::message::Question;
+use crate::ttl::Ttl;
+use octseq::AsOctets;
+use std::fmt;
+
+/// Prints the mnemonic of the class, or `CLASS` and its number.
+impl fmt::Display for Class {
+    ghost output = { λ class. Some (class_text class) };
+
+    fn fmt<W: fmt::Write>(&self, f: &mut fmt::Formatter<W>) -> fmt::Result {
+        match self.to_int() {
+            1 => f.write_str("IN"),
+            3 => f.write_str("CH"),
+            4 => f.write_str("HS"),
+            254 => f.write_str("NONE"),
+            255 => f.write_str("ANY"),
+            number => write!(f, "CLASS{number}"),
+        }
+    }
+}
+
+/// Prints the mnemonic of the type, or `TYPE` and its number.
+impl fmt::Display for Rtype {
+    ghost output = { λ rtype. Some (rtype_text rtype) };
+
+    fn fmt<W: fmt::Write>(&self, f: &mut fmt::Formatter<W>) -> fmt::Result {
+        match self.to_int() {
+            1 => f.write_str("A"),
+            2 => f.write_str("NS"),
+            5 => f.write_str("CNAME"),
+            6 => f.write_str("SOA"),
+            12 => f.write_str("PTR"),
+            15 => f.write_str("MX"),
+            16 => f.write_str("TXT"),
+            28 => f.write_str("AAAA"),
+            33 => f.write_str("SRV"),
+            41 => f.write_str("OPT"),
+            252 => f.write_str("AXFR"),
+            255 => f.write_str("ANY"),
+            number => write!(f, "TYPE{number}"),
+        }
+    }
+}
+
+/// Prints the number.
+impl fmt::Display for Opcode {
+    ghost output = { λ opcode. Some (decimal opcode) };
+
+    fn fmt<W: fmt::Write>(&self, f: &mut fmt::Formatter<W>) -> fmt::Result {
+        let number = self.to_int();
+        write!(f, "{number}")
+    }
+}
+
+/// Prints the number.
+impl fmt::Display for Rcode {
+    ghost output = { λ rcode. Some (decimal rcode) };
+
+    fn fmt<W: fmt::Write>(&self, f: &mut fmt::Formatter<W>) -> fmt::Result {
+        let number = self.to_int();
+        write!(f, "{number}")
+    }
+}
+
+/// Prints the number of seconds.
+impl fmt::Display for Ttl {
+    ghost output = { λ ttl. Some (decimal ttl) };
+
+    fn fmt<W: fmt::Write>(&self, f: &mut fmt::Formatter<W>) -> fmt::Result {
+        let secs = self.as_secs();
+        write!(f, "{secs}")
+    }
+}
+
+/// Prints the number of the message, its opcode, its response code, and its flags that are set, as
+/// `id 4660 opcode 0 rcode 0 flags QR AA RD`.
+impl fmt::Display for Header {
+    ghost output = { λ header. Some (header_text header) };
+
+    fn fmt<W: fmt::Write>(&self, f: &mut fmt::Formatter<W>) -> fmt::Result {
+        let Header {
+            id,
+            flags,
+            opcode,
+            rcode,
+            ..
+        } = *self;
+        write!(f, "id {id} opcode {opcode} rcode {rcode} flags")?;
+        write_flags(f, flags)
+    }
+}
+
+/// Writes each flag that is set behind a space, from the highest bit to the lowest, but for the one of no meaning.
+fn write_flags<W: fmt::Write>(f: &mut fmt::Formatter<W>, flags: Flags) -> fmt::Result
+    ensures { WritesOnOk W.write_str_gives f.old result (flags_text flags) f.new }
+{
+    write_flag(f, flags.qr, "QR")?;
+    write_flag(f, flags.aa, "AA")?;
+    write_flag(f, flags.tc, "TC")?;
+    write_low_flags(f, flags)
+}
+
+/// Writes those of the four lowest bits that have names.
+fn write_low_flags<W: fmt::Write>(f: &mut fmt::Formatter<W>, flags: Flags) -> fmt::Result
+    ensures { WritesOnOk W.write_str_gives f.old result (flag_text flags.rd (codes "RD")
+        ++ flag_text flags.ra (codes "RA") ++ flag_text flags.ad (codes "AD") ++ flag_text flags.cd (codes "CD")) f.new }
+{
+    write_flag(f, flags.rd, "RD")?;
+    write_flag(f, flags.ra, "RA")?;
+    write_flag(f, flags.ad, "AD")?;
+    write_flag(f, flags.cd, "CD")
+}
+
+/// Writes the name of a flag that is set behind a space.
+fn write_flag<W: fmt::Write>(f: &mut fmt::Formatter<W>, is_set: bool, name: &str) -> fmt::Result
+    ensures { WritesOnOk W.write_str_gives f.old result (flag_text is_set name.now) f.new }
+{
+    if is_set {
+        return write!(f, " {name}");
+    }
+    Ok(())
+}
+
+/// Prints the name, the class and the type, as `example.com. IN A`.
+impl<R: AsOctets + Copy> fmt::Display for Question<R> {
+    ghost output = { λ question. Some (question_text (question_of question)) };
+
+    fn fmt<W: fmt::Write>(&self, f: &mut fmt::Formatter<W>) -> fmt::Result {
+        let Question {
+            qname,
+            qtype,
+            qclass,
+        } = *self;
+        write!(f, "{qname} {qclass} {qtype}")
+    }
+}

@@ -1,0 +1,5 @@
+pub mod Comparisons
+pub mod Names
+pub mod SpellingSteps
+pub mod Spellings
+pub mod Wires

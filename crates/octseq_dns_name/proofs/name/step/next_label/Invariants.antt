@@ -1,0 +1,16 @@
+-- What stands where the loop began stands, behind its pointers, where it is now; each pointer brings the place down.
+use Rattle.std.proofs.Common.{◌≤◌, ℕ, List}
+use Rattle.octseq.specs.Parser.{window}
+use Rattle.octseq.specs.Window.{Window}
+use Rattle.octseq_dns_name.specs.Name.{Stands}
+use Rattle.octseq_dns_name.proofs.name.step.next_label.Given as goal
+
+abbrev pub invariant-pointers : goal.invariant-pointers
+invariant-pointers g l = record {
+  stands : (labels : List (List ℕ)) (pointers : ℕ) (end : Window) → Stands l.fn.start (window l.fn.parser) labels pointers end
+      → (fewer : ℕ) × (last : Window) × Stands l.start (window l.parser) labels fewer last;
+  ordered : l.start ≤ (window l.parser).position;
+}
+
+abbrev pub decreases-pointers : goal.decreases-pointers
+decreases-pointers g l = l.start

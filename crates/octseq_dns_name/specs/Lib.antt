@@ -1,0 +1,10 @@
+pub mod Name
+pub mod OneName
+pub mod Order
+pub mod OrderLaws
+pub mod Owned
+pub mod Piece
+pub mod Read
+pub mod Spelling
+pub mod Text
+pub mod Wire

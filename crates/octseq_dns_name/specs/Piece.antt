@@ -1,0 +1,46 @@
+-- What the readers of a name share: the piece that stands at a place, and where the name ends.
+use Rattle.std.specs.Prelude.{ℕ, ◌≤◌, List, Option, Some, None}
+use Rattle.octseq.specs.declared.AsOctets.{Ghosts}
+use Rattle.octseq.specs.Parser.{window}
+use Rattle.octseq.specs.declared.parse.Parser.{Parser}
+use Rattle.octseq.specs.Window.{Window, left, rest}
+use Rattle.octseq_dns_name.specs.Name.{HasRoot, HasLabel, HasPointer}
+use Rattle.octseq_dns_name.specs.declared.name.step.Step.{Step}
+use Rattle.octseq_dns_name.specs.declared.name.step.Step.TheVariants as step
+
+-- one of the three things that may stand at a place of a name
+pub data Piece : Type 0 where
+  root : Piece
+  label : List ℕ → Piece
+  pointer : ℕ → Piece
+
+-- it stands at a window's position
+abbrev pub HasPiece : ℕ → Window → Piece → Window → Type 0
+HasPiece start w Piece.root v = HasRoot w v
+HasPiece start w (Piece.label l) v = HasLabel w l v
+HasPiece start w (Piece.pointer to) v = HasPointer start w to v
+
+-- the piece that a step took
+abbrev pub piece : {R : Type 0} {g : Ghosts R} → Step R g → Piece
+piece step.Root = Piece.root
+piece (step.Label l) = Piece.label (rest (window l))
+piece (step.Pointer to) = Piece.pointer to
+
+-- a window of 1 to 63 octets
+abbrev pub IsShort : {R : Type 0} {g : Ghosts R} → Parser R g → Type 0
+IsShort parser = (1 ≤ left (window parser)) × (left (window parser) ≤ 63)
+
+-- a label that was taken has so many
+abbrev pub IsShortLabel : {R : Type 0} {g : Ghosts R} → Step R g → Type 0
+IsShortLabel (step.Label l) = IsShort l
+IsShortLabel _ = Unit {0}
+
+-- where a name ends: behind its first pointer, if there was one
+abbrev pub end_of : Option Window → Window → Window
+end_of None u = u
+end_of (Some v) u = v
+
+-- the window of a parser that was kept, if one was
+abbrev pub windows : {R : Type 0} {g : Ghosts R} → Option (Parser R g) → Option Window
+windows None = None
+windows (Some p) = Some (window p)

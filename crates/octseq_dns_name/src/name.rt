@@ -1,0 +1,172 @@
+//! Domain names in messages, with their compression pointers.
+ghost use Rattle.std.specs.Prelude.{◌≡◌, ℕ, List};
+ghost use Rattle.octseq.specs.Parser.{window};
+ghost use Rattle.octseq.specs.Window.{Window};
+ghost use Rattle.octseq_dns_name.specs.Name.{IsName, wire_length};
+ghost use Rattle.octseq_dns_name.specs.OneName.{Named, named_once};
+
+use crate::error::Malformed;
+use crate::name::step::{Step, kept_or, next_step};
+use octseq::builder::infallible;
+use octseq::utf8::Turns;
+use octseq::{AsOctets, Parser};
+use std::alloc::AllocError;
+
+mod compare;
+mod labels;
+mod owned;
+mod spelling;
+mod step;
+pub(crate) mod text;
+mod wire;
+
+pub use crate::name::labels::{Label, Labels};
+pub use crate::name::owned::Name;
+pub use crate::name::text::{a_name_is_spelled_by_its_text, one_name_of_a_text};
+
+/// How many octets a name may have in wire form: RFC 1035, 2.3.4.
+const NAME_MOST: usize = 255;
+
+/// How many pointers a name may have.
+const POINTERS_MOST: usize = 127;
+
+/// At most one name stands at a place, with one end.
+///
+/// It does nothing. A caller that calls it has the law in its proof.
+pub fn one_name_at_a_place()
+    ensures { (w end last : Window) (labels others : List (List ℕ)) → IsName w labels end → IsName w others last
+        → (labels ≡ others) × (end ≡ last) }
+{}
+
+/// A name in a message: the place where it stands, as a parser of the message. It copies no octet.
+#[derive(Debug)]
+pub struct ParsedName<R: AsOctets> {
+    parser: Parser<R>,
+    len: usize,
+    ghost named: { Named (window parser) } by { named_once (window parser) },
+    ghost measured: { len ≡ wire_length named.0 },
+}
+
+impl<R: AsOctets + Copy> Copy for ParsedName<R> {}
+
+impl<R: AsOctets + Copy> Clone for ParsedName<R> {
+    ghost use Rattle.std.specs.Prelude.{⊤};
+
+    ghost is_clone = { λ name copy. copy ≡ name };
+
+    ghost is_infallible = { λ _. ⊤ };
+
+    fn clone(&self) -> Result<Self, AllocError> {
+        Ok(*self)
+    }
+}
+
+impl<R: AsOctets + Copy> ParsedName<R> {
+    ghost use Rattle.std.specs.Prelude.{◌+◌, ◌≤◌, ◌↔◌, [], length, IsTrue, IsErr, IfOk, OnErr};
+    ghost use Rattle.octseq.specs.Parser.{sequence};
+    ghost use Rattle.octseq_dns_name.specs.Read.{place_of, labels_of, labels_left};
+
+    /// Takes the next name of a message. The parser is then behind it: behind its first pointer, if it has one.
+    ///
+    /// # Errors
+    ///
+    /// `Malformed` where no name comes next. The parser is then as it was.
+    pub fn parse(parser: &mut Parser<R>) -> Result<ParsedName<R>, Malformed>
+        ensures place { IfOk result (λ name. place_of name ≡ window parser.old) }
+        ensures name { IfOk result (λ name. IsName (window parser.old) (labels_of name) (window parser.new)) }
+        ensures malformed { IsErr result → (labels : List (List ℕ)) (end : Window)
+            → ¬ IsName (window parser.old) labels end }
+        ensures kept { OnErr result (window parser.new ≡ window parser.old) }
+        ensures same { sequence parser.new ≡ sequence parser.old }
+    {
+        ParsedName::parse_counted(parser, &mut Turns::new())
+    }
+
+    /// Takes the next name as [`parse`](Self::parse), and counts a turn for the root, for each label and for each
+    /// pointer.
+    ///
+    /// # Errors
+    ///
+    /// As `parse`.
+    pub fn parse_counted(
+        parser: &mut Parser<R>,
+        turns: &mut Turns,
+    ) -> Result<ParsedName<R>, Malformed>
+        ensures place { IfOk result (λ name. place_of name ≡ window parser.old) }
+        ensures name { IfOk result (λ name. IsName (window parser.old) (labels_of name) (window parser.new)) }
+        ensures malformed { IsErr result → (labels : List (List ℕ)) (end : Window)
+            → ¬ IsName (window parser.old) labels end }
+        ensures kept { OnErr result (window parser.new ≡ window parser.old) }
+        ensures same { sequence parser.new ≡ sequence parser.old }
+        ensures turns { turns.new ≤ turns.old + 255 }
+    {
+        let mut ahead = *parser;
+        let mut behind = None;
+        let mut start = parser.pos();
+        let mut len = 1usize;
+        let mut pointers = 0usize;
+        'pieces: loop {
+            turns.tick();
+            match next_step(&mut ahead, start)? {
+                Step::Root => break,
+                Step::Label(label) => {
+                    len += 1 + label.remaining();
+                    if len > NAME_MOST {
+                        return Err(Malformed);
+                    }
+                }
+                Step::Pointer(to) => {
+                    pointers += 1;
+                    if pointers > POINTERS_MOST {
+                        return Err(Malformed);
+                    }
+                    behind = Some(kept_or(behind, ahead));
+                    infallible(ahead.seek(to));
+                    start = to;
+                }
+            }
+        }
+        let name = ParsedName {
+            parser: *parser,
+            len,
+        };
+        *parser = kept_or(behind, ahead);
+        Ok(name)
+    }
+
+    /// The parser of the message, at the name's place.
+    pub fn parser(&self) -> Parser<R>
+        ensures { window result ≡ place_of self.now }
+    {
+        self.parser
+    }
+
+    /// Its labels, from the first one on.
+    pub fn labels(&self) -> Labels<R>
+        ensures { labels_left result ≡ labels_of self.now }
+    {
+        Labels::at(self.parser)
+    }
+
+    /// How many labels it has, the root left out.
+    pub fn label_count(&self) -> usize
+        ensures { result ≡ length (labels_of self.now) }
+    {
+        self.labels().count()
+    }
+
+    /// How many octets it has in wire form: each label behind its length, and one octet for the root.
+    pub fn len(&self) -> usize
+        ensures len { result ≡ wire_length (labels_of self.now) }
+        ensures most { result ≤ 255 }
+    {
+        self.len
+    }
+
+    /// Whether it is the root, which has no label.
+    pub fn is_root(&self) -> bool
+        ensures { IsTrue result ↔ (labels_of self.now ≡ []) }
+    {
+        self.len == 1
+    }
+}

@@ -1,0 +1,91 @@
+//! The pieces of a name.
+ghost use Rattle.std.specs.Prelude.{◌≡◌, ◌≤◌, ℕ, List, [], ◌∷◌, IsErr, IfOk, IsNone, IfSome};
+ghost use Rattle.octseq.specs.Parser.{sequence, window};
+ghost use Rattle.octseq.specs.Window.{Window, rest};
+ghost use Rattle.octseq_dns_name.specs.Name.{Stands};
+ghost use Rattle.octseq_dns_name.specs.Piece.{Piece, HasPiece, piece, IsShort, IsShortLabel, end_of, windows};
+
+use crate::error::Malformed;
+use octseq::builder::infallible;
+use octseq::{AsOctets, Parser};
+
+/// What stands at a place of a name.
+#[derive(Drop)]
+pub(crate) enum Step<R: AsOctets> {
+    /// The root.
+    Root,
+    /// A label: a parser of its octets.
+    Label(Parser<R>),
+    /// The place where the name goes on.
+    Pointer(usize),
+}
+
+/// Takes the next piece of a name. A pointer points before `start`.
+pub(crate) fn next_step<R: AsOctets + Copy>(
+    parser: &mut Parser<R>,
+    start: usize,
+) -> Result<Step<R>, Malformed>
+    ensures step { IfOk result (λ step. HasPiece start (window parser.old) (piece step) (window parser.new)) }
+    ensures label { IfOk result IsShortLabel }
+    ensures malformed { IsErr result → (other : Piece) (v : Window)
+        → ¬ HasPiece start (window parser.old) other v }
+    ensures ordered { start ≤ (window parser.old).position → start ≤ (window parser.new).position }
+    ensures same { sequence parser.new ≡ sequence parser.old }
+{
+    let first = parser.parse_u8()?;
+    if first == 0 {
+        return Ok(Step::Root);
+    }
+    if first <= 63 {
+        return Ok(Step::Label(parser.parse_parser(usize::from(first))?));
+    }
+    if first < 192 {
+        return Err(Malformed);
+    }
+    let second = parser.parse_u8()?;
+    let to = usize::from(first - 192) * 256 + usize::from(second);
+    if to >= start {
+        return Err(Malformed);
+    }
+    Ok(Step::Pointer(to))
+}
+
+/// The parser that was kept, or else this one.
+pub(crate) fn kept_or<R: AsOctets + Copy>(kept: Option<Parser<R>>, ahead: Parser<R>) -> Parser<R>
+    ensures window { window result ≡ end_of (windows kept) (window ahead) }
+    ensures same { (octets : R) → IfSome kept (λ p. sequence p ≡ octets) → sequence ahead ≡ octets
+        → sequence result ≡ octets }
+{
+    match kept {
+        Some(parser) => parser,
+        None => ahead,
+    }
+}
+
+/// Takes the next label of a name, and all pointers before it. The part of the name that is ahead began at `start`.
+pub(crate) fn next_label<R: AsOctets + Copy>(
+    parser: &mut Parser<R>,
+    start: &mut usize,
+) -> Option<Parser<R>>
+    requires { start.old ≤ (window parser.old).position }
+    ensures some { IfSome result (λ label. (labels : List (List ℕ)) (pointers : ℕ) (end : Window)
+        → Stands start.old (window parser.old) labels pointers end
+        → (more : List (List ℕ)) × (fewer : ℕ) × (last : Window)
+        × (labels ≡ rest (window label) ∷ more) × Stands start.new (window parser.new) more fewer last) }
+    ensures none { IsNone result → (labels : List (List ℕ)) (pointers : ℕ) (end : Window)
+        → Stands start.old (window parser.old) labels pointers end → labels ≡ [] }
+    ensures ordered { start.new ≤ (window parser.new).position }
+    ensures short { IfSome result IsShort }
+{
+    'pointers: loop {
+        match next_step(parser, *start) {
+            Ok(Step::Label(label)) => return Some(label),
+            Ok(Step::Pointer(to)) => {
+                infallible(parser.seek(to));
+                *start = to;
+            }
+            Ok(Step::Root) => return None,
+            Err(_) => return None,
+        }
+    }
+}

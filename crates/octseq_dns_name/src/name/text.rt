@@ -1,0 +1,96 @@
+//! The text of names.
+ghost use Rattle.std.specs.Prelude.{◌≡◌, ℕ, ◌<◌, ◌+◌, List, [], ◌∷◌, Some};
+ghost use Rattle.std.specs.Fmt.{WritesOnOk};
+ghost use Rattle.octseq_dns_name.specs.Read.{labels_of, label_octets};
+ghost use Rattle.octseq_dns_name.specs.Spelling.{AreOctetLabels, SpellsName};
+ghost use Rattle.octseq_dns_name.specs.Wire.{AreLabels};
+ghost use Rattle.octseq_dns_name.specs.Text.{is_quoted, three_digits, octet_text, label_text, name_text};
+
+use crate::name::{Label, ParsedName};
+use octseq::AsOctets;
+use std::fmt;
+
+/// A text spells one name at most.
+///
+/// It does nothing. A caller that calls it has the law in its proof.
+pub fn one_name_of_a_text()
+    ensures { (labels others : List (List ℕ)) (text : List ℕ) → AreLabels labels → AreLabels others
+        → SpellsName labels text → SpellsName others text → labels ≡ others }
+{}
+
+/// The text that is printed spells its name, so that it is read back as that name.
+///
+/// It does nothing. A caller that calls it has the law in its proof.
+pub fn a_name_is_spelled_by_its_text()
+    ensures { (labels : List (List ℕ)) → AreOctetLabels labels → SpellsName labels (name_text labels) }
+{}
+
+/// Prints the octets of the label: each of `"().;\@$` behind a backslash, each other one of 21 to 7E (hexadecimal) as
+/// itself, and any other as a backslash and three decimal digits.
+impl<R: AsOctets> fmt::Display for Label<R> {
+    ghost output = { λ label. Some (label_text (label_octets label)) };
+
+    fn fmt<W: fmt::Write>(&self, f: &mut fmt::Formatter<W>) -> fmt::Result {
+        for octet in self.as_slice() {
+            write_octet(f, *octet)?;
+        }
+        Ok(())
+    }
+}
+
+/// Prints each label with a full stop behind it, and the root as `.` alone.
+impl<R: AsOctets + Copy> fmt::Display for ParsedName<R> {
+    ghost output = { λ name. Some (name_text (labels_of name)) };
+
+    fn fmt<W: fmt::Write>(&self, f: &mut fmt::Formatter<W>) -> fmt::Result {
+        if self.is_root() {
+            return f.write_str(".");
+        }
+        for label in self.labels() {
+            write!(f, "{label}.")?;
+        }
+        Ok(())
+    }
+}
+
+/// Writes an octet of a label.
+fn write_octet<W: fmt::Write>(f: &mut fmt::Formatter<W>, octet: u8) -> fmt::Result
+    ensures { WritesOnOk W.write_str_gives f.old result (octet_text octet) f.new }
+{
+    if needs_backslash(octet) {
+        f.write_char('\\')?;
+        return f.write_char(char::from(octet));
+    }
+    if octet.is_ascii_graphic() {
+        return f.write_char(char::from(octet));
+    }
+    f.write_char('\\')?;
+    write_digits(f, octet)
+}
+
+/// Whether an octet that is visible is written behind a backslash.
+pub(crate) fn needs_backslash(octet: u8) -> bool
+    ensures { result ≡ is_quoted octet }
+{
+    matches!(
+        octet,
+        b'"' | b'(' | b')' | b'.' | b';' | b'\\' | b'@' | b'$'
+    )
+}
+
+/// Writes a number in three decimal digits, as they stand behind the backslash of an escape.
+pub fn write_digits<W: fmt::Write>(f: &mut fmt::Formatter<W>, number: u8) -> fmt::Result
+    ensures { WritesOnOk W.write_str_gives f.old result (three_digits number) f.new }
+{
+    write_digit(f, number / 100)?;
+    write_digit(f, number / 10 % 10)?;
+    write_digit(f, number % 10)
+}
+
+/// Writes one decimal digit.
+fn write_digit<W: fmt::Write>(f: &mut fmt::Formatter<W>, digit: u8) -> fmt::Result
+    requires { digit < 10 }
+    ensures { WritesOnOk W.write_str_gives f.old result ((48 + digit) ∷ []) f.new }
+{
+    f.write_char(char::from(b'0' + digit))
+}
