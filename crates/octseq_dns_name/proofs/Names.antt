@@ -1,12 +1,13 @@
 -- How a name is read piece by piece: what was read, what is ahead, and when there is no name.
-use Rattle.std.proofs.Common.{◌≡◌, ℕ, suc, ◌+◌, ◌<◌, ◌≤◌, List, [], ◌∷◌, ◌++◌, length, Option, Some, None, refl, sym, ap, ◌∙◌, subst, append_assoc, arith}
+use Rattle.std.proofs.Common.{◌≡◌, ℕ, suc, ◌+◌, ◌<◌, ◌≤◌, List, [], ◌∷◌, ◌++◌, length, Option, Some, None, IfSome, refl, sym, ap, ◌∙◌, subst, append_assoc, arith}
 use Rattle.std.proofs.Math.Logic.{∥∥₁_prop, ∥∥₁_elim}
 use Rattle.std.specs.Coded.{le_prop}
+use Rattle.std.specs.Option.{unwrap_or}
 use Rattle.std.proofs.lemmas.List.{append-nil}
 use Rattle.octseq.specs.Window.{Window, left, at}
 use Rattle.octseq_dns_name.specs.Name.{HasRoot, HasLabel, HasPointer, Stands, IsName, wire_length}
 use Rattle.octseq_dns_name.specs.OneName.{at_label, at_pointer, one_standing, one_labels, one_name, Named, Ahead, ahead_once}
-use Rattle.octseq_dns_name.specs.Piece.{Piece, HasPiece, end_of}
+use Rattle.octseq_dns_name.specs.Piece.{Piece, HasPiece, end_of, kept_at}
 
 -- ---- what stands ahead
 
@@ -189,6 +190,23 @@ whole_name w start v u size pointers behind so_far has short few = record {
   short = let is = so_far.size_is in omega (arith, is, short);
   few = few;
 }
+
+-- ---- where the name ends
+
+-- a window at a place of another is one at a place of the first
+pub at_of : (w u v : Window) (place : ℕ) → u ≡ at u.position w → v ≡ at place u → v ≡ at v.position w
+at_of w u v place of is = let there : v ≡ at place w = is ∙ ap (at place) of in there ∙ sym (ap (λ x. at x.position w) there)
+
+-- it ends at the place that was kept, or else where reading is
+pub kept_end : (w u : Window) (behind : Option ℕ) → u ≡ at u.position w → end_of (kept_at w behind) u ≡ at (unwrap_or behind u.position) w
+kept_end w u None of = of
+kept_end w u (Some place) of = refl
+
+-- which is within the window
+pub kept_within : (w u : Window) (behind : Option ℕ) → IfSome behind (λ place. place ≤ w.end) → u.position ≤ w.end
+    → unwrap_or behind u.position ≤ w.end
+kept_within w u None kept within = within
+kept_within w u (Some place) kept within = kept
 
 -- ---- what a name and its labels keep
 

@@ -3,7 +3,7 @@ use Rattle.std.specs.Prelude.{ℕ, ◌≤◌, List, Option, Some, None}
 use Rattle.octseq.specs.declared.AsOctets.{Ghosts}
 use Rattle.octseq.specs.Parser.{window}
 use Rattle.octseq.specs.declared.parse.Parser.{Parser}
-use Rattle.octseq.specs.Window.{Window, left, rest}
+use Rattle.octseq.specs.Window.{Window, left, rest, at}
 use Rattle.octseq_dns_name.specs.Name.{HasRoot, HasLabel, HasPointer}
 use Rattle.octseq_dns_name.specs.declared.name.step.Step.{Step}
 use Rattle.octseq_dns_name.specs.declared.name.step.Step.TheVariants as step
@@ -40,7 +40,7 @@ abbrev pub end_of : Option Window → Window → Window
 end_of None u = u
 end_of (Some v) u = v
 
--- the window of a parser that was kept, if one was
-abbrev pub windows : {R : Type 0} {g : Ghosts R} → Option (Parser R g) → Option Window
-windows None = None
-windows (Some p) = Some (window p)
+-- the window at a place that was kept, if one was
+abbrev pub kept_at : Window → Option ℕ → Option Window
+kept_at w None = None
+kept_at w (Some place) = Some (at place w)

@@ -6,7 +6,7 @@ ghost use Rattle.octseq_dns_name.specs.Name.{IsName, wire_length};
 ghost use Rattle.octseq_dns_name.specs.OneName.{Named, named_once};
 
 use crate::error::Malformed;
-use crate::name::step::{Step, kept_or, next_step};
+use crate::name::step::{Step, next_step};
 use octseq::builder::infallible;
 use octseq::utf8::Turns;
 use octseq::{AsOctets, Parser};
@@ -120,7 +120,7 @@ impl<R: AsOctets + Copy> ParsedName<R> {
                     if pointers > POINTERS_MOST {
                         return Err(Malformed);
                     }
-                    behind = Some(kept_or(behind, ahead));
+                    behind = Some(behind.unwrap_or(ahead.pos()));
                     infallible(ahead.seek(to));
                     start = to;
                 }
@@ -130,7 +130,7 @@ impl<R: AsOctets + Copy> ParsedName<R> {
             parser: *parser,
             len,
         };
-        *parser = kept_or(behind, ahead);
+        infallible(parser.seek(behind.unwrap_or(ahead.pos())));
         Ok(name)
     }
 

@@ -42,6 +42,7 @@ impl<R: AsOctets + Copy> Question<R> {
     /// # Errors
     ///
     /// `Malformed` where no question comes next. The parser is then as it was.
+    #[inline(always)]
     pub fn parse(parser: &mut Parser<R>) -> Result<Question<R>, Malformed>
         ensures question { IfOk result (λ question.
             IsQuestion (window parser.old) (question_of question) (window parser.new)) }
@@ -58,6 +59,7 @@ impl<R: AsOctets + Copy> Question<R> {
     /// # Errors
     ///
     /// As `parse`.
+    #[inline(always)]
     pub fn parse_counted(
         parser: &mut Parser<R>,
         turns: &mut Turns,

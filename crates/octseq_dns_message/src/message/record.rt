@@ -51,6 +51,7 @@ impl<R: AsOctets + Copy> Record<R> {
     /// # Errors
     ///
     /// `Malformed` where no record comes next. The parser is then as it was.
+    #[inline(always)]
     pub fn parse(parser: &mut Parser<R>) -> Result<Record<R>, Malformed>
         ensures entry { IfOk result (λ entry.
             IsRecord (window parser.old) (record_of entry) (window parser.new)) }
@@ -67,6 +68,7 @@ impl<R: AsOctets + Copy> Record<R> {
     /// # Errors
     ///
     /// As `parse`.
+    #[inline(always)]
     pub fn parse_counted(parser: &mut Parser<R>, turns: &mut Turns) -> Result<Record<R>, Malformed>
         ensures entry { IfOk result (λ entry.
             IsRecord (window parser.old) (record_of entry) (window parser.new)) }

@@ -53,6 +53,7 @@ impl<R: AsOctets + Copy> Iterator for Questions<R> {
 
     ghost remaining = { item_count questions_left };
 
+    #[inline(always)]
     fn next(&mut self) -> Option<Question<R>> {
         if self.left == 0 {
             return None;
@@ -112,6 +113,7 @@ impl<R: AsOctets + Copy> Iterator for Records<R> {
 
     ghost remaining = { item_count records_left };
 
+    #[inline(always)]
     fn next(&mut self) -> Option<Record<R>> {
         if self.left == 0 {
             return None;

@@ -3,7 +3,7 @@ ghost use Rattle.std.specs.Prelude.{◌≡◌, ◌≤◌, ℕ, List, [], ◌∷�
 ghost use Rattle.octseq.specs.Parser.{sequence, window};
 ghost use Rattle.octseq.specs.Window.{Window, rest};
 ghost use Rattle.octseq_dns_name.specs.Name.{Stands};
-ghost use Rattle.octseq_dns_name.specs.Piece.{Piece, HasPiece, piece, IsShort, IsShortLabel, end_of, windows};
+ghost use Rattle.octseq_dns_name.specs.Piece.{Piece, HasPiece, piece, IsShort, IsShortLabel};
 
 use crate::error::Malformed;
 use octseq::builder::infallible;
@@ -48,18 +48,6 @@ pub(crate) fn next_step<R: AsOctets + Copy>(
         return Err(Malformed);
     }
     Ok(Step::Pointer(to))
-}
-
-/// The parser that was kept, or else this one.
-pub(crate) fn kept_or<R: AsOctets + Copy>(kept: Option<Parser<R>>, ahead: Parser<R>) -> Parser<R>
-    ensures window { window result ≡ end_of (windows kept) (window ahead) }
-    ensures same { (octets : R) → IfSome kept (λ p. sequence p ≡ octets) → sequence ahead ≡ octets
-        → sequence result ≡ octets }
-{
-    match kept {
-        Some(parser) => parser,
-        None => ahead,
-    }
 }
 
 /// Takes the next label of a name, and all pointers before it. The part of the name that is ahead began at `start`.
