@@ -1,5 +1,6 @@
 pub mod Comparisons
 pub mod Names
+pub mod Refusals
 pub mod SpellingSteps
 pub mod Spellings
 pub mod Wires
