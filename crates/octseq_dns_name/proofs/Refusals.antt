@@ -265,7 +265,7 @@ no_name fault text is labels are short spells =
 
 -- ---- what a call answers
 
-abbrev error_or : {T E : Type 0} → Result T E → E → E
+abbrev pub error_or : {T E : Type 0} → Result T E → E → E
 error_or (Ok value) e = e
 error_or (Err other) e = other
 

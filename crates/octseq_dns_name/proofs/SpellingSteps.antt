@@ -20,6 +20,11 @@ pub none_left : (text : List ℕ) → length text ≡ 0 → text ≡ []
 none_left [] none = refl
 none_left (x ∷ text) none = absurd (omega (arith, none))
 
+-- and one that isn't empty has octets
+pub some_long : (text : List ℕ) → ¬ (text ≡ []) → 1 ≤ length text
+some_long [] some = absurd (some refl)
+some_long (x ∷ text) some = omega arith
+
 -- an octet takes a place in the text
 pub spelling_long : (octet : ℕ) (text : List ℕ) → SpellsOctet octet text → 1 ≤ length text
 spelling_long octet text (SpellsOctet.plain bare seen) = omega arith

@@ -1,18 +1,20 @@
 //! Names made of text, and of labels.
-ghost use Rattle.std.specs.Prelude.{◌≡◌, ◌≢◌, ◌≤◌, ◌↔◌, true, ℕ, List, map, IsErr, IsErrOf, IfOk};
+ghost use Rattle.std.specs.Prelude.{◌≡◌, ◌≢◌, ◌≤◌, ◌↔◌, true, ℕ, List, map, length};
+ghost use Rattle.std.specs.Prelude.{IsErr, IsErrOf, IfOk, OnErr};
+ghost use Rattle.octseq.specs.Limit.{IsPast};
 ghost use Rattle.octseq_dns_name.specs.Name.{wire_length};
 ghost use Rattle.octseq_dns_name.specs.Owned.{owned_labels};
 ghost use Rattle.octseq_dns_name.specs.Refused.{IsRefused};
 ghost use Rattle.octseq_dns_name.specs.Spelling.{SpellsName};
 ghost use Rattle.octseq_dns_name.specs.Unfit.{AreUnfit};
-ghost use Rattle.octseq_dns_name.specs.Wire.{AreLabels};
+ghost use Rattle.octseq_dns_name.specs.Wire.{wire, AreLabels};
 
 use crate::error::{LabelsError, NameError};
 use crate::name::owned::Name;
 use crate::name::spelling::wire_of;
 use crate::name::wire::{append, wire_of_labels};
 use octseq::{Array, AsOctets, EmptyBuilder};
-use std::alloc::Global;
+use std::alloc::{AllocError, Global};
 
 impl Name<Array<255>> {
     /// Reads the text of a name, with a full stop behind each label: RFC 1035, 5.1. An octet of a label stands there
@@ -53,11 +55,22 @@ impl<B: EmptyBuilder> Name<B> {
     {
         let wire = wire_of_labels(labels)?;
         match B::limit() {
-            Some(limit) if limit < wire.len() => return Err(LabelsError::Short),
-            _ => {}
+            Some(limit) if limit < wire.len() => Err(LabelsError::Short),
+            _ => Ok(Name::held(alloc, wire.as_slice())?),
         }
-        let mut octets = B::with_capacity(alloc, wire.len())?;
-        append(&mut octets, wire.as_slice())?;
-        Ok(Name { octets })
+    }
+
+    /// The name that has this plain wire form, which is within the limit.
+    fn held(alloc: Global, octets: &[u8]) -> Result<Self, AllocError>
+        requires room { ¬ IsPast B.limit (length octets.now) }
+        requires plain { (labels : List (List ℕ)) × (octets.now ≡ wire labels) × AreLabels labels
+            × (wire_length labels ≤ 255) }
+        ensures ok { (labels : List (List ℕ)) → octets.now ≡ wire labels → AreLabels labels
+            → wire_length labels ≤ 255 → IfOk result (λ name. owned_labels name ≡ labels) }
+        ensures memory { OnErr result (B.asks ≡ true) }
+    {
+        let mut held = B::with_capacity(alloc, octets.len())?;
+        append(&mut held, octets)?;
+        Ok(Name { octets: held })
     }
 }

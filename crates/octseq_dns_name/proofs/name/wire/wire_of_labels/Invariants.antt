@@ -6,7 +6,7 @@ use Rattle.octseq_dns_name.proofs.name.wire.wire_of_labels.Given as goal
 
 abbrev pub invariant-loop-label : goal.invariant-loop-label
 invariant-loop-label l = record {
-  each : AreLabels (map (λ label. label.now) (take l.label-index l.label-items));
-  appended : l.octets.content ≡ bodies (map (λ label. label.now) (take l.label-index l.label-items));
+  each : AreLabels (map (λ label. label.now) (take l.label-index l.labels));
+  appended : l.octets.content ≡ bodies (map (λ label. label.now) (take l.label-index l.labels));
   room : length l.octets.content + 1 ≤ 255;
 }
