@@ -1,6 +1,7 @@
 -- A text is refused for one reason, and where it is refused it spells no name.
 use Rattle.std.proofs.Common.{◌≡◌, ◌⊎◌, inl, inr, ℕ, zero, suc, ◌+◌, ◌<◌, ◌≤◌, Bool, true, false}
-use Rattle.std.proofs.Common.{if◌then◌else◌, nat_eq, List, [], ◌∷◌, ◌++◌, length, refl, sym, ap, ◌∙◌, subst, append_assoc}
+use Rattle.std.proofs.Common.{if◌then◌else◌, nat_eq, List, [], ◌∷◌, ◌++◌, length, refl, sym, ap, ◌∙◌, subst}
+use Rattle.std.proofs.Common.{append_assoc}
 use Rattle.std.proofs.Common.{Result, Ok, Err, IsErrOf, IfErr, ◌↔◌, arith, rules}
 use Rattle.std.proofs.lemmas.List.{append-nil, length-append}
 use Rattle.octseq_dns_name.specs.Name.{wire_length}
@@ -19,12 +20,16 @@ longer_run : (label other s t xs ys : List ℕ) → SpellsLabel label s → Spel
     → length label < length other → (octet : ℕ) × (first rest : List ℕ) × (xs ≡ first ++ rest) × SpellsOctet octet first
 longer_run [] [] s t xs ys one two same less = absurd (omega (arith, less))
 longer_run (a ∷ label) [] s t xs ys one two same less = absurd (omega (arith, less))
-longer_run [] (b ∷ other) s t xs ys one two same less =
-    (b, two.0, two.1 ++ ys,
-    ap (λ l. l ++ xs) (sym one) ∙ same ∙ ap (λ l. l ++ ys) two.2 ∙ append_assoc two.0 two.1 ys, two.3)
+longer_run [] (b ∷ other) s t xs ys one two same less = (
+  b,
+  two.0,
+  two.1 ++ ys,
+  ap (λ l. l ++ xs) (sym one) ∙ same ∙ ap (λ l. l ++ ys) two.2 ∙ append_assoc two.0 two.1 ys,
+  two.3,
+)
 longer_run (a ∷ label) (b ∷ other) s t xs ys one two same less =
     let all = sym (append_assoc one.0 one.1 xs) ∙ ap (λ l. l ++ xs) (sym one.2) ∙ same ∙ ap (λ l. l ++ ys) two.2
-        ∙ append_assoc two.0 two.1 ys in
+    ∙ append_assoc two.0 two.1 ys in
     let rest = octet_once a b one.0 two.0 (one.1 ++ xs) (two.1 ++ ys) one.3 two.3 all in
     longer_run label other one.1 two.1 xs ys one.4 two.4 rest.1 (omega (arith, less))
 
@@ -37,7 +42,7 @@ same_run [] (b ∷ other) s t xs ys one two same size = absurd (omega (arith, si
 same_run (a ∷ label) [] s t xs ys one two same size = absurd (omega (arith, size))
 same_run (a ∷ label) (b ∷ other) s t xs ys one two same size =
     let all = sym (append_assoc one.0 one.1 xs) ∙ ap (λ l. l ++ xs) (sym one.2) ∙ same ∙ ap (λ l. l ++ ys) two.2
-        ∙ append_assoc two.0 two.1 ys in
+    ∙ append_assoc two.0 two.1 ys in
     let rest = octet_once a b one.0 two.0 (one.1 ++ xs) (two.1 ++ ys) one.3 two.3 all in
     let more = same_run label other one.1 two.1 xs ys one.4 two.4 rest.1 (omega (arith, size)) in
     (ap (λ o. o ∷ label) rest.0 ∙ ap (λ l. b ∷ l) more.0, more.1)
@@ -93,7 +98,8 @@ at_stop (octet ∷ label) = NameError.LongName
 abbrev told : List ℕ → List ℕ → NameError
 told label [] = NameError.UnexpectedEnd
 told label (octet ∷ rest) =
-    if nat_eq octet 46 then at_stop label else (if nat_eq octet 92 then NameError.IllegalEscape else NameError.IllegalOctet)
+    if nat_eq octet 46 then at_stop label else
+    (if nat_eq octet 92 then NameError.IllegalEscape else NameError.IllegalOctet)
 
 -- the octets of a label that were read, and what they and what is behind them tell
 abbrev Stops : NameError → List ℕ → Type 0
@@ -110,12 +116,14 @@ illegal : (octet : ℕ) (label rest : List ℕ) → ¬ (octet ≡ 46) → ¬ (oc
 illegal octet label rest no_stop no_backslash =
     let first : nat_eq octet 46 ≡ false = search rules in
     let second : nat_eq octet 92 ≡ false = search rules in
-    sym (ap (λ b. if b then at_stop label else (if nat_eq octet 92 then NameError.IllegalEscape else NameError.IllegalOctet))
+    sym (ap (λ b. if b then at_stop label else
+    (if nat_eq octet 92 then NameError.IllegalEscape else NameError.IllegalOctet))
     first ∙ ap (λ b. if b then NameError.IllegalEscape else NameError.IllegalOctet) second)
 
 stops : (fault : NameError) (labels : List (List ℕ)) (text : List ℕ) → IsFault fault labels text → Stops fault text
 stops NameError.UnexpectedEnd labels text is = (is.0, [], is.1, inr (is.2, none_at_end, refl))
-stops NameError.EmptyLabel labels text is = ([], 46 ∷ is.0, ([], is.1, refl), inr (omega arith, none_at_stop is.0, refl))
+stops NameError.EmptyLabel labels text is =
+    ([], 46 ∷ is.0, ([], is.1, refl), inr (omega arith, none_at_stop is.0, refl))
 stops NameError.LongLabel labels text is = (is.0, is.1, is.2, inl (is.3, refl))
 stops NameError.LongName labels text is =
     (is.0, 46 ∷ is.1, is.2, inr (is.4, none_at_stop is.1, stopped_long is.0 is.1 is.3))
@@ -152,8 +160,10 @@ stopped_name fault text label rest (other, ys, two, inr is) one some short =
 no_label_here : (fault : NameError) (labels : List (List ℕ)) (text label rest : List ℕ) → IsFault fault labels text
     → Reads text label (46 ∷ rest) → 1 ≤ length label → length label ≤ 63 → wire_length (labels ++ label ∷ []) ≤ 255 → ⊥
 no_label_here fault labels text label rest is one some short fits =
-    let long = subst (λ f. IsFault f labels text) (stopped_name fault text label rest (stops fault labels text is) one some short) is in
-    let same = one_run text label (46 ∷ rest) long.0 (46 ∷ long.1) one long.2 (none_at_stop rest) (none_at_stop long.1) in
+    let long = subst (λ f. IsFault f labels text)
+    (stopped_name fault text label rest (stops fault labels text is) one some short) is in
+    let same = one_run text label (46 ∷ rest) long.0 (46 ∷ long.1) one long.2 (none_at_stop rest)
+    (none_at_stop long.1) in
     let all = ap (λ l. wire_length (labels ++ l ∷ [])) same.0 in
     let past = long.5 in
     absurd (omega (arith, all, past, fits))
@@ -186,14 +196,34 @@ whole_labels : (xs ys : List (List ℕ)) (s t ahead other : List ℕ) → Spells
 whole_labels [] [] s t ahead other one two same =
     inr (inl (refl, ap (λ l. l ++ ahead) (sym one) ∙ same ∙ ap (λ l. l ++ other) two))
 whole_labels [] (y ∷ ys) s t ahead other one two same =
-    inl (y, ys, two.1 ++ other, refl, (two.0, ap (λ l. l ++ ahead) (sym one) ∙ same ∙ ap (λ l. l ++ other) two.2
-    ∙ append_assoc two.0 (46 ∷ two.1) other, two.3))
+    inl (
+      y,
+      ys,
+      two.1 ++ other,
+      refl,
+      (
+        two.0,
+        ap (λ l. l ++ ahead) (sym one) ∙ same ∙ ap (λ l. l ++ other) two.2
+            ∙ append_assoc two.0 (46 ∷ two.1) other,
+        two.3,
+      ),
+    )
 whole_labels (x ∷ xs) [] s t ahead other one two same =
-    inr (inr (x, xs, one.1 ++ ahead, refl, (one.0, ap (λ l. l ++ other) (sym two) ∙ sym same ∙ ap (λ l. l ++ ahead) one.2
-    ∙ append_assoc one.0 (46 ∷ one.1) ahead, one.3)))
+    inr (inr (
+      x,
+      xs,
+      one.1 ++ ahead,
+      refl,
+      (
+        one.0,
+        ap (λ l. l ++ other) (sym two) ∙ sym same ∙ ap (λ l. l ++ ahead) one.2
+            ∙ append_assoc one.0 (46 ∷ one.1) ahead,
+        one.3,
+      ),
+    ))
 whole_labels (x ∷ xs) (y ∷ ys) s t ahead other one two same =
     let all = sym (append_assoc one.0 (46 ∷ one.1) ahead) ∙ ap (λ l. l ++ ahead) (sym one.2) ∙ same
-        ∙ ap (λ l. l ++ other) two.2 ∙ append_assoc two.0 (46 ∷ two.1) other in
+    ∙ ap (λ l. l ++ other) two.2 ∙ append_assoc two.0 (46 ∷ two.1) other in
     let first = label_once x y one.0 two.0 (one.1 ++ ahead) (two.1 ++ other) one.3 two.3 all in
     whole_more x y xs ys ahead other first.0 (whole_labels xs ys one.1 two.1 ahead other one.4 two.4 first.1)
 
@@ -220,7 +250,8 @@ one_reason fault other text one two =
     by_place : Whole one.1 two.1 one.2 two.2 → fault ≡ other
     by_place (inl on) = absurd (none_go_on fault one.1 two.1 one.2 one.4 two.3.3 two.3.4 on)
     by_place (inr (inl same)) =
-        one_stop fault other two.2 (subst (Stops fault) same.1 (stops fault one.1 one.2 one.4)) (stops other two.1 two.2 two.4)
+        one_stop fault other two.2 (subst (Stops fault) same.1 (stops fault one.1 one.2 one.4))
+        (stops other two.1 two.2 two.4)
     by_place (inr (inr on)) = absurd (none_go_on other two.1 one.1 two.2 two.4 one.3.3 one.3.4 on)
 
 -- no octets are read in a text of nothing
@@ -284,6 +315,7 @@ refused_by result fault is P holds = subst (λ r. IfErr r P) (sym is) holds
 -- a call that was refused for a reason was refused for no other one
 pub told_of : {T : Type 0} (result : Result T NameError) (fault : NameError) (text : List ℕ) → result ≡ Err fault
     → IsRefused fault text → (other : NameError) → IsErrOf result other ↔ IsRefused other text
-told_of result fault text is refused other =
-    (λ told. subst (λ f. IsRefused f text) (ap (λ r. error_or r fault) (sym is ∙ told)) refused,
-    λ same. is ∙ ap Err (one_reason fault other text refused same))
+told_of result fault text is refused other = (
+  λ told. subst (λ f. IsRefused f text) (ap (λ r. error_or r fault) (sym is ∙ told)) refused,
+  λ same. is ∙ ap Err (one_reason fault other text refused same),
+)

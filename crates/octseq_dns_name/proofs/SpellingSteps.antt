@@ -40,16 +40,22 @@ read_none text = ([], refl, refl)
 octet_more : (label first : List ℕ) (octet : ℕ) (s : List ℕ) → SpellsLabel label first → SpellsOctet octet s
     → SpellsLabel (label ++ octet ∷ []) (first ++ s)
 octet_more [] first octet s so_far one = (s, [], ap (λ l. l ++ s) so_far ∙ sym (append-nil s), one, refl)
-octet_more (x ∷ label) first octet s so_far one =
-    (so_far.0, so_far.1 ++ s, ap (λ l. l ++ s) so_far.2 ∙ append_assoc so_far.0 so_far.1 s, so_far.3,
-    octet_more label so_far.1 octet s so_far.4 one)
+octet_more (x ∷ label) first octet s so_far one = (
+  so_far.0,
+  so_far.1 ++ s,
+  ap (λ l. l ++ s) so_far.2 ∙ append_assoc so_far.0 so_far.1 s,
+  so_far.3,
+  octet_more label so_far.1 octet s so_far.4 one,
+)
 
 -- one octet more
 pub read_octet : (text label ahead s rest : List ℕ) (octet : ℕ) → Reads text label ahead → ahead ≡ s ++ rest
     → SpellsOctet octet s → Reads text (label ++ octet ∷ []) rest
-read_octet text label ahead s rest octet so_far here one =
-    (so_far.0 ++ s, so_far.1 ∙ ap (λ l. so_far.0 ++ l) here ∙ sym (append_assoc so_far.0 s rest),
-    octet_more label so_far.0 octet s so_far.2 one)
+read_octet text label ahead s rest octet so_far here one = (
+  so_far.0 ++ s,
+  so_far.1 ∙ ap (λ l. so_far.0 ++ l) here ∙ sym (append_assoc so_far.0 s rest),
+  octet_more label so_far.0 octet s so_far.2 one,
+)
 
 -- from a text that isn't empty octets were read where nothing is ahead
 some_read : (text label : List ℕ) → Reads text label [] → 1 ≤ length text → 1 ≤ length label
@@ -69,14 +75,22 @@ pub octet_fault : (fault : NameError) (labels : List (List ℕ)) (text label ahe
     → BeginsWith fault ahead → IsFault fault labels text
 octet_fault NameError.UnexpectedEnd labels text label ahead octet rest so_far short here no_stop none begins =
     let e = ap length (sym here ∙ begins) in absurd (omega (arith, e))
-octet_fault NameError.EmptyLabel labels text label ahead octet rest so_far short here no_stop none begins = absurd begins
+octet_fault NameError.EmptyLabel labels text label ahead octet rest so_far short here no_stop none begins =
+    absurd begins
 octet_fault NameError.LongLabel labels text label ahead octet rest so_far short here no_stop none begins = absurd begins
 octet_fault NameError.LongName labels text label ahead octet rest so_far short here no_stop none begins = absurd begins
 octet_fault NameError.IllegalEscape labels text label ahead octet rest so_far short here no_stop none begins =
     (label, begins.0, subst (Reads text label) begins.1 so_far, short, subst SpellsNone begins.1 none)
-octet_fault NameError.IllegalOctet labels text label ahead octet rest so_far short here no_stop none begins =
-    (begins.0, label, begins.1, subst (Reads text label) begins.2 so_far, short,
-    (λ stop. no_stop (first_is (sym here ∙ begins.2) ∙ stop)), begins.3, subst SpellsNone begins.2 none)
+octet_fault NameError.IllegalOctet labels text label ahead octet rest so_far short here no_stop none begins = (
+  begins.0,
+  label,
+  begins.1,
+  subst (Reads text label) begins.2 so_far,
+  short,
+  (λ stop. no_stop (first_is (sym here ∙ begins.2) ∙ stop)),
+  begins.3,
+  subst SpellsNone begins.2 none,
+)
 
 -- ---- labels
 
@@ -87,20 +101,26 @@ read_no_label text = ([], refl, refl, tt, omega arith)
 labels_more : (labels : List (List ℕ)) (first label s : List ℕ) → SpellsLabels labels first → SpellsLabel label s
     → SpellsLabels (labels ++ label ∷ []) (first ++ (s ++ 46 ∷ []))
 labels_more [] first label s so_far one = (s, [], ap (λ l. l ++ (s ++ 46 ∷ [])) so_far, one, refl)
-labels_more (x ∷ labels) first label s so_far one =
-    (so_far.0, so_far.1 ++ (s ++ 46 ∷ []),
-    ap (λ l. l ++ (s ++ 46 ∷ [])) so_far.2 ∙ append_assoc so_far.0 (46 ∷ so_far.1) (s ++ 46 ∷ []), so_far.3,
-    labels_more labels so_far.1 label s so_far.4 one)
+labels_more (x ∷ labels) first label s so_far one = (
+  so_far.0,
+  so_far.1 ++ (s ++ 46 ∷ []),
+  ap (λ l. l ++ (s ++ 46 ∷ [])) so_far.2 ∙ append_assoc so_far.0 (46 ∷ so_far.1) (s ++ 46 ∷ []),
+  so_far.3,
+  labels_more labels so_far.1 label s so_far.4 one,
+)
 
 -- one label more
 pub read_label : (text : List ℕ) (labels : List (List ℕ)) (ahead label rest : List ℕ) → ReadsLabels text labels ahead
     → Reads ahead label (46 ∷ rest) → 1 ≤ length label → length label ≤ 63 → wire_length (labels ++ label ∷ []) ≤ 255
     → ReadsLabels text (labels ++ label ∷ []) rest
-read_label text labels ahead label rest so_far one some short fits =
-    (so_far.0 ++ (one.0 ++ 46 ∷ []),
-    so_far.1 ∙ ap (λ l. so_far.0 ++ l) (one.1 ∙ sym (append_assoc one.0 (46 ∷ []) rest))
-    ∙ sym (append_assoc so_far.0 (one.0 ++ 46 ∷ []) rest),
-    labels_more labels so_far.0 label one.0 so_far.2 one.2, one_more labels label so_far.3 some short, fits)
+read_label text labels ahead label rest so_far one some short fits = (
+  so_far.0 ++ (one.0 ++ 46 ∷ []),
+  so_far.1 ∙ ap (λ l. so_far.0 ++ l) (one.1 ∙ sym (append_assoc one.0 (46 ∷ []) rest))
+      ∙ sym (append_assoc so_far.0 (one.0 ++ 46 ∷ []) rest),
+  labels_more labels so_far.0 label one.0 so_far.2 one.2,
+  one_more labels label so_far.3 some short,
+  fits,
+)
 
 -- at the text's end the name is whole
 pub whole_name : (text : List ℕ) (labels : List (List ℕ)) (ahead : List ℕ) → ReadsLabels text labels ahead → ahead ≡ []

@@ -1,6 +1,7 @@
 -- The first label that is wrong is one, and where one is wrong they aren't all right.
 use Rattle.std.proofs.Common.{◌≡◌, ◌≢◌, ◌↔◌, ◌⊎◌, inl, inr, Option, ℕ, ◌+◌, ◌<◌, ◌≤◌, List, [], ◌∷◌, ◌++◌, length}
-use Rattle.std.proofs.Common.{Bor, Result, Ok, Err, IsErrOf, map, get_or, take, drop, refl, sym, ap, ◌∙◌, subst, append_assoc, arith}
+use Rattle.std.proofs.Common.{Bor, Result, Ok, Err, IsErrOf, map, get_or, take, drop, refl, sym, ap, ◌∙◌, subst}
+use Rattle.std.proofs.Common.{append_assoc, arith}
 use Rattle.std.proofs.lemmas.List.{take_more, drop_more, take-append-drop, map-append}
 use Rattle.octseq.specs.Limit.{IsPast}
 use Rattle.octseq_dns_name.specs.Name.{wire_length}
@@ -91,7 +92,8 @@ all_right fault labels (before, label, more, is, are_before, short_before, wrong
 
 one_wrong : (fault other : LabelsError) (labels : List (List ℕ)) → HasWrong fault labels → HasWrong other labels
     → fault ≡ other
-one_wrong fault other labels (xs, x, more, is, are, short, wrong) (ys, y, others, other_is, other_are, other_short, other_wrong) =
+one_wrong fault other labels (xs, x, more, is, are, short, wrong)
+    (ys, y, others, other_is, other_are, other_short, other_wrong) =
     by_place (placed xs ys x y more others (sym is ∙ other_is))
   where
     by_place : Placed xs x ys y → fault ≡ other
@@ -143,9 +145,11 @@ wrong_or_short limit LabelsError.Memory labels is = inl is
 pub wrong_told : {T : Type 0} (result : Result T LabelsError) (limit : Option ℕ) (fault : LabelsError)
     (labels : List (List ℕ)) → result ≡ Err fault → HasWrong fault labels
     → (other : LabelsError) → other ≢ LabelsError.Memory → IsErrOf result other ↔ AreUnfit limit other labels
-wrong_told result limit fault labels is wrong other no_memory =
-    (λ told. subst (λ f. AreUnfit limit f labels) (ap (λ r. error_or r fault) (sym is ∙ told)) (unfit limit fault labels wrong),
-    λ refused. back (wrong_or_short limit other labels refused))
+wrong_told result limit fault labels is wrong other no_memory = (
+  λ told. subst (λ f. AreUnfit limit f labels) (ap (λ r. error_or r fault) (sym is ∙ told))
+      (unfit limit fault labels wrong),
+  λ refused. back (wrong_or_short limit other labels refused),
+)
   where
     back : HasWrong other labels ⊎ ((other ≡ LabelsError.Short) × AreLabels labels × (wire_length labels ≤ 255)
         × IsPast limit (wire_length labels)) → IsErrOf result other
@@ -156,9 +160,11 @@ wrong_told result limit fault labels is wrong other no_memory =
 pub short_told : {T : Type 0} (result : Result T LabelsError) (limit : Option ℕ) (labels : List (List ℕ))
     → result ≡ Err LabelsError.Short → AreLabels labels → wire_length labels ≤ 255 → IsPast limit (wire_length labels)
     → (other : LabelsError) → other ≢ LabelsError.Memory → IsErrOf result other ↔ AreUnfit limit other labels
-short_told result limit labels is are short past other no_memory =
-    (λ told. subst (λ f. AreUnfit limit f labels) (ap (λ r. error_or r LabelsError.Short) (sym is ∙ told)) (are, short, past),
-    λ refused. back (wrong_or_short limit other labels refused))
+short_told result limit labels is are short past other no_memory = (
+  λ told. subst (λ f. AreUnfit limit f labels) (ap (λ r. error_or r LabelsError.Short) (sym is ∙ told))
+      (are, short, past),
+  λ refused. back (wrong_or_short limit other labels refused),
+)
   where
     back : HasWrong other labels ⊎ ((other ≡ LabelsError.Short) × AreLabels labels × (wire_length labels ≤ 255)
         × IsPast limit (wire_length labels)) → IsErrOf result other

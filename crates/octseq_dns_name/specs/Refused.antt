@@ -12,7 +12,8 @@ Reads text label rest = (first : List ℕ) × (text ≡ first ++ rest) × Spells
 -- whole labels are, each with the full stop behind it, of no more octets than a name may have
 abbrev pub ReadsLabels : List ℕ → List (List ℕ) → List ℕ → Type 0
 ReadsLabels text labels rest =
-    (first : List ℕ) × (text ≡ first ++ rest) × SpellsLabels labels first × AreLabels labels × (wire_length labels ≤ 255)
+    (first : List ℕ) × (text ≡ first ++ rest) × SpellsLabels labels first × AreLabels labels
+    × (wire_length labels ≤ 255)
 
 -- no octet is spelled at a text's front
 abbrev pub SpellsNone : List ℕ → Type 0
@@ -45,4 +46,5 @@ IsFault NameError.IllegalOctet labels text =
 -- Whole labels are at a text's front, and this is wrong behind them. The full stop of the root is a name.
 abbrev pub IsRefused : NameError → List ℕ → Type 0
 IsRefused fault text =
-    ¬ (text ≡ 46 ∷ []) × (labels : List (List ℕ)) × (rest : List ℕ) × ReadsLabels text labels rest × IsFault fault labels rest
+    ¬ (text ≡ 46 ∷ []) × (labels : List (List ℕ)) × (rest : List ℕ) × ReadsLabels text labels rest
+    × IsFault fault labels rest

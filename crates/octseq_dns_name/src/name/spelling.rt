@@ -11,7 +11,7 @@ use crate::error::NameError;
 use crate::name::text::needs_backslash;
 use crate::name::wire::{LABEL_MOST, append_label, has_room, with_root};
 use octseq::builder::infallible;
-use octseq::{AsOctets, Array, OctetsBuilder};
+use octseq::{Array, AsOctets, OctetsBuilder};
 
 /// The plain wire form of the name that a text spells.
 pub(crate) fn wire_of(text: &[u8]) -> Result<Array<255>, NameError>

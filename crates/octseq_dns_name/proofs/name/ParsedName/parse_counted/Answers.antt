@@ -8,7 +8,8 @@ use Rattle.octseq_dns_name.proofs.name.ParsedName.parse_counted.Goals as goal
 
 pub returns-in_err-next_step-clause-malformed : goal.returns-in_err-next_step-clause-malformed
 returns-in_err-next_step-clause-malformed g c = λ _.
-    no_next (window c.args.parser.now) c.pieces.start (window c.pieces.ahead) c.pieces.len c.pieces.pointers (windows c.pieces.behind) c.pieces.invariant.read
+    no_next (window c.args.parser.now) c.pieces.start (window c.pieces.ahead) c.pieces.len c.pieces.pointers
+    (windows c.pieces.behind) c.pieces.invariant.read
     (c.in_err-next_step.ensures.malformed refl)
 
 pub returns-then-len-gt-NAME_MOST-clause-malformed : goal.returns-then-len-gt-NAME_MOST-clause-malformed
@@ -17,9 +18,12 @@ returns-then-len-gt-NAME_MOST-clause-malformed g c = λ _.
     let l = rest (window c.in-Label.label) in
     let made = c.pieces.len + (1 + c.remaining.result) in
     let has = rw c.in-Label.is at c.in_ok-next_step.ensures.step in
-    let read = with_label w c.pieces.start (window c.pieces.ahead) (window c.next_step.new.parser) c.pieces.len made c.pieces.pointers (windows c.pieces.behind) l c.pieces.invariant.read has
+    let read = with_label w c.pieces.start (window c.pieces.ahead)
+    (window c.next_step.new.parser) c.pieces.len made c.pieces.pointers
+    (windows c.pieces.behind) l c.pieces.invariant.read has
     (ap (λ n. c.pieces.len + (1 + n)) c.remaining.ensures.rest) in
-    too_long w c.pieces.start (window c.next_step.new.parser) made c.pieces.pointers (windows c.pieces.behind) read c.if-len-gt-NAME_MOST.true
+    too_long w c.pieces.start (window c.next_step.new.parser) made c.pieces.pointers
+    (windows c.pieces.behind) read c.if-len-gt-NAME_MOST.true
 
 pub pieces-preserved-else-len-gt-NAME_MOST : goal.pieces-preserved-else-len-gt-NAME_MOST
 pieces-preserved-else-len-gt-NAME_MOST g c =
@@ -30,10 +34,14 @@ pieces-preserved-else-len-gt-NAME_MOST g c =
     let short = rw c.in-Label.is at c.in_ok-next_step.ensures.label in
     let so_far = c.pieces.invariant in
     record {
-      read = with_label w c.pieces.start (window c.pieces.ahead) (window c.next_step.new.parser) c.pieces.len made c.pieces.pointers (windows c.pieces.behind) l so_far.read has
+      read = with_label w c.pieces.start (window c.pieces.ahead)
+          (window c.next_step.new.parser) c.pieces.len made c.pieces.pointers
+          (windows c.pieces.behind) l so_far.read has
           (ap (λ n. c.pieces.len + (1 + n)) c.remaining.ensures.rest);
-      ordered = let moved = ap (λ w. w.position) has.behind in let before = so_far.ordered in omega (arith, moved, before);
-      turns = let turns = so_far.turns in let tick = c.tick.ensures in let some = short.0 in let is = c.remaining.ensures.left in omega (arith, turns, tick, some, is);
+      ordered = let moved = ap (λ w. w.position) has.behind in let before = so_far.ordered in
+          omega (arith, moved, before);
+      turns = let turns = so_far.turns in let tick = c.tick.ensures in let some = short.0 in
+          let is = c.remaining.ensures.left in omega (arith, turns, tick, some, is);
       short = c.if-len-gt-NAME_MOST.false;
       few = so_far.few;
       same = c.next_step.ensures.same ∙ so_far.same;
@@ -52,7 +60,8 @@ pieces-preserved g c =
     let given = rw c.infallible.ensures at c.seek.ensures.ok in
     let moved : window c.seek.new.self ≡ at to w = given ∙ ap (at to) has.behind in
     let next = c.next_step.ensures.same ∙ so_far.same in
-    let read = with_pointer start c.pieces.start w (window c.next_step.new.parser) len c.pieces.pointers (windows c.pieces.behind) to so_far.read has in
+    let read = with_pointer start c.pieces.start w (window c.next_step.new.parser) len c.pieces.pointers
+    (windows c.pieces.behind) to so_far.read has in
     record {
       read = subst (λ v. Reading start to v len pointers (Some (window c.kept_or.result))) (sym moved)
           (subst (λ u. Reading start to (at to w) len pointers (Some u)) (sym c.kept_or.ensures.window) read);
@@ -68,7 +77,8 @@ pub invariant_of-name : goal.invariant_of-name
 invariant_of-name g c =
     let has = rw c.in-Root.is at c.in_ok-next_step.ensures.step in
     let so_far = c.pieces.invariant in
-    let whole = whole_name (window c.args.parser.now) c.pieces.start (window c.pieces.ahead) (window c.next_step.new.parser) c.pieces.len c.pieces.pointers (windows c.pieces.behind)
+    let whole = whole_name (window c.args.parser.now) c.pieces.start (window c.pieces.ahead)
+    (window c.next_step.new.parser) c.pieces.len c.pieces.pointers (windows c.pieces.behind)
     so_far.read has so_far.short so_far.few in
     record {
       named = (so_far.read.labels, ∣ (end_of (windows c.pieces.behind) (window c.next_step.new.parser), whole) ∣₁);
@@ -81,10 +91,12 @@ returns-clause-name g c =
     let so_far = c.pieces.invariant in
     let w = window c.args.parser.now in
     let end = end_of (windows c.pieces.behind) (window c.next_step.new.parser) in
-    let whole = whole_name w c.pieces.start (window c.pieces.ahead) (window c.next_step.new.parser) c.pieces.len c.pieces.pointers (windows c.pieces.behind)
+    let whole = whole_name w c.pieces.start (window c.pieces.ahead)
+    (window c.next_step.new.parser) c.pieces.len c.pieces.pointers (windows c.pieces.behind)
     so_far.read has so_far.short so_far.few in
     subst (λ end. IsName w c.result-1.given.0.0 end) (sym c.kept_or-2.ensures.window)
     (subst (λ labels. IsName w labels end) (named_as w end so_far.read.labels c.result-1.given.0 whole) whole)
 
 pub returns-clause-same : goal.returns-clause-same
-returns-clause-same g c = c.kept_or-2.ensures.same (sequence c.args.parser.now) c.pieces.invariant.kept (c.next_step.ensures.same ∙ c.pieces.invariant.same)
+returns-clause-same g c = c.kept_or-2.ensures.same (sequence c.args.parser.now) c.pieces.invariant.kept
+    (c.next_step.ensures.same ∙ c.pieces.invariant.same)

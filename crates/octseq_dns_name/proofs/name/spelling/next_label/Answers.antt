@@ -1,4 +1,5 @@
-use Rattle.std.proofs.Common.{◌≡◌, ℕ, List, ◌+◌, ◌<◌, ◌≤◌, Err, [], ◌∷◌, ◌++◌, length, sym, ap, ◌∙◌, subst, arith, rules}
+use Rattle.std.proofs.Common.{◌≡◌, ℕ, List, ◌+◌, ◌<◌, ◌≤◌, Err, [], ◌∷◌, ◌++◌, length, sym, ap, ◌∙◌, subst, arith}
+use Rattle.std.proofs.Common.{rules}
 use Rattle.std.proofs.lemmas.List.{length-append}
 use Rattle.octseq_dns_name.specs.Refused.{Reads, IsFault}
 use Rattle.octseq_dns_name.specs.declared.error.NameError.{NameError}
@@ -23,7 +24,8 @@ returns-in_err-octet-clause-refused c =
     refused_by c.from_residual.result fault told (λ f. (labels : List (List ℕ)) → IsFault f labels c.args.text.now)
     λ labels.
     octet_fault fault labels c.args.text.now c.octets.label.content ahead c.in-Some.first.now c.in-Some.rest.now
-    c.octets.invariant.reads c.octets.invariant.short here other c.in_err-octet.ensures.none c.in_err-octet.ensures.begins
+    c.octets.invariant.reads c.octets.invariant.short here other c.in_err-octet.ensures.none
+    c.in_err-octet.ensures.begins
 
 pub returns-then-len-ge-LABEL_MOST-clause-refused : goal.returns-then-len-ge-LABEL_MOST-clause-refused
 returns-then-len-ge-LABEL_MOST-clause-refused c = λ labels.
@@ -32,11 +34,15 @@ returns-then-len-ge-LABEL_MOST-clause-refused c = λ labels.
     let taken = c.in_ok-octet.ensures.ok in
     let full : 63 ≤ length done = search rules in
     let most = c.octets.invariant.short in
-    let long : length (done ++ octet ∷ []) ≡ 64 = let e = length-append done (octet ∷ []) in omega (arith, e, full, most) in
-    (done ++ octet ∷ [], c.in_ok-octet.rest.now,
-    read_octet c.args.text.now done c.octets.ahead.now taken.0 c.in_ok-octet.rest.now octet c.octets.invariant.reads taken.1
-    taken.2,
-    long)
+    let long : length (done ++ octet ∷ []) ≡ 64 = let e = length-append done (octet ∷ []) in
+    omega (arith, e, full, most) in (
+      done ++ octet ∷ [],
+      c.in_ok-octet.rest.now,
+      read_octet c.args.text.now done c.octets.ahead.now taken.0 c.in_ok-octet.rest.now octet c.octets.invariant.reads
+          taken.1
+          taken.2,
+      long,
+    )
 
 pub octets-preserved : goal.octets-preserved
 octets-preserved c =

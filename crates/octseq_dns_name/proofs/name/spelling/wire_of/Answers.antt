@@ -35,7 +35,7 @@ returns-then-not-has_room-clause-refused c =
     let past : 255 < wire_length (so_far.done ++ label ∷ []) = omega (arith, long, size, all, is, both) in
     let other : ¬ (text ≡ 46 ∷ []) = search rules in
     let here : IsFault NameError.LongName so_far.done ahead =
-        (label, c.in_ok-label.rest.now, c.in_ok-label.ensures.ok, some, omega (arith, most, size), past) in
+    (label, c.in_ok-label.rest.now, c.in_ok-label.ensures.ok, some, omega (arith, most, size), past) in
     (other, so_far.done, ahead, so_far.reads, here)
 
 pub labels-preserved : goal.labels-preserved
@@ -53,8 +53,8 @@ labels-preserved c =
     let grown = ap length made ∙ length-append octets (length slice ∷ slice) in
     let room : length c.append_label.new.octets.content + 1 ≤ 255 = omega (arith, grown, fits) in
     let appended : c.append_label.new.octets.content ≡ bodies (so_far.done ++ label ∷ []) =
-        made ∙ ap (λ l. octets ++ length l ∷ l) same ∙ ap (λ before. before ++ length label ∷ label) so_far.appended
-        ∙ flat_map_more (λ l. length l ∷ l) [] so_far.done label in
+    made ∙ ap (λ l. octets ++ length l ∷ l) same ∙ ap (λ before. before ++ length label ∷ label) so_far.appended
+    ∙ flat_map_more (λ l. length l ∷ l) [] so_far.done label in
     let all = ap length appended in
     let is = bodies_length (so_far.done ++ label ∷ []) in
     record {

@@ -1,4 +1,5 @@
-use Rattle.std.proofs.Common.{◌≡◌, ◌+◌, ◌<◌, ◌≤◌, Bor, ℕ, List, [], ◌∷◌, ◌++◌, length, get_or, take, drop, refl, sym, ap}
+use Rattle.std.proofs.Common.{◌≡◌, ◌+◌, ◌<◌, ◌≤◌, Bor, ℕ, List, [], ◌∷◌, ◌++◌, length, get_or, take, drop, refl, sym}
+use Rattle.std.proofs.Common.{ap}
 use Rattle.std.proofs.Common.{◌∙◌, subst, arith, rules}
 use Rattle.std.proofs.lemmas.List.{length-append, flat_map_more, take_all}
 use Rattle.octseq_dns_name.specs.Name.{wire_length}
@@ -18,9 +19,15 @@ returns-then-is_empty-clause-wrong c =
     let empty : (get_or labels i default).now ≡ [] = search rules in
     let room = so_far.room in
     let all = ap length so_far.appended in
-    let is = bodies_length (contents (take i labels)) in
-    (contents (take i labels), (get_or labels i default).now, contents (drop (i + 1) labels),
-    parted labels i default c.loop-label-test.true, so_far.each, omega (arith, room, all, is), empty)
+    let is = bodies_length (contents (take i labels)) in (
+      contents (take i labels),
+      (get_or labels i default).now,
+      contents (drop (i + 1) labels),
+      parted labels i default c.loop-label-test.true,
+      so_far.each,
+      omega (arith, room, all, is),
+      empty,
+    )
 
 pub returns-then-len-gt-LABEL_MOST-clause-wrong : goal.returns-then-len-gt-LABEL_MOST-clause-wrong
 returns-then-len-gt-LABEL_MOST-clause-wrong c =
@@ -31,9 +38,15 @@ returns-then-len-gt-LABEL_MOST-clause-wrong c =
     let long : 63 < length (get_or labels i default).now = search rules in
     let room = so_far.room in
     let all = ap length so_far.appended in
-    let is = bodies_length (contents (take i labels)) in
-    (contents (take i labels), (get_or labels i default).now, contents (drop (i + 1) labels),
-    parted labels i default c.loop-label-test.true, so_far.each, omega (arith, room, all, is), long)
+    let is = bodies_length (contents (take i labels)) in (
+      contents (take i labels),
+      (get_or labels i default).now,
+      contents (drop (i + 1) labels),
+      parted labels i default c.loop-label-test.true,
+      so_far.each,
+      omega (arith, room, all, is),
+      long,
+    )
 
 pub returns-then-not-has_room-clause-wrong : goal.returns-then-not-has_room-clause-wrong
 returns-then-not-has_room-clause-wrong c =
@@ -51,9 +64,15 @@ returns-then-not-has_room-clause-wrong c =
     let room = so_far.room in
     let all = ap length so_far.appended in
     let is = bodies_length before in
-    let both = wire_append before (label ∷ []) in
-    (before, label, contents (drop (i + 1) labels), parted labels i default c.loop-label-test.true, so_far.each,
-    omega (arith, room, all, is), (some, few, omega (arith, past, all, is, both)))
+    let both = wire_append before (label ∷ []) in (
+      before,
+      label,
+      contents (drop (i + 1) labels),
+      parted labels i default c.loop-label-test.true,
+      so_far.each,
+      omega (arith, room, all, is),
+      (some, few, omega (arith, past, all, is, both)),
+    )
 
 pub loop-label-preserved : goal.loop-label-preserved
 loop-label-preserved c =
@@ -68,8 +87,9 @@ loop-label-preserved c =
     let some = some_long label filled in
     let few : length (get_or labels i default).now ≤ 63 = search rules in
     let fits : length octets + 1 + length (get_or labels i default).now + 1 ≤ 255 = search rules in
-    let made : c.append_label.new.octets.content ≡ octets ++ length (get_or labels i default).now ∷ (get_or labels i default).now =
-        search rules in
+    let made : c.append_label.new.octets.content ≡ octets ++ length (get_or labels i default).now ∷
+    (get_or labels i default).now =
+    search rules in
     let more = taken labels i default c.loop-label-test.true in
     let grown = ap length made ∙ length-append octets (length label ∷ label) in
     record {
@@ -88,6 +108,8 @@ returns-clause-ok c =
     let room = so_far.room in
     let all = ap length so_far.appended in
     let is = bodies_length (contents labels) in
-    let same = ap (λ l. length (bodies l)) whole in
-    (c.with_root.ensures ∙ ap (λ front. front ++ 0 ∷ []) (so_far.appended ∙ ap bodies whole),
-    subst AreLabels whole so_far.each, omega (arith, room, all, is, same))
+    let same = ap (λ l. length (bodies l)) whole in (
+      c.with_root.ensures ∙ ap (λ front. front ++ 0 ∷ []) (so_far.appended ∙ ap bodies whole),
+      subst AreLabels whole so_far.each,
+      omega (arith, room, all, is, same),
+    )

@@ -18,7 +18,7 @@ returns-in_err-held-in_default-clause-refused g c =
     let labels = map (λ label. label.now) c.args.labels.now in
     let made = c.in_ok-wire.ensures.ok in
     let size : length c.as_slice.result.now ≡ wire_length labels =
-        ap length c.as_slice.ensures.content ∙ ap length made.0 ∙ wire_has labels in
+    ap length c.as_slice.ensures.content ∙ ap length made.0 ∙ wire_has labels in
     let within : ¬ IsPast g.B.AsOctets.limit (length c.as_slice.result.now) = search rules in
     let told : c.from_residual-in_err-held-in_default.result ≡ Err LabelsError.Memory = search rules in
     fit_told c.from_residual-in_err-held-in_default.result g.B.AsOctets.limit labels
@@ -38,7 +38,7 @@ returns-in_ok-held-in_default-clause-refused g c =
     let labels = map (λ label. label.now) c.args.labels.now in
     let made = c.in_ok-wire.ensures.ok in
     let size : length c.as_slice.result.now ≡ wire_length labels =
-        ap length c.as_slice.ensures.content ∙ ap length made.0 ∙ wire_has labels in
+    ap length c.as_slice.ensures.content ∙ ap length made.0 ∙ wire_has labels in
     let within : ¬ IsPast g.B.AsOctets.limit (length c.as_slice.result.now) = search rules in
     fit_told _ g.B.AsOctets.limit labels (λ other is. absurd (ok_no_err _ _ other refl is)) made.1 made.2
     (subst (λ n. ¬ IsPast g.B.AsOctets.limit n) size within)

@@ -36,7 +36,8 @@ returns-clause-ok c =
 
 pub returns-clause-refused : goal.returns-clause-refused
 returns-clause-refused c = λ fault.
-    let made = c.in_ok-octets.ensures.ok in
-    (λ told. absurd (ok_no_err _ _ fault refl told),
-    λ is. absurd (no_name fault c.args.text.now is made.0 made.2 made.3
-    (subst (SpellsName made.0) c.as_bytes.ensures.value made.4)))
+    let made = c.in_ok-octets.ensures.ok in (
+      λ told. absurd (ok_no_err _ _ fault refl told),
+      λ is. absurd (no_name fault c.args.text.now is made.0 made.2 made.3
+          (subst (SpellsName made.0) c.as_bytes.ensures.value made.4)),
+    )
