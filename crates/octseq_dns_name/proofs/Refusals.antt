@@ -1,16 +1,16 @@
 -- A text is refused for one reason, and where it is refused it spells no name.
-use Rattle.std.proofs.Common.{◌≡◌, ◌⊎◌, inl, inr, ℕ, zero, suc, ◌+◌, ◌<◌, ◌≤◌, Bool, true, false}
+use Rattle.std.proofs.Common.{◌≡◌, ◌⊎◌, inl, inr, ℕ, zero, suc, ◌<◌, ◌≤◌, false}
 use Rattle.std.proofs.Common.{if◌then◌else◌, nat_eq, List, [], ◌∷◌, ◌++◌, length, refl, sym, ap, ◌∙◌, subst}
 use Rattle.std.proofs.Common.{append_assoc}
 use Rattle.std.proofs.Common.{Result, Ok, Err, IsErrOf, IfErr, ◌↔◌, arith, rules}
 use Rattle.std.proofs.lemmas.List.{append-nil, length-append}
 use Rattle.octseq_dns_name.specs.Name.{wire_length}
-use Rattle.octseq_dns_name.specs.Refused.{Reads, ReadsLabels, SpellsNone, IsFault, IsRefused}
+use Rattle.octseq_dns_name.specs.Refused.{Reads, SpellsNone, IsFault, IsRefused}
 use Rattle.octseq_dns_name.specs.Spelling.{SpellsOctet, SpellsLabel, SpellsLabels, SpellsName}
 use Rattle.octseq_dns_name.specs.Wire.{AreLabels}
 use Rattle.octseq_dns_name.specs.declared.error.NameError.{NameError}
 use Rattle.octseq_dns_name.proofs.Names.{wire_append, wire_some}
-use Rattle.octseq_dns_name.proofs.Spellings.{octet_once, no_full_stop, label_once, no_end}
+use Rattle.octseq_dns_name.proofs.Spellings.{octet_once, no_full_stop, label_once}
 use Rattle.octseq_dns_name.proofs.SpellingSteps.{spelled, later, spelling_long}
 
 -- ---- two runs of octets at one text's front
@@ -78,7 +78,7 @@ one_run text label xs other ys one two none other_none = by_size (ordered (lengt
 
 -- ---- where no octet is spelled
 
-pub none_at_end : SpellsNone []
+none_at_end : SpellsNone []
 none_at_end = λ octet first rest is one.
     let e = ap length is ∙ length-append first rest in
     let some = spelling_long octet first one in
@@ -241,7 +241,7 @@ none_go_on fault xs ys ahead is are short on =
 
 -- ---- the laws
 
-pub one_reason : (fault other : NameError) (text : List ℕ) → IsRefused fault text → IsRefused other text → fault ≡ other
+one_reason : (fault other : NameError) (text : List ℕ) → IsRefused fault text → IsRefused other text → fault ≡ other
 one_reason fault other text one two =
     let here = one.3 in
     let there = two.3 in

@@ -1,6 +1,6 @@
 -- The first label that is wrong is one, and where one is wrong they aren't all right.
 use Rattle.std.proofs.Common.{◌≡◌, ◌≢◌, ◌↔◌, ◌⊎◌, inl, inr, Option, ℕ, ◌+◌, ◌<◌, ◌≤◌, List, [], ◌∷◌, ◌++◌, length}
-use Rattle.std.proofs.Common.{Bor, Result, Ok, Err, IsErrOf, map, get_or, take, drop, refl, sym, ap, ◌∙◌, subst}
+use Rattle.std.proofs.Common.{Bor, Result, Err, IsErrOf, map, get_or, take, drop, refl, sym, ap, ◌∙◌, subst}
 use Rattle.std.proofs.Common.{append_assoc, arith}
 use Rattle.std.proofs.lemmas.List.{take_more, drop_more, take-append-drop, map-append}
 use Rattle.octseq.specs.Limit.{IsPast}
@@ -9,7 +9,7 @@ use Rattle.octseq_dns_name.specs.Unfit.{IsWrong, HasWrong, AreUnfit}
 use Rattle.octseq_dns_name.specs.Wire.{AreLabels}
 use Rattle.octseq_dns_name.specs.declared.error.LabelsError.{LabelsError}
 use Rattle.octseq_dns_name.proofs.Names.{wire_append, wire_some}
-use Rattle.octseq_dns_name.proofs.Refusals.{error_or, ok_no_err}
+use Rattle.octseq_dns_name.proofs.Refusals.{error_or}
 use Rattle.octseq_dns_name.proofs.SpellingSteps.{later}
 
 -- ---- two labels of a list

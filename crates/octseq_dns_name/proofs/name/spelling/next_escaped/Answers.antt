@@ -1,4 +1,4 @@
-use Rattle.std.proofs.Common.{◌≡◌, [], ◌∷◌, rules}
+use Rattle.std.proofs.Common.{[], ◌∷◌, rules}
 use Rattle.std.proofs.lemmas.Option.{IfSome_then}
 use Rattle.octseq_dns_name.specs.Spelling.{SpellsOctet}
 use Rattle.octseq_dns_name.specs.Text.{three_digits}

@@ -1,8 +1,7 @@
-use Rattle.std.proofs.Common.{◌≡◌, ℕ, List, ◌+◌, ◌<◌, ◌≤◌, Err, [], ◌∷◌, ◌++◌, length, sym, ap, ◌∙◌, subst, arith}
+use Rattle.std.proofs.Common.{◌≡◌, ℕ, List, ◌<◌, ◌≤◌, Err, [], ◌∷◌, ◌++◌, length, sym, ap, ◌∙◌, subst, arith}
 use Rattle.std.proofs.Common.{rules}
 use Rattle.std.proofs.lemmas.List.{length-append}
 use Rattle.octseq_dns_name.specs.Refused.{Reads, IsFault}
-use Rattle.octseq_dns_name.specs.declared.error.NameError.{NameError}
 use Rattle.octseq_dns_name.proofs.Refusals.{refused_by}
 use Rattle.octseq_dns_name.proofs.SpellingSteps.{none_left, read_octet, unended, octet_fault}
 use Rattle.octseq_dns_name.proofs.name.spelling.next_label.Goals as goal

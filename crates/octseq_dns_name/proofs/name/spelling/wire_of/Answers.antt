@@ -1,11 +1,11 @@
-use Rattle.std.proofs.Common.{◌≡◌, ◌⊎◌, inl, ◌+◌, ◌<◌, ◌≤◌, [], ◌∷◌, ◌++◌, length}
-use Rattle.std.proofs.Common.{refl, sym, ap, ◌∙◌, subst, arith, rules}
+use Rattle.std.proofs.Common.{◌≡◌, inl, ◌+◌, ◌<◌, ◌≤◌, [], ◌∷◌, ◌++◌, length}
+use Rattle.std.proofs.Common.{refl, ap, ◌∙◌, arith, rules}
 use Rattle.std.proofs.lemmas.List.{flat_map_more, length-append}
 use Rattle.octseq_dns_name.specs.Name.{wire_length}
 use Rattle.octseq_dns_name.specs.Refused.{IsFault}
 use Rattle.octseq_dns_name.specs.declared.error.NameError.{NameError}
 use Rattle.octseq_dns_name.proofs.Names.{wire_append}
-use Rattle.octseq_dns_name.proofs.SpellingSteps.{none_left, read_none, read_no_label, read_label, whole_name}
+use Rattle.octseq_dns_name.proofs.SpellingSteps.{none_left, read_no_label, read_label}
 use Rattle.octseq_dns_name.proofs.Wires.{bodies, bodies_length}
 use Rattle.octseq_dns_name.proofs.name.spelling.wire_of.Goals as goal
 

@@ -1,9 +1,8 @@
-use Rattle.std.proofs.Common.{◌≡◌, ◌+◌, ◌<◌, ◌≤◌, Bor, ℕ, List, [], ◌∷◌, ◌++◌, length, get_or, take, drop, refl, sym}
+use Rattle.std.proofs.Common.{◌≡◌, ◌+◌, ◌<◌, ◌≤◌, Bor, ℕ, List, [], ◌∷◌, ◌++◌, length, get_or, take, drop, sym}
 use Rattle.std.proofs.Common.{ap}
 use Rattle.std.proofs.Common.{◌∙◌, subst, arith, rules}
 use Rattle.std.proofs.lemmas.List.{length-append, flat_map_more, take_all}
-use Rattle.octseq_dns_name.specs.Name.{wire_length}
-use Rattle.octseq_dns_name.specs.Wire.{wire, AreLabels}
+use Rattle.octseq_dns_name.specs.Wire.{AreLabels}
 use Rattle.octseq_dns_name.proofs.Names.{wire_append}
 use Rattle.octseq_dns_name.proofs.SpellingSteps.{some_long}
 use Rattle.octseq_dns_name.proofs.Unfits.{contents, parted, taken}

@@ -1,4 +1,4 @@
-use Rattle.std.proofs.Common.{◌≡◌, ◌≤◌, Err, List, ℕ, map, length, refl, sym, ap, ◌∙◌, subst, arith, rules}
+use Rattle.std.proofs.Common.{◌≡◌, Err, map, length, refl, sym, ap, ◌∙◌, subst, rules}
 use Rattle.octseq.specs.Limit.{IsPast}
 use Rattle.octseq_dns_name.specs.Name.{wire_length}
 use Rattle.octseq_dns_name.specs.declared.error.LabelsError.{LabelsError}

@@ -1,7 +1,6 @@
 use Rattle.std.proofs.Common.{◌≡◌, ◌++◌, ap, ◌∙◌}
 use Rattle.octseq.specs.Window.{whole}
 use Rattle.octseq_dns_name.specs.OneName.{Named, named_once}
-use Rattle.octseq_dns_name.specs.Wire.{wire}
 use Rattle.octseq_dns_name.proofs.Wires.{wire_named}
 use Rattle.octseq_dns_name.proofs.name.owned.Name.held.Goals as goal
 

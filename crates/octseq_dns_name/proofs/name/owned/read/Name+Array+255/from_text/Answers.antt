@@ -1,4 +1,4 @@
-use Rattle.std.proofs.Common.{◌≡◌, Ok, Err, refl, sym, ap, ◌∙◌, subst, rules}
+use Rattle.std.proofs.Common.{refl, ap, subst, rules}
 use Rattle.octseq.specs.Window.{whole}
 use Rattle.octseq_dns_name.specs.OneName.{Named, named_once}
 use Rattle.octseq_dns_name.specs.Refused.{IsRefused}
