@@ -25,6 +25,9 @@ pub use Rattle.octseq_dns_name.specs.OrderLaws
 pub use Rattle.octseq_dns_name.specs.Owned
 pub use Rattle.octseq_dns_name.specs.Piece
 pub use Rattle.octseq_dns_name.specs.Read
+pub use Rattle.octseq_dns_name.specs.Refused
+pub use Rattle.octseq_dns_name.specs.Shown
 pub use Rattle.octseq_dns_name.specs.Spelling
 pub use Rattle.octseq_dns_name.specs.Text
+pub use Rattle.octseq_dns_name.specs.Unfit
 pub use Rattle.octseq_dns_name.specs.Wire

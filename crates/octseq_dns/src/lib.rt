@@ -12,6 +12,6 @@ pub use octseq_dns_message::iana::{Class, Opcode, Rcode, Rtype};
 pub use octseq_dns_message::message::{Message, Question, Record};
 pub use octseq_dns_message::ttl::Ttl;
 pub use octseq_dns_message::{data, header, iana, message, ttl};
-pub use octseq_dns_name::error::Malformed;
+pub use octseq_dns_name::error::{LabelsError, Malformed, NameError};
 pub use octseq_dns_name::name::{Name, ParsedName};
 pub use octseq_dns_name::{error, name};

@@ -1,6 +1,8 @@
 -- How labels and names compare, piece by piece.
-use Rattle.std.proofs.Common.{◌≡◌, ℕ, zero, suc, min, ◌+◌, ◌-◌, ◌<◌, ◌≤◌, ◌⊎◌, inl, inr, List, [], ◌∷◌, ◌++◌, length, take, drop, get_or, reverse, refl, sym, ap, ◌∙◌, arith, Option, Some, None, MatchOption}
-use Rattle.std.proofs.lemmas.List.{drop_more, drop_all, length-drop, length-reverse, reverse-append, map-append, length-map, length-append, take-append-drop}
+use Rattle.std.proofs.Common.{◌≡◌, ℕ, zero, suc, min, ◌+◌, ◌-◌, ◌<◌, ◌≤◌, ◌⊎◌, inl, inr, List, [], ◌∷◌, ◌++◌, length}
+use Rattle.std.proofs.Common.{take, drop, get_or, reverse, refl, sym, ap, ◌∙◌, arith, Option, Some, None, MatchOption}
+use Rattle.std.proofs.lemmas.List.{drop_more, drop_all, length-drop, length-reverse, reverse-append, map-append}
+use Rattle.std.proofs.lemmas.List.{length-map, length-append, take-append-drop}
 use Rattle.std.specs.Char.{to_ascii_lowercase}
 use Rattle.std.specs.Cmp.{nat_cmp_is, ranks}
 use Rattle.std.specs.Cmp.Lexicographic.{slice_cmp}
@@ -37,8 +39,11 @@ lesser a b i is = (omega (arith, is), omega (arith, is), which (zero_or_more (a 
 
 -- the octets at a place decide, or those behind them
 pub label_cmp_at : (xs ys : List ℕ) (i : ℕ) → i < length xs → i < length ys
-    → label_cmp (drop i xs) (drop i ys) ≡ ordering_then (nat_cmp (to_ascii_lowercase (get_or xs i 0)) (to_ascii_lowercase (get_or ys i 0))) (label_cmp (drop (i + 1) xs) (drop (i + 1) ys))
-label_cmp_at xs ys i few fewer = ap (λ l. label_cmp l (drop i ys)) (drop_more xs i 0 few) ∙ ap (λ l. label_cmp (get_or xs i 0 ∷ drop (i + 1) xs) l) (drop_more ys i 0 fewer)
+    → label_cmp (drop i xs) (drop i ys) ≡ ordering_then
+    (nat_cmp (to_ascii_lowercase (get_or xs i 0)) (to_ascii_lowercase (get_or ys i 0)))
+    (label_cmp (drop (i + 1) xs) (drop (i + 1) ys))
+label_cmp_at xs ys i few fewer = ap (λ l. label_cmp l (drop i ys)) (drop_more xs i 0 few)
+    ∙ ap (λ l. label_cmp (get_or xs i 0 ∷ drop (i + 1) xs) l) (drop_more ys i 0 fewer)
 
 -- where one of them ends their lengths decide
 nothing_left : (xs ys : List ℕ) → (length xs ≡ 0) ⊎ (length ys ≡ 0) → label_cmp xs ys ≡ nat_cmp (length xs) (length ys)
@@ -48,7 +53,8 @@ nothing_left (x ∷ xs) [] is = nat_cmp_is (length (x ∷ xs)) 0 Greater (omega 
 nothing_left (x ∷ xs) (y ∷ ys) (inl is) = absurd (omega (arith, is))
 nothing_left (x ∷ xs) (y ∷ ys) (inr is) = absurd (omega (arith, is))
 
-pub label_cmp_end : (xs ys : List ℕ) (i : ℕ) → i ≡ min (length xs) (length ys) → label_cmp (drop i xs) (drop i ys) ≡ nat_cmp (length xs) (length ys)
+pub label_cmp_end : (xs ys : List ℕ) (i : ℕ) → i ≡ min (length xs) (length ys)
+    → label_cmp (drop i xs) (drop i ys) ≡ nat_cmp (length xs) (length ys)
 label_cmp_end xs ys i least =
     let both = lesser (length xs) (length ys) i least in
     let few = both.0 in
@@ -84,10 +90,12 @@ fronts R [] [] more others same = refl
 fronts R [] (y ∷ ys) more others same = absurd (omega (arith, same))
 fronts R (x ∷ xs) [] more others same = absurd (omega (arith, same))
 fronts R (x ∷ xs) (y ∷ ys) more others same =
-    ap (ordering_then (R x y)) (fronts R xs ys more others (omega (arith, same))) ∙ sym (then_assoc (R x y) (slice_cmp R xs ys) (slice_cmp R more others))
+    ap (ordering_then (R x y)) (fronts R xs ys more others (omega (arith, same)))
+    ∙ sym (then_assoc (R x y) (slice_cmp R xs ys) (slice_cmp R more others))
 
 canonical_append : (xs more : List (List ℕ)) → canonical (xs ++ more) ≡ canonical more ++ canonical xs
-canonical_append xs more = ap reverse (map-append lower_label xs more) ∙ reverse-append (lower_labels xs) (lower_labels more)
+canonical_append xs more = ap reverse (map-append lower_label xs more)
+    ∙ reverse-append (lower_labels xs) (lower_labels more)
 
 pub canonical_length : (xs : List (List ℕ)) → length (canonical xs) ≡ length xs
 canonical_length xs = length-reverse (lower_labels xs) ∙ length-map xs lower_label
@@ -98,23 +106,30 @@ pub name_cmp_append : (xs ys more others : List (List ℕ)) → length more ≡ 
 name_cmp_append xs ys more others same =
     ap (λ l. slice_cmp (slice_cmp nat_cmp) l (canonical (ys ++ others))) (canonical_append xs more)
     ∙ ap (slice_cmp (slice_cmp nat_cmp) (canonical more ++ canonical xs)) (canonical_append ys others)
-    ∙ fronts (slice_cmp nat_cmp) (canonical more) (canonical others) (canonical xs) (canonical ys) (canonical_length more ∙ same ∙ sym (canonical_length others))
+    ∙ fronts (slice_cmp nat_cmp) (canonical more) (canonical others) (canonical xs) (canonical ys)
+    (canonical_length more ∙ same ∙ sym (canonical_length others))
 
 -- so a label behind others decides first
-pub name_cmp_last : (xs ys : List (List ℕ)) (x y : List ℕ) → name_cmp (xs ++ x ∷ []) (ys ++ y ∷ []) ≡ ordering_then (label_cmp x y) (name_cmp xs ys)
-name_cmp_last xs ys x y = name_cmp_append xs ys (x ∷ []) (y ∷ []) refl ∙ ap (λ o. ordering_then o (name_cmp xs ys)) (then_equal (label_cmp x y))
+pub name_cmp_last : (xs ys : List (List ℕ)) (x y : List ℕ)
+    → name_cmp (xs ++ x ∷ []) (ys ++ y ∷ []) ≡ ordering_then (label_cmp x y) (name_cmp xs ys)
+name_cmp_last xs ys x y = name_cmp_append xs ys (x ∷ []) (y ∷ []) refl
+    ∙ ap (λ o. ordering_then o (name_cmp xs ys)) (then_equal (label_cmp x y))
 
 -- where one has no label their lengths decide
-no_labels : (xs ys : List (List ℕ)) → (length xs ≡ 0) ⊎ (length ys ≡ 0) → slice_cmp (slice_cmp nat_cmp) xs ys ≡ nat_cmp (length xs) (length ys)
+no_labels : (xs ys : List (List ℕ)) → (length xs ≡ 0) ⊎ (length ys ≡ 0)
+    → slice_cmp (slice_cmp nat_cmp) xs ys ≡ nat_cmp (length xs) (length ys)
 no_labels [] [] is = nat_cmp_is 0 0 Equal refl
 no_labels [] (y ∷ ys) is = nat_cmp_is 0 (length (y ∷ ys)) Less (omega arith)
 no_labels (x ∷ xs) [] is = nat_cmp_is (length (x ∷ xs)) 0 Greater (omega arith)
 no_labels (x ∷ xs) (y ∷ ys) (inl is) = absurd (omega (arith, is))
 no_labels (x ∷ xs) (y ∷ ys) (inr is) = absurd (omega (arith, is))
 
-name_cmp_none : (xs ys : List (List ℕ)) → (length xs ≡ 0) ⊎ (length ys ≡ 0) → name_cmp xs ys ≡ nat_cmp (length xs) (length ys)
+name_cmp_none : (xs ys : List (List ℕ)) → (length xs ≡ 0) ⊎ (length ys ≡ 0)
+    → name_cmp xs ys ≡ nat_cmp (length xs) (length ys)
 name_cmp_none xs ys is =
-    no_labels (canonical xs) (canonical ys) (none is) ∙ ap (λ n. nat_cmp n (length (canonical ys))) (canonical_length xs) ∙ ap (nat_cmp (length xs)) (canonical_length ys)
+    no_labels (canonical xs) (canonical ys) (none is)
+    ∙ ap (λ n. nat_cmp n (length (canonical ys))) (canonical_length xs)
+    ∙ ap (nat_cmp (length xs)) (canonical_length ys)
   where
     none : (length xs ≡ 0) ⊎ (length ys ≡ 0) → (length (canonical xs) ≡ 0) ⊎ (length (canonical ys) ≡ 0)
     none (inl e) = inl (canonical_length xs ∙ e)
@@ -135,10 +150,12 @@ name_cmp_lasts xs ys m n m_is n_is =
     let fit : length (drop m xs) ≡ length (drop n ys) = omega (arith, left, other, m_is, n_is) in
     let more : length (take n ys) + length (drop m xs) ≡ length ys = omega (arith, all, fit) in
     let none : (length (take m xs) ≡ 0) ⊎ (length (take n ys) ≡ 0) = ended (zero_or_more m) in
-    ap (λ l. name_cmp l ys) (sym (take-append-drop m xs)) ∙ ap (name_cmp (take m xs ++ drop m xs)) (sym (take-append-drop n ys))
+    ap (λ l. name_cmp l ys) (sym (take-append-drop m xs))
+    ∙ ap (name_cmp (take m xs ++ drop m xs)) (sym (take-append-drop n ys))
     ∙ name_cmp_append (take m xs) (take n ys) (drop m xs) (drop n ys) fit
     ∙ ap (ordering_then (name_cmp (drop m xs) (drop n ys))) (name_cmp_none (take m xs) (take n ys) none
-    ∙ nat_cmp_moved (length (take m xs)) (length (take n ys)) (length (drop m xs)) ∙ ap (λ k. nat_cmp k (length (take n ys) + length (drop m xs))) whole ∙ ap (nat_cmp (length xs)) more)
+    ∙ nat_cmp_moved (length (take m xs)) (length (take n ys)) (length (drop m xs))
+    ∙ ap (λ k. nat_cmp k (length (take n ys) + length (drop m xs))) whole ∙ ap (nat_cmp (length xs)) more)
   where
     ended : (m ≡ 0) ⊎ (0 < m) → (length (take m xs) ≡ 0) ⊎ (length (take n ys) ≡ 0)
     ended (inl e) = inl (ap (λ k. length (take k xs)) e)
@@ -149,10 +166,12 @@ name_cmp_lasts xs ys m n m_is n_is =
 -- labels in lower case are as long
 pub lower_length : (labels : List (List ℕ)) → wire_length (lower_labels labels) ≡ wire_length labels
 lower_length [] = refl
-lower_length (label ∷ labels) = let more = lower_length labels in let is = length-map label to_ascii_lowercase in omega (arith, more, is)
+lower_length (label ∷ labels) = let more = lower_length labels in let is = length-map label to_ascii_lowercase in
+    omega (arith, more, is)
 
 -- so equal names are
-pub equal_length : (labels others : List (List ℕ)) → lower_labels labels ≡ lower_labels others → wire_length labels ≡ wire_length others
+pub equal_length : (labels others : List (List ℕ)) → lower_labels labels ≡ lower_labels others
+    → wire_length labels ≡ wire_length others
 equal_length labels others same = sym (lower_length labels) ∙ ap wire_length same ∙ lower_length others
 
 -- ---- walks
@@ -161,10 +180,12 @@ equal_length labels others same = sym (lower_length labels) ∙ ap wire_length s
 drop_one : (i : ℕ) (xs : List (List ℕ)) → drop 1 (drop i xs) ≡ drop (i + 1) xs
 drop_one zero xs = refl
 drop_one (suc i) [] = sym (drop_all (suc i + 1) [] (omega arith))
-drop_one (suc i) (x ∷ xs) = let same : suc (i + 1) ≡ suc i + 1 = omega arith in drop_one i xs ∙ ap (λ k. drop k (x ∷ xs)) same
+drop_one (suc i) (x ∷ xs) = let same : suc (i + 1) ≡ suc i + 1 = omega arith in drop_one i xs
+    ∙ ap (λ k. drop k (x ∷ xs)) same
 
 -- what an iterator has left past an item more, or at its end
-pub passes : {A : Type 0} (view : A → List ℕ) (xs ys all : List (List ℕ)) (i : ℕ) (r : Option A) → MatchOption r ((xs ≡ []) × (ys ≡ [])) (λ x. xs ≡ view x ∷ ys)
+pub passes : {A : Type 0} (view : A → List ℕ) (xs ys all : List (List ℕ)) (i : ℕ) (r : Option A)
+    → MatchOption r ((xs ≡ []) × (ys ≡ [])) (λ x. xs ≡ view x ∷ ys)
     → xs ≡ drop i all → ys ≡ drop (i + 1) all
 passes view xs ys all i None is so_far = is.1 ∙ ap (drop 1) (sym is.0 ∙ so_far) ∙ drop_one i all
 passes view xs ys all i (Some x) is so_far = ap (drop 1) (sym is ∙ so_far) ∙ drop_one i all

@@ -1,24 +1,28 @@
 -- How a name is read piece by piece: what was read, what is ahead, and when there is no name.
-use Rattle.std.proofs.Common.{◌≡◌, ℕ, suc, ◌+◌, ◌<◌, ◌≤◌, List, [], ◌∷◌, ◌++◌, length, Option, Some, None, IfSome, refl, sym, ap, ◌∙◌, subst, append_assoc, arith}
+use Rattle.std.proofs.Common.{◌≡◌, ℕ, suc, ◌+◌, ◌<◌, ◌≤◌, List, [], ◌∷◌, ◌++◌, length, Option, Some, None, refl, sym}
+use Rattle.std.proofs.Common.{ap, ◌∙◌, subst, append_assoc, arith, IfSome}
 use Rattle.std.proofs.Math.Logic.{∥∥₁_prop, ∥∥₁_elim}
 use Rattle.std.specs.Coded.{le_prop}
 use Rattle.std.specs.Option.{unwrap_or}
 use Rattle.std.proofs.lemmas.List.{append-nil}
 use Rattle.octseq.specs.Window.{Window, left, at}
 use Rattle.octseq_dns_name.specs.Name.{HasRoot, HasLabel, HasPointer, Stands, IsName, wire_length}
-use Rattle.octseq_dns_name.specs.OneName.{at_label, at_pointer, one_standing, one_labels, one_name, Named, Ahead, ahead_once}
+use Rattle.octseq_dns_name.specs.OneName.{at_label, at_pointer, one_standing, one_labels, one_name, Named, Ahead}
+use Rattle.octseq_dns_name.specs.OneName.{ahead_once}
 use Rattle.octseq_dns_name.specs.Piece.{Piece, HasPiece, end_of, kept_at}
 
 -- ---- what stands ahead
 
 -- where no piece stands, no labels do
-pub no_piece : (start : ℕ) (w x : Window) (labels : List (List ℕ)) (pointers : ℕ) → ((p : Piece) (v : Window) → HasPiece start w p v → ⊥) → Stands start w labels pointers x → ⊥
+pub no_piece : (start : ℕ) (w x : Window) (labels : List (List ℕ)) (pointers : ℕ)
+    → ((p : Piece) (v : Window) → HasPiece start w p v → ⊥) → Stands start w labels pointers x → ⊥
 no_piece start w x labels pointers none (Stands.root has) = none Piece.root x has
 no_piece start w x labels pointers none (Stands.label {u = u} {l = l} has rest) = none (Piece.label l) u has
 no_piece start w x labels pointers none (Stands.pointer {to = to} has rest) = none (Piece.pointer to) x has
 
 -- A name that stands at a first window is these labels and pointers, and then what stands at a second one.
-pub record GoesOn (start : ℕ) (v : Window) (labels : List (List ℕ)) (pointers : ℕ) (behind : Option Window) (all : List (List ℕ)) (count : ℕ) (x : Window) : Type 0 where
+pub record GoesOn (start : ℕ) (v : Window) (labels : List (List ℕ)) (pointers : ℕ) (behind : Option Window)
+    (all : List (List ℕ)) (count : ℕ) (x : Window) : Type 0 where
   pub more : List (List ℕ)
   pub fewer : ℕ
   pub u : Window
@@ -27,24 +31,39 @@ pub record GoesOn (start : ℕ) (v : Window) (labels : List (List ℕ)) (pointer
   pub pointers_are : count ≡ pointers + fewer
   pub end_is : x ≡ end_of behind u
 
--- These labels and pointers lead from a first window to a second one: a name stands at the one exactly where the rest of it stands at the
--- other.
-pub record LeadsTo (first : ℕ) (w : Window) (start : ℕ) (v : Window) (labels : List (List ℕ)) (pointers : ℕ) (behind : Option Window) : Type 0 where
-  pub forward : (more : List (List ℕ)) (fewer : ℕ) (u : Window) → Stands start v more fewer u → Stands first w (labels ++ more) (pointers + fewer) (end_of behind u)
-  pub backward : (all : List (List ℕ)) (count : ℕ) (x : Window) → Stands first w all count x → GoesOn start v labels pointers behind all count x
+-- These labels and pointers lead from a first window to a second one: a name stands at the one exactly where the rest
+-- of it stands at the other.
+pub record LeadsTo (first : ℕ) (w : Window) (start : ℕ) (v : Window) (labels : List (List ℕ)) (pointers : ℕ)
+    (behind : Option Window) : Type 0 where
+  pub forward : (more : List (List ℕ)) (fewer : ℕ) (u : Window) → Stands start v more fewer u
+      → Stands first w (labels ++ more) (pointers + fewer) (end_of behind u)
+  pub backward : (all : List (List ℕ)) (count : ℕ) (x : Window) → Stands first w all count x
+      → GoesOn start v labels pointers behind all count x
 
 -- nothing was read yet
 pub leads_none : (start : ℕ) (w : Window) → LeadsTo start w start w [] 0 None
 leads_none start w = record {
-  forward = λ more fewer u stands. let same : fewer ≡ 0 + fewer = omega arith in subst (λ n. Stands start w more n u) same stands;
-  backward = λ all count x stands. record { more = all; fewer = count; u = x; stands = stands; labels_are = refl; pointers_are = omega arith; end_is = refl };
+  forward = λ more fewer u stands. let same : fewer ≡ 0 + fewer = omega arith in
+      subst (λ n. Stands start w more n u) same stands;
+  backward = λ all count x stands. record {
+    more = all;
+    fewer = count;
+    u = x;
+    stands = stands;
+    labels_are = refl;
+    pointers_are = omega arith;
+    end_is = refl;
+  };
 }
 
 -- one label more
-pub leads_past_label : (first : ℕ) (w : Window) (start : ℕ) (v u : Window) (labels : List (List ℕ)) (pointers : ℕ) (l : List ℕ) (behind : Option Window)
-    → LeadsTo first w start v labels pointers behind → HasLabel v l u → LeadsTo first w start u (labels ++ l ∷ []) pointers behind
+pub leads_past_label : (first : ℕ) (w : Window) (start : ℕ) (v u : Window) (labels : List (List ℕ)) (pointers : ℕ)
+    (l : List ℕ) (behind : Option Window)
+    → LeadsTo first w start v labels pointers behind → HasLabel v l u
+    → LeadsTo first w start u (labels ++ l ∷ []) pointers behind
 leads_past_label first w start v u labels pointers l behind so_far has = record {
-  forward = λ more fewer x stands. subst (λ all. Stands first w all (pointers + fewer) (end_of behind x)) (sym (append_assoc labels (l ∷ []) more))
+  forward = λ more fewer x stands. subst (λ all. Stands first w all (pointers + fewer) (end_of behind x))
+      (sym (append_assoc labels (l ∷ []) more))
       (so_far.forward (l ∷ more) fewer x (Stands.label has stands));
   backward = λ all count x stands.
       let before = so_far.backward all count x stands in
@@ -61,12 +80,15 @@ leads_past_label first w start v u labels pointers l behind so_far has = record 
 }
 
 -- one pointer more: the first one says where the name ends
-pub leads_past_pointer : (first : ℕ) (w : Window) (start : ℕ) (v u : Window) (labels : List (List ℕ)) (pointers : ℕ) (to : ℕ) (behind : Option Window)
-    → LeadsTo first w start v labels pointers behind → HasPointer start v to u → LeadsTo first w to (at to v) labels (pointers + 1) (Some (end_of behind u))
+pub leads_past_pointer : (first : ℕ) (w : Window) (start : ℕ) (v u : Window) (labels : List (List ℕ)) (pointers : ℕ)
+    (to : ℕ) (behind : Option Window)
+    → LeadsTo first w start v labels pointers behind → HasPointer start v to u
+    → LeadsTo first w to (at to v) labels (pointers + 1) (Some (end_of behind u))
 leads_past_pointer first w start v u labels pointers to behind so_far has = record {
   forward = λ more fewer x stands.
       let same : pointers + suc fewer ≡ pointers + 1 + fewer = omega arith in
-      subst (λ n. Stands first w (labels ++ more) n (end_of behind u)) same (so_far.forward more (suc fewer) u (Stands.pointer has stands));
+      subst (λ n. Stands first w (labels ++ more) n (end_of behind u)) same
+      (so_far.forward more (suc fewer) u (Stands.pointer has stands));
   backward = λ all count x stands.
       let before = so_far.backward all count x stands in
       let on = at_pointer start v u before.u to before.more before.fewer has before.stands in
@@ -84,17 +106,20 @@ leads_past_pointer first w start v u labels pointers to behind so_far has = reco
 }
 
 -- at the root it ends
-pub leads_to_root : (first : ℕ) (w : Window) (start : ℕ) (v u : Window) (labels : List (List ℕ)) (pointers : ℕ) (behind : Option Window)
+pub leads_to_root : (first : ℕ) (w : Window) (start : ℕ) (v u : Window) (labels : List (List ℕ)) (pointers : ℕ)
+    (behind : Option Window)
     → LeadsTo first w start v labels pointers behind → HasRoot v u → Stands first w labels pointers (end_of behind u)
 leads_to_root first w start v u labels pointers behind so_far has =
     let same : pointers + 0 ≡ pointers = omega arith in
     subst (λ n. Stands first w labels n (end_of behind u)) same
-    (subst (λ all. Stands first w all (pointers + 0) (end_of behind u)) (append-nil labels) (so_far.forward [] 0 u (Stands.root has)))
+    (subst (λ all. Stands first w all (pointers + 0) (end_of behind u)) (append-nil labels)
+    (so_far.forward [] 0 u (Stands.root has)))
 
 -- ---- lengths
 
 -- the wire length of labels and of more behind them, which have one root between them
-pub wire_append : (labels more : List (List ℕ)) → wire_length (labels ++ more) + 1 ≡ wire_length labels + wire_length more
+pub wire_append : (labels more : List (List ℕ))
+    → wire_length (labels ++ more) + 1 ≡ wire_length labels + wire_length more
 wire_append [] more = omega arith
 wire_append (l ∷ labels) more = let so_far = wire_append labels more in omega (arith, so_far)
 
@@ -114,14 +139,17 @@ label_count [] = omega arith
 label_count (l ∷ labels) = let so_far = label_count labels in omega (arith, so_far)
 
 -- a name takes an octet at least
-pub stands_takes : (start : ℕ) (w v : Window) (labels : List (List ℕ)) (pointers : ℕ) → Stands start w labels pointers v → left v + 1 ≤ left w
-stands_takes start w v labels pointers (Stands.root has) = let room = has.room in let is = ap left has.behind in omega (arith, room, is)
+pub stands_takes : (start : ℕ) (w v : Window) (labels : List (List ℕ)) (pointers : ℕ) → Stands start w labels pointers v
+    → left v + 1 ≤ left w
+stands_takes start w v labels pointers (Stands.root has) = let room = has.room in let is = ap left has.behind in
+    omega (arith, room, is)
 stands_takes start w v labels pointers (Stands.label {u = u} {labels = more} has rest) =
     let room = has.room in
     let is = ap left has.behind in
     let less = stands_takes start u v more pointers rest in
     omega (arith, room, is, less)
-stands_takes start w v labels pointers (Stands.pointer has rest) = let room = has.room in let is = ap left has.behind in omega (arith, room, is)
+stands_takes start w v labels pointers (Stands.pointer has rest) = let room = has.room in let is = ap left has.behind in
+    omega (arith, room, is)
 
 pub name_takes : (w v : Window) (labels : List (List ℕ)) → IsName w labels v → left v + 1 ≤ left w
 name_takes w v labels name = stands_takes w.position w v labels name.pointers name.stands
@@ -137,15 +165,18 @@ pub record Reading (w : Window) (start : ℕ) (v : Window) (size pointers : ℕ)
 pub begun : (w : Window) → Reading w w.position w 1 0 None
 begun w = record { labels = []; read = leads_none w.position w; size_is = refl }
 
-pub with_label : (w : Window) (start : ℕ) (v u : Window) (size made pointers : ℕ) (behind : Option Window) (l : List ℕ) → Reading w start v size pointers behind
+pub with_label : (w : Window) (start : ℕ) (v u : Window) (size made pointers : ℕ) (behind : Option Window) (l : List ℕ)
+    → Reading w start v size pointers behind
     → HasLabel v l u → made ≡ size + (1 + length l) → Reading w start u made pointers behind
 with_label w start v u size made pointers behind l so_far has is = record {
   labels = so_far.labels ++ l ∷ [];
   read = leads_past_label w.position w start v u so_far.labels pointers l behind so_far.read has;
-  size_is = let both = wire_append so_far.labels (l ∷ []) in let before = so_far.size_is in omega (arith, both, before, is);
+  size_is = let both = wire_append so_far.labels (l ∷ []) in let before = so_far.size_is in
+      omega (arith, both, before, is);
 }
 
-pub with_pointer : (w : Window) (start : ℕ) (v u : Window) (size pointers : ℕ) (behind : Option Window) (to : ℕ) → Reading w start v size pointers behind
+pub with_pointer : (w : Window) (start : ℕ) (v u : Window) (size pointers : ℕ) (behind : Option Window) (to : ℕ)
+    → Reading w start v size pointers behind
     → HasPointer start v to u → Reading w to (at to v) size (pointers + 1) (Some (end_of behind u))
 with_pointer w start v u size pointers behind to so_far has = record {
   labels = so_far.labels;
@@ -154,7 +185,8 @@ with_pointer w start v u size pointers behind to so_far has = record {
 }
 
 -- labels that are too long are no name, however they go on
-pub too_long : (w : Window) (start : ℕ) (v : Window) (size pointers : ℕ) (behind : Option Window) → Reading w start v size pointers behind → 255 < size
+pub too_long : (w : Window) (start : ℕ) (v : Window) (size pointers : ℕ) (behind : Option Window)
+    → Reading w start v size pointers behind → 255 < size
     → (labels : List (List ℕ)) (end : Window) → ¬ IsName w labels end
 too_long w start v size pointers behind so_far long labels end name =
     let on = so_far.read.backward labels name.pointers end name.stands in
@@ -166,7 +198,8 @@ too_long w start v size pointers behind so_far long labels end name =
     omega (arith, both, some, all, is, short, long)
 
 -- nor are too many pointers
-pub too_many : (w : Window) (start : ℕ) (v : Window) (size pointers : ℕ) (behind : Option Window) → Reading w start v size pointers behind → 127 < pointers
+pub too_many : (w : Window) (start : ℕ) (v : Window) (size pointers : ℕ) (behind : Option Window)
+    → Reading w start v size pointers behind → 127 < pointers
     → (labels : List (List ℕ)) (end : Window) → ¬ IsName w labels end
 too_many w start v size pointers behind so_far many labels end name =
     let on = so_far.read.backward labels name.pointers end name.stands in
@@ -175,14 +208,17 @@ too_many w start v size pointers behind so_far many labels end name =
     omega (arith, all, few, many)
 
 -- nor is what has no next piece
-pub no_next : (w : Window) (start : ℕ) (v : Window) (size pointers : ℕ) (behind : Option Window) → Reading w start v size pointers behind
-    → ((p : Piece) (u : Window) → HasPiece start v p u → ⊥) → (labels : List (List ℕ)) (end : Window) → ¬ IsName w labels end
+pub no_next : (w : Window) (start : ℕ) (v : Window) (size pointers : ℕ) (behind : Option Window)
+    → Reading w start v size pointers behind
+    → ((p : Piece) (u : Window) → HasPiece start v p u → ⊥) → (labels : List (List ℕ)) (end : Window)
+    → ¬ IsName w labels end
 no_next w start v size pointers behind so_far none labels end name =
     let on = so_far.read.backward labels name.pointers end name.stands in
     no_piece start v on.u on.more on.fewer none on.stands
 
 -- at the root the name is whole
-pub whole_name : (w : Window) (start : ℕ) (v u : Window) (size pointers : ℕ) (behind : Option Window) → (read : Reading w start v size pointers behind)
+pub whole_name : (w : Window) (start : ℕ) (v u : Window) (size pointers : ℕ) (behind : Option Window)
+    → (read : Reading w start v size pointers behind)
     → HasRoot v u → size ≤ 255 → pointers ≤ 127 → IsName w read.labels (end_of behind u)
 whole_name w start v u size pointers behind so_far has short few = record {
   pointers = pointers;
@@ -212,12 +248,15 @@ kept_within w u (Some place) kept within = kept
 
 -- the labels that it keeps are those of the name
 pub named_as : (w end : Window) (labels : List (List ℕ)) (named : Named w) → IsName w labels end → labels ≡ named.0
-named_as w end labels named name = ∥∥₁_elim named.1 (one_labels labels named.0) (λ x. (one_name w end x.0 labels named.0 name x.1).0)
+named_as w end labels named name =
+    ∥∥₁_elim named.1 (one_labels labels named.0) (λ x. (one_name w end x.0 labels named.0 name x.1).0)
 
 -- the labels that an iterator keeps are those that stand there
-pub ahead_is : (start : ℕ) (w end : Window) (labels : List (List ℕ)) (pointers : ℕ) (ahead : Ahead start w) → Stands start w labels pointers end → ahead.0 ≡ labels
+pub ahead_is : (start : ℕ) (w end : Window) (labels : List (List ℕ)) (pointers : ℕ) (ahead : Ahead start w)
+    → Stands start w labels pointers end → ahead.0 ≡ labels
 ahead_is start w end labels pointers ahead stands =
-    ∥∥₁_elim ahead.1 (one_labels ahead.0 labels) (λ x. (one_standing start w x.1 end ahead.0 labels x.0 pointers x.2 stands).0)
+    ∥∥₁_elim ahead.1 (one_labels ahead.0 labels)
+    (λ x. (one_standing start w x.1 end ahead.0 labels x.0 pointers x.2 stands).0)
 
 -- a label was taken, and the rest stands behind it
 abbrev pub Taken : ℕ → Window → ℕ → Window → List ℕ → Type 0
@@ -226,19 +265,23 @@ Taken start w on v l = (labels : List (List ℕ)) (pointers : ℕ) (end : Window
 
 -- no label was left
 pub none_ahead : (start : ℕ) (w : Window) (ahead : Ahead start w)
-    → ((labels : List (List ℕ)) (pointers : ℕ) (end : Window) → Stands start w labels pointers end → labels ≡ []) → ahead.0 ≡ []
+    → ((labels : List (List ℕ)) (pointers : ℕ) (end : Window) → Stands start w labels pointers end → labels ≡ [])
+    → ahead.0 ≡ []
 none_ahead start w ahead none = ∥∥₁_elim ahead.1 (one_labels ahead.0 []) (λ x. none ahead.0 x.0 x.1 x.2)
 
 -- one was, and it is the first
-pub then_ahead : (start : ℕ) (w : Window) (on : ℕ) (v : Window) (l : List ℕ) (ahead : Ahead start w) (behind : Ahead on v) → Taken start w on v l → ahead.0 ≡ l ∷ behind.0
+pub then_ahead : (start : ℕ) (w : Window) (on : ℕ) (v : Window) (l : List ℕ) (ahead : Ahead start w)
+    (behind : Ahead on v) → Taken start w on v l → ahead.0 ≡ l ∷ behind.0
 then_ahead start w on v l ahead behind takes = ∥∥₁_elim ahead.1 (one_labels ahead.0 (l ∷ behind.0)) (λ x.
     let taken = takes ahead.0 x.0 x.1 x.2 in
     taken.3 ∙ ap (λ more. l ∷ more) (sym (ahead_is on v taken.2 taken.0 taken.1 behind taken.4)))
 
 -- the rest are a fact too
-pub more_ahead : (start : ℕ) (w : Window) (on : ℕ) (v : Window) (l : List ℕ) (ahead : Ahead start w) → Taken start w on v l → (behind : Ahead on v) × (ahead.0 ≡ l ∷ behind.0)
+pub more_ahead : (start : ℕ) (w : Window) (on : ℕ) (v : Window) (l : List ℕ) (ahead : Ahead start w)
+    → Taken start w on v l → (behind : Ahead on v) × (ahead.0 ≡ l ∷ behind.0)
 more_ahead start w on v l ahead takes =
-    let behind : Ahead on v = ∥∥₁_elim ahead.1 (ahead_once on v) (λ x. let taken = takes ahead.0 x.0 x.1 x.2 in (taken.0, ∣ (taken.1, taken.2, taken.4) ∣₁)) in
+    let behind : Ahead on v = ∥∥₁_elim ahead.1 (ahead_once on v) (λ x. let taken = takes ahead.0 x.0 x.1 x.2 in
+    (taken.0, ∣ (taken.1, taken.2, taken.4) ∣₁)) in
     (behind, then_ahead start w on v l ahead behind takes)
 
 -- and fewer

@@ -1,5 +1,6 @@
 -- The plain wire form of labels is a name.
-use Rattle.std.proofs.Common.{◌≡◌, ℕ, ◌+◌, ◌≤◌, Option, List, [], ◌∷◌, ◌++◌, length, flat_map, refl, sym, ap, ◌∙◌, subst, append_assoc, arith}
+use Rattle.std.proofs.Common.{◌≡◌, ℕ, ◌+◌, ◌≤◌, Option, List, [], ◌∷◌, ◌++◌, length, flat_map, refl, sym, ap, ◌∙◌}
+use Rattle.std.proofs.Common.{subst, append_assoc, arith}
 use Rattle.std.proofs.lemmas.List.{length-append, flat_map_more}
 use Rattle.octseq.specs.Limit.{IsPast}
 use Rattle.octseq.proofs.Limits.{past_more}
@@ -29,11 +30,13 @@ wire_has labels = length-append (bodies labels) (0 ∷ []) ∙ bodies_length lab
 -- ---- a name
 
 -- what stands past a front's next octets
-past_behind : (front octets after : List ℕ) (k : ℕ) → length octets ≡ k → past k (behind front (octets ++ after)) ≡ behind (front ++ octets) after
+past_behind : (front octets after : List ℕ) (k : ℕ) → length octets ≡ k
+    → past k (behind front (octets ++ after)) ≡ behind (front ++ octets) after
 past_behind front octets after k many =
     let long : length (front ++ octets) ≡ length front + length octets = length-append front octets in
     let place : length front + k ≡ length (front ++ octets) = omega (arith, many, long) in
-    ap (λ p. at p (whole (front ++ (octets ++ after)))) place ∙ ap (λ all. at (length (front ++ octets)) (whole all)) (sym (append_assoc front octets after))
+    ap (λ p. at p (whole (front ++ (octets ++ after)))) place
+    ∙ ap (λ all. at (length (front ++ octets)) (whole all)) (sym (append_assoc front octets after))
 
 be_one : (n : ℕ) → be (n ∷ []) ≡ n
 unfolding be
@@ -50,7 +53,8 @@ root_behind front = record {
 }
 
 label_behind : (front label after : List ℕ) → 1 ≤ length label → length label ≤ 63
-    → HasLabel (behind front (length label ∷ (label ++ after))) label (behind ((front ++ length label ∷ []) ++ label) after)
+    → HasLabel (behind front (length label ∷ (label ++ after))) label
+    (behind ((front ++ length label ∷ []) ++ label) after)
 label_behind front label after some short =
     let w = behind front (length label ∷ (label ++ after)) in
     let inside = behind (front ++ length label ∷ []) (label ++ after) in
@@ -60,46 +64,61 @@ label_behind front label after some short =
       room = let is = left_behind front (length label ∷ (label ++ after)) in omega (arith, is);
       some = omega (arith, first, some);
       short = omega (arith, first, short);
-      whole = let there = ap left moved in let is = left_behind (front ++ length label ∷ []) (label ++ after) in let both = length-append label after in omega (arith, first, there, is, both);
-      octets = sym (ap (λ n. next n (past 1 w)) first ∙ ap (next (length label)) moved ∙ (come_next (front ++ length label ∷ []) label after (length label) refl).1);
-      behind = sym (ap (λ n. past n (past 1 w)) first ∙ ap (past (length label)) moved ∙ past_behind (front ++ length label ∷ []) label after (length label) refl);
+      whole = let there = ap left moved in let is = left_behind (front ++ length label ∷ []) (label ++ after) in
+          let both = length-append label after in omega (arith, first, there, is, both);
+      octets = sym (ap (λ n. next n (past 1 w)) first ∙ ap (next (length label)) moved
+          ∙ (come_next (front ++ length label ∷ []) label after (length label) refl).1);
+      behind = sym (ap (λ n. past n (past 1 w)) first ∙ ap (past (length label)) moved
+          ∙ past_behind (front ++ length label ∷ []) label after (length label) refl);
     }
 
 -- so the wire form of labels stands behind a front
-wire_stands : (start : ℕ) (front : List ℕ) (labels : List (List ℕ)) → AreLabels labels → (v : Window) × Stands start (behind front (wire labels)) labels 0 v
+wire_stands : (start : ℕ) (front : List ℕ) (labels : List (List ℕ)) → AreLabels labels
+    → (v : Window) × Stands start (behind front (wire labels)) labels 0 v
 wire_stands start front [] are = (behind (front ++ 0 ∷ []) [], Stands.root (root_behind front))
 wire_stands start front (label ∷ labels) are =
     let rest = wire_stands start ((front ++ length label ∷ []) ++ label) labels are.2 in
-    let same : wire (label ∷ labels) ≡ length label ∷ (label ++ wire labels) = ap (λ l. length label ∷ l) (append_assoc label (bodies labels) (0 ∷ [])) in
-    (rest.0, subst (λ octets. Stands start (behind front octets) (label ∷ labels) 0 rest.0) (sym same) (Stands.label (label_behind front label (wire labels) are.0 are.1) rest.1))
+    let same : wire (label ∷ labels) ≡ length label ∷ (label ++ wire labels) =
+    ap (λ l. length label ∷ l) (append_assoc label (bodies labels) (0 ∷ [])) in (
+      rest.0,
+      subst (λ octets. Stands start (behind front octets) (label ∷ labels) 0 rest.0) (sym same)
+          (Stands.label (label_behind front label (wire labels) are.0 are.1) rest.1),
+    )
 
 -- and they are the name of those octets
-pub wire_named : (octets : List ℕ) (labels : List (List ℕ)) → octets ≡ wire labels → AreLabels labels → wire_length labels ≤ 255
+pub wire_named : (octets : List ℕ) (labels : List (List ℕ)) → octets ≡ wire labels → AreLabels labels
+    → wire_length labels ≤ 255
     → ∥ ((end : Window) × IsName (whole octets) labels end) ∥₁
 wire_named octets labels are each short =
     let stands = wire_stands 0 [] labels each in
-    let name : IsName (whole (wire labels)) labels stands.0 = record { pointers = 0; stands = stands.1; short = short; few = omega arith } in
+    let name : IsName (whole (wire labels)) labels stands.0 =
+    record { pointers = 0; stands = stands.1; short = short; few = omega arith } in
     ∣ (stands.0, subst (λ octets. IsName (whole octets) labels stands.0) (sym are) name) ∣₁
 
 -- ---- the writer
 
-pub one_more : (labels : List (List ℕ)) (label : List ℕ) → AreLabels labels → 1 ≤ length label → length label ≤ 63 → AreLabels (labels ++ label ∷ [])
+pub one_more : (labels : List (List ℕ)) (label : List ℕ) → AreLabels labels → 1 ≤ length label → length label ≤ 63
+    → AreLabels (labels ++ label ∷ [])
 one_more [] label are some short = (some, short, tt)
 one_more (first ∷ labels) label are some short = (are.0, are.1, one_more labels label are.2 some short)
 
 -- There is room for octets of what is ahead, behind the labels that were appended.
-pub room_ahead : (limit : Option ℕ) (content before : List ℕ) (labels done ahead : List (List ℕ)) (n : ℕ) → content ≡ before ++ bodies done → labels ≡ done ++ ahead
+pub room_ahead : (limit : Option ℕ) (content before : List ℕ) (labels done ahead : List (List ℕ)) (n : ℕ)
+    → content ≡ before ++ bodies done → labels ≡ done ++ ahead
     → n ≤ wire_length ahead → ¬ IsPast limit (length before + wire_length labels) → ¬ IsPast limit (length content + n)
 room_ahead limit content before labels done ahead n appended labels_are few room past =
     let all = ap wire_length labels_are in
     let both = wire_append done ahead in
     let is = bodies_length done in
     let size = ap length appended ∙ length-append before (bodies done) in
-    room (past_more limit (length content + n) (length before + wire_length labels) (omega (arith, few, both, is, size, all)) past)
+    room (past_more limit (length content + n) (length before + wire_length labels)
+    (omega (arith, few, both, is, size, all)) past)
 
 -- one label more was appended: its length, and its octets
-pub appended_more : (before content one two : List ℕ) (done : List (List ℕ)) (label : List ℕ) → content ≡ before ++ bodies done → one ≡ content ++ length label ∷ [] → two ≡ one ++ label
+pub appended_more : (before content one two : List ℕ) (done : List (List ℕ)) (label : List ℕ)
+    → content ≡ before ++ bodies done → one ≡ content ++ length label ∷ [] → two ≡ one ++ label
     → two ≡ before ++ bodies (done ++ label ∷ [])
 appended_more before content one two done label so_far first second =
-    second ∙ ap (λ octets. octets ++ label) (first ∙ ap (λ octets. octets ++ length label ∷ []) so_far) ∙ append_assoc (before ++ bodies done) (length label ∷ []) label
+    second ∙ ap (λ octets. octets ++ label) (first ∙ ap (λ octets. octets ++ length label ∷ []) so_far)
+    ∙ append_assoc (before ++ bodies done) (length label ∷ []) label
     ∙ flat_map_more (λ label. length label ∷ label) before done label

@@ -5,6 +5,9 @@ pub mod OrderLaws
 pub mod Owned
 pub mod Piece
 pub mod Read
+pub mod Refused
+pub mod Shown
 pub mod Spelling
 pub mod Text
+pub mod Unfit
 pub mod Wire

@@ -18,30 +18,42 @@ pub no_pointer_at_label : {start to : ℕ} {w u v : Window} {l : List ℕ} → H
 no_pointer_at_label here other = let short = here.short in let mark = other.mark in omega (arith, short, mark)
 
 -- where the root stands there are no labels
-pub at_root : (start : ℕ) (w u x : Window) (labels : List (List ℕ)) (pointers : ℕ) → HasRoot w u → Stands start w labels pointers x
+pub at_root : (start : ℕ) (w u x : Window) (labels : List (List ℕ)) (pointers : ℕ) → HasRoot w u
+    → Stands start w labels pointers x
     → (labels ≡ []) × (pointers ≡ 0) × (x ≡ u)
 at_root start w u x labels pointers has (Stands.root other) = (refl, refl, other.behind ∙ sym has.behind)
 at_root start w u x labels pointers has (Stands.label other rest) = absurd (no_label_at_root has other)
 at_root start w u x labels pointers has (Stands.pointer other rest) = absurd (no_pointer_at_root has other)
 
 -- behind a label the name goes on
-pub at_label : (start : ℕ) (w u x : Window) (l : List ℕ) (labels : List (List ℕ)) (pointers : ℕ) → HasLabel w l u → Stands start w labels pointers x
+pub at_label : (start : ℕ) (w u x : Window) (l : List ℕ) (labels : List (List ℕ)) (pointers : ℕ) → HasLabel w l u
+    → Stands start w labels pointers x
     → (more : List (List ℕ)) × (labels ≡ l ∷ more) × Stands start u more pointers x
 at_label start w u x l labels pointers has (Stands.root other) = absurd (no_label_at_root other has)
-at_label start w u x l labels pointers has (Stands.label {labels = more} other rest) =
-    (more, ap (λ l. l ∷ more) (other.octets ∙ sym has.octets), subst (λ v. Stands start v more pointers x) (other.behind ∙ sym has.behind) rest)
+at_label start w u x l labels pointers has (Stands.label {labels = more} other rest) = (
+  more,
+  ap (λ l. l ∷ more) (other.octets ∙ sym has.octets),
+  subst (λ v. Stands start v more pointers x) (other.behind ∙ sym has.behind) rest,
+)
 at_label start w u x l labels pointers has (Stands.pointer other rest) = absurd (no_pointer_at_label has other)
 
 -- and a pointer leads to the rest of it
-pub at_pointer : (start : ℕ) (w u x : Window) (to : ℕ) (labels : List (List ℕ)) (pointers : ℕ) → HasPointer start w to u → Stands start w labels pointers x
+pub at_pointer : (start : ℕ) (w u x : Window) (to : ℕ) (labels : List (List ℕ)) (pointers : ℕ) → HasPointer start w to u
+    → Stands start w labels pointers x
     → (fewer : ℕ) × (v : Window) × (pointers ≡ suc fewer) × (x ≡ u) × Stands to (at to w) labels fewer v
 at_pointer start w u x to labels pointers has (Stands.root other) = absurd (no_pointer_at_root other has)
 at_pointer start w u x to labels pointers has (Stands.label other rest) = absurd (no_pointer_at_label other has)
-at_pointer start w u x to labels pointers has (Stands.pointer {pointers = fewer} {u = v} other rest) =
-    (fewer, v, refl, other.behind ∙ sym has.behind, subst (λ on. Stands on (at on w) labels fewer v) (other.place ∙ sym has.place) rest)
+at_pointer start w u x to labels pointers has (Stands.pointer {pointers = fewer} {u = v} other rest) = (
+  fewer,
+  v,
+  refl,
+  other.behind ∙ sym has.behind,
+  subst (λ on. Stands on (at on w) labels fewer v) (other.place ∙ sym has.place) rest,
+)
 
 -- what stands at a place is one
-pub one_standing : (start : ℕ) (w u v : Window) (labels others : List (List ℕ)) (pointers count : ℕ) → Stands start w labels pointers u → Stands start w others count v
+pub one_standing : (start : ℕ) (w u v : Window) (labels others : List (List ℕ)) (pointers count : ℕ)
+    → Stands start w labels pointers u → Stands start w others count v
     → (labels ≡ others) × (pointers ≡ count) × (u ≡ v)
 one_standing start w u v labels others pointers count (Stands.root has) other =
     let root = at_root start w u v others count has other in (sym root.0, sym root.1, sym root.2)
@@ -49,15 +61,18 @@ one_standing start w u v labels others pointers count (Stands.label {u = x} {l =
     let on = at_label start w x v l others count has other in
     let same = one_standing start x u v more on.0 pointers count rest on.2 in
     (ap (λ more. l ∷ more) same.0 ∙ sym on.1, same.1, same.2)
-one_standing start w u v labels others pointers count (Stands.pointer {to = to} {pointers = fewer} {u = x} has rest) other =
+one_standing start w u v labels others pointers count
+    (Stands.pointer {to = to} {pointers = fewer} {u = x} has rest) other =
     let on = at_pointer start w u v to others count has other in
     let same = one_standing to (at to w) x on.1 labels others fewer on.0 rest on.4 in
     (same.0, ap suc same.1 ∙ sym on.2, sym on.3)
 
 -- one name, with one end
-pub one_name : (w u v : Window) (labels others : List (List ℕ)) → IsName w labels u → IsName w others v → (labels ≡ others) × (u ≡ v)
+pub one_name : (w u v : Window) (labels others : List (List ℕ)) → IsName w labels u → IsName w others v
+    → (labels ≡ others) × (u ≡ v)
 one_name w u v labels others name other =
-    let same = one_standing w.position w u v labels others name.pointers other.pointers name.stands other.stands in (same.0, same.2)
+    let same = one_standing w.position w u v labels others name.pointers other.pointers name.stands other.stands in
+    (same.0, same.2)
 
 -- equal labels are equal in one way
 pub one_labels : (labels others : List (List ℕ)) → IsProp (labels ≡ others)
@@ -69,7 +84,8 @@ Named w = (labels : List (List ℕ)) × ∥ ((end : Window) × IsName w labels e
 
 -- they are a fact
 pub named_once : (w : Window) → IsProp (Named w)
-named_once w a b = Σ_prop_path (λ labels. ∥∥₁_prop) (∥∥₁_elim a.1 (one_labels a.0 b.0) (λ x. ∥∥₁_elim b.1 (one_labels a.0 b.0) (λ y.
+named_once w a b = Σ_prop_path (λ labels. ∥∥₁_prop)
+    (∥∥₁_elim a.1 (one_labels a.0 b.0) (λ x. ∥∥₁_elim b.1 (one_labels a.0 b.0) (λ y.
     (one_name w x.0 y.0 a.0 b.0 x.1 y.1).0)))
 
 -- the labels that stand at a window's position, of a part of a name that began at `start`
@@ -78,7 +94,8 @@ Ahead start w = (labels : List (List ℕ)) × ∥ ((pointers : ℕ) × (end : Wi
 
 -- they are a fact too
 pub ahead_once : (start : ℕ) (w : Window) → IsProp (Ahead start w)
-ahead_once start w a b = Σ_prop_path (λ labels. ∥∥₁_prop) (∥∥₁_elim a.1 (one_labels a.0 b.0) (λ x. ∥∥₁_elim b.1 (one_labels a.0 b.0) (λ y.
+ahead_once start w a b = Σ_prop_path (λ labels. ∥∥₁_prop)
+    (∥∥₁_elim a.1 (one_labels a.0 b.0) (λ x. ∥∥₁_elim b.1 (one_labels a.0 b.0) (λ y.
     (one_standing start w x.1 y.1 a.0 b.0 x.0 y.0 x.2 y.2).0)))
 
 -- so they are the same wherever they are kept

@@ -13,7 +13,8 @@ three_digits n = (48 + n / 100) ∷ (48 + n / 10 % 10) ∷ (48 + n % 10) ∷ []
 
 -- An octet: behind a backslash, as itself where it is visible ASCII, or as a backslash (92) and its number.
 abbrev pub octet_text : ℕ → List ℕ
-octet_text octet = if is_quoted octet then 92 ∷ octet ∷ [] else (if is_ascii_graphic octet then octet ∷ [] else 92 ∷ three_digits octet)
+octet_text octet = if is_quoted octet then 92 ∷ octet ∷ [] else
+    (if is_ascii_graphic octet then octet ∷ [] else 92 ∷ three_digits octet)
 
 -- each octet of a label
 abbrev pub label_text : List ℕ → List ℕ

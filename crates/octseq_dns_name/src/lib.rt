@@ -7,6 +7,6 @@
 pub mod error;
 pub mod name;
 
-pub use error::Malformed;
+pub use error::{LabelsError, Malformed, NameError};
 pub use name::text::write_digits;
 pub use name::{Name, ParsedName};

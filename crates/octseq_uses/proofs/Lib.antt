@@ -1,7 +1,3 @@
 pub mod Joins
-pub mod LabelsToCome
 pub mod LineFronts
-pub mod MessageCode
-pub mod Names
 pub mod RecordCode
-pub mod Writing

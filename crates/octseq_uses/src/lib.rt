@@ -10,8 +10,6 @@ pub mod first;
 pub mod join;
 pub mod levels;
 pub mod lines;
-pub mod message;
-pub mod name;
 pub mod rationed;
 pub mod records;
 pub mod scarce;

@@ -1,100 +1,102 @@
 //! The spelling of names in text: RFC 1035, 5.1.
-ghost use Rattle.std.specs.Prelude.{◌≡◌, ◌⊎◌, ℕ, ◌+◌, ◌<◌, ◌≤◌, List, [], ◌∷◌, ◌++◌, length, IsNone, IsSome, IfSome};
+ghost use Rattle.std.specs.Prelude.{◌≡◌, ℕ, ◌+◌, ◌<◌, ◌≤◌, List, [], ◌∷◌, ◌++◌, length};
+ghost use Rattle.std.specs.Prelude.{IsNone, IfSome, IfOk, IfErr, OnErr};
 ghost use Rattle.octseq_dns_name.specs.Name.{wire_length};
-ghost use Rattle.octseq_dns_name.specs.Spelling.{SpellsOctet, SpellsLabel, SpellsName};
+ghost use Rattle.octseq_dns_name.specs.Refused.{Reads, SpellsNone, BeginsWith, IsFault, IsRefused};
+ghost use Rattle.octseq_dns_name.specs.Spelling.{SpellsOctet, SpellsName};
 ghost use Rattle.octseq_dns_name.specs.Wire.{wire, AreLabels};
-ghost use Rattle.octseq_dns_name.specs.Text.{is_quoted, three_digits};
+ghost use Rattle.octseq_dns_name.specs.Text.{three_digits};
 
+use crate::error::NameError;
 use crate::name::text::needs_backslash;
-use octseq::{Array, OctetsBuilder};
+use crate::name::wire::{LABEL_MOST, append_label, has_room, with_root};
+use octseq::builder::infallible;
+use octseq::{Array, AsOctets, OctetsBuilder};
 
 /// The plain wire form of the name that a text spells.
-pub(crate) fn wire_of(text: &[u8]) -> Option<Array<255>>
-    ensures some { IfSome result (λ octets. (labels : List (List ℕ)) × (octets.content ≡ wire labels)
+pub(crate) fn wire_of(text: &[u8]) -> Result<Array<255>, NameError>
+    ensures ok { IfOk result (λ octets. (labels : List (List ℕ)) × (octets.content ≡ wire labels)
         × AreLabels labels × (wire_length labels ≤ 255) × SpellsName labels text.now) }
-    ensures none { IsNone result → (labels : List (List ℕ)) → AreLabels labels → wire_length labels ≤ 255
-        → ¬ SpellsName labels text.now }
+    ensures refused { IfErr result (λ fault. IsRefused fault text.now) }
 {
     let mut octets = Array::<255>::new();
     if text == b".".as_slice() {
-        return with_root(octets);
+        return Ok(with_root(octets));
+    }
+    if text.is_empty() {
+        return Err(NameError::UnexpectedEnd);
     }
     let mut ahead = text;
     'labels: while !ahead.is_empty() {
         let (label, rest) = next_label(ahead)?;
-        append_label(&mut octets, label.as_slice())?;
+        let slice = label.as_slice();
+        if !has_room(&octets, slice) {
+            return Err(NameError::LongName);
+        }
+        append_label(&mut octets, slice);
         ahead = rest;
     }
-    if octets.as_slice().is_empty() {
-        return None;
-    }
-    with_root(octets)
-}
-
-/// The octets with the root behind them, if there is room for it.
-fn with_root(octets: Array<255>) -> Option<Array<255>>
-    ensures some { IfSome result (λ all. (all.content ≡ octets.content ++ 0 ∷ [])
-        × (length octets.content + 1 ≤ 255)) }
-    ensures none { IsNone result → 255 < length octets.content + 1 }
-{
-    let mut all = octets;
-    all.append_slice(&[0]).ok()?;
-    Some(all)
-}
-
-/// Appends a label behind its length, if it isn't empty and there is room for it.
-fn append_label(octets: &mut Array<255>, label: &[u8]) -> Option<()>
-    requires { length label.now ≤ 63 }
-    ensures some { IsSome result → (1 ≤ length label.now)
-        × (octets.new.content ≡ octets.old.content ++ length label.now ∷ label.now) }
-    ensures none { IsNone result → (label.now ≡ []) ⊎ (255 < length octets.old.content + 1 + length label.now) }
-{
-    if label.is_empty() {
-        return None;
-    }
-    octets.append_slice(&[label.len() as u8]).ok()?;
-    octets.append_slice(label).ok()
+    Ok(with_root(octets))
 }
 
 /// Takes a label and the full stop behind it from the front of a text.
-pub(crate) fn next_label(text: &[u8]) -> Option<(Array<63>, &[u8])>
-    ensures some { IfSome result (λ taken. (first : List ℕ) × (text.now ≡ first ++ 46 ∷ taken.1.now)
-        × SpellsLabel taken.0.content first) }
-    ensures none { IsNone result → (label first rest : List ℕ) → length label ≤ 63 → text.now ≡ first ++ 46 ∷ rest
-        → ¬ SpellsLabel label first }
+pub(crate) fn next_label(text: &[u8]) -> Result<(Array<63>, &[u8]), NameError>
+    requires { 1 ≤ length text.now }
+    ensures ok { IfOk result (λ taken. Reads text.now taken.0.content (46 ∷ taken.1.now)) }
+    ensures some { IfOk result (λ taken. 1 ≤ length taken.0.content) }
+    ensures refused { IfErr result (λ fault. (labels : List (List ℕ)) → IsFault fault labels text.now) }
 {
     let mut label = Array::<63>::new();
     let mut ahead = text;
     'octets: loop {
-        let (first, rest) = ahead.split_first()?;
+        let Some((first, rest)) = ahead.split_first() else {
+            return Err(NameError::UnexpectedEnd);
+        };
         if *first == b'.' {
-            return Some((label, rest));
+            if label.is_empty() {
+                return Err(NameError::EmptyLabel);
+            }
+            return Ok((label, rest));
         }
         let (octet, rest) = next_octet(ahead)?;
-        label.append_slice(&[octet]).ok()?;
+        if label.len() >= LABEL_MOST {
+            return Err(NameError::LongLabel);
+        }
+        infallible(label.append_slice(&[octet]));
         ahead = rest;
     }
 }
 
 /// Takes an octet of a label from the front of a text.
-fn next_octet(text: &[u8]) -> Option<(u8, &[u8])>
-    ensures some { IfSome result (λ taken. (first : List ℕ) × (text.now ≡ first ++ taken.1.now)
+fn next_octet(text: &[u8]) -> Result<(u8, &[u8]), NameError>
+    ensures ok { IfOk result (λ taken. (first : List ℕ) × (text.now ≡ first ++ taken.1.now)
         × SpellsOctet taken.0 first) }
-    ensures none { IsNone result → (octet : ℕ) (first rest : List ℕ) → text.now ≡ first ++ rest
-        → ¬ SpellsOctet octet first }
+    ensures none { OnErr result (SpellsNone text.now) }
+    ensures begins { IfErr result (λ fault. BeginsWith fault text.now) }
+{
+    let Some((first, rest)) = text.split_first() else {
+        return Err(NameError::UnexpectedEnd);
+    };
+    if *first == b'\\' {
+        return next_escaped(rest).ok_or(NameError::IllegalEscape);
+    }
+    if needs_backslash(*first) || !first.is_ascii_graphic() {
+        return Err(NameError::IllegalOctet);
+    }
+    Ok((*first, rest))
+}
+
+/// Takes what is behind the backslash of an octet from the front of a text.
+fn next_escaped(text: &[u8]) -> Option<(u8, &[u8])>
+    ensures some { IfSome result (λ taken. (first : List ℕ) × (text.now ≡ first ++ taken.1.now)
+        × SpellsOctet taken.0 (92 ∷ first)) }
+    ensures none { IsNone result → SpellsNone (92 ∷ text.now) }
 {
     let (first, rest) = text.split_first()?;
-    if *first != b'\\' {
-        if needs_backslash(*first) || !first.is_ascii_graphic() {
-            return None;
-        }
+    if !first.is_ascii_digit() {
         return Some((*first, rest));
     }
-    let (second, after) = rest.split_first()?;
-    if !second.is_ascii_digit() {
-        return Some((*second, after));
-    }
-    next_number(rest)
+    next_number(text)
 }
 
 /// Takes a number of three decimal digits, of 255 at most, from the front of a text.

@@ -1,13 +1,20 @@
 //! The plain wire form of labels.
-ghost use Rattle.std.specs.Prelude.{◌≡◌, ◌+◌, ◌≤◌, true, List, ◌++◌, length, OnOk, OnErr};
+ghost use Rattle.std.specs.Prelude.{◌≡◌, ◌↔◌, ◌+◌, ◌≤◌, true, ℕ, List, [], ◌∷◌, ◌++◌, length, map};
+ghost use Rattle.std.specs.Prelude.{IsTrue, IfOk, IfErr, OnOk, OnErr};
 ghost use Rattle.octseq.specs.Limit.{IsPast};
 ghost use Rattle.octseq_dns_name.specs.Name.{wire_length};
 ghost use Rattle.octseq_dns_name.specs.Read.{labels_left};
+ghost use Rattle.octseq_dns_name.specs.Unfit.{HasWrong};
 ghost use Rattle.octseq_dns_name.specs.Wire.{wire, AreLabels};
 
-use crate::name::Labels;
-use octseq::{AppendError, AsOctets, OctetsBuilder};
+use crate::error::LabelsError;
+use crate::name::{Labels, NAME_MOST};
+use octseq::builder::infallible;
+use octseq::{AppendError, Array, AsOctets, OctetsBuilder};
 use std::alloc::AllocError;
+
+/// How many octets a label may have: RFC 1035, 2.3.4.
+pub(crate) const LABEL_MOST: usize = 63;
 
 /// Appends labels in plain wire form to a builder that has room for them.
 pub(crate) fn append_labels<B: OctetsBuilder, R: AsOctets + Copy>(
@@ -28,7 +35,7 @@ pub(crate) fn append_labels<B: OctetsBuilder, R: AsOctets + Copy>(
 }
 
 /// Appends a slice to a builder that has room for it.
-fn append<B: OctetsBuilder>(octets: &mut B, slice: &[u8]) -> Result<(), AllocError>
+pub(crate) fn append<B: OctetsBuilder>(octets: &mut B, slice: &[u8]) -> Result<(), AllocError>
     requires { ¬ IsPast B.limit (length (B.content octets.old) + length slice.now) }
     ensures ok { OnOk result (B.content octets.new ≡ B.content octets.old ++ slice.now) }
     ensures memory { OnErr result (B.asks ≡ true) }
@@ -38,4 +45,55 @@ fn append<B: OctetsBuilder>(octets: &mut B, slice: &[u8]) -> Result<(), AllocErr
         Err(AppendError::Memory) => Err(AllocError),
         Err(AppendError::Short(_)) => unreachable!(),
     }
+}
+
+/// The plain wire form of the name that has these labels.
+pub(crate) fn wire_of_labels(labels: &[&[u8]]) -> Result<Array<255>, LabelsError>
+    ensures ok { IfOk result (λ octets. (octets.content ≡ wire (map (λ label. label.now) labels.now))
+        × AreLabels (map (λ label. label.now) labels.now)
+        × (wire_length (map (λ label. label.now) labels.now) ≤ 255)) }
+    ensures wrong { IfErr result (λ fault. HasWrong fault (map (λ label. label.now) labels.now)) }
+{
+    let mut octets = Array::<255>::new();
+    for label in labels {
+        if label.is_empty() {
+            return Err(LabelsError::EmptyLabel);
+        }
+        if label.len() > LABEL_MOST {
+            return Err(LabelsError::LongLabel);
+        }
+        if !has_room(&octets, label) {
+            return Err(LabelsError::LongName);
+        }
+        append_label(&mut octets, label);
+    }
+    Ok(with_root(octets))
+}
+
+/// Whether there is room for one label more, and the root.
+pub(crate) fn has_room(octets: &Array<255>, label: &[u8]) -> bool
+    requires { length label.now ≤ 63 }
+    ensures { IsTrue result ↔ (length octets.now.content + 1 + length label.now + 1 ≤ 255) }
+{
+    octets.len() + 1 + label.len() + 1 <= NAME_MOST
+}
+
+/// Appends a label behind its length.
+pub(crate) fn append_label(octets: &mut Array<255>, label: &[u8])
+    requires short { length label.now ≤ 63 }
+    requires room { length octets.old.content + 1 + length label.now + 1 ≤ 255 }
+    ensures { octets.new.content ≡ octets.old.content ++ length label.now ∷ label.now }
+{
+    infallible(octets.append_slice(&[label.len() as u8]));
+    infallible(octets.append_slice(label));
+}
+
+/// The octets with the root behind them.
+pub(crate) fn with_root(octets: Array<255>) -> Array<255>
+    requires { length octets.content + 1 ≤ 255 }
+    ensures { result.content ≡ octets.content ++ 0 ∷ [] }
+{
+    let mut all = octets;
+    infallible(all.append_slice(&[0]));
+    all
 }

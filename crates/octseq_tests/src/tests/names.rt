@@ -1,7 +1,8 @@
 //! Names of DNS as text, and how they compare.
 use super::{Case, over_each};
-use octseq::{AppendError, Array, Octets, Parser, ShortBuf};
-use octseq_dns::{Malformed, Name, ParsedName};
+use octseq::{AppendError, Array, AsOctets, EmptyBuilder, Octets, Parser, ShortBuf};
+use octseq_dns::error::{LabelsError, NameError};
+use octseq_dns::{Name, ParsedName};
 use std::alloc::{AllocGlobal, Global};
 use std::cmp::Ordering;
 use std::hash::{DefaultHasher, Hash, Hasher};
@@ -176,44 +177,79 @@ fn a_name_is_copied_with_its_octets(rt: HostRuntime) -> Result<(), Fail> {
     over_each(&rt, &IsCopied, b"\x00\x07example\x00\x03www\xC0\x01")
 }
 
-/// The plain wire form of the name that a text spells, if it spells one.
-fn wire_of(alloc: Global, text: &str) -> Result<Option<Vec<u8>>, Fail> {
+/// The plain wire form of the name that a text spells, or why it spells none.
+fn wire_of(alloc: Global, text: &str) -> Result<Result<Vec<u8>, NameError>, Fail> {
     match Name::from_text(text) {
-        Ok(name) => Ok(Some(name.as_slice().to_vec(alloc)?)),
-        Err(Malformed) => Ok(None),
+        Ok(name) => Ok(Ok(name.as_slice().to_vec(alloc)?)),
+        Err(refusal) => Ok(Err(refusal)),
     }
 }
 
 #[test]
 fn a_name_is_read_from_its_text(rt: HostRuntime) -> Result<(), Fail> {
-    let alloc = rt.alloc();
     for (text, octets) in [
-        (".", Some(b"\x00".as_slice())),
-        ("example.com.", Some(b"\x07example\x03com\x00")),
+        (".", b"\x00".as_slice()),
+        ("example.com.", b"\x07example\x03com\x00"),
         (
             "a\\.b\\\\\\\".\\000\\032\\127\\255.",
-            Some(b"\x05a.b\\\"\x04\x00 \x7F\xFF\x00"),
+            b"\x05a.b\\\"\x04\x00 \x7F\xFF\x00",
         ),
-        ("\\a\\-\\097A.", Some(b"\x04a-aA\x00")),
-        ("", None),
-        ("a", None),
-        ("..", None),
-        (".a.", None),
-        ("a..", None),
-        ("a.b", None),
-        ("a b.", None),
-        ("a\".", None),
-        ("\\", None),
-        ("\\.", None),
-        ("\\1.", None),
-        ("\\12.", None),
-        ("\\1a2.", None),
-        ("\\256.", None),
-        ("\\999.", None),
-        ("é.", None),
+        ("\\a\\-\\097A.", b"\x04a-aA\x00"),
     ] {
-        let wire = wire_of(alloc, text)?;
-        assert_equal!(&rt, wire.as_ref().map(|wire| wire.as_slice()), octets);
+        let wire = wire_of(rt.alloc(), text)?;
+        assert_equal!(&rt, wire?.as_slice(), octets);
+    }
+    Ok(())
+}
+
+#[test]
+fn a_text_that_spells_no_name_is_refused_by_reason(rt: HostRuntime) -> Result<(), Fail> {
+    for (text, reason) in [
+        ("", NameError::UnexpectedEnd),
+        ("a", NameError::UnexpectedEnd),
+        ("a.b", NameError::UnexpectedEnd),
+        ("\\.", NameError::UnexpectedEnd),
+        ("..", NameError::EmptyLabel),
+        (".a.", NameError::EmptyLabel),
+        ("a..", NameError::EmptyLabel),
+        ("a..\"", NameError::EmptyLabel),
+        ("\\", NameError::IllegalEscape),
+        ("\\1.", NameError::IllegalEscape),
+        ("\\12.", NameError::IllegalEscape),
+        ("\\1a2.", NameError::IllegalEscape),
+        ("a\\256.", NameError::IllegalEscape),
+        ("\\999..", NameError::IllegalEscape),
+        ("a b.", NameError::IllegalOctet),
+        ("a\".", NameError::IllegalOctet),
+        ("a@b.\\", NameError::IllegalOctet),
+        ("é.", NameError::IllegalOctet),
+    ] {
+        assert_equal!(&rt, wire_of(rt.alloc(), text)?.err(), Some(reason));
+    }
+    Ok(())
+}
+
+#[test]
+fn the_refusals_of_names_are_shown(rt: HostRuntime) -> Result<(), Fail> {
+    let alloc = rt.alloc();
+    for (reason, text) in [
+        (NameError::UnexpectedEnd, "unexpected end of input"),
+        (NameError::EmptyLabel, "empty label"),
+        (NameError::LongLabel, "long label"),
+        (NameError::LongName, "long domain name"),
+        (NameError::IllegalEscape, "illegal escape sequence"),
+        (NameError::IllegalOctet, "illegal octet"),
+    ] {
+        assert_equal!(&rt, format!(in alloc; "{reason}")?.as_str(), text);
+    }
+    for (reason, text) in [
+        (LabelsError::EmptyLabel, "empty label"),
+        (LabelsError::LongLabel, "long label"),
+        (LabelsError::LongName, "long domain name"),
+        (LabelsError::Short, "buffer size exceeded"),
+        (LabelsError::Memory, "out of memory"),
+    ] {
+        assert_equal!(&rt, format!(in alloc; "{reason}")?.as_str(), text);
     }
     Ok(())
 }
@@ -221,11 +257,12 @@ fn a_name_is_read_from_its_text(rt: HostRuntime) -> Result<(), Fail> {
 #[test]
 fn the_text_of_a_name_has_its_limits(rt: HostRuntime) -> Result<(), Fail> {
     let alloc = rt.alloc();
-    for (first, last, read) in [
-        (63, 61, true),
-        (63, 62, false),
-        (64, 1, false),
-        (1, 64, false),
+    for (first, last, reason) in [
+        (63, 61, None),
+        (63, 62, Some(NameError::LongName)),
+        (64, 1, Some(NameError::LongLabel)),
+        (1, 64, Some(NameError::LongLabel)),
+        (63, 64, Some(NameError::LongLabel)),
     ] {
         let mut text = String::new(alloc);
         for len in [63, 63, first, last] {
@@ -234,7 +271,54 @@ fn the_text_of_a_name_has_its_limits(rt: HostRuntime) -> Result<(), Fail> {
             }
             text.push('.')?;
         }
-        assert_equal!(&rt, Name::from_text(text.as_str()).is_ok(), read);
+        assert_equal!(&rt, Name::from_text(text.as_str()).err(), reason);
     }
+    Ok(())
+}
+
+/// The plain wire form of the name that is made of labels, in a builder of this type.
+fn made_of<B: EmptyBuilder>(alloc: Global, labels: &[&[u8]]) -> Result<Vec<u8>, Fail> {
+    let name = Name::<B>::from_labels(alloc, labels)?;
+    Ok(name.into_octets().as_ref().to_vec(alloc)?)
+}
+
+#[test]
+fn a_name_is_made_of_labels(rt: HostRuntime) -> Result<(), Fail> {
+    let alloc = rt.alloc();
+    let labels: &[&[u8]] = &[b"www", b"a.\x00"];
+    let wire = b"\x03www\x03a.\x00\x00".as_slice();
+    assert_equal!(&rt, made_of::<Vec<u8>>(alloc, labels)?.as_slice(), wire);
+    assert_equal!(&rt, made_of::<Array<255>>(alloc, labels)?.as_slice(), wire);
+    assert_equal!(&rt, made_of::<Array<9>>(alloc, labels)?.as_slice(), wire);
+    let root = made_of::<Array<1>>(alloc, &[])?;
+    assert_equal!(&rt, root.as_slice(), b"\x00".as_slice());
+    Ok(())
+}
+
+/// Why labels make no name in a builder of this type.
+fn refusal_of<B: EmptyBuilder>(alloc: Global, labels: &[&[u8]]) -> Option<LabelsError> {
+    Name::<B>::from_labels(alloc, labels).err()
+}
+
+#[test]
+fn labels_that_make_no_name_are_refused_by_reason(rt: HostRuntime) -> Result<(), Fail> {
+    let alloc = rt.alloc();
+    let most = [b'a'; 63];
+    let long = [b'a'; 64];
+    let last = [b'a'; 61];
+    let past = [b'a'; 62];
+    let (most, long, last, past) = (&most[..], &long[..], &last[..], &past[..]);
+    let refusal = refusal_of::<Vec<u8>>(alloc, &[b"a", b"", long]);
+    assert_equal!(&rt, refusal, Some(LabelsError::EmptyLabel));
+    let refusal = refusal_of::<Vec<u8>>(alloc, &[b"a", long, b""]);
+    assert_equal!(&rt, refusal, Some(LabelsError::LongLabel));
+    let refusal = refusal_of::<Vec<u8>>(alloc, &[most, most, most, past, b""]);
+    assert_equal!(&rt, refusal, Some(LabelsError::LongName));
+    let refusal = refusal_of::<Vec<u8>>(alloc, &[most, most, most, last]);
+    assert_equal!(&rt, refusal, None);
+    let refusal = refusal_of::<Array<4>>(alloc, &[b"www"]);
+    assert_equal!(&rt, refusal, Some(LabelsError::Short));
+    let refusal = refusal_of::<Array<5>>(alloc, &[b"www"]);
+    assert_equal!(&rt, refusal, None);
     Ok(())
 }

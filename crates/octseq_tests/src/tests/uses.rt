@@ -13,8 +13,6 @@ use std::test::Fail;
 mod alone;
 mod first;
 mod lines;
-mod message;
-mod name;
 
 #[test]
 fn a_record_is_appended_whole_or_not_at_all(rt: HostRuntime) -> Result<(), Fail> {

@@ -1,14 +1,20 @@
-//! Names read from text.
-ghost use Rattle.std.specs.Prelude.{◌≤◌, ℕ, List, IsErr, IfOk};
+//! Names made of text, and of labels.
+ghost use Rattle.std.specs.Prelude.{◌≡◌, ◌≢◌, ◌≤◌, ◌↔◌, true, ℕ, List, map, length};
+ghost use Rattle.std.specs.Prelude.{IsErr, IsErrOf, IfOk, OnErr};
+ghost use Rattle.octseq.specs.Limit.{IsPast};
 ghost use Rattle.octseq_dns_name.specs.Name.{wire_length};
 ghost use Rattle.octseq_dns_name.specs.Owned.{owned_labels};
+ghost use Rattle.octseq_dns_name.specs.Refused.{IsRefused};
 ghost use Rattle.octseq_dns_name.specs.Spelling.{SpellsName};
-ghost use Rattle.octseq_dns_name.specs.Wire.{AreLabels};
+ghost use Rattle.octseq_dns_name.specs.Unfit.{AreUnfit};
+ghost use Rattle.octseq_dns_name.specs.Wire.{wire, AreLabels};
 
-use crate::error::Malformed;
+use crate::error::{LabelsError, NameError};
 use crate::name::owned::Name;
 use crate::name::spelling::wire_of;
-use octseq::Array;
+use crate::name::wire::{append, wire_of_labels};
+use octseq::{Array, AsOctets, EmptyBuilder};
+use std::alloc::{AllocError, Global};
 
 impl Name<Array<255>> {
     /// Reads the text of a name, with a full stop behind each label: RFC 1035, 5.1. An octet of a label stands there
@@ -17,16 +23,54 @@ impl Name<Array<255>> {
     ///
     /// # Errors
     ///
-    /// `Malformed` where the text spells no name: it doesn't end with a full stop, or has an empty label, an escape of
-    /// another form, or a label or a name that is too long.
-    pub fn from_text(text: &str) -> Result<Self, Malformed>
+    /// The text is read from the left, and the first thing wrong decides: `UnexpectedEnd` where it ends without a full
+    /// stop or is empty, `EmptyLabel`, `LongLabel` at the 64th octet of a label, `LongName` at the full stop of the
+    /// label with which the name has more than 255 octets, `IllegalEscape` at a backslash that spells no octet,
+    /// `IllegalOctet` at another octet that doesn't.
+    pub fn from_text(text: &str) -> Result<Self, NameError>
         ensures ok { IfOk result (λ name. SpellsName (owned_labels name) text.now) }
         ensures malformed { IsErr result → (labels : List (List ℕ)) → AreLabels labels → wire_length labels ≤ 255
             → ¬ SpellsName labels text.now }
+        ensures refused { (fault : NameError) → IsErrOf result fault ↔ IsRefused fault text.now }
     {
-        match wire_of(text.as_bytes()) {
-            Some(octets) => Ok(Name { octets }),
-            None => Err(Malformed),
+        let octets = wire_of(text.as_bytes())?;
+        Ok(Name { octets })
+    }
+}
+
+impl<B: EmptyBuilder> Name<B> {
+    /// Makes the name that has these labels: the octets of each, from the first one on. The root has none, and isn't
+    /// among them.
+    ///
+    /// # Errors
+    ///
+    /// The labels are read from the left, and the first one that is wrong decides: `EmptyLabel`, `LongLabel` where it
+    /// has more than 63 octets, `LongName` where the name has more than 255 with it. Where none is wrong, `Short` where
+    /// the wire form passes the limit of the builder's type, and else `Memory` where a request for memory was refused.
+    pub fn from_labels(alloc: Global, labels: &[&[u8]]) -> Result<Self, LabelsError>
+        ensures ok { IfOk result (λ name. owned_labels name ≡ map (λ label. label.now) labels.now) }
+        ensures refused { (fault : LabelsError) → fault ≢ LabelsError.Memory
+            → IsErrOf result fault ↔ AreUnfit B.limit fault (map (λ label. label.now) labels.now) }
+        ensures memory { IsErrOf result LabelsError.Memory → B.asks ≡ true }
+    {
+        let wire = wire_of_labels(labels)?;
+        match B::limit() {
+            Some(limit) if limit < wire.len() => Err(LabelsError::Short),
+            _ => Ok(Name::held(alloc, wire.as_slice())?),
         }
+    }
+
+    /// The name that has this plain wire form, which is within the limit.
+    fn held(alloc: Global, octets: &[u8]) -> Result<Self, AllocError>
+        requires room { ¬ IsPast B.limit (length octets.now) }
+        requires plain { (labels : List (List ℕ)) × (octets.now ≡ wire labels) × AreLabels labels
+            × (wire_length labels ≤ 255) }
+        ensures ok { (labels : List (List ℕ)) → octets.now ≡ wire labels → AreLabels labels
+            → wire_length labels ≤ 255 → IfOk result (λ name. owned_labels name ≡ labels) }
+        ensures memory { OnErr result (B.asks ≡ true) }
+    {
+        let mut held = B::with_capacity(alloc, octets.len())?;
+        append(&mut held, octets)?;
+        Ok(Name { octets: held })
     }
 }

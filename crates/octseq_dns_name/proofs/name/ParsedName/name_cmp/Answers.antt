@@ -15,7 +15,10 @@ returns g c =
     let n_is : n ≡ length others - length labels = search rules in
     let first = c.passed-last.ensures ∙ ap (drop m) c.labels.ensures in
     let second = c.passed-other_last.ensures ∙ ap (drop n) c.labels-2.ensures in
-    let lasts = c.labels_cmp.ensures ∙ ap (λ l. name_cmp l (labels_left c.passed-other_last.result)) first ∙ ap (name_cmp (drop m labels)) second in
-    let counts = c.cmp.ensures ∙ ap (λ k. nat_cmp k c.label_count-others.result) c.label_count-count.ensures ∙ ap (nat_cmp (length labels)) c.label_count-others.ensures in
-    c.then.ensures ∙ ap (λ o. ordering_then o c.cmp.result) lasts ∙ ap (ordering_then (name_cmp (drop m labels) (drop n others))) counts
+    let lasts = c.labels_cmp.ensures ∙ ap (λ l. name_cmp l (labels_left c.passed-other_last.result)) first
+    ∙ ap (name_cmp (drop m labels)) second in
+    let counts = c.cmp.ensures ∙ ap (λ k. nat_cmp k c.label_count-others.result) c.label_count-count.ensures
+    ∙ ap (nat_cmp (length labels)) c.label_count-others.ensures in
+    c.then.ensures ∙ ap (λ o. ordering_then o c.cmp.result) lasts
+    ∙ ap (ordering_then (name_cmp (drop m labels) (drop n others))) counts
     ∙ sym (name_cmp_lasts labels others m n m_is n_is)

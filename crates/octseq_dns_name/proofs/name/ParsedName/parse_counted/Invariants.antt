@@ -1,4 +1,5 @@
--- The name is what was read and what is ahead; each label takes two octets of the length at least, and each pointer counts.
+-- The name is what was read and what is ahead; each label takes two octets of the length at least, and each pointer
+-- counts.
 use Rattle.std.proofs.Common.{◌≡◌, ◌+◌, ◌≤◌, ◌-◌, ◌*◌, IfSome}
 use Rattle.octseq.specs.Parser.{window}
 use Rattle.octseq.specs.Window.{at}

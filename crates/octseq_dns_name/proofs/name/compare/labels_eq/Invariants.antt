@@ -6,4 +6,5 @@ use Rattle.octseq_dns_name.proofs.name.compare.labels_eq.Given as goal
 
 abbrev pub invariant-loop-label : goal.invariant-loop-label
 invariant-loop-label g l =
-    (lower_labels (labels_left l.label-iterator) ≡ lower_labels (labels_left l.ahead)) ↔ (lower_labels (labels_left l.fn.labels) ≡ lower_labels (labels_left l.fn.others))
+    (lower_labels (labels_left l.label-iterator) ≡ lower_labels (labels_left l.ahead)) ↔
+    (lower_labels (labels_left l.fn.labels) ≡ lower_labels (labels_left l.fn.others))

@@ -1,10 +1,13 @@
--- The octets so far lead to what is ahead.
-use Rattle.std.proofs.Common.{length}
-use Rattle.octseq_dns_name.proofs.SpellingSteps.{LabelLeads}
+-- The octets so far are read, and what is ahead is behind them.
+use Rattle.std.proofs.Common.{◌≤◌, length}
+use Rattle.octseq_dns_name.specs.Refused.{Reads}
 use Rattle.octseq_dns_name.proofs.name.spelling.next_label.Given as goal
 
 abbrev pub invariant-octets : goal.invariant-octets
-invariant-octets l = LabelLeads l.fn.text l.label.content l.ahead
+invariant-octets l = record {
+  reads : Reads l.fn.text l.label.content l.ahead;
+  short : length l.label.content ≤ 63;
+}
 
 abbrev pub decreases-octets : goal.decreases-octets
 decreases-octets l = length l.ahead

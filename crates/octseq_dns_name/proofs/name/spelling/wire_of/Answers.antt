@@ -1,84 +1,66 @@
-use Rattle.std.proofs.Common.{◌≡◌, ◌<◌, [], ◌∷◌, ◌++◌, length, refl, sym, ap, ◌∙◌, ⊎_elim, arith, rules}
-use Rattle.std.proofs.lemmas.List.{flat_map_more}
-use Rattle.std.proofs.lemmas.Option.{IfSome_then}
+use Rattle.std.proofs.Common.{◌≡◌, inl, ◌+◌, ◌<◌, ◌≤◌, [], ◌∷◌, ◌++◌, length}
+use Rattle.std.proofs.Common.{refl, ap, ◌∙◌, arith, rules}
+use Rattle.std.proofs.lemmas.List.{flat_map_more, length-append}
 use Rattle.octseq_dns_name.specs.Name.{wire_length}
+use Rattle.octseq_dns_name.specs.Refused.{IsFault}
+use Rattle.octseq_dns_name.specs.declared.error.NameError.{NameError}
 use Rattle.octseq_dns_name.proofs.Names.{wire_append}
-use Rattle.octseq_dns_name.proofs.SpellingSteps.{with_label, whole_name, no_name_ahead, no_empty_label, no_long_name, no_name_in_nothing, none_left}
-use Rattle.octseq_dns_name.proofs.Wires.{bodies, bodies_length, one_more}
+use Rattle.octseq_dns_name.proofs.SpellingSteps.{none_left, read_no_label, read_label}
+use Rattle.octseq_dns_name.proofs.Wires.{bodies, bodies_length}
 use Rattle.octseq_dns_name.proofs.name.spelling.wire_of.Goals as goal
 
-pub returns-in_err-label-clause-none : goal.returns-in_err-label-clause-none
-returns-in_err-label-clause-none c = λ _.
-    let so_far = c.labels.invariant in
-    let other : ¬ (c.args.text.now ≡ 46 ∷ []) = search rules in
-    let some : ¬ (c.labels.ahead.now ≡ []) = search rules in
-    no_name_ahead c.args.text.now so_far.done c.labels.ahead.now so_far.leads other some (c.in_err-label.ensures.none refl)
+pub returns-then-is_empty-clause-refused : goal.returns-then-is_empty-clause-refused
+returns-then-is_empty-clause-refused c =
+    let text = c.args.text.now in
+    let other : ¬ (text ≡ 46 ∷ []) = search rules in
+    let end = none_left text (let over : length text ≡ 0 = search rules in over) in
+    let here : IsFault NameError.UnexpectedEnd [] text = ([], ([], end, refl), omega arith, inl refl) in
+    (other, [], text, read_no_label text, here)
 
-pub returns-in_err-append_label-clause-none : goal.returns-in_err-append_label-clause-none
-returns-in_err-append_label-clause-none c = λ _.
+pub returns-then-not-has_room-clause-refused : goal.returns-then-not-has_room-clause-refused
+returns-then-not-has_room-clause-refused c =
     let so_far = c.labels.invariant in
     let text = c.args.text.now in
+    let ahead = c.labels.ahead.now in
     let label = c.in_ok-label.label.content in
-    let rest = c.in_ok-label.rest.now in
-    let taken = c.in_ok-label.ensures.some in
-    let other : ¬ (text ≡ 46 ∷ []) = search rules in
-    let step = with_label text so_far.done c.labels.ahead.now taken.0 rest label so_far.leads taken.1 taken.2 in
-    let same = c.as_slice-in-labels.ensures.content in
-    ⊎_elim (λ empty. no_empty_label text so_far.done rest label step other (sym same ∙ empty))
-    (λ long.
-    let size = ap length same in
+    let octets = c.labels.octets.content in
+    let slice = c.as_slice-slice.result.now in
+    let size = ap length c.as_slice-slice.ensures.content in
+    let most = c.as_slice-slice.ensures.size in
+    let some = c.in_ok-label.ensures.some in
     let all = ap length so_far.appended in
     let is = bodies_length so_far.done in
     let both = wire_append so_far.done (label ∷ []) in
+    let long : 255 < length octets + 1 + length slice + 1 = search rules in
     let past : 255 < wire_length (so_far.done ++ label ∷ []) = omega (arith, long, size, all, is, both) in
-    no_long_name text (so_far.done ++ label ∷ []) rest step other past)
-    (c.in_err-append_label.ensures.none refl)
+    let other : ¬ (text ≡ 46 ∷ []) = search rules in
+    let here : IsFault NameError.LongName so_far.done ahead =
+    (label, c.in_ok-label.rest.now, c.in_ok-label.ensures.ok, some, omega (arith, most, size), past) in
+    (other, so_far.done, ahead, so_far.reads, here)
 
 pub labels-preserved : goal.labels-preserved
 labels-preserved c =
     let so_far = c.labels.invariant in
     let label = c.in_ok-label.label.content in
-    let taken = c.in_ok-label.ensures.some in
-    let same = c.as_slice-in-labels.ensures.content in
+    let same = c.as_slice-slice.ensures.content in
     let size = ap length same in
-    let most = c.as_slice-in-labels.ensures.size in
-    let made = c.in_ok-append_label.ensures.some refl in
-    let first = made.0 in
+    let most = c.as_slice-slice.ensures.size in
+    let some = c.in_ok-label.ensures.some in
     let octets = c.labels.octets.content in
+    let made = c.append_label.ensures in
+    let slice = c.as_slice-slice.result.now in
+    let fits : length octets + 1 + length slice + 1 ≤ 255 = search rules in
+    let grown = ap length made ∙ length-append octets (length slice ∷ slice) in
+    let room : length c.append_label.new.octets.content + 1 ≤ 255 = omega (arith, grown, fits) in
+    let appended : c.append_label.new.octets.content ≡ bodies (so_far.done ++ label ∷ []) =
+    made ∙ ap (λ l. octets ++ length l ∷ l) same ∙ ap (λ before. before ++ length label ∷ label) so_far.appended
+    ∙ flat_map_more (λ l. length l ∷ l) [] so_far.done label in
+    let all = ap length appended in
+    let is = bodies_length (so_far.done ++ label ∷ []) in
     record {
       done = so_far.done ++ label ∷ [];
-      leads = with_label c.args.text.now so_far.done c.labels.ahead.now taken.0 c.in_ok-label.rest.now label so_far.leads taken.1 taken.2;
-      each = one_more so_far.done label so_far.each (omega (arith, first, size)) (omega (arith, most));
-      appended = made.1 ∙ ap (λ l. octets ++ length l ∷ l) same ∙ ap (λ before. before ++ length label ∷ label) so_far.appended ∙ flat_map_more (λ l. length l ∷ l) [] so_far.done label;
+      reads = read_label c.args.text.now so_far.done c.labels.ahead.now label c.in_ok-label.rest.now so_far.reads
+          c.in_ok-label.ensures.ok some (omega (arith, most, size)) (omega (arith, room, all, is));
+      appended = appended;
+      room = room;
     }
-
-pub returns-then-is_empty-clause-none : goal.returns-then-is_empty-clause-none
-returns-then-is_empty-clause-none c = λ _.
-    let so_far = c.labels.invariant in
-    let end = none_left c.labels.ahead.now (let over : length c.labels.ahead.now ≡ 0 = search rules in over) in
-    let none : length c.labels.octets.content ≡ 0 = search rules in
-    no_name_in_nothing c.args.text.now so_far.done c.labels.ahead.now so_far.leads end (sym (ap length so_far.appended) ∙ none)
-
-pub returns-clause-some : goal.returns-clause-some
-returns-clause-some c =
-    let so_far = c.labels.invariant in
-    let end = none_left c.labels.ahead.now (let over : length c.labels.ahead.now ≡ 0 = search rules in over) in
-    let some : 0 < length c.labels.octets.content = search rules in
-    let all = ap length so_far.appended in
-    let more : 0 < length (bodies so_far.done) = omega (arith, some, all) in
-    IfSome_then c.with_root-2.result c.with_root-2.ensures.some (λ octets made. (
-      so_far.done,
-      made.0 ∙ ap (λ before. before ++ 0 ∷ []) so_far.appended,
-      so_far.each,
-      (let most = made.1 in let is = bodies_length so_far.done in omega (arith, most, is, all)),
-      whole_name c.args.text.now so_far.done c.labels.ahead.now so_far.leads end more,
-    ))
-
-pub returns-clause-none : goal.returns-clause-none
-returns-clause-none c = λ told.
-    let so_far = c.labels.invariant in
-    let other : ¬ (c.args.text.now ≡ 46 ∷ []) = search rules in
-    let long = c.with_root-2.ensures.none told in
-    let all = ap length so_far.appended in
-    let is = bodies_length so_far.done in
-    no_long_name c.args.text.now so_far.done c.labels.ahead.now so_far.leads other (omega (arith, long, all, is))

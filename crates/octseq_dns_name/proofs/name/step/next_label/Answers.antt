@@ -11,7 +11,8 @@ returns-in-Ok-Label-clause-some g c = λ labels pointers end stands.
     let has = rw c.in-Ok-Label.field-0-is at c.in-Ok-Label.ensures.step in
     let here = c.pointers.invariant.stands labels pointers end stands in
     let v = window c.next_step.new.parser in
-    let on = at_label c.pointers.start (window c.pointers.parser) v here.1 (rest (window c.in-Ok-Label.label)) labels here.0 has here.2 in
+    let on = at_label c.pointers.start (window c.pointers.parser) v here.1
+    (rest (window c.in-Ok-Label.label)) labels here.0 has here.2 in
     (on.0, here.0, here.1, on.1, on.2)
 
 pub pointers-preserved : goal.pointers-preserved
@@ -33,9 +34,11 @@ pub returns-in-Ok-Root-clause-none : goal.returns-in-Ok-Root-clause-none
 returns-in-Ok-Root-clause-none g c = λ _ labels pointers end stands.
     let has = rw c.in-Ok-Root.field-0-is at c.in-Ok-Root.ensures.step in
     let here = c.pointers.invariant.stands labels pointers end stands in
-    (at_root c.pointers.start (window c.pointers.parser) (window c.next_step.new.parser) here.1 labels here.0 has here.2).0
+    (at_root c.pointers.start (window c.pointers.parser)
+    (window c.next_step.new.parser) here.1 labels here.0 has here.2).0
 
 pub returns-in-Err-clause-none : goal.returns-in-Err-clause-none
 returns-in-Err-clause-none g c = λ _ labels pointers end stands.
     let here = c.pointers.invariant.stands labels pointers end stands in
-    absurd (no_piece c.pointers.start (window c.pointers.parser) here.1 labels here.0 (c.in-Err.ensures.malformed refl) here.2)
+    absurd (no_piece c.pointers.start (window c.pointers.parser) here.1 labels here.0
+    (c.in-Err.ensures.malformed refl) here.2)

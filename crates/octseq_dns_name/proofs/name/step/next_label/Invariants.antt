@@ -7,7 +7,8 @@ use Rattle.octseq_dns_name.proofs.name.step.next_label.Given as goal
 
 abbrev pub invariant-pointers : goal.invariant-pointers
 invariant-pointers g l = record {
-  stands : (labels : List (List ℕ)) (pointers : ℕ) (end : Window) → Stands l.fn.start (window l.fn.parser) labels pointers end
+  stands : (labels : List (List ℕ)) (pointers : ℕ) (end : Window)
+      → Stands l.fn.start (window l.fn.parser) labels pointers end
       → (fewer : ℕ) × (last : Window) × Stands l.start (window l.parser) labels fewer last;
   ordered : l.start ≤ (window l.parser).position;
 }

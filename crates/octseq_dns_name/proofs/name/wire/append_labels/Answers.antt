@@ -12,7 +12,8 @@ append-requires g c =
     let so_far = c.loop-label.invariant in
     let content = g.B.AsOctets.content in
     let ahead = labels_left c.loop-label.label-iterator in
-    room_ahead g.B.AsOctets.limit (content c.loop-label.octets) (content c.args.octets.now) (labels_left c.args.labels) so_far.done ahead 1 so_far.appended so_far.labels_are (wire_some ahead) c.requires
+    room_ahead g.B.AsOctets.limit (content c.loop-label.octets) (content c.args.octets.now)
+    (labels_left c.args.labels) so_far.done ahead 1 so_far.appended so_far.labels_are (wire_some ahead) c.requires
 
 pub append-requires-in-loop-label : goal.append-requires-in-loop-label
 append-requires-in-loop-label g c =
@@ -26,10 +27,13 @@ append-requires-in-loop-label g c =
     let is = ap length c.as_slice-slice.ensures.octets in
     let steps = ap wire_length c.in-Some.ensures.steps in
     let fits : 1 + length slice ≤ wire_length ahead = omega (arith, is, steps) in
-    let size : length (content c.loop-label.octets) + (1 + length slice) ≡ length (content c.append.new.octets) + length slice =
+    let size : length (content c.loop-label.octets) + (1 + length slice) ≡ length
+    (content c.append.new.octets) + length slice =
     let one = length-append (content c.loop-label.octets) (length slice ∷ []) in omega (arith, made, one) in
     subst (λ n. ¬ IsPast limit n) size
-    (room_ahead limit (content c.loop-label.octets) (content c.args.octets.now) (labels_left c.args.labels) so_far.done ahead (1 + length slice) so_far.appended so_far.labels_are fits c.requires)
+    (room_ahead limit (content c.loop-label.octets) (content c.args.octets.now)
+    (labels_left c.args.labels) so_far.done ahead
+    (1 + length slice) so_far.appended so_far.labels_are fits c.requires)
 
 pub loop-label-preserved : goal.loop-label-preserved
 loop-label-preserved g c =
@@ -39,9 +43,12 @@ loop-label-preserved g c =
     let same = c.as_slice-slice.ensures.octets in
     record {
       done = so_far.done ++ label ∷ [];
-      labels_are = so_far.labels_are ∙ ap (λ labels. so_far.done ++ labels) c.in-Some.ensures.steps ∙ sym (append_assoc so_far.done (label ∷ []) (labels_left c.next.new.self));
-      each = one_more so_far.done label so_far.each (subst (λ l. 1 ≤ length l) same c.as_slice-slice.ensures.some) (subst (λ l. length l ≤ 63) same c.as_slice-slice.ensures.most);
-      appended = appended_more (content c.args.octets.now) (content c.loop-label.octets) (content c.append.new.octets) (content c.append-in-loop-label.new.octets) so_far.done label so_far.appended
+      labels_are = so_far.labels_are ∙ ap (λ labels. so_far.done ++ labels) c.in-Some.ensures.steps
+          ∙ sym (append_assoc so_far.done (label ∷ []) (labels_left c.next.new.self));
+      each = one_more so_far.done label so_far.each (subst (λ l. 1 ≤ length l) same c.as_slice-slice.ensures.some)
+          (subst (λ l. length l ≤ 63) same c.as_slice-slice.ensures.most);
+      appended = appended_more (content c.args.octets.now) (content c.loop-label.octets) (content c.append.new.octets)
+          (content c.append-in-loop-label.new.octets) so_far.done label so_far.appended
           (c.in_ok-append.ensures.ok ∙ ap (λ l. content c.loop-label.octets ++ length l ∷ []) same)
           (c.in_ok-append-2.ensures.ok ∙ ap (λ l. content c.append.new.octets ++ l) same);
     }
@@ -51,4 +58,5 @@ append-requires-2 g c =
     let so_far = c.loop-label.invariant in
     let content = g.B.AsOctets.content in
     let ahead = labels_left c.loop-label.label-iterator in
-    room_ahead g.B.AsOctets.limit (content c.loop-label.octets) (content c.args.octets.now) (labels_left c.args.labels) so_far.done ahead 1 so_far.appended so_far.labels_are (wire_some ahead) c.requires
+    room_ahead g.B.AsOctets.limit (content c.loop-label.octets) (content c.args.octets.now)
+    (labels_left c.args.labels) so_far.done ahead 1 so_far.appended so_far.labels_are (wire_some ahead) c.requires

@@ -6,4 +6,5 @@ use Rattle.octseq_dns_name.specs.Read.{label_octets}
 use Rattle.octseq_dns_name.proofs.name.compare.LabelHash.hash.Given as goal
 
 abbrev pub invariant-loop-octet : goal.invariant-loop-octet
-invariant-loop-octet g l = l.state ≡ fold g.H.Hasher.write l.fn.state (fed.usize (length (label_octets l.fn.self)) ++ flat_map fed.u8 (lower_label (take l.octet-index l.octet-items)))
+invariant-loop-octet g l = l.state ≡ fold g.H.Hasher.write l.fn.state
+    (fed.usize (length (label_octets l.fn.self)) ++ flat_map fed.u8 (lower_label (take l.octet-index l.octet-items)))

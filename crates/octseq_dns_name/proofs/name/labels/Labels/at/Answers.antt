@@ -11,7 +11,12 @@ invariant_of-result g c =
     let is = c.pos-start.ensures.position in
     let all = ahead_of_name (window c.args.parser) c.requires in
     record {
-      ahead = (c.requires.0, subst (λ start. ∥ ((pointers : ℕ) × (end : Window) × Stands start (window c.args.parser) c.requires.0 pointers end) ∥₁) (sym is) all.0);
+      ahead = (
+        c.requires.0,
+        subst (λ start. ∥
+            ((pointers : ℕ) × (end : Window) × Stands start (window c.args.parser) c.requires.0 pointers end) ∥₁)
+            (sym is) all.0,
+      );
       ordered = omega (arith, is);
       short = all.1;
     }
@@ -20,4 +25,8 @@ pub returns : goal.returns
 returns g c = λ named.
     let all = ahead_of_name (window c.args.parser) named in
     let is = c.pos-start.ensures.position in
-    one_ahead c.pos-start.result (window c.args.parser) c.result-1.given.0 (named.0, subst (λ start. ∥ ((pointers : ℕ) × (end : Window) × Stands start (window c.args.parser) named.0 pointers end) ∥₁) (sym is) all.0)
+    one_ahead c.pos-start.result (window c.args.parser) c.result-1.given.0 (
+      named.0,
+      subst (λ start. ∥ ((pointers : ℕ) × (end : Window)
+          × Stands start (window c.args.parser) named.0 pointers end) ∥₁) (sym is) all.0,
+    )

@@ -14,7 +14,8 @@ returns-in_err-parser-clause-steps g c =
 pub invariant_of-self : goal.invariant_of-self
 invariant_of-self g c =
     let self = c.args.self.now in
-    let on = more_ahead self.start (window self.parser) c.next_label.new.start (window c.next_label.new.parser) (rest (window c.in_ok-parser.parser)) self.ahead c.in_ok-parser.ensures.some in
+    let on = more_ahead self.start (window self.parser) c.next_label.new.start (window c.next_label.new.parser)
+    (rest (window c.in_ok-parser.parser)) self.ahead c.in_ok-parser.ensures.some in
     record {
       ahead = on.0;
       ordered = c.next_label.ensures.ordered;
@@ -24,11 +25,13 @@ invariant_of-self g c =
 pub returns-clause-steps : goal.returns-clause-steps
 returns-clause-steps g c =
     let self = c.args.self.now in
-    then_ahead self.start (window self.parser) c.next_label.new.start (window c.next_label.new.parser) (rest (window c.in_ok-parser.parser)) self.ahead c.self-1.given.0 c.in_ok-parser.ensures.some
+    then_ahead self.start (window self.parser) c.next_label.new.start (window c.next_label.new.parser)
+    (rest (window c.in_ok-parser.parser)) self.ahead c.self-1.given.0 c.in_ok-parser.ensures.some
 
 pub returns-clause-goes : goal.returns-clause-goes
 returns-clause-goes g c =
     let self = c.args.self.now in
-    let steps = then_ahead self.start (window self.parser) c.next_label.new.start (window c.next_label.new.parser) (rest (window c.in_ok-parser.parser)) self.ahead c.self-1.given.0 c.in_ok-parser.ensures.some in
+    let steps = then_ahead self.start (window self.parser) c.next_label.new.start (window c.next_label.new.parser)
+    (rest (window c.in_ok-parser.parser)) self.ahead c.self-1.given.0 c.in_ok-parser.ensures.some in
     let less = shorter (rest (window c.in_ok-parser.parser)) self.ahead.0 c.self-1.given.0.0 steps in
     record { on = λ finite. (tt, finite, less); keeps = tt; rests = λ _. tt }

@@ -12,7 +12,11 @@ invariant_of-result g c =
     let name = c.args.self.now in
     let moved = c.from_ref.ensures.window ∙ ap whole c.as_ref-octets.ensures.value in
     record {
-      named = (owned_labels name, subst (λ w. ∥ ((end : Window) × IsName w (owned_labels name) end) ∥₁) (sym moved) name.named.1);
+      named = (
+        owned_labels name,
+        subst (λ w. ∥ ((end : Window) × IsName w (owned_labels name) end) ∥₁)
+            (sym moved) name.named.1,
+      );
       measured = ap length c.as_ref-octets.ensures.value ∙ ap length name.plain ∙ wire_has (owned_labels name);
     }
 
@@ -20,5 +24,9 @@ pub returns : goal.returns
 returns g c =
     let name = c.args.self.now in
     let moved = c.from_ref.ensures.window ∙ ap whole c.as_ref-octets.ensures.value in
-    let here : Named (window c.from_ref.result) = (owned_labels name, subst (λ w. ∥ ((end : Window) × IsName w (owned_labels name) end) ∥₁) (sym moved) name.named.1) in
+    let here : Named (window c.from_ref.result) = (
+      owned_labels name,
+      subst (λ w. ∥ ((end : Window) × IsName w (owned_labels name) end) ∥₁)
+          (sym moved) name.named.1,
+    ) in
     ap (λ named. named.0) (named_once (window c.from_ref.result) c.result-1.given.0 here)
