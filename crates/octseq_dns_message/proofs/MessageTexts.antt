@@ -58,24 +58,29 @@ one_message_text header questions answers authorities additionals text other x y
     x.whole y.whole (one_records_text (codes "answer") answers _ _ x.answers_are y.answers_are)
     (one_records_text (codes "authority") authorities _ _ x.authorities_are y.authorities_are) (one_records_text (codes "additional") additionals _ _ x.additionals_are y.additionals_are)
 
--- lines that were appended one section behind another are the text of the message
-pub message_text : (header : Header) (questions : List Question) (answers authorities additionals : List Record) (old now a b c : List ℕ)
-    → IsRecordsText (codes "answer") answers a → IsRecordsText (codes "authority") authorities b → IsRecordsText (codes "additional") additionals c
+-- the lines of the sections, one behind another, are the text of the message
+pub text_of_parts : (header : Header) (questions : List Question) (answers authorities additionals : List Record)
+    (a b c : List ℕ) → IsRecordsText (codes "answer") answers a → IsRecordsText (codes "authority") authorities b
+    → IsRecordsText (codes "additional") additionals c → IsMessageText header questions answers authorities additionals
+    (header_line header ++ questions_text questions ++ a ++ b ++ c)
+text_of_parts header questions answers authorities additionals a b c first second third = record {
+  of_answers = a;
+  answers_are = first;
+  of_authorities = b;
+  authorities_are = second;
+  of_additionals = c;
+  additionals_are = third;
+  whole = refl;
+}
+
+-- and so they are where they were appended to what was there
+pub message_text : (header : Header) (questions : List Question) (answers authorities additionals : List Record)
+    (old now a b c : List ℕ) → IsRecordsText (codes "answer") answers a
+    → IsRecordsText (codes "authority") authorities b → IsRecordsText (codes "additional") additionals c
     → now ≡ old ++ (header_line header ++ questions_text questions ++ a ++ b ++ c)
     → (lines : List ℕ) × IsMessageText header questions answers authorities additionals lines × (now ≡ old ++ lines)
-message_text header questions answers authorities additionals old now a b c first second third whole = (
-  header_line header ++ questions_text questions ++ a ++ b ++ c,
-  record {
-    of_answers = a;
-    answers_are = first;
-    of_authorities = b;
-    authorities_are = second;
-    of_additionals = c;
-    additionals_are = third;
-    whole = refl;
-  },
-  whole,
-)
+message_text header questions answers authorities additionals old now a b c first second third whole =
+    (_, text_of_parts header questions answers authorities additionals a b c first second third, whole)
 
 -- what can't be an answer is a refusal
 pub refused_unless : {T E P : Type 0} (r : Result T E) → OnOk r P → (P → ⊥) → IsErr r

@@ -10,6 +10,7 @@ pub loop-entry-init : goal.loop-entry-init
 loop-entry-init g c = record {
   done = [];
   appended = sym (append-nil _);
+  borrows = refl;
   whole = λ more text. subst (λ records. IsRecordsText c.args.word.now (records_left records) more) c.into_iter-entry-iterator.ensures.into_iter_gives text;
 }
 
@@ -21,6 +22,7 @@ loop-entry-preserved g c =
     record {
       done = so_far.done ++ shown;
       appended = then_more (g.B.AsOctets.content c.args.text.now) _ _ so_far.done shown so_far.appended c.in_ok-try_push_display.ensures.ok;
+      borrows = c.in_ok-try_push_display.ensures.borrows ∙ so_far.borrows;
       whole = λ more text.
           let ahead = subst (λ records. IsRecordsText word records (shown ++ more)) (sym c.in-Some.ensures.steps)
           (form_of c.data-rdata.result, more, c.data-rdata.ensures, text, refl) in
