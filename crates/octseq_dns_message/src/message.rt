@@ -66,7 +66,8 @@ impl<R: AsOctets + Copy> Clone for Message<R> {
 
 impl<R: AsOctets + Copy> Message<R> {
     ghost use Rattle.std.specs.Prelude.{◌+◌, ◌*◌, ◌≤◌, length, IsErr, IfOk};
-    ghost use Rattle.octseq_dns_message.specs.Parsed.{header_of, questions_of, answers_of, authorities_of, additionals_of};
+    ghost use Rattle.octseq_dns_message.specs.Parsed.{header_of, questions_of, answers_of, authorities_of};
+    ghost use Rattle.octseq_dns_message.specs.Parsed.{additionals_of};
     ghost use Rattle.octseq_dns_message.specs.Walk.{questions_left, records_left};
 
     /// Reads all of the octets as a message. It requests no memory.

@@ -161,7 +161,8 @@ fn write_records<W: fmt::Write, R: AsOctets + Copy>(
 }
 
 impl<R: AsOctets + Copy> Message<R> {
-    ghost use Rattle.octseq_dns_message.specs.Parsed.{header_of, questions_of, answers_of, authorities_of, additionals_of};
+    ghost use Rattle.octseq_dns_message.specs.Parsed.{header_of, questions_of, answers_of, authorities_of};
+    ghost use Rattle.octseq_dns_message.specs.Parsed.{additionals_of};
 
     /// Appends the text of the message, or nothing: a line for its header, as
     /// `id 4660 opcode 0 rcode 0 flags QR AA RD`; one for each question, as `question example.com. IN A`; and one for

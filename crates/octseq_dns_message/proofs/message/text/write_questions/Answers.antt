@@ -13,5 +13,5 @@ loop-question-preserved g c = λ plain.
       so_far.0 ++ text,
       has_written_append _ _ _ _ _ _ so_far.1 (search rules),
       append_assoc so_far.0 text (questions_text (questions_left c.next.new.self))
-      ∙ ap (λ questions. so_far.0 ++ questions_text questions) (sym c.in-Some.ensures.steps) ∙ so_far.2,
+          ∙ ap (λ questions. so_far.0 ++ questions_text questions) (sym c.in-Some.ensures.steps) ∙ so_far.2,
     )

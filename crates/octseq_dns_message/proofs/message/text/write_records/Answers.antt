@@ -33,8 +33,7 @@ loop-entry-preserved g c =
 pub returns : goal.returns
 returns g c =
     let so_far = c.loop-entry.invariant in
-    let none = subst (λ records. IsRecordsText c.args.word.now records []) (sym c.in-None.ensures.steps.0) refl in
-    (
+    let none = subst (λ records. IsRecordsText c.args.word.now records []) (sym c.in-None.ensures.steps.0) refl in (
       so_far.done ++ [],
       so_far.whole [] none,
       λ plain. has_written_of_eq _ _ _ _ _ (sym (append-nil so_far.done)) (so_far.written plain),
