@@ -46,10 +46,10 @@ pub struct Message<R: AsOctets> {
     answers: Parser<R>,
     authorities: Parser<R>,
     additionals: Parser<R>,
-    ghost asked: { Holds IsQuestion (window questions) header.qdcount } by { questions_once (window questions) header.qdcount },
-    ghost answered: { Holds IsRecord (window answers) header.ancount } by { records_once (window answers) header.ancount },
-    ghost authorized: { Holds IsRecord (window authorities) header.nscount } by { records_once (window authorities) header.nscount },
-    ghost added: { Holds IsRecord (window additionals) header.arcount } by { records_once (window additionals) header.arcount },
+    ghost asked: { Holds IsQuestion (window questions) header.qdcount } by { questions_once _ _ },
+    ghost answered: { Holds IsRecord (window answers) header.ancount } by { records_once _ _ },
+    ghost authorized: { Holds IsRecord (window authorities) header.nscount } by { records_once _ _ },
+    ghost added: { Holds IsRecord (window additionals) header.arcount } by { records_once _ _ },
 }
 
 impl<R: AsOctets + Copy> Copy for Message<R> {}

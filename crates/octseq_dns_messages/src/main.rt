@@ -45,10 +45,7 @@ fn append_message<R: Octets + Copy>(
 }
 
 /// Appends the text of all messages of a stream.
-fn append_messages(
-    text: &mut StrBuilder<Vec<u8>>,
-    stream: &[u8],
-) -> Result<(), DisplayError> {
+fn append_messages(text: &mut StrBuilder<Vec<u8>>, stream: &[u8]) -> Result<(), DisplayError> {
     let mut rest = stream;
     for _ in stream {
         let Some((octets, behind)) = split_message(rest) else {

@@ -49,11 +49,7 @@ impl Shown {
     }
 
     /// Reads octets and shows them in a text of no use behind it.
-    fn read(
-        &mut self,
-        text: &mut StrBuilder<Vec<u8>>,
-        octets: &[u8],
-    ) -> Result<(), DisplayError> {
+    fn read(&mut self, text: &mut StrBuilder<Vec<u8>>, octets: &[u8]) -> Result<(), DisplayError> {
         text.clear();
         let is_message = append_message(text, octets)?;
         self.count = self.count.saturating_add(1);
@@ -66,10 +62,7 @@ impl Shown {
 }
 
 /// Reads each front of a message but the whole.
-pub fn read_cuts(
-    text: &mut StrBuilder<Vec<u8>>,
-    message: &[u8],
-) -> Result<Shown, DisplayError> {
+pub fn read_cuts(text: &mut StrBuilder<Vec<u8>>, message: &[u8]) -> Result<Shown, DisplayError> {
     let mut shown = Shown::new();
     for len in 0..message.len() {
         shown.read(text, &message[..len])?;

@@ -1,14 +1,10 @@
 //! The text of whole messages, lists of their entries, and a reader of messages as a caller writes it.
-ghost use Rattle.std.specs.Prelude.{◌≡◌, IfOk};
-ghost use Rattle.std.specs.List.{map};
-ghost use Rattle.octseq_dns_message.specs.Parsed.{answers_of};
-ghost use Rattle.octseq_dns_message.specs.Said.{record_of};
-
 use octseq::octets::Octets;
 use octseq::str::DisplayError;
 use octseq::{Array, AsOctets, StrBuilder};
 use octseq_dns::{Data, Malformed, Message, Record};
-use std::alloc::{AllocError, AllocGlobal, Global};
+use std::alloc::{AllocGlobal, Global};
+use std::process::Abort;
 use std::test::Fail;
 
 /// How many of the answers have an address of the name that is asked for.
@@ -45,16 +41,6 @@ fn appended<R: Octets + Copy>(
 ) -> Result<Result<(), DisplayError>, Malformed> {
     let message = Message::parse(octets)?;
     Ok(message.append_text(text))
-}
-
-/// The answers of a message, as a list.
-fn answers<R: AsOctets + Copy>(
-    alloc: Global,
-    message: &Message<R>,
-) -> Result<Vec<Record<R>>, AllocError>
-    ensures { IfOk result (λ list. map record_of list ≡ answers_of message.now) }
-{
-    message.answers().collect(alloc)
 }
 
 /// A question for `example.com.`, and an answer whose owner is a pointer to it.

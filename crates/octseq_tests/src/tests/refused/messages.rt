@@ -11,12 +11,14 @@ const ENTRIES: &[u8] =
 #[test]
 fn a_refused_list_leaves_the_message(rt: HostRuntime) -> Result<(), Fail> {
     let message = Message::parse(ENTRIES)?;
-    let questions: Result<Vec<Question<&[u8]>>, AllocError> =
-        message.questions().collect(rt.alloc());
+    let questions: Result<Vec<Question<&[u8]>>, AllocError> = message
+        .questions()
+        .collect(rt.alloc());
     assert_equal!(&rt, message.questions().count(), 2);
     assert_equal!(&rt, questions?.len(), 2);
-    let additionals: Result<Vec<Record<&[u8]>>, AllocError> =
-        message.additionals().collect(rt.alloc());
+    let additionals: Result<Vec<Record<&[u8]>>, AllocError> = message
+        .additionals()
+        .collect(rt.alloc());
     assert_equal!(&rt, message.additionals().count(), 1);
     assert_equal!(&rt, additionals?.len(), 1);
     Ok(())

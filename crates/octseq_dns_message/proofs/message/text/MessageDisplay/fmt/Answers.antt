@@ -1,4 +1,4 @@
-use Rattle.std.proofs.Common.{rules, codes, ap, subst}
+use Rattle.std.proofs.Common.{rules, codes, subst}
 use Rattle.std.proofs.Output.{has_written_append}
 use Rattle.std.proofs.lemmas.Result.{on_ok_weaker}
 use Rattle.std.specs.Fmt.{HasWritten}
@@ -23,8 +23,8 @@ returns g c = record {
             (subst (λ rs. IsRecordsText (codes "authority") rs authorized.0) c.authorities.ensures authorized.1)
             (subst (λ rs. IsRecordsText (codes "additional") rs added.0) c.additionals.ensures added.1),
         λ plain.
-            let head = subst (λ h. HasWritten took c.args.f.now (header_line h) c.write.new.self) c.header-header.ensures
-            (c.in_ok-write.ensures.writes plain (search rules)) in
+            let head = subst (λ h. HasWritten took c.args.f.now (header_line h) c.write.new.self)
+            c.header-header.ensures (c.in_ok-write.ensures.writes plain (search rules)) in
             let asked = subst (λ qs. HasWritten took c.write.new.self (questions_text qs) c.write_questions.new.f)
             c.questions.ensures (c.in_ok-write_questions.ensures head.plain (search rules)) in
             let one = has_written_append _ _ _ _ _ _ head asked in
