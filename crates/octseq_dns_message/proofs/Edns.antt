@@ -10,21 +10,28 @@ abbrev made_of : ℕ → ℕ → Bool → ℕ → ℕ
 made_of rcode version marked z = rcode * 16777216 + version * 65536 + flag marked 32768 + z
 
 -- has them in one way
-same_parts : (marked other : Bool) (rcode version z code number y : ℕ) → version < 256 → number < 256 → z < 32768 → y < 32768
-    → made_of rcode version marked z ≡ made_of code number other y → (rcode ≡ code) × (version ≡ number) × (marked ≡ other)
-same_parts true true rcode version z code number y a b d e same = (omega (arith, a, b, d, e, same), omega (arith, a, b, d, e, same), refl)
+same_parts : (marked other : Bool) (rcode version z code number y : ℕ) → version < 256 → number < 256 → z < 32768
+    → y < 32768
+    → made_of rcode version marked z ≡ made_of code number other y → (rcode ≡ code) × (version ≡ number)
+    × (marked ≡ other)
+same_parts true true rcode version z code number y a b d e same =
+    (omega (arith, a, b, d, e, same), omega (arith, a, b, d, e, same), refl)
 same_parts true false rcode version z code number y a b d e same = absurd (omega (arith, a, b, d, e, same))
 same_parts false true rcode version z code number y a b d e same = absurd (omega (arith, a, b, d, e, same))
-same_parts false false rcode version z code number y a b d e same = (omega (arith, a, b, d, e, same), omega (arith, a, b, d, e, same), refl)
+same_parts false false rcode version z code number y a b d e same =
+    (omega (arith, a, b, d, e, same), omega (arith, a, b, d, e, same), refl)
 
 opt_from : ℕ → ℕ → ℕ → Bool → List EdnsOption → Opt
-opt_from size rcode version marked options = record { udp_payload_size = size; extended_rcode = rcode; version = version; dnssec_ok = marked; options = options }
+opt_from size rcode version marked options =
+    record { udp_payload_size = size; extended_rcode = rcode; version = version; dnssec_ok = marked; options = options }
 
 pub one_opt : (r : Record) (opt other : Opt) → IsOpt r opt → IsOpt r other → opt ≡ other
 unfolding opt_from
 one_opt r opt other a b =
-    let parts = same_parts opt.dnssec_ok other.dnssec_ok opt.extended_rcode opt.version a.z other.extended_rcode other.version b.z a.version b.version a.few b.few (sym a.ttl ∙ b.ttl) in
-    let options = one_row_to HasOption one_option option_moves r.rdata a.end b.end opt.options other.options (a.ends ∙ sym b.ends) a.options b.options in
+    let parts = same_parts opt.dnssec_ok other.dnssec_ok opt.extended_rcode opt.version a.z other.extended_rcode
+    other.version b.z a.version b.version a.few b.few (sym a.ttl ∙ b.ttl) in
+    let options = one_row_to HasOption one_option option_moves r.rdata a.end b.end opt.options other.options (a.ends
+    ∙ sym b.ends) a.options b.options in
     ap (λ n. opt_from n opt.extended_rcode opt.version opt.dnssec_ok opt.options) (a.size ∙ sym b.size)
     ∙ ap (λ n. opt_from other.udp_payload_size n opt.version opt.dnssec_ok opt.options) parts.0
     ∙ ap (λ n. opt_from other.udp_payload_size other.extended_rcode n opt.dnssec_ok opt.options) parts.1

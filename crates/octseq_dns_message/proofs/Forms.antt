@@ -2,7 +2,8 @@
 use Rattle.std.proofs.Common.{◌≡◌, ℕ, if◌then◌else◌, nat_eq, refl, sym, ap, ◌∙◌, subst, arith}
 use mathlib.Core.Logic.{inl, inr}
 use Rattle.octseq.specs.Window.{Window, at}
-use Rattle.octseq_dns_message.specs.Data.{Form, Mx, Soa, Srv, HasForm, HasOctets, HasString, HasStrings, HasMx, HasSoa, HasSrv, IsTyped, IsDataOf}
+use Rattle.octseq_dns_message.specs.Data.{Form, Mx, Soa, Srv, HasForm, HasOctets, HasString, HasStrings, HasMx}
+use Rattle.octseq_dns_message.specs.Data.{HasSoa, HasSrv, IsTyped, IsDataOf}
 use Rattle.octseq_dns_message.specs.Entry.{Record}
 use Rattle.octseq_dns_message.specs.Format.{IsNumber, ◌then◌}
 use Rattle.octseq_dns_name.specs.Name.{Name, HasName}
@@ -37,8 +38,10 @@ number Kind.of_srv = 33
 
 -- their numbers differ
 abbrev kind_of : ℕ → Kind
-kind_of n = if nat_eq n 1 then Kind.of_a else if nat_eq n 28 then Kind.of_aaaa else if nat_eq n 2 then Kind.of_ns else if nat_eq n 5 then Kind.of_cname
-    else if nat_eq n 12 then Kind.of_ptr else if nat_eq n 15 then Kind.of_mx else if nat_eq n 6 then Kind.of_soa else if nat_eq n 16 then Kind.of_txt else Kind.of_srv
+kind_of n = if nat_eq n 1 then Kind.of_a else if nat_eq n 28 then Kind.of_aaaa
+    else if nat_eq n 2 then Kind.of_ns else if nat_eq n 5 then Kind.of_cname
+    else if nat_eq n 12 then Kind.of_ptr else if nat_eq n 15 then Kind.of_mx
+    else if nat_eq n 6 then Kind.of_soa else if nat_eq n 16 then Kind.of_txt else Kind.of_srv
 
 kind_again : (k : Kind) → kind_of (number k) ≡ k
 kind_again Kind.of_a = refl
@@ -70,7 +73,8 @@ Shape Kind.of_soa = Made Form.soa HasSoa
 Shape Kind.of_txt = Made Form.txt HasStrings
 Shape Kind.of_srv = Made Form.srv HasSrv
 
-shape_of : (rtype class : ℕ) (w v : Window) (form : Form) → HasForm rtype class w form v → (k : Kind) × (rtype ≡ number k) × Shape k w form v
+shape_of : (rtype class : ℕ) (w v : Window) (form : Form) → HasForm rtype class w form v → (k : Kind)
+    × (rtype ≡ number k) × Shape k w form v
 shape_of rtype class w v (Form.a x) is = (Kind.of_a, is.0, (x, refl, is.2))
 shape_of rtype class w v (Form.aaaa x) is = (Kind.of_aaaa, is.0, (x, refl, is.2))
 shape_of rtype class w v (Form.ns x) is = (Kind.of_ns, is.0, (x, refl, is.1))
@@ -83,7 +87,8 @@ shape_of rtype class w v (Form.srv x) is = (Kind.of_srv, is.0, (x, refl, is.2))
 shape_of rtype class w v (Form.opaque x) is = absurd is
 
 -- data of a type has that type's form
-pub shape_by : (k : Kind) (rtype class : ℕ) (w v : Window) (form : Form) → rtype ≡ number k → HasForm rtype class w form v → Shape k w form v
+pub shape_by : (k : Kind) (rtype class : ℕ) (w v : Window) (form : Form) → rtype ≡ number k
+    → HasForm rtype class w form v → Shape k w form v
 shape_by k rtype class w v form of is =
     let found = shape_of rtype class w v form is in
     subst (λ l. Shape l w form v) (one_kind found.0 k (sym found.1 ∙ of)) found.2
@@ -96,14 +101,19 @@ no_mx w none mx v is = none (mx.preference, mx.exchange) v is
 pub no_srv : (w : Window) → NoneAt (IsNumber 2 then IsNumber 2 then IsNumber 2 then HasName) w → NoneAt HasSrv w
 no_srv w none srv v is = none (srv.priority, (srv.weight, (srv.port, srv.target))) v is
 
-pub no_soa : (w : Window) → NoneAt (HasName then HasName then IsNumber 4 then IsNumber 4 then IsNumber 4 then IsNumber 4 then IsNumber 4) w → NoneAt HasSoa w
-no_soa w none soa v is = none (soa.mname, (soa.rname, (soa.serial, (soa.refresh, (soa.retry, (soa.expire, soa.minimum)))))) v is
+pub no_soa : (w : Window)
+    → NoneAt (HasName then HasName then IsNumber 4 then IsNumber 4 then IsNumber 4 then IsNumber 4 then IsNumber 4) w
+    → NoneAt HasSoa w
+no_soa w none soa v is =
+    none (soa.mname, (soa.rname, (soa.serial, (soa.refresh, (soa.retry, (soa.expire, soa.minimum)))))) v is
 
 -- none of a type, where its form doesn't stand
-pub none_by : (k : Kind) (rtype class : ℕ) (w : Window) → rtype ≡ number k → NoneAt (Shape k) w → NoneAt (HasForm rtype class) w
+pub none_by : (k : Kind) (rtype class : ℕ) (w : Window) → rtype ≡ number k → NoneAt (Shape k) w
+    → NoneAt (HasForm rtype class) w
 none_by k rtype class w of none form v is = none form v (shape_by k rtype class w v form of is)
 
-pub none_made : {A : Type 0} (make : A → Form) (Has : Window → A → Window → Type 0) (w : Window) → NoneAt Has w → NoneAt (Made make Has) w
+pub none_made : {A : Type 0} (make : A → Form) (Has : Window → A → Window → Type 0) (w : Window) → NoneAt Has w
+    → NoneAt (Made make Has) w
 none_made make Has w none form v is = none is.0 v is.2
 
 -- ---- at most one stands at a place
@@ -117,7 +127,8 @@ mx_from mx = record { preference = mx.0; exchange = mx.1 }
 one_mx : IsOne HasMx
 unfolding mx_from
 one_mx w u v one other a b =
-    let same = one_then (IsNumber 2) HasName (one_number 2) one_named w u v (one.preference, one.exchange) (other.preference, other.exchange) a b in
+    let same = one_then (IsNumber 2) HasName (one_number 2) one_named w u v (one.preference, one.exchange)
+    (other.preference, other.exchange) a b in
     (ap mx_from same.0, same.1)
 
 srv_from : ℕ × (ℕ × (ℕ × Name)) → Srv
@@ -133,7 +144,8 @@ one_srv : IsOne HasSrv
 unfolding srv_from
 one_srv w u v one other a b =
     let same = one_then (IsNumber 2) (IsNumber 2 then IsNumber 2 then HasName) (one_number 2) one_weighed w u v
-    (one.priority, (one.weight, (one.port, one.target))) (other.priority, (other.weight, (other.port, other.target))) a b in
+    (one.priority, (one.weight, (one.port, one.target))) (other.priority, (other.weight, (other.port, other.target))) a
+    b in
     (ap srv_from same.0, same.1)
 
 soa_from : Name × (Name × (ℕ × (ℕ × (ℕ × (ℕ × ℕ))))) → Soa
@@ -155,7 +167,8 @@ one_long : {A : Type 0} (Has : Window → A → Window → Type 0) → IsOne Has
 one_long Has one = one_then IsLong Has (one_number 4) one
 
 one_times : IsOne (IsLong then IsLong then IsLong then IsLong then IsLong)
-one_times = one_long (IsLong then IsLong then IsLong then IsLong) (one_long (IsLong then IsLong then IsLong) (one_long (IsLong then IsLong) (one_long IsLong (one_number 4))))
+one_times = one_long (IsLong then IsLong then IsLong then IsLong)
+    (one_long (IsLong then IsLong then IsLong) (one_long (IsLong then IsLong) (one_long IsLong (one_number 4))))
 
 one_mailbox : IsOne (HasName then IsLong then IsLong then IsLong then IsLong then IsLong)
 one_mailbox = one_then HasName (IsLong then IsLong then IsLong then IsLong then IsLong) one_named one_times
@@ -163,7 +176,8 @@ one_mailbox = one_then HasName (IsLong then IsLong then IsLong then IsLong then 
 one_soa : IsOne HasSoa
 unfolding soa_from
 one_soa w u v one other a b =
-    let same = one_then HasName (HasName then IsLong then IsLong then IsLong then IsLong then IsLong) one_named one_mailbox w u v
+    let same = one_then HasName (HasName then IsLong then IsLong then IsLong then IsLong then IsLong) one_named
+    one_mailbox w u v
     (one.mname, (one.rname, (one.serial, (one.refresh, (one.retry, (one.expire, one.minimum))))))
     (other.mname, (other.rname, (other.serial, (other.refresh, (other.retry, (other.expire, other.minimum)))))) a b in
     (ap soa_from same.0, same.1)
@@ -186,10 +200,13 @@ one_shape Kind.of_txt other_type = absurd (other_type refl)
 one_shape Kind.of_srv other_type = one_made Form.srv HasSrv one_srv
 
 -- of TXT, where they end at one place
-one_text : (w u v : Window) (form other : Form) → u.position ≡ v.position → Shape Kind.of_txt w form u → Shape Kind.of_txt w other v → form ≡ other
-one_text w u v form other same a b = a.1 ∙ ap Form.txt (one_row_to HasString one_string string_moves w u v a.0 b.0 same a.2.1 b.2.1) ∙ sym b.1
+one_text : (w u v : Window) (form other : Form) → u.position ≡ v.position → Shape Kind.of_txt w form u
+    → Shape Kind.of_txt w other v → form ≡ other
+one_text w u v form other same a b =
+    a.1 ∙ ap Form.txt (one_row_to HasString one_string string_moves w u v a.0 b.0 same a.2.1 b.2.1) ∙ sym b.1
 
-one_ending : (k : Kind) (w u v : Window) (form other : Form) → u.position ≡ v.position → Shape k w form u → Shape k w other v → form ≡ other
+one_ending : (k : Kind) (w u v : Window) (form other : Form) → u.position ≡ v.position → Shape k w form u
+    → Shape k w other v → form ≡ other
 one_ending Kind.of_txt w u v form other same a b = one_text w u v form other same a b
 one_ending k w u v form other same a b = (one_shape k (λ is. omega (arith, is)) w u v form other a b).0
 
@@ -198,7 +215,8 @@ one_typed : (r : Record) (form other : Form) → IsTyped r form → IsTyped r ot
 one_typed r form other a b =
     let w = at r.rdata.position r.owner.place in
     let found = shape_of r.rtype r.class w a.end form a.form_is in
-    one_ending found.0 w a.end b.end form other (a.ends ∙ sym b.ends) found.2 (shape_by found.0 r.rtype r.class w b.end other found.1 b.form_is)
+    one_ending found.0 w a.end b.end form other (a.ends ∙ sym b.ends) found.2
+    (shape_by found.0 r.rtype r.class w b.end other found.1 b.form_is)
 
 -- and says one thing
 pub one_said : (r : Record) (form other : Form) → IsDataOf r form → IsDataOf r other → form ≡ other
@@ -208,15 +226,19 @@ one_said r form other (inr a) (inl b) = absurd (a.1 other b)
 one_said r form other (inr a) (inr b) = a.0 ∙ sym b.0
 
 -- data of a type but TXT ends at one place
-pub one_end : (rtype class : ℕ) (w u v : Window) (form other : Form) → (rtype ≡ 16 → ⊥) → HasForm rtype class w form u → HasForm rtype class w other v → u ≡ v
+pub one_end : (rtype class : ℕ) (w u v : Window) (form other : Form) → (rtype ≡ 16 → ⊥) → HasForm rtype class w form u
+    → HasForm rtype class w other v → u ≡ v
 one_end rtype class w u v form other untold a b =
     let found = shape_of rtype class w u form a in
-    (one_shape found.0 (λ is. untold (found.1 ∙ is)) w u v form other found.2 (shape_by found.0 rtype class w v other found.1 b)).1
+    (one_shape found.0 (λ is. untold (found.1 ∙ is)) w u v form other found.2
+    (shape_by found.0 rtype class w v other found.1 b)).1
 
 -- none ends at the place where the one that stands there doesn't
-pub none_ends : (rtype class : ℕ) (w u v : Window) (form other : Form) (end : ℕ) → (rtype ≡ 16 → ⊥) → HasForm rtype class w form u → (u.position ≡ end → ⊥)
+pub none_ends : (rtype class : ℕ) (w u v : Window) (form other : Form) (end : ℕ) → (rtype ≡ 16 → ⊥)
+    → HasForm rtype class w form u → (u.position ≡ end → ⊥)
     → HasForm rtype class w other v → v.position ≡ end → ⊥
-none_ends rtype class w u v form other end untold a elsewhere b ends = elsewhere (ap (λ v. v.position) (one_end rtype class w u v form other untold a b) ∙ ends)
+none_ends rtype class w u v form other end untold a elsewhere b ends =
+    elsewhere (ap (λ v. v.position) (one_end rtype class w u v form other untold a b) ∙ ends)
 
 -- of no type that has one
 pub none_known : (rtype class : ℕ) (w : Window) → ((k : Kind) → rtype ≡ number k → ⊥) → NoneAt (HasForm rtype class) w

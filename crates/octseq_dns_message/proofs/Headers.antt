@@ -32,7 +32,8 @@ low_2 a b x y fits also is = (omega (arith, fits, also, is), omega (arith, fits,
 
 -- what the bits of a header count, from the lowest one on
 low_bits : Header → ℕ
-low_bits h = flag h.flags.cd 1 + 2 * (flag h.flags.ad 1 + 2 * (flag h.flags.z 1 + 2 * (flag h.flags.ra 1 + 2 * (flag h.flags.rd 1
+low_bits h = flag h.flags.cd 1 + 2 * (flag h.flags.ad 1
+    + 2 * (flag h.flags.z 1 + 2 * (flag h.flags.ra 1 + 2 * (flag h.flags.rd 1
     + 2 * (flag h.flags.tc 1 + 2 * (flag h.flags.aa 1 + 2 * (h.opcode + 16 * flag h.flags.qr 1)))))))
 
 bits_are : (h : Header) → flag_bits h ≡ h.rcode + 16 * low_bits h
@@ -61,7 +62,8 @@ record SameBits (h k : Header) : Type 0 where
   cd : h.flags.cd ≡ k.flags.cd
   rcode : h.rcode ≡ k.rcode
 
-same_bits : (h k : Header) → h.opcode < 16 → k.opcode < 16 → h.rcode < 16 → k.rcode < 16 → flag_bits h ≡ flag_bits k → SameBits h k
+same_bits : (h k : Header) → h.opcode < 16 → k.opcode < 16 → h.rcode < 16 → k.rcode < 16 → flag_bits h ≡ flag_bits k
+    → SameBits h k
 unfolding low_bits
 same_bits h k o p r s is =
     let rcode = low_16 h.rcode k.rcode (low_bits h) (low_bits k) r s (sym (bits_are h) ∙ is ∙ bits_are k) in
@@ -94,7 +96,8 @@ sixth _ = (0, (0, (0, (0, (0, 0)))))
 pub one_header : IsOne IsHeader
 unfolding sixth
 one_header w u v h k a b =
-    let same = one_row (IsNumber 2) (one_number 2) w u v (header_numbers h) (header_numbers k) refl a.numbers b.numbers in
+    let same = one_row (IsNumber 2) (one_number 2) w u v (header_numbers h) (header_numbers k) refl a.numbers b.numbers
+    in
     let six = ap sixth same.0 in
     let bits = same_bits h k a.opcode b.opcode a.rcode b.rcode (ap (λ n. n.1.0) six) in
     let id = ap (λ n. n.0) six in
@@ -104,7 +107,16 @@ one_header w u v h k a b =
     let arcount = ap (λ n. n.1.1.1.1.1) six in (
       λ i. record {
         id = id i;
-        flags = record { qr = bits.qr i; aa = bits.aa i; tc = bits.tc i; rd = bits.rd i; ra = bits.ra i; z = bits.z i; ad = bits.ad i; cd = bits.cd i };
+        flags = record {
+          qr = bits.qr i;
+          aa = bits.aa i;
+          tc = bits.tc i;
+          rd = bits.rd i;
+          ra = bits.ra i;
+          z = bits.z i;
+          ad = bits.ad i;
+          cd = bits.cd i;
+        };
         opcode = bits.opcode i;
         rcode = bits.rcode i;
         qdcount = qdcount i;

@@ -12,7 +12,8 @@ use Rattle.octseq_dns_message.proofs.Headers.{one_header}
 
 -- no header and sections make these octets a message
 abbrev pub Refuses : List ℕ → Type 0
-Refuses octets = (header : Header) (questions : List Question) (answers authorities additionals : List Record) → IsMessage octets header questions answers authorities additionals → ⊥
+Refuses octets = (header : Header) (questions : List Question) (answers authorities additionals : List Record)
+    → IsMessage octets header questions answers authorities additionals → ⊥
 
 -- ---- the sections that stand at a place are one
 
@@ -26,7 +27,8 @@ one_replies : (k n m : ℕ) → IsOne (Many k IsRecord then Many n IsRecord then
 one_replies k n m = one_then (Many k IsRecord) (Many n IsRecord then Many m IsRecord) (one_records k) (one_last n m)
 
 pub one_sections : (h : Header) → IsOne (AreSections h)
-one_sections h = one_then (Many h.qdcount IsQuestion) (Many h.ancount IsRecord then Many h.nscount IsRecord then Many h.arcount IsRecord)
+one_sections h = one_then (Many h.qdcount IsQuestion)
+    (Many h.ancount IsRecord then Many h.nscount IsRecord then Many h.arcount IsRecord)
     (one_many h.qdcount IsQuestion one_question) (one_replies h.ancount h.nscount h.arcount)
 
 -- a message's sections stand behind the header that stands at its front
@@ -34,7 +36,8 @@ module _ (octets : List ℕ) (h k : Header) (q : List Question) (a b d : List Re
   same_header : IsHeader (whole octets) h v → (m : IsMessage octets k q a b d) → (k ≡ h) × (m.past_header ≡ v)
   same_header is m = one_header (whole octets) m.past_header v k h m.header_is is
 
-  same_sections : (is : IsHeader (whole octets) h v) → (m : IsMessage octets k q a b d) → AreSections h v (q, (a, (b, d))) m.past_sections
+  same_sections : (is : IsHeader (whole octets) h v) → (m : IsMessage octets k q a b d)
+      → AreSections h v (q, (a, (b, d))) m.past_sections
   same_sections is m =
       let begun = same_header is m in
       subst (λ u. AreSections h u (q, (a, (b, d))) m.past_sections) begun.1
@@ -51,37 +54,47 @@ pub no_header : (octets : List ℕ) → NoneAt IsHeader (whole octets) → Refus
 no_header octets none k q a b d m = none k m.past_header m.header_is
 
 -- sections that don't stand behind it
-no_sections : (octets : List ℕ) (h : Header) (v : Window) → IsHeader (whole octets) h v → NoneAt (AreSections h) v → Refuses octets
-no_sections octets h v is none k q a b d m = none (q, (a, (b, d))) m.past_sections (same_sections octets h k q a b d v is m)
+no_sections : (octets : List ℕ) (h : Header) (v : Window) → IsHeader (whole octets) h v → NoneAt (AreSections h) v
+    → Refuses octets
+no_sections octets h v is none k q a b d m = none (q, (a, (b, d))) m.past_sections
+    (same_sections octets h k q a b d v is m)
 
 module _ (octets : List ℕ) (h : Header) (v : Window) (is : IsHeader (whole octets) h v) where
   pub no_questions : NoneAt (Many h.qdcount IsQuestion) v → Refuses octets
   no_questions none = no_sections octets h v is
-      (none_first (Many h.qdcount IsQuestion) (Many h.ancount IsRecord then Many h.nscount IsRecord then Many h.arcount IsRecord) v none)
+      (none_first (Many h.qdcount IsQuestion)
+      (Many h.ancount IsRecord then Many h.nscount IsRecord then Many h.arcount IsRecord) v none)
 
   module _ (q : List Question) (x : Window) (asked : Many h.qdcount IsQuestion v q x) where
-    none_behind_questions : NoneAt (Many h.ancount IsRecord then Many h.nscount IsRecord then Many h.arcount IsRecord) x → Refuses octets
+    none_behind_questions : NoneAt (Many h.ancount IsRecord then Many h.nscount IsRecord then Many h.arcount IsRecord) x
+        → Refuses octets
     none_behind_questions none = no_sections octets h v is
-        (none_second (Many h.qdcount IsQuestion) (Many h.ancount IsRecord then Many h.nscount IsRecord then Many h.arcount IsRecord) v x q
+        (none_second (Many h.qdcount IsQuestion)
+        (Many h.ancount IsRecord then Many h.nscount IsRecord then Many h.arcount IsRecord) v x q
         (one_many h.qdcount IsQuestion one_question) asked none)
 
     pub no_answers : NoneAt (Many h.ancount IsRecord) x → Refuses octets
-    no_answers none = none_behind_questions (none_first (Many h.ancount IsRecord) (Many h.nscount IsRecord then Many h.arcount IsRecord) x none)
+    no_answers none = none_behind_questions (none_first (Many h.ancount IsRecord)
+        (Many h.nscount IsRecord then Many h.arcount IsRecord) x none)
 
     module _ (a : List Record) (y : Window) (answered : Many h.ancount IsRecord x a y) where
       none_behind_answers : NoneAt (Many h.nscount IsRecord then Many h.arcount IsRecord) y → Refuses octets
       none_behind_answers none = none_behind_questions
-          (none_second (Many h.ancount IsRecord) (Many h.nscount IsRecord then Many h.arcount IsRecord) x y a (one_records h.ancount) answered none)
+          (none_second (Many h.ancount IsRecord) (Many h.nscount IsRecord then Many h.arcount IsRecord) x y a
+          (one_records h.ancount) answered none)
 
       pub no_authorities : NoneAt (Many h.nscount IsRecord) y → Refuses octets
       no_authorities none = none_behind_answers (none_first (Many h.nscount IsRecord) (Many h.arcount IsRecord) y none)
 
-      pub no_additionals : (b : List Record) (z : Window) → Many h.nscount IsRecord y b z → NoneAt (Many h.arcount IsRecord) z → Refuses octets
+      pub no_additionals : (b : List Record) (z : Window) → Many h.nscount IsRecord y b z
+          → NoneAt (Many h.arcount IsRecord) z → Refuses octets
       no_additionals b z authorized none = none_behind_answers
-          (none_second (Many h.nscount IsRecord) (Many h.arcount IsRecord) y z b (one_records h.nscount) authorized none)
+          (none_second (Many h.nscount IsRecord) (Many h.arcount IsRecord) y z b (one_records h.nscount) authorized
+          none)
 
 -- octets behind the sections
-pub some_behind : (octets : List ℕ) (h : Header) (v end : Window) (s : Sections) → IsHeader (whole octets) h v → AreSections h v s end → 0 < left end → Refuses octets
+pub some_behind : (octets : List ℕ) (h : Header) (v end : Window) (s : Sections) → IsHeader (whole octets) h v
+    → AreSections h v s end → 0 < left end → Refuses octets
 some_behind octets h v end s is are some k q a b d m =
     let same = one_sections h v m.past_sections end (q, (a, (b, d))) s (same_sections octets h k q a b d v is m) are in
     let left_is = ap left same.1 in
@@ -90,10 +103,12 @@ some_behind octets h v end s is are some k q a b d m =
 
 -- ---- octets are a message in one way at most
 
-pub said_once : (octets : List ℕ) (h k : Header) (q others : List Question) (a b d x y z : List Record) → IsMessage octets h q a b d → IsMessage octets k others x y z
+pub said_once : (octets : List ℕ) (h k : Header) (q others : List Question) (a b d x y z : List Record)
+    → IsMessage octets h q a b d → IsMessage octets k others x y z
     → (h ≡ k) × (q ≡ others) × (a ≡ x) × (b ≡ y) × (d ≡ z)
 said_once octets h k q others a b d x y z m n =
     let begun = one_header (whole octets) m.past_header n.past_header h k m.header_is n.header_is in
     let are = same_sections octets k h q a b d n.past_header n.header_is m in
-    let same = one_sections k n.past_header m.past_sections n.past_sections (q, (a, (b, d))) (others, (x, (y, z))) are n.sections_are in
+    let same = one_sections k n.past_header m.past_sections n.past_sections (q, (a, (b, d))) (others, (x, (y, z))) are
+    n.sections_are in
     (begun.0, ap (λ s. s.0) same.0, ap (λ s. s.1.0) same.0, ap (λ s. s.1.1.0) same.0, ap (λ s. s.1.1.1) same.0)

@@ -8,26 +8,31 @@ use Rattle.octseq_dns_name.specs.Name.{Stands, IsName}
 abbrev pub IsOf : Window → Window → Type 0
 IsOf w v = (v.octets ≡ w.octets) × (v.end ≡ w.end)
 
-stands_of : (start : ℕ) (w v : Window) (labels : List (List ℕ)) (pointers : ℕ) → Stands start w labels pointers v → IsOf w v
+stands_of : (start : ℕ) (w v : Window) (labels : List (List ℕ)) (pointers : ℕ) → Stands start w labels pointers v
+    → IsOf w v
 stands_of start w v labels pointers (Stands.root has) = (ap (λ v. v.octets) has.behind, ap (λ v. v.end) has.behind)
 stands_of start w v labels pointers (Stands.label {u = u} {labels = more} has rest) =
     let on = stands_of start u v more pointers rest in
     (on.0 ∙ ap (λ v. v.octets) has.behind, on.1 ∙ ap (λ v. v.end) has.behind)
-stands_of start w v labels pointers (Stands.pointer has rest) = (ap (λ v. v.octets) has.behind, ap (λ v. v.end) has.behind)
+stands_of start w v labels pointers (Stands.pointer has rest) =
+    (ap (λ v. v.octets) has.behind, ap (λ v. v.end) has.behind)
 
 pub name_of_window : (w v : Window) (labels : List (List ℕ)) → IsName w labels v → IsOf w v
 name_of_window w v labels name = stands_of w.position w v labels name.pointers name.stands
 
 -- the data of a record lies in the octets that its name stands in, and ends within them
-pub record_of_window : (w v : Window) (r : Record) → IsRecord w r v → (r.rdata.octets ≡ r.owner.place.octets) × (r.rdata.end ≤ r.owner.place.end)
+pub record_of_window : (w v : Window) (r : Record) → IsRecord w r v → (r.rdata.octets ≡ r.owner.place.octets)
+    × (r.rdata.end ≤ r.owner.place.end)
 record_of_window w v r is =
     let owner = name_of_window w is.0 r.owner.labels is.1.1 in
     let rtype = is.2.1.2 in
     let class = is.2.2.1.2 in
     let ttl = is.2.2.2.1.2 in
     let kept = is.2.2.2.2 in
-    let octets = ap (λ v. v.octets) kept.1 ∙ ap (λ v. v.octets) ttl ∙ ap (λ v. v.octets) class ∙ ap (λ v. v.octets) rtype ∙ owner.0 ∙ ap (λ v. v.octets) (sym is.1.0) in
-    let ends = ap (λ v. v.end) ttl ∙ ap (λ v. v.end) class ∙ ap (λ v. v.end) rtype ∙ owner.1 ∙ ap (λ v. v.end) (sym is.1.0) in
+    let octets = ap (λ v. v.octets) kept.1 ∙ ap (λ v. v.octets) ttl ∙ ap (λ v. v.octets) class
+    ∙ ap (λ v. v.octets) rtype ∙ owner.0 ∙ ap (λ v. v.octets) (sym is.1.0) in
+    let ends = ap (λ v. v.end) ttl ∙ ap (λ v. v.end) class ∙ ap (λ v. v.end) rtype ∙ owner.1
+    ∙ ap (λ v. v.end) (sym is.1.0) in
     let end = ap (λ v. v.end) kept.1 in
     let room = kept.0.0 in
     let whole = kept.0.1 in

@@ -28,7 +28,8 @@ option_end w v option is = ap (λ v. v.end) is.2.2 ∙ ap (λ v. v.end) is.1.2
 
 -- ---- reading up to a place
 
--- What was read so far, from a first window to a second one: a row; and where a row stands at the first one and ends at the place, another
+-- What was read so far, from a first window to a second one: a row; and where a row stands at the first one and ends
+-- at the place, another
 -- is ahead of the second one.
 pub record Reading {A : Type 0} (Is : Window → A → Window → Type 0) (w u : Window) (end : ℕ) : Type 0 where
   pub read : List A
@@ -39,18 +40,21 @@ pub begun : {A : Type 0} (Is : Window → A → Window → Type 0) (w : Window) 
 begun Is w end = record { read = []; row = refl; ahead = λ all v row ends. (all, row) }
 
 -- before the place a row goes on, and what stands there is its first
-first_of : {A : Type 0} (Is : Window → A → Window → Type 0) → IsOne Is → (u x v : Window) (one : A) (row : List A) → (u.position ≡ v.position → ⊥) → Is u one x → Row Is u row v
+first_of : {A : Type 0} (Is : Window → A → Window → Type 0) → IsOne Is → (u x v : Window) (one : A) (row : List A)
+    → (u.position ≡ v.position → ⊥) → Is u one x → Row Is u row v
     → (more : List A) × (row ≡ one ∷ more) × Row Is x more v
 first_of Is single u x v one [] before is row = absurd (before (sym (ap (λ v. v.position) row)))
 first_of Is single u x v one (y ∷ row) before is all =
     let same = single u all.0 x y one all.1 is in
     (row, ap (λ y. y ∷ row) same.0, subst (λ x. Row Is x row v) same.1 all.2)
 
-some_of : {A : Type 0} (Is : Window → A → Window → Type 0) (u v : Window) (row : List A) → (u.position ≡ v.position → ⊥) → NoneAt Is u → Row Is u row v → ⊥
+some_of : {A : Type 0} (Is : Window → A → Window → Type 0) (u v : Window) (row : List A) → (u.position ≡ v.position → ⊥)
+    → NoneAt Is u → Row Is u row v → ⊥
 some_of Is u v [] before none row = before (sym (ap (λ v. v.position) row))
 some_of Is u v (y ∷ row) before none all = none y all.0 all.1
 
-none_of : {A : Type 0} (Is : Window → A → Window → Type 0) → Moves Is → (w v : Window) (row : List A) → w.position ≡ v.position → Row Is w row v → row ≡ []
+none_of : {A : Type 0} (Is : Window → A → Window → Type 0) → Moves Is → (w v : Window) (row : List A)
+    → w.position ≡ v.position → Row Is w row v → row ≡ []
 none_of Is moves w v [] same row = refl
 none_of Is moves w v (x ∷ row) same all =
     let one = moves w all.0 x all.1 in
@@ -58,7 +62,8 @@ none_of Is moves w v (x ∷ row) same all =
     absurd (omega (arith, same, one, more))
 
 -- one more
-pub with_one : {A : Type 0} (Is : Window → A → Window → Type 0) → IsOne Is → (w u x : Window) (end : ℕ) (one : A) → Reading Is w u end → u.position < end → Is u one x → Reading Is w x end
+pub with_one : {A : Type 0} (Is : Window → A → Window → Type 0) → IsOne Is → (w u x : Window) (end : ℕ) (one : A)
+    → Reading Is w u end → u.position < end → Is u one x → Reading Is w x end
 with_one Is single w u x end one so_far before is = record {
   read = so_far.read ++ one ∷ [];
   row = row_more Is w u x so_far.read one so_far.row is;
@@ -73,52 +78,65 @@ abbrev pub NoneTo : {A : Type 0} → (Window → A → Window → Type 0) → Wi
 NoneTo {A} Is w end = (all : List A) (v : Window) → Row Is w all v → v.position ≡ end → ⊥
 
 -- there is none where before the place nothing more stands
-pub no_more : {A : Type 0} (Is : Window → A → Window → Type 0) (w u : Window) (end : ℕ) → Reading Is w u end → u.position < end → NoneAt Is u → NoneTo Is w end
+pub no_more : {A : Type 0} (Is : Window → A → Window → Type 0) (w u : Window) (end : ℕ) → Reading Is w u end
+    → u.position < end → NoneAt Is u → NoneTo Is w end
 no_more Is w u end so_far before none all v row ends =
     let more = so_far.ahead all v row ends in
     some_of Is u v more.0 (λ same. omega (arith, before, ends, same)) none more.1
 
 -- nor where what stands there goes past it
-pub gone_past : {A : Type 0} (Is : Window → A → Window → Type 0) → Moves Is → (w u : Window) (end : ℕ) → Reading Is w u end → end < u.position → NoneTo Is w end
+pub gone_past : {A : Type 0} (Is : Window → A → Window → Type 0) → Moves Is → (w u : Window) (end : ℕ)
+    → Reading Is w u end → end < u.position → NoneTo Is w end
 gone_past Is moves w u end so_far past all v row ends =
     let more = so_far.ahead all v row ends in
     let on = row_moves Is moves u v more.0 more.1 in
     omega (arith, past, ends, on)
 
 -- none but the empty one ends where it begins
-pub none_here : {A : Type 0} (Is : Window → A → Window → Type 0) → Moves Is → (w v : Window) (row : List A) → w.position ≡ v.position → Row Is w row v → length row ≡ 0
+pub none_here : {A : Type 0} (Is : Window → A → Window → Type 0) → Moves Is → (w v : Window) (row : List A)
+    → w.position ≡ v.position → Row Is w row v → length row ≡ 0
 none_here Is moves w v row same all = ap length (none_of Is moves w v row same all)
 
 -- and the empty one ends nowhere else
-pub some_there : {A : Type 0} (Is : Window → A → Window → Type 0) (w v : Window) (row : List A) → (w.position ≡ v.position → ⊥) → Row Is w row v → 1 ≤ length row
+pub some_there : {A : Type 0} (Is : Window → A → Window → Type 0) (w v : Window) (row : List A)
+    → (w.position ≡ v.position → ⊥) → Row Is w row v → 1 ≤ length row
 some_there Is w v [] other row = absurd (other (sym (ap (λ v. v.position) row)))
 some_there Is w v (x ∷ row) other all = omega arith
 
 -- ---- rows that a value keeps
 
 -- what was read is what is kept
-pub reached_as : {A : Type 0} (code : Coded A) (Is : Window → A → Window → Type 0) → IsOne Is → Moves Is → (w v : Window) (end : ℕ) (row : List A) (held : Reaches Is w end)
+pub reached_as : {A : Type 0} (code : Coded A) (Is : Window → A → Window → Type 0) → IsOne Is → Moves Is
+    → (w v : Window) (end : ℕ) (row : List A) (held : Reaches Is w end)
     → v.position ≡ end → Row Is w row v → row ≡ held.0
 reached_as code Is one moves w v end row held ends is = ∥∥₁_elim held.1 (Coded-set (coded_list code) row held.0) (λ x.
     one_row_to Is one moves w v x.0 row held.0 (ends ∙ sym x.2) is x.1)
 
 -- at the place nothing is left
-pub reached_none : {A : Type 0} (code : Coded A) (Is : Window → A → Window → Type 0) → Moves Is → (w : Window) (end : ℕ) (held : Reaches Is w end) → w.position ≡ end → held.0 ≡ []
-reached_none code Is moves w end held same = ∥∥₁_elim held.1 (Coded-set (coded_list code) held.0 []) (λ x. none_of Is moves w x.0 held.0 (same ∙ sym x.2) x.1)
+pub reached_none : {A : Type 0} (code : Coded A) (Is : Window → A → Window → Type 0) → Moves Is
+    → (w : Window) (end : ℕ) (held : Reaches Is w end) → w.position ≡ end → held.0 ≡ []
+reached_none code Is moves w end held same = ∥∥₁_elim held.1 (Coded-set (coded_list code) held.0 [])
+    (λ x. none_of Is moves w x.0 held.0 (same ∙ sym x.2) x.1)
 
 -- before it something stands there
-pub reached_not : {A : Type 0} (Is : Window → A → Window → Type 0) (w : Window) (end : ℕ) (held : Reaches Is w end) → (w.position ≡ end → ⊥) → NoneAt Is w → ⊥
-reached_not Is w end held other none = ∥∥₁_elim held.1 ⊥_prop (λ x. some_of Is w x.0 held.0 (λ same. other (same ∙ x.2)) none x.1)
+pub reached_not : {A : Type 0} (Is : Window → A → Window → Type 0) (w : Window) (end : ℕ) (held : Reaches Is w end)
+    → (w.position ≡ end → ⊥) → NoneAt Is w → ⊥
+reached_not Is w end held other none = ∥∥₁_elim held.1 ⊥_prop
+    (λ x. some_of Is w x.0 held.0 (λ same. other (same ∙ x.2)) none x.1)
 
 -- and the rest behind it is a fact
-pub reached_more : {A : Type 0} (code : Coded A) (Is : Window → A → Window → Type 0) → IsOne Is → Moves Is → (w u : Window) (end : ℕ) (one : A) (held : Reaches Is w end)
+pub reached_more : {A : Type 0} (code : Coded A) (Is : Window → A → Window → Type 0) → IsOne Is → Moves Is
+    → (w u : Window) (end : ℕ) (one : A) (held : Reaches Is w end)
     → (w.position ≡ end → ⊥) → Is w one u → Reaches Is u end
-reached_more code Is single moves w u end one held other is = ∥∥₁_elim held.1 (reached_once code Is single moves u end) (λ x.
+reached_more code Is single moves w u end one held other is =
+    ∥∥₁_elim held.1 (reached_once code Is single moves u end) (λ x.
     let on = first_of Is single w u x.0 one held.0 (λ same. other (same ∙ x.2)) is x.1 in
     (on.0, ∣ (x.0, on.2, x.2) ∣₁))
 
-pub reached_then : {A : Type 0} (code : Coded A) (Is : Window → A → Window → Type 0) → IsOne Is → Moves Is → (w u : Window) (end last : ℕ) (one : A) (held : Reaches Is w end)
+pub reached_then : {A : Type 0} (code : Coded A) (Is : Window → A → Window → Type 0) → IsOne Is → Moves Is
+    → (w u : Window) (end last : ℕ) (one : A) (held : Reaches Is w end)
     (behind : Reaches Is u last) → last ≡ end → (w.position ≡ end → ⊥) → Is w one u → held.0 ≡ one ∷ behind.0
-reached_then code Is single moves w u end last one held behind to other is = ∥∥₁_elim held.1 (Coded-set (coded_list code) held.0 (one ∷ behind.0)) (λ x.
+reached_then code Is single moves w u end last one held behind to other is =
+    ∥∥₁_elim held.1 (Coded-set (coded_list code) held.0 (one ∷ behind.0)) (λ x.
     let on = first_of Is single w u x.0 one held.0 (λ same. other (same ∙ x.2)) is x.1 in
     on.1 ∙ ap (λ more. one ∷ more) (reached_as code Is single moves u x.0 last on.0 behind (x.2 ∙ sym to) on.2))

@@ -1,4 +1,5 @@
--- What the data of a record says, by its type and class: RFC 1035, 3.3 and 3.4, RFC 3596, 2.2 (AAAA) and RFC 2782 (SRV).
+-- What the data of a record says, by its type and class: RFC 1035, 3.3 and 3.4, RFC 3596, 2.2 (AAAA)
+-- and RFC 2782 (SRV).
 use Rattle.std.specs.Prelude.{◌≡◌, ℕ, ◌≤◌, ◌⊎◌, List, length}
 use Rattle.octseq.specs.Part.{HasPart, part, past_part}
 use Rattle.octseq.specs.Window.{Window, left, next, rest, at, past}
@@ -37,7 +38,8 @@ pub record Soa : Type 0 where
   pub minimum : ℕ
 
 abbrev pub HasSoa : Window → Soa → Window → Type 0
-HasSoa w soa v = (HasName then HasName then IsNumber 4 then IsNumber 4 then IsNumber 4 then IsNumber 4 then IsNumber 4) w
+HasSoa w soa v =
+    (HasName then HasName then IsNumber 4 then IsNumber 4 then IsNumber 4 then IsNumber 4 then IsNumber 4) w
     (soa.mname, (soa.rname, (soa.serial, (soa.refresh, (soa.retry, (soa.expire, soa.minimum)))))) v
 
 -- The place of a service: RFC 2782.
@@ -48,10 +50,11 @@ pub record Srv : Type 0 where
   pub target : Name
 
 abbrev pub HasSrv : Window → Srv → Window → Type 0
-HasSrv w srv v = (IsNumber 2 then IsNumber 2 then IsNumber 2 then HasName) w (srv.priority, (srv.weight, (srv.port, srv.target))) v
+HasSrv w srv v = (IsNumber 2 then IsNumber 2 then IsNumber 2 then HasName) w
+    (srv.priority, (srv.weight, (srv.port, srv.target))) v
 
--- What data says: an address of 4 octets or of 16, a name, one of the above, strings of text; or nothing that is known here, and then it
--- is the window of the data.
+-- What data says: an address of 4 octets or of 16, a name, one of the above, strings of text; or nothing that is
+-- known here, and then it is the window of the data.
 pub data Form : Type 0 where
   a : List ℕ → Form
   aaaa : List ℕ → Form
@@ -64,7 +67,8 @@ pub data Form : Type 0 where
   srv : Srv → Form
   opaque : Window → Form
 
--- It stands at a window's position, in data of a type and a class. Addresses and places of services are of the class IN alone.
+-- It stands at a window's position, in data of a type and a class. Addresses and places of services are of the class
+-- IN alone.
 abbrev pub HasForm : ℕ → ℕ → Window → Form → Window → Type 0
 HasForm rtype class w (Form.a octets) v = (rtype ≡ 1) × (class ≡ 1) × HasOctets 4 w octets v
 HasForm rtype class w (Form.aaaa octets) v = (rtype ≡ 28) × (class ≡ 1) × HasOctets 16 w octets v
@@ -77,8 +81,8 @@ HasForm rtype class w (Form.txt strings) v = (rtype ≡ 16) × HasStrings w stri
 HasForm rtype class w (Form.srv it) v = (rtype ≡ 33) × (class ≡ 1) × HasSrv w it v
 HasForm rtype class w (Form.opaque octets) v = ⊥
 
--- A record's data has this form: it stands where the data begins, in the message, so that names may point before it; and it ends
--- exactly where the data does.
+-- A record's data has this form: it stands where the data begins, in the message, so that names may point before it;
+-- and it ends exactly where the data does.
 pub record IsTyped (r : Record) (form : Form) : Type 0 where
   pub end : Window
   pub form_is : HasForm r.rtype r.class (at r.rdata.position r.owner.place) form end

@@ -1,5 +1,6 @@
 -- The text of data: RFC 1035, 5.1, RFC 2782 (SRV), RFC 5952 (AAAA) and RFC 3597, 5 (opaque data).
-use Rattle.std.specs.Prelude.{◌≡◌, ℕ, ◌+◌, ◌/◌, ◌%◌, ◌≤◌, Bool, ◌&&◌, ◌||◌, not, ◌==◌, if◌then◌else◌, List, [], ◌∷◌, ◌++◌, length, take, drop, replicate, codes, bytes_eq}
+use Rattle.std.specs.Prelude.{◌≡◌, ℕ, ◌+◌, ◌/◌, ◌%◌, ◌≤◌, Bool, ◌&&◌, ◌||◌, not, ◌==◌, if◌then◌else◌, List, [], ◌∷◌}
+use Rattle.std.specs.Prelude.{◌++◌, length, take, drop, replicate, codes, bytes_eq}
 use Rattle.std.specs.Char.{char_set_contains, digit_char, is_ascii_graphic}
 use Rattle.std.specs.Fmt.{decimal}
 use Rattle.std.specs.List.{flat_map}
@@ -11,12 +12,14 @@ use Rattle.octseq_dns_name.specs.Text.{three_digits, name_text}
 
 -- whether an IPv6 address ends in an IPv4 address: behind twelve zeros, and not in 0.0.0.0 to 0.0.255.255
 abbrev pub is_compatible : List ℕ → Bool
-is_compatible octets = bytes_eq (take 12 octets) (replicate 12 0) && not (bytes_eq (take 2 (drop 12 octets)) (0 ∷ 0 ∷ []))
+is_compatible octets = bytes_eq (take 12 octets) (replicate 12 0)
+    && not (bytes_eq (take 2 (drop 12 octets)) (0 ∷ 0 ∷ []))
 
--- An IPv6 address of 16 octets: `::` and the IPv4 address in which it ends, or else what std's `ipv6_text` has, which also shows the IPv4
--- address behind ten zeros and FF FF.
+-- An IPv6 address of 16 octets: `::` and the IPv4 address in which it ends, or else what std's `ipv6_text` has, which
+-- also shows the IPv4 address behind ten zeros and FF FF.
 abbrev pub aaaa_text : List ℕ → List ℕ
-aaaa_text octets = if is_compatible octets then codes "::" ++ ipv4_text (drop 12 octets) else ipv6_text (segments_of octets)
+aaaa_text octets =
+    if is_compatible octets then codes "::" ++ ipv4_text (drop 12 octets) else ipv6_text (segments_of octets)
 
 -- from a place on so many groups are zero
 abbrev pub AreZero : List ℕ → ℕ → ℕ → Type 0
@@ -33,10 +36,12 @@ pub record IsGroupsText (groups text : List ℕ) : Type 0 where
   pub start : ℕ
   pub len : ℕ
   pub run : IsFirstLongest groups start len
-  pub shortened : 2 ≤ len → text ≡ groups_text (take start groups) ++ codes "::" ++ groups_text (drop (start + len) groups)
+  pub shortened : 2 ≤ len → text ≡ groups_text (take start groups) ++ codes "::"
+      ++ groups_text (drop (start + len) groups)
   pub plain : len ≤ 1 → text ≡ groups_text groups
 
--- An octet of a string: behind a backslash (92), as itself where it is visible ASCII or a space, or as a backslash and its number.
+-- An octet of a string: behind a backslash (92), as itself where it is visible ASCII or a space, or as a backslash
+-- and its number.
 abbrev pub is_string_quoted : ℕ → Bool
 is_string_quoted = char_set_contains (codes "\"\\")
 
@@ -74,11 +79,13 @@ abbrev pub mx_text : Mx → List ℕ
 mx_text mx = decimal mx.preference ++ 32 ∷ name_text mx.exchange.labels
 
 abbrev pub soa_text : Soa → List ℕ
-soa_text soa = name_text soa.mname.labels ++ 32 ∷ name_text soa.rname.labels ++ 32 ∷ decimal soa.serial ++ 32 ∷ decimal soa.refresh
+soa_text soa = name_text soa.mname.labels ++ 32 ∷ name_text soa.rname.labels
+    ++ 32 ∷ decimal soa.serial ++ 32 ∷ decimal soa.refresh
     ++ 32 ∷ decimal soa.retry ++ 32 ∷ decimal soa.expire ++ 32 ∷ decimal soa.minimum
 
 abbrev pub srv_text : Srv → List ℕ
-srv_text srv = decimal srv.priority ++ 32 ∷ decimal srv.weight ++ 32 ∷ decimal srv.port ++ 32 ∷ name_text srv.target.labels
+srv_text srv = decimal srv.priority ++ 32 ∷ decimal srv.weight ++ 32 ∷ decimal srv.port
+    ++ 32 ∷ name_text srv.target.labels
 
 -- what data says
 abbrev pub form_text : Form → List ℕ

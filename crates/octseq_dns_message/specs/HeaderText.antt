@@ -20,7 +20,8 @@ flags_text flags = flag_text flags.qr (codes "QR") ++ flag_text flags.aa (codes 
 
 -- its number, its opcode and its response code, and the flags
 abbrev pub header_text : Header → List ℕ
-header_text h = codes "id " ++ decimal h.id ++ codes " opcode " ++ decimal h.opcode ++ codes " rcode " ++ decimal h.rcode
+header_text h = codes "id " ++ decimal h.id ++ codes " opcode " ++ decimal h.opcode ++ codes " rcode "
+    ++ decimal h.rcode
     ++ codes " flags" ++ flags_text h.flags
 
 -- a name, a class and a type

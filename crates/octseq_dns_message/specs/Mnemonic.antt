@@ -1,5 +1,5 @@
--- How numbers with names are shown: by the mnemonics of the registry of DNS parameters, and else by a word and the number
--- (RFC 3597, 5).
+-- How numbers with names are shown: by the mnemonics of the registry of DNS parameters, and else by a word and the
+-- number (RFC 3597, 5).
 use Rattle.std.specs.Prelude.{ℕ, nat_eq, if◌then◌else◌, List, [], ◌∷◌, ◌++◌, codes}
 use Rattle.std.specs.Fmt.{decimal}
 
@@ -15,9 +15,9 @@ abbrev pub class_text : ℕ → List ℕ
 class_text = name_or (codes "CLASS") class_names
 
 abbrev pub rtype_names : List (ℕ × List ℕ)
-rtype_names = (1, codes "A") ∷ (2, codes "NS") ∷ (5, codes "CNAME") ∷ (6, codes "SOA") ∷ (12, codes "PTR") ∷ (15, codes "MX")
-    ∷ (16, codes "TXT") ∷ (28, codes "AAAA") ∷ (33, codes "SRV") ∷ (41, codes "OPT") ∷ (252, codes "AXFR")
-    ∷ (255, codes "ANY") ∷ []
+rtype_names = (1, codes "A") ∷ (2, codes "NS") ∷ (5, codes "CNAME") ∷ (6, codes "SOA")
+    ∷ (12, codes "PTR") ∷ (15, codes "MX") ∷ (16, codes "TXT") ∷ (28, codes "AAAA") ∷ (33, codes "SRV")
+    ∷ (41, codes "OPT") ∷ (252, codes "AXFR") ∷ (255, codes "ANY") ∷ []
 
 abbrev pub rtype_text : ℕ → List ℕ
 rtype_text = name_or (codes "TYPE") rtype_names

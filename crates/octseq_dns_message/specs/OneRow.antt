@@ -1,4 +1,5 @@
--- At most one row of things that take octets stands at a place and ends at another: so a value may keep such a row as a fact.
+-- At most one row of things that take octets stands at a place and ends at another: so a value may keep such a row as
+-- a fact.
 use Rattle.std.specs.Prelude.{◌≡◌, ℕ, ◌<◌, ◌≤◌, List, [], ◌∷◌, refl}
 use Rattle.std.proofs.Common.{sym, ap, ◌∙◌, subst, arith}
 use Rattle.std.specs.Coded.{Coded, Coded-set, code_by, coded_list, coded×, coded_ℕ}
@@ -15,7 +16,8 @@ abbrev pub Moves : {A : Type 0} → (Window → A → Window → Type 0) → Typ
 Moves {A} Is = (w v : Window) (one : A) → Is w one v → w.position < v.position
 
 -- so a row goes on
-pub row_moves : {A : Type 0} (Is : Window → A → Window → Type 0) → Moves Is → (w v : Window) (row : List A) → Row Is w row v → w.position ≤ v.position
+pub row_moves : {A : Type 0} (Is : Window → A → Window → Type 0) → Moves Is → (w v : Window) (row : List A)
+    → Row Is w row v → w.position ≤ v.position
 row_moves Is moves w v [] is = let moved = ap (λ v. v.position) is in omega (arith, moved)
 row_moves Is moves w v (x ∷ row) is =
     let one = moves w is.0 x is.1 in
@@ -23,7 +25,8 @@ row_moves Is moves w v (x ∷ row) is =
     omega (arith, one, more)
 
 -- and is told by where it ends
-pub one_row_to : {A : Type 0} (Is : Window → A → Window → Type 0) → IsOne Is → Moves Is → (w u v : Window) (row others : List A) → u.position ≡ v.position
+pub one_row_to : {A : Type 0} (Is : Window → A → Window → Type 0) → IsOne Is → Moves Is
+    → (w u v : Window) (row others : List A) → u.position ≡ v.position
     → Row Is w row u → Row Is w others v → row ≡ others
 one_row_to Is one moves w u v [] [] same a b = refl
 one_row_to Is one moves w u v [] (y ∷ others) same a b =
@@ -46,10 +49,13 @@ abbrev pub Reaches : {A : Type 0} → (Window → A → Window → Type 0) → W
 Reaches {A} Is w end = (row : List A) × ∥ ((v : Window) × Row Is w row v × (v.position ≡ end)) ∥₁
 
 -- it is a fact
-pub reached_once : {A : Type 0} (code : Coded A) (Is : Window → A → Window → Type 0) → IsOne Is → Moves Is → (w : Window) (end : ℕ) → IsProp (Reaches Is w end)
+pub reached_once : {A : Type 0} (code : Coded A) (Is : Window → A → Window → Type 0) → IsOne Is → Moves Is
+    → (w : Window) (end : ℕ) → IsProp (Reaches Is w end)
 reached_once {A} code Is one moves w end a b =
     let set : IsProp (a.0 ≡ b.0) = Coded-set (coded_list code) a.0 b.0 in
-    Σ_prop_path (λ row. ∥∥₁_prop) (∥∥₁_elim a.1 set (λ x. ∥∥₁_elim b.1 set (λ y. one_row_to Is one moves w x.0 y.0 a.0 b.0 (x.2 ∙ sym y.2) x.1 y.1)))
+    Σ_prop_path (λ row. ∥∥₁_prop)
+    (∥∥₁_elim a.1 set (λ x. ∥∥₁_elim b.1 set (λ y. one_row_to Is one moves w x.0 y.0 a.0 b.0
+    (x.2 ∙ sym y.2) x.1 y.1)))
 
 -- strings of text
 abbrev pub string_code : Coded (List ℕ)
@@ -66,7 +72,8 @@ strings_once = reached_once string_code HasString one_string string_moves
 
 -- options of EDNS
 abbrev pub option_code : Coded EdnsOption
-option_code = code_by (ℕ × Window) (coded× coded_ℕ window_code) (λ o. (o.code, o.octets)) (λ c. record { code = c.0; octets = c.1 }) (λ _. refl)
+option_code = code_by (ℕ × Window) (coded× coded_ℕ window_code) (λ o. (o.code, o.octets))
+    (λ c. record { code = c.0; octets = c.1 }) (λ _. refl)
 
 option_from : ℕ × Window → EdnsOption
 option_from option = record { code = option.0; octets = option.1 }
@@ -74,7 +81,8 @@ option_from option = record { code = option.0; octets = option.1 }
 pub one_option : IsOne HasOption
 unfolding option_from
 one_option w u v one other a b =
-    let same = one_then (IsNumber 2) IsData (one_number 2) one_data w u v (one.code, one.octets) (other.code, other.octets) a b in
+    let same = one_then (IsNumber 2) IsData (one_number 2) one_data w u v (one.code, one.octets)
+    (other.code, other.octets) a b in
     (ap option_from same.0, same.1)
 
 pub option_moves : Moves HasOption

@@ -22,8 +22,9 @@ pub record Opt : Type 0 where
   pub dnssec_ok : Bool
   pub options : List EdnsOption
 
--- A record says it: its type is OPT, its class is the size, and its TTL has, from the highest bit, eight bits of a response code, eight of a
--- version, the bit DO, and fifteen that mean nothing. Its data is options, one behind another, up to its end.
+-- A record says it: its type is OPT, its class is the size, and its TTL has, from the highest bit, eight bits of a
+-- response code, eight of a version, the bit DO, and fifteen that mean nothing. Its data is options, one behind
+-- another, up to its end.
 pub record IsOpt (r : Record) (opt : Opt) : Type 0 where
   pub rtype : r.rtype ≡ 41
   pub size : opt.udp_payload_size ≡ r.class

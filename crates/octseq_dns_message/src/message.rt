@@ -46,10 +46,10 @@ pub struct Message<R: AsOctets> {
     answers: Parser<R>,
     authorities: Parser<R>,
     additionals: Parser<R>,
-    ghost asked: { Holds IsQuestion (window questions) header.qdcount } by { questions_once (window questions) header.qdcount },
-    ghost answered: { Holds IsRecord (window answers) header.ancount } by { records_once (window answers) header.ancount },
-    ghost authorized: { Holds IsRecord (window authorities) header.nscount } by { records_once (window authorities) header.nscount },
-    ghost added: { Holds IsRecord (window additionals) header.arcount } by { records_once (window additionals) header.arcount },
+    ghost asked: { Holds IsQuestion (window questions) header.qdcount } by { questions_once _ _ },
+    ghost answered: { Holds IsRecord (window answers) header.ancount } by { records_once _ _ },
+    ghost authorized: { Holds IsRecord (window authorities) header.nscount } by { records_once _ _ },
+    ghost added: { Holds IsRecord (window additionals) header.arcount } by { records_once _ _ },
 }
 
 impl<R: AsOctets + Copy> Copy for Message<R> {}
@@ -66,7 +66,8 @@ impl<R: AsOctets + Copy> Clone for Message<R> {
 
 impl<R: AsOctets + Copy> Message<R> {
     ghost use Rattle.std.specs.Prelude.{◌+◌, ◌*◌, ◌≤◌, length, IsErr, IfOk};
-    ghost use Rattle.octseq_dns_message.specs.Parsed.{header_of, questions_of, answers_of, authorities_of, additionals_of};
+    ghost use Rattle.octseq_dns_message.specs.Parsed.{header_of, questions_of, answers_of, authorities_of};
+    ghost use Rattle.octseq_dns_message.specs.Parsed.{additionals_of};
     ghost use Rattle.octseq_dns_message.specs.Walk.{questions_left, records_left};
 
     /// Reads all of the octets as a message. It requests no memory.

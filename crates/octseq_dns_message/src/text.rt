@@ -111,8 +111,9 @@ fn write_flags<W: fmt::Write>(f: &mut fmt::Formatter<W>, flags: Flags) -> fmt::R
 
 /// Writes those of the four lowest bits that have names.
 fn write_low_flags<W: fmt::Write>(f: &mut fmt::Formatter<W>, flags: Flags) -> fmt::Result
-    ensures { WritesOnOk W.write_str_gives f.old result (flag_text flags.rd (codes "RD")
-        ++ flag_text flags.ra (codes "RA") ++ flag_text flags.ad (codes "AD") ++ flag_text flags.cd (codes "CD")) f.new }
+    ensures { WritesOnOk W.write_str_gives f.old result
+        (flag_text flags.rd (codes "RD") ++ flag_text flags.ra (codes "RA")
+        ++ flag_text flags.ad (codes "AD") ++ flag_text flags.cd (codes "CD")) f.new }
 {
     write_flag(f, flags.rd, "RD")?;
     write_flag(f, flags.ra, "RA")?;

@@ -1,17 +1,23 @@
 //! Shows each message of standard input, which stands behind its length in two octets, and an empty line behind it.
-//! What is no message shows as `malformed`.
+//! What is no message shows as `malformed`. Then a line for each message says what becomes of it where it is cut off
+//! at each length, and where each octet in turn is changed to each of six others: how many that are, how many of them
+//! are malformed, and a digest of all that they show as.
 //!
-//! It is a test of `octseq_dns`: `stdin` has messages of real traffic, and `stdout` what the readers of dnspython make
-//! of them.
+//! It is a test of `octseq_dns`: `stdin` has messages of real traffic, and behind them three that are made up with
+//! types of data that the traffic lacks; `stdout` is what the readers of dnspython make of them.
 #![tactic(auto)]
 
+use crate::variants::{Shown, read_changes, read_cuts};
 use octseq::octets::Octets;
 use octseq::str::DisplayError;
 use octseq::{AppendError, StrBuilder};
 use octseq_dns::{Malformed, Message};
 use std::alloc::Global;
+use std::fmt;
 use std::io::{self, Read, Write};
 use std::process::ExitCode;
+
+mod variants;
 
 /// The first message of a stream, and what is behind it.
 fn split_message(stream: &[u8]) -> Option<(&[u8], &[u8])> {
@@ -19,30 +25,86 @@ fn split_message(stream: &[u8]) -> Option<(&[u8], &[u8])> {
     behind.split_at_checked(usize::from(u16::from_be_bytes(*len)))
 }
 
-/// Appends the text of a message and an empty line.
+/// Appends the text of a message and an empty line, and answers whether it is one.
 fn append_message<R: Octets + Copy>(
     text: &mut StrBuilder<Vec<u8>>,
     octets: R,
-) -> Result<(), DisplayError> {
-    match Message::parse(octets) {
-        Ok(message) => message.append_text(text)?,
-        Err(Malformed) => text.try_push_str("malformed\n")?,
-    }
+) -> Result<bool, DisplayError> {
+    let is_message = match Message::parse(octets) {
+        Ok(message) => {
+            message.append_text(text)?;
+            true
+        }
+        Err(Malformed) => {
+            text.try_push_str("malformed\n")?;
+            false
+        }
+    };
     text.try_push_str("\n")?;
-    Ok(())
+    Ok(is_message)
 }
 
-/// The text of all messages of a stream.
-fn text_of(alloc: Global, stream: &[u8]) -> Result<StrBuilder<Vec<u8>>, DisplayError> {
-    let mut text = StrBuilder::new(alloc).map_err(|_| AppendError::Memory)?;
+/// Appends the text of all messages of a stream.
+fn append_messages(text: &mut StrBuilder<Vec<u8>>, stream: &[u8]) -> Result<(), DisplayError> {
     let mut rest = stream;
     for _ in stream {
         let Some((octets, behind)) = split_message(rest) else {
             break;
         };
-        append_message(&mut text, octets)?;
+        append_message(text, octets)?;
         rest = behind;
     }
+    Ok(())
+}
+
+/// The line of a message, about what becomes of it.
+#[derive(Drop)]
+struct Line {
+    cuts: Shown,
+    changes: Shown,
+}
+
+impl fmt::Display for Line {
+    fn fmt<W: fmt::Write>(&self, f: &mut fmt::Formatter<W>) -> fmt::Result {
+        let Line { cuts, changes } = self;
+        write!(f, "cuts {cuts}; changes {changes}\n")
+    }
+}
+
+/// Appends a line for each message of a stream.
+fn append_lines(
+    alloc: Global,
+    text: &mut StrBuilder<Vec<u8>>,
+    stream: &[u8],
+) -> Result<(), DisplayError> {
+    let mut shown = new_text(alloc)?;
+    let mut rest = stream;
+    for _ in stream {
+        let Some((octets, behind)) = split_message(rest) else {
+            break;
+        };
+        let mut message = Vec::new(alloc);
+        message
+            .extend_from_slice(octets)
+            .map_err(|_| AppendError::Memory)?;
+        let cuts = read_cuts(&mut shown, octets)?;
+        let changes = read_changes(&mut shown, message.as_mut_slice())?;
+        text.try_push_display(Line { cuts, changes })?;
+        rest = behind;
+    }
+    Ok(())
+}
+
+/// A text that is empty.
+fn new_text(alloc: Global) -> Result<StrBuilder<Vec<u8>>, DisplayError> {
+    Ok(StrBuilder::new(alloc).map_err(|_| AppendError::Memory)?)
+}
+
+/// All that is said of a stream.
+fn text_of(alloc: Global, stream: &[u8]) -> Result<StrBuilder<Vec<u8>>, DisplayError> {
+    let mut text = new_text(alloc)?;
+    append_messages(&mut text, stream)?;
+    append_lines(alloc, &mut text, stream)?;
     Ok(text)
 }
 

@@ -1,5 +1,6 @@
 //! The text of records and of whole messages.
 ghost use Rattle.std.specs.Prelude.{◌≡◌, ◌≢◌, ◌+◌, ◌++◌, ℕ, List, Some, None, true, length, codes, IsErr, OnOk, OnErr};
+ghost use Rattle.std.specs.Fmt.{WritesOnOk, HasWritten, IsPlainFormatter};
 ghost use Rattle.octseq.specs.Limit.{IsPast};
 ghost use Rattle.octseq.specs.Refusal.{IsShort, IsMemory};
 ghost use Rattle.octseq.specs.Display.{display_error};
@@ -7,10 +8,12 @@ ghost use Rattle.octseq.specs.Parts.{IsFront};
 ghost use Rattle.octseq_dns_message.specs.Data.{Form, IsDataOf};
 ghost use Rattle.octseq_dns_message.specs.Entry as said;
 ghost use Rattle.octseq_dns_message.specs.HeaderText.{header_text, question_text};
-ghost use Rattle.octseq_dns_message.specs.MessageText.{record_text, line, header_line, questions_text, IsRecordsText, IsMessageText};
+ghost use Rattle.octseq_dns_message.specs.MessageText.{record_text, line, header_line, questions_text};
+ghost use Rattle.octseq_dns_message.specs.MessageText.{IsRecordsText, IsMessageText};
 ghost use Rattle.octseq_dns_message.specs.Parsed.{header_of, questions_of, answers_of, authorities_of, additionals_of};
 ghost use Rattle.octseq_dns_message.specs.Said.{question_of, record_of};
 ghost use Rattle.octseq_dns_message.specs.TextFront.{BeginsAtLine};
+ghost use Rattle.octseq_dns_message.specs.Typed.{form_of};
 ghost use Rattle.octseq_dns_message.specs.Walk.{questions_left, records_left};
 
 use crate::data::Data;
@@ -68,21 +71,98 @@ struct RecordLine<'a, R: AsOctets> {
 }
 
 impl<'a, R: AsOctets + Copy> fmt::Display for RecordLine<'a, R> {
-    ghost use Rattle.octseq_dns_message.specs.Typed.{form_of};
-
     ghost output = { λ shown. Some (line shown.word.now (record_text (record_of shown.entry) (form_of shown.rdata))) };
 
     fn fmt<W: fmt::Write>(&self, f: &mut fmt::Formatter<W>) -> fmt::Result {
         let word = self.word;
-        let rdata = self.rdata;
-        let (owner, ttl) = (self.entry.owner(), self.entry.ttl());
-        let (class, rtype) = (self.entry.class(), self.entry.rtype());
-        write!(f, "{word} {owner} {ttl} {class} {rtype} {rdata}\n")
+        write!(f, "{word} ")?;
+        write_record(f, &self.entry, &self.rdata)?;
+        f.write_char('\n')
     }
 }
 
+/// Prints the owner, the time to live, the class, the type and what the data says, as
+/// `example.com. 300 IN A 1.2.3.4`.
+impl<R: AsOctets + Copy> fmt::Display for Record<R> {
+    ghost output = { λ _. None };
+
+    fn fmt<W: fmt::Write>(&self, f: &mut fmt::Formatter<W>) -> fmt::Result
+        ensures shown { (form : Form) → IsDataOf (record_of self.now) form
+            → WritesOnOk W.write_str_gives f.old result (record_text (record_of self.now) form) f.new }
+    {
+        let rdata = self.data();
+        write_record(f, self, &rdata)
+    }
+}
+
+/// Writes a record with what its data says.
+fn write_record<W: fmt::Write, R: AsOctets + Copy>(
+    f: &mut fmt::Formatter<W>,
+    entry: &Record<R>,
+    rdata: &Data<R>,
+) -> fmt::Result
+    ensures { WritesOnOk W.write_str_gives f.old result
+        (record_text (record_of entry.now) (form_of rdata.now)) f.new }
+{
+    let (owner, ttl) = (entry.owner(), entry.ttl());
+    let (class, rtype) = (entry.class(), entry.rtype());
+    write!(f, "{owner} {ttl} {class} {rtype} {rdata}")
+}
+
+/// Prints the text of the message as [`append_text`](Message::append_text) appends it: a line for its header, and one
+/// for each question and each record.
+impl<R: AsOctets + Copy> fmt::Display for Message<R> {
+    ghost output = { λ _. None };
+
+    fn fmt<W: fmt::Write>(&self, f: &mut fmt::Formatter<W>) -> fmt::Result
+        ensures shown { OnOk result ((lines : List ℕ) × IsMessageText (header_of self.now) (questions_of self.now)
+            (answers_of self.now) (authorities_of self.now) (additionals_of self.now) lines
+            × (IsPlainFormatter f.old → HasWritten W.write_str_gives f.old lines f.new)) }
+    {
+        let header = self.header();
+        let shown = HeaderLine { header };
+        write!(f, "{shown}")?;
+        write_questions(f, self.questions())?;
+        write_records(f, "answer", self.answers())?;
+        write_records(f, "authority", self.authorities())?;
+        write_records(f, "additional", self.additionals())
+    }
+}
+
+/// Writes a line for each question.
+fn write_questions<W: fmt::Write, R: AsOctets + Copy>(
+    f: &mut fmt::Formatter<W>,
+    questions: Questions<R>,
+) -> fmt::Result
+    ensures { WritesOnOk W.write_str_gives f.old result (questions_text (questions_left questions)) f.new }
+{
+    for question in questions {
+        let shown = QuestionLine { question };
+        write!(f, "{shown}")?;
+    }
+    Ok(())
+}
+
+/// Writes a line for each record, behind the word of its section.
+fn write_records<W: fmt::Write, R: AsOctets + Copy>(
+    f: &mut fmt::Formatter<W>,
+    word: &str,
+    records: Records<R>,
+) -> fmt::Result
+    ensures { OnOk result ((lines : List ℕ) × IsRecordsText word.now (records_left records) lines
+        × (IsPlainFormatter f.old → HasWritten W.write_str_gives f.old lines f.new)) }
+{
+    for entry in records {
+        let rdata = entry.data();
+        let shown = RecordLine { word, entry, rdata };
+        write!(f, "{shown}")?;
+    }
+    Ok(())
+}
+
 impl<R: AsOctets + Copy> Message<R> {
-    ghost use Rattle.octseq_dns_message.specs.Parsed.{header_of, questions_of, answers_of, authorities_of, additionals_of};
+    ghost use Rattle.octseq_dns_message.specs.Parsed.{header_of, questions_of, answers_of, authorities_of};
+    ghost use Rattle.octseq_dns_message.specs.Parsed.{additionals_of};
 
     /// Appends the text of the message, or nothing: a line for its header, as
     /// `id 4660 opcode 0 rcode 0 flags QR AA RD`; one for each question, as `question example.com. IN A`; and one for
@@ -106,9 +186,11 @@ impl<R: AsOctets + Copy> Message<R> {
             → IsPast B.limit (length (B.content text.old) + length lines) → IsErr result }
         ensures short { IsShort display_error result → B.limit ≢ None }
         ensures memory { IsMemory display_error result → B.asks ≡ true }
+        ensures borrows { B.borrows text.new ≡ B.borrows text.old }
     {
         let len = text.len();
         let answer = append_lines(text, self);
+        // What is lent is well formed, as the cut asks, and within the limit.
         let _lent = text.as_slice();
         if answer.is_err() {
             text.truncate(len);
@@ -128,6 +210,7 @@ fn append_lines<B: OctetsBuilder + Truncate, R: AsOctets + Copy>(
     ensures front { OnErr result (BeginsAtLine (B.content text.old) (B.content text.new)) }
     ensures short { IsShort display_error result → B.limit ≢ None }
     ensures memory { IsMemory display_error result → B.asks ≡ true }
+    ensures borrows { B.borrows text.new ≡ B.borrows text.old }
 {
     let header = message.header();
     text.try_push_display(HeaderLine { header })?;
@@ -147,6 +230,7 @@ fn append_questions<B: OctetsBuilder + Truncate, R: AsOctets + Copy>(
     ensures front { OnErr result (IsFront (B.content text.old) (B.content text.new)) }
     ensures short { IsShort display_error result → B.limit ≢ None }
     ensures memory { IsMemory display_error result → B.asks ≡ true }
+    ensures borrows { B.borrows text.new ≡ B.borrows text.old }
 {
     for question in questions {
         text.try_push_display(QuestionLine { question })?;
@@ -165,6 +249,7 @@ fn append_records<B: OctetsBuilder + Truncate, R: AsOctets + Copy>(
     ensures front { OnErr result (IsFront (B.content text.old) (B.content text.new)) }
     ensures short { IsShort display_error result → B.limit ≢ None }
     ensures memory { IsMemory display_error result → B.asks ≡ true }
+    ensures borrows { B.borrows text.new ≡ B.borrows text.old }
 {
     for entry in records {
         let rdata = entry.data();

@@ -1,9 +1,10 @@
-//! The text of whole messages, and a reader of messages as a caller writes it.
+//! The text of whole messages, lists of their entries, and a reader of messages as a caller writes it.
 use octseq::octets::Octets;
 use octseq::str::DisplayError;
 use octseq::{Array, AsOctets, StrBuilder};
-use octseq_dns::{Data, Malformed, Message};
+use octseq_dns::{Data, Malformed, Message, Record};
 use std::alloc::{AllocGlobal, Global};
+use std::process::Abort;
 use std::test::Fail;
 
 /// How many of the answers have an address of the name that is asked for.
@@ -101,5 +102,66 @@ fn a_caller_counts_addresses(rt: HostRuntime) -> Result<(), Fail> {
     assert_equal!(&rt, count_addresses(ANSWERED), Ok(1));
     assert_equal!(&rt, count_addresses(UPDATE), Ok(0));
     assert_equal!(&rt, count_addresses(b"\0".as_slice()), Err(Malformed));
+    Ok(())
+}
+
+/// A question for `example.com.`, an answer whose owner is a pointer to it, and one for `www.example.com.`.
+const ANSWERED_TWICE: &[u8] =
+    b"\x12\x34\x85\x80\x00\x01\x00\x02\x00\x00\x00\x00\x07example\x03com\x00\x00\x01\x00\x01\
+\xC0\x0C\x00\x01\x00\x01\x00\x00\x01\x2C\x00\x04\x01\x02\x03\x04\
+\x03www\xC0\x0C\x00\x01\x00\x01\x00\x00\x00\x3C\x00\x04\x05\x06\x07\x08";
+
+/// The record is of a name with these labels, and has this address.
+fn has_address<R: Octets + Copy>(
+    rt: &impl Abort,
+    entry: &Record<R>,
+    labels: &[&[u8]],
+    address: [u8; 4],
+) {
+    let mut count: usize = 0;
+    for label in entry.owner().labels() {
+        assert_equal!(rt, Some(label.as_slice()), labels.get(count).copied());
+        count = count.saturating_add(1);
+    }
+    assert_equal!(rt, count, labels.len());
+    match entry.data() {
+        Data::A(octets) => assert_equal!(rt, octets, address),
+        _ => assert_true!(rt, false),
+    }
+}
+
+#[test]
+fn answers_are_a_list(rt: HostRuntime) -> Result<(), Fail> {
+    let message = Message::parse(ANSWERED_TWICE)?;
+    let answers: Vec<Record<&[u8]>> = message.answers().collect(rt.alloc())?;
+    match answers.as_slice() {
+        [first, second] => {
+            has_address(&rt, first, &[b"example", b"com"], [1, 2, 3, 4]);
+            has_address(&rt, second, &[b"www", b"example", b"com"], [5, 6, 7, 8]);
+        }
+        _ => return Err("not two".into()),
+    }
+    let authorities: Vec<Record<&[u8]>> = message.authorities().collect(rt.alloc())?;
+    assert_equal!(&rt, authorities.len(), 0);
+    Ok(())
+}
+
+#[test]
+fn a_message_shows_as_it_is_appended(rt: HostRuntime) -> Result<(), Fail> {
+    let message = Message::parse(ANSWERED_TWICE)?;
+    assert_equal!(
+        &rt,
+        format!(in rt.alloc(); "{message}")?.as_str(),
+        "id 4660 opcode 0 rcode 0 flags QR AA RD RA\nquestion example.com. IN A\n\
+         answer example.com. 300 IN A 1.2.3.4\nanswer www.example.com. 60 IN A 5.6.7.8\n"
+    );
+    let update = Message::parse(UPDATE)?;
+    for entry in update.authorities() {
+        assert_equal!(
+            &rt,
+            format!(in rt.alloc(); "{entry}")?.as_str(),
+            "example.com. 0 ANY A \\# 0"
+        );
+    }
     Ok(())
 }

@@ -6,6 +6,7 @@
 mod builders;
 mod composing;
 mod conversions;
+mod messages;
 mod names;
 mod parsers;
 mod spared;

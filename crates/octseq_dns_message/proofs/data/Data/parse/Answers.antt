@@ -8,5 +8,6 @@ pub returns-then-pos-end-clause-malformed : goal.returns-then-pos-end-clause-mal
 returns-then-pos-end-clause-malformed g c = λ _ other v is.
     let place = c.pos.ensures.position in
     let elsewhere = c.if-pos-end.true in
-    none_ends c.args.rtype c.args.class (window c.args.parser.now) (window c.take.new.parser) v (form_of c.in_ok-found.found) other c.args.end (search rules)
+    none_ends c.args.rtype c.args.class (window c.args.parser.now) (window c.take.new.parser) v
+    (form_of c.in_ok-found.found) other c.args.end (search rules)
     c.in_ok-found.ensures.form (λ same. omega (arith, place, elsewhere, same)) is

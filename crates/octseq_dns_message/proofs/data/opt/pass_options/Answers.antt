@@ -12,7 +12,8 @@ returns-in_err-_option-clause-malformed g c = λ _.
     let left = c.remaining.ensures.left in
     let some = c.options-test.true in
     let ends = c.options.invariant.ends in
-    no_more HasOption w (window c.options.ahead) w.end c.options.invariant.read (omega (arith, left, some, ends)) (c.in_err-_option.ensures.malformed refl)
+    no_more HasOption w (window c.options.ahead) w.end c.options.invariant.read (omega (arith, left, some, ends))
+    (c.in_err-_option.ensures.malformed refl)
 
 pub options-preserved : goal.options-preserved
 options-preserved g c =
@@ -24,7 +25,8 @@ options-preserved g c =
     let some = c.options-test.true in
     let ends = c.options.invariant.ends in
     record {
-      read = with_one HasOption one_option w u v w.end option c.options.invariant.read (omega (arith, left, some, ends)) c.in_ok-_option.ensures.option;
+      read = with_one HasOption one_option w u v w.end option c.options.invariant.read (omega (arith, left, some, ends))
+          c.in_ok-_option.ensures.option;
       ends = option_end u v option c.in_ok-_option.ensures.option ∙ ends;
     }
 

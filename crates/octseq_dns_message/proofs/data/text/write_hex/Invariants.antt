@@ -6,4 +6,5 @@ use Rattle.octseq_dns_message.specs.DataText.{hex_text}
 use Rattle.octseq_dns_message.proofs.data.text.write_hex.Given as goal
 
 abbrev pub invariant-loop-octet : goal.invariant-loop-octet
-invariant-loop-octet g l = IsPlainFormatter l.initial.f → HasWritten g.W.Write.write_str_gives l.initial.f (flat_map hex_text (take l.octet-index l.fn.octets)) l.f
+invariant-loop-octet g l = IsPlainFormatter l.initial.f → HasWritten g.W.Write.write_str_gives l.initial.f
+    (flat_map hex_text (take l.octet-index l.fn.octets)) l.f

@@ -6,12 +6,14 @@ use Rattle.octseq_dns_message.specs.Format.{Many}
 use Rattle.octseq_dns_message.specs.Header.{IsHeader}
 use Rattle.octseq_dns_message.specs.OneEntry.{one_question, one_record, question_code, record_code}
 use Rattle.octseq_dns_message.proofs.Formats.{NoneAt, held_as}
-use Rattle.octseq_dns_message.proofs.Messages.{no_header, no_questions, no_answers, no_authorities, no_additionals, some_behind}
+use Rattle.octseq_dns_message.proofs.Messages.{no_header, no_questions, no_answers, no_authorities, no_additionals}
+use Rattle.octseq_dns_message.proofs.Messages.{some_behind}
 use Rattle.octseq_dns_message.proofs.message.Message.parse_counted.Goals as goal
 
 pub returns-in_err-header-clause-malformed : goal.returns-in_err-header-clause-malformed
 returns-in_err-header-clause-malformed g c = λ _.
-    no_header (g.R.AsOctets.content c.args.octets) (subst (λ w. NoneAt IsHeader w) c.from_ref-parser.ensures.window (c.in_err-header.ensures.malformed refl))
+    no_header (g.R.AsOctets.content c.args.octets) (subst (λ w. NoneAt IsHeader w) c.from_ref-parser.ensures.window
+    (c.in_err-header.ensures.malformed refl))
 
 pub returns-in_err-pass_questions-clause-malformed : goal.returns-in_err-pass_questions-clause-malformed
 returns-in_err-pass_questions-clause-malformed g c = λ _.
@@ -26,7 +28,8 @@ returns-in_err-pass_records-clause-malformed g c = λ _.
     let h = c.in_ok-header.header in
     let is = subst (λ w. IsHeader w h v) c.from_ref-parser.ensures.window c.in_ok-header.ensures.header in
     let asked = c.in_ok-pass_questions.ensures.all in
-    no_answers (g.R.AsOctets.content c.args.octets) h v is asked.0 (window c.pass_questions.new.parser) asked.1 (c.in_err-pass_records.ensures.malformed refl)
+    no_answers (g.R.AsOctets.content c.args.octets) h v is asked.0 (window c.pass_questions.new.parser) asked.1
+    (c.in_err-pass_records.ensures.malformed refl)
 
 pub returns-in_err-pass_records-2-clause-malformed : goal.returns-in_err-pass_records-2-clause-malformed
 returns-in_err-pass_records-2-clause-malformed g c = λ _.
@@ -35,7 +38,8 @@ returns-in_err-pass_records-2-clause-malformed g c = λ _.
     let is = subst (λ w. IsHeader w h v) c.from_ref-parser.ensures.window c.in_ok-header.ensures.header in
     let asked = c.in_ok-pass_questions.ensures.all in
     let answered = c.in_ok-pass_records.ensures.all in
-    no_authorities (g.R.AsOctets.content c.args.octets) h v is asked.0 (window c.pass_questions.new.parser) asked.1 answered.0 (window c.pass_records.new.parser) answered.1
+    no_authorities (g.R.AsOctets.content c.args.octets) h v is asked.0 (window c.pass_questions.new.parser) asked.1
+    answered.0 (window c.pass_records.new.parser) answered.1
     (c.in_err-pass_records-2.ensures.malformed refl)
 
 pub returns-in_err-pass_records-3-clause-malformed : goal.returns-in_err-pass_records-3-clause-malformed
@@ -46,7 +50,8 @@ returns-in_err-pass_records-3-clause-malformed g c = λ _.
     let asked = c.in_ok-pass_questions.ensures.all in
     let answered = c.in_ok-pass_records.ensures.all in
     let authorized = c.in_ok-pass_records-2.ensures.all in
-    no_additionals (g.R.AsOctets.content c.args.octets) h v is asked.0 (window c.pass_questions.new.parser) asked.1 answered.0 (window c.pass_records.new.parser) answered.1
+    no_additionals (g.R.AsOctets.content c.args.octets) h v is asked.0 (window c.pass_questions.new.parser) asked.1
+    answered.0 (window c.pass_records.new.parser) answered.1
     authorized.0 (window c.pass_records-2.new.parser) authorized.1 (c.in_err-pass_records-3.ensures.malformed refl)
 
 pub returns-then-remaining-gt0-clause-malformed : goal.returns-then-remaining-gt0-clause-malformed
@@ -60,8 +65,18 @@ returns-then-remaining-gt0-clause-malformed g c = λ _.
     let added = c.in_ok-pass_records-3.ensures.all in
     let rest = c.remaining-2.ensures.left in
     let more = c.if-remaining-gt0.true in
-    some_behind (g.R.AsOctets.content c.args.octets) h v (window c.pass_records-3.new.parser) (asked.0, (answered.0, (authorized.0, added.0))) is
-    (window c.pass_questions.new.parser, asked.1, (window c.pass_records.new.parser, answered.1, (window c.pass_records-2.new.parser, authorized.1, added.1)))
+    some_behind (g.R.AsOctets.content c.args.octets) h v (window c.pass_records-3.new.parser) (
+      asked.0,
+      (answered.0, (authorized.0, added.0)),
+    ) is (
+      window c.pass_questions.new.parser,
+      asked.1,
+      (
+        window c.pass_records.new.parser,
+        answered.1,
+        (window c.pass_records-2.new.parser, authorized.1, added.1),
+      ),
+    )
     (omega (arith, rest, more))
 
 pub invariant_of-result : goal.invariant_of-result
@@ -90,10 +105,14 @@ returns-clause-message g c =
     let answered = c.in_ok-pass_records.ensures.all in
     let authorized = c.in_ok-pass_records-2.ensures.all in
     let added = c.in_ok-pass_records-3.ensures.all in
-    let q = subst (λ row. Many h.qdcount IsQuestion w row x) (held_as question_code IsQuestion one_question w x h.qdcount asked.0 kept.0 asked.1) asked.1 in
-    let a = subst (λ row. Many h.ancount IsRecord x row y) (held_as record_code IsRecord one_record x y h.ancount answered.0 kept.1.0 answered.1) answered.1 in
-    let b = subst (λ row. Many h.nscount IsRecord y row z) (held_as record_code IsRecord one_record y z h.nscount authorized.0 kept.1.1.0 authorized.1) authorized.1 in
-    let d = subst (λ row. Many h.arcount IsRecord z row end) (held_as record_code IsRecord one_record z end h.arcount added.0 kept.1.1.1.0 added.1) added.1 in
+    let q = subst (λ row. Many h.qdcount IsQuestion w row x) (held_as question_code IsQuestion one_question w x
+    h.qdcount asked.0 kept.0 asked.1) asked.1 in
+    let a = subst (λ row. Many h.ancount IsRecord x row y) (held_as record_code IsRecord one_record x y h.ancount
+    answered.0 kept.1.0 answered.1) answered.1 in
+    let b = subst (λ row. Many h.nscount IsRecord y row z) (held_as record_code IsRecord one_record y z h.nscount
+    authorized.0 kept.1.1.0 authorized.1) authorized.1 in
+    let d = subst (λ row. Many h.arcount IsRecord z row end) (held_as record_code IsRecord one_record z end h.arcount
+    added.0 kept.1.1.1.0 added.1) added.1 in
     let rest = c.remaining-2.ensures.left in
     let none = c.if-remaining-gt0.false in
     let all = ap left c.from_ref-parser.ensures.window in

@@ -15,13 +15,19 @@ loop-taken-preserved g c =
     let is = c.in_ok-_entry.ensures.entry in
     let turns = c.parse_counted.ensures.turns in
     record {
-      all = (all.0 ++ one ∷ [], many_more IsRecord (window c.args.parser.now) u v c.loop-taken.taken all.0 one all.1 is);
+      all = (
+        all.0 ++ one ∷ [],
+        many_more IsRecord (window c.args.parser.now) u v c.loop-taken.taken
+            all.0 one all.1 is,
+      );
       same = c.parse_counted.ensures.same ∙ c.loop-taken.invariant.same;
-      turns = let before = c.loop-taken.invariant.turns in let less = record_takes u v one is in omega (arith, before, turns, less);
+      turns = let before = c.loop-taken.invariant.turns in let less = record_takes u v one is in
+          omega (arith, before, turns, less);
       entries = let before = c.loop-taken.invariant.entries in omega (arith, before, turns);
     }
 
 pub returns-in_err-_entry-clause-malformed : goal.returns-in_err-_entry-clause-malformed
 returns-in_err-_entry-clause-malformed g c = λ _.
     let all = c.loop-taken.invariant.all in
-    many_ends IsRecord one_record (window c.args.parser.now) (window c.loop-taken.parser) c.loop-taken.taken c.args.count all.0 (c.in_err-_entry.ensures.malformed refl) (omega arith) all.1
+    many_ends IsRecord one_record (window c.args.parser.now) (window c.loop-taken.parser) c.loop-taken.taken
+    c.args.count all.0 (c.in_err-_entry.ensures.malformed refl) (omega arith) all.1

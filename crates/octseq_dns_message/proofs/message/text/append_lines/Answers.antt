@@ -10,7 +10,8 @@ pub returns-clause-text : goal.returns-clause-text
 returns-clause-text g c =
     let old = g.B.AsOctets.content c.args.text.now in
     let header = c.in_ok-try_push_display.ensures.ok ∙ ap (λ h. old ++ header_line h) c.header-header.ensures in
-    let asked = c.in_ok-append_questions.ensures.text ∙ ap (λ q. g.B.AsOctets.content c.try_push_display.new.self ++ questions_text q) c.questions.ensures in
+    let asked = c.in_ok-append_questions.ensures.text ∙ ap (λ q. g.B.AsOctets.content c.try_push_display.new.self
+    ++ questions_text q) c.questions.ensures in
     let answered = c.in_ok-append_records.ensures.text in
     let authorized = c.in_ok-append_records-2.ensures.text in
     on_ok_weaker c.append_records-3.result
@@ -30,12 +31,16 @@ returns-clause-text g c =
 pub returns-clause-front : goal.returns-clause-front
 returns-clause-front g c =
     let old = g.B.AsOctets.content c.args.text.now in
-    let asked : IsFront (g.B.AsOctets.content c.try_push_display.new.self) (g.B.AsOctets.content c.append_questions.new.text) =
+    let asked : IsFront (g.B.AsOctets.content c.try_push_display.new.self)
+    (g.B.AsOctets.content c.append_questions.new.text) =
     (_, c.in_ok-append_questions.ensures.text) in
-    let answered : IsFront (g.B.AsOctets.content c.append_questions.new.text) (g.B.AsOctets.content c.append_records.new.text) =
+    let answered : IsFront (g.B.AsOctets.content c.append_questions.new.text)
+    (g.B.AsOctets.content c.append_records.new.text) =
     (c.in_ok-append_records.ensures.text.0, c.in_ok-append_records.ensures.text.2) in
-    let authorized : IsFront (g.B.AsOctets.content c.append_records.new.text) (g.B.AsOctets.content c.append_records-2.new.text) =
+    let authorized : IsFront (g.B.AsOctets.content c.append_records.new.text)
+    (g.B.AsOctets.content c.append_records-2.new.text) =
     (c.in_ok-append_records-2.ensures.text.0, c.in_ok-append_records-2.ensures.text.2) in
     on_err_weaker c.append_records-3.result
-    (λ left. at_line old _ _ c.header-header.result c.in_ok-try_push_display.ensures.ok (front_on _ _ _ (front_on _ _ _ (front_on _ _ _ asked answered) authorized) left))
+    (λ left. at_line old _ _ c.header-header.result c.in_ok-try_push_display.ensures.ok
+    (front_on _ _ _ (front_on _ _ _ (front_on _ _ _ asked answered) authorized) left))
     c.append_records-3.ensures.front

@@ -8,5 +8,6 @@ abbrev pub invariant-loop-question : goal.invariant-loop-question
 invariant-loop-question g l = record {
   done : List ℕ;
   appended : g.B.AsOctets.content l.text ≡ g.B.AsOctets.content l.fn.text ++ done;
+  borrows : g.B.AsOctets.borrows l.text ≡ g.B.AsOctets.borrows l.fn.text;
   whole : done ++ questions_text (questions_left l.question-iterator) ≡ questions_text (questions_left l.fn.questions);
 }

@@ -10,7 +10,9 @@ pub loop-entry-init : goal.loop-entry-init
 loop-entry-init g c = record {
   done = [];
   appended = sym (append-nil _);
-  whole = λ more text. subst (λ records. IsRecordsText c.args.word.now (records_left records) more) c.into_iter-entry-iterator.ensures.into_iter_gives text;
+  borrows = refl;
+  whole = λ more text. subst (λ records. IsRecordsText c.args.word.now (records_left records) more)
+      c.into_iter-entry-iterator.ensures.into_iter_gives text;
 }
 
 pub loop-entry-preserved : goal.loop-entry-preserved
@@ -20,15 +22,22 @@ loop-entry-preserved g c =
     let shown = line word (record_text (record_of c.in-Some.entry) (form_of c.data-rdata.result)) in
     record {
       done = so_far.done ++ shown;
-      appended = then_more (g.B.AsOctets.content c.args.text.now) _ _ so_far.done shown so_far.appended c.in_ok-try_push_display.ensures.ok;
+      appended = then_more (g.B.AsOctets.content c.args.text.now) _ _ so_far.done shown so_far.appended
+          c.in_ok-try_push_display.ensures.ok;
+      borrows = c.in_ok-try_push_display.ensures.borrows ∙ so_far.borrows;
       whole = λ more text.
           let ahead = subst (λ records. IsRecordsText word records (shown ++ more)) (sym c.in-Some.ensures.steps)
           (form_of c.data-rdata.result, more, c.data-rdata.ensures, text, refl) in
-          subst (IsRecordsText word (records_left c.args.records)) (sym (append_assoc so_far.done shown more)) (so_far.whole (shown ++ more) ahead);
+          subst (IsRecordsText word (records_left c.args.records)) (sym (append_assoc so_far.done shown more))
+          (so_far.whole (shown ++ more) ahead);
     }
 
 pub returns-clause-text : goal.returns-clause-text
 returns-clause-text g c =
     let so_far = c.loop-entry.invariant in
-    let none = subst (λ records. IsRecordsText c.args.word.now records []) (sym c.in-None.ensures.steps.0) refl in
-    (so_far.done ++ [], so_far.whole [] none, so_far.appended ∙ ap (λ y. g.B.AsOctets.content c.args.text.now ++ y) (sym (append-nil so_far.done)))
+    let none = subst (λ records. IsRecordsText c.args.word.now records []) (sym c.in-None.ensures.steps.0) refl in (
+      so_far.done ++ [],
+      so_far.whole [] none,
+      so_far.appended
+          ∙ ap (λ y. g.B.AsOctets.content c.args.text.now ++ y) (sym (append-nil so_far.done)),
+    )

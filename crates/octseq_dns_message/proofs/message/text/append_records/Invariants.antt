@@ -8,6 +8,7 @@ abbrev pub invariant-loop-entry : goal.invariant-loop-entry
 invariant-loop-entry g l = record {
   done : List ℕ;
   appended : g.B.AsOctets.content l.text ≡ g.B.AsOctets.content l.fn.text ++ done;
+  borrows : g.B.AsOctets.borrows l.text ≡ g.B.AsOctets.borrows l.fn.text;
   whole : (more : List ℕ) → IsRecordsText l.word (records_left l.entry-iterator) more
       → IsRecordsText l.word (records_left l.fn.records) (done ++ more);
 }

@@ -10,5 +10,6 @@ returns-in_err-exchange-clause-malformed g c = λ _.
     let w = window c.args.parser.now in
     let u = window c.parse_u16_be.new.self in
     let preferred = c.in_ok-preference.ensures in
-    no_mx w (none_behind_number HasName w u c.in_ok-preference.preference (is_number c.in_ok-preference.preference preferred.taken preferred.value)
+    no_mx w (none_behind_number HasName w u c.in_ok-preference.preference
+    (is_number c.in_ok-preference.preference preferred.taken preferred.value)
     (no_name u (c.in_err-exchange.ensures.malformed refl)))

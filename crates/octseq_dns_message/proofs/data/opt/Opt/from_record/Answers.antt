@@ -9,7 +9,8 @@ use Rattle.octseq_dns_message.proofs.data.opt.Opt.from_record.Goals as goal
 pub returns-in_err-pass_options-clause-malformed : goal.returns-in_err-pass_options-clause-malformed
 returns-in_err-pass_options-clause-malformed g c = λ _ opt is.
     let same = c.rdata-parser.ensures.place in
-    c.in_err-pass_options.ensures.malformed refl opt.options is.end (subst (λ w. Row HasOption w opt.options is.end) (sym same) is.options) (is.ends ∙ ap (λ w. w.end) (sym same))
+    c.in_err-pass_options.ensures.malformed refl opt.options is.end
+    (subst (λ w. Row HasOption w opt.options is.end) (sym same) is.options) (is.ends ∙ ap (λ w. w.end) (sym same))
 
 pub invariant_of-result : goal.invariant_of-result
 invariant_of-result g c =
@@ -25,7 +26,8 @@ returns-clause-opt g c =
     let seconds = c.ttl.ensures in
     let number = c.as_secs-bits.ensures in
     let marked = c.is_dnssec_ok.ensures in
-    let row = subst (λ row. Row HasOption w row passed.1) (reached_as option_code HasOption one_option option_moves w passed.1 w.end passed.0 c.result-1.given.0 passed.3 passed.2) passed.2 in
+    let row = subst (λ row. Row HasOption w row passed.1) (reached_as option_code HasOption one_option option_moves w
+    passed.1 w.end passed.0 c.result-1.given.0 passed.3 passed.2) passed.2 in
     record {
       rtype = search rules;
       size = search rules;

@@ -13,7 +13,8 @@ returns-then-remaining-eq0-clause-steps g c =
     let left = c.remaining.ensures.left in
     let nothing = c.if-remaining-eq0.true in
     let ordered = self.parser.ordered in
-    let none = reached_none option_code HasOption option_moves (window self.parser) (window self.parser).end self.ahead (omega (arith, left, nothing, ordered)) in
+    let none = reached_none option_code HasOption option_moves (window self.parser) (window self.parser).end self.ahead
+    (omega (arith, left, nothing, ordered)) in
     (none, none)
 
 pub returns-in-Err-clause-steps : goal.returns-in-Err-clause-steps
@@ -21,7 +22,8 @@ returns-in-Err-clause-steps g c =
     let self = c.args.self.now in
     let left = c.remaining.ensures.left in
     let some = c.if-remaining-eq0.false in
-    absurd (reached_not HasOption (window self.parser) (window self.parser).end self.ahead (λ same. omega (arith, left, some, same)) (c.in-Err.ensures.malformed refl))
+    absurd (reached_not HasOption (window self.parser) (window self.parser).end self.ahead
+    (λ same. omega (arith, left, some, same)) (c.in-Err.ensures.malformed refl))
 
 pub invariant_of-self : goal.invariant_of-self
 invariant_of-self g c =
@@ -33,7 +35,8 @@ invariant_of-self g c =
     let option = option_of c.in-Ok.option in
     record {
       ahead = subst (Reaches HasOption u) (sym (option_end w u option c.in-Ok.ensures.option))
-          (reached_more option_code HasOption one_option option_moves w u w.end option self.ahead (λ same. omega (arith, left, some, same)) c.in-Ok.ensures.option);
+          (reached_more option_code HasOption one_option option_moves w u w.end option self.ahead
+          (λ same. omega (arith, left, some, same)) c.in-Ok.ensures.option);
     }
 
 pub returns-in-Ok-clause-steps : goal.returns-in-Ok-clause-steps
@@ -45,7 +48,8 @@ returns-in-Ok-clause-steps g c =
     let u = window c.parse.new.parser in
     let option = option_of c.in-Ok.option in
     let end = option_end w u option c.in-Ok.ensures.option in
-    reached_then option_code HasOption one_option option_moves w u w.end u.end option self.ahead c.self-1.given.0 end (λ same. omega (arith, left, some, same)) c.in-Ok.ensures.option
+    reached_then option_code HasOption one_option option_moves w u w.end u.end option self.ahead c.self-1.given.0 end
+    (λ same. omega (arith, left, some, same)) c.in-Ok.ensures.option
 
 pub returns-in-Ok-clause-goes : goal.returns-in-Ok-clause-goes
 returns-in-Ok-clause-goes g c =
@@ -56,6 +60,7 @@ returns-in-Ok-clause-goes g c =
     let u = window c.parse.new.parser in
     let option = option_of c.in-Ok.option in
     let end = option_end w u option c.in-Ok.ensures.option in
-    let steps = reached_then option_code HasOption one_option option_moves w u w.end u.end option self.ahead c.self-1.given.0 end (λ same. omega (arith, left, some, same)) c.in-Ok.ensures.option in
+    let steps = reached_then option_code HasOption one_option option_moves w u w.end u.end option self.ahead
+    c.self-1.given.0 end (λ same. omega (arith, left, some, same)) c.in-Ok.ensures.option in
     let less = fewer option self.ahead.0 c.self-1.given.0.0 steps in
     record { on = λ finite. (tt, finite, less); keeps = tt; rests = λ _. tt }

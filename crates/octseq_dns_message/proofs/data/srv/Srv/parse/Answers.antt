@@ -15,7 +15,9 @@ returns-in_err-target-clause-malformed g c = λ _.
     let first = c.in_ok-priority.ensures in
     let second = c.in_ok-weight.ensures in
     let third = c.in_ok-port.ensures in
-    no_srv w (none_behind_number (IsNumber 2 then IsNumber 2 then HasName) w u c.in_ok-priority.priority (is_number c.in_ok-priority.priority first.taken first.value)
-    (none_behind_number (IsNumber 2 then HasName) u x c.in_ok-weight.weight (is_number c.in_ok-weight.weight second.taken second.value)
+    no_srv w (none_behind_number (IsNumber 2 then IsNumber 2 then HasName) w u c.in_ok-priority.priority
+    (is_number c.in_ok-priority.priority first.taken first.value)
+    (none_behind_number (IsNumber 2 then HasName) u x c.in_ok-weight.weight
+    (is_number c.in_ok-weight.weight second.taken second.value)
     (none_behind_number HasName x y c.in_ok-port.port (is_number c.in_ok-port.port third.taken third.value)
     (no_name y (c.in_err-target.ensures.malformed refl)))))

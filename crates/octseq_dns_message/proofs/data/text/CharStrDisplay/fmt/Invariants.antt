@@ -6,4 +6,5 @@ use Rattle.octseq_dns_message.specs.DataText.{string_octet_text}
 use Rattle.octseq_dns_message.proofs.data.text.CharStrDisplay.fmt.Given as goal
 
 abbrev pub invariant-loop-octet : goal.invariant-loop-octet
-invariant-loop-octet g l = IsPlainFormatter l.fn.f → HasWritten g.W.Write.write_str_gives l.fn.f (34 ∷ flat_map string_octet_text (take l.octet-index l.octet-items)) l.f
+invariant-loop-octet g l = IsPlainFormatter l.fn.f → HasWritten g.W.Write.write_str_gives l.fn.f
+    (34 ∷ flat_map string_octet_text (take l.octet-index l.octet-items)) l.f

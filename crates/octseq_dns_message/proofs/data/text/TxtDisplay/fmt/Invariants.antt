@@ -7,4 +7,5 @@ use Rattle.octseq_dns_message.proofs.data.text.TxtDisplay.fmt.Given as goal
 
 abbrev pub invariant-loop-string : goal.invariant-loop-string
 invariant-loop-string g l =
-    IsPlainFormatter l.fn.f → (done : List ℕ) × HasWritten g.W.Write.write_str_gives l.fn.f done l.f × (done ++ strings_behind (strings_left l.string-iterator) ≡ strings_text (strings_of l.fn.self))
+    IsPlainFormatter l.fn.f → (done : List ℕ) × HasWritten g.W.Write.write_str_gives l.fn.f done l.f
+    × (done ++ strings_behind (strings_left l.string-iterator) ≡ strings_text (strings_of l.fn.self))

@@ -11,32 +11,42 @@ pub returns-then-pos-self-clause-steps : goal.returns-then-pos-self-clause-steps
 returns-then-pos-self-clause-steps g c =
     let self = c.args.self.now in
     let is = c.pos.ensures.position in
-    let none = reached_none string_code HasString string_moves (window self.parser) self.end self.ahead (omega (arith, is)) in
+    let none = reached_none string_code HasString string_moves (window self.parser) self.end self.ahead
+    (omega (arith, is)) in
     (none, none)
 
 pub returns-in-Err-clause-steps : goal.returns-in-Err-clause-steps
 returns-in-Err-clause-steps g c =
     let self = c.args.self.now in
     let is = c.pos.ensures.position in
-    absurd (reached_not HasString (window self.parser) self.end self.ahead (λ same. omega (arith, is, same)) (c.in-Err.ensures.malformed refl))
+    absurd (reached_not HasString (window self.parser) self.end self.ahead (λ same. omega (arith, is, same))
+    (c.in-Err.ensures.malformed refl))
 
 pub invariant_of-self : goal.invariant_of-self
 invariant_of-self g c =
     let self = c.args.self.now in
     let is = c.pos.ensures.position in
-    record { ahead = reached_more string_code HasString one_string string_moves (window self.parser) (window c.take_string.new.parser) self.end (rest (window c.in-Ok.parser)) self.ahead (λ same. omega (arith, is, same)) c.in-Ok.ensures.string }
+    record {
+      ahead = reached_more string_code HasString one_string string_moves (window self.parser)
+          (window c.take_string.new.parser) self.end (rest (window c.in-Ok.parser)) self.ahead
+          (λ same. omega (arith, is, same)) c.in-Ok.ensures.string;
+    }
 
 pub returns-in-Ok-clause-steps : goal.returns-in-Ok-clause-steps
 returns-in-Ok-clause-steps g c =
     let self = c.args.self.now in
     let is = c.pos.ensures.position in
-    reached_then string_code HasString one_string string_moves (window self.parser) (window c.take_string.new.parser) self.end self.end (rest (window c.in-Ok.parser)) self.ahead c.self-1.given.0 refl (λ same. omega (arith, is, same)) c.in-Ok.ensures.string
+    reached_then string_code HasString one_string string_moves (window self.parser) (window c.take_string.new.parser)
+    self.end self.end (rest (window c.in-Ok.parser)) self.ahead c.self-1.given.0 refl
+    (λ same. omega (arith, is, same)) c.in-Ok.ensures.string
 
 pub returns-in-Ok-clause-goes : goal.returns-in-Ok-clause-goes
 returns-in-Ok-clause-goes g c =
     let self = c.args.self.now in
     let is = c.pos.ensures.position in
     let string = rest (window c.in-Ok.parser) in
-    let steps = reached_then string_code HasString one_string string_moves (window self.parser) (window c.take_string.new.parser) self.end self.end string self.ahead c.self-1.given.0 refl (λ same. omega (arith, is, same)) c.in-Ok.ensures.string in
+    let steps = reached_then string_code HasString one_string string_moves (window self.parser)
+    (window c.take_string.new.parser) self.end self.end string self.ahead c.self-1.given.0 refl
+    (λ same. omega (arith, is, same)) c.in-Ok.ensures.string in
     let less = fewer string self.ahead.0 c.self-1.given.0.0 steps in
     record { on = λ finite. (tt, finite, less); keeps = tt; rests = λ _. tt }

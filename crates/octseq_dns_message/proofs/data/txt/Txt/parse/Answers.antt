@@ -10,7 +10,8 @@ pub returns-then-pos-end-clause-malformed : goal.returns-then-pos-end-clause-mal
 returns-then-pos-end-clause-malformed g c = λ _ strings v has ends.
     let place = c.pos.ensures.position in
     let here = c.if-pos-end.true in
-    let none = none_here HasString string_moves (window c.args.parser.now) v strings (omega (arith, place, here, ends)) has.1 in
+    let none = none_here HasString string_moves (window c.args.parser.now) v strings (omega (arith, place, here, ends))
+    has.1 in
     let some = has.0 in
     omega (arith, none, some)
 
@@ -18,14 +19,16 @@ pub returns-in_err-_string-clause-malformed : goal.returns-in_err-_string-clause
 returns-in_err-_string-clause-malformed g c = λ _ strings v has.
     let place = c.pos-in-strings.ensures.position in
     let before = c.strings-test.true in
-    no_more HasString (window c.args.parser.now) (window c.strings.parser) c.args.end c.strings.invariant.read (omega (arith, place, before)) (c.in_err-_string.ensures.malformed refl) strings v has.1
+    no_more HasString (window c.args.parser.now) (window c.strings.parser) c.args.end c.strings.invariant.read
+    (omega (arith, place, before)) (c.in_err-_string.ensures.malformed refl) strings v has.1
 
 pub strings-preserved : goal.strings-preserved
 strings-preserved g c =
     let place = c.pos-in-strings.ensures.position in
     let before = c.strings-test.true in
     record {
-      read = with_one HasString one_string (window c.args.parser.now) (window c.strings.parser) (window c.take_string.new.parser) c.args.end (rest (window c.in_ok-_string._string))
+      read = with_one HasString one_string (window c.args.parser.now) (window c.strings.parser)
+          (window c.take_string.new.parser) c.args.end (rest (window c.in_ok-_string._string))
           c.strings.invariant.read (omega (arith, place, before)) c.in_ok-_string.ensures.string;
     }
 
@@ -33,7 +36,8 @@ pub returns-then-pos-end-2-clause-malformed : goal.returns-then-pos-end-2-clause
 returns-then-pos-end-2-clause-malformed g c = λ _ strings v has.
     let place = c.pos-2.ensures.position in
     let past = c.if-pos-end-2.true in
-    gone_past HasString string_moves (window c.args.parser.now) (window c.strings.parser) c.args.end c.strings.invariant.read (omega (arith, place, past)) strings v has.1
+    gone_past HasString string_moves (window c.args.parser.now) (window c.strings.parser) c.args.end
+    c.strings.invariant.read (omega (arith, place, past)) strings v has.1
 
 pub invariant_of-result : goal.invariant_of-result
 invariant_of-result g c =
@@ -48,7 +52,16 @@ invariant_of-result g c =
     let within = c.if-pos-end-2.false in
     record {
       strings = (read.read, ∣ (v, read.row, omega (arith, inside, reached, last, within)) ∣₁);
-      some = some_there HasString w v read.read (λ same. omega (arith, same, first, other, inside, reached, last, within)) read.row;
+      some = some_there HasString w v read.read (λ same. omega (
+        arith,
+        same,
+        first,
+        other,
+        inside,
+        reached,
+        last,
+        within,
+      )) read.row;
     }
 
 pub returns-clause-txt : goal.returns-clause-txt
@@ -63,5 +76,9 @@ returns-clause-txt g c =
     let last = c.pos-2.ensures.position in
     let within = c.if-pos-end-2.false in
     subst (λ strings. HasStrings w strings v)
-    (reached_as string_code HasString one_string string_moves w v c.args.end read.read c.result-1.given.0 (omega (arith, inside, reached, last, within)) read.row)
-    (some_there HasString w v read.read (λ same. omega (arith, same, first, other, inside, reached, last, within)) read.row, read.row)
+    (reached_as string_code HasString one_string string_moves w v c.args.end read.read c.result-1.given.0
+    (omega (arith, inside, reached, last, within)) read.row) (
+      some_there HasString w v read.read (λ same. omega (arith, same, first, other, inside, reached, last, within))
+          read.row,
+      read.row,
+    )

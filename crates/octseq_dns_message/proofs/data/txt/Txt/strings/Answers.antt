@@ -11,6 +11,7 @@ returns-clause-strings g c =
 pub returns-clause-some : goal.returns-clause-some
 returns-clause-some g c =
     let self = c.args.self.now in
-    let same = ap (λ held. length held.0) (strings_once (window self.parser) self.end c.result-2-1.given.0 self.strings) in
+    let same = ap (λ held. length held.0) (strings_once (window self.parser) self.end c.result-2-1.given.0 self.strings)
+    in
     let some = self.some in
     omega (arith, same, some)

@@ -15,24 +15,30 @@ returns-then-self-eq0-clause-steps g c =
 pub returns-in-Err-clause-steps : goal.returns-in-Err-clause-steps
 returns-in-Err-clause-steps g c =
     let self = c.args.self.now in
-    absurd (held_not IsQuestion (window self.parser) self.left self.ahead (omega arith) (c.in-Err.ensures.malformed refl))
+    absurd (held_not IsQuestion (window self.parser) self.left self.ahead (omega arith)
+    (c.in-Err.ensures.malformed refl))
 
 pub invariant_of-self : goal.invariant_of-self
 invariant_of-self g c =
     let self = c.args.self.now in
     let entry = question_of c.in-Ok.entry in
-    record { ahead = held_more question_code IsQuestion one_question (window self.parser) (window c.parse.new.parser) entry self.left (self.left - 1) self.ahead c.in-Ok.ensures.question (omega arith) }
+    record {
+      ahead = held_more question_code IsQuestion one_question (window self.parser) (window c.parse.new.parser)
+          entry self.left (self.left - 1) self.ahead c.in-Ok.ensures.question (omega arith);
+    }
 
 pub returns-in-Ok-clause-steps : goal.returns-in-Ok-clause-steps
 returns-in-Ok-clause-steps g c =
     let self = c.args.self.now in
     let entry = question_of c.in-Ok.entry in
-    held_then question_code IsQuestion one_question (window self.parser) (window c.parse.new.parser) entry self.left (self.left - 1) self.ahead c.self-1.given.0 c.in-Ok.ensures.question (omega arith)
+    held_then question_code IsQuestion one_question (window self.parser) (window c.parse.new.parser) entry self.left
+    (self.left - 1) self.ahead c.self-1.given.0 c.in-Ok.ensures.question (omega arith)
 
 pub returns-in-Ok-clause-goes : goal.returns-in-Ok-clause-goes
 returns-in-Ok-clause-goes g c =
     let self = c.args.self.now in
     let entry = question_of c.in-Ok.entry in
-    let steps = held_then question_code IsQuestion one_question (window self.parser) (window c.parse.new.parser) entry self.left (self.left - 1) self.ahead c.self-1.given.0 c.in-Ok.ensures.question (omega arith) in
+    let steps = held_then question_code IsQuestion one_question (window self.parser) (window c.parse.new.parser) entry
+    self.left (self.left - 1) self.ahead c.self-1.given.0 c.in-Ok.ensures.question (omega arith) in
     let less = fewer entry self.ahead.0 c.self-1.given.0.0 steps in
     record { on = λ finite. (tt, finite, less); keeps = tt; rests = λ _. tt }
