@@ -303,16 +303,20 @@ fn refusal_of<B: EmptyBuilder>(alloc: Global, labels: &[&[u8]]) -> Option<Labels
 #[test]
 fn labels_that_make_no_name_are_refused_by_reason(rt: HostRuntime) -> Result<(), Fail> {
     let alloc = rt.alloc();
-    let most = [b'a'; 63];
     let long = [b'a'; 64];
-    let last = [b'a'; 61];
-    let past = [b'a'; 62];
-    let (most, long, last, past) = (&most[..], &long[..], &last[..], &past[..]);
-    let refusal = refusal_of::<Vec<u8>>(alloc, &[b"a", b"", long]);
+    let long = &long[..];
+    let (none, one, last, past, most) = (
+        &long[..0],
+        &long[..1],
+        &long[..61],
+        &long[..62],
+        &long[..63],
+    );
+    let refusal = refusal_of::<Vec<u8>>(alloc, &[one, none, long]);
     assert_equal!(&rt, refusal, Some(LabelsError::EmptyLabel));
-    let refusal = refusal_of::<Vec<u8>>(alloc, &[b"a", long, b""]);
+    let refusal = refusal_of::<Vec<u8>>(alloc, &[one, long, none]);
     assert_equal!(&rt, refusal, Some(LabelsError::LongLabel));
-    let refusal = refusal_of::<Vec<u8>>(alloc, &[most, most, most, past, b""]);
+    let refusal = refusal_of::<Vec<u8>>(alloc, &[most, most, most, past, none]);
     assert_equal!(&rt, refusal, Some(LabelsError::LongName));
     let refusal = refusal_of::<Vec<u8>>(alloc, &[most, most, most, last]);
     assert_equal!(&rt, refusal, None);
