@@ -15,12 +15,14 @@ use octseq::{AsOctets, Parser};
 use octseq_dns_name::Malformed;
 use std::alloc::AllocError;
 
+mod lists;
 mod question;
 mod record;
 mod sections;
 mod text;
 mod walk;
 
+pub use crate::message::lists::Lists;
 pub use crate::message::question::Question;
 pub use crate::message::record::Record;
 pub use crate::message::text::one_text_of_a_message;

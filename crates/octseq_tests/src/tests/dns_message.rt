@@ -130,25 +130,25 @@ fn has_address<R: Octets + Copy>(
     }
 }
 
-/// The answers are two addresses, as a list, and there is no authority.
-fn lists_answers<R: Octets + Copy>(rt: &(impl Abort + AllocGlobal), octets: R) -> Result<(), Fail> {
-    let message = Message::parse(octets)?;
-    let answers: Vec<Record<R>> = message.answers().collect(rt.alloc())?;
-    match answers.as_slice() {
+/// In lists the message has one question, two addresses as answers, and nothing else.
+fn lists_entries<R: Octets + Copy>(rt: &(impl Abort + AllocGlobal), octets: R) -> Result<(), Fail> {
+    let lists = Message::parse(octets)?.try_to_lists(rt.alloc())?;
+    match lists.answers.as_slice() {
         [first, second] => {
             has_address(rt, first, &[b"example", b"com"], [1, 2, 3, 4]);
             has_address(rt, second, &[b"www", b"example", b"com"], [5, 6, 7, 8]);
         }
         _ => return Err("not two".into()),
     }
-    let authorities: Vec<Record<R>> = message.authorities().collect(rt.alloc())?;
-    assert_equal!(rt, authorities.len(), 0);
+    assert_equal!(rt, lists.questions.len(), 1);
+    assert_equal!(rt, lists.authorities.len(), 0);
+    assert_equal!(rt, lists.additionals.len(), 0);
     Ok(())
 }
 
 #[test]
-fn answers_are_a_list(rt: HostRuntime) -> Result<(), Fail> {
-    lists_answers(&rt, ANSWERED_TWICE)
+fn entries_are_listed(rt: HostRuntime) -> Result<(), Fail> {
+    lists_entries(&rt, ANSWERED_TWICE)
 }
 
 /// What a message shows as by itself, and then each of its authorities.

@@ -1,6 +1,7 @@
 //! Messages: lists of their entries.
 use octseq::octets::Octets;
-use octseq_dns::{Message, Question, Record};
+use octseq_dns::Message;
+use octseq_dns::message::Lists;
 use std::alloc::{AllocError, AllocGlobal};
 use std::process::Abort;
 use std::test::Fail;
@@ -10,15 +11,15 @@ const ENTRIES: &[u8] =
     b"\x00\x01\x80\x00\x00\x02\x00\x01\x00\x00\x00\x01\x00\x00\x01\x00\x01\x00\x00\x1C\x00\x01\
 \x00\x00\x01\x00\x01\x00\x00\x00\x3C\x00\x04\x01\x02\x03\x04\x00\x00\x29\x02\x00\x00\x00\x00\x00\x00\x00";
 
-/// Lists the questions and the additional records. A refused list leaves the message as it is.
+/// Lists the entries. A refused list leaves the message as it is.
 fn lists<R: Octets + Copy>(rt: &(impl Abort + AllocGlobal), octets: R) -> Result<(), Fail> {
     let message = Message::parse(octets)?;
-    let questions: Result<Vec<Question<R>>, AllocError> = message.questions().collect(rt.alloc());
+    let lists: Result<Lists<R>, AllocError> = message.try_to_lists(rt.alloc());
     assert_equal!(rt, message.questions().count(), 2);
-    assert_equal!(rt, questions?.len(), 2);
-    let additionals: Result<Vec<Record<R>>, AllocError> = message.additionals().collect(rt.alloc());
     assert_equal!(rt, message.additionals().count(), 1);
-    assert_equal!(rt, additionals?.len(), 1);
+    let lists = lists?;
+    assert_equal!(rt, lists.questions.len(), 2);
+    assert_equal!(rt, lists.additionals.len(), 1);
     Ok(())
 }
 

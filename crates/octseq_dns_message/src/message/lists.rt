@@ -1,0 +1,68 @@
+//! The entries of a message in lists.
+ghost use Rattle.std.specs.Prelude.{◌≡◌, map, IfOk};
+ghost use Rattle.octseq_dns_message.specs.Said.{question_of, record_of};
+ghost use Rattle.octseq_dns_message.specs.Walk.{questions_left, records_left};
+
+use crate::message::{Message, Question, Questions, Record, Records};
+use octseq::AsOctets;
+use std::alloc::{AllocError, Global};
+
+/// The entries of a message, a list for each section.
+#[derive(Debug, Drop)]
+pub struct Lists<R: AsOctets> {
+    /// The questions, from the first one on.
+    pub questions: Vec<Question<R>>,
+    /// The answers.
+    pub answers: Vec<Record<R>>,
+    /// The records of authorities.
+    pub authorities: Vec<Record<R>>,
+    /// The additional records.
+    pub additionals: Vec<Record<R>>,
+}
+
+impl<R: AsOctets + Copy> Message<R> {
+    ghost use Rattle.octseq_dns_message.specs.Parsed.{questions_of, answers_of, authorities_of, additionals_of};
+
+    /// All entries of the message, in lists. No octet of the message is copied.
+    ///
+    /// # Errors
+    ///
+    /// `AllocError` where a request for memory was refused.
+    pub fn try_to_lists(&self, alloc: Global) -> Result<Lists<R>, AllocError>
+        ensures questions { IfOk result (λ lists. map question_of lists.questions.items ≡ questions_of self.now) }
+        ensures answers { IfOk result (λ lists. map record_of lists.answers.items ≡ answers_of self.now) }
+        ensures authorities { IfOk result (λ lists. map record_of lists.authorities.items ≡ authorities_of self.now) }
+        ensures additionals { IfOk result (λ lists. map record_of lists.additionals.items ≡ additionals_of self.now) }
+    {
+        let questions = list_questions(alloc, self.questions())?;
+        let answers = list_records(alloc, self.answers())?;
+        let authorities = list_records(alloc, self.authorities())?;
+        let additionals = list_records(alloc, self.additionals())?;
+        Ok(Lists {
+            questions,
+            answers,
+            authorities,
+            additionals,
+        })
+    }
+}
+
+/// The questions that a walk has left.
+fn list_questions<R: AsOctets + Copy>(
+    alloc: Global,
+    questions: Questions<R>,
+) -> Result<Vec<Question<R>>, AllocError>
+    ensures { IfOk result (λ list. map question_of list.items ≡ questions_left questions) }
+{
+    questions.collect(alloc)
+}
+
+/// The records that a walk has left.
+fn list_records<R: AsOctets + Copy>(
+    alloc: Global,
+    records: Records<R>,
+) -> Result<Vec<Record<R>>, AllocError>
+    ensures { IfOk result (λ list. map record_of list.items ≡ records_left records) }
+{
+    records.collect(alloc)
+}
