@@ -1,3 +1,5 @@
+pub mod Encoded
+pub mod Place
 pub use Rattle.octseq_dns_message.specs.Data
 pub use Rattle.octseq_dns_message.specs.DataText
 pub use Rattle.octseq_dns_message.specs.Edns
