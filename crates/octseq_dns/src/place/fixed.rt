@@ -77,6 +77,6 @@ impl<const N: usize> Places for FixedPlaces<N> {
     }
 
     fn truncate(&mut self, len: usize) {
-        self.len = self.len.min(len);
+        self.len = self.as_slice().len().min(len);
     }
 }
