@@ -1,4 +1,5 @@
 pub mod Encoded
+pub mod Runs
 pub mod Standing
 pub use Rattle.octseq_dns_message.proofs.Edns
 pub use Rattle.octseq_dns_message.proofs.Formats
