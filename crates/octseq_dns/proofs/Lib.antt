@@ -1,6 +1,7 @@
 pub mod Encoded
 pub mod Runs
 pub mod Standing
+pub mod Tables
 pub use Rattle.octseq_dns_message.proofs.Edns
 pub use Rattle.octseq_dns_message.proofs.Formats
 pub use Rattle.octseq_dns_message.proofs.Forms

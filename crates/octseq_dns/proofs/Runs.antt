@@ -1,16 +1,19 @@
 -- How the longest run of a name's last labels is found, and what a name is encoded as then.
 use Rattle.std.proofs.Common.{◌≡◌, ℕ, ◌+◌, ◌-◌, ◌<◌, ◌≤◌, List, [], ◌∷◌, ◌++◌, length, take, drop, get_or, refl, sym, ap, ◌∙◌, subst, arith}
-use Rattle.std.proofs.lemmas.List.{length-append, length-drop, length-take-le, take_all, take_more, take-append-drop, get_or-drop, flat_map_more}
+use Rattle.std.proofs.lemmas.List.{length-append, length-drop, length-take, length-take-le, take_all, take_more, take-append-drop, get_or-drop, flat_map_more}
 use Rattle.std.proofs.lemmas.List.Elements.{All-contains, All-weaker, All-more}
+use Rattle.std.proofs.Math.Logic.{∥∥₁_elim}
+use Rattle.std.specs.Coded.{le_prop}
 use Rattle.std.specs.List.{All, Contains}
 use Rattle.octseq.specs.Window.{Window, at, whole}
 use Rattle.octseq_dns.specs.Encoded.{IsRun, IsLongest, HasNoRun, IsEncoded, Encodes, unrooted, pointer_to}
 use Rattle.octseq_dns.specs.Place.{StandsAt, IsGood, AreGood}
 use Rattle.octseq_dns.specs.Run.{IsRunNow}
 use Rattle.octseq_dns.specs.declared.place.Place.{Place}
-use Rattle.octseq_dns_name.specs.Name.{Stands, IsName, wire_length}
-use Rattle.octseq_dns_name.specs.OneName.{one_name, one_standing}
-use Rattle.octseq_dns_name.proofs.Names.{wire_append, wire_some}
+use Rattle.octseq_dns_name.specs.Name.{Stands, IsName, octet, wire_length}
+use Rattle.octseq_dns_name.specs.OneName.{one_name, one_standing, Named}
+use Rattle.octseq_dns_name.specs.Wire.{AreLabels}
+use Rattle.octseq_dns_name.proofs.Names.{wire_append, wire_some, label_count}
 use Rattle.octseq_dns_name.proofs.Wires.{bodies_length}
 
 -- ---- the octets of the first labels
@@ -59,6 +62,48 @@ unrooted_end labels ahead content i appended ahead_is is =
     let further : length labels ≤ i + 1 = omega (arith, past) in
     appended ∙ ap unrooted (take_all i labels past ∙ sym (take_all (i + 1) labels further))
 
+-- there is room for the root,
+pub room_for_root : (labels : List (List ℕ)) (content : List ℕ) (i : ℕ) → content ≡ unrooted (take i labels) → length content + 1 ≤ wire_length labels
+room_for_root labels content i is =
+    let fits = unrooted_fits labels i in
+    let some = wire_some (drop i labels) in
+    let size = ap length is in
+    omega (arith, fits, some, size)
+
+-- and for a pointer where a label is left
+pub room_for_pointer : (labels : List (List ℕ)) (content : List ℕ) (i count : ℕ) → content ≡ unrooted (take i labels) → i ≡ length labels - count → 1 ≤ count → count ≤ length labels
+    → length content + 2 ≤ wire_length labels
+room_for_pointer labels content i count is i_is some within =
+    let fits = unrooted_fits labels i in
+    let more = label_count (drop i labels) in
+    let left = length-drop i labels in
+    let size = ap length is in
+    omega (arith, fits, more, left, size, i_is, some, within)
+
+-- ---- labels of a name
+
+-- the labels that stand somewhere have 1 to 63 octets
+each_standing : (start : ℕ) (w v : Window) (labels : List (List ℕ)) (pointers : ℕ) → w.end ≤ length w.octets → Stands start w labels pointers v → AreLabels labels
+each_standing start w v labels pointers within (Stands.root has) = tt
+each_standing start w v labels pointers within (Stands.label {u = u} {l = l} {labels = rest} has stands) =
+    let size = ap length has.octets ∙ length-take (w.position + 1 + octet w - (w.position + 1)) (drop (w.position + 1) w.octets) in
+    let ahead = length-drop (w.position + 1) w.octets in
+    let whole = has.whole in
+    let same : length l ≡ octet w = omega (arith, size, ahead, whole, within) in
+    let some = has.some in
+    let short = has.short in
+    let within_u : u.end ≤ length u.octets = subst (λ u. u.end ≤ length u.octets) (sym has.behind) within in
+    (omega (arith, same, some), omega (arith, same, short), each_standing start u v rest pointers within_u stands)
+each_standing start w v labels pointers within (Stands.pointer {to = to} {pointers = fewer} {u = u} has stands) = each_standing to (at to w) u labels fewer within stands
+
+labels_prop : (labels : List (List ℕ)) → IsProp (AreLabels labels)
+labels_prop [] = hlevel
+labels_prop (label ∷ labels) = let rest = labels_prop labels in hlevel (le_prop, rest)
+
+-- so have those of a name that is known to stand somewhere
+pub each_named : (w : Window) (named : Named w) → w.end ≤ length w.octets → AreLabels named.0
+each_named w named within = ∥∥₁_elim named.1 (labels_prop named.0) (λ x. each_standing w.position w x.0 named.0 x.1.pointers within x.1.stands)
+
 -- ---- runs
 
 -- the labels at a place are the last ones of which it is a run
@@ -78,7 +123,7 @@ one_count octets labels count more place run other =
     omega (arith, same, left, right, within, also)
 
 -- no run at a place is one of more labels
-abbrev AtMost : List ℕ → List (List ℕ) → ℕ → Place → Type 0
+abbrev pub AtMost : List ℕ → List (List ℕ) → ℕ → Place → Type 0
 AtMost octets labels count other = (more : ℕ) → IsRunNow octets labels more other → more ≤ count
 
 -- a longer run was found at the next place
