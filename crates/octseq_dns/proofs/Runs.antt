@@ -189,7 +189,7 @@ pub encodes_plain : (octets : List ℕ) (places : List Place) (labels : List (Li
     → encoded ≡ first ++ 0 ∷ [] → Encodes octets places labels encoded written 0
 encodes_plain octets places labels encoded first count written headed short longest none size written_is is =
     let none_of : HasNoRun octets places labels = All-weaker (AtMost octets labels count) (λ other. (more : ℕ) → ¬ IsRun octets labels more other)
-        (λ other most more run. let fits = most more (run_now octets labels more other headed short run) in let some = run.some in omega (arith, fits, some, none)) places longest in
+    (λ other most more run. let fits = most more (run_now octets labels more other headed short run) in let some = run.some in omega (arith, fits, some, none)) places longest in
     let all : length labels ≤ written = omega (arith, size, none) in
     let same : written ≡ length labels = omega (arith, size, none) in
     (IsEncoded.plain none_of (is ∙ ap (λ first. first ++ 0 ∷ []) (written_is ∙ ap unrooted (take_all written labels all))), same, refl)

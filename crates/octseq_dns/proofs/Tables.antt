@@ -41,11 +41,10 @@ none_far place (label ∷ labels) pointers far =
     ap (λ near. if near then record { at = place; pointers = pointers } ∷ places_of (place + (1 + length label)) labels pointers else []) (lt-leb place 16383 far)
 
 -- before it the first label has one
-pub one_near : (place : ℕ) (label : List ℕ) (labels : List (List ℕ)) (pointers : ℕ) → (16383 < place → ⊥)
+pub one_near : (place : ℕ) (label : List ℕ) (labels : List (List ℕ)) (pointers : ℕ) → place ≤ 16383
     → places_of place (label ∷ labels) pointers ≡ record { at = place; pointers = pointers } ∷ places_of (place + (1 + length label)) labels pointers
 one_near place label labels pointers near =
-    let within : place ≤ 16383 = omega (arith, near) in
-    ap (λ near. if near then record { at = place; pointers = pointers } ∷ places_of (place + (1 + length label)) labels pointers else []) (le-leb place 16383 within)
+    ap (λ near. if near then record { at = place; pointers = pointers } ∷ places_of (place + (1 + length label)) labels pointers else []) (le-leb place 16383 near)
 
 -- so all are added where none is left
 pub all_added : (all done : List Place) (place : ℕ) (labels : List (List ℕ)) (pointers : ℕ) → all ≡ done ++ places_of place labels pointers → 16383 < place → all ≡ done
@@ -53,7 +52,7 @@ all_added all done place labels pointers is far = is ∙ ap (λ rest. done ++ re
 
 -- and one more was added of a label that was ahead
 pub one_added : (all done : List Place) (place next written i pointers : ℕ) (ahead more : List (List ℕ)) (label : List ℕ)
-    → all ≡ done ++ places_of place (take (written - i) ahead) pointers → i < written → ahead ≡ label ∷ more → (16383 < place → ⊥) → next ≡ place + (1 + length label)
+    → all ≡ done ++ places_of place (take (written - i) ahead) pointers → i < written → ahead ≡ label ∷ more → place ≤ 16383 → next ≡ place + (1 + length label)
     → all ≡ done ++ record { at = place; pointers = pointers } ∷ [] ++ places_of next (take (written - (i + 1)) more) pointers
 one_added all done place next written i pointers ahead more label is inside ahead_is near next_is =
     let left : written - i ≡ suc (written - (i + 1)) = omega (arith, inside) in

@@ -13,6 +13,7 @@ use octseq_dns_name::name::Labels;
 
 /// The last places that a pointer can say, and how many pointers may be followed from there.
 const AT_MOST: u16 = 16383;
+
 const POINTERS_MOST: u8 = 126;
 
 /// A place where the last labels of a name stand, and how many.
@@ -115,10 +116,7 @@ fn passed<R: AsOctets + Copy>(labels: Labels<R>, count: usize) -> Labels<R>
 }
 
 /// Whether labels are others, octet for octet.
-fn same_labels<R: AsOctets + Copy, S: AsOctets + Copy>(
-    labels: Labels<R>,
-    others: Labels<S>,
-) -> bool
+fn same_labels<R: AsOctets + Copy, S: AsOctets + Copy>(labels: Labels<R>, others: Labels<S>) -> bool
     ensures { IsTrue result ↔ (labels_left labels ≡ labels_left others) }
 {
     let mut ahead = others;

@@ -23,13 +23,15 @@ loop-place-preserved g c =
     let Longest : Run → Type 0 = λ r. All (λ other. (more : ℕ) → IsRunNow octets labels more other → more ≤ r.count) (take (i + 1) places) in
     record {
       run = elim c.match-run_at.branch [
-        in-Some w ↦ subst Found (sym w.longest-is) (λ some. (Contains-get_or places i zero_place inside, w.in-Some.ensures.some.1))
-      | in_default w ↦ subst Found (sym w.longest-is) so_far.run ];
+        | in-Some w ↦ subst Found (sym w.longest-is) (λ some. (Contains-get_or places i zero_place inside, w.in-Some.ensures.some.1))
+        | in_default w ↦ subst Found (sym w.longest-is) so_far.run
+      ];
       longest = elim c.match-run_at.branch [
-        in-Some w ↦ subst Longest (sym w.longest-is)
+        | in-Some w ↦ subst Longest (sym w.longest-is)
             (longer_found octets places labels c.loop-place.longest.count w.in-Some.count i inside so_far.longest zero_place w.in-Some.ensures.some.0 w.in-Some.ensures.some.1)
-      | in_default w ↦ subst Longest (sym w.longest-is)
-            (All-more (AtMost octets labels c.loop-place.longest.count) places i zero_place inside so_far.longest (w.in_default.ensures.none refl)) ];
+        | in_default w ↦ subst Longest (sym w.longest-is)
+            (All-more (AtMost octets labels c.loop-place.longest.count) places i zero_place inside so_far.longest (w.in_default.ensures.none refl))
+      ];
     }
 
 pub returns-clause-longest : goal.returns-clause-longest
