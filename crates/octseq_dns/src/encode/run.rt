@@ -36,11 +36,15 @@ pub(crate) fn longest_run<R: AsOctets + Copy>(
     ensures longest { All (λ other. (more : ℕ) → IsRunNow octets.now (labels_of name.now) more other
         → more ≤ result.count) places.now }
 {
+    let all = name.label_count();
     let mut longest = Run {
         count: 0,
         place: Place { at: 0, pointers: 0 },
     };
     for place in places {
+        if longest.count == all {
+            return longest;
+        }
         if let Some(count) = run_at(octets, *place, name, longest.count) {
             longest = Run {
                 count,
@@ -93,6 +97,9 @@ fn same_end<R: AsOctets + Copy, S: AsOctets + Copy>(
         → labels_of there.now ≡ drop (length (labels_of name.now) - count) (labels_of name.now)
         → count ≤ least }
 {
+    if there.len() > name.len() {
+        return None;
+    }
     let count = there.label_count();
     let all = name.label_count();
     if count <= least || count > all {
