@@ -166,30 +166,96 @@ named_written octets ending more first rest pointers header ends each short few 
       few = few;
     }
 
+-- A name is written behind octets: its first labels, and what ends them.
+record Written (octets : List ℕ) (labels : List (List ℕ)) (encoded : List ℕ) (written pointers : ℕ) : Type 0 where
+  pub ending : List ℕ
+  pub rest : List (List ℕ)
+  pub ends : Ends octets ending rest pointers
+  pub labels_are : take written labels ++ rest ≡ labels
+  pub encoded_is : encoded ≡ unrooted (take written labels) ++ ending
+  pub few : pointers ≤ 127
+
+written : (octets : List ℕ) (places : List Place) (labels : List (List ℕ)) (encoded : List ℕ)
+    → (is : IsEncoded octets places labels encoded) → 12 ≤ length octets
+    → Written octets labels encoded (written_of is) (pointers_of is)
+written octets places labels encoded (IsEncoded.plain none is) headed =
+    let most : length labels ≤ length labels = omega arith in
+    let all = take_all (length labels) labels most in
+    record {
+      ending = 0 ∷ [];
+      rest = [];
+      ends = ends_plain octets;
+      labels_are = append-nil (take (length labels) labels) ∙ all;
+      encoded_is = is ∙ ap (λ first. unrooted first ++ 0 ∷ []) (sym all);
+      few = omega arith;
+    }
+written octets places labels encoded (IsEncoded.pointed count place longest is) headed = record {
+  ending = pointer_to place.at;
+  rest = drop (length labels - count) labels;
+  ends = ends_pointed octets labels count place headed longest.run;
+  labels_are = take-append-drop (length labels - count) labels;
+  encoded_is = is;
+  few = let few = longest.run.few in omega (arith, few);
+}
+
+-- It may be written behind more octets.
+written_behind : (octets between : List ℕ) (labels : List (List ℕ)) (encoded : List ℕ) (count pointers : ℕ)
+    → Written octets labels encoded count pointers → Written (octets ++ between) labels encoded count pointers
+written_behind octets between labels encoded count pointers is = record {
+  ending = is.ending;
+  rest = is.rest;
+  ends = λ more behind header start place before long there.
+      let apart : octets ++ (between ++ more) ≡ octets ++ between ++ more = sym (append_assoc octets between more) in
+      let both = length-append octets between in
+      let early : length octets ≤ start = omega (arith, before, both) in
+      subst (λ all. Stands start (at place (whole (under header all))) is.rest pointers
+      (at (place + length is.ending) (whole (under header all)))) apart
+      (is.ends (between ++ more) behind header start place early long
+      (ap (λ all. drop place (under header all)) apart ∙ there));
+  labels_are = is.labels_are;
+  encoded_is = is.encoded_is;
+  few = is.few;
+}
+
+written_stands : (octets : List ℕ) (labels : List (List ℕ)) (encoded : List ℕ) (count pointers : ℕ)
+    → Written octets labels encoded count pointers → AreLabels labels → wire_length labels ≤ 255 → 12 ≤ length octets
+    → (header more : List ℕ) → length header ≡ 12
+    → IsName (at (length octets) (whole (under header (octets ++ encoded ++ more)))) labels
+    (at (length octets + length encoded) (whole (under header (octets ++ encoded ++ more))))
+written_stands octets labels encoded count pointers is each short headed header more long =
+    let Name : List (List ℕ) → List ℕ → Type 0 =
+    λ labels encoded. IsName (at (length octets) (whole (under header (octets ++ encoded ++ more)))) labels
+    (at (length octets + length encoded) (whole (under header (octets ++ encoded ++ more)))) in
+    let first = take count labels in
+    let named = named_written octets is.ending more first is.rest pointers header is.ends
+    (subst AreLabels (sym is.labels_are) each) (subst (λ labels. wire_length labels ≤ 255) (sym is.labels_are) short)
+    is.few headed long in
+    subst (Name labels) (sym is.encoded_is)
+    (subst (λ labels. Name labels (unrooted first ++ is.ending)) is.labels_are named)
+
 -- An encoded name stands behind the octets, whatever comes behind it and whatever the header says.
 pub encoded_stands : (octets : List ℕ) (places : List Place) (labels : List (List ℕ)) (encoded : List ℕ)
     → IsEncoded octets places labels encoded → AreLabels labels → wire_length labels ≤ 255 → 12 ≤ length octets
     → (header more : List ℕ) → length header ≡ 12
     → IsName (at (length octets) (whole (header ++ drop 12 (octets ++ encoded ++ more)))) labels
     (at (length octets + length encoded) (whole (header ++ drop 12 (octets ++ encoded ++ more))))
-encoded_stands octets places labels encoded (IsEncoded.plain none is) each short headed header more long =
-    let whole_of : labels ++ [] ≡ labels = append-nil labels in
-    let Name : List (List ℕ) → List ℕ → Type 0 = λ labels encoded. IsName (at (length octets) (whole (under header (octets ++ encoded ++ more)))) labels
-    (at (length octets + length encoded) (whole (under header (octets ++ encoded ++ more)))) in
-    let named = named_written octets (0 ∷ []) more labels [] 0 header (ends_plain octets) (subst AreLabels (sym whole_of) each) (subst (λ labels. wire_length labels ≤ 255) (sym whole_of) short)
-    (omega arith) headed long in
-    subst (Name labels) (sym is) (subst (λ labels'. Name labels' (unrooted labels ++ 0 ∷ [])) whole_of named)
-encoded_stands octets places labels encoded (IsEncoded.pointed count place longest is) each short headed header more long =
-    let run = longest.run in
-    let first = take (length labels - count) labels in
-    let rest = drop (length labels - count) labels in
-    let whole_of : first ++ rest ≡ labels = take-append-drop (length labels - count) labels in
-    let Name : List (List ℕ) → List ℕ → Type 0 = λ labels encoded. IsName (at (length octets) (whole (under header (octets ++ encoded ++ more)))) labels
-    (at (length octets + length encoded) (whole (under header (octets ++ encoded ++ more)))) in
-    let few : place.pointers + 1 ≤ 127 = let few = run.few in omega (arith, few) in
-    let named = named_written octets (pointer_to place.at) more first rest (place.pointers + 1) header (ends_pointed octets labels count place headed run) (subst AreLabels (sym whole_of) each)
-    (subst (λ labels. wire_length labels ≤ 255) (sym whole_of) short) few headed long in
-    subst (Name labels) (sym is) (subst (λ labels'. Name labels' (unrooted first ++ pointer_to place.at)) whole_of named)
+encoded_stands octets places labels encoded is each short headed =
+    written_stands octets labels encoded (written_of is) (pointers_of is) (written octets places labels encoded is headed)
+    each short headed
+
+-- It stands too where other octets come between.
+pub encoded_stands_behind : (octets between : List ℕ) (places : List Place) (labels : List (List ℕ)) (encoded : List ℕ)
+    → IsEncoded octets places labels encoded → AreLabels labels → wire_length labels ≤ 255 → 12 ≤ length octets
+    → (header more : List ℕ) → length header ≡ 12
+    → IsName (at (length (octets ++ between)) (whole (header ++ drop 12 (octets ++ between ++ encoded ++ more)))) labels
+    (at (length (octets ++ between) + length encoded)
+    (whole (header ++ drop 12 (octets ++ between ++ encoded ++ more))))
+encoded_stands_behind octets between places labels encoded is each short headed =
+    let both = length-append octets between in
+    written_stands (octets ++ between) labels encoded (written_of is) (pointers_of is)
+    (written_behind octets between labels encoded (written_of is) (pointers_of is)
+    (written octets places labels encoded is headed))
+    each short (omega (arith, headed, both))
 
 if_good : (far : Bool) (octets : List ℕ) (places : List Place) → AreGood octets places → AreGood octets (if far then places else [])
 if_good true octets places good = good
@@ -220,25 +286,37 @@ places_good octets encoded ending (label ∷ first) rest pointers place ends eac
     if_good (nat_le place 16383) all (record { at = place; pointers = pointers } ∷ places_of (place + (1 + length label)) first pointers)
     (All-cons (IsGood all) (record { at = place; pointers = pointers }) (places_of (place + (1 + length label)) first pointers) good more)
 
--- The places of the labels that were written are good.
+written_good : (octets : List ℕ) (labels : List (List ℕ)) (encoded : List ℕ) (count pointers : ℕ)
+    → Written octets labels encoded count pointers → AreLabels labels → wire_length labels ≤ 255 → 12 ≤ length octets
+    → AreGood (octets ++ encoded) (places_of (length octets) (take count labels) pointers)
+written_good octets labels encoded count pointers is each short headed =
+    let first = take count labels in
+    let here : drop (length octets) (octets ++ encoded) ≡ unrooted first ++ is.ending =
+    drop_at octets encoded (length octets) refl ∙ is.encoded_is in
+    let least : length octets ≤ length octets = omega arith in
+    places_good octets encoded is.ending first is.rest pointers (length octets) is.ends
+    (each_first first is.rest (subst AreLabels (sym is.labels_are) each))
+    (subst (λ labels. wire_length labels ≤ 255) (sym is.labels_are) short) headed least here
+
+-- The places of the labels that were written are good,
 pub labels_good : (octets : List ℕ) (places : List Place) (labels : List (List ℕ)) (encoded : List ℕ)
     → (is : IsEncoded octets places labels encoded) → AreLabels labels → wire_length labels ≤ 255 → 12 ≤ length octets
     → AreGood (octets ++ encoded) (places_of (length octets) (take (written_of is) labels) (pointers_of is))
-labels_good octets places labels encoded (IsEncoded.plain none is) each short headed =
-    let here : drop (length octets) (octets ++ encoded) ≡ unrooted labels ++ 0 ∷ [] = drop_at octets encoded (length octets) refl ∙ is in
-    let least : length octets ≤ length octets = omega arith in
-    let most : length labels ≤ length labels = omega arith in
-    let short_of = subst (λ labels. wire_length labels ≤ 255) (sym (append-nil labels)) short in
-    let good = places_good octets encoded (0 ∷ []) labels [] 0 (length octets) (ends_plain octets) each short_of headed least here in
-    subst (λ first. AreGood (octets ++ encoded) (places_of (length octets) first 0)) (sym (take_all (length labels) labels most)) good
-labels_good octets places labels encoded (IsEncoded.pointed count place longest is) each short headed =
-    let first = take (length labels - count) labels in
-    let rest = drop (length labels - count) labels in
-    let whole_of : first ++ rest ≡ labels = take-append-drop (length labels - count) labels in
-    let here : drop (length octets) (octets ++ encoded) ≡ unrooted first ++ pointer_to place.at = drop_at octets encoded (length octets) refl ∙ is in
-    let least : length octets ≤ length octets = omega arith in
-    places_good octets encoded (pointer_to place.at) first rest (place.pointers + 1) (length octets) (ends_pointed octets labels count place headed longest.run)
-    (each_first first rest (subst AreLabels (sym whole_of) each)) (subst (λ labels. wire_length labels ≤ 255) (sym whole_of) short) headed least here
+labels_good octets places labels encoded is each short headed =
+    written_good octets labels encoded (written_of is) (pointers_of is) (written octets places labels encoded is headed)
+    each short headed
+
+-- also where other octets come between.
+pub labels_good_behind : (octets between : List ℕ) (places : List Place) (labels : List (List ℕ)) (encoded : List ℕ)
+    → (is : IsEncoded octets places labels encoded) → AreLabels labels → wire_length labels ≤ 255 → 12 ≤ length octets
+    → AreGood (octets ++ between ++ encoded)
+    (places_of (length (octets ++ between)) (take (written_of is) labels) (pointers_of is))
+labels_good_behind octets between places labels encoded is each short headed =
+    let both = length-append octets between in
+    written_good (octets ++ between) labels encoded (written_of is) (pointers_of is)
+    (written_behind octets between labels encoded (written_of is) (pointers_of is)
+    (written octets places labels encoded is headed))
+    each short (omega (arith, headed, both))
 
 -- An encoded name is never longer than the plain one.
 pub never_longer : (octets : List ℕ) (places : List Place) (labels : List (List ℕ)) (encoded : List ℕ)
