@@ -21,24 +21,30 @@ pub use Rattle.octseq_dns.proofs.Standing.{grown, stands_grown, name_grown}
 abbrev under : List ℕ → List ℕ → List ℕ
 under header octets = header ++ drop 12 octets
 
-under_length : (header octets : List ℕ) → length header ≡ 12 → 12 ≤ length octets → length (under header octets) ≡ length octets
+under_length : (header octets : List ℕ) → length header ≡ 12 → 12 ≤ length octets
+    → length (under header octets) ≡ length octets
 under_length header octets long headed =
     let both = length-append header (drop 12 octets) in
     let behind = length-drop 12 octets in
     omega (arith, both, behind, long, headed)
 
-under_grown : (header octets more : List ℕ) → 12 ≤ length octets → under header octets ++ more ≡ under header (octets ++ more)
+under_grown : (header octets more : List ℕ) → 12 ≤ length octets
+    → under header octets ++ more ≡ under header (octets ++ more)
 under_grown header octets more headed =
-    append_assoc header (drop 12 octets) more ∙ ap (λ behind. header ++ behind) (sym (drop-append-le 12 octets more headed))
+    append_assoc header (drop 12 octets) more
+    ∙ ap (λ behind. header ++ behind) (sym (drop-append-le 12 octets more headed))
 
 -- what stands somewhere under a header stands there as the message grows
-grows_under : (header octets more : List ℕ) (place start pointers : ℕ) (labels : List (List ℕ)) (v : Window) → 12 ≤ length octets
-    → Stands start (at place (whole (under header octets))) labels pointers v → Stands start (at place (whole (under header (octets ++ more)))) labels pointers (grown more v)
+grows_under : (header octets more : List ℕ) (place start pointers : ℕ) (labels : List (List ℕ)) (v : Window)
+    → 12 ≤ length octets
+    → Stands start (at place (whole (under header octets))) labels pointers v
+    → Stands start (at place (whole (under header (octets ++ more)))) labels pointers (grown more v)
 grows_under header octets more place start pointers labels v headed stands =
     let within : length (under header octets) ≤ length (under header octets) = omega arith in
     let here = stands_grown more start (at place (whole (under header octets))) v labels pointers within stands in
     let there : grown more (at place (whole (under header octets))) ≡ at place (whole (under header (octets ++ more))) =
-    grown_whole (under header octets) more place ∙ ap (λ all. at place (whole all)) (under_grown header octets more headed) in
+    grown_whole (under header octets) more place
+    ∙ ap (λ all. at place (whole all)) (under_grown header octets more headed) in
     subst (λ w. Stands start w labels pointers (grown more v)) there here
 
 -- Labels stay where they stand as a message grows,
@@ -58,7 +64,8 @@ stands_headed header octets place labels pointers headed stands = (
   stands.0,
   λ other long.
       let here = stands.1 other long in
-      let same : under other octets ≡ under other (under header octets) = ap (λ behind. other ++ behind) (sym (drop_at header (drop 12 octets) 12 headed)) in
+      let same : under other octets ≡ under other (under header octets) =
+      ap (λ behind. other ++ behind) (sym (drop_at header (drop 12 octets) 12 headed)) in
       (here.0, subst (λ all. Stands place (at place (whole all)) labels pointers here.0) same here.1),
 )
 
@@ -74,12 +81,13 @@ good_grows octets more places headed good = All-weaker (IsGood octets) (IsGood (
 
 pub good_headed : (header octets : List ℕ) (places : List Place) → length header ≡ 12 → AreGood octets places
     → AreGood (header ++ drop 12 octets) places
-good_headed header octets places headed good = All-weaker (IsGood octets) (IsGood (under header octets)) (λ place is. record {
-  labels = is.labels;
-  some = is.some;
-  short = is.short;
-  stands = stands_headed header octets place.at is.labels place.pointers headed is.stands;
-}) places good
+good_headed header octets places headed good = All-weaker (IsGood octets) (IsGood (under header octets))
+    (λ place is. record {
+      labels = is.labels;
+      some = is.some;
+      short = is.short;
+      stands = stands_headed header octets place.at is.labels place.pointers headed is.stands;
+    }) places good
 
 -- the places that a table keeps of good ones are good
 pub good_kept : (octets : List ℕ) (most : Option ℕ) (places : List Place) → AreGood octets places
@@ -88,7 +96,8 @@ good_kept octets (Some most) places good = All-take (IsGood octets) most places 
 good_kept octets None places good = good
 
 -- labels stand before the end of a message
-stands_before : (octets : List ℕ) (place : ℕ) (labels : List (List ℕ)) (pointers : ℕ) → 12 ≤ length octets → StandsAt octets place labels pointers → place < length octets
+stands_before : (octets : List ℕ) (place : ℕ) (labels : List (List ℕ)) (pointers : ℕ) → 12 ≤ length octets
+    → StandsAt octets place labels pointers → place < length octets
 stands_before octets place labels pointers headed stands =
     let header : List ℕ = replicate 12 0 in
     let long = length-replicate {A = ℕ} 12 0 in
@@ -102,14 +111,18 @@ stands_before octets place labels pointers headed stands =
 -- What is written behind the first labels of a name stands there for the rest of them, whatever comes behind it and
 -- whatever the header says.
 abbrev Ends : List ℕ → List ℕ → List (List ℕ) → ℕ → Type 0
-Ends octets ending rest pointers = (more behind header : List ℕ) (start place : ℕ) → length octets ≤ start → length header ≡ 12
+Ends octets ending rest pointers = (more behind header : List ℕ) (start place : ℕ) → length octets ≤ start
+    → length header ≡ 12
     → drop place (under header (octets ++ more)) ≡ ending ++ behind
-    → Stands start (at place (whole (under header (octets ++ more)))) rest pointers (at (place + length ending) (whole (under header (octets ++ more))))
+    → Stands start (at place (whole (under header (octets ++ more)))) rest pointers
+    (at (place + length ending) (whole (under header (octets ++ more))))
 
 ends_plain : (octets : List ℕ) → Ends octets (0 ∷ []) [] 0
-ends_plain octets more behind header start place before long is = Stands.root (root_at (under header (octets ++ more)) behind place is)
+ends_plain octets more behind header start place before long is =
+    Stands.root (root_at (under header (octets ++ more)) behind place is)
 
-ends_pointed : (octets : List ℕ) (labels : List (List ℕ)) (count : ℕ) (place : Place) → 12 ≤ length octets → IsRun octets labels count place
+ends_pointed : (octets : List ℕ) (labels : List (List ℕ)) (count : ℕ) (place : Place) → 12 ≤ length octets
+    → IsRun octets labels count place
     → Ends octets (pointer_to place.at) (drop (length labels - count) labels) (place.pointers + 1)
 ends_pointed octets labels count place headed run more behind header start here before long is =
     let all = under header (octets ++ more) in
@@ -120,10 +133,12 @@ ends_pointed octets labels count place headed run more behind header start here 
     let grows = grows_under header octets more place.at place.at place.pointers rest there.0 headed there.1 in
     let earlier : place.at < start = omega (arith, near, before) in
     let one : suc place.pointers ≡ place.pointers + 1 = omega arith in
-    subst (λ n. Stands start (at here (whole all)) rest n (at (here + 2) (whole all))) one (Stands.pointer (pointer_at all behind start here place.at is run.near earlier) grows)
+    subst (λ n. Stands start (at here (whole all)) rest n (at (here + 2) (whole all))) one
+    (Stands.pointer (pointer_at all behind start here place.at is run.near earlier) grows)
 
 -- where octets that come behind a message stand, whatever its header says
-behind_under : (header octets more : List ℕ) (place : ℕ) → length header ≡ 12 → 12 ≤ place → drop place (under header (octets ++ more)) ≡ drop place (octets ++ more)
+behind_under : (header octets more : List ℕ) (place : ℕ) → length header ≡ 12 → 12 ≤ place
+    → drop place (under header (octets ++ more)) ≡ drop place (octets ++ more)
 behind_under header octets more place long far = drop-append-drop 12 (octets ++ more) header place far long
 
 each_first : (first rest : List (List ℕ)) → AreLabels (first ++ rest) → AreLabels first
@@ -131,37 +146,48 @@ each_first [] rest each = tt
 each_first (label ∷ first) rest each = (each.0, each.1, each_first first rest each.2)
 
 -- the first labels and the rest stand where they are written
-stand_written : (octets ending more behind header : List ℕ) (first rest : List (List ℕ)) (pointers start place : ℕ) → Ends octets ending rest pointers → AreLabels first
-    → length octets ≤ start → length header ≡ 12 → 12 ≤ place → drop place (octets ++ more) ≡ unrooted first ++ ending ++ behind
+stand_written : (octets ending more behind header : List ℕ) (first rest : List (List ℕ)) (pointers start place : ℕ)
+    → Ends octets ending rest pointers → AreLabels first
+    → length octets ≤ start → length header ≡ 12 → 12 ≤ place
+    → drop place (octets ++ more) ≡ unrooted first ++ ending ++ behind
     → Stands start (at place (whole (under header (octets ++ more)))) (first ++ rest) pointers
     (at (place + length (unrooted first) + length ending) (whole (under header (octets ++ more))))
 stand_written octets ending more behind header first rest pointers start place ends each before long far is =
     let all = under header (octets ++ more) in
     let size = length (unrooted first) in
-    let here : drop place all ≡ unrooted first ++ (ending ++ behind) = behind_under header octets more place long far ∙ is ∙ append_assoc (unrooted first) ending behind in
-    let on : drop (place + size) all ≡ ending ++ behind = drop_on all (unrooted first) (ending ++ behind) place size here refl in
-    first_stand all (ending ++ behind) first rest start place pointers (at (place + size + length ending) (whole all)) each here
+    let here : drop place all ≡ unrooted first ++ (ending ++ behind) = behind_under header octets more place long far
+    ∙ is ∙ append_assoc (unrooted first) ending behind in
+    let on : drop (place + size) all ≡ ending ++ behind = drop_on all (unrooted first) (ending ++ behind) place size
+    here refl in
+    first_stand all (ending ++ behind) first rest start place pointers (at (place + size + length ending) (whole all))
+    each here
     (ends more behind header start (place + size) before long on)
 
 -- ---- encoded names
 
-named_written : (octets ending more : List ℕ) (first rest : List (List ℕ)) (pointers : ℕ) (header : List ℕ) → Ends octets ending rest pointers → AreLabels (first ++ rest)
+named_written : (octets ending more : List ℕ) (first rest : List (List ℕ)) (pointers : ℕ) (header : List ℕ)
+    → Ends octets ending rest pointers → AreLabels (first ++ rest)
     → wire_length (first ++ rest) ≤ 255 → pointers ≤ 127 → 12 ≤ length octets → length header ≡ 12
     → IsName (at (length octets) (whole (under header (octets ++ (unrooted first ++ ending) ++ more)))) (first ++ rest)
-    (at (length octets + length (unrooted first ++ ending)) (whole (under header (octets ++ (unrooted first ++ ending) ++ more))))
+    (at (length octets + length (unrooted first ++ ending))
+    (whole (under header (octets ++ (unrooted first ++ ending) ++ more))))
 named_written octets ending more first rest pointers header ends each short few headed long =
     let encoded = unrooted first ++ ending in
     let place = length octets in
-    let is : drop place (octets ++ (encoded ++ more)) ≡ unrooted first ++ ending ++ more = drop_at octets (encoded ++ more) place refl in
+    let is : drop place (octets ++ (encoded ++ more)) ≡ unrooted first ++ ending ++ more =
+    drop_at octets (encoded ++ more) place refl in
     let least : place ≤ place = omega arith in
-    let stands = stand_written octets ending (encoded ++ more) more header first rest pointers place place ends (each_first first rest each) least long headed is in
+    let stands = stand_written octets ending (encoded ++ more) more header first rest pointers place place ends
+    (each_first first rest each) least long headed is in
     let both = length-append (unrooted first) ending in
     let end : place + length (unrooted first) + length ending ≡ place + length encoded = omega (arith, both) in
     let apart : octets ++ (encoded ++ more) ≡ octets ++ encoded ++ more = sym (append_assoc octets encoded more) in
-    let at_end = subst (λ q. Stands place (at place (whole (under header (octets ++ (encoded ++ more))))) (first ++ rest) pointers (at q (whole (under header (octets ++ (encoded ++ more)))))) end stands in
+    let at_end = subst (λ q. Stands place (at place (whole (under header (octets ++ (encoded ++ more)))))
+    (first ++ rest) pointers (at q (whole (under header (octets ++ (encoded ++ more)))))) end stands in
     record {
       pointers = pointers;
-      stands = subst (λ all. Stands place (at place (whole (under header all))) (first ++ rest) pointers (at (place + length encoded) (whole (under header all)))) apart at_end;
+      stands = subst (λ all. Stands place (at place (whole (under header all))) (first ++ rest) pointers
+          (at (place + length encoded) (whole (under header all)))) apart at_end;
       short = short;
       few = few;
     }
@@ -240,7 +266,8 @@ pub encoded_stands : (octets : List ℕ) (places : List Place) (labels : List (L
     → IsName (at (length octets) (whole (header ++ drop 12 (octets ++ encoded ++ more)))) labels
     (at (length octets + length encoded) (whole (header ++ drop 12 (octets ++ encoded ++ more))))
 encoded_stands octets places labels encoded is each short headed =
-    written_stands octets labels encoded (written_of is) (pointers_of is) (written octets places labels encoded is headed)
+    written_stands octets labels encoded (written_of is) (pointers_of is)
+    (written octets places labels encoded is headed)
     each short headed
 
 -- It stands too where other octets come between.
@@ -257,17 +284,22 @@ encoded_stands_behind octets between places labels encoded is each short headed 
     (written octets places labels encoded is headed))
     each short (omega (arith, headed, both))
 
-if_good : (far : Bool) (octets : List ℕ) (places : List Place) → AreGood octets places → AreGood octets (if far then places else [])
+if_good : (far : Bool) (octets : List ℕ) (places : List Place) → AreGood octets places
+    → AreGood octets (if far then places else [])
 if_good true octets places good = good
 if_good false octets places good = All-nil (IsGood octets)
 
-places_good : (octets encoded ending : List ℕ) (first rest : List (List ℕ)) (pointers place : ℕ) → Ends octets ending rest pointers → AreLabels first → wire_length (first ++ rest) ≤ 255
-    → 12 ≤ length octets → length octets ≤ place → drop place (octets ++ encoded) ≡ unrooted first ++ ending → AreGood (octets ++ encoded) (places_of place first pointers)
-places_good octets encoded ending [] rest pointers place ends each short headed before is = All-nil (IsGood (octets ++ encoded))
+places_good : (octets encoded ending : List ℕ) (first rest : List (List ℕ)) (pointers place : ℕ)
+    → Ends octets ending rest pointers → AreLabels first → wire_length (first ++ rest) ≤ 255
+    → 12 ≤ length octets → length octets ≤ place → drop place (octets ++ encoded) ≡ unrooted first ++ ending
+    → AreGood (octets ++ encoded) (places_of place first pointers)
+places_good octets encoded ending [] rest pointers place ends each short headed before is =
+    All-nil (IsGood (octets ++ encoded))
 places_good octets encoded ending (label ∷ first) rest pointers place ends each short headed before is =
     let all = octets ++ encoded in
     let far : 12 ≤ place = omega (arith, headed, before) in
-    let here : drop place all ≡ (length label ∷ label) ++ (unrooted first ++ ending) = is ∙ append_assoc (length label ∷ label) (unrooted first) ending in
+    let here : drop place all ≡ (length label ∷ label) ++ (unrooted first ++ ending) = is
+    ∙ append_assoc (length label ∷ label) (unrooted first) ending in
     let size : length (length label ∷ label) ≡ 1 + length label = omega arith in
     let on = drop_on all (length label ∷ label) (unrooted first ++ ending) place (1 + length label) here size in
     let good : IsGood all (record { at = place; pointers = pointers }) = record {
@@ -278,13 +310,17 @@ places_good octets encoded ending (label ∷ first) rest pointers place ends eac
         far,
         λ header long. (
           at (place + length (unrooted (label ∷ first)) + length ending) (whole (under header all)),
-          stand_written octets ending encoded [] header (label ∷ first) rest pointers place place ends each before long far (is ∙ sym (append-nil (unrooted (label ∷ first) ++ ending))),
+          stand_written octets ending encoded [] header (label ∷ first) rest pointers place place ends each before long
+              far (is ∙ sym (append-nil (unrooted (label ∷ first) ++ ending))),
         ),
       );
     } in
-    let more = places_good octets encoded ending first rest pointers (place + (1 + length label)) ends each.2 (omega (arith, short)) headed (omega (arith, before)) on in
-    if_good (nat_le place 16383) all (record { at = place; pointers = pointers } ∷ places_of (place + (1 + length label)) first pointers)
-    (All-cons (IsGood all) (record { at = place; pointers = pointers }) (places_of (place + (1 + length label)) first pointers) good more)
+    let more = places_good octets encoded ending first rest pointers (place + (1 + length label)) ends each.2
+    (omega (arith, short)) headed (omega (arith, before)) on in
+    if_good (nat_le place 16383) all
+    (record { at = place; pointers = pointers } ∷ places_of (place + (1 + length label)) first pointers)
+    (All-cons (IsGood all) (record { at = place; pointers = pointers })
+    (places_of (place + (1 + length label)) first pointers) good more)
 
 written_good : (octets : List ℕ) (labels : List (List ℕ)) (encoded : List ℕ) (count pointers : ℕ)
     → Written octets labels encoded count pointers → AreLabels labels → wire_length labels ≤ 255 → 12 ≤ length octets
