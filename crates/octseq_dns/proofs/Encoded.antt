@@ -1,16 +1,19 @@
 -- What stands in a message stays there as it grows and as its header changes, and an encoded name stands where it is
 -- written.
-use Rattle.std.proofs.Common.{◌≡◌, ℕ, suc, ◌+◌, ◌-◌, ◌<◌, ◌≤◌, Bool, true, false, List, [], ◌∷◌, ◌++◌, length, take, drop, replicate, Option, Some, None, nat_le, if◌then◌else◌, append_assoc, refl, sym, ap, ◌∙◌, subst, arith}
-use Rattle.std.proofs.lemmas.List.{append-nil, length-append, length-drop, length-replicate, take_all, drop_at, drop-append-le, take-append-drop}
+use Rattle.std.proofs.Common.{◌≡◌, ℕ, suc, ◌+◌, ◌-◌, ◌<◌, ◌≤◌, Bool, true, false, List, [], ◌∷◌, ◌++◌, length, take}
+use Rattle.std.proofs.Common.{drop, replicate, Option, Some, None, nat_le, if◌then◌else◌, append_assoc, refl, sym, ap}
+use Rattle.std.proofs.Common.{◌∙◌, subst, arith}
+use Rattle.std.proofs.lemmas.List.{append-nil, length-append, length-drop, length-replicate, take_all, drop_at}
+use Rattle.std.proofs.lemmas.List.{drop-append-le, take-append-drop}
 use Rattle.std.proofs.lemmas.List.Elements.{All-nil, All-cons, All-weaker, All-take}
 use Rattle.std.proofs.lemmas.Slice.{drop-append-drop}
-use Rattle.octseq.specs.Window.{Window, left, at, whole}
-use Rattle.octseq_dns.specs.Encoded.{IsRun, IsLongest, IsEncoded, unrooted, pointer_to, written_of, pointers_of}
+use Rattle.octseq.specs.Window.{Window, at, whole}
+use Rattle.octseq_dns.specs.Encoded.{IsRun, IsEncoded, unrooted, pointer_to, written_of, pointers_of}
 use Rattle.octseq_dns.specs.Place.{StandsAt, IsGood, AreGood, places_of, kept}
 use Rattle.octseq_dns.specs.declared.place.Place.{Place}
-use Rattle.octseq_dns.proofs.Standing.{root_at, pointer_at, first_stand, drop_on, grown_whole, stands_later}
+use Rattle.octseq_dns.proofs.Standing.{root_at, pointer_at, first_stand, drop_on, grown_whole}
 use Rattle.octseq_dns_name.specs.Name.{Stands, IsName, wire_length}
-use Rattle.octseq_dns_name.specs.Wire.{wire, AreLabels}
+use Rattle.octseq_dns_name.specs.Wire.{AreLabels}
 use Rattle.octseq_dns_name.proofs.Names.{wire_append, stands_takes, label_count}
 use Rattle.octseq_dns_name.proofs.Wires.{bodies_length, wire_has}
 pub use Rattle.octseq_dns.proofs.Standing.{grown, stands_grown, name_grown}

@@ -1,10 +1,12 @@
 -- What stands at a place of octets, told from the octets there; and that it stands there too when more octets come.
-use Rattle.std.proofs.Common.{◌≡◌, ℕ, suc, ◌+◌, ◌-◌, ◌*◌, ◌/◌, ◌%◌, ◌<◌, ◌≤◌, List, [], ◌∷◌, ◌++◌, length, take, drop, append_assoc, refl, sym, ap, ◌∙◌, subst, arith}
-use Rattle.std.proofs.lemmas.List.{length-append, length-drop, drop-drop, drop_at, take_at, take-append-le, drop-append-le}
+use Rattle.std.proofs.Common.{◌≡◌, ℕ, ◌+◌, ◌-◌, ◌*◌, ◌/◌, ◌%◌, ◌<◌, ◌≤◌, List, [], ◌∷◌, ◌++◌, length, take, drop}
+use Rattle.std.proofs.Common.{append_assoc, refl, sym, ap, ◌∙◌, subst, arith}
+use Rattle.std.proofs.lemmas.List.{length-append, length-drop, drop-drop, drop_at, take_at, take-append-le}
+use Rattle.std.proofs.lemmas.List.{drop-append-le}
 use Rattle.octseq.specs.Integer.{be}
 use Rattle.octseq.specs.Window.{Window, left, next, past, at, whole}
 use Rattle.octseq_dns.specs.Encoded.{unrooted, pointer_to}
-use Rattle.octseq_dns_name.specs.Name.{HasRoot, HasLabel, HasPointer, Stands, IsName, octet, wire_length}
+use Rattle.octseq_dns_name.specs.Name.{HasRoot, HasLabel, HasPointer, Stands, IsName, octet}
 use Rattle.octseq_dns_name.specs.Wire.{AreLabels}
 
 -- ---- pieces
@@ -177,22 +179,6 @@ name_grown more w v labels within name = record {
   short = name.short;
   few = name.few;
 }
-
--- A part of a name may have begun later.
-pub stands_later : (start later : ℕ) (w v : Window) (labels : List (List ℕ)) (pointers : ℕ) → start ≤ later
-    → Stands start w labels pointers v → Stands later w labels pointers v
-stands_later start later w v labels pointers before (Stands.root has) = Stands.root has
-stands_later start later w v labels pointers before (Stands.label {u = u} {labels = rest} has stands) =
-    Stands.label has (stands_later start later u v rest pointers before stands)
-stands_later start later w v labels pointers before (Stands.pointer {to = to} has stands) = Stands.pointer
-    (record {
-      room = has.room;
-      mark = has.mark;
-      place = has.place;
-      before = let early =
-          has.before in omega (arith, early, before);
-      behind = has.behind;
-    }) stands
 
 -- the window of octets with more behind them
 pub grown_whole : (octets more : List ℕ) (place : ℕ)

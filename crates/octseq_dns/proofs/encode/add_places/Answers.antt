@@ -1,4 +1,4 @@
-use Rattle.std.proofs.Common.{◌≡◌, ◌+◌, ◌-◌, [], ◌∷◌, ◌++◌, length, take, refl, sym, ap, ◌∙◌, subst, arith}
+use Rattle.std.proofs.Common.{◌+◌, ◌-◌, [], ◌∷◌, ◌++◌, take, sym, ap, ◌∙◌}
 use Rattle.octseq_dns.specs.Place.{places_of, kept}
 use Rattle.octseq_dns.specs.declared.place.Place.{Place}
 use Rattle.octseq_dns.proofs.Tables.{kept_on, kept_front, all_added, one_added, none_added}

@@ -1,4 +1,4 @@
-use Rattle.std.proofs.Common.{◌≡◌, ℕ, List, sym, ap, ◌∙◌, subst, arith, rules, IsNone, IsErr, OnOk}
+use Rattle.std.proofs.Common.{◌≡◌, sym, ap, ◌∙◌, subst, arith, IsErr}
 use Rattle.octseq.specs.Parser.{window}
 use Rattle.octseq.specs.Window.{at, whole}
 use Rattle.octseq_dns_name.specs.Name.{IsName}

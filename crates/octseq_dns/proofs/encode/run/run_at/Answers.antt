@@ -1,4 +1,4 @@
-use Rattle.std.proofs.Common.{◌≡◌, ◌-◌, ℕ, List, length, drop, refl, sym, ap, ◌∙◌, subst}
+use Rattle.std.proofs.Common.{◌-◌, length, drop, refl, sym, subst}
 use Rattle.octseq.specs.Window.{at, whole}
 use Rattle.octseq_dns.proofs.Runs.{run_labels}
 use Rattle.octseq_dns_name.specs.Name.{IsName}
