@@ -1,18 +1,21 @@
 -- What stands in a message stays there as it grows and as its header changes, and an encoded name stands where it is
 -- written.
 use Rattle.std.proofs.Common.{◌≡◌, ℕ, suc, ◌+◌, ◌-◌, ◌<◌, ◌≤◌, Bool, true, false, List, [], ◌∷◌, ◌++◌, length, take}
-use Rattle.std.proofs.Common.{drop, replicate, Option, Some, None, nat_le, if◌then◌else◌, append_assoc, refl, sym, ap}
+use Rattle.std.proofs.Common.{drop, get_or, replicate, Option, Some, None, nat_le, if◌then◌else◌, append_assoc, refl}
+use Rattle.std.proofs.Common.{sym, ap}
 use Rattle.std.proofs.Common.{◌∙◌, subst, arith}
 use Rattle.std.proofs.lemmas.List.{append-nil, length-append, length-drop, length-replicate, take_all, drop_at}
 use Rattle.std.proofs.lemmas.List.{drop-append-le, take-append-drop}
-use Rattle.std.proofs.lemmas.List.Elements.{All-nil, All-cons, All-weaker, All-take}
+use Rattle.std.proofs.lemmas.List.Elements.{All-nil, All-cons, All-weaker, All-take, All-contains}
 use Rattle.std.proofs.lemmas.Slice.{drop-append-drop}
 use Rattle.octseq.specs.Window.{Window, at, whole}
-use Rattle.octseq_dns.specs.Encoded.{IsRun, IsEncoded, unrooted, pointer_to, written_of, pointers_of}
+use Rattle.octseq_dns.specs.Encoded.{IsRun, IsLongest, HasNoRun, IsEncoded, Encodes, unrooted, pointer_to}
+use Rattle.octseq_dns.specs.Encoded.{written_of, pointers_of}
 use Rattle.octseq_dns.specs.Place.{StandsAt, IsGood, AreGood, places_of, kept}
 use Rattle.octseq_dns.specs.declared.place.Place.{Place}
 use Rattle.octseq_dns.proofs.Standing.{root_at, pointer_at, first_stand, drop_on, grown_whole}
 use Rattle.octseq_dns_name.specs.Name.{Stands, IsName, wire_length}
+use Rattle.octseq_dns_name.specs.OneName.{one_standing}
 use Rattle.octseq_dns_name.specs.Wire.{AreLabels}
 use Rattle.octseq_dns_name.proofs.Names.{wire_append, stands_takes, label_count}
 use Rattle.octseq_dns_name.proofs.Wires.{bodies_length, wire_has}
@@ -72,7 +75,7 @@ stands_headed header octets place labels pointers headed stands = (
       (here.0, subst (λ all. Stands place (at place (whole all)) labels pointers here.0) same here.1),
 )
 
--- and so the places of a table stay good.
+-- and so the places of a table stay good as the message grows,
 pub good_grows : (octets more : List ℕ) (places : List Place) → 12 ≤ length octets → AreGood octets places
     → AreGood (octets ++ more) places
 good_grows octets more places headed good = All-weaker (IsGood octets) (IsGood (octets ++ more)) (λ place is. record {
@@ -82,6 +85,7 @@ good_grows octets more places headed good = All-weaker (IsGood octets) (IsGood (
   stands = stands_grows octets more place.at is.labels place.pointers headed is.stands;
 }) places good
 
+-- and as its header changes.
 pub good_headed : (header octets : List ℕ) (places : List Place) → length header ≡ 12 → AreGood octets places
     → AreGood (header ++ drop 12 octets) places
 good_headed header octets places headed good = All-weaker (IsGood octets) (IsGood (under header octets))
@@ -378,3 +382,89 @@ never_longer octets places labels encoded (IsEncoded.pointed count place longest
     let least = run.some in
     let within = run.within in
     omega (arith, whole_of, both, size, written, plain, some, left, least, within)
+
+-- ---- a name that was encoded as the message grows
+
+-- A run of a longer message at a place that is good in the message is one there.
+run_before : (octets more : List ℕ) (labels : List (List ℕ)) (count : ℕ) (place : Place) → 12 ≤ length octets
+    → IsGood octets place → IsRun (octets ++ more) labels count place → IsRun octets labels count place
+run_before octets more labels count place headed good run =
+    let header : List ℕ = replicate 12 0 in
+    let long = length-replicate {A = ℕ} 12 0 in
+    let rest = drop (length labels - count) labels in
+    let grows = stands_grows octets more place.at good.labels place.pointers headed good.stands in
+    let there = grows.1 header long in
+    let stands = run.stands in
+    let here = stands.1 header long in
+    let same = one_standing place.at (at place.at (whole (under header (octets ++ more)))) there.0 here.0 good.labels
+    rest
+    place.pointers place.pointers there.1 here.1 in
+    record {
+      some = run.some;
+      within = run.within;
+      near = run.near;
+      few = run.few;
+      stands = subst (λ labels. StandsAt octets place.at labels place.pointers) same.0 good.stands;
+    }
+
+run_grows : (octets more : List ℕ) (labels : List (List ℕ)) (count : ℕ) (place : Place) → 12 ≤ length octets
+    → IsRun octets labels count place → IsRun (octets ++ more) labels count place
+run_grows octets more labels count place headed run = record {
+  some = run.some;
+  within = run.within;
+  near = run.near;
+  few = run.few;
+  stands = stands_grows octets more place.at (drop (length labels - count) labels) place.pointers headed run.stands;
+}
+
+-- What a name is encoded as behind octets it is encoded as behind more.
+pub encodes_grows : (octets more : List ℕ) (places : List Place) (labels : List (List ℕ)) (encoded : List ℕ)
+    (count pointers : ℕ) → 12 ≤ length octets → AreGood octets places
+    → Encodes octets places labels encoded count pointers
+    → Encodes (octets ++ more) places labels encoded count pointers
+encodes_grows octets more places labels encoded count pointers headed good
+    (IsEncoded.plain none is, written_is, pointers_is) =
+    let none_more : HasNoRun (octets ++ more) places labels = λ k d inside other run.
+    none k d inside other (run_before octets more labels other (get_or places k d) headed (good k d inside) run) in
+    (IsEncoded.plain none_more is, written_is, pointers_is)
+encodes_grows octets more places labels encoded count pointers headed good
+    (IsEncoded.pointed run_count place longest is, written_is, pointers_is) =
+    let still : IsLongest (octets ++ more) places labels run_count place = record {
+      held = longest.held;
+      run = run_grows octets more labels run_count place headed longest.run;
+      longest = λ k d inside other run. longest.longest k d inside other
+          (run_before octets more labels other (get_or places k d) headed (good k d inside) run);
+    } in
+    (IsEncoded.pointed run_count place still is, written_is, pointers_is)
+
+-- So the relation stays as the message grows.
+pub encoded_grows : (octets more : List ℕ) (places : List Place) (labels : List (List ℕ)) (encoded : List ℕ)
+    → 12 ≤ length octets → AreGood octets places → IsEncoded octets places labels encoded
+    → IsEncoded (octets ++ more) places labels encoded
+encoded_grows octets more places labels encoded headed good is =
+    (encodes_grows octets more places labels encoded (written_of is) (pointers_of is) headed good (is, refl, refl)).0
+
+-- However a name is encoded behind octets, it has one length.
+pub one_length : (octets : List ℕ) (places : List Place) (labels : List (List ℕ)) (encoded other : List ℕ)
+    → IsEncoded octets places labels encoded → IsEncoded octets places labels other → length encoded ≡ length other
+one_length octets places labels encoded other (IsEncoded.plain none is) (IsEncoded.plain also there) =
+    ap length (is ∙ sym there)
+one_length octets places labels encoded other (IsEncoded.plain none is) (IsEncoded.pointed count place longest there) =
+    absurd (All-contains (λ place. (count : ℕ) → ¬ IsRun octets labels count place) places place none longest.held count
+    longest.run)
+one_length octets places labels encoded other (IsEncoded.pointed count place longest is) (IsEncoded.plain none there) =
+    absurd (All-contains (λ place. (count : ℕ) → ¬ IsRun octets labels count place) places place none longest.held count
+    longest.run)
+one_length octets places labels encoded other (IsEncoded.pointed count place longest is)
+    (IsEncoded.pointed more beside also there) =
+    let fewer = All-contains (λ other. (count : ℕ) → IsRun octets labels count other → count ≤ more) places place
+    also.longest longest.held count longest.run in
+    let greater = All-contains (λ other. (more : ℕ) → IsRun octets labels more other → more ≤ count) places beside
+    longest.longest also.held more also.run in
+    let same : count ≡ more = omega (arith, fewer, greater) in
+    let one = ap length is in
+    let two = ap length there in
+    let first = length-append (unrooted (take (length labels - count) labels)) (pointer_to place.at) in
+    let second = length-append (unrooted (take (length labels - more) labels)) (pointer_to beside.at) in
+    let both = ap (λ n. length (unrooted (take (length labels - n) labels))) same in
+    omega (arith, one, two, first, second, both)

@@ -165,6 +165,7 @@ own_header octets headed = (length-take-le 12 octets headed, take-append-drop 12
 dropped_short : (labels : List (List ℕ)) (i : ℕ) → wire_length labels ≤ 255 → wire_length (drop i labels) ≤ 255
 dropped_short labels i short = let fits = unrooted_fits labels i in omega (arith, short, fits)
 
+-- what is a run under any header is one in the message as it is
 pub run_now : (octets : List ℕ) (labels : List (List ℕ)) (count : ℕ) (place : Place) → 12 ≤ length octets
     → wire_length labels ≤ 255 → IsRun octets labels count place
     → IsRunNow octets labels count place
@@ -187,6 +188,7 @@ run_now octets labels count place headed short run =
       };
     }
 
+-- and at a good place what is one as it is is one under any header
 pub run_of_good : (octets : List ℕ) (labels : List (List ℕ)) (count : ℕ) (place : Place) → 12 ≤ length octets
     → IsGood octets place → IsRunNow octets labels count place
     → IsRun octets labels count place
