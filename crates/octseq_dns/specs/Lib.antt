@@ -1,3 +1,6 @@
+pub mod Encoded
+pub mod Place
+pub mod Run
 pub use Rattle.octseq_dns_message.specs.Data
 pub use Rattle.octseq_dns_message.specs.DataText
 pub use Rattle.octseq_dns_message.specs.Edns

@@ -6,6 +6,9 @@
 //! pointers.
 #![tactic(auto)]
 
+mod encode;
+pub mod place;
+
 pub use octseq_dns_message::data::Data;
 pub use octseq_dns_message::header::{Flags, Header};
 pub use octseq_dns_message::iana::{Class, Opcode, Rcode, Rtype};
@@ -15,3 +18,4 @@ pub use octseq_dns_message::{data, header, iana, message, ttl};
 pub use octseq_dns_name::error::{LabelsError, Malformed, NameError};
 pub use octseq_dns_name::name::{Name, ParsedName};
 pub use octseq_dns_name::{error, name};
+pub use place::{FixedPlaces, NoCompression, Place, Places};
