@@ -1,3 +1,4 @@
+pub mod Headers
 pub use Rattle.octseq_dns_message.proofs.Edns
 pub use Rattle.octseq_dns_message.proofs.Formats
 pub use Rattle.octseq_dns_message.proofs.Forms

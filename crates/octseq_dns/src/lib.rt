@@ -6,6 +6,10 @@
 //! pointers.
 #![tactic(auto)]
 
+pub mod builder;
+pub mod encode;
+pub mod place;
+
 pub use octseq_dns_message::data::Data;
 pub use octseq_dns_message::header::{Flags, Header};
 pub use octseq_dns_message::iana::{Class, Opcode, Rcode, Rtype};

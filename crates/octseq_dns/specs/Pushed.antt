@@ -1,0 +1,38 @@
+-- What a push does to a message.
+use Rattle.std.specs.Prelude.{◌≡◌, ℕ, ◌+◌, ◌<◌, ◌≤◌, min, ◌⊎◌, Option, Some, None, List, ◌++◌, length, drop, Result, OnOk, OnErr}
+use Rattle.octseq.specs.Integer.{octets_be}
+use Rattle.octseq.specs.Limit.{IsPast, IsWithin}
+use Rattle.octseq.specs.Refusal.{IsShort, IsMemory, append_error}
+use Rattle.octseq.specs.declared.AppendError.{AppendError}
+use Rattle.octseq_dns_message.specs.declared.header.Header.{Header}
+use Rattle.octseq_dns.specs.Encoded.{IsEncoded}
+use Rattle.octseq_dns.specs.Written.{Asked, header_octets}
+use Rattle.octseq_dns.specs.declared.place.Place.{Place}
+
+-- A message that is being written: the builder of its octets, the places of names in it, and its header.
+pub record Building (B T : Type 0) : Type 0 where
+  pub octets : B
+  pub places : T
+  pub header : Header
+
+-- the greatest length of a message: 65,535 octets, or the limit of the builder where that is less
+abbrev pub message_limit : Option ℕ → Option ℕ
+message_limit None = Some 65535
+message_limit (Some limit) = Some (min limit 65535)
+
+-- the octets of a question: its name, encoded against the octets and the places before it, its type and its class
+abbrev pub IsQuestionEntry : List ℕ → List Place → Asked → List ℕ → Type 0
+IsQuestionEntry octets places asked entry = (name : List ℕ) × IsEncoded octets places asked.labels name
+    × (entry ≡ name ++ (octets_be 2 asked.qtype ++ octets_be 2 asked.qclass))
+
+-- A call pushes the octets of an entry behind a message, and the header counts it; or the message stays. It is refused as short only where a
+-- message that goes on with what the entry has at least would pass the limit, or where so many entries are there that no count has room
+-- for one more; and for memory only where the builder or the table requests memory.
+pub record Pushes (limit : Option ℕ) (Asks : Type 0) (result : Result (Unit {0}) AppendError) (IsEntry IsLeast : List ℕ → Type 0) (count : ℕ)
+    (old : List ℕ) (header : Header) (new : List ℕ) : Type 0 where
+  pub ok : OnOk result ((entry : List ℕ) × IsEntry entry × (new ≡ header_octets header ++ (drop 12 old ++ entry)))
+  pub fits : OnOk result (IsWithin (message_limit limit) (length new) × (count < 65535))
+  pub err : OnErr result (new ≡ old)
+  pub short : IsShort append_error result
+      → ((least : List ℕ) × IsLeast least × IsPast (message_limit limit) (length old + length least)) ⊎ (65535 ≤ count)
+  pub memory : IsMemory append_error result → Asks
