@@ -1,4 +1,5 @@
 pub mod Headers
+pub mod Pushes
 pub use Rattle.octseq_dns_message.proofs.Edns
 pub use Rattle.octseq_dns_message.proofs.Formats
 pub use Rattle.octseq_dns_message.proofs.Forms
