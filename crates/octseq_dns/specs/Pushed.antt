@@ -25,14 +25,17 @@ abbrev pub IsQuestionEntry : List ℕ → List Place → Asked → List ℕ → 
 IsQuestionEntry octets places asked entry = (name : List ℕ) × IsEncoded octets places asked.labels name
     × (entry ≡ name ++ (octets_be 2 asked.qtype ++ octets_be 2 asked.qclass))
 
--- A call pushes the octets of an entry behind a message, and the header counts it; or the message stays. It is refused as short only where a
--- message that goes on with what the entry has at least would pass the limit, or where so many entries are there that no count has room
--- for one more; and for memory only where the builder or the table requests memory.
+-- octets of an entry behind a message would pass the limit
+abbrev pub PassesWith : Option ℕ → List ℕ → (List ℕ → Type 0) → Type 0
+PassesWith limit old IsEntry = (entry : List ℕ) × IsEntry entry × IsPast limit (length old + length entry)
+
+-- A call pushes the octets of an entry behind a message, and the header counts it; or the message stays. It is refused as short only where the
+-- message with what the entry has at least would pass the limit, or where so many entries are there that no count has room for one more; and
+-- for memory only where the builder or the table requests memory. A message that would pass the limit isn't written.
 pub record Pushes (limit : Option ℕ) (Asks : Type 0) (result : Result (Unit {0}) AppendError) (IsEntry IsLeast : List ℕ → Type 0) (count : ℕ)
     (old : List ℕ) (header : Header) (new : List ℕ) : Type 0 where
-  pub ok : OnOk result ((entry : List ℕ) × IsEntry entry × (new ≡ header_octets header ++ (drop 12 old ++ entry)))
+  pub ok : OnOk result (∥ ((entry : List ℕ) × IsEntry entry × (new ≡ header_octets header ++ (drop 12 old ++ entry))) ∥₁)
   pub fits : OnOk result (IsWithin (message_limit limit) (length new) × (count < 65535))
   pub err : OnErr result (new ≡ old)
-  pub short : IsShort append_error result
-      → ((least : List ℕ) × IsLeast least × IsPast (message_limit limit) (length old + length least)) ⊎ (65535 ≤ count)
+  pub short : IsShort append_error result → ∥ PassesWith (message_limit limit) old IsLeast ∥₁ ⊎ (65535 ≤ count)
   pub memory : IsMemory append_error result → Asks

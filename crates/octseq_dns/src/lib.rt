@@ -7,7 +7,7 @@
 #![tactic(auto)]
 
 pub mod builder;
-pub mod encode;
+mod encode;
 pub mod place;
 
 pub use octseq_dns_message::data::Data;
@@ -19,3 +19,4 @@ pub use octseq_dns_message::{data, header, iana, message, ttl};
 pub use octseq_dns_name::error::Malformed;
 pub use octseq_dns_name::name::{Name, ParsedName};
 pub use octseq_dns_name::{error, name};
+pub use place::{FixedPlaces, NoCompression, Place, Places};

@@ -7,11 +7,12 @@ ghost use Rattle.octseq.specs.Refusal.{IsShort, IsMemory, append_error};
 ghost use Rattle.octseq_dns_name.specs.Name.{wire_length};
 ghost use Rattle.octseq_dns_name.specs.Read.{labels_of};
 ghost use Rattle.octseq_dns_name.specs.Wire.{AreLabels};
+ghost use Rattle.octseq_dns.specs.Encoded.{Encodes};
 ghost use Rattle.octseq_dns.specs.Place.{AreGood};
-ghost use Rattle.octseq_dns.specs.Pushed.{message_limit, IsQuestionEntry};
+ghost use Rattle.octseq_dns.specs.Pushed.{message_limit, IsQuestionEntry, PassesWith};
 ghost use Rattle.octseq_dns.specs.Written.{asked_of};
 
-use crate::encode::{Encoded, encode_name};
+use crate::encode::{EncodedName, encode_name};
 use crate::place::Place;
 use octseq::{AppendError, AsOctets, OctetsBuilder, ShortBuf};
 use octseq_dns_message::{Class, Rtype};
@@ -53,20 +54,20 @@ fn append_question<B: OctetsBuilder, R: AsOctets + Copy>(
     qname: &ParsedName<R>,
     qtype: Rtype,
     qclass: Class,
-) -> Result<Encoded, AppendError>
+) -> Result<EncodedName, AppendError>
     requires size { length (B.content octets.old) ≤ 65535 }
     requires room { 12 ≤ length (B.content octets.old) }
-    requires good { AreGood (B.content octets.old) places.now }
-    ensures ok { OnOk result ((entry : List ℕ) × IsQuestionEntry (B.content octets.old) places.now (asked_of qname.now qtype qclass) entry
-        × (B.content octets.new ≡ B.content octets.old ++ entry)) }
-    ensures front { (more : List ℕ) × (B.content octets.new ≡ B.content octets.old ++ more) }
+    requires good { ∥ AreGood (B.content octets.old) places.now ∥₁ }
+    ensures ok { IfOk result (λ encoded. ∥ Encodes (B.content octets.old) places.now (labels_of qname.now)
+        encoded.octets.content encoded.written encoded.pointers ∥₁) }
+    ensures content { IfOk result (λ encoded. B.content octets.new
+        ≡ B.content octets.old ++ (encoded.octets.content ++ (octets_be 2 qtype ++ octets_be 2 qclass))) }
+    ensures front { take (length (B.content octets.old)) (B.content octets.new) ≡ B.content octets.old }
     ensures size { length (B.content octets.new) ≤ 65535 }
-    ensures limit { IsWithin (message_limit B.limit) (length (B.content octets.new)) }
     ensures labels { AreLabels (labels_of qname.now) }
     ensures named { wire_length (labels_of qname.now) ≤ 255 }
-    ensures short { IsShort append_error result → (entry : List ℕ)
-        × IsQuestionEntry (B.content octets.old) places.now (asked_of qname.now qtype qclass) entry
-        × IsPast (message_limit B.limit) (length (B.content octets.old) + length entry) }
+    ensures short { IsShort append_error result → ∥ PassesWith (message_limit B.limit) (B.content octets.old)
+        (IsQuestionEntry (B.content octets.old) places.now (asked_of qname.now qtype qclass)) ∥₁ }
     ensures memory { IsMemory append_error result → B.asks ≡ true }
     ensures borrows { B.borrows octets.new ≡ B.borrows octets.old }
 {
