@@ -1,6 +1,7 @@
 pub mod Encoded
 pub mod Headers
 pub mod Pushes
+pub mod Pushing
 pub mod Standing
 pub use Rattle.octseq_dns_message.proofs.Edns
 pub use Rattle.octseq_dns_message.proofs.Formats
