@@ -9,7 +9,7 @@ use Rattle.octseq_dns_message.specs.Flag.{flag}
 use Rattle.octseq_dns_message.specs.Format.{IsNumber, Row}
 use Rattle.octseq_dns_message.specs.Header.{IsHeader, flag_bits, header_numbers}
 use Rattle.octseq_dns_message.specs.declared.header.Header.{Header}
-use Rattle.octseq_dns.specs.Written.{header_octets}
+use Rattle.octseq_dns.specs.Written.{HeaderFits, header_octets}
 
 pub header_length : (h : Header) → length (header_octets h) ≡ 12
 unfolding octets_be
@@ -66,16 +66,6 @@ bits_small h opcode rcode =
     let ad = flag_most h.flags.ad 32 in
     let cd = flag_most h.flags.cd 16 in
     omega (arith, opcode, rcode, qr, aa, tc, rd, ra, z, ad, cd)
-
--- What numbers of a header fit their octets.
-pub record HeaderFits (h : Header) : Type 0 where
-  pub id : h.id < 65536
-  pub opcode : h.opcode < 16
-  pub rcode : h.rcode < 16
-  pub qdcount : h.qdcount < 65536
-  pub ancount : h.ancount < 65536
-  pub nscount : h.nscount < 65536
-  pub arcount : h.arcount < 65536
 
 pub header_stands : (h : Header) (after : List ℕ) → HeaderFits h → IsHeader (whole (header_octets h ++ after)) h (at 12 (whole (header_octets h ++ after)))
 unfolding numbers_octets AreSmall octets_be

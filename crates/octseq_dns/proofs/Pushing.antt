@@ -8,9 +8,14 @@ use Rattle.octseq.proofs.Written.{length_be, value_be}
 use Rattle.octseq_dns_message.specs.Format.{IsNumber, Row, ◌then◌}
 use Rattle.octseq_dns_message.specs.declared.header.Header.{Header}
 use Rattle.octseq_dns_message.proofs.Formats.{row_more}
-use Rattle.octseq_dns_name.specs.Name.{IsName}
+use Rattle.octseq_dns_name.specs.Name.{IsName, wire_length}
+use Rattle.octseq_dns_name.specs.Wire.{AreLabels}
+use Rattle.octseq_dns.specs.Encoded.{IsEncoded}
+use Rattle.octseq_dns.specs.Pushed.{AppendsEntry, IsQuestionEntry}
 use Rattle.octseq_dns.specs.Told.{Told, IsTold}
-use Rattle.octseq_dns.specs.Written.{Asked, IsAsked, ArePushed, StandsIn, header_octets}
+use Rattle.octseq_dns.specs.Written.{Asked, IsAsked, ArePushed, StandsIn, header_octets, HeaderFits, Writes}
+use Rattle.octseq_dns.specs.declared.place.Place.{Place}
+use Rattle.octseq_dns.proofs.Encoded.{encoded_stands}
 use Rattle.octseq_dns.proofs.Headers.{header_length}
 use Rattle.octseq_dns.proofs.Standing.{drop_on}
 
@@ -83,3 +88,44 @@ question_stands h body name asked typed classed named header more long =
     (at (place + length name) (whole all), (refl, is), (at (place + length name + 2) (whole all), first, second)) in
     subst (λ all. IsAsked (at place (whole all)) asked (at (12 + length (body ++ (name ++ (qtype ++ qclass)))) (whole all))) (sym shown)
     (subst (λ end. IsAsked (at place (whole all)) asked (at end (whole all))) ends whole_is)
+
+-- ---- messages
+
+-- a question more was written
+pub question_written : (old between new : List ℕ) (h k : Header) (places : List Place) (asked : List Asked) (one : Asked) → Writes old h asked [] [] []
+    → AppendsEntry old between (IsQuestionEntry old places one) → AreLabels one.labels → wire_length one.labels ≤ 255 → one.qtype < 65536 → one.qclass < 65536
+    → k ≡ record h { qdcount = h.qdcount + 1 } → HeaderFits k → new ≡ header_octets k ++ drop 12 between → length new ≤ 65535
+    → Writes new k (asked ++ one ∷ []) [] [] []
+question_written old between new h k places asked one so_far added each short typed classed counted fits content size =
+    let body = so_far.body in
+    let first = header_octets h in
+    let entry = added.0 in
+    let name = added.1.0 in
+    let entry_is = added.1.2 in
+    let is = added.1.1 in
+    let begins : old ≡ first ++ body = so_far.octets_are in
+    let together : between ≡ first ++ (body ++ entry) = added.2 ∙ ap (λ old. old ++ entry) begins ∙ append_assoc first body entry in
+    let shown : new ≡ header_octets k ++ (body ++ entry) = content ∙ ap (λ behind. header_octets k ++ behind) (ap (drop 12) together ∙ drop_front first (body ++ entry) 12 (header_length h)) in
+    let encoded : IsEncoded (first ++ body) places one.labels name = subst (λ old. IsEncoded old places one.labels name) begins is in
+    let headed : 12 ≤ length (first ++ body) = let both = length-append first body in let long = header_length h in omega (arith, both, long) in
+    let stands = question_stands h body name one typed classed
+    (λ header more long. encoded_stands (first ++ body) places one.labels name encoded each short headed header more long) in
+    let here : StandsIn IsAsked (body ++ entry) (12 + length body) one (12 + length (body ++ entry)) =
+    subst (λ entry. StandsIn IsAsked (body ++ entry) (12 + length body) one (12 + length (body ++ entry))) (sym entry_is) stands in
+    let before : StandsIn ArePushed (body ++ entry) 12 (asked, ([], ([], []))) (12 + length body) =
+    stands_on ArePushed body entry 12 (12 + length body) (asked, ([], ([], []))) so_far.pushed in
+    let asked_is = so_far.qdcount in
+    let counts = ap (λ h. h.qdcount) counted in
+    let all = length-append asked (one ∷ []) in
+    record {
+      body = body ++ entry;
+      octets_are = shown;
+      size = size;
+      fits = fits;
+      qdcount = omega (arith, asked_is, counts, all);
+      ancount = ap (λ h. h.ancount) counted ∙ so_far.ancount;
+      nscount = ap (λ h. h.nscount) counted ∙ so_far.nscount;
+      arcount = ap (λ h. h.arcount) counted ∙ so_far.arcount;
+      pushed = λ header more long. asked_more (at 12 (whole (header ++ ((body ++ entry) ++ more)))) (at (12 + length body) (whole (header ++ ((body ++ entry) ++ more))))
+          (at (12 + length (body ++ entry)) (whole (header ++ ((body ++ entry) ++ more)))) asked one (before header more long) (here header more long);
+    }

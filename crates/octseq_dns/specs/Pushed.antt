@@ -25,6 +25,10 @@ abbrev pub IsQuestionEntry : List ℕ → List Place → Asked → List ℕ → 
 IsQuestionEntry octets places asked entry = (name : List ℕ) × IsEncoded octets places asked.labels name
     × (entry ≡ name ++ (octets_be 2 asked.qtype ++ octets_be 2 asked.qclass))
 
+-- octets of an entry stand behind a content, which is then another
+abbrev pub AppendsEntry : List ℕ → List ℕ → (List ℕ → Type 0) → Type 0
+AppendsEntry old new IsEntry = (entry : List ℕ) × IsEntry entry × (new ≡ old ++ entry)
+
 -- octets of an entry behind a message would pass the limit
 abbrev pub PassesWith : Option ℕ → List ℕ → (List ℕ → Type 0) → Type 0
 PassesWith limit old IsEntry = (entry : List ℕ) × IsEntry entry × IsPast limit (length old + length entry)

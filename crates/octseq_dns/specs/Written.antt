@@ -44,16 +44,28 @@ abbrev pub StandsIn : {A : Type 0} → (Window → A → Window → Type 0) → 
 StandsIn Is body from one to = (header more : List ℕ) → length header ≡ 12
     → Is (at from (whole (header ++ (body ++ more)))) one (at to (whole (header ++ (body ++ more))))
 
--- Octets are a message of a header and of what was pushed: at most 65,535 octets, and the header counts what was pushed.
-pub record IsWritten (octets : List ℕ) (h : Header) (asked : List Asked) (answers authorities additionals : List Told) : Type 0 where
-  pub body : List ℕ
-  pub octets_are : octets ≡ header_octets h ++ body
-  pub size : length octets ≤ 65535
+-- The numbers of a header fit their octets, and its opcode and rcode their four bits.
+pub record HeaderFits (h : Header) : Type 0 where
   pub id : h.id < 65536
   pub opcode : h.opcode < 16
   pub rcode : h.rcode < 16
+  pub qdcount : h.qdcount < 65536
+  pub ancount : h.ancount < 65536
+  pub nscount : h.nscount < 65536
+  pub arcount : h.arcount < 65536
+
+-- Octets are a message of a header and of what was pushed: at most 65,535 octets, and the header counts what was pushed.
+pub record Writes (octets : List ℕ) (h : Header) (asked : List Asked) (answers authorities additionals : List Told) : Type 0 where
+  pub body : List ℕ
+  pub octets_are : octets ≡ header_octets h ++ body
+  pub size : length octets ≤ 65535
+  pub fits : HeaderFits h
   pub qdcount : h.qdcount ≡ length asked
   pub ancount : h.ancount ≡ length answers
   pub nscount : h.nscount ≡ length authorities
   pub arcount : h.arcount ≡ length additionals
   pub pushed : StandsIn ArePushed body 12 (asked, (answers, (authorities, additionals))) (12 + length body)
+
+-- they are, in some way
+abbrev pub IsWritten : List ℕ → Header → List Asked → List Told → List Told → List Told → Type 0
+IsWritten octets h asked answers authorities additionals = ∥ Writes octets h asked answers authorities additionals ∥₁

@@ -1,8 +1,8 @@
 //! The header of a message, written over the one that stands there.
-ghost use Rattle.std.specs.Prelude.{◌≡◌, ◌+◌, ◌≤◌, ◌++◌, length, drop};
+ghost use Rattle.std.specs.Prelude.{◌≡◌, ◌+◌, ◌<◌, ◌≤◌, ◌++◌, length, drop};
 ghost use Rattle.octseq_dns_message.specs.Flag.{flag};
 ghost use Rattle.octseq_dns_message.specs.Header.{flag_bits};
-ghost use Rattle.octseq_dns.specs.Written.{header_octets};
+ghost use Rattle.octseq_dns.specs.Written.{HeaderFits, header_octets};
 
 use octseq::builder::AsOctetsMut;
 use octseq_dns_message::{Flags, Header};
@@ -20,7 +20,9 @@ fn weight_of(set: bool, weight: u16) -> u16
 
 /// The second number of a header.
 fn bits_of(header: &Header) -> u16
-    ensures { result ≡ flag_bits header.now }
+    ensures bits { result ≡ flag_bits header.now }
+    ensures opcode { header.now.opcode < 16 }
+    ensures rcode { header.now.rcode < 16 }
 {
     let flags = header.flags;
     let first = weight_of(flags.qr, 32768) + u16::from(header.opcode.to_int()) * 2048;
@@ -32,8 +34,9 @@ fn bits_of(header: &Header) -> u16
 
 /// The octets of a header.
 #[tactic(auto, using(octseq::proofs::Written::written_2))]
-pub(super) fn octets_of(header: &Header) -> [u8; HEADER_LEN]
-    ensures { result ≡ header_octets header.now }
+fn octets_of(header: &Header) -> [u8; HEADER_LEN]
+    ensures octets { result ≡ header_octets header.now }
+    ensures fits { HeaderFits header.now }
 {
     let id = header.id.to_be_bytes();
     let bits = bits_of(header).to_be_bytes();
@@ -51,6 +54,7 @@ pub(super) fn octets_of(header: &Header) -> [u8; HEADER_LEN]
 pub(super) fn put_header<B: AsOctetsMut>(octets: &mut B, header: &Header)
     requires { 12 ≤ length (B.content octets.old) }
     ensures content { B.content octets.new ≡ header_octets header.now ++ drop 12 (B.content octets.old) }
+    ensures fits { HeaderFits header.now }
     ensures borrows { B.borrows octets.new ≡ B.borrows octets.old }
 {
     octets.as_mut()[0..HEADER_LEN].copy_from_slice(&octets_of(header));

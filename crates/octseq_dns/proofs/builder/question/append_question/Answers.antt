@@ -7,7 +7,7 @@ use Rattle.octseq_dns.specs.Place.{AreGood}
 use Rattle.octseq_dns_name.specs.Read.{labels_of}
 use Rattle.octseq_dns.specs.Pushed.{message_limit}
 use Rattle.octseq_dns.specs.Written.{asked_of}
-use Rattle.octseq_dns.proofs.builder.draft.append_question.Goals as goal
+use Rattle.octseq_dns.proofs.builder.question.append_question.Goals as goal
 
 pub returns-in_err-append-clause-short : goal.returns-in_err-append-clause-short
 returns-in_err-append-clause-short g c = λ short.
