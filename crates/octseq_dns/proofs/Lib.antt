@@ -1,7 +1,9 @@
+pub mod Building
 pub mod Encoded
 pub mod Headers
 pub mod Pushes
 pub mod Pushing
+pub mod ReadBack
 pub mod Standing
 pub use Rattle.octseq_dns_message.proofs.Edns
 pub use Rattle.octseq_dns_message.proofs.Formats

@@ -1,10 +1,10 @@
 -- What is appended to a message, and when it passes the limit.
-use Rattle.std.proofs.Common.{◌≡◌, ℕ, ◌+◌, ◌<◌, ◌≤◌, Option, List, ◌++◌, length, take, append_assoc, refl, sym, ap, ◌∙◌, subst, arith}
+use Rattle.std.proofs.Common.{◌≡◌, ℕ, ◌+◌, ◌<◌, ◌≤◌, ◌⊎◌, Option, Some, None, Result, Ok, Err, IsErr, List, ◌++◌, length, take, drop, append_assoc, refl, sym, ap, ◌∙◌, subst, arith}
 use Rattle.std.proofs.Math.Logic.{∥∥₁_prop, ∥∥₁_elim}
-use Rattle.std.proofs.lemmas.List.{length-append}
+use Rattle.std.proofs.lemmas.List.{length-append, length-drop, drop-append-le}
 use Rattle.std.proofs.lemmas.List.Elements.{All-append}
 use Rattle.octseq.specs.Integer.{octets_be}
-use Rattle.octseq.specs.Limit.{IsPast}
+use Rattle.octseq.specs.Limit.{IsPast, IsWithin}
 use Rattle.octseq.proofs.Limits.{past_more}
 use Rattle.octseq.proofs.Written.{length_be}
 use Rattle.octseq_dns.specs.Encoded.{IsEncoded, Encodes, written_of, pointers_of}
@@ -12,10 +12,18 @@ use Rattle.octseq_dns.specs.Place.{IsGood, AreGood, places_of, kept}
 use Rattle.octseq_dns_name.specs.Name.{wire_length}
 use Rattle.octseq_dns_name.specs.Wire.{AreLabels}
 use Rattle.octseq_dns.proofs.Encoded.{labels_good, good_grows, good_kept}
-use Rattle.octseq_dns.specs.Pushed.{AppendsEntry, IsQuestionEntry, PassesWith}
-use Rattle.octseq_dns.specs.Written.{Asked}
+use Rattle.octseq_dns.specs.Pushed.{AppendsEntry, IsQuestionEntry, PassesWith, Pushes, message_limit}
+use Rattle.octseq_dns.specs.Written.{Asked, header_octets}
 use Rattle.octseq_dns.specs.declared.place.Place.{Place}
-use Rattle.octseq_dns.proofs.Pushing.{question_written}
+use Rattle.octseq.specs.Refusal.{IsShort, IsMemory, append_error}
+use Rattle.octseq.specs.declared.AppendError.{AppendError}
+use Rattle.octseq_dns_message.specs.declared.header.Header.{Header}
+use Rattle.octseq_dns.proofs.Headers.{header_length}
+use Rattle.std.specs.Coded.{le_prop}
+
+within_prop : (limit : Option ℕ) (n : ℕ) → IsProp (IsWithin limit n)
+within_prop (Some limit) n = le_prop
+within_prop None n = λ a b. refl
 
 -- a question was appended
 pub question_appended : (shown old new : List ℕ) (places held : List Place) (asked : Asked) (name : List ℕ) (written pointers : ℕ) → shown ≡ old → places ≡ held
@@ -61,3 +69,51 @@ question_past limit shown old places held asked name written pointers n same tab
       (name, subst (λ places. IsEncoded old places asked.labels name) table (subst (λ octets. IsEncoded octets places asked.labels name) same found.0), refl),
       past_more limit n (length old + length (name ++ more)) (omega (arith, few, all, both, first, second)) past,
     ) ∣₁)
+
+-- ---- pushes
+
+-- a push that was refused
+pub pushes_err : (limit : Option ℕ) (Asks : Type 0) (result : Result (Unit {0}) AppendError) (IsEntry IsLeast : List ℕ → Type 0) (count : ℕ) (old : List ℕ) (header : Header) (new : List ℕ)
+    → IsErr result → new ≡ old → (IsShort append_error result → ∥ PassesWith (message_limit limit) old IsLeast ∥₁ ⊎ (65535 ≤ count)) → (IsMemory append_error result → Asks)
+    → Pushes limit Asks result IsEntry IsLeast count old header new
+pushes_err limit Asks (Ok v) IsEntry IsLeast count old header new refused same short memory = absurd (let bad : IsErr {T = Unit {0}} {E = AppendError} (Ok v) = refused in cc)
+pushes_err limit Asks (Err e) IsEntry IsLeast count old header new refused same short memory = record { ok = tt; fits = tt; err = same; short = short; memory = memory }
+
+-- a push that wasn't
+pub pushes_ok : (limit : Option ℕ) (Asks : Type 0) (IsEntry IsLeast : List ℕ → Type 0) (count : ℕ) (old between : List ℕ) (header : Header) (new : List ℕ)
+    → ∥ AppendsEntry old between IsEntry ∥₁ → 12 ≤ length old → IsWithin (message_limit limit) (length between) → new ≡ header_octets header ++ drop 12 between → count < 65535
+    → Pushes limit Asks (Ok tt) IsEntry IsLeast count old header new
+pushes_ok limit Asks IsEntry IsLeast count old between header new added headed within content few = record {
+  ok = ∥∥₁_elim added ∥∥₁_prop (λ added. ∣ (
+    added.0,
+    added.1,
+    content ∙ ap (λ behind. header_octets header ++ behind) (ap (drop 12) added.2 ∙ drop-append-le 12 old added.0 headed),
+  ) ∣₁);
+  fits = (
+    ∥∥₁_elim added (within_prop (message_limit limit) (length new)) (λ added.
+    let long = ap length content ∙ length-append (header_octets header) (drop 12 between) in
+    let first = header_length header in
+    let behind = length-drop 12 between in
+    let all = ap length added.2 ∙ length-append old added.0 in
+    let same : length between ≡ length new = omega (arith, long, first, behind, all, headed) in
+    subst (IsWithin (message_limit limit)) same within),
+    few,
+  );
+  err = tt;
+  short = λ short. absurd short;
+  memory = λ memory. absurd memory;
+}
+
+-- a content that grew is no shorter
+pub appended_room : (old between : List ℕ) (IsEntry : List ℕ → Type 0) (n : ℕ) → ∥ AppendsEntry old between IsEntry ∥₁ → n ≤ length old → n ≤ length between
+appended_room old between IsEntry n added room = ∥∥₁_elim added le_prop (λ added.
+    let all = ap length added.2 ∙ length-append old added.0 in
+    omega (arith, all, room))
+
+-- and a header written over keeps its length
+pub headed_size : (between new : List ℕ) (h : Header) → 12 ≤ length between → new ≡ header_octets h ++ drop 12 between → length new ≡ length between
+headed_size between new h room content =
+    let long = ap length content ∙ length-append (header_octets h) (drop 12 between) in
+    let first = header_length h in
+    let behind = length-drop 12 between in
+    omega (arith, long, first, behind, room)

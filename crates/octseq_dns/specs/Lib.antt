@@ -1,6 +1,7 @@
 pub mod Encoded
 pub mod Place
 pub mod Pushed
+pub mod ReadBack
 pub mod Told
 pub mod Written
 pub use Rattle.octseq_dns_message.specs.Data

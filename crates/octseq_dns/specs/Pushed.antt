@@ -1,12 +1,14 @@
 -- What a push does to a message.
-use Rattle.std.specs.Prelude.{◌≡◌, ℕ, ◌+◌, ◌<◌, ◌≤◌, min, ◌⊎◌, Option, Some, None, List, ◌++◌, length, drop, Result, OnOk, OnErr}
+use Rattle.std.specs.Prelude.{◌≡◌, ℕ, ◌+◌, ◌<◌, ◌≤◌, min, ◌⊎◌, Option, Some, None, List, [], ◌++◌, length, drop, Result, OnOk, OnErr}
 use Rattle.octseq.specs.Integer.{octets_be}
 use Rattle.octseq.specs.Limit.{IsPast, IsWithin}
 use Rattle.octseq.specs.Refusal.{IsShort, IsMemory, append_error}
 use Rattle.octseq.specs.declared.AppendError.{AppendError}
 use Rattle.octseq_dns_message.specs.declared.header.Header.{Header}
 use Rattle.octseq_dns.specs.Encoded.{IsEncoded}
-use Rattle.octseq_dns.specs.Written.{Asked, header_octets}
+use Rattle.octseq_dns.specs.Written.{Asked, header_octets, Writes}
+use Rattle.octseq_dns.specs.Place.{AreGood}
+use Rattle.octseq_dns.specs.Told.{Told}
 use Rattle.octseq_dns.specs.declared.place.Place.{Place}
 
 -- A message that is being written: the builder of its octets, the places of names in it, and its header.
@@ -14,6 +16,27 @@ pub record Building (B T : Type 0) : Type 0 where
   pub octets : B
   pub places : T
   pub header : Header
+
+-- Its octets are a message of its header, and at the places of its table labels stand. The lists are all that was pushed.
+abbrev pub IsBuilt : List ℕ → List Place → Header → (List Asked → List Told → List Told → List Told → Type 0) → Type 0
+IsBuilt octets places h Are = ∥ ((asked : List Asked) × (answers : List Told) × (authorities : List Told) × (additionals : List Told)
+    × Are asked answers authorities additionals × Writes octets h asked answers authorities additionals) ∥₁ × ∥ AreGood octets places ∥₁
+
+-- nothing was pushed; only questions were; nothing behind the answers, or behind the records of authorities; or anything
+abbrev pub NothingYet : List Asked → List Told → List Told → List Told → Type 0
+NothingYet asked answers authorities additionals = (asked ≡ []) × (answers ≡ []) × (authorities ≡ []) × (additionals ≡ [])
+
+abbrev pub UpToQuestions : List Asked → List Told → List Told → List Told → Type 0
+UpToQuestions asked answers authorities additionals = (answers ≡ []) × (authorities ≡ []) × (additionals ≡ [])
+
+abbrev pub UpToAnswers : List Asked → List Told → List Told → List Told → Type 0
+UpToAnswers asked answers authorities additionals = (authorities ≡ []) × (additionals ≡ [])
+
+abbrev pub UpToAuthorities : List Asked → List Told → List Told → List Told → Type 0
+UpToAuthorities asked answers authorities additionals = additionals ≡ []
+
+abbrev pub UpToAdditionals : List Asked → List Told → List Told → List Told → Type 0
+UpToAdditionals asked answers authorities additionals = Unit {0}
 
 -- the greatest length of a message: 65,535 octets, or the limit of the builder where that is less
 abbrev pub message_limit : Option ℕ → Option ℕ

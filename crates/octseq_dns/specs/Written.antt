@@ -1,5 +1,5 @@
 -- What was pushed into a message, without the places where it stands, and the octets that are a message of it.
-use Rattle.std.specs.Prelude.{◌≡◌, ℕ, ◌+◌, ◌<◌, ◌≤◌, List, ◌++◌, length}
+use Rattle.std.specs.Prelude.{◌≡◌, ℕ, ◌+◌, ◌<◌, ◌≤◌, false, List, [], ◌++◌, length}
 use Rattle.octseq.specs.Integer.{octets_be}
 use Rattle.octseq.specs.declared.AsOctets.{Ghosts}
 use Rattle.octseq.specs.Window.{Window, at, whole}
@@ -69,3 +69,16 @@ pub record Writes (octets : List ℕ) (h : Header) (asked : List Asked) (answers
 -- they are, in some way
 abbrev pub IsWritten : List ℕ → Header → List Asked → List Told → List Told → List Told → Type 0
 IsWritten octets h asked answers authorities additionals = ∥ Writes octets h asked answers authorities additionals ∥₁
+
+-- the header of a message of zeros
+abbrev pub blank_header : Header
+blank_header = record {
+  id = 0;
+  flags = record { qr = false; aa = false; tc = false; rd = false; ra = false; z = false; ad = false; cd = false };
+  opcode = 0;
+  rcode = 0;
+  qdcount = 0;
+  ancount = 0;
+  nscount = 0;
+  arcount = 0;
+}

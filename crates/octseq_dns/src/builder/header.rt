@@ -34,7 +34,7 @@ fn bits_of(header: &Header) -> u16
 
 /// The octets of a header.
 #[tactic(auto, using(octseq::proofs::Written::written_2))]
-fn octets_of(header: &Header) -> [u8; HEADER_LEN]
+pub(super) fn octets_of(header: &Header) -> [u8; HEADER_LEN]
     ensures octets { result ≡ header_octets header.now }
     ensures fits { HeaderFits header.now }
 {

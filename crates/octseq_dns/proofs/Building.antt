@@ -1,0 +1,85 @@
+-- What a message that is being written is, as it begins and as questions are pushed.
+use Rattle.std.proofs.Common.{◌≡◌, ℕ, ◌+◌, ◌<◌, ◌≤◌, List, [], ◌∷◌, ◌++◌, length, drop, refl, sym, ap, ◌∙◌, subst, arith}
+use Rattle.std.proofs.Math.Logic.{∥∥₁_prop, ∥∥₁_elim}
+use Rattle.std.specs.Coded.{le_prop}
+use Rattle.std.proofs.lemmas.List.{length-append, append-nil}
+use Rattle.octseq.specs.Window.{Window, at, whole}
+use Rattle.octseq_dns_message.specs.declared.header.Header.{Header}
+use Rattle.octseq_dns_name.specs.Name.{wire_length}
+use Rattle.octseq_dns_name.specs.Wire.{AreLabels}
+use Rattle.octseq_dns.specs.Place.{AreGood}
+use Rattle.octseq_dns.specs.Pushed.{AppendsEntry, IsBuilt, IsQuestionEntry, NothingYet, UpToQuestions}
+use Rattle.octseq_dns.specs.Told.{Told}
+use Rattle.octseq_dns.specs.Written.{Asked, HeaderFits, Writes, IsWritten, header_octets, blank_header}
+use Rattle.octseq_dns.specs.declared.place.Place.{Place}
+use Rattle.octseq_dns.proofs.Encoded.{good_headed}
+use Rattle.octseq_dns.proofs.Headers.{header_length}
+use Rattle.octseq_dns.proofs.Pushing.{question_written}
+
+-- a message of a header of zeros
+pub blank_written : (octets : List ℕ) → octets ≡ header_octets blank_header → Writes octets blank_header [] [] [] []
+blank_written octets is = record {
+  body = [];
+  octets_are = is ∙ sym (append-nil (header_octets blank_header));
+  size = let size = ap length is in let long = header_length blank_header in omega (arith, size, long);
+  fits = record { id = omega arith; opcode = omega arith; rcode = omega arith; qdcount = omega arith; ancount = omega arith; nscount = omega arith; arcount = omega arith };
+  qdcount = refl;
+  ancount = refl;
+  nscount = refl;
+  arcount = refl;
+  pushed = λ header more long. let w = at 12 (whole (header ++ more)) in (w, refl, (w, refl, (w, refl, refl)));
+}
+
+pub blank_built : (octets : List ℕ) (places : List Place) → octets ≡ header_octets blank_header → places ≡ [] → IsBuilt octets places blank_header NothingYet
+blank_built octets places is none =
+    let empty : AreGood octets [] = λ k place less. absurd (omega (arith, less)) in (
+  ∣ ([], [], [], [], (refl, refl, refl, refl), blank_written octets is) ∣₁,
+  ∣ subst (AreGood octets) (sym none) empty ∣₁,
+)
+
+-- what holds of fewer lists
+pub built_on : (octets : List ℕ) (places : List Place) (h : Header) (Are Other : List Asked → List Told → List Told → List Told → Type 0)
+    → ((a : List Asked) (b c d : List Told) → Are a b c d → Other a b c d) → IsBuilt octets places h Are → IsBuilt octets places h Other
+built_on octets places h Are Other weaker built =
+    (∥∥₁_elim built.0 ∥∥₁_prop (λ x. ∣ (x.0, x.1, x.2, x.3, weaker x.0 x.1 x.2 x.3 x.4, x.5) ∣₁), built.1)
+
+-- a message has a header, and at most 65,535 octets
+pub built_room : (octets : List ℕ) (places : List Place) (h : Header) (Are : List Asked → List Told → List Told → List Told → Type 0) → IsBuilt octets places h Are → 12 ≤ length octets
+built_room octets places h Are built = ∥∥₁_elim built.0 le_prop (λ x.
+    let size = ap length x.5.octets_are in
+    let both = length-append (header_octets h) x.5.body in
+    let first = header_length h in
+    omega (arith, size, both, first))
+
+pub built_size : (octets : List ℕ) (places : List Place) (h : Header) (Are : List Asked → List Told → List Told → List Told → Type 0) → IsBuilt octets places h Are → length octets ≤ 65535
+built_size octets places h Are built = ∥∥₁_elim built.0 le_prop (λ x. x.5.size)
+
+-- A question was appended, and a header written that counts it.
+pub record AsksOnce (old between new : List ℕ) (h k : Header) (held : List Place) (one : Asked) : Type 0 where
+  pub added : ∥ AppendsEntry old between (IsQuestionEntry old held one) ∥₁
+  pub each : AreLabels one.labels
+  pub short : wire_length one.labels ≤ 255
+  pub qtype : one.qtype < 65536
+  pub qclass : one.qclass < 65536
+  pub counted : k ≡ record h { qdcount = h.qdcount + 1 }
+  pub fits : HeaderFits k
+  pub content : new ≡ header_octets k ++ drop 12 between
+  pub size : length new ≤ 65535
+
+pub asks_once : (old between new : List ℕ) (h k : Header) (held : List Place) (one : Asked) (asked : List Asked) → AsksOnce old between new h k held one
+    → IsWritten old h asked [] [] [] → IsWritten new k (asked ++ one ∷ []) [] [] []
+asks_once old between new h k held one asked asks so_far = ∥∥₁_elim so_far ∥∥₁_prop (λ so_far. ∥∥₁_elim asks.added ∥∥₁_prop (λ added.
+    ∣ question_written old between new h k held asked one so_far added asks.each asks.short asks.qtype asks.qclass asks.counted asks.fits asks.content asks.size ∣₁))
+
+pub asked_built : (old between new : List ℕ) (h k : Header) (held after : List Place) (one : Asked) → AsksOnce old between new h k held one
+    → IsBuilt old held h UpToQuestions → ∥ AreGood between after ∥₁ → IsBuilt new after k UpToQuestions
+asked_built old between new h k held after one asks built good = (
+  ∥∥₁_elim built.0 ∥∥₁_prop (λ x.
+  let A : List Told → Type 0 = λ b. Writes old h x.0 b x.2 x.3 in
+  let B : List Told → Type 0 = λ c. Writes old h x.0 [] c x.3 in
+  let C : List Told → Type 0 = λ d. Writes old h x.0 [] [] d in
+  let so_far : Writes old h x.0 [] [] [] = subst C x.4.2 (subst B x.4.1 (subst A x.4.0 x.5)) in
+  ∥∥₁_elim (asks_once old between new h k held one x.0 asks ∣ so_far ∣₁) ∥∥₁_prop (λ written.
+  ∣ (x.0 ++ one ∷ [], [], [], [], (refl, refl, refl), written) ∣₁)),
+  ∥∥₁_elim good ∥∥₁_prop (λ good. ∣ subst (λ octets. AreGood octets after) (sym asks.content) (good_headed (header_octets k) between after (header_length k) good) ∣₁),
+)
