@@ -44,17 +44,23 @@ grows_under header octets more place start pointers labels v headed stands =
 -- Labels stay where they stand as a message grows,
 pub stands_grows : (octets more : List ℕ) (place : ℕ) (labels : List (List ℕ)) (pointers : ℕ) → 12 ≤ length octets
     → StandsAt octets place labels pointers → StandsAt (octets ++ more) place labels pointers
-stands_grows octets more place labels pointers headed stands = (stands.0, λ header long.
-    let here = stands.1 header long in
-    (grown more here.0, grows_under header octets more place place pointers labels here.0 headed here.1))
+stands_grows octets more place labels pointers headed stands = (
+  stands.0,
+  λ header long.
+      let here = stands.1 header long in
+      (grown more here.0, grows_under header octets more place place pointers labels here.0 headed here.1),
+)
 
 -- and as its header changes,
 pub stands_headed : (header octets : List ℕ) (place : ℕ) (labels : List (List ℕ)) (pointers : ℕ) → length header ≡ 12
     → StandsAt octets place labels pointers → StandsAt (header ++ drop 12 octets) place labels pointers
-stands_headed header octets place labels pointers headed stands = (stands.0, λ other long.
-    let here = stands.1 other long in
-    let same : under other octets ≡ under other (under header octets) = ap (λ behind. other ++ behind) (sym (drop_at header (drop 12 octets) 12 headed)) in
-    (here.0, subst (λ all. Stands place (at place (whole all)) labels pointers here.0) same here.1))
+stands_headed header octets place labels pointers headed stands = (
+  stands.0,
+  λ other long.
+      let here = stands.1 other long in
+      let same : under other octets ≡ under other (under header octets) = ap (λ behind. other ++ behind) (sym (drop_at header (drop 12 octets) 12 headed)) in
+      (here.0, subst (λ all. Stands place (at place (whole all)) labels pointers here.0) same here.1),
+)
 
 -- and so the places of a table stay good.
 pub good_grows : (octets more : List ℕ) (places : List Place) → 12 ≤ length octets → AreGood octets places
@@ -128,7 +134,7 @@ each_first (label ∷ first) rest each = (each.0, each.1, each_first first rest 
 stand_written : (octets ending more behind header : List ℕ) (first rest : List (List ℕ)) (pointers start place : ℕ) → Ends octets ending rest pointers → AreLabels first
     → length octets ≤ start → length header ≡ 12 → 12 ≤ place → drop place (octets ++ more) ≡ unrooted first ++ ending ++ behind
     → Stands start (at place (whole (under header (octets ++ more)))) (first ++ rest) pointers
-        (at (place + length (unrooted first) + length ending) (whole (under header (octets ++ more))))
+    (at (place + length (unrooted first) + length ending) (whole (under header (octets ++ more))))
 stand_written octets ending more behind header first rest pointers start place ends each before long far is =
     let all = under header (octets ++ more) in
     let size = length (unrooted first) in
@@ -142,7 +148,7 @@ stand_written octets ending more behind header first rest pointers start place e
 named_written : (octets ending more : List ℕ) (first rest : List (List ℕ)) (pointers : ℕ) (header : List ℕ) → Ends octets ending rest pointers → AreLabels (first ++ rest)
     → wire_length (first ++ rest) ≤ 255 → pointers ≤ 127 → 12 ≤ length octets → length header ≡ 12
     → IsName (at (length octets) (whole (under header (octets ++ (unrooted first ++ ending) ++ more)))) (first ++ rest)
-        (at (length octets + length (unrooted first ++ ending)) (whole (under header (octets ++ (unrooted first ++ ending) ++ more))))
+    (at (length octets + length (unrooted first ++ ending)) (whole (under header (octets ++ (unrooted first ++ ending) ++ more))))
 named_written octets ending more first rest pointers header ends each short few headed long =
     let encoded = unrooted first ++ ending in
     let place = length octets in
@@ -165,13 +171,13 @@ pub encoded_stands : (octets : List ℕ) (places : List Place) (labels : List (L
     → IsEncoded octets places labels encoded → AreLabels labels → wire_length labels ≤ 255 → 12 ≤ length octets
     → (header more : List ℕ) → length header ≡ 12
     → IsName (at (length octets) (whole (header ++ drop 12 (octets ++ encoded ++ more)))) labels
-        (at (length octets + length encoded) (whole (header ++ drop 12 (octets ++ encoded ++ more))))
+    (at (length octets + length encoded) (whole (header ++ drop 12 (octets ++ encoded ++ more))))
 encoded_stands octets places labels encoded (IsEncoded.plain none is) each short headed header more long =
     let whole_of : labels ++ [] ≡ labels = append-nil labels in
     let Name : List (List ℕ) → List ℕ → Type 0 = λ labels encoded. IsName (at (length octets) (whole (under header (octets ++ encoded ++ more)))) labels
-        (at (length octets + length encoded) (whole (under header (octets ++ encoded ++ more)))) in
+    (at (length octets + length encoded) (whole (under header (octets ++ encoded ++ more)))) in
     let named = named_written octets (0 ∷ []) more labels [] 0 header (ends_plain octets) (subst AreLabels (sym whole_of) each) (subst (λ labels. wire_length labels ≤ 255) (sym whole_of) short)
-        (omega arith) headed long in
+    (omega arith) headed long in
     subst (Name labels) (sym is) (subst (λ labels'. Name labels' (unrooted labels ++ 0 ∷ [])) whole_of named)
 encoded_stands octets places labels encoded (IsEncoded.pointed count place longest is) each short headed header more long =
     let run = longest.run in
@@ -179,10 +185,10 @@ encoded_stands octets places labels encoded (IsEncoded.pointed count place longe
     let rest = drop (length labels - count) labels in
     let whole_of : first ++ rest ≡ labels = take-append-drop (length labels - count) labels in
     let Name : List (List ℕ) → List ℕ → Type 0 = λ labels encoded. IsName (at (length octets) (whole (under header (octets ++ encoded ++ more)))) labels
-        (at (length octets + length encoded) (whole (under header (octets ++ encoded ++ more)))) in
+    (at (length octets + length encoded) (whole (under header (octets ++ encoded ++ more)))) in
     let few : place.pointers + 1 ≤ 127 = let few = run.few in omega (arith, few) in
     let named = named_written octets (pointer_to place.at) more first rest (place.pointers + 1) header (ends_pointed octets labels count place headed run) (subst AreLabels (sym whole_of) each)
-        (subst (λ labels. wire_length labels ≤ 255) (sym whole_of) short) few headed long in
+    (subst (λ labels. wire_length labels ≤ 255) (sym whole_of) short) few headed long in
     subst (Name labels) (sym is) (subst (λ labels'. Name labels' (unrooted first ++ pointer_to place.at)) whole_of named)
 
 if_good : (far : Bool) (octets : List ℕ) (places : List Place) → AreGood octets places → AreGood octets (if far then places else [])
@@ -202,9 +208,13 @@ places_good octets encoded ending (label ∷ first) rest pointers place ends eac
       labels = label ∷ (first ++ rest);
       some = omega arith;
       short = short;
-      stands = (far, λ header long. (
-        at (place + length (unrooted (label ∷ first)) + length ending) (whole (under header all)),
-        stand_written octets ending encoded [] header (label ∷ first) rest pointers place place ends each before long far (is ∙ sym (append-nil (unrooted (label ∷ first) ++ ending)))));
+      stands = (
+        far,
+        λ header long. (
+          at (place + length (unrooted (label ∷ first)) + length ending) (whole (under header all)),
+          stand_written octets ending encoded [] header (label ∷ first) rest pointers place place ends each before long far (is ∙ sym (append-nil (unrooted (label ∷ first) ++ ending))),
+        ),
+      );
     } in
     let more = places_good octets encoded ending first rest pointers (place + (1 + length label)) ends each.2 (omega (arith, short)) headed (omega (arith, before)) on in
     if_good (nat_le place 16383) all (record { at = place; pointers = pointers } ∷ places_of (place + (1 + length label)) first pointers)

@@ -4,7 +4,9 @@ pub mod Headers
 pub mod Pushes
 pub mod Pushing
 pub mod ReadBack
+pub mod Runs
 pub mod Standing
+pub mod Tables
 pub use Rattle.octseq_dns_message.proofs.Edns
 pub use Rattle.octseq_dns_message.proofs.Formats
 pub use Rattle.octseq_dns_message.proofs.Forms

@@ -2,6 +2,7 @@ pub mod Encoded
 pub mod Place
 pub mod Pushed
 pub mod ReadBack
+pub mod Run
 pub mod Told
 pub mod Written
 pub use Rattle.octseq_dns_message.specs.Data

@@ -1,0 +1,141 @@
+//! The longest run of a name's last labels that stands in a message.
+ghost use Rattle.std.specs.Prelude.{◌≡◌, ◌↔◌, ◌+◌, ◌-◌, ◌<◌, ◌≤◌, ℕ, List, length, drop, IsTrue, IsNone, IfSome};
+ghost use Rattle.std.specs.List.{All, Contains};
+ghost use Rattle.octseq.specs.Window.{Window, at, whole};
+ghost use Rattle.octseq_dns.specs.Run.{IsRunNow};
+ghost use Rattle.octseq_dns_name.specs.Name.{IsName};
+ghost use Rattle.octseq_dns_name.specs.Read.{labels_of, labels_left};
+
+use crate::place::Place;
+use octseq::{AsOctets, Parser};
+use octseq_dns_name::ParsedName;
+use octseq_dns_name::name::Labels;
+
+/// The last places that a pointer can say, and how many pointers may be followed from there.
+const AT_MOST: u16 = 16383;
+
+const POINTERS_MOST: u8 = 126;
+
+/// A place where the last labels of a name stand, and how many.
+#[derive(Clone, Copy, Debug)]
+pub(crate) struct Run {
+    /// How many labels, or 0 where there is no such place.
+    pub count: usize,
+    /// The place.
+    pub place: Place,
+}
+
+/// The first place of a table where the most of a name's last labels stand.
+pub(crate) fn longest_run<R: AsOctets + Copy>(
+    octets: &[u8],
+    places: &[Place],
+    name: &ParsedName<R>,
+) -> Run
+    ensures run { 1 ≤ result.count → Contains places.now result.place
+        × IsRunNow octets.now (labels_of name.now) result.count result.place }
+    ensures longest { All (λ other. (more : ℕ) → IsRunNow octets.now (labels_of name.now) more other
+        → more ≤ result.count) places.now }
+{
+    let all = name.label_count();
+    let mut longest = Run {
+        count: 0,
+        place: Place { at: 0, pointers: 0 },
+    };
+    for place in places {
+        if longest.count == all {
+            return longest;
+        }
+        if let Some(count) = run_at(octets, *place, name, longest.count) {
+            longest = Run {
+                count,
+                place: *place,
+            };
+        }
+    }
+    longest
+}
+
+/// How many of a name's last labels stand at a place that a pointer can say, where they are more than so many.
+fn run_at<R: AsOctets + Copy>(
+    octets: &[u8],
+    place: Place,
+    name: &ParsedName<R>,
+    least: usize,
+) -> Option<usize>
+    ensures some { IfSome result (λ count. (least < count) × IsRunNow octets.now (labels_of name.now) count place) }
+    ensures none { IsNone result → (count : ℕ) → IsRunNow octets.now (labels_of name.now) count place
+        → count ≤ least }
+{
+    if place.at > AT_MOST || place.pointers > POINTERS_MOST {
+        return None;
+    }
+    same_end(name, &name_at(octets, usize::from(place.at))?, least)
+}
+
+/// The name that stands at a place of octets, if one does.
+fn name_at(octets: &[u8], place: usize) -> Option<ParsedName<&[u8]>>
+    ensures some { IfSome result (λ name. (end : Window) × IsName (at place (whole octets.now)) (labels_of name) end) }
+    ensures none { IsNone result → (labels : List (List ℕ)) (end : Window)
+        → ¬ IsName (at place (whole octets.now)) labels end }
+{
+    let mut parser = Parser::from_ref(octets);
+    match parser.seek(place) {
+        Ok(()) => ParsedName::parse(&mut parser).ok(),
+        Err(_) => None,
+    }
+}
+
+/// How many labels a name has that are another's last ones, where they are more than so many.
+fn same_end<R: AsOctets + Copy, S: AsOctets + Copy>(
+    name: &ParsedName<R>,
+    there: &ParsedName<S>,
+    least: usize,
+) -> Option<usize>
+    ensures some { IfSome result (λ count. (least < count) × (count ≤ length (labels_of name.now))
+        × (labels_of there.now ≡ drop (length (labels_of name.now) - count) (labels_of name.now))) }
+    ensures none { IsNone result → (count : ℕ) → count ≤ length (labels_of name.now)
+        → labels_of there.now ≡ drop (length (labels_of name.now) - count) (labels_of name.now)
+        → count ≤ least }
+{
+    if there.len() > name.len() {
+        return None;
+    }
+    let count = there.label_count();
+    let all = name.label_count();
+    if count <= least || count > all {
+        return None;
+    }
+    if same_labels(passed(name.labels(), all - count), there.labels()) {
+        return Some(count);
+    }
+    None
+}
+
+/// Labels without the first ones of them.
+fn passed<R: AsOctets + Copy>(labels: Labels<R>, count: usize) -> Labels<R>
+    ensures { labels_left result ≡ drop count (labels_left labels) }
+{
+    let mut ahead = labels;
+    'passed: for _at in 0..count {
+        ahead.next();
+    }
+    ahead
+}
+
+/// Whether labels are others, octet for octet.
+fn same_labels<R: AsOctets + Copy, S: AsOctets + Copy>(labels: Labels<R>, others: Labels<S>) -> bool
+    ensures { IsTrue result ↔ (labels_left labels ≡ labels_left others) }
+{
+    let mut ahead = others;
+    for label in labels {
+        match ahead.next() {
+            Some(other) => {
+                if label.as_slice() != other.as_slice() {
+                    return false;
+                }
+            }
+            None => return false,
+        }
+    }
+    ahead.next().is_none()
+}
