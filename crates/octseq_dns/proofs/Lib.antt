@@ -5,6 +5,7 @@ pub mod Pushes
 pub mod Pushing
 pub mod ReadBack
 pub mod Runs
+pub mod Records
 pub mod Standing
 pub mod Tables
 pub use Rattle.octseq_dns_message.proofs.Edns

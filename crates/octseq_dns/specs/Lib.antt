@@ -3,6 +3,7 @@ pub mod Place
 pub mod Pushed
 pub mod ReadBack
 pub mod Run
+pub mod RecordEntry
 pub mod Told
 pub mod Written
 pub use Rattle.octseq_dns_message.specs.Data
