@@ -13,6 +13,7 @@ use Rattle.octseq_dns_name.specs.Name.{wire_length}
 use Rattle.octseq_dns_name.specs.Wire.{AreLabels}
 use Rattle.octseq_dns.proofs.Encoded.{labels_good, good_grows, good_kept}
 use Rattle.octseq_dns.specs.Pushed.{AppendsEntry, IsQuestionEntry, PassesWith, Pushes, message_limit}
+use Rattle.octseq_dns.specs.RecordEntry.{BeginsRecord}
 use Rattle.octseq_dns.specs.Written.{Asked, header_octets}
 use Rattle.octseq_dns.specs.declared.place.Place.{Place}
 use Rattle.octseq.specs.Refusal.{IsShort, IsMemory, append_error}
@@ -117,3 +118,24 @@ headed_size between new h room content =
     let first = header_length h in
     let behind = length-drop 12 between in
     omega (arith, long, first, behind, room)
+
+-- ---- records
+
+-- a name is encoded against what was shown of a message and a table
+pub same_encoding : (shown old : List ℕ) (places held : List Place) (labels : List (List ℕ)) (name : List ℕ) (written pointers : ℕ) → shown ≡ old → places ≡ held
+    → ∥ Encodes shown places labels name written pointers ∥₁ → ∥ Encodes old held labels name written pointers ∥₁
+same_encoding shown old places held labels name written pointers same table is =
+    subst (λ places. ∥ Encodes old places labels name written pointers ∥₁) table (subst (λ octets. ∥ Encodes octets places labels name written pointers ∥₁) same is)
+
+pub owner_past : (limit : Option ℕ) (shown old : List ℕ) (places held : List Place) (labels : List (List ℕ)) (name : List ℕ) (written pointers n : ℕ) → shown ≡ old → places ≡ held
+    → ∥ Encodes shown places labels name written pointers ∥₁ → n ≤ length old + length name → IsPast limit n → ∥ PassesWith limit old (IsEncoded old held labels) ∥₁
+owner_past limit shown old places held labels name written pointers n same table is few past =
+    ∥∥₁_elim (same_encoding shown old places held labels name written pointers same table is) ∥∥₁_prop (λ found.
+    ∣ (name, found.0, past_more limit n (length old + length name) few past) ∣₁)
+
+pub owner_begins : (most : Option ℕ) (shown old : List ℕ) (places held : List Place) (labels : List (List ℕ)) (name : List ℕ) (written pointers start : ℕ) (new : List ℕ) (after : List Place)
+    → shown ≡ old → places ≡ held → start ≡ length old → ∥ Encodes shown places labels name written pointers ∥₁ → new ≡ old ++ name
+    → after ≡ kept most (held ++ places_of start (take written labels) pointers) → ∥ BeginsRecord most old held labels name written pointers new after ∥₁
+owner_begins most shown old places held labels name written pointers start new after same table begins is content added =
+    ∥∥₁_elim (same_encoding shown old places held labels name written pointers same table is) ∥∥₁_prop (λ found.
+    ∣ (found, content, added ∙ ap (λ start. kept most (held ++ places_of start (take written labels) pointers)) begins) ∣₁)

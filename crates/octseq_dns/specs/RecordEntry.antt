@@ -43,3 +43,8 @@ IsRecordEntry most octets places told entry = (owner : List ℕ) × (written : �
 abbrev pub IsRecordLeast : Option ℕ → List ℕ → List Place → Told → List ℕ → Type 0
 IsRecordLeast most octets places told least = IsRecordEntry most octets places told least
     ⊎ ((owner : List ℕ) × IsEncoded octets places told.labels owner × (least ≡ owner ++ behind_owner told []))
+
+-- the octets of data, under a table of at most so many places, so that a content and a table go on with a name behind them
+abbrev pub BeginsRecord : Option ℕ → List ℕ → List Place → List (List ℕ) → List ℕ → ℕ → ℕ → List ℕ → List Place → Type 0
+BeginsRecord most octets places labels owner written pointers new after = Encodes octets places labels owner written pointers
+    × (new ≡ octets ++ owner) × (after ≡ kept most (places ++ places_of (length octets) (take written labels) pointers))

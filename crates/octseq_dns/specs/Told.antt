@@ -1,5 +1,8 @@
 -- Records that were pushed, without the places where they stand, and what they are in a message.
 use Rattle.std.specs.Prelude.{◌≡◌, ℕ, List}
+use Rattle.octseq.specs.declared.AsOctets.{Ghosts}
+use Rattle.octseq_dns_name.specs.Read.{labels_of}
+use Rattle.octseq_dns_name.specs.declared.name.ParsedName.{ParsedName}
 use Rattle.octseq.specs.Window.{Window, rest}
 use Rattle.octseq_dns_message.specs.Data.{Form, IsTyped}
 use Rattle.octseq_dns_message.specs.Entry.{Record, IsRecord}
@@ -57,6 +60,10 @@ pub record Told : Type 0 where
   pub class : ℕ
   pub ttl : ℕ
   pub said : Matter
+
+-- a record of a name that was read
+abbrev pub told_of : {R : Type 0} {g : Ghosts R} → ParsedName R g → ℕ → ℕ → ℕ → Matter → Told
+told_of owner rtype class ttl said = record { labels = labels_of owner; rtype = rtype; class = class; ttl = ttl; said = said }
 
 -- it stands at a window's position, as a record with the name that stands there, whose data says what was pushed
 abbrev pub IsTold : Window → Told → Window → Type 0

@@ -19,8 +19,10 @@ use std::marker::Model;
 
 mod draft;
 mod header;
+mod made;
 mod question;
 mod questions;
+mod record;
 
 pub use crate::builder::questions::QuestionBuilder;
 
