@@ -1,6 +1,7 @@
 pub mod Building
 pub mod Encoded
 pub mod Headers
+pub mod Made
 pub mod Pushes
 pub mod Pushing
 pub mod ReadBack

@@ -74,14 +74,14 @@ pub record_stands : (h : Header) (body name made : List ℕ) (told : Told) → t
         → IsName (at (length (header_octets h ++ body)) (whole (header ++ drop 12 (header_octets h ++ body ++ name ++ more)))) told.labels
             (at (length (header_octets h ++ body) + length name) (whole (header ++ drop 12 (header_octets h ++ body ++ name ++ more)))))
     → ((header more : List ℕ) → length header ≡ 12
-        → StandsAsData told.said (header ++ (body ++ (name ++ (behind_owner told made ++ more)))) (12 + length body + length name + 2 + 2 + 4 + 2) (length made))
-    → StandsIn IsTold (body ++ (name ++ behind_owner told made)) (12 + length body) told (12 + length (body ++ (name ++ behind_owner told made)))
+        → StandsAsData told.said (header ++ (body ++ (name ++ (behind_owner told.rtype told.class told.ttl made ++ more)))) (12 + length body + length name + 2 + 2 + 4 + 2) (length made))
+    → StandsIn IsTold (body ++ (name ++ behind_owner told.rtype told.class told.ttl made)) (12 + length body) told (12 + length (body ++ (name ++ behind_owner told.rtype told.class told.ttl made)))
 record_stands h body name made told typed classed timed fits named says header more long =
     let rtype = octets_be 2 told.rtype in
     let class = octets_be 2 told.class in
     let ttl = octets_be 4 told.ttl in
     let kept = part_of 2 made in
-    let behind = behind_owner told made in
+    let behind = behind_owner told.rtype told.class told.ttl made in
     let all = header ++ (body ++ (name ++ (behind ++ more))) in
     let place = 12 + length body in
     let shown : header ++ ((body ++ (name ++ behind)) ++ more) ≡ all =

@@ -1,7 +1,8 @@
 -- The octets of a record that is pushed.
-use Rattle.std.specs.Prelude.{◌≡◌, ℕ, ◌≤◌, ◌⊎◌, Option, List, [], ◌++◌, length, take}
+use Rattle.std.specs.Prelude.{◌≡◌, ℕ, ◌+◌, ◌≤◌, ◌⊎◌, Option, List, [], ◌++◌, length, take}
 use Rattle.std.specs.List.{All, flat_map}
 use Rattle.octseq.specs.Integer.{octets_be}
+use Rattle.octseq.specs.Limit.{IsPast}
 use Rattle.octseq.specs.Part.{part_of}
 use Rattle.octseq_dns_name.specs.Wire.{wire}
 use Rattle.octseq_dns.specs.Encoded.{IsEncoded, Encodes}
@@ -28,8 +29,8 @@ IsMade octets places (Matter.srv priority weight port labels) made =
 IsMade octets places (Matter.opaque octets_are) made = made ≡ octets_are
 
 -- what stands behind the name of a record: its type, its class, its TTL, and its data behind their length
-abbrev pub behind_owner : Told → List ℕ → List ℕ
-behind_owner told made = octets_be 2 told.rtype ++ (octets_be 2 told.class ++ (octets_be 4 told.ttl ++ part_of 2 made))
+abbrev pub behind_owner : ℕ → ℕ → ℕ → List ℕ → List ℕ
+behind_owner rtype class ttl made = octets_be 2 rtype ++ (octets_be 2 class ++ (octets_be 4 ttl ++ part_of 2 made))
 
 -- A record's octets: its name, encoded against the octets and places before it, and what stands behind it. Names in its data are encoded
 -- against those octets with the name behind them, and the places that a table of at most so many then holds.
@@ -37,14 +38,28 @@ abbrev pub IsRecordEntry : Option ℕ → List ℕ → List Place → Told → L
 IsRecordEntry most octets places told entry = (owner : List ℕ) × (written : ℕ) × (pointers : ℕ) × (made : List ℕ)
     × Encodes octets places told.labels owner written pointers
     × IsMade (octets ++ owner) (kept most (places ++ places_of (length octets) (take written told.labels) pointers)) told.said made
-    × (entry ≡ owner ++ behind_owner told made)
+    × (entry ≡ owner ++ behind_owner told.rtype told.class told.ttl made)
 
 -- what it has at least: its octets, or those that it would have with no data
 abbrev pub IsRecordLeast : Option ℕ → List ℕ → List Place → Told → List ℕ → Type 0
 IsRecordLeast most octets places told least = IsRecordEntry most octets places told least
-    ⊎ ((owner : List ℕ) × IsEncoded octets places told.labels owner × (least ≡ owner ++ behind_owner told []))
+    ⊎ ((owner : List ℕ) × IsEncoded octets places told.labels owner × (least ≡ owner ++ behind_owner told.rtype told.class told.ttl []))
 
 -- the octets of data, under a table of at most so many places, so that a content and a table go on with a name behind them
 abbrev pub BeginsRecord : Option ℕ → List ℕ → List Place → List (List ℕ) → List ℕ → ℕ → ℕ → List ℕ → List Place → Type 0
 BeginsRecord most octets places labels owner written pointers new after = Encodes octets places labels owner written pointers
     × (new ≡ octets ++ owner) × (after ≡ kept most (places ++ places_of (length octets) (take written labels) pointers))
+
+-- octets of data are appended behind their length, and the rest of what stands before them
+abbrev pub AppendsMade : List ℕ → List Place → ℕ → ℕ → ℕ → Matter → List ℕ → Type 0
+AppendsMade old places rtype class ttl said new = (made : List ℕ) × IsMade old places said made × (new ≡ old ++ behind_owner rtype class ttl made)
+
+-- and would pass the limit
+abbrev pub PassesMade : Option ℕ → List ℕ → List Place → Matter → Type 0
+PassesMade limit old places said = (made : List ℕ) × IsMade old places said made × IsPast limit (length old + (10 + length made))
+
+-- what data says is neither text nor opaque
+abbrev pub IsBrief : Matter → Type 0
+IsBrief (Matter.txt strings) = ⊥
+IsBrief (Matter.opaque octets) = ⊥
+IsBrief _ = Unit {0}

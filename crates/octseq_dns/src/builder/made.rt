@@ -1,12 +1,12 @@
 //! The octets of data, as a record has them.
-ghost use Rattle.std.specs.Prelude.{◌≡◌, ◌+◌, ◌≤◌, ◌++◌, length, List, IfSome};
+ghost use Rattle.std.specs.Prelude.{◌≡◌, ◌+◌, ◌≤◌, ◌++◌, length, List};
 ghost use Rattle.octseq_dns.specs.declared.place.Place.{Place as Spot};
 ghost use Rattle.octseq_dns_message.specs.Data.{Form};
 ghost use Rattle.octseq_dns_message.specs.Typed.{form_of, mx_of, soa_of, srv_of};
 ghost use Rattle.octseq_dns_name.specs.Read.{labels_of};
 ghost use Rattle.octseq_dns.specs.Encoded.{IsEncoded};
 ghost use Rattle.octseq_dns.specs.Place.{AreGood};
-ghost use Rattle.octseq_dns.specs.RecordEntry.{IsMade};
+ghost use Rattle.octseq_dns.specs.RecordEntry.{IsBrief, IsMade};
 ghost use Rattle.octseq_dns.specs.Told.{Matter, matter};
 
 use crate::encode::encode_name;
@@ -98,10 +98,11 @@ pub(super) fn made_of<S: AsOctets + Copy>(
     octets: &[u8],
     places: &[Place],
     told: &Data<S>,
-) -> Option<Array<MADE_MOST>>
+) -> Array<MADE_MOST>
     requires header { 12 ≤ length octets.now }
     requires good { ∥ AreGood octets.now places.now ∥₁ }
-    ensures { IfSome result (λ made. ∥ IsMade octets.now places.now (matter (form_of told.now)) made.content ∥₁) }
+    requires brief { IsBrief (matter (form_of told.now)) }
+    ensures { ∥ IsMade octets.now places.now (matter (form_of told.now)) result.content ∥₁ }
 {
     let mut made = Array::new();
     match told {
@@ -110,11 +111,11 @@ pub(super) fn made_of<S: AsOctets + Copy>(
         Data::Ns(name) => put(&mut made, name_octets(octets, places, name).as_slice()),
         Data::Cname(name) => put(&mut made, name_octets(octets, places, name).as_slice()),
         Data::Ptr(name) => put(&mut made, name_octets(octets, places, name).as_slice()),
-        Data::Mx(mx) => return Some(mx_octets(octets, places, mx)),
-        Data::Soa(soa) => return Some(soa_octets(octets, places, soa)),
-        Data::Srv(srv) => return Some(srv_octets(octets, srv)),
-        Data::Txt(_) => return None,
-        Data::Opaque(_) => return None,
+        Data::Mx(mx) => return mx_octets(octets, places, mx),
+        Data::Soa(soa) => return soa_octets(octets, places, soa),
+        Data::Srv(srv) => return srv_octets(octets, srv),
+        Data::Txt(_) => unreachable!(),
+        Data::Opaque(_) => unreachable!(),
     }
-    Some(made)
+    made
 }
