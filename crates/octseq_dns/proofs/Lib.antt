@@ -1,7 +1,6 @@
 pub mod Building
 pub mod Encoded
 pub mod Headers
-pub mod Made
 pub mod Pushes
 pub mod Pushing
 pub mod ReadBack

@@ -1,5 +1,5 @@
 -- What is appended to a message, and when it passes the limit.
-use Rattle.std.proofs.Common.{◌≡◌, ℕ, ◌+◌, ◌<◌, ◌≤◌, ◌⊎◌, Option, Some, None, Result, Ok, Err, IsErr, List, ◌++◌, length, take, drop, append_assoc, refl, sym, ap, ◌∙◌, subst, arith}
+use Rattle.std.proofs.Common.{◌≡◌, ℕ, ◌+◌, ◌<◌, ◌≤◌, ◌⊎◌, Option, Some, None, Result, Ok, Err, IsErr, inl, inr, List, [], ◌++◌, length, take, drop, append_assoc, refl, sym, ap, ◌∙◌, subst, arith}
 use Rattle.std.proofs.Math.Logic.{∥∥₁_prop, ∥∥₁_elim}
 use Rattle.std.proofs.lemmas.List.{length-append, length-drop, drop-append-le}
 use Rattle.std.proofs.lemmas.List.Elements.{All-append}
@@ -13,7 +13,10 @@ use Rattle.octseq_dns_name.specs.Name.{wire_length}
 use Rattle.octseq_dns_name.specs.Wire.{AreLabels}
 use Rattle.octseq_dns.proofs.Encoded.{labels_good, good_grows, good_kept}
 use Rattle.octseq_dns.specs.Pushed.{AppendsEntry, IsQuestionEntry, PassesWith, Pushes, message_limit}
-use Rattle.octseq_dns.specs.RecordEntry.{BeginsRecord}
+use Rattle.octseq_dns.specs.RecordEntry.{BeginsRecord, IsMade, IsRecordEntry, IsRecordLeast, behind_owner}
+use Rattle.octseq_dns.specs.Told.{Told, Matter}
+use Rattle.octseq.specs.Part.{part_of}
+use Rattle.octseq.proofs.Codes.{length_part}
 use Rattle.octseq_dns.specs.Written.{Asked, header_octets}
 use Rattle.octseq_dns.specs.declared.place.Place.{Place}
 use Rattle.octseq.specs.Refusal.{IsShort, IsMemory, append_error}
@@ -121,6 +124,16 @@ headed_size between new h room content =
 
 -- ---- records
 
+-- how many octets stand behind the name of a record
+behind_length : (told : Told) (made : List ℕ) → length (behind_owner told.rtype told.class told.ttl made) ≡ 10 + length made
+behind_length told made =
+    let rtype = octets_be 2 told.rtype in
+    let class = octets_be 2 told.class in
+    let ttl = octets_be 4 told.ttl in
+    let kept = part_of 2 made in
+    omega (arith, length-append rtype (class ++ (ttl ++ kept)), length-append class (ttl ++ kept), length-append ttl kept, length_part 2 made, length_be 2 told.rtype, length_be 2 told.class,
+    length_be 4 told.ttl)
+
 -- a name is encoded against what was shown of a message and a table
 pub same_encoding : (shown old : List ℕ) (places held : List Place) (labels : List (List ℕ)) (name : List ℕ) (written pointers : ℕ) → shown ≡ old → places ≡ held
     → ∥ Encodes shown places labels name written pointers ∥₁ → ∥ Encodes old held labels name written pointers ∥₁
@@ -139,3 +152,52 @@ pub owner_begins : (most : Option ℕ) (shown old : List ℕ) (places held : Lis
 owner_begins most shown old places held labels name written pointers start new after same table begins is content added =
     ∥∥₁_elim (same_encoding shown old places held labels name written pointers same table is) ∥∥₁_prop (λ found.
     ∣ (found, content, added ∙ ap (λ start. kept most (held ++ places_of start (take written labels) pointers)) begins) ∣₁)
+
+-- a record of opaque data was appended
+pub record_appended : (most : Option ℕ) (old between new : List ℕ) (held after : List Place) (told : Told) (made name : List ℕ) (written pointers : ℕ)
+    → ∥ BeginsRecord most old held told.labels name written pointers between after ∥₁ → told.said ≡ Matter.opaque made
+    → new ≡ between ++ behind_owner told.rtype told.class told.ttl made → ∥ AppendsEntry old new (IsRecordEntry most old held told) ∥₁
+record_appended most old between new held after told made name written pointers begins said content = ∥∥₁_elim begins ∥∥₁_prop (λ begins.
+    let behind = behind_owner told.rtype told.class told.ttl made in
+    let table = kept most (held ++ places_of (length old) (take written told.labels) pointers) in
+    ∣ (
+      name ++ behind,
+      (name, written, pointers, made, begins.0, subst (λ said. IsMade (old ++ name) table said made) (sym said) refl, refl),
+      content ∙ ap (λ between. between ++ behind) begins.1 ∙ append_assoc old name behind,
+    ) ∣₁)
+
+-- or would pass the limit with its data,
+pub record_past : (limit most : Option ℕ) (old between : List ℕ) (held after : List Place) (told : Told) (made name : List ℕ) (written pointers : ℕ)
+    → ∥ BeginsRecord most old held told.labels name written pointers between after ∥₁ → told.said ≡ Matter.opaque made
+    → IsPast limit (length between + (10 + length made)) → ∥ PassesWith limit old (IsRecordLeast most old held told) ∥₁
+record_past limit most old between held after told made name written pointers begins said past = ∥∥₁_elim begins ∥∥₁_prop (λ begins.
+    let behind = behind_owner told.rtype told.class told.ttl made in
+    let table = kept most (held ++ places_of (length old) (take written told.labels) pointers) in
+    let long = ap length begins.1 ∙ length-append old name in
+    let all = length-append name behind in
+    let size = behind_length told made in
+    ∣ (
+      name ++ behind,
+      inl (name, written, pointers, made, begins.0, subst (λ said. IsMade (old ++ name) table said made) (sym said) refl, refl),
+      past_more limit (length between + (10 + length made)) (length old + length (name ++ behind)) (omega (arith, long, all, size)) past,
+    ) ∣₁)
+
+-- or without
+pub owner_past_record : (limit most : Option ℕ) (old : List ℕ) (held : List Place) (told : Told) → ∥ PassesWith limit old (IsEncoded old held told.labels) ∥₁
+    → ∥ PassesWith limit old (IsRecordLeast most old held told) ∥₁
+owner_past_record limit most old held told past = ∥∥₁_elim past ∥∥₁_prop (λ past.
+    let name = past.0 in
+    let behind = behind_owner told.rtype told.class told.ttl [] in
+    let all = length-append name behind in
+    ∣ (
+      name ++ behind,
+      inr (name, past.1, refl),
+      past_more limit (length old + length name) (length old + length (name ++ behind)) (omega (arith, all)) past.2,
+    ) ∣₁)
+
+-- places stay good as octets are appended
+pub good_on : (old between new name more : List ℕ) (places : List Place) → between ≡ old ++ name → 12 ≤ length old → new ≡ between ++ more → ∥ AreGood between places ∥₁ → ∥ AreGood new places ∥₁
+good_on old between new name more places named headed content good = ∥∥₁_elim good ∥∥₁_prop (λ good.
+    let long = ap length named ∙ length-append old name in
+    let room : 12 ≤ length between = omega (arith, long, headed) in
+    ∣ subst (λ octets. AreGood octets places) (sym content) (good_grows between more places room good) ∣₁)

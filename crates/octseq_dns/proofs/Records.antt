@@ -1,5 +1,5 @@
 -- A record that was pushed stands in the message.
-use Rattle.std.proofs.Common.{◌≡◌, ℕ, ◌+◌, ◌-◌, ◌<◌, ◌≤◌, ◌^◌, List, [], ◌∷◌, ◌++◌, length, drop, take, refl, sym, ap, ◌∙◌, subst, append_assoc, arith}
+use Rattle.std.proofs.Common.{◌≡◌, ℕ, ◌+◌, ◌-◌, ◌<◌, ◌≤◌, ◌^◌, Option, List, [], ◌∷◌, ◌++◌, length, drop, take, refl, sym, ap, ◌∙◌, subst, append_assoc, arith}
 use Rattle.std.proofs.lemmas.List.{length-append, append-nil, length-drop}
 use Rattle.std.proofs.Math.Seq.{take-append_seam}
 use Rattle.octseq.specs.Integer.{be, octets_be}
@@ -11,10 +11,18 @@ use Rattle.octseq_dns_message.specs.Data.{Form, HasForm, IsTyped}
 use Rattle.octseq_dns_message.specs.Entry.{Record, IsRecord}
 use Rattle.octseq_dns_message.specs.Format.{IsData, IsNumber}
 use Rattle.octseq_dns_message.specs.declared.header.Header.{Header}
-use Rattle.octseq_dns_name.specs.Name.{IsName}
-use Rattle.octseq_dns.specs.RecordEntry.{behind_owner}
+use Rattle.octseq_dns_name.specs.Name.{IsName, wire_length}
+use Rattle.octseq_dns.specs.RecordEntry.{IsMade, IsRecordEntry, behind_owner}
+use Rattle.octseq_dns.specs.Encoded.{IsEncoded}
+use Rattle.octseq_dns.specs.Place.{places_of, kept}
+use Rattle.octseq_dns.specs.Pushed.{AppendsEntry}
+use Rattle.octseq_dns.specs.declared.place.Place.{Place}
+use Rattle.octseq_dns.proofs.Encoded.{encoded_stands}
+use Rattle.octseq_dns_name.specs.Wire.{AreLabels}
+use Rattle.octseq_dns_message.proofs.Formats.{row_more}
+use Rattle.std.proofs.Math.Logic.{∥∥₁_prop, ∥∥₁_elim}
 use Rattle.octseq_dns.specs.Told.{Told, Matter, IsTold, Says, matter, type_of}
-use Rattle.octseq_dns.specs.Written.{StandsIn, header_octets}
+use Rattle.octseq_dns.specs.Written.{Asked, ArePushed, HeaderFits, StandsIn, header_octets}
 use Rattle.octseq_dns.proofs.Headers.{header_length}
 use Rattle.octseq_dns.proofs.Pushing.{drop_front, drop_body, number_at}
 use Rattle.octseq_dns.proofs.Standing.{drop_on}
@@ -118,3 +126,116 @@ record_stands h body name made told typed classed timed fits named says header m
     let is_told : IsTold (at place (whole all)) told (at end (whole all)) = (inside all q (length made), (stands, says_at all place q (length made) told told.said (says header more long))) in
     subst (λ all. IsTold (at place (whole all)) told (at (12 + length (body ++ (name ++ behind))) (whole all))) (sym shown)
     (subst (λ end. IsTold (at place (whole all)) told (at end (whole all))) ends is_told)
+
+-- ---- messages
+
+-- a record more of opaque data, behind the questions and a section's records, where nothing stands behind them
+pub answer_more : (w v x : Window) (asked : List Asked) (answers : List Told) (one : Told) → ArePushed w (asked, (answers, ([], []))) v → IsTold v one x
+    → ArePushed w (asked, (answers ++ one ∷ [], ([], []))) x
+answer_more w v x asked answers one are is =
+    let last = are.2.0 in
+    let same : v ≡ last = are.2.2.2.2 ∙ are.2.2.2.1 in
+    (are.0, are.1, (x, row_more IsTold are.0 last x answers one are.2.1 (subst (λ v. IsTold v one x) same is), (x, refl, refl)))
+
+pub authority_more : (w v x : Window) (asked : List Asked) (answers authorities : List Told) (one : Told) → ArePushed w (asked, (answers, (authorities, []))) v → IsTold v one x
+    → ArePushed w (asked, (answers, (authorities ++ one ∷ [], []))) x
+authority_more w v x asked answers authorities one are is =
+    let last = are.2.2.0 in
+    let same : v ≡ last = are.2.2.2 in
+    (are.0, are.1, (are.2.0, are.2.1, (x, row_more IsTold are.2.0 last x authorities one are.2.2.1 (subst (λ v. IsTold v one x) same is), refl)))
+
+pub additional_more : (w v x : Window) (asked : List Asked) (answers authorities additionals : List Told) (one : Told) → ArePushed w (asked, (answers, (authorities, additionals))) v → IsTold v one x
+    → ArePushed w (asked, (answers, (authorities, additionals ++ one ∷ []))) x
+additional_more w v x asked answers authorities additionals one are is =
+    (are.0, are.1, (are.2.0, are.2.1, (are.2.2.0, are.2.2.1, row_more IsTold are.2.2.0 v x additionals one are.2.2.2 is)))
+
+behind_size : (told : Told) (made : List ℕ) → length (behind_owner told.rtype told.class told.ttl made) ≡ 10 + length made
+behind_size told made =
+    let rtype = octets_be 2 told.rtype in
+    let class = octets_be 2 told.class in
+    let ttl = octets_be 4 told.ttl in
+    let kept = part_of 2 made in
+    omega (arith, length-append rtype (class ++ (ttl ++ kept)), length-append class (ttl ++ kept), length-append ttl kept, length_part 2 made, length_be 2 told.rtype, length_be 2 told.class,
+    length_be 4 told.ttl)
+
+-- the data of a record stands behind its head
+data_behind : (header body name made more : List ℕ) (told : Told) → length header ≡ 12
+    → drop (12 + length body + length name + 2 + 2 + 4 + 2) (header ++ (body ++ (name ++ (behind_owner told.rtype told.class told.ttl made ++ more)))) ≡ made ++ more
+data_behind header body name made more told long =
+    let rtype = octets_be 2 told.rtype in
+    let class = octets_be 2 told.class in
+    let ttl = octets_be 4 told.ttl in
+    let len = octets_be 2 (length made) in
+    let behind = behind_owner told.rtype told.class told.ttl made in
+    let all = header ++ (body ++ (name ++ (behind ++ more))) in
+    let place = 12 + length body in
+    let apart : behind ++ more ≡ rtype ++ (class ++ (ttl ++ (len ++ (made ++ more)))) =
+    append_assoc rtype (class ++ (ttl ++ part_of 2 made)) more ∙ ap (λ rest. rtype ++ rest) (append_assoc class (ttl ++ part_of 2 made) more
+    ∙ ap (λ rest. class ++ rest) (append_assoc ttl (part_of 2 made) more ∙ ap (λ rest. ttl ++ rest) (append_assoc len made more))) in
+    let at_type = drop_on all name (behind ++ more) place (length name) (drop_body header body (name ++ (behind ++ more)) long) refl ∙ apart in
+    let at_class = drop_on all rtype (class ++ (ttl ++ (len ++ (made ++ more)))) (place + length name) 2 at_type (length_be 2 told.rtype) in
+    let at_ttl = drop_on all class (ttl ++ (len ++ (made ++ more))) (place + length name + 2) 2 at_class (length_be 2 told.class) in
+    let at_len = drop_on all ttl (len ++ (made ++ more)) (place + length name + 2 + 2) 4 at_ttl (length_be 4 told.ttl) in
+    drop_on all len (made ++ more) (place + length name + 2 + 2 + 4) 2 at_len (length_be 2 (length made))
+
+-- A record of opaque data was appended, and a header written.
+pub record TellsOnce (most : Option ℕ) (old between new : List ℕ) (k : Header) (held : List Place) (one : Told) (made : List ℕ) : Type 0 where
+  pub added : ∥ AppendsEntry old between (IsRecordEntry most old held one) ∥₁
+  pub opaque : one.said ≡ Matter.opaque made
+  pub each : AreLabels one.labels
+  pub short : wire_length one.labels ≤ 255
+  pub rtype : one.rtype < 65536
+  pub class : one.class < 65536
+  pub ttl : one.ttl < 4294967296
+  pub fits : HeaderFits k
+  pub content : new ≡ header_octets k ++ drop 12 between
+  pub size : length new ≤ 65535
+
+-- A body goes on with an entry, at whose place a record stands.
+pub record GoesOn (body : List ℕ) (k : Header) (new : List ℕ) (one : Told) : Type 0 where
+  pub entry : List ℕ
+  pub octets_are : new ≡ header_octets k ++ (body ++ entry)
+  pub stands : StandsIn IsTold (body ++ entry) (12 + length body) one (12 + length (body ++ entry))
+
+-- opaque data stands as what it says
+opaque_stands : (said : Matter) (made all after : List ℕ) (q : ℕ) → said ≡ Matter.opaque made → drop q all ≡ made ++ after → StandsAsData said all q (length made)
+opaque_stands said made all after q is there =
+    let count : q + length made - q ≡ length made = omega arith in
+    subst (λ said. StandsAsData said all q (length made)) (sym is)
+    (ap (λ n. take n (drop q all)) count ∙ ap (take (length made)) there ∙ take-append_seam made after)
+
+-- a message goes on so
+pub goes_on : (most : Option ℕ) (old between new : List ℕ) (h k : Header) (held : List Place) (one : Told) (made body : List ℕ) → TellsOnce most old between new k held one made
+    → old ≡ header_octets h ++ body → ∥ GoesOn body k new one ∥₁
+goes_on most old between new h k held one made body tells begins = ∥∥₁_elim tells.added ∥∥₁_prop (λ added.
+    let first = header_octets h in
+    let entry = added.0 in
+    let name = added.1.0 in
+    let own = added.1.3 in
+    let encodes = added.1.4 in
+    let entry_is : entry ≡ name ++ behind_owner one.rtype one.class one.ttl own = added.1.6 in
+    let is_made = added.1.5 in
+    let table = kept most (held ++ places_of (length old) (take added.1.1 one.labels) added.1.2) in
+    let same : own ≡ made = subst (λ said. IsMade (old ++ name) table said own) tells.opaque is_made in
+    let together : between ≡ first ++ (body ++ entry) = added.2 ∙ ap (λ old. old ++ entry) begins ∙ append_assoc first body entry in
+    let shown : new ≡ header_octets k ++ (body ++ entry) =
+    tells.content ∙ ap (λ behind. header_octets k ++ behind) (ap (drop 12) together ∙ drop_front first (body ++ entry) 12 (header_length h)) in
+    let encoded : IsEncoded (first ++ body) held one.labels name = subst (λ old. IsEncoded old held one.labels name) begins encodes.0 in
+    let headed : 12 ≤ length (first ++ body) = let both = length-append first body in let long = header_length h in omega (arith, both, long) in
+    let behind = behind_owner one.rtype one.class one.ttl own in
+    let fits : length own < 65536 =
+    let size = tells.size in
+    let all = ap length shown ∙ length-append (header_octets k) (body ++ entry) in
+    let both = length-append body entry in
+    let parts = ap length entry_is ∙ length-append name behind in
+    let last = behind_size one own in
+    omega (arith, size, all, both, parts, last) in
+    let stands = record_stands h body name own one tells.rtype tells.class tells.ttl fits
+    (λ header more long. encoded_stands (first ++ body) held one.labels name encoded tells.each tells.short headed header more long)
+    (λ header more long. opaque_stands one.said own (header ++ (body ++ (name ++ (behind ++ more)))) more (12 + length body + length name + 2 + 2 + 4 + 2)
+    (tells.opaque ∙ ap Matter.opaque (sym same)) (data_behind header body name own more one long)) in
+    ∣ record {
+      entry = entry;
+      octets_are = shown;
+      stands = subst (λ entry. StandsIn IsTold (body ++ entry) (12 + length body) one (12 + length (body ++ entry))) (sym entry_is) stands;
+    } ∣₁)

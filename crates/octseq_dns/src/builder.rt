@@ -19,7 +19,6 @@ use std::marker::Model;
 
 mod draft;
 mod header;
-mod made;
 mod question;
 mod questions;
 mod record;

@@ -3,22 +3,20 @@ ghost use Rattle.std.specs.Prelude.{◌≡◌, ◌+◌, ◌<◌, ◌≤◌, ◌+
 ghost use Rattle.octseq.specs.Integer.{octets_be};
 ghost use Rattle.octseq.specs.Limit.{IsPast, IsWithin};
 ghost use Rattle.octseq.specs.Refusal.{IsShort, IsMemory, append_error};
-ghost use Rattle.octseq_dns.specs.Told.{matter};
-ghost use Rattle.octseq_dns_message.specs.Typed.{form_of};
+ghost use Rattle.octseq_dns.specs.Told.{Matter, told_of};
 ghost use Rattle.octseq_dns_name.specs.Name.{wire_length};
 ghost use Rattle.octseq_dns_name.specs.Read.{labels_of};
 ghost use Rattle.octseq_dns_name.specs.Wire.{AreLabels};
 ghost use Rattle.octseq_dns.specs.Encoded.{IsEncoded};
 ghost use Rattle.octseq_dns.specs.Place.{AreGood};
-ghost use Rattle.octseq_dns.specs.Pushed.{message_limit, PassesWith};
-ghost use Rattle.octseq_dns.specs.RecordEntry.{AppendsMade, BeginsRecord, IsBrief, PassesMade, behind_owner};
+ghost use Rattle.octseq_dns.specs.Pushed.{AppendsEntry, PassesWith, message_limit};
+ghost use Rattle.octseq_dns.specs.RecordEntry.{BeginsRecord, IsRecordEntry, IsRecordLeast, behind_owner};
 
 use crate::builder::draft::append;
-use crate::builder::made::made_of;
 use crate::encode::{EncodedName, add_places, encode_name};
-use crate::place::{Place, Places};
-use octseq::{AppendError, AsOctets, OctetsBuilder, ShortBuf};
-use octseq_dns_message::{Class, Data, Rtype, Ttl};
+use crate::place::Places;
+use octseq::{AppendError, AsOctets, OctetsBuilder, ShortBuf, Truncate};
+use octseq_dns_message::{Class, Rtype, Ttl};
 use octseq_dns_name::ParsedName;
 
 /// What a record has between its name and its data.
@@ -105,30 +103,77 @@ pub(super) fn append_data<B: OctetsBuilder>(
     append(octets, made)
 }
 
-/// Appends what stands behind the name of a record, with data that is neither text nor opaque.
-fn append_made<B: OctetsBuilder, S: AsOctets + Copy>(
+/// Appends a record of opaque data, and adds the places of its name to the table. Where it is refused a front of both
+/// stays.
+fn write_record<B: OctetsBuilder, T: Places, R: AsOctets + Copy>(
     octets: &mut B,
-    places: &[Place],
+    places: &mut T,
+    owner: &ParsedName<R>,
     fields: Fields,
-    told: &Data<S>,
+    made: &[u8],
 ) -> Result<(), AppendError>
     requires size { length (B.content octets.old) ≤ 65535 }
     requires room { 12 ≤ length (B.content octets.old) }
-    requires good { ∥ AreGood (B.content octets.old) places.now ∥₁ }
-    requires brief { IsBrief (matter (form_of told.now)) }
-    ensures ok { OnOk result (∥ AppendsMade (B.content octets.old) places.now fields.rtype fields.class fields.ttl
-        (matter (form_of told.now)) (B.content octets.new) ∥₁) }
+    requires good { ∥ AreGood (B.content octets.old) (T.held places.old) ∥₁ }
+    ensures ok { OnOk result (∥ AppendsEntry (B.content octets.old) (B.content octets.new)
+        (IsRecordEntry T.most (B.content octets.old) (T.held places.old)
+            (told_of owner.now fields.rtype fields.class fields.ttl (Matter.opaque made.now))) ∥₁) }
+    ensures good { OnOk result (∥ AreGood (B.content octets.new) (T.held places.new) ∥₁) }
     ensures front { take (length (B.content octets.old)) (B.content octets.new) ≡ B.content octets.old }
+    ensures places { take (length (T.held places.old)) (T.held places.new) ≡ T.held places.old }
     ensures size { length (B.content octets.new) ≤ 65535 }
     ensures within { OnOk result (IsWithin (message_limit B.limit) (length (B.content octets.new))) }
+    ensures labels { AreLabels (labels_of owner.now) }
+    ensures named { wire_length (labels_of owner.now) ≤ 255 }
     ensures rtype { OnOk result (fields.rtype < 65536) }
     ensures class { OnOk result (fields.class < 65536) }
     ensures ttl { OnOk result (fields.ttl < 4294967296) }
-    ensures short { IsShort append_error result → ∥ PassesMade (message_limit B.limit) (B.content octets.old)
-        places.now (matter (form_of told.now)) ∥₁ }
-    ensures memory { IsMemory append_error result → B.asks ≡ true }
+    ensures short { IsShort append_error result → ∥ PassesWith (message_limit B.limit) (B.content octets.old)
+        (IsRecordLeast T.most (B.content octets.old) (T.held places.old)
+            (told_of owner.now fields.rtype fields.class fields.ttl (Matter.opaque made.now))) ∥₁ }
+    ensures memory { IsMemory append_error result → (B.asks ≡ true) ⊎ (T.asks ≡ true) }
     ensures borrows { B.borrows octets.new ≡ B.borrows octets.old }
 {
-    let made = made_of(octets.as_ref(), places, told);
-    append_data(octets, fields, made.as_slice())
+    append_owner(octets, places, owner)?;
+    append_data(octets, fields, made)?;
+    Ok(())
+}
+
+/// Appends a record of opaque data and adds the places of its name to the table, or leaves both as they are.
+pub(super) fn add_record<B: OctetsBuilder + Truncate, T: Places, R: AsOctets + Copy>(
+    octets: &mut B,
+    places: &mut T,
+    owner: &ParsedName<R>,
+    fields: Fields,
+    made: &[u8],
+) -> Result<(), AppendError>
+    requires size { length (B.content octets.old) ≤ 65535 }
+    requires room { 12 ≤ length (B.content octets.old) }
+    requires good { ∥ AreGood (B.content octets.old) (T.held places.old) ∥₁ }
+    ensures ok { OnOk result (∥ AppendsEntry (B.content octets.old) (B.content octets.new)
+        (IsRecordEntry T.most (B.content octets.old) (T.held places.old)
+            (told_of owner.now fields.rtype fields.class fields.ttl (Matter.opaque made.now))) ∥₁) }
+    ensures good { OnOk result (∥ AreGood (B.content octets.new) (T.held places.new) ∥₁) }
+    ensures err { OnErr result (B.content octets.new ≡ B.content octets.old) }
+    ensures places { OnErr result (T.held places.new ≡ T.held places.old) }
+    ensures size { length (B.content octets.new) ≤ 65535 }
+    ensures within { OnOk result (IsWithin (message_limit B.limit) (length (B.content octets.new))) }
+    ensures labels { AreLabels (labels_of owner.now) }
+    ensures named { wire_length (labels_of owner.now) ≤ 255 }
+    ensures rtype { OnOk result (fields.rtype < 65536) }
+    ensures class { OnOk result (fields.class < 65536) }
+    ensures ttl { OnOk result (fields.ttl < 4294967296) }
+    ensures short { IsShort append_error result → ∥ PassesWith (message_limit B.limit) (B.content octets.old)
+        (IsRecordLeast T.most (B.content octets.old) (T.held places.old)
+            (told_of owner.now fields.rtype fields.class fields.ttl (Matter.opaque made.now))) ∥₁ }
+    ensures memory { IsMemory append_error result → (B.asks ≡ true) ⊎ (T.asks ≡ true) }
+    ensures borrows { B.borrows octets.new ≡ B.borrows octets.old }
+{
+    let (len, held) = (octets.len(), places.as_slice().len());
+    if let Err(refusal) = write_record(octets, places, owner, fields, made) {
+        octets.truncate(len);
+        places.truncate(held);
+        return Err(refusal);
+    }
+    Ok(())
 }
