@@ -1,5 +1,5 @@
 -- What a message that is being written is, as it begins and as questions are pushed.
-use Rattle.std.proofs.Common.{◌≡◌, ℕ, ◌+◌, ◌<◌, ◌≤◌, List, [], ◌∷◌, ◌++◌, length, drop, refl, sym, ap, ◌∙◌, subst, arith}
+use Rattle.std.proofs.Common.{◌≡◌, ℕ, ◌+◌, ◌<◌, ◌≤◌, Option, List, [], ◌∷◌, ◌++◌, length, drop, refl, sym, ap, ◌∙◌, subst, arith}
 use Rattle.std.proofs.Math.Logic.{∥∥₁_prop, ∥∥₁_elim}
 use Rattle.std.specs.Coded.{le_prop}
 use Rattle.std.proofs.lemmas.List.{length-append, append-nil}
@@ -8,13 +8,14 @@ use Rattle.octseq_dns_message.specs.declared.header.Header.{Header}
 use Rattle.octseq_dns_name.specs.Name.{wire_length}
 use Rattle.octseq_dns_name.specs.Wire.{AreLabels}
 use Rattle.octseq_dns.specs.Place.{AreGood}
-use Rattle.octseq_dns.specs.Pushed.{AppendsEntry, IsBuilt, IsQuestionEntry, NothingYet, UpToQuestions}
+use Rattle.octseq_dns.specs.Pushed.{AppendsEntry, IsBuilt, IsQuestionEntry, NothingYet, UpToQuestions, UpToAnswers, UpToAuthorities, UpToAdditionals}
 use Rattle.octseq_dns.specs.Told.{Told}
 use Rattle.octseq_dns.specs.Written.{Asked, HeaderFits, Writes, IsWritten, header_octets, blank_header}
 use Rattle.octseq_dns.specs.declared.place.Place.{Place}
 use Rattle.octseq_dns.proofs.Encoded.{good_headed}
 use Rattle.octseq_dns.proofs.Headers.{header_length}
 use Rattle.octseq_dns.proofs.Pushing.{question_written}
+use Rattle.octseq_dns.proofs.Records.{TellsOnce, answer_written, authority_written, additional_written}
 
 -- a message of a header of zeros
 pub blank_written : (octets : List ℕ) → octets ≡ header_octets blank_header → Writes octets blank_header [] [] [] []
@@ -83,3 +84,39 @@ asked_built old between new h k held after one asks built good = (
   ∣ (x.0 ++ one ∷ [], [], [], [], (refl, refl, refl), written) ∣₁)),
   ∥∥₁_elim good ∥∥₁_prop (λ good. ∣ subst (λ octets. AreGood octets after) (sym asks.content) (good_headed (header_octets k) between after (header_length k) good) ∣₁),
 )
+
+-- ---- records
+
+module _ (most : Option ℕ) (old between new : List ℕ) (h k : Header) (held after : List Place) (one : Told) (made : List ℕ) (tells : TellsOnce most old between new k held one made)
+    (good : ∥ AreGood between after ∥₁) where
+  good_behind : ∥ AreGood new after ∥₁
+  good_behind = ∥∥₁_elim good ∥∥₁_prop (λ good. ∣ subst (λ octets. AreGood octets after) (sym tells.content) (good_headed (header_octets k) between after (header_length k) good) ∣₁)
+
+  pub answer_built : k ≡ record h { ancount = h.ancount + 1 } → IsBuilt old held h UpToAnswers → IsBuilt new after k UpToAnswers
+  answer_built counted built = (
+    ∥∥₁_elim built.0 ∥∥₁_prop (λ x.
+    let B : List Told → Type 0 = λ c. Writes old h x.0 x.1 c x.3 in
+    let C : List Told → Type 0 = λ d. Writes old h x.0 x.1 [] d in
+    let so_far : Writes old h x.0 x.1 [] [] = subst C x.4.1 (subst B x.4.0 x.5) in
+    ∥∥₁_elim (answer_written most old between new h k held one made tells x.0 x.1 counted ∣ so_far ∣₁) ∥∥₁_prop (λ written.
+    ∣ (x.0, x.1 ++ one ∷ [], [], [], (refl, refl), written) ∣₁)),
+    good_behind,
+  )
+
+  pub authority_built : k ≡ record h { nscount = h.nscount + 1 } → IsBuilt old held h UpToAuthorities → IsBuilt new after k UpToAuthorities
+  authority_built counted built = (
+    ∥∥₁_elim built.0 ∥∥₁_prop (λ x.
+    let C : List Told → Type 0 = λ d. Writes old h x.0 x.1 x.2 d in
+    let so_far : Writes old h x.0 x.1 x.2 [] = subst C x.4 x.5 in
+    ∥∥₁_elim (authority_written most old between new h k held one made tells x.0 x.1 x.2 counted ∣ so_far ∣₁) ∥∥₁_prop (λ written.
+    ∣ (x.0, x.1, x.2 ++ one ∷ [], [], refl, written) ∣₁)),
+    good_behind,
+  )
+
+  pub additional_built : k ≡ record h { arcount = h.arcount + 1 } → IsBuilt old held h UpToAdditionals → IsBuilt new after k UpToAdditionals
+  additional_built counted built = (
+    ∥∥₁_elim built.0 ∥∥₁_prop (λ x.
+    ∥∥₁_elim (additional_written most old between new h k held one made tells x.0 x.1 x.2 x.3 counted ∣ x.5 ∣₁) ∥∥₁_prop (λ written.
+    ∣ (x.0, x.1, x.2, x.3 ++ one ∷ [], tt, written) ∣₁)),
+    good_behind,
+  )

@@ -22,9 +22,9 @@ use Rattle.octseq_dns_name.specs.Wire.{AreLabels}
 use Rattle.octseq_dns_message.proofs.Formats.{row_more}
 use Rattle.std.proofs.Math.Logic.{∥∥₁_prop, ∥∥₁_elim}
 use Rattle.octseq_dns.specs.Told.{Told, Matter, IsTold, Says, matter, type_of}
-use Rattle.octseq_dns.specs.Written.{Asked, ArePushed, HeaderFits, StandsIn, header_octets}
+use Rattle.octseq_dns.specs.Written.{Asked, ArePushed, HeaderFits, IsWritten, StandsIn, Writes, header_octets}
 use Rattle.octseq_dns.proofs.Headers.{header_length}
-use Rattle.octseq_dns.proofs.Pushing.{drop_front, drop_body, number_at}
+use Rattle.octseq_dns.proofs.Pushing.{drop_front, drop_body, number_at, stands_on}
 use Rattle.octseq_dns.proofs.Standing.{drop_on}
 
 -- the window of n octets at a place
@@ -134,7 +134,7 @@ pub answer_more : (w v x : Window) (asked : List Asked) (answers : List Told) (o
     → ArePushed w (asked, (answers ++ one ∷ [], ([], []))) x
 answer_more w v x asked answers one are is =
     let last = are.2.0 in
-    let same : v ≡ last = are.2.2.2.2 ∙ are.2.2.2.1 in
+    let same : v ≡ last = are.2.2.2 ∙ are.2.2.1 in
     (are.0, are.1, (x, row_more IsTold are.0 last x answers one are.2.1 (subst (λ v. IsTold v one x) same is), (x, refl, refl)))
 
 pub authority_more : (w v x : Window) (asked : List Asked) (answers authorities : List Told) (one : Told) → ArePushed w (asked, (answers, (authorities, []))) v → IsTold v one x
@@ -239,3 +239,50 @@ goes_on most old between new h k held one made body tells begins = ∥∥₁_eli
       octets_are = shown;
       stands = subst (λ entry. StandsIn IsTold (body ++ entry) (12 + length body) one (12 + length (body ++ entry))) (sym entry_is) stands;
     } ∣₁)
+
+-- so what was pushed is a record more
+pub section_written : (new : List ℕ) (h k : Header) (old body : List ℕ) (a e : List Asked) (b c d x y z : List Told) (one : Told) → (so_far : Writes old h a b c d) → GoesOn so_far.body k new one
+    → HeaderFits k → length new ≤ 65535 → k.qdcount ≡ length e → k.ancount ≡ length x → k.nscount ≡ length y → k.arcount ≡ length z
+    → ((w v u : Window) → ArePushed w (a, (b, (c, d))) v → IsTold v one u → ArePushed w (e, (x, (y, z))) u) → Writes new k e x y z
+section_written new h k old body a e b c d x y z one so_far on fits size qdcount ancount nscount arcount more = record {
+  body = so_far.body ++ on.entry;
+  octets_are = on.octets_are;
+  size = size;
+  fits = fits;
+  qdcount = qdcount;
+  ancount = ancount;
+  nscount = nscount;
+  arcount = arcount;
+  pushed = λ header rest long.
+      let all = header ++ ((so_far.body ++ on.entry) ++ rest) in
+      more (at 12 (whole all)) (at (12 + length so_far.body) (whole all)) (at (12 + length (so_far.body ++ on.entry)) (whole all))
+      (stands_on ArePushed so_far.body on.entry 12 (12 + length so_far.body) (a, (b, (c, d))) so_far.pushed header rest long) (on.stands header rest long);
+}
+
+one_longer : {A : Type 0} (row : List A) (one : A) (count more : ℕ) → count ≡ length row → more ≡ count + 1 → more ≡ length (row ++ one ∷ [])
+one_longer row one count more is counted = let all = length-append row (one ∷ []) in omega (arith, is, counted, all)
+
+module _ (most : Option ℕ) (old between new : List ℕ) (h k : Header) (held : List Place) (one : Told) (made : List ℕ) (tells : TellsOnce most old between new k held one made) where
+  pub answer_written : (a : List Asked) (b : List Told) → k ≡ record h { ancount = h.ancount + 1 } → IsWritten old h a b [] [] → IsWritten new k a (b ++ one ∷ []) [] []
+  answer_written a b counted so_far = ∥∥₁_elim so_far ∥∥₁_prop (λ so_far.
+      ∥∥₁_elim (goes_on most old between new h k held one made so_far.body tells so_far.octets_are) ∥∥₁_prop (λ on.
+      ∣ section_written new h k old so_far.body a a b [] [] (b ++ one ∷ []) [] [] one so_far on tells.fits tells.size
+      (ap (λ k. k.qdcount) counted ∙ so_far.qdcount) (one_longer b one h.ancount k.ancount so_far.ancount (ap (λ k. k.ancount) counted))
+      (ap (λ k. k.nscount) counted ∙ so_far.nscount) (ap (λ k. k.arcount) counted ∙ so_far.arcount)
+      (λ w v u are is. answer_more w v u a b one are is) ∣₁))
+
+  pub authority_written : (a : List Asked) (b c : List Told) → k ≡ record h { nscount = h.nscount + 1 } → IsWritten old h a b c [] → IsWritten new k a b (c ++ one ∷ []) []
+  authority_written a b c counted so_far = ∥∥₁_elim so_far ∥∥₁_prop (λ so_far.
+      ∥∥₁_elim (goes_on most old between new h k held one made so_far.body tells so_far.octets_are) ∥∥₁_prop (λ on.
+      ∣ section_written new h k old so_far.body a a b c [] b (c ++ one ∷ []) [] one so_far on tells.fits tells.size
+      (ap (λ k. k.qdcount) counted ∙ so_far.qdcount) (ap (λ k. k.ancount) counted ∙ so_far.ancount)
+      (one_longer c one h.nscount k.nscount so_far.nscount (ap (λ k. k.nscount) counted)) (ap (λ k. k.arcount) counted ∙ so_far.arcount)
+      (λ w v u are is. authority_more w v u a b c one are is) ∣₁))
+
+  pub additional_written : (a : List Asked) (b c d : List Told) → k ≡ record h { arcount = h.arcount + 1 } → IsWritten old h a b c d → IsWritten new k a b c (d ++ one ∷ [])
+  additional_written a b c d counted so_far = ∥∥₁_elim so_far ∥∥₁_prop (λ so_far.
+      ∥∥₁_elim (goes_on most old between new h k held one made so_far.body tells so_far.octets_are) ∥∥₁_prop (λ on.
+      ∣ section_written new h k old so_far.body a a b c d b c (d ++ one ∷ []) one so_far on tells.fits tells.size
+      (ap (λ k. k.qdcount) counted ∙ so_far.qdcount) (ap (λ k. k.ancount) counted ∙ so_far.ancount) (ap (λ k. k.nscount) counted ∙ so_far.nscount)
+      (one_longer d one h.arcount k.arcount so_far.arcount (ap (λ k. k.arcount) counted))
+      (λ w v u are is. additional_more w v u a b c d one are is) ∣₁))

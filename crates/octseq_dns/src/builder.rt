@@ -22,8 +22,10 @@ mod header;
 mod question;
 mod questions;
 mod record;
+mod records;
 
 pub use crate::builder::questions::QuestionBuilder;
+pub use crate::builder::records::{AdditionalBuilder, AnswerBuilder, AuthorityBuilder};
 
 /// What was written is read back: the octets are a message, with that header, those questions and those records in
 /// their order, names octet for octet.

@@ -5,6 +5,7 @@ ghost use Rattle.octseq_dns.specs.Written.{Asked, IsWritten, asked_of};
 
 use crate::builder::header::put_header;
 use crate::builder::question::add_question;
+use crate::builder::records::AnswerBuilder;
 use crate::place::Places;
 use octseq::builder::AsOctetsMut;
 use octseq::{AppendError, AsOctets, OctetsBuilder, ShortBuf, Truncate};
@@ -90,5 +91,12 @@ impl<B: OctetsBuilder + Truncate + AsOctetsMut, T: Places> QuestionBuilder<B, T>
         self.header.qdcount = count;
         put_header(&mut self.octets, &self.header);
         Ok(())
+    }
+
+    /// Goes on with the answers.
+    pub fn answer(self) -> AnswerBuilder<B, T>
+        ensures { result ≡ self }
+    {
+        AnswerBuilder::behind(self.octets, self.places, self.header)
     }
 }
