@@ -13,7 +13,7 @@ use Rattle.octseq_dns.specs.Told.{Told}
 use Rattle.octseq_dns.specs.Written.{Asked, HeaderFits, Writes, IsWritten, header_octets, blank_header}
 use Rattle.octseq_dns.specs.declared.place.Place.{Place}
 use Rattle.octseq_dns.proofs.Encoded.{good_headed}
-use Rattle.octseq_dns.proofs.Headers.{header_length}
+use Rattle.octseq_dns.proofs.HeaderOctets.{header_length}
 use Rattle.octseq_dns.proofs.Pushing.{question_written}
 use Rattle.octseq_dns.proofs.Records.{TellsOnce, answer_written, authority_written, additional_written}
 

@@ -1,11 +1,11 @@
 pub mod Building
 pub mod Encoded
-pub mod Headers
+pub mod HeaderOctets
 pub mod Pushes
 pub mod Pushing
 pub mod ReadBack
-pub mod Runs
 pub mod Records
+pub mod Runs
 pub mod Standing
 pub mod Tables
 pub use Rattle.octseq_dns_message.proofs.Edns

@@ -22,7 +22,7 @@ use Rattle.octseq_dns.specs.declared.place.Place.{Place}
 use Rattle.octseq.specs.Refusal.{IsShort, IsMemory, append_error}
 use Rattle.octseq.specs.declared.AppendError.{AppendError}
 use Rattle.octseq_dns_message.specs.declared.header.Header.{Header}
-use Rattle.octseq_dns.proofs.Headers.{header_length}
+use Rattle.octseq_dns.proofs.HeaderOctets.{header_length}
 use Rattle.std.specs.Coded.{le_prop}
 
 within_prop : (limit : Option ℕ) (n : ℕ) → IsProp (IsWithin limit n)

@@ -16,7 +16,7 @@ use Rattle.octseq_dns.specs.Told.{Told, IsTold}
 use Rattle.octseq_dns.specs.Written.{Asked, IsAsked, ArePushed, StandsIn, header_octets, HeaderFits, Writes}
 use Rattle.octseq_dns.specs.declared.place.Place.{Place}
 use Rattle.octseq_dns.proofs.Encoded.{encoded_stands}
-use Rattle.octseq_dns.proofs.Headers.{header_length}
+use Rattle.octseq_dns.proofs.HeaderOctets.{header_length}
 use Rattle.octseq_dns.proofs.Standing.{drop_on}
 
 -- ---- places in lists

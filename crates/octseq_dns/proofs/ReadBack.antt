@@ -9,7 +9,7 @@ use Rattle.octseq_dns_message.specs.declared.header.Header.{Header}
 use Rattle.octseq_dns.specs.ReadBack.{bare, IsAsTold, AreAsTold, ReadsBack}
 use Rattle.octseq_dns.specs.Told.{Told, IsTold}
 use Rattle.octseq_dns.specs.Written.{Asked, IsAsked, IsWritten, Writes, header_octets}
-use Rattle.octseq_dns.proofs.Headers.{header_length, header_stands}
+use Rattle.octseq_dns.proofs.HeaderOctets.{header_length, header_stands}
 
 -- questions that stand in a row
 asked_row : (w v : Window) (asked : List Asked) → Row IsAsked w asked v → (row : List Question) × Row IsQuestion w row v × (map bare row ≡ asked) × (length row ≡ length asked)

@@ -23,7 +23,7 @@ use Rattle.octseq_dns_message.proofs.Formats.{row_more}
 use Rattle.std.proofs.Math.Logic.{∥∥₁_prop, ∥∥₁_elim}
 use Rattle.octseq_dns.specs.Told.{Told, Matter, IsTold, Says, matter, type_of}
 use Rattle.octseq_dns.specs.Written.{Asked, ArePushed, HeaderFits, IsWritten, StandsIn, Writes, header_octets}
-use Rattle.octseq_dns.proofs.Headers.{header_length}
+use Rattle.octseq_dns.proofs.HeaderOctets.{header_length}
 use Rattle.octseq_dns.proofs.Pushing.{drop_front, drop_body, number_at, stands_on}
 use Rattle.octseq_dns.proofs.Standing.{drop_on}
 
