@@ -1,6 +1,8 @@
 -- How the longest run of a name's last labels is found, and what a name is encoded as then.
-use Rattle.std.proofs.Common.{◌≡◌, ℕ, ◌+◌, ◌-◌, ◌<◌, ◌≤◌, List, [], ◌∷◌, ◌++◌, length, take, drop, get_or, refl, sym, ap, ◌∙◌, subst, arith}
-use Rattle.std.proofs.lemmas.List.{length-append, length-drop, length-take, length-take-le, take_all, take_more, take-append-drop, get_or-drop, flat_map_more}
+use Rattle.std.proofs.Common.{◌≡◌, ℕ, ◌+◌, ◌-◌, ◌<◌, ◌≤◌, List, [], ◌∷◌, ◌++◌, length, take, drop, get_or, refl, sym}
+use Rattle.std.proofs.Common.{ap, ◌∙◌, subst, arith}
+use Rattle.std.proofs.lemmas.List.{length-drop, length-take, length-take-le, take_all, take_more, take-append-drop}
+use Rattle.std.proofs.lemmas.List.{get_or-drop, flat_map_more}
 use Rattle.std.proofs.lemmas.List.Elements.{All-contains, All-weaker, All-more}
 use Rattle.std.proofs.Math.Logic.{∥∥₁_elim}
 use Rattle.std.specs.Coded.{le_prop}
@@ -19,7 +21,8 @@ use Rattle.octseq_dns_name.proofs.Wires.{bodies_length}
 -- ---- the octets of the first labels
 
 -- the first labels take what the others leave
-pub unrooted_fits : (labels : List (List ℕ)) (i : ℕ) → length (unrooted (take i labels)) + wire_length (drop i labels) ≡ wire_length labels
+pub unrooted_fits : (labels : List (List ℕ)) (i : ℕ)
+    → length (unrooted (take i labels)) + wire_length (drop i labels) ≡ wire_length labels
 unrooted_fits labels i =
     let both = wire_append (take i labels) (drop i labels) in
     let all = ap wire_length (take-append-drop i labels) in
@@ -27,7 +30,8 @@ unrooted_fits labels i =
     omega (arith, both, all, first)
 
 -- there is room for the octets of one more
-pub room_for_label : (labels more ahead : List (List ℕ)) (label content : List ℕ) (i : ℕ) → wire_length labels ≤ 255 → content ≡ unrooted (take i labels) → ahead ≡ drop i labels
+pub room_for_label : (labels more ahead : List (List ℕ)) (label content : List ℕ) (i : ℕ) → wire_length labels ≤ 255
+    → content ≡ unrooted (take i labels) → ahead ≡ drop i labels
     → ahead ≡ label ∷ more → length content + (1 + length label) ≤ 255
 room_for_label labels more ahead label content i short appended ahead_is is =
     let fits = unrooted_fits labels i in
@@ -36,7 +40,8 @@ room_for_label labels more ahead label content i short appended ahead_is is =
     omega (arith, short, fits, there, size)
 
 -- one label more
-pub unrooted_more : (labels more ahead : List (List ℕ)) (label content one two : List ℕ) (i : ℕ) → content ≡ unrooted (take i labels) → ahead ≡ drop i labels → ahead ≡ label ∷ more
+pub unrooted_more : (labels more ahead : List (List ℕ)) (label content one two : List ℕ) (i : ℕ)
+    → content ≡ unrooted (take i labels) → ahead ≡ drop i labels → ahead ≡ label ∷ more
     → one ≡ content ++ length label ∷ [] → two ≡ one ++ label → two ≡ unrooted (take (i + 1) labels)
 unrooted_more labels more ahead label content one two i appended ahead_is is first second =
     let there : drop i labels ≡ label ∷ more = sym ahead_is ∙ is in
@@ -44,17 +49,21 @@ unrooted_more labels more ahead label content one two i appended ahead_is is fir
     let left = length-drop i labels in
     let inside : i < length labels = omega (arith, size, left) in
     let same : i + 0 ≡ i = omega arith in
-    let here : get_or labels i [] ≡ label = ap (λ k. get_or labels k []) (sym same) ∙ sym (get_or-drop i labels 0 []) ∙ ap (λ xs. get_or xs 0 []) there in
+    let here : get_or labels i [] ≡ label = ap (λ k. get_or labels k []) (sym same) ∙ sym (get_or-drop i labels 0 [])
+    ∙ ap (λ xs. get_or xs 0 []) there in
     let grown = flat_map_more (λ label. length label ∷ label) [] (take i labels) label in
-    let last : take (i + 1) labels ≡ take i labels ++ label ∷ [] = take_more labels i [] inside ∙ ap (λ l. take i labels ++ l ∷ []) here in
-    second ∙ ap (λ octets. octets ++ label) (first ∙ ap (λ octets. octets ++ length label ∷ []) appended) ∙ joined (unrooted (take i labels)) label ∙ grown ∙ ap unrooted (sym last)
+    let last : take (i + 1) labels ≡ take i labels ++ label ∷ [] = take_more labels i [] inside
+    ∙ ap (λ l. take i labels ++ l ∷ []) here in
+    second ∙ ap (λ octets. octets ++ label) (first ∙ ap (λ octets. octets ++ length label ∷ []) appended)
+    ∙ joined (unrooted (take i labels)) label ∙ grown ∙ ap unrooted (sym last)
   where
     joined : (octets label : List ℕ) → (octets ++ length label ∷ []) ++ label ≡ octets ++ (length label ∷ label)
     joined [] label = refl
     joined (octet ∷ octets) label = ap (λ rest. octet ∷ rest) (joined octets label)
 
 -- and none more where none is ahead
-pub unrooted_end : (labels ahead : List (List ℕ)) (content : List ℕ) (i : ℕ) → content ≡ unrooted (take i labels) → ahead ≡ drop i labels → ahead ≡ [] → content ≡ unrooted (take (i + 1) labels)
+pub unrooted_end : (labels ahead : List (List ℕ)) (content : List ℕ) (i : ℕ) → content ≡ unrooted (take i labels)
+    → ahead ≡ drop i labels → ahead ≡ [] → content ≡ unrooted (take (i + 1) labels)
 unrooted_end labels ahead content i appended ahead_is is =
     let size = ap length (sym ahead_is ∙ is) in
     let left = length-drop i labels in
@@ -63,7 +72,8 @@ unrooted_end labels ahead content i appended ahead_is is =
     appended ∙ ap unrooted (take_all i labels past ∙ sym (take_all (i + 1) labels further))
 
 -- there is room for the root,
-pub room_for_root : (labels : List (List ℕ)) (content : List ℕ) (i : ℕ) → content ≡ unrooted (take i labels) → length content + 1 ≤ wire_length labels
+pub room_for_root : (labels : List (List ℕ)) (content : List ℕ) (i : ℕ) → content ≡ unrooted (take i labels)
+    → length content + 1 ≤ wire_length labels
 room_for_root labels content i is =
     let fits = unrooted_fits labels i in
     let some = wire_some (drop i labels) in
@@ -71,7 +81,8 @@ room_for_root labels content i is =
     omega (arith, fits, some, size)
 
 -- and for a pointer where a label is left
-pub room_for_pointer : (labels : List (List ℕ)) (content : List ℕ) (i count : ℕ) → content ≡ unrooted (take i labels) → i ≡ length labels - count → 1 ≤ count → count ≤ length labels
+pub room_for_pointer : (labels : List (List ℕ)) (content : List ℕ) (i count : ℕ) → content ≡ unrooted (take i labels)
+    → i ≡ length labels - count → 1 ≤ count → count ≤ length labels
     → length content + 2 ≤ wire_length labels
 room_for_pointer labels content i count is i_is some within =
     let fits = unrooted_fits labels i in
@@ -83,10 +94,12 @@ room_for_pointer labels content i count is i_is some within =
 -- ---- labels of a name
 
 -- the labels that stand somewhere have 1 to 63 octets
-each_standing : (start : ℕ) (w v : Window) (labels : List (List ℕ)) (pointers : ℕ) → w.end ≤ length w.octets → Stands start w labels pointers v → AreLabels labels
+each_standing : (start : ℕ) (w v : Window) (labels : List (List ℕ)) (pointers : ℕ) → w.end ≤ length w.octets
+    → Stands start w labels pointers v → AreLabels labels
 each_standing start w v labels pointers within (Stands.root has) = tt
 each_standing start w v labels pointers within (Stands.label {u = u} {l = l} {labels = rest} has stands) =
-    let size = ap length has.octets ∙ length-take (w.position + 1 + octet w - (w.position + 1)) (drop (w.position + 1) w.octets) in
+    let size = ap length has.octets
+    ∙ length-take (w.position + 1 + octet w - (w.position + 1)) (drop (w.position + 1) w.octets) in
     let ahead = length-drop (w.position + 1) w.octets in
     let whole = has.whole in
     let same : length l ≡ octet w = omega (arith, size, ahead, whole, within) in
@@ -94,7 +107,8 @@ each_standing start w v labels pointers within (Stands.label {u = u} {l = l} {la
     let short = has.short in
     let within_u : u.end ≤ length u.octets = subst (λ u. u.end ≤ length u.octets) (sym has.behind) within in
     (omega (arith, same, some), omega (arith, same, short), each_standing start u v rest pointers within_u stands)
-each_standing start w v labels pointers within (Stands.pointer {to = to} {pointers = fewer} {u = u} has stands) = each_standing to (at to w) u labels fewer within stands
+each_standing start w v labels pointers within (Stands.pointer {to = to} {pointers = fewer} {u = u} has stands) =
+    each_standing to (at to w) u labels fewer within stands
 
 labels_prop : (labels : List (List ℕ)) → IsProp (AreLabels labels)
 labels_prop [] = hlevel
@@ -102,20 +116,24 @@ labels_prop (label ∷ labels) = let rest = labels_prop labels in hlevel (le_pro
 
 -- so have those of a name that is known to stand somewhere
 pub each_named : (w : Window) (named : Named w) → w.end ≤ length w.octets → AreLabels named.0
-each_named w named within = ∥∥₁_elim named.1 (labels_prop named.0) (λ x. each_standing w.position w x.0 named.0 x.1.pointers within x.1.stands)
+each_named w named within = ∥∥₁_elim named.1 (labels_prop named.0)
+    (λ x. each_standing w.position w x.0 named.0 x.1.pointers within x.1.stands)
 
 -- ---- runs
 
 -- the labels at a place are the last ones of which it is a run
-pub run_labels : (octets : List ℕ) (labels there : List (List ℕ)) (count : ℕ) (place : Place) (end : Window) → IsName (at place.at (whole octets)) there end
+pub run_labels : (octets : List ℕ) (labels there : List (List ℕ)) (count : ℕ) (place : Place) (end : Window)
+    → IsName (at place.at (whole octets)) there end
     → IsRunNow octets labels count place → there ≡ drop (length labels - count) labels
 run_labels octets labels there count place end name run =
     (one_name (at place.at (whole octets)) end run.end there (drop (length labels - count) labels) name run.name).0
 
 -- a place is a run of one count alone
-pub one_count : (octets : List ℕ) (labels : List (List ℕ)) (count more : ℕ) (place : Place) → IsRunNow octets labels count place → IsRunNow octets labels more place → more ≡ count
+pub one_count : (octets : List ℕ) (labels : List (List ℕ)) (count more : ℕ) (place : Place)
+    → IsRunNow octets labels count place → IsRunNow octets labels more place → more ≡ count
 one_count octets labels count more place run other =
-    let same = ap length (run_labels octets labels (drop (length labels - count) labels) more place run.end run.name other) in
+    let same = ap length (run_labels octets labels (drop (length labels - count) labels) more place run.end run.name
+    other) in
     let left = length-drop (length labels - count) labels in
     let right = length-drop (length labels - more) labels in
     let within = run.within in
@@ -127,22 +145,29 @@ abbrev pub AtMost : List ℕ → List (List ℕ) → ℕ → Place → Type 0
 AtMost octets labels count other = (more : ℕ) → IsRunNow octets labels more other → more ≤ count
 
 -- a longer run was found at the next place
-pub longer_found : (octets : List ℕ) (places : List Place) (labels : List (List ℕ)) (least count i : ℕ) → i < length places
-    → All (λ other. (more : ℕ) → IsRunNow octets labels more other → more ≤ least) (take i places) → (place : Place) → least < count → IsRunNow octets labels count (get_or places i place)
+pub longer_found : (octets : List ℕ) (places : List Place) (labels : List (List ℕ)) (least count i : ℕ)
+    → i < length places
+    → All (λ other. (more : ℕ) → IsRunNow octets labels more other → more ≤ least) (take i places) → (place : Place)
+    → least < count → IsRunNow octets labels count (get_or places i place)
     → All (λ other. (more : ℕ) → IsRunNow octets labels more other → more ≤ count) (take (i + 1) places)
 longer_found octets places labels least count i inside so_far place longer run =
-    let weaker = All-weaker (AtMost octets labels least) (AtMost octets labels count) (λ other most more is. let fits = most more is in omega (arith, longer, fits)) (take i places) so_far in
-    All-more (AtMost octets labels count) places i place inside weaker (λ more is. let same = one_count octets labels count more (get_or places i place) run is in omega (arith, same))
+    let weaker = All-weaker (AtMost octets labels least) (AtMost octets labels count) (λ other most more is. let fits =
+    most more is in omega (arith, longer, fits)) (take i places) so_far in
+    All-more (AtMost octets labels count) places i place inside weaker
+    (λ more is. let same = one_count octets labels count more (get_or places i place) run is in omega (arith, same))
 
 -- ---- runs in the message as it is, and under any header
 
-own_header : (octets : List ℕ) → 12 ≤ length octets → (length (take 12 octets) ≡ 12) × (take 12 octets ++ drop 12 octets ≡ octets)
+own_header : (octets : List ℕ) → 12 ≤ length octets
+    → (length (take 12 octets) ≡ 12) × (take 12 octets ++ drop 12 octets ≡ octets)
 own_header octets headed = (length-take-le 12 octets headed, take-append-drop 12 octets)
 
 dropped_short : (labels : List (List ℕ)) (i : ℕ) → wire_length labels ≤ 255 → wire_length (drop i labels) ≤ 255
 dropped_short labels i short = let fits = unrooted_fits labels i in omega (arith, short, fits)
 
-pub run_now : (octets : List ℕ) (labels : List (List ℕ)) (count : ℕ) (place : Place) → 12 ≤ length octets → wire_length labels ≤ 255 → IsRun octets labels count place
+-- what is a run under any header is one in the message as it is
+pub run_now : (octets : List ℕ) (labels : List (List ℕ)) (count : ℕ) (place : Place) → 12 ≤ length octets
+    → wire_length labels ≤ 255 → IsRun octets labels count place
     → IsRunNow octets labels count place
 run_now octets labels count place headed short run =
     let own = own_header octets headed in
@@ -163,7 +188,9 @@ run_now octets labels count place headed short run =
       };
     }
 
-pub run_of_good : (octets : List ℕ) (labels : List (List ℕ)) (count : ℕ) (place : Place) → 12 ≤ length octets → IsGood octets place → IsRunNow octets labels count place
+-- and at a good place what is one as it is is one under any header
+pub run_of_good : (octets : List ℕ) (labels : List (List ℕ)) (count : ℕ) (place : Place) → 12 ≤ length octets
+    → IsGood octets place → IsRunNow octets labels count place
     → IsRun octets labels count place
 run_of_good octets labels count place headed good run =
     let own = own_header octets headed in
@@ -171,8 +198,10 @@ run_of_good octets labels count place headed good run =
     let stands = good.stands in
     let here = stands.1 (take 12 octets) own.0 in
     let name = run.name in
-    let there = subst (λ all. Stands place.at (at place.at (whole all)) good.labels place.pointers here.0) own.1 here.1 in
-    let same = one_standing place.at (at place.at (whole octets)) here.0 run.end good.labels rest place.pointers name.pointers there name.stands in
+    let there = subst (λ all. Stands place.at (at place.at (whole all)) good.labels place.pointers here.0) own.1
+    here.1 in
+    let same = one_standing place.at (at place.at (whole octets)) here.0 run.end good.labels rest place.pointers
+    name.pointers there name.stands in
     record {
       some = run.some;
       within = run.within;
@@ -184,27 +213,41 @@ run_of_good octets labels count place headed good run =
 -- ---- what a name is encoded as
 
 -- with no run it is plain
-pub encodes_plain : (octets : List ℕ) (places : List Place) (labels : List (List ℕ)) (encoded first : List ℕ) (count written : ℕ) → 12 ≤ length octets → wire_length labels ≤ 255
-    → All (λ other. (more : ℕ) → IsRunNow octets labels more other → more ≤ count) places → count ≡ 0 → written ≡ length labels - count → first ≡ unrooted (take written labels)
+pub encodes_plain : (octets : List ℕ) (places : List Place) (labels : List (List ℕ)) (encoded first : List ℕ)
+    (count written : ℕ) → 12 ≤ length octets → wire_length labels ≤ 255
+    → All (λ other. (more : ℕ) → IsRunNow octets labels more other → more ≤ count) places → count ≡ 0
+    → written ≡ length labels - count → first ≡ unrooted (take written labels)
     → encoded ≡ first ++ 0 ∷ [] → Encodes octets places labels encoded written 0
 encodes_plain octets places labels encoded first count written headed short longest none size written_is is =
-    let none_of : HasNoRun octets places labels = All-weaker (AtMost octets labels count) (λ other. (more : ℕ) → ¬ IsRun octets labels more other)
-    (λ other most more run. let fits = most more (run_now octets labels more other headed short run) in let some = run.some in omega (arith, fits, some, none)) places longest in
+    let none_of : HasNoRun octets places labels = All-weaker (AtMost octets labels count) (λ other. (more : ℕ)
+    → ¬ IsRun octets labels more other)
+    (λ other most more run. let fits = most more (run_now octets labels more other headed short run) in let some =
+    run.some in omega (arith, fits, some, none)) places longest in
     let all : length labels ≤ written = omega (arith, size, none) in
-    let same : written ≡ length labels = omega (arith, size, none) in
-    (IsEncoded.plain none_of (is ∙ ap (λ first. first ++ 0 ∷ []) (written_is ∙ ap unrooted (take_all written labels all))), same, refl)
+    let same : written ≡ length labels = omega (arith, size, none) in (
+      IsEncoded.plain none_of (is ∙ ap (λ first. first ++ 0 ∷ []) (written_is
+          ∙ ap unrooted (take_all written labels all))),
+      same,
+      refl,
+    )
 
 -- and else it has a pointer
-pub encodes_pointed : (octets : List ℕ) (places : List Place) (labels : List (List ℕ)) (encoded first : List ℕ) (count written pointers : ℕ) (place : Place) → 12 ≤ length octets
+pub encodes_pointed : (octets : List ℕ) (places : List Place) (labels : List (List ℕ)) (encoded first : List ℕ)
+    (count written pointers : ℕ) (place : Place) → 12 ≤ length octets
     → wire_length labels ≤ 255 → AreGood octets places → Contains places place → IsRunNow octets labels count place
-    → All (λ other. (more : ℕ) → IsRunNow octets labels more other → more ≤ count) places → written ≡ length labels - count → pointers ≡ place.pointers + 1
-    → first ≡ unrooted (take written labels) → encoded ≡ first ++ pointer_to place.at → Encodes octets places labels encoded written pointers
-encodes_pointed octets places labels encoded first count written pointers place headed short good held run longest size pointers_are written_is is =
+    → All (λ other. (more : ℕ) → IsRunNow octets labels more other → more ≤ count) places
+    → written ≡ length labels - count → pointers ≡ place.pointers + 1
+    → first ≡ unrooted (take written labels) → encoded ≡ first ++ pointer_to place.at
+    → Encodes octets places labels encoded written pointers
+encodes_pointed octets places labels encoded first count written pointers place headed short good held run longest size
+    pointers_are written_is is =
     let longest_of : IsLongest octets places labels count place = record {
       held = held;
       run = run_of_good octets labels count place headed (All-contains (IsGood octets) places place good held) run;
-      longest = All-weaker (AtMost octets labels count) (λ other. (more : ℕ) → IsRun octets labels more other → more ≤ count)
+      longest = All-weaker (AtMost octets labels count) (λ other. (more : ℕ) → IsRun octets labels more other
+          → more ≤ count)
           (λ other most more run. most more (run_now octets labels more other headed short run)) places longest;
     } in
-    let octets_are = is ∙ ap (λ first. first ++ pointer_to place.at) (written_is ∙ ap (λ written. unrooted (take written labels)) size) in
+    let octets_are = is ∙ ap (λ first. first ++ pointer_to place.at) (written_is
+    ∙ ap (λ written. unrooted (take written labels)) size) in
     (IsEncoded.pointed count place longest_of octets_are, size, pointers_are)

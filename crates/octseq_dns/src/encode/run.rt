@@ -11,9 +11,10 @@ use octseq::{AsOctets, Parser};
 use octseq_dns_name::ParsedName;
 use octseq_dns_name::name::Labels;
 
-/// The last places that a pointer can say, and how many pointers may be followed from there.
+/// The last place that a pointer can say: RFC 1035, 4.1.4.
 const AT_MOST: u16 = 16383;
 
+/// How many pointers may be followed from where a pointer leads.
 const POINTERS_MOST: u8 = 126;
 
 /// A place where the last labels of a name stand, and how many.
@@ -25,7 +26,7 @@ pub(crate) struct Run {
     pub place: Place,
 }
 
-/// The first place of a table where the most of a name's last labels stand.
+/// A place of a table where the most of a name's last labels stand.
 pub(crate) fn longest_run<R: AsOctets + Copy>(
     octets: &[u8],
     places: &[Place],

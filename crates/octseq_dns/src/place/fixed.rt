@@ -3,10 +3,11 @@ ghost use Rattle.std.specs.Prelude.{◌≡◌, Some, false, []};
 
 use crate::place::{Place, Places};
 use std::alloc::AllocError;
+use std::fmt;
 use std::marker::Model;
 
 /// The table that holds no place: names are written plain.
-#[derive(Clone, Copy, Debug)]
+#[derive(Clone, Copy, Debug, Default)]
 pub struct NoCompression;
 
 impl Places for NoCompression {
@@ -54,6 +55,22 @@ impl<const N: usize> FixedPlaces<N> {
             places: [Place { at: 0, pointers: 0 }; N],
             len: 0,
         }
+    }
+}
+
+impl<const N: usize> Default for FixedPlaces<N> {
+    ghost is_default = { λ table. table ≡ [] };
+
+    fn default() -> Self {
+        FixedPlaces::new()
+    }
+}
+
+impl<const N: usize> fmt::Debug for FixedPlaces<N> {
+    fn fmt<W: fmt::Write>(&self, f: &mut fmt::Formatter<W>) -> fmt::Result {
+        f.debug_tuple("FixedPlaces")
+            .field(&Places::as_slice(self))
+            .finish()
     }
 }
 

@@ -1,4 +1,4 @@
-use Rattle.std.proofs.Common.{◌≡◌, ◌+◌, ◌-◌, [], ◌∷◌, ◌++◌, length, take, refl, sym, ap, ◌∙◌, subst, arith}
+use Rattle.std.proofs.Common.{◌+◌, ◌-◌, [], ◌∷◌, ◌++◌, take, sym, ap, ◌∙◌}
 use Rattle.octseq_dns.specs.Place.{places_of, kept}
 use Rattle.octseq_dns.specs.declared.place.Place.{Place}
 use Rattle.octseq_dns.proofs.Tables.{kept_on, kept_front, all_added, one_added, none_added}
@@ -14,15 +14,18 @@ returns-then-at-gt16383-clause-ok g c =
     let held = g.T.Places.held c.args.table.now in
     let all = places_of c.args.start (take written (labels_of c.args.name.now)) pointers in
     so_far.added ∙ ap (λ done. kept g.T.Places.most (held ++ done))
-    (sym (all_added all so_far.done c.labels.at (take (written - c.labels._at) (labels_left c.labels.ahead)) pointers so_far.places_are c.if-at-gt16383.true))
+    (sym (all_added all so_far.done c.labels.at (take (written - c.labels._at) (labels_left c.labels.ahead)) pointers
+    so_far.places_are c.if-at-gt16383.true))
 
 pub returns-then-at-gt16383-clause-front : goal.returns-then-at-gt16383-clause-front
 returns-then-at-gt16383-clause-front g c =
-    kept_front g.T.Places.most (g.T.Places.held c.args.table.now) c.labels.invariant.done (g.T.Places.held c.labels.table) c.requires c.labels.invariant.added
+    kept_front g.T.Places.most (g.T.Places.held c.args.table.now) c.labels.invariant.done
+    (g.T.Places.held c.labels.table) c.requires c.labels.invariant.added
 
 pub returns-in_err-add-clause-front : goal.returns-in_err-add-clause-front
 returns-in_err-add-clause-front g c =
-    kept_front g.T.Places.most (g.T.Places.held c.args.table.now) c.labels.invariant.done (g.T.Places.held c.add.new.self) c.requires (c.in_err-add.ensures.err ∙ c.labels.invariant.added)
+    kept_front g.T.Places.most (g.T.Places.held c.args.table.now) c.labels.invariant.done
+    (g.T.Places.held c.add.new.self) c.requires (c.in_err-add.ensures.err ∙ c.labels.invariant.added)
 
 pub labels-preserved : goal.labels-preserved
 labels-preserved g c =
@@ -38,13 +41,17 @@ labels-preserved g c =
     elim c.match-next.branch [
       | in-Some+in_ok-add w ↦ record {
         done = so_far.done ++ place ∷ [];
-        places_are = one_added all so_far.done c.labels.at c.match-next.at written c.labels._at pointers ahead more (label_octets w.in-Some.label) so_far.places_are
-            c.labels-test.true w.in-Some.ensures.steps c.if-at-gt16383.false (w.at-is ∙ ap (λ size. c.labels.at + (1 + size)) w.len.ensures);
-        added = ap g.T.Places.held w.table-is ∙ w.in_ok-add.ensures.ok ∙ ap (λ held. kept most (held ++ place ∷ [])) so_far.added ∙ kept_on most held so_far.done place;
+        places_are = one_added all so_far.done c.labels.at c.match-next.at written c.labels._at pointers ahead more
+            (label_octets w.in-Some.label) so_far.places_are
+            c.labels-test.true w.in-Some.ensures.steps c.if-at-gt16383.false (w.at-is
+            ∙ ap (λ size. c.labels.at + (1 + size)) w.len.ensures);
+        added = ap g.T.Places.held w.table-is ∙ w.in_ok-add.ensures.ok
+            ∙ ap (λ held. kept most (held ++ place ∷ [])) so_far.added ∙ kept_on most held so_far.done place;
       }
       | in_default w ↦ record {
         done = so_far.done;
-        places_are = none_added all so_far.done c.labels.at written c.labels._at pointers ahead more so_far.places_are w.in_default.ensures.steps.0 w.in_default.ensures.steps.1
+        places_are = none_added all so_far.done c.labels.at written c.labels._at pointers ahead more so_far.places_are
+            w.in_default.ensures.steps.0 w.in_default.ensures.steps.1
             ∙ ap (λ at. so_far.done ++ places_of at (take (written - (c.labels._at + 1)) more) pointers) (sym w.at-is);
         added = ap g.T.Places.held w.table-is ∙ so_far.added;
       }
@@ -52,4 +59,5 @@ labels-preserved g c =
 
 pub returns-clause-front : goal.returns-clause-front
 returns-clause-front g c =
-    kept_front g.T.Places.most (g.T.Places.held c.args.table.now) c.labels.invariant.done (g.T.Places.held c.labels.table) c.requires c.labels.invariant.added
+    kept_front g.T.Places.most (g.T.Places.held c.args.table.now) c.labels.invariant.done
+    (g.T.Places.held c.labels.table) c.requires c.labels.invariant.added

@@ -12,7 +12,8 @@ append-requires g c =
     let labels = labels_of c.args.name.now in
     let written = c.label_count.result - c.longest_run-run.result.count in
     let first = c.first_labels-encoded.result.content in
-    let first_is : first ≡ unrooted (take written labels) = c.first_labels-encoded.ensures ∙ ap (λ labels. unrooted (take written labels)) c.labels.ensures in
+    let first_is : first ≡ unrooted (take written labels) = c.first_labels-encoded.ensures
+    ∙ ap (λ labels. unrooted (take written labels)) c.labels.ensures in
     let short = subst (λ labels. wire_length labels ≤ 255) c.labels.ensures c.labels.result.short in
     let room = room_for_root labels first written first_is in
     omega (arith, short, room)
@@ -23,9 +24,11 @@ returns-then-run-eq0-clause-encoded g c =
     let count = c.longest_run-run.result.count in
     let written = c.label_count.result - count in
     let first = c.first_labels-encoded.result.content in
-    let first_is : first ≡ unrooted (take written labels) = c.first_labels-encoded.ensures ∙ ap (λ labels. unrooted (take written labels)) c.labels.ensures in
+    let first_is : first ≡ unrooted (take written labels) = c.first_labels-encoded.ensures
+    ∙ ap (λ labels. unrooted (take written labels)) c.labels.ensures in
     let short = subst (λ labels. wire_length labels ≤ 255) c.labels.ensures c.labels.result.short in
-    ∣ encodes_plain c.args.octets.now c.args.places.now labels c.append.new.octets.content first count written c.requires.header short c.longest_run-run.ensures.longest
+    ∣ encodes_plain c.args.octets.now c.args.places.now labels c.append.new.octets.content first count written
+    c.requires.header short c.longest_run-run.ensures.longest
     c.if-run-eq0.true (ap (λ n. n - count) c.label_count.ensures) first_is c.append.ensures ∣₁
 
 pub returns-then-run-eq0-clause-short : goal.returns-then-run-eq0-clause-short
@@ -33,14 +36,16 @@ returns-then-run-eq0-clause-short g c =
     let labels = labels_of c.args.name.now in
     let written = c.label_count.result - c.longest_run-run.result.count in
     let first = c.first_labels-encoded.result.content in
-    let first_is : first ≡ unrooted (take written labels) = c.first_labels-encoded.ensures ∙ ap (λ labels. unrooted (take written labels)) c.labels.ensures in
+    let first_is : first ≡ unrooted (take written labels) = c.first_labels-encoded.ensures
+    ∙ ap (λ labels. unrooted (take written labels)) c.labels.ensures in
     let room = room_for_root labels first written first_is in
     let size = ap length c.append.ensures in
     let both = length-append first (0 ∷ []) in
     omega (arith, room, size, both)
 
 pub returns-then-run-eq0-clause-each : goal.returns-then-run-eq0-clause-each
-returns-then-run-eq0-clause-each g c = each_named (place_of c.args.name.now) c.args.name.now.named c.args.name.now.parser.within
+returns-then-run-eq0-clause-each g c = each_named (place_of c.args.name.now) c.args.name.now.named
+    c.args.name.now.parser.within
 
 pub append-requires-2 : goal.append-requires-2
 append-requires-2 g c =
@@ -48,12 +53,14 @@ append-requires-2 g c =
     let count = c.longest_run-run.result.count in
     let written = c.label_count.result - count in
     let first = c.first_labels-encoded.result.content in
-    let first_is : first ≡ unrooted (take written labels) = c.first_labels-encoded.ensures ∙ ap (λ labels. unrooted (take written labels)) c.labels.ensures in
+    let first_is : first ≡ unrooted (take written labels) = c.first_labels-encoded.ensures
+    ∙ ap (λ labels. unrooted (take written labels)) c.labels.ensures in
     let short = subst (λ labels. wire_length labels ≤ 255) c.labels.ensures c.labels.result.short in
     let not_zero = c.if-run-eq0.false in
     let some : 1 ≤ count = omega (arith, not_zero) in
     let run = c.longest_run-run.ensures.run some in
-    let room = room_for_pointer labels first written count first_is (ap (λ n. n - count) c.label_count.ensures) some run.1.within in
+    let room = room_for_pointer labels first written count first_is (ap (λ n. n - count) c.label_count.ensures) some
+    run.1.within in
     omega (arith, short, room)
 
 pub returns-clause-encoded : goal.returns-clause-encoded
@@ -63,13 +70,17 @@ returns-clause-encoded g c =
     let place = c.longest_run-run.result.place in
     let written = c.label_count.result - count in
     let first = c.first_labels-encoded.result.content in
-    let first_is : first ≡ unrooted (take written labels) = c.first_labels-encoded.ensures ∙ ap (λ labels. unrooted (take written labels)) c.labels.ensures in
+    let first_is : first ≡ unrooted (take written labels) = c.first_labels-encoded.ensures
+    ∙ ap (λ labels. unrooted (take written labels)) c.labels.ensures in
     let short = subst (λ labels. wire_length labels ≤ 255) c.labels.ensures c.labels.result.short in
     let not_zero = c.if-run-eq0.false in
     let some : 1 ≤ count = omega (arith, not_zero) in
     let run = c.longest_run-run.ensures.run some in
-    ∥∥₁_elim c.requires.good ∥∥₁_prop (λ good. ∣ encodes_pointed c.args.octets.now c.args.places.now labels c.append-2.new.octets.content first count written (place.pointers + 1) place
-    c.requires.header short good run.0 run.1 c.longest_run-run.ensures.longest (ap (λ n. n - count) c.label_count.ensures) refl first_is c.append-2.ensures ∣₁)
+    ∥∥₁_elim c.requires.good ∥∥₁_prop
+    (λ good. ∣ encodes_pointed c.args.octets.now c.args.places.now labels c.append-2.new.octets.content first count
+    written (place.pointers + 1) place
+    c.requires.header short good run.0 run.1 c.longest_run-run.ensures.longest
+    (ap (λ n. n - count) c.label_count.ensures) refl first_is c.append-2.ensures ∣₁)
 
 pub returns-clause-short : goal.returns-clause-short
 returns-clause-short g c =
@@ -78,11 +89,13 @@ returns-clause-short g c =
     let place = c.longest_run-run.result.place in
     let written = c.label_count.result - count in
     let first = c.first_labels-encoded.result.content in
-    let first_is : first ≡ unrooted (take written labels) = c.first_labels-encoded.ensures ∙ ap (λ labels. unrooted (take written labels)) c.labels.ensures in
+    let first_is : first ≡ unrooted (take written labels) = c.first_labels-encoded.ensures
+    ∙ ap (λ labels. unrooted (take written labels)) c.labels.ensures in
     let not_zero = c.if-run-eq0.false in
     let some : 1 ≤ count = omega (arith, not_zero) in
     let run = c.longest_run-run.ensures.run some in
-    let room = room_for_pointer labels first written count first_is (ap (λ n. n - count) c.label_count.ensures) some run.1.within in
+    let room = room_for_pointer labels first written count first_is (ap (λ n. n - count) c.label_count.ensures) some
+    run.1.within in
     let size = ap length c.append-2.ensures in
     let both = length-append first (pointer_to place.at) in
     omega (arith, room, size, both)

@@ -1,4 +1,4 @@
-use Rattle.std.proofs.Common.{◌≡◌, ◌+◌, ◌≤◌, ℕ, List, length, take, get_or, refl, sym, ap, ◌∙◌, subst, arith}
+use Rattle.std.proofs.Common.{◌+◌, ◌≤◌, ℕ, take, refl, sym, subst, arith}
 use Rattle.std.proofs.lemmas.List.{take_all}
 use Rattle.std.proofs.lemmas.List.Elements.{All-more, Contains-get_or}
 use Rattle.std.specs.List.{All, Contains}
@@ -20,17 +20,21 @@ loop-place-preserved g c =
     let so_far = c.loop-place.invariant in
     let inside = c.loop-place-test.true in
     let Found : Run → Type 0 = λ r. 1 ≤ r.count → Contains places r.place × IsRunNow octets labels r.count r.place in
-    let Longest : Run → Type 0 = λ r. All (λ other. (more : ℕ) → IsRunNow octets labels more other → more ≤ r.count) (take (i + 1) places) in
+    let Longest : Run → Type 0 = λ r. All (λ other. (more : ℕ) → IsRunNow octets labels more other
+    → more ≤ r.count) (take (i + 1) places) in
     record {
       run = elim c.match-run_at.branch [
-        | in-Some w ↦ subst Found (sym w.longest-is) (λ some. (Contains-get_or places i zero_place inside, w.in-Some.ensures.some.1))
+        | in-Some w ↦ subst Found (sym w.longest-is)
+            (λ some. (Contains-get_or places i zero_place inside, w.in-Some.ensures.some.1))
         | in_default w ↦ subst Found (sym w.longest-is) so_far.run
       ];
       longest = elim c.match-run_at.branch [
         | in-Some w ↦ subst Longest (sym w.longest-is)
-            (longer_found octets places labels c.loop-place.longest.count w.in-Some.count i inside so_far.longest zero_place w.in-Some.ensures.some.0 w.in-Some.ensures.some.1)
+            (longer_found octets places labels c.loop-place.longest.count w.in-Some.count i inside so_far.longest
+            zero_place w.in-Some.ensures.some.0 w.in-Some.ensures.some.1)
         | in_default w ↦ subst Longest (sym w.longest-is)
-            (All-more (AtMost octets labels c.loop-place.longest.count) places i zero_place inside so_far.longest (w.in_default.ensures.none refl))
+            (All-more (AtMost octets labels c.loop-place.longest.count) places i zero_place inside so_far.longest
+            (w.in_default.ensures.none refl))
       ];
     }
 
@@ -38,4 +42,5 @@ pub returns-clause-longest : goal.returns-clause-longest
 returns-clause-longest g c =
     let past = c.loop-place-test.false in
     let all = take_all c.loop-place.place-index c.args.places.now (omega (arith, past)) in
-    subst (All (AtMost c.args.octets.now (labels_of c.args.name.now) c.loop-place.longest.count)) all c.loop-place.invariant.longest
+    subst (All (AtMost c.args.octets.now (labels_of c.args.name.now) c.loop-place.longest.count)) all
+    c.loop-place.invariant.longest

@@ -7,6 +7,8 @@ use Rattle.octseq_dns.proofs.encode.run.longest_run.Given as goal
 
 abbrev pub invariant-loop-place : goal.invariant-loop-place
 invariant-loop-place g l = record {
-  run : 1 ≤ l.longest.count → Contains l.fn.places l.longest.place × IsRunNow l.fn.octets (labels_of l.fn.name) l.longest.count l.longest.place;
-  longest : All (λ other. (more : ℕ) → IsRunNow l.fn.octets (labels_of l.fn.name) more other → more ≤ l.longest.count) (take l.place-index l.fn.places);
+  run : 1 ≤ l.longest.count → Contains l.fn.places l.longest.place × IsRunNow l.fn.octets (labels_of l.fn.name)
+      l.longest.count l.longest.place;
+  longest : All (λ other. (more : ℕ) → IsRunNow l.fn.octets (labels_of l.fn.name) more other → more ≤ l.longest.count)
+      (take l.place-index l.fn.places);
 }
