@@ -14,7 +14,8 @@ use Rattle.octseq_dns.specs.Written.{Asked, HeaderFits, Writes, IsWritten, heade
 use Rattle.octseq_dns.specs.declared.place.Place.{Place}
 use Rattle.octseq_dns.proofs.Encoded.{good_headed}
 use Rattle.octseq_dns.proofs.HeaderOctets.{header_length}
-use Rattle.octseq_dns.proofs.Pushing.{question_written}
+use Rattle.octseq_dns.proofs.Pushes.{headed_size}
+use Rattle.octseq_dns.proofs.Pushing.{drop_front, question_written}
 use Rattle.octseq_dns.proofs.Records.{TellsOnce, answer_written, authority_written, additional_written}
 
 -- a message of a header of zeros
@@ -120,3 +121,40 @@ module _ (most : Option ℕ) (old between new : List ℕ) (h k : Header) (held a
     ∣ (x.0, x.1, x.2, x.3 ++ one ∷ [], tt, written) ∣₁)),
     good_behind,
   )
+
+-- ---- headers
+
+-- another header with the same counts was written over that of a message
+pub headed_written : (old new : List ℕ) (h k : Header) (a : List Asked) (b c d : List Told) → Writes old h a b c d
+    → (k.qdcount ≡ h.qdcount) × (k.ancount ≡ h.ancount) × (k.nscount ≡ h.nscount) × (k.arcount ≡ h.arcount) → HeaderFits k → new ≡ header_octets k ++ drop 12 old
+    → Writes new k a b c d
+headed_written old new h k a b c d so_far counts fits content =
+    let first = header_octets h in
+    let room : 12 ≤ length old = let size = ap length so_far.octets_are ∙ length-append first so_far.body in let long = header_length h in omega (arith, size, long) in
+    let same = headed_size old new k room content in
+    let size = so_far.size in
+    record {
+      body = so_far.body;
+      octets_are = content ∙ ap (λ behind. header_octets k ++ behind) (ap (drop 12) so_far.octets_are ∙ drop_front first so_far.body 12 (header_length h));
+      size = omega (arith, same, size);
+      fits = fits;
+      qdcount = counts.0 ∙ so_far.qdcount;
+      ancount = counts.1 ∙ so_far.ancount;
+      nscount = counts.2 ∙ so_far.nscount;
+      arcount = counts.3 ∙ so_far.arcount;
+      pushed = so_far.pushed;
+    }
+
+pub headed_lists : (old new : List ℕ) (h k : Header) (a : List Asked) (b c d : List Told) → IsWritten old h a b c d
+    → (k.qdcount ≡ h.qdcount) × (k.ancount ≡ h.ancount) × (k.nscount ≡ h.nscount) × (k.arcount ≡ h.arcount) → HeaderFits k → new ≡ header_octets k ++ drop 12 old
+    → IsWritten new k a b c d
+headed_lists old new h k a b c d so_far counts fits content =
+    ∥∥₁_elim so_far ∥∥₁_prop (λ so_far. ∣ headed_written old new h k a b c d so_far counts fits content ∣₁)
+
+pub headed_built : (old new : List ℕ) (h k : Header) (places : List Place) (Are : List Asked → List Told → List Told → List Told → Type 0) → IsBuilt old places h Are
+    → (k.qdcount ≡ h.qdcount) × (k.ancount ≡ h.ancount) × (k.nscount ≡ h.nscount) × (k.arcount ≡ h.arcount) → HeaderFits k → new ≡ header_octets k ++ drop 12 old
+    → IsBuilt new places k Are
+headed_built old new h k places Are built counts fits content = (
+  ∥∥₁_elim built.0 ∥∥₁_prop (λ x. ∣ (x.0, x.1, x.2, x.3, x.4, headed_written old new h k x.0 x.1 x.2 x.3 x.5 counts fits content) ∣₁),
+  ∥∥₁_elim built.1 ∥∥₁_prop (λ good. ∣ subst (λ octets. AreGood octets places) (sym content) (good_headed (header_octets k) old places (header_length k) good) ∣₁),
+)

@@ -52,6 +52,23 @@ impl<B: OctetsBuilder + Truncate + AsOctetsMut, T: Places> AnswerBuilder<B, T> {
         self.header
     }
 
+    /// Sets the id, the flags, the opcode and the response code of the header. The counts of a message stay.
+    pub fn set_header(&mut self, header: Header)
+        ensures header { self.new.header ≡ record self.old.header
+            { id = header.id; flags = header.flags; opcode = header.opcode; rcode = header.rcode } }
+        ensures written { (asked : List Asked) (answers authorities additionals : List Told)
+            → IsWritten (B.content self.old.octets) self.old.header asked answers authorities additionals
+            → IsWritten (B.content self.new.octets) self.new.header asked answers authorities additionals }
+        ensures places { T.held self.new.places ≡ T.held self.old.places }
+        ensures borrows { B.borrows self.new.octets ≡ B.borrows self.old.octets }
+    {
+        self.header.id = header.id;
+        self.header.flags = header.flags;
+        self.header.opcode = header.opcode;
+        self.header.rcode = header.rcode;
+        put_header(&mut self.octets, &self.header);
+    }
+
     /// The message so far.
     pub fn as_slice(&self) -> &[u8]
         ensures { result.now ≡ B.content self.now.octets }
@@ -144,6 +161,23 @@ impl<B: OctetsBuilder + Truncate + AsOctetsMut, T: Places> AuthorityBuilder<B, T
         self.header
     }
 
+    /// Sets the id, the flags, the opcode and the response code of the header. The counts of a message stay.
+    pub fn set_header(&mut self, header: Header)
+        ensures header { self.new.header ≡ record self.old.header
+            { id = header.id; flags = header.flags; opcode = header.opcode; rcode = header.rcode } }
+        ensures written { (asked : List Asked) (answers authorities additionals : List Told)
+            → IsWritten (B.content self.old.octets) self.old.header asked answers authorities additionals
+            → IsWritten (B.content self.new.octets) self.new.header asked answers authorities additionals }
+        ensures places { T.held self.new.places ≡ T.held self.old.places }
+        ensures borrows { B.borrows self.new.octets ≡ B.borrows self.old.octets }
+    {
+        self.header.id = header.id;
+        self.header.flags = header.flags;
+        self.header.opcode = header.opcode;
+        self.header.rcode = header.rcode;
+        put_header(&mut self.octets, &self.header);
+    }
+
     /// The message so far.
     pub fn as_slice(&self) -> &[u8]
         ensures { result.now ≡ B.content self.now.octets }
@@ -234,6 +268,23 @@ impl<B: OctetsBuilder + Truncate + AsOctetsMut, T: Places> AdditionalBuilder<B, 
         ensures { result ≡ self.now.header }
     {
         self.header
+    }
+
+    /// Sets the id, the flags, the opcode and the response code of the header. The counts of a message stay.
+    pub fn set_header(&mut self, header: Header)
+        ensures header { self.new.header ≡ record self.old.header
+            { id = header.id; flags = header.flags; opcode = header.opcode; rcode = header.rcode } }
+        ensures written { (asked : List Asked) (answers authorities additionals : List Told)
+            → IsWritten (B.content self.old.octets) self.old.header asked answers authorities additionals
+            → IsWritten (B.content self.new.octets) self.new.header asked answers authorities additionals }
+        ensures places { T.held self.new.places ≡ T.held self.old.places }
+        ensures borrows { B.borrows self.new.octets ≡ B.borrows self.old.octets }
+    {
+        self.header.id = header.id;
+        self.header.flags = header.flags;
+        self.header.opcode = header.opcode;
+        self.header.rcode = header.rcode;
+        put_header(&mut self.octets, &self.header);
     }
 
     /// The message so far.
