@@ -26,7 +26,8 @@ AreAsTold (r ∷ records) [] = ⊥
 AreAsTold (r ∷ records) (told ∷ more) = IsAsTold r told × AreAsTold records more
 
 -- Octets are a message with this header, and its questions and records are those that were pushed.
-pub record ReadsBack (octets : List ℕ) (h : Header) (asked : List Asked) (answers authorities additionals : List Told) : Type 0 where
+pub record ReadsBack (octets : List ℕ) (h : Header) (asked : List Asked)
+    (answers authorities additionals : List Told) : Type 0 where
   pub questions : List Question
   pub answered : List Record
   pub authorized : List Record

@@ -7,8 +7,8 @@ use Rattle.octseq.specs.Window.{Window, rest}
 use Rattle.octseq_dns_message.specs.Data.{Form, IsTyped}
 use Rattle.octseq_dns_message.specs.Entry.{Record, IsRecord}
 
--- What data says, without the places where its names stand: of a mail exchange the preference and the labels, of the start of a zone the
--- labels of both names and the five numbers, of a service the three numbers and the labels.
+-- What data says, without the places where its names stand: of a mail exchange the preference and the labels, of the
+-- start of a zone the labels of both names and the five numbers, of a service the three numbers and the labels.
 pub data Matter : Type 0 where
   a : List ℕ → Matter
   aaaa : List ℕ → Matter
@@ -47,13 +47,14 @@ type_of (Matter.txt _) = 16
 type_of (Matter.srv _ _ _ _) = 33
 type_of (Matter.opaque _) = 0
 
--- A record's data says this: its octets are those, where it is opaque; else it has the form, read as data of the form's own type in the class
--- IN, whatever the record's type and class are.
+-- A record's data says this: its octets are those, where it is opaque; else it has the form, read as data of the
+-- form's own type in the class IN, whatever the record's type and class are.
 abbrev pub Says : Record → Matter → Type 0
 Says r (Matter.opaque octets) = rest r.rdata ≡ octets
 Says r said = (form : Form) × (matter form ≡ said) × IsTyped (record r { rtype = type_of said; class = 1 }) form
 
--- A record that was pushed: the labels of the name that it is of, its type and class, for how many seconds it may be kept, and its data.
+-- A record that was pushed: the labels of the name that it is of, its type and class, for how many seconds it may be
+-- kept, and its data.
 pub record Told : Type 0 where
   pub labels : List (List ℕ)
   pub rtype : ℕ
@@ -63,9 +64,25 @@ pub record Told : Type 0 where
 
 -- a record of a name that was read
 abbrev pub told_of : {R : Type 0} {g : Ghosts R} → ParsedName R g → ℕ → ℕ → ℕ → Matter → Told
-told_of owner rtype class ttl said = record { labels = labels_of owner; rtype = rtype; class = class; ttl = ttl; said = said }
+told_of owner rtype class ttl said = record {
+  labels = labels_of owner;
+  rtype = rtype;
+  class = class;
+  ttl = ttl;
+  said = said;
+}
+
+-- the record of a message, with its name at a window's position and its data in another window
+abbrev pub record_of_told : Window → Told → Window → Record
+record_of_told w told rdata = record {
+  owner = record { place = w; labels = told.labels };
+  rtype = told.rtype;
+  class = told.class;
+  ttl = told.ttl;
+  rdata = rdata;
+}
 
 -- it stands at a window's position, as a record with the name that stands there, whose data says what was pushed
 abbrev pub IsTold : Window → Told → Window → Type 0
-IsTold w told v = (rdata : Window) × (let r : Record = record { owner = record { place = w; labels = told.labels }; rtype = told.rtype; class = told.class; ttl = told.ttl; rdata = rdata } in
-    IsRecord w r v × Says r told.said)
+IsTold w told v = (rdata : Window)
+    × (IsRecord w (record_of_told w told rdata) v × Says (record_of_told w told rdata) told.said)

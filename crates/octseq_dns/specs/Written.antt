@@ -3,7 +3,7 @@ use Rattle.std.specs.Prelude.{◌≡◌, ℕ, ◌+◌, ◌<◌, ◌≤◌, false
 use Rattle.octseq.specs.Integer.{octets_be}
 use Rattle.octseq.specs.declared.AsOctets.{Ghosts}
 use Rattle.octseq.specs.Window.{Window, at, whole}
-use Rattle.octseq_dns_message.specs.Entry.{IsQuestion}
+use Rattle.octseq_dns_message.specs.Entry.{Question, IsQuestion}
 use Rattle.octseq_dns_message.specs.Format.{Row, ◌then◌}
 use Rattle.octseq_dns_message.specs.Header.{flag_bits}
 use Rattle.octseq_dns_message.specs.declared.header.Header.{Header}
@@ -21,9 +21,17 @@ pub record Asked : Type 0 where
 abbrev pub asked_of : {R : Type 0} {g : Ghosts R} → ParsedName R g → ℕ → ℕ → Asked
 asked_of name qtype qclass = record { labels = labels_of name; qtype = qtype; qclass = qclass }
 
+-- the question of a message, with its name at a window's position
+abbrev pub question_at : Window → Asked → Question
+question_at w asked = record {
+  qname = record { place = w; labels = asked.labels };
+  qtype = asked.qtype;
+  qclass = asked.qclass;
+}
+
 -- it stands at a window's position, as a question with the name that stands there
 abbrev pub IsAsked : Window → Asked → Window → Type 0
-IsAsked w asked v = IsQuestion w (record { qname = record { place = w; labels = asked.labels }; qtype = asked.qtype; qclass = asked.qclass }) v
+IsAsked w asked v = IsQuestion w (question_at w asked) v
 
 -- all that was pushed: questions, and the records of answers, of authorities, and additional ones
 abbrev pub Pushed : Type 0
@@ -38,8 +46,8 @@ abbrev pub header_octets : Header → List ℕ
 header_octets h = octets_be 2 h.id ++ (octets_be 2 (flag_bits h) ++ (octets_be 2 h.qdcount ++ (octets_be 2 h.ancount
     ++ (octets_be 2 h.nscount ++ octets_be 2 h.arcount))))
 
--- A thing stands in a message from one place to another, whatever its header says and whatever is pushed behind it. The body is what stands
--- behind the header.
+-- A thing stands in a message from one place to another, whatever its header says and whatever is pushed behind it. The
+-- body is what stands behind the header.
 abbrev pub StandsIn : {A : Type 0} → (Window → A → Window → Type 0) → List ℕ → ℕ → A → ℕ → Type 0
 StandsIn Is body from one to = (header more : List ℕ) → length header ≡ 12
     → Is (at from (whole (header ++ (body ++ more)))) one (at to (whole (header ++ (body ++ more))))
@@ -54,8 +62,10 @@ pub record HeaderFits (h : Header) : Type 0 where
   pub nscount : h.nscount < 65536
   pub arcount : h.arcount < 65536
 
--- Octets are a message of a header and of what was pushed: at most 65,535 octets, and the header counts what was pushed.
-pub record Writes (octets : List ℕ) (h : Header) (asked : List Asked) (answers authorities additionals : List Told) : Type 0 where
+-- Octets are a message of a header and of what was pushed: at most 65,535 octets, and the header counts what was
+-- pushed.
+pub record Writes (octets : List ℕ) (h : Header) (asked : List Asked)
+    (answers authorities additionals : List Told) : Type 0 where
   pub body : List ℕ
   pub octets_are : octets ≡ header_octets h ++ body
   pub size : length octets ≤ 65535

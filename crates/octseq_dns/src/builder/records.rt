@@ -123,7 +123,8 @@ impl<B: OctetsBuilder + Truncate + AsOctetsMut, T: Places> AnswerBuilder<B, T> {
     }
 }
 
-/// A message to which records of authorities are pushed. Contracts see its octets, the places of its names, and its header.
+/// A message to which records of authorities are pushed. Contracts see its octets, the places of its names, and its
+/// header.
 #[derive(Drop)]
 pub struct AuthorityBuilder<B: AsOctets, T: Places> {
     octets: B,
@@ -185,7 +186,8 @@ impl<B: OctetsBuilder + Truncate + AsOctetsMut, T: Places> AuthorityBuilder<B, T
         self.octets.as_ref()
     }
 
-    /// Pushes a record of an authority with data as octets that mean nothing here, whole or not at all. Its name is compressed.
+    /// Pushes a record of an authority with data as octets that mean nothing here, whole or not at all. Its name is
+    /// compressed.
     ///
     /// # Errors
     ///
@@ -294,7 +296,8 @@ impl<B: OctetsBuilder + Truncate + AsOctetsMut, T: Places> AdditionalBuilder<B, 
         self.octets.as_ref()
     }
 
-    /// Pushes an additional record with data as octets that mean nothing here, whole or not at all. Its name is compressed.
+    /// Pushes an additional record with data as octets that mean nothing here, whole or not at all. Its name is
+    /// compressed.
     ///
     /// # Errors
     ///
