@@ -1,4 +1,10 @@
+pub mod Building
 pub mod Encoded
+pub mod HeaderOctets
+pub mod Pushes
+pub mod Pushing
+pub mod ReadBack
+pub mod Records
 pub mod Runs
 pub mod Standing
 pub mod Tables

@@ -1,6 +1,11 @@
 pub mod Encoded
 pub mod Place
+pub mod Pushed
+pub mod ReadBack
 pub mod Run
+pub mod RecordEntry
+pub mod Told
+pub mod Written
 pub use Rattle.octseq_dns_message.specs.Data
 pub use Rattle.octseq_dns_message.specs.DataText
 pub use Rattle.octseq_dns_message.specs.Edns

@@ -1,11 +1,15 @@
-//! Domain names and DNS messages, read from one buffer with nothing copied.
+//! Domain names and DNS messages: read from one buffer with nothing copied, and written.
 //!
 //! A message is octets that anyone may have sent. [`Message::parse`] takes every message of RFC 1035 and no other
 //! octets, requests no memory, and answers a value that says where everything stands: its header, and walks over its
 //! sections that can't fail any more. A name is the place where it stands in the message, with its compression
 //! pointers.
+//!
+//! A message is written by [`MessageBuilder`], section by section, into a builder of octets. Names are compressed by a
+//! table of the places where names stand. What was written is read back, as that message.
 #![tactic(auto)]
 
+pub mod builder;
 mod encode;
 pub mod place;
 
@@ -18,4 +22,7 @@ pub use octseq_dns_message::{data, header, iana, message, ttl};
 pub use octseq_dns_name::error::{LabelsError, Malformed, NameError};
 pub use octseq_dns_name::name::{Name, ParsedName};
 pub use octseq_dns_name::{error, name};
+pub use builder::{
+    AdditionalBuilder, AnswerBuilder, AuthorityBuilder, MessageBuilder, QuestionBuilder,
+};
 pub use place::{FixedPlaces, NoCompression, Place, Places};
