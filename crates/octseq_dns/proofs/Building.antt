@@ -3,7 +3,7 @@ use Rattle.std.proofs.Common.{◌≡◌, ℕ, ◌+◌, ◌<◌, ◌≤◌, Optio
 use Rattle.std.proofs.Math.Logic.{∥∥₁_prop, ∥∥₁_elim}
 use Rattle.std.specs.Coded.{le_prop}
 use Rattle.std.proofs.lemmas.List.{length-append, append-nil}
-use Rattle.octseq.specs.Window.{Window, at, whole}
+use Rattle.octseq.specs.Window.{at, whole}
 use Rattle.octseq_dns_message.specs.declared.header.Header.{Header}
 use Rattle.octseq_dns_name.specs.Name.{wire_length}
 use Rattle.octseq_dns_name.specs.Wire.{AreLabels}
@@ -35,9 +35,9 @@ blank_written octets is = record {
 pub blank_built : (octets : List ℕ) (places : List Place) → octets ≡ header_octets blank_header → places ≡ [] → IsBuilt octets places blank_header NothingYet
 blank_built octets places is none =
     let empty : AreGood octets [] = λ k place less. absurd (omega (arith, less)) in (
-  ∣ ([], [], [], [], (refl, refl, refl, refl), blank_written octets is) ∣₁,
-  ∣ subst (AreGood octets) (sym none) empty ∣₁,
-)
+      ∣ ([], [], [], [], (refl, refl, refl, refl), blank_written octets is) ∣₁,
+      ∣ subst (AreGood octets) (sym none) empty ∣₁,
+    )
 
 -- what holds of fewer lists
 pub built_on : (octets : List ℕ) (places : List Place) (h : Header) (Are Other : List Asked → List Told → List Told → List Told → Type 0)
@@ -77,12 +77,12 @@ pub asked_built : (old between new : List ℕ) (h k : Header) (held after : List
     → IsBuilt old held h UpToQuestions → ∥ AreGood between after ∥₁ → IsBuilt new after k UpToQuestions
 asked_built old between new h k held after one asks built good = (
   ∥∥₁_elim built.0 ∥∥₁_prop (λ x.
-  let A : List Told → Type 0 = λ b. Writes old h x.0 b x.2 x.3 in
-  let B : List Told → Type 0 = λ c. Writes old h x.0 [] c x.3 in
-  let C : List Told → Type 0 = λ d. Writes old h x.0 [] [] d in
-  let so_far : Writes old h x.0 [] [] [] = subst C x.4.2 (subst B x.4.1 (subst A x.4.0 x.5)) in
-  ∥∥₁_elim (asks_once old between new h k held one x.0 asks ∣ so_far ∣₁) ∥∥₁_prop (λ written.
-  ∣ (x.0 ++ one ∷ [], [], [], [], (refl, refl, refl), written) ∣₁)),
+      let A : List Told → Type 0 = λ b. Writes old h x.0 b x.2 x.3 in
+      let B : List Told → Type 0 = λ c. Writes old h x.0 [] c x.3 in
+      let C : List Told → Type 0 = λ d. Writes old h x.0 [] [] d in
+      let so_far : Writes old h x.0 [] [] [] = subst C x.4.2 (subst B x.4.1 (subst A x.4.0 x.5)) in
+      ∥∥₁_elim (asks_once old between new h k held one x.0 asks ∣ so_far ∣₁) ∥∥₁_prop (λ written.
+      ∣ (x.0 ++ one ∷ [], [], [], [], (refl, refl, refl), written) ∣₁)),
   ∥∥₁_elim good ∥∥₁_prop (λ good. ∣ subst (λ octets. AreGood octets after) (sym asks.content) (good_headed (header_octets k) between after (header_length k) good) ∣₁),
 )
 
@@ -96,29 +96,29 @@ module _ (most : Option ℕ) (old between new : List ℕ) (h k : Header) (held a
   pub answer_built : k ≡ record h { ancount = h.ancount + 1 } → IsBuilt old held h UpToAnswers → IsBuilt new after k UpToAnswers
   answer_built counted built = (
     ∥∥₁_elim built.0 ∥∥₁_prop (λ x.
-    let B : List Told → Type 0 = λ c. Writes old h x.0 x.1 c x.3 in
-    let C : List Told → Type 0 = λ d. Writes old h x.0 x.1 [] d in
-    let so_far : Writes old h x.0 x.1 [] [] = subst C x.4.1 (subst B x.4.0 x.5) in
-    ∥∥₁_elim (answer_written most old between new h k held one made tells x.0 x.1 counted ∣ so_far ∣₁) ∥∥₁_prop (λ written.
-    ∣ (x.0, x.1 ++ one ∷ [], [], [], (refl, refl), written) ∣₁)),
+        let B : List Told → Type 0 = λ c. Writes old h x.0 x.1 c x.3 in
+        let C : List Told → Type 0 = λ d. Writes old h x.0 x.1 [] d in
+        let so_far : Writes old h x.0 x.1 [] [] = subst C x.4.1 (subst B x.4.0 x.5) in
+        ∥∥₁_elim (answer_written most old between new h k held one made tells x.0 x.1 counted ∣ so_far ∣₁) ∥∥₁_prop (λ written.
+        ∣ (x.0, x.1 ++ one ∷ [], [], [], (refl, refl), written) ∣₁)),
     good_behind,
   )
 
   pub authority_built : k ≡ record h { nscount = h.nscount + 1 } → IsBuilt old held h UpToAuthorities → IsBuilt new after k UpToAuthorities
   authority_built counted built = (
     ∥∥₁_elim built.0 ∥∥₁_prop (λ x.
-    let C : List Told → Type 0 = λ d. Writes old h x.0 x.1 x.2 d in
-    let so_far : Writes old h x.0 x.1 x.2 [] = subst C x.4 x.5 in
-    ∥∥₁_elim (authority_written most old between new h k held one made tells x.0 x.1 x.2 counted ∣ so_far ∣₁) ∥∥₁_prop (λ written.
-    ∣ (x.0, x.1, x.2 ++ one ∷ [], [], refl, written) ∣₁)),
+        let C : List Told → Type 0 = λ d. Writes old h x.0 x.1 x.2 d in
+        let so_far : Writes old h x.0 x.1 x.2 [] = subst C x.4 x.5 in
+        ∥∥₁_elim (authority_written most old between new h k held one made tells x.0 x.1 x.2 counted ∣ so_far ∣₁) ∥∥₁_prop (λ written.
+        ∣ (x.0, x.1, x.2 ++ one ∷ [], [], refl, written) ∣₁)),
     good_behind,
   )
 
   pub additional_built : k ≡ record h { arcount = h.arcount + 1 } → IsBuilt old held h UpToAdditionals → IsBuilt new after k UpToAdditionals
   additional_built counted built = (
     ∥∥₁_elim built.0 ∥∥₁_prop (λ x.
-    ∥∥₁_elim (additional_written most old between new h k held one made tells x.0 x.1 x.2 x.3 counted ∣ x.5 ∣₁) ∥∥₁_prop (λ written.
-    ∣ (x.0, x.1, x.2, x.3 ++ one ∷ [], tt, written) ∣₁)),
+        ∥∥₁_elim (additional_written most old between new h k held one made tells x.0 x.1 x.2 x.3 counted ∣ x.5 ∣₁) ∥∥₁_prop (λ written.
+        ∣ (x.0, x.1, x.2, x.3 ++ one ∷ [], tt, written) ∣₁)),
     good_behind,
   )
 

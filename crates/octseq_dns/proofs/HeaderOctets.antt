@@ -1,8 +1,8 @@
 -- The 12 octets of a header are read as that header.
-use Rattle.std.proofs.Common.{◌≡◌, ℕ, ◌+◌, ◌*◌, ◌<◌, ◌≤◌, ◌^◌, Bool, true, false, List, [], ◌∷◌, ◌++◌, length, drop, take, refl, sym, ap, ◌∙◌, subst, append_assoc, arith}
+use Rattle.std.proofs.Common.{◌≡◌, ℕ, ◌+◌, ◌<◌, ◌≤◌, ◌^◌, Bool, true, false, List, [], ◌∷◌, ◌++◌, length, refl, sym, ap, ◌∙◌, subst, append_assoc, arith}
 use Rattle.std.proofs.lemmas.List.{length-append, append-nil}
-use Rattle.octseq.specs.Integer.{be, octets_be}
-use Rattle.octseq.specs.Window.{Window, left, next, past, at, whole, behind}
+use Rattle.octseq.specs.Integer.{octets_be}
+use Rattle.octseq.specs.Window.{past, at, whole, behind}
 use Rattle.octseq.proofs.Behind.{be_comes_next}
 use Rattle.octseq.proofs.Written.{length_be}
 use Rattle.octseq_dns_message.specs.Flag.{flag}

@@ -7,7 +7,7 @@ use Rattle.octseq.specs.Integer.{octets_be}
 use Rattle.octseq.specs.Limit.{IsPast, IsWithin}
 use Rattle.octseq.proofs.Limits.{past_more}
 use Rattle.octseq.proofs.Written.{length_be}
-use Rattle.octseq_dns.specs.Encoded.{IsEncoded, Encodes, written_of, pointers_of}
+use Rattle.octseq_dns.specs.Encoded.{IsEncoded, Encodes, written_of}
 use Rattle.octseq_dns.specs.Place.{IsGood, AreGood, places_of, kept}
 use Rattle.octseq_dns_name.specs.Name.{wire_length}
 use Rattle.octseq_dns_name.specs.Wire.{AreLabels}
@@ -95,12 +95,12 @@ pushes_ok limit Asks IsEntry IsLeast count old between header new added headed w
   ) ∣₁);
   fits = (
     ∥∥₁_elim added (within_prop (message_limit limit) (length new)) (λ added.
-    let long = ap length content ∙ length-append (header_octets header) (drop 12 between) in
-    let first = header_length header in
-    let behind = length-drop 12 between in
-    let all = ap length added.2 ∙ length-append old added.0 in
-    let same : length between ≡ length new = omega (arith, long, first, behind, all, headed) in
-    subst (IsWithin (message_limit limit)) same within),
+        let long = ap length content ∙ length-append (header_octets header) (drop 12 between) in
+        let first = header_length header in
+        let behind = length-drop 12 between in
+        let all = ap length added.2 ∙ length-append old added.0 in
+        let same : length between ≡ length new = omega (arith, long, first, behind, all, headed) in
+        subst (IsWithin (message_limit limit)) same within),
     few,
   );
   err = tt;
@@ -131,8 +131,16 @@ behind_length told made =
     let class = octets_be 2 told.class in
     let ttl = octets_be 4 told.ttl in
     let kept = part_of 2 made in
-    omega (arith, length-append rtype (class ++ (ttl ++ kept)), length-append class (ttl ++ kept), length-append ttl kept, length_part 2 made, length_be 2 told.rtype, length_be 2 told.class,
-    length_be 4 told.ttl)
+    omega (
+      arith,
+      length-append rtype (class ++ (ttl ++ kept)),
+      length-append class (ttl ++ kept),
+      length-append ttl kept,
+      length_part 2 made,
+      length_be 2 told.rtype,
+      length_be 2 told.class,
+      length_be 4 told.ttl,
+    )
 
 -- a name is encoded against what was shown of a message and a table
 pub same_encoding : (shown old : List ℕ) (places held : List Place) (labels : List (List ℕ)) (name : List ℕ) (written pointers : ℕ) → shown ≡ old → places ≡ held

@@ -1,10 +1,10 @@
 -- A message that was written is a message, of what was pushed.
-use Rattle.std.proofs.Common.{◌≡◌, ℕ, suc, ◌+◌, ◌≤◌, List, [], ◌∷◌, ◌++◌, length, map, refl, sym, ap, ◌∙◌, subst, arith}
+use Rattle.std.proofs.Common.{◌≡◌, ℕ, suc, ◌+◌, List, [], ◌∷◌, ◌++◌, length, map, refl, sym, ap, ◌∙◌, subst, arith}
 use Rattle.std.proofs.Math.Logic.{∥∥₁_prop, ∥∥₁_elim}
 use Rattle.std.proofs.lemmas.List.{length-append, append-nil}
-use Rattle.octseq.specs.Window.{Window, left, at, whole}
+use Rattle.octseq.specs.Window.{Window, at, whole}
 use Rattle.octseq_dns_message.specs.Entry.{Question, Record, IsQuestion, IsRecord}
-use Rattle.octseq_dns_message.specs.Format.{Row, Many, ◌then◌}
+use Rattle.octseq_dns_message.specs.Format.{Row}
 use Rattle.octseq_dns_message.specs.declared.header.Header.{Header}
 use Rattle.octseq_dns.specs.ReadBack.{bare, IsAsTold, AreAsTold, ReadsBack}
 use Rattle.octseq_dns.specs.Told.{Told, IsTold}

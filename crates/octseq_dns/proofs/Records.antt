@@ -1,15 +1,15 @@
 -- A record that was pushed stands in the message.
-use Rattle.std.proofs.Common.{◌≡◌, ℕ, ◌+◌, ◌-◌, ◌<◌, ◌≤◌, ◌^◌, Option, List, [], ◌∷◌, ◌++◌, length, drop, take, refl, sym, ap, ◌∙◌, subst, append_assoc, arith}
-use Rattle.std.proofs.lemmas.List.{length-append, append-nil, length-drop}
+use Rattle.std.proofs.Common.{◌≡◌, ℕ, ◌+◌, ◌-◌, ◌<◌, ◌≤◌, Option, List, [], ◌∷◌, ◌++◌, length, drop, take, refl, sym, ap, ◌∙◌, subst, append_assoc, arith}
+use Rattle.std.proofs.lemmas.List.{length-append, length-drop}
 use Rattle.std.proofs.Math.Seq.{take-append_seam}
-use Rattle.octseq.specs.Integer.{be, octets_be}
-use Rattle.octseq.specs.Part.{HasPart, part, past_part, part_length, part_of}
-use Rattle.octseq.specs.Window.{Window, left, next, past, at, whole}
+use Rattle.octseq.specs.Integer.{octets_be}
+use Rattle.octseq.specs.Part.{part_length, part_of}
+use Rattle.octseq.specs.Window.{Window, at, whole}
 use Rattle.octseq.proofs.Codes.{length_part}
-use Rattle.octseq.proofs.Written.{length_be, value_be}
+use Rattle.octseq.proofs.Written.{length_be}
 use Rattle.octseq_dns_message.specs.Data.{Form, HasForm, IsTyped}
 use Rattle.octseq_dns_message.specs.Entry.{Record, IsRecord}
-use Rattle.octseq_dns_message.specs.Format.{IsData, IsNumber}
+use Rattle.octseq_dns_message.specs.Format.{IsData}
 use Rattle.octseq_dns_message.specs.declared.header.Header.{Header}
 use Rattle.octseq_dns_name.specs.Name.{IsName, wire_length}
 use Rattle.octseq_dns.specs.RecordEntry.{IsMade, IsRecordEntry, behind_owner}
@@ -43,8 +43,7 @@ data_at all made after p is fits =
     let all_are = length-drop p all in
     let first = number_at all (made ++ after) p 2 (length made) together (omega arith) fits in
     let count : part_length 2 (at p (whole all)) ≡ length made = sym first.1 in
-    let room : length made ≤ length all - (p + 2) = omega (arith, here, there, all_are, long) in
-    (
+    let room : length made ≤ length all - (p + 2) = omega (arith, here, there, all_are, long) in (
       (first.0, subst (λ n. n ≤ length all - (p + 2)) (sym count) room),
       ap (λ n. inside all (p + 2) n) (sym count),
       ap (λ n. at (p + 2 + n) (whole all)) (sym count),
@@ -79,10 +78,10 @@ module _ (all : List ℕ) (place q n : ℕ) (told : Told) where
 -- a record stands where it was appended
 pub record_stands : (h : Header) (body name made : List ℕ) (told : Told) → told.rtype < 65536 → told.class < 65536 → told.ttl < 4294967296 → length made < 65536
     → ((header more : List ℕ) → length header ≡ 12
-        → IsName (at (length (header_octets h ++ body)) (whole (header ++ drop 12 (header_octets h ++ body ++ name ++ more)))) told.labels
-            (at (length (header_octets h ++ body) + length name) (whole (header ++ drop 12 (header_octets h ++ body ++ name ++ more)))))
+    → IsName (at (length (header_octets h ++ body)) (whole (header ++ drop 12 (header_octets h ++ body ++ name ++ more)))) told.labels
+    (at (length (header_octets h ++ body) + length name) (whole (header ++ drop 12 (header_octets h ++ body ++ name ++ more)))))
     → ((header more : List ℕ) → length header ≡ 12
-        → StandsAsData told.said (header ++ (body ++ (name ++ (behind_owner told.rtype told.class told.ttl made ++ more)))) (12 + length body + length name + 2 + 2 + 4 + 2) (length made))
+    → StandsAsData told.said (header ++ (body ++ (name ++ (behind_owner told.rtype told.class told.ttl made ++ more)))) (12 + length body + length name + 2 + 2 + 4 + 2) (length made))
     → StandsIn IsTold (body ++ (name ++ behind_owner told.rtype told.class told.ttl made)) (12 + length body) told (12 + length (body ++ (name ++ behind_owner told.rtype told.class told.ttl made)))
 record_stands h body name made told typed classed timed fits named says header more long =
     let rtype = octets_be 2 told.rtype in
@@ -115,8 +114,18 @@ record_stands h body name made told typed classed timed fits named says header m
     let q = place + length name + 2 + 2 + 4 + 2 in
     let end = q + length made in
     let ends : end ≡ 12 + length (body ++ (name ++ behind)) =
-    omega (arith, length-append body (name ++ behind), length-append name behind, length-append rtype (class ++ (ttl ++ kept)), length-append class (ttl ++ kept), length-append ttl kept,
-    length_part 2 made, length_be 2 told.rtype, length_be 2 told.class, length_be 4 told.ttl) in
+    omega (
+      arith,
+      length-append body (name ++ behind),
+      length-append name behind,
+      length-append rtype (class ++ (ttl ++ kept)),
+      length-append class (ttl ++ kept),
+      length-append ttl kept,
+      length_part 2 made,
+      length_be 2 told.rtype,
+      length_be 2 told.class,
+      length_be 4 told.ttl,
+    ) in
     let r = record_at all place q (length made) told in
     let stands : IsRecord (at place (whole all)) r (at end (whole all)) = (
       at (place + length name) (whole all),
@@ -155,8 +164,16 @@ behind_size told made =
     let class = octets_be 2 told.class in
     let ttl = octets_be 4 told.ttl in
     let kept = part_of 2 made in
-    omega (arith, length-append rtype (class ++ (ttl ++ kept)), length-append class (ttl ++ kept), length-append ttl kept, length_part 2 made, length_be 2 told.rtype, length_be 2 told.class,
-    length_be 4 told.ttl)
+    omega (
+      arith,
+      length-append rtype (class ++ (ttl ++ kept)),
+      length-append class (ttl ++ kept),
+      length-append ttl kept,
+      length_part 2 made,
+      length_be 2 told.rtype,
+      length_be 2 told.class,
+      length_be 4 told.ttl,
+    )
 
 -- the data of a record stands behind its head
 data_behind : (header body name made more : List ℕ) (told : Told) → length header ≡ 12

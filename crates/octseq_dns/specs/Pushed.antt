@@ -23,7 +23,7 @@ pub record Building (B T : Type 0) : Type 0 where
 abbrev pub IsBuilt : List ℕ → List Place → Header → (List Asked → List Told → List Told → List Told → Type 0) → Type 0
 IsBuilt octets places h Are =
     ∥ ((asked : List Asked) × (answers : List Told) × (authorities : List Told) × (additionals : List Told)
-        × Are asked answers authorities additionals × Writes octets h asked answers authorities additionals) ∥₁
+    × Are asked answers authorities additionals × Writes octets h asked answers authorities additionals) ∥₁
     × ∥ AreGood octets places ∥₁
 
 -- nothing was pushed

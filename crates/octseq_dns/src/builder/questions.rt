@@ -89,13 +89,13 @@ impl<B: OctetsBuilder + Truncate + AsOctetsMut, T: Places> QuestionBuilder<B, T>
         qclass: Class,
     ) -> Result<(), AppendError>
         ensures pushed { let entry = IsQuestionEntry (B.content self.old.octets) (T.held self.old.places)
-                (asked_of qname.now qtype qclass) in
+            (asked_of qname.now qtype qclass) in
             Pushes B.limit ((B.asks ≡ true) ⊎ (T.asks ≡ true)) result entry entry
             self.old.header.qdcount (B.content self.old.octets) self.new.header (B.content self.new.octets) }
         ensures written { OnOk result ((asked : List Asked)
             → IsWritten (B.content self.old.octets) self.old.header asked [] [] []
             → IsWritten (B.content self.new.octets) self.new.header (asked ++ asked_of qname.now qtype qclass ∷ [])
-                [] [] []) }
+            [] [] []) }
         ensures header { OnOk result (self.new.header
             ≡ record self.old.header { qdcount = self.old.header.qdcount + 1 }) }
         ensures kept { OnErr result (self.new.header ≡ self.old.header) }

@@ -98,7 +98,7 @@ impl<B: OctetsBuilder + Truncate + AsOctetsMut, T: Places> AnswerBuilder<B, T> {
         ensures written { OnOk result ((asked : List Asked) (answers : List Told)
             → IsWritten (B.content self.old.octets) self.old.header asked answers [] []
             → IsWritten (B.content self.new.octets) self.new.header asked
-                (answers ++ told_of owner.now rtype class ttl (Matter.opaque rdata.now) ∷ []) [] []) }
+            (answers ++ told_of owner.now rtype class ttl (Matter.opaque rdata.now) ∷ []) [] []) }
         ensures header { OnOk result (self.new.header
             ≡ record self.old.header { ancount = self.old.header.ancount + 1 }) }
         ensures kept { OnErr result (self.new.header ≡ self.old.header) }
@@ -209,7 +209,7 @@ impl<B: OctetsBuilder + Truncate + AsOctetsMut, T: Places> AuthorityBuilder<B, T
         ensures written { OnOk result ((asked : List Asked) (answers authorities : List Told)
             → IsWritten (B.content self.old.octets) self.old.header asked answers authorities []
             → IsWritten (B.content self.new.octets) self.new.header asked answers
-                (authorities ++ told_of owner.now rtype class ttl (Matter.opaque rdata.now) ∷ []) []) }
+            (authorities ++ told_of owner.now rtype class ttl (Matter.opaque rdata.now) ∷ []) []) }
         ensures header { OnOk result (self.new.header
             ≡ record self.old.header { nscount = self.old.header.nscount + 1 }) }
         ensures kept { OnErr result (self.new.header ≡ self.old.header) }
@@ -319,7 +319,7 @@ impl<B: OctetsBuilder + Truncate + AsOctetsMut, T: Places> AdditionalBuilder<B, 
         ensures written { OnOk result ((asked : List Asked) (answers authorities additionals : List Told)
             → IsWritten (B.content self.old.octets) self.old.header asked answers authorities additionals
             → IsWritten (B.content self.new.octets) self.new.header asked answers authorities
-                (additionals ++ told_of owner.now rtype class ttl (Matter.opaque rdata.now) ∷ [])) }
+            (additionals ++ told_of owner.now rtype class ttl (Matter.opaque rdata.now) ∷ [])) }
         ensures header { OnOk result (self.new.header
             ≡ record self.old.header { arcount = self.old.header.arcount + 1 }) }
         ensures kept { OnErr result (self.new.header ≡ self.old.header) }

@@ -1,8 +1,6 @@
-use Rattle.std.proofs.Common.{ℕ, List, ◌++◌, length, refl, sym, ap, subst, rules}
+use Rattle.std.proofs.Common.{◌++◌, refl, sym, subst, rules}
 use Rattle.octseq.specs.Integer.{octets_be}
-use Rattle.octseq.specs.Refusal.{IsShort, append_error}
 use Rattle.octseq_dns_name.specs.Read.{labels_of}
-use Rattle.octseq_dns.specs.Encoded.{Encodes}
 use Rattle.octseq_dns.specs.Place.{AreGood}
 use Rattle.octseq_dns.specs.Pushed.{message_limit, IsQuestionEntry, PassesWith}
 use Rattle.octseq_dns.specs.Written.{asked_of}

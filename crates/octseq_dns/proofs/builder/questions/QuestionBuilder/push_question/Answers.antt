@@ -1,8 +1,8 @@
-use Rattle.std.proofs.Common.{◌≡◌, ◌⊎◌, ◌+◌, ◌<◌, ◌≤◌, ℕ, List, [], ◌∷◌, ◌++◌, length, Ok, true, refl, sym, ap, subst, inl, inr, rules, arith}
+use Rattle.std.proofs.Common.{◌≡◌, ◌⊎◌, ◌+◌, ◌<◌, List, [], ◌∷◌, ◌++◌, Ok, true, sym, ap, subst, inl, rules, arith}
 use Rattle.octseq_dns_message.specs.declared.header.Header.{Header}
-use Rattle.octseq_dns.specs.Pushed.{Building, IsBuilt, IsQuestionEntry, Pushes, UpToQuestions, message_limit}
+use Rattle.octseq_dns.specs.Pushed.{Building, IsBuilt, IsQuestionEntry, Pushes, UpToQuestions}
 use Rattle.octseq_dns.specs.Written.{Asked, IsWritten, asked_of}
-use Rattle.octseq_dns.proofs.Building.{AsksOnce, asks_once, asked_built, built_room, built_size}
+use Rattle.octseq_dns.proofs.Building.{asks_once, asked_built, built_room}
 use Rattle.octseq_dns.proofs.Pushes.{pushes_ok, pushes_err, appended_room, headed_size}
 use Rattle.octseq_dns.proofs.builder.questions.QuestionBuilder.push_question.Goals as goal
 

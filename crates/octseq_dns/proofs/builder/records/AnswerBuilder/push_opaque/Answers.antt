@@ -1,12 +1,12 @@
-use Rattle.std.proofs.Common.{◌≡◌, ◌⊎◌, ◌+◌, ◌<◌, ◌≤◌, ℕ, List, [], ◌∷◌, ◌++◌, length, Ok, true, refl, sym, ap, subst, inl, inr, rules, arith}
+use Rattle.std.proofs.Common.{◌≡◌, ◌⊎◌, ◌+◌, ◌<◌, List, [], ◌∷◌, ◌++◌, Ok, true, refl, sym, ap, subst, inl, rules, arith}
 use Rattle.octseq_dns_message.specs.declared.header.Header.{Header}
-use Rattle.octseq_dns.specs.Pushed.{Building, IsBuilt, Pushes, UpToAnswers, message_limit}
+use Rattle.octseq_dns.specs.Pushed.{Building, IsBuilt, Pushes, UpToAnswers}
 use Rattle.octseq_dns.specs.RecordEntry.{IsRecordEntry, IsRecordLeast}
 use Rattle.octseq_dns.specs.Told.{Matter, Told, told_of}
 use Rattle.octseq_dns.specs.Written.{Asked, IsWritten}
 use Rattle.octseq_dns.proofs.Building.{answer_built, built_room}
 use Rattle.octseq_dns.proofs.Pushes.{pushes_ok, pushes_err, appended_room, headed_size}
-use Rattle.octseq_dns.proofs.Records.{TellsOnce, answer_written}
+use Rattle.octseq_dns.proofs.Records.{answer_written}
 use Rattle.octseq_dns.proofs.builder.records.AnswerBuilder.push_opaque.Goals as goal
 
 pub add_record-requires-clause-room : goal.add_record-requires-clause-room
