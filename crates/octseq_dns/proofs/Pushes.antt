@@ -148,12 +148,14 @@ pub same_encoding : (shown old : List ℕ) (places held : List Place) (labels : 
 same_encoding shown old places held labels name written pointers same table is =
     subst (λ places. ∥ Encodes old places labels name written pointers ∥₁) table (subst (λ octets. ∥ Encodes octets places labels name written pointers ∥₁) same is)
 
+-- a name passes a limit that a front of it passes
 pub owner_past : (limit : Option ℕ) (shown old : List ℕ) (places held : List Place) (labels : List (List ℕ)) (name : List ℕ) (written pointers n : ℕ) → shown ≡ old → places ≡ held
     → ∥ Encodes shown places labels name written pointers ∥₁ → n ≤ length old + length name → IsPast limit n → ∥ PassesWith limit old (IsEncoded old held labels) ∥₁
 owner_past limit shown old places held labels name written pointers n same table is few past =
     ∥∥₁_elim (same_encoding shown old places held labels name written pointers same table is) ∥∥₁_prop (λ found.
     ∣ (name, found.0, past_more limit n (length old + length name) few past) ∣₁)
 
+-- a name was appended, and its places were added
 pub owner_begins : (most : Option ℕ) (shown old : List ℕ) (places held : List Place) (labels : List (List ℕ)) (name : List ℕ) (written pointers start : ℕ) (new : List ℕ) (after : List Place)
     → shown ≡ old → places ≡ held → start ≡ length old → ∥ Encodes shown places labels name written pointers ∥₁ → new ≡ old ++ name
     → after ≡ kept most (held ++ places_of start (take written labels) pointers) → ∥ BeginsRecord most old held labels name written pointers new after ∥₁

@@ -20,6 +20,7 @@ use Rattle.octseq_dns.proofs.Standing.{drop_on}
 
 -- ---- places in lists
 
+-- what stands behind a front
 pub drop_front : (front after : List ℕ) (n : ℕ) → length front ≡ n → drop n (front ++ after) ≡ after
 drop_front front after n long = ap (λ n. drop n (front ++ after)) (sym long) ∙ drop-append_seam front after
 
@@ -42,6 +43,7 @@ number_at all after p k n is some fits =
 
 -- ---- growth
 
+-- what stands in a message stands there too when more is appended
 pub stands_on : {A : Type 0} (Is : Window → A → Window → Type 0) (body added : List ℕ) (from to : ℕ) (one : A) → StandsIn Is body from one to → StandsIn Is (body ++ added) from one to
 stands_on Is body added from to one stands header more long =
     subst (λ behind. Is (at from (whole (header ++ behind))) one (at to (whole (header ++ behind)))) (sym (append_assoc body added more)) (stands header (added ++ more) long)

@@ -138,7 +138,7 @@ record_stands h body name made told typed classed timed fits named says header m
 
 -- ---- messages
 
--- a record more of opaque data, behind the questions and a section's records, where nothing stands behind them
+-- an answer more, where nothing stands behind the answers
 pub answer_more : (w v x : Window) (asked : List Asked) (answers : List Told) (one : Told) → ArePushed w (asked, (answers, ([], []))) v → IsTold v one x
     → ArePushed w (asked, (answers ++ one ∷ [], ([], []))) x
 answer_more w v x asked answers one are is =
@@ -146,6 +146,7 @@ answer_more w v x asked answers one are is =
     let same : v ≡ last = are.2.2.2 ∙ are.2.2.1 in
     (are.0, are.1, (x, row_more IsTold are.0 last x answers one are.2.1 (subst (λ v. IsTold v one x) same is), (x, refl, refl)))
 
+-- a record of an authority more
 pub authority_more : (w v x : Window) (asked : List Asked) (answers authorities : List Told) (one : Told) → ArePushed w (asked, (answers, (authorities, []))) v → IsTold v one x
     → ArePushed w (asked, (answers, (authorities ++ one ∷ [], []))) x
 authority_more w v x asked answers authorities one are is =
@@ -153,6 +154,7 @@ authority_more w v x asked answers authorities one are is =
     let same : v ≡ last = are.2.2.2 in
     (are.0, are.1, (are.2.0, are.2.1, (x, row_more IsTold are.2.0 last x authorities one are.2.2.1 (subst (λ v. IsTold v one x) same is), refl)))
 
+-- an additional record more
 pub additional_more : (w v x : Window) (asked : List Asked) (answers authorities additionals : List Told) (one : Told) → ArePushed w (asked, (answers, (authorities, additionals))) v → IsTold v one x
     → ArePushed w (asked, (answers, (authorities, additionals ++ one ∷ []))) x
 additional_more w v x asked answers authorities additionals one are is =
@@ -280,6 +282,7 @@ one_longer : {A : Type 0} (row : List A) (one : A) (count more : ℕ) → count 
 one_longer row one count more is counted = let all = length-append row (one ∷ []) in omega (arith, is, counted, all)
 
 module _ (most : Option ℕ) (old between new : List ℕ) (h k : Header) (held : List Place) (one : Told) (made : List ℕ) (tells : TellsOnce most old between new k held one made) where
+  -- an answer more was written
   pub answer_written : (a : List Asked) (b : List Told) → k ≡ record h { ancount = h.ancount + 1 } → IsWritten old h a b [] [] → IsWritten new k a (b ++ one ∷ []) [] []
   answer_written a b counted so_far = ∥∥₁_elim so_far ∥∥₁_prop (λ so_far.
       ∥∥₁_elim (goes_on most old between new h k held one made so_far.body tells so_far.octets_are) ∥∥₁_prop (λ on.
@@ -288,6 +291,7 @@ module _ (most : Option ℕ) (old between new : List ℕ) (h k : Header) (held :
       (ap (λ k. k.nscount) counted ∙ so_far.nscount) (ap (λ k. k.arcount) counted ∙ so_far.arcount)
       (λ w v u are is. answer_more w v u a b one are is) ∣₁))
 
+  -- a record of an authority more
   pub authority_written : (a : List Asked) (b c : List Told) → k ≡ record h { nscount = h.nscount + 1 } → IsWritten old h a b c [] → IsWritten new k a b (c ++ one ∷ []) []
   authority_written a b c counted so_far = ∥∥₁_elim so_far ∥∥₁_prop (λ so_far.
       ∥∥₁_elim (goes_on most old between new h k held one made so_far.body tells so_far.octets_are) ∥∥₁_prop (λ on.
@@ -296,6 +300,7 @@ module _ (most : Option ℕ) (old between new : List ℕ) (h k : Header) (held :
       (one_longer c one h.nscount k.nscount so_far.nscount (ap (λ k. k.nscount) counted)) (ap (λ k. k.arcount) counted ∙ so_far.arcount)
       (λ w v u are is. authority_more w v u a b c one are is) ∣₁))
 
+  -- an additional record more
   pub additional_written : (a : List Asked) (b c d : List Told) → k ≡ record h { arcount = h.arcount + 1 } → IsWritten old h a b c d → IsWritten new k a b c (d ++ one ∷ [])
   additional_written a b c d counted so_far = ∥∥₁_elim so_far ∥∥₁_prop (λ so_far.
       ∥∥₁_elim (goes_on most old between new h k held one made so_far.body tells so_far.octets_are) ∥∥₁_prop (λ on.
