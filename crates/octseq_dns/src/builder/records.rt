@@ -338,7 +338,8 @@ impl<B: OctetsBuilder + Truncate + AsOctetsMut, T: Places> AdditionalBuilder<B, 
 
     /// Gives back the builder of octets, with the message in it, and the table.
     pub fn finish(self) -> (B, T)
-        ensures { result ≡ (self.octets, self.places) }
+        ensures same { result ≡ (self.octets, self.places) }
+        ensures message { IsBuilt (B.content result.0) (T.held result.1) self.header UpToAdditionals }
     {
         (self.octets, self.places)
     }
