@@ -12,7 +12,7 @@ use Rattle.octseq_dns.specs.Place.{IsGood, AreGood, places_of, kept}
 use Rattle.octseq_dns_name.specs.Name.{wire_length}
 use Rattle.octseq_dns_name.specs.Wire.{AreLabels}
 use Rattle.octseq_dns.proofs.Encoded.{labels_good, good_grows, good_kept}
-use Rattle.octseq_dns.specs.Pushed.{AppendsEntry, IsQuestionEntry, PassesWith, Pushes, message_limit}
+use Rattle.octseq_dns.specs.Pushed.{AddsPlaces, AppendsEntry, IsQuestionEntry, PassesWith, Pushes, message_limit}
 use Rattle.octseq_dns.specs.RecordEntry.{BeginsRecord, IsMade, IsRecordEntry, IsRecordLeast, behind_owner}
 use Rattle.octseq_dns.specs.Told.{Told, Matter}
 use Rattle.octseq.specs.Part.{part_of}
@@ -211,3 +211,17 @@ good_on old between new name more places named headed content good = ∥∥₁_e
     let long = ap length named ∙ length-append old name in
     let room : 12 ≤ length between = omega (arith, long, headed) in
     ∣ subst (λ octets. AreGood octets places) (sym content) (good_grows between more places room good) ∣₁)
+
+-- the places of a name that was appended were added
+pub places_added : (most : Option ℕ) (shown old : List ℕ) (places held : List Place) (labels : List (List ℕ)) (name : List ℕ) (written pointers start : ℕ) (after : List Place)
+    → shown ≡ old → places ≡ held → start ≡ length old → ∥ Encodes shown places labels name written pointers ∥₁
+    → after ≡ kept most (held ++ places_of start (take written labels) pointers) → ∥ AddsPlaces most old held labels after ∥₁
+places_added most shown old places held labels name written pointers start after same table begins is added =
+    ∥∥₁_elim (same_encoding shown old places held labels name written pointers same table is) ∥∥₁_prop (λ found.
+    ∣ (name, written, pointers, found, added ∙ ap (λ start. kept most (held ++ places_of start (take written labels) pointers)) begins) ∣₁)
+
+-- so those of a record's name
+pub owner_added : (most : Option ℕ) (old : List ℕ) (held : List Place) (labels : List (List ℕ)) (name : List ℕ) (written pointers : ℕ) (new : List ℕ) (after : List Place)
+    → ∥ BeginsRecord most old held labels name written pointers new after ∥₁ → ∥ AddsPlaces most old held labels after ∥₁
+owner_added most old held labels name written pointers new after begins =
+    ∥∥₁_elim begins ∥∥₁_prop (λ begins. ∣ (name, written, pointers, begins.0, begins.2) ∣₁)

@@ -1,6 +1,7 @@
 //! The section of questions.
 ghost use Rattle.std.specs.Prelude.{◌≡◌, ◌+◌, ◌⊎◌, true, List, [], ◌∷◌, ◌++◌, OnOk, OnErr};
-ghost use Rattle.octseq_dns.specs.Pushed.{IsBuilt, IsQuestionEntry, Pushes, UpToQuestions};
+ghost use Rattle.octseq_dns_name.specs.Read.{labels_of};
+ghost use Rattle.octseq_dns.specs.Pushed.{AddsPlaces, IsBuilt, IsQuestionEntry, Pushes, UpToQuestions};
 ghost use Rattle.octseq_dns.specs.Told.{Told};
 ghost use Rattle.octseq_dns.specs.Written.{Asked, IsWritten, asked_of};
 
@@ -99,6 +100,8 @@ impl<B: OctetsBuilder + Truncate + AsOctetsMut, T: Places> QuestionBuilder<B, T>
         ensures header { OnOk result (self.new.header
             ≡ record self.old.header { qdcount = self.old.header.qdcount + 1 }) }
         ensures kept { OnErr result (self.new.header ≡ self.old.header) }
+        ensures held { OnOk result (∥ AddsPlaces T.most (B.content self.old.octets) (T.held self.old.places)
+            (labels_of qname.now) (T.held self.new.places) ∥₁) }
         ensures places { OnErr result (T.held self.new.places ≡ T.held self.old.places) }
         ensures borrows { B.borrows self.new.octets ≡ B.borrows self.old.octets }
     {

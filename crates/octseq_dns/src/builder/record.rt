@@ -9,7 +9,7 @@ ghost use Rattle.octseq_dns_name.specs.Read.{labels_of};
 ghost use Rattle.octseq_dns_name.specs.Wire.{AreLabels};
 ghost use Rattle.octseq_dns.specs.Encoded.{IsEncoded};
 ghost use Rattle.octseq_dns.specs.Place.{AreGood};
-ghost use Rattle.octseq_dns.specs.Pushed.{AppendsEntry, PassesWith, message_limit};
+ghost use Rattle.octseq_dns.specs.Pushed.{AddsPlaces, AppendsEntry, PassesWith, message_limit};
 ghost use Rattle.octseq_dns.specs.RecordEntry.{BeginsRecord, IsRecordEntry, IsRecordLeast, behind_owner};
 
 use crate::builder::draft::append;
@@ -119,6 +119,8 @@ fn write_record<B: OctetsBuilder, T: Places, R: AsOctets + Copy>(
         (IsRecordEntry T.most (B.content octets.old) (T.held places.old)
         (told_of owner.now fields.rtype fields.class fields.ttl (Matter.opaque made.now))) ∥₁) }
     ensures good { OnOk result (∥ AreGood (B.content octets.new) (T.held places.new) ∥₁) }
+    ensures held { OnOk result (∥ AddsPlaces T.most (B.content octets.old) (T.held places.old)
+        (labels_of owner.now) (T.held places.new) ∥₁) }
     ensures front { take (length (B.content octets.old)) (B.content octets.new) ≡ B.content octets.old }
     ensures places { take (length (T.held places.old)) (T.held places.new) ≡ T.held places.old }
     ensures size { length (B.content octets.new) ≤ 65535 }
@@ -154,6 +156,8 @@ pub(super) fn add_record<B: OctetsBuilder + Truncate, T: Places, R: AsOctets + C
         (IsRecordEntry T.most (B.content octets.old) (T.held places.old)
         (told_of owner.now fields.rtype fields.class fields.ttl (Matter.opaque made.now))) ∥₁) }
     ensures good { OnOk result (∥ AreGood (B.content octets.new) (T.held places.new) ∥₁) }
+    ensures held { OnOk result (∥ AddsPlaces T.most (B.content octets.old) (T.held places.old)
+        (labels_of owner.now) (T.held places.new) ∥₁) }
     ensures err { OnErr result (B.content octets.new ≡ B.content octets.old) }
     ensures places { OnErr result (T.held places.new ≡ T.held places.old) }
     ensures size { length (B.content octets.new) ≤ 65535 }

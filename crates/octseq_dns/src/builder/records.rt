@@ -1,6 +1,7 @@
 //! The sections of records.
 ghost use Rattle.std.specs.Prelude.{◌≡◌, ◌+◌, ◌⊎◌, true, List, [], ◌∷◌, ◌++◌, OnOk, OnErr};
-ghost use Rattle.octseq_dns.specs.Pushed.{IsBuilt, Pushes, UpToAnswers, UpToAuthorities, UpToAdditionals};
+ghost use Rattle.octseq_dns_name.specs.Read.{labels_of};
+ghost use Rattle.octseq_dns.specs.Pushed.{AddsPlaces, IsBuilt, Pushes, UpToAnswers, UpToAuthorities, UpToAdditionals};
 ghost use Rattle.octseq_dns.specs.RecordEntry.{IsRecordEntry, IsRecordLeast};
 ghost use Rattle.octseq_dns.specs.Told.{Matter, Told, told_of};
 ghost use Rattle.octseq_dns.specs.Written.{Asked, IsWritten};
@@ -102,6 +103,8 @@ impl<B: OctetsBuilder + Truncate + AsOctetsMut, T: Places> AnswerBuilder<B, T> {
         ensures header { OnOk result (self.new.header
             ≡ record self.old.header { ancount = self.old.header.ancount + 1 }) }
         ensures kept { OnErr result (self.new.header ≡ self.old.header) }
+        ensures held { OnOk result (∥ AddsPlaces T.most (B.content self.old.octets) (T.held self.old.places)
+            (labels_of owner.now) (T.held self.new.places) ∥₁) }
         ensures places { OnErr result (T.held self.new.places ≡ T.held self.old.places) }
         ensures borrows { B.borrows self.new.octets ≡ B.borrows self.old.octets }
     {
@@ -213,6 +216,8 @@ impl<B: OctetsBuilder + Truncate + AsOctetsMut, T: Places> AuthorityBuilder<B, T
         ensures header { OnOk result (self.new.header
             ≡ record self.old.header { nscount = self.old.header.nscount + 1 }) }
         ensures kept { OnErr result (self.new.header ≡ self.old.header) }
+        ensures held { OnOk result (∥ AddsPlaces T.most (B.content self.old.octets) (T.held self.old.places)
+            (labels_of owner.now) (T.held self.new.places) ∥₁) }
         ensures places { OnErr result (T.held self.new.places ≡ T.held self.old.places) }
         ensures borrows { B.borrows self.new.octets ≡ B.borrows self.old.octets }
     {
@@ -323,6 +328,8 @@ impl<B: OctetsBuilder + Truncate + AsOctetsMut, T: Places> AdditionalBuilder<B, 
         ensures header { OnOk result (self.new.header
             ≡ record self.old.header { arcount = self.old.header.arcount + 1 }) }
         ensures kept { OnErr result (self.new.header ≡ self.old.header) }
+        ensures held { OnOk result (∥ AddsPlaces T.most (B.content self.old.octets) (T.held self.old.places)
+            (labels_of owner.now) (T.held self.new.places) ∥₁) }
         ensures places { OnErr result (T.held self.new.places ≡ T.held self.old.places) }
         ensures borrows { B.borrows self.new.octets ≡ B.borrows self.old.octets }
     {
