@@ -393,125 +393,68 @@ fn each_section_has_its_count(rt: HostRuntime) -> Result<(), Fail> {
     Ok(())
 }
 
+/// The header of an answer was sent with this id, and there are no entries.
+fn is_sent(rt: &impl Abort, octets: &[u8], found: Header, id: u8) {
+    let wanted = [0, id, 0x85, 0x80, 0, 0, 0, 0, 0, 0, 0, 0];
+    assert_equal!(rt, octets, wanted.as_slice());
+    assert_equal!(rt, (found.id, found.flags), (u16::from(id), header().flags));
+    let counts = (found.qdcount, found.ancount, found.nscount, found.arcount);
+    assert_equal!(rt, counts, (0, 0, 0, 0));
+}
+
 #[test]
 fn each_builder_sets_the_header(rt: HostRuntime) -> Result<(), Fail> {
     let sent = |id: u16| Header { id, ..header() };
     let mut message = MessageBuilder::from_builder(Array::<12>::new(), NoCompression)?;
     assert_equal!(&rt, message.as_slice(), [0u8; 12].as_slice());
     message.set_header(sent(1));
-    assert_equal!(
-        &rt,
-        message.as_slice().get(..4),
-        Some(b"\0\x01\x85\x80".as_slice())
-    );
-    assert_equal!(&rt, (message.header().id, message.header().qdcount), (1, 0));
+    is_sent(&rt, message.as_slice(), message.header(), 1);
     let mut questions = message.question();
     questions.set_header(sent(2));
-    assert_equal!(
-        &rt,
-        questions.as_slice().get(..4),
-        Some(b"\0\x02\x85\x80".as_slice())
-    );
-    assert_equal!(
-        &rt,
-        (questions.header().id, questions.header().qdcount),
-        (2, 0)
-    );
+    is_sent(&rt, questions.as_slice(), questions.header(), 2);
     let mut answers = questions.answer();
     answers.set_header(sent(3));
-    assert_equal!(
-        &rt,
-        answers.as_slice().get(..4),
-        Some(b"\0\x03\x85\x80".as_slice())
-    );
-    assert_equal!(&rt, (answers.header().id, answers.header().ancount), (3, 0));
+    is_sent(&rt, answers.as_slice(), answers.header(), 3);
     let mut authorities = answers.authority();
     authorities.set_header(sent(4));
-    assert_equal!(
-        &rt,
-        authorities.as_slice().get(..4),
-        Some(b"\0\x04\x85\x80".as_slice())
-    );
-    assert_equal!(
-        &rt,
-        (authorities.header().id, authorities.header().nscount),
-        (4, 0)
-    );
+    is_sent(&rt, authorities.as_slice(), authorities.header(), 4);
     let mut additionals = authorities.additional();
     additionals.set_header(sent(5));
-    assert_equal!(
-        &rt,
-        additionals.as_slice(),
-        b"\0\x05\x85\x80\0\0\0\0\0\0\0\0".as_slice()
-    );
-    assert_equal!(
-        &rt,
-        (additionals.header().id, additionals.header().arcount),
-        (5, 0)
-    );
+    is_sent(&rt, additionals.as_slice(), additionals.header(), 5);
     Ok(())
 }
 
 #[test]
-fn each_bit_of_a_header_is_written(rt: HostRuntime) -> Result<(), Fail> {
+fn each_flag_is_written(rt: HostRuntime) -> Result<(), Fail> {
     let none = Flags::default();
     let mut message = MessageBuilder::from_builder(Array::<12>::new(), NoCompression)?;
-    for (flags, opcode, rcode, wanted) in [
-        (
-            Flags { qr: true, ..none },
-            Opcode::QUERY,
-            Rcode::NOERROR,
-            [0x80, 0],
-        ),
-        (none, Opcode::from_int(15), Rcode::NOERROR, [0x78, 0]),
-        (none, Opcode::UPDATE, Rcode::NOERROR, [0x28, 0]),
-        (
-            Flags { aa: true, ..none },
-            Opcode::QUERY,
-            Rcode::NOERROR,
-            [4, 0],
-        ),
-        (
-            Flags { tc: true, ..none },
-            Opcode::QUERY,
-            Rcode::NOERROR,
-            [2, 0],
-        ),
-        (
-            Flags { rd: true, ..none },
-            Opcode::QUERY,
-            Rcode::NOERROR,
-            [1, 0],
-        ),
-        (
-            Flags { ra: true, ..none },
-            Opcode::QUERY,
-            Rcode::NOERROR,
-            [0, 0x80],
-        ),
-        (
-            Flags { z: true, ..none },
-            Opcode::QUERY,
-            Rcode::NOERROR,
-            [0, 0x40],
-        ),
-        (
-            Flags { ad: true, ..none },
-            Opcode::QUERY,
-            Rcode::NOERROR,
-            [0, 0x20],
-        ),
-        (
-            Flags { cd: true, ..none },
-            Opcode::QUERY,
-            Rcode::NOERROR,
-            [0, 0x10],
-        ),
-        (none, Opcode::QUERY, Rcode::from_int(15), [0, 15]),
-        (none, Opcode::QUERY, Rcode::NXDOMAIN, [0, 3]),
+    for (flags, wanted) in [
+        (none, [0, 0]),
+        (Flags { qr: true, ..none }, [0x80, 0]),
+        (Flags { aa: true, ..none }, [0x04, 0]),
+        (Flags { tc: true, ..none }, [0x02, 0]),
+        (Flags { rd: true, ..none }, [0x01, 0]),
+        (Flags { ra: true, ..none }, [0, 0x80]),
+        (Flags { z: true, ..none }, [0, 0x40]),
+        (Flags { ad: true, ..none }, [0, 0x20]),
+        (Flags { cd: true, ..none }, [0, 0x10]),
+    ] {
+        message.set_header(Header { flags, ..header() });
+        assert_equal!(&rt, message.as_slice().get(2..4), Some(wanted.as_slice()));
+    }
+    Ok(())
+}
+
+#[test]
+fn codes_of_a_header_are_written(rt: HostRuntime) -> Result<(), Fail> {
+    let mut message = MessageBuilder::from_builder(Array::<12>::new(), NoCompression)?;
+    for (opcode, rcode, wanted) in [
+        (Opcode::UPDATE, Rcode::NOERROR, [0x28, 0]),
+        (Opcode::STATUS, Rcode::NXDOMAIN, [0x10, 0x03]),
+        (Opcode::from_int(15), Rcode::from_int(15), [0x78, 0x0F]),
     ] {
         message.set_header(Header {
-            flags,
+            flags: Flags::default(),
             opcode,
             rcode,
             ..header()
