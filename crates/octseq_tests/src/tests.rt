@@ -77,6 +77,7 @@ mod dns;
 mod dns_data;
 mod dns_message;
 mod dns_text;
+mod dns_writing;
 mod errors;
 mod habits;
 mod integers;

@@ -11,3 +11,4 @@ mod names;
 mod parsers;
 mod spared;
 mod texts;
+mod writing;

@@ -1,0 +1,554 @@
+//! Messages of DNS that are written.
+use arrayvec::ArrayVec;
+use bytes::BytesMut;
+use octseq::builder::AsOctetsMut;
+use octseq::octets::Octets;
+use octseq::{AppendError, Array, EmptyBuilder, OctetsBuilder, ShortBuf, Truncate};
+use octseq_dns::header::Flags;
+use octseq_dns::{
+    AnswerBuilder, Class, FixedPlaces, Header, Malformed, Message, MessageBuilder, Name,
+    NoCompression, Opcode, Place, Places, Rcode, Record, Rtype, Ttl,
+};
+use smallvec::SmallVec;
+use std::alloc::{AllocError, Global};
+use std::process::Abort;
+use std::test::Fail;
+
+/// The refusal of what passes a limit.
+const SHORT: Result<(), AppendError> = Err(AppendError::Short(ShortBuf));
+
+/// The header of an answer, with counts that are those of no message here.
+fn header() -> Header {
+    Header {
+        id: 0x1234,
+        flags: Flags {
+            qr: true,
+            aa: true,
+            rd: true,
+            ra: true,
+            ..Flags::default()
+        },
+        opcode: Opcode::QUERY,
+        rcode: Rcode::NOERROR,
+        qdcount: 7,
+        ancount: 7,
+        nscount: 7,
+        arcount: 7,
+    }
+}
+
+/// That header and nothing more.
+const NOTHING: &[u8] = b"\x12\x34\x85\x80\0\0\0\0\0\0\0\0";
+
+/// A question for `example.com.`.
+const ASKED: &[u8] = b"\x12\x34\x85\x80\0\x01\0\0\0\0\0\0\x07example\x03com\0\0\x01\0\x01";
+
+/// That question, and an answer whose name is a pointer to it.
+const ANSWERED: &[u8] = b"\x12\x34\x85\x80\0\x01\0\x01\0\0\0\0\x07example\x03com\0\0\x01\0\x01\
+\xC0\x0C\0\x01\0\x01\0\0\x01\x2C\0\x04\x01\x02\x03\x04";
+
+/// The same with no pointer.
+const PLAIN: &[u8] = b"\x12\x34\x85\x80\0\x01\0\x01\0\0\0\0\x07example\x03com\0\0\x01\0\x01\
+\x07example\x03com\0\0\x01\0\x01\0\0\x01\x2C\0\x04\x01\x02\x03\x04";
+
+/// Writes the header, the question and the answer.
+fn answered<B: OctetsBuilder + Truncate + AsOctetsMut, T: Places>(
+    octets: B,
+    places: T,
+) -> Result<(B, T), Fail> {
+    let name = Name::from_text("example.com.")?;
+    let mut message = MessageBuilder::from_builder(octets, places)?;
+    message.set_header(header());
+    let mut questions = message.question();
+    questions.push_question(&name.parsed(), Rtype::A, Class::IN)?;
+    let mut answers = questions.answer();
+    let ttl = Ttl::from_secs(300);
+    answers.push_opaque(&name.parsed(), Rtype::A, Class::IN, ttl, &[1, 2, 3, 4])?;
+    Ok(answers.authority().additional().finish())
+}
+
+/// They are written with a pointer, and the places of the question's labels are known.
+fn is_answered<B: OctetsBuilder + Truncate + AsOctetsMut, T: Places>(
+    rt: &impl Abort,
+    octets: B,
+    places: T,
+) -> Result<(), Fail> {
+    let (octets, places) = answered(octets, places)?;
+    assert_equal!(rt, octets.as_ref(), ANSWERED);
+    let wanted = [
+        Place {
+            at: 12,
+            pointers: 0,
+        },
+        Place {
+            at: 20,
+            pointers: 0,
+        },
+    ];
+    assert_equal!(rt, places.as_slice(), wanted.as_slice());
+    Ok(())
+}
+
+#[test]
+fn an_answer_points_to_its_question(rt: HostRuntime) -> Result<(), Fail> {
+    let alloc = rt.alloc();
+    is_answered(&rt, Array::<512>::new(), FixedPlaces::<8>::new())?;
+    is_answered(&rt, Array::<512>::new(), Vec::new(alloc))?;
+    is_answered(&rt, Vec::new(alloc), FixedPlaces::<8>::new())?;
+    is_answered(&rt, Vec::new(alloc), Vec::new(alloc))
+}
+
+#[test]
+fn other_builders_are_written(rt: HostRuntime) -> Result<(), Fail> {
+    let alloc = rt.alloc();
+    is_answered(&rt, BytesMut::empty(alloc)?, FixedPlaces::<2>::new())?;
+    is_answered(
+        &rt,
+        SmallVec::<u8, 8>::empty(alloc)?,
+        FixedPlaces::<2>::new(),
+    )?;
+    is_answered(&rt, ArrayVec::<u8, 45>::new(), FixedPlaces::<2>::new())?;
+    let mut octets = Array::<45>::new();
+    is_answered(&rt, &mut octets, FixedPlaces::<2>::new())?;
+    assert_equal!(&rt, octets.as_slice(), ANSWERED);
+    Ok(())
+}
+
+#[test]
+fn without_compression_names_are_plain(rt: HostRuntime) -> Result<(), Fail> {
+    let (octets, NoCompression) = answered(Array::<512>::new(), NoCompression)?;
+    assert_equal!(&rt, octets.as_slice(), PLAIN);
+    let (octets, NoCompression) = answered(Vec::new(rt.alloc()), NoCompression)?;
+    assert_equal!(&rt, octets.as_slice(), PLAIN);
+    Ok(())
+}
+
+#[test]
+fn what_stood_before_is_gone(rt: HostRuntime) -> Result<(), Fail> {
+    let alloc = rt.alloc();
+    let mut places = Vec::new(alloc);
+    places.push(Place { at: 0, pointers: 0 })?;
+    is_answered(&rt, ASKED.to_vec(alloc)?, places)
+}
+
+/// Writes questions for these names.
+fn asked<B: OctetsBuilder + Truncate + AsOctetsMut, T: Places>(
+    octets: B,
+    places: T,
+    names: &[&str],
+) -> Result<(B, T), Fail> {
+    let mut questions = MessageBuilder::from_builder(octets, places)?.question();
+    for text in names {
+        let name = Name::from_text(text)?;
+        questions.push_question(&name.parsed(), Rtype::A, Class::IN)?;
+    }
+    Ok(questions.answer().authority().additional().finish())
+}
+
+#[test]
+fn the_names_of_the_standard_are_compressed(rt: HostRuntime) -> Result<(), Fail> {
+    let names = ["F.ISI.ARPA.", "FOO.F.ISI.ARPA.", "ARPA.", "."];
+    let (octets, places) = asked(Array::<512>::new(), FixedPlaces::<8>::new(), &names)?;
+    assert_equal!(
+        &rt,
+        octets.as_slice(),
+        b"\0\0\0\0\0\x04\0\0\0\0\0\0\x01F\x03ISI\x04ARPA\0\0\x01\0\x01\
+\x03FOO\xC0\x0C\0\x01\0\x01\xC0\x12\0\x01\0\x01\0\0\x01\0\x01"
+            .as_slice()
+    );
+    let wanted = [(12, 0), (14, 0), (18, 0), (28, 1)].map(|(at, pointers)| Place { at, pointers });
+    assert_equal!(&rt, places.as_slice(), wanted.as_slice());
+    Ok(())
+}
+
+#[test]
+fn names_are_compressed_octet_for_octet(rt: HostRuntime) -> Result<(), Fail> {
+    let names = [
+        "example.com.",
+        "EXAMPLE.com.",
+        "example.COM.",
+        "EXAMPLE.com.",
+    ];
+    let (octets, places) = asked(Array::<512>::new(), Vec::new(rt.alloc()), &names)?;
+    assert_equal!(
+        &rt,
+        octets.as_slice(),
+        b"\0\0\0\0\0\x04\0\0\0\0\0\0\x07example\x03com\0\0\x01\0\x01\
+\x07EXAMPLE\xC0\x14\0\x01\0\x01\x07example\x03COM\0\0\x01\0\x01\xC0\x1D\0\x01\0\x01"
+            .as_slice()
+    );
+    let wanted = [(12, 0), (20, 0), (29, 1), (43, 0), (51, 0)];
+    let wanted = wanted.map(|(at, pointers)| Place { at, pointers });
+    assert_equal!(&rt, places.as_slice(), wanted.as_slice());
+    Ok(())
+}
+
+#[test]
+fn a_full_table_compresses_less(rt: HostRuntime) -> Result<(), Fail> {
+    let names = [
+        "example.com.",
+        "www.example.com.",
+        "com.",
+        "www.example.com.",
+    ];
+    let (octets, places) = asked(Array::<512>::new(), FixedPlaces::<1>::new(), &names)?;
+    assert_equal!(
+        &rt,
+        octets.as_slice(),
+        b"\0\0\0\0\0\x04\0\0\0\0\0\0\x07example\x03com\0\0\x01\0\x01\
+\x03www\xC0\x0C\0\x01\0\x01\x03com\0\0\x01\0\x01\x03www\xC0\x0C\0\x01\0\x01"
+            .as_slice()
+    );
+    let wanted = [Place {
+        at: 12,
+        pointers: 0,
+    }];
+    assert_equal!(&rt, places.as_slice(), wanted.as_slice());
+    Ok(())
+}
+
+/// How many entries each section of a message has.
+fn counts_of<R: Octets + Copy>(octets: R) -> Result<(usize, usize, usize, usize), Malformed> {
+    let message = Message::parse(octets)?;
+    Ok((
+        message.questions().count(),
+        message.answers().count(),
+        message.authorities().count(),
+        message.additionals().count(),
+    ))
+}
+
+/// What a push answers.
+fn pushed(fits: bool) -> Result<(), AppendError> {
+    if fits { Ok(()) } else { SHORT }
+}
+
+/// A question and its answer are pushed to a message that has room for so many of both. A refused one leaves the
+/// message as it was, and it is read.
+fn has_room<B: OctetsBuilder + Truncate + AsOctetsMut>(
+    rt: &impl Abort,
+    octets: B,
+    entries: usize,
+) -> Result<(), Fail> {
+    let name = Name::from_text("example.com.")?;
+    let mut message = MessageBuilder::from_builder(octets, FixedPlaces::<8>::new())?;
+    message.set_header(header());
+    assert_equal!(rt, message.as_slice(), NOTHING);
+    let mut questions = message.question();
+    let question = questions.push_question(&name.parsed(), Rtype::A, Class::IN);
+    assert_equal!(rt, question, pushed(entries >= 1));
+    let wanted = if entries == 0 { NOTHING } else { ASKED };
+    assert_equal!(rt, questions.as_slice(), wanted);
+    let mut answers = questions.answer();
+    let ttl = Ttl::from_secs(300);
+    let answer = answers.push_opaque(&name.parsed(), Rtype::A, Class::IN, ttl, &[1, 2, 3, 4]);
+    assert_equal!(rt, answer, pushed(entries >= 2));
+    let wanted = if entries >= 2 { ANSWERED } else { wanted };
+    assert_equal!(rt, answers.as_slice(), wanted);
+    let counts = (entries.min(1), entries.saturating_sub(1), 0, 0);
+    assert_equal!(rt, counts_of(answers.as_slice()), Ok(counts));
+    Ok(())
+}
+
+#[test]
+fn what_passes_the_limit_is_refused(rt: HostRuntime) -> Result<(), Fail> {
+    let refused = MessageBuilder::from_builder(Array::<11>::new(), NoCompression).err();
+    assert_equal!(&rt, refused, SHORT.err());
+    has_room(&rt, Array::<12>::new(), 0)?;
+    has_room(&rt, Array::<28>::new(), 0)?;
+    has_room(&rt, Array::<29>::new(), 1)?;
+    has_room(&rt, Array::<44>::new(), 1)?;
+    has_room(&rt, Array::<45>::new(), 2)
+}
+
+/// Pushes an answer of a name that is given as text, of type A and with a TTL of zero.
+fn push_answer<B: OctetsBuilder + Truncate + AsOctetsMut, T: Places>(
+    answers: &mut AnswerBuilder<B, T>,
+    owner: &str,
+    rdata: &[u8],
+) -> Result<Result<(), AppendError>, Fail> {
+    let name = Name::from_text(owner)?;
+    let ttl = Ttl::from_secs(0);
+    Ok(answers.push_opaque(&name.parsed(), Rtype::A, Class::IN, ttl, rdata))
+}
+
+#[test]
+fn a_refused_record_leaves_no_place(rt: HostRuntime) -> Result<(), Fail> {
+    let message = MessageBuilder::from_builder(Array::<64>::new(), FixedPlaces::<8>::new())?;
+    let mut answers = message.question().answer();
+    push_answer(&mut answers, "a.b.", &[1, 2, 3, 4])??;
+    assert_equal!(&rt, push_answer(&mut answers, "c.d.", &[0; 30])?, SHORT);
+    push_answer(&mut answers, "c.d.", &[5, 6, 7, 8])??;
+    let (octets, places) = answers.authority().additional().finish();
+    assert_equal!(
+        &rt,
+        octets.as_slice(),
+        b"\0\0\0\0\0\0\0\x02\0\0\0\0\x01a\x01b\0\0\x01\0\x01\0\0\0\0\0\x04\x01\x02\x03\x04\
+\x01c\x01d\0\0\x01\0\x01\0\0\0\0\0\x04\x05\x06\x07\x08"
+            .as_slice()
+    );
+    let wanted = [12, 14, 31, 33].map(|at| Place { at, pointers: 0 });
+    assert_equal!(&rt, places.as_slice(), wanted.as_slice());
+    Ok(())
+}
+
+/// A question, an answer, an authority and an additional record, with names that end like the ones before them.
+fn in_each_section(alloc: Global) -> Result<Vec<u8>, Fail> {
+    let (name, end) = (Name::from_text("example.com.")?, Name::from_text("com.")?);
+    let mut questions = MessageBuilder::from_builder(
+        Vec::new(alloc),
+        FixedPlaces::<8>::new(),
+    )?.question();
+    questions.push_question(&name.parsed(), Rtype::ANY, Class::IN)?;
+    let mut answers = questions.answer();
+    let ttl = Ttl::from_secs(300);
+    answers.push_opaque(&name.parsed(), Rtype::A, Class::IN, ttl, &[1, 2, 3, 4])?;
+    let mut authorities = answers.authority();
+    let ttl = Ttl::from_secs(4_294_967_295);
+    authorities.push_opaque(&end.parsed(), Rtype::TXT, Class::CH, ttl, b"\x02hi")?;
+    let mut additionals = authorities.additional();
+    let (root, class) = (Name::from_text(".")?, Class::from_int(4096));
+    additionals.push_opaque(&root.parsed(), Rtype::OPT, class, Ttl::from_secs(0), b"")?;
+    let (octets, _) = additionals.finish();
+    Ok(octets)
+}
+
+/// The record is of a name with these labels, and has this type, class, TTL and data.
+fn is_record<R: Octets + Copy>(
+    rt: &impl Abort,
+    entry: &Record<R>,
+    labels: &[&[u8]],
+    fields: (Rtype, Class, u32),
+    rdata: &[u8],
+) {
+    assert_equal!(rt, entry.owner().label_count(), labels.len());
+    for (label, other) in entry.owner().labels().zip(labels) {
+        assert_equal!(rt, label.as_slice(), *other);
+    }
+    let found = (entry.rtype(), entry.class(), entry.ttl().as_secs());
+    assert_equal!(rt, found, fields);
+    assert_equal!(rt, entry.rdata().peek_all(), rdata);
+}
+
+/// These are the entries of the message.
+fn are_read<R: Octets + Copy>(rt: &impl Abort, octets: R) -> Result<(), Malformed> {
+    let message = Message::parse(octets)?;
+    for entry in message.questions() {
+        assert_equal!(rt, entry.qname.label_count(), 2);
+        assert_equal!(rt, (entry.qtype, entry.qclass), (Rtype::ANY, Class::IN));
+    }
+    for entry in message.answers() {
+        let (name, fields) = ([b"example".as_slice(), b"com"], (Rtype::A, Class::IN, 300));
+        is_record(rt, &entry, &name, fields, &[1, 2, 3, 4]);
+    }
+    for entry in message.authorities() {
+        let fields = (Rtype::TXT, Class::CH, 4_294_967_295);
+        is_record(rt, &entry, &[b"com"], fields, b"\x02hi");
+    }
+    for entry in message.additionals() {
+        let fields = (Rtype::OPT, Class::from_int(4096), 0);
+        is_record(rt, &entry, &[], fields, b"");
+    }
+    Ok(())
+}
+
+#[test]
+fn entries_of_each_section_are_read(rt: HostRuntime) -> Result<(), Fail> {
+    let octets = in_each_section(rt.alloc())?;
+    assert_equal!(
+        &rt,
+        octets.as_slice(),
+        b"\0\0\0\0\0\x01\0\x01\0\x01\0\x01\x07example\x03com\0\0\xFF\0\x01\
+\xC0\x0C\0\x01\0\x01\0\0\x01\x2C\0\x04\x01\x02\x03\x04\
+\xC0\x14\0\x10\0\x03\xFF\xFF\xFF\xFF\0\x03\x02hi\0\0\x29\x10\0\0\0\0\0\0\0"
+            .as_slice()
+    );
+    assert_equal!(&rt, counts_of(octets.as_slice()), Ok((1, 1, 1, 1)));
+    Ok(are_read(&rt, octets.as_slice())?)
+}
+
+#[test]
+fn each_section_has_its_count(rt: HostRuntime) -> Result<(), Fail> {
+    let root = Name::from_text(".")?;
+    let (rtype, class, ttl) = (Rtype::NS, Class::IN, Ttl::from_secs(1));
+    let message = MessageBuilder::from_builder(Array::<128>::new(), NoCompression)?;
+    let mut questions = message.question();
+    questions.push_question(&root.parsed(), rtype, class)?;
+    let mut answers = questions.answer();
+    for _ in 0..2 {
+        answers.push_opaque(&root.parsed(), rtype, class, ttl, b"\0")?;
+    }
+    let mut authorities = answers.authority();
+    for _ in 0..3 {
+        authorities.push_opaque(&root.parsed(), rtype, class, ttl, b"\0")?;
+    }
+    let mut additionals = authorities.additional();
+    for _ in 0..4 {
+        additionals.push_opaque(&root.parsed(), rtype, class, ttl, b"\0")?;
+    }
+    let (octets, NoCompression) = additionals.finish();
+    let wanted = b"\0\0\0\0\0\x01\0\x02\0\x03\0\x04".as_slice();
+    assert_equal!(&rt, octets.as_slice().get(..12), Some(wanted));
+    assert_equal!(&rt, counts_of(octets.as_slice()), Ok((1, 2, 3, 4)));
+    Ok(())
+}
+
+/// The header of an answer was sent with this id, and there are no entries.
+fn is_sent(rt: &impl Abort, octets: &[u8], found: Header, id: u8) {
+    let wanted = [0, id, 0x85, 0x80, 0, 0, 0, 0, 0, 0, 0, 0];
+    assert_equal!(rt, octets, wanted.as_slice());
+    assert_equal!(rt, (found.id, found.flags), (u16::from(id), header().flags));
+    let counts = (found.qdcount, found.ancount, found.nscount, found.arcount);
+    assert_equal!(rt, counts, (0, 0, 0, 0));
+}
+
+#[test]
+fn each_builder_sets_the_header(rt: HostRuntime) -> Result<(), Fail> {
+    let sent = |id: u16| Header { id, ..header() };
+    let mut message = MessageBuilder::from_builder(Array::<12>::new(), NoCompression)?;
+    assert_equal!(&rt, message.as_slice(), [0u8; 12].as_slice());
+    message.set_header(sent(1));
+    is_sent(&rt, message.as_slice(), message.header(), 1);
+    let mut questions = message.question();
+    questions.set_header(sent(2));
+    is_sent(&rt, questions.as_slice(), questions.header(), 2);
+    let mut answers = questions.answer();
+    answers.set_header(sent(3));
+    is_sent(&rt, answers.as_slice(), answers.header(), 3);
+    let mut authorities = answers.authority();
+    authorities.set_header(sent(4));
+    is_sent(&rt, authorities.as_slice(), authorities.header(), 4);
+    let mut additionals = authorities.additional();
+    additionals.set_header(sent(5));
+    is_sent(&rt, additionals.as_slice(), additionals.header(), 5);
+    Ok(())
+}
+
+#[test]
+fn each_flag_is_written(rt: HostRuntime) -> Result<(), Fail> {
+    let none = Flags::default();
+    let mut message = MessageBuilder::from_builder(Array::<12>::new(), NoCompression)?;
+    for (flags, wanted) in [
+        (none, [0, 0]),
+        (Flags { qr: true, ..none }, [0x80, 0]),
+        (Flags { aa: true, ..none }, [0x04, 0]),
+        (Flags { tc: true, ..none }, [0x02, 0]),
+        (Flags { rd: true, ..none }, [0x01, 0]),
+        (Flags { ra: true, ..none }, [0, 0x80]),
+        (Flags { z: true, ..none }, [0, 0x40]),
+        (Flags { ad: true, ..none }, [0, 0x20]),
+        (Flags { cd: true, ..none }, [0, 0x10]),
+    ] {
+        message.set_header(Header { flags, ..header() });
+        assert_equal!(&rt, message.as_slice().get(2..4), Some(wanted.as_slice()));
+    }
+    Ok(())
+}
+
+#[test]
+fn codes_of_a_header_are_written(rt: HostRuntime) -> Result<(), Fail> {
+    let mut message = MessageBuilder::from_builder(Array::<12>::new(), NoCompression)?;
+    for (opcode, rcode, wanted) in [
+        (Opcode::UPDATE, Rcode::NOERROR, [0x28, 0]),
+        (Opcode::STATUS, Rcode::NXDOMAIN, [0x10, 0x03]),
+        (Opcode::from_int(15), Rcode::from_int(15), [0x78, 0x0F]),
+    ] {
+        message.set_header(Header {
+            flags: Flags::default(),
+            opcode,
+            rcode,
+            ..header()
+        });
+        assert_equal!(&rt, message.as_slice().get(2..4), Some(wanted.as_slice()));
+    }
+    Ok(())
+}
+
+#[test]
+fn a_written_message_has_65535_octets_at_most(rt: HostRuntime) -> Result<(), Fail> {
+    let mut rdata = Vec::new(rt.alloc());
+    rdata.resize(65536, 0xAA)?;
+    let message = MessageBuilder::from_builder(Vec::new(rt.alloc()), NoCompression)?;
+    let mut answers = message.question().answer();
+    assert_equal!(&rt, push_answer(&mut answers, ".", &rdata)?, SHORT);
+    rdata.truncate(65513);
+    assert_equal!(&rt, push_answer(&mut answers, ".", &rdata)?, SHORT);
+    assert_equal!(&rt, answers.as_slice(), [0u8; 12].as_slice());
+    rdata.truncate(65512);
+    assert_equal!(&rt, push_answer(&mut answers, ".", &rdata)?, Ok(()));
+    assert_equal!(&rt, answers.as_slice().len(), 65535);
+    assert_equal!(&rt, push_answer(&mut answers, ".", b"")?, SHORT);
+    assert_equal!(&rt, answers.as_slice().len(), 65535);
+    assert_equal!(&rt, counts_of(answers.as_slice()), Ok((0, 1, 0, 0)));
+    Ok(())
+}
+
+/// What is written behind a record of the root with so many octets of data: two records of one name.
+fn written_behind(alloc: Global, len: usize) -> Result<Vec<u8>, Fail> {
+    let mut rdata = Vec::new(alloc);
+    rdata.resize(len, 0)?;
+    let message = MessageBuilder::from_builder(Vec::new(alloc), Vec::new(alloc))?;
+    let mut answers = message.question().answer();
+    push_answer(&mut answers, ".", &rdata)??;
+    push_answer(&mut answers, "com.", b"")??;
+    push_answer(&mut answers, "com.", b"")??;
+    let behind = answers.as_slice().get(len.saturating_add(23)..);
+    Ok(behind.ok_or("too short")?.to_vec(alloc)?)
+}
+
+#[test]
+fn a_pointer_says_a_place_up_to_16383(rt: HostRuntime) -> Result<(), Fail> {
+    let plain = b"\x03com\0\0\x01\0\x01\0\0\0\0\0\0\x03com\0\0\x01\0\x01\0\0\0\0\0\0".as_slice();
+    let pointed = b"\x03com\0\0\x01\0\x01\0\0\0\0\0\0\xFF\xFF\0\x01\0\x01\0\0\0\0\0\0".as_slice();
+    for (len, wanted) in [(16360, pointed), (16361, plain), (16400, plain)] {
+        let octets = written_behind(rt.alloc(), len)?;
+        assert_equal!(&rt, octets.as_slice(), wanted);
+    }
+    Ok(())
+}
+
+/// An empty table keeps the places that are added up to so many of them, and fewer once it is cut off.
+fn keeps<T: Places>(rt: &impl Abort, mut table: T, most: usize) -> Result<(), AllocError> {
+    let places = [(12, 0), (14, 1), (16383, 126)].map(|(at, pointers)| Place { at, pointers });
+    assert_equal!(rt, table.as_slice(), [].as_slice());
+    for (count, place) in places.iter().enumerate() {
+        table.add(*place)?;
+        let held = count.saturating_add(1).min(most);
+        assert_equal!(rt, Some(table.as_slice()), places.get(..held));
+    }
+    table.truncate(4);
+    assert_equal!(rt, Some(table.as_slice()), places.get(..most.min(3)));
+    table.truncate(1);
+    assert_equal!(rt, Some(table.as_slice()), places.get(..most.min(1)));
+    table.truncate(0);
+    table.add(places[1])?;
+    let wanted = places.get(1..most.min(1).saturating_add(1));
+    assert_equal!(rt, Some(table.as_slice()), wanted);
+    Ok(())
+}
+
+#[test]
+fn tables_keep_places(rt: HostRuntime) -> Result<(), Fail> {
+    keeps(&rt, NoCompression, 0)?;
+    keeps(&rt, FixedPlaces::<0>::new(), 0)?;
+    keeps(&rt, FixedPlaces::<1>::default(), 1)?;
+    keeps(&rt, FixedPlaces::<2>::new(), 2)?;
+    keeps(&rt, FixedPlaces::<4>::new(), 3)?;
+    keeps(&rt, Vec::new(rt.alloc()), 3)?;
+    Ok(())
+}
+
+#[test]
+fn a_table_shows_its_places(rt: HostRuntime) -> Result<(), Fail> {
+    let mut table = FixedPlaces::<4>::new();
+    table.add(Place {
+        at: 12,
+        pointers: 1,
+    })?;
+    assert_equal!(
+        &rt,
+        format!(in rt.alloc(); "{table:?}")?.as_str(),
+        "FixedPlaces([Place { at: 12, pointers: 1 }])"
+    );
+    Ok(())
+}

@@ -1,0 +1,146 @@
+//! Messages that are written. A push that is refused leaves the message and the table as they were, so that the same
+//! push behind it writes what it would have written before.
+use bytes::BytesMut;
+use octseq::builder::AsOctetsMut;
+use octseq::{AppendError, Array, EmptyBuilder, OctetsBuilder, Truncate};
+use octseq_dns::{
+    AdditionalBuilder, Class, FixedPlaces, MessageBuilder, Name, Place, Places, QuestionBuilder,
+    Rtype, Ttl,
+};
+use smallvec::SmallVec;
+use std::process::Abort;
+use std::test::Fail;
+
+/// Questions for `F.ISI.ARPA.`, `a.b.c.d.e.f.g.F.ISI.ARPA.` and `FOO.e.f.g.F.ISI.ARPA.`.
+const ASKED: &[u8] = b"\0\0\0\0\0\x03\0\0\0\0\0\0\x01F\x03ISI\x04ARPA\0\0\x01\0\x01\
+\x01a\x01b\x01c\x01d\x01e\x01f\x01g\xC0\x0C\0\x01\0\x01\x03FOO\xC0\x24\0\x01\0\x01";
+
+/// Pushes a question to a message of these octets. If it is refused, it is pushed again.
+fn ask<B: OctetsBuilder + Truncate + AsOctetsMut, T: Places>(
+    rt: &impl Abort,
+    questions: &mut QuestionBuilder<B, T>,
+    text: &str,
+    len: usize,
+) -> Result<Result<(), AppendError>, Fail> {
+    let name = Name::from_text(text)?;
+    let header = questions.header();
+    let pushed = questions.push_question(&name.parsed(), Rtype::A, Class::IN);
+    if pushed.is_err() {
+        assert_equal!(rt, pushed, Err(AppendError::Memory));
+        assert_equal!(rt, questions.as_slice().get(12..), ASKED.get(12..len));
+        assert_equal!(rt, questions.header(), header);
+        questions.push_question(&name.parsed(), Rtype::A, Class::IN)?;
+    }
+    Ok(pushed)
+}
+
+/// Writes the questions, one of which at most is refused at first.
+fn asks<B: OctetsBuilder + Truncate + AsOctetsMut, T: Places>(
+    rt: &impl Abort,
+    octets: B,
+    places: T,
+) -> Result<(), Fail> {
+    let mut questions = MessageBuilder::from_builder(octets, places)?.question();
+    let first = ask(rt, &mut questions, "F.ISI.ARPA.", 12)?;
+    let second = ask(rt, &mut questions, "a.b.c.d.e.f.g.F.ISI.ARPA.", 28)?;
+    let third = ask(rt, &mut questions, "FOO.e.f.g.F.ISI.ARPA.", 48)?;
+    let (octets, places) = questions.answer().authority().additional().finish();
+    assert_equal!(rt, octets.as_ref(), ASKED);
+    let wanted = [
+        (12, 0),
+        (14, 0),
+        (18, 0),
+        (28, 1),
+        (30, 1),
+        (32, 1),
+        (34, 1),
+        (36, 1),
+        (38, 1),
+        (40, 1),
+        (48, 2),
+    ];
+    let wanted = wanted.map(|(at, pointers)| Place { at, pointers });
+    assert_equal!(rt, places.as_slice(), wanted.as_slice());
+    Ok(first.and(second).and(third)?)
+}
+
+#[test]
+fn questions_are_pushed_or_not_at_all(rt: HostRuntime) -> Result<(), Fail> {
+    let alloc = rt.alloc();
+    asks(&rt, Vec::new(alloc), Vec::new(alloc))?;
+    asks(&rt, Vec::new(alloc), FixedPlaces::<11>::new())?;
+    asks(&rt, Array::<58>::new(), Vec::new(alloc))
+}
+
+#[test]
+fn questions_are_pushed_to_other_buffers(rt: HostRuntime) -> Result<(), Fail> {
+    let alloc = rt.alloc();
+    asks(&rt, BytesMut::empty(alloc)?, Vec::new(alloc))?;
+    asks(&rt, SmallVec::<u8, 16>::empty(alloc)?, Vec::new(alloc))
+}
+
+/// Additional records of `a.b.c.d.e.f.` and `g.b.c.d.e.f.`.
+const ADDED: &[u8] = b"\0\0\0\0\0\0\0\0\0\0\0\x02\
+\x01a\x01b\x01c\x01d\x01e\x01f\0\0\x10\0\x01\0\0\0\x3C\0\x0B\x0A0123456789\
+\x01g\xC0\x0E\0\x10\0\x01\0\0\0\x3C\0\x15\x140123456789abcdefghij";
+
+/// Pushes a record to a message of these octets. If it is refused, it is pushed again.
+fn add<B: OctetsBuilder + Truncate + AsOctetsMut, T: Places>(
+    rt: &impl Abort,
+    additionals: &mut AdditionalBuilder<B, T>,
+    owner: &str,
+    rdata: &[u8],
+    len: usize,
+) -> Result<Result<(), AppendError>, Fail> {
+    let (name, ttl) = (Name::from_text(owner)?, Ttl::from_secs(60));
+    let header = additionals.header();
+    let pushed = additionals.push_opaque(&name.parsed(), Rtype::TXT, Class::IN, ttl, rdata);
+    if pushed.is_err() {
+        assert_equal!(rt, pushed, Err(AppendError::Memory));
+        assert_equal!(rt, additionals.as_slice().get(12..), ADDED.get(12..len));
+        assert_equal!(rt, additionals.header(), header);
+        additionals.push_opaque(&name.parsed(), Rtype::TXT, Class::IN, ttl, rdata)?;
+    }
+    Ok(pushed)
+}
+
+#[test]
+fn records_are_pushed_or_not_at_all(rt: HostRuntime) -> Result<(), Fail> {
+    let alloc = rt.alloc();
+    let message = MessageBuilder::from_builder(Vec::new(alloc), Vec::<Place>::new(alloc))?;
+    let mut additionals = message.question().answer().authority().additional();
+    let first = add(&rt, &mut additionals, "a.b.c.d.e.f.", b"\x0A0123456789", 12)?;
+    let rdata = b"\x140123456789abcdefghij";
+    let second = add(&rt, &mut additionals, "g.b.c.d.e.f.", rdata, 46)?;
+    let (octets, places) = additionals.finish();
+    assert_equal!(&rt, octets.as_slice(), ADDED);
+    let wanted = [
+        (12, 0),
+        (14, 0),
+        (16, 0),
+        (18, 0),
+        (20, 0),
+        (22, 0),
+        (46, 1),
+    ];
+    let wanted = wanted.map(|(at, pointers)| Place { at, pointers });
+    assert_equal!(&rt, places.as_slice(), wanted.as_slice());
+    Ok(first.and(second)?)
+}
+
+#[test]
+fn a_place_is_added_or_the_table_stays(rt: HostRuntime) -> Result<(), Fail> {
+    let mut table = Vec::new(rt.alloc());
+    let places = [12, 14, 16, 18, 20, 22, 24, 26, 28].map(|at| Place { at, pointers: 3 });
+    for (count, place) in places.iter().enumerate() {
+        let added = Places::add(&mut table, *place);
+        let held = if added.is_ok() {
+            count.saturating_add(1)
+        } else {
+            count
+        };
+        assert_equal!(&rt, Some(table.as_slice()), places.get(..held));
+        added?;
+    }
+    Ok(())
+}
