@@ -11,7 +11,7 @@ const CHANGES: [u8; 6] = [0x00, 0x3F, 0x40, 0xBF, 0xC0, 0xFF];
 /// What octets were read as: how often, how many of them were malformed, and the digest FNV-1a of 64 bits of all that
 /// they showed as, one behind another.
 #[derive(Drop)]
-pub struct Shown {
+pub(crate) struct Shown {
     count: u64,
     malformed: u64,
     digest: u64,
@@ -62,7 +62,10 @@ impl Shown {
 }
 
 /// Reads each front of a message but the whole.
-pub fn read_cuts(text: &mut StrBuilder<Vec<u8>>, message: &[u8]) -> Result<Shown, DisplayError> {
+pub(crate) fn read_cuts(
+    text: &mut StrBuilder<Vec<u8>>,
+    message: &[u8],
+) -> Result<Shown, DisplayError> {
     let mut shown = Shown::new();
     for len in 0..message.len() {
         shown.read(text, &message[..len])?;
@@ -71,7 +74,7 @@ pub fn read_cuts(text: &mut StrBuilder<Vec<u8>>, message: &[u8]) -> Result<Shown
 }
 
 /// Reads a message with each octet changed in turn to each of `CHANGES`.
-pub fn read_changes(
+pub(crate) fn read_changes(
     text: &mut StrBuilder<Vec<u8>>,
     message: &mut [u8],
 ) -> Result<Shown, DisplayError> {

@@ -67,7 +67,7 @@ pieces-preserved g c =
     let of = at_of start w u (w.position + 2) so_far.of has.behind in
     let ends = ap (λ w. w.end) of in
     let kept : c.unwrap_or.result ≡ unwrap_or c.pieces.behind u.position =
-        c.unwrap_or.ensures ∙ ap (unwrap_or c.pieces.behind) c.pos.ensures.position in
+    c.unwrap_or.ensures ∙ ap (unwrap_or c.pieces.behind) c.pos.ensures.position in
     let read = with_pointer start c.pieces.start w u len c.pieces.pointers
     (kept_at start c.pieces.behind) to so_far.read has in
     record {
@@ -110,7 +110,7 @@ returns-clause-name g c =
     let of = at_of w (window c.pieces.ahead) u ((window c.pieces.ahead).position + 1) so_far.of has.behind in
     let moved = rw c.infallible-2.ensures at c.seek-2.ensures.ok in
     let kept : c.unwrap_or-2.result ≡ unwrap_or c.pieces.behind u.position =
-        c.unwrap_or-2.ensures ∙ ap (unwrap_or c.pieces.behind) c.pos-2.ensures.position in
+    c.unwrap_or-2.ensures ∙ ap (unwrap_or c.pieces.behind) c.pos-2.ensures.position in
     subst (λ end. IsName w c.result-1.given.0.0 end)
     (kept_end w u c.pieces.behind of ∙ ap (λ place. at place w) (sym kept) ∙ sym moved)
     (subst (λ labels. IsName w labels end) (named_as w end so_far.read.labels c.result-1.given.0 whole) whole)
