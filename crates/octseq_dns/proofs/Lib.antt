@@ -1,6 +1,7 @@
 pub mod Building
 pub mod Encoded
 pub mod HeaderOctets
+pub mod Made
 pub mod Pushes
 pub mod Pushing
 pub mod ReadBack

@@ -1,7 +1,8 @@
 -- The octets of a record that is pushed.
-use Rattle.std.specs.Prelude.{◌≡◌, ℕ, ◌≤◌, ◌⊎◌, Option, List, [], ◌++◌, length, take}
+use Rattle.std.specs.Prelude.{◌≡◌, ℕ, ◌+◌, ◌≤◌, ◌⊎◌, Option, List, [], ◌++◌, length, take}
 use Rattle.std.specs.List.{All, flat_map}
 use Rattle.octseq.specs.Integer.{octets_be}
+use Rattle.octseq.specs.Limit.{IsPast}
 use Rattle.octseq.specs.Part.{part_of}
 use Rattle.octseq_dns_name.specs.Wire.{wire}
 use Rattle.octseq_dns.specs.Encoded.{IsEncoded, Encodes}
@@ -55,3 +56,19 @@ abbrev pub BeginsRecord : Option ℕ → List ℕ → List Place → List (List 
 BeginsRecord most octets places labels owner written pointers new after =
     Encodes octets places labels owner written pointers × (new ≡ octets ++ owner)
     × (after ≡ kept most (places ++ places_of (length octets) (take written labels) pointers))
+
+-- octets of data are appended behind their length, and the rest of what stands before them
+abbrev pub AppendsMade : List ℕ → List Place → ℕ → ℕ → ℕ → Matter → List ℕ → Type 0
+AppendsMade old places rtype class ttl said new = (made : List ℕ) × IsMade old places said made
+    × (new ≡ old ++ behind_owner rtype class ttl made)
+
+-- and would pass the limit
+abbrev pub PassesMade : Option ℕ → List ℕ → List Place → Matter → Type 0
+PassesMade limit old places said = (made : List ℕ) × IsMade old places said made
+    × IsPast limit (length old + (10 + length made))
+
+-- what data says is neither text nor opaque
+abbrev pub IsBrief : Matter → Type 0
+IsBrief (Matter.txt strings) = ⊥
+IsBrief (Matter.opaque octets) = ⊥
+IsBrief _ = Unit {0}

@@ -19,6 +19,7 @@ use std::marker::Model;
 
 mod draft;
 mod header;
+mod made;
 mod question;
 mod questions;
 mod record;

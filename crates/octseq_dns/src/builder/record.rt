@@ -3,20 +3,22 @@ ghost use Rattle.std.specs.Prelude.{◌≡◌, ◌+◌, ◌<◌, ◌≤◌, ◌+
 ghost use Rattle.octseq.specs.Integer.{octets_be};
 ghost use Rattle.octseq.specs.Limit.{IsPast, IsWithin};
 ghost use Rattle.octseq.specs.Refusal.{IsShort, IsMemory, append_error};
-ghost use Rattle.octseq_dns.specs.Told.{Matter, told_of};
+ghost use Rattle.octseq_dns.specs.Told.{Matter, matter, told_of};
+ghost use Rattle.octseq_dns_message.specs.Typed.{form_of};
 ghost use Rattle.octseq_dns_name.specs.Name.{wire_length};
 ghost use Rattle.octseq_dns_name.specs.Read.{labels_of};
 ghost use Rattle.octseq_dns_name.specs.Wire.{AreLabels};
 ghost use Rattle.octseq_dns.specs.Encoded.{IsEncoded};
 ghost use Rattle.octseq_dns.specs.Place.{AreGood};
 ghost use Rattle.octseq_dns.specs.Pushed.{AppendsEntry, PassesWith, message_limit};
-ghost use Rattle.octseq_dns.specs.RecordEntry.{BeginsRecord, IsRecordEntry, IsRecordLeast, behind_owner};
+ghost use Rattle.octseq_dns.specs.RecordEntry.{AppendsMade, BeginsRecord, IsBrief, IsRecordEntry, IsRecordLeast, PassesMade, behind_owner};
 
 use crate::builder::draft::append;
+use crate::builder::made::made_of;
 use crate::encode::{EncodedName, add_places, encode_name};
-use crate::place::Places;
+use crate::place::{Place, Places};
 use octseq::{AppendError, AsOctets, OctetsBuilder, ShortBuf, Truncate};
-use octseq_dns_message::{Class, Rtype, Ttl};
+use octseq_dns_message::{Class, Data, Rtype, Ttl};
 use octseq_dns_name::ParsedName;
 
 /// What a record has between its name and its data.
@@ -101,6 +103,35 @@ pub(super) fn append_data<B: OctetsBuilder>(
     };
     append(octets, &head_of(fields, len))?;
     append(octets, made)
+}
+
+/// Appends what stands behind the name of a record, with data that is neither text nor opaque.
+pub(super) fn append_made<B: OctetsBuilder, S: AsOctets + Copy>(
+    octets: &mut B,
+    places: &[Place],
+    fields: Fields,
+    told: &Data<S>,
+) -> Result<(), AppendError>
+    requires size { length (B.content octets.old) ≤ 65535 }
+    requires room { 12 ≤ length (B.content octets.old) }
+    requires good { ∥ AreGood (B.content octets.old) places.now ∥₁ }
+    requires brief { IsBrief (matter (form_of told.now)) }
+    ensures ok { OnOk result (∥ AppendsMade (B.content octets.old) places.now fields.rtype fields.class fields.ttl
+        (matter (form_of told.now)) (B.content octets.new) ∥₁) }
+    ensures front { take (length (B.content octets.old)) (B.content octets.new) ≡ B.content octets.old }
+    ensures size { length (B.content octets.new) ≤ 65535 }
+    ensures within { OnOk result (IsWithin (message_limit B.limit) (length (B.content octets.new))) }
+    ensures rtype { OnOk result (fields.rtype < 65536) }
+    ensures class { OnOk result (fields.class < 65536) }
+    ensures ttl { OnOk result (fields.ttl < 4294967296) }
+    ensures short { IsShort append_error result → ∥ PassesMade (message_limit B.limit) (B.content octets.old)
+        places.now (matter (form_of told.now)) ∥₁ }
+    ensures memory { IsMemory append_error result → B.asks ≡ true }
+    ensures borrows { B.borrows octets.new ≡ B.borrows octets.old }
+{
+    let made = made_of(octets.as_ref(), places, told);
+    append_data(octets, fields, made.as_slice())?;
+    Ok(())
 }
 
 /// Appends a record of opaque data, and adds the places of its name to the table. Where it is refused a front of both
