@@ -3,7 +3,7 @@ use Rattle.std.proofs.Common.{◌≡◌, ℕ, ◌+◌, ◌<◌, ◌≤◌, Optio
 use Rattle.std.proofs.Math.Logic.{∥∥₁_prop, ∥∥₁_elim}
 use Rattle.std.specs.Coded.{le_prop}
 use Rattle.std.proofs.lemmas.List.{length-append, append-nil}
-use Rattle.octseq.specs.Window.{Window, at, whole}
+use Rattle.octseq.specs.Window.{at, whole}
 use Rattle.octseq_dns_message.specs.declared.header.Header.{Header}
 use Rattle.octseq_dns_name.specs.Name.{wire_length}
 use Rattle.octseq_dns_name.specs.Wire.{AreLabels}
@@ -32,12 +32,13 @@ blank_written octets is = record {
   pushed = λ header more long. let w = at 12 (whole (header ++ more)) in (w, refl, (w, refl, (w, refl, refl)));
 }
 
+-- it is one in which nothing was pushed
 pub blank_built : (octets : List ℕ) (places : List Place) → octets ≡ header_octets blank_header → places ≡ [] → IsBuilt octets places blank_header NothingYet
 blank_built octets places is none =
     let empty : AreGood octets [] = λ k place less. absurd (omega (arith, less)) in (
-  ∣ ([], [], [], [], (refl, refl, refl, refl), blank_written octets is) ∣₁,
-  ∣ subst (AreGood octets) (sym none) empty ∣₁,
-)
+      ∣ ([], [], [], [], (refl, refl, refl, refl), blank_written octets is) ∣₁,
+      ∣ subst (AreGood octets) (sym none) empty ∣₁,
+    )
 
 -- what holds of fewer lists
 pub built_on : (octets : List ℕ) (places : List Place) (h : Header) (Are Other : List Asked → List Told → List Told → List Told → Type 0)
@@ -45,7 +46,7 @@ pub built_on : (octets : List ℕ) (places : List Place) (h : Header) (Are Other
 built_on octets places h Are Other weaker built =
     (∥∥₁_elim built.0 ∥∥₁_prop (λ x. ∣ (x.0, x.1, x.2, x.3, weaker x.0 x.1 x.2 x.3 x.4, x.5) ∣₁), built.1)
 
--- a message has a header, and at most 65,535 octets
+-- a message has at least the octets of a header
 pub built_room : (octets : List ℕ) (places : List Place) (h : Header) (Are : List Asked → List Told → List Told → List Told → Type 0) → IsBuilt octets places h Are → 12 ≤ length octets
 built_room octets places h Are built = ∥∥₁_elim built.0 le_prop (λ x.
     let size = ap length x.5.octets_are in
@@ -53,6 +54,7 @@ built_room octets places h Are built = ∥∥₁_elim built.0 le_prop (λ x.
     let first = header_length h in
     omega (arith, size, both, first))
 
+-- at most so many
 pub built_size : (octets : List ℕ) (places : List Place) (h : Header) (Are : List Asked → List Told → List Told → List Told → Type 0) → IsBuilt octets places h Are → length octets ≤ 65535
 built_size octets places h Are built = ∥∥₁_elim built.0 le_prop (λ x. x.5.size)
 
@@ -68,21 +70,23 @@ pub record AsksOnce (old between new : List ℕ) (h k : Header) (held : List Pla
   pub content : new ≡ header_octets k ++ drop 12 between
   pub size : length new ≤ 65535
 
+-- the lists of such a message have one question more
 pub asks_once : (old between new : List ℕ) (h k : Header) (held : List Place) (one : Asked) (asked : List Asked) → AsksOnce old between new h k held one
     → IsWritten old h asked [] [] [] → IsWritten new k (asked ++ one ∷ []) [] [] []
 asks_once old between new h k held one asked asks so_far = ∥∥₁_elim so_far ∥∥₁_prop (λ so_far. ∥∥₁_elim asks.added ∥∥₁_prop (λ added.
     ∣ question_written old between new h k held asked one so_far added asks.each asks.short asks.qtype asks.qclass asks.counted asks.fits asks.content asks.size ∣₁))
 
+-- and it is one of questions alone, as before
 pub asked_built : (old between new : List ℕ) (h k : Header) (held after : List Place) (one : Asked) → AsksOnce old between new h k held one
     → IsBuilt old held h UpToQuestions → ∥ AreGood between after ∥₁ → IsBuilt new after k UpToQuestions
 asked_built old between new h k held after one asks built good = (
   ∥∥₁_elim built.0 ∥∥₁_prop (λ x.
-  let A : List Told → Type 0 = λ b. Writes old h x.0 b x.2 x.3 in
-  let B : List Told → Type 0 = λ c. Writes old h x.0 [] c x.3 in
-  let C : List Told → Type 0 = λ d. Writes old h x.0 [] [] d in
-  let so_far : Writes old h x.0 [] [] [] = subst C x.4.2 (subst B x.4.1 (subst A x.4.0 x.5)) in
-  ∥∥₁_elim (asks_once old between new h k held one x.0 asks ∣ so_far ∣₁) ∥∥₁_prop (λ written.
-  ∣ (x.0 ++ one ∷ [], [], [], [], (refl, refl, refl), written) ∣₁)),
+      let A : List Told → Type 0 = λ b. Writes old h x.0 b x.2 x.3 in
+      let B : List Told → Type 0 = λ c. Writes old h x.0 [] c x.3 in
+      let C : List Told → Type 0 = λ d. Writes old h x.0 [] [] d in
+      let so_far : Writes old h x.0 [] [] [] = subst C x.4.2 (subst B x.4.1 (subst A x.4.0 x.5)) in
+      ∥∥₁_elim (asks_once old between new h k held one x.0 asks ∣ so_far ∣₁) ∥∥₁_prop (λ written.
+      ∣ (x.0 ++ one ∷ [], [], [], [], (refl, refl, refl), written) ∣₁)),
   ∥∥₁_elim good ∥∥₁_prop (λ good. ∣ subst (λ octets. AreGood octets after) (sym asks.content) (good_headed (header_octets k) between after (header_length k) good) ∣₁),
 )
 
@@ -93,32 +97,35 @@ module _ (most : Option ℕ) (old between new : List ℕ) (h k : Header) (held a
   good_behind : ∥ AreGood new after ∥₁
   good_behind = ∥∥₁_elim good ∥∥₁_prop (λ good. ∣ subst (λ octets. AreGood octets after) (sym tells.content) (good_headed (header_octets k) between after (header_length k) good) ∣₁)
 
+  -- a record more of the answers
   pub answer_built : k ≡ record h { ancount = h.ancount + 1 } → IsBuilt old held h UpToAnswers → IsBuilt new after k UpToAnswers
   answer_built counted built = (
     ∥∥₁_elim built.0 ∥∥₁_prop (λ x.
-    let B : List Told → Type 0 = λ c. Writes old h x.0 x.1 c x.3 in
-    let C : List Told → Type 0 = λ d. Writes old h x.0 x.1 [] d in
-    let so_far : Writes old h x.0 x.1 [] [] = subst C x.4.1 (subst B x.4.0 x.5) in
-    ∥∥₁_elim (answer_written most old between new h k held one made tells x.0 x.1 counted ∣ so_far ∣₁) ∥∥₁_prop (λ written.
-    ∣ (x.0, x.1 ++ one ∷ [], [], [], (refl, refl), written) ∣₁)),
+        let B : List Told → Type 0 = λ c. Writes old h x.0 x.1 c x.3 in
+        let C : List Told → Type 0 = λ d. Writes old h x.0 x.1 [] d in
+        let so_far : Writes old h x.0 x.1 [] [] = subst C x.4.1 (subst B x.4.0 x.5) in
+        ∥∥₁_elim (answer_written most old between new h k held one made tells x.0 x.1 counted ∣ so_far ∣₁) ∥∥₁_prop (λ written.
+        ∣ (x.0, x.1 ++ one ∷ [], [], [], (refl, refl), written) ∣₁)),
     good_behind,
   )
 
+  -- of the authorities
   pub authority_built : k ≡ record h { nscount = h.nscount + 1 } → IsBuilt old held h UpToAuthorities → IsBuilt new after k UpToAuthorities
   authority_built counted built = (
     ∥∥₁_elim built.0 ∥∥₁_prop (λ x.
-    let C : List Told → Type 0 = λ d. Writes old h x.0 x.1 x.2 d in
-    let so_far : Writes old h x.0 x.1 x.2 [] = subst C x.4 x.5 in
-    ∥∥₁_elim (authority_written most old between new h k held one made tells x.0 x.1 x.2 counted ∣ so_far ∣₁) ∥∥₁_prop (λ written.
-    ∣ (x.0, x.1, x.2 ++ one ∷ [], [], refl, written) ∣₁)),
+        let C : List Told → Type 0 = λ d. Writes old h x.0 x.1 x.2 d in
+        let so_far : Writes old h x.0 x.1 x.2 [] = subst C x.4 x.5 in
+        ∥∥₁_elim (authority_written most old between new h k held one made tells x.0 x.1 x.2 counted ∣ so_far ∣₁) ∥∥₁_prop (λ written.
+        ∣ (x.0, x.1, x.2 ++ one ∷ [], [], refl, written) ∣₁)),
     good_behind,
   )
 
+  -- or of the additional ones, where nothing stands behind them
   pub additional_built : k ≡ record h { arcount = h.arcount + 1 } → IsBuilt old held h UpToAdditionals → IsBuilt new after k UpToAdditionals
   additional_built counted built = (
     ∥∥₁_elim built.0 ∥∥₁_prop (λ x.
-    ∥∥₁_elim (additional_written most old between new h k held one made tells x.0 x.1 x.2 x.3 counted ∣ x.5 ∣₁) ∥∥₁_prop (λ written.
-    ∣ (x.0, x.1, x.2, x.3 ++ one ∷ [], tt, written) ∣₁)),
+        ∥∥₁_elim (additional_written most old between new h k held one made tells x.0 x.1 x.2 x.3 counted ∣ x.5 ∣₁) ∥∥₁_prop (λ written.
+        ∣ (x.0, x.1, x.2, x.3 ++ one ∷ [], tt, written) ∣₁)),
     good_behind,
   )
 
@@ -145,12 +152,14 @@ headed_written old new h k a b c d so_far counts fits content =
       pushed = so_far.pushed;
     }
 
+-- so of the lists of some message
 pub headed_lists : (old new : List ℕ) (h k : Header) (a : List Asked) (b c d : List Told) → IsWritten old h a b c d
     → (k.qdcount ≡ h.qdcount) × (k.ancount ≡ h.ancount) × (k.nscount ≡ h.nscount) × (k.arcount ≡ h.arcount) → HeaderFits k → new ≡ header_octets k ++ drop 12 old
     → IsWritten new k a b c d
 headed_lists old new h k a b c d so_far counts fits content =
     ∥∥₁_elim so_far ∥∥₁_prop (λ so_far. ∣ headed_written old new h k a b c d so_far counts fits content ∣₁)
 
+-- and of what a builder holds
 pub headed_built : (old new : List ℕ) (h k : Header) (places : List Place) (Are : List Asked → List Told → List Told → List Told → Type 0) → IsBuilt old places h Are
     → (k.qdcount ≡ h.qdcount) × (k.ancount ≡ h.ancount) × (k.nscount ≡ h.nscount) × (k.arcount ≡ h.arcount) → HeaderFits k → new ≡ header_octets k ++ drop 12 old
     → IsBuilt new places k Are

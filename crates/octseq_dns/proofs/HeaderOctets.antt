@@ -1,8 +1,8 @@
 -- The 12 octets of a header are read as that header.
-use Rattle.std.proofs.Common.{◌≡◌, ℕ, ◌+◌, ◌*◌, ◌<◌, ◌≤◌, ◌^◌, Bool, true, false, List, [], ◌∷◌, ◌++◌, length, drop, take, refl, sym, ap, ◌∙◌, subst, append_assoc, arith}
+use Rattle.std.proofs.Common.{◌≡◌, ℕ, ◌+◌, ◌<◌, ◌≤◌, ◌^◌, Bool, true, false, List, [], ◌∷◌, ◌++◌, length, refl, sym, ap, ◌∙◌, subst, append_assoc, arith}
 use Rattle.std.proofs.lemmas.List.{length-append, append-nil}
-use Rattle.octseq.specs.Integer.{be, octets_be}
-use Rattle.octseq.specs.Window.{Window, left, next, past, at, whole, behind}
+use Rattle.octseq.specs.Integer.{octets_be}
+use Rattle.octseq.specs.Window.{past, at, whole, behind}
 use Rattle.octseq.proofs.Behind.{be_comes_next}
 use Rattle.octseq.proofs.Written.{length_be}
 use Rattle.octseq_dns_message.specs.Flag.{flag}
@@ -11,6 +11,7 @@ use Rattle.octseq_dns_message.specs.Header.{IsHeader, flag_bits, header_numbers}
 use Rattle.octseq_dns_message.specs.declared.header.Header.{Header}
 use Rattle.octseq_dns.specs.Written.{HeaderFits, header_octets}
 
+-- a header has 12 octets
 pub header_length : (h : Header) → length (header_octets h) ≡ 12
 unfolding octets_be
 header_length h = refl
@@ -33,10 +34,12 @@ pub numbers_octets : List ℕ → List ℕ
 numbers_octets [] = []
 numbers_octets (n ∷ numbers) = octets_be 2 n ++ numbers_octets numbers
 
+-- each fits 2 octets
 pub AreSmall : List ℕ → Type 0
 AreSmall [] = Unit {0}
 AreSmall (n ∷ numbers) = (n < 65536) × AreSmall numbers
 
+-- they stand behind a front, one behind another
 pub numbers_stand : (front after numbers : List ℕ) → AreSmall numbers
     → Row (IsNumber 2) (behind front (numbers_octets numbers ++ after)) numbers (behind (front ++ numbers_octets numbers) after)
 unfolding numbers_octets AreSmall
@@ -67,6 +70,7 @@ bits_small h opcode rcode =
     let cd = flag_most h.flags.cd 16 in
     omega (arith, opcode, rcode, qr, aa, tc, rd, ra, z, ad, cd)
 
+-- so the octets of a header are read as that header
 pub header_stands : (h : Header) (after : List ℕ) → HeaderFits h → IsHeader (whole (header_octets h ++ after)) h (at 12 (whole (header_octets h ++ after)))
 unfolding numbers_octets AreSmall octets_be
 header_stands h after fits =

@@ -7,12 +7,12 @@ use Rattle.octseq.specs.Integer.{octets_be}
 use Rattle.octseq.specs.Limit.{IsPast, IsWithin}
 use Rattle.octseq.proofs.Limits.{past_more}
 use Rattle.octseq.proofs.Written.{length_be}
-use Rattle.octseq_dns.specs.Encoded.{IsEncoded, Encodes, written_of, pointers_of}
+use Rattle.octseq_dns.specs.Encoded.{IsEncoded, Encodes, written_of}
 use Rattle.octseq_dns.specs.Place.{IsGood, AreGood, places_of, kept}
 use Rattle.octseq_dns_name.specs.Name.{wire_length}
 use Rattle.octseq_dns_name.specs.Wire.{AreLabels}
 use Rattle.octseq_dns.proofs.Encoded.{labels_good, good_grows, good_kept}
-use Rattle.octseq_dns.specs.Pushed.{AppendsEntry, IsQuestionEntry, PassesWith, Pushes, message_limit}
+use Rattle.octseq_dns.specs.Pushed.{AddsPlaces, AppendsEntry, IsQuestionEntry, PassesWith, Pushes, message_limit}
 use Rattle.octseq_dns.specs.RecordEntry.{BeginsRecord, IsMade, IsRecordEntry, IsRecordLeast, behind_owner}
 use Rattle.octseq_dns.specs.Told.{Told, Matter}
 use Rattle.octseq.specs.Part.{part_of}
@@ -95,12 +95,12 @@ pushes_ok limit Asks IsEntry IsLeast count old between header new added headed w
   ) ∣₁);
   fits = (
     ∥∥₁_elim added (within_prop (message_limit limit) (length new)) (λ added.
-    let long = ap length content ∙ length-append (header_octets header) (drop 12 between) in
-    let first = header_length header in
-    let behind = length-drop 12 between in
-    let all = ap length added.2 ∙ length-append old added.0 in
-    let same : length between ≡ length new = omega (arith, long, first, behind, all, headed) in
-    subst (IsWithin (message_limit limit)) same within),
+        let long = ap length content ∙ length-append (header_octets header) (drop 12 between) in
+        let first = header_length header in
+        let behind = length-drop 12 between in
+        let all = ap length added.2 ∙ length-append old added.0 in
+        let same : length between ≡ length new = omega (arith, long, first, behind, all, headed) in
+        subst (IsWithin (message_limit limit)) same within),
     few,
   );
   err = tt;
@@ -131,8 +131,16 @@ behind_length told made =
     let class = octets_be 2 told.class in
     let ttl = octets_be 4 told.ttl in
     let kept = part_of 2 made in
-    omega (arith, length-append rtype (class ++ (ttl ++ kept)), length-append class (ttl ++ kept), length-append ttl kept, length_part 2 made, length_be 2 told.rtype, length_be 2 told.class,
-    length_be 4 told.ttl)
+    omega (
+      arith,
+      length-append rtype (class ++ (ttl ++ kept)),
+      length-append class (ttl ++ kept),
+      length-append ttl kept,
+      length_part 2 made,
+      length_be 2 told.rtype,
+      length_be 2 told.class,
+      length_be 4 told.ttl,
+    )
 
 -- a name is encoded against what was shown of a message and a table
 pub same_encoding : (shown old : List ℕ) (places held : List Place) (labels : List (List ℕ)) (name : List ℕ) (written pointers : ℕ) → shown ≡ old → places ≡ held
@@ -140,12 +148,14 @@ pub same_encoding : (shown old : List ℕ) (places held : List Place) (labels : 
 same_encoding shown old places held labels name written pointers same table is =
     subst (λ places. ∥ Encodes old places labels name written pointers ∥₁) table (subst (λ octets. ∥ Encodes octets places labels name written pointers ∥₁) same is)
 
+-- a name passes a limit that a front of it passes
 pub owner_past : (limit : Option ℕ) (shown old : List ℕ) (places held : List Place) (labels : List (List ℕ)) (name : List ℕ) (written pointers n : ℕ) → shown ≡ old → places ≡ held
     → ∥ Encodes shown places labels name written pointers ∥₁ → n ≤ length old + length name → IsPast limit n → ∥ PassesWith limit old (IsEncoded old held labels) ∥₁
 owner_past limit shown old places held labels name written pointers n same table is few past =
     ∥∥₁_elim (same_encoding shown old places held labels name written pointers same table is) ∥∥₁_prop (λ found.
     ∣ (name, found.0, past_more limit n (length old + length name) few past) ∣₁)
 
+-- a name was appended, and its places were added
 pub owner_begins : (most : Option ℕ) (shown old : List ℕ) (places held : List Place) (labels : List (List ℕ)) (name : List ℕ) (written pointers start : ℕ) (new : List ℕ) (after : List Place)
     → shown ≡ old → places ≡ held → start ≡ length old → ∥ Encodes shown places labels name written pointers ∥₁ → new ≡ old ++ name
     → after ≡ kept most (held ++ places_of start (take written labels) pointers) → ∥ BeginsRecord most old held labels name written pointers new after ∥₁
@@ -201,3 +211,17 @@ good_on old between new name more places named headed content good = ∥∥₁_e
     let long = ap length named ∙ length-append old name in
     let room : 12 ≤ length between = omega (arith, long, headed) in
     ∣ subst (λ octets. AreGood octets places) (sym content) (good_grows between more places room good) ∣₁)
+
+-- the places of a name that was appended were added
+pub places_added : (most : Option ℕ) (shown old : List ℕ) (places held : List Place) (labels : List (List ℕ)) (name : List ℕ) (written pointers start : ℕ) (after : List Place)
+    → shown ≡ old → places ≡ held → start ≡ length old → ∥ Encodes shown places labels name written pointers ∥₁
+    → after ≡ kept most (held ++ places_of start (take written labels) pointers) → ∥ AddsPlaces most old held labels after ∥₁
+places_added most shown old places held labels name written pointers start after same table begins is added =
+    ∥∥₁_elim (same_encoding shown old places held labels name written pointers same table is) ∥∥₁_prop (λ found.
+    ∣ (name, written, pointers, found, added ∙ ap (λ start. kept most (held ++ places_of start (take written labels) pointers)) begins) ∣₁)
+
+-- so those of a record's name
+pub owner_added : (most : Option ℕ) (old : List ℕ) (held : List Place) (labels : List (List ℕ)) (name : List ℕ) (written pointers : ℕ) (new : List ℕ) (after : List Place)
+    → ∥ BeginsRecord most old held labels name written pointers new after ∥₁ → ∥ AddsPlaces most old held labels after ∥₁
+owner_added most old held labels name written pointers new after begins =
+    ∥∥₁_elim begins ∥∥₁_prop (λ begins. ∣ (name, written, pointers, begins.0, begins.2) ∣₁)

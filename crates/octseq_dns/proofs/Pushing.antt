@@ -1,18 +1,17 @@
 -- What was pushed stands in the message, and stays there when more is pushed.
 use Rattle.std.proofs.Common.{◌≡◌, ℕ, ◌+◌, ◌-◌, ◌<◌, ◌≤◌, ◌^◌, List, [], ◌∷◌, ◌++◌, length, drop, take, refl, sym, ap, ◌∙◌, subst, append_assoc, arith}
-use Rattle.std.proofs.lemmas.List.{length-append, append-nil, length-drop}
+use Rattle.std.proofs.lemmas.List.{length-append, length-drop}
 use Rattle.std.proofs.Math.Seq.{drop-append_seam, take-append_seam}
 use Rattle.octseq.specs.Integer.{be, octets_be}
-use Rattle.octseq.specs.Window.{Window, left, next, past, at, whole}
+use Rattle.octseq.specs.Window.{Window, next, at, whole}
 use Rattle.octseq.proofs.Written.{length_be, value_be}
-use Rattle.octseq_dns_message.specs.Format.{IsNumber, Row, ◌then◌}
+use Rattle.octseq_dns_message.specs.Format.{IsNumber}
 use Rattle.octseq_dns_message.specs.declared.header.Header.{Header}
 use Rattle.octseq_dns_message.proofs.Formats.{row_more}
 use Rattle.octseq_dns_name.specs.Name.{IsName, wire_length}
 use Rattle.octseq_dns_name.specs.Wire.{AreLabels}
 use Rattle.octseq_dns.specs.Encoded.{IsEncoded}
 use Rattle.octseq_dns.specs.Pushed.{AppendsEntry, IsQuestionEntry}
-use Rattle.octseq_dns.specs.Told.{Told, IsTold}
 use Rattle.octseq_dns.specs.Written.{Asked, IsAsked, ArePushed, StandsIn, header_octets, HeaderFits, Writes}
 use Rattle.octseq_dns.specs.declared.place.Place.{Place}
 use Rattle.octseq_dns.proofs.Encoded.{encoded_stands}
@@ -21,6 +20,7 @@ use Rattle.octseq_dns.proofs.Standing.{drop_on}
 
 -- ---- places in lists
 
+-- what stands behind a front
 pub drop_front : (front after : List ℕ) (n : ℕ) → length front ≡ n → drop n (front ++ after) ≡ after
 drop_front front after n long = ap (λ n. drop n (front ++ after)) (sym long) ∙ drop-append_seam front after
 
@@ -43,6 +43,7 @@ number_at all after p k n is some fits =
 
 -- ---- growth
 
+-- what stands in a message stands there too when more is appended
 pub stands_on : {A : Type 0} (Is : Window → A → Window → Type 0) (body added : List ℕ) (from to : ℕ) (one : A) → StandsIn Is body from one to → StandsIn Is (body ++ added) from one to
 stands_on Is body added from to one stands header more long =
     subst (λ behind. Is (at from (whole (header ++ behind))) one (at to (whole (header ++ behind)))) (sym (append_assoc body added more)) (stands header (added ++ more) long)
@@ -58,10 +59,10 @@ asked_more w v x asked one are is =
 -- a name, a type and a class stand where a question was appended
 pub question_stands : (h : Header) (body name : List ℕ) (asked : Asked) → asked.qtype < 65536 → asked.qclass < 65536
     → ((header more : List ℕ) → length header ≡ 12
-        → IsName (at (length (header_octets h ++ body)) (whole (header ++ drop 12 (header_octets h ++ body ++ name ++ more)))) asked.labels
-            (at (length (header_octets h ++ body) + length name) (whole (header ++ drop 12 (header_octets h ++ body ++ name ++ more)))))
+    → IsName (at (length (header_octets h ++ body)) (whole (header ++ drop 12 (header_octets h ++ body ++ name ++ more)))) asked.labels
+    (at (length (header_octets h ++ body) + length name) (whole (header ++ drop 12 (header_octets h ++ body ++ name ++ more)))))
     → StandsIn IsAsked (body ++ (name ++ (octets_be 2 asked.qtype ++ octets_be 2 asked.qclass))) (12 + length body) asked
-        (12 + length (body ++ (name ++ (octets_be 2 asked.qtype ++ octets_be 2 asked.qclass))))
+    (12 + length (body ++ (name ++ (octets_be 2 asked.qtype ++ octets_be 2 asked.qclass))))
 question_stands h body name asked typed classed named header more long =
     let qtype = octets_be 2 asked.qtype in
     let qclass = octets_be 2 asked.qclass in

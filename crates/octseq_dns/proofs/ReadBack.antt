@@ -1,10 +1,10 @@
 -- A message that was written is a message, of what was pushed.
-use Rattle.std.proofs.Common.{◌≡◌, ℕ, suc, ◌+◌, ◌≤◌, List, [], ◌∷◌, ◌++◌, length, map, refl, sym, ap, ◌∙◌, subst, arith}
+use Rattle.std.proofs.Common.{◌≡◌, ℕ, suc, ◌+◌, List, [], ◌∷◌, ◌++◌, length, map, refl, sym, ap, ◌∙◌, subst, arith}
 use Rattle.std.proofs.Math.Logic.{∥∥₁_prop, ∥∥₁_elim}
 use Rattle.std.proofs.lemmas.List.{length-append, append-nil}
-use Rattle.octseq.specs.Window.{Window, left, at, whole}
+use Rattle.octseq.specs.Window.{Window, at, whole}
 use Rattle.octseq_dns_message.specs.Entry.{Question, Record, IsQuestion, IsRecord}
-use Rattle.octseq_dns_message.specs.Format.{Row, Many, ◌then◌}
+use Rattle.octseq_dns_message.specs.Format.{Row}
 use Rattle.octseq_dns_message.specs.declared.header.Header.{Header}
 use Rattle.octseq_dns.specs.ReadBack.{bare, IsAsTold, AreAsTold, ReadsBack}
 use Rattle.octseq_dns.specs.Told.{Told, IsTold}
@@ -29,6 +29,7 @@ told_row w v (one ∷ told) are =
     let is : IsAsTold r one = record { labels = refl; rtype = refl; class = refl; ttl = refl; says = here.1.1 } in
     (r ∷ more.0, (are.0, here.1.0, more.1), (is, more.2), ap suc more.3)
 
+-- the octets are a message of those rows
 pub reads_back : (octets : List ℕ) (h : Header) (asked : List Asked) (answers authorities additionals : List Told) → Writes octets h asked answers authorities additionals
     → ReadsBack octets h asked answers authorities additionals
 reads_back octets h asked answers authorities additionals writes =
@@ -70,6 +71,7 @@ reads_back octets h asked answers authorities additionals writes =
       additionals_are = z.2;
     })
 
+-- in whatever way they were written
 pub read_back : (octets : List ℕ) (h : Header) (asked : List Asked) (answers authorities additionals : List Told) → IsWritten octets h asked answers authorities additionals
     → ∥ ReadsBack octets h asked answers authorities additionals ∥₁
 read_back octets h asked answers authorities additionals written =

@@ -1,15 +1,15 @@
 -- A record that was pushed stands in the message.
-use Rattle.std.proofs.Common.{◌≡◌, ℕ, ◌+◌, ◌-◌, ◌<◌, ◌≤◌, ◌^◌, Option, List, [], ◌∷◌, ◌++◌, length, drop, take, refl, sym, ap, ◌∙◌, subst, append_assoc, arith}
-use Rattle.std.proofs.lemmas.List.{length-append, append-nil, length-drop}
+use Rattle.std.proofs.Common.{◌≡◌, ℕ, ◌+◌, ◌-◌, ◌<◌, ◌≤◌, Option, List, [], ◌∷◌, ◌++◌, length, drop, take, refl, sym, ap, ◌∙◌, subst, append_assoc, arith}
+use Rattle.std.proofs.lemmas.List.{length-append, length-drop}
 use Rattle.std.proofs.Math.Seq.{take-append_seam}
-use Rattle.octseq.specs.Integer.{be, octets_be}
-use Rattle.octseq.specs.Part.{HasPart, part, past_part, part_length, part_of}
-use Rattle.octseq.specs.Window.{Window, left, next, past, at, whole}
+use Rattle.octseq.specs.Integer.{octets_be}
+use Rattle.octseq.specs.Part.{part_length, part_of}
+use Rattle.octseq.specs.Window.{Window, at, whole}
 use Rattle.octseq.proofs.Codes.{length_part}
-use Rattle.octseq.proofs.Written.{length_be, value_be}
+use Rattle.octseq.proofs.Written.{length_be}
 use Rattle.octseq_dns_message.specs.Data.{Form, HasForm, IsTyped}
 use Rattle.octseq_dns_message.specs.Entry.{Record, IsRecord}
-use Rattle.octseq_dns_message.specs.Format.{IsData, IsNumber}
+use Rattle.octseq_dns_message.specs.Format.{IsData}
 use Rattle.octseq_dns_message.specs.declared.header.Header.{Header}
 use Rattle.octseq_dns_name.specs.Name.{IsName, wire_length}
 use Rattle.octseq_dns.specs.RecordEntry.{IsMade, IsRecordEntry, behind_owner}
@@ -43,8 +43,7 @@ data_at all made after p is fits =
     let all_are = length-drop p all in
     let first = number_at all (made ++ after) p 2 (length made) together (omega arith) fits in
     let count : part_length 2 (at p (whole all)) ≡ length made = sym first.1 in
-    let room : length made ≤ length all - (p + 2) = omega (arith, here, there, all_are, long) in
-    (
+    let room : length made ≤ length all - (p + 2) = omega (arith, here, there, all_are, long) in (
       (first.0, subst (λ n. n ≤ length all - (p + 2)) (sym count) room),
       ap (λ n. inside all (p + 2) n) (sym count),
       ap (λ n. at (p + 2 + n) (whole all)) (sym count),
@@ -79,10 +78,10 @@ module _ (all : List ℕ) (place q n : ℕ) (told : Told) where
 -- a record stands where it was appended
 pub record_stands : (h : Header) (body name made : List ℕ) (told : Told) → told.rtype < 65536 → told.class < 65536 → told.ttl < 4294967296 → length made < 65536
     → ((header more : List ℕ) → length header ≡ 12
-        → IsName (at (length (header_octets h ++ body)) (whole (header ++ drop 12 (header_octets h ++ body ++ name ++ more)))) told.labels
-            (at (length (header_octets h ++ body) + length name) (whole (header ++ drop 12 (header_octets h ++ body ++ name ++ more)))))
+    → IsName (at (length (header_octets h ++ body)) (whole (header ++ drop 12 (header_octets h ++ body ++ name ++ more)))) told.labels
+    (at (length (header_octets h ++ body) + length name) (whole (header ++ drop 12 (header_octets h ++ body ++ name ++ more)))))
     → ((header more : List ℕ) → length header ≡ 12
-        → StandsAsData told.said (header ++ (body ++ (name ++ (behind_owner told.rtype told.class told.ttl made ++ more)))) (12 + length body + length name + 2 + 2 + 4 + 2) (length made))
+    → StandsAsData told.said (header ++ (body ++ (name ++ (behind_owner told.rtype told.class told.ttl made ++ more)))) (12 + length body + length name + 2 + 2 + 4 + 2) (length made))
     → StandsIn IsTold (body ++ (name ++ behind_owner told.rtype told.class told.ttl made)) (12 + length body) told (12 + length (body ++ (name ++ behind_owner told.rtype told.class told.ttl made)))
 record_stands h body name made told typed classed timed fits named says header more long =
     let rtype = octets_be 2 told.rtype in
@@ -115,8 +114,18 @@ record_stands h body name made told typed classed timed fits named says header m
     let q = place + length name + 2 + 2 + 4 + 2 in
     let end = q + length made in
     let ends : end ≡ 12 + length (body ++ (name ++ behind)) =
-    omega (arith, length-append body (name ++ behind), length-append name behind, length-append rtype (class ++ (ttl ++ kept)), length-append class (ttl ++ kept), length-append ttl kept,
-    length_part 2 made, length_be 2 told.rtype, length_be 2 told.class, length_be 4 told.ttl) in
+    omega (
+      arith,
+      length-append body (name ++ behind),
+      length-append name behind,
+      length-append rtype (class ++ (ttl ++ kept)),
+      length-append class (ttl ++ kept),
+      length-append ttl kept,
+      length_part 2 made,
+      length_be 2 told.rtype,
+      length_be 2 told.class,
+      length_be 4 told.ttl,
+    ) in
     let r = record_at all place q (length made) told in
     let stands : IsRecord (at place (whole all)) r (at end (whole all)) = (
       at (place + length name) (whole all),
@@ -129,7 +138,7 @@ record_stands h body name made told typed classed timed fits named says header m
 
 -- ---- messages
 
--- a record more of opaque data, behind the questions and a section's records, where nothing stands behind them
+-- an answer more, where nothing stands behind the answers
 pub answer_more : (w v x : Window) (asked : List Asked) (answers : List Told) (one : Told) → ArePushed w (asked, (answers, ([], []))) v → IsTold v one x
     → ArePushed w (asked, (answers ++ one ∷ [], ([], []))) x
 answer_more w v x asked answers one are is =
@@ -137,6 +146,7 @@ answer_more w v x asked answers one are is =
     let same : v ≡ last = are.2.2.2 ∙ are.2.2.1 in
     (are.0, are.1, (x, row_more IsTold are.0 last x answers one are.2.1 (subst (λ v. IsTold v one x) same is), (x, refl, refl)))
 
+-- a record of an authority more
 pub authority_more : (w v x : Window) (asked : List Asked) (answers authorities : List Told) (one : Told) → ArePushed w (asked, (answers, (authorities, []))) v → IsTold v one x
     → ArePushed w (asked, (answers, (authorities ++ one ∷ [], []))) x
 authority_more w v x asked answers authorities one are is =
@@ -144,6 +154,7 @@ authority_more w v x asked answers authorities one are is =
     let same : v ≡ last = are.2.2.2 in
     (are.0, are.1, (are.2.0, are.2.1, (x, row_more IsTold are.2.0 last x authorities one are.2.2.1 (subst (λ v. IsTold v one x) same is), refl)))
 
+-- an additional record more
 pub additional_more : (w v x : Window) (asked : List Asked) (answers authorities additionals : List Told) (one : Told) → ArePushed w (asked, (answers, (authorities, additionals))) v → IsTold v one x
     → ArePushed w (asked, (answers, (authorities, additionals ++ one ∷ []))) x
 additional_more w v x asked answers authorities additionals one are is =
@@ -155,8 +166,16 @@ behind_size told made =
     let class = octets_be 2 told.class in
     let ttl = octets_be 4 told.ttl in
     let kept = part_of 2 made in
-    omega (arith, length-append rtype (class ++ (ttl ++ kept)), length-append class (ttl ++ kept), length-append ttl kept, length_part 2 made, length_be 2 told.rtype, length_be 2 told.class,
-    length_be 4 told.ttl)
+    omega (
+      arith,
+      length-append rtype (class ++ (ttl ++ kept)),
+      length-append class (ttl ++ kept),
+      length-append ttl kept,
+      length_part 2 made,
+      length_be 2 told.rtype,
+      length_be 2 told.class,
+      length_be 4 told.ttl,
+    )
 
 -- the data of a record stands behind its head
 data_behind : (header body name made more : List ℕ) (told : Told) → length header ≡ 12
@@ -263,6 +282,7 @@ one_longer : {A : Type 0} (row : List A) (one : A) (count more : ℕ) → count 
 one_longer row one count more is counted = let all = length-append row (one ∷ []) in omega (arith, is, counted, all)
 
 module _ (most : Option ℕ) (old between new : List ℕ) (h k : Header) (held : List Place) (one : Told) (made : List ℕ) (tells : TellsOnce most old between new k held one made) where
+  -- an answer more was written
   pub answer_written : (a : List Asked) (b : List Told) → k ≡ record h { ancount = h.ancount + 1 } → IsWritten old h a b [] [] → IsWritten new k a (b ++ one ∷ []) [] []
   answer_written a b counted so_far = ∥∥₁_elim so_far ∥∥₁_prop (λ so_far.
       ∥∥₁_elim (goes_on most old between new h k held one made so_far.body tells so_far.octets_are) ∥∥₁_prop (λ on.
@@ -271,6 +291,7 @@ module _ (most : Option ℕ) (old between new : List ℕ) (h k : Header) (held :
       (ap (λ k. k.nscount) counted ∙ so_far.nscount) (ap (λ k. k.arcount) counted ∙ so_far.arcount)
       (λ w v u are is. answer_more w v u a b one are is) ∣₁))
 
+  -- a record of an authority more
   pub authority_written : (a : List Asked) (b c : List Told) → k ≡ record h { nscount = h.nscount + 1 } → IsWritten old h a b c [] → IsWritten new k a b (c ++ one ∷ []) []
   authority_written a b c counted so_far = ∥∥₁_elim so_far ∥∥₁_prop (λ so_far.
       ∥∥₁_elim (goes_on most old between new h k held one made so_far.body tells so_far.octets_are) ∥∥₁_prop (λ on.
@@ -279,6 +300,7 @@ module _ (most : Option ℕ) (old between new : List ℕ) (h k : Header) (held :
       (one_longer c one h.nscount k.nscount so_far.nscount (ap (λ k. k.nscount) counted)) (ap (λ k. k.arcount) counted ∙ so_far.arcount)
       (λ w v u are is. authority_more w v u a b c one are is) ∣₁))
 
+  -- an additional record more
   pub additional_written : (a : List Asked) (b c d : List Told) → k ≡ record h { arcount = h.arcount + 1 } → IsWritten old h a b c d → IsWritten new k a b c (d ++ one ∷ [])
   additional_written a b c d counted so_far = ∥∥₁_elim so_far ∥∥₁_prop (λ so_far.
       ∥∥₁_elim (goes_on most old between new h k held one made so_far.body tells so_far.octets_are) ∥∥₁_prop (λ on.

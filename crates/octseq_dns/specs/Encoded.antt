@@ -20,8 +20,8 @@ abbrev pub HasNoRun : List ℕ → List Place → List (List ℕ) → Type 0
 HasNoRun octets places labels = All (λ place. (count : ℕ) → ¬ IsRun octets labels count place) places
 
 -- A place of the table is one where so many of the name's last labels stand, and at none do more.
-pub record IsLongest (octets : List ℕ) (places : List Place) (labels : List (List ℕ)) (count : ℕ) (place : Place) : Type
-    0 where
+pub record IsLongest (octets : List ℕ) (places : List Place) (labels : List (List ℕ)) (count : ℕ)
+    (place : Place) : Type 0 where
   pub held : Contains places place
   pub run : IsRun octets labels count place
   pub longest : All (λ other. (more : ℕ) → IsRun octets labels more other → more ≤ count) places

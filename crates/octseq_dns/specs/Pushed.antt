@@ -1,14 +1,14 @@
 -- What a push does to a message.
-use Rattle.std.specs.Prelude.{◌≡◌, ℕ, ◌+◌, ◌<◌, ◌≤◌, min, ◌⊎◌, Option, Some, None, List, [], ◌++◌, length, drop}
+use Rattle.std.specs.Prelude.{◌≡◌, ℕ, ◌+◌, ◌<◌, ◌≤◌, min, ◌⊎◌, Option, Some, None, List, [], ◌++◌, length, take, drop}
 use Rattle.std.specs.Prelude.{Result, OnOk, OnErr}
 use Rattle.octseq.specs.Integer.{octets_be}
 use Rattle.octseq.specs.Limit.{IsPast, IsWithin}
 use Rattle.octseq.specs.Refusal.{IsShort, IsMemory, append_error}
 use Rattle.octseq.specs.declared.AppendError.{AppendError}
 use Rattle.octseq_dns_message.specs.declared.header.Header.{Header}
-use Rattle.octseq_dns.specs.Encoded.{IsEncoded}
+use Rattle.octseq_dns.specs.Encoded.{IsEncoded, Encodes}
 use Rattle.octseq_dns.specs.Written.{Asked, header_octets, Writes}
-use Rattle.octseq_dns.specs.Place.{AreGood}
+use Rattle.octseq_dns.specs.Place.{AreGood, places_of, kept}
 use Rattle.octseq_dns.specs.Told.{Told}
 use Rattle.octseq_dns.specs.declared.place.Place.{Place}
 
@@ -23,7 +23,7 @@ pub record Building (B T : Type 0) : Type 0 where
 abbrev pub IsBuilt : List ℕ → List Place → Header → (List Asked → List Told → List Told → List Told → Type 0) → Type 0
 IsBuilt octets places h Are =
     ∥ ((asked : List Asked) × (answers : List Told) × (authorities : List Told) × (additionals : List Told)
-        × Are asked answers authorities additionals × Writes octets h asked answers authorities additionals) ∥₁
+    × Are asked answers authorities additionals × Writes octets h asked answers authorities additionals) ∥₁
     × ∥ AreGood octets places ∥₁
 
 -- nothing was pushed
@@ -56,6 +56,12 @@ message_limit (Some limit) = Some (min limit 65535)
 abbrev pub IsQuestionEntry : List ℕ → List Place → Asked → List ℕ → Type 0
 IsQuestionEntry octets places asked entry = (name : List ℕ) × IsEncoded octets places asked.labels name
     × (entry ≡ name ++ (octets_be 2 asked.qtype ++ octets_be 2 asked.qclass))
+
+-- the places of a name that was appended are added to a table of at most so many
+abbrev pub AddsPlaces : Option ℕ → List ℕ → List Place → List (List ℕ) → List Place → Type 0
+AddsPlaces most octets places labels after = (name : List ℕ) × (written : ℕ) × (pointers : ℕ)
+    × Encodes octets places labels name written pointers
+    × (after ≡ kept most (places ++ places_of (length octets) (take written labels) pointers))
 
 -- octets of an entry stand behind a content, which is then another
 abbrev pub AppendsEntry : List ℕ → List ℕ → (List ℕ → Type 0) → Type 0

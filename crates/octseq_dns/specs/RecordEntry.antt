@@ -24,7 +24,7 @@ IsMade octets places (Matter.soa first second serial refresh retry expire minimu
     (mname : List ℕ) × (rname : List ℕ)
     × IsEncoded octets places first mname × IsEncoded octets places second rname
     × (made ≡ mname ++ (rname ++ (octets_be 4 serial ++ (octets_be 4 refresh ++ (octets_be 4 retry
-        ++ (octets_be 4 expire ++ octets_be 4 minimum))))))
+    ++ (octets_be 4 expire ++ octets_be 4 minimum))))))
 IsMade octets places (Matter.txt strings) made = (1 ≤ length strings) × All (λ string. length string ≤ 255) strings
     × (made ≡ flat_map (part_of 1) strings)
 IsMade octets places (Matter.srv priority weight port labels) made =
@@ -42,14 +42,14 @@ abbrev pub IsRecordEntry : Option ℕ → List ℕ → List Place → Told → L
 IsRecordEntry most octets places told entry = (owner : List ℕ) × (written : ℕ) × (pointers : ℕ) × (made : List ℕ)
     × Encodes octets places told.labels owner written pointers
     × IsMade (octets ++ owner)
-        (kept most (places ++ places_of (length octets) (take written told.labels) pointers)) told.said made
+    (kept most (places ++ places_of (length octets) (take written told.labels) pointers)) told.said made
     × (entry ≡ owner ++ behind_owner told.rtype told.class told.ttl made)
 
 -- what it has at least: its octets, or those that it would have with no data
 abbrev pub IsRecordLeast : Option ℕ → List ℕ → List Place → Told → List ℕ → Type 0
 IsRecordLeast most octets places told least = IsRecordEntry most octets places told least
     ⊎ ((owner : List ℕ) × IsEncoded octets places told.labels owner
-        × (least ≡ owner ++ behind_owner told.rtype told.class told.ttl []))
+    × (least ≡ owner ++ behind_owner told.rtype told.class told.ttl []))
 
 -- The name of a record was appended to octets, and its places were added to a table of at most so many.
 abbrev pub BeginsRecord : Option ℕ → List ℕ → List Place → List (List ℕ) → List ℕ → ℕ → ℕ → List ℕ → List Place → Type 0

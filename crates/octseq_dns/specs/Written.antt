@@ -1,5 +1,5 @@
 -- What was pushed into a message, without the places where it stands, and the octets that are a message of it.
-use Rattle.std.specs.Prelude.{◌≡◌, ℕ, ◌+◌, ◌<◌, ◌≤◌, false, List, [], ◌++◌, length}
+use Rattle.std.specs.Prelude.{◌≡◌, ℕ, ◌+◌, ◌<◌, ◌≤◌, false, List, ◌++◌, length}
 use Rattle.octseq.specs.Integer.{octets_be}
 use Rattle.octseq.specs.declared.AsOctets.{Ghosts}
 use Rattle.octseq.specs.Window.{Window, at, whole}

@@ -12,8 +12,8 @@ ghost use Rattle.octseq_dns_message.specs.declared.header.Header.{Header as Fiel
 
 use crate::builder::header::{octets_of, put_header};
 use crate::place::Places;
-use octseq::{AppendError, AsOctets, OctetsBuilder, Truncate};
 use octseq::builder::AsOctetsMut;
+use octseq::{AppendError, AsOctets, OctetsBuilder, Truncate};
 use octseq_dns_message::{Flags, Header, Opcode, Rcode};
 use std::marker::Model;
 

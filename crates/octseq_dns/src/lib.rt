@@ -13,6 +13,9 @@ pub mod builder;
 mod encode;
 pub mod place;
 
+pub use builder::{
+    AdditionalBuilder, AnswerBuilder, AuthorityBuilder, MessageBuilder, QuestionBuilder,
+};
 pub use octseq_dns_message::data::Data;
 pub use octseq_dns_message::header::{Flags, Header};
 pub use octseq_dns_message::iana::{Class, Opcode, Rcode, Rtype};
@@ -22,7 +25,4 @@ pub use octseq_dns_message::{data, header, iana, message, ttl};
 pub use octseq_dns_name::error::Malformed;
 pub use octseq_dns_name::name::{Name, ParsedName};
 pub use octseq_dns_name::{error, name};
-pub use builder::{
-    AdditionalBuilder, AnswerBuilder, AuthorityBuilder, MessageBuilder, QuestionBuilder,
-};
 pub use place::{FixedPlaces, NoCompression, Place, Places};

@@ -8,7 +8,7 @@ ghost use Rattle.octseq_dns_name.specs.Read.{labels_of};
 ghost use Rattle.octseq_dns_name.specs.Wire.{AreLabels};
 ghost use Rattle.octseq_dns.specs.Encoded.{Encodes};
 ghost use Rattle.octseq_dns.specs.Place.{AreGood};
-ghost use Rattle.octseq_dns.specs.Pushed.{message_limit, AppendsEntry, IsQuestionEntry, PassesWith};
+ghost use Rattle.octseq_dns.specs.Pushed.{AddsPlaces, message_limit, AppendsEntry, IsQuestionEntry, PassesWith};
 ghost use Rattle.octseq_dns.specs.Written.{asked_of};
 
 use crate::builder::draft::{append, append_u16};
@@ -66,6 +66,8 @@ fn write_question<B: OctetsBuilder, T: Places, R: AsOctets + Copy>(
     ensures ok { OnOk result (∥ AppendsEntry (B.content octets.old) (B.content octets.new)
         (IsQuestionEntry (B.content octets.old) (T.held places.old) (asked_of qname.now qtype qclass)) ∥₁) }
     ensures good { OnOk result (∥ AreGood (B.content octets.new) (T.held places.new) ∥₁) }
+    ensures held { OnOk result (∥ AddsPlaces T.most (B.content octets.old) (T.held places.old)
+        (labels_of qname.now) (T.held places.new) ∥₁) }
     ensures front { take (length (B.content octets.old)) (B.content octets.new) ≡ B.content octets.old }
     ensures places { take (length (T.held places.old)) (T.held places.new) ≡ T.held places.old }
     ensures size { length (B.content octets.new) ≤ 65535 }
@@ -99,6 +101,8 @@ pub(super) fn add_question<B: OctetsBuilder + Truncate, T: Places, R: AsOctets +
     ensures ok { OnOk result (∥ AppendsEntry (B.content octets.old) (B.content octets.new)
         (IsQuestionEntry (B.content octets.old) (T.held places.old) (asked_of qname.now qtype qclass)) ∥₁) }
     ensures good { OnOk result (∥ AreGood (B.content octets.new) (T.held places.new) ∥₁) }
+    ensures held { OnOk result (∥ AddsPlaces T.most (B.content octets.old) (T.held places.old)
+        (labels_of qname.now) (T.held places.new) ∥₁) }
     ensures err { OnErr result (B.content octets.new ≡ B.content octets.old) }
     ensures places { OnErr result (T.held places.new ≡ T.held places.old) }
     ensures size { length (B.content octets.new) ≤ 65535 }

@@ -1,6 +1,7 @@
 //! The section of questions.
 ghost use Rattle.std.specs.Prelude.{◌≡◌, ◌+◌, ◌⊎◌, true, List, [], ◌∷◌, ◌++◌, OnOk, OnErr};
-ghost use Rattle.octseq_dns.specs.Pushed.{IsBuilt, IsQuestionEntry, Pushes, UpToQuestions};
+ghost use Rattle.octseq_dns_name.specs.Read.{labels_of};
+ghost use Rattle.octseq_dns.specs.Pushed.{AddsPlaces, IsBuilt, IsQuestionEntry, Pushes, UpToQuestions};
 ghost use Rattle.octseq_dns.specs.Told.{Told};
 ghost use Rattle.octseq_dns.specs.Written.{Asked, IsWritten, asked_of};
 
@@ -89,16 +90,18 @@ impl<B: OctetsBuilder + Truncate + AsOctetsMut, T: Places> QuestionBuilder<B, T>
         qclass: Class,
     ) -> Result<(), AppendError>
         ensures pushed { let entry = IsQuestionEntry (B.content self.old.octets) (T.held self.old.places)
-                (asked_of qname.now qtype qclass) in
+            (asked_of qname.now qtype qclass) in
             Pushes B.limit ((B.asks ≡ true) ⊎ (T.asks ≡ true)) result entry entry
             self.old.header.qdcount (B.content self.old.octets) self.new.header (B.content self.new.octets) }
         ensures written { OnOk result ((asked : List Asked)
             → IsWritten (B.content self.old.octets) self.old.header asked [] [] []
             → IsWritten (B.content self.new.octets) self.new.header (asked ++ asked_of qname.now qtype qclass ∷ [])
-                [] [] []) }
+            [] [] []) }
         ensures header { OnOk result (self.new.header
             ≡ record self.old.header { qdcount = self.old.header.qdcount + 1 }) }
         ensures kept { OnErr result (self.new.header ≡ self.old.header) }
+        ensures held { OnOk result (∥ AddsPlaces T.most (B.content self.old.octets) (T.held self.old.places)
+            (labels_of qname.now) (T.held self.new.places) ∥₁) }
         ensures places { OnErr result (T.held self.new.places ≡ T.held self.old.places) }
         ensures borrows { B.borrows self.new.octets ≡ B.borrows self.old.octets }
     {

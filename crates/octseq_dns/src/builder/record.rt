@@ -10,8 +10,9 @@ ghost use Rattle.octseq_dns_name.specs.Read.{labels_of};
 ghost use Rattle.octseq_dns_name.specs.Wire.{AreLabels};
 ghost use Rattle.octseq_dns.specs.Encoded.{IsEncoded};
 ghost use Rattle.octseq_dns.specs.Place.{AreGood};
-ghost use Rattle.octseq_dns.specs.Pushed.{AppendsEntry, PassesWith, message_limit};
-ghost use Rattle.octseq_dns.specs.RecordEntry.{AppendsMade, BeginsRecord, IsBrief, IsRecordEntry, IsRecordLeast, PassesMade, behind_owner};
+ghost use Rattle.octseq_dns.specs.Pushed.{AddsPlaces, AppendsEntry, PassesWith, message_limit};
+ghost use Rattle.octseq_dns.specs.RecordEntry.{AppendsMade, BeginsRecord, IsBrief, IsRecordEntry};
+ghost use Rattle.octseq_dns.specs.RecordEntry.{IsRecordLeast, PassesMade, behind_owner};
 
 use crate::builder::draft::append;
 use crate::builder::made::made_of;
@@ -148,8 +149,10 @@ fn write_record<B: OctetsBuilder, T: Places, R: AsOctets + Copy>(
     requires good { ∥ AreGood (B.content octets.old) (T.held places.old) ∥₁ }
     ensures ok { OnOk result (∥ AppendsEntry (B.content octets.old) (B.content octets.new)
         (IsRecordEntry T.most (B.content octets.old) (T.held places.old)
-            (told_of owner.now fields.rtype fields.class fields.ttl (Matter.opaque made.now))) ∥₁) }
+        (told_of owner.now fields.rtype fields.class fields.ttl (Matter.opaque made.now))) ∥₁) }
     ensures good { OnOk result (∥ AreGood (B.content octets.new) (T.held places.new) ∥₁) }
+    ensures held { OnOk result (∥ AddsPlaces T.most (B.content octets.old) (T.held places.old)
+        (labels_of owner.now) (T.held places.new) ∥₁) }
     ensures front { take (length (B.content octets.old)) (B.content octets.new) ≡ B.content octets.old }
     ensures places { take (length (T.held places.old)) (T.held places.new) ≡ T.held places.old }
     ensures size { length (B.content octets.new) ≤ 65535 }
@@ -161,7 +164,7 @@ fn write_record<B: OctetsBuilder, T: Places, R: AsOctets + Copy>(
     ensures ttl { OnOk result (fields.ttl < 4294967296) }
     ensures short { IsShort append_error result → ∥ PassesWith (message_limit B.limit) (B.content octets.old)
         (IsRecordLeast T.most (B.content octets.old) (T.held places.old)
-            (told_of owner.now fields.rtype fields.class fields.ttl (Matter.opaque made.now))) ∥₁ }
+        (told_of owner.now fields.rtype fields.class fields.ttl (Matter.opaque made.now))) ∥₁ }
     ensures memory { IsMemory append_error result → (B.asks ≡ true) ⊎ (T.asks ≡ true) }
     ensures borrows { B.borrows octets.new ≡ B.borrows octets.old }
 {
@@ -183,8 +186,10 @@ pub(super) fn add_record<B: OctetsBuilder + Truncate, T: Places, R: AsOctets + C
     requires good { ∥ AreGood (B.content octets.old) (T.held places.old) ∥₁ }
     ensures ok { OnOk result (∥ AppendsEntry (B.content octets.old) (B.content octets.new)
         (IsRecordEntry T.most (B.content octets.old) (T.held places.old)
-            (told_of owner.now fields.rtype fields.class fields.ttl (Matter.opaque made.now))) ∥₁) }
+        (told_of owner.now fields.rtype fields.class fields.ttl (Matter.opaque made.now))) ∥₁) }
     ensures good { OnOk result (∥ AreGood (B.content octets.new) (T.held places.new) ∥₁) }
+    ensures held { OnOk result (∥ AddsPlaces T.most (B.content octets.old) (T.held places.old)
+        (labels_of owner.now) (T.held places.new) ∥₁) }
     ensures err { OnErr result (B.content octets.new ≡ B.content octets.old) }
     ensures places { OnErr result (T.held places.new ≡ T.held places.old) }
     ensures size { length (B.content octets.new) ≤ 65535 }
@@ -196,7 +201,7 @@ pub(super) fn add_record<B: OctetsBuilder + Truncate, T: Places, R: AsOctets + C
     ensures ttl { OnOk result (fields.ttl < 4294967296) }
     ensures short { IsShort append_error result → ∥ PassesWith (message_limit B.limit) (B.content octets.old)
         (IsRecordLeast T.most (B.content octets.old) (T.held places.old)
-            (told_of owner.now fields.rtype fields.class fields.ttl (Matter.opaque made.now))) ∥₁ }
+        (told_of owner.now fields.rtype fields.class fields.ttl (Matter.opaque made.now))) ∥₁ }
     ensures memory { IsMemory append_error result → (B.asks ≡ true) ⊎ (T.asks ≡ true) }
     ensures borrows { B.borrows octets.new ≡ B.borrows octets.old }
 {

@@ -1,6 +1,7 @@
 //! The sections of records.
 ghost use Rattle.std.specs.Prelude.{◌≡◌, ◌+◌, ◌⊎◌, true, List, [], ◌∷◌, ◌++◌, OnOk, OnErr};
-ghost use Rattle.octseq_dns.specs.Pushed.{IsBuilt, Pushes, UpToAnswers, UpToAuthorities, UpToAdditionals};
+ghost use Rattle.octseq_dns_name.specs.Read.{labels_of};
+ghost use Rattle.octseq_dns.specs.Pushed.{AddsPlaces, IsBuilt, Pushes, UpToAnswers, UpToAuthorities, UpToAdditionals};
 ghost use Rattle.octseq_dns.specs.RecordEntry.{IsRecordEntry, IsRecordLeast};
 ghost use Rattle.octseq_dns.specs.Told.{Matter, Told, told_of};
 ghost use Rattle.octseq_dns.specs.Written.{Asked, IsWritten};
@@ -98,10 +99,12 @@ impl<B: OctetsBuilder + Truncate + AsOctetsMut, T: Places> AnswerBuilder<B, T> {
         ensures written { OnOk result ((asked : List Asked) (answers : List Told)
             → IsWritten (B.content self.old.octets) self.old.header asked answers [] []
             → IsWritten (B.content self.new.octets) self.new.header asked
-                (answers ++ told_of owner.now rtype class ttl (Matter.opaque rdata.now) ∷ []) [] []) }
+            (answers ++ told_of owner.now rtype class ttl (Matter.opaque rdata.now) ∷ []) [] []) }
         ensures header { OnOk result (self.new.header
             ≡ record self.old.header { ancount = self.old.header.ancount + 1 }) }
         ensures kept { OnErr result (self.new.header ≡ self.old.header) }
+        ensures held { OnOk result (∥ AddsPlaces T.most (B.content self.old.octets) (T.held self.old.places)
+            (labels_of owner.now) (T.held self.new.places) ∥₁) }
         ensures places { OnErr result (T.held self.new.places ≡ T.held self.old.places) }
         ensures borrows { B.borrows self.new.octets ≡ B.borrows self.old.octets }
     {
@@ -209,10 +212,12 @@ impl<B: OctetsBuilder + Truncate + AsOctetsMut, T: Places> AuthorityBuilder<B, T
         ensures written { OnOk result ((asked : List Asked) (answers authorities : List Told)
             → IsWritten (B.content self.old.octets) self.old.header asked answers authorities []
             → IsWritten (B.content self.new.octets) self.new.header asked answers
-                (authorities ++ told_of owner.now rtype class ttl (Matter.opaque rdata.now) ∷ []) []) }
+            (authorities ++ told_of owner.now rtype class ttl (Matter.opaque rdata.now) ∷ []) []) }
         ensures header { OnOk result (self.new.header
             ≡ record self.old.header { nscount = self.old.header.nscount + 1 }) }
         ensures kept { OnErr result (self.new.header ≡ self.old.header) }
+        ensures held { OnOk result (∥ AddsPlaces T.most (B.content self.old.octets) (T.held self.old.places)
+            (labels_of owner.now) (T.held self.new.places) ∥₁) }
         ensures places { OnErr result (T.held self.new.places ≡ T.held self.old.places) }
         ensures borrows { B.borrows self.new.octets ≡ B.borrows self.old.octets }
     {
@@ -319,10 +324,12 @@ impl<B: OctetsBuilder + Truncate + AsOctetsMut, T: Places> AdditionalBuilder<B, 
         ensures written { OnOk result ((asked : List Asked) (answers authorities additionals : List Told)
             → IsWritten (B.content self.old.octets) self.old.header asked answers authorities additionals
             → IsWritten (B.content self.new.octets) self.new.header asked answers authorities
-                (additionals ++ told_of owner.now rtype class ttl (Matter.opaque rdata.now) ∷ [])) }
+            (additionals ++ told_of owner.now rtype class ttl (Matter.opaque rdata.now) ∷ [])) }
         ensures header { OnOk result (self.new.header
             ≡ record self.old.header { arcount = self.old.header.arcount + 1 }) }
         ensures kept { OnErr result (self.new.header ≡ self.old.header) }
+        ensures held { OnOk result (∥ AddsPlaces T.most (B.content self.old.octets) (T.held self.old.places)
+            (labels_of owner.now) (T.held self.new.places) ∥₁) }
         ensures places { OnErr result (T.held self.new.places ≡ T.held self.old.places) }
         ensures borrows { B.borrows self.new.octets ≡ B.borrows self.old.octets }
     {
@@ -338,7 +345,8 @@ impl<B: OctetsBuilder + Truncate + AsOctetsMut, T: Places> AdditionalBuilder<B, 
 
     /// Gives back the builder of octets, with the message in it, and the table.
     pub fn finish(self) -> (B, T)
-        ensures { result ≡ (self.octets, self.places) }
+        ensures same { result ≡ (self.octets, self.places) }
+        ensures message { IsBuilt (B.content result.0) (T.held result.1) self.header UpToAdditionals }
     {
         (self.octets, self.places)
     }

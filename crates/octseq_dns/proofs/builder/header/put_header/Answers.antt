@@ -1,6 +1,5 @@
-use Rattle.std.proofs.Common.{◌≡◌, ◌+◌, ◌-◌, ◌++◌, ℕ, length, take, drop, ap, ◌∙◌, arith}
+use Rattle.std.proofs.Common.{◌≡◌, ◌++◌, ℕ, length, take, drop, ap, ◌∙◌, arith}
 use Rattle.std.proofs.lemmas.List.{length-append, length-drop}
-use Rattle.octseq.proofs.Written.{length_be}
 use Rattle.octseq_dns.specs.Written.{header_octets}
 use Rattle.octseq_dns.proofs.HeaderOctets.{header_length}
 use Rattle.octseq_dns.proofs.builder.header.put_header.Goals as goal

@@ -1,4 +1,4 @@
-use Rattle.std.proofs.Common.{◌+◌, ℕ, length, refl, sym, subst, ap, rules, arith}
+use Rattle.std.proofs.Common.{ℕ, length, refl, sym, subst, ap, rules, arith}
 use Rattle.std.proofs.lemmas.List.{length-append}
 use Rattle.octseq.proofs.Written.{length_be}
 use Rattle.octseq_dns.proofs.Pushes.{question_past}

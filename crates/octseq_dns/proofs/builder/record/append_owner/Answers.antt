@@ -1,7 +1,6 @@
-use Rattle.std.proofs.Common.{ℕ, ◌+◌, List, [], ◌++◌, length, refl, sym, ap, ◌∙◌, subst, rules, arith}
+use Rattle.std.proofs.Common.{[], ◌++◌, length, refl, sym, ap, ◌∙◌, subst, rules, arith}
 use Rattle.std.proofs.lemmas.List.{append-nil}
 use Rattle.octseq_dns_name.specs.Read.{labels_of}
-use Rattle.octseq_dns.specs.Encoded.{Encodes}
 use Rattle.octseq_dns.specs.Place.{AreGood}
 use Rattle.octseq_dns.specs.Pushed.{message_limit}
 use Rattle.octseq_dns.proofs.Pushes.{good_after, same_encoding, owner_begins, owner_past}

@@ -1,8 +1,9 @@
+use Rattle.octseq_dns_name.specs.Read.{labels_of}
 use Rattle.std.proofs.Common.{refl, rules}
 use Rattle.octseq_dns.specs.Pushed.{message_limit}
 use Rattle.octseq_dns.specs.RecordEntry.{behind_owner}
 use Rattle.octseq_dns.specs.Told.{Matter, told_of}
-use Rattle.octseq_dns.proofs.Pushes.{record_appended, record_past, owner_past_record, good_on}
+use Rattle.octseq_dns.proofs.Pushes.{owner_added, record_appended, record_past, owner_past_record, good_on}
 use Rattle.octseq_dns.proofs.builder.record.write_record.Goals as goal
 
 pub returns-in_err-append_owner-clause-short : goal.returns-in_err-append_owner-clause-short
@@ -26,3 +27,8 @@ pub returns-clause-good : goal.returns-clause-good
 returns-clause-good g c =
     good_on _ _ _ c.in_ok-append_owner.field-0.octets.content (behind_owner c.args.fields.rtype c.args.fields.class c.args.fields.ttl c.args.made.now) _ c.in_ok-append_owner.ensures.content
     c.requires.room c.in_ok-append_data.ensures.ok c.in_ok-append_owner.ensures.good
+
+pub returns-clause-held : goal.returns-clause-held
+returns-clause-held g c =
+    let name = c.in_ok-append_owner.field-0 in
+    owner_added g.T.Places.most _ _ (labels_of c.args.owner.now) name.octets.content name.written name.pointers _ _ c.in_ok-append_owner.ensures.begins

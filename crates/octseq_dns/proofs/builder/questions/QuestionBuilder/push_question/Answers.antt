@@ -1,8 +1,9 @@
-use Rattle.std.proofs.Common.{◌≡◌, ◌⊎◌, ◌+◌, ◌<◌, ◌≤◌, ℕ, List, [], ◌∷◌, ◌++◌, length, Ok, true, refl, sym, ap, subst, inl, inr, rules, arith}
+use Rattle.octseq_dns_name.specs.Read.{labels_of}
+use Rattle.std.proofs.Common.{◌≡◌, ◌⊎◌, ◌+◌, ◌<◌, List, [], ◌∷◌, ◌++◌, Ok, true, sym, ap, subst, inl, rules, arith}
 use Rattle.octseq_dns_message.specs.declared.header.Header.{Header}
-use Rattle.octseq_dns.specs.Pushed.{Building, IsBuilt, IsQuestionEntry, Pushes, UpToQuestions, message_limit}
+use Rattle.octseq_dns.specs.Pushed.{AddsPlaces, Building, IsBuilt, IsQuestionEntry, Pushes, UpToQuestions}
 use Rattle.octseq_dns.specs.Written.{Asked, IsWritten, asked_of}
-use Rattle.octseq_dns.proofs.Building.{AsksOnce, asks_once, asked_built, built_room, built_size}
+use Rattle.octseq_dns.proofs.Building.{asks_once, asked_built, built_room}
 use Rattle.octseq_dns.proofs.Pushes.{pushes_ok, pushes_err, appended_room, headed_size}
 use Rattle.octseq_dns.proofs.builder.questions.QuestionBuilder.push_question.Goals as goal
 
@@ -91,3 +92,9 @@ returns-clause-written g c =
       content = put.content;
       size = omega (arith, size, within);
     }))
+
+pub returns-clause-held : goal.returns-clause-held
+returns-clause-held g c =
+    let Done : Building g.row.B.Denot g.row.T.Denot → Type 0 = λ old.
+    ∥ AddsPlaces g.T.Places.most (g.B.AsOctets.content old.octets) (g.T.Places.held old.places) (labels_of c.args.qname.now) (g.T.Places.held c.add_question.new.places) ∥₁ in
+    subst Done c.self.view_is c.in_ok-add_question.ensures.held

@@ -1,12 +1,13 @@
-use Rattle.std.proofs.Common.{◌≡◌, ◌⊎◌, ◌+◌, ◌<◌, ◌≤◌, ℕ, List, [], ◌∷◌, ◌++◌, length, Ok, true, refl, sym, ap, subst, inl, inr, rules, arith}
+use Rattle.octseq_dns_name.specs.Read.{labels_of}
+use Rattle.std.proofs.Common.{◌≡◌, ◌⊎◌, ◌+◌, ◌<◌, List, [], ◌∷◌, ◌++◌, Ok, true, refl, sym, ap, subst, inl, rules, arith}
 use Rattle.octseq_dns_message.specs.declared.header.Header.{Header}
-use Rattle.octseq_dns.specs.Pushed.{Building, IsBuilt, Pushes, UpToAuthorities, message_limit}
+use Rattle.octseq_dns.specs.Pushed.{AddsPlaces, Building, IsBuilt, Pushes, UpToAuthorities}
 use Rattle.octseq_dns.specs.RecordEntry.{IsRecordEntry, IsRecordLeast}
 use Rattle.octseq_dns.specs.Told.{Matter, Told, told_of}
 use Rattle.octseq_dns.specs.Written.{Asked, IsWritten}
 use Rattle.octseq_dns.proofs.Building.{authority_built, built_room}
 use Rattle.octseq_dns.proofs.Pushes.{pushes_ok, pushes_err, appended_room, headed_size}
-use Rattle.octseq_dns.proofs.Records.{TellsOnce, authority_written}
+use Rattle.octseq_dns.proofs.Records.{authority_written}
 use Rattle.octseq_dns.proofs.builder.records.AuthorityBuilder.push_opaque.Goals as goal
 
 pub add_record-requires-clause-room : goal.add_record-requires-clause-room
@@ -98,3 +99,9 @@ returns-clause-written g c =
       content = put.content;
       size = omega (arith, size, within);
     }) asked answers authorities (ap (λ n. record h { nscount = n }) more))
+
+pub returns-clause-held : goal.returns-clause-held
+returns-clause-held g c =
+    let Done : Building g.row.B.Denot g.row.T.Denot → Type 0 = λ old.
+    ∥ AddsPlaces g.T.Places.most (g.B.AsOctets.content old.octets) (g.T.Places.held old.places) (labels_of c.args.owner.now) (g.T.Places.held c.add_record.new.places) ∥₁ in
+    subst Done c.self.view_is c.in_ok-add_record.ensures.held
