@@ -27,6 +27,7 @@ unsafe extern "C" {
     fn octseq_sum_u64_be(octets: *const u8, len: usize) -> u64;
     fn octseq_dns_checked(octets: *const u8, len: usize) -> u64;
     fn octseq_dns_read(octets: *const u8, len: usize) -> u64;
+    fn octseq_dns_written(octets: *const u8, len: usize) -> u64;
 }
 
 type Sum = unsafe extern "C" fn(*const u8, usize) -> u64;
@@ -283,7 +284,7 @@ fn integers(bench: &mut Bench) {
     bench.add(section);
 }
 
-/// Messages: real traffic, and one that takes as long as its size allows.
+/// Messages: real traffic, and one that takes as long as its size allows. What is written anew is compared by a digest.
 fn messages(bench: &mut Bench) {
     let traffic = dns::stream_of(include_str!("messages.hex"));
     let hostile = dns::hostile();
@@ -300,6 +301,12 @@ fn messages(bench: &mut Bench) {
             bench.add(section);
         }
     }
+    let name = "363 messages of traffic";
+    let mut section = Section::new("DNS messages", &format!("{name}, written anew"), "a writer over slices, by hand");
+    let theirs = traffic.clone();
+    section.add(name, traffic.len(), move || unsafe { octseq_dns_written(traffic.as_ptr(), traffic.len()) },
+        move || dns::write::written(black_box(&theirs)));
+    bench.add(section);
 }
 
 fn main() {

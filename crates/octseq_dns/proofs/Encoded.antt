@@ -6,7 +6,9 @@ use Rattle.std.proofs.Common.{sym, ap}
 use Rattle.std.proofs.Common.{◌∙◌, subst, arith}
 use Rattle.std.proofs.lemmas.List.{append-nil, length-append, length-drop, length-replicate, take_all, drop_at}
 use Rattle.std.proofs.lemmas.List.{drop-append-le, take-append-drop}
-use Rattle.std.proofs.lemmas.List.Elements.{All-nil, All-cons, All-weaker, All-take, All-contains}
+use Rattle.std.proofs.lemmas.List.Elements.{All-nil, All-cons, All-weaker, All-take, All-contains, Contains-append_left}
+use Rattle.std.proofs.lemmas.List.Elements.{Contains-get_or}
+use Rattle.std.specs.List.{Contains}
 use Rattle.std.proofs.lemmas.Slice.{drop-append-drop}
 use Rattle.octseq.specs.Window.{Window, at, whole}
 use Rattle.octseq_dns.specs.Encoded.{IsRun, IsLongest, HasNoRun, IsEncoded, Encodes, unrooted, pointer_to}
@@ -430,12 +432,23 @@ encodes_grows octets more places labels encoded count pointers headed good
 encodes_grows octets more places labels encoded count pointers headed good
     (IsEncoded.pointed run_count place longest is, written_is, pointers_is) =
     let still : IsLongest (octets ++ more) places labels run_count place = record {
+      before = longest.before;
+      behind = longest.behind;
       held = longest.held;
       run = run_grows octets more labels run_count place headed longest.run;
       longest = λ k d inside other run. longest.longest k d inside other
           (run_before octets more labels other (get_or places k d) headed (good k d inside) run);
+      first = λ k d inside other run. longest.first k d inside other
+          (run_before octets more labels other (get_or longest.before k d) headed
+          (good_before longest.before longest.behind k d inside longest.held) run);
     } in
     (IsEncoded.pointed run_count place still is, written_is, pointers_is)
+  where
+    good_before : (before behind : List Place) (k : ℕ) (d : Place) → k < length before
+        → places ≡ before ++ place ∷ behind → IsGood octets (get_or before k d)
+    good_before before behind k d inside held = All-contains (IsGood octets) places (get_or before k d) good
+        (subst (λ all. Contains all (get_or before k d)) (sym held)
+        (Contains-append_left before (place ∷ behind) (get_or before k d) (Contains-get_or before k d inside)))
 
 -- So the relation stays as the message grows.
 pub encoded_grows : (octets more : List ℕ) (places : List Place) (labels : List (List ℕ)) (encoded : List ℕ)
@@ -443,28 +456,3 @@ pub encoded_grows : (octets more : List ℕ) (places : List Place) (labels : Lis
     → IsEncoded (octets ++ more) places labels encoded
 encoded_grows octets more places labels encoded headed good is =
     (encodes_grows octets more places labels encoded (written_of is) (pointers_of is) headed good (is, refl, refl)).0
-
--- However a name is encoded behind octets, it has one length.
-pub one_length : (octets : List ℕ) (places : List Place) (labels : List (List ℕ)) (encoded other : List ℕ)
-    → IsEncoded octets places labels encoded → IsEncoded octets places labels other → length encoded ≡ length other
-one_length octets places labels encoded other (IsEncoded.plain none is) (IsEncoded.plain also there) =
-    ap length (is ∙ sym there)
-one_length octets places labels encoded other (IsEncoded.plain none is) (IsEncoded.pointed count place longest there) =
-    absurd (All-contains (λ place. (count : ℕ) → ¬ IsRun octets labels count place) places place none longest.held count
-    longest.run)
-one_length octets places labels encoded other (IsEncoded.pointed count place longest is) (IsEncoded.plain none there) =
-    absurd (All-contains (λ place. (count : ℕ) → ¬ IsRun octets labels count place) places place none longest.held count
-    longest.run)
-one_length octets places labels encoded other (IsEncoded.pointed count place longest is)
-    (IsEncoded.pointed more beside also there) =
-    let fewer = All-contains (λ other. (count : ℕ) → IsRun octets labels count other → count ≤ more) places place
-    also.longest longest.held count longest.run in
-    let greater = All-contains (λ other. (more : ℕ) → IsRun octets labels more other → more ≤ count) places beside
-    longest.longest also.held more also.run in
-    let same : count ≡ more = omega (arith, fewer, greater) in
-    let one = ap length is in
-    let two = ap length there in
-    let first = length-append (unrooted (take (length labels - count) labels)) (pointer_to place.at) in
-    let second = length-append (unrooted (take (length labels - more) labels)) (pointer_to beside.at) in
-    let both = ap (λ n. length (unrooted (take (length labels - n) labels))) same in
-    omega (arith, one, two, first, second, both)

@@ -1,30 +1,30 @@
 -- A record that was pushed stands in the message.
 use Rattle.std.proofs.Common.{◌≡◌, ℕ, ◌+◌, ◌-◌, ◌<◌, ◌≤◌, Option, List, [], ◌∷◌, ◌++◌, length, drop, take, refl, sym, ap, ◌∙◌, subst, append_assoc, arith}
-use Rattle.std.proofs.lemmas.List.{length-append, length-drop}
+use Rattle.std.proofs.lemmas.List.{length-append, length-drop, append-nil}
+use Rattle.std.proofs.lemmas.List.Elements.{recursion_from_All}
+use Rattle.std.specs.List.{AllByRecursion, flat_map}
 use Rattle.std.proofs.Math.Seq.{take-append_seam}
 use Rattle.octseq.specs.Integer.{octets_be}
 use Rattle.octseq.specs.Part.{part_length, part_of}
 use Rattle.octseq.specs.Window.{Window, at, whole}
 use Rattle.octseq.proofs.Codes.{length_part}
 use Rattle.octseq.proofs.Written.{length_be}
-use Rattle.octseq_dns_message.specs.Data.{Form, HasForm, IsTyped}
+use Rattle.octseq_dns_message.specs.Data.{Form, HasForm, HasOctets, HasString, IsTyped}
 use Rattle.octseq_dns_message.specs.Entry.{Record, IsRecord}
-use Rattle.octseq_dns_message.specs.Format.{IsData}
+use Rattle.octseq_dns_message.specs.Format.{IsData, IsNumber, Row, ◌then◌}
 use Rattle.octseq_dns_message.specs.declared.header.Header.{Header}
-use Rattle.octseq_dns_name.specs.Name.{IsName, wire_length}
-use Rattle.octseq_dns.specs.RecordEntry.{IsMade, IsRecordEntry, behind_owner}
-use Rattle.octseq_dns.specs.Encoded.{IsEncoded}
-use Rattle.octseq_dns.specs.Place.{places_of, kept}
-use Rattle.octseq_dns.specs.Pushed.{AppendsEntry}
+use Rattle.octseq_dns_name.specs.Name.{HasName, IsName}
+use Rattle.octseq_dns_name.specs.Wire.{wire}
+use Rattle.octseq_dns.specs.Encoded.{HasNoRun, IsEncoded, IsPlaced}
+use Rattle.octseq_dns.specs.Place.{table_with}
+use Rattle.octseq_dns.specs.RecordEntry.{Fits, FitsMatter, FitsName, IsMade, IsRecordEntry, behind_owner}
 use Rattle.octseq_dns.specs.declared.place.Place.{Place}
-use Rattle.octseq_dns.proofs.Encoded.{encoded_stands}
-use Rattle.octseq_dns_name.specs.Wire.{AreLabels}
-use Rattle.octseq_dns_message.proofs.Formats.{row_more}
-use Rattle.std.proofs.Math.Logic.{∥∥₁_prop, ∥∥₁_elim}
 use Rattle.octseq_dns.specs.Told.{Told, Matter, IsTold, Says, matter, type_of}
-use Rattle.octseq_dns.specs.Written.{Asked, ArePushed, HeaderFits, IsWritten, StandsIn, Writes, header_octets}
+use Rattle.octseq_dns.specs.Written.{StandsIn, header_octets}
+use Rattle.octseq_dns.proofs.Encoded.{encoded_stands, encoded_stands_behind}
 use Rattle.octseq_dns.proofs.HeaderOctets.{header_length}
-use Rattle.octseq_dns.proofs.Pushing.{drop_front, drop_body, number_at, stands_on}
+use Rattle.octseq_dns.proofs.Made.{behind_length, head_and_data, head_length, head_octets}
+use Rattle.octseq_dns.proofs.Pushing.{drop_front, drop_body, number_at}
 use Rattle.octseq_dns.proofs.Standing.{drop_on}
 
 -- the window of n octets at a place
@@ -136,47 +136,6 @@ record_stands h body name made told typed classed timed fits named says header m
     subst (λ all. IsTold (at place (whole all)) told (at (12 + length (body ++ (name ++ behind))) (whole all))) (sym shown)
     (subst (λ end. IsTold (at place (whole all)) told (at end (whole all))) ends is_told)
 
--- ---- messages
-
--- an answer more, where nothing stands behind the answers
-pub answer_more : (w v x : Window) (asked : List Asked) (answers : List Told) (one : Told) → ArePushed w (asked, (answers, ([], []))) v → IsTold v one x
-    → ArePushed w (asked, (answers ++ one ∷ [], ([], []))) x
-answer_more w v x asked answers one are is =
-    let last = are.2.0 in
-    let same : v ≡ last = are.2.2.2 ∙ are.2.2.1 in
-    (are.0, are.1, (x, row_more IsTold are.0 last x answers one are.2.1 (subst (λ v. IsTold v one x) same is), (x, refl, refl)))
-
--- a record of an authority more
-pub authority_more : (w v x : Window) (asked : List Asked) (answers authorities : List Told) (one : Told) → ArePushed w (asked, (answers, (authorities, []))) v → IsTold v one x
-    → ArePushed w (asked, (answers, (authorities ++ one ∷ [], []))) x
-authority_more w v x asked answers authorities one are is =
-    let last = are.2.2.0 in
-    let same : v ≡ last = are.2.2.2 in
-    (are.0, are.1, (are.2.0, are.2.1, (x, row_more IsTold are.2.0 last x authorities one are.2.2.1 (subst (λ v. IsTold v one x) same is), refl)))
-
--- an additional record more
-pub additional_more : (w v x : Window) (asked : List Asked) (answers authorities additionals : List Told) (one : Told) → ArePushed w (asked, (answers, (authorities, additionals))) v → IsTold v one x
-    → ArePushed w (asked, (answers, (authorities, additionals ++ one ∷ []))) x
-additional_more w v x asked answers authorities additionals one are is =
-    (are.0, are.1, (are.2.0, are.2.1, (are.2.2.0, are.2.2.1, row_more IsTold are.2.2.0 v x additionals one are.2.2.2 is)))
-
-behind_size : (told : Told) (made : List ℕ) → length (behind_owner told.rtype told.class told.ttl made) ≡ 10 + length made
-behind_size told made =
-    let rtype = octets_be 2 told.rtype in
-    let class = octets_be 2 told.class in
-    let ttl = octets_be 4 told.ttl in
-    let kept = part_of 2 made in
-    omega (
-      arith,
-      length-append rtype (class ++ (ttl ++ kept)),
-      length-append class (ttl ++ kept),
-      length-append ttl kept,
-      length_part 2 made,
-      length_be 2 told.rtype,
-      length_be 2 told.class,
-      length_be 4 told.ttl,
-    )
-
 -- the data of a record stands behind its head
 data_behind : (header body name made more : List ℕ) (told : Told) → length header ≡ 12
     → drop (12 + length body + length name + 2 + 2 + 4 + 2) (header ++ (body ++ (name ++ (behind_owner told.rtype told.class told.ttl made ++ more)))) ≡ made ++ more
@@ -197,114 +156,403 @@ data_behind header body name made more told long =
     let at_len = drop_on all ttl (len ++ (made ++ more)) (place + length name + 2 + 2) 4 at_ttl (length_be 4 told.ttl) in
     drop_on all len (made ++ more) (place + length name + 2 + 2 + 4) 2 at_len (length_be 2 (length made))
 
--- A record of opaque data was appended, and a header written.
-pub record TellsOnce (most : Option ℕ) (old between new : List ℕ) (k : Header) (held : List Place) (one : Told) (made : List ℕ) : Type 0 where
-  pub added : ∥ AppendsEntry old between (IsRecordEntry most old held one) ∥₁
-  pub opaque : one.said ≡ Matter.opaque made
-  pub each : AreLabels one.labels
-  pub short : wire_length one.labels ≤ 255
-  pub rtype : one.rtype < 65536
-  pub class : one.class < 65536
-  pub ttl : one.ttl < 4294967296
-  pub fits : HeaderFits k
-  pub content : new ≡ header_octets k ++ drop 12 between
-  pub size : length new ≤ 65535
+-- ---- data
 
--- A body goes on with an entry, at whose place a record stands.
-pub record GoesOn (body : List ℕ) (k : Header) (new : List ℕ) (one : Told) : Type 0 where
-  pub entry : List ℕ
-  pub octets_are : new ≡ header_octets k ++ (body ++ entry)
-  pub stands : StandsIn IsTold (body ++ entry) (12 + length body) one (12 + length (body ++ entry))
+-- data of the end of a message
+ends_at : (all made more : List ℕ) (q : ℕ) → drop q all ≡ made ++ more → length made ≤ length all - q
+ends_at all made more q is =
+    let here = ap length is ∙ length-append made more in
+    omega (arith, here, length-drop q all)
 
--- opaque data stands as what it says
-opaque_stands : (said : Matter) (made all after : List ℕ) (q : ℕ) → said ≡ Matter.opaque made → drop q all ≡ made ++ after → StandsAsData said all q (length made)
-opaque_stands said made all after q is there =
+-- octets stand at a place
+octets_stand : (all made more : List ℕ) (q n : ℕ) → drop q all ≡ made ++ more → length made ≡ n
+    → HasOctets n (at q (whole all)) made (at (q + length made) (whole all))
+octets_stand all made more q n is long =
+    let room = ends_at all made more q is in
+    let count : q + n - q ≡ length made = omega (arith, long) in (
+      omega (arith, room, long),
+      sym (ap (λ k. take k (drop q all)) count ∙ ap (take (length made)) is ∙ take-append_seam made more),
+      ap (λ n. at (q + n) (whole all)) long,
+    )
+
+-- a string stands behind its length
+string_stands : (all string more : List ℕ) (q : ℕ) → drop q all ≡ part_of 1 string ++ more → length string ≤ 255
+    → HasString (at q (whole all)) string (at (q + (1 + length string)) (whole all))
+string_stands all string more q is short =
+    let len = octets_be 1 (length string) in
+    let apart : drop q all ≡ len ++ (string ++ more) = is ∙ append_assoc len string more in
+    let behind = drop_on all len (string ++ more) q 1 apart (length_be 1 (length string)) in
+    let first = number_at all (string ++ more) q 1 (length string) apart (omega arith) (omega (arith, short)) in
+    let count : part_length 1 (at q (whole all)) ≡ length string = sym first.1 in
+    let room = ends_at all string more (q + 1) behind in
+    let place : q + 1 + length string - (q + 1) ≡ length string = omega arith in
+    let end : q + 1 + part_length 1 (at q (whole all)) ≡ q + (1 + length string) = omega (arith, count) in (
+      (first.0, subst (λ n. n ≤ length all - (q + 1)) (sym count) room),
+      sym (ap (λ n. take (q + 1 + n - (q + 1)) (drop (q + 1) all)) count ∙ ap (λ n. take n (drop (q + 1) all)) place
+          ∙ ap (take (length string)) behind ∙ take-append_seam string more),
+      ap (λ p. at p (whole all)) (sym end),
+    )
+
+-- strings stand one behind another
+strings_stand : (all more : List ℕ) (q : ℕ) (strings : List (List ℕ)) → AllByRecursion (λ string. length string ≤ 255) strings
+    → drop q all ≡ flat_map (part_of 1) strings ++ more
+    → Row HasString (at q (whole all)) strings (at (q + length (flat_map (part_of 1) strings)) (whole all))
+strings_stand all more q [] short is = let none : q + length {A = ℕ} [] ≡ q = omega arith in ap (λ p. at p (whole all)) none
+strings_stand all more q (string ∷ strings) short is =
+    let rest = flat_map (part_of 1) strings in
+    let apart : drop q all ≡ part_of 1 string ++ (rest ++ more) = is ∙ append_assoc (part_of 1 string) rest more in
+    let one = string_stands all string (rest ++ more) q apart short.0 in
+    let behind = drop_on all (part_of 1 string) (rest ++ more) q (1 + length string) apart (length_part 1 string) in
+    let others = strings_stand all more (q + (1 + length string)) strings short.1 behind in
+    let both = length-append (part_of 1 string) rest in
+    let first = length_part 1 string in
+    let end : q + (1 + length string) + length rest ≡ q + length (part_of 1 string ++ rest) = omega (arith, both, first) in
+    (at (q + (1 + length string)) (whole all), one, subst (λ p. Row HasString (at (q + (1 + length string)) (whole all)) strings (at p (whole all))) end others)
+
+-- an encoded name stands where it was appended, whatever comes between it and what it was encoded against
+name_stands : (base between name more header all : List ℕ) (places added : List Place) (labels : List (List ℕ)) (start q : ℕ)
+    → IsPlaced base places start labels name added → FitsName labels → 12 ≤ length base → length header ≡ 12
+    → all ≡ header ++ drop 12 (base ++ between ++ name ++ more) → q ≡ length (base ++ between)
+    → IsName (at q (whole all)) labels (at (q + length name) (whole all))
+name_stands base between name more header all places added labels start q placed fits headed long is begins =
+    let there = encoded_stands_behind base between places labels name placed.encodes.0 fits.each fits.short headed header more long in
+    subst (λ q. IsName (at q (whole all)) labels (at (q + length name) (whole all))) (sym begins)
+    (subst (λ all. IsName (at (length (base ++ between)) (whole all)) labels (at (length (base ++ between) + length name) (whole all))) (sym is) there)
+
+-- a plain name does
+plain_stands : (base between more header all : List ℕ) (labels : List (List ℕ)) (q : ℕ) → FitsName labels → 12 ≤ length base
+    → length header ≡ 12 → all ≡ header ++ drop 12 (base ++ between ++ wire labels ++ more) → q ≡ length (base ++ between)
+    → IsName (at q (whole all)) labels (at (q + length (wire labels)) (whole all))
+plain_stands base between more header all labels q fits headed long is begins =
+    let nowhere : HasNoRun base [] labels = λ k place less. absurd (omega (arith, less)) in
+    let there = encoded_stands_behind base between [] labels (wire labels) (IsEncoded.plain nowhere refl) fits.each fits.short headed header more long in
+    subst (λ q. IsName (at q (whole all)) labels (at (q + length (wire labels)) (whole all))) (sym begins)
+    (subst (λ all. IsName (at (length (base ++ between)) (whole all)) labels (at (length (base ++ between) + length (wire labels)) (whole all))) (sym is) there)
+
+-- Data of a record stand at a place behind its name and its head, in a message with some header.
+record Data (base head made more header all : List ℕ) (q : ℕ) : Type 0 where
+  room : 12 ≤ length base
+  long : length header ≡ 12
+  all_are : all ≡ header ++ drop 12 (base ++ (head ++ (made ++ more)))
+  begins : q ≡ length (base ++ head)
+  there : drop q all ≡ made ++ more
+
+-- so some octets of them stand between others
+between_is : (base head before middle after made more header all : List ℕ) (q : ℕ) → Data base head made more header all q
+    → made ≡ before ++ (middle ++ after) → all ≡ header ++ drop 12 (base ++ (head ++ before) ++ middle ++ (after ++ more))
+between_is base head before middle after made more header all q d is =
+    let apart : made ++ more ≡ before ++ (middle ++ (after ++ more)) =
+    ap (λ made. made ++ more) is ∙ append_assoc before (middle ++ after) more ∙ ap (λ rest. before ++ rest) (append_assoc middle after more) in
+    d.all_are ∙ ap (λ rest. header ++ drop 12 rest) (ap (λ rest. base ++ (head ++ rest)) apart
+    ∙ ap (λ rest. base ++ rest) (sym (append_assoc head before (middle ++ (after ++ more))))
+    ∙ sym (append_assoc base (head ++ before) (middle ++ (after ++ more)))
+    ∙ sym (append_assoc (base ++ (head ++ before)) middle (after ++ more)))
+
+place_is : (base head before made more header all : List ℕ) (q n : ℕ) → Data base head made more header all q → length before ≡ n
+    → q + n ≡ length (base ++ (head ++ before))
+place_is base head before made more header all q n d many =
+    let begins = d.begins in
+    let one = length-append base head in
+    let two = length-append head before in
+    let three = length-append base (head ++ before) in
+    omega (arith, begins, many, one, two, three)
+
+-- a name that is all of them
+name_is_all : (base head made more header all : List ℕ) (places added : List Place) (labels : List (List ℕ)) (start q : ℕ)
+    → Data base head made more header all q → IsPlaced base places start labels made added → FitsName labels
+    → HasName (at q (whole all)) (record { place = at q (whole all); labels = labels }) (at (q + length made) (whole all))
+name_is_all base head made more header all places added labels start q d placed fits =
+    let same : all ≡ header ++ drop 12 (base ++ head ++ made ++ more) =
+    d.all_are ∙ ap (λ rest. header ++ drop 12 rest) (sym (append_assoc base head (made ++ more)) ∙ sym (append_assoc (base ++ head) made more)) in
+    (refl, name_stands base head made more header all places added labels start q placed fits d.room d.long same d.begins)
+
+-- a mail exchange
+exchange_stands : (base head made more header all : List ℕ) (places added : List Place) (preference : ℕ) (labels : List (List ℕ)) (start q : ℕ)
+    → Data base head made more header all q → IsMade base places start (Matter.mx preference labels) made added
+    → FitsMatter (Matter.mx preference labels) → StandsAsData (Matter.mx preference labels) all q (length made)
+exchange_stands base head made more header all places added preference labels start q d is fits =
+    let before = octets_be 2 preference in
+    let name = is.0 in
+    let two = length_be 2 preference in
+    let w = at (q + 2) (whole all) in
+    let shown : made ≡ before ++ (name ++ []) = is.2 ∙ ap (λ rest. before ++ rest) (sym (append-nil name)) in
+    let first = number_at all (name ++ more) q 2 preference (d.there ∙ ap (λ made. made ++ more) is.2 ∙ append_assoc before name more) (omega arith) fits.0 in
+    let stands = name_stands base (head ++ before) name ([] ++ more) header all places added labels (start + 2) (q + 2) is.1 fits.1 d.room d.long
+    (between_is base head before name [] made more header all q d shown) (place_is base head before made more header all q 2 d two) in
+    let size = ap length is.2 ∙ length-append before name in
+    let end : q + 2 + length name ≡ q + length made = omega (arith, size, two) in (
+      Form.mx (record { preference = preference; exchange = record { place = w; labels = labels } }),
+      refl,
+      (refl, (w, first, (refl, subst (λ p. IsName w labels (at p (whole all))) end stands))),
+    )
+
+-- five numbers of 4 octets, one behind another
+five_stand : (all more : List ℕ) (p a b c d e : ℕ) → a < 4294967296 → b < 4294967296 → c < 4294967296 → d < 4294967296 → e < 4294967296
+    → drop p all ≡ octets_be 4 a ++ (octets_be 4 b ++ (octets_be 4 c ++ (octets_be 4 d ++ (octets_be 4 e ++ more))))
+    → (IsNumber 4 then IsNumber 4 then IsNumber 4 then IsNumber 4 then IsNumber 4) (at p (whole all)) (a, (b, (c, (d, e)))) (at (p + 20) (whole all))
+five_stand all more p a b c d e af bf cf df ef is =
+    let fifth = octets_be 4 e ++ more in
+    let fourth = octets_be 4 d ++ fifth in
+    let third = octets_be 4 c ++ fourth in
+    let second = octets_be 4 b ++ third in
+    let at_b = drop_on all (octets_be 4 a) second p 4 is (length_be 4 a) in
+    let at_c = drop_on all (octets_be 4 b) third (p + 4) 4 at_b (length_be 4 b) in
+    let at_d = drop_on all (octets_be 4 c) fourth (p + 4 + 4) 4 at_c (length_be 4 c) in
+    let at_e = drop_on all (octets_be 4 d) fifth (p + 4 + 4 + 4) 4 at_d (length_be 4 d) in
+    let end : p + 4 + 4 + 4 + 4 + 4 ≡ p + 20 = omega arith in
+    let last = number_at all more (p + 4 + 4 + 4 + 4) 4 e at_e (omega arith) ef in (
+      at (p + 4) (whole all),
+      number_at all second p 4 a is (omega arith) af,
+      (
+        at (p + 4 + 4) (whole all),
+        number_at all third (p + 4) 4 b at_b (omega arith) bf,
+        (
+          at (p + 4 + 4 + 4) (whole all),
+          number_at all fourth (p + 4 + 4) 4 c at_c (omega arith) cf,
+          (
+            at (p + 4 + 4 + 4 + 4) (whole all),
+            number_at all fifth (p + 4 + 4 + 4) 4 d at_d (omega arith) df,
+            subst (λ q. IsNumber 4 (at (p + 4 + 4 + 4 + 4) (whole all)) e (at q (whole all))) end last,
+          ),
+        ),
+      ),
+    )
+
+-- the octets of five numbers
+five_octets : ℕ → ℕ → ℕ → ℕ → ℕ → List ℕ
+five_octets a b c d e = octets_be 4 a ++ (octets_be 4 b ++ (octets_be 4 c ++ (octets_be 4 d ++ octets_be 4 e)))
+
+five_length : (a b c d e : ℕ) → length (five_octets a b c d e) ≡ 20
+unfolding five_octets
+five_length a b c d e = omega (
+  arith,
+  length-append (octets_be 4 a) (octets_be 4 b ++ (octets_be 4 c ++ (octets_be 4 d ++ octets_be 4 e))),
+  length-append (octets_be 4 b) (octets_be 4 c ++ (octets_be 4 d ++ octets_be 4 e)),
+  length-append (octets_be 4 c) (octets_be 4 d ++ octets_be 4 e),
+  length-append (octets_be 4 d) (octets_be 4 e),
+  length_be 4 a,
+  length_be 4 b,
+  length_be 4 c,
+  length_be 4 d,
+  length_be 4 e,
+)
+
+five_apart : (a b c d e : ℕ) (more : List ℕ)
+    → five_octets a b c d e ++ more ≡ octets_be 4 a ++ (octets_be 4 b ++ (octets_be 4 c ++ (octets_be 4 d ++ (octets_be 4 e ++ more))))
+unfolding five_octets
+five_apart a b c d e more =
+    let fifth = octets_be 4 e in
+    let fourth = octets_be 4 d ++ fifth in
+    let third = octets_be 4 c ++ fourth in
+    let second = octets_be 4 b ++ third in
+    append_assoc (octets_be 4 a) second more ∙ ap (λ rest. octets_be 4 a ++ rest) (append_assoc (octets_be 4 b) third more
+    ∙ ap (λ rest. octets_be 4 b ++ rest) (append_assoc (octets_be 4 c) fourth more
+    ∙ ap (λ rest. octets_be 4 c ++ rest) (append_assoc (octets_be 4 d) fifth more)))
+
+five_are : (a b c d e : ℕ) → octets_be 4 a ++ (octets_be 4 b ++ (octets_be 4 c ++ (octets_be 4 d ++ octets_be 4 e))) ≡ five_octets a b c d e
+unfolding five_octets
+five_are a b c d e = refl
+
+-- the start of a zone
+zone_stands : (base head made more header all : List ℕ) (places added : List Place) (one two : List (List ℕ)) (a b c d e : ℕ) (start q : ℕ)
+    → Data base head made more header all q → IsMade base places start (Matter.soa one two a b c d e) made added
+    → FitsMatter (Matter.soa one two a b c d e) → StandsAsData (Matter.soa one two a b c d e) all q (length made)
+zone_stands base head made more header all places added one two a b c d e start q rdata is fits =
+    let mname = is.0 in
+    let rname = is.1 in
+    let numbers = five_octets a b c d e in
+    let made_is : made ≡ mname ++ (rname ++ numbers) = is.6 ∙ ap (λ numbers. mname ++ (rname ++ numbers)) (five_are a b c d e) in
+    let p = q + length mname in
+    let s = q + (length mname + length rname) in
+    let w = at q (whole all) in
+    let u = at p (whole all) in
+    let v = at s (whole all) in
+    let none : q + length {A = ℕ} [] ≡ q = omega arith in
+    let begin : q ≡ length (base ++ (head ++ [])) = sym none ∙ place_is base head [] made more header all q 0 rdata refl in
+    let first = name_stands base (head ++ []) mname ((rname ++ numbers) ++ more) header all places is.2 one start q is.4 fits.0 rdata.room rdata.long
+    (between_is base head [] mname (rname ++ numbers) made more header all q rdata made_is) begin in
+    let second = name_stands base (head ++ mname) rname (numbers ++ more) header all places is.3 two (start + length mname) p is.5 fits.1 rdata.room rdata.long
+    (between_is base head mname rname numbers made more header all q rdata made_is) (place_is base head mname made more header all q (length mname) rdata refl) in
+    let apart : made ++ more ≡ mname ++ (rname ++ (numbers ++ more)) =
+    ap (λ made. made ++ more) made_is ∙ append_assoc mname (rname ++ numbers) more ∙ ap (λ rest. mname ++ rest) (append_assoc rname numbers more) in
+    let at_second = drop_on all mname (rname ++ (numbers ++ more)) q (length mname) (rdata.there ∙ apart) refl in
+    let behind = drop_on all rname (numbers ++ more) p (length rname) at_second refl in
+    let same : p + length rname ≡ s = omega arith in
+    let at_numbers : drop s all ≡ numbers ++ more = ap (λ s. drop s all) (sym same) ∙ behind in
+    let five = five_stand all more s a b c d e fits.2 fits.3 fits.4 fits.5 fits.6 (at_numbers ∙ five_apart a b c d e more) in
+    let size = ap length made_is ∙ length-append mname (rname ++ numbers) in
+    let more_size = length-append rname numbers in
+    let twenty = five_length a b c d e in
+    let end : s + 20 ≡ q + length made = omega (arith, size, more_size, twenty) in (
+      Form.soa (record { mname = record { place = w; labels = one }; rname = record { place = u; labels = two }; serial = a; refresh = b; retry = c; expire = d; minimum = e }),
+      refl,
+      (
+        refl,
+        (
+          u,
+          (refl, first),
+          (
+            v,
+            (refl, subst (λ s. IsName u two (at s (whole all))) same second),
+            subst (λ z. (IsNumber 4 then IsNumber 4 then IsNumber 4 then IsNumber 4 then IsNumber 4) v (a, (b, (c, (d, e)))) (at z (whole all))) end five,
+          ),
+        ),
+      ),
+    )
+
+-- the place of a service
+service_stands : (base head made more header all : List ℕ) (places added : List Place) (a b c : ℕ) (labels : List (List ℕ)) (start q : ℕ)
+    → Data base head made more header all q → IsMade base places start (Matter.srv a b c labels) made added
+    → FitsMatter (Matter.srv a b c labels) → StandsAsData (Matter.srv a b c labels) all q (length made)
+service_stands base head made more header all places added a b c labels start q d is fits =
+    let first = octets_be 2 a in
+    let second = octets_be 2 b in
+    let third = octets_be 2 c in
+    let name = wire labels in
+    let before = first ++ (second ++ third) in
+    let one = length_be 2 a in
+    let two = length_be 2 b in
+    let three = length_be 2 c in
+    let few = length-append first (second ++ third) in
+    let fewer = length-append second third in
+    let six : length before ≡ 6 = omega (arith, one, two, three, few, fewer) in
+    let shown : made ≡ before ++ (name ++ []) = is.0 ∙ ap (λ name. first ++ (second ++ (third ++ name))) (sym (append-nil name))
+    ∙ ap (λ rest. first ++ rest) (sym (append_assoc second third (name ++ []))) ∙ sym (append_assoc first (second ++ third) (name ++ [])) in
+    let apart : made ++ more ≡ first ++ (second ++ (third ++ (name ++ more))) =
+    ap (λ made. made ++ more) is.0 ∙ append_assoc first (second ++ (third ++ name)) more ∙ ap (λ rest. first ++ rest) (append_assoc second (third ++ name) more
+    ∙ ap (λ rest. second ++ rest) (append_assoc third name more)) in
+    let at_first = d.there ∙ apart in
+    let at_second = drop_on all first (second ++ (third ++ (name ++ more))) q 2 at_first one in
+    let at_third = drop_on all second (third ++ (name ++ more)) (q + 2) 2 at_second two in
+    let w = at (q + 2 + 2 + 2) (whole all) in
+    let place : q + 6 ≡ q + 2 + 2 + 2 = omega arith in
+    let stands = plain_stands base (head ++ before) ([] ++ more) header all labels (q + 6) fits.3 d.room d.long
+    (between_is base head before name [] made more header all q d shown) (place_is base head before made more header all q 6 d six) in
+    let moved = subst (λ p. IsName (at p (whole all)) labels (at (p + length name) (whole all))) place stands in
+    let size = ap length shown ∙ length-append before (name ++ []) in
+    let last = ap length (append-nil name) in
+    let end : q + 2 + 2 + 2 + length name ≡ q + length made = omega (arith, size, last, six) in (
+      Form.srv (record { priority = a; weight = b; port = c; target = record { place = w; labels = labels } }),
+      refl,
+      (
+        refl,
+        refl,
+        (
+          at (q + 2) (whole all),
+          number_at all (second ++ (third ++ (name ++ more))) q 2 a at_first (omega arith) fits.0,
+          (
+            at (q + 2 + 2) (whole all),
+            number_at all (third ++ (name ++ more)) (q + 2) 2 b at_second (omega arith) fits.1,
+            (w, number_at all (name ++ more) (q + 2 + 2) 2 c at_third (omega arith) fits.2, (refl, subst (λ p. IsName w labels (at p (whole all))) end moved)),
+          ),
+        ),
+      ),
+    )
+
+-- data stand as what they say
+data_stands : (base head made more header all : List ℕ) (places added : List Place) (said : Matter) (start q : ℕ)
+    → Data base head made more header all q → IsMade base places start said made added → FitsMatter said
+    → StandsAsData said all q (length made)
+data_stands base head made more header all places added (Matter.a address) start q d is fits = (
+  Form.a address,
+  refl,
+  (
+    refl,
+    refl,
+    subst (λ address. HasOctets 4 (at q (whole all)) address (at (q + length made) (whole all))) is.1
+        (octets_stand all made more q 4 d.there (ap length is.1 ∙ is.0)),
+  ),
+)
+data_stands base head made more header all places added (Matter.aaaa address) start q d is fits = (
+  Form.aaaa address,
+  refl,
+  (
+    refl,
+    refl,
+    subst (λ address. HasOctets 16 (at q (whole all)) address (at (q + length made) (whole all))) is.1
+        (octets_stand all made more q 16 d.there (ap length is.1 ∙ is.0)),
+  ),
+)
+data_stands base head made more header all places added (Matter.ns labels) start q d is fits =
+    (Form.ns (record { place = at q (whole all); labels = labels }), refl, (refl, name_is_all base head made more header all places added labels start q d is fits))
+data_stands base head made more header all places added (Matter.cname labels) start q d is fits =
+    (Form.cname (record { place = at q (whole all); labels = labels }), refl, (refl, name_is_all base head made more header all places added labels start q d is fits))
+data_stands base head made more header all places added (Matter.ptr labels) start q d is fits =
+    (Form.ptr (record { place = at q (whole all); labels = labels }), refl, (refl, name_is_all base head made more header all places added labels start q d is fits))
+data_stands base head made more header all places added (Matter.mx preference labels) start q d is fits =
+    exchange_stands base head made more header all places added preference labels start q d is fits
+data_stands base head made more header all places added (Matter.soa one two a b c x e) start q d is fits =
+    zone_stands base head made more header all places added one two a b c x e start q d is fits
+data_stands base head made more header all places added (Matter.txt strings) start q d is fits =
+    let end : q + length (flat_map (part_of 1) strings) ≡ q + length made = ap (λ made. q + length made) (sym is.2) in (
+      Form.txt strings,
+      refl,
+      (
+        refl,
+        (
+          is.0,
+          subst (λ p. Row HasString (at q (whole all)) strings (at p (whole all))) end
+              (strings_stand all more q strings (recursion_from_All (λ string. length string ≤ 255) strings is.1) (d.there ∙ ap (λ made. made ++ more) is.2)),
+        ),
+      ),
+    )
+data_stands base head made more header all places added (Matter.srv a b c labels) start q d is fits =
+    service_stands base head made more header all places added a b c labels start q d is fits
+data_stands base head made more header all places added (Matter.opaque octets) start q d is fits =
     let count : q + length made - q ≡ length made = omega arith in
-    subst (λ said. StandsAsData said all q (length made)) (sym is)
-    (ap (λ n. take n (drop q all)) count ∙ ap (take (length made)) there ∙ take-append_seam made after)
+    ap (λ n. take n (drop q all)) count ∙ ap (take (length made)) d.there ∙ take-append_seam made more ∙ is.0
 
--- a message goes on so
-pub goes_on : (most : Option ℕ) (old between new : List ℕ) (h k : Header) (held : List Place) (one : Told) (made body : List ℕ) → TellsOnce most old between new k held one made
-    → old ≡ header_octets h ++ body → ∥ GoesOn body k new one ∥₁
-goes_on most old between new h k held one made body tells begins = ∥∥₁_elim tells.added ∥∥₁_prop (λ added.
+-- ---- records
+
+-- what was appended of a record stands as that record
+pub record_goes_on : (most : Option ℕ) (old : List ℕ) (held after : List Place) (told : Told) (entry : List ℕ)
+    (h : Header) (body : List ℕ) → old ≡ header_octets h ++ body → IsRecordEntry most old held told entry after
+    → Fits told → length (old ++ entry) ≤ 65535
+    → StandsIn IsTold (body ++ entry) (12 + length body) told (12 + length (body ++ entry))
+record_goes_on most old held after told entry h body begins is fits few =
     let first = header_octets h in
-    let entry = added.0 in
-    let name = added.1.0 in
-    let own = added.1.3 in
-    let encodes = added.1.4 in
-    let entry_is : entry ≡ name ++ behind_owner one.rtype one.class one.ttl own = added.1.6 in
-    let is_made = added.1.5 in
-    let table = kept most (held ++ places_of (length old) (take added.1.1 one.labels) added.1.2) in
-    let same : own ≡ made = subst (λ said. IsMade (old ++ name) table said own) tells.opaque is_made in
-    let together : between ≡ first ++ (body ++ entry) = added.2 ∙ ap (λ old. old ++ entry) begins ∙ append_assoc first body entry in
-    let shown : new ≡ header_octets k ++ (body ++ entry) =
-    tells.content ∙ ap (λ behind. header_octets k ++ behind) (ap (drop 12) together ∙ drop_front first (body ++ entry) 12 (header_length h)) in
-    let encoded : IsEncoded (first ++ body) held one.labels name = subst (λ old. IsEncoded old held one.labels name) begins encodes.0 in
-    let headed : 12 ≤ length (first ++ body) = let both = length-append first body in let long = header_length h in omega (arith, both, long) in
-    let behind = behind_owner one.rtype one.class one.ttl own in
-    let fits : length own < 65536 =
-    let size = tells.size in
-    let all = ap length shown ∙ length-append (header_octets k) (body ++ entry) in
-    let both = length-append body entry in
-    let parts = ap length entry_is ∙ length-append name behind in
-    let last = behind_size one own in
-    omega (arith, size, all, both, parts, last) in
-    let stands = record_stands h body name own one tells.rtype tells.class tells.ttl fits
-    (λ header more long. encoded_stands (first ++ body) held one.labels name encoded tells.each tells.short headed header more long)
-    (λ header more long. opaque_stands one.said own (header ++ (body ++ (name ++ (behind ++ more)))) more (12 + length body + length name + 2 + 2 + 4 + 2)
-    (tells.opaque ∙ ap Matter.opaque (sym same)) (data_behind header body name own more one long)) in
-    ∣ record {
-      entry = entry;
-      octets_are = shown;
-      stands = subst (λ entry. StandsIn IsTold (body ++ entry) (12 + length body) one (12 + length (body ++ entry))) (sym entry_is) stands;
-    } ∣₁)
-
--- so what was pushed is a record more
-pub section_written : (new : List ℕ) (h k : Header) (old body : List ℕ) (a e : List Asked) (b c d x y z : List Told) (one : Told) → (so_far : Writes old h a b c d) → GoesOn so_far.body k new one
-    → HeaderFits k → length new ≤ 65535 → k.qdcount ≡ length e → k.ancount ≡ length x → k.nscount ≡ length y → k.arcount ≡ length z
-    → ((w v u : Window) → ArePushed w (a, (b, (c, d))) v → IsTold v one u → ArePushed w (e, (x, (y, z))) u) → Writes new k e x y z
-section_written new h k old body a e b c d x y z one so_far on fits size qdcount ancount nscount arcount more = record {
-  body = so_far.body ++ on.entry;
-  octets_are = on.octets_are;
-  size = size;
-  fits = fits;
-  qdcount = qdcount;
-  ancount = ancount;
-  nscount = nscount;
-  arcount = arcount;
-  pushed = λ header rest long.
-      let all = header ++ ((so_far.body ++ on.entry) ++ rest) in
-      more (at 12 (whole all)) (at (12 + length so_far.body) (whole all)) (at (12 + length (so_far.body ++ on.entry)) (whole all))
-      (stands_on ArePushed so_far.body on.entry 12 (12 + length so_far.body) (a, (b, (c, d))) so_far.pushed header rest long) (on.stands header rest long);
-}
-
-one_longer : {A : Type 0} (row : List A) (one : A) (count more : ℕ) → count ≡ length row → more ≡ count + 1 → more ≡ length (row ++ one ∷ [])
-one_longer row one count more is counted = let all = length-append row (one ∷ []) in omega (arith, is, counted, all)
-
-module _ (most : Option ℕ) (old between new : List ℕ) (h k : Header) (held : List Place) (one : Told) (made : List ℕ) (tells : TellsOnce most old between new k held one made) where
-  -- an answer more was written
-  pub answer_written : (a : List Asked) (b : List Told) → k ≡ record h { ancount = h.ancount + 1 } → IsWritten old h a b [] [] → IsWritten new k a (b ++ one ∷ []) [] []
-  answer_written a b counted so_far = ∥∥₁_elim so_far ∥∥₁_prop (λ so_far.
-      ∥∥₁_elim (goes_on most old between new h k held one made so_far.body tells so_far.octets_are) ∥∥₁_prop (λ on.
-      ∣ section_written new h k old so_far.body a a b [] [] (b ++ one ∷ []) [] [] one so_far on tells.fits tells.size
-      (ap (λ k. k.qdcount) counted ∙ so_far.qdcount) (one_longer b one h.ancount k.ancount so_far.ancount (ap (λ k. k.ancount) counted))
-      (ap (λ k. k.nscount) counted ∙ so_far.nscount) (ap (λ k. k.arcount) counted ∙ so_far.arcount)
-      (λ w v u are is. answer_more w v u a b one are is) ∣₁))
-
-  -- a record of an authority more
-  pub authority_written : (a : List Asked) (b c : List Told) → k ≡ record h { nscount = h.nscount + 1 } → IsWritten old h a b c [] → IsWritten new k a b (c ++ one ∷ []) []
-  authority_written a b c counted so_far = ∥∥₁_elim so_far ∥∥₁_prop (λ so_far.
-      ∥∥₁_elim (goes_on most old between new h k held one made so_far.body tells so_far.octets_are) ∥∥₁_prop (λ on.
-      ∣ section_written new h k old so_far.body a a b c [] b (c ++ one ∷ []) [] one so_far on tells.fits tells.size
-      (ap (λ k. k.qdcount) counted ∙ so_far.qdcount) (ap (λ k. k.ancount) counted ∙ so_far.ancount)
-      (one_longer c one h.nscount k.nscount so_far.nscount (ap (λ k. k.nscount) counted)) (ap (λ k. k.arcount) counted ∙ so_far.arcount)
-      (λ w v u are is. authority_more w v u a b c one are is) ∣₁))
-
-  -- an additional record more
-  pub additional_written : (a : List Asked) (b c d : List Told) → k ≡ record h { arcount = h.arcount + 1 } → IsWritten old h a b c d → IsWritten new k a b c (d ++ one ∷ [])
-  additional_written a b c d counted so_far = ∥∥₁_elim so_far ∥∥₁_prop (λ so_far.
-      ∥∥₁_elim (goes_on most old between new h k held one made so_far.body tells so_far.octets_are) ∥∥₁_prop (λ on.
-      ∣ section_written new h k old so_far.body a a b c d b c (d ++ one ∷ []) one so_far on tells.fits tells.size
-      (ap (λ k. k.qdcount) counted ∙ so_far.qdcount) (ap (λ k. k.ancount) counted ∙ so_far.ancount) (ap (λ k. k.nscount) counted ∙ so_far.nscount)
-      (one_longer d one h.arcount k.arcount so_far.arcount (ap (λ k. k.arcount) counted))
-      (λ w v u are is. additional_more w v u a b c d one are is) ∣₁))
+    let name = is.owner in
+    let made = is.made in
+    let behind = behind_owner told.rtype told.class told.ttl made in
+    let head = head_octets told.rtype told.class told.ttl (length made) in
+    let base = old ++ name in
+    let begin_long = ap length begins ∙ length-append first body in
+    let twelve = header_length h in
+    let ten = head_length told.rtype told.class told.ttl (length made) in
+    let headed : 12 ≤ length old = omega (arith, begin_long, twelve) in
+    let base_long = length-append old name in
+    let head_long = length-append base head in
+    let room : 12 ≤ length base = omega (arith, headed, base_long) in
+    let small : length made < 65536 =
+    let all = length-append old entry in
+    let parts = ap length is.entry_is ∙ length-append name behind in
+    let last = behind_length told.rtype told.class told.ttl made in
+    omega (arith, few, all, parts, last) in
+    let named : (header more : List ℕ) → length header ≡ 12
+    → IsName (at (length (first ++ body)) (whole (header ++ drop 12 (first ++ body ++ name ++ more)))) told.labels
+    (at (length (first ++ body) + length name) (whole (header ++ drop 12 (first ++ body ++ name ++ more)))) =
+    subst (λ old. (header more : List ℕ) → length header ≡ 12
+    → IsName (at (length old) (whole (header ++ drop 12 (old ++ name ++ more)))) told.labels
+    (at (length old + length name) (whole (header ++ drop 12 (old ++ name ++ more))))) begins
+    (encoded_stands old held told.labels name is.placed.encodes.0 fits.owner.each fits.owner.short headed) in
+    let says : (header more : List ℕ) → length header ≡ 12
+    → StandsAsData told.said (header ++ (body ++ (name ++ (behind ++ more)))) (12 + length body + length name + 2 + 2 + 4 + 2) (length made) =
+    λ header more long.
+    let all = header ++ (body ++ (name ++ (behind ++ more))) in
+    let parts : behind ++ more ≡ head ++ (made ++ more) =
+    ap (λ behind. behind ++ more) (head_and_data told.rtype told.class told.ttl made) ∙ append_assoc head made more in
+    let shown : base ++ (head ++ (made ++ more)) ≡ first ++ (body ++ (name ++ (behind ++ more))) =
+    ap (λ rest. base ++ rest) (sym parts) ∙ append_assoc old name (behind ++ more) ∙ ap (λ old. old ++ (name ++ (behind ++ more))) begins
+    ∙ append_assoc first body (name ++ (behind ++ more)) in
+    let there : drop 12 (base ++ (head ++ (made ++ more))) ≡ body ++ (name ++ (behind ++ more)) =
+    ap (drop 12) shown ∙ drop_front first (body ++ (name ++ (behind ++ more))) 12 (header_length h) in
+    data_stands base head made more header all (table_with most held is.named) is.added told.said (length old + (length name + 10)) (12 + length body + length name + 2 + 2 + 4 + 2)
+    (record {
+      room = room;
+      long = long;
+      all_are = ap (λ rest. header ++ rest) (sym there);
+      begins = omega (arith, begin_long, twelve, base_long, head_long, ten);
+      there = data_behind header body name made more told long;
+    }) is.is_made fits.said in
+    let stands = record_stands h body name made told fits.rtype fits.class fits.ttl small named says in
+    subst (λ entry. StandsIn IsTold (body ++ entry) (12 + length body) told (12 + length (body ++ entry))) (sym is.entry_is) stands

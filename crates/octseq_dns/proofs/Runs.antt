@@ -1,16 +1,17 @@
 -- How the longest run of a name's last labels is found, and what a name is encoded as then.
-use Rattle.std.proofs.Common.{◌≡◌, ℕ, ◌+◌, ◌-◌, ◌<◌, ◌≤◌, List, [], ◌∷◌, ◌++◌, length, take, drop, get_or, refl, sym}
-use Rattle.std.proofs.Common.{ap, ◌∙◌, subst, arith}
+use Rattle.std.proofs.Common.{◌≡◌, ℕ, zero, suc, ◌+◌, ◌-◌, ◌<◌, ◌≤◌, List, [], ◌∷◌, ◌++◌, length, take, drop, get_or}
+use Rattle.std.proofs.Common.{refl, sym, ap, ◌∙◌, append_assoc, subst, arith}
 use Rattle.std.proofs.lemmas.List.{length-drop, length-take, length-take-le, take_all, take_more, take-append-drop}
-use Rattle.std.proofs.lemmas.List.{get_or-drop, flat_map_more}
-use Rattle.std.proofs.lemmas.List.Elements.{All-contains, All-weaker, All-more}
+use Rattle.std.proofs.lemmas.List.{get_or-drop, drop-drop, flat_map_more}
+use Rattle.std.proofs.lemmas.List.Elements.{All-contains, All-weaker, All-more, Contains-append_right, Contains-get_or}
 use Rattle.std.proofs.Math.Logic.{∥∥₁_elim}
+use Rattle.std.proofs.Math.Nat.{lt_of_not-le}
 use Rattle.std.specs.Coded.{le_prop}
 use Rattle.std.specs.List.{All, Contains}
 use Rattle.octseq.specs.Window.{Window, at, whole}
 use Rattle.octseq_dns.specs.Encoded.{IsRun, IsLongest, HasNoRun, IsEncoded, Encodes, unrooted, pointer_to}
 use Rattle.octseq_dns.specs.Place.{StandsAt, IsGood, AreGood}
-use Rattle.octseq_dns.specs.Run.{IsRunNow}
+use Rattle.octseq_dns.specs.Run.{IsFirstRun, IsRunNow}
 use Rattle.octseq_dns.specs.declared.place.Place.{Place}
 use Rattle.octseq_dns_name.specs.Name.{Stands, IsName, octet, wire_length}
 use Rattle.octseq_dns_name.specs.OneName.{one_name, one_standing, Named}
@@ -28,6 +29,70 @@ unrooted_fits labels i =
     let all = ap wire_length (take-append-drop i labels) in
     let first = bodies_length (take i labels) in
     omega (arith, both, all, first)
+
+-- fewer labels have fewer octets
+pub fewer_octets : (labels : List (List ℕ)) (i j : ℕ) → i < j → j ≤ length labels
+    → wire_length (drop j labels) < wire_length (drop i labels)
+fewer_octets [] i j further within = absurd (omega (arith, further, within))
+fewer_octets (label ∷ labels) i zero further within = absurd (omega (arith, further))
+fewer_octets (label ∷ labels) zero (suc j) further within =
+    let fits = unrooted_fits labels j in
+    omega (arith, fits)
+fewer_octets (label ∷ labels) (suc i) (suc j) further within =
+    fewer_octets labels i j (omega (arith, further)) (omega (arith, within))
+
+-- and more have no fewer
+pub no_fewer_octets : (labels : List (List ℕ)) (i j : ℕ) → i ≤ j
+    → wire_length (drop j labels) ≤ wire_length (drop i labels)
+no_fewer_octets labels i j further =
+    let fits = unrooted_fits (drop i labels) (j - i) in
+    let sum : i + (j - i) ≡ j = omega (arith, further) in
+    let there = ap wire_length (drop-drop (j - i) i labels ∙ ap (λ n. drop n labels) sum) in
+    omega (arith, fits, there)
+
+-- so last labels that have more octets are more,
+pub more_labels : (labels : List (List ℕ)) (least count : ℕ)
+    → wire_length (drop (length labels - least) labels) < wire_length (drop (length labels - count) labels)
+    → least < count
+more_labels labels least count longer = lt_of_not-le (λ no_more.
+    let fewer = no_fewer_octets labels (length labels - least) (length labels - count) (omega (arith, no_more)) in
+    absurd (omega (arith, fewer, longer)))
+
+-- and those that have no more octets are no more
+pub no_more_labels : (labels : List (List ℕ)) (least count : ℕ) → count ≤ length labels
+    → wire_length (drop (length labels - count) labels) ≤ wire_length (drop (length labels - least) labels)
+    → count ≤ least
+no_more_labels labels least count within no_longer =
+    let fewer : count < least + 1 = lt_of_not-le (λ more.
+    let longer = fewer_octets labels (length labels - count) (length labels - least) (omega (arith, within, more))
+    (omega arith) in
+    absurd (omega (arith, longer, no_longer))) in
+    omega (arith, fewer)
+
+-- past a label its octets are left out
+pub octets_behind : (labels ahead more : List (List ℕ)) (label : List ℕ) (i left next : ℕ) → ahead ≡ drop i labels
+    → ahead ≡ label ∷ more → more ≡ drop (i + 1) labels → left ≡ wire_length (drop i labels)
+    → next ≡ left - (1 + length label) → next ≡ wire_length (drop (i + 1) labels)
+octets_behind labels ahead more label i left next ahead_is is more_is left_is next_is =
+    let here = ap wire_length (sym ahead_is ∙ is) in
+    let behind = ap wire_length more_is in
+    omega (arith, here, behind, left_is, next_is)
+
+-- Where all labels from before a place have more octets than a name, and those from there on no more, the name's labels
+-- can stand there alone.
+pub only_here : (labels there : List (List ℕ)) (place count : ℕ)
+    → ((i : ℕ) → i < place → wire_length there < wire_length (drop i labels))
+    → wire_length (drop place labels) ≤ wire_length there → there ≡ drop (length labels - count) labels
+    → length labels - count ≡ place
+only_here labels there place count longer no_longer is =
+    let size = ap wire_length is in
+    let not_before : place < length labels - count + 1 = lt_of_not-le (λ before.
+    let long = longer (length labels - count) (omega (arith, before)) in
+    absurd (omega (arith, size, long))) in
+    let not_behind : length labels - count < place + 1 = lt_of_not-le (λ behind.
+    let short = fewer_octets labels place (length labels - count) (omega (arith, behind)) (omega arith) in
+    absurd (omega (arith, size, short, no_longer))) in
+    omega (arith, not_before, not_behind)
 
 -- there is room for the octets of one more
 pub room_for_label : (labels more ahead : List (List ℕ)) (label content : List ℕ) (i : ℕ) → wire_length labels ≤ 255
@@ -156,6 +221,47 @@ longer_found octets places labels least count i inside so_far place longer run =
     All-more (AtMost octets labels count) places i place inside weaker
     (λ more is. let same = one_count octets labels count more (get_or places i place) run is in omega (arith, same))
 
+-- it is then the first of the most labels,
+pub first_found : (octets : List ℕ) (places : List Place) (labels : List (List ℕ)) (least count i : ℕ)
+    → i < length places
+    → All (λ other. (more : ℕ) → IsRunNow octets labels more other → more ≤ least) (take i places) → (place : Place)
+    → least < count → IsRunNow octets labels count (get_or places i place)
+    → IsFirstRun octets labels count (get_or places i place) (take (i + 1) places)
+first_found octets places labels least count i inside so_far place longer run = record {
+  before = take i places;
+  behind = [];
+  held = take_more places i place inside;
+  run = run;
+  first = All-weaker (AtMost octets labels least) (λ other. (more : ℕ) → IsRunNow octets labels more other
+      → more < count) (λ other most more is. let fits = most more is in omega (arith, longer, fits)) (take i places)
+      so_far;
+}
+
+-- it stays the first where the next place isn't one of more,
+pub first_stays : (octets : List ℕ) (places : List Place) (labels : List (List ℕ)) (count : ℕ) (found : Place) (i : ℕ)
+    → i < length places → (place : Place) → IsFirstRun octets labels count found (take i places)
+    → IsFirstRun octets labels count found (take (i + 1) places)
+first_stays octets places labels count found i inside place so_far = record {
+  before = so_far.before;
+  behind = so_far.behind ++ get_or places i place ∷ [];
+  held = take_more places i place inside ∙ ap (λ xs. xs ++ get_or places i place ∷ []) so_far.held
+      ∙ append_assoc so_far.before (found ∷ so_far.behind) (get_or places i place ∷ []);
+  run = so_far.run;
+  first = so_far.first;
+}
+
+-- and whatever places are behind it
+pub first_of_all : (octets : List ℕ) (places : List Place) (labels : List (List ℕ)) (count : ℕ) (found : Place) (i : ℕ)
+    → IsFirstRun octets labels count found (take i places) → IsFirstRun octets labels count found places
+first_of_all octets places labels count found i so_far = record {
+  before = so_far.before;
+  behind = so_far.behind ++ drop i places;
+  held = sym (take-append-drop i places) ∙ ap (λ xs. xs ++ drop i places) so_far.held
+      ∙ append_assoc so_far.before (found ∷ so_far.behind) (drop i places);
+  run = so_far.run;
+  first = so_far.first;
+}
+
 -- ---- runs in the message as it is, and under any header
 
 own_header : (octets : List ℕ) → 12 ≤ length octets
@@ -234,19 +340,29 @@ encodes_plain octets places labels encoded first count written headed short long
 -- and else it has a pointer
 pub encodes_pointed : (octets : List ℕ) (places : List Place) (labels : List (List ℕ)) (encoded first : List ℕ)
     (count written pointers : ℕ) (place : Place) → 12 ≤ length octets
-    → wire_length labels ≤ 255 → AreGood octets places → Contains places place → IsRunNow octets labels count place
+    → wire_length labels ≤ 255 → AreGood octets places → IsFirstRun octets labels count place places
     → All (λ other. (more : ℕ) → IsRunNow octets labels more other → more ≤ count) places
     → written ≡ length labels - count → pointers ≡ place.pointers + 1
     → first ≡ unrooted (take written labels) → encoded ≡ first ++ pointer_to place.at
     → Encodes octets places labels encoded written pointers
-encodes_pointed octets places labels encoded first count written pointers place headed short good held run longest size
+encodes_pointed octets places labels encoded first count written pointers place headed short good found longest size
     pointers_are written_is is =
+    let among : Contains places place = subst (λ all. Contains all place) (sym found.held)
+    (Contains-append_right found.before (place ∷ found.behind) place
+    (Contains-get_or (place ∷ found.behind) 0 place (omega arith))) in
     let longest_of : IsLongest octets places labels count place = record {
-      held = held;
-      run = run_of_good octets labels count place headed (All-contains (IsGood octets) places place good held) run;
+      before = found.before;
+      behind = found.behind;
+      held = found.held;
+      run = run_of_good octets labels count place headed (All-contains (IsGood octets) places place good among)
+          found.run;
       longest = All-weaker (AtMost octets labels count) (λ other. (more : ℕ) → IsRun octets labels more other
           → more ≤ count)
           (λ other most more run. most more (run_now octets labels more other headed short run)) places longest;
+      first = All-weaker (λ other. (more : ℕ) → IsRunNow octets labels more other → more < count)
+          (λ other. (more : ℕ) → IsRun octets labels more other → more < count)
+          (λ other fewer more run. fewer more (run_now octets labels more other headed short run)) found.before
+          found.first;
     } in
     let octets_are = is ∙ ap (λ first. first ++ pointer_to place.at) (written_is
     ∙ ap (λ written. unrooted (take written labels)) size) in

@@ -1,9 +1,14 @@
+pub mod Composed
 pub mod Encoded
 pub mod Place
 pub mod Pushed
 pub mod ReadBack
 pub mod Run
 pub mod RecordEntry
+pub mod Rewriting
+pub mod Rewritten
+pub mod Section
+pub mod SectionLaws
 pub mod Told
 pub mod Written
 pub use Rattle.octseq_dns_message.specs.Data

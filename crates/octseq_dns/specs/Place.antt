@@ -33,3 +33,7 @@ places_of start (label ∷ labels) pointers = if nat_le start 16383
 abbrev pub kept : Option ℕ → List Place → List Place
 kept (Some most) places = take most places
 kept None places = places
+
+-- the table of at most so many places, once places are added
+abbrev pub table_with : Option ℕ → List Place → List Place → List Place
+table_with most places added = kept most (places ++ added)

@@ -53,6 +53,19 @@ abbrev pub Says : Record → Matter → Type 0
 Says r (Matter.opaque octets) = rest r.rdata ≡ octets
 Says r said = (form : Form) × (matter form ≡ said) × IsTyped (record r { rtype = type_of said; class = 1 }) form
 
+-- addresses and places of services are of the class IN alone
+abbrev pub IsOfClass : ℕ → Matter → Type 0
+IsOfClass class (Matter.a _) = class ≡ 1
+IsOfClass class (Matter.aaaa _) = class ≡ 1
+IsOfClass class (Matter.srv _ _ _ _) = class ≡ 1
+IsOfClass class _ = Unit {0}
+
+-- A record's type and class are those that its data is of: the type whose data has the form, and a class of that form;
+-- where the data is opaque, those of no form that it has.
+abbrev pub IsOfType : Record → Matter → Type 0
+IsOfType r (Matter.opaque octets) = (form : Form) → ¬ IsTyped r form
+IsOfType r said = (r.rtype ≡ type_of said) × IsOfClass r.class said
+
 -- A record that was pushed: the labels of the name that it is of, its type and class, for how many seconds it may be
 -- kept, and its data.
 pub record Told : Type 0 where

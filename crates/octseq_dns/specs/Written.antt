@@ -80,6 +80,21 @@ pub record Writes (octets : List ℕ) (h : Header) (asked : List Asked)
 abbrev pub IsWritten : List ℕ → Header → List Asked → List Told → List Told → List Told → Type 0
 IsWritten octets h asked answers authorities additionals = ∥ Writes octets h asked answers authorities additionals ∥₁
 
+-- All that was pushed, by its sections.
+pub record Lists : Type 0 where
+  pub asked : List Asked
+  pub answers : List Told
+  pub authorities : List Told
+  pub additionals : List Told
+
+-- octets are a message of a header and of these lists
+abbrev pub WritesLists : List ℕ → Header → Lists → Type 0
+WritesLists octets h lists = Writes octets h lists.asked lists.answers lists.authorities lists.additionals
+
+-- they are, in some way
+abbrev pub AreWritten : List ℕ → Header → Lists → Type 0
+AreWritten octets h lists = ∥ WritesLists octets h lists ∥₁
+
 -- the header of a message of zeros
 abbrev pub blank_header : Header
 blank_header = record {

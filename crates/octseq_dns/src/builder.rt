@@ -1,31 +1,35 @@
 //! Messages that are written: RFC 1035, 4.1.
 //!
 //! A message begins with a header, and its sections follow one behind another: questions, answers, records of
-//! authorities, additional records. Each has a builder of its own, which the one before it turns into, so that nothing
-//! is pushed behind a later section. What is pushed is pushed whole or not at all, and the octets are a message at all
-//! times.
-ghost use Rattle.std.specs.Prelude.{◌≡◌, ◌+◌, ◌⊎◌, true, ℕ, List, [], IfOk, OnOk, OnErr, IsErr, ◌↔◌};
+//! authorities, additional records. Each has a type of builder of its own, which the one before it turns into, so that
+//! nothing is pushed behind a later section. What is pushed is pushed whole or not at all, and the octets are a message
+//! at all times.
+ghost use Rattle.std.specs.Prelude.{◌≡◌, ℕ, List};
 ghost use Rattle.octseq_dns.specs.ReadBack.{ReadsBack};
 ghost use Rattle.octseq_dns.specs.Told.{Told};
-ghost use Rattle.octseq_dns.specs.Written.{Asked, IsWritten};
+ghost use Rattle.octseq_dns.specs.Written.{Asked, Lists, AreWritten, IsWritten};
 ghost use Rattle.octseq_dns_message.specs.declared.header.Header.{Header as Fields};
 
-use crate::builder::header::{octets_of, put_header};
+use crate::builder::header::put_header;
+use crate::builder::section::{Additionals, Answers, Authorities, NoSection, Questions, Section};
 use crate::place::Places;
 use octseq::builder::AsOctetsMut;
-use octseq::{AppendError, AsOctets, OctetsBuilder, Truncate};
-use octseq_dns_message::{Flags, Header, Opcode, Rcode};
-use std::marker::Model;
+use octseq::{AsOctets, OctetsBuilder, Truncate};
+use octseq_dns_message::Header;
+use std::marker::{Model, PhantomData};
 
 mod draft;
 mod header;
+mod law;
+mod made;
+mod message;
 mod question;
 mod questions;
 mod record;
 mod records;
+pub mod section;
 
-pub use crate::builder::questions::QuestionBuilder;
-pub use crate::builder::records::{AdditionalBuilder, AnswerBuilder, AuthorityBuilder};
+pub use crate::builder::law::data_is_read_as_pushed;
 
 /// What was written is read back: the octets are a message, with that header, those questions and those records in
 /// their order, names octet for octet.
@@ -37,74 +41,42 @@ pub fn a_written_message_is_read()
         → ∥ ReadsBack octets header asked answers authorities additionals ∥₁ }
 {}
 
-/// A message in which nothing stands but its header: octets in a builder, and the places of names in a table. Contracts
-/// see both, and the header.
+/// A message that is written up to a section: octets in a builder, and the places of names in a table. Contracts see
+/// both, and the header.
 #[derive(Drop)]
-pub struct MessageBuilder<B: AsOctets, T: Places> {
+pub struct SectionBuilder<B: AsOctets, T: Places, S: Section> {
     octets: B,
     places: T,
     header: Header,
+    section: PhantomData<S>,
 }
 
-impl<B: AsOctets, T: Places> Model for MessageBuilder<B, T> {
-    ghost use Rattle.octseq_dns.specs.Pushed.{Building, IsBuilt, NothingYet};
+impl<B: AsOctets, T: Places, S: Section> Model for SectionBuilder<B, T, S> {
+    ghost use Rattle.octseq_dns.specs.Section.{Building, IsBuilt};
 
     ghost Value = { Building B T };
 
     ghost view = { λ m. record { octets = m.octets; places = m.places; header = m.header } };
 
-    ghost invariant = { λ m. IsBuilt (B.content m.octets) (T.held m.places) m.header NothingYet };
+    ghost invariant = { λ m. IsBuilt (B.content m.octets) (T.held m.places) m.header S.reaches };
 }
 
-impl<B: OctetsBuilder + Truncate + AsOctetsMut, T: Places> MessageBuilder<B, T> {
-    ghost use Rattle.octseq.specs.Limit.{IsPast, IsWithin};
-    ghost use Rattle.octseq.specs.Refusal.{IsShort, IsMemory, append_error};
-    ghost use Rattle.octseq_dns.specs.Written.{blank_header};
+/// A message in which nothing stands but its header.
+pub type MessageBuilder<B, T> = SectionBuilder<B, T, NoSection>;
 
-    /// A message with a header of zeros, in place of what the builder and the table have.
-    ///
-    /// # Errors
-    ///
-    /// `Short` where the limit of the builder's type is less than the 12 octets of a header, and else `Memory` where a
-    /// request for memory was refused. The builder and the table are then given up.
-    pub fn from_builder(octets: B, places: T) -> Result<Self, AppendError>
-        ensures written { IfOk result (λ m. IsWritten (B.content m.octets) blank_header [] [] [] []) }
-        ensures header { IfOk result (λ m. m.header ≡ blank_header) }
-        ensures places { IfOk result (λ m. T.held m.places ≡ []) }
-        ensures short { IsShort append_error result ↔ IsPast B.limit 12 }
-        ensures memory { IsMemory append_error result → B.asks ≡ true }
-        ensures borrows { IfOk result (λ m. B.borrows m.octets ≡ B.borrows octets) }
-    {
-        let header = Header {
-            id: 0,
-            flags: Flags {
-                qr: false,
-                aa: false,
-                tc: false,
-                rd: false,
-                ra: false,
-                z: false,
-                ad: false,
-                cd: false,
-            },
-            opcode: Opcode::QUERY,
-            rcode: Rcode::NOERROR,
-            qdcount: 0,
-            ancount: 0,
-            nscount: 0,
-            arcount: 0,
-        };
-        let (mut octets, mut places) = (octets, places);
-        octets.truncate(0);
-        places.truncate(0);
-        octets.append_slice(&octets_of(&header))?;
-        Ok(MessageBuilder {
-            octets,
-            places,
-            header,
-        })
-    }
+/// A message to which questions are pushed.
+pub type QuestionBuilder<B, T> = SectionBuilder<B, T, Questions>;
 
+/// A message to which answers are pushed.
+pub type AnswerBuilder<B, T> = SectionBuilder<B, T, Answers>;
+
+/// A message to which records of authorities are pushed.
+pub type AuthorityBuilder<B, T> = SectionBuilder<B, T, Authorities>;
+
+/// A message to which additional records are pushed.
+pub type AdditionalBuilder<B, T> = SectionBuilder<B, T, Additionals>;
+
+impl<B: OctetsBuilder + Truncate + AsOctetsMut, T: Places, S: Section> SectionBuilder<B, T, S> {
     /// Its header.
     pub fn header(&self) -> Header
         ensures { result ≡ self.now.header }
@@ -116,9 +88,8 @@ impl<B: OctetsBuilder + Truncate + AsOctetsMut, T: Places> MessageBuilder<B, T> 
     pub fn set_header(&mut self, header: Header)
         ensures header { self.new.header ≡ record self.old.header
             { id = header.id; flags = header.flags; opcode = header.opcode; rcode = header.rcode } }
-        ensures written { (asked : List Asked) (answers authorities additionals : List Told)
-            → IsWritten (B.content self.old.octets) self.old.header asked answers authorities additionals
-            → IsWritten (B.content self.new.octets) self.new.header asked answers authorities additionals }
+        ensures written { (lists : Lists) → AreWritten (B.content self.old.octets) self.old.header lists
+            → AreWritten (B.content self.new.octets) self.new.header lists }
         ensures places { T.held self.new.places ≡ T.held self.old.places }
         ensures borrows { B.borrows self.new.octets ≡ B.borrows self.old.octets }
     {
@@ -136,10 +107,16 @@ impl<B: OctetsBuilder + Truncate + AsOctetsMut, T: Places> MessageBuilder<B, T> 
         self.octets.as_ref()
     }
 
-    /// Goes on with the questions.
-    pub fn question(self) -> QuestionBuilder<B, T>
+    /// Goes on with a later section.
+    fn go_on<N: Section>(self) -> SectionBuilder<B, T, N>
+        requires { (lists : Lists) → S.reaches lists → N.reaches lists }
         ensures { result ≡ self }
     {
-        QuestionBuilder::behind(self.octets, self.places, self.header)
+        SectionBuilder {
+            octets: self.octets,
+            places: self.places,
+            header: self.header,
+            section: PhantomData,
+        }
     }
 }

@@ -10,11 +10,13 @@
 #![tactic(auto)]
 
 pub mod builder;
+pub mod compose;
 mod encode;
 pub mod place;
 
 pub use builder::{
     AdditionalBuilder, AnswerBuilder, AuthorityBuilder, MessageBuilder, QuestionBuilder,
+    SectionBuilder,
 };
 pub use octseq_dns_message::data::Data;
 pub use octseq_dns_message::header::{Flags, Header};

@@ -6,4 +6,5 @@ pub mod MessageTexts
 pub mod Messages
 pub mod Places
 pub mod Rows
+pub mod Strings
 pub mod Texts

@@ -39,6 +39,11 @@ pub record Reading {A : Type 0} (Is : Window → A → Window → Type 0) (w u :
 pub begun : {A : Type 0} (Is : Window → A → Window → Type 0) (w : Window) (end : ℕ) → Reading Is w w end
 begun Is w end = record { read = []; row = refl; ahead = λ all v row ends. (all, row) }
 
+-- nothing was
+pub begun_read : {A : Type 0} (Is : Window → A → Window → Type 0) (w : Window) (end : ℕ) → (begun Is w end).read ≡ []
+unfolding begun
+begun_read Is w end = refl
+
 -- before the place a row goes on, and what stands there is its first
 first_of : {A : Type 0} (Is : Window → A → Window → Type 0) → IsOne Is → (u x v : Window) (one : A) (row : List A)
     → (u.position ≡ v.position → ⊥) → Is u one x → Row Is u row v
@@ -72,6 +77,13 @@ with_one Is single w u x end one so_far before is = record {
       let on = first_of Is single u x v one more.0 (λ same. omega (arith, before, ends, same)) is more.1 in
       (on.0, on.2);
 }
+
+-- it is the last that was read
+pub with_one_read : {A : Type 0} (Is : Window → A → Window → Type 0) (single : IsOne Is) (w u x : Window) (end : ℕ)
+    (one : A) (so_far : Reading Is w u end) (before : u.position < end) (is : Is u one x)
+    → (with_one Is single w u x end one so_far before is).read ≡ so_far.read ++ one ∷ []
+unfolding with_one
+with_one_read Is single w u x end one so_far before is = refl
 
 -- a row that ends at the place
 abbrev pub NoneTo : {A : Type 0} → (Window → A → Window → Type 0) → Window → ℕ → Type 0

@@ -14,6 +14,7 @@ pub mod OneRow
 pub mod Opt
 pub mod Parsed
 pub mod Said
+pub mod Strings
 pub mod TextFront
 pub mod Txt
 pub mod Typed

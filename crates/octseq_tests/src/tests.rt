@@ -76,6 +76,7 @@ mod composing;
 mod dns;
 mod dns_data;
 mod dns_message;
+mod dns_round_trips;
 mod dns_text;
 mod dns_writing;
 mod errors;

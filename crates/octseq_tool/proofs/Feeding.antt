@@ -4,9 +4,6 @@ use Rattle.std.proofs.lemmas.List.{append-nil}
 use Rattle.std.specs.Io.KnownBytes.{Consumes, Keeps, IsAtEnd}
 use Rattle.std.specs.Prelude.{IfSome}
 use Rattle.octseq.specs.Pieces.{Held, StandsFor}
-use Rattle.octseq_tool.specs.Out.{Out, Answers}
-use Rattle.octseq_tool.specs.declared.engine.Command.{Command}
-use Rattle.octseq_tool.specs.declared.engine.Status.{Status}
 
 consumes_none : (known : Option (List ℕ)) → Consumes known known []
 consumes_none None = tt
@@ -17,11 +14,13 @@ keeps_consumes None after keeps = tt
 keeps_consumes (Some xs) None keeps = absurd keeps
 keeps_consumes (Some xs) (Some ys) keeps = sym keeps
 
-consumes_more : (before mid after : Option (List ℕ)) (xs ys : List ℕ) → Consumes before mid xs → Consumes mid after ys → Consumes before after (xs ++ ys)
+consumes_more : (before mid after : Option (List ℕ)) (xs ys : List ℕ) → Consumes before mid xs → Consumes mid after ys
+    → Consumes before after (xs ++ ys)
 consumes_more None mid after xs ys first second = tt
 consumes_more (Some a) None after xs ys first second = absurd first
 consumes_more (Some a) (Some b) None xs ys first second = absurd second
-consumes_more (Some a) (Some b) (Some c) xs ys first second = first ∙ ap (λ r. xs ++ r) second ∙ sym (append_assoc xs ys c)
+consumes_more (Some a) (Some b) (Some c) xs ys first second =
+    first ∙ ap (λ r. xs ++ r) second ∙ sym (append_assoc xs ys c)
 
 -- The reading stands for octets that the reader lost.
 pub record IsFed (given left : Option (List ℕ)) (held : Held) : Type 0 where
@@ -32,7 +31,8 @@ pub record IsFed (given left : Option (List ℕ)) (held : Held) : Type 0 where
 pub fed_nothing : (given : Option (List ℕ)) (held : Held) → StandsFor held [] → IsFed given given held
 fed_nothing given held stands = record { octets = []; consumed = consumes_none given; stands = stands }
 
-pub fed_more : (given left now : Option (List ℕ)) (held after : Held) (octets : List ℕ) → IsFed given left held → Consumes left now octets
+pub fed_more : (given left now : Option (List ℕ)) (held after : Held) (octets : List ℕ) → IsFed given left held
+    → Consumes left now octets
     → ((before : List ℕ) → StandsFor held before → StandsFor after (before ++ octets)) → IsFed given now after
 fed_more given left now held after octets so_far consumed stands = record {
   octets = so_far.octets ++ octets;
@@ -40,16 +40,13 @@ fed_more given left now held after octets so_far consumed stands = record {
   stands = stands so_far.octets so_far.stands;
 }
 
-all_consumed : (given left : Option (List ℕ)) (octets : List ℕ) → Consumes given left octets → IsAtEnd left → IfSome given (λ known. octets ≡ known)
+all_consumed : (given left : Option (List ℕ)) (octets : List ℕ) → Consumes given left octets → IsAtEnd left
+    → IfSome given (λ known. octets ≡ known)
 all_consumed None left octets consumed ended = tt
 all_consumed (Some known) None octets consumed ended = absurd consumed
-all_consumed (Some known) (Some rest) octets consumed ended = sym (consumed ∙ ap (λ r. octets ++ r) ended ∙ append-nil octets)
+all_consumed (Some known) (Some rest) octets consumed ended =
+    sym (consumed ∙ ap (λ r. octets ++ r) ended ∙ append-nil octets)
 
 pub fed_all : (given left : Option (List ℕ)) (held : Held) → IsFed given left held → IsAtEnd left
     → (input : List ℕ) × StandsFor held input × IfSome given (λ octets. input ≡ octets)
 fed_all given left held fed ended = (fed.octets, fed.stands, all_consumed given left fed.octets fed.consumed ended)
-
--- an answer to a command, by what it says of the whole input
-pub answers : {command : Command} {given : Option (List ℕ)} {output : List ℕ} {status : Status} (input : List ℕ)
-    → Out (Some command) input output status → IfSome given (λ octets. input ≡ octets) → Answers command given output status
-answers input answered whole = record { input = input; whole = whole; answered = answered }

@@ -1,4 +1,3 @@
 pub mod Feeding
 pub mod OneAnswer
 pub mod Records
-pub mod Writing

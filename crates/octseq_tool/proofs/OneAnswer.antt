@@ -1,15 +1,18 @@
 -- What is written is a function of the word and the input.
-use Rattle.std.proofs.Common.{◌≡◌, ◌≢◌, inl, inr, get_or, refl, sym, ◌∙◌, ap, subst, arith, List, [], ◌∷◌, ◌++◌, length, codes, ℕ, Option, Some, None}
+use Rattle.std.proofs.Common.{◌≡◌, ◌≢◌, ◌∙◌, ◌∷◌, ◌++◌}
+use Rattle.std.proofs.Common.{inl, inr, get_or, refl, sym, ap, subst, arith, List, [], length, codes, ℕ, Option, Some}
+use Rattle.std.proofs.Common.{None}
 use Rattle.std.proofs.lemmas.List.{append-nil}
 use Rattle.octseq_tool.proofs.Records.{IsRest, one_reading}
 use Rattle.octseq.specs.Fault.{Fault, IsFault, fault_text}
 use Rattle.octseq.specs.Parts.{Part, Splits, text}
 use Rattle.octseq.specs.Text.{IsWellFormed}
-use Rattle.octseq_tool.specs.Out.{name_of, IsNamed, HasText, records_of, IsCut, HasLines, Out}
+use Rattle.octseq_program.specs.Run.{IsNamed}
+use Rattle.octseq_tool.specs.Out.{name_of, HasText, records_of, IsCut, HasLines, Out}
 use Rattle.octseq_tool.specs.declared.engine.Command.{Command}
 use Rattle.octseq_tool.specs.declared.engine.Command.TheVariants.{Check, Lossy, Lossy64, Records}
-use Rattle.octseq_tool.specs.declared.engine.Status.{Status}
-use Rattle.octseq_tool.specs.declared.engine.Status.TheVariants.{Fine, Refused, Usage}
+use Rattle.octseq_program.specs.declared.status.Status.{Status}
+use Rattle.octseq_program.specs.declared.status.Status.TheVariants.{Fine, Refused, Usage}
 
 -- words that differ in their first octet, or in their length
 other_first : {P : Type 0} (x y : List ℕ) → get_or x 0 0 ≢ get_or y 0 0 → x ≡ y → P
@@ -36,7 +39,7 @@ same_name Lossy64 Check e = other_first _ _ (omega arith) e
 same_name Lossy Lossy64 e = other_length _ _ (omega arith) e
 same_name Lossy64 Lossy e = other_length _ _ (omega arith) e
 
-pub one_command : (word : List ℕ) (c d : Option Command) → IsNamed word c → IsNamed word d → c ≡ d
+pub one_command : (word : List ℕ) (c d : Option Command) → IsNamed name_of word c → IsNamed name_of word d → c ≡ d
 one_command word (Some c) (Some d) e f = ap Some (same_name c d (sym e ∙ f))
 one_command word (Some c) None e f = absurd (f (c, e))
 one_command word None (Some d) e f = absurd (e (d, f))
@@ -53,13 +56,17 @@ usage input x y Refused t p q = absurd p
 usage input x y s Fine p q = absurd q
 usage input x y s Refused p q = absurd q
 
--- by what the laws of octets say: they have one fault, those that have one aren't well formed, and they split in one way
-module _ (one_fault : (octets : List ℕ) (fault other : Fault) → IsFault octets fault → IsFault octets other → fault ≡ other)
+-- by what the laws of octets say: they have one fault, those that have one aren't well formed, and they split in one
+-- way
+module _
+    (one_fault : (octets : List ℕ) (fault other : Fault) → IsFault octets fault → IsFault octets other → fault ≡ other)
     (refutes : (octets : List ℕ) (fault : Fault) → IsFault octets fault → ¬ IsWellFormed octets)
-    (one_splitting : (octets : List ℕ) (parts others : List Part) → Splits octets parts → Splits octets others → parts ≡ others) where
+    (one_splitting : (octets : List ℕ) (parts others : List Part) → Splits octets parts → Splits octets others
+    → parts ≡ others) where
   checks : (input x y : List ℕ) (s t : Status) → Out (Some Check) input x s → Out (Some Check) input y t → Same x y s t
   checks input x y Fine Fine p q = (p.1 ∙ sym q.1, refl)
-  checks input x y Refused Refused (fault, f, e) (other, g, k) = (e ∙ ap (λ f. fault_text f ++ codes "\n") (one_fault input fault other f g) ∙ sym k, refl)
+  checks input x y Refused Refused (fault, f, e) (other, g, k) =
+      (e ∙ ap (λ f. fault_text f ++ codes "\n") (one_fault input fault other f g) ∙ sym k, refl)
   checks input x y Fine Refused p (other, g, k) = absurd (refutes input other g p.0)
   checks input x y Refused Fine (fault, f, e) q = absurd (refutes input fault f q.0)
   checks input x y Usage t p q = absurd p
@@ -75,40 +82,55 @@ module _ (one_fault : (octets : List ℕ) (fault other : Fault) → IsFault octe
   lossies input x y s Refused p q = absurd q
   lossies input x y s Usage p q = absurd q
 
-  limited : (input x y : List ℕ) (s t : Status) → Out (Some Lossy64) input x s → Out (Some Lossy64) input y t → Same x y s t
+  limited : (input x y : List ℕ) (s t : Status) → Out (Some Lossy64) input x s → Out (Some Lossy64) input y t
+      → Same x y s t
   limited input x y Fine Fine p q = (one_text input x y p.0 q.0, refl)
   limited input x y Refused Refused p q = (p.3 ∙ sym q.3, refl)
-  limited input x y Fine Refused p (lossy, h, long, e) = let same = ap length (one_text input x lossy p.0 h) in let short = p.1 in absurd (omega arith)
-  limited input x y Refused Fine (lossy, h, long, e) q = let same = ap length (one_text input lossy y h q.0) in let short = q.1 in absurd (omega arith)
+  limited input x y Fine Refused p (lossy, h, long, e) = let same = ap length (one_text input x lossy p.0 h) in
+      let short = p.1 in absurd (omega arith)
+  limited input x y Refused Fine (lossy, h, long, e) q = let same = ap length (one_text input lossy y h q.0) in
+      let short = q.1 in absurd (omega arith)
   limited input x y Usage t p q = absurd p
   limited input x y s Usage p q = absurd q
 
   one_lines : (parts : List (List ℕ)) (x y : List ℕ) → HasLines parts x → HasLines parts y → x ≡ y
   one_lines [] x y e f = e ∙ sym f
   one_lines (part ∷ parts) x y (line, more, h, hs, e) (other, rest, k, ks, f) =
-      e ∙ ap (λ l. l ++ codes "\n" ++ more) (one_text part line other h k) ∙ ap (λ m. other ++ codes "\n" ++ m) (one_lines parts more rest hs ks) ∙ sym f
+      e ∙ ap (λ l. l ++ codes "\n" ++ more) (one_text part line other h k)
+      ∙ ap (λ m. other ++ codes "\n" ++ m) (one_lines parts more rest hs ks) ∙ sym f
 
   -- the lines of two readings of one input
-  same_lines : (input rest other x y : List ℕ) (parts others : List (List ℕ)) → input ≡ records_of parts ++ rest → input ≡ records_of others ++ other
+  same_lines : (input rest other x y : List ℕ) (parts others : List (List ℕ)) → input ≡ records_of parts ++ rest
+      → input ≡ records_of others ++ other
       → IsRest rest → IsRest other → HasLines parts x → HasLines others y → (x ≡ y) × (rest ≡ other)
   same_lines input rest other x y parts others e f h k hs ks =
       let same = one_reading parts others rest other h k (sym e ∙ f) in
       let L : List (List ℕ) → Type 0 = λ ps. HasLines ps x in
       (one_lines others x y (subst L same.0 hs) ks, same.1)
 
-  lines : (input x y : List ℕ) (s t : Status) → Out (Some Records) input x s → Out (Some Records) input y t → Same x y s t
-  lines input x y Fine Fine (parts, e, h) (others, f, k) =
-      ((same_lines input [] [] x y parts others (e ∙ sym (append-nil _)) (f ∙ sym (append-nil _)) (inl refl) (inl refl) h k).0, refl)
-  lines input x y Refused Refused (parts, rest, front, e, c, h, o) (others, other, begin, f, d, k, u) =
-      (o ∙ ap (λ l. l ++ codes "unexpected end of input\n") (same_lines input rest other front begin parts others e f (inr c) (inr d) h k).0 ∙ sym u, refl)
+  lines : (input x y : List ℕ) (s t : Status) → Out (Some Records) input x s → Out (Some Records) input y t
+      → Same x y s t
+  lines input x y Fine Fine (parts, e, h) (others, f, k) = (
+    (same_lines input [] [] x y parts others (e ∙ sym (append-nil _)) (f ∙ sym (append-nil _)) (inl refl) (inl refl)
+        h k).0,
+    refl,
+  )
+  lines input x y Refused Refused (parts, rest, front, e, c, h, o) (others, other, begin, f, d, k, u) = (
+    o ∙ ap (λ l. l ++ codes "unexpected end of input\n")
+        (same_lines input rest other front begin parts others e f (inr c) (inr d) h k).0 ∙ sym u,
+    refl,
+  )
   lines input x y Fine Refused (parts, e, h) (others, other, begin, f, d, k, u) =
-      let same = (same_lines input [] other x begin parts others (e ∙ sym (append-nil _)) f (inl refl) (inr d) h k).1 in absurd (subst IsCut (sym same) d)
+      let same = (same_lines input [] other x begin parts others (e ∙ sym (append-nil _)) f (inl refl) (inr d) h k).1 in
+      absurd (subst IsCut (sym same) d)
   lines input x y Refused Fine (parts, rest, front, e, c, h, o) (others, f, k) =
-      let same = (same_lines input rest [] front y parts others e (f ∙ sym (append-nil _)) (inr c) (inl refl) h k).1 in absurd (subst IsCut same c)
+      let same = (same_lines input rest [] front y parts others e (f ∙ sym (append-nil _)) (inr c) (inl refl) h k).1 in
+      absurd (subst IsCut same c)
   lines input x y Usage t p q = absurd p
   lines input x y s Usage p q = absurd q
 
-  pub one_output : (c : Option Command) (input x y : List ℕ) (s t : Status) → Out c input x s → Out c input y t → Same x y s t
+  pub one_output : (c : Option Command) (input x y : List ℕ) (s t : Status) → Out c input x s → Out c input y t
+      → Same x y s t
   one_output (Some Check) = checks
   one_output (Some Lossy) = lossies
   one_output (Some Lossy64) = limited

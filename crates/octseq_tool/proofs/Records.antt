@@ -1,5 +1,7 @@
 -- Records are read from the front, and in one way.
-use Rattle.std.proofs.Common.{◌≡◌, ◌⊎◌, false, true, ℕ, ◌+◌, ◌-◌, ◌<◌, ◌≤◌, suc, add-one, get_or, codes, subst, List, [], ◌∷◌, ◌++◌, length, take, drop, refl, sym, ap, ◌∙◌, inl, inr, append_assoc, arith}
+use Rattle.std.proofs.Common.{◌≡◌, ◌⊎◌, ◌+◌, ◌-◌, ◌<◌, ◌≤◌, ◌∷◌, ◌++◌, ◌∙◌}
+use Rattle.std.proofs.Common.{false, true, ℕ, suc, add-one, get_or, codes, subst, List, [], length, take, drop, refl}
+use Rattle.std.proofs.Common.{sym, ap, inl, inr, append_assoc, arith}
 use Rattle.std.proofs.Math.Seq.{drop-cons}
 use Rattle.std.proofs.lemmas.List.{append-nil, length-append, length-take, length-drop}
 use Rattle.std.proofs.lemmas.Grind.{flat_map-append}
@@ -23,10 +25,13 @@ no_record (n ∷ octets) part more (inr short) e =
     let long : length octets ≡ length part + length more = ap length behind ∙ length-append part more in
     absurd (omega arith)
 
-pub one_reading : (parts others : List (List ℕ)) (x y : List ℕ) → IsRest x → IsRest y → records_of parts ++ x ≡ records_of others ++ y → (parts ≡ others) × (x ≡ y)
+pub one_reading : (parts others : List (List ℕ)) (x y : List ℕ) → IsRest x → IsRest y
+    → records_of parts ++ x ≡ records_of others ++ y → (parts ≡ others) × (x ≡ y)
 one_reading [] [] x y h k e = (refl, e)
-one_reading [] (b ∷ others) x y h k e = no_record x b (records_of others ++ y) h (e ∙ ap (λ r. length b ∷ r) (append_assoc b (records_of others) y))
-one_reading (a ∷ parts) [] x y h k e = no_record y a (records_of parts ++ x) k (sym e ∙ ap (λ r. length a ∷ r) (append_assoc a (records_of parts) x))
+one_reading [] (b ∷ others) x y h k e =
+    no_record x b (records_of others ++ y) h (e ∙ ap (λ r. length b ∷ r) (append_assoc b (records_of others) y))
+one_reading (a ∷ parts) [] x y h k e =
+    no_record y a (records_of parts ++ x) k (sym e ∙ ap (λ r. length a ∷ r) (append_assoc a (records_of parts) x))
 one_reading (a ∷ parts) (b ∷ others) x y h k e =
     let long : length a ≡ length b = cc in
     let behind : (a ++ records_of parts) ++ x ≡ (b ++ records_of others) ++ y = cc in
@@ -49,11 +54,14 @@ first_octet w some within =
     let ahead : drop w.position w.octets ≡ b ∷ behind = rw add-one (drop-cons w.octets w.position 0 here) in
     let one : w.position + 1 - w.position ≡ 1 = omega arith in
     let many : w.end - w.position ≡ suc (w.end - (w.position + 1)) = omega arith in
-    let value : be (next 1 w) ≡ b = ap (λ n. be (take n (drop w.position w.octets))) one ∙ ap (λ octets. be (take 1 octets)) ahead ∙ one_octet b in
-    ap (λ n. take n (drop w.position w.octets)) many ∙ ap (take (suc (w.end - (w.position + 1)))) ahead ∙ ap (λ n. n ∷ rest (past 1 w)) (sym value)
+    let value : be (next 1 w) ≡ b =
+    ap (λ n. be (take n (drop w.position w.octets))) one ∙ ap (λ octets. be (take 1 octets)) ahead ∙ one_octet b in
+    ap (λ n. take n (drop w.position w.octets)) many ∙ ap (take (suc (w.end - (w.position + 1)))) ahead
+    ∙ ap (λ n. n ∷ rest (past 1 w)) (sym value)
 
 -- how many octets a range has
-length_range : (octets : List ℕ) (from to : ℕ) → from ≤ to → to ≤ length octets → length (slice_range octets from to) ≡ to - from
+length_range : (octets : List ℕ) (from to : ℕ) → from ≤ to → to ≤ length octets
+    → length (slice_range octets from to) ≡ to - from
 length_range octets from to ordered within = omega (arith, length-take {A = ℕ}, length-drop {A = ℕ})
 
 -- a whole record at the front
@@ -61,13 +69,17 @@ pub whole_record : (w : Window) (n : ℕ) → 0 < left w → w.end ≤ length w.
     → next n (past 1 w) ++ rest (past n (past 1 w)) ≡ rest (past 1 w)
     → rest w ≡ length (rest (nested n (past 1 w))) ∷ rest (nested n (past 1 w)) ++ rest (past n (past 1 w))
 whole_record w n some within value fits joined =
-    let long : length (next n (past 1 w)) ≡ n = length_range w.octets (w.position + 1) (w.position + 1 + n) (omega arith) (omega arith) ∙ omega arith in
-    first_octet w some within ∙ ap (λ k. k ∷ rest (past 1 w)) (sym (long ∙ value)) ∙ ap (λ octets. length (next n (past 1 w)) ∷ octets) (sym joined)
+    let long : length (next n (past 1 w)) ≡ n =
+    length_range w.octets (w.position + 1) (w.position + 1 + n) (omega arith) (omega arith) ∙ omega arith in
+    first_octet w some within ∙ ap (λ k. k ∷ rest (past 1 w)) (sym (long ∙ value))
+    ∙ ap (λ octets. length (next n (past 1 w)) ∷ octets) (sym joined)
 
 -- no whole record
-pub cut_record : (w : Window) (n : ℕ) → 0 < left w → w.end ≤ length w.octets → n ≡ be (next 1 w) → left (past 1 w) < n → IsCut (rest w)
+pub cut_record : (w : Window) (n : ℕ) → 0 < left w → w.end ≤ length w.octets → n ≡ be (next 1 w) → left (past 1 w) < n
+    → IsCut (rest w)
 cut_record w n some within value short =
-    let long : length (rest (past 1 w)) ≡ w.end - (w.position + 1) = length_range w.octets (w.position + 1) w.end (omega arith) within in
+    let long : length (rest (past 1 w)) ≡ w.end - (w.position + 1) =
+    length_range w.octets (w.position + 1) w.end (omega arith) within in
     let few : length (rest (past 1 w)) < be (next 1 w) = omega arith in
     subst IsCut (sym (first_octet w some within)) few
 
@@ -82,14 +94,16 @@ pub whole_part : {T E : Type 0} (result : Result T E) (view : T → Window) (w a
     → IfOk result (λ taken. rest w ≡ length (rest (view taken)) ∷ rest (view taken) ++ rest after)
 whole_part (Ok taken) view w after within variant moved is_part law =
     let has : HasPart 1 w = variant.0 refl in
-    rw (is_part, moved) (whole_record w (part_length 1 w) has.0 within refl has.1 (law (past 1 w) (part_length 1 w) has.1))
+    rw (is_part, moved)
+    (whole_record w (part_length 1 w) has.0 within refl has.1 (law (past 1 w) (part_length 1 w) has.1))
 whole_part (Err e) view w after within variant moved is_part law = tt
 
 pub cut_part : {T E : Type 0} (result : Result T E) (w : Window) → w.end ≤ length w.octets → (IsOk result ↔ HasPart 1 w)
     → OnErr result (0 < left w → IsCut (rest w))
 cut_part (Ok taken) w within variant = tt
 cut_part (Err e) w within variant = λ some.
-    let short : part_length 1 w ≤ left (past 1 w) → ⊥ = λ fits. let none : false ≡ true = variant.1 (some, fits) in absurd (cc) in
+    let short : part_length 1 w ≤ left (past 1 w) → ⊥ = λ fits. let none : false ≡ true = variant.1 (some, fits) in
+    absurd (cc) in
     cut_record w (part_length 1 w) some within refl (not_within (part_length 1 w) (left (past 1 w)) short)
 
 -- The input was read as far as this rest, and the output has a line for each part.
@@ -99,8 +113,10 @@ pub record IsReadTo (input rest output : List ℕ) : Type 0 where
   pub lines : HasLines parts output
 
 -- a line more
-lines_more : (parts : List (List ℕ)) (lines part line : List ℕ) → HasLines parts lines → HasText part line → HasLines (parts ++ part ∷ []) (lines ++ (line ++ codes "\n"))
-lines_more [] lines part line none has = (line, [], has, refl, ap (λ l. l ++ (line ++ codes "\n")) none ∙ sym (append-nil _))
+lines_more : (parts : List (List ℕ)) (lines part line : List ℕ) → HasLines parts lines → HasText part line
+    → HasLines (parts ++ part ∷ []) (lines ++ (line ++ codes "\n"))
+lines_more [] lines part line none has =
+    (line, [], has, refl, ap (λ l. l ++ (line ++ codes "\n")) none ∙ sym (append-nil _))
 lines_more (p ∷ parts) lines part line (first, more, h, hs, e) has = (
   first,
   more ++ (line ++ codes "\n"),
@@ -110,15 +126,19 @@ lines_more (p ∷ parts) lines part line (first, more, h, hs, e) has = (
 )
 
 -- a record more
-pub read_more : (input before after part line output made : List ℕ) → IsReadTo input before output → before ≡ length part ∷ part ++ after → HasText part line
+pub read_more : (input before after part line output made : List ℕ) → IsReadTo input before output
+    → before ≡ length part ∷ part ++ after → HasText part line
     → made ≡ output ++ (line ++ codes "\n") → IsReadTo input after made
 read_more input before after part line output made so_far front has e =
     let L : List ℕ → Type 0 = HasLines (so_far.parts ++ part ∷ []) in
     let record_of : List ℕ → List ℕ = λ part. length part ∷ part in
     let joined : records_of (so_far.parts ++ part ∷ []) ≡ records_of so_far.parts ++ (length part ∷ part) =
-    flat_map-append record_of so_far.parts (part ∷ []) ∙ ap (λ x. records_of so_far.parts ++ (length part ∷ x)) (append-nil part) in
+    flat_map-append record_of so_far.parts (part ∷ [])
+    ∙ ap (λ x. records_of so_far.parts ++ (length part ∷ x)) (append-nil part) in
     record {
       parts = so_far.parts ++ part ∷ [];
-      whole = so_far.whole ∙ ap (λ x. records_of so_far.parts ++ x) front ∙ sym (append_assoc (records_of so_far.parts) (length part ∷ part) after) ∙ ap (λ x. x ++ after) (sym joined);
+      whole =
+          so_far.whole ∙ ap (λ x. records_of so_far.parts ++ x) front
+          ∙ sym (append_assoc (records_of so_far.parts) (length part ∷ part) after) ∙ ap (λ x. x ++ after) (sym joined);
       lines = subst L (sym e) (lines_more so_far.parts output part line so_far.lines has);
     }

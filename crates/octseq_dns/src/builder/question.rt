@@ -1,14 +1,13 @@
 //! Questions appended to a message.
-ghost use Rattle.std.specs.Prelude.{◌≡◌, ◌+◌, ◌<◌, ◌≤◌, ◌++◌, ◌⊎◌, ℕ, length, true, take, List, OnOk, OnErr, IfOk};
+ghost use Rattle.std.specs.Prelude.{◌≡◌, ◌≤◌, ◌++◌, ◌⊎◌, ℕ, Option, length, true, take, OnOk, OnErr, IfOk};
 ghost use Rattle.octseq.specs.Integer.{octets_be};
 ghost use Rattle.octseq.specs.Limit.{IsWithin};
 ghost use Rattle.octseq.specs.Refusal.{IsShort, IsMemory, append_error};
-ghost use Rattle.octseq_dns_name.specs.Name.{wire_length};
 ghost use Rattle.octseq_dns_name.specs.Read.{labels_of};
-ghost use Rattle.octseq_dns_name.specs.Wire.{AreLabels};
 ghost use Rattle.octseq_dns.specs.Encoded.{Encodes};
 ghost use Rattle.octseq_dns.specs.Place.{AreGood};
-ghost use Rattle.octseq_dns.specs.Pushed.{AddsPlaces, message_limit, AppendsEntry, IsQuestionEntry, PassesWith};
+ghost use Rattle.octseq_dns.specs.Pushed.{AppendsEntry, FitsAsked, IsQuestionEntry, IsQuestionLeast, PassesWith};
+ghost use Rattle.octseq_dns.specs.Pushed.{message_limit};
 ghost use Rattle.octseq_dns.specs.Written.{asked_of};
 
 use crate::builder::draft::{append, append_u16};
@@ -36,12 +35,10 @@ fn append_question<B: OctetsBuilder, R: AsOctets + Copy>(
     ensures front { take (length (B.content octets.old)) (B.content octets.new) ≡ B.content octets.old }
     ensures size { length (B.content octets.new) ≤ 65535 }
     ensures within { OnOk result (IsWithin (message_limit B.limit) (length (B.content octets.new))) }
-    ensures labels { AreLabels (labels_of qname.now) }
-    ensures qtype { OnOk result (qtype < 65536) }
-    ensures qclass { OnOk result (qclass < 65536) }
-    ensures named { wire_length (labels_of qname.now) ≤ 255 }
-    ensures short { IsShort append_error result → ∥ PassesWith (message_limit B.limit) (B.content octets.old)
-        (IsQuestionEntry (B.content octets.old) places.now (asked_of qname.now qtype qclass)) ∥₁ }
+    ensures fits { OnOk result (FitsAsked (asked_of qname.now qtype qclass)) }
+    ensures short { IsShort append_error result → (most : Option ℕ) → ∥ PassesWith (message_limit B.limit)
+        (B.content octets.old) (IsQuestionLeast most (B.content octets.old) places.now
+        (asked_of qname.now qtype qclass)) ∥₁ }
     ensures memory { IsMemory append_error result → B.asks ≡ true }
     ensures borrows { B.borrows octets.new ≡ B.borrows octets.old }
 {
@@ -63,21 +60,17 @@ fn write_question<B: OctetsBuilder, T: Places, R: AsOctets + Copy>(
     requires size { length (B.content octets.old) ≤ 65535 }
     requires room { 12 ≤ length (B.content octets.old) }
     requires good { ∥ AreGood (B.content octets.old) (T.held places.old) ∥₁ }
-    ensures ok { OnOk result (∥ AppendsEntry (B.content octets.old) (B.content octets.new)
-        (IsQuestionEntry (B.content octets.old) (T.held places.old) (asked_of qname.now qtype qclass)) ∥₁) }
+    ensures added { OnOk result (∥ AppendsEntry (B.content octets.old)
+        (IsQuestionEntry T.most (B.content octets.old) (T.held places.old) (asked_of qname.now qtype qclass))
+        (B.content octets.new) (T.held places.new) ∥₁) }
+    ensures fits { OnOk result (FitsAsked (asked_of qname.now qtype qclass)) }
     ensures good { OnOk result (∥ AreGood (B.content octets.new) (T.held places.new) ∥₁) }
-    ensures held { OnOk result (∥ AddsPlaces T.most (B.content octets.old) (T.held places.old)
-        (labels_of qname.now) (T.held places.new) ∥₁) }
     ensures front { take (length (B.content octets.old)) (B.content octets.new) ≡ B.content octets.old }
     ensures places { take (length (T.held places.old)) (T.held places.new) ≡ T.held places.old }
     ensures size { length (B.content octets.new) ≤ 65535 }
     ensures within { OnOk result (IsWithin (message_limit B.limit) (length (B.content octets.new))) }
-    ensures labels { AreLabels (labels_of qname.now) }
-    ensures named { wire_length (labels_of qname.now) ≤ 255 }
-    ensures qtype { OnOk result (qtype < 65536) }
-    ensures qclass { OnOk result (qclass < 65536) }
     ensures short { IsShort append_error result → ∥ PassesWith (message_limit B.limit) (B.content octets.old)
-        (IsQuestionEntry (B.content octets.old) (T.held places.old) (asked_of qname.now qtype qclass)) ∥₁ }
+        (IsQuestionLeast T.most (B.content octets.old) (T.held places.old) (asked_of qname.now qtype qclass)) ∥₁ }
     ensures memory { IsMemory append_error result → (B.asks ≡ true) ⊎ (T.asks ≡ true) }
     ensures borrows { B.borrows octets.new ≡ B.borrows octets.old }
 {
@@ -98,21 +91,17 @@ pub(super) fn add_question<B: OctetsBuilder + Truncate, T: Places, R: AsOctets +
     requires size { length (B.content octets.old) ≤ 65535 }
     requires room { 12 ≤ length (B.content octets.old) }
     requires good { ∥ AreGood (B.content octets.old) (T.held places.old) ∥₁ }
-    ensures ok { OnOk result (∥ AppendsEntry (B.content octets.old) (B.content octets.new)
-        (IsQuestionEntry (B.content octets.old) (T.held places.old) (asked_of qname.now qtype qclass)) ∥₁) }
+    ensures added { OnOk result (∥ AppendsEntry (B.content octets.old)
+        (IsQuestionEntry T.most (B.content octets.old) (T.held places.old) (asked_of qname.now qtype qclass))
+        (B.content octets.new) (T.held places.new) ∥₁) }
+    ensures fits { OnOk result (FitsAsked (asked_of qname.now qtype qclass)) }
     ensures good { OnOk result (∥ AreGood (B.content octets.new) (T.held places.new) ∥₁) }
-    ensures held { OnOk result (∥ AddsPlaces T.most (B.content octets.old) (T.held places.old)
-        (labels_of qname.now) (T.held places.new) ∥₁) }
     ensures err { OnErr result (B.content octets.new ≡ B.content octets.old) }
     ensures places { OnErr result (T.held places.new ≡ T.held places.old) }
     ensures size { length (B.content octets.new) ≤ 65535 }
     ensures within { OnOk result (IsWithin (message_limit B.limit) (length (B.content octets.new))) }
-    ensures labels { AreLabels (labels_of qname.now) }
-    ensures named { wire_length (labels_of qname.now) ≤ 255 }
-    ensures qtype { OnOk result (qtype < 65536) }
-    ensures qclass { OnOk result (qclass < 65536) }
     ensures short { IsShort append_error result → ∥ PassesWith (message_limit B.limit) (B.content octets.old)
-        (IsQuestionEntry (B.content octets.old) (T.held places.old) (asked_of qname.now qtype qclass)) ∥₁ }
+        (IsQuestionLeast T.most (B.content octets.old) (T.held places.old) (asked_of qname.now qtype qclass)) ∥₁ }
     ensures memory { IsMemory append_error result → (B.asks ≡ true) ⊎ (T.asks ≡ true) }
     ensures borrows { B.borrows octets.new ≡ B.borrows octets.old }
 {

@@ -1,7 +1,8 @@
 //! The octets and the strings that data is made of.
-ghost use Rattle.std.specs.Prelude.{◌≡◌, ◌≤◌, ℕ, List, IsErr, IfOk};
+ghost use Rattle.std.specs.Prelude.{◌≡◌, ◌≤◌, ℕ, List, IsErr, IfOk, length};
+ghost use Rattle.octseq.specs.Integer.{octets_be};
 ghost use Rattle.octseq.specs.Parser.{window};
-ghost use Rattle.octseq.specs.Window.{Window, left, rest};
+ghost use Rattle.octseq.specs.Window.{Window, left, next, rest};
 ghost use Rattle.octseq_dns_message.specs.Data.{HasOctets, HasString};
 
 use octseq::{AsOctets, Parser};
@@ -26,6 +27,8 @@ pub(crate) fn take_string<R: AsOctets + Copy>(
     ensures string { IfOk result (λ string.
         HasString (window parser.old) (rest (window string)) (window parser.new)) }
     ensures short { IfOk result (λ string. left (window string) ≤ 255) }
+    ensures length { IfOk result (λ string. octets_be 1 (length (rest (window string)))
+        ≡ next 1 (window parser.old)) }
     ensures malformed { IsErr result → (string : List ℕ) (v : Window) → ¬ HasString (window parser.old) string v }
 {
     let len = parser.parse_u8()?;

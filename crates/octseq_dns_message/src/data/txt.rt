@@ -1,9 +1,11 @@
 //! Strings of text: RFC 1035, 3.3 and 3.3.14.
-ghost use Rattle.std.specs.Prelude.{◌≡◌, ◌≤◌, ⊤, length};
+ghost use Rattle.std.specs.Prelude.{◌≡◌, ◌≤◌, ⊤, length, slice_range};
+ghost use Rattle.std.specs.List.{All};
 ghost use Rattle.octseq.specs.Parser.{window};
 ghost use Rattle.octseq.specs.Window.{left};
 ghost use Rattle.octseq_dns_message.specs.Data.{HasString};
 ghost use Rattle.octseq_dns_message.specs.OneRow.{Reaches, strings_once};
+ghost use Rattle.octseq_dns_message.specs.Strings.{spelling};
 
 use crate::data::string::take_string;
 use octseq::{AsOctets, Parser};
@@ -70,6 +72,10 @@ pub struct Txt<R: AsOctets> {
     end: usize,
     ghost strings: { Reaches HasString (window parser) end } by { strings_once (window parser) end },
     ghost some: { 1 ≤ length strings.0 },
+    ghost begins: { (window parser).position ≤ end },
+    ghost within: { end ≤ (window parser).end },
+    ghost spelled: { slice_range (window parser).octets (window parser).position end ≡ spelling strings.0 },
+    ghost short: { All (λ string. length string ≤ 255) strings.0 },
 }
 
 impl<R: AsOctets + Copy> Copy for Txt<R> {}
@@ -108,6 +114,15 @@ impl<R: AsOctets + Copy> Txt<R> {
             return Err(Malformed);
         }
         Ok(Txt { parser: first, end })
+    }
+
+    /// Its octets as they stand in the message: each string behind its length, which has one octet.
+    pub fn as_slice(&self) -> &[u8]
+        ensures octets { result.now ≡ spelling (strings_of self.now) }
+        ensures some { 1 ≤ length (strings_of self.now) }
+        ensures short { All (λ string. length string ≤ 255) (strings_of self.now) }
+    {
+        &self.parser.as_slice()[self.parser.pos()..self.end]
     }
 
     /// The strings, from the first one on.

@@ -13,6 +13,7 @@ use octseq::{AsOctets, Parser};
 use octseq_dns_name::Malformed;
 
 /// Takes so many questions.
+#[inline(always)]
 pub(crate) fn pass_questions<R: AsOctets + Copy>(
     parser: &mut Parser<R>,
     count: u16,
@@ -35,6 +36,7 @@ pub(crate) fn pass_questions<R: AsOctets + Copy>(
 }
 
 /// Takes so many records.
+#[inline(always)]
 pub(crate) fn pass_records<R: AsOctets + Copy>(
     parser: &mut Parser<R>,
     count: u16,

@@ -21,6 +21,7 @@ pub(crate) enum Step<R: AsOctets> {
 }
 
 /// Takes the next piece of a name. A pointer points before `start`.
+#[inline(always)]
 pub(crate) fn next_step<R: AsOctets + Copy>(
     parser: &mut Parser<R>,
     start: usize,
@@ -51,6 +52,7 @@ pub(crate) fn next_step<R: AsOctets + Copy>(
 }
 
 /// Takes the next label of a name, and all pointers before it. The part of the name that is ahead began at `start`.
+#[inline(always)]
 pub(crate) fn next_label<R: AsOctets + Copy>(
     parser: &mut Parser<R>,
     start: &mut usize,

@@ -9,6 +9,7 @@ mod conversions;
 mod messages;
 mod names;
 mod parsers;
+mod rewriting;
 mod spared;
 mod texts;
 mod writing;

@@ -1,8 +1,9 @@
-use super::{Status, ToolFault, command_word, engine};
+use super::Command;
+use octseq_program::hostile::Drip;
+use octseq_program::{ProgramFault, Status, command_word};
 use std::alloc::Global;
 use std::fmt::Debug;
-use std::io;
-use std::io::{Error, ErrorKind, Read, Write};
+use std::io::{Read, Write};
 use std::process::Abort;
 use std::test::Fail;
 
@@ -27,58 +28,18 @@ fn equal<T: PartialEq + Debug + Drop>(rt: &impl Abort, what: &str, left: T, righ
 mod hostile;
 mod refused;
 
-/// Octets that come a few at a time, and fail after some reads.
-#[derive(Drop)]
-struct Drip<'a> {
-    rest: &'a [u8],
-    at_once: usize,
-    reads: usize,
-}
-
-impl Read for Drip<'_> {
-    fn read(&mut self, buf: &mut [u8]) -> io::Result<usize> {
-        if self.reads == 0 {
-            return Err(Error::from(ErrorKind::ConnectionReset));
-        }
-        self.reads -= 1;
-        let count = self.at_once.min(buf.len());
-        self.rest.read(&mut buf[..count])
-    }
-}
-
-/// A writer that takes octets a few at a time, and fails after some calls.
-#[derive(Drop)]
-struct Narrow {
-    taken: Vec<u8>,
-    at_once: usize,
-    calls: usize,
-}
-
-impl Narrow {
-    /// Counts a call, or fails where it has had them all.
-    fn call(&mut self) -> io::Result<()> {
-        if self.calls == 0 {
-            return Err(Error::from(ErrorKind::BrokenPipe));
-        }
-        self.calls -= 1;
-        Ok(())
-    }
-}
-
-impl Write for Narrow {
-    fn write(&mut self, buf: &[u8]) -> io::Result<usize> {
-        self.call()?;
-        let count = self.at_once.min(buf.len());
-        self.taken.write(&buf[..count])
-    }
-
-    fn flush(&mut self) -> io::Result<()> {
-        self.call()
-    }
+/// Runs the program over a reader and a writer.
+fn engine<R: Read, W: Write>(
+    alloc: Global,
+    word: &str,
+    reader: &mut R,
+    writer: &mut W,
+) -> Result<Status, ProgramFault> {
+    octseq_program::engine::engine::<Command, R, W>(alloc, word, reader, writer)
 }
 
 /// What a command answers and writes for octets that come one a read.
-fn ran(alloc: Global, command: &str, octets: &[u8]) -> (Result<Status, ToolFault>, Vec<u8>) {
+fn ran(alloc: Global, command: &str, octets: &[u8]) -> (Result<Status, ProgramFault>, Vec<u8>) {
     let mut reader = Drip {
         rest: octets,
         at_once: 1,
@@ -126,7 +87,7 @@ fn one_argument_is_the_command(rt: HostRuntime) -> Result<(), Fail> {
         for word in words {
             args.push(String::from_str(alloc, word)?)?;
         }
-        assert_equal!(&rt, command_word(&args), wanted);
+        assert_equal!(&rt, command_word(&args, "check"), wanted);
     }
     Ok(())
 }

@@ -60,7 +60,7 @@ append-requires-2 g c =
     let some : 1 ≤ count = omega (arith, not_zero) in
     let run = c.longest_run-run.ensures.run some in
     let room = room_for_pointer labels first written count first_is (ap (λ n. n - count) c.label_count.ensures) some
-    run.1.within in
+    run.run.within in
     omega (arith, short, room)
 
 pub returns-clause-encoded : goal.returns-clause-encoded
@@ -79,7 +79,7 @@ returns-clause-encoded g c =
     ∥∥₁_elim c.requires.good ∥∥₁_prop
     (λ good. ∣ encodes_pointed c.args.octets.now c.args.places.now labels c.append-2.new.octets.content first count
     written (place.pointers + 1) place
-    c.requires.header short good run.0 run.1 c.longest_run-run.ensures.longest
+    c.requires.header short good run c.longest_run-run.ensures.longest
     (ap (λ n. n - count) c.label_count.ensures) refl first_is c.append-2.ensures ∣₁)
 
 pub returns-clause-short : goal.returns-clause-short
@@ -95,7 +95,7 @@ returns-clause-short g c =
     let some : 1 ≤ count = omega (arith, not_zero) in
     let run = c.longest_run-run.ensures.run some in
     let room = room_for_pointer labels first written count first_is (ap (λ n. n - count) c.label_count.ensures) some
-    run.1.within in
+    run.run.within in
     let size = ap length c.append-2.ensures in
     let both = length-append first (pointer_to place.at) in
     omega (arith, room, size, both)

@@ -3,7 +3,9 @@ use Rattle.octseq_tool.proofs.Feeding.{fed_nothing, fed_more, fed_all}
 use Rattle.octseq_tool.proofs.engine.feed_all.Goals as goal
 
 pub loop-init : goal.loop-init
-loop-init g c = let room = c.in_ok-piece.ensures.len in (fed_nothing (g.R.Read.remaining c.args.reader.now) c.args.pieces.now c.requires, omega arith)
+loop-init g c =
+    let room = c.in_ok-piece.ensures.len in
+    (fed_nothing (g.R.Read.remaining c.args.reader.now) c.args.pieces.now c.requires, omega arith)
 
 pub feed_next-requires : goal.feed_next-requires
 feed_next-requires g c = let room = c.as_mut_slice.ensures.len in let some = c.loop.invariant.1 in omega arith
@@ -13,14 +15,16 @@ returns-then-not-branch-clause-ok g c =
     let given = g.R.Read.remaining c.args.reader.now in
     let said = c.in_ok-feed_next.ensures in
     fed_all given (g.R.Read.remaining c.feed_next.new.reader) c.feed_next.new.pieces
-    (fed_more given (g.R.Read.remaining c.loop.reader) (g.R.Read.remaining c.feed_next.new.reader) c.loop.pieces c.feed_next.new.pieces
+    (fed_more given (g.R.Read.remaining c.loop.reader) (g.R.Read.remaining c.feed_next.new.reader) c.loop.pieces
+    c.feed_next.new.pieces
     said.fed.0 c.loop.invariant.0 said.fed.1 said.fed.2) (said.end c.if-not-branch.true)
 
 pub loop-preserved : goal.loop-preserved
 loop-preserved g c =
     let said = c.in_ok-feed_next.ensures in
     let before = c.loop.invariant.1 in (
-      fed_more (g.R.Read.remaining c.args.reader.now) (g.R.Read.remaining c.loop.reader) (g.R.Read.remaining c.feed_next.new.reader) c.loop.pieces
+      fed_more (g.R.Read.remaining c.args.reader.now) (g.R.Read.remaining c.loop.reader)
+          (g.R.Read.remaining c.feed_next.new.reader) c.loop.pieces
           c.feed_next.new.pieces said.fed.0 c.loop.invariant.0 said.fed.1 said.fed.2,
       before,
     )

@@ -5,4 +5,5 @@ use Rattle.octseq_tool.proofs.Feeding.{IsFed}
 use Rattle.octseq_tool.proofs.engine.feed_all.Given as goal
 
 abbrev pub invariant-loop : goal.invariant-loop
-invariant-loop g l = IsFed (g.R.Read.remaining l.fn.reader) (g.R.Read.remaining l.reader) l.pieces × (0 < vec_len l.piece)
+invariant-loop g l =
+    IsFed (g.R.Read.remaining l.fn.reader) (g.R.Read.remaining l.reader) l.pieces × (0 < vec_len l.piece)

@@ -8,5 +8,10 @@ returns-clause-ok g c =
     record {
       input = fed.0;
       whole = fed.2;
-      answered = (parts.0, parts.1, ap (λ made. made.items) c.into_octets_builder.ensures.same ∙ c.in-Ok.ensures.text fed.0 parts.0 fed.1 parts.1);
+      answered = (
+        parts.0,
+        parts.1,
+        ap (λ made. made.items) c.into_octets_builder.ensures.same
+            ∙ c.in-Ok.ensures.text fed.0 parts.0 fed.1 parts.1,
+      );
     }

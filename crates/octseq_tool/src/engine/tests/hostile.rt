@@ -1,8 +1,9 @@
 //! Hostile input, and streams that fail.
-use super::{Drip, Narrow, ran, repeated};
-use crate::engine::{Status, ToolFault, engine};
+use super::{engine, ran, repeated};
+use octseq_program::hostile::{Drip, Faltering, Narrow};
+use octseq_program::{ProgramFault, Status};
 use std::alloc::Global;
-use std::io::{self, Error, ErrorKind, Write};
+use std::io::ErrorKind;
 use std::process::Abort;
 use std::test::Fail;
 
@@ -137,7 +138,7 @@ fn failed_reads(
             assert_equal!(rt, written.as_slice(), output.as_bytes());
             return reads;
         }
-        assert_equal!(rt, answer, Err(ToolFault::Read));
+        assert_equal!(rt, answer, Err(ProgramFault::Read));
         assert_true!(rt, written.is_empty());
     }
     16
@@ -170,7 +171,7 @@ fn a_failed_write_is_told(rt: HostRuntime) {
                 let octets = b"\x03a\xFFb".as_slice();
                 let answer = engine(rt.alloc(), command, &mut { octets }, &mut writer);
                 let wanted = if calls < needed {
-                    Err(ToolFault::Write)
+                    Err(ProgramFault::Write)
                 } else {
                     Ok(status)
                 };
@@ -183,29 +184,6 @@ fn a_failed_write_is_told(rt: HostRuntime) {
     }
 }
 
-/// A writer that takes one octet at a time, fails at one call, and goes on behind it.
-#[derive(Drop)]
-struct Faltering {
-    taken: Vec<u8>,
-    until_failure: usize,
-    kind: ErrorKind,
-}
-
-impl Write for Faltering {
-    fn write(&mut self, buf: &[u8]) -> io::Result<usize> {
-        let fails = self.until_failure == 1;
-        self.until_failure = self.until_failure.saturating_sub(1);
-        if fails {
-            return Err(Error::from(self.kind));
-        }
-        self.taken.write(&buf[..buf.len().min(1)])
-    }
-
-    fn flush(&mut self) -> io::Result<()> {
-        Ok(())
-    }
-}
-
 #[test]
 fn nothing_is_written_behind_a_failure(rt: HostRuntime) {
     let output = b"a\xEF\xBF\xBDb".as_slice();
@@ -213,7 +191,7 @@ fn nothing_is_written_behind_a_failure(rt: HostRuntime) {
         for (kind, answer, taken) in [
             (
                 ErrorKind::BrokenPipe,
-                Err(ToolFault::Write),
+                Err(ProgramFault::Write),
                 &output[..failed - 1],
             ),
             (ErrorKind::Interrupted, Ok(Status::Fine), output),

@@ -2,32 +2,13 @@
 //!
 //! `.ci/refused` runs these tests with their n-th request refused, for each n up to the last of them. A refusal
 //! ends a test by the error that it was answered with, once the test has seen that nothing was written.
-use crate::engine::{Status, ToolFault, engine};
+use super::engine;
 use octseq::array::Array;
-use octseq::builder::OctetsBuilder;
+use octseq_program::hostile::Fixed;
+use octseq_program::{ProgramFault, Status};
 use std::alloc::{AllocError, Global};
-use std::io::{self, Error, ErrorKind, Write};
 use std::process::Abort;
 use std::test::Fail;
-
-/// A writer that requests no memory.
-#[derive(Drop)]
-struct Fixed {
-    taken: Array<64>,
-}
-
-impl Write for Fixed {
-    fn write(&mut self, buf: &[u8]) -> io::Result<usize> {
-        match self.taken.append_slice(buf) {
-            Ok(()) => Ok(buf.len()),
-            Err(_) => Err(Error::from(ErrorKind::WriteZero)),
-        }
-    }
-
-    fn flush(&mut self) -> io::Result<()> {
-        Ok(())
-    }
-}
 
 /// Runs a command, which writes its whole output, or nothing where memory is refused.
 fn is_told(
@@ -37,7 +18,7 @@ fn is_told(
     octets: &[u8],
     output: &[u8],
 ) -> Result<Status, Fail> {
-    let mut writer = Fixed {
+    let mut writer = Fixed::<64> {
         taken: Array::new(),
     };
     let answer = engine(alloc, command, &mut { octets }, &mut writer);
@@ -47,7 +28,7 @@ fn is_told(
             Ok(status)
         }
         Err(fault) => {
-            assert_equal!(rt, fault, ToolFault::Memory);
+            assert_equal!(rt, fault, ProgramFault::Memory);
             assert_true!(rt, writer.taken.as_slice().is_empty());
             Err(Fail::from(AllocError))
         }

@@ -1,9 +1,9 @@
-use Rattle.std.proofs.Common.{[], ◌++◌, length, refl, sym, ap, ◌∙◌, subst, rules, arith}
-use Rattle.std.proofs.lemmas.List.{append-nil}
+use Rattle.std.proofs.Common.{length, sym, ap, subst, rules, arith}
 use Rattle.octseq_dns_name.specs.Read.{labels_of}
 use Rattle.octseq_dns.specs.Place.{AreGood}
 use Rattle.octseq_dns.specs.Pushed.{message_limit}
-use Rattle.octseq_dns.proofs.Pushes.{good_after, same_encoding, owner_begins, owner_past}
+use Rattle.octseq_dns.proofs.Made.{owner_begins, owners_good, placed_at}
+use Rattle.octseq_dns.proofs.Pushes.{owner_past}
 use Rattle.octseq_dns.proofs.builder.record.append_owner.Goals as goal
 
 pub encode_name-encoded-requires-clause-good : goal.encode_name-encoded-requires-clause-good
@@ -20,16 +20,21 @@ returns-in_err-append-clause-short g c = λ short.
 
 pub returns-clause-begins : goal.returns-clause-begins
 returns-clause-begins g c =
+    let old = g.B.AsOctets.content c.args.octets.now in
+    let held = g.T.Places.held c.args.places.now in
     let encoded = c.encode_name-encoded in
-    owner_begins g.T.Places.most _ _ _ _ (labels_of c.args.owner.now) encoded.result.octets.content encoded.result.written encoded.result.pointers c.len-start.result _ _ c.as_ref.ensures.value
-    c.as_slice.ensures.held c.len-start.ensures.content encoded.ensures.encoded (search rules) (search rules)
+    let placed = placed_at _ old _ held (labels_of c.args.owner.now) encoded.result.octets.content encoded.result.written encoded.result.pointers c.len-start.result (length old) c.as_ref.ensures.value c.as_slice.ensures.held
+    c.len-start.ensures.content encoded.ensures.encoded in
+    owner_begins g.T.Places.most old held (labels_of c.args.owner.now) encoded.result.octets.content _ _ _ placed (search rules) (search rules)
 
 pub returns-clause-good : goal.returns-clause-good
 returns-clause-good g c =
-    let encoded = c.encode_name-encoded in
     let old = g.B.AsOctets.content c.args.octets.now in
     let held = g.T.Places.held c.args.places.now in
-    good_after old _ encoded.result.octets.content [] held held _ g.T.Places.most (labels_of c.args.owner.now) c.len-start.result encoded.result.written encoded.result.pointers refl
-    (same_encoding _ old _ held (labels_of c.args.owner.now) encoded.result.octets.content encoded.result.written encoded.result.pointers c.as_ref.ensures.value c.as_slice.ensures.held encoded.ensures.encoded)
-    encoded.ensures.each encoded.ensures.most c.requires.room c.requires.good
-    (c.in_ok-append.ensures.appended.ok ∙ ap (λ name. old ++ name) (c.as_slice-2.ensures.content ∙ sym (append-nil encoded.result.octets.content))) c.len-start.ensures.content (search rules)
+    let labels = labels_of c.args.owner.now in
+    let encoded = c.encode_name-encoded in
+    let placed = placed_at _ old _ held labels encoded.result.octets.content encoded.result.written encoded.result.pointers c.len-start.result (length old) c.as_ref.ensures.value c.as_slice.ensures.held
+    c.len-start.ensures.content encoded.ensures.encoded in
+    owners_good g.T.Places.most old held labels _ _
+    (owner_begins g.T.Places.most old held labels encoded.result.octets.content _ _ _ placed (search rules) (search rules))
+    (record { each = encoded.ensures.each; short = encoded.ensures.most }) c.requires.room c.requires.good

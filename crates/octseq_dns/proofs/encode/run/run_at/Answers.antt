@@ -5,18 +5,18 @@ use Rattle.octseq_dns_name.specs.Name.{IsName}
 use Rattle.octseq_dns_name.specs.Read.{labels_of}
 use Rattle.octseq_dns.proofs.encode.run.run_at.Goals as goal
 
-pub returns-in_err-name_at-clause-none : goal.returns-in_err-name_at-clause-none
-returns-in_err-name_at-clause-none g c none count run =
+pub returns-in_err-there-clause-none : goal.returns-in_err-there-clause-none
+returns-in_err-there-clause-none g c none count run =
     let labels = labels_of c.args.name.now in
-    absurd (c.in_err-name_at.ensures.none refl (drop (length labels - count) labels) run.end
+    absurd (c.in_err-there.ensures.none refl (drop (length labels - count) labels) run.end
     (subst (λ p. IsName (at p (whole c.args.octets.now)) (drop (length labels - count) labels) run.end)
     (sym c.from.ensures) run.name))
 
-pub returns-clause-none : goal.returns-clause-none
-returns-clause-none g c none count run =
+pub returns-in_err-count-clause-none : goal.returns-in_err-count-clause-none
+returns-in_err-count-clause-none g c none count run =
     let labels = labels_of c.args.name.now in
-    let there = labels_of c.in_ok-name_at.field-0 in
-    let stands = c.in_ok-name_at.ensures.some in
+    let there = labels_of c.in_ok-there.there in
+    let stands = c.in_ok-there.ensures.some in
     let name = subst (λ p. IsName (at p (whole c.args.octets.now)) there stands.0) c.from.ensures stands.1 in
-    c.same_end.ensures.none none count run.within
+    c.in_err-count.ensures.none refl count run.within
     (run_labels c.args.octets.now labels there count c.args.place stands.0 name run)

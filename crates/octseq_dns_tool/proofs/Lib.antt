@@ -1,0 +1,5 @@
+pub mod Moving
+pub mod OneAnswer
+pub mod OneRewriting
+pub mod Rewritings
+pub mod Streams

@@ -1,0 +1,5 @@
+pub mod Moved
+pub mod Out
+pub mod Rewritten
+pub mod Shown
+pub mod Stream

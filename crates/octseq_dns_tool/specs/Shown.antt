@@ -1,0 +1,26 @@
+-- What the program shows of octets that may be a message.
+use Rattle.std.specs.Prelude.{◌≡◌, ℕ, List, Bool, true, false, codes}
+use Rattle.octseq_dns.specs.Entry.{Question, Record}
+use Rattle.octseq_dns.specs.Message.{IsMessage}
+use Rattle.octseq_dns.specs.MessageText.{IsMessageText}
+use Rattle.octseq_dns.specs.declared.header.Header.{Header}
+
+-- Octets are a message, and this is its text.
+pub record HasText (octets text : List ℕ) : Type 0 where
+  pub header : Header
+  pub questions : List Question
+  pub answers : List Record
+  pub authorities : List Record
+  pub additionals : List Record
+  pub is_message : IsMessage octets header questions answers authorities additionals
+  pub is_text : IsMessageText header questions answers authorities additionals text
+
+-- octets are no message
+abbrev pub IsMalformed : List ℕ → Type 0
+IsMalformed octets = (header : Header) (questions : List Question) (answers authorities additionals : List Record)
+    → ¬ IsMessage octets header questions answers authorities additionals
+
+-- what is shown of octets: the text of the message, where they are one, and else `malformed`
+abbrev pub IsShown : List ℕ → Bool → List ℕ → Type 0
+IsShown octets true shown = HasText octets shown
+IsShown octets false shown = IsMalformed octets × (shown ≡ codes "malformed\n")

@@ -1,0 +1,168 @@
+//! Hostile input, and streams that fail.
+use super::{REPLY, REPLY_TEXT, engine, joined, ran};
+use octseq_program::hostile::{Drip, Faltering, Narrow};
+use octseq_program::{ProgramFault, Status};
+use std::alloc::Global;
+use std::io::ErrorKind;
+use std::process::Abort;
+use std::test::Fail;
+
+/// A message of zeros behind its length.
+const BLANK: [u8; 14] = [0, 12, 0, 0, 0, 0, 0, 0, 0, 0, 0, 0, 0, 0];
+
+/// What each command writes for `BLANK`.
+const OUTPUTS: [(&str, Status, &str); 4] = [
+    ("message", Status::Refused, "malformed\n"),
+    ("stream", Status::Fine, "id 0 opcode 0 rcode 0 flags\n\n"),
+    ("rewrite", Status::Fine, "\0\x0C\0\0\0\0\0\0\0\0\0\0\0\0"),
+    (
+        "streams",
+        Status::Usage,
+        "usage: octseq_dns_tool message|stream|rewrite\n",
+    ),
+];
+
+/// How often the command's reading fails, where the reader fails after no read, after one, and so on.
+fn failed_reads(
+    rt: &impl Abort,
+    alloc: Global,
+    at_once: usize,
+    (command, status, output): (&str, Status, &str),
+) -> usize {
+    for reads in 0..32 {
+        let mut reader = Drip {
+            rest: BLANK.as_slice(),
+            at_once,
+            reads,
+        };
+        let mut written = Vec::new(alloc);
+        let answer = engine(alloc, command, &mut reader, &mut written);
+        if answer.is_ok() {
+            assert_equal!(rt, answer, Ok(status));
+            assert_equal!(rt, written.as_slice(), output.as_bytes());
+            return reads;
+        }
+        assert_equal!(rt, answer, Err(ProgramFault::Read));
+        assert_true!(rt, written.is_empty());
+    }
+    32
+}
+
+#[test]
+fn a_failed_read_writes_nothing(rt: HostRuntime) {
+    for (command, status, output) in OUTPUTS {
+        // (the read that finds the end counts too, and another word reads nothing)
+        for (at_once, reads) in [(1, 15), (2, 8), (7, 3), (14, 2), (15, 2)] {
+            let wanted = if command == "streams" { 0 } else { reads };
+            let failed = failed_reads(&rt, rt.alloc(), at_once, (command, status, output));
+            assert_eq!(rt; failed, wanted, "{command} by {at_once}");
+        }
+    }
+}
+
+#[test]
+fn a_failed_write_is_told(rt: HostRuntime) {
+    for (command, status, output) in OUTPUTS {
+        for at_once in [1, 7, usize::MAX] {
+            // (each write that is needed, and a call to flush)
+            let needed = output.len().div_ceil(at_once) + 1;
+            for calls in 0..=needed {
+                let mut writer = Narrow {
+                    taken: Vec::new(rt.alloc()),
+                    at_once,
+                    calls,
+                };
+                let octets = BLANK.as_slice();
+                let answer = engine(rt.alloc(), command, &mut { octets }, &mut writer);
+                let wanted = if calls < needed {
+                    Err(ProgramFault::Write)
+                } else {
+                    Ok(status)
+                };
+                assert_eq!(rt; answer, wanted, "{command} of {calls}");
+                let taken = writer.taken.as_slice();
+                assert_equal!(&rt, output.as_bytes().get(..taken.len()), Some(taken));
+                assert_true!(&rt, answer.is_err() || taken.len() == output.len());
+            }
+        }
+    }
+}
+
+#[test]
+fn nothing_is_written_behind_a_failure(rt: HostRuntime) {
+    let output = REPLY_TEXT.as_bytes();
+    for failed in 1..=output.len() {
+        for (kind, answer, taken) in [
+            (
+                ErrorKind::BrokenPipe,
+                Err(ProgramFault::Write),
+                &output[..failed - 1],
+            ),
+            (ErrorKind::Interrupted, Ok(Status::Fine), output),
+        ] {
+            let mut writer = Faltering {
+                taken: Vec::new(rt.alloc()),
+                until_failure: failed,
+                kind,
+            };
+            let told = engine(rt.alloc(), "message", &mut REPLY.as_slice(), &mut writer);
+            assert_equal!(&rt, told, answer);
+            assert_equal!(&rt, writer.taken.as_slice(), taken);
+        }
+    }
+}
+
+#[test]
+fn output_is_the_same_however_octets_are_read(rt: HostRuntime) -> Result<(), Fail> {
+    let alloc = rt.alloc();
+    let stream = joined(alloc, &[&[0, 45], &REPLY, &BLANK, &[0, 11], &[0; 11], &[9]])?;
+    let (answer, wanted) = ran(alloc, "stream", stream.as_slice());
+    assert_equal!(&rt, answer, Ok(Status::Refused));
+    for at_once in [2, 3, 45, 46, 47, usize::MAX] {
+        let mut reader = Drip {
+            rest: stream.as_slice(),
+            at_once,
+            reads: usize::MAX,
+        };
+        let mut written = Vec::new(alloc);
+        let answer = engine(alloc, "stream", &mut reader, &mut written);
+        assert_equal!(&rt, answer, Ok(Status::Refused));
+        assert_equal!(&rt, written.as_slice(), wanted.as_slice());
+    }
+    Ok(())
+}
+
+/// A message of so many octets: a header of zeros that counts one answer, which is of the root, of type 10 and class 1,
+/// and whose data has the rest of the octets, zeros too.
+fn message_of(alloc: Global, size: usize) -> Result<Vec<u8>, Fail> {
+    let head = [
+        0, 0, 0, 0, 0, 0, 0, 1, 0, 0, 0, 0, 0, 0, 10, 0, 1, 0, 0, 0, 0,
+    ];
+    let len = u16::try_from(size.saturating_sub(23)).unwrap_or(u16::MAX);
+    let mut message = joined(alloc, &[&head, &len.to_be_bytes()])?;
+    message.resize(size, 0)?;
+    Ok(message)
+}
+
+#[test]
+fn a_message_has_65535_octets_at_most(rt: HostRuntime) -> Result<(), Fail> {
+    let alloc = rt.alloc();
+    let longest = message_of(alloc, 65535)?;
+    let (answer, written) = ran(alloc, "message", longest.as_slice());
+    assert_equal!(&rt, answer, Ok(Status::Fine));
+    assert_true!(
+        &rt,
+        written.as_slice().starts_with(
+            b"id 0 opcode 0 rcode 0 flags\nanswer . 0 IN TYPE10 \\# 65512 0000"
+        )
+    );
+    let stream = joined(alloc, &[&[0xFF, 0xFF], longest.as_slice()])?;
+    let (answer, shown) = ran(alloc, "stream", stream.as_slice());
+    assert_equal!(&rt, answer, Ok(Status::Fine));
+    assert_equal!(&rt, shown.len(), written.len() + 1);
+    let longer = message_of(alloc, 65536)?;
+    let (answer, written) = ran(alloc, "message", longer.as_slice());
+    assert_equal!(&rt, answer, Ok(Status::Refused));
+    assert_equal!(&rt, written.as_slice(), b"malformed\n".as_slice());
+    Ok(())
+}

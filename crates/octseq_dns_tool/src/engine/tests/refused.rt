@@ -1,0 +1,73 @@
+//! Refused requests for memory.
+//!
+//! `.ci/refused` runs these tests with their n-th request refused, for each n up to the last of them. A refusal
+//! ends a test by the error that it was answered with, once the test has seen that nothing was written.
+use super::{REPLY, REPLY_TEXT, engine};
+use octseq::array::Array;
+use octseq_program::hostile::Fixed;
+use octseq_program::{ProgramFault, Status};
+use std::alloc::{AllocError, Global};
+use std::process::Abort;
+use std::test::Fail;
+
+/// Runs a command, which writes its whole output, or nothing where memory is refused.
+fn is_told(
+    rt: &impl Abort,
+    alloc: Global,
+    command: &str,
+    octets: &[u8],
+    output: &[u8],
+) -> Result<Status, Fail> {
+    let mut writer = Fixed::<128> {
+        taken: Array::new(),
+    };
+    let answer = engine(alloc, command, &mut { octets }, &mut writer);
+    match answer {
+        Ok(status) => {
+            assert_equal!(rt, writer.taken.as_slice(), output);
+            Ok(status)
+        }
+        Err(fault) => {
+            assert_equal!(rt, fault, ProgramFault::Memory);
+            assert_true!(rt, writer.taken.as_slice().is_empty());
+            Err(Fail::from(AllocError))
+        }
+    }
+}
+
+#[test]
+fn message_tells_all_or_nothing(rt: HostRuntime) -> Result<(), Fail> {
+    let alloc = rt.alloc();
+    is_told(&rt, alloc, "message", &REPLY, REPLY_TEXT.as_bytes())?;
+    is_told(&rt, alloc, "message", b"a", b"malformed\n")?;
+    Ok(())
+}
+
+#[test]
+fn stream_tells_all_or_nothing(rt: HostRuntime) -> Result<(), Fail> {
+    let octets = b"\0\x0C\0\0\0\0\0\0\0\0\0\0\0\0\0\x01\0\0\0\x02a";
+    let text =
+        b"id 0 opcode 0 rcode 0 flags\n\nmalformed\n\nmalformed\n\nunexpected end of input\n";
+    is_told(&rt, rt.alloc(), "stream", octets, text)?;
+    Ok(())
+}
+
+#[test]
+fn rewrite_tells_all_or_nothing(rt: HostRuntime) -> Result<(), Fail> {
+    let alloc = rt.alloc();
+    let mut stream = Vec::new(alloc);
+    stream.extend_from_slice(&[0, 45])?;
+    stream.extend_from_slice(&REPLY)?;
+    let octets = stream.as_slice();
+    is_told(&rt, alloc, "rewrite", octets, octets)?;
+    is_told(&rt, alloc, "rewrite", b"\0\x01a", b"")?;
+    Ok(())
+}
+
+#[test]
+fn another_word_requests_nothing(rt: HostRuntime) -> Result<(), Fail> {
+    let usage = "usage: octseq_dns_tool message|stream|rewrite\n".as_bytes();
+    let status = is_told(&rt, rt.alloc(), "chek", b"a", usage)?;
+    assert_equal!(&rt, status, Status::Usage);
+    Ok(())
+}

@@ -1,0 +1,153 @@
+//! Messages of streams, written anew.
+use super::{REPLY, joined, ran};
+use octseq_program::Status;
+use std::alloc::Global;
+use std::process::Abort;
+use std::test::Fail;
+
+/// A header that counts so many answers.
+fn header_of(answers: u8) -> [u8; 12] {
+    [0, 0, 0, 0, 0, 0, 0, answers, 0, 0, 0, 0]
+}
+
+/// A message with one answer, which is of the root, of a type, a class and data.
+fn message_of(alloc: Global, rtype: u8, class: u8, rdata: &[u8]) -> Result<Vec<u8>, Fail> {
+    let len = u8::try_from(rdata.len()).unwrap_or(0);
+    let fields = [0, 0, rtype, 0, class, 0, 0, 0, 0, 0, len];
+    joined(alloc, &[&header_of(1), &fields, rdata])
+}
+
+/// Messages, each behind its length.
+fn stream_of(alloc: Global, messages: &[&[u8]]) -> Result<Vec<u8>, Fail> {
+    let mut stream = Vec::new(alloc);
+    for message in messages {
+        let len = u16::try_from(message.len()).unwrap_or(0);
+        stream.extend_from_slice(&len.to_be_bytes())?;
+        stream.extend_from_slice(message)?;
+    }
+    Ok(stream)
+}
+
+/// Asserts what is written of messages: others, and the status.
+fn is_rewritten(
+    rt: &impl Abort,
+    alloc: Global,
+    messages: &[&[u8]],
+    status: Status,
+    wanted: &[&[u8]],
+) -> Result<(), Fail> {
+    let stream = stream_of(alloc, messages)?;
+    let (answer, written) = ran(alloc, "rewrite", stream.as_slice());
+    assert_equal!(rt, answer, Ok(status));
+    let wanted = stream_of(alloc, wanted)?;
+    assert_equal!(rt, written.as_slice(), wanted.as_slice());
+    Ok(())
+}
+
+#[test]
+fn names_are_compressed(rt: HostRuntime) -> Result<(), Fail> {
+    let alloc = rt.alloc();
+    // (the reply, with the name of its answer written out)
+    let plain = joined(alloc, &[&REPLY[..29], &REPLY[12..25], &REPLY[31..]])?;
+    let messages = [plain.as_slice(), &REPLY, &[0; 12]];
+    is_rewritten(
+        &rt,
+        alloc,
+        &messages,
+        Status::Fine,
+        &[&REPLY, &REPLY, &[0; 12]],
+    )
+}
+
+#[test]
+fn what_is_malformed_is_left_out(rt: HostRuntime) -> Result<(), Fail> {
+    let messages = [&[0; 11], REPLY.as_slice(), &[]];
+    is_rewritten(&rt, rt.alloc(), &messages, Status::Refused, &[&REPLY])
+}
+
+#[test]
+fn data_that_may_have_pointers_is_left_out(rt: HostRuntime) -> Result<(), Fail> {
+    let alloc = rt.alloc();
+    // (types whose data has names, with data that isn't of their form)
+    for (rtype, class) in [
+        (2, 1),
+        (5, 3),
+        (6, 1),
+        (12, 1),
+        (15, 1),
+        (17, 1),
+        (33, 1),
+        (35, 4),
+    ] {
+        let message = message_of(alloc, rtype, class, &[1, 0x61])?;
+        let messages = [message.as_slice(), &REPLY];
+        is_rewritten(&rt, alloc, &messages, Status::Refused, &[&REPLY])?;
+    }
+    Ok(())
+}
+
+#[test]
+fn other_data_is_kept(rt: HostRuntime) -> Result<(), Fail> {
+    let alloc = rt.alloc();
+    // (types without names, a service of another class, and data of no octets)
+    for (rtype, class, rdata) in [
+        (1, 1, [1, 0x61].as_slice()),
+        (10, 1, &[1, 0x61]),
+        (16, 1, &[2, 0x61]),
+        (33, 3, &[1, 0x61]),
+        (36, 1, &[0xC0, 0]),
+        (2, 1, &[]),
+        (35, 1, &[]),
+    ] {
+        let message = message_of(alloc, rtype, class, rdata)?;
+        is_rewritten(&rt, alloc, &[&message], Status::Fine, &[&message])?;
+    }
+    Ok(())
+}
+
+/// A message of 65,535 octets with two answers: the first is of the root, and a name stands in its data; the name of
+/// the second is a pointer to that.
+fn longest(alloc: Global, name: &[u8]) -> Result<Vec<u8>, Fail> {
+    let first = [0, 0, 10, 0, 1, 0, 0, 0, 0, 0xFF, 0xDC];
+    let second = [0xC0, 23, 0, 10, 0, 1, 0, 0, 0, 0, 0, 0];
+    let mut message = joined(alloc, &[&header_of(2), &first, name])?;
+    message.resize(65_523, 0)?;
+    message.extend_from_slice(&second)?;
+    Ok(message)
+}
+
+#[test]
+fn what_would_pass_65535_octets_is_left_out(rt: HostRuntime) -> Result<(), Fail> {
+    let alloc = rt.alloc();
+    let message = longest(alloc, b"\x01a\0")?;
+    assert_equal!(&rt, message.len(), 65_535);
+    is_rewritten(&rt, alloc, &[&message, &REPLY], Status::Refused, &[&REPLY])?;
+    let message = longest(alloc, b"\0")?;
+    let stream = stream_of(alloc, &[&message])?;
+    let (answer, written) = ran(alloc, "rewrite", stream.as_slice());
+    assert_equal!(&rt, answer, Ok(Status::Fine));
+    assert_equal!(&rt, written.len(), 65_536);
+    Ok(())
+}
+
+/// Asserts that of the reply and a rest that is cut off the reply is written.
+fn is_cut(rt: &impl Abort, alloc: Global, rest: &[u8]) -> Result<(), Fail> {
+    let whole = stream_of(alloc, &[&REPLY])?;
+    let stream = joined(alloc, &[whole.as_slice(), rest])?;
+    let (answer, written) = ran(alloc, "rewrite", stream.as_slice());
+    assert_equal!(rt, answer, Ok(Status::Refused));
+    assert_equal!(rt, written.as_slice(), whole.as_slice());
+    Ok(())
+}
+
+#[test]
+fn a_stream_that_is_cut_off_is_written_as_far_as_it_goes(rt: HostRuntime) -> Result<(), Fail> {
+    let alloc = rt.alloc();
+    for rest in [[0].as_slice(), &[0, 1], &[0, 13, 0, 0]] {
+        is_cut(&rt, alloc, rest)?;
+    }
+    let (answer, written) = ran(alloc, "rewrite", b"");
+    assert_equal!(&rt, answer, Ok(Status::Fine));
+    assert_true!(&rt, written.is_empty());
+    Ok(())
+}

@@ -1,0 +1,59 @@
+//! Whether a message can be written anew in other octets.
+ghost use Rattle.std.specs.List.{AllByRecursion};
+ghost use Rattle.std.specs.Prelude.{◌≡◌, ◌↔◌, IsTrue};
+ghost use Rattle.octseq_dns.specs.Parsed.{answers_of, authorities_of, additionals_of};
+ghost use Rattle.octseq_dns.specs.Said.{record_of};
+ghost use Rattle.octseq_dns.specs.Walk.{records_left};
+ghost use Rattle.octseq_dns_tool.specs.Moved.{may_have_names, CanMoveRecord, CanMove};
+
+use octseq::AsOctets;
+use octseq_dns::message::{Message, Record, Records};
+use octseq_dns::{Class, Data, Rtype};
+
+/// The numbers of the types whose data has names, in any class: RFC 1035, 3.3, RFC 1183, RFC 2163, RFC 2535 and
+/// RFC 3403.
+const TYPES_WITH_NAMES: [u16; 18] = [
+    2, 3, 4, 5, 6, 7, 8, 9, 12, 14, 15, 17, 18, 21, 24, 26, 30, 35,
+];
+
+/// Whether data of a type and a class may have names, and so pointers.
+fn data_may_have_names(rtype: Rtype, class: Class) -> bool
+    ensures { result ≡ may_have_names rtype class }
+{
+    TYPES_WITH_NAMES.contains(&rtype.to_int()) || (rtype == Rtype::SRV && class == Class::IN)
+}
+
+/// Whether a record can be moved to another message: data that isn't read as its type's may have pointers, which would
+/// point elsewhere there.
+fn can_move_record<R: AsOctets + Copy>(entry: &Record<R>) -> bool
+    ensures { IsTrue result ↔ CanMoveRecord (record_of entry.now) }
+{
+    match entry.data() {
+        Data::Opaque(octets) => {
+            octets.remaining() == 0 || !data_may_have_names(entry.rtype(), entry.class())
+        }
+        _ => true,
+    }
+}
+
+/// Whether all records that a section has left can be moved.
+fn can_move_all<R: AsOctets + Copy>(records: Records<R>) -> bool
+    ensures { IsTrue result ↔ AllByRecursion CanMoveRecord (records_left records) }
+{
+    for entry in records {
+        if !can_move_record(&entry) {
+            return false;
+        }
+    }
+    true
+}
+
+/// Whether a message can be written anew in other octets: whether all of its records can be moved.
+pub(crate) fn can_move<R: AsOctets + Copy>(message: &Message<R>) -> bool
+    ensures { IsTrue result
+        ↔ CanMove (answers_of message.now) (authorities_of message.now) (additionals_of message.now) }
+{
+    can_move_all(message.answers())
+        && can_move_all(message.authorities())
+        && can_move_all(message.additionals())
+}

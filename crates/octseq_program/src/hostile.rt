@@ -1,0 +1,106 @@
+//! Readers and writers for tests of programs: they take few octets at a time, fail, or request no memory.
+use octseq::array::Array;
+use octseq::builder::OctetsBuilder;
+use std::io::{self, Error, ErrorKind, Read, Write};
+
+/// Octets that come a few at a time, and fail after some reads.
+#[derive(Drop)]
+pub struct Drip<'a> {
+    /// The octets that are left.
+    pub rest: &'a [u8],
+    /// How many come at once.
+    pub at_once: usize,
+    /// How many reads go well.
+    pub reads: usize,
+}
+
+impl Read for Drip<'_> {
+    fn read(&mut self, buf: &mut [u8]) -> io::Result<usize> {
+        if self.reads == 0 {
+            return Err(Error::from(ErrorKind::ConnectionReset));
+        }
+        self.reads -= 1;
+        let count = self.at_once.min(buf.len());
+        self.rest.read(&mut buf[..count])
+    }
+}
+
+/// A writer that takes octets a few at a time, and fails after some calls.
+#[derive(Drop)]
+pub struct Narrow {
+    /// The octets that it took.
+    pub taken: Vec<u8>,
+    /// How many it takes at once.
+    pub at_once: usize,
+    /// How many calls go well.
+    pub calls: usize,
+}
+
+impl Narrow {
+    /// Counts a call, or fails where it has had them all.
+    fn call(&mut self) -> io::Result<()> {
+        if self.calls == 0 {
+            return Err(Error::from(ErrorKind::BrokenPipe));
+        }
+        self.calls -= 1;
+        Ok(())
+    }
+}
+
+impl Write for Narrow {
+    fn write(&mut self, buf: &[u8]) -> io::Result<usize> {
+        self.call()?;
+        let count = self.at_once.min(buf.len());
+        self.taken.write(&buf[..count])
+    }
+
+    fn flush(&mut self) -> io::Result<()> {
+        self.call()
+    }
+}
+
+/// A writer that takes one octet at a time, fails at one call, and goes on behind it.
+#[derive(Drop)]
+pub struct Faltering {
+    /// The octets that it took.
+    pub taken: Vec<u8>,
+    /// Which write fails, counted from 1. Where it is 0, none does.
+    pub until_failure: usize,
+    /// Why it fails.
+    pub kind: ErrorKind,
+}
+
+impl Write for Faltering {
+    fn write(&mut self, buf: &[u8]) -> io::Result<usize> {
+        let fails = self.until_failure == 1;
+        self.until_failure = self.until_failure.saturating_sub(1);
+        if fails {
+            return Err(Error::from(self.kind));
+        }
+        self.taken.write(&buf[..buf.len().min(1)])
+    }
+
+    fn flush(&mut self) -> io::Result<()> {
+        Ok(())
+    }
+}
+
+/// A writer that requests no memory, and has room for `N` octets.
+#[derive(Drop)]
+pub struct Fixed<const N: usize> {
+    /// The octets that it took.
+    pub taken: Array<N>,
+}
+
+impl<const N: usize> Write for Fixed<N> {
+    fn write(&mut self, buf: &[u8]) -> io::Result<usize> {
+        match self.taken.append_slice(buf) {
+            Ok(()) => Ok(buf.len()),
+            Err(_) => Err(Error::from(ErrorKind::WriteZero)),
+        }
+    }
+
+    fn flush(&mut self) -> io::Result<()> {
+        Ok(())
+    }
+}

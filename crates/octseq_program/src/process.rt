@@ -1,0 +1,62 @@
+//! A program on the standard streams.
+ghost use Rattle.std.specs.Prelude.{◌≡◌, ℕ, ◌<◌, ◌≤◌, ◌∷◌, [], length, map, string_bytes, List, None, Result, IfOk};
+ghost use Rattle.std.specs.Process.{exit_status};
+ghost use Rattle.octseq_program.specs.Run.{Ran};
+ghost use Rattle.octseq_program.specs.Status.{status_of};
+ghost use Rattle.octseq_program.specs.declared.status.ProgramFault.{ProgramFault};
+ghost use Rattle.octseq_program.specs.declared.status.Status.{Status};
+
+use crate::engine::{Commands, engine};
+use crate::status::{ProgramFault, Status};
+use std::alloc::AllocError;
+use std::process::ExitCode;
+use std::{env, io};
+
+/// The word for the command, of the program's arguments, of which the first is its own name: the one argument behind
+/// that, or `unnamed` where there is none. Where there are more, it is the empty word.
+pub fn command_word<'a>(args: &'a [String], unnamed: &'a str) -> &'a str
+    ensures none { length args.now ≤ 1 → result.now ≡ unnamed.now }
+    ensures one { (name word : List ℕ) → map string_bytes args.now ≡ name ∷ word ∷ [] → result.now ≡ word }
+    ensures more { 2 < length args.now → result.now ≡ [] }
+{
+    match args {
+        [] | [_] => unnamed,
+        [_, word] => word.as_str(),
+        _ => "",
+    }
+}
+
+/// The status that the process ends with.
+pub fn exit_code(ended: Result<Status, ProgramFault>) -> ExitCode
+    ensures { exit_status result ≡ status_of ended }
+{
+    ExitCode::from(match ended {
+        Ok(Status::Fine) => 0,
+        Ok(Status::Refused) => 1,
+        Ok(Status::Usage) => 2,
+        Err(ProgramFault::Memory) => 3,
+        Err(ProgramFault::Read | ProgramFault::Write) => 4,
+    })
+}
+
+/// Runs a command on the standard streams. The status is that of a run on some input, as no contract can say
+/// what standard input gives.
+pub fn run<C: Commands>(rt: &HostRuntime, word: &str) -> ExitCode
+    ensures { (ended : Result Status ProgramFault) × (exit_status result ≡ status_of ended)
+        × IfOk ended (Ran C.name_of C.out word.now None None None) }
+{
+    exit_code(engine::<C, _, _>(rt.alloc(), word, &mut rt.reader(), &mut io::writer(rt)))
+}
+
+/// Runs the command that the program's arguments name, or `unnamed` where they name none. Arguments that can't be
+/// read are a word that names no command.
+pub fn start<C: Commands>(rt: &HostRuntime, unnamed: &str) -> ExitCode {
+    let Ok(args) = env::args(rt) else {
+        return run::<C>(rt, "");
+    };
+    let args: Result<Vec<String>, AllocError> = args.collect(rt.alloc());
+    match args {
+        Ok(args) => run::<C>(rt, command_word(&args, unnamed)),
+        Err(_) => exit_code(Err(ProgramFault::Memory)),
+    }
+}

@@ -1,0 +1,35 @@
+//! How a program ends.
+use std::alloc::AllocError;
+
+/// How a program ended that wrote its answer.
+#[derive(Clone, Copy, Debug, PartialEq, Eq)]
+pub enum Status {
+    /// The input is as the command wants it.
+    Fine,
+    /// The command refused the input, and told why.
+    Refused,
+    /// No command has the name that was given.
+    Usage,
+}
+
+/// Why a program gave up.
+#[derive(Clone, Copy, Debug, PartialEq, Eq)]
+pub enum ProgramFault {
+    /// A request for memory was refused.
+    Memory,
+    /// A read failed.
+    Read,
+    /// A write failed.
+    Write,
+}
+
+impl From<AllocError> for ProgramFault {
+    ghost use Rattle.std.specs.Prelude.{◌≡◌};
+    ghost use Rattle.octseq_program.specs.declared.status.ProgramFault.TheVariants.{Memory};
+
+    ghost from_gives = { λ _ fault. fault ≡ Memory };
+
+    fn from(_e: AllocError) -> ProgramFault {
+        ProgramFault::Memory
+    }
+}

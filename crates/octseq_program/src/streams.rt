@@ -1,0 +1,75 @@
+//! All of an input, and all of an output.
+ghost use Rattle.std.specs.Prelude.{◌≡◌, ◌≢◌, ◌≤◌, [], length, take, List, ℕ, IfOk, IfErr, IfSome, OnOk, OnErr};
+ghost use Rattle.std.specs.Io.KnownBytes.{Appends, IsAtEnd};
+ghost use Rattle.std.specs.IoError.{error_kind};
+ghost use Rattle.octseq.specs.Parts.{IsFront};
+
+use crate::status::ProgramFault;
+use std::alloc::Global;
+use std::io::{self, ErrorKind, Read, Write};
+
+/// Why a read failed. A reader tells so that it lacks memory.
+pub fn failed_read(e: &io::Error) -> ProgramFault
+    ensures memory { error_kind e.now ≡ ErrorKind.OutOfMemory → result ≡ ProgramFault.Memory }
+    ensures read { error_kind e.now ≢ ErrorKind.OutOfMemory → result ≡ ProgramFault.Read }
+    ensures other { result ≢ ProgramFault.Write }
+{
+    match e.kind() {
+        ErrorKind::OutOfMemory => ProgramFault::Memory,
+        _ => ProgramFault::Read,
+    }
+}
+
+/// All that the reader has left.
+///
+/// # Errors
+///
+/// `Memory` where a request for memory was refused, `Read` where a read failed.
+pub fn read_all<R: Read>(alloc: Global, reader: &mut R) -> Result<Vec<u8>, ProgramFault>
+    ensures whole { IfOk result (λ input. IfSome (R.remaining reader.old) (λ octets. input.items ≡ octets)) }
+    ensures end { OnOk result (IsAtEnd (R.remaining reader.new)) }
+    ensures err { IfErr result (λ fault. fault ≢ ProgramFault.Write) }
+{
+    let mut input = Vec::new(alloc);
+    match reader.read_to_end(&mut input) {
+        Ok(_) => Ok(input),
+        Err(e) => Err(failed_read(&e)),
+    }
+}
+
+/// Writes all of the output, through any buffer of the writer's own. What it wrote before a failure stays.
+///
+/// # Errors
+///
+/// `Write` where a write failed.
+pub fn write_all<W: Write>(writer: &mut W, output: &[u8]) -> Result<(), ProgramFault>
+    ensures ok { OnOk result (Appends (W.contents writer.old) (W.contents writer.new) output.now) }
+    ensures err { IfErr result (λ fault. fault ≡ ProgramFault.Write) }
+    ensures front { (front : List ℕ) × IsFront front output.now
+        × Appends (W.contents writer.old) (W.contents writer.new) front }
+{
+    let mut rest = output;
+    for _ in 0..u64::MAX {
+        if rest.is_empty() {
+            return writer.flush().map_err(|_| ProgramFault::Write);
+        }
+        let count = write_next(writer, rest)?;
+        rest = &rest[count..];
+    }
+    Err(ProgramFault::Write)
+}
+
+/// How many of the octets one write took, none where it was interrupted.
+fn write_next<W: Write>(writer: &mut W, octets: &[u8]) -> Result<usize, ProgramFault>
+    ensures ok { IfOk result (λ count. (count ≤ length octets.now)
+        × Appends (W.contents writer.old) (W.contents writer.new) (take count octets.now)) }
+    ensures kept { OnErr result (Appends (W.contents writer.old) (W.contents writer.new) []) }
+    ensures err { IfErr result (λ fault. fault ≡ ProgramFault.Write) }
+{
+    match writer.write(octets) {
+        Ok(0) => Err(ProgramFault::Write),
+        Ok(count) => Ok(count),
+        Err(e) if e.kind() == ErrorKind::Interrupted => Ok(0),
+        Err(_) => Err(ProgramFault::Write),
+    }
+}

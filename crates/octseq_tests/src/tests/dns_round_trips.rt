@@ -1,0 +1,148 @@
+//! Messages with data of every type, read and written anew: with compression pointers and without.
+use octseq::builder::AsOctetsMut;
+use octseq::octets::Octets;
+use octseq::{AppendError, Array, OctetsBuilder, ShortBuf, Truncate};
+use octseq_dns::compose::rewrite;
+use octseq_dns::{FixedPlaces, Malformed, Message, MessageBuilder, NoCompression, Places, Record};
+use std::alloc::AllocGlobal;
+use std::process::Abort;
+use std::test::Fail;
+
+/// A question for `example.com.` and ten answers, with no pointer: A, NS, MX, CNAME, PTR, SOA, TXT, SRV, AAAA, and
+/// data of type 99, which is opaque. The octets are laid out by hand: RFC 1035, 4.1.
+pub(super) const PLAIN: &[u8] = b"\x12\x34\x84\0\0\x01\0\x0A\0\0\0\0\
+\x07example\x03com\0\0\xFF\0\x01\
+\x07example\x03com\0\0\x01\0\x01\0\0\x01\x2C\0\x04\x01\x02\x03\x04\
+\x07example\x03com\0\0\x02\0\x01\0\0\x01\x2C\0\x10\x02ns\x07example\x03com\0\
+\x07example\x03com\0\0\x0F\0\x01\0\0\x01\x2C\0\x14\0\x0A\x04mail\x07example\x03com\0\
+\x03www\x07example\x03com\0\0\x05\0\x01\0\0\x01\x2C\0\x0D\x07example\x03com\0\
+\x03www\x07example\x03com\0\0\x0C\0\x01\0\0\x01\x2C\0\x10\x02ns\x07example\x03com\0\
+\x07example\x03com\0\0\x06\0\x01\0\0\x01\x2C\0\x37\x02ns\x07example\x03com\0\
+\x05admin\x07example\x03com\0\0\0\0\x01\0\0\0\x02\0\0\0\x03\0\0\0\x04\0\0\0\x05\
+\x07example\x03com\0\0\x10\0\x01\0\0\x01\x2C\0\x06\x02hi\x02yo\
+\x07example\x03com\0\0\x21\0\x01\0\0\x01\x2C\0\x16\0\x01\0\x02\x01\xBB\x02ns\x07example\x03com\0\
+\x07example\x03com\0\0\x1C\0\x01\0\0\x01\x2C\0\x10\x20\x01\x0D\xB8\0\0\0\0\0\0\0\0\0\0\0\x01\
+\x07example\x03com\0\0\x63\0\x01\0\0\x01\x2C\0\x03\xC0\x0C\x01";
+
+/// The same with pointers: `example.com.` stands at 12, `ns` at 57, in the data of NS, and `www` at 83. The name in the
+/// data of SRV is plain (RFC 2782), and opaque data stays.
+pub(super) const COMPRESSED: &[u8] = b"\x12\x34\x84\0\0\x01\0\x0A\0\0\0\0\
+\x07example\x03com\0\0\xFF\0\x01\
+\xC0\x0C\0\x01\0\x01\0\0\x01\x2C\0\x04\x01\x02\x03\x04\
+\xC0\x0C\0\x02\0\x01\0\0\x01\x2C\0\x05\x02ns\xC0\x0C\
+\xC0\x0C\0\x0F\0\x01\0\0\x01\x2C\0\x09\0\x0A\x04mail\xC0\x0C\
+\x03www\xC0\x0C\0\x05\0\x01\0\0\x01\x2C\0\x02\xC0\x0C\
+\xC0\x53\0\x0C\0\x01\0\0\x01\x2C\0\x02\xC0\x39\
+\xC0\x0C\0\x06\0\x01\0\0\x01\x2C\0\x1E\xC0\x39\x05admin\xC0\x0C\
+\0\0\0\x01\0\0\0\x02\0\0\0\x03\0\0\0\x04\0\0\0\x05\
+\xC0\x0C\0\x10\0\x01\0\0\x01\x2C\0\x06\x02hi\x02yo\
+\xC0\x0C\0\x21\0\x01\0\0\x01\x2C\0\x16\0\x01\0\x02\x01\xBB\x02ns\x07example\x03com\0\
+\xC0\x0C\0\x1C\0\x01\0\0\x01\x2C\0\x10\x20\x01\x0D\xB8\0\0\0\0\0\0\0\0\0\0\0\x01\
+\xC0\x0C\0\x63\0\x01\0\0\x01\x2C\0\x03\xC0\x0C\x01";
+
+/// A message is written anew as these octets.
+fn is_rewritten<R: Octets + Copy, B: OctetsBuilder + Truncate + AsOctetsMut, T: Places>(
+    rt: &impl Abort,
+    octets: R,
+    builder: B,
+    places: T,
+    wanted: &[u8],
+) -> Result<(), Fail> {
+    let message = Message::parse(octets)?;
+    let (written, _) = rewrite(&message, builder, places)?.finish();
+    assert_equal!(rt, written.as_ref(), wanted);
+    Ok(())
+}
+
+#[test]
+fn names_are_compressed_anew(rt: HostRuntime) -> Result<(), Fail> {
+    let alloc = rt.alloc();
+    is_rewritten(
+        &rt,
+        PLAIN,
+        Array::<252>::new(),
+        FixedPlaces::<6>::new(),
+        COMPRESSED,
+    )?;
+    is_rewritten(&rt, PLAIN, Vec::new(alloc), Vec::new(alloc), COMPRESSED)?;
+    is_rewritten(
+        &rt,
+        COMPRESSED,
+        Vec::new(alloc),
+        FixedPlaces::<32>::new(),
+        COMPRESSED,
+    )
+}
+
+#[test]
+fn names_are_written_plain_anew(rt: HostRuntime) -> Result<(), Fail> {
+    let alloc = rt.alloc();
+    is_rewritten(&rt, COMPRESSED, Array::<512>::new(), NoCompression, PLAIN)?;
+    is_rewritten(&rt, PLAIN, Vec::new(alloc), NoCompression, PLAIN)
+}
+
+/// What a message is refused as that is written anew.
+fn refusal<R: Octets + Copy, B: OctetsBuilder + Truncate + AsOctetsMut>(
+    octets: R,
+    builder: B,
+) -> Result<Option<AppendError>, Malformed> {
+    let message = Message::parse(octets)?;
+    Ok(rewrite(&message, builder, FixedPlaces::<6>::new()).err())
+}
+
+#[test]
+fn a_message_that_passes_the_limit_is_refused(rt: HostRuntime) -> Result<(), Fail> {
+    let short = Some(AppendError::Short(ShortBuf));
+    assert_equal!(&rt, refusal(PLAIN, Array::<11>::new())?, short);
+    assert_equal!(&rt, refusal(PLAIN, Array::<28>::new())?, short);
+    assert_equal!(&rt, refusal(PLAIN, Array::<251>::new())?, short);
+    assert_equal!(&rt, refusal(PLAIN, Array::<252>::new())?, None);
+    Ok(())
+}
+
+/// Pushes a record that was read to each section of records of a new message in turn, and answers its octets.
+fn in_each_section<R: Octets + Copy, B: OctetsBuilder + Truncate + AsOctetsMut>(
+    builder: B,
+    entry: &Record<R>,
+) -> Result<B, AppendError> {
+    let (owner, data) = (entry.owner(), entry.data());
+    let (rtype, class, ttl) = (entry.rtype(), entry.class(), entry.ttl());
+    let message = MessageBuilder::from_builder(builder, FixedPlaces::<8>::new())?;
+    let mut answers = message.question().answer();
+    answers.push_record(&owner, rtype, class, ttl, &data)?;
+    let mut authorities = answers.authority();
+    authorities.push_record(&owner, rtype, class, ttl, &data)?;
+    let mut additionals = authorities.additional();
+    additionals.push_record(&owner, rtype, class, ttl, &data)?;
+    Ok(additionals.finish().0)
+}
+
+/// An MX of `example.com.` in each section. The name of its exchange stands in data, and is pointed to from there on.
+const EXCHANGES: &[u8] = b"\0\0\0\0\0\0\0\x01\0\x01\0\x01\
+\x07example\x03com\0\0\x0F\0\x01\0\0\x01\x2C\0\x09\0\x0A\x04mail\xC0\x0C\
+\xC0\x0C\0\x0F\0\x01\0\0\x01\x2C\0\x04\0\x0A\xC0\x25\
+\xC0\x0C\0\x0F\0\x01\0\0\x01\x2C\0\x04\0\x0A\xC0\x25";
+
+/// The third answer is an MX, which is pushed to each section.
+fn is_pushed_to_each_section<R: Octets + Copy>(
+    rt: &(impl Abort + AllocGlobal),
+    octets: R,
+) -> Result<(), Fail> {
+    let exchange = Message::parse(octets)?.answers().nth(2).ok_or(Malformed)?;
+    let octets = in_each_section(Array::<76>::new(), &exchange)?;
+    assert_equal!(rt, octets.as_slice(), EXCHANGES);
+    let octets = in_each_section(Vec::new(rt.alloc()), &exchange)?;
+    assert_equal!(rt, octets.as_slice(), EXCHANGES);
+    let short = Some(AppendError::Short(ShortBuf));
+    assert_equal!(
+        rt,
+        in_each_section(Array::<75>::new(), &exchange).err(),
+        short
+    );
+    Ok(())
+}
+
+#[test]
+fn a_record_is_pushed_to_each_section(rt: HostRuntime) -> Result<(), Fail> {
+    is_pushed_to_each_section(&rt, PLAIN)
+}

@@ -1,0 +1,27 @@
+//! Messages written anew: a refused request for memory leaves the message that was read, and is answered.
+use super::super::dns_round_trips::{COMPRESSED, PLAIN};
+use octseq::octets::Octets;
+use octseq_dns::compose::rewrite;
+use octseq_dns::{Message, Place};
+use std::alloc::AllocGlobal;
+use std::process::Abort;
+use std::test::Fail;
+
+/// Writes a message anew, or answers what was refused.
+fn is_written_anew<R: Octets + Copy>(
+    rt: &(impl Abort + AllocGlobal),
+    octets: R,
+) -> Result<(), Fail> {
+    let alloc = rt.alloc();
+    let message = Message::parse(octets)?;
+    let written = rewrite(&message, Vec::new(alloc), Vec::<Place>::new(alloc));
+    assert_equal!(rt, message.answers().count(), 10);
+    let (written, _) = written?.finish();
+    assert_equal!(rt, written.as_slice(), COMPRESSED);
+    Ok(())
+}
+
+#[test]
+fn a_message_is_written_anew_or_not_at_all(rt: HostRuntime) -> Result<(), Fail> {
+    is_written_anew(&rt, PLAIN)
+}

@@ -1,0 +1,42 @@
+#!/usr/bin/env bash
+# Runs a program of this repository:
+#
+#     ./program.sh CRATE WORD [ARGUMENT..]
+#
+# Input, output and exit status are the program's own, and so are the arguments. It is proved and built first, where that
+# is needed: some minutes the first time, of which standard error tells how far they are. WORD is a command that ends
+# well where there is no input, as the build runs it once.
+set -euo pipefail
+top="$(cd "$(dirname "${BASH_SOURCE[0]}")" && pwd)"
+crate="$1"
+word="$2"
+shift 2
+program="$top/crates/$crate/out/$crate"
+
+is_built() {
+    [ -x "$program" ] && [ -z "$(find "$top/crates" "$top/crates.txt" -path '*/out' -prune -o -type f -newer "$program" -print -quit)" ]
+}
+
+# Reads what a check prints, and tells of each crate how many of its functions are checked, a tenth at a time.
+tell() {
+    awk '
+        /^rt: chose --jobs/ { crate = $NF; told = -1 }
+        / [0-9]+ of [0-9]+( functions checked.*)?$/ {
+            match($0, /[0-9]+ of [0-9]+/)
+            split(substr($0, RSTART, RLENGTH), count, " of ")
+            tenth = int(10 * count[1] / count[2])
+            if (tenth > told) { print "  " crate ": " count[1] " of " count[2] " functions"; fflush(); told = tenth }
+        }'
+}
+
+if ! is_built; then
+    echo "proving and building $crate, and the crates that it stands on .." >&2
+    log="$(mktemp)"
+    if ! (cd "$top/crates/$crate" && rt run -- "$word" </dev/null 2>&1 >/dev/null) | tee "$log" | tell >&2; then
+        cat "$log" >&2
+        exit 5
+    fi
+    touch "$program"
+    rm -f "$log"
+fi
+exec "$program" "$@"
