@@ -1,10 +1,10 @@
 pub mod Behind
 pub mod Codes
 pub mod Errors
-pub mod OneRun
+pub mod OneWindowRun
 pub mod Repeats
 pub mod Runs
-pub mod Steps
+pub mod WindowSteps
 pub mod Values
 pub mod Windows
 pub mod Written

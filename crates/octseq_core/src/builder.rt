@@ -9,14 +9,14 @@ use std::alloc::{AllocError, Global};
 use std::error::Error;
 use std::fmt;
 
-mod counted;
-mod fixed;
+mod array_vec;
+mod as_octets_mut;
+mod bytes;
+mod rc_slice;
 mod reference;
-mod shared;
 mod slice;
-mod small;
-mod vector;
-mod written;
+mod small_vec;
+mod vec;
 
 /// A sequence of octets.
 ///

@@ -5,12 +5,12 @@
 //! of lists of octets.
 #![tactic(auto)]
 
+pub mod any_builder;
 pub mod capped;
-pub mod first;
 pub mod join;
 pub mod levels;
 pub mod lines;
 pub mod rationed;
 pub mod records;
 pub mod scarce;
-pub mod swap;
+pub mod single_calls;

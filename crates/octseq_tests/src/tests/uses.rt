@@ -3,16 +3,16 @@ use octseq::builder::{AppendError, AsOctets, EmptyBuilder, ShortBuf};
 use octseq::compose::ComposeError;
 use octseq::error::ReadError;
 use octseq::{Array, StrBuilder};
+use octseq_uses::any_builder::paired;
 use octseq_uses::join::join;
 use octseq_uses::records::{append_record, read_records};
-use octseq_uses::swap::paired;
 use std::alloc::Global;
 use std::process::Abort;
 use std::test::Fail;
 
 mod alone;
-mod first;
 mod lines;
+mod single_calls;
 
 #[test]
 fn a_record_is_appended_whole_or_not_at_all(rt: HostRuntime) -> Result<(), Fail> {

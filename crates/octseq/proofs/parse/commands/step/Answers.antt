@@ -1,7 +1,7 @@
 use Rattle.std.proofs.Common.{◌≡◌, [], ◌∷◌, ◌++◌, sym, ap, ◌∙◌, inl, inr, rules, arith}
 use Rattle.std.proofs.lemmas.List.{append-nil}
 use Rattle.std.specs.Prelude.{option_to_list, slice_set}
-use Rattle.octseq.proofs.Steps.{step_of, step_alone}
+use Rattle.octseq.proofs.WindowSteps.{step_of, step_alone}
 use Rattle.octseq.specs.Parser.{window}
 use Rattle.octseq.specs.WindowReply.{WindowReply}
 use Rattle.octseq.specs.WindowRun.{says}

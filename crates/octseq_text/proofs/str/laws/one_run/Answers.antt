@@ -1,4 +1,4 @@
-use Rattle.octseq_text.proofs.OneRun as OneRun
+use Rattle.octseq_text.proofs.OneTextRun as OneRun
 use Rattle.octseq_text.proofs.str.laws.one_run.Goals as goal
 
 pub returns-clause-alike : goal.returns-clause-alike

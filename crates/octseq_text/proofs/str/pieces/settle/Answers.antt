@@ -4,7 +4,7 @@ use Rattle.octseq_utf8.specs.Encoding.{encoding_of}
 use Rattle.octseq_utf8.proofs.Splitting.{splits}
 use Rattle.octseq_text.proofs.Counting.{parts_few}
 use Rattle.octseq_text.proofs.Piecewise.{read_then, read_more, read_valid, read_chunk, read_invalid, read_to_end, too_long, beginning_few, not_so}
-use Rattle.octseq_text.proofs.Steps.{within_appended}
+use Rattle.octseq_text.proofs.CharacterAppends.{within_appended}
 use Rattle.octseq_text.proofs.str.pieces.settle.Goals as goal
 
 pub returns-in_err-append_slice-clause-short : goal.returns-in_err-append_slice-clause-short

@@ -4,7 +4,7 @@ use Rattle.octseq_utf8.specs.Text.{chars}
 use Rattle.octseq_utf8.proofs.Bridge.{encode-is, from_scalar, well_formed_from_utf8}
 use Rattle.octseq_utf8.proofs.Numbers.{encoding_is_of, one_encoding}
 use Rattle.octseq_utf8.proofs.Texts.{chars-encoding}
-use Rattle.octseq_text.proofs.Steps.{appends, well_formed-appended}
+use Rattle.octseq_text.proofs.CharacterAppends.{appends, well_formed-appended}
 use Rattle.octseq_text.proofs.str.builder.StrBuilder.try_push.Given as given
 use Rattle.octseq_text.proofs.str.builder.StrBuilder.try_push.Goals as goal
 

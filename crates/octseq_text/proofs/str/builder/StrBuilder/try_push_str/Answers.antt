@@ -1,5 +1,5 @@
 use Rattle.octseq_utf8.proofs.Bridge.{well_formed_from_utf8}
-use Rattle.octseq_text.proofs.Steps.{appends, well_formed-appended}
+use Rattle.octseq_text.proofs.CharacterAppends.{appends, well_formed-appended}
 use Rattle.octseq_text.proofs.str.builder.StrBuilder.try_push_str.Goals as goal
 
 pub invariant_of-self : goal.invariant_of-self

@@ -1,6 +1,7 @@
 -- Where no request for memory is refused, a list of commands has one answer.
 use Rattle.std.proofs.Common.{◌≡◌, ◌≢◌, ℕ, Bool, true, false, IsTrue, ◌↔◌, ◌⊎◌, inl, inr, ⊎_elim, List, [], ◌∷◌, ◌++◌, length, Option, Some, None, refl, arith, ap, sym, ◌∙◌, subst, length-append}
 use Rattle.std.proofs.lemmas.Bool.{cases_lt}
+use Rattle.octseq_core.proofs.Limits.{within_not_past}
 use Rattle.octseq_core.specs.Limit.{IsWithin, IsPast}
 use Rattle.octseq_utf8.specs.Encoding.{encoding_of}
 use Rattle.octseq_text.specs.TextRun.{AppendsCharacters, CutsTo, Cuts, Pops, TextStep, TextRun, IsWithoutMemory}
@@ -33,16 +34,12 @@ done_or_refused limit asks b m (reply.Popped c) x a kept = absurd a
 done_or_refused limit asks b m (reply.Len n) x a kept = absurd a
 done_or_refused limit asks b m (reply.Is t) x a kept = absurd a
 
-not_both : (limit : Option ℕ) (n : ℕ) → IsWithin limit n → IsPast limit n → ⊥
-not_both None n w p = p
-not_both (Some l) n w p = omega arith
-
 one_append : (limit : Option ℕ) (asks other : Bool) (b m : List ℕ) (r s : Reply) (x y : List ℕ) → AppendsCharacters limit asks b m r x → AppendsCharacters limit other b m s y
     → r ≢ reply.Memory → s ≢ reply.Memory → Same r x s y
 one_append limit asks other b m r s x y a c kept also_kept =
     ⊎_elim
-    (λ d. ⊎_elim (λ e. (d.0 ∙ sym e.0, d.2 ∙ sym e.2)) (λ e. absurd (not_both limit _ d.1 e.1)) (done_or_refused limit other b m s y c also_kept))
-    (λ d. ⊎_elim (λ e. absurd (not_both limit _ e.1 d.1)) (λ e. (d.0 ∙ sym e.0, d.2 ∙ sym e.2)) (done_or_refused limit other b m s y c also_kept))
+    (λ d. ⊎_elim (λ e. (d.0 ∙ sym e.0, d.2 ∙ sym e.2)) (λ e. absurd (within_not_past limit _ d.1 e.1)) (done_or_refused limit other b m s y c also_kept))
+    (λ d. ⊎_elim (λ e. absurd (within_not_past limit _ e.1 d.1)) (λ e. (d.0 ∙ sym e.0, d.2 ∙ sym e.2)) (done_or_refused limit other b m s y c also_kept))
     (done_or_refused limit asks b m r x a kept)
 
 -- fronts of as many octets are one front

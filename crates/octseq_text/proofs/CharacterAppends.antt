@@ -1,6 +1,6 @@
 -- What a call on octets does to the characters.
-use Rattle.std.proofs.Common.{◌≡◌, ℕ, ◌+◌, Bool, true, Option, Some, None, List, ◌++◌, length, Result, Ok, Err, OnOk, OnErr, ◌↔◌, ap, sym, ◌∙◌, subst, ⊎_elim, length-append}
-use Rattle.std.proofs.lemmas.Bool.{cases_lt}
+use Rattle.std.proofs.Common.{◌≡◌, ℕ, ◌+◌, Bool, true, Option, List, ◌++◌, length, Result, Ok, Err, OnOk, OnErr, ◌↔◌, ap, sym, ◌∙◌, subst, length-append}
+use Rattle.octseq_core.proofs.Limits.{within_if_not_past}
 use Rattle.octseq_core.specs.Limit.{IsWithin, IsPast}
 use Rattle.octseq_core.specs.Refusal.{IsShort, IsMemory, append_error}
 use Rattle.octseq_core.specs.declared.builder.AppendError.{AppendError}
@@ -9,14 +9,9 @@ use Rattle.octseq_text.specs.TextRun.{AppendsCharacters, append_reply}
 use Rattle.octseq_utf8.specs.Text.{IsWellFormed, chars, octets_of}
 use Rattle.octseq_utf8.proofs.Texts.{well_formed-append, chars-append, octets_of-append}
 
--- what isn't past a limit is within it
-pub within : (limit : Option ℕ) (n : ℕ) → ¬ IsPast limit n → IsWithin limit n
-within None n h = tt
-within (Some l) n h = ⊎_elim (λ p. absurd (h p)) (λ q. q) (cases_lt l n)
-
 -- an append that wasn't refused as short leaves a content within the limit
 pub within_appended : (limit : Option ℕ) (new old more : List ℕ) → new ≡ old ++ more → ¬ IsPast limit (length old + length more) → IsWithin limit (length new)
-within_appended limit new old more e n = subst (IsWithin limit) (sym (ap length e ∙ length-append old more)) (within limit (length old + length more) n)
+within_appended limit new old more e n = subst (IsWithin limit) (sym (ap length e ∙ length-append old more)) (within_if_not_past limit (length old + length more) n)
 
 -- an append that adds all or nothing keeps octets well formed
 pub well_formed-appended : {T E : Type 0} (r : Result T E) (new old more : List ℕ) → OnOk r (new ≡ old ++ more) → OnErr r (new ≡ old)
@@ -31,9 +26,9 @@ appends_with : (limit : Option ℕ) (asks : Bool) (r : Result (Unit {0}) AppendE
     → (IsShort append_error r ↔ IsPast limit (length (octets_of (chars old ++ chars more)))) → (IsMemory append_error r → asks ≡ true)
     → (OnOk r (new ≡ old ++ more) → OnOk r (chars new ≡ chars old ++ chars more))
     → AppendsCharacters limit asks (chars old) (chars more) (append_reply r) (chars new)
-appends_with limit asks (Ok u) new old more ok err short memory characters = (within limit _ (λ p. short.1 p), characters ok)
+appends_with limit asks (Ok u) new old more ok err short memory characters = (within_if_not_past limit _ (λ p. short.1 p), characters ok)
 appends_with limit asks (Err (Short s)) new old more ok err short memory characters = (short.0 tt, ap chars err)
-appends_with limit asks (Err Memory) new old more ok err short memory characters = (within limit _ (λ p. short.1 p), memory tt, ap chars err)
+appends_with limit asks (Err Memory) new old more ok err short memory characters = (within_if_not_past limit _ (λ p. short.1 p), memory tt, ap chars err)
 
 on_ok : {T E : Type 0} (r : Result T E) (P Q : Type 0) → (P → Q) → OnOk r P → OnOk r Q
 on_ok (Ok x) P Q f p = f p

@@ -1,7 +1,7 @@
 //! The first callers.
 use octseq::CowOctets;
 use octseq::error::ReadError;
-use octseq_uses::first::{extended, field, kept, text_front};
+use octseq_uses::single_calls::{extended, field, kept, text_front};
 use octseq_uses::levels::read_levels;
 use std::test::Fail;
 

@@ -1,6 +1,6 @@
 use Rattle.std.proofs.Common.{◌≡◌, ℕ, ◌+◌, ◌++◌, ◌∙◌, length, ap, rules, arith}
 use Rattle.std.proofs.lemmas.List.{length-append, length-take}
-use Rattle.octseq_uses.proofs.first.text_front.Goals as goal
+use Rattle.octseq_uses.proofs.single_calls.text_front.Goals as goal
 
 pub returns-in-None-clause-cut : goal.returns-in-None-clause-cut
 returns-in-None-clause-cut c = λ fault is. absurd (c.one_fault.ensures.refutes c.args.octets.now fault is (c.in-None.ensures.none.0 (search rules)))
