@@ -1,5 +1,6 @@
 -- What is read from a place in a list of octets.
-use Rattle.std.proofs.Common.{◌≡◌, ℕ, ◌+◌, ◌-◌, ◌^◌, ◌<◌, ◌≤◌, List, ◌++◌, length, take, drop, arith, refl, sym, subst, ap, ◌∙◌, append_assoc}
+use Rattle.std.proofs.Common.{◌≡◌, ℕ, ◌+◌, ◌-◌, ◌^◌, ◌<◌, ◌≤◌, List, ◌++◌, length, take}
+use Rattle.std.proofs.Common.{drop, arith, refl, sym, subst, ap, ◌∙◌, append_assoc}
 use Rattle.std.proofs.Math.Seq.{take-append_seam, take-length, drop-append_seam}
 use Rattle.std.proofs.lemmas.List.{length-append}
 use Rattle.octseq.specs.Integer.{be, le, octets_be, octets_le}
@@ -19,13 +20,15 @@ rest_behind front xs =
     ap (λ n. take n (drop (length front) (front ++ xs))) (left_behind front xs)
     ∙ ap (take (length xs)) (drop-append_seam front xs) ∙ take-length xs
 
-next_behind : (front octets after : List ℕ) (k : ℕ) → length octets ≡ k → next k (behind front (octets ++ after)) ≡ octets
+next_behind : (front octets after : List ℕ) (k : ℕ) → length octets ≡ k
+    → next k (behind front (octets ++ after)) ≡ octets
 next_behind front octets after k many =
     let count : length front + k - length front ≡ length octets = omega (arith, many) in
     ap (λ n. take n (drop (length front) (front ++ (octets ++ after)))) count
     ∙ ap (take (length octets)) (drop-append_seam front (octets ++ after)) ∙ take-append_seam octets after
 
-past_behind : (front octets after : List ℕ) (k : ℕ) → length octets ≡ k → past k (behind front (octets ++ after)) ≡ behind (front ++ octets) after
+past_behind : (front octets after : List ℕ) (k : ℕ) → length octets ≡ k
+    → past k (behind front (octets ++ after)) ≡ behind (front ++ octets) after
 past_behind front octets after k many =
     let long : length (front ++ octets) ≡ length front + length octets = length-append front octets in
     let place : length front + k ≡ length (front ++ octets) = omega (arith, many, long) in
@@ -42,8 +45,10 @@ front_comes_next w front more n is many =
     let most = length_rest w in
     let room : n ≤ left w = omega arith in (
       room,
-      sym (next_of_rest w.octets w.position w.end n room) ∙ ap (take n) is ∙ ap (λ n. take n (front ++ more)) (sym many) ∙ take-append_seam front more,
-      sym (rest_past w (past n w) n room refl) ∙ ap (drop n) is ∙ ap (λ n. drop n (front ++ more)) (sym many) ∙ drop-append_seam front more,
+      sym (next_of_rest w.octets w.position w.end n room) ∙ ap (take n) is ∙ ap (λ n. take n (front ++ more)) (sym many)
+          ∙ take-append_seam front more,
+      sym (rest_past w (past n w) n room refl) ∙ ap (drop n) is ∙ ap (λ n. drop n (front ++ more)) (sym many)
+          ∙ drop-append_seam front more,
     )
 
 -- a parser of all the octets that moved past a front of n stands behind that front
@@ -56,36 +61,43 @@ past_whole front more n many =
 
 -- so many octets come next, and others are left behind them
 pub come_next : (front octets after : List ℕ) (k : ℕ) → length octets ≡ k
-    → (k ≤ left (behind front (octets ++ after))) × (next k (behind front (octets ++ after)) ≡ octets) × (rest (past k (behind front (octets ++ after))) ≡ after)
+    → (k ≤ left (behind front (octets ++ after))) × (next k (behind front (octets ++ after)) ≡ octets)
+    × (rest (past k (behind front (octets ++ after))) ≡ after)
 come_next front octets after k many =
     let all : length (octets ++ after) ≡ length octets + length after = length-append octets after in
-    let ahead : left (behind front (octets ++ after)) ≡ length (octets ++ after) = left_behind front (octets ++ after) in (
+    let ahead : left (behind front (octets ++ after)) ≡ length (octets ++ after) =
+        left_behind front (octets ++ after) in (
       omega (arith, many, all, ahead),
       next_behind front octets after k many,
       ap rest (past_behind front octets after k many) ∙ rest_behind (front ++ octets) after,
     )
 
 pub be_comes_next : (front after : List ℕ) (k n : ℕ) → n < 256 ^ k → (k ≤ left (behind front (octets_be k n ++ after)))
-    × (be (next k (behind front (octets_be k n ++ after))) ≡ n) × (rest (past k (behind front (octets_be k n ++ after))) ≡ after)
+    × (be (next k (behind front (octets_be k n ++ after))) ≡ n)
+        × (rest (past k (behind front (octets_be k n ++ after))) ≡ after)
 be_comes_next front after k n fits =
     let come = come_next front (octets_be k n) after k (length_be k n) in
     (come.0, ap be come.1 ∙ value_be k n fits, come.2)
 
 pub le_comes_next : (front after : List ℕ) (k n : ℕ) → n < 256 ^ k → (k ≤ left (behind front (octets_le k n ++ after)))
-    × (le (next k (behind front (octets_le k n ++ after))) ≡ n) × (rest (past k (behind front (octets_le k n ++ after))) ≡ after)
+    × (le (next k (behind front (octets_le k n ++ after))) ≡ n)
+        × (rest (past k (behind front (octets_le k n ++ after))) ≡ after)
 le_comes_next front after k n fits =
     let come = come_next front (octets_le k n) after k (length_le k n) in
     (come.0, ap le come.1 ∙ value_le k n fits, come.2)
 
-part_comes_next_by : (front len octets after all : List ℕ) (k : ℕ) → length len ≡ k → be len ≡ length octets → all ≡ len ++ (octets ++ after)
-    → HasPart k (behind front all) × (rest (part k (behind front all)) ≡ octets) × (rest (past_part k (behind front all)) ≡ after)
+part_comes_next_by : (front len octets after all : List ℕ) (k : ℕ) → length len ≡ k → be len ≡ length octets
+    → all ≡ len ++ (octets ++ after)
+    → HasPart k (behind front all) × (rest (part k (behind front all)) ≡ octets)
+    × (rest (past_part k (behind front all)) ≡ after)
 part_comes_next_by front len octets after all k many value together =
     let w = behind front all in
     let first = come_next front len (octets ++ after) k many in
     let second = come_next (front ++ len) octets after (length octets) refl in
     let here : w ≡ behind front (len ++ (octets ++ after)) = ap (behind front) together in
     let count : part_length k w ≡ length octets = ap (λ w. be (next k w)) here ∙ ap be first.1 ∙ value in
-    let behind_length : past k w ≡ behind (front ++ len) (octets ++ after) = ap (past k) here ∙ past_behind front len (octets ++ after) k many in (
+    let behind_length : past k w ≡ behind (front ++ len) (octets ++ after) =
+        ap (past k) here ∙ past_behind front len (octets ++ after) k many in (
       (
         subst (λ w. k ≤ left w) (sym here) first.0,
         subst (λ n. n ≤ left (past k w)) (sym count) (subst (λ w. length octets ≤ left w) (sym behind_length) second.0),
@@ -94,8 +106,11 @@ part_comes_next_by front len octets after all k many value together =
       ap (λ n. rest (past n (past k w))) count ∙ ap (λ w. rest (past (length octets) w)) behind_length ∙ second.2,
     )
 
-pub part_comes_next : (front octets after : List ℕ) (k : ℕ) → length octets < 256 ^ k → HasPart k (behind front (part_of k octets ++ after))
-    × (rest (part k (behind front (part_of k octets ++ after))) ≡ octets) × (rest (past_part k (behind front (part_of k octets ++ after))) ≡ after)
+pub part_comes_next : (front octets after : List ℕ) (k : ℕ) → length octets < 256 ^ k
+    → HasPart k (behind front (part_of k octets ++ after))
+    × (rest (part k (behind front (part_of k octets ++ after))) ≡ octets)
+        × (rest (past_part k (behind front (part_of k octets ++ after))) ≡ after)
 part_comes_next front octets after k fits =
     let len = octets_be k (length octets) in
-    part_comes_next_by front len octets after (part_of k octets ++ after) k (length_be k (length octets)) (value_be k (length octets) fits) (append_assoc len octets after)
+    part_comes_next_by front len octets after (part_of k octets ++ after) k (length_be k (length octets))
+        (value_be k (length octets) fits) (append_assoc len octets after)

@@ -12,31 +12,36 @@ use Rattle.octseq.specs.declared.parse.error.ParseOctetsError.{ParseOctetsError}
 -- ---- of a parser
 
 -- a refusal that is told as malformed was for want of octets
-pub short_of : (T : Type 0) (e : ParseOctetsError) → read_error_of e ≡ ReadError.Malformed → IsShort {T = T} parse_octets_error (Err e)
+pub short_of : (T : Type 0) (e : ParseOctetsError) → read_error_of e ≡ ReadError.Malformed
+    → IsShort {T = T} parse_octets_error (Err e)
 short_of T (ParseOctetsError.Short e) told = tt
 short_of T ParseOctetsError.Memory told = absurd (cc)
 
 -- one that is told as memory was for want of memory
-pub memory_of : (T : Type 0) (e : ParseOctetsError) → read_error_of e ≡ ReadError.Memory → IsMemory {T = T} parse_octets_error (Err e)
+pub memory_of : (T : Type 0) (e : ParseOctetsError) → read_error_of e ≡ ReadError.Memory
+    → IsMemory {T = T} parse_octets_error (Err e)
 memory_of T (ParseOctetsError.Short e) told = absurd (cc)
 memory_of T ParseOctetsError.Memory told = tt
 
 -- ---- of a composer
 
 -- a refusal that is told as malformed was for an integer or a length that doesn't fit its octets
-pub too_long_of : (e : ComposeError) → write_error_of e ≡ WriteError.Malformed → IsTooLong {T = Unit {0}} compose_error (Err e)
+pub too_long_of : (e : ComposeError) → write_error_of e ≡ WriteError.Malformed
+    → IsTooLong {T = Unit {0}} compose_error (Err e)
 too_long_of ComposeError.TooLong told = tt
 too_long_of ComposeError.Short told = absurd (cc)
 too_long_of ComposeError.Memory told = absurd (cc)
 
 -- one that is told as short was for want of room
-pub part_short_of : (e : ComposeError) → write_error_of e ≡ WriteError.Short → IsShort {T = Unit {0}} compose_error (Err e)
+pub part_short_of : (e : ComposeError) → write_error_of e ≡ WriteError.Short
+    → IsShort {T = Unit {0}} compose_error (Err e)
 part_short_of ComposeError.TooLong told = absurd (cc)
 part_short_of ComposeError.Short told = tt
 part_short_of ComposeError.Memory told = absurd (cc)
 
 -- one that is told as memory was for want of memory
-pub part_memory_of : (e : ComposeError) → write_error_of e ≡ WriteError.Memory → IsMemory {T = Unit {0}} compose_error (Err e)
+pub part_memory_of : (e : ComposeError) → write_error_of e ≡ WriteError.Memory
+    → IsMemory {T = Unit {0}} compose_error (Err e)
 part_memory_of ComposeError.TooLong told = absurd (cc)
 part_memory_of ComposeError.Short told = absurd (cc)
 part_memory_of ComposeError.Memory told = tt
@@ -49,26 +54,31 @@ append_not_malformed (AppendError.Short e) told = cc
 append_not_malformed AppendError.Memory told = cc
 
 -- one that is told as short was for want of room
-pub append_short_of : (T : Type 0) (e : AppendError) → write_error_of (refusal_of e) ≡ WriteError.Short → IsShort {T = T} append_error (Err e)
+pub append_short_of : (T : Type 0) (e : AppendError) → write_error_of (refusal_of e) ≡ WriteError.Short
+    → IsShort {T = T} append_error (Err e)
 append_short_of T (AppendError.Short e) told = tt
 append_short_of T AppendError.Memory told = absurd (cc)
 
 -- one that is told as memory was for want of memory
-pub append_memory_of : (T : Type 0) (e : AppendError) → write_error_of (refusal_of e) ≡ WriteError.Memory → IsMemory {T = T} append_error (Err e)
+pub append_memory_of : (T : Type 0) (e : AppendError) → write_error_of (refusal_of e) ≡ WriteError.Memory
+    → IsMemory {T = T} append_error (Err e)
 append_memory_of T (AppendError.Short e) told = absurd (cc)
 append_memory_of T AppendError.Memory told = tt
 
 -- ---- passed on as it is
 
 -- a call answers the refusal that another answered it
-pub same_refusal : {S T E : Type 0} (here : Result S E) (given : Result T E) (passed refusal wanted : E) → given ≡ Err passed → passed ≡ refusal → given ≡ Err wanted
+pub same_refusal : {S T E : Type 0} (here : Result S E) (given : Result T E) (passed refusal wanted : E)
+    → given ≡ Err passed → passed ≡ refusal → given ≡ Err wanted
     → here ≡ Err refusal → here ≡ Err wanted
 same_refusal here given passed refusal wanted e is f was =
     let same : passed ≡ wanted = cc in
     was ∙ ap Err (sym is ∙ same)
 
 -- so of a builder's, as short
-pub same_short : {S T : Type 0} (here : Result S AppendError) (given : Result T AppendError) (passed refusal : AppendError) → given ≡ Err passed → passed ≡ refusal
+pub same_short : {S T : Type 0} (here : Result S AppendError) (given : Result T AppendError)
+    (passed refusal : AppendError) → given ≡ Err passed → passed ≡ refusal
     → here ≡ Err refusal → IsShort append_error given → IsShort append_error here
-same_short here given (AppendError.Short e) refusal is same was short = subst (IsShort append_error) (sym (was ∙ ap Err (sym same))) tt
+same_short here given (AppendError.Short e) refusal is same was short =
+    subst (IsShort append_error) (sym (was ∙ ap Err (sym same))) tt
 same_short here given AppendError.Memory refusal is same was short = absurd (subst (IsShort append_error) is short)

@@ -1,5 +1,7 @@
--- Things of one code, one behind another, and a reader that takes one at a time. These are laws for callers who read lists.
-use Rattle.std.proofs.Common.{◌≡◌, ℕ, ◌+◌, ◌<◌, List, [], ◌∷◌, ◌++◌, length, refl, sym, ap, ◌∙◌, append_assoc, subst, arith}
+-- Things of one code, one behind another, and a reader that takes one at a time. These are laws for callers who read
+-- lists.
+use Rattle.std.proofs.Common.{◌≡◌, ℕ, ◌+◌, ◌<◌, List, [], ◌∷◌, ◌++◌, length}
+use Rattle.std.proofs.Common.{refl, sym, ap, ◌∙◌, append_assoc, subst, arith}
 use Rattle.std.proofs.lemmas.Grind.{flat_map-append}
 use Rattle.std.proofs.lemmas.List.{append-nil, length-append}
 use Rattle.std.specs.List.{AllByRecursion, flat_map}
@@ -21,59 +23,73 @@ none_of_some code a more some e =
 
 -- octets are those of one list of things
 pub one_list : {A : Type 0} (Fits : A → Type 0) (code : A → List ℕ) → IsCode Fits code → HasOctets code
-    → (things others : List A) → AllByRecursion Fits things → AllByRecursion Fits others → flat_map code things ≡ flat_map code others → things ≡ others
+    → (things others : List A) → AllByRecursion Fits things → AllByRecursion Fits others
+    → flat_map code things ≡ flat_map code others → things ≡ others
 one_list Fits code told some [] [] each all e = refl
-one_list Fits code told some [] (b ∷ others) each all e = absurd (none_of_some code b (flat_map code others) some (sym e))
+one_list Fits code told some [] (b ∷ others) each all e =
+    absurd (none_of_some code b (flat_map code others) some (sym e))
 one_list Fits code told some (a ∷ things) [] each all e = absurd (none_of_some code a (flat_map code things) some e)
 one_list Fits code told some (a ∷ things) (b ∷ others) (fits, each) (also, all) e =
     let first = told a b (flat_map code things) (flat_map code others) fits also e in
-    ap (λ a. a ∷ things) first.0 ∙ ap (λ things. b ∷ things) (one_list Fits code told some things others each all first.1)
+    ap (λ a. a ∷ things) first.0
+        ∙ ap (λ things. b ∷ things) (one_list Fits code told some things others each all first.1)
 
 -- what is left behind a thing is whole where all was
 whole_behind : {A : Type 0} (Fits : A → Type 0) (code : A → List ℕ) → IsCode Fits code → HasOctets code
-    → (octets more : List ℕ) (a : A) → Fits a → octets ≡ code a ++ more → IsWhole Fits code octets → IsWhole Fits code more
-whole_behind Fits code told some octets more a fits front ([], each, all) = absurd (none_of_some code a more some (sym front ∙ all))
+    → (octets more : List ℕ) (a : A) → Fits a → octets ≡ code a ++ more → IsWhole Fits code octets
+    → IsWhole Fits code more
+whole_behind Fits code told some octets more a fits front ([], each, all) =
+    absurd (none_of_some code a more some (sym front ∙ all))
 whole_behind Fits code told some octets more a fits front ((b ∷ others), (here, each), all) =
     (others, each, (told a b more (flat_map code others) fits here (sym front ∙ all)).1)
 
 -- octets that are whole have a thing at their front
-has_front : {A : Type 0} (Fits : A → Type 0) (code : A → List ℕ) (octets : List ℕ) → 0 < length octets → IsWhole Fits code octets → HasFront Fits code octets
+has_front : {A : Type 0} (Fits : A → Type 0) (code : A → List ℕ) (octets : List ℕ) → 0 < length octets
+    → IsWhole Fits code octets → HasFront Fits code octets
 has_front Fits code octets some ([], each, all) = let none : length octets ≡ 0 = ap length all in absurd (omega arith)
 has_front Fits code octets some ((a ∷ others), (here, each), all) = (a, flat_map code others, here, all)
 
 -- what holds of each holds with one more
-pub each_snoc : {A : Type 0} (Fits : A → Type 0) (things : List A) (a : A) → AllByRecursion Fits things → Fits a → AllByRecursion Fits (things ++ a ∷ [])
+pub each_snoc : {A : Type 0} (Fits : A → Type 0) (things : List A) (a : A) → AllByRecursion Fits things → Fits a
+    → AllByRecursion Fits (things ++ a ∷ [])
 each_snoc Fits [] a each fits = (fits, tt)
 each_snoc Fits (b ∷ things) a (first, each) fits = (first, each_snoc Fits things a each fits)
 
 -- The octets were read as these things, as far as this rest.
-pub record IsReadTo {A : Type 0} (Fits : A → Type 0) (code : A → List ℕ) (octets rest : List ℕ) (things : List A) : Type 0 where
+pub record IsReadTo {A : Type 0} (Fits : A → Type 0) (code : A → List ℕ) (octets rest : List ℕ) (things : List A) : Type
+    0 where
   pub each : AllByRecursion Fits things
   pub front : octets ≡ flat_map code things ++ rest
   pub behind : IsWhole Fits code octets → IsWhole Fits code rest
 
-pub read_none : {A : Type 0} (Fits : A → Type 0) (code : A → List ℕ) (octets : List ℕ) → IsReadTo Fits code octets octets []
+pub read_none : {A : Type 0} (Fits : A → Type 0) (code : A → List ℕ) (octets : List ℕ)
+    → IsReadTo Fits code octets octets []
 read_none Fits code octets = record { each = tt; front = refl; behind = λ all. all }
 
 pub read_more : {A : Type 0} (Fits : A → Type 0) (code : A → List ℕ) → IsCode Fits code → HasOctets code
-    → (octets before after : List ℕ) (things made : List A) (a : A) → IsReadTo Fits code octets before things → Fits a → before ≡ code a ++ after
+    → (octets before after : List ℕ) (things made : List A) (a : A) → IsReadTo Fits code octets before things → Fits a
+    → before ≡ code a ++ after
     → made ≡ things ++ a ∷ [] → IsReadTo Fits code octets after made
 read_more Fits code told some octets before after things made a so_far fits front is =
     let joined : flat_map code made ≡ flat_map code things ++ code a =
-    ap (flat_map code) is ∙ flat_map-append code things (a ∷ []) ∙ ap (λ x. flat_map code things ++ x) (append-nil (code a)) in
+    ap (flat_map code) is ∙ flat_map-append code things (a ∷ []) ∙ ap (λ x. flat_map code things ++ x)
+        (append-nil (code a)) in
     record {
       each = subst (AllByRecursion Fits) (sym is) (each_snoc Fits things a so_far.each fits);
-      front = so_far.front ∙ ap (λ x. flat_map code things ++ x) front ∙ sym (append_assoc (flat_map code things) (code a) after) ∙ ap (λ x. x ++ after) (sym joined);
+      front = so_far.front ∙ ap (λ x. flat_map code things ++ x) front
+          ∙ sym (append_assoc (flat_map code things) (code a) after) ∙ ap (λ x. x ++ after) (sym joined);
       behind = λ all. whole_behind Fits code told some before after a fits front (so_far.behind all);
     }
 
 -- all was read
-pub read_all : {A : Type 0} (Fits : A → Type 0) (code : A → List ℕ) (octets rest : List ℕ) (things : List A) → IsReadTo Fits code octets rest things → length rest ≡ 0
+pub read_all : {A : Type 0} (Fits : A → Type 0) (code : A → List ℕ) (octets rest : List ℕ) (things : List A)
+    → IsReadTo Fits code octets rest things → length rest ≡ 0
     → AllByRecursion Fits things × (octets ≡ flat_map code things)
 read_all Fits code octets [] things so_far none = (so_far.each, so_far.front ∙ append-nil (flat_map code things))
 read_all Fits code octets (x ∷ rest) things so_far none = absurd (omega arith)
 
 -- something is left, and no thing stands at its front
-pub read_cut : {A : Type 0} (Fits : A → Type 0) (code : A → List ℕ) (octets rest : List ℕ) (things : List A) → IsReadTo Fits code octets rest things → 0 < length rest
+pub read_cut : {A : Type 0} (Fits : A → Type 0) (code : A → List ℕ) (octets rest : List ℕ) (things : List A)
+    → IsReadTo Fits code octets rest things → 0 < length rest
     → ¬ HasFront Fits code rest → ¬ IsWhole Fits code octets
 read_cut Fits code octets rest things so_far some cut all = cut (has_front Fits code rest some (so_far.behind all))

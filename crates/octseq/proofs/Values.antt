@@ -1,5 +1,6 @@
 -- The values of octets, as std computes them.
-use Rattle.std.proofs.Common.{◌≡◌, ℕ, zero, suc, ◌-◌, ◌*◌, ◌^◌, ◌<◌, ◌≤◌, List, [], ◌∷◌, ◌++◌, length, refl, sym, ap, ◌∙◌, zero-add, arith}
+use Rattle.std.proofs.Common.{◌≡◌, ℕ, zero, suc, ◌-◌, ◌*◌, ◌^◌, ◌<◌, ◌≤◌, List, []}
+use Rattle.std.proofs.Common.{◌∷◌, ◌++◌, length, refl, sym, ap, ◌∙◌, zero-add, arith}
 use Rattle.std.proofs.lemmas.Int.{ints}
 use Rattle.std.specs.Prelude.{slice_index}
 use Rattle.std.specs.Int.{w8, w16, w32, w64, w128, from_be_bytes, from_le_bytes, cast_signed, byte_worth, sum_through}
@@ -80,7 +81,8 @@ are_first_3 (a ∷ b ∷ c ∷ []) many = refl
 are_first_3 (a ∷ b ∷ c ∷ d ∷ xs) many = absurd (omega arith)
 
 abbrev pub first_6 : List ℕ → List ℕ
-first_6 xs = slice_index xs 0 ∷ slice_index xs 1 ∷ slice_index xs 2 ∷ slice_index xs 3 ∷ slice_index xs 4 ∷ slice_index xs 5 ∷ []
+first_6 xs = slice_index xs 0 ∷ slice_index xs 1 ∷ slice_index xs 2 ∷ slice_index xs 3 ∷ slice_index xs 4 ∷ slice_index
+    xs 5 ∷ []
 
 are_first_6 : (xs : List ℕ) → length xs ≡ 6 → first_6 xs ≡ xs
 are_first_6 [] many = absurd (omega arith)
@@ -102,7 +104,8 @@ pub be_6 : (xs : List ℕ) → length xs ≡ 6 → from_be_bytes w64 (0 ∷ 0 �
 be_6 xs e = be_8 (0 ∷ 0 ∷ first_6 xs) refl ∙ be_zero (0 ∷ first_6 xs) ∙ be_zero (first_6 xs) ∙ ap be (are_first_6 xs e)
 
 pub le_6 : (xs : List ℕ) → length xs ≡ 6 → from_le_bytes w64 (first_6 xs ++ 0 ∷ 0 ∷ []) ≡ le xs
-le_6 xs e = le_8 (first_6 xs ++ 0 ∷ 0 ∷ []) refl ∙ le_zero (first_6 xs ++ 0 ∷ []) ∙ le_zero (first_6 xs) ∙ ap le (are_first_6 xs e)
+le_6 xs e = le_8 (first_6 xs ++ 0 ∷ 0 ∷ []) refl ∙ le_zero (first_6 xs ++ 0 ∷ []) ∙ le_zero (first_6 xs)
+    ∙ ap le (are_first_6 xs e)
 
 -- ---- signed integers
 

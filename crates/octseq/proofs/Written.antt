@@ -1,5 +1,6 @@
 -- The octets of an integer are read as that integer.
-use Rattle.std.proofs.Common.{◌≡◌, ℕ, zero, suc, ℤ, pos, negsuc, ◌+◌, ◌-◌, ◌*◌, ◌^◌, ◌/◌, ◌%◌, ◌<◌, List, [], ◌∷◌, ◌++◌, length, reverse, Option, Bool, Fits, refl, sym, subst, ap, ◌∙◌, arith}
+use Rattle.std.proofs.Common.{◌≡◌, ℕ, zero, suc, ℤ, pos, negsuc, ◌+◌, ◌-◌, ◌*◌, ◌^◌, ◌/◌, ◌%◌, ◌<◌, List, []}
+use Rattle.std.proofs.Common.{◌∷◌, ◌++◌, length, reverse, Option, Bool, Fits, refl, sym, subst, ap, ◌∙◌, arith}
 use Rattle.std.proofs.lemmas.Int.{ints}
 use Rattle.std.proofs.lemmas.List.{reverse-append, length-reverse}
 use Rattle.std.proofs.Math.Arith.{mod-mul}
@@ -7,7 +8,8 @@ use Rattle.std.proofs.Math.Facts.{Fits-lt-pow}
 use Rattle.std.proofs.Math.Nat.{pow-suc, mod-eq_of_lt, mul_comm}
 use Rattle.std.specs.List.{AllByRecursion}
 use Rattle.std.specs.Prelude.{slice_index, slice_range, FitsSigned, Result}
-use Rattle.std.specs.Int.{w8, w16, w32, w64, w128, cast_unsigned, to_be_bytes, to_le_bytes, bytes_low_first, bytes_high_first, byte_at}
+use Rattle.std.specs.Int.{w8, w16, w32, w64, w128, cast_unsigned, to_be_bytes}
+use Rattle.std.specs.Int.{to_le_bytes, bytes_low_first, bytes_high_first, byte_at}
 use Rattle.octseq_core.specs.Appends.{Appends}
 use Rattle.octseq_core.specs.declared.builder.AppendError.{AppendError}
 use Rattle.octseq.specs.Composer.{AreOctetsOf}
@@ -54,7 +56,8 @@ be_cons x xs =
     let n = length xs in
     sum_first n (λ i. slice_index (x ∷ xs) i * 256 ^ (suc n - 1 - i))
     ∙ (let head : suc n - 1 - 0 ≡ n = omega arith in
-    let tail = same_sum n (λ i. slice_index xs i * 256 ^ (suc n - 1 - suc i)) (λ i. slice_index xs i * 256 ^ (n - 1 - i))
+    let tail = same_sum n (λ i. slice_index xs i * 256 ^ (suc n - 1 - suc i))
+        (λ i. slice_index xs i * 256 ^ (n - 1 - i))
     (λ i. let e : suc n - 1 - suc i ≡ n - 1 - i = omega arith in ap (λ e. slice_index xs i * 256 ^ e) e) in
     let first : x * 256 ^ (suc n - 1 - 0) ≡ x * 256 ^ n = ap (λ e. x * 256 ^ e) head in
     omega (arith, first, tail))
@@ -129,11 +132,13 @@ unfolding octets_be
 each_be zero n = tt
 each_be (suc k) n = let small : n / 256 ^ k % 256 < 256 = omega arith in (small, each_be k n)
 
-each_snoc : (xs : List ℕ) (x : ℕ) → AllByRecursion (λ octet. octet < 256) xs → x < 256 → AllByRecursion (λ octet. octet < 256) (xs ++ x ∷ [])
+each_snoc : (xs : List ℕ) (x : ℕ) → AllByRecursion (λ octet. octet < 256) xs → x < 256
+    → AllByRecursion (λ octet. octet < 256) (xs ++ x ∷ [])
 each_snoc [] x each small = (small, tt)
 each_snoc (a ∷ xs) x (first, each) small = (first, each_snoc xs x each small)
 
-pub each_reverse : (xs : List ℕ) → AllByRecursion (λ octet. octet < 256) xs → AllByRecursion (λ octet. octet < 256) (reverse xs)
+pub each_reverse : (xs : List ℕ) → AllByRecursion (λ octet. octet < 256) xs
+    → AllByRecursion (λ octet. octet < 256) (reverse xs)
 each_reverse [] each = tt
 each_reverse (x ∷ xs) (small, each) = rw (reverse_cons x xs) (each_snoc (reverse xs) x (each_reverse xs each) small)
 
@@ -157,7 +162,8 @@ octet_is (suc i) n = refl
 made_be : (k n : ℕ) → bytes_high_first k n ≡ octets_be k n
 unfolding octets_be
 made_be zero n = refl
-made_be (suc k) n = ap (λ octet. octet ∷ bytes_high_first k n) (octet_is k n) ∙ ap (λ octets. n / 256 ^ k % 256 ∷ octets) (made_be k n)
+made_be (suc k) n = ap (λ octet. octet ∷ bytes_high_first k n) (octet_is k n)
+    ∙ ap (λ octets. n / 256 ^ k % 256 ∷ octets) (made_be k n)
 
 low_snoc : (i k n : ℕ) → bytes_low_first i (suc k) n ≡ bytes_low_first i k n ++ byte_at (k + i) n ∷ []
 low_snoc i zero n = let same : i ≡ 0 + i = omega arith in ap (λ j. byte_at j n ∷ []) same
@@ -179,15 +185,18 @@ made_le k n = low_is k n ∙ ap reverse (made_be k n)
 
 -- ---- what an append says
 
-pub appends : {limit : Option ℕ} {asks : Bool} {result : Result (Unit {0}) AppendError} {slice octets old new : List ℕ} → slice ≡ octets
+pub appends : {limit : Option ℕ} {asks : Bool} {result : Result (Unit {0}) AppendError} {slice octets old new : List ℕ}
+    → slice ≡ octets
     → Appends limit asks result slice old new → Appends limit asks result octets old new
-appends {limit} {asks} {result} {slice} {octets} {old} {new} same appended = subst (λ octets. Appends limit asks result octets old new) same appended
+appends {limit} {asks} {result} {slice} {octets} {old} {new} same appended =
+    subst (λ octets. Appends limit asks result octets old new) same appended
 
 -- ---- the widths that integers have
 
 pub made_be_1 : (n : ℕ) → Fits w8 n → n ∷ [] ≡ octets_be 1 n
 unfolding octets_be
-made_be_1 n fits = let small : n < 2 ^ 8 = Fits-lt-pow fits in let same : n ≡ n / 256 ^ 0 % 256 = omega arith in ap (λ octet. octet ∷ []) same
+made_be_1 n fits = let small : n < 2 ^ 8 = Fits-lt-pow fits in let same : n ≡ n / 256 ^ 0 % 256 = omega arith in
+    ap (λ octet. octet ∷ []) same
 
 pub made_be_2 : (n : ℕ) → to_be_bytes w16 n ≡ octets_be 2 n
 made_be_2 n = made_be 2 n
@@ -235,15 +244,19 @@ are_be k n fits = record { many = length_be k n; each = each_be k n; value = val
 pub are_le : (k n : ℕ) → n < 256 ^ k → AreOctetsOf le k n (octets_le k n)
 are_le k n fits = record { many = length_le k n; each = each_le k n; value = value_le k n fits }
 
-pub are_signed_be : (k : ℕ) (z : ℤ) → IsSigned k z → AreOctetsOf (λ octets. signed k (be octets)) k z (octets_be k (unsigned k z))
+pub are_signed_be : (k : ℕ) (z : ℤ) → IsSigned k z
+    → AreOctetsOf (λ octets. signed k (be octets)) k z (octets_be k (unsigned k z))
 are_signed_be k z fits =
     let sum = signed_unsigned k z fits in
-    record { many = length_be k (unsigned k z); each = each_be k (unsigned k z); value = ap (signed k) (value_be k (unsigned k z) sum.0) ∙ sum.1 }
+    record { many = length_be k (unsigned k z); each = each_be k (unsigned k z);
+        value = ap (signed k) (value_be k (unsigned k z) sum.0) ∙ sum.1 }
 
-pub are_signed_le : (k : ℕ) (z : ℤ) → IsSigned k z → AreOctetsOf (λ octets. signed k (le octets)) k z (octets_le k (unsigned k z))
+pub are_signed_le : (k : ℕ) (z : ℤ) → IsSigned k z
+    → AreOctetsOf (λ octets. signed k (le octets)) k z (octets_le k (unsigned k z))
 are_signed_le k z fits =
     let sum = signed_unsigned k z fits in
-    record { many = length_le k (unsigned k z); each = each_le k (unsigned k z); value = ap (signed k) (value_le k (unsigned k z) sum.0) ∙ sum.1 }
+    record { many = length_le k (unsigned k z); each = each_le k (unsigned k z);
+        value = ap (signed k) (value_le k (unsigned k z) sum.0) ∙ sum.1 }
 
 -- ---- the widths that integers have
 
@@ -295,19 +308,22 @@ cast_16 (negsuc n) fits = grind (arith, ints)
 pub are_be_1 : (n : ℕ) → Fits w8 n → AreOctetsOf be 1 n (octets_be 1 n)
 are_be_1 n fits = are_be 1 n (Fits-lt-pow fits)
 
-pub are_signed_be_1 : (z : ℤ) → FitsSigned w8 z → AreOctetsOf (λ octets. signed 1 (be octets)) 1 z (octets_be 1 (unsigned 1 z))
+pub are_signed_be_1 : (z : ℤ) → FitsSigned w8 z
+    → AreOctetsOf (λ octets. signed 1 (be octets)) 1 z (octets_be 1 (unsigned 1 z))
 are_signed_be_1 z fits = are_signed_be 1 z (is_signed_1 z fits)
 
 pub are_be_2 : (n : ℕ) → Fits w16 n → AreOctetsOf be 2 n (octets_be 2 n)
 are_be_2 n fits = are_be 2 n (Fits-lt-pow fits)
 
-pub are_signed_be_2 : (z : ℤ) → FitsSigned w16 z → AreOctetsOf (λ octets. signed 2 (be octets)) 2 z (octets_be 2 (unsigned 2 z))
+pub are_signed_be_2 : (z : ℤ) → FitsSigned w16 z
+    → AreOctetsOf (λ octets. signed 2 (be octets)) 2 z (octets_be 2 (unsigned 2 z))
 are_signed_be_2 z fits = are_signed_be 2 z (is_signed_2 z fits)
 
 pub are_le_2 : (n : ℕ) → Fits w16 n → AreOctetsOf le 2 n (octets_le 2 n)
 are_le_2 n fits = are_le 2 n (Fits-lt-pow fits)
 
-pub are_signed_le_2 : (z : ℤ) → FitsSigned w16 z → AreOctetsOf (λ octets. signed 2 (le octets)) 2 z (octets_le 2 (unsigned 2 z))
+pub are_signed_le_2 : (z : ℤ) → FitsSigned w16 z
+    → AreOctetsOf (λ octets. signed 2 (le octets)) 2 z (octets_le 2 (unsigned 2 z))
 are_signed_le_2 z fits = are_signed_le 2 z (is_signed_2 z fits)
 
 pub are_be_3 : (n : ℕ) → n < 256 ^ 3 → AreOctetsOf be 3 n (octets_be 3 n)
@@ -319,13 +335,15 @@ are_le_3 n fits = are_le 3 n fits
 pub are_be_4 : (n : ℕ) → Fits w32 n → AreOctetsOf be 4 n (octets_be 4 n)
 are_be_4 n fits = are_be 4 n (Fits-lt-pow fits)
 
-pub are_signed_be_4 : (z : ℤ) → FitsSigned w32 z → AreOctetsOf (λ octets. signed 4 (be octets)) 4 z (octets_be 4 (unsigned 4 z))
+pub are_signed_be_4 : (z : ℤ) → FitsSigned w32 z
+    → AreOctetsOf (λ octets. signed 4 (be octets)) 4 z (octets_be 4 (unsigned 4 z))
 are_signed_be_4 z fits = are_signed_be 4 z (is_signed_4 z fits)
 
 pub are_le_4 : (n : ℕ) → Fits w32 n → AreOctetsOf le 4 n (octets_le 4 n)
 are_le_4 n fits = are_le 4 n (Fits-lt-pow fits)
 
-pub are_signed_le_4 : (z : ℤ) → FitsSigned w32 z → AreOctetsOf (λ octets. signed 4 (le octets)) 4 z (octets_le 4 (unsigned 4 z))
+pub are_signed_le_4 : (z : ℤ) → FitsSigned w32 z
+    → AreOctetsOf (λ octets. signed 4 (le octets)) 4 z (octets_le 4 (unsigned 4 z))
 are_signed_le_4 z fits = are_signed_le 4 z (is_signed_4 z fits)
 
 pub are_be_6 : (n : ℕ) → n < 256 ^ 6 → AreOctetsOf be 6 n (octets_be 6 n)
@@ -337,25 +355,29 @@ are_le_6 n fits = are_le 6 n fits
 pub are_be_8 : (n : ℕ) → Fits w64 n → AreOctetsOf be 8 n (octets_be 8 n)
 are_be_8 n fits = are_be 8 n (Fits-lt-pow fits)
 
-pub are_signed_be_8 : (z : ℤ) → FitsSigned w64 z → AreOctetsOf (λ octets. signed 8 (be octets)) 8 z (octets_be 8 (unsigned 8 z))
+pub are_signed_be_8 : (z : ℤ) → FitsSigned w64 z
+    → AreOctetsOf (λ octets. signed 8 (be octets)) 8 z (octets_be 8 (unsigned 8 z))
 are_signed_be_8 z fits = are_signed_be 8 z (is_signed_8 z fits)
 
 pub are_le_8 : (n : ℕ) → Fits w64 n → AreOctetsOf le 8 n (octets_le 8 n)
 are_le_8 n fits = are_le 8 n (Fits-lt-pow fits)
 
-pub are_signed_le_8 : (z : ℤ) → FitsSigned w64 z → AreOctetsOf (λ octets. signed 8 (le octets)) 8 z (octets_le 8 (unsigned 8 z))
+pub are_signed_le_8 : (z : ℤ) → FitsSigned w64 z
+    → AreOctetsOf (λ octets. signed 8 (le octets)) 8 z (octets_le 8 (unsigned 8 z))
 are_signed_le_8 z fits = are_signed_le 8 z (is_signed_8 z fits)
 
 pub are_be_16 : (n : ℕ) → Fits w128 n → AreOctetsOf be 16 n (octets_be 16 n)
 are_be_16 n fits = are_be 16 n (Fits-lt-pow fits)
 
-pub are_signed_be_16 : (z : ℤ) → FitsSigned w128 z → AreOctetsOf (λ octets. signed 16 (be octets)) 16 z (octets_be 16 (unsigned 16 z))
+pub are_signed_be_16 : (z : ℤ) → FitsSigned w128 z
+    → AreOctetsOf (λ octets. signed 16 (be octets)) 16 z (octets_be 16 (unsigned 16 z))
 are_signed_be_16 z fits = are_signed_be 16 z (is_signed_16 z fits)
 
 pub are_le_16 : (n : ℕ) → Fits w128 n → AreOctetsOf le 16 n (octets_le 16 n)
 are_le_16 n fits = are_le 16 n (Fits-lt-pow fits)
 
-pub are_signed_le_16 : (z : ℤ) → FitsSigned w128 z → AreOctetsOf (λ octets. signed 16 (le octets)) 16 z (octets_le 16 (unsigned 16 z))
+pub are_signed_le_16 : (z : ℤ) → FitsSigned w128 z
+    → AreOctetsOf (λ octets. signed 16 (le octets)) 16 z (octets_le 16 (unsigned 16 z))
 are_signed_le_16 z fits = are_signed_le 16 z (is_signed_16 z fits)
 
 -- those of each width

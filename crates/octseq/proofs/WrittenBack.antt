@@ -1,5 +1,6 @@
 -- Octets are those of the integer that they stand for.
-use Rattle.std.proofs.Common.{◌≡◌, ℕ, zero, suc, ◌+◌, ◌*◌, ◌^◌, ◌/◌, ◌%◌, ◌<◌, List, [], ◌∷◌, ◌++◌, length, reverse, refl, sym, ap, ◌∙◌, subst, arith}
+use Rattle.std.proofs.Common.{◌≡◌, ℕ, zero, suc, ◌+◌, ◌*◌, ◌^◌, ◌/◌, ◌%◌, ◌<◌, List, []}
+use Rattle.std.proofs.Common.{◌∷◌, ◌++◌, length, reverse, refl, sym, ap, ◌∙◌, subst, arith}
 use Rattle.std.proofs.lemmas.Int.{ints}
 use Rattle.std.proofs.lemmas.List.{reverse-reverse, length-reverse}
 use Rattle.std.proofs.lemmas.Nat.{div-mul-add, mul-add-lt}
@@ -8,7 +9,8 @@ use Rattle.std.specs.Int.{w8, w16, w32, w64, w128, from_be_bytes, from_le_bytes,
 use Rattle.std.specs.List.{AllByRecursion}
 use Rattle.std.specs.Prelude.{slice_index}
 use Rattle.octseq.specs.Integer.{be, le, octets_be, octets_le, unsigned}
-use Rattle.octseq.proofs.Values.{first_3, first_6, be_1, be_2, le_2, be_3, le_3, be_4, le_4, be_6, le_6, be_8, le_8, be_16, le_16, signed_1, signed_2, signed_4, signed_8, signed_16}
+use Rattle.octseq.proofs.Values.{first_3, first_6, be_1, be_2, le_2, be_3, le_3, be_4, le_4, be_6, le_6}
+use Rattle.octseq.proofs.Values.{be_8, le_8, be_16, le_16, signed_1, signed_2, signed_4, signed_8, signed_16}
 use Rattle.octseq.proofs.Written.{positive, be_nil, be_cons, le_reverse, each_reverse}
 
 abbrev pub AreOctets : List ℕ → Type 0
@@ -29,11 +31,14 @@ low_octets : (k a n : ℕ) → octets_be k (a * 256 ^ k + n) ≡ octets_be k n
 unfolding octets_be
 low_octets zero a n = refl
 low_octets (suc k) a n =
-    let scaled : a * 256 ^ suc k ≡ a * 256 * 256 ^ k = ap (λ p. a * p) (pow-suc 256 k ∙ mul_comm (256 ^ k) 256) ∙ sym (mul_assoc a 256 (256 ^ k)) in
-    let digit : (a * 256 * 256 ^ k + n) / 256 ^ k ≡ a * 256 + n / 256 ^ k = mul-add-div_right (positive k) (a * 256) n in
+    let scaled : a * 256 ^ suc k ≡ a * 256 * 256 ^ k = ap (λ p. a * p) (pow-suc 256 k ∙ mul_comm (256 ^ k) 256)
+        ∙ sym (mul_assoc a 256 (256 ^ k)) in
+    let digit : (a * 256 * 256 ^ k + n) / 256 ^ k ≡ a * 256 + n / 256 ^ k =
+        mul-add-div_right (positive k) (a * 256) n in
     let first : (a * 256 * 256 ^ k + n) / 256 ^ k % 256 ≡ n / 256 ^ k % 256 = omega (arith, digit) in
     let rest : octets_be k (a * 256 * 256 ^ k + n) ≡ octets_be k n = low_octets k (a * 256) n in
-    ap (λ s. (s + n) / 256 ^ k % 256 ∷ octets_be k (s + n)) scaled ∙ ap (λ x. x ∷ octets_be k (a * 256 * 256 ^ k + n)) first ∙ ap (λ xs. n / 256 ^ k % 256 ∷ xs) rest
+    ap (λ s. (s + n) / 256 ^ k % 256 ∷ octets_be k (s + n)) scaled ∙ ap (λ x. x ∷ octets_be k (a * 256 * 256 ^ k + n))
+        first ∙ ap (λ xs. n / 256 ^ k % 256 ∷ xs) rest
 
 pub back_be : (xs : List ℕ) → AreOctets xs → octets_be (length xs) (be xs) ≡ xs
 unfolding octets_be
@@ -43,7 +48,8 @@ back_be (x ∷ xs) (small, each) =
     let cons : be (x ∷ xs) ≡ x * 256 ^ n + be xs = be_cons x xs in
     let digit : (x * 256 ^ n + be xs) / 256 ^ n ≡ x = div-mul-add x (256 ^ n) (be xs) (small_be xs each) in
     let first : (x * 256 ^ n + be xs) / 256 ^ n % 256 ≡ x = omega (arith, digit, small) in
-    ap (octets_be (suc n)) cons ∙ ap (λ y. y ∷ octets_be n (x * 256 ^ n + be xs)) first ∙ ap (λ ys. x ∷ ys) (low_octets n x (be xs) ∙ back_be xs each)
+    ap (octets_be (suc n)) cons ∙ ap (λ y. y ∷ octets_be n (x * 256 ^ n + be xs)) first
+        ∙ ap (λ ys. x ∷ ys) (low_octets n x (be xs) ∙ back_be xs each)
 
 pub back_le : (xs : List ℕ) → AreOctets xs → octets_le (length xs) (le xs) ≡ xs
 unfolding octets_le
@@ -73,7 +79,8 @@ back_le_2 xs many each = ap (octets_le 2) (le_2 xs many) ∙ as_le 2 xs many eac
 pub back_be_3 : (xs : List ℕ) → length xs ≡ 3 → AreOctets xs → octets_be 3 (from_be_bytes w32 (0 ∷ first_3 xs)) ≡ xs
 back_be_3 xs many each = ap (octets_be 3) (be_3 xs many) ∙ as_be 3 xs many each
 
-pub back_le_3 : (xs : List ℕ) → length xs ≡ 3 → AreOctets xs → octets_le 3 (from_le_bytes w32 (first_3 xs ++ 0 ∷ [])) ≡ xs
+pub back_le_3 : (xs : List ℕ) → length xs ≡ 3 → AreOctets xs → octets_le 3 (from_le_bytes w32 (first_3 xs ++ 0 ∷ []))
+    ≡ xs
 back_le_3 xs many each = ap (octets_le 3) (le_3 xs many) ∙ as_le 3 xs many each
 
 pub back_be_4 : (xs : List ℕ) → length xs ≡ 4 → AreOctets xs → octets_be 4 (from_be_bytes w32 xs) ≡ xs
@@ -85,7 +92,8 @@ back_le_4 xs many each = ap (octets_le 4) (le_4 xs many) ∙ as_le 4 xs many eac
 pub back_be_6 : (xs : List ℕ) → length xs ≡ 6 → AreOctets xs → octets_be 6 (from_be_bytes w64 (0 ∷ 0 ∷ first_6 xs)) ≡ xs
 back_be_6 xs many each = ap (octets_be 6) (be_6 xs many) ∙ as_be 6 xs many each
 
-pub back_le_6 : (xs : List ℕ) → length xs ≡ 6 → AreOctets xs → octets_le 6 (from_le_bytes w64 (first_6 xs ++ 0 ∷ 0 ∷ [])) ≡ xs
+pub back_le_6 : (xs : List ℕ) → length xs ≡ 6 → AreOctets xs
+    → octets_le 6 (from_le_bytes w64 (first_6 xs ++ 0 ∷ 0 ∷ [])) ≡ xs
 back_le_6 xs many each = ap (octets_le 6) (le_6 xs many) ∙ as_le 6 xs many each
 
 pub back_be_8 : (xs : List ℕ) → length xs ≡ 8 → AreOctets xs → octets_be 8 (from_be_bytes w64 xs) ≡ xs

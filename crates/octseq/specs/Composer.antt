@@ -1,6 +1,7 @@
 -- What a composer's call adds to a content, and when it is refused.
 use Rattle.std.specs.List.{AllByRecursion}
-use Rattle.std.specs.Prelude.{◌≡◌, ℕ, Bool, true, ◌+◌, ◌<◌, ◌≤◌, ◌^◌, ◌↔◌, Option, List, ◌++◌, length, Result, OnOk, OnErr}
+use Rattle.std.specs.Prelude.{◌≡◌, ℕ, Bool, true, ◌+◌, ◌<◌, ◌≤◌, ◌^◌, ◌↔◌}
+use Rattle.std.specs.Prelude.{Option, List, ◌++◌, length, Result, OnOk, OnErr}
 use Rattle.octseq_core.specs.Limit.{IsPast}
 use Rattle.octseq_core.specs.declared.builder.AppendError.{AppendError}
 use Rattle.octseq.specs.Part.{part_of}
@@ -22,7 +23,8 @@ refusal_of AppendError.Memory = Memory
 -- A call adds the octets of an integer, k of them. It is refused as too long exactly where the integer doesn't fit
 -- them, else as short exactly where the content would pass its limit, for memory only where the type requests memory,
 -- and then the content stays.
-pub record AppendsInteger (limit : Option ℕ) (asks : Bool) (result : Result (Unit {0}) ComposeError) (k integer : ℕ) (octets old new : List ℕ) : Type 0 where
+pub record AppendsInteger (limit : Option ℕ) (asks : Bool) (result : Result (Unit {0}) ComposeError) (k integer : ℕ)
+    (octets old new : List ℕ) : Type 0 where
   pub ok : OnOk result (new ≡ old ++ octets)
   pub err : OnErr result (new ≡ old)
   pub too_long : IsTooLong compose_error result ↔ (256 ^ k ≤ integer)

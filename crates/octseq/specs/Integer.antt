@@ -1,5 +1,6 @@
 -- The integers that octets stand for, and the octets of an integer.
-use Rattle.std.specs.Prelude.{ℕ, zero, suc, ℤ, pos, negsuc, ◌+◌, ◌-◌, ◌*◌, ◌/◌, ◌%◌, ◌^◌, ◌<◌, ◌≤◌, ◌-ℤ◌, List, [], ◌∷◌, length, reverse, slice_index, nat_le, if◌then◌else◌}
+use Rattle.std.specs.Prelude.{ℕ, zero, suc, ℤ, pos, negsuc, ◌+◌, ◌-◌, ◌*◌, ◌/◌, ◌%◌, ◌^◌, ◌<◌, ◌≤◌}
+use Rattle.std.specs.Prelude.{◌-ℤ◌, List, [], ◌∷◌, length, reverse, slice_index, nat_le, if◌then◌else◌}
 
 -- the sum of the first n terms
 abbrev pub sum_of_first : ℕ → (ℕ → ℕ) → ℕ

@@ -3,7 +3,8 @@ use Rattle.octseq.specs.declared.compose.ComposeError.{ComposeError}
 use Rattle.octseq.specs.declared.error.ReadError.{ReadError}
 use Rattle.octseq.specs.declared.error.WriteError.{WriteError}
 use Rattle.octseq.specs.declared.parse.error.ParseOctetsError.{ParseOctetsError}
-pub use Rattle.octseq_core.specs.Refusal.{Refusal, Is, IsRefused, IsShort, IsMemory, IsTooLong, IsMalformed, append_error}
+pub use Rattle.octseq_core.specs.Refusal.{Refusal, Is, IsRefused, IsShort, IsMemory}
+pub use Rattle.octseq_core.specs.Refusal.{IsTooLong, IsMalformed, append_error}
 pub use Rattle.octseq_text.specs.Display.{display_error}
 
 -- fewer octets were left than `parse_octets` was to take, or a request for memory was refused

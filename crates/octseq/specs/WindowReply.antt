@@ -1,7 +1,8 @@
 -- What the replies of a run show.
 use Rattle.std.specs.Prelude.{ℕ, ℤ, Bool, List}
 use Rattle.octseq.specs.declared.parse.commands.ParserReply.{ParserReply}
-use Rattle.octseq.specs.declared.parse.commands.ParserReply.TheVariants.{Done, Short, Memory, NoParser, Number, Flag, Slice, Range, Parser, Signed, Unsigned}
+use Rattle.octseq.specs.declared.parse.commands.ParserReply.TheVariants.{Done, Short, Memory, NoParser, Number, Flag}
+use Rattle.octseq.specs.declared.parse.commands.ParserReply.TheVariants.{Slice, Range, Parser, Signed, Unsigned}
 
 -- A reply with its numbers, and with the octets of a slice or a range as a list.
 pub data WindowReply : Type 0 where

@@ -1,13 +1,18 @@
 -- What commands do to parsers of the same octets, seen as a list of windows.
 use Rattle.std.specs.List.{AllByRecursion}
-use Rattle.std.specs.Prelude.{◌≡◌, ◌≢◌, ℕ, Bool, true, List, [], ◌∷◌, ◌++◌, length, slice_get, slice_set, nat_le, ◌==◌, if◌then◌else◌, Option, Some, None, ◌⊎◌}
+use Rattle.std.specs.Prelude.{◌≡◌, ◌≢◌, ℕ, Bool, true, List, [], ◌∷◌, ◌++◌, length, slice_get}
+use Rattle.std.specs.Prelude.{slice_set, nat_le, ◌==◌, if◌then◌else◌, Option, Some, None, ◌⊎◌}
 use Rattle.octseq.specs.Integer.{be, le, signed}
 use Rattle.octseq.specs.WindowReply.{WindowReply}
 use Rattle.octseq.specs.Window.{Window, left, rest, next, front, at, past, nested}
 use Rattle.octseq.specs.declared.parse.commands.Kind.{Kind}
-use Rattle.octseq.specs.declared.parse.commands.Kind.TheVariants.{I8, U8, I16Be, I16Le, U16Be, U16Le, U24Be, U24Le, I32Be, I32Le, U32Be, U32Le, U48Be, U48Le, I64Be, I64Le, U64Be, U64Le, I128Be, I128Le, U128Be, U128Le}
+use Rattle.octseq.specs.declared.parse.commands.Kind.TheVariants.{I8, U8, I16Be, I16Le, U16Be, U16Le, U24Be, U24Le}
+use Rattle.octseq.specs.declared.parse.commands.Kind.TheVariants.{I32Be, I32Le, U32Be, U32Le, U48Be, U48Le, I64Be}
+use Rattle.octseq.specs.declared.parse.commands.Kind.TheVariants.{I64Le, U64Be, U64Le, I128Be, I128Le, U128Be, U128Le}
 use Rattle.octseq.specs.declared.parse.commands.ParserCall.{ParserCall}
-use Rattle.octseq.specs.declared.parse.commands.ParserCall.TheVariants.{Pos, Len, IsEmpty, Remaining, AsSlice, PeekAll, AdvanceToEnd, Duplicate, Peek, Seek, Advance, CheckLen, Octets, Buf, Nested, Int}
+use Rattle.octseq.specs.declared.parse.commands.ParserCall.TheVariants.{Pos, Len, IsEmpty, Remaining, AsSlice}
+use Rattle.octseq.specs.declared.parse.commands.ParserCall.TheVariants.{PeekAll, AdvanceToEnd, Duplicate, Peek, Seek}
+use Rattle.octseq.specs.declared.parse.commands.ParserCall.TheVariants.{Advance, CheckLen, Octets, Buf, Nested, Int}
 use Rattle.octseq.specs.declared.parse.commands.ParserCommand.{ParserCommand}
 
 -- How an integer is read: how many octets it has, and the reply with the value that they stand for.
@@ -82,7 +87,8 @@ outcome count w (CheckLen n) = where_within (left w) n w (says WindowReply.done 
 outcome count w (Octets n) = where_within (left w) n w (says (WindowReply.range (next n w)) (past n w))
 outcome count w (Buf n) = where_within (left w) n w (says (WindowReply.slice (next n w)) (past n w))
 outcome count w (Nested n) = where_within (left w) n w (adds count (nested n w) (past n w))
-outcome count w (Int kind) = let n = (reading kind).width in where_within (left w) n w (says ((reading kind).reply (next n w)) (past n w))
+outcome count w (Int kind) = let n = (reading kind).width in
+    where_within (left w) n w (says ((reading kind).reply (next n w)) (past n w))
 
 -- A request for memory may be refused in the place of a slice, and of a range whose type requests memory.
 abbrev pub MayLackMemory : Bool → WindowReply → Type 0
@@ -92,7 +98,8 @@ MayLackMemory asks _ = ⊥
 
 -- A call does what it is to do, or a request for memory was refused, and nothing changed.
 abbrev pub Does : Bool → Window → Outcome → Outcome → Type 0
-Does asks before wanted done = (done ≡ wanted) ⊎ (MayLackMemory asks wanted.reply × (done ≡ says WindowReply.memory before))
+Does asks before wanted done =
+    (done ≡ wanted) ⊎ (MayLackMemory asks wanted.reply × (done ≡ says WindowReply.memory before))
 
 -- A command on the window of its number, if there is one: the reply, and the windows after it.
 abbrev pub StepOn : Option Window → Bool → List Window → ParserCommand → WindowReply → List Window → Type 0

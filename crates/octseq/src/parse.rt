@@ -1,5 +1,6 @@
 //! Reading octets from the left: windows that move over a sequence.
-ghost use Rattle.std.specs.Prelude.{◌≡◌, ◌+◌, ◌<◌, ◌≤◌, ◌↔◌, ⊤, true, length, IsTrue, IsOk, IfOk, IsSome, IfSome, OnOk, OnErr};
+ghost use Rattle.std.specs.Prelude.{◌≡◌, ◌+◌, ◌<◌, ◌≤◌, ◌↔◌, ⊤, true, length};
+ghost use Rattle.std.specs.Prelude.{IsTrue, IsOk, IfOk, IsSome, IfSome, OnOk, OnErr};
 ghost use Rattle.octseq_text.specs.Range.{RangeExists};
 ghost use Rattle.octseq.specs.Integer.{be, octets_be};
 ghost use Rattle.octseq.specs.Refusal.{IsShort, IsMemory, parse_octets_error};

@@ -6,7 +6,8 @@ use Rattle.octseq_core.specs.declared.builder.AppendError.{AppendError}
 
 -- A call adds the octets at the end of a content. It is refused as short exactly where the content would pass its
 -- limit, for memory only where the type requests memory, and then the content stays.
-pub record Appends (limit : Option ℕ) (asks : Bool) (result : Result (Unit {0}) AppendError) (octets old new : List ℕ) : Type 0 where
+pub record Appends (limit : Option ℕ) (asks : Bool) (result : Result (Unit {0}) AppendError)
+    (octets old new : List ℕ) : Type 0 where
   pub ok : OnOk result (new ≡ old ++ octets)
   pub err : OnErr result (new ≡ old)
   pub short : IsShort append_error result ↔ IsPast limit (length old + length octets)

@@ -1,5 +1,6 @@
 //! What octet sequences and builders can do.
-ghost use Rattle.std.specs.Prelude.{◌≡◌, ℕ, Bool, true, Option, Some, List, [], ◌++◌, ◌+◌, ◌↔◌, take, length, codes, Result, Ok, IsTrue, IsOk, IfOk, OnOk, OnErr};
+ghost use Rattle.std.specs.Prelude.{◌≡◌, ℕ, Bool, true, Option, Some, List, [], ◌++◌, ◌+◌, ◌↔◌, take};
+ghost use Rattle.std.specs.Prelude.{length, codes, Result, Ok, IsTrue, IsOk, IfOk, OnOk, OnErr};
 ghost use Rattle.std.specs.Borrow.{GName, sem};
 ghost use Rattle.octseq_core.specs.Lends.{lends_octets};
 ghost use Rattle.octseq_core.specs.Appends.{Appends};

@@ -1,5 +1,6 @@
 //! Octets that are borrowed until more are appended.
-ghost use Rattle.std.specs.Prelude.{◌≡◌, ◌+◌, Bool, true, false, Option, None, List, ◌++◌, ◌↔◌, take, length, IsTrue, IsOk, IfOk, OnOk, OnErr};
+ghost use Rattle.std.specs.Prelude.{◌≡◌, ◌+◌, Bool, true, false, Option, None, List, ◌++◌};
+ghost use Rattle.std.specs.Prelude.{◌↔◌, take, length, IsTrue, IsOk, IfOk, OnOk, OnErr};
 ghost use Rattle.octseq_core.specs.Appends.{Appends};
 ghost use Rattle.octseq_core.specs.Cow.{cow_content, is_borrowed};
 

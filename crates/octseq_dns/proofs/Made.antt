@@ -1,5 +1,6 @@
 -- What is appended of a record, piece by piece: its name, and its data behind their length.
-use Rattle.std.proofs.Common.{◌≡◌, ℕ, zero, suc, ◌+◌, ◌≤◌, Option, Some, None, List, [], ◌∷◌, ◌++◌, length, take, inl, inr}
+use Rattle.std.proofs.Common.{◌≡◌, ℕ, zero, suc, ◌+◌, ◌≤◌, Option, Some, None}
+use Rattle.std.proofs.Common.{List, [], ◌∷◌, ◌++◌, length, take, inl, inr}
 use Rattle.std.proofs.Common.{append_assoc, refl, sym, ap, ◌∙◌, subst, arith}
 use Rattle.std.proofs.Math.Logic.{∥∥₁_prop, ∥∥₁_elim}
 use Rattle.std.proofs.lemmas.List.{length-append, length-take, append-nil, take_all}
@@ -13,7 +14,8 @@ use Rattle.octseq_dns_name.specs.Wire.{wire}
 use Rattle.octseq_dns.specs.Encoded.{IsEncoded, IsPlaced, Encodes, written_of}
 use Rattle.octseq_dns.specs.Place.{IsGood, AreGood, places_of, kept, table_with}
 use Rattle.octseq_dns.specs.Pushed.{PassesWith}
-use Rattle.octseq_dns.specs.RecordEntry.{AddsRecord, BeginsRecord, EndsRecord, Fits, FitsMatter, FitsName, IsMade, IsNamed}
+use Rattle.octseq_dns.specs.RecordEntry.{AddsRecord, BeginsRecord, EndsRecord, Fits}
+use Rattle.octseq_dns.specs.RecordEntry.{FitsMatter, FitsName, IsMade, IsNamed}
 use Rattle.octseq_dns.specs.RecordEntry.{IsRecordEntry, IsRecordLeast, PassesAsData, behind_owner}
 use Rattle.octseq_dns.specs.Told.{Told, Matter}
 use Rattle.octseq_dns.specs.declared.place.Place.{Place}
@@ -28,7 +30,8 @@ within_kept (Some most) places = let few = length-take most places in omega (ari
 within_kept None places = tt
 
 -- and stays as it is where nothing is added
-pub nothing_added : (most : Option ℕ) (places : List Place) → IsWithin most (length places) → places ≡ table_with most places []
+pub nothing_added : (most : Option ℕ) (places : List Place) → IsWithin most (length places)
+    → places ≡ table_with most places []
 nothing_added (Some most) places within = sym (ap (take most) (append-nil places) ∙ take_all most places within)
 nothing_added None places within = sym (append-nil places)
 
@@ -40,7 +43,8 @@ take_again (suc n) (x ∷ xs) ys = ap (λ rest. x ∷ rest) (take_again n xs ys)
 -- places that are added one behind another are added at once
 pub added_twice : (most : Option ℕ) (places firsts seconds : List Place)
     → table_with most (table_with most places firsts) seconds ≡ table_with most places (firsts ++ seconds)
-added_twice (Some most) places firsts seconds = take_again most (places ++ firsts) seconds ∙ ap (take most) (append_assoc places firsts seconds)
+added_twice (Some most) places firsts seconds = take_again most (places ++ firsts) seconds
+    ∙ ap (take most) (append_assoc places firsts seconds)
 added_twice None places firsts seconds = append_assoc places firsts seconds
 
 -- ---- names
@@ -89,9 +93,12 @@ pub zone_made : (octets : List ℕ) (places : List Place) (start : ℕ) (first s
     → ∥ IsPlaced octets places (start + length mname) second rname seconds ∥₁
     → made ≡ mname ++ (rname ++ (octets_be 4 serial ++ (octets_be 4 refresh ++ (octets_be 4 retry
     ++ (octets_be 4 expire ++ octets_be 4 minimum)))))
-    → ∥ IsMade octets places start (Matter.soa first second serial refresh retry expire minimum) made (firsts ++ seconds) ∥₁
-zone_made octets places start first second serial refresh retry expire minimum mname rname made firsts seconds one two is =
-    ∥∥₁_elim one ∥∥₁_prop (λ one. ∥∥₁_elim two ∥∥₁_prop (λ two. ∣ (mname, rname, firsts, seconds, one, two, is, refl) ∣₁))
+    → ∥ IsMade octets places start (Matter.soa first second serial refresh retry expire minimum) made
+    (firsts ++ seconds) ∥₁
+zone_made octets places start first second serial refresh retry expire minimum mname rname made firsts seconds one two
+    is =
+    ∥∥₁_elim one ∥∥₁_prop
+        (λ one. ∥∥₁_elim two ∥∥₁_prop (λ two. ∣ (mname, rname, firsts, seconds, one, two, is, refl) ∣₁))
 
 -- such data were appended,
 pub data_ends : (most : Option ℕ) (octets : List ℕ) (places : List Place) (rtype class ttl : ℕ)
@@ -124,7 +131,8 @@ passes_as limit octets Is Other turns passes = ∥∥₁_elim passes ∥∥₁_p
 
 -- a name with nothing before it is a name
 pub bare_name : (octets : List ℕ) (places : List Place) (start : ℕ) (labels : List (List ℕ)) (made : List ℕ)
-    (added : List Place) → IsNamed octets places start [] labels made added → IsPlaced octets places start labels made added
+    (added : List Place) → IsNamed octets places start [] labels made added
+        → IsPlaced octets places start labels made added
 bare_name octets places start labels made added is =
     let none : start + length {A = ℕ} [] ≡ start = omega arith in
     subst (λ made. IsPlaced octets places start labels made added) (sym is.2)
@@ -138,7 +146,8 @@ pub preferred_name : (octets : List ℕ) (places : List Place) (start preference
 preferred_name octets places start preference before labels made added same is =
     let two = ap length same ∙ length_be 2 preference in
     let place : start + length before ≡ start + 2 = omega (arith, two) in
-    (is.0, subst (λ start. IsPlaced octets places start labels is.0 added) place is.1, is.2 ∙ ap (λ before. before ++ is.0) same)
+    (is.0, subst (λ start. IsPlaced octets places start labels is.0 added) place is.1, is.2
+        ∙ ap (λ before. before ++ is.0) same)
 
 -- ---- records
 
@@ -171,7 +180,8 @@ head_and_data rtype class ttl made =
     ∙ ap (λ rest. c ++ rest) (append_assoc t n made)))
 
 -- how many octets stand behind the name of a record
-pub behind_length : (rtype class ttl : ℕ) (made : List ℕ) → length (behind_owner rtype class ttl made) ≡ 10 + length made
+pub behind_length : (rtype class ttl : ℕ) (made : List ℕ)
+    → length (behind_owner rtype class ttl made) ≡ 10 + length made
 behind_length rtype class ttl made =
     let all = ap length (head_and_data rtype class ttl made) in
     let both = length-append (head_octets rtype class ttl (length made)) made in
@@ -190,7 +200,8 @@ module _ (most : Option ℕ) (old between : List ℕ) (held within : List Place)
   -- data behind a name are those of an entry
   entry_of : (b : BeginsRecord most old held told.labels between within) (made : List ℕ) (added : List Place)
       → IsMade between within (length between + 10) told.said made added
-      → IsRecordEntry most old held told (b.0 ++ behind_owner told.rtype told.class told.ttl made) (table_with most within added)
+      → IsRecordEntry most old held told (b.0 ++ behind_owner told.rtype told.class told.ttl made)
+      (table_with most within added)
   entry_of b made added is =
       let all = ap length b.3 ∙ length-append old b.0 in
       let place : length between + 10 ≡ length old + (length b.0 + 10) = omega (arith, all) in
@@ -209,7 +220,8 @@ module _ (most : Option ℕ) (old between : List ℕ) (held within : List Place)
 
   -- and then data, so a record was,
   pub record_added : (new : List ℕ) (after : List Place)
-      → ∥ EndsRecord most between within told.rtype told.class told.ttl (IsMade between within (length between + 10) told.said) new after ∥₁
+      → ∥ EndsRecord most between within told.rtype told.class told.ttl
+      (IsMade between within (length between + 10) told.said) new after ∥₁
       → ∥ AddsRecord most old held told new after ∥₁
   record_added new after ends = ∥∥₁_elim begins ∥∥₁_prop (λ b. ∥∥₁_elim ends ∥∥₁_prop (λ e.
       let behind = behind_owner told.rtype told.class told.ttl e.0 in
@@ -231,12 +243,14 @@ module _ (most : Option ℕ) (old between : List ℕ) (held within : List Place)
       ∣ (
         b.0 ++ behind,
         inl (table_with most within p.1, entry_of b p.0 p.1 p.2),
-        past_more limit (length between + (10 + length p.0)) (length old + length (b.0 ++ behind)) (omega (arith, long, all, size)) p.3,
+        past_more limit (length between + (10 + length p.0)) (length old + length (b.0 ++ behind))
+            (omega (arith, long, all, size)) p.3,
       ) ∣₁))
 
 -- or without.
 pub owner_past_record : (limit most : Option ℕ) (old : List ℕ) (held : List Place) (told : Told)
-    → ∥ PassesWith limit old (IsEncoded old held told.labels) ∥₁ → ∥ PassesWith limit old (IsRecordLeast most old held told) ∥₁
+    → ∥ PassesWith limit old (IsEncoded old held told.labels) ∥₁
+    → ∥ PassesWith limit old (IsRecordLeast most old held told) ∥₁
 owner_past_record limit most old held told past = ∥∥₁_elim past ∥∥₁_prop (λ past.
     let name = past.0 in
     let behind = behind_owner told.rtype told.class told.ttl [] in
@@ -291,25 +305,33 @@ made_good base head places start (Matter.mx preference labels) made added headed
     let three = length-append base (head ++ before) in
     let few = length_be 2 preference in
     let place : start + 2 ≡ length (base ++ (head ++ before)) = omega (arith, begins, one, two, three, few) in
-    name_good base (head ++ before) is.0 [] (base ++ (head ++ made)) places labels (start + 2) added is.1 fits.1 headed place
+    name_good base (head ++ before) is.0 [] (base ++ (head ++ made)) places labels (start + 2) added is.1 fits.1 headed
+        place
     (ap (λ made. base ++ (head ++ made)) is.2 ∙ ap (λ rest. base ++ rest) (sym (append_assoc head before is.0))
     ∙ sym (append_assoc base (head ++ before) is.0) ∙ sym (append-nil (base ++ (head ++ before) ++ is.0)))
-made_good base head places start (Matter.soa first second serial refresh retry expire minimum) made added headed begins is fits =
+made_good base head places start (Matter.soa first second serial refresh retry expire minimum) made added headed begins
+    is fits =
     let mname = is.0 in
     let rname = is.1 in
-    let numbers = octets_be 4 serial ++ (octets_be 4 refresh ++ (octets_be 4 retry ++ (octets_be 4 expire ++ octets_be 4 minimum))) in
+    let numbers = octets_be 4 serial
+        ++ (octets_be 4 refresh ++ (octets_be 4 retry ++ (octets_be 4 expire ++ octets_be 4 minimum))) in
     let all = base ++ (head ++ made) in
     let made_is : made ≡ mname ++ (rname ++ numbers) = is.6 in
     let one = length-append base head in
     let two = length-append head mname in
     let three = length-append base (head ++ mname) in
     let place : start + length mname ≡ length (base ++ (head ++ mname)) = omega (arith, begins, one, two, three) in
-    let firsts : AreGood all is.2 = name_good base head mname (rname ++ numbers) all places first start is.2 is.4 fits.0 headed begins
+    let firsts : AreGood all is.2 = name_good base head mname (rname ++ numbers) all places first start is.2 is.4 fits.0
+        headed begins
     (ap (λ made. base ++ (head ++ made)) made_is ∙ sym (append_assoc base head (mname ++ (rname ++ numbers)))
     ∙ sym (append_assoc (base ++ head) mname (rname ++ numbers))) in
-    let seconds : AreGood all is.3 = name_good base (head ++ mname) rname numbers all places second (start + length mname) is.3 is.5 fits.1 headed place
-    (ap (λ made. base ++ (head ++ made)) made_is ∙ ap (λ rest. base ++ rest) (sym (append_assoc head mname (rname ++ numbers)))
-    ∙ sym (append_assoc base (head ++ mname) (rname ++ numbers)) ∙ sym (append_assoc (base ++ (head ++ mname)) rname numbers)) in
+    let seconds : AreGood all is.3 =
+        name_good base (head ++ mname) rname numbers all places second (start + length mname) is.3 is.5 fits.1 headed
+        place
+    (ap (λ made. base ++ (head ++ made)) made_is
+        ∙ ap (λ rest. base ++ rest) (sym (append_assoc head mname (rname ++ numbers)))
+    ∙ sym (append_assoc base (head ++ mname) (rname ++ numbers))
+        ∙ sym (append_assoc (base ++ (head ++ mname)) rname numbers)) in
     subst (AreGood all) (sym is.7) (All-append (IsGood all) is.2 is.3 firsts seconds)
 made_good base head places start (Matter.txt strings) made added headed begins is fits =
     subst (AreGood (base ++ (head ++ made))) (sym is.3) (All-nil (IsGood (base ++ (head ++ made))))
@@ -326,7 +348,8 @@ owner_good most octets places labels owner named placed fits headed good =
     let same : octets ++ owner ≡ octets ++ [] ++ owner ++ [] =
     ap (λ front. front ++ owner) (sym (append-nil octets)) ∙ sym (append-nil (octets ++ [] ++ owner)) in
     let begins : length octets ≡ length (octets ++ []) = sym (ap length (append-nil octets)) in
-    let own = name_good octets [] owner [] (octets ++ owner) places labels (length octets) named placed fits headed begins same in
+    let own = name_good octets [] owner [] (octets ++ owner) places labels (length octets) named placed fits headed
+        begins same in
     good_kept (octets ++ owner) most (places ++ named)
     (All-append (IsGood (octets ++ owner)) places named (good_grows octets owner places headed good) own)
 
@@ -350,7 +373,8 @@ entry_good most octets places told entry after is fits headed good =
     let behind = behind_owner told.rtype told.class told.ttl is.made in
     let parts = head_and_data told.rtype told.class told.ttl is.made in
     let all : octets ++ entry ≡ base ++ (head ++ is.made) =
-    ap (λ entry. octets ++ entry) is.entry_is ∙ sym (append_assoc octets is.owner behind) ∙ ap (λ behind. base ++ behind) parts in
+    ap (λ entry. octets ++ entry) is.entry_is ∙ sym (append_assoc octets is.owner behind)
+        ∙ ap (λ behind. base ++ behind) parts in
     let long = length-append octets is.owner in
     let both = length-append base head in
     let ten = head_length told.rtype told.class told.ttl (length is.made) in
@@ -358,7 +382,8 @@ entry_good most octets places told entry after is fits headed good =
     let begins : length octets + (length is.owner + 10) ≡ length (base ++ head) = omega (arith, long, both, ten) in
     let before = good_grows base (head ++ is.made) table room
     (owner_good most octets places told.labels is.owner is.named is.placed fits.owner headed good) in
-    let own = made_good base head table (length octets + (length is.owner + 10)) told.said is.made is.added room begins is.is_made fits.said in
+    let own = made_good base head table (length octets + (length is.owner + 10)) told.said is.made is.added room begins
+        is.is_made fits.said in
     subst (λ octets. AreGood octets after) (sym all) (subst (AreGood (base ++ (head ++ is.made))) (sym is.after_is)
     (good_kept (base ++ (head ++ is.made)) most (table ++ is.added)
     (All-append (IsGood (base ++ (head ++ is.made))) table is.added before own)))

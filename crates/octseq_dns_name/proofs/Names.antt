@@ -231,10 +231,12 @@ whole_name w start v u size pointers behind so_far has short few = record {
 
 -- a window at a place of another is one at a place of the first
 pub at_of : (w u v : Window) (place : ℕ) → u ≡ at u.position w → v ≡ at place u → v ≡ at v.position w
-at_of w u v place of is = let there : v ≡ at place w = is ∙ ap (at place) of in there ∙ sym (ap (λ x. at x.position w) there)
+at_of w u v place of is = let there : v ≡ at place w = is ∙ ap (at place) of in
+    there ∙ sym (ap (λ x. at x.position w) there)
 
 -- it ends at the place that was kept, or else where reading is
-pub kept_end : (w u : Window) (behind : Option ℕ) → u ≡ at u.position w → end_of (kept_at w behind) u ≡ at (unwrap_or behind u.position) w
+pub kept_end : (w u : Window) (behind : Option ℕ) → u ≡ at u.position w
+    → end_of (kept_at w behind) u ≡ at (unwrap_or behind u.position) w
 kept_end w u None of = of
 kept_end w u (Some place) of = refl
 

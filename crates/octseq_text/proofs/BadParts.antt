@@ -1,5 +1,6 @@
 -- Bad parts and what follows them.
-use Rattle.std.proofs.Common.{◌≡◌, ℕ, ◌+◌, ◌<◌, ◌≤◌, List, [], ◌∷◌, ◌++◌, length, take, drop, arith, ◌⊎◌, inl, inr, ap, sym, ◌∙◌, subst, append_assoc, length-append}
+use Rattle.std.proofs.Common.{◌≡◌, ℕ, ◌+◌, ◌<◌, ◌≤◌, List, [], ◌∷◌, ◌++◌, length, take, drop, arith}
+use Rattle.std.proofs.Common.{◌⊎◌, inl, inr, ap, sym, ◌∙◌, subst, append_assoc, length-append}
 use Rattle.std.proofs.Math.Seq.{take-append_seam}
 use Rattle.std.proofs.lemmas.List.{append-nil, take-append-drop}
 use Rattle.octseq_utf8.specs.Parts.{IsFront, IsBeginning, IsBadPart, Bad}
@@ -10,7 +11,8 @@ use Rattle.octseq_utf8.proofs.Fitting.{fitting_fits, fitting_within, fitting_wid
 use Rattle.octseq_utf8.proofs.Splitting.{bad_of, bad_only, bad_some, fitting_beginning, parts_bad, parts_nil}
 
 -- the front of p ++ t that is as long as the first part, where no encoding begins
-bad_at : (p t : List ℕ) → 1 ≤ length p → (width (p ++ t) ≡ 0) ⊎ (fitting (p ++ t) < width (p ++ t)) → part_len (p ++ t) ≡ length p → IsBadPart (p ++ t) p
+bad_at : (p t : List ℕ) → 1 ≤ length p → (width (p ++ t) ≡ 0) ⊎ (fitting (p ++ t) < width (p ++ t))
+    → part_len (p ++ t) ≡ length p → IsBadPart (p ++ t) p
 bad_at p t some h n =
     let front : take (part_len (p ++ t)) (p ++ t) ≡ p = ap (λ k. take k (p ++ t)) n ∙ take-append_seam p t in
     subst (λ y. IsBadPart (p ++ t) y) front (bad_of (p ++ t) (omega (arith, length-append p t)) h)
@@ -40,20 +42,23 @@ module _ (p s r : List ℕ) (b : IsBadPart (p ++ s) p) (settled : ¬ (IsBeginnin
   lead = ap width_of (get_left p (s ++ r) 0 some ∙ sym (get_left p s 0 some))
 
   -- what of the whole fits is all of p, and no octet more
-  no_longer : IsBeginning p → fitting (p ++ s) ≤ length p → 1 ≤ width (p ++ (s ++ r)) → (fitting (p ++ (s ++ r)) ≤ length p) ⊎ (length p < fitting (p ++ (s ++ r))) → fitting (p ++ (s ++ r)) ≤ length p
+  no_longer : IsBeginning p → fitting (p ++ s) ≤ length p → 1 ≤ width (p ++ (s ++ r))
+      → (fitting (p ++ (s ++ r)) ≤ length p) ⊎ (length p < fitting (p ++ (s ++ r))) → fitting (p ++ (s ++ r)) ≤ length p
   no_longer g here wide (inl h) = h
   no_longer g here wide (inr h) =
       let behind : 1 ≤ length s = nil_or_some s (λ e. settled (g, e)) in
       let all = fitting_fits (p ++ (s ++ r)) (omega (arith, length-append p (s ++ r), some)) wide in
       let one = fits_fewer (p ++ (s ++ r)) (length p + 1) (fitting (p ++ (s ++ r))) (omega arith) (omega arith) all in
-      let left = fits_less (p ++ s) r (length p + 1) (omega (arith, length-append p s)) (subst (λ y. Fits y (length p + 1)) (sym (append_assoc p s r)) one) in
+      let left = fits_less (p ++ s) r (length p + 1) (omega (arith, length-append p s))
+          (subst (λ y. Fits y (length p + 1)) (sym (append_assoc p s r)) one) in
       let more = fits_fitting (p ++ s) (length p + 1) left in
       absurd (omega arith)
 
   at_most_or_more : (a b : ℕ) → (a ≤ b) ⊎ (b < a)
   at_most_or_more a b = grind arith
 
-  beginning_more : IsBeginning p → fitting (p ++ s) < width (p ++ s) → length p ≡ part_len (p ++ s) → IsBadPart (p ++ (s ++ r)) p
+  beginning_more : IsBeginning p → fitting (p ++ s) < width (p ++ s) → length p ≡ part_len (p ++ s)
+      → IsBadPart (p ++ (s ++ r)) p
   beginning_more g z only =
       let all = fits_fitting (p ++ (s ++ r)) (length p) (fits_more p (s ++ r) (length p) (beginning_fits g)) in
       let short = beginning_short g in
@@ -62,12 +67,18 @@ module _ (p s r : List ℕ) (b : IsBadPart (p ++ s) p) (settled : ¬ (IsBeginnin
       let most = no_longer g (omega arith) wide (at_most_or_more (fitting (p ++ (s ++ r))) (length p)) in
       bad_at p (s ++ r) some (inr (omega (arith, lead))) (omega (arith, some))
 
-  by_cases : (IsBeginning p × ((q : List ℕ) → IsFront q (p ++ s) → IsBeginning q → length q ≤ length p)) ⊎ ((length p ≡ 1) × ((q : List ℕ) → IsFront q (p ++ s) → ¬ IsBeginning q))
-      → (width (p ++ s) ≡ 0) ⊎ (fitting (p ++ s) < width (p ++ s)) → length p ≡ part_len (p ++ s) → IsBadPart (p ++ (s ++ r)) p
-  by_cases (inl g) (inl z) only = let short = beginning_short g.0 in let same : width (p ++ s) ≡ width p = ap width_of (get_left p s 0 some) in absurd (omega arith)
+  by_cases : (IsBeginning p × ((q : List ℕ) → IsFront q (p ++ s) → IsBeginning q → length q ≤ length p))
+      ⊎ ((length p ≡ 1) × ((q : List ℕ) → IsFront q (p ++ s) → ¬ IsBeginning q))
+      → (width (p ++ s) ≡ 0) ⊎ (fitting (p ++ s) < width (p ++ s)) → length p ≡ part_len (p ++ s)
+      → IsBadPart (p ++ (s ++ r)) p
+  by_cases (inl g) (inl z) only = let short = beginning_short g.0 in let same : width (p ++ s) ≡ width p =
+      ap width_of (get_left p s 0 some) in absurd (omega arith)
   by_cases (inl g) (inr z) only = beginning_more g.0 z only
-  by_cases (inr g) (inl z) only = let wide = fitting_wide (p ++ (s ++ r)) in bad_at p (s ++ r) some (inl (lead ∙ z)) (let one = g.0 in omega (arith, lead))
-  by_cases (inr g) (inr z) only = absurd (g.1 (take (fitting (p ++ s)) (p ++ s)) (drop (fitting (p ++ s)) (p ++ s), sym (take-append-drop (fitting (p ++ s)) (p ++ s)))
+  by_cases (inr g) (inl z) only = let wide = fitting_wide (p ++ (s ++ r)) in
+      bad_at p (s ++ r) some (inl (lead ∙ z)) (let one = g.0 in omega (arith, lead))
+  by_cases (inr g) (inr z) only =
+      absurd (g.1 (take (fitting (p ++ s)) (p ++ s))
+      (drop (fitting (p ++ s)) (p ++ s), sym (take-append-drop (fitting (p ++ s)) (p ++ s)))
       (fitting_beginning (p ++ s) (omega (arith, length-append p s, some)) (omega arith) z))
 
   pub bad_more : IsBadPart (p ++ (s ++ r)) p

@@ -1,14 +1,17 @@
 -- Where characters end in well-formed octets.
-use Rattle.std.proofs.Common.{◌≡◌, ℕ, zero, suc, ◌+◌, ◌-◌, ◌<◌, ◌≤◌, true, false, List, [], ◌∷◌, ◌++◌, map, length, take, drop, slice_index, refl, arith, ⊎_elim, ap, sym, ◌∙◌, subst, length-append, ◌↔◌}
+use Rattle.std.proofs.Common.{◌≡◌, ℕ, zero, suc, ◌+◌, ◌-◌, ◌<◌, ◌≤◌, true, false, List, [], ◌∷◌, ◌++◌, map, length}
+use Rattle.std.proofs.Common.{take, drop, slice_index, refl, arith, ⊎_elim, ap, sym, ◌∙◌, subst, length-append, ◌↔◌}
 use Rattle.std.proofs.lemmas.Bool.{cases_lt}
 use Rattle.std.proofs.lemmas.List.{map-append, drop-append-le, take_all}
 use Rattle.std.proofs.Math.Seq.{take-append_seam, drop-append_seam, drop-append-add}
 use Rattle.std.specs.Int.{is_in_range}
 use Rattle.std.specs.List.{concat, AllByRecursion}
-use Rattle.octseq_utf8.specs.Encoding.{IsEncoding, row_00_7F, row_C2_DF, row_E0, row_E1_EC, row_ED, row_EE_EF, row_F0, row_F1_F3, row_F4, number_of}
+use Rattle.octseq_utf8.specs.Encoding.{IsEncoding, row_00_7F, row_C2_DF, row_E0, row_E1_EC}
+use Rattle.octseq_utf8.specs.Encoding.{row_ED, row_EE_EF, row_F0, row_F1_F3, row_F4, number_of}
 use Rattle.octseq_text.specs.TextRun.{CutsTo}
 use Rattle.octseq_utf8.specs.Text.{Spells, IsWellFormed, begins_within, chars, octets_of, IsFrontOf, IsBoundary}
-use Rattle.octseq_utf8.proofs.Spelling.{inside, plain, begins_all, octets_of_numbers, chars_of, octets_of_spelled, concat-append}
+use Rattle.octseq_utf8.proofs.Spelling.{inside, plain, begins_all, octets_of_numbers}
+use Rattle.octseq_utf8.proofs.Spelling.{chars_of, octets_of_spelled, concat-append}
 use Rattle.octseq_utf8.proofs.Texts.{spelled, octets_of-chars}
 
 -- The octets behind the first of an encoding are within it.
@@ -24,7 +27,8 @@ led_2 a b p = record { first = a; more = b ∷ []; whole = refl; within = (p, tt
 led_3 : (a b c : ℕ) → is_in_range 0x80 0xBF b ≡ true → is_in_range 0x80 0xBF c ≡ true → IsLed (a ∷ b ∷ c ∷ [])
 led_3 a b c p q = record { first = a; more = b ∷ c ∷ []; whole = refl; within = (p, (q, tt)) }
 
-led_4 : (a b c d : ℕ) → is_in_range 0x80 0xBF b ≡ true → is_in_range 0x80 0xBF c ≡ true → is_in_range 0x80 0xBF d ≡ true → IsLed (a ∷ b ∷ c ∷ d ∷ [])
+led_4 : (a b c d : ℕ) → is_in_range 0x80 0xBF b ≡ true → is_in_range 0x80 0xBF c ≡ true → is_in_range 0x80 0xBF d ≡ true
+    → IsLed (a ∷ b ∷ c ∷ d ∷ [])
 led_4 a b c d p q r = record { first = a; more = b ∷ c ∷ d ∷ []; whole = refl; within = (p, (q, (r, tt))) }
 
 led : {e : List ℕ} → IsEncoding e → IsLed e
@@ -34,25 +38,31 @@ led (row_E0 {a} {b} {c} p q r) = led_3 a b c (inside 0xA0 0xBF b (omega arith) (
 led (row_E1_EC {a} {b} {c} p q r) = led_3 a b c (plain b q) (plain c r)
 led (row_ED {a} {b} {c} p q r) = led_3 a b c (inside 0x80 0x9F b (omega arith) (omega arith) q) (plain c r)
 led (row_EE_EF {a} {b} {c} p q r) = led_3 a b c (plain b q) (plain c r)
-led (row_F0 {a} {b} {c} {d} p q r s) = led_4 a b c d (inside 0x90 0xBF b (omega arith) (omega arith) q) (plain c r) (plain d s)
+led (row_F0 {a} {b} {c} {d} p q r s) = led_4 a b c d (inside 0x90 0xBF b (omega arith) (omega arith) q) (plain c r)
+    (plain d s)
 led (row_F1_F3 {a} {b} {c} {d} p q r s) = led_4 a b c d (plain b q) (plain c r) (plain d s)
-led (row_F4 {a} {b} {c} {d} p q r s) = led_4 a b c d (inside 0x80 0x8F b (omega arith) (omega arith) q) (plain c r) (plain d s)
+led (row_F4 {a} {b} {c} {d} p q r s) = led_4 a b c d (inside 0x80 0x8F b (omega arith) (omega arith) q) (plain c r)
+    (plain d s)
 
-within_at : (more : List ℕ) → AllByRecursion (λ b. is_in_range 0x80 0xBF b ≡ true) more → (i : ℕ) (y : List ℕ) → i < length more → begins_within (drop i more ++ y) ≡ true
+within_at : (more : List ℕ) → AllByRecursion (λ b. is_in_range 0x80 0xBF b ≡ true) more → (i : ℕ) (y : List ℕ)
+    → i < length more → begins_within (drop i more ++ y) ≡ true
 within_at [] h i y lt = absurd (omega arith)
 within_at (b ∷ more) h zero y lt = h.0
 within_at (b ∷ more) h (suc i) y lt = within_at more h.1 i y (omega arith)
 
-within_behind : (first : ℕ) (more : List ℕ) → AllByRecursion (λ b. is_in_range 0x80 0xBF b ≡ true) more → (n : ℕ) (y : List ℕ) → 0 < n → n < length (first ∷ more)
+within_behind : (first : ℕ) (more : List ℕ) → AllByRecursion (λ b. is_in_range 0x80 0xBF b ≡ true) more
+    → (n : ℕ) (y : List ℕ) → 0 < n → n < length (first ∷ more)
     → begins_within (drop n (first ∷ more) ++ y) ≡ true
 within_behind first more h zero y some lt = absurd (omega arith)
 within_behind first more h (suc i) y some lt = within_at more h i y (omega arith)
 
-within_encoding : {e : List ℕ} → IsEncoding e → (n : ℕ) (y : List ℕ) → 0 < n → n < length e → begins_within (drop n (e ++ y)) ≡ true
+within_encoding : {e : List ℕ} → IsEncoding e → (n : ℕ) (y : List ℕ) → 0 < n → n < length e
+    → begins_within (drop n (e ++ y)) ≡ true
 within_encoding {e} p n y some lt =
     let l = led p in
     let long : length e ≡ length (l.first ∷ l.more) = ap length l.whole in
-    ap begins_within (drop-append-le n e y (omega arith)) ∙ ap (λ z. begins_within (drop n z ++ y)) l.whole ∙ within_behind l.first l.more l.within n y some (omega arith)
+    ap begins_within (drop-append-le n e y (omega arith)) ∙ ap (λ z. begins_within (drop n z ++ y)) l.whole
+        ∙ within_behind l.first l.more l.within n y some (omega arith)
 
 -- Encodings in two, of which the first are n octets.
 record IsCut (es : List (List ℕ)) (n : ℕ) : Type 0 where
@@ -64,20 +74,23 @@ record IsCut (es : List (List ℕ)) (n : ℕ) : Type 0 where
 cut_behind : (e : List ℕ) (es : List (List ℕ)) (n : ℕ) → length e ≤ n → IsCut es (n - length e) → IsCut (e ∷ es) n
 cut_behind e es n ge c =
     let long = c.long in
-    record { front = e ∷ c.front; back = c.back; joined = ap (λ z. e ∷ z) c.joined; long = omega (arith, length-append e (concat c.front)) }
+    record { front = e ∷ c.front; back = c.back; joined = ap (λ z. e ∷ z) c.joined;
+        long = omega (arith, length-append e (concat c.front)) }
 
 drop_behind : (e y : List ℕ) (n : ℕ) → length e ≤ n → drop n (e ++ y) ≡ drop (n - length e) y
 drop_behind e y n ge =
     let sum : n ≡ length e + (n - length e) = omega arith in
     ap (λ k. drop k (e ++ y)) sum ∙ drop-append-add e y (n - length e)
 
-cut_where : (es : List (List ℕ)) → AllByRecursion IsEncoding es → (n : ℕ) → n ≤ length (concat es) → begins_within (drop n (concat es)) ≡ false → IsCut es n
+cut_where : (es : List (List ℕ)) → AllByRecursion IsEncoding es → (n : ℕ) → n ≤ length (concat es)
+    → begins_within (drop n (concat es)) ≡ false → IsCut es n
 cut_where [] h n le begins = record { front = []; back = []; joined = refl; long = omega arith }
 cut_where (e ∷ es) h n le begins =
     ⊎_elim
     (λ some. ⊎_elim
     (λ lt. let within = within_encoding h.0 n (concat es) some lt in absurd (cc))
-    (λ ge. cut_behind e es n ge (cut_where es h.1 (n - length e) (omega (arith, length-append e (concat es))) (sym (ap begins_within (drop_behind e (concat es) n ge)) ∙ begins)))
+    (λ ge. cut_behind e es n ge (cut_where es h.1 (n - length e) (omega (arith, length-append e (concat es)))
+        (sym (ap begins_within (drop_behind e (concat es) n ge)) ∙ begins)))
     (cases_lt n (length e)))
     (λ none. record { front = []; back = e ∷ es; joined = refl; long = omega arith })
     (cases_lt 0 n)
@@ -91,9 +104,11 @@ each_in_back [] fs h = h
 each_in_back (e ∷ es) fs h = each_in_back es fs h.1
 
 -- where the octets behind a place don't begin within an encoding, whole characters end there
-pub boundary_from : (x : List ℕ) → IsWellFormed x → (n : ℕ) → n ≤ length x → begins_within (drop n x) ≡ false → IsBoundary x n
+pub boundary_from : (x : List ℕ) → IsWellFormed x → (n : ℕ) → n ≤ length x → begins_within (drop n x) ≡ false
+    → IsBoundary x n
 boundary_from x (cs, s) n le begins =
-    let c = cut_where s.encodings s.each n (subst (λ y. n ≤ length y) (sym s.joined) le) (subst (λ y. begins_within (drop n y) ≡ false) (sym s.joined) begins) in
+    let c = cut_where s.encodings s.each n (subst (λ y. n ≤ length y) (sym s.joined) le)
+        (subst (λ y. begins_within (drop n y) ≡ false) (sym s.joined) begins) in
     let each = each_in_front c.front c.back (subst (AllByRecursion IsEncoding) c.joined s.each) in (
       map number_of c.front,
       record {
@@ -117,7 +132,8 @@ in_two [] (c ∷ front) rest h = absurd (cc)
 in_two (e ∷ es) (c ∷ front) rest h =
     let t = in_two es front rest (cc) in
     let numbers = t.numbers in
-    record { first = e ∷ t.first; second = t.second; joined = ap (λ z. e ∷ z) t.joined; numbers = cc; others = t.others }
+    record { first = e ∷ t.first; second = t.second; joined = ap (λ z. e ∷ z) t.joined; numbers = cc;
+        others = t.others }
 
 -- Octets in two by their characters.
 pub record AreInTwo (x front rest : List ℕ) : Type 0 where
@@ -135,43 +151,58 @@ are_in_two {x} {front} {rest} s =
       before = concat t.first;
       after = concat t.second;
       whole = sym s.joined ∙ ap concat t.joined ∙ concat-append t.first t.second;
-      spells_before = record { encodings = t.first; each = each_in_front t.first t.second each; joined = refl; numbers = t.numbers };
-      spells_after = record { encodings = t.second; each = each_in_back t.first t.second each; joined = refl; numbers = t.others };
+      spells_before = record { encodings = t.first; each = each_in_front t.first t.second each; joined = refl;
+          numbers = t.numbers };
+      spells_after = record { encodings = t.second; each = each_in_back t.first t.second each; joined = refl;
+          numbers = t.others };
     }
 
 -- the octets before and behind a boundary are texts
-pub at_boundary : (x : List ℕ) → IsWellFormed x → (n : ℕ) (front : List ℕ) (f : IsFrontOf (chars x) n front) → AreInTwo x front f.rest
+pub at_boundary : (x : List ℕ) → IsWellFormed x → (n : ℕ) (front : List ℕ) (f : IsFrontOf (chars x) n front)
+    → AreInTwo x front f.rest
 at_boundary x w n front f = are_in_two (subst (Spells x) f.joined (spelled x w))
 
 length_before : {x front rest : List ℕ} (t : AreInTwo x front rest) → length t.before ≡ length (octets_of front)
 length_before t = sym (ap length (octets_of_spelled t.spells_before))
 
-pub take_before : (x : List ℕ) (n : ℕ) {front rest : List ℕ} (t : AreInTwo x front rest) → length (octets_of front) ≡ n → take n x ≡ t.before
-take_before x n t long = ap (λ y. take n y) t.whole ∙ ap (λ k. take k (t.before ++ t.after)) (sym (length_before t ∙ long)) ∙ take-append_seam t.before t.after
+pub take_before : (x : List ℕ) (n : ℕ) {front rest : List ℕ} (t : AreInTwo x front rest) → length (octets_of front) ≡ n
+    → take n x ≡ t.before
+take_before x n t long =
+    ap (λ y. take n y) t.whole ∙ ap (λ k. take k (t.before ++ t.after)) (sym (length_before t ∙ long))
+    ∙ take-append_seam t.before t.after
 
-drop_before : (x : List ℕ) (n : ℕ) {front rest : List ℕ} (t : AreInTwo x front rest) → length (octets_of front) ≡ n → drop n x ≡ t.after
-drop_before x n t long = ap (λ y. drop n y) t.whole ∙ ap (λ k. drop k (t.before ++ t.after)) (sym (length_before t ∙ long)) ∙ drop-append_seam t.before t.after
+drop_before : (x : List ℕ) (n : ℕ) {front rest : List ℕ} (t : AreInTwo x front rest) → length (octets_of front) ≡ n
+    → drop n x ≡ t.after
+drop_before x n t long =
+    ap (λ y. drop n y) t.whole ∙ ap (λ k. drop k (t.before ++ t.after)) (sym (length_before t ∙ long))
+    ∙ drop-append_seam t.before t.after
 
 begins_spelled : {x cs : List ℕ} → Spells x cs → begins_within x ≡ false
 begins_spelled s = sym (ap begins_within s.joined) ∙ begins_all s.encodings s.each
 
 -- a boundary is within the octets, and those behind it don't begin within an encoding
-pub from_boundary : (x : List ℕ) → IsWellFormed x → (n : ℕ) → IsBoundary x n → (n ≤ length x) × (begins_within (drop n x) ≡ false)
+pub from_boundary : (x : List ℕ) → IsWellFormed x → (n : ℕ) → IsBoundary x n
+    → (n ≤ length x) × (begins_within (drop n x) ≡ false)
 from_boundary x w n (front, f) =
     let t = at_boundary x w n front f in
     let whole : length x ≡ length (t.before ++ t.after) = ap length t.whole in
     let long = length_before t in
     let n_long = f.long in
-    (omega (arith, length-append t.before t.after), ap begins_within (drop_before x n t f.long) ∙ begins_spelled t.spells_after)
+    (omega (arith, length-append t.before t.after), ap begins_within (drop_before x n t f.long)
+        ∙ begins_spelled t.spells_after)
 
-pub well_formed-cut : (x : List ℕ) → IsWellFormed x → (n : ℕ) → (n < length x → IsBoundary x n) → IsWellFormed (take n x)
-well_formed-cut x w n h = ⊎_elim (λ lt. cut_at (h lt)) (λ ge. subst IsWellFormed (sym (take_all n x ge)) w) (cases_lt n (length x))
+pub well_formed-cut : (x : List ℕ) → IsWellFormed x → (n : ℕ) → (n < length x → IsBoundary x n)
+    → IsWellFormed (take n x)
+well_formed-cut x w n h = ⊎_elim (λ lt. cut_at (h lt)) (λ ge. subst IsWellFormed (sym (take_all n x ge)) w)
+    (cases_lt n (length x))
   where
     cut_at : IsBoundary x n → IsWellFormed (take n x)
-    cut_at (front, f) = let t = at_boundary x w n front f in (front, subst (λ y. Spells y front) (sym (take_before x n t f.long)) t.spells_before)
+    cut_at (front, f) = let t = at_boundary x w n front f in
+        (front, subst (λ y. Spells y front) (sym (take_before x n t f.long)) t.spells_before)
 
 -- a cut of octets is one of their characters
-pub cuts_to : (x y : List ℕ) (n : ℕ) → y ≡ take n x → IsWellFormed x → (n < length x → IsBoundary x n) → CutsTo n (chars x) (chars y)
+pub cuts_to : (x y : List ℕ) (n : ℕ) → y ≡ take n x → IsWellFormed x → (n < length x → IsBoundary x n)
+    → CutsTo n (chars x) (chars y)
 cuts_to x y n e w h =
     let long : length (octets_of (chars x)) ≡ length x = ap length (octets_of-chars x w) in (
       λ ge. ap chars (e ∙ take_all n x (omega arith)),
@@ -191,7 +222,8 @@ begins_at (b ∷ x) zero lt = refl
 begins_at (b ∷ x) (suc n) lt = begins_at x n (omega arith)
 
 -- strictly before the end, a place is a boundary where its octet isn't within an encoding
-pub boundary_here : (x : List ℕ) → IsWellFormed x → (n : ℕ) → n < length x → (is_in_range 0x80 0xBF (slice_index x n) ≡ false) ↔ IsBoundary x n
+pub boundary_here : (x : List ℕ) → IsWellFormed x → (n : ℕ) → n < length x
+    → (is_in_range 0x80 0xBF (slice_index x n) ≡ false) ↔ IsBoundary x n
 boundary_here x w n lt = (
   λ h. boundary_from x w n (omega arith) (begins_at x n lt ∙ h),
   λ b. sym (begins_at x n lt) ∙ (from_boundary x w n b).1,

@@ -1,5 +1,6 @@
 -- What a call on octets does to the characters.
-use Rattle.std.proofs.Common.{◌≡◌, ℕ, ◌+◌, Bool, true, Option, List, ◌++◌, length, Result, Ok, Err, OnOk, OnErr, ◌↔◌, ap, sym, ◌∙◌, subst, length-append}
+use Rattle.std.proofs.Common.{◌≡◌, ℕ, ◌+◌, Bool, true, Option, List, ◌++◌, length, Result}
+use Rattle.std.proofs.Common.{Ok, Err, OnOk, OnErr, ◌↔◌, ap, sym, ◌∙◌, subst, length-append}
 use Rattle.octseq_core.proofs.Limits.{within_if_not_past}
 use Rattle.octseq_core.specs.Limit.{IsWithin, IsPast}
 use Rattle.octseq_core.specs.Refusal.{IsShort, IsMemory, append_error}
@@ -10,11 +11,15 @@ use Rattle.octseq_utf8.specs.Text.{IsWellFormed, chars, octets_of}
 use Rattle.octseq_utf8.proofs.Texts.{well_formed-append, chars-append, octets_of-append}
 
 -- an append that wasn't refused as short leaves a content within the limit
-pub within_appended : (limit : Option ℕ) (new old more : List ℕ) → new ≡ old ++ more → ¬ IsPast limit (length old + length more) → IsWithin limit (length new)
-within_appended limit new old more e n = subst (IsWithin limit) (sym (ap length e ∙ length-append old more)) (within_if_not_past limit (length old + length more) n)
+pub within_appended : (limit : Option ℕ) (new old more : List ℕ) → new ≡ old ++ more
+    → ¬ IsPast limit (length old + length more) → IsWithin limit (length new)
+within_appended limit new old more e n =
+    subst (IsWithin limit) (sym (ap length e ∙ length-append old more))
+    (within_if_not_past limit (length old + length more) n)
 
 -- an append that adds all or nothing keeps octets well formed
-pub well_formed-appended : {T E : Type 0} (r : Result T E) (new old more : List ℕ) → OnOk r (new ≡ old ++ more) → OnErr r (new ≡ old)
+pub well_formed-appended : {T E : Type 0} (r : Result T E) (new old more : List ℕ) → OnOk r (new ≡ old ++ more)
+    → OnErr r (new ≡ old)
     → IsWellFormed old → IsWellFormed more → IsWellFormed new
 well_formed-appended (Ok x) new old more ok err v w = subst IsWellFormed (sym ok) (well_formed-append old more v w)
 well_formed-appended (Err e) new old more ok err v w = subst IsWellFormed (sym err) v
@@ -23,12 +28,15 @@ well_formed-appended (Err e) new old more ok err v w = subst IsWellFormed (sym e
 
 appends_with : (limit : Option ℕ) (asks : Bool) (r : Result (Unit {0}) AppendError) (new old more : List ℕ)
     → OnOk r (new ≡ old ++ more) → OnErr r (new ≡ old)
-    → (IsShort append_error r ↔ IsPast limit (length (octets_of (chars old ++ chars more)))) → (IsMemory append_error r → asks ≡ true)
+    → (IsShort append_error r ↔ IsPast limit (length (octets_of (chars old ++ chars more))))
+    → (IsMemory append_error r → asks ≡ true)
     → (OnOk r (new ≡ old ++ more) → OnOk r (chars new ≡ chars old ++ chars more))
     → AppendsCharacters limit asks (chars old) (chars more) (append_reply r) (chars new)
-appends_with limit asks (Ok u) new old more ok err short memory characters = (within_if_not_past limit _ (λ p. short.1 p), characters ok)
+appends_with limit asks (Ok u) new old more ok err short memory characters =
+    (within_if_not_past limit _ (λ p. short.1 p), characters ok)
 appends_with limit asks (Err (Short s)) new old more ok err short memory characters = (short.0 tt, ap chars err)
-appends_with limit asks (Err Memory) new old more ok err short memory characters = (within_if_not_past limit _ (λ p. short.1 p), memory tt, ap chars err)
+appends_with limit asks (Err Memory) new old more ok err short memory characters =
+    (within_if_not_past limit _ (λ p. short.1 p), memory tt, ap chars err)
 
 on_ok : {T E : Type 0} (r : Result T E) (P Q : Type 0) → (P → Q) → OnOk r P → OnOk r Q
 on_ok (Ok x) P Q f p = f p
@@ -42,4 +50,5 @@ pub appends : (limit : Option ℕ) (asks : Bool) (r : Result (Unit {0}) AppendEr
 appends limit asks r new old more ok err short memory v w =
     let long : length old + length more ≡ length (octets_of (chars old ++ chars more)) =
     sym (ap length (octets_of-append old more v w) ∙ length-append old more) in
-    appends_with limit asks r new old more ok err (rw (← long) short) memory (on_ok r _ _ (λ e. ap chars e ∙ chars-append old more v w))
+    appends_with limit asks r new old more ok err (rw (← long) short) memory
+        (on_ok r _ _ (λ e. ap chars e ∙ chars-append old more v w))

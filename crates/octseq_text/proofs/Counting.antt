@@ -1,6 +1,7 @@
 -- The turns of a reading in pieces.
 use Rattle.std.specs.Prelude.{unwrap_or}
-use Rattle.std.proofs.Common.{◌≡◌, ℕ, ◌+◌, ◌-◌, ◌≤◌, List, [], ◌∷◌, ◌++◌, length, take, drop, arith, ap, sym, subst, ◌∙◌, length-append, length-drop, None}
+use Rattle.std.proofs.Common.{◌≡◌, ℕ, ◌+◌, ◌-◌, ◌≤◌, List, [], ◌∷◌, ◌++◌, length, take, drop}
+use Rattle.std.proofs.Common.{arith, ap, sym, subst, ◌∙◌, length-append, length-drop, None}
 use Rattle.std.proofs.lemmas.List.{length-map}
 use Rattle.std.specs.List.{concat, AllByRecursion}
 use Rattle.octseq_utf8.specs.Encoding.{IsEncoding, number_of}
@@ -20,11 +21,14 @@ use Rattle.octseq_utf8.proofs.AtFault.{end_bounds, front_is}
 -- there are no more parts than octets
 pub parts_few : {x : List ℕ} {parts : List Part} → Splits x parts → length parts ≤ length x
 parts_few nothing = omega arith
-parts_few (encoding {e} {rest = r} p s) = let few = parts_few s in let long = length_of p in omega (arith, length-append e r)
-parts_few (bad_part {bad = p} {rest = r} b s) = let few = parts_few s in let some = bad_some b in omega (arith, length-append p r)
+parts_few (encoding {e} {rest = r} p s) = let few = parts_few s in let long = length_of p in
+    omega (arith, length-append e r)
+parts_few (bad_part {bad = p} {rest = r} b s) = let few = parts_few s in let some = bad_some b in
+    omega (arith, length-append p r)
 
 -- nor more turns to a fault than octets to its end
-pub turns_few : (x : List ℕ) (fault : Fault) → IsFault x fault → (length (chars (take fault.place x)) + 1 ≤ fault_end x fault) × (fault_end x fault ≤ length x)
+pub turns_few : (x : List ℕ) (fault : Fault) → IsFault x fault
+    → (length (chars (take fault.place x)) + 1 ≤ fault_end x fault) × (fault_end x fault ≤ length x)
 turns_few x fault f =
     let bounds = end_bounds x fault f in
     let here = f.place in
@@ -45,17 +49,21 @@ module _ (b : List ℕ) (o : ℕ) (begins : IsBeginning b) where
       let lead : width (b ++ o ∷ []) ≡ width b = ap width_of (get_left b (o ∷ []) 0 some) in
       let short = beginning_short begins in
       let more = length_of a.1.0 in
-      absurd (omega (arith, ap length e, length-append b (o ∷ []), length-append c (d ++ concat es), length-append d (concat es)))
+      absurd (omega (arith, ap length e, length-append b (o ∷ []), length-append c (d ++ concat es),
+          length-append d (concat es)))
 
-pub one_character : (b seen : List ℕ) (o : ℕ) → IsBeginning b → seen ≡ b ++ o ∷ [] → IsWellFormed seen → length (chars seen) ≤ 1
+pub one_character : (b seen : List ℕ) (o : ℕ) → IsBeginning b → seen ≡ b ++ o ∷ [] → IsWellFormed seen
+    → length (chars seen) ≤ 1
 one_character b seen o begins e (cs, s) =
     let few = one_encoding b o begins s.encodings s.each (s.joined ∙ e) in
     omega (arith, ap length (chars_of s), ap length s.numbers, length-map s.encodings number_of)
 
-pub none_before_fault : (b seen : List ℕ) (o : ℕ) → IsBeginning b → seen ≡ b ++ o ∷ [] → (fault : Fault) → IsFault seen fault → length (chars (take fault.place seen)) ≡ 0
+pub none_before_fault : (b seen : List ℕ) (o : ℕ) → IsBeginning b → seen ≡ b ++ o ∷ [] → (fault : Fault)
+    → IsFault seen fault → length (chars (take fault.place seen)) ≡ 0
 none_before_fault b seen o begins e fault f =
     let at = subst (λ y. IsFault y fault) e f in
     let none = none_before b o begins fault at at.good.1.encodings at.good.1.each at.good.1.joined in
     let few = spelled_few at.good.1 in
-    let same : chars (take fault.place seen) ≡ at.good.0 = ap (λ y. chars (take fault.place y)) e ∙ ap chars (front_is (b ++ o ∷ []) fault at) ∙ chars_of at.good.1 in
+    let same : chars (take fault.place seen) ≡ at.good.0 = ap (λ y. chars (take fault.place y)) e
+        ∙ ap chars (front_is (b ++ o ∷ []) fault at) ∙ chars_of at.good.1 in
     omega (arith, ap length same, ap length none)

@@ -1,5 +1,6 @@
 -- A front of a text that stays, and ends where a character does.
-use Rattle.std.proofs.Common.{◌≡◌, ℕ, false, List, [], ◌∷◌, ◌++◌, length, take, drop, refl, ap, sym, ◌∙◌, append_assoc, arith, length-take}
+use Rattle.std.proofs.Common.{◌≡◌, ℕ, false, List, [], ◌∷◌, ◌++◌, length, take, drop}
+use Rattle.std.proofs.Common.{refl, ap, sym, ◌∙◌, append_assoc, arith, length-take}
 use Rattle.std.proofs.Math.Seq.{drop-append_seam}
 use Rattle.std.proofs.lemmas.List.{take-append-drop}
 use Rattle.octseq_utf8.specs.Text.{IsWellFormed, IsBoundary, begins_within, chars}
@@ -13,17 +14,20 @@ begins_more [] s edge well = begins_text s well
 begins_more (b ∷ m) s edge well = edge
 
 -- a character still ends there once a text was appended
-pub edge_stays : (before now s : List ℕ) → take (length before) now ≡ before → begins_within (drop (length before) now) ≡ false → IsWellFormed s
+pub edge_stays : (before now s : List ℕ) → take (length before) now ≡ before
+    → begins_within (drop (length before) now) ≡ false → IsWellFormed s
     → begins_within (drop (length before) (now ++ s)) ≡ false
 edge_stays before now s front edge well =
     let more = drop (length before) now in
     let whole : now ≡ before ++ more = sym (take-append-drop (length before) now) ∙ ap (λ x. x ++ more) front in
     let all : drop (length before) (now ++ s) ≡ more ++ s =
-    ap (λ x. drop (length before) (x ++ s)) whole ∙ ap (drop (length before)) (append_assoc before more s) ∙ drop-append_seam before (more ++ s) in
+    ap (λ x. drop (length before) (x ++ s)) whole ∙ ap (drop (length before)) (append_assoc before more s)
+        ∙ drop-append_seam before (more ++ s) in
     ap begins_within all ∙ begins_more more s edge well
 
 -- so the text can be cut there
-pub boundary_there : (before now : List ℕ) → IsWellFormed now → take (length before) now ≡ before → begins_within (drop (length before) now) ≡ false
+pub boundary_there : (before now : List ℕ) → IsWellFormed now → take (length before) now ≡ before
+    → begins_within (drop (length before) now) ≡ false
     → IsBoundary now (length before)
 boundary_there before now well front edge =
     boundary_from now well (length before) (omega (arith, ap length front, length-take (length before) now)) edge

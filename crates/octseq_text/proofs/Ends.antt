@@ -1,14 +1,17 @@
 -- The last character of well-formed octets, read from the end.
-use Rattle.std.proofs.Common.{◌≡◌, ℕ, ◌+◌, ◌-◌, ◌*◌, ◌<◌, ◌≤◌, List, [], ◌∷◌, ◌++◌, length, take, get_or, slice_index, refl, arith, ap, sym, ◌∙◌, subst, length-append, append_assoc}
+use Rattle.std.proofs.Common.{◌≡◌, ℕ, ◌+◌, ◌-◌, ◌*◌, ◌<◌, ◌≤◌, List, [], ◌∷◌, ◌++◌, length, take, get_or}
+use Rattle.std.proofs.Common.{slice_index, refl, arith, ap, sym, ◌∙◌, subst, length-append, append_assoc}
 use Rattle.std.proofs.lemmas.List.{append-nil, get_or-append-add}
 use Rattle.std.proofs.Math.Seq.{take-append_seam}
 use Rattle.std.specs.Int.{IsInRange}
 use Rattle.std.specs.List.{concat, AllByRecursion}
 use Rattle.std.specs.Char.{IsScalar}
-use Rattle.octseq_utf8.specs.Encoding.{IsEncoding, row_00_7F, row_C2_DF, row_E0, row_E1_EC, row_ED, row_EE_EF, row_F0, row_F1_F3, row_F4, number_of, encoding_of}
+use Rattle.octseq_utf8.specs.Encoding.{IsEncoding, row_00_7F, row_C2_DF, row_E0, row_E1_EC, row_ED}
+use Rattle.octseq_utf8.specs.Encoding.{row_EE_EF, row_F0, row_F1_F3, row_F4, number_of, encoding_of}
 use Rattle.octseq_utf8.specs.Text.{Spells, IsWellFormed, chars, EndsWith}
 use Rattle.octseq_utf8.proofs.Bridge.{scalar_from}
-use Rattle.octseq_utf8.proofs.Numbers.{encoding_of-number_of, number_is_character, number_of_1, number_of_2, number_of_3, number_of_4}
+use Rattle.octseq_utf8.proofs.Numbers.{encoding_of-number_of, number_is_character}
+use Rattle.octseq_utf8.proofs.Numbers.{number_of_1, number_of_2, number_of_3, number_of_4}
 use Rattle.octseq_utf8.proofs.Spelling.{chars_of, spells_nothing, spells_one, spells-append}
 
 -- Octets in front of a last encoding.
@@ -21,7 +24,8 @@ record Ending (x : List ℕ) : Type 0 where
   whole : x ≡ before ++ last
 
 last_of : (e : List ℕ) (es : List (List ℕ)) → AllByRecursion IsEncoding (e ∷ es) → Ending (concat (e ∷ es))
-last_of e [] h = record { before = []; characters = []; last = e; spelled = spells_nothing; encoding = h.0; whole = append-nil e }
+last_of e [] h = record { before = []; characters = []; last = e; spelled = spells_nothing; encoding = h.0;
+    whole = append-nil e }
 last_of e (f ∷ es) h =
     let t = last_of f es h.1 in
     record {
@@ -45,7 +49,8 @@ ends_with {x} t c n = record {
   before = t.before;
   text = (t.characters, t.spelled);
   whole = t.whole ∙ ap (λ e. t.before ++ e) (sym (ap encoding_of (sym n) ∙ encoding_of-number_of t.encoding));
-  characters = ap chars t.whole ∙ chars_of (spells-append t.spelled (spells_one t.encoding)) ∙ ap (λ cs. cs ++ number_of t.last ∷ []) (sym (chars_of t.spelled))
+  characters = ap chars t.whole ∙ chars_of (spells-append t.spelled (spells_one t.encoding))
+      ∙ ap (λ cs. cs ++ number_of t.last ∷ []) (sym (chars_of t.spelled))
       ∙ ap (λ b. chars t.before ++ b ∷ []) n;
 }
 
@@ -54,7 +59,8 @@ abbrev pub EndsIn : ℕ → List ℕ → ℕ → Type 0
 EndsIn k x c = EndsWith x c × (k ≡ length (encoding_of c))
 
 ends_in : {x : List ℕ} (t : Ending x) (k c : ℕ) → length t.last ≡ k → number_of t.last ≡ c → EndsIn k x c
-ends_in t k c long n = (ends_with t c n, sym (ap length (ap encoding_of (sym n) ∙ encoding_of-number_of t.encoding) ∙ long))
+ends_in t k c long n =
+    (ends_with t c n, sym (ap length (ap encoding_of (sym n) ∙ encoding_of-number_of t.encoding) ∙ long))
 
 scalar : {x : List ℕ} (t : Ending x) (c : ℕ) → number_of t.last ≡ c → IsScalar c
 scalar t c n = subst IsScalar n (scalar_from (number_of t.last) (number_is_character t.encoding))
@@ -75,8 +81,10 @@ data Width (x e : List ℕ) : Type 0 where
       → number_of e ≡ (from_end x 2 - 0xC0) * 64 + (from_end x 1 - 0x80) → Width x e
   width_3 : length e ≡ 3 → 3 ≤ length x → 0xE0 ≤ from_end x 3 → IsInRange 0x80 0xBF (from_end x 2) → 0x80 ≤ from_end x 1
       → number_of e ≡ (from_end x 3 - 0xE0) * 4096 + (from_end x 2 - 0x80) * 64 + (from_end x 1 - 0x80) → Width x e
-  width_4 : length e ≡ 4 → 4 ≤ length x → 0xF0 ≤ from_end x 4 → IsInRange 0x80 0xBF (from_end x 3) → IsInRange 0x80 0xBF (from_end x 2) → 0x80 ≤ from_end x 1
-      → number_of e ≡ (from_end x 4 - 0xF0) * 262144 + (from_end x 3 - 0x80) * 4096 + (from_end x 2 - 0x80) * 64 + (from_end x 1 - 0x80) → Width x e
+  width_4 : length e ≡ 4 → 4 ≤ length x → 0xF0 ≤ from_end x 4 → IsInRange 0x80 0xBF (from_end x 3)
+      → IsInRange 0x80 0xBF (from_end x 2) → 0x80 ≤ from_end x 1
+      → number_of e ≡ (from_end x 4 - 0xF0) * 262144 + (from_end x 3 - 0x80) * 4096 + (from_end x 2 - 0x80) * 64
+      + (from_end x 1 - 0x80) → Width x e
 
 one : (x before : List ℕ) (a : ℕ) → x ≡ before ++ a ∷ [] → a < 0x80 → Width x (a ∷ [])
 one x before a whole p =
@@ -88,35 +96,44 @@ two x before a b whole p q =
     let n = ap length whole in
     let a' = octet x before (a ∷ b ∷ []) 0 2 whole refl (omega arith) in
     let b' = octet x before (a ∷ b ∷ []) 1 1 whole refl (omega arith) in
-    width_2 refl (omega (arith, length-append before (a ∷ b ∷ []))) (omega arith) (omega arith) (number_of_2 a b _ (omega arith))
+    width_2 refl (omega (arith, length-append before (a ∷ b ∷ []))) (omega arith) (omega arith)
+        (number_of_2 a b _ (omega arith))
 
-three : (x before : List ℕ) (a b c : ℕ) → x ≡ before ++ a ∷ b ∷ c ∷ [] → 0xE0 ≤ a → IsInRange 0x80 0xBF b → 0x80 ≤ c → Width x (a ∷ b ∷ c ∷ [])
+three : (x before : List ℕ) (a b c : ℕ) → x ≡ before ++ a ∷ b ∷ c ∷ [] → 0xE0 ≤ a → IsInRange 0x80 0xBF b → 0x80 ≤ c
+    → Width x (a ∷ b ∷ c ∷ [])
 three x before a b c whole p q r =
     let n = ap length whole in
     let a' = octet x before (a ∷ b ∷ c ∷ []) 0 3 whole refl (omega arith) in
     let b' = octet x before (a ∷ b ∷ c ∷ []) 1 2 whole refl (omega arith) in
     let c' = octet x before (a ∷ b ∷ c ∷ []) 2 1 whole refl (omega arith) in
-    width_3 refl (omega (arith, length-append before (a ∷ b ∷ c ∷ []))) (omega arith) (omega arith, omega arith) (omega arith) (number_of_3 a b c _ (omega arith))
+    width_3 refl (omega (arith, length-append before (a ∷ b ∷ c ∷ []))) (omega arith) (omega arith, omega arith)
+        (omega arith) (number_of_3 a b c _ (omega arith))
 
-four : (x before : List ℕ) (a b c d : ℕ) → x ≡ before ++ a ∷ b ∷ c ∷ d ∷ [] → 0xF0 ≤ a → IsInRange 0x80 0xBF b → IsInRange 0x80 0xBF c → 0x80 ≤ d → Width x (a ∷ b ∷ c ∷ d ∷ [])
+four : (x before : List ℕ) (a b c d : ℕ) → x ≡ before ++ a ∷ b ∷ c ∷ d ∷ [] → 0xF0 ≤ a → IsInRange 0x80 0xBF b
+    → IsInRange 0x80 0xBF c → 0x80 ≤ d → Width x (a ∷ b ∷ c ∷ d ∷ [])
 four x before a b c d whole p q r s =
     let n = ap length whole in
     let a' = octet x before (a ∷ b ∷ c ∷ d ∷ []) 0 4 whole refl (omega arith) in
     let b' = octet x before (a ∷ b ∷ c ∷ d ∷ []) 1 3 whole refl (omega arith) in
     let c' = octet x before (a ∷ b ∷ c ∷ d ∷ []) 2 2 whole refl (omega arith) in
     let d' = octet x before (a ∷ b ∷ c ∷ d ∷ []) 3 1 whole refl (omega arith) in
-    width_4 refl (omega (arith, length-append before (a ∷ b ∷ c ∷ d ∷ []))) (omega arith) (omega arith, omega arith) (omega arith, omega arith) (omega arith) (number_of_4 a b c d _ (omega arith))
+    width_4 refl (omega (arith, length-append before (a ∷ b ∷ c ∷ d ∷ []))) (omega arith) (omega arith, omega arith)
+        (omega arith, omega arith) (omega arith) (number_of_4 a b c d _ (omega arith))
 
 width_of_last : (x before : List ℕ) {e : List ℕ} → x ≡ before ++ e → IsEncoding e → Width x e
 width_of_last x before w (row_00_7F {a} p) = one x before a w (omega arith)
 width_of_last x before w (row_C2_DF {a} {b} p q) = two x before a b w (omega arith) (omega arith)
-width_of_last x before w (row_E0 {a} {b} {c} p q r) = three x before a b c w (omega arith) (omega arith, omega arith) (omega arith)
+width_of_last x before w (row_E0 {a} {b} {c} p q r) =
+    three x before a b c w (omega arith) (omega arith, omega arith) (omega arith)
 width_of_last x before w (row_E1_EC {a} {b} {c} p q r) = three x before a b c w (omega arith) q (omega arith)
-width_of_last x before w (row_ED {a} {b} {c} p q r) = three x before a b c w (omega arith) (omega arith, omega arith) (omega arith)
+width_of_last x before w (row_ED {a} {b} {c} p q r) =
+    three x before a b c w (omega arith) (omega arith, omega arith) (omega arith)
 width_of_last x before w (row_EE_EF {a} {b} {c} p q r) = three x before a b c w (omega arith) q (omega arith)
-width_of_last x before w (row_F0 {a} {b} {c} {d} p q r s) = four x before a b c d w (omega arith) (omega arith, omega arith) r (omega arith)
+width_of_last x before w (row_F0 {a} {b} {c} {d} p q r s) =
+    four x before a b c d w (omega arith) (omega arith, omega arith) r (omega arith)
 width_of_last x before w (row_F1_F3 {a} {b} {c} {d} p q r s) = four x before a b c d w (omega arith) q r (omega arith)
-width_of_last x before w (row_F4 {a} {b} {c} {d} p q r s) = four x before a b c d w (omega arith) (omega arith, omega arith) r (omega arith)
+width_of_last x before w (row_F4 {a} {b} {c} {d} p q r s) =
+    four x before a b c d w (omega arith) (omega arith, omega arith) r (omega arith)
 
 -- the last encoding, whose octets are read from the end: p, q, r and s are the last four
 
@@ -174,7 +191,8 @@ module _ (x : List ℕ) (w : IsWellFormed x) (some : 0 < length x) (p : ℕ) (is
           by_width : Width x last.last → IsScalar number_3 × EndsIn 3 x number_3
           by_width (width_1 k a n) = absurd (omega arith)
           by_width (width_2 k l a b n) = absurd (omega arith)
-          by_width (width_3 k l a b c n) = let same : number_of last.last ≡ number_3 = n ∙ omega arith in (scalar last _ same, ends_in last 3 _ k same)
+          by_width (width_3 k l a b c n) = let same : number_of last.last ≡ number_3 = n ∙ omega arith in
+              (scalar last _ same, ends_in last 3 _ k same)
           by_width (width_4 k l a b c d n) = absurd (omega arith)
 
       pub more_3 : r < 0xE0 → (4 ≤ length x) × (0x80 ≤ r)
@@ -198,7 +216,8 @@ module _ (x : List ℕ) (w : IsWellFormed x) (some : 0 < length x) (p : ℕ) (is
             by_width (width_2 k l a b n) = absurd (omega arith)
             by_width (width_3 k l a b c n) = absurd (omega arith)
             by_width (width_4 k l a b c d n) =
-                let same : number_of last.last ≡ number_4 = n ∙ omega arith in (omega arith, scalar last _ same, ends_in last 4 _ k same)
+                let same : number_of last.last ≡ number_4 = n ∙ omega arith in
+                (omega arith, scalar last _ same, ends_in last 4 _ k same)
 
 -- a text without its last character
 
@@ -216,7 +235,8 @@ pub record IsPopped (x y : List ℕ) (c : ℕ) : Type 0 where
   pub octets : x ≡ y ++ encoding_of c
   pub characters : chars x ≡ chars y ++ c ∷ []
 
-pub popped : (x y : List ℕ) (c n : ℕ) → EndsWith x c → n ≡ length x - length (encoding_of c) → y ≡ take n x → IsPopped x y c
+pub popped : (x y : List ℕ) (c n : ℕ) → EndsWith x c → n ≡ length x - length (encoding_of c) → y ≡ take n x
+    → IsPopped x y c
 popped x y c n e cut taken =
     let same : e.before ≡ y = sym (taken ∙ without_last x c n e cut) in
     subst (λ z. IsPopped x z c) same (record { text = e.text; octets = e.whole; characters = e.characters })

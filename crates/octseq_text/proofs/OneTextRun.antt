@@ -1,5 +1,6 @@
 -- Where no request for memory is refused, a list of commands has one answer.
-use Rattle.std.proofs.Common.{◌≡◌, ◌≢◌, ℕ, Bool, true, false, IsTrue, ◌↔◌, ◌⊎◌, inl, inr, ⊎_elim, List, [], ◌∷◌, ◌++◌, length, Option, Some, None, refl, arith, ap, sym, ◌∙◌, subst, length-append}
+use Rattle.std.proofs.Common.{◌≡◌, ◌≢◌, ℕ, Bool, true, false, IsTrue, ◌↔◌, ◌⊎◌, inl, inr, ⊎_elim, List, [], ◌∷◌}
+use Rattle.std.proofs.Common.{◌++◌, length, Option, Some, None, refl, arith, ap, sym, ◌∙◌, subst, length-append}
 use Rattle.std.proofs.lemmas.Bool.{cases_lt}
 use Rattle.octseq_core.proofs.Limits.{within_not_past}
 use Rattle.octseq_core.specs.Limit.{IsWithin, IsPast}
@@ -19,12 +20,15 @@ Same r x s y = (r ≡ s) × (x ≡ y)
 -- an append with no refusal of memory is done or short, and not both
 
 abbrev IsDone : Option ℕ → List ℕ → List ℕ → Reply → List ℕ → Type 0
-IsDone limit before more r after = (r ≡ reply.Done) × IsWithin limit (length (octets_of (before ++ more))) × (after ≡ before ++ more)
+IsDone limit before more r after = (r ≡ reply.Done) × IsWithin limit (length (octets_of (before ++ more)))
+    × (after ≡ before ++ more)
 
 abbrev IsRefused : Option ℕ → List ℕ → List ℕ → Reply → List ℕ → Type 0
-IsRefused limit before more r after = (r ≡ reply.Short) × IsPast limit (length (octets_of (before ++ more))) × (after ≡ before)
+IsRefused limit before more r after = (r ≡ reply.Short) × IsPast limit (length (octets_of (before ++ more)))
+    × (after ≡ before)
 
-done_or_refused : (limit : Option ℕ) (asks : Bool) (b m : List ℕ) (r : Reply) (x : List ℕ) → AppendsCharacters limit asks b m r x → r ≢ reply.Memory
+done_or_refused : (limit : Option ℕ) (asks : Bool) (b m : List ℕ) (r : Reply) (x : List ℕ)
+    → AppendsCharacters limit asks b m r x → r ≢ reply.Memory
     → IsDone limit b m r x ⊎ IsRefused limit b m r x
 done_or_refused limit asks b m reply.Done x (w, e) kept = inl (refl, w, e)
 done_or_refused limit asks b m reply.Short x (p, e) kept = inr (refl, p, e)
@@ -34,31 +38,39 @@ done_or_refused limit asks b m (reply.Popped c) x a kept = absurd a
 done_or_refused limit asks b m (reply.Len n) x a kept = absurd a
 done_or_refused limit asks b m (reply.Is t) x a kept = absurd a
 
-one_append : (limit : Option ℕ) (asks other : Bool) (b m : List ℕ) (r s : Reply) (x y : List ℕ) → AppendsCharacters limit asks b m r x → AppendsCharacters limit other b m s y
+one_append : (limit : Option ℕ) (asks other : Bool) (b m : List ℕ) (r s : Reply) (x y : List ℕ)
+    → AppendsCharacters limit asks b m r x → AppendsCharacters limit other b m s y
     → r ≢ reply.Memory → s ≢ reply.Memory → Same r x s y
 one_append limit asks other b m r s x y a c kept also_kept =
     ⊎_elim
-    (λ d. ⊎_elim (λ e. (d.0 ∙ sym e.0, d.2 ∙ sym e.2)) (λ e. absurd (within_not_past limit _ d.1 e.1)) (done_or_refused limit other b m s y c also_kept))
-    (λ d. ⊎_elim (λ e. absurd (within_not_past limit _ e.1 d.1)) (λ e. (d.0 ∙ sym e.0, d.2 ∙ sym e.2)) (done_or_refused limit other b m s y c also_kept))
+    (λ d. ⊎_elim (λ e. (d.0 ∙ sym e.0, d.2 ∙ sym e.2)) (λ e. absurd (within_not_past limit _ d.1 e.1))
+        (done_or_refused limit other b m s y c also_kept))
+    (λ d. ⊎_elim (λ e. absurd (within_not_past limit _ e.1 d.1)) (λ e. (d.0 ∙ sym e.0, d.2 ∙ sym e.2))
+        (done_or_refused limit other b m s y c also_kept))
     (done_or_refused limit asks b m r x a kept)
 
 -- fronts of as many octets are one front
 
 fronts : (f g y z : List ℕ) → f ++ y ≡ g ++ z → length (octets_of f) ≡ length (octets_of g) → f ≡ g
 fronts [] [] y z e long = refl
-fronts [] (d ∷ g) y z e long = let n = encoding_some d in absurd (omega (arith, length-append (encoding_of d) (octets_of g)))
-fronts (c ∷ f) [] y z e long = let n = encoding_some c in absurd (omega (arith, length-append (encoding_of c) (octets_of f)))
+fronts [] (d ∷ g) y z e long = let n = encoding_some d in
+    absurd (omega (arith, length-append (encoding_of d) (octets_of g)))
+fronts (c ∷ f) [] y z e long = let n = encoding_some c in
+    absurd (omega (arith, length-append (encoding_of c) (octets_of f)))
 fronts (c ∷ f) (d ∷ g) y z e long =
     let first : c ≡ d = cc in
     let same : length (encoding_of c) ≡ length (encoding_of d) = ap (λ b. length (encoding_of b)) first in
-    let rest : f ≡ g = fronts f g y z (cc) (omega (arith, length-append (encoding_of c) (octets_of f), length-append (encoding_of d) (octets_of g))) in
+    let rest : f ≡ g =
+        fronts f g y z (cc)
+        (omega (arith, length-append (encoding_of c) (octets_of f), length-append (encoding_of d) (octets_of g))) in
     cc
 
 one_front : (b : List ℕ) (n : ℕ) (f g : List ℕ) → IsFrontOf b n f → IsFrontOf b n g → f ≡ g
 one_front b n f g p q = fronts f g p.rest q.rest (sym p.joined ∙ q.joined) (p.long ∙ sym q.long)
 
 one_place : (b : List ℕ) (n : ℕ) (x y : List ℕ) → CutsTo n b x → CutsTo n b y → x ≡ y
-one_place b n x y p q = ⊎_elim (λ lt. one_front b n x y (p.1 lt) (q.1 lt)) (λ ge. p.0 ge ∙ sym (q.0 ge)) (cases_lt n (length (octets_of b)))
+one_place b n x y p q = ⊎_elim (λ lt. one_front b n x y (p.1 lt) (q.1 lt)) (λ ge. p.0 ge ∙ sym (q.0 ge))
+    (cases_lt n (length (octets_of b)))
 
 one_cut : (b : List ℕ) (n : ℕ) (r s : Reply) (x y : List ℕ) → Cuts b n r x → Cuts b n s y → Same r x s y
 one_cut b n r s x y (inl p) (inl q) = (p.0 ∙ sym q.0, one_place b n x y p.1 q.1)
@@ -92,24 +104,32 @@ one_truth Fact false false a c = refl
 one_truth Fact true false a c = let h = c.1 (a.0 refl) in cc
 one_truth Fact false true a c = let h = a.1 (c.0 refl) in cc
 
-one_step : (limit : Option ℕ) (asks other : Bool) (b : List ℕ) (c : Command) (r s : Reply) (x y : List ℕ) → TextStep limit asks b c r x → TextStep limit other b c s y
+one_step : (limit : Option ℕ) (asks other : Bool) (b : List ℕ) (c : Command) (r s : Reply) (x y : List ℕ)
+    → TextStep limit asks b c r x → TextStep limit other b c s y
     → r ≢ reply.Memory → s ≢ reply.Memory → Same r x s y
-one_step limit asks other b (command.PushStr t) r s x y p q kept also_kept = one_append limit asks other b (chars t.now) r s x y p q kept also_kept
-one_step limit asks other b (command.Push c) r s x y p q kept also_kept = one_append limit asks other b (c ∷ []) r s x y p q kept also_kept
+one_step limit asks other b (command.PushStr t) r s x y p q kept also_kept =
+    one_append limit asks other b (chars t.now) r s x y p q kept also_kept
+one_step limit asks other b (command.Push c) r s x y p q kept also_kept =
+    one_append limit asks other b (c ∷ []) r s x y p q kept also_kept
 one_step limit asks other b (command.Truncate n) r s x y p q kept also_kept = one_cut b n r s x y p q
 one_step limit asks other b command.Clear r s x y p q kept also_kept = (p.0 ∙ sym q.0, p.1 ∙ sym q.1)
-one_step limit asks other b command.Pop r s x y (c, e, p) (d, f, q) kept also_kept = let t = one_pop b c d x y p q in (e ∙ ap (λ z. reply.Popped z) t.0 ∙ sym f, t.1)
+one_step limit asks other b command.Pop r s x y (c, e, p) (d, f, q) kept also_kept = let t = one_pop b c d x y p q in
+    (e ∙ ap (λ z. reply.Popped z) t.0 ∙ sym f, t.1)
 one_step limit asks other b command.Len r s x y p q kept also_kept = (p.0 ∙ sym q.0, p.1 ∙ sym q.1)
-one_step limit asks other b (command.Is t) r s x y (c, e, p, u) (d, f, q, v) kept also_kept = (e ∙ ap (λ z. reply.Is z) (one_truth _ c d p q) ∙ sym f, u ∙ sym v)
+one_step limit asks other b (command.Is t) r s x y (c, e, p, u) (d, f, q, v) kept also_kept =
+    (e ∙ ap (λ z. reply.Is z) (one_truth _ c d p q) ∙ sym f, u ∙ sym v)
 
-pub one_run : (limit : Option ℕ) (asks other : Bool) (b : List ℕ) (commands : List Command) (rs ss : List Reply) (x y : List ℕ)
-    → TextRun limit asks b commands rs x → TextRun limit other b commands ss y → IsWithoutMemory rs → IsWithoutMemory ss → (rs ≡ ss) × (x ≡ y)
+pub one_run : (limit : Option ℕ) (asks other : Bool) (b : List ℕ) (commands : List Command) (rs ss : List Reply)
+    (x y : List ℕ)
+    → TextRun limit asks b commands rs x → TextRun limit other b commands ss y → IsWithoutMemory rs → IsWithoutMemory ss
+    → (rs ≡ ss) × (x ≡ y)
 one_run limit asks other b [] [] [] x y p q kept also_kept = (refl, p ∙ sym q)
 one_run limit asks other b [] (r ∷ rs) ss x y p q kept also_kept = absurd p
 one_run limit asks other b [] [] (s ∷ ss) x y p q kept also_kept = absurd q
 one_run limit asks other b (c ∷ commands) [] ss x y p q kept also_kept = absurd p
 one_run limit asks other b (c ∷ commands) (r ∷ rs) [] x y p q kept also_kept = absurd q
-one_run limit asks other b (c ∷ commands) (r ∷ rs) (s ∷ ss) x y (m, p, t) (n, q, u) (kept, rest_kept) (also_kept, rest_also_kept) =
+one_run limit asks other b (c ∷ commands) (r ∷ rs) (s ∷ ss) x y (m, p, t) (n, q, u) (kept, rest_kept)
+    (also_kept, rest_also_kept) =
     let first = one_step limit asks other b c r s m n p q kept also_kept in
     let on : TextRun limit asks n commands rs x = subst (λ z. TextRun limit asks z commands rs x) first.1 t in
     let rest = one_run limit asks other n commands rs ss x y on u rest_kept rest_also_kept in
@@ -127,8 +147,10 @@ no_memory limit b command.Pop x (c, e, p) = cc
 no_memory limit b command.Len x p = let e = p.0 in cc
 no_memory limit b (command.Is t) x (c, e, p, u) = cc
 
-pub without_memory : (limit : Option ℕ) (b : List ℕ) (commands : List Command) (rs : List Reply) (x : List ℕ) → TextRun limit false b commands rs x → IsWithoutMemory rs
+pub without_memory : (limit : Option ℕ) (b : List ℕ) (commands : List Command) (rs : List Reply) (x : List ℕ)
+    → TextRun limit false b commands rs x → IsWithoutMemory rs
 without_memory limit b commands [] x p = tt
 without_memory limit b [] (r ∷ rs) x p = absurd p
 without_memory limit b (c ∷ commands) (r ∷ rs) x (m, p, t) =
-    ((λ e. no_memory limit b c m (subst (λ s. TextStep limit false b c s m) e p)), without_memory limit m commands rs x t)
+    ((λ e. no_memory limit b c m (subst (λ s. TextStep limit false b c s m) e p)), without_memory limit m commands rs x
+        t)

@@ -8,12 +8,15 @@ use Rattle.octseq_core.proofs.Limits.{past_more}
 use Rattle.octseq_utf8.specs.Parts.{Part, octets_with, text}
 
 -- where the text of a front of parts passes a limit, the text of all of them does
-pub past_front : (limit : Option ℕ) (front others parts : List Part) → parts ≡ front ++ others → IsPast limit (length (text front)) → IsPast limit (length (text parts))
+pub past_front : (limit : Option ℕ) (front others parts : List Part) → parts ≡ front ++ others
+    → IsPast limit (length (text front)) → IsPast limit (length (text parts))
 past_front limit front others parts whole past =
-    let long = ap length (ap text whole ∙ flat_map-append (octets_with 0xFFFD) front others) ∙ length-append (text front) (text others) in
+    let long = ap length (ap text whole ∙ flat_map-append (octets_with 0xFFFD) front others)
+        ∙ length-append (text front) (text others) in
     past_more limit (length (text front)) (length (text parts)) (omega arith) past
 
 -- and where the text of all of them doesn't, the text of a front doesn't
-pub front_not_past : (limit : Option ℕ) (front others parts : List Part) → parts ≡ front ++ others → (IsPast limit (length (text parts)) → ⊥)
+pub front_not_past : (limit : Option ℕ) (front others parts : List Part) → parts ≡ front ++ others
+    → (IsPast limit (length (text parts)) → ⊥)
     → IsPast limit (length (text front)) → ⊥
 front_not_past limit front others parts whole within past = within (past_front limit front others parts whole past)

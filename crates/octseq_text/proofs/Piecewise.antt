@@ -1,6 +1,8 @@
 -- A lossy reading in pieces: what is read of a piece, and what is then held.
 use Rattle.std.specs.Prelude.{is_some, IsTrue}
-use Rattle.std.proofs.Common.{Bool, true, false, ◌≡◌, ◌≢◌, ℕ, suc, ◌+◌, ◌<◌, ◌≤◌, List, [], ◌∷◌, ◌++◌, map, length, get_or, take, drop, refl, arith, ◌⊎◌, inl, inr, ⊎_elim, ap, sym, ◌∙◌, subst, append_assoc, length-append, Option, Some, None}
+use Rattle.std.proofs.Common.{Bool, true, false, ◌≡◌, ◌≢◌, ℕ, suc, ◌+◌, ◌<◌, ◌≤◌, List, [], ◌∷◌, ◌++◌}
+use Rattle.std.proofs.Common.{map, length, get_or, take, drop, refl, arith, ◌⊎◌, inl, inr, ⊎_elim, ap}
+use Rattle.std.proofs.Common.{sym, ◌∙◌, subst, append_assoc, length-append, Option, Some, None}
 use Rattle.std.proofs.Math.Seq.{take-append_seam, drop-append_seam, drop-cons, take-suc}
 use Rattle.std.proofs.lemmas.List.{append-nil, take-append-drop}
 use Rattle.std.specs.List.{concat, AllByRecursion}
@@ -20,7 +22,8 @@ use Rattle.octseq_utf8.proofs.Fits.{get_left}
 use Rattle.octseq_utf8.proofs.LossyTexts.{replacement_is_character, text_well_formed}
 use Rattle.octseq_core.proofs.Limits.{past_more}
 use Rattle.octseq_utf8.proofs.Rows.{width_le}
-use Rattle.octseq_text.proofs.Settling.{reads_none, reads_more, reads_then, reads_good, reads_bad, settles_reads, one_settling, reads_settles, text-append, text-chars, text_read, snoc_some}
+use Rattle.octseq_text.proofs.Settling.{reads_none, reads_more, reads_then, reads_good, reads_bad, settles_reads}
+use Rattle.octseq_text.proofs.Settling.{one_settling, reads_settles, text-append, text-chars, text_read, snoc_some}
 use Rattle.octseq_utf8.proofs.Splitting.{bad_some, encoding_fitting, splits, one_splitting}
 
 nil_from_length : (x : List ℕ) → length x ≡ 0 → x ≡ []
@@ -36,15 +39,19 @@ pub read_then : {x y z a b c : List ℕ} → IsRead x y a b → IsRead y z b c �
 read_then {x} {y} {z} {a} s t = record {
   parts = s.parts ++ t.parts;
   reads = reads_then x y z s.parts t.parts s.reads t.reads;
-  grown = t.grown ∙ ap (λ u. u ++ text t.parts) s.grown ∙ append_assoc a (text s.parts) (text t.parts) ∙ ap (λ u. a ++ u) (sym (text-append s.parts t.parts));
+  grown = t.grown ∙ ap (λ u. u ++ text t.parts) s.grown ∙ append_assoc a (text s.parts) (text t.parts)
+      ∙ ap (λ u. a ++ u) (sym (text-append s.parts t.parts));
 }
 
 -- what was appended is read
-pub read_more : {x y z t : List ℕ} (a made seen more : List ℕ) → IsRead x y t a → made ≡ a ++ seen → seen ≡ more → IsRead y z a (a ++ more) → IsRead x z t made
-read_more {x} {z = z} {t = t} a made seen more s m e r = subst (IsRead x z t) (sym (m ∙ ap (λ y. a ++ y) e)) (read_then s r)
+pub read_more : {x y z t : List ℕ} (a made seen more : List ℕ) → IsRead x y t a → made ≡ a ++ seen → seen ≡ more
+    → IsRead y z a (a ++ more) → IsRead x z t made
+read_more {x} {z = z} {t = t} a made seen more s m e r =
+    subst (IsRead x z t) (sym (m ∙ ap (λ y. a ++ y) e)) (read_then s r)
 
 -- what can't be appended is too long
-pub too_long : (limit : Option ℕ) (more seen : List ℕ) {x y z a b : List ℕ} → seen ≡ more → IsRead x y a b → IsRead y z b (b ++ more) → IsPast limit (length b + length seen) → IsTooLong limit x a
+pub too_long : (limit : Option ℕ) (more seen : List ℕ) {x y z a b : List ℕ} → seen ≡ more → IsRead x y a b
+    → IsRead y z b (b ++ more) → IsPast limit (length b + length seen) → IsTooLong limit x a
 too_long limit more seen {z = z} {b = b} e s t p = record {
   rest = z;
   new = b ++ more;
@@ -56,10 +63,12 @@ pub too_long_then : {limit : Option ℕ} {x y a b : List ℕ} → IsRead x y a b
 too_long_then s t = record { rest = t.rest; new = t.new; read = read_then s t.read; past = t.past }
 
 read_bad : (p s a : List ℕ) → Reads (p ++ s) s (Bad p ∷ []) → IsRead (p ++ s) s a (a ++ encoding_of 0xFFFD)
-read_bad p s a r = record { parts = Bad p ∷ []; reads = r; grown = ap (λ u. a ++ u) (sym (append-nil (encoding_of 0xFFFD))) }
+read_bad p s a r = record { parts = Bad p ∷ []; reads = r;
+    grown = ap (λ u. a ++ u) (sym (append-nil (encoding_of 0xFFFD))) }
 
 read_good : {g cs : List ℕ} (z a : List ℕ) → Spells g cs → IsRead (g ++ z) z a (a ++ g)
-read_good {g} {cs} z a s = record { parts = map Char cs; reads = reads_good z s; grown = ap (λ u. a ++ u) (sym (text-chars s)) }
+read_good {g} {cs} z a s = record { parts = map Char cs; reads = reads_good z s;
+    grown = ap (λ u. a ++ u) (sym (text-chars s)) }
 
 -- well-formed octets are read to their end
 pub read_last : (x a : List ℕ) → IsWellFormed x → IsRead x [] a (a ++ x)
@@ -69,24 +78,31 @@ read_last x a w = subst (λ y. IsRead y [] a (a ++ x)) (append-nil x) (read_good
 module _ (x : List ℕ) (chunk : Chunk) (behind : List ℕ) (c : IsFirstChunk x chunk behind) where
   -- what is valid is read
   pub read_valid : (a : List ℕ) → IsRead x (chunk.invalid ++ behind) a (a ++ chunk.valid)
-  read_valid a = subst (λ y. IsRead y (chunk.invalid ++ behind) a (a ++ chunk.valid)) (sym c.whole) (read_good (chunk.invalid ++ behind) a c.good.1)
+  read_valid a = subst (λ y. IsRead y (chunk.invalid ++ behind) a (a ++ chunk.valid)) (sym c.whole)
+      (read_good (chunk.invalid ++ behind) a c.good.1)
 
   -- which is all, where no bad part is behind it
   pub read_chunk : length chunk.invalid ≡ 0 → (a : List ℕ) → IsRead x behind a (a ++ chunk.valid)
-  read_chunk none a = subst (λ y. IsRead x y a (a ++ chunk.valid)) (ap (λ y. y ++ behind) (nil_from_length chunk.invalid none)) (read_valid a)
+  read_chunk none a =
+      subst (λ y. IsRead x y a (a ++ chunk.valid)) (ap (λ y. y ++ behind) (nil_from_length chunk.invalid none))
+      (read_valid a)
 
-  by_cases : ¬ IsTrue chunk.incomplete → 1 ≤ length chunk.invalid → ((chunk.invalid ≡ []) × (behind ≡ [])) ⊎ IsBadPart (chunk.invalid ++ behind) chunk.invalid
+  by_cases : ¬ IsTrue chunk.incomplete → 1 ≤ length chunk.invalid
+      → ((chunk.invalid ≡ []) × (behind ≡ [])) ⊎ IsBadPart (chunk.invalid ++ behind) chunk.invalid
       → Reads (chunk.invalid ++ behind) behind (Bad chunk.invalid ∷ [])
   by_cases n some (inl none) = absurd (omega (arith, ap length none.0))
   by_cases n some (inr bad) = reads_bad chunk.invalid behind bad (λ k. n (c.cut.1 k))
 
   -- and the bad part, where it isn't an open end
-  pub read_invalid : ¬ IsTrue chunk.incomplete → 1 ≤ length chunk.invalid → (a : List ℕ) → IsRead (chunk.invalid ++ behind) behind a (a ++ encoding_of 0xFFFD)
+  pub read_invalid : ¬ IsTrue chunk.incomplete → 1 ≤ length chunk.invalid → (a : List ℕ)
+      → IsRead (chunk.invalid ++ behind) behind a (a ++ encoding_of 0xFFFD)
   read_invalid n some a = read_bad chunk.invalid behind a (by_cases n some c.bad)
 
   -- an open end is left
   pub read_to_end : IsTrue chunk.incomplete → (a : List ℕ) → IsRead x chunk.invalid a (a ++ chunk.valid)
-  read_to_end t a = subst (λ y. IsRead x y a (a ++ chunk.valid)) (ap (λ y. chunk.invalid ++ y) (c.cut.0 t).1 ∙ append-nil chunk.invalid) (read_valid a)
+  read_to_end t a =
+      subst (λ y. IsRead x y a (a ++ chunk.valid)) (ap (λ y. chunk.invalid ++ y) (c.cut.0 t).1
+      ∙ append-nil chunk.invalid) (read_valid a)
 
 -- what a test answers
 pub not_so : (is told : Bool) → told ≡ is → told ≡ false → ¬ IsTrue is
@@ -110,14 +126,16 @@ module _ (b : List ℕ) (o : ℕ) (begins : IsBeginning b) (fault : Fault) (f : 
   pub none_before : (es : List (List ℕ)) → AllByRecursion IsEncoding es → concat es ≡ f.before → f.before ≡ []
   none_before [] a e = sym e
   none_before (c ∷ es) a e =
-      let all : b ++ o ∷ [] ≡ c ++ (concat es ++ (f.bad ++ f.after)) = f.whole ∙ ap (λ y. y ++ (f.bad ++ f.after)) (sym e) ∙ append_assoc c (concat es) (f.bad ++ f.after) in
+      let all : b ++ o ∷ [] ≡ c ++ (concat es ++ (f.bad ++ f.after)) =
+          f.whole ∙ ap (λ y. y ++ (f.bad ++ f.after)) (sym e) ∙ append_assoc c (concat es) (f.bad ++ f.after) in
       let first = encoding_fitting a.0 (concat es ++ (f.bad ++ f.after)) in
       let wide : width (b ++ o ∷ []) ≡ length c = ap width all ∙ first.1 in
       let some = (beginning_fits begins).some in
       let lead : width (b ++ o ∷ []) ≡ width b = ap width_of (get_left b (o ∷ []) 0 some) in
       let short = beginning_short begins in
       let bad = (bad_some f.first).0 in
-      absurd (omega (arith, ap length all, length-append b (o ∷ []), length-append c (concat es ++ (f.bad ++ f.after)), length-append (concat es) (f.bad ++ f.after), length-append f.bad f.after))
+      absurd (omega (arith, ap length all, length-append b (o ∷ []), length-append c (concat es ++ (f.bad ++ f.after)),
+          length-append (concat es) (f.bad ++ f.after), length-append f.bad f.after))
 
   whole : b ++ o ∷ [] ≡ f.bad ++ f.after
   whole = f.whole ∙ ap (λ y. y ++ (f.bad ++ f.after)) (none_before f.good.1.encodings f.good.1.each f.good.1.joined)
@@ -138,14 +156,18 @@ module _ (b : List ℕ) (o : ℕ) (begins : IsBeginning b) (fault : Fault) (f : 
   octet_some : (y : List ℕ) → o ∷ y ≢ []
   octet_some y e = let long = ap length e in absurd (omega arith)
 
-  refuted_by : (size : Option ℕ) → size ≢ None → IsFaultSize f.bad f.after size → (r : List ℕ) → Reads (b ++ (o ∷ r)) (o ∷ r) (Bad b ∷ [])
+  refuted_by : (size : Option ℕ) → size ≢ None → IsFaultSize f.bad f.after size → (r : List ℕ)
+      → Reads (b ++ (o ∷ r)) (o ∷ r) (Bad b ∷ [])
   refuted_by size n (inl k) r = absurd (n k.0)
   refuted_by size n (inr k) r =
       let more = bad_begins in
       let behind : 1 ≤ length f.after = nil_or_some f.after (λ e. k.1 (more.0, e)) in
-      let long : length f.bad ≡ length b = let m = more.1 in omega (arith, ap length whole, length-append b (o ∷ []), length-append f.bad f.after) in
-      let same : f.bad ≡ b = sym (take-append_seam f.bad f.after) ∙ ap (λ y. take (length f.bad) y) (sym whole) ∙ ap (λ k. take k (b ++ o ∷ [])) long ∙ take-append_seam b (o ∷ []) in
-      let part : IsBadPart (b ++ o ∷ []) b = subst (λ y. IsBadPart (b ++ o ∷ []) y) same (subst (λ y. IsBadPart y f.bad) (sym whole) f.first) in
+      let long : length f.bad ≡ length b = let m = more.1 in
+      omega (arith, ap length whole, length-append b (o ∷ []), length-append f.bad f.after) in
+      let same : f.bad ≡ b = sym (take-append_seam f.bad f.after) ∙ ap (λ y. take (length f.bad) y) (sym whole)
+          ∙ ap (λ k. take k (b ++ o ∷ [])) long ∙ take-append_seam b (o ∷ []) in
+      let part : IsBadPart (b ++ o ∷ []) b =
+          subst (λ y. IsBadPart (b ++ o ∷ []) y) same (subst (λ y. IsBadPart y f.bad) (sym whole) f.first) in
       reads_bad b (o ∷ r) (bad_more b (o ∷ []) r part (λ z. octet_some [] z.1)) (λ z. octet_some r z.1)
 
   -- where it doesn't, the beginning is a bad part, whatever follows the octet
@@ -155,21 +177,27 @@ module _ (b : List ℕ) (o : ℕ) (begins : IsBeginning b) (fault : Fault) (f : 
 -- A beginning q and the octets of a piece, as far as place i.
 module _ (q piece b : List ℕ) (i : ℕ) (h : i < length piece) (begun : b ≡ q ++ take i piece) where
   from_place : drop i piece ≡ get_or piece i 0 ∷ drop (i + 1) piece
-  from_place = let next : suc i ≡ i + 1 = omega arith in drop-cons piece i 0 h ∙ ap (λ k. get_or piece i 0 ∷ drop k piece) next
+  from_place = let next : suc i ≡ i + 1 = omega arith in
+      drop-cons piece i 0 h ∙ ap (λ k. get_or piece i 0 ∷ drop k piece) next
 
   all_at : q ++ piece ≡ b ++ (get_or piece i 0 ∷ drop (i + 1) piece)
   all_at =
       ap (λ y. q ++ y) (sym (take-append-drop i piece)) ∙ sym (append_assoc q (take i piece) (drop i piece))
-      ∙ ap (λ y. (q ++ take i piece) ++ y) from_place ∙ ap (λ y. y ++ (get_or piece i 0 ∷ drop (i + 1) piece)) (sym begun)
+      ∙ ap (λ y. (q ++ take i piece) ++ y) from_place ∙ ap (λ y. y ++ (get_or piece i 0 ∷ drop (i + 1) piece))
+          (sym begun)
 
   -- where all that was seen is well formed, the character is whole
-  pub closed_whole : (seen a : List ℕ) → seen ≡ b ++ get_or piece i 0 ∷ [] → IsWellFormed seen → IsRead (q ++ piece) (drop (i + 1) piece) a (a ++ seen)
+  pub closed_whole : (seen a : List ℕ) → seen ≡ b ++ get_or piece i 0 ∷ [] → IsWellFormed seen
+      → IsRead (q ++ piece) (drop (i + 1) piece) a (a ++ seen)
   closed_whole seen a e w =
-      let all : q ++ piece ≡ seen ++ drop (i + 1) piece = all_at ∙ sym (append_assoc b (get_or piece i 0 ∷ []) (drop (i + 1) piece)) ∙ ap (λ y. y ++ drop (i + 1) piece) (sym e) in
+      let all : q ++ piece ≡ seen ++ drop (i + 1) piece =
+          all_at ∙ sym (append_assoc b (get_or piece i 0 ∷ []) (drop (i + 1) piece)) ∙ ap (λ y. y ++ drop (i + 1) piece)
+          (sym e) in
       subst (λ y. IsRead y (drop (i + 1) piece) a (a ++ seen)) (sym all) (read_good (drop (i + 1) piece) a w.1)
 
   -- where it has a fault of a size, none can come of the beginning
-  pub closed_bad : (seen a : List ℕ) → seen ≡ b ++ get_or piece i 0 ∷ [] → IsBeginning b → (fault : Fault) → IsFault seen fault → fault.size ≢ None
+  pub closed_bad : (seen a : List ℕ) → seen ≡ b ++ get_or piece i 0 ∷ [] → IsBeginning b → (fault : Fault)
+      → IsFault seen fault → fault.size ≢ None
       → IsRead (q ++ piece) (drop i piece) a (a ++ encoding_of 0xFFFD)
   closed_bad seen a e begins fault f n =
       let bad = refuted b (get_or piece i 0) begins fault (subst (λ y. IsFault y fault) e f) n (drop (i + 1) piece) a in
@@ -177,8 +205,10 @@ module _ (q piece b : List ℕ) (i : ℕ) (h : i < length piece) (begun : b ≡ 
       (subst (λ y. IsRead y (get_or piece i 0 ∷ drop (i + 1) piece) a (a ++ encoding_of 0xFFFD)) (sym all_at) bad)
 
   -- and where it has one with none, it is a beginning
-  pub still_begins : (seen : List ℕ) → seen ≡ b ++ get_or piece i 0 ∷ [] → IsBeginning b → (fault : Fault) → IsFault seen fault → fault.size ≡ None → IsBeginning seen
-  still_begins seen e begins fault f n = subst IsBeginning (sym e) (begins_more b (get_or piece i 0) begins fault (subst (λ y. IsFault y fault) e f) n)
+  pub still_begins : (seen : List ℕ) → seen ≡ b ++ get_or piece i 0 ∷ [] → IsBeginning b → (fault : Fault)
+      → IsFault seen fault → fault.size ≡ None → IsBeginning seen
+  still_begins seen e begins fault f n =
+      subst IsBeginning (sym e) (begins_more b (get_or piece i 0) begins fault (subst (λ y. IsFault y fault) e f) n)
 
   pub begun_more : (seen : List ℕ) → seen ≡ b ++ get_or piece i 0 ∷ [] → seen ≡ q ++ take (i + 1) piece
   begun_more seen e =
@@ -187,53 +217,72 @@ module _ (q piece b : List ℕ) (i : ℕ) (h : i < length piece) (begun : b ≡ 
       ∙ ap (λ y. q ++ y) (sym (take-suc piece i 0 h) ∙ ap (λ k. take k piece) next)
 
 -- A piece behind what a reading stands for.
-module _ (held : Held) (x piece z new : List ℕ) (s : StandsFor held x) (r : IsRead (held.end ++ piece) z held.settled_text new) where
+module _ (held : Held) (x piece z new : List ℕ) (s : StandsFor held x)
+    (r : IsRead (held.end ++ piece) z held.settled_text new) where
   all_read : Reads (x ++ piece) z (s.settled ++ r.parts)
-  all_read = reads_then (x ++ piece) (held.end ++ piece) z s.settled r.parts (reads_more x held.end piece s.settled (settles_reads s.settles)) r.reads
+  all_read = reads_then (x ++ piece) (held.end ++ piece) z s.settled r.parts
+      (reads_more x held.end piece s.settled (settles_reads s.settles)) r.reads
 
   all_text : new ≡ text (s.settled ++ r.parts)
   all_text = r.grown ∙ ap (λ y. y ++ text r.parts) s.same ∙ sym (text-append s.settled r.parts)
 
-  pub feed_stands : IsOpenEnd z → (refusal : Option AppendError) → refusal ≡ None → StandsFor (record { settled_text = new; end = z; refusal = refusal }) (x ++ piece)
-  feed_stands e refusal n = record { settled = s.settled ++ r.parts; settles = reads_settles (x ++ piece) z (s.settled ++ r.parts) all_read e; same = all_text; fine = n }
+  pub feed_stands : IsOpenEnd z → (refusal : Option AppendError) → refusal ≡ None
+      → StandsFor (record { settled_text = new; end = z; refusal = refusal }) (x ++ piece)
+  feed_stands e refusal n = record { settled = s.settled ++ r.parts;
+      settles = reads_settles (x ++ piece) z (s.settled ++ r.parts) all_read e; same = all_text; fine = n }
 
   -- the text is no longer than that of what settles, and where all is read it is that
-  pub feed_short : (q : List ℕ) (settled : List Part) → Settles (x ++ piece) settled q → length new ≤ length (text settled)
-  feed_short q settled t = let most = text_read (x ++ piece) z q (s.settled ++ r.parts) settled all_read t in omega (arith, ap length all_text)
+  pub feed_short : (q : List ℕ) (settled : List Part) → Settles (x ++ piece) settled q
+      → length new ≤ length (text settled)
+  feed_short q settled t = let most = text_read (x ++ piece) z q (s.settled ++ r.parts) settled all_read t in
+      omega (arith, ap length all_text)
 
   pub feed_text : IsOpenEnd z → (q : List ℕ) (settled : List Part) → Settles (x ++ piece) settled q → new ≡ text settled
-  feed_text e q settled t = all_text ∙ ap text (one_settling (reads_settles (x ++ piece) z (s.settled ++ r.parts) all_read e) t).0
+  feed_text e q settled t =
+      all_text ∙ ap text (one_settling (reads_settles (x ++ piece) z (s.settled ++ r.parts) all_read e) t).0
 
-pub feed_too_long : {limit : Option ℕ} (held : Held) (x piece : List ℕ) → StandsFor held x → IsTooLong limit (held.end ++ piece) held.settled_text
+pub feed_too_long : {limit : Option ℕ} (held : Held) (x piece : List ℕ) → StandsFor held x
+    → IsTooLong limit (held.end ++ piece) held.settled_text
     → (q : List ℕ) (settled : List Part) → Settles (x ++ piece) settled q → IsPast limit (length (text settled))
-feed_too_long {limit} held x piece s t q settled u = past_more limit (length t.new) (length (text settled)) (feed_short held x piece t.rest t.new s t.read q settled u) t.past
+feed_too_long {limit} held x piece s t q settled u =
+    past_more limit (length t.new) (length (text settled)) (feed_short held x piece t.rest t.new s t.read q settled u)
+    t.past
 
 -- What is held at the end.
 
 settled_all : {x q : List ℕ} {settled parts : List Part} → Settles x settled q → Splits x parts
     → ((q ≡ []) × (text settled ≡ text parts)) ⊎ ((q ≢ []) × (text settled ++ encoding_of 0xFFFD ≡ text parts))
 settled_all (open_end {end = q} {settled = settled} s b) t =
-    inr (b.some, ap (λ y. text settled ++ y) (sym (append-nil (encoding_of 0xFFFD))) ∙ sym (text-append settled (Bad q ∷ [])) ∙ ap text (one_splitting s t))
+    inr (b.some, ap (λ y. text settled ++ y) (sym (append-nil (encoding_of 0xFFFD)))
+        ∙ sym (text-append settled (Bad q ∷ [])) ∙ ap text (one_splitting s t))
 settled_all (no_end s n) t = inl (refl, ap text (one_splitting s t))
 
 -- the held text, with what became of the open end, is the whole text
-module _ (held : Held) (x made : List ℕ) (s : StandsFor held x) (closed : held.end ≡ [] → made ≡ held.settled_text) (replaced : held.end ≢ [] → made ≡ held.settled_text ++ encoding_of 0xFFFD) where
+module _ (held : Held) (x made : List ℕ) (s : StandsFor held x) (closed : held.end ≡ [] → made ≡ held.settled_text)
+    (replaced : held.end ≢ [] → made ≡ held.settled_text ++ encoding_of 0xFFFD) where
   pub finish_text : (parts : List Part) → Splits x parts → made ≡ text parts
   finish_text parts t =
-      ⊎_elim (λ h. closed h.0 ∙ s.same ∙ h.1) (λ h. replaced h.0 ∙ ap (λ y. y ++ encoding_of 0xFFFD) s.same ∙ h.1) (settled_all s.settles t)
+      ⊎_elim (λ h. closed h.0 ∙ s.same ∙ h.1) (λ h. replaced h.0 ∙ ap (λ y. y ++ encoding_of 0xFFFD) s.same ∙ h.1)
+          (settled_all s.settles t)
 
   pub finish_well_formed : IsWellFormed made
-  finish_well_formed = subst IsWellFormed (sym (finish_text (parts_of x) (splits x))) (text_well_formed 0xFFFD replacement_is_character (splits x))
+  finish_well_formed =
+      subst IsWellFormed (sym (finish_text (parts_of x) (splits x)))
+      (text_well_formed 0xFFFD replacement_is_character (splits x))
 
-pub finish_too_long : (limit : Option ℕ) (held : Held) (x : List ℕ) (parts : List Part) → StandsFor held x → Splits x parts
-    → held.end ≢ [] → IsPast limit (length held.settled_text + length (encoding_of 0xFFFD)) → IsPast limit (length (text parts))
+pub finish_too_long : (limit : Option ℕ) (held : Held) (x : List ℕ) (parts : List Part) → StandsFor held x
+    → Splits x parts
+    → held.end ≢ [] → IsPast limit (length held.settled_text + length (encoding_of 0xFFFD))
+    → IsPast limit (length (text parts))
 finish_too_long limit held x parts s t n p =
-    subst (λ y. IsPast limit (length y)) (finish_text held x (held.settled_text ++ encoding_of 0xFFFD) s (λ e. absurd (n e)) (λ n. refl) parts t)
+    subst (λ y. IsPast limit (length y))
+        (finish_text held x (held.settled_text ++ encoding_of 0xFFFD) s (λ e. absurd (n e)) (λ n. refl) parts t)
     (subst (IsPast limit) (sym (length-append held.settled_text (encoding_of 0xFFFD))) p)
 
 -- A reading that met no refusal is sound, and so is one that met one.
 
-pub sound_standing : (limit : Option ℕ) (asks : Bool) (held : Held) (x : List ℕ) → StandsFor held x → IsWithin limit (length held.settled_text) → IsSound limit asks held
+pub sound_standing : (limit : Option ℕ) (asks : Bool) (held : Held) (x : List ℕ) → StandsFor held x
+    → IsWithin limit (length held.settled_text) → IsSound limit asks held
 sound_standing limit asks held x s w = record {
   stands = λ none. (x, s);
   within = λ none. w;
@@ -252,5 +301,8 @@ stands_nothing held t e n = record {
   fine = n;
 }
 
-pub sound_nothing : (limit : Option ℕ) (asks : Bool) (held : Held) → held.settled_text ≡ [] → held.end ≡ [] → held.refusal ≡ None → IsSound limit asks held
-sound_nothing limit asks held t e n = sound_standing limit asks held [] (stands_nothing held t e n) (subst (λ y. IsWithin limit (length y)) (sym t) (within_none limit))
+pub sound_nothing : (limit : Option ℕ) (asks : Bool) (held : Held) → held.settled_text ≡ [] → held.end ≡ []
+    → held.refusal ≡ None → IsSound limit asks held
+sound_nothing limit asks held t e n =
+    sound_standing limit asks held [] (stands_nothing held t e n)
+    (subst (λ y. IsWithin limit (length y)) (sym t) (within_none limit))

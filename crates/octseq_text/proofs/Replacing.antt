@@ -1,5 +1,6 @@
 -- The replacing of bad parts, chunk by chunk.
-use Rattle.std.proofs.Common.{◌≡◌, ℕ, Option, List, [], ◌++◌, length, refl, ap, sym, ◌∙◌, arith, append_assoc, length-append}
+use Rattle.std.proofs.Common.{◌≡◌, ℕ, Option, List, [], ◌++◌, length, refl, ap}
+use Rattle.std.proofs.Common.{sym, ◌∙◌, arith, append_assoc, length-append}
 use Rattle.std.proofs.lemmas.List.{append-nil}
 use Rattle.octseq_core.specs.Limit.{IsPast}
 use Rattle.octseq_core.proofs.Limits.{past_more}
@@ -12,17 +13,20 @@ use Rattle.octseq_utf8.proofs.Joins.{text_spelled}
 use Rattle.octseq_utf8.proofs.Spelling.{spells_nothing}
 
 -- what one chunk adds
-pub added : (w : ℕ) (content made valid invalid mark : List ℕ) → made ≡ content ++ (valid ++ mark_of mark invalid) → mark ≡ encoding_of w
+pub added : (w : ℕ) (content made valid invalid mark : List ℕ) → made ≡ content ++ (valid ++ mark_of mark invalid)
+    → mark ≡ encoding_of w
     → made ≡ content ++ (valid ++ mark_of (encoding_of w) invalid)
 added w content made valid invalid mark e m = e ∙ ap (λ y. content ++ (valid ++ mark_of y invalid)) m
 
 -- and then what it may be short of
 pub chunk_short : (limit : Option ℕ) (w : ℕ) (content valid invalid mark later : List ℕ) → mark ≡ encoding_of w
-    → IsPast limit (length (content ++ (valid ++ mark_of mark invalid))) → IsPast limit (length (content ++ ((valid ++ mark_of (encoding_of w) invalid) ++ later)))
+    → IsPast limit (length (content ++ (valid ++ mark_of mark invalid)))
+    → IsPast limit (length (content ++ ((valid ++ mark_of (encoding_of w) invalid) ++ later)))
 chunk_short limit w content valid invalid mark later m past =
     let one : List ℕ = valid ++ mark_of (encoding_of w) invalid in
     past_more limit _ _
-    (omega (arith, ap (λ y. length (content ++ (valid ++ mark_of y invalid))) m, length-append content one, length-append content (one ++ later), length-append one later))
+    (omega (arith, ap (λ y. length (content ++ (valid ++ mark_of y invalid))) m, length-append content one,
+        length-append content (one ++ later), length-append one later))
     past
 
 -- a front of a front
@@ -30,14 +34,19 @@ pub front_then : (a b c : List ℕ) → IsFront a b → IsFront b c → IsFront 
 front_then a b c f g = (f.0 ++ g.0, g.1 ∙ ap (λ y. y ++ g.0) f.1 ∙ append_assoc a f.0 g.0)
 
 -- a text with one more chunk is no longer than the whole
-pub grown_short : (limit : Option ℕ) (w : ℕ) (x made all : List ℕ) (chunk : Chunk) (behind mark : List ℕ) → made ++ text_with w (parts_of x) ≡ all → IsFirstChunk x chunk behind
-    → mark ≡ encoding_of w → IsPast limit (length (made ++ (chunk.valid ++ mark_of mark chunk.invalid))) → IsPast limit (length all)
+pub grown_short : (limit : Option ℕ) (w : ℕ) (x made all : List ℕ) (chunk : Chunk) (behind mark : List ℕ)
+    → made ++ text_with w (parts_of x) ≡ all → IsFirstChunk x chunk behind
+    → mark ≡ encoding_of w → IsPast limit (length (made ++ (chunk.valid ++ mark_of mark chunk.invalid)))
+    → IsPast limit (length all)
 grown_short limit w x made all chunk behind mark before c m past =
     let whole = grown w x made (made ++ chunk_text w chunk) all chunk behind before c refl in
     past_more limit _ _
-    (omega (arith, ap (λ y. length (made ++ (chunk.valid ++ mark_of y chunk.invalid))) m, ap length whole, length-append (made ++ chunk_text w chunk) (text_with w (parts_of behind))))
+    (omega (arith, ap (λ y. length (made ++ (chunk.valid ++ mark_of y chunk.invalid))) m, ap length whole,
+        length-append (made ++ chunk_text w chunk) (text_with w (parts_of behind))))
     past
 
 -- a text of nothing adds nothing
 pub nothing_added : (w : ℕ) (made x : List ℕ) → x ≡ [] → made ≡ made ++ text_with w (parts_of x)
-nothing_added w made x none = sym (append-nil made) ∙ ap (λ y. made ++ y) (sym (ap (λ y. text_with w (parts_of y)) none ∙ text_spelled w spells_nothing))
+nothing_added w made x none =
+    sym (append-nil made)
+    ∙ ap (λ y. made ++ y) (sym (ap (λ y. text_with w (parts_of y)) none ∙ text_spelled w spells_nothing))

@@ -5,12 +5,15 @@ use Rattle.octseq_core.specs.declared.builder.AppendError.{AppendError}
 use Rattle.octseq_core.specs.declared.builder.AppendError.TheVariants.{Memory}
 use Rattle.octseq_utf8.specs.Parts.{IsBeginning, Part, Bad, Splits, text}
 
--- The settled parts of octets, and their open end. A last bad part reaches the end of the octets; where it is a beginning, it is the open end
+-- The settled parts of octets, and their open end. A last bad part reaches the end of the octets; where it is a
+-- beginning, it is the open end
 -- and isn't settled. Else all parts are settled, and the open end is empty.
 pub data Settles : List ℕ → List Part → List ℕ → Type 0 where
-  open_end : {octets end : List ℕ} {settled : List Part} → Splits octets (settled ++ Bad end ∷ []) → IsBeginning end → Settles octets settled end
+  open_end : {octets end : List ℕ} {settled : List Part} → Splits octets (settled ++ Bad end ∷ []) → IsBeginning end
+      → Settles octets settled end
   no_end : {octets : List ℕ} {parts : List Part} → Splits octets parts
-      → ((front : List Part) (bad : List ℕ) → parts ≡ front ++ Bad bad ∷ [] → ¬ IsBeginning bad) → Settles octets parts []
+      → ((front : List Part) (bad : List ℕ) → parts ≡ front ++ Bad bad ∷ [] → ¬ IsBeginning bad)
+      → Settles octets parts []
 
 -- What a reading in pieces holds: the text of what is settled, the open end, and the refusal that it met.
 pub record Held : Type 0 where
@@ -25,7 +28,8 @@ pub record StandsFor (held : Held) (octets : List ℕ) : Type 0 where
   pub same : held.settled_text ≡ text settled
   pub fine : held.refusal ≡ None
 
--- It met a refusal, of memory only where the type asks for memory, or it stands for some octets, with a text within the limit.
+-- It met a refusal, of memory only where the type asks for memory, or it stands for some octets, with a text within the
+-- limit.
 pub record IsSound (limit : Option ℕ) (asks : Bool) (held : Held) : Type 0 where
   pub stands : held.refusal ≡ None → (octets : List ℕ) × StandsFor held octets
   pub within : held.refusal ≡ None → IsWithin limit (length held.settled_text)

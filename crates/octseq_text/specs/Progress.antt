@@ -5,7 +5,8 @@ use Rattle.octseq_utf8.specs.Fault.{Fault, fault_end}
 use Rattle.octseq_utf8.specs.Parts.{IsBeginning, Part, text_with, text}
 use Rattle.octseq_utf8.specs.Reading.{parts_of}
 
--- Of octets some parts were read, and a rest is left: whatever follows, the other parts are those of the rest and of what follows.
+-- Of octets some parts were read, and a rest is left: whatever follows, the other parts are those of the rest and of
+-- what follows.
 pub record Reads (octets rest : List ℕ) (parts : List Part) : Type 0 where
   pub whatever : (more : List ℕ) → parts_of (octets ++ more) ≡ parts ++ parts_of (rest ++ more)
 

@@ -1,5 +1,6 @@
 -- What commands do to a text, seen as a list of characters with a limit.
-use Rattle.std.specs.Prelude.{◌≡◌, ◌≢◌, ℕ, ◌<◌, ◌≤◌, ◌↔◌, ◌⊎◌, Bool, true, List, [], ◌∷◌, ◌++◌, length, Option, Some, None, Result, Ok, Err, IsTrue}
+use Rattle.std.specs.Prelude.{◌≡◌, ◌≢◌, ℕ, ◌<◌, ◌≤◌, ◌↔◌, ◌⊎◌, Bool, true, List, [], ◌∷◌}
+use Rattle.std.specs.Prelude.{◌++◌, length, Option, Some, None, Result, Ok, Err, IsTrue}
 use Rattle.std.specs.List.{AllByRecursion}
 use Rattle.octseq_core.specs.Limit.{IsWithin, IsPast}
 use Rattle.octseq_core.specs.declared.builder.AppendError.{AppendError}
@@ -10,11 +11,15 @@ use Rattle.octseq_text.specs.declared.str.commands.Command.TheVariants as comman
 use Rattle.octseq_text.specs.declared.str.commands.Reply.{Reply}
 use Rattle.octseq_text.specs.declared.str.commands.Reply.TheVariants as reply
 
--- More characters at the end, where the octets of all stay within the limit. Where the type requests memory, that may be refused.
+-- More characters at the end, where the octets of all stay within the limit. Where the type requests memory, that may
+-- be refused.
 abbrev pub AppendsCharacters : Option ℕ → Bool → List ℕ → List ℕ → Reply → List ℕ → Type 0
-AppendsCharacters limit asks before more reply.Done after = IsWithin limit (length (octets_of (before ++ more))) × (after ≡ before ++ more)
-AppendsCharacters limit asks before more reply.Short after = IsPast limit (length (octets_of (before ++ more))) × (after ≡ before)
-AppendsCharacters limit asks before more reply.Memory after = IsWithin limit (length (octets_of (before ++ more))) × (asks ≡ true) × (after ≡ before)
+AppendsCharacters limit asks before more reply.Done after = IsWithin limit (length (octets_of (before ++ more)))
+    × (after ≡ before ++ more)
+AppendsCharacters limit asks before more reply.Short after = IsPast limit (length (octets_of (before ++ more)))
+    × (after ≡ before)
+AppendsCharacters limit asks before more reply.Memory after = IsWithin limit (length (octets_of (before ++ more)))
+    × (asks ≡ true) × (after ≡ before)
 AppendsCharacters limit asks before more _ after = ⊥
 
 -- The reply for what an append answered.
@@ -25,12 +30,14 @@ append_reply (Err error.Memory) = reply.Memory
 
 -- The front that is exactly n octets; at or past the length that is all of them.
 abbrev pub CutsTo : ℕ → List ℕ → List ℕ → Type 0
-CutsTo n before after = (length (octets_of before) ≤ n → after ≡ before) × (n < length (octets_of before) → IsFrontOf before n after)
+CutsTo n before after = (length (octets_of before) ≤ n → after ≡ before)
+    × (n < length (octets_of before) → IsFrontOf before n after)
 
 -- A cut, or its refusal where no front is exactly n octets.
 abbrev pub Cuts : List ℕ → ℕ → Reply → List ℕ → Type 0
 Cuts before n r after = ((r ≡ reply.Done) × CutsTo n before after)
-    ⊎ ((r ≡ reply.NoBoundary) × (n < length (octets_of before)) × ((front : List ℕ) → ¬ IsFrontOf before n front) × (after ≡ before))
+    ⊎ ((r ≡ reply.NoBoundary) × (n < length (octets_of before)) × ((front : List ℕ) → ¬ IsFrontOf before n front)
+        × (after ≡ before))
 
 -- The last character goes, if there is one.
 abbrev pub Pops : List ℕ → Option ℕ → List ℕ → Type 0
@@ -45,7 +52,8 @@ TextStep limit asks before (command.Truncate n) r after = Cuts before n r after
 TextStep limit asks before command.Clear r after = (r ≡ reply.Done) × (after ≡ [])
 TextStep limit asks before command.Pop r after = (last : Option ℕ) × (r ≡ reply.Popped last) × Pops before last after
 TextStep limit asks before command.Len r after = (r ≡ reply.Len (length (octets_of before))) × (after ≡ before)
-TextStep limit asks before (command.Is s) r after = (same : Bool) × (r ≡ reply.Is same) × (IsTrue same ↔ (before ≡ chars s.now)) × (after ≡ before)
+TextStep limit asks before (command.Is s) r after =
+    (same : Bool) × (r ≡ reply.Is same) × (IsTrue same ↔ (before ≡ chars s.now)) × (after ≡ before)
 
 -- A list of commands, with one reply each: every step is on the characters that the step before left.
 abbrev pub TextRun : Option ℕ → Bool → List ℕ → List Command → List Reply → List ℕ → Type 0

@@ -1,5 +1,6 @@
 //! Ranges of octet sequences, and conversions between them.
-ghost use Rattle.std.specs.Prelude.{◌≡◌, ◌≤◌, ◌↔◌, true, None, slice_range, length, IsTrue, IsSome, IfSome, IfOk, OnErr};
+ghost use Rattle.std.specs.Prelude.{◌≡◌, ◌≤◌, ◌↔◌, true, None, slice_range};
+ghost use Rattle.std.specs.Prelude.{length, IsTrue, IsSome, IfSome, IfOk, OnErr};
 ghost use Rattle.octseq_core.specs.Limit.{IsPast};
 ghost use Rattle.octseq_core.specs.Refusal.{IsShort, IsMemory, append_error};
 ghost use Rattle.octseq_text.specs.Range.{start_of, end_of, RangeExists, range_of};

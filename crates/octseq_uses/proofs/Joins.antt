@@ -1,5 +1,6 @@
 -- What is still to come of joined words.
-use Rattle.std.proofs.Common.{◌≡◌, ℕ, suc, ◌+◌, ◌<◌, ◌≤◌, List, ◌∷◌, ◌++◌, length, drop, map, get_or, Option, subst, sym, ap, ◌∙◌, append_assoc, arith}
+use Rattle.std.proofs.Common.{◌≡◌, ℕ, suc, ◌+◌, ◌<◌, ◌≤◌, List, ◌∷◌, ◌++◌, length, drop}
+use Rattle.std.proofs.Common.{map, get_or, Option, subst, sym, ap, ◌∙◌, append_assoc, arith}
 use Rattle.std.proofs.Math.ListN.{drop_of_length-le}
 use Rattle.std.proofs.Math.Seq.{drop-cons}
 use Rattle.std.proofs.lemmas.List.{append-nil, length-append}
@@ -17,46 +18,58 @@ spread separator words = flat_map (λ other. separator ++ other) words
 abbrev pub ToCome : {W : Type 0} → (W → List ℕ) → List ℕ → List W → ℕ → List ℕ → List ℕ → Type 0
 ToCome show separator others place text all = text ++ spread separator (map show (drop place others)) ≡ all
 
-pub to_come_first : {W : Type 0} (show : W → List ℕ) (separator old text : List ℕ) (words others : List W) (first : W) → words ≡ first ∷ others → text ≡ old ++ show first
+pub to_come_first : {W : Type 0} (show : W → List ℕ) (separator old text : List ℕ) (words others : List W) (first : W)
+    → words ≡ first ∷ others → text ≡ old ++ show first
     → ToCome show separator others 0 text (old ++ joined separator (map show words))
 to_come_first show separator old text words others first split e =
-    ap (λ t. t ++ spread separator (map show others)) e ∙ append_assoc old (show first) (spread separator (map show others))
+    ap (λ t. t ++ spread separator (map show others)) e
+        ∙ append_assoc old (show first) (spread separator (map show others))
     ∙ ap (λ ws. old ++ joined separator (map show ws)) (sym split)
 
-pub to_come_word : {W : Type 0} (show : W → List ℕ) (separator text between all : List ℕ) (others : List W) (default : W) (i : ℕ) → i < length others
+pub to_come_word : {W : Type 0} (show : W → List ℕ) (separator text between all : List ℕ) (others : List W)
+    (default : W) (i : ℕ) → i < length others
     → ToCome show separator others i text all → between ≡ text ++ separator
     → between ++ (show (get_or others i default) ++ spread separator (map show (drop (suc i) others))) ≡ all
 to_come_word show separator text between all others default i within so_far e =
     let word = get_or others i default in
     let more = spread separator (map show (drop (suc i) others)) in
-    ap (λ t. t ++ (show word ++ more)) e ∙ append_assoc text separator (show word ++ more) ∙ ap (λ x. text ++ x) (sym (append_assoc separator (show word) more))
+    ap (λ t. t ++ (show word ++ more)) e ∙ append_assoc text separator (show word ++ more)
+        ∙ ap (λ x. text ++ x) (sym (append_assoc separator (show word) more))
     ∙ ap (λ ws. text ++ spread separator (map show ws)) (sym (drop-cons others i default within)) ∙ so_far
 
-pub to_come_next : {W : Type 0} (show : W → List ℕ) (separator text between made all : List ℕ) (others : List W) (default : W) (i next : ℕ) → i < length others → next ≡ suc i
-    → ToCome show separator others i text all → between ≡ text ++ separator → made ≡ between ++ show (get_or others i default) → ToCome show separator others next made all
+pub to_come_next : {W : Type 0} (show : W → List ℕ) (separator text between made all : List ℕ) (others : List W)
+    (default : W) (i next : ℕ) → i < length others → next ≡ suc i
+    → ToCome show separator others i text all → between ≡ text ++ separator
+    → made ≡ between ++ show (get_or others i default) → ToCome show separator others next made all
 to_come_next show separator text between made all others default i next within step so_far e f =
     let word = get_or others i default in
     let more = spread separator (map show (drop (suc i) others)) in
-    ap (λ n. made ++ spread separator (map show (drop n others))) step ∙ ap (λ t. t ++ more) f ∙ append_assoc between (show word) more
+    ap (λ n. made ++ spread separator (map show (drop n others))) step ∙ ap (λ t. t ++ more) f
+        ∙ append_assoc between (show word) more
     ∙ to_come_word show separator text between all others default i within so_far e
 
 pub on_err : {T E : Type 0} {P : Type 0} (result : Result T E) → P → OnErr result P
 on_err (Ok value) p = tt
 on_err (Err e) p = p
 
-pub to_come_none : {W : Type 0} (show : W → List ℕ) (separator text all : List ℕ) (others : List W) (i : ℕ) → length others ≤ i
+pub to_come_none : {W : Type 0} (show : W → List ℕ) (separator text all : List ℕ) (others : List W) (i : ℕ)
+    → length others ≤ i
     → ToCome show separator others i text all → text ≡ all
 to_come_none show separator text all others i past so_far =
-    sym (append-nil text) ∙ ap (λ ws. text ++ spread separator (map show ws)) (sym (drop_of_length-le others past)) ∙ so_far
+    sym (append-nil text) ∙ ap (λ ws. text ++ spread separator (map show ws)) (sym (drop_of_length-le others past))
+        ∙ so_far
 
 -- ---- limits
 
 -- what was appended is within the limit
-pub within_still : (limit : Option ℕ) (old piece new : List ℕ) → new ≡ old ++ piece → (IsPast limit (length old + length piece) → ⊥) → IsPast limit (length new) → ⊥
+pub within_still : (limit : Option ℕ) (old piece new : List ℕ) → new ≡ old ++ piece
+    → (IsPast limit (length old + length piece) → ⊥) → IsPast limit (length new) → ⊥
 within_still limit old piece new e fine past = fine (subst (IsPast limit) (ap length e ∙ length-append old piece) past)
 
 -- the whole passes the limit where a piece on the way did
-pub past_whole : (limit : Option ℕ) (text piece more all : List ℕ) → text ++ (piece ++ more) ≡ all → IsPast limit (length text + length piece) → IsPast limit (length all)
+pub past_whole : (limit : Option ℕ) (text piece more all : List ℕ) → text ++ (piece ++ more) ≡ all
+    → IsPast limit (length text + length piece) → IsPast limit (length all)
 past_whole limit text piece more all e past =
-    let long : length all ≡ length text + (length piece + length more) = ap length (sym e) ∙ length-append text (piece ++ more) ∙ ap (λ n. length text + n) (length-append piece more) in
+    let long : length all ≡ length text + (length piece + length more) =
+        ap length (sym e) ∙ length-append text (piece ++ more) ∙ ap (λ n. length text + n) (length-append piece more) in
     past_more limit (length text + length piece) (length all) (omega arith) past

@@ -5,11 +5,13 @@ use Rattle.octseq_uses.specs.Line.{IsLine, TakesLine}
 -- octets without a line feed have none behind a front
 no_feed : (line other more : List ℕ) → IsLine other → other ≡ line ++ 10 ∷ more → ⊥
 no_feed [] (x ∷ other) more (here, is) e = let same : x ≡ 10 = cc in here same
-no_feed (y ∷ line) (x ∷ other) more (here, is) e = let behind : other ≡ line ++ 10 ∷ more = cc in no_feed line other more is behind
+no_feed (y ∷ line) (x ∷ other) more (here, is) e = let behind : other ≡ line ++ 10 ∷ more =
+    cc in no_feed line other more is behind
 no_feed [] [] more is e = cc
 no_feed (y ∷ line) [] more is e = cc
 
-same_line : (line other more rest : List ℕ) → IsLine line → IsLine other → line ++ 10 ∷ more ≡ other ++ 10 ∷ rest → (line ≡ other) × (more ≡ rest)
+same_line : (line other more rest : List ℕ) → IsLine line → IsLine other → line ++ 10 ∷ more ≡ other ++ 10 ∷ rest
+    → (line ≡ other) × (more ≡ rest)
 same_line [] [] more rest is other_is e = (refl, cc)
 same_line [] (y ∷ other) more rest is (here, other_is) e = let same : y ≡ 10 = cc in absurd (here same)
 same_line (x ∷ line) [] more rest (here, is) other_is e = let same : x ≡ 10 = cc in absurd (here same)
@@ -20,13 +22,18 @@ same_line (x ∷ line) (y ∷ other) more rest (here, is) (there, other_is) e =
     (ap (λ z. z ∷ line) first ∙ ap (λ octets. y ∷ octets) same.0, same.1)
 
 -- one line stands at the front
-pub one_line : (octets line other more rest : List ℕ) → TakesLine octets line more → TakesLine octets other rest → (line ≡ other) × (more ≡ rest)
-one_line octets line other more rest (is, inl e) (other_is, inl f) = same_line line other more rest is other_is (sym e ∙ f)
-one_line octets line other more rest (is, inl e) (other_is, inr (f, none)) = absurd (no_feed line other more other_is (sym f ∙ e))
-one_line octets line other more rest (is, inr (e, none)) (other_is, inl f) = absurd (no_feed other line rest is (sym e ∙ f))
+pub one_line : (octets line other more rest : List ℕ) → TakesLine octets line more → TakesLine octets other rest
+    → (line ≡ other) × (more ≡ rest)
+one_line octets line other more rest (is, inl e) (other_is, inl f) =
+    same_line line other more rest is other_is (sym e ∙ f)
+one_line octets line other more rest (is, inl e) (other_is, inr (f, none)) =
+    absurd (no_feed line other more other_is (sym f ∙ e))
+one_line octets line other more rest (is, inr (e, none)) (other_is, inl f) =
+    absurd (no_feed other line rest is (sym e ∙ f))
 one_line octets line other more rest (is, inr (e, none)) (other_is, inr (f, others)) = (sym e ∙ f, none ∙ sym others)
 
-line_more : (x : ℕ) (octets line more : List ℕ) → x ≢ 10 → TakesLine octets line more → TakesLine (x ∷ octets) (x ∷ line) more
+line_more : (x : ℕ) (octets line more : List ℕ) → x ≢ 10 → TakesLine octets line more
+    → TakesLine (x ∷ octets) (x ∷ line) more
 line_more x octets line more other (is, inl e) = ((other, is), inl (ap (λ xs. x ∷ xs) e))
 line_more x octets line more other (is, inr (e, none)) = ((other, is), inr (ap (λ xs. x ∷ xs) e, none))
 

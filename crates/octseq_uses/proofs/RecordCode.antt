@@ -14,7 +14,9 @@ abbrev pub spelled : ℕ × List ℕ → List ℕ
 spelled pair = record_of pair.0 pair.1
 
 pub record_code : IsCode IsRecord spelled
-record_code = pair_code (λ key. key < 65536) (octets_be 2) (λ value. length value < 256) (part_of 1) (integer_code 2) (part_code 1)
+record_code = pair_code (λ key. key < 65536) (octets_be 2) (λ value. length value < 256) (part_of 1) (integer_code 2)
+    (part_code 1)
 
 pub has_octets : HasOctets spelled
-has_octets (key, value) = let all = length-append (octets_be 2 key) (part_of 1 value) in let head = length_be 2 key in omega arith
+has_octets (key, value) = let all = length-append (octets_be 2 key) (part_of 1 value) in let head = length_be 2 key in
+    omega arith

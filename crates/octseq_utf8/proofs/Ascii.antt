@@ -1,8 +1,13 @@
--- The mask of a lane has a bit for each octet that is 0x80 or more. So it is 0 where all are ASCII, and even where the first one is.
-use Rattle.std.proofs.Common.{◌≡◌, ◌≢◌, ℕ, zero, suc, ◌+◌, ◌*◌, ◌%◌, ◌^◌, ◌<◌, ◌≤◌, ◌-◌, ◌↔◌, ◌⊎◌, inl, inr, ⊎_elim, subst, Bool, not, true, false, cond, leb, List, [], ◌∷◌, map, length, replicate, take, drop, get_or, length-take, length-drop, refl, ap, sym, ◌∙◌, arith, w8}
+-- The mask of a lane has a bit for each octet that is 0x80 or more. So it is 0 where all are ASCII, and even where the
+-- first one is.
+use Rattle.std.proofs.Common.{◌≡◌, ◌≢◌, ℕ, zero, suc, ◌+◌, ◌*◌, ◌%◌, ◌^◌, ◌<◌, ◌≤◌, ◌-◌, ◌↔◌, ◌⊎◌, inl, inr, ⊎_elim}
+use Rattle.std.proofs.Common.{subst, Bool, not, true, false, cond, leb, List, [], ◌∷◌, map, length, replicate, take}
+use Rattle.std.proofs.Common.{drop, get_or, length-take, length-drop, refl, ap, sym, ◌∙◌, arith, w8}
 use Rattle.std.proofs.lemmas.Bool.Decides.{nat_tests}
-use Rattle.std.proofs.lemmas.List.Elements.{All-nil, All-cons, All-head, All-tail, All-take, All-drop, All-get_or, All-from_get_or}
-use Rattle.std.proofs.lemmas.Simd.{mask_l-mod, tops_compared, zip2_splat_left, get_or-chunk, trailing_mask_l, length-chunk}
+use Rattle.std.proofs.lemmas.List.Elements.{All-nil, All-cons, All-head, All-tail, All-take}
+use Rattle.std.proofs.lemmas.List.Elements.{All-drop, All-get_or, All-from_get_or}
+use Rattle.std.proofs.lemmas.Simd.{mask_l-mod, tops_compared, zip2_splat_left}
+use Rattle.std.proofs.lemmas.Simd.{get_or-chunk, trailing_mask_l, length-chunk}
 use Rattle.std.proofs.lemmas.List.{length-map, get_or-take, get_or-drop}
 use Rattle.std.proofs.lemmas.List.Sums.{prefix_len-le-length, prefix_len_passes, prefix_len_stops}
 use Rattle.std.specs.List.{All, prefix_len}
@@ -11,7 +16,8 @@ use Rattle.std.specs.Int.Count.{count_trailing_zeros}
 use lib.Lanes.{mask_l, top, zip2}
 
 -- an octet more at the front of a lane, by its bit
-none_more : (y : ℕ) (ys : List ℕ) → (mask_l (map (leb 128) ys) ≡ 0 → All (λ o. o < 128) ys) → (b : Bool) → leb 128 y ≡ b → cond b 1 0 + 2 * mask_l (map (leb 128) ys) ≡ 0 → All (λ o. o < 128) (y ∷ ys)
+none_more : (y : ℕ) (ys : List ℕ) → (mask_l (map (leb 128) ys) ≡ 0 → All (λ o. o < 128) ys) → (b : Bool) → leb 128 y ≡ b
+    → cond b 1 0 + 2 * mask_l (map (leb 128) ys) ≡ 0 → All (λ o. o < 128) (y ∷ ys)
 none_more y ys rec true e h = absurd (omega arith)
 none_more y ys rec false e h = All-cons (λ o. o < 128) y ys (grind (arith, nat_tests)) (rec (omega arith))
 
@@ -26,17 +32,21 @@ high_none [] h = refl
 high_none (y ∷ ys) h =
     let low : y < 128 = All-head (λ o. o < 128) y ys h in
     let e : leb 128 y ≡ false = grind (arith, nat_tests) in
-    ap (λ b. cond b 1 0 + 2 * mask_l (map (leb 128) ys)) e ∙ (let k = high_none ys (All-tail (λ o. o < 128) y ys h) in omega arith)
+    ap (λ b. cond b 1 0 + 2 * mask_l (map (leb 128) ys)) e ∙ (let k = high_none ys (All-tail (λ o. o < 128) y ys h) in
+        omega arith)
 
 -- the mask that the code computes, by comparing the lane with sixteen times 0x80
-pub mask_is : (ys : List ℕ) → length ys ≡ 16 → mask_l (map (top 7) (zip2 (λ (a b : ℕ). cond (leb a b) 255 0) (replicate 16 128) ys)) % 2 ^ 64 ≡ mask_l (map (leb 128) ys)
+pub mask_is : (ys : List ℕ) → length ys ≡ 16
+    → mask_l (map (top 7) (zip2 (λ (a b : ℕ). cond (leb a b) 255 0) (replicate 16 128) ys)) % 2 ^ 64
+    ≡ mask_l (map (leb 128) ys)
 mask_is ys long =
     ap (λ l. mask_l l % 2 ^ 64) (tops_compared w8 leb (replicate 16 128) ys ∙ zip2_splat_left leb 128 16 ys long)
     ∙ mask_l-mod (map (leb 128) ys) 64 (omega (arith, length-map ys (leb 128)))
 
 -- what the code tests: the mask is 0 exactly where the lane is ASCII
 pub lane_none : (ys : List ℕ) → length ys ≡ 16
-    → (mask_l (map (top 7) (zip2 (λ (a b : ℕ). cond (leb a b) 255 0) (replicate 16 128) ys)) % 2 ^ 64 ≡ 0) ↔ All (λ o. o < 128) ys
+    → (mask_l (map (top 7) (zip2 (λ (a b : ℕ). cond (leb a b) 255 0) (replicate 16 128) ys)) % 2 ^ 64 ≡ 0)
+    ↔ All (λ o. o < 128) ys
 lane_none ys long = (λ h. none_high ys (sym (mask_is ys long) ∙ h), λ h. mask_is ys long ∙ high_none ys h)
 
 -- the lowest bit is that of the first octet
@@ -45,21 +55,27 @@ first_of [] h = absurd (omega arith)
 first_of (y ∷ ys) h = go (leb 128 y) refl
   where
     go : (b : Bool) → leb 128 y ≡ b → ((cond (leb 128 y) 1 0 + 2 * mask_l (map (leb 128) ys)) % 2 ≡ 0) ↔ (y < 128)
-    go true e = (λ k. absurd (let f = ap (λ b. (cond b 1 0 + 2 * mask_l (map (leb 128) ys)) % 2) e in omega arith), λ k. absurd (grind (arith, nat_tests)))
-    go false e = (λ k. grind (arith, nat_tests), λ k. ap (λ b. (cond b 1 0 + 2 * mask_l (map (leb 128) ys)) % 2) e ∙ omega arith)
+    go true e = (λ k. absurd (let f = ap (λ b. (cond b 1 0 + 2 * mask_l (map (leb 128) ys)) % 2) e in omega arith),
+        λ k. absurd (grind (arith, nat_tests)))
+    go false e = (λ k. grind (arith, nat_tests), λ k. ap (λ b. (cond b 1 0 + 2 * mask_l (map (leb 128) ys)) % 2) e
+        ∙ omega arith)
 
 -- what the code tests next: the mask is even exactly where the octet at hand is ASCII
 pub lane_first : (x : List ℕ) (i : ℕ) → length (take 16 (drop i x)) ≡ 16
-    → (mask_l (map (top 7) (zip2 (λ (a b : ℕ). cond (leb a b) 255 0) (replicate 16 128) (take 16 (drop i x)))) % 2 ^ 64 % 2 ≡ 0) ↔ (get_or x i 0 < 128)
+    → (mask_l (map (top 7) (zip2 (λ (a b : ℕ). cond (leb a b) 255 0) (replicate 16 128) (take 16 (drop i x)))) % 2 ^ 64
+    % 2 ≡ 0) ↔ (get_or x i 0 < 128)
 lane_first x i long =
     let e = mask_is (take 16 (drop i x)) long in
     let f = first_of (take 16 (drop i x)) (omega arith) in
-    let g : get_or (take 16 (drop i x)) 0 0 ≡ get_or x i 0 = get_or-chunk i 16 x 0 0 (omega arith) ∙ ap (λ k. get_or x k 0) (let q : i + 0 ≡ i = omega arith in q) in
+    let g : get_or (take 16 (drop i x)) 0 0 ≡ get_or x i 0 = get_or-chunk i 16 x 0 0 (omega arith)
+        ∙ ap (λ k. get_or x k 0) (let q : i + 0 ≡ i = omega arith in q) in
     (λ h. let k = f.0 (ap (λ n. n % 2) (sym e) ∙ h) in omega arith, λ h. ap (λ n. n % 2) e ∙ f.1 (omega arith))
 
 -- where a lane isn't all below 80, neither are the octets
-pub high_some : (x : List ℕ) (place high : ℕ) → (high ≡ 0) ↔ All (λ o. o < 128) (take 16 (drop place x)) → high ≢ 0 → ¬ All (λ o. o < 128) x
-high_some x place high none some all = some (none.1 (All-take (λ o. o < 128) 16 _ (All-drop (λ o. o < 128) place x all)))
+pub high_some : (x : List ℕ) (place high : ℕ) → (high ≡ 0) ↔ All (λ o. o < 128) (take 16 (drop place x)) → high ≢ 0
+    → ¬ All (λ o. o < 128) x
+high_some x place high none some all =
+    some (none.1 (All-take (λ o. o < 128) 16 _ (All-drop (λ o. o < 128) place x all)))
 
 -- the octets before the lowest bit of a lane's mask are below 80, and the one there isn't
 pub record IsBeforeHigh (x : List ℕ) (n : ℕ) : Type 0 where
@@ -70,13 +86,16 @@ pub record IsBeforeHigh (x : List ℕ) (n : ℕ) : Type 0 where
 less_or_more : (n k : ℕ) → n ≤ k → (n < k) ⊎ (n ≡ k)
 less_or_more n k h = ⊎_elim (λ e. inr e) (λ l. inl l) (eq-or-lt_of_le h)
 
-pub before_high : (x : List ℕ) (high : ℕ) → 16 ≤ length x → high ≡ mask_l (map (leb 128) (take 16 x)) → high ≢ 0 → IsBeforeHigh x (count_trailing_zeros 64 high)
+pub before_high : (x : List ℕ) (high : ℕ) → 16 ≤ length x → high ≡ mask_l (map (leb 128) (take 16 x)) → high ≢ 0
+    → IsBeforeHigh x (count_trailing_zeros 64 high)
 before_high x high room same some =
     let ys : List ℕ = take 16 x in
     let long : length ys ≡ 16 = length-take 16 x ∙ omega arith in
     let n : ℕ = prefix_len (λ o. not (leb 128 o)) ys in
-    let found : count_trailing_zeros 64 high ≡ n = ap (count_trailing_zeros 64) same ∙ trailing_mask_l (leb 128) 64 ys (omega arith) (omega arith) in
-    let below : (i : ℕ) → i < n → get_or ys i 0 < 128 = λ i h. not_high (get_or ys i 0) (prefix_len_passes (λ o. not (leb 128 o)) ys i 0 h) in
+    let found : count_trailing_zeros 64 high ≡ n =
+        ap (count_trailing_zeros 64) same ∙ trailing_mask_l (leb 128) 64 ys (omega arith) (omega arith) in
+    let below : (i : ℕ) → i < n → get_or ys i 0 < 128 =
+        λ i h. not_high (get_or ys i 0) (prefix_len_passes (λ o. not (leb 128 o)) ys i 0 h) in
     let few : n < length ys =
     ⊎_elim
     (λ less. less)
@@ -88,7 +107,8 @@ before_high x high room same some =
       low = All-from_get_or (λ o. o < 128) (take n x) 0 (λ i h.
           let less : i < n = omega (arith, length-take n x) in
           subst (λ o. o < 128) (get_or-take 16 x i 0 (omega arith) ∙ sym (get_or-take n x i 0 less)) (below i less));
-      high = subst (λ o. 128 ≤ o) (get_or-take 16 x n 0 (omega arith)) (is_high (get_or ys n 0) (prefix_len_stops (λ o. not (leb 128 o)) ys 0 few));
+      high = subst (λ o. 128 ≤ o) (get_or-take 16 x n 0 (omega arith))
+          (is_high (get_or ys n 0) (prefix_len_stops (λ o. not (leb 128 o)) ys 0 few));
     })
   where
     not_high : (o : ℕ) → not (leb 128 o) ≡ true → o < 128
@@ -103,16 +123,20 @@ less_or_not zero (suc n) = inl (omega arith)
 less_or_not (suc i) (suc n) = ⊎_elim (λ h. inl (omega arith)) (λ h. inr (omega arith)) (less_or_not i n)
 
 -- octets whose first n and last n are below 80, where those overlap or meet
-pub ends_low : (x : List ℕ) (from n : ℕ) → from + n ≤ length x → length x ≤ from + (n + n) → All (λ o. o < 128) (take n (drop from x)) → All (λ o. o < 128) (take n (drop (length x - n) x)) → All (λ o. o < 128) (drop from x)
+pub ends_low : (x : List ℕ) (from n : ℕ) → from + n ≤ length x → length x ≤ from + (n + n)
+    → All (λ o. o < 128) (take n (drop from x)) → All (λ o. o < 128) (take n (drop (length x - n) x))
+    → All (λ o. o < 128) (drop from x)
 ends_low x from n room few first last =
     All-from_get_or (λ o. o < 128) (drop from x) 0 (λ i h.
     let in_x : from + i < length x = omega (arith, length-drop from x) in
     let here : get_or (drop from x) i 0 ≡ get_or x (from + i) 0 = get_or-drop from x i 0 in
     ⊎_elim
-    (λ less. subst (λ o. o < 128) (get_or-chunk from n x i 0 less ∙ sym here) (All-get_or (λ o. o < 128) (take n (drop from x)) i 0 (omega (arith, length-chunk from n x room)) first))
+    (λ less. subst (λ o. o < 128) (get_or-chunk from n x i 0 less ∙ sym here)
+        (All-get_or (λ o. o < 128) (take n (drop from x)) i 0 (omega (arith, length-chunk from n x room)) first))
     (λ more.
     let k : ℕ = from + i - (length x - n) in
     let same : (length x - n) + k ≡ from + i = omega arith in
     subst (λ o. o < 128) (get_or-chunk (length x - n) n x k 0 (omega arith) ∙ ap (λ j. get_or x j 0) same ∙ sym here)
-    (All-get_or (λ o. o < 128) (take n (drop (length x - n) x)) k 0 (omega (arith, length-chunk (length x - n) n x (omega arith))) last))
+    (All-get_or (λ o. o < 128) (take n (drop (length x - n) x)) k 0
+        (omega (arith, length-chunk (length x - n) n x (omega arith))) last))
     (less_or_not i n))

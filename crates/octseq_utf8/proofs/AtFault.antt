@@ -1,5 +1,6 @@
 -- Octets at a fault: what lies before it, how long it is, and what lies behind.
-use Rattle.std.proofs.Common.{◌≡◌, ℕ, ◌+◌, ◌-◌, ◌<◌, ◌≤◌, List, ◌∷◌, ◌++◌, map, length, take, drop, arith, inl, inr, ap, sym, ◌∙◌, append_assoc, length-append, Option}
+use Rattle.std.proofs.Common.{◌≡◌, ℕ, ◌+◌, ◌-◌, ◌<◌, ◌≤◌, List, ◌∷◌, ◌++◌, map, length, take, drop}
+use Rattle.std.proofs.Common.{arith, inl, inr, ap, sym, ◌∙◌, append_assoc, length-append, Option}
 use Rattle.std.specs.Prelude.{unwrap_or}
 use Rattle.std.proofs.lemmas.List.{length-map}
 use Rattle.std.proofs.Math.Seq.{take-append_seam, drop-append_seam}
@@ -13,10 +14,13 @@ use Rattle.octseq_utf8.proofs.Joins.{parts_fault, parts_spelled}
 
 module _ (rest : List ℕ) (fault : Fault) (f : IsFault rest fault) where
   whole_length : length rest ≡ fault.place + (length f.bad + length f.after)
-  whole_length = let place = f.place in omega (arith, ap length f.whole, length-append f.before (f.bad ++ f.after), length-append f.bad f.after)
+  whole_length = let place = f.place in
+      omega (arith, ap length f.whole, length-append f.before (f.bad ++ f.after), length-append f.bad f.after)
 
-  bad_size : (size : Option ℕ) → IsFaultSize f.bad f.after size → unwrap_or size (length rest - fault.place) ≡ length f.bad
-  bad_size size (inl h) = ap (λ o. unwrap_or o (length rest - fault.place)) h.0 ∙ (let none = ap length h.2 in omega (arith, whole_length))
+  bad_size : (size : Option ℕ) → IsFaultSize f.bad f.after size
+      → unwrap_or size (length rest - fault.place) ≡ length f.bad
+  bad_size size (inl h) = ap (λ o. unwrap_or o (length rest - fault.place)) h.0
+      ∙ (let none = ap length h.2 in omega (arith, whole_length))
   bad_size size (inr h) = ap (λ o. unwrap_or o (length rest - fault.place)) h.0
 
   pub end_is : fault_end rest fault ≡ fault.place + length f.bad
@@ -27,24 +31,31 @@ module _ (rest : List ℕ) (fault : Fault) (f : IsFault rest fault) where
   end_bounds = let some = bad_some f.first in (omega (arith, end_is), omega (arith, end_is, whole_length))
 
   pub front_is : take fault.place rest ≡ f.before
-  front_is = ap (λ x. take fault.place x) f.whole ∙ ap (λ n. take n (f.before ++ (f.bad ++ f.after))) f.place ∙ take-append_seam f.before (f.bad ++ f.after)
+  front_is = ap (λ x. take fault.place x) f.whole ∙ ap (λ n. take n (f.before ++ (f.bad ++ f.after))) f.place
+      ∙ take-append_seam f.before (f.bad ++ f.after)
 
   pub onward_is : drop fault.place rest ≡ f.bad ++ f.after
-  onward_is = ap (λ n. drop n rest) f.place ∙ ap (drop (length f.before)) f.whole ∙ drop-append_seam f.before (f.bad ++ f.after)
+  onward_is = ap (λ n. drop n rest) f.place ∙ ap (drop (length f.before)) f.whole
+      ∙ drop-append_seam f.before (f.bad ++ f.after)
 
   pub behind_is : drop (fault_end rest fault) rest ≡ f.after
   behind_is =
       let cut : rest ≡ (f.before ++ f.bad) ++ f.after = f.whole ∙ sym (append_assoc f.before f.bad f.after) in
-      let long : fault_end rest fault ≡ length (f.before ++ f.bad) = let place = f.place in omega (arith, end_is, length-append f.before f.bad) in
-      ap (λ n. drop n rest) long ∙ ap (λ x. drop (length (f.before ++ f.bad)) x) cut ∙ drop-append_seam (f.before ++ f.bad) f.after
+      let long : fault_end rest fault ≡ length (f.before ++ f.bad) = let place = f.place in
+      omega (arith, end_is, length-append f.before f.bad) in
+      ap (λ n. drop n rest) long ∙ ap (λ x. drop (length (f.before ++ f.bad)) x) cut
+          ∙ drop-append_seam (f.before ++ f.bad) f.after
 
   -- the parts are the characters before it, the bad part, and those behind
-  pub parts_at_fault : length (parts_of rest) ≡ length (chars (take fault.place rest)) + 1 + length (parts_of (drop (fault_end rest fault) rest))
+  pub parts_at_fault : length (parts_of rest) ≡ length (chars (take fault.place rest)) + 1
+      + length (parts_of (drop (fault_end rest fault) rest))
   parts_at_fault =
-      let all : parts_of rest ≡ map Char f.good.0 ++ (Bad f.bad ∷ parts_of f.after) = ap parts_of f.whole ∙ parts_fault f.good.1 f.bad f.after f.first in
+      let all : parts_of rest ≡ map Char f.good.0 ++ (Bad f.bad ∷ parts_of f.after) =
+          ap parts_of f.whole ∙ parts_fault f.good.1 f.bad f.after f.first in
       let before : chars (take fault.place rest) ≡ f.good.0 = ap chars front_is ∙ chars_of f.good.1 in
       let behind = ap (λ y. length (parts_of y)) behind_is in
-      omega (arith, ap length all, ap length before, length-append (map Char f.good.0) (Bad f.bad ∷ parts_of f.after), length-map f.good.0 Char)
+      omega (arith, ap length all, ap length before, length-append (map Char f.good.0) (Bad f.bad ∷ parts_of f.after),
+          length-map f.good.0 Char)
 
 -- of well-formed octets the parts are the characters
 pub parts_well_formed : (x : List ℕ) → IsWellFormed x → length (parts_of x) ≡ length (chars x)

@@ -1,5 +1,6 @@
 -- The same words in std: well formed is `IsUtf8`, a character a scalar, and its encoding `encode_utf8`.
-use Rattle.std.proofs.Common.{◌≡◌, ℕ, Bool, true, false, ◌&&◌, List, [], ◌∷◌, ◌++◌, map, refl, arith, inl, inr, ⊎_elim, ap, sym, ◌∙◌, subst}
+use Rattle.std.proofs.Common.{◌≡◌, ℕ, Bool, true, false, ◌&&◌, List, [], ◌∷◌, ◌++◌}
+use Rattle.std.proofs.Common.{map, refl, arith, inl, inr, ⊎_elim, ap, sym, ◌∙◌, subst}
 use Rattle.std.proofs.lemmas.Bool.Decides.{nat_tests}
 use Rattle.std.specs.Str.{IsUtf8}
 use Rattle.std.specs.List.{flat_map, AllByRecursion}
@@ -25,7 +26,9 @@ from_scalar c h = ⊎_elim (λ k. inl (omega arith, omega arith)) (λ k. inr (om
 
 scalars_from : (es : List (List ℕ)) → AllByRecursion IsEncoding es → scalars (map number_of es) ≡ true
 scalars_from [] h = refl
-scalars_from (e ∷ es) h = ap (λ b. b && scalars (map number_of es)) (scalar_from (number_of e) (number_is_character h.0)) ∙ scalars_from es h.1
+scalars_from (e ∷ es) h =
+    ap (λ b. b && scalars (map number_of es)) (scalar_from (number_of e) (number_is_character h.0))
+    ∙ scalars_from es h.1
 
 both : (a b : Bool) → a && b ≡ true → (a ≡ true) × (b ≡ true)
 both true b h = (refl, h)
@@ -45,7 +48,8 @@ spells_all (c ∷ cs) h =
     }
 
 pub utf8_from_well_formed : (x : List ℕ) → IsWellFormed x → IsUtf8 x
-utf8_from_well_formed x (cs, s) = (cs, (ap scalars (sym s.numbers) ∙ scalars_from s.encodings s.each, encodes-are cs ∙ octets_of_spelled s))
+utf8_from_well_formed x (cs, s) =
+    (cs, (ap scalars (sym s.numbers) ∙ scalars_from s.encodings s.each, encodes-are cs ∙ octets_of_spelled s))
 
 pub well_formed_from_utf8 : (x : List ℕ) → IsUtf8 x → IsWellFormed x
 well_formed_from_utf8 x (cs, u) = (cs, subst (λ y. Spells y cs) (sym (encodes-are cs) ∙ u.1) (spells_all cs u.0))

@@ -1,10 +1,12 @@
 -- Octets by their chunks: splittings, texts, turns.
-use Rattle.std.proofs.Common.{Bool, true, false, ◌≡◌, ◌≢◌, ℕ, ◌+◌, ◌-◌, ◌≤◌, ◌⊎◌, inl, inr, List, [], ◌∷◌, ◌++◌, map, length, take, slice_range, refl, arith, ap, sym, ◌∙◌, subst, append_assoc}
+use Rattle.std.proofs.Common.{Bool, true, false, ◌≡◌, ◌≢◌, ℕ, ◌+◌, ◌-◌, ◌≤◌, ◌⊎◌, inl, inr, List, [], ◌∷◌, ◌++◌}
+use Rattle.std.proofs.Common.{map, length, take, slice_range, refl, arith, ap, sym, ◌∙◌, subst, append_assoc}
 use Rattle.std.specs.List.{flat_map}
 use Rattle.std.specs.Prelude.{Option, Some, None, ◌↔◌, IsTrue, is_some, not}
 use Rattle.std.proofs.Math.Seq.{take-append_seam}
 use Rattle.std.proofs.lemmas.List.{append-nil}
-use Rattle.octseq_utf8.specs.Chunk.{Chunk, IsFirstChunk, AreChunks, no_chunk, first_chunk, bad_parts, chunk_parts, mark_of, chunk_text}
+use Rattle.octseq_utf8.specs.Chunk.{Chunk, IsFirstChunk, AreChunks, no_chunk, first_chunk}
+use Rattle.octseq_utf8.specs.Chunk.{bad_parts, chunk_parts, mark_of, chunk_text}
 use Rattle.octseq_utf8.specs.Encoding.{encoding_of}
 use Rattle.octseq_utf8.specs.Fault.{Fault, IsFault, IsFaultSize, fault_end}
 use Rattle.octseq_utf8.specs.Parts.{IsBeginning, IsBadPart, Part, Char, Bad, Splits, text_with}
@@ -17,9 +19,11 @@ use Rattle.octseq_utf8.proofs.Spelling.{spells_nothing, chars_of}
 use Rattle.octseq_utf8.proofs.Splitting.{bad_some, only_parts, splits, parts_nil}
 
 -- a fault has no size exactly where its bad part begins a character and reaches the end
-no_size : (bad after : List ℕ) (size : Option ℕ) → IsFaultSize bad after size → (size ≡ None → IsBeginning bad × (after ≡ [])) × (IsBeginning bad × (after ≡ []) → size ≡ None)
+no_size : (bad after : List ℕ) (size : Option ℕ) → IsFaultSize bad after size
+    → (size ≡ None → IsBeginning bad × (after ≡ [])) × (IsBeginning bad × (after ≡ []) → size ≡ None)
 no_size bad after size (inl h) = (λ e. (h.1, h.2), λ k. h.0)
-no_size bad after size (inr h) = (λ e. let no : Some (length bad) ≡ None = sym h.0 ∙ e in absurd (cc), λ k. absurd (h.1 k))
+no_size bad after size (inr h) =
+    (λ e. let no : Some (length bad) ≡ None = sym h.0 ∙ e in absurd (cc), λ k. absurd (h.1 k))
 
 -- what a test for none answers
 pub tests_none : (size : Option ℕ) (test : Bool) → is_some size ≡ not test → IsTrue test ↔ (size ≡ None)
@@ -35,15 +39,19 @@ none_left (a ∷ x) h = absurd (omega arith)
 
 -- the chunk that ends with a fault
 module _ (x : List ℕ) (fault : Fault) (f : IsFault x fault) where
-  pub chunk_at_fault : (valid invalid behind : List ℕ) (incomplete : Bool) → valid ≡ f.before → invalid ≡ f.bad → behind ≡ f.after
-      → (IsTrue incomplete ↔ (fault.size ≡ None)) → IsFirstChunk x (record { valid = valid; invalid = invalid; incomplete = incomplete }) behind
+  pub chunk_at_fault : (valid invalid behind : List ℕ) (incomplete : Bool) → valid ≡ f.before → invalid ≡ f.bad
+      → behind ≡ f.after
+      → (IsTrue incomplete ↔ (fault.size ≡ None))
+      → IsFirstChunk x (record { valid = valid; invalid = invalid; incomplete = incomplete }) behind
   chunk_at_fault valid invalid behind incomplete v i b cut =
       let sized = no_size f.bad f.after fault.size f.size in
       record {
-        whole = f.whole ∙ ap (λ y. y ++ (f.bad ++ f.after)) (sym v) ∙ ap (λ y. valid ++ (y ++ f.after)) (sym i) ∙ ap (λ y. valid ++ (invalid ++ y)) (sym b);
+        whole = f.whole ∙ ap (λ y. y ++ (f.bad ++ f.after)) (sym v) ∙ ap (λ y. valid ++ (y ++ f.after)) (sym i)
+            ∙ ap (λ y. valid ++ (invalid ++ y)) (sym b);
         some = λ nothing. let bounds = end_bounds x fault f in omega (arith, ap length nothing);
         good = subst IsWellFormed (sym v) f.good;
-        bad = inr (subst (λ y. IsBadPart (y ++ behind) y) (sym i) (subst (λ y. IsBadPart (f.bad ++ y) f.bad) (sym b) f.first));
+        bad = inr (subst (λ y. IsBadPart (y ++ behind) y) (sym i)
+            (subst (λ y. IsBadPart (f.bad ++ y) f.bad) (sym b) f.first));
         cut = (
           λ t. let k = sized.0 (cut.0 t) in (subst IsBeginning (sym i) k.0, b ∙ k.1),
           λ k. cut.1 (sized.1 (subst IsBeginning i k.0, sym b ∙ k.1)),
@@ -54,10 +62,12 @@ module _ (x : List ℕ) (fault : Fault) (f : IsFault x fault) where
   pub bad_is : slice_range x fault.place (fault_end x fault) ≡ f.bad
   bad_is =
       let long : fault_end x fault - fault.place ≡ length f.bad = omega (arith, end_is x fault f) in
-      ap (take (fault_end x fault - fault.place)) (onward_is x fault f) ∙ ap (λ n. take n (f.bad ++ f.after)) long ∙ take-append_seam f.bad f.after
+      ap (take (fault_end x fault - fault.place)) (onward_is x fault f) ∙ ap (λ n. take n (f.bad ++ f.after)) long
+          ∙ take-append_seam f.bad f.after
 
 -- the chunk of octets that are a text
-pub chunk_at_end : (x : List ℕ) → x ≢ [] → IsWellFormed x → IsFirstChunk x (record { valid = x; invalid = []; incomplete = false }) []
+pub chunk_at_end : (x : List ℕ) → x ≢ [] → IsWellFormed x
+    → IsFirstChunk x (record { valid = x; invalid = []; incomplete = false }) []
 chunk_at_end x some good = record {
   whole = sym (append-nil x);
   some = some;
@@ -77,15 +87,18 @@ parts_some [] h = absurd (omega arith)
 parts_some (b ∷ bad) h = refl
 
 -- the parts of octets are those of the first chunk, and those of what is behind it
-pub parts_at_chunk : (x : List ℕ) (chunk : Chunk) (behind : List ℕ) → IsFirstChunk x chunk behind → parts_of x ≡ chunk_parts chunk ++ parts_of behind
+pub parts_at_chunk : (x : List ℕ) (chunk : Chunk) (behind : List ℕ) → IsFirstChunk x chunk behind
+    → parts_of x ≡ chunk_parts chunk ++ parts_of behind
 parts_at_chunk x chunk behind c = go c.bad
   where
     front : map Char (chars chunk.valid) ≡ map Char c.good.0
     front = ap (map Char) (chars_of c.good.1)
 
-    go : ((chunk.invalid ≡ []) × (behind ≡ [])) ⊎ IsBadPart (chunk.invalid ++ behind) chunk.invalid → parts_of x ≡ chunk_parts chunk ++ parts_of behind
+    go : ((chunk.invalid ≡ []) × (behind ≡ [])) ⊎ IsBadPart (chunk.invalid ++ behind) chunk.invalid
+        → parts_of x ≡ chunk_parts chunk ++ parts_of behind
     go (inl none) =
-        let same : x ≡ chunk.valid = c.whole ∙ ap (λ y. chunk.valid ++ (y ++ behind)) none.0 ∙ ap (λ y. chunk.valid ++ y) none.1 ∙ append-nil chunk.valid in
+        let same : x ≡ chunk.valid = c.whole ∙ ap (λ y. chunk.valid ++ (y ++ behind)) none.0
+            ∙ ap (λ y. chunk.valid ++ y) none.1 ∙ append-nil chunk.valid in
         ap parts_of same ∙ parts_spelled c.good.1 ∙ sym front
         ∙ sym (ap (λ ps. chunk_parts chunk ++ ps) (ap parts_of none.1 ∙ parts_nil) ∙ append-nil (chunk_parts chunk)
         ∙ ap (λ y. map Char (chars chunk.valid) ++ bad_parts y) none.0 ∙ append-nil (map Char (chars chunk.valid)))
@@ -104,65 +117,82 @@ text_at_chunk w x chunk behind c = go c.bad
     go : ((chunk.invalid ≡ []) × (behind ≡ [])) ⊎ IsBadPart (chunk.invalid ++ behind) chunk.invalid
         → text_with w (parts_of x) ≡ chunk_text w chunk ++ text_with w (parts_of behind)
     go (inl none) =
-        let same : x ≡ chunk.valid = c.whole ∙ ap (λ y. chunk.valid ++ (y ++ behind)) none.0 ∙ ap (λ y. chunk.valid ++ y) none.1 ∙ append-nil chunk.valid in
+        let same : x ≡ chunk.valid = c.whole ∙ ap (λ y. chunk.valid ++ (y ++ behind)) none.0
+            ∙ ap (λ y. chunk.valid ++ y) none.1 ∙ append-nil chunk.valid in
         let nothing : mark_of (encoding_of w) chunk.invalid ++ text_with w (parts_of behind) ≡ [] =
-        ap (λ y. mark_of (encoding_of w) y ++ text_with w (parts_of behind)) none.0 ∙ ap (λ y. text_with w (parts_of y)) none.1 ∙ text_spelled w spells_nothing in
+        ap (λ y. mark_of (encoding_of w) y ++ text_with w (parts_of behind)) none.0 ∙ ap (λ y. text_with w (parts_of y))
+            none.1 ∙ text_spelled w spells_nothing in
         ap (λ y. text_with w (parts_of y)) same ∙ text_spelled w c.good.1
-        ∙ sym (append_assoc chunk.valid (mark_of (encoding_of w) chunk.invalid) (text_with w (parts_of behind)) ∙ ap (λ y. chunk.valid ++ y) nothing ∙ append-nil chunk.valid)
+        ∙ sym (append_assoc chunk.valid (mark_of (encoding_of w) chunk.invalid) (text_with w (parts_of behind))
+            ∙ ap (λ y. chunk.valid ++ y) nothing ∙ append-nil chunk.valid)
     go (inr bad) =
         ap (λ y. text_with w (parts_of y)) c.whole ∙ text_fault w c.good.1 chunk.invalid behind bad
-        ∙ ap (λ y. chunk.valid ++ (y ++ text_with w (parts_of behind))) (sym (mark_some (encoding_of w) chunk.invalid (bad_some bad).0))
+        ∙ ap (λ y. chunk.valid ++ (y ++ text_with w (parts_of behind)))
+            (sym (mark_some (encoding_of w) chunk.invalid (bad_some bad).0))
         ∙ sym (append_assoc chunk.valid (mark_of (encoding_of w) chunk.invalid) (text_with w (parts_of behind)))
 
 -- octets whose first chunk has no bad part are a text
-pub whole_text : (x : List ℕ) (chunk : Chunk) (behind : List ℕ) → IsFirstChunk x chunk behind → length chunk.invalid ≡ 0 → IsWellFormed x
+pub whole_text : (x : List ℕ) (chunk : Chunk) (behind : List ℕ) → IsFirstChunk x chunk behind → length chunk.invalid ≡ 0
+    → IsWellFormed x
 whole_text x chunk behind c none = go c.bad
   where
     go : ((chunk.invalid ≡ []) × (behind ≡ [])) ⊎ IsBadPart (chunk.invalid ++ behind) chunk.invalid → IsWellFormed x
     go (inl end) =
-        let same : x ≡ chunk.valid = c.whole ∙ ap (λ y. chunk.valid ++ (y ++ behind)) end.0 ∙ ap (λ y. chunk.valid ++ y) end.1 ∙ append-nil chunk.valid in
+        let same : x ≡ chunk.valid = c.whole ∙ ap (λ y. chunk.valid ++ (y ++ behind)) end.0
+            ∙ ap (λ y. chunk.valid ++ y) end.1 ∙ append-nil chunk.valid in
         subst IsWellFormed (sym same) c.good
     go (inr bad) = let some = (bad_some bad).0 in absurd (omega arith)
 
 -- and those whose first chunk has one aren't
-pub no_whole_text : (x : List ℕ) (chunk : Chunk) (behind : List ℕ) → IsFirstChunk x chunk behind → 1 ≤ length chunk.invalid → ¬ IsWellFormed x
+pub no_whole_text : (x : List ℕ) (chunk : Chunk) (behind : List ℕ) → IsFirstChunk x chunk behind
+    → 1 ≤ length chunk.invalid → ¬ IsWellFormed x
 no_whole_text x chunk behind c some good = go c.bad
   where
     go : ((chunk.invalid ≡ []) × (behind ≡ [])) ⊎ IsBadPart (chunk.invalid ++ behind) chunk.invalid → ⊥
     go (inl end) = absurd (omega (arith, ap length end.0))
-    go (inr bad) = no_bad c.good.0 good.0 chunk.invalid (parts_of behind) (sym (ap parts_of c.whole ∙ parts_fault c.good.1 chunk.invalid behind bad) ∙ parts_spelled good.1)
+    go (inr bad) = no_bad c.good.0 good.0 chunk.invalid (parts_of behind)
+        (sym (ap parts_of c.whole ∙ parts_fault c.good.1 chunk.invalid behind bad) ∙ parts_spelled good.1)
 
 -- the chunks of octets are their one splitting
 
-pub splits_at_chunk : (x : List ℕ) (chunk : Chunk) (behind : List ℕ) (parts : List Part) → IsFirstChunk x chunk behind → Splits behind parts
+pub splits_at_chunk : (x : List ℕ) (chunk : Chunk) (behind : List ℕ) (parts : List Part) → IsFirstChunk x chunk behind
+    → Splits behind parts
     → Splits x (chunk_parts chunk ++ parts)
 splits_at_chunk x chunk behind parts c s =
-    subst (Splits x) (parts_at_chunk x chunk behind c ∙ ap (λ ps. chunk_parts chunk ++ ps) (sym (only_parts s))) (splits x)
+    subst (Splits x) (parts_at_chunk x chunk behind c ∙ ap (λ ps. chunk_parts chunk ++ ps) (sym (only_parts s)))
+        (splits x)
 
 pub chunks_split : {x : List ℕ} {chunks : List Chunk} → AreChunks x chunks → Splits x (flat_map chunk_parts chunks)
 chunks_split no_chunk = subst (Splits []) parts_nil (splits [])
-chunks_split (first_chunk {octets = x} {behind} {chunk} {chunks} c s) = splits_at_chunk x chunk behind (flat_map chunk_parts chunks) c (chunks_split s)
+chunks_split (first_chunk {octets = x} {behind} {chunk} {chunks} c s) =
+    splits_at_chunk x chunk behind (flat_map chunk_parts chunks) c (chunks_split s)
 
 -- of any splittings, the parts of octets are those of the first chunk, and those of what is behind it
-pub parts_by_chunk : (x behind : List ℕ) (chunk : Chunk) (parts rest : List Part) → IsFirstChunk x chunk behind → Splits x parts → Splits behind rest
+pub parts_by_chunk : (x behind : List ℕ) (chunk : Chunk) (parts rest : List Part) → IsFirstChunk x chunk behind
+    → Splits x parts → Splits behind rest
     → parts ≡ chunk_parts chunk ++ rest
 parts_by_chunk x behind chunk parts rest c s t =
     only_parts s ∙ parts_at_chunk x chunk behind c ∙ ap (λ ps. chunk_parts chunk ++ ps) (sym (only_parts t))
 
 -- and so is their text
-pub text_by_chunk : (x behind : List ℕ) (chunk : Chunk) (parts rest : List Part) (w : ℕ) → IsFirstChunk x chunk behind → Splits x parts → Splits behind rest
+pub text_by_chunk : (x behind : List ℕ) (chunk : Chunk) (parts rest : List Part) (w : ℕ) → IsFirstChunk x chunk behind
+    → Splits x parts → Splits behind rest
     → text_with w parts ≡ chunk_text w chunk ++ text_with w rest
 text_by_chunk x behind chunk parts rest w c s t =
-    ap (text_with w) (only_parts s) ∙ text_at_chunk w x chunk behind c ∙ ap (λ ps. chunk_text w chunk ++ text_with w ps) (sym (only_parts t))
+    ap (text_with w) (only_parts s) ∙ text_at_chunk w x chunk behind c ∙ ap (λ ps. chunk_text w chunk ++ text_with w ps)
+        (sym (only_parts t))
 
 -- a text that grows by chunks is, with the text of what is left, the whole text
 
-pub grown : (w : ℕ) (x made made' all : List ℕ) (chunk : Chunk) (behind : List ℕ) → made ++ text_with w (parts_of x) ≡ all → IsFirstChunk x chunk behind
+pub grown : (w : ℕ) (x made made' all : List ℕ) (chunk : Chunk) (behind : List ℕ)
+    → made ++ text_with w (parts_of x) ≡ all → IsFirstChunk x chunk behind
     → made' ≡ made ++ chunk_text w chunk → made' ++ text_with w (parts_of behind) ≡ all
 grown w x made made' all chunk behind before c more =
-    ap (λ y. y ++ text_with w (parts_of behind)) more ∙ append_assoc made (chunk_text w chunk) (text_with w (parts_of behind))
+    ap (λ y. y ++ text_with w (parts_of behind)) more ∙ append_assoc made (chunk_text w chunk)
+        (text_with w (parts_of behind))
     ∙ ap (λ y. made ++ y) (sym (text_at_chunk w x chunk behind c)) ∙ before
 
 pub all_made : (w : ℕ) (made all x : List ℕ) → made ++ text_with w (parts_of x) ≡ all → x ≡ [] → made ≡ all
 all_made w made all x whole nothing =
-    sym (append-nil made) ∙ ap (λ y. made ++ y) (sym (ap (λ y. text_with w (parts_of y)) nothing ∙ text_spelled w spells_nothing)) ∙ whole
+    sym (append-nil made)
+        ∙ ap (λ y. made ++ y) (sym (ap (λ y. text_with w (parts_of y)) nothing ∙ text_spelled w spells_nothing)) ∙ whole

@@ -1,5 +1,7 @@
 -- Faults, and the places that the finder comes to.
-use Rattle.std.proofs.Common.{◌≡◌, ℕ, ◌+◌, ◌-◌, ◌*◌, ◌/◌, ◌%◌, ◌<◌, ◌≤◌, List, [], ◌∷◌, ◌++◌, map, length, take, drop, get_or, refl, arith, inl, inr, ⊎_elim, ap, sym, ◌∙◌, subst, append_assoc, length-append, length-take, length-drop, Option, Some}
+use Rattle.std.proofs.Common.{◌≡◌, ℕ, ◌+◌, ◌-◌, ◌*◌, ◌/◌, ◌%◌, ◌<◌, ◌≤◌, List, [], ◌∷◌, ◌++◌, map}
+use Rattle.std.proofs.Common.{length, take, drop, get_or, refl, arith, inl, inr, ⊎_elim, ap, sym, ◌∙◌}
+use Rattle.std.proofs.Common.{subst, append_assoc, length-append, length-take, length-drop, Option, Some}
 use Rattle.std.specs.Prelude.{unwrap_or}
 use Rattle.std.proofs.lemmas.List.{take-append-drop, take_all, take-take, length-map}
 use Rattle.std.proofs.lemmas.List.Elements.{All-head, All-tail}
@@ -19,7 +21,8 @@ use Rattle.octseq_utf8.proofs.Joins.{parts_fault, parts_spelled}
 use Rattle.octseq_utf8.proofs.Spelling.{chars_of, octets_of_spelled, spells_nothing, spells_one, spells-append}
 use Rattle.octseq_utf8.proofs.Texts.{well_formed-append, chars-append}
 
--- The finder is at a place: what lies before it spells characters, with one turn for each at most, and sixteen octets a turn at most.
+-- The finder is at a place: what lies before it spells characters, with one turn for each at most, and sixteen octets a
+-- turn at most.
 pub record IsAt (x : List ℕ) (place old now : ℕ) : Type 0 where
   pub characters : List ℕ
   pub within : place ≤ length x
@@ -34,7 +37,8 @@ pub record IsInLanes (x : List ℕ) (place old now : ℕ) : Type 0 where
   pub lanes : All (λ o. o < 0x80) x → place + 16 * old ≡ 16 * now
 
 pub at_start : (x : List ℕ) (t : ℕ) → IsAt x 0 t t
-at_start x t = record { characters = []; within = omega arith; spelled = spells_nothing; turns = omega arith; few = omega arith; passed = omega arith }
+at_start x t = record { characters = []; within = omega arith; spelled = spells_nothing; turns = omega arith;
+    few = omega arith; passed = omega arith }
 
 pub lanes_start : (x : List ℕ) (t : ℕ) → IsInLanes x 0 t t
 lanes_start x t = record { at = at_start x t; lanes = λ low. omega arith }
@@ -43,17 +47,20 @@ pub take-add : (x : List ℕ) (i n : ℕ) → i ≤ length x → take (i + n) x 
 take-add x i n h =
     let cut : take i x ++ drop i x ≡ x = take-append-drop i x in
     let long : length (take i x) ≡ i = length-take i x ∙ omega arith in
-    ap (λ y. take (i + n) y) (sym cut) ∙ ap (λ k. take (k + n) (take i x ++ drop i x)) (sym long) ∙ take-append-add (take i x) (drop i x) n
+    ap (λ y. take (i + n) y) (sym cut) ∙ ap (λ k. take (k + n) (take i x ++ drop i x)) (sym long)
+        ∙ take-append-add (take i x) (drop i x) n
 
 pub rest_of : (x : List ℕ) (place : ℕ) → take (length x - place) (drop place x) ≡ drop place x
 rest_of x place = take_all (length x - place) (drop place x) (omega (arith, length-drop place x))
 
 -- what stands at a place, of the octets that a slice from there has
-pub at_place : (x : List ℕ) (place : ℕ) (front : Front) → StandsInFront (take (length x - place) (drop place x)) front → StandsInFront (drop place x) front
+pub at_place : (x : List ℕ) (place : ℕ) (front : Front) → StandsInFront (take (length x - place) (drop place x)) front
+    → StandsInFront (drop place x) front
 at_place x place front h = subst (λ y. StandsInFront y front) (rest_of x place) h
 
 -- an encoding that stands there has some octets
-pub front_some : (x : List ℕ) (place len : ℕ) → StandsInFront (take (length x - place) (drop place x)) (Encoding len) → 1 ≤ len
+pub front_some : (x : List ℕ) (place len : ℕ) → StandsInFront (take (length x - place) (drop place x)) (Encoding len)
+    → 1 ≤ len
 front_some x place len h =
     let y : List ℕ = take (length x - place) (drop place x) in
     let within = h.0 in
@@ -61,7 +68,8 @@ front_some x place len h =
     omega (arith, length-take len y)
 
 -- one encoding more
-pub at_more : (x : List ℕ) (place old now len : ℕ) → IsAt x place old now → StandsInFront (drop place x) (Encoding len) → IsAt x (place + len) old (now + 1)
+pub at_more : (x : List ℕ) (place old now len : ℕ) → IsAt x place old now → StandsInFront (drop place x) (Encoding len)
+    → IsAt x (place + len) old (now + 1)
 at_more x place old now len at (within, e) =
     let in_x = at.within in
     let turns = at.turns in
@@ -73,21 +81,25 @@ at_more x place old now len at (within, e) =
     record {
       characters = at.characters ++ next;
       within = omega (arith, length-drop place x);
-      spelled = subst (λ z. Spells z (at.characters ++ next)) (sym (take-add x place len in_x)) (spells-append at.spelled (spells_one e));
+      spelled = subst (λ z. Spells z (at.characters ++ next)) (sym (take-add x place len in_x))
+          (spells-append at.spelled (spells_one e));
       turns = omega (arith, length-append at.characters next);
       few = let least = some.0 in omega arith;
       passed = let most = some.1 in omega arith;
     }
 
 -- an encoding that a word of four octets begins with
-pub word_front : (x four : List ℕ) (place len : ℕ) → place + 4 ≤ length x → four ≡ take 4 (drop place x) → len ≤ 4 → IsEncoding (take len four) → StandsInFront (drop place x) (Encoding len)
+pub word_front : (x four : List ℕ) (place len : ℕ) → place + 4 ≤ length x → four ≡ take 4 (drop place x) → len ≤ 4
+    → IsEncoding (take len four) → StandsInFront (drop place x) (Encoding len)
 word_front x four place len room same few e =
     (omega (arith, length-drop place x), subst IsEncoding (ap (take len) same ∙ take-take len 4 (drop place x) few) e)
 
 -- an octet below 80
-pub octet_front : (x : List ℕ) (place : ℕ) → place < length x → get_or x place 0 < 0x80 → StandsInFront (drop place x) (Encoding 1)
+pub octet_front : (x : List ℕ) (place : ℕ) → place < length x → get_or x place 0 < 0x80
+    → StandsInFront (drop place x) (Encoding 1)
 octet_front x place lt low =
-    (omega (arith, length-drop place x), subst IsEncoding (sym (ap (take 1) (drop-cons x place 0 lt))) (row_00_7F (omega arith, omega arith)))
+    (omega (arith, length-drop place x), subst IsEncoding (sym (ap (take 1) (drop-cons x place 0 lt)))
+        (row_00_7F (omega arith, omega arith)))
 
 -- a lane of octets below 80: each spells its character
 
@@ -95,9 +107,11 @@ pub spells_low : (x : List ℕ) → All (λ o. o < 0x80) x → Spells x (map (λ
 spells_low [] low = spells_nothing
 spells_low (a ∷ x) low =
     let first : a < 0x80 = All-head (λ o. o < 0x80) a x low in
-    spells-append (spells_one (row_00_7F {a = a} (omega arith, omega arith))) (spells_low x (All-tail (λ o. o < 0x80) a x low))
+    spells-append (spells_one (row_00_7F {a = a} (omega arith, omega arith)))
+        (spells_low x (All-tail (λ o. o < 0x80) a x low))
 
-pub lane_passed : (x : List ℕ) (place old now : ℕ) → IsInLanes x place old now → place + 16 ≤ length x → All (λ o. o < 0x80) (take 16 (drop place x)) → IsInLanes x (place + 16) old (now + 1)
+pub lane_passed : (x : List ℕ) (place old now : ℕ) → IsInLanes x place old now → place + 16 ≤ length x
+    → All (λ o. o < 0x80) (take 16 (drop place x)) → IsInLanes x (place + 16) old (now + 1)
 lane_passed x place old now l room low =
     let at = l.at in
     let in_x = at.within in
@@ -110,8 +124,10 @@ lane_passed x place old now l room low =
       at = record {
         characters = at.characters ++ next;
         within = omega arith;
-        spelled = subst (λ z. Spells z (at.characters ++ next)) (sym (take-add x place 16 in_x)) (spells-append at.spelled (spells_low lane low));
-        turns = omega (arith, length-append at.characters next, length-map lane (λ o. number_of (o ∷ [])), length-take 16 (drop place x), length-drop place x);
+        spelled = subst (λ z. Spells z (at.characters ++ next)) (sym (take-add x place 16 in_x))
+            (spells-append at.spelled (spells_low lane low));
+        turns = omega (arith, length-append at.characters next, length-map lane (λ o. number_of (o ∷ [])),
+            length-take 16 (drop place x), length-drop place x);
         few = omega arith;
         passed = omega arith;
       };
@@ -119,11 +135,14 @@ lane_passed x place old now l room low =
     }
 
 -- an encoding more where the lane isn't all below 80
-pub other_passed : (x : List ℕ) (place old now len : ℕ) → IsInLanes x place old now → StandsInFront (drop place x) (Encoding len) → ¬ All (λ o. o < 0x80) x → IsInLanes x (place + len) old (now + 1)
-other_passed x place old now len l front high = record { at = at_more x place old now len l.at front; lanes = λ all. absurd (high all) }
+pub other_passed : (x : List ℕ) (place old now len : ℕ) → IsInLanes x place old now
+    → StandsInFront (drop place x) (Encoding len) → ¬ All (λ o. o < 0x80) x → IsInLanes x (place + len) old (now + 1)
+other_passed x place old now len l front high = record { at = at_more x place old now len l.at front;
+    lanes = λ all. absurd (high all) }
 
 -- the end
-pub at_end : (x : List ℕ) (place old now : ℕ) → IsAt x place old now → length x ≤ place → IsWellFormed x × (now ≤ old + length (chars x))
+pub at_end : (x : List ℕ) (place old now : ℕ) → IsAt x place old now → length x ≤ place
+    → IsWellFormed x × (now ≤ old + length (chars x))
 at_end x place old now at past =
     let in_x = at.within in
     let turns = at.turns in
@@ -136,7 +155,8 @@ pub record IsFaultAt (x : List ℕ) (old now : ℕ) (fault : Fault) : Type 0 whe
   pub turns : now ≤ old + length (chars (take fault.place x)) + 1
   pub passed : fault_end x fault + 16 * old ≤ 16 * now
 
-pub fault_at : (x : List ℕ) (place old now : ℕ) (size : Option ℕ) → IsAt x place old now → StandsInFront (drop place x) (Bad size)
+pub fault_at : (x : List ℕ) (place old now : ℕ) (size : Option ℕ) → IsAt x place old now
+    → StandsInFront (drop place x) (Bad size)
     → IsFaultAt x old (now + 1) (record { place = place; size = size })
 fault_at x place old now size at front =
     let in_x = at.within in
@@ -145,7 +165,8 @@ fault_at x place old now size at front =
     let few = front.few in
     let y : List ℕ = drop place x in
     let n : ℕ = unwrap_or size (length y) in
-    let left : unwrap_or size (length y) ≡ unwrap_or size (length x - place) = ap (unwrap_or size) (length-drop place x) in
+    let left : unwrap_or size (length y) ≡ unwrap_or size (length x - place) =
+        ap (unwrap_or size) (length-drop place x) in
     let cut : take n y ++ drop n y ≡ y = take-append-drop n y in
     record {
       is_fault = record {
@@ -164,21 +185,25 @@ fault_at x place old now size at front =
 
 -- what is found behind a place is found in the whole
 
-pub well_formed_behind : (x : List ℕ) (place old now : ℕ) → IsAt x place old now → IsWellFormed (drop place x) → IsWellFormed x × (chars x ≡ chars (take place x) ++ chars (drop place x))
+pub well_formed_behind : (x : List ℕ) (place old now : ℕ) → IsAt x place old now → IsWellFormed (drop place x)
+    → IsWellFormed x × (chars x ≡ chars (take place x) ++ chars (drop place x))
 well_formed_behind x place old now at w =
     let before : IsWellFormed (take place x) = (at.characters, at.spelled) in
     let whole = take-append-drop place x in
     (subst IsWellFormed whole (well_formed-append _ _ before w), ap chars (sym whole) ∙ chars-append _ _ before w)
 
-pub turns_behind : (x : List ℕ) (place old mid now : ℕ) → IsAt x place old mid → IsWellFormed (drop place x) → now ≤ mid + length (chars (drop place x)) → now ≤ old + length (chars x)
+pub turns_behind : (x : List ℕ) (place old mid now : ℕ) → IsAt x place old mid → IsWellFormed (drop place x)
+    → now ≤ mid + length (chars (drop place x)) → now ≤ old + length (chars x)
 turns_behind x place old mid now at w turns =
     let first = at.turns in
     let spelled : chars x ≡ at.characters ++ chars (drop place x) =
     (well_formed_behind x place old mid at w).1 ∙ ap (λ cs. cs ++ chars (drop place x)) (chars_of at.spelled) in
     rw spelled (omega (arith, length-append at.characters (chars (drop place x))))
 
-pub fault_behind : (x : List ℕ) (place old mid now : ℕ) (fault : Fault) → IsAt x place old mid → IsFault (drop place x) fault
-    → now ≤ mid + length (chars (take fault.place (drop place x))) + 1 → fault_end (drop place x) fault + 16 * mid ≤ 16 * now
+pub fault_behind : (x : List ℕ) (place old mid now : ℕ) (fault : Fault) → IsAt x place old mid
+    → IsFault (drop place x) fault
+    → now ≤ mid + length (chars (take fault.place (drop place x))) + 1
+    → fault_end (drop place x) fault + 16 * mid ≤ 16 * now
     → IsFaultAt x old now (record { place = place + fault.place; size = fault.size })
 fault_behind x place old mid now fault at f turns passed =
     let before : IsWellFormed (take place x) = (at.characters, at.spelled) in
@@ -187,19 +212,26 @@ fault_behind x place old mid now fault at f turns passed =
     let reached = at.passed in
     let here = f.place in
     let long : length (take place x) ≡ place = length-take place x ∙ omega arith in
-    let front : take fault.place (drop place x) ≡ f.before = ap (λ k. take k (drop place x)) here ∙ ap (take (length f.before)) f.whole ∙ take-append_seam f.before (f.bad ++ f.after) in
-    let both : take (place + fault.place) x ≡ take place x ++ take fault.place (drop place x) = take-add x place fault.place in_x in
+    let front : take fault.place (drop place x) ≡ f.before =
+        ap (λ k. take k (drop place x)) here ∙ ap (take (length f.before)) f.whole
+        ∙ take-append_seam f.before (f.bad ++ f.after) in
+    let both : take (place + fault.place) x ≡ take place x ++ take fault.place (drop place x) =
+        take-add x place fault.place in_x in
     let good : IsWellFormed (take fault.place (drop place x)) = subst IsWellFormed (sym front) f.good in
     let spelled : chars (take (place + fault.place) x) ≡ at.characters ++ chars (take fault.place (drop place x)) =
-    ap chars both ∙ chars-append _ _ before good ∙ ap (λ cs. cs ++ chars (take fault.place (drop place x))) (chars_of at.spelled) in
-    let left : length x - (place + fault.place) ≡ length (drop place x) - fault.place = omega (arith, length-drop place x) in
-    let end : unwrap_or fault.size (length x - (place + fault.place)) ≡ unwrap_or fault.size (length (drop place x) - fault.place) = ap (unwrap_or fault.size) left in
+    ap chars both ∙ chars-append _ _ before good ∙ ap (λ cs. cs ++ chars (take fault.place (drop place x)))
+        (chars_of at.spelled) in
+    let left : length x - (place + fault.place) ≡ length (drop place x) - fault.place =
+        omega (arith, length-drop place x) in
+    let end : unwrap_or fault.size (length x - (place + fault.place))
+        ≡ unwrap_or fault.size (length (drop place x) - fault.place) = ap (unwrap_or fault.size) left in
     record {
       is_fault = record {
         before = take place x ++ f.before;
         bad = f.bad;
         after = f.after;
-        whole = sym (take-append-drop place x) ∙ ap (λ y. take place x ++ y) f.whole ∙ sym (append_assoc (take place x) f.before (f.bad ++ f.after));
+        whole = sym (take-append-drop place x) ∙ ap (λ y. take place x ++ y) f.whole
+            ∙ sym (append_assoc (take place x) f.before (f.bad ++ f.after));
         good = well_formed-append _ _ before f.good;
         first = f.first;
         place = omega (arith, length-append (take place x) f.before);
@@ -210,7 +242,8 @@ fault_behind x place old mid now fault at f turns passed =
     }
 
 -- the turns of octets that are all below 80
-pub ascii_turns : (x : List ℕ) (place old mid now : ℕ) → IsInLanes x place old mid → length x - 15 ≤ place → now ≤ mid + length (drop place x) → All (λ o. o < 0x80) x
+pub ascii_turns : (x : List ℕ) (place old mid now : ℕ) → IsInLanes x place old mid → length x - 15 ≤ place
+    → now ≤ mid + length (drop place x) → All (λ o. o < 0x80) x
     → now ≤ old + length x / 16 + length x % 16
 ascii_turns x place old mid now l end more low =
     let lanes = l.lanes low in
@@ -226,13 +259,16 @@ no_bad [] (d ∷ ds) p ps h = cc
 no_bad (c ∷ cs) [] p ps h = cc
 no_bad (c ∷ cs) (d ∷ ds) p ps h = no_bad cs ds p ps (cc)
 
-first_bad_same : (cs ds p q : List ℕ) (ps qs : List Part) → map Char cs ++ (BadPart p ∷ ps) ≡ map Char ds ++ (BadPart q ∷ qs) → (cs ≡ ds) × (p ≡ q)
+first_bad_same : (cs ds p q : List ℕ) (ps qs : List Part)
+    → map Char cs ++ (BadPart p ∷ ps) ≡ map Char ds ++ (BadPart q ∷ qs) → (cs ≡ ds) × (p ≡ q)
 first_bad_same [] [] p q ps qs h = (refl, cc)
 first_bad_same [] (d ∷ ds) p q ps qs h = absurd (cc)
 first_bad_same (c ∷ cs) [] p q ps qs h = absurd (cc)
-first_bad_same (c ∷ cs) (d ∷ ds) p q ps qs h = let k = first_bad_same cs ds p q ps qs (cc) in (let e : c ≡ d = cc in let f = k.0 in cc, k.1)
+first_bad_same (c ∷ cs) (d ∷ ds) p q ps qs h = let k = first_bad_same cs ds p q ps qs (cc) in
+    (let e : c ≡ d = cc in let f = k.0 in cc, k.1)
 
-fault_parts : {x : List ℕ} {fault : Fault} (f : IsFault x fault) → parts_of x ≡ map Char f.good.0 ++ (BadPart f.bad ∷ parts_of f.after)
+fault_parts : {x : List ℕ} {fault : Fault} (f : IsFault x fault)
+    → parts_of x ≡ map Char f.good.0 ++ (BadPart f.bad ∷ parts_of f.after)
 fault_parts f = ap parts_of f.whole ∙ parts_fault f.good.1 f.bad f.after f.first
 
 pub fault_refutes : {x : List ℕ} {fault : Fault} → IsFault x fault → ¬ IsWellFormed x
@@ -246,13 +282,20 @@ same_size bad after s t (inr h) (inr k) = h.0 ∙ sym k.0
 
 pub one_fault : {x : List ℕ} {fault other : Fault} → IsFault x fault → IsFault x other → fault ≡ other
 one_fault {x} {fault} {other} f g =
-    let same = first_bad_same f.good.0 g.good.0 f.bad g.bad (parts_of f.after) (parts_of g.after) (sym (fault_parts f) ∙ fault_parts g) in
-    let front : f.before ≡ g.before = sym (octets_of_spelled f.good.1) ∙ ap octets_of same.0 ∙ octets_of_spelled g.good.1 in
+    let same = first_bad_same f.good.0 g.good.0 f.bad g.bad (parts_of f.after) (parts_of g.after)
+        (sym (fault_parts f) ∙ fault_parts g) in
+    let front : f.before ≡ g.before = sym (octets_of_spelled f.good.1) ∙ ap octets_of same.0
+        ∙ octets_of_spelled g.good.1 in
     let place : fault.place ≡ other.place = f.place ∙ ap length front ∙ sym g.place in
     let behind : f.after ≡ g.after =
-    sym (drop-append_seam f.bad f.after) ∙ ap (λ y. drop (length f.bad) y) (sym (drop-append_seam f.before (f.bad ++ f.after)) ∙ ap (λ y. drop (length f.before) y) (sym f.whole ∙ g.whole)
-    ∙ ap (λ y. drop (length y) (g.before ++ (g.bad ++ g.after))) front ∙ drop-append_seam g.before (g.bad ++ g.after)) ∙ ap (λ y. drop (length y) (g.bad ++ g.after)) same.1 ∙ drop-append_seam g.bad g.after in
-    let long : IsFaultSize g.bad g.after fault.size = subst (λ y. IsFaultSize g.bad y fault.size) behind (subst (λ y. IsFaultSize y f.after fault.size) same.1 f.size) in
+    sym (drop-append_seam f.bad f.after)
+        ∙ ap (λ y. drop (length f.bad) y) (sym (drop-append_seam f.before (f.bad ++ f.after))
+        ∙ ap (λ y. drop (length f.before) y) (sym f.whole ∙ g.whole)
+    ∙ ap (λ y. drop (length y) (g.before ++ (g.bad ++ g.after))) front ∙ drop-append_seam g.before (g.bad ++ g.after))
+        ∙ ap (λ y. drop (length y) (g.bad ++ g.after)) same.1 ∙ drop-append_seam g.bad g.after in
+    let long : IsFaultSize g.bad g.after fault.size =
+        subst (λ y. IsFaultSize g.bad y fault.size) behind
+        (subst (λ y. IsFaultSize y f.after fault.size) same.1 f.size) in
     let size : fault.size ≡ other.size = same_size g.bad g.after fault.size other.size long g.size in
     λ i. record { place = place i; size = size i }
 
@@ -261,7 +304,8 @@ one_fault {x} {fault} {other} f g =
 bad_small : {octets bad : List ℕ} → IsBadPart octets bad → (1 ≤ length bad) × (length bad ≤ 3)
 bad_small {bad = bad} b =
     ⊎_elim
-    (λ l. let short = beginning_short l.0 in let width = width_le (get_or bad 0 0) in (nil_or_some bad l.0.some, omega arith))
+    (λ l. let short = beginning_short l.0 in let width = width_le (get_or bad 0 0) in
+        (nil_or_some bad l.0.some, omega arith))
     (λ one. let n = one.0 in (omega arith, omega arith))
     b.longest
 
@@ -269,7 +313,8 @@ sized : (bad after : List ℕ) (n : ℕ) → IsFaultSize bad after (Some n) → 
 sized bad after n (inl h) = absurd (let e = h.0 in cc)
 sized bad after n (inr h) = let e = h.0 in cc
 
-pub fault_small : {octets : List ℕ} {place n : ℕ} → IsFault octets (record { place = place; size = Some n }) → (1 ≤ n) × (n ≤ 3)
+pub fault_small : {octets : List ℕ} {place n : ℕ} → IsFault octets (record { place = place; size = Some n })
+    → (1 ≤ n) × (n ≤ 3)
 fault_small {n = n} f =
     let few = bad_small f.first in
     let long = sized f.bad f.after n f.size in

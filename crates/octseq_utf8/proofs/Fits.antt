@@ -1,5 +1,6 @@
 -- Octets at the front that fit an encoding.
-use Rattle.std.proofs.Common.{◌≡◌, ℕ, ◌<◌, ◌≤◌, List, ◌++◌, length, get_or, take, drop, arith, ap, sym, ◌∙◌, subst, length-append, length-take}
+use Rattle.std.proofs.Common.{◌≡◌, ℕ, ◌<◌, ◌≤◌, List, ◌++◌, length, get_or, take, drop}
+use Rattle.std.proofs.Common.{arith, ap, sym, ◌∙◌, subst, length-append, length-take}
 use Rattle.std.proofs.Math.ListN.{get_or-append}
 use Rattle.std.proofs.Math.Seq.{take-append_seam, drop-append_seam}
 use Rattle.std.proofs.lemmas.List.{take-append-drop, get_or-take}
@@ -32,7 +33,8 @@ pub width_from : {e : List ℕ} → IsEncoding e → length e ≡ width_of (get_
 width_from p = (rule_from p).width
 
 pub from_fits : (e : List ℕ) → Fits e (length e) → length e ≡ width_of (get_or e 0 0) → IsEncoding e
-from_fits e f w = from_rule e (record { some = f.some; width = w; second = f.second; third = f.third; fourth = f.fourth })
+from_fits e f w =
+    from_rule e (record { some = f.some; width = w; second = f.second; third = f.third; fourth = f.fourth })
 
 -- a fit is seen in front
 pub get_left : (p r : List ℕ) (i : ℕ) → i < length p → get_or (p ++ r) i 0 ≡ get_or p i 0
@@ -86,14 +88,18 @@ fits_fewer x j k some le f =
     }
 
 -- no encoding is a proper front of another, and where two begin the same octets they are one
-pub encodings_begin_alike : {e f : List ℕ} (r s : List ℕ) → IsEncoding e → IsEncoding f → e ++ r ≡ f ++ s → (e ≡ f) × (r ≡ s)
+pub encodings_begin_alike : {e f : List ℕ} (r s : List ℕ) → IsEncoding e → IsEncoding f → e ++ r ≡ f ++ s
+    → (e ≡ f) × (r ≡ s)
 encodings_begin_alike {e} {f} r s p q h =
     let a = length_of p in
     let b = length_of q in
-    let first : get_or e 0 0 ≡ get_or f 0 0 = sym (get_left e r 0 (omega arith)) ∙ ap (λ x. get_or x 0 0) h ∙ get_left f s 0 (omega arith) in
+    let first : get_or e 0 0 ≡ get_or f 0 0 = sym (get_left e r 0 (omega arith)) ∙ ap (λ x. get_or x 0 0) h
+        ∙ get_left f s 0 (omega arith) in
     let long : length e ≡ length f = width_from p ∙ ap width_of first ∙ sym (width_from q) in (
-      sym (take-append_seam e r) ∙ ap (λ x. take (length e) x) h ∙ ap (λ n. take n (f ++ s)) long ∙ take-append_seam f s,
-      sym (drop-append_seam e r) ∙ ap (λ x. drop (length e) x) h ∙ ap (λ n. drop n (f ++ s)) long ∙ drop-append_seam f s,
+      sym (take-append_seam e r) ∙ ap (λ x. take (length e) x) h ∙ ap (λ n. take n (f ++ s)) long
+          ∙ take-append_seam f s,
+      sym (drop-append_seam e r) ∙ ap (λ x. drop (length e) x) h ∙ ap (λ n. drop n (f ++ s)) long
+          ∙ drop-append_seam f s,
     )
 
 pub get_take : (x : List ℕ) (n i : ℕ) → i < n → get_or (take n x) i 0 ≡ get_or x i 0

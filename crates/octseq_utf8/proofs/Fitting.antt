@@ -39,30 +39,47 @@ unfolding fitting_by
 fitting_by_fourth w n s t true h = refl
 fitting_by_fourth w n s t false h = absurd (grind (arith, nat_tests))
 
-fitting_by_reaches : (w n k : ℕ) (s t u : Bool) → k ≤ n → k ≤ w → k ≤ 4 → (1 < k → s ≡ true) → (2 < k → t ≡ true) → (3 < k → u ≡ true) → k ≤ fitting_by w n s t u
+fitting_by_reaches : (w n k : ℕ) (s t u : Bool) → k ≤ n → k ≤ w → k ≤ 4 → (1 < k → s ≡ true) → (2 < k → t ≡ true)
+    → (3 < k → u ≡ true) → k ≤ fitting_by w n s t u
 unfolding fitting_by
 fitting_by_reaches w n k s t u a b c d e f = grind (arith, nat_tests)
 
 -- what is counted fits, where an encoding begins with the first octet
 pub fitting_fits : (x : List ℕ) → 1 ≤ length x → 1 ≤ width_of (get_or x 0 0) → Fits x (fitting x)
 fitting_fits x some lead = record {
-  some = fitting_by_some (width_of (get_or x 0 0)) (length x) (is_in_range (least_second (get_or x 0 0)) (greatest_second (get_or x 0 0)) (get_or x 1 0)) (is_in_range 0x80 0xBF (get_or x 2 0)) (is_in_range 0x80 0xBF (get_or x 3 0)) lead;
-  within = fitting_by_within (width_of (get_or x 0 0)) (length x) (is_in_range (least_second (get_or x 0 0)) (greatest_second (get_or x 0 0)) (get_or x 1 0)) (is_in_range 0x80 0xBF (get_or x 2 0)) (is_in_range 0x80 0xBF (get_or x 3 0)) some;
-  wide = fitting_by_wide (width_of (get_or x 0 0)) (length x) (is_in_range (least_second (get_or x 0 0)) (greatest_second (get_or x 0 0)) (get_or x 1 0)) (is_in_range 0x80 0xBF (get_or x 2 0)) (is_in_range 0x80 0xBF (get_or x 3 0));
-  second = λ h. in_range_true _ _ _ (fitting_by_second (width_of (get_or x 0 0)) (length x) _ (is_in_range 0x80 0xBF (get_or x 2 0)) (is_in_range 0x80 0xBF (get_or x 3 0)) h);
-  third = λ h. in_range_true _ _ _ (fitting_by_third (width_of (get_or x 0 0)) (length x) _ _ (is_in_range 0x80 0xBF (get_or x 3 0)) h);
+  some = fitting_by_some (width_of (get_or x 0 0)) (length x)
+      (is_in_range (least_second (get_or x 0 0)) (greatest_second (get_or x 0 0)) (get_or x 1 0))
+      (is_in_range 0x80 0xBF (get_or x 2 0)) (is_in_range 0x80 0xBF (get_or x 3 0)) lead;
+  within = fitting_by_within (width_of (get_or x 0 0)) (length x)
+      (is_in_range (least_second (get_or x 0 0)) (greatest_second (get_or x 0 0)) (get_or x 1 0))
+      (is_in_range 0x80 0xBF (get_or x 2 0)) (is_in_range 0x80 0xBF (get_or x 3 0)) some;
+  wide = fitting_by_wide (width_of (get_or x 0 0)) (length x)
+      (is_in_range (least_second (get_or x 0 0)) (greatest_second (get_or x 0 0)) (get_or x 1 0))
+      (is_in_range 0x80 0xBF (get_or x 2 0)) (is_in_range 0x80 0xBF (get_or x 3 0));
+  second = λ h. in_range_true _ _ _
+      (fitting_by_second (width_of (get_or x 0 0)) (length x) _ (is_in_range 0x80 0xBF (get_or x 2 0))
+      (is_in_range 0x80 0xBF (get_or x 3 0)) h);
+  third = λ h. in_range_true _ _ _
+      (fitting_by_third (width_of (get_or x 0 0)) (length x) _ _ (is_in_range 0x80 0xBF (get_or x 3 0)) h);
   fourth = λ h. in_range_true _ _ _ (fitting_by_fourth (width_of (get_or x 0 0)) (length x) _ _ _ h);
 }
 
 pub fitting_within : (x : List ℕ) → 1 ≤ length x → fitting x ≤ length x
-fitting_within x some = fitting_by_within (width_of (get_or x 0 0)) (length x) (is_in_range (least_second (get_or x 0 0)) (greatest_second (get_or x 0 0)) (get_or x 1 0)) (is_in_range 0x80 0xBF (get_or x 2 0)) (is_in_range 0x80 0xBF (get_or x 3 0)) some
+fitting_within x some =
+    fitting_by_within (width_of (get_or x 0 0)) (length x)
+    (is_in_range (least_second (get_or x 0 0)) (greatest_second (get_or x 0 0)) (get_or x 1 0))
+    (is_in_range 0x80 0xBF (get_or x 2 0)) (is_in_range 0x80 0xBF (get_or x 3 0)) some
 
 pub fitting_wide : (x : List ℕ) → fitting x ≤ width_of (get_or x 0 0)
-fitting_wide x = fitting_by_wide (width_of (get_or x 0 0)) (length x) (is_in_range (least_second (get_or x 0 0)) (greatest_second (get_or x 0 0)) (get_or x 1 0)) (is_in_range 0x80 0xBF (get_or x 2 0)) (is_in_range 0x80 0xBF (get_or x 3 0))
+fitting_wide x =
+    fitting_by_wide (width_of (get_or x 0 0)) (length x)
+    (is_in_range (least_second (get_or x 0 0)) (greatest_second (get_or x 0 0)) (get_or x 1 0))
+    (is_in_range 0x80 0xBF (get_or x 2 0)) (is_in_range 0x80 0xBF (get_or x 3 0))
 
 -- and no more fits
 pub fits_fitting : (x : List ℕ) (k : ℕ) → Fits x k → k ≤ fitting x
 fits_fitting x k f =
     let w = f.wide in
     fitting_by_reaches (width_of (get_or x 0 0)) (length x) k _ _ _ f.within w (omega (arith, width_le (get_or x 0 0)))
-    (λ h. true_in_range _ _ _ (f.second h)) (λ h. true_in_range _ _ _ (f.third h)) (λ h. true_in_range _ _ _ (f.fourth h))
+    (λ h. true_in_range _ _ _ (f.second h)) (λ h. true_in_range _ _ _ (f.third h))
+        (λ h. true_in_range _ _ _ (f.fourth h))

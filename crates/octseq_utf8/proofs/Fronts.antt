@@ -1,5 +1,6 @@
 -- What stands at the front of octets, by how many fit.
-use Rattle.std.proofs.Common.{◌≡◌, ◌≢◌, ℕ, zero, suc, ◌-◌, ◌<◌, ◌≤◌, ◌⊎◌, ⊎_elim, false, List, length, get_or, take, drop, refl, arith, inl, inr, ap, sym, ◌∙◌, subst, length-take, length-drop, Some, None}
+use Rattle.std.proofs.Common.{◌≡◌, ◌≢◌, ℕ, zero, suc, ◌-◌, ◌<◌, ◌≤◌, ◌⊎◌, ⊎_elim, false, List, length, get_or, take}
+use Rattle.std.proofs.Common.{drop, refl, arith, inl, inr, ap, sym, ◌∙◌, subst, length-take, length-drop, Some, None}
 use Rattle.std.proofs.lemmas.List.{take-append-drop, drop_all}
 use Rattle.std.proofs.lemmas.Bool.Decides.{nat_tests}
 use Rattle.std.specs.Int.{IsInRange, is_in_range}
@@ -13,7 +14,8 @@ use Rattle.octseq_utf8.proofs.Rows.{width_le}
 use Rattle.octseq_utf8.proofs.Splitting.{whole_encoding, bad_of, beginning_fitting, fitting_beginning}
 
 -- all of the width fits
-pub front_encoding : (x : List ℕ) → 0 < length x → width x ≢ 0 → fitting x ≡ width x → StandsInFront x (Encoding (width x))
+pub front_encoding : (x : List ℕ) → 0 < length x → width x ≢ 0 → fitting x ≡ width x
+    → StandsInFront x (Encoding (width x))
 front_encoding x some lead same =
     let within = fitting_within x some in
     let n : part_len x ≡ width x = omega arith in
@@ -29,11 +31,13 @@ front_lead x some none =
       within = some;
       few = omega arith;
       bad = subst (λ k. IsBadPart x (take k x)) one (bad_of x some (inl none));
-      size = inr (ap Some (sym long), λ b. let k = (beginning_fitting x (take 1 x) (drop 1 x, sym (take-append-drop 1 x)) b.0).1 in omega arith);
+      size = inr (ap Some (sym long),
+          λ b. let k = (beginning_fitting x (take 1 x) (drop 1 x, sym (take-append-drop 1 x)) b.0).1 in omega arith);
     }
 
 -- the octets end within an encoding
-pub front_cut : (x : List ℕ) → 0 < length x → width x ≢ 0 → fitting x ≢ width x → fitting x ≡ length x → StandsInFront x (Bad None)
+pub front_cut : (x : List ℕ) → 0 < length x → width x ≢ 0 → fitting x ≢ width x → fitting x ≡ length x
+    → StandsInFront x (Bad None)
 front_cut x some lead short whole =
     let wide = fitting_wide x in
     let n : part_len x ≡ length x = omega arith in
@@ -41,11 +45,13 @@ front_cut x some lead short whole =
       within = omega arith;
       few = omega (arith, width_le (get_or x 0 0));
       bad = subst (λ k. IsBadPart x (take k x)) n (bad_of x some (inr (omega arith)));
-      size = inl (refl, subst (λ k. IsBeginning (take k x)) whole (fitting_beginning x some (omega arith) (omega arith)), drop_all (length x) x (omega arith));
+      size = inl (refl, subst (λ k. IsBeginning (take k x)) whole
+          (fitting_beginning x some (omega arith) (omega arith)), drop_all (length x) x (omega arith));
     }
 
 -- an octet stands where the encoding wants another
-pub front_other : (x : List ℕ) → 0 < length x → width x ≢ 0 → fitting x ≢ width x → fitting x ≢ length x → StandsInFront x (Bad (Some (fitting x)))
+pub front_other : (x : List ℕ) → 0 < length x → width x ≢ 0 → fitting x ≢ width x → fitting x ≢ length x
+    → StandsInFront x (Bad (Some (fitting x)))
 front_other x some lead short more =
     let wide = fitting_wide x in
     let within = fitting_within x some in
@@ -56,7 +62,8 @@ front_other x some lead short more =
       within = within;
       few = omega (arith, width_le (get_or x 0 0));
       bad = subst (λ k. IsBadPart x (take k x)) n (bad_of x some (inr (omega arith)));
-      size = inr (ap Some (sym long), λ b. let none : length x - fitting x ≡ 0 = sym (length-drop (fitting x) x) ∙ ap length b.1 in absurd (more (omega arith)));
+      size = inr (ap Some (sym long), λ b. let none : length x - fitting x ≡ 0 = sym (length-drop (fitting x) x)
+          ∙ ap length b.1 in absurd (more (omega arith)));
     }
 
 -- no octet of 80 or more is a character by itself
@@ -79,11 +86,14 @@ fitting_one : (x : List ℕ) → 1 ≤ length x → 1 ≤ width x → is_in_rang
 fitting_one x some lead second =
     let f = fitting_fits x some lead in
     let least = f.some in
-    ⊎_elim (λ few. omega arith) (λ more. absurd (let r = second_range (get_or x 0 0) (get_or x 1 0) (f.second more) in let l = r.0 in let g = r.1 in grind (arith, nat_tests))) (few_or_more (fitting x))
+    ⊎_elim (λ few. omega arith) (λ more. absurd (let r = second_range (get_or x 0 0) (get_or x 1 0) (f.second more) in
+        let l = r.0 in let g = r.1 in grind (arith, nat_tests))) (few_or_more (fitting x))
 
 -- and the first octet, of 80 or more, is the bad part
-pub front_second : (x : List ℕ) → 1 < length x → 0x80 ≤ get_or x 0 0 → is_in_range 0x80 0xBF (get_or x 1 0) ≡ false → StandsInFront x (Bad (Some 1))
-front_second x more high second = ⊎_elim (λ none. front_lead x (omega arith) none) (λ lead. some lead) (zero_or_more (width x))
+pub front_second : (x : List ℕ) → 1 < length x → 0x80 ≤ get_or x 0 0 → is_in_range 0x80 0xBF (get_or x 1 0) ≡ false
+    → StandsInFront x (Bad (Some 1))
+front_second x more high second =
+    ⊎_elim (λ none. front_lead x (omega arith) none) (λ lead. some lead) (zero_or_more (width x))
   where
     zero_or_more : (n : ℕ) → (n ≡ 0) ⊎ (1 ≤ n)
     zero_or_more zero = inl refl
@@ -93,4 +103,5 @@ front_second x more high second = ⊎_elim (λ none. front_lead x (omega arith) 
     some lead =
         let one = fitting_one x (omega arith) lead second in
         subst (λ k. IsBadFront x (Some k) k) one
-        (front_other x (omega arith) (λ h. omega arith) (λ h. width_high (get_or x 0 0) high (sym h ∙ one)) (λ h. omega arith))
+        (front_other x (omega arith) (λ h. omega arith) (λ h. width_high (get_or x 0 0) high (sym h ∙ one))
+            (λ h. omega arith))

@@ -1,7 +1,11 @@
--- Four octets in a word, the first one lowest. A mask of the word is a mask of each octet, and an octet's mask tells its range; what the
--- code tests of the word so puts each octet in the range that a row of the table gives it. Only this direction is needed: what no mask
+-- Four octets in a word, the first one lowest. A mask of the word is a mask of each octet, and an octet's mask tells
+-- its range; what the
+-- code tests of the word so puts each octet in the range that a row of the table gives it. Only this direction is
+-- needed: what no mask
 -- accepts is looked at octet by octet.
-use Rattle.std.proofs.Common.{◌≡◌, ◌≢◌, ℕ, zero, suc, ◌+◌, ◌*◌, ◌/◌, ◌%◌, ◌-◌, ◌<◌, ◌≤◌, ◌⊎◌, inl, inr, List, [], ◌∷◌, ap, ◌∙◌, arith, bit_and, bit_or, take, drop, length, get_or, take_all, length-take, length-drop, Fits, w8}
+use Rattle.std.proofs.Common.{◌≡◌, ◌≢◌, ℕ, zero, suc, ◌+◌, ◌*◌, ◌/◌, ◌%◌, ◌-◌, ◌<◌, ◌≤◌, ◌⊎◌}
+use Rattle.std.proofs.Common.{inl, inr, List, [], ◌∷◌, ap, ◌∙◌, arith, bit_and, bit_or, take}
+use Rattle.std.proofs.Common.{drop, length, get_or, take_all, length-take, length-drop, Fits, w8}
 use Rattle.std.specs.Int.{IsInRange, w32, to_le_bytes, from_le_bytes}
 use lib.Lanes.{Each1}
 use Rattle.std.proofs.lemmas.Simd.{chunk-fits}
@@ -9,10 +13,12 @@ use Rattle.std.proofs.lemmas.Nat.{and_block, and_mask, or_shifted, le_bytes_4}
 use Rattle.std.proofs.lemmas.Nat.Bits.{and_high}
 use Rattle.std.specs.Int.Bits.{and_zero_r}
 use Rattle.std.proofs.lemmas.Bool.{cases_eq, cases_lt}
-use Rattle.octseq_utf8.specs.Encoding.{IsEncoding, row_C2_DF, row_E0, row_E1_EC, row_ED, row_EE_EF, row_F0, row_F1_F3, row_F4}
+use Rattle.octseq_utf8.specs.Encoding.{IsEncoding, row_C2_DF, row_E0, row_E1_EC}
+use Rattle.octseq_utf8.specs.Encoding.{row_ED, row_EE_EF, row_F0, row_F1_F3, row_F4}
 
 -- a mask of a number is one of its lowest octet and one of the rest
-and_2 : (w x a m n : ℕ) → w ≡ x * 256 + a → a < 256 → m < 256 → bit_and w (n * 256 + m) ≡ bit_and x n * 256 + bit_and a m
+and_2 : (w x a m n : ℕ) → w ≡ x * 256 + a → a < 256 → m < 256
+    → bit_and w (n * 256 + m) ≡ bit_and x n * 256 + bit_and a m
 and_2 w x a m n e ha hm = ap (λ v. bit_and v (n * 256 + m)) e ∙ and_block 8 x n a m ha hm
 
 -- the bits of an octet that say its width, or that it is a continuation
@@ -32,7 +38,8 @@ low_4 : (b : ℕ) → bit_and b 0x0F ≡ b % 16
 low_4 b = and_mask b 4
 
 -- two octets: C2..DF and 80..BF, as one range of the masked word
-pub two : (w a b : ℕ) → a ≡ w % 256 → b ≡ w / 256 % 256 → 0x80C2 ≤ bit_and w 0xC0FF → bit_and w 0xC0FF ≤ 0x80DF → IsEncoding (a ∷ b ∷ [])
+pub two : (w a b : ℕ) → a ≡ w % 256 → b ≡ w / 256 % 256 → 0x80C2 ≤ bit_and w 0xC0FF → bit_and w 0xC0FF ≤ 0x80DF
+    → IsEncoding (a ∷ b ∷ [])
 two w a b ea eb low high =
     let ha : a < 256 = omega arith in
     let hb : b < 256 = omega arith in
@@ -46,7 +53,8 @@ two w a b ea eb low high =
     row_C2_DF (omega arith, omega arith) (omega arith, omega arith)
 
 -- the rows of three octets, whose second octet's range depends on E0 and ED
-row_three : (a b c : ℕ) → IsInRange 0xE0 0xEF a → IsInRange 0x80 0xBF b → IsInRange 0x80 0xBF c → (a ≡ 0xE0 → 0xA0 ≤ b) → (a ≡ 0xED → b ≤ 0x9F) → IsEncoding (a ∷ b ∷ c ∷ [])
+row_three : (a b c : ℕ) → IsInRange 0xE0 0xEF a → IsInRange 0x80 0xBF b → IsInRange 0x80 0xBF c → (a ≡ 0xE0 → 0xA0 ≤ b)
+    → (a ≡ 0xED → b ≤ 0x9F) → IsEncoding (a ∷ b ∷ c ∷ [])
 row_three a b c ra rb rc e0 ed = go (cases_eq a 0xE0) (cases_eq a 0xED) (cases_lt a 0xED)
   where
     go : (a ≡ 0xE0) ⊎ (a ≢ 0xE0) → (a ≡ 0xED) ⊎ (a ≢ 0xED) → (a < 0xED) ⊎ (0xED ≤ a) → IsEncoding (a ∷ b ∷ c ∷ [])
@@ -55,8 +63,10 @@ row_three a b c ra rb rc e0 ed = go (cases_eq a 0xE0) (cases_eq a 0xED) (cases_l
     go (inr h) (inr k) (inl l) = row_E1_EC (omega arith, omega arith) rb rc
     go (inr h) (inr k) (inr l) = row_EE_EF (omega arith, omega arith) rb rc
 
--- three octets: the masked word is that of the row, and the bits that E0 and ED look at are neither all 0 nor those of a surrogate
-pub three : (w a b c : ℕ) → a ≡ w % 256 → b ≡ w / 256 % 256 → c ≡ w / 65536 % 256 → bit_and w 0xC0C0F0 ≡ 0x8080E0 → bit_and w 0x200F ≢ 0 → bit_and w 0x200F ≢ 0x200D → IsEncoding (a ∷ b ∷ c ∷ [])
+-- three octets: the masked word is that of the row, and the bits that E0 and ED look at are neither all 0 nor those of
+-- a surrogate
+pub three : (w a b c : ℕ) → a ≡ w % 256 → b ≡ w / 256 % 256 → c ≡ w / 65536 % 256 → bit_and w 0xC0C0F0 ≡ 0x8080E0
+    → bit_and w 0x200F ≢ 0 → bit_and w 0x200F ≢ 0x200D → IsEncoding (a ∷ b ∷ c ∷ [])
 three w a b c ea eb ec h k l =
     let ha : a < 256 = omega arith in
     let hb : b < 256 = omega arith in
@@ -76,10 +86,12 @@ three w a b c ea eb ec h k l =
     let tc = top_2 c hc in
     let la = low_4 a in
     let fb = fifth b in
-    row_three a b c (omega arith, omega arith) (omega arith, omega arith) (omega arith, omega arith) (λ q. omega arith) (λ q. omega arith)
+    row_three a b c (omega arith, omega arith) (omega arith, omega arith) (omega arith, omega arith) (λ q. omega arith)
+        (λ q. omega arith)
 
 -- the rows of four octets, whose second octet's range depends on F0 and F4
-row_four : (a b c d : ℕ) → IsInRange 0xF0 0xF4 a → IsInRange 0x80 0xBF b → IsInRange 0x80 0xBF c → IsInRange 0x80 0xBF d → (a ≡ 0xF0 → 0x90 ≤ b) → (a ≡ 0xF4 → b ≤ 0x8F) → IsEncoding (a ∷ b ∷ c ∷ d ∷ [])
+row_four : (a b c d : ℕ) → IsInRange 0xF0 0xF4 a → IsInRange 0x80 0xBF b → IsInRange 0x80 0xBF c → IsInRange 0x80 0xBF d
+    → (a ≡ 0xF0 → 0x90 ≤ b) → (a ≡ 0xF4 → b ≤ 0x8F) → IsEncoding (a ∷ b ∷ c ∷ d ∷ [])
 row_four a b c d ra rb rc rd f0 f4 = go (cases_eq a 0xF0) (cases_eq a 0xF4)
   where
     go : (a ≡ 0xF0) ⊎ (a ≢ 0xF0) → (a ≡ 0xF4) ⊎ (a ≢ 0xF4) → IsEncoding (a ∷ b ∷ c ∷ d ∷ [])
@@ -92,13 +104,17 @@ high_is : (w : ℕ) → bit_or (bit_and w 7 * 256 % 4294967296) (bit_and (w / 25
 high_is w =
     let e : bit_and w 7 ≡ w % 8 = and_mask w 3 in
     let f : bit_and (w / 256) 63 ≡ w / 256 % 64 = and_mask (w / 256) 6 in
-    ap (λ k. bit_or k (bit_and (w / 256) 63)) (let g : bit_and w 7 * 256 % 4294967296 ≡ (w % 8) * 256 = omega arith in g)
+    ap (λ k. bit_or k (bit_and (w / 256) 63)) (let g : bit_and w 7 * 256 % 4294967296 ≡ (w % 8) * 256 = omega arith in
+        g)
     ∙ ap (λ k. bit_or ((w % 8) * 256) k) f ∙ or_shifted (w % 8) 8 (w / 256 % 64) (omega arith)
 
--- four octets: the masked word is that of the row, and the bits of the first two octets are a number from 0x10 to 0x40F, that is a character from
+-- four octets: the masked word is that of the row, and the bits of the first two octets are a number from 0x10 to
+-- 0x40F, that is a character from
 -- U+10000 to U+10FFFF
-pub four : (w a b c d : ℕ) → a ≡ w % 256 → b ≡ w / 256 % 256 → c ≡ w / 65536 % 256 → d ≡ w / 16777216 % 256 → bit_and w 0xC0C0C0F8 ≡ 0x808080F0
-    → (bit_or (bit_and w 7 * 256 % 4294967296) (bit_and (w / 256) 63) + 4294967280) % 4294967296 < 1024 → IsEncoding (a ∷ b ∷ c ∷ d ∷ [])
+pub four : (w a b c d : ℕ) → a ≡ w % 256 → b ≡ w / 256 % 256 → c ≡ w / 65536 % 256 → d ≡ w / 16777216 % 256
+    → bit_and w 0xC0C0C0F8 ≡ 0x808080F0
+    → (bit_or (bit_and w 7 * 256 % 4294967296) (bit_and (w / 256) 63) + 4294967280) % 4294967296 < 1024
+    → IsEncoding (a ∷ b ∷ c ∷ d ∷ [])
 four w a b c d ea eb ec ed h k =
     let ha : a < 256 = omega arith in
     let hb : b < 256 = omega arith in
@@ -123,9 +139,11 @@ four w a b c d ea eb ec ed h k =
     let rd : (0x80 ≤ d) × (d ≤ 0xBF) = (omega arith, omega arith) in
     four_high w a b c d ea eb ra rb rc rd (high_is w) k
   where
-    four_high : (w a b c d : ℕ) → a ≡ w % 256 → b ≡ w / 256 % 256 → IsInRange 0xF0 0xF7 a → IsInRange 0x80 0xBF b → IsInRange 0x80 0xBF c → IsInRange 0x80 0xBF d
+    four_high : (w a b c d : ℕ) → a ≡ w % 256 → b ≡ w / 256 % 256 → IsInRange 0xF0 0xF7 a → IsInRange 0x80 0xBF b
+        → IsInRange 0x80 0xBF c → IsInRange 0x80 0xBF d
         → bit_or (bit_and w 7 * 256 % 4294967296) (bit_and (w / 256) 63) ≡ (w % 8) * 256 + w / 256 % 64
-        → (bit_or (bit_and w 7 * 256 % 4294967296) (bit_and (w / 256) 63) + 4294967280) % 4294967296 < 1024 → IsEncoding (a ∷ b ∷ c ∷ d ∷ [])
+        → (bit_or (bit_and w 7 * 256 % 4294967296) (bit_and (w / 256) 63) + 4294967280) % 4294967296 < 1024
+        → IsEncoding (a ∷ b ∷ c ∷ d ∷ [])
     four_high w a b c d ea eb ra rb rc rd e k =
         let va : w % 8 + 0xF0 ≡ a = omega arith in
         let vb : w / 256 % 64 + 0x80 ≡ b = omega arith in
@@ -134,11 +152,15 @@ four w a b c d ea eb ec ed h k =
         row_four a b c d (omega arith, omega arith) rb rc rd (λ q. omega arith) (λ q. omega arith)
 
 -- the octets of a word that was loaded
-pub loaded : (x four : List ℕ) (i n : ℕ) → i + 4 ≤ length x → ((k : ℕ) → Fits w8 (get_or x k 0)) → four ≡ take 4 (take (i + 4 - i) (drop i x)) → n ≡ from_le_bytes w32 four → to_le_bytes w32 n ≡ take 4 (drop i x)
+pub loaded : (x four : List ℕ) (i n : ℕ) → i + 4 ≤ length x → ((k : ℕ) → Fits w8 (get_or x k 0))
+    → four ≡ take 4 (take (i + 4 - i) (drop i x)) → n ≡ from_le_bytes w32 four → to_le_bytes w32 n ≡ take 4 (drop i x)
 loaded x four i n room fits e h =
-    let same : four ≡ take 4 (drop i x) = e ∙ take_all 4 (take (i + 4 - i) (drop i x)) (omega (arith, length-take (i + 4 - i) (drop i x))) ∙ ap (λ k. take k (drop i x)) (let q : i + 4 - i ≡ 4 = omega arith in q) in
+    let same : four ≡ take 4 (drop i x) =
+        e ∙ take_all 4 (take (i + 4 - i) (drop i x)) (omega (arith, length-take (i + 4 - i) (drop i x)))
+        ∙ ap (λ k. take k (drop i x)) (let q : i + 4 - i ≡ 4 = omega arith in q) in
     let long : length (take 4 (drop i x)) ≡ 4 = length-take 4 (drop i x) ∙ omega (arith, length-drop i x) in
-    le_bytes_4 (take 4 (drop i x)) n long (below_of (take 4 (drop i x)) (chunk-fits w8 i 4 x fits)) (h ∙ ap (from_le_bytes w32) same)
+    le_bytes_4 (take 4 (drop i x)) n long (below_of (take 4 (drop i x)) (chunk-fits w8 i 4 x fits))
+        (h ∙ ap (from_le_bytes w32) same)
   where
     below_of : (ys : List ℕ) → Each1 (Fits w8) ys → (k : ℕ) → get_or ys k 0 < 256
     below_of [] f k = omega arith

@@ -1,7 +1,10 @@
--- How many turns the lanes take where some octets aren't ASCII. An octet below 80 is passed alone only where one that isn't follows among the
+-- How many turns the lanes take where some octets aren't ASCII. An octet below 80 is passed alone only where one that
+-- isn't follows among the
 -- next fifteen; so what these turns cost is reserved at each place, by how many octets from there on are below 80.
 use Rattle.std.specs.Prelude.{count_by}
-use Rattle.std.proofs.Common.{◌≡◌, ◌≢◌, ◌%◌, ◌↔◌, ℕ, zero, suc, ◌+◌, ◌-◌, ◌*◌, ◌/◌, ◌<◌, ◌≤◌, ◌⊎◌, inl, inr, ⊎_elim, Bool, true, false, cond, leb, ltb, List, [], ◌∷◌, ◌++◌, length, take, drop, get_or, refl, arith, ap, sym, ◌∙◌, subst, length-append, length-take, length-drop}
+use Rattle.std.proofs.Common.{◌≡◌, ◌≢◌, ◌%◌, ◌↔◌, ℕ, zero, suc, ◌+◌, ◌-◌, ◌*◌, ◌/◌, ◌<◌, ◌≤◌, ◌⊎◌, inl, inr}
+use Rattle.std.proofs.Common.{⊎_elim, Bool, true, false, cond, leb, ltb, List, [], ◌∷◌, ◌++◌, length, take, drop}
+use Rattle.std.proofs.Common.{get_or, refl, arith, ap, sym, ◌∙◌, subst, length-append, length-take, length-drop}
 use Rattle.std.proofs.lemmas.Bool.{le-leb, lt-leb}
 use Rattle.std.proofs.lemmas.Bool.Decides.{nat_tests}
 use Rattle.std.proofs.lemmas.List.{append-nil, take-append-drop, length-map}
@@ -9,7 +12,8 @@ use Rattle.std.proofs.lemmas.List.Elements.{All-nil, All-cons, All-head, All-tai
 use Rattle.std.proofs.lemmas.List.Sums.{sum_by-append, sum_by-cons, count_by-le-length}
 use Rattle.std.proofs.Math.Seq.{drop-cons, take-append_seam}
 use Rattle.std.specs.List.{All, concat, AllByRecursion}
-use Rattle.octseq_utf8.specs.Encoding.{IsEncoding, row_00_7F, row_C2_DF, row_E0, row_E1_EC, row_ED, row_EE_EF, row_F0, row_F1_F3, row_F4, number_of}
+use Rattle.octseq_utf8.specs.Encoding.{IsEncoding, row_00_7F, row_C2_DF, row_E0, row_E1_EC}
+use Rattle.octseq_utf8.specs.Encoding.{row_ED, row_EE_EF, row_F0, row_F1_F3, row_F4, number_of}
 use Rattle.octseq_utf8.specs.Fault.{Fault, IsFault}
 use Rattle.octseq_utf8.specs.Front.{StandsInFront}
 use Rattle.octseq_utf8.specs.Text.{Spells, IsWellFormed, chars}
@@ -28,10 +32,12 @@ high-append : (x y : List ℕ) → high_count (x ++ y) ≡ high_count x + high_c
 high-append x y = sum_by-append (λ o. cond (leb 0x80 o) 1 0) x y
 
 high-cons_high : (a : ℕ) (y : List ℕ) → 0x80 ≤ a → high_count (a ∷ y) ≡ 1 + high_count y
-high-cons_high a y h = sum_by-cons (λ o. cond (leb 0x80 o) 1 0) a y ∙ ap (λ b. cond b 1 0 + high_count y) (le-leb 0x80 a h)
+high-cons_high a y h = sum_by-cons (λ o. cond (leb 0x80 o) 1 0) a y ∙ ap (λ b. cond b 1 0 + high_count y)
+    (le-leb 0x80 a h)
 
 high-cons_low : (a : ℕ) (y : List ℕ) → a < 0x80 → high_count (a ∷ y) ≡ high_count y
-high-cons_low a y h = sum_by-cons (λ o. cond (leb 0x80 o) 1 0) a y ∙ ap (λ b. cond b 1 0 + high_count y) (lt-leb 0x80 a h) ∙ omega arith
+high-cons_low a y h = sum_by-cons (λ o. cond (leb 0x80 o) 1 0) a y ∙ ap (λ b. cond b 1 0 + high_count y)
+    (lt-leb 0x80 a h) ∙ omega arith
 
 two_high : (a b : ℕ) (y : List ℕ) → 0x80 ≤ a → 0x80 ≤ b → 2 ≤ high_count (a ∷ b ∷ y)
 two_high a b y h k = omega (arith, high-cons_high a (b ∷ y) h, high-cons_high b y k)
@@ -50,20 +56,24 @@ encoding_high (row_F4 {a} {b} {c} {d} p q r s) = inr (two_high a b (c ∷ d ∷ 
 
 -- so it is with well-formed octets, which have no more characters than octets
 
-encodings_high : (es : List (List ℕ)) → AllByRecursion IsEncoding es → (high_count (concat es) ≡ 0) ⊎ (2 ≤ high_count (concat es))
+encodings_high : (es : List (List ℕ)) → AllByRecursion IsEncoding es
+    → (high_count (concat es) ≡ 0) ⊎ (2 ≤ high_count (concat es))
 encodings_high [] h = inl refl
 encodings_high (e ∷ es) h =
     ⊎_elim
-    (λ none. ⊎_elim (λ others. inl (omega (arith, high-append e (concat es)))) (λ others. inr (omega (arith, high-append e (concat es)))) (encodings_high es h.1))
+    (λ none. ⊎_elim (λ others. inl (omega (arith, high-append e (concat es))))
+        (λ others. inr (omega (arith, high-append e (concat es)))) (encodings_high es h.1))
     (λ two. inr (omega (arith, high-append e (concat es))))
     (encoding_high h.0)
 
 encodings_few : (es : List (List ℕ)) → AllByRecursion IsEncoding es → length es ≤ length (concat es)
 encodings_few [] h = omega arith
-encodings_few (e ∷ es) h = let some = length_of h.0 in let few = encodings_few es h.1 in omega (arith, length-append e (concat es))
+encodings_few (e ∷ es) h = let some = length_of h.0 in let few = encodings_few es h.1 in
+    omega (arith, length-append e (concat es))
 
 spelled_high : {x cs : List ℕ} → Spells x cs → (high_count x ≡ 0) ⊎ (2 ≤ high_count x)
-spelled_high {x} {cs} s = subst (λ y. (high_count y ≡ 0) ⊎ (2 ≤ high_count y)) s.joined (encodings_high s.encodings s.each)
+spelled_high {x} {cs} s =
+    subst (λ y. (high_count y ≡ 0) ⊎ (2 ≤ high_count y)) s.joined (encodings_high s.encodings s.each)
 
 pub spelled_few : {x cs : List ℕ} → Spells x cs → length cs ≤ length x
 spelled_few {x} {cs} s =
@@ -104,11 +114,13 @@ low_or_high a = by (ltb a 0x80) refl
 run_short : (k : ℕ) (y : List ℕ) → ¬ All (λ o. o < 0x80) (take (suc k) y) → low_run (suc k) y ≡ low_run k y
 unfolding low_run
 run_short zero [] n = refl
-run_short zero (a ∷ y) n = ⊎_elim (λ h. absurd (n (All-cons (λ o. o < 0x80) a [] h (All-nil (λ o. o < 0x80))))) (λ h. run-high zero a y h) (low_or_high a)
+run_short zero (a ∷ y) n = ⊎_elim (λ h. absurd (n (All-cons (λ o. o < 0x80) a [] h (All-nil (λ o. o < 0x80)))))
+    (λ h. run-high zero a y h) (low_or_high a)
 run_short (suc k) [] n = refl
 run_short (suc k) (a ∷ y) n =
     ⊎_elim
-    (λ h. run-low (suc k) a y h ∙ ap suc (run_short k y (λ all. n (All-cons (λ o. o < 0x80) a (take (suc k) y) h all))) ∙ sym (run-low k a y h))
+    (λ h. run-low (suc k) a y h ∙ ap suc (run_short k y (λ all. n (All-cons (λ o. o < 0x80) a (take (suc k) y) h all)))
+        ∙ sym (run-low k a y h))
     (λ h. run-high (suc k) a y h ∙ sym (run-high k a y h))
     (low_or_high a)
 
@@ -126,11 +138,13 @@ run_front k [] y none room = omega arith
 run_front zero (a ∷ x) y none room = absurd (omega arith)
 run_front (suc k) (a ∷ x) y none room =
     ⊎_elim
-    (λ h. let rest = run_front k x y (sym (high-cons_low a x h) ∙ none) (omega arith) in omega (arith, run-low k a (x ++ y) h))
+    (λ h. let rest = run_front k x y (sym (high-cons_low a x h) ∙ none) (omega arith) in
+        omega (arith, run-low k a (x ++ y) h))
     (λ h. absurd (omega (arith, high-cons_high a x h)))
     (low_or_high a)
 
--- The finder is at a place in the lanes: for each octet of 80 or more before it there were eight turns at most, beside one for sixteen octets;
+-- The finder is at a place in the lanes: for each octet of 80 or more before it there were eight turns at most, beside
+-- one for sixteen octets;
 -- and fifteen turns less one for each octet below 80 from there on are left.
 pub record IsMixed (x : List ℕ) (place old now : ℕ) : Type 0 where
   pub reserved : 16 * now + 15 * low_run 15 (drop place x) ≤ 16 * old + place + 120 * high_count (take place x) + 225
@@ -141,13 +155,16 @@ mixed_start x t = record { reserved = omega (arith, run_le 15 x) }
 -- behind fewer than sixteen octets that took a turn each, where one of 80 or more stands
 pub mixed_skipped : (x : List ℕ) (n t : ℕ) → n < 16 → n < length x → 0x80 ≤ get_or x n 0 → IsMixed x n t (t + n)
 mixed_skipped x n t few room high =
-    let none : low_run 15 (drop n x) ≡ 0 = ap (low_run 15) (drop-cons x n 0 room) ∙ run-high 14 (get_or x n 0) (drop (suc n) x) high in
+    let none : low_run 15 (drop n x) ≡ 0 = ap (low_run 15) (drop-cons x n 0 room)
+        ∙ run-high 14 (get_or x n 0) (drop (suc n) x) high in
     record { reserved = omega arith }
 
-high_add : (x : List ℕ) (place n : ℕ) → place ≤ length x → high_count (take (place + n) x) ≡ high_count (take place x) + high_count (take n (drop place x))
+high_add : (x : List ℕ) (place n : ℕ) → place ≤ length x
+    → high_count (take (place + n) x) ≡ high_count (take place x) + high_count (take n (drop place x))
 high_add x place n h = ap high_count (take-add x place n h) ∙ high-append (take place x) (take n (drop place x))
 
-pub mixed_lane : (x : List ℕ) (place old now : ℕ) → IsMixed x place old now → place + 16 ≤ length x → All (λ o. o < 0x80) (take 16 (drop place x)) → IsMixed x (place + 16) old (now + 1)
+pub mixed_lane : (x : List ℕ) (place old now : ℕ) → IsMixed x place old now → place + 16 ≤ length x
+    → All (λ o. o < 0x80) (take 16 (drop place x)) → IsMixed x (place + 16) old (now + 1)
 mixed_lane x place old now m room low =
     let before = m.reserved in
     let high = high_add x place 16 (omega arith) in
@@ -156,7 +173,8 @@ mixed_lane x place old now m room low =
     record { reserved = omega arith }
 
 -- an octet below 80, where another of the lane is not
-pub mixed_low : (x : List ℕ) (place old now : ℕ) → IsMixed x place old now → place < length x → get_or x place 0 < 0x80 → ¬ All (λ o. o < 0x80) (take 16 (drop place x)) → IsMixed x (place + 1) old (now + 1)
+pub mixed_low : (x : List ℕ) (place old now : ℕ) → IsMixed x place old now → place < length x → get_or x place 0 < 0x80
+    → ¬ All (λ o. o < 0x80) (take 16 (drop place x)) → IsMixed x (place + 1) old (now + 1)
 mixed_low x place old now m room low some =
     let before = m.reserved in
     let high = high_add x place 1 (omega arith) in
@@ -166,11 +184,13 @@ mixed_low x place old now m room low some =
     let at : drop place x ≡ a ∷ y = drop-cons x place 0 room ∙ ap (λ k. a ∷ drop k x) next in
     let one : low_run 15 (drop place x) ≡ suc (low_run 14 y) = ap (low_run 15) at ∙ run-low 14 a y low in
     let same : low_run 15 y ≡ low_run 14 y =
-    run_short 14 y (λ all. some (subst (λ z. All (λ o. o < 0x80) (take 16 z)) (sym at) (All-cons (λ o. o < 0x80) a (take 15 y) low all))) in
+    run_short 14 y (λ all. some
+        (subst (λ z. All (λ o. o < 0x80) (take 16 z)) (sym at) (All-cons (λ o. o < 0x80) a (take 15 y) low all))) in
     record { reserved = omega arith }
 
 -- an encoding whose first octet is 80 or more
-pub mixed_high : (x : List ℕ) (place old now len : ℕ) → IsMixed x place old now → place < length x → 0x80 ≤ get_or x place 0 → StandsInFront (drop place x) (Encoding len) → IsMixed x (place + len) old (now + 1)
+pub mixed_high : (x : List ℕ) (place old now len : ℕ) → IsMixed x place old now → place < length x
+    → 0x80 ≤ get_or x place 0 → StandsInFront (drop place x) (Encoding len) → IsMixed x (place + len) old (now + 1)
 mixed_high x place old now len m room first (within, e) =
     let before = m.reserved in
     let high = high_add x place len (omega arith) in
@@ -199,12 +219,15 @@ high_cut : (x : List ℕ) (place : ℕ) → high_count x ≡ high_count (take pl
 high_cut x place = ap high_count (sym (take-append-drop place x)) ∙ high-append (take place x) (drop place x)
 
 -- at a fault in the lanes
-pub mixed_fault : (x : List ℕ) (place old now : ℕ) → IsMixed x place old now → place + 16 ≤ length x → FewTurns x old (now + 1)
+pub mixed_fault : (x : List ℕ) (place old now : ℕ) → IsMixed x place old now → place + 16 ≤ length x
+    → FewTurns x old (now + 1)
 mixed_fault x place old now m room = let before = m.reserved in omega (arith, high_cut x place)
 
 -- behind the lanes, where fewer than sixteen octets are left
-module _ (x : List ℕ) (place old mid : ℕ) (m : IsMixed x place old mid) (within : place ≤ length x) (last : length x - 15 ≤ place) where
-  pub mixed_end : (now : ℕ) → IsWellFormed (drop place x) → now ≤ mid + length (chars (drop place x)) → FewTurns x old now
+module _ (x : List ℕ) (place old mid : ℕ) (m : IsMixed x place old mid) (within : place ≤ length x)
+    (last : length x - 15 ≤ place) where
+  pub mixed_end : (now : ℕ) → IsWellFormed (drop place x) → now ≤ mid + length (chars (drop place x))
+      → FewTurns x old now
   mixed_end now (cs, s) turns =
       let before = m.reserved in
       let y : List ℕ = drop place x in
@@ -213,11 +236,13 @@ module _ (x : List ℕ) (place old mid : ℕ) (m : IsMixed x place old mid) (wit
       let same = ap length (chars_of s) in
       let cut = high_cut x place in
       ⊎_elim
-      (λ none. let run : length y ≤ low_run 15 y = subst (λ z. length y ≤ low_run 15 z) (append-nil y) (run_front 15 y [] none (omega arith)) in omega arith)
+      (λ none. let run : length y ≤ low_run 15 y = subst (λ z. length y ≤ low_run 15 z) (append-nil y)
+          (run_front 15 y [] none (omega arith)) in omega arith)
       (λ two. omega arith)
       (spelled_high s)
 
-  pub mixed_fault_behind : (now : ℕ) (fault : Fault) → IsFault (drop place x) fault → now ≤ mid + length (chars (take fault.place (drop place x))) + 1 → FewTurns x old now
+  pub mixed_fault_behind : (now : ℕ) (fault : Fault) → IsFault (drop place x) fault
+      → now ≤ mid + length (chars (take fault.place (drop place x))) + 1 → FewTurns x old now
   mixed_fault_behind now fault f turns =
       let before = m.reserved in
       let y : List ℕ = drop place x in
@@ -226,14 +251,18 @@ module _ (x : List ℕ) (place old mid : ℕ) (m : IsMixed x place old mid) (wit
       let few = spelled_few f.good.1 in
       let same : chars (take fault.place y) ≡ f.good.0 = ap chars (front_is y fault f) ∙ chars_of f.good.1 in
       let some = (bad_some f.first).0 in
-      let parts : length y ≡ length f.before + (length f.bad + length f.after) = omega (arith, ap length f.whole, length-append f.before rest, length-append f.bad f.after) in
+      let parts : length y ≡ length f.before + (length f.bad + length f.after) =
+          omega (arith, ap length f.whole, length-append f.before rest, length-append f.bad f.after) in
       let cut = high_cut x place in
-      let high : high_count y ≡ high_count f.before + high_count rest = ap high_count f.whole ∙ high-append f.before rest in
+      let high : high_count y ≡ high_count f.before + high_count rest =
+          ap high_count f.whole ∙ high-append f.before rest in
       let counted = ap length same in
       ⊎_elim
-      (λ none. let run : length f.before ≤ low_run 15 y = subst (λ z. length f.before ≤ low_run 15 z) (sym f.whole) (run_front 15 f.before rest none (omega arith)) in omega arith)
+      (λ none. let run : length f.before ≤ low_run 15 y = subst (λ z. length f.before ≤ low_run 15 z) (sym f.whole)
+          (run_front 15 f.before rest none (omega arith)) in omega arith)
       (λ two. omega arith)
       (spelled_high f.good.1)
     where
       front_is : (y : List ℕ) (fault : Fault) (f : IsFault y fault) → take fault.place y ≡ f.before
-      front_is y fault f = ap (λ z. take fault.place z) f.whole ∙ ap (λ n. take n (f.before ++ (f.bad ++ f.after))) f.place ∙ take-append_seam f.before (f.bad ++ f.after)
+      front_is y fault f = ap (λ z. take fault.place z) f.whole ∙ ap (λ n. take n (f.before ++ (f.bad ++ f.after)))
+          f.place ∙ take-append_seam f.before (f.bad ++ f.after)

@@ -1,8 +1,10 @@
 -- Each character has one encoding, and each encoding is a character's.
-use Rattle.std.proofs.Common.{◌≡◌, ℕ, ◌+◌, ◌-◌, ◌*◌, ◌/◌, ◌%◌, ◌<◌, ◌≤◌, List, [], ◌∷◌, length, refl, arith, ◌⊎◌, inl, inr, ap, sym, ◌∙◌, subst}
+use Rattle.std.proofs.Common.{◌≡◌, ℕ, ◌+◌, ◌-◌, ◌*◌, ◌/◌, ◌%◌, ◌<◌, ◌≤◌, List, [], ◌∷◌}
+use Rattle.std.proofs.Common.{length, refl, arith, ◌⊎◌, inl, inr, ap, sym, ◌∙◌, subst}
 use Rattle.std.proofs.lemmas.Bool.Decides.{nat_tests}
 use Rattle.std.specs.Int.{IsInRange}
-use Rattle.octseq_utf8.specs.Encoding.{IsEncoding, row_00_7F, row_C2_DF, row_E0, row_E1_EC, row_ED, row_EE_EF, row_F0, row_F1_F3, row_F4, IsCharacter, number_of, encoding_of}
+use Rattle.octseq_utf8.specs.Encoding.{IsEncoding, row_00_7F, row_C2_DF, row_E0, row_E1_EC, row_ED, row_EE_EF}
+use Rattle.octseq_utf8.specs.Encoding.{row_F0, row_F1_F3, row_F4, IsCharacter, number_of, encoding_of}
 
 -- the encoding by the range of the character
 
@@ -14,11 +16,13 @@ pub encoding_of_2 : (c : ℕ) → 0x80 ≤ c → c < 0x800 → encoding_of c ≡
 unfolding encoding_of
 encoding_of_2 c low high = grind (arith, nat_tests)
 
-pub encoding_of_3 : (c : ℕ) → 0x800 ≤ c → c < 0x1_0000 → encoding_of c ≡ (224 + c / 4096) ∷ (128 + c / 64 % 64) ∷ (128 + c % 64) ∷ []
+pub encoding_of_3 : (c : ℕ) → 0x800 ≤ c → c < 0x1_0000
+    → encoding_of c ≡ (224 + c / 4096) ∷ (128 + c / 64 % 64) ∷ (128 + c % 64) ∷ []
 unfolding encoding_of
 encoding_of_3 c low high = grind (arith, nat_tests)
 
-pub encoding_of_4 : (c : ℕ) → 0x1_0000 ≤ c → encoding_of c ≡ (240 + c / 262144) ∷ (128 + c / 4096 % 64) ∷ (128 + c / 64 % 64) ∷ (128 + c % 64) ∷ []
+pub encoding_of_4 : (c : ℕ) → 0x1_0000 ≤ c
+    → encoding_of c ≡ (240 + c / 262144) ∷ (128 + c / 4096 % 64) ∷ (128 + c / 64 % 64) ∷ (128 + c % 64) ∷ []
 unfolding encoding_of
 encoding_of_4 c low = grind (arith, nat_tests)
 
@@ -34,33 +38,46 @@ same_2 a b x y p q = cc
 same_3 : (a b c x y z : ℕ) → a ≡ x → b ≡ y → c ≡ z → ◌≡◌ {A = List ℕ} (a ∷ b ∷ c ∷ []) (x ∷ y ∷ z ∷ [])
 same_3 a b c x y z p q r = cc
 
-same_4 : (a b c d x y z w : ℕ) → a ≡ x → b ≡ y → c ≡ z → d ≡ w → ◌≡◌ {A = List ℕ} (a ∷ b ∷ c ∷ d ∷ []) (x ∷ y ∷ z ∷ w ∷ [])
+same_4 : (a b c d x y z w : ℕ) → a ≡ x → b ≡ y → c ≡ z → d ≡ w
+    → ◌≡◌ {A = List ℕ} (a ∷ b ∷ c ∷ d ∷ []) (x ∷ y ∷ z ∷ w ∷ [])
 same_4 a b c d x y z w p q r s = cc
 
 -- octets in the ranges of a width are the encoding of their number
 
-from_number_2 : (a b n : ℕ) → IsInRange 0xC2 0xDF a → IsInRange 0x80 0xBF b → n ≡ (a - 192) * 64 + (b - 128) → encoding_of n ≡ a ∷ b ∷ []
+from_number_2 : (a b n : ℕ) → IsInRange 0xC2 0xDF a → IsInRange 0x80 0xBF b → n ≡ (a - 192) * 64 + (b - 128)
+    → encoding_of n ≡ a ∷ b ∷ []
 from_number_2 a b n p q e = encoding_of_2 n (omega arith) (omega arith) ∙ same_2 _ _ a b (omega arith) (omega arith)
 
 from_number_3 : (a b c n : ℕ) → IsInRange 0xE0 0xEF a → IsInRange 0x80 0xBF b → IsInRange 0x80 0xBF c
     → n ≡ (a - 224) * 4096 + (b - 128) * 64 + (c - 128) → 0x800 ≤ n → encoding_of n ≡ a ∷ b ∷ c ∷ []
-from_number_3 a b c n p q r e low = encoding_of_3 n low (omega arith) ∙ same_3 _ _ _ a b c (omega arith) (omega arith) (omega arith)
+from_number_3 a b c n p q r e low = encoding_of_3 n low (omega arith) ∙ same_3 _ _ _ a b c (omega arith) (omega arith)
+    (omega arith)
 
-from_number_4 : (a b c d n : ℕ) → IsInRange 0xF0 0xF4 a → IsInRange 0x80 0xBF b → IsInRange 0x80 0xBF c → IsInRange 0x80 0xBF d
-    → n ≡ (a - 240) * 262144 + (b - 128) * 4096 + (c - 128) * 64 + (d - 128) → 0x1_0000 ≤ n → encoding_of n ≡ a ∷ b ∷ c ∷ d ∷ []
-from_number_4 a b c d n p q r s e low = encoding_of_4 n low ∙ same_4 _ _ _ _ a b c d (omega arith) (omega arith) (omega arith) (omega arith)
+from_number_4 : (a b c d n : ℕ) → IsInRange 0xF0 0xF4 a → IsInRange 0x80 0xBF b → IsInRange 0x80 0xBF c
+    → IsInRange 0x80 0xBF d
+    → n ≡ (a - 240) * 262144 + (b - 128) * 4096 + (c - 128) * 64 + (d - 128) → 0x1_0000 ≤ n
+    → encoding_of n ≡ a ∷ b ∷ c ∷ d ∷ []
+from_number_4 a b c d n p q r s e low = encoding_of_4 n low ∙ same_4 _ _ _ _ a b c d (omega arith) (omega arith)
+    (omega arith) (omega arith)
 
 pub encoding_of-number_of : {e : List ℕ} → IsEncoding e → encoding_of (number_of e) ≡ e
 unfolding number_of
 encoding_of-number_of (row_00_7F {a} p) = encoding_of_1 a (omega arith)
 encoding_of-number_of (row_C2_DF {a} {b} p q) = from_number_2 a b _ p q refl
-encoding_of-number_of (row_E0 {a} {b} {c} p q r) = from_number_3 a b c _ (omega arith, omega arith) (omega arith, omega arith) r refl (omega arith)
-encoding_of-number_of (row_E1_EC {a} {b} {c} p q r) = from_number_3 a b c _ (omega arith, omega arith) q r refl (omega arith)
-encoding_of-number_of (row_ED {a} {b} {c} p q r) = from_number_3 a b c _ (omega arith, omega arith) (omega arith, omega arith) r refl (omega arith)
-encoding_of-number_of (row_EE_EF {a} {b} {c} p q r) = from_number_3 a b c _ (omega arith, omega arith) q r refl (omega arith)
-encoding_of-number_of (row_F0 {a} {b} {c} {d} p q r s) = from_number_4 a b c d _ (omega arith, omega arith) (omega arith, omega arith) r s refl (omega arith)
-encoding_of-number_of (row_F1_F3 {a} {b} {c} {d} p q r s) = from_number_4 a b c d _ (omega arith, omega arith) q r s refl (omega arith)
-encoding_of-number_of (row_F4 {a} {b} {c} {d} p q r s) = from_number_4 a b c d _ (omega arith, omega arith) (omega arith, omega arith) r s refl (omega arith)
+encoding_of-number_of (row_E0 {a} {b} {c} p q r) =
+    from_number_3 a b c _ (omega arith, omega arith) (omega arith, omega arith) r refl (omega arith)
+encoding_of-number_of (row_E1_EC {a} {b} {c} p q r) =
+    from_number_3 a b c _ (omega arith, omega arith) q r refl (omega arith)
+encoding_of-number_of (row_ED {a} {b} {c} p q r) =
+    from_number_3 a b c _ (omega arith, omega arith) (omega arith, omega arith) r refl (omega arith)
+encoding_of-number_of (row_EE_EF {a} {b} {c} p q r) =
+    from_number_3 a b c _ (omega arith, omega arith) q r refl (omega arith)
+encoding_of-number_of (row_F0 {a} {b} {c} {d} p q r s) =
+    from_number_4 a b c d _ (omega arith, omega arith) (omega arith, omega arith) r s refl (omega arith)
+encoding_of-number_of (row_F1_F3 {a} {b} {c} {d} p q r s) =
+    from_number_4 a b c d _ (omega arith, omega arith) q r s refl (omega arith)
+encoding_of-number_of (row_F4 {a} {b} {c} {d} p q r s) =
+    from_number_4 a b c d _ (omega arith, omega arith) (omega arith, omega arith) r s refl (omega arith)
 
 -- the number of an encoding is a character
 pub number_is_character : {e : List ℕ} → IsEncoding e → IsCharacter (number_of e)
@@ -93,14 +110,17 @@ pub number_of_3 : (a b c n : ℕ) → (a - 224) * 4096 + (b - 128) * 64 + (c - 1
 unfolding number_of
 number_of_3 a b c n h = h
 
-pub number_of_4 : (a b c d n : ℕ) → (a - 240) * 262144 + (b - 128) * 4096 + (c - 128) * 64 + (d - 128) ≡ n → number_of (a ∷ b ∷ c ∷ d ∷ []) ≡ n
+pub number_of_4 : (a b c d n : ℕ) → (a - 240) * 262144 + (b - 128) * 4096 + (c - 128) * 64 + (d - 128) ≡ n
+    → number_of (a ∷ b ∷ c ∷ d ∷ []) ≡ n
 unfolding number_of
 number_of_4 a b c d n h = h
 
 -- a character by the row that encodes it
 abbrev Rows : ℕ → Type 0
-Rows c = IsInRange 0 0x7F c ⊎ (IsInRange 0x80 0x7FF c ⊎ (IsInRange 0x800 0xFFF c ⊎ (IsInRange 0x1000 0xCFFF c ⊎ (IsInRange 0xD000 0xD7FF c
-    ⊎ (IsInRange 0xE000 0xFFFF c ⊎ (IsInRange 0x1_0000 0x3_FFFF c ⊎ (IsInRange 0x4_0000 0xF_FFFF c ⊎ IsInRange 0x10_0000 0x10_FFFF c)))))))
+Rows c = IsInRange 0 0x7F c
+    ⊎ (IsInRange 0x80 0x7FF c ⊎ (IsInRange 0x800 0xFFF c ⊎ (IsInRange 0x1000 0xCFFF c ⊎ (IsInRange 0xD000 0xD7FF c
+    ⊎ (IsInRange 0xE000 0xFFFF c
+        ⊎ (IsInRange 0x1_0000 0x3_FFFF c ⊎ (IsInRange 0x4_0000 0xF_FFFF c ⊎ IsInRange 0x10_0000 0x10_FFFF c)))))))
 
 rows : (c : ℕ) → IsCharacter c → Rows c
 rows c h = grind arith
@@ -114,14 +134,37 @@ encodes c e h p q = (subst IsEncoding (sym h) p, ap number_of h ∙ q)
 
 encodes_by_row : (c : ℕ) → Rows c → Encodes (encoding_of c) c
 encodes_by_row c (inl h) = encodes c _ (encoding_of_1 c (omega arith)) (row_00_7F h) (number_of_1 c)
-encodes_by_row c (inr (inl h)) = encodes c _ (encoding_of_2 c (omega arith) (omega arith)) (row_C2_DF (omega arith, omega arith) (omega arith, omega arith)) (number_of_2 _ _ c (omega arith))
-encodes_by_row c (inr (inr (inl h))) = encodes c _ (encoding_of_3 c (omega arith) (omega arith)) (row_E0 (omega arith, omega arith) (omega arith, omega arith) (omega arith, omega arith)) (number_of_3 _ _ _ c (omega arith))
-encodes_by_row c (inr (inr (inr (inl h)))) = encodes c _ (encoding_of_3 c (omega arith) (omega arith)) (row_E1_EC (omega arith, omega arith) (omega arith, omega arith) (omega arith, omega arith)) (number_of_3 _ _ _ c (omega arith))
-encodes_by_row c (inr (inr (inr (inr (inl h))))) = encodes c _ (encoding_of_3 c (omega arith) (omega arith)) (row_ED (omega arith, omega arith) (omega arith, omega arith) (omega arith, omega arith)) (number_of_3 _ _ _ c (omega arith))
-encodes_by_row c (inr (inr (inr (inr (inr (inl h)))))) = encodes c _ (encoding_of_3 c (omega arith) (omega arith)) (row_EE_EF (omega arith, omega arith) (omega arith, omega arith) (omega arith, omega arith)) (number_of_3 _ _ _ c (omega arith))
-encodes_by_row c (inr (inr (inr (inr (inr (inr (inl h))))))) = encodes c _ (encoding_of_4 c (omega arith)) (row_F0 (omega arith, omega arith) (omega arith, omega arith) (omega arith, omega arith) (omega arith, omega arith)) (number_of_4 _ _ _ _ c (omega arith))
-encodes_by_row c (inr (inr (inr (inr (inr (inr (inr (inl h)))))))) = encodes c _ (encoding_of_4 c (omega arith)) (row_F1_F3 (omega arith, omega arith) (omega arith, omega arith) (omega arith, omega arith) (omega arith, omega arith)) (number_of_4 _ _ _ _ c (omega arith))
-encodes_by_row c (inr (inr (inr (inr (inr (inr (inr (inr h)))))))) = encodes c _ (encoding_of_4 c (omega arith)) (row_F4 (omega arith, omega arith) (omega arith, omega arith) (omega arith, omega arith) (omega arith, omega arith)) (number_of_4 _ _ _ _ c (omega arith))
+encodes_by_row c (inr (inl h)) =
+    encodes c _ (encoding_of_2 c (omega arith) (omega arith))
+    (row_C2_DF (omega arith, omega arith) (omega arith, omega arith)) (number_of_2 _ _ c (omega arith))
+encodes_by_row c (inr (inr (inl h))) =
+    encodes c _ (encoding_of_3 c (omega arith) (omega arith))
+    (row_E0 (omega arith, omega arith) (omega arith, omega arith) (omega arith, omega arith))
+    (number_of_3 _ _ _ c (omega arith))
+encodes_by_row c (inr (inr (inr (inl h)))) =
+    encodes c _ (encoding_of_3 c (omega arith) (omega arith))
+    (row_E1_EC (omega arith, omega arith) (omega arith, omega arith) (omega arith, omega arith))
+    (number_of_3 _ _ _ c (omega arith))
+encodes_by_row c (inr (inr (inr (inr (inl h))))) =
+    encodes c _ (encoding_of_3 c (omega arith) (omega arith))
+    (row_ED (omega arith, omega arith) (omega arith, omega arith) (omega arith, omega arith))
+    (number_of_3 _ _ _ c (omega arith))
+encodes_by_row c (inr (inr (inr (inr (inr (inl h)))))) =
+    encodes c _ (encoding_of_3 c (omega arith) (omega arith))
+    (row_EE_EF (omega arith, omega arith) (omega arith, omega arith) (omega arith, omega arith))
+    (number_of_3 _ _ _ c (omega arith))
+encodes_by_row c (inr (inr (inr (inr (inr (inr (inl h))))))) =
+    encodes c _ (encoding_of_4 c (omega arith))
+    (row_F0 (omega arith, omega arith) (omega arith, omega arith) (omega arith, omega arith) (omega arith, omega arith))
+    (number_of_4 _ _ _ _ c (omega arith))
+encodes_by_row c (inr (inr (inr (inr (inr (inr (inr (inl h)))))))) =
+    encodes c _ (encoding_of_4 c (omega arith))
+    (row_F1_F3 (omega arith, omega arith) (omega arith, omega arith) (omega arith, omega arith)
+    (omega arith, omega arith)) (number_of_4 _ _ _ _ c (omega arith))
+encodes_by_row c (inr (inr (inr (inr (inr (inr (inr (inr h)))))))) =
+    encodes c _ (encoding_of_4 c (omega arith))
+    (row_F4 (omega arith, omega arith) (omega arith, omega arith) (omega arith, omega arith) (omega arith, omega arith))
+    (number_of_4 _ _ _ _ c (omega arith))
 
 -- what encodes a character is an encoding, and has its number
 pub encoding_is_of : (c : ℕ) → IsCharacter c → Encodes (encoding_of c) c

@@ -1,10 +1,12 @@
 -- What octets spell: the characters are a function of the octets, and the octets one of the characters.
-use Rattle.std.proofs.Common.{◌≡◌, ℕ, ◌≤◌, true, false, cond, List, [], ◌∷◌, ◌++◌, map, refl, arith, ap, sym, ◌∙◌, subst, append_assoc}
+use Rattle.std.proofs.Common.{◌≡◌, ℕ, ◌≤◌, true, false, cond, List, [], ◌∷◌, ◌++◌}
+use Rattle.std.proofs.Common.{map, refl, arith, ap, sym, ◌∙◌, subst, append_assoc}
 use Rattle.std.proofs.lemmas.Bool.Decides.{nat_tests}
 use Rattle.std.specs.Int.{IsInRange, is_in_range}
 use Rattle.std.proofs.lemmas.List.{append-nil, map-append}
 use Rattle.std.specs.List.{concat, AllByRecursion}
-use Rattle.octseq_utf8.specs.Encoding.{IsEncoding, row_00_7F, row_C2_DF, row_E0, row_E1_EC, row_ED, row_EE_EF, row_F0, row_F1_F3, row_F4, number_of}
+use Rattle.octseq_utf8.specs.Encoding.{IsEncoding, row_00_7F, row_C2_DF, row_E0, row_E1_EC}
+use Rattle.octseq_utf8.specs.Encoding.{row_ED, row_EE_EF, row_F0, row_F1_F3, row_F4, number_of}
 use Rattle.octseq_utf8.specs.Text.{octets_of, Spells, begins_within, put_in_front, encodings_in, chars}
 use Rattle.octseq_utf8.proofs.Numbers.{encoding_of-number_of}
 
@@ -37,19 +39,23 @@ cut_last : (a : ℕ) (r : List ℕ) → begins_within r ≡ false → encodings_
 unfolding encodings_in
 cut_last a r h = ap (λ b. cond b (put_in_front a (encodings_in r)) ((a ∷ []) ∷ encodings_in r)) h
 
-cut_before : (a b : ℕ) (r e : List ℕ) (es : List (List ℕ)) → is_in_range 0x80 0xBF b ≡ true → encodings_in (b ∷ r) ≡ e ∷ es → encodings_in (a ∷ b ∷ r) ≡ (a ∷ e) ∷ es
+cut_before : (a b : ℕ) (r e : List ℕ) (es : List (List ℕ)) → is_in_range 0x80 0xBF b ≡ true
+    → encodings_in (b ∷ r) ≡ e ∷ es → encodings_in (a ∷ b ∷ r) ≡ (a ∷ e) ∷ es
 unfolding encodings_in
 cut_before a b r e es h k =
     ap (λ t. cond t (put_in_front a (encodings_in (b ∷ r))) ((a ∷ []) ∷ encodings_in (b ∷ r))) h ∙ ap (put_in_front a) k
 
-cut_2 : (a b : ℕ) (r : List ℕ) → is_in_range 0x80 0xBF b ≡ true → begins_within r ≡ false → encodings_in (a ∷ b ∷ r) ≡ (a ∷ b ∷ []) ∷ encodings_in r
+cut_2 : (a b : ℕ) (r : List ℕ) → is_in_range 0x80 0xBF b ≡ true → begins_within r ≡ false
+    → encodings_in (a ∷ b ∷ r) ≡ (a ∷ b ∷ []) ∷ encodings_in r
 cut_2 a b r p h = cut_before a b r _ _ p (cut_last b r h)
 
-cut_3 : (a b c : ℕ) (r : List ℕ) → is_in_range 0x80 0xBF b ≡ true → is_in_range 0x80 0xBF c ≡ true → begins_within r ≡ false
+cut_3 : (a b c : ℕ) (r : List ℕ) → is_in_range 0x80 0xBF b ≡ true → is_in_range 0x80 0xBF c ≡ true
+    → begins_within r ≡ false
     → encodings_in (a ∷ b ∷ c ∷ r) ≡ (a ∷ b ∷ c ∷ []) ∷ encodings_in r
 cut_3 a b c r p q h = cut_before a b (c ∷ r) _ _ p (cut_2 b c r q h)
 
-cut_4 : (a b c d : ℕ) (r : List ℕ) → is_in_range 0x80 0xBF b ≡ true → is_in_range 0x80 0xBF c ≡ true → is_in_range 0x80 0xBF d ≡ true → begins_within r ≡ false
+cut_4 : (a b c d : ℕ) (r : List ℕ) → is_in_range 0x80 0xBF b ≡ true → is_in_range 0x80 0xBF c ≡ true
+    → is_in_range 0x80 0xBF d ≡ true → begins_within r ≡ false
     → encodings_in (a ∷ b ∷ c ∷ d ∷ r) ≡ (a ∷ b ∷ c ∷ d ∷ []) ∷ encodings_in r
 cut_4 a b c d r p q s h = cut_before a b (c ∷ d ∷ r) _ _ p (cut_3 b c d r q s h)
 
@@ -64,9 +70,11 @@ cut (row_E0 {a} {b} {c} p q t) r h = cut_3 a b c r (inside 0xA0 0xBF b (omega ar
 cut (row_E1_EC {a} {b} {c} p q t) r h = cut_3 a b c r (plain b q) (plain c t) h
 cut (row_ED {a} {b} {c} p q t) r h = cut_3 a b c r (inside 0x80 0x9F b (omega arith) (omega arith) q) (plain c t) h
 cut (row_EE_EF {a} {b} {c} p q t) r h = cut_3 a b c r (plain b q) (plain c t) h
-cut (row_F0 {a} {b} {c} {d} p q t u) r h = cut_4 a b c d r (inside 0x90 0xBF b (omega arith) (omega arith) q) (plain c t) (plain d u) h
+cut (row_F0 {a} {b} {c} {d} p q t u) r h =
+    cut_4 a b c d r (inside 0x90 0xBF b (omega arith) (omega arith) q) (plain c t) (plain d u) h
 cut (row_F1_F3 {a} {b} {c} {d} p q t u) r h = cut_4 a b c d r (plain b q) (plain c t) (plain d u) h
-cut (row_F4 {a} {b} {c} {d} p q t u) r h = cut_4 a b c d r (inside 0x80 0x8F b (omega arith) (omega arith) q) (plain c t) (plain d u) h
+cut (row_F4 {a} {b} {c} {d} p q t u) r h =
+    cut_4 a b c d r (inside 0x80 0x8F b (omega arith) (omega arith) q) (plain c t) (plain d u) h
 
 pub begins_all : (es : List (List ℕ)) → AllByRecursion IsEncoding es → begins_within (concat es) ≡ false
 begins_all [] h = refl
@@ -78,7 +86,8 @@ encodings_in-nil = refl
 
 encodings_in-concat : (es : List (List ℕ)) → AllByRecursion IsEncoding es → encodings_in (concat es) ≡ es
 encodings_in-concat [] h = encodings_in-nil
-encodings_in-concat (e ∷ es) h = cut h.0 (concat es) (begins_all es h.1) ∙ ap (λ groups. e ∷ groups) (encodings_in-concat es h.1)
+encodings_in-concat (e ∷ es) h = cut h.0 (concat es) (begins_all es h.1)
+    ∙ ap (λ groups. e ∷ groups) (encodings_in-concat es h.1)
 
 -- octets spell their characters and no others
 pub chars_of : {x cs : List ℕ} → Spells x cs → chars x ≡ cs
@@ -91,7 +100,8 @@ spells_chars {x} {cs} s = subst (Spells x) (sym (chars_of s)) s
 pub octets_of_numbers : (es : List (List ℕ)) → AllByRecursion IsEncoding es → octets_of (map number_of es) ≡ concat es
 octets_of_numbers [] h = refl
 octets_of_numbers (e ∷ es) h =
-    ap (λ y. y ++ octets_of (map number_of es)) (encoding_of-number_of h.0) ∙ ap (λ y. e ++ y) (octets_of_numbers es h.1)
+    ap (λ y. y ++ octets_of (map number_of es)) (encoding_of-number_of h.0)
+        ∙ ap (λ y. e ++ y) (octets_of_numbers es h.1)
 
 pub octets_of_spelled : {x cs : List ℕ} → Spells x cs → octets_of cs ≡ x
 octets_of_spelled s = ap octets_of (sym s.numbers) ∙ octets_of_numbers s.encodings s.each ∙ s.joined
@@ -106,7 +116,8 @@ spells_one {e} p = record { encodings = e ∷ []; each = (p, tt); joined = appen
 
 -- octets behind others spell their characters behind those of the others
 
-each-append : (es fs : List (List ℕ)) → AllByRecursion IsEncoding es → AllByRecursion IsEncoding fs → AllByRecursion IsEncoding (es ++ fs)
+each-append : (es fs : List (List ℕ)) → AllByRecursion IsEncoding es → AllByRecursion IsEncoding fs
+    → AllByRecursion IsEncoding (es ++ fs)
 each-append [] fs p q = q
 each-append (e ∷ es) fs p q = (p.0, each-append es fs p.1 q)
 
@@ -118,6 +129,8 @@ pub spells-append : {x y cs ds : List ℕ} → Spells x cs → Spells y ds → S
 spells-append {x} {cs = cs} s t = record {
   encodings = s.encodings ++ t.encodings;
   each = each-append s.encodings t.encodings s.each t.each;
-  joined = concat-append s.encodings t.encodings ∙ ap (λ y. y ++ concat t.encodings) s.joined ∙ ap (λ y. x ++ y) t.joined;
-  numbers = map-append number_of s.encodings t.encodings ∙ ap (λ y. y ++ map number_of t.encodings) s.numbers ∙ ap (λ y. cs ++ y) t.numbers;
+  joined = concat-append s.encodings t.encodings ∙ ap (λ y. y ++ concat t.encodings) s.joined
+      ∙ ap (λ y. x ++ y) t.joined;
+  numbers = map-append number_of s.encodings t.encodings ∙ ap (λ y. y ++ map number_of t.encodings) s.numbers
+      ∙ ap (λ y. cs ++ y) t.numbers;
 }

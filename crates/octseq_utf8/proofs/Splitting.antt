@@ -1,10 +1,13 @@
 -- Octets split in one way, as the finder reads them.
-use Rattle.std.proofs.Common.{◌≡◌, ℕ, zero, suc, ◌+◌, ◌-◌, ◌<◌, ◌≤◌, true, false, cond, ◌&&◌, ◌==◌, nat_lt, List, [], ◌∷◌, ◌++◌, length, get_or, take, drop, refl, arith, ◌⊎◌, inl, inr, ⊎_elim, ap, sym, ◌∙◌, subst, length-append, length-take, length-drop}
+use Rattle.std.proofs.Common.{◌≡◌, ℕ, zero, suc, ◌+◌, ◌-◌, ◌<◌, ◌≤◌, true, false, cond, ◌&&◌, ◌==◌, nat_lt}
+use Rattle.std.proofs.Common.{List, [], ◌∷◌, ◌++◌, length, get_or, take, drop, refl, arith, ◌⊎◌, inl, inr}
+use Rattle.std.proofs.Common.{⊎_elim, ap, sym, ◌∙◌, subst, length-append, length-take, length-drop}
 use Rattle.std.proofs.Math.Seq.{take-append_seam, drop-append_seam}
 use Rattle.std.proofs.lemmas.List.{take-append-drop}
 use Rattle.std.proofs.lemmas.Bool.Decides.{nat_tests}
 use Rattle.octseq_utf8.specs.Encoding.{IsEncoding, number_of}
-use Rattle.octseq_utf8.specs.Parts.{IsFront, IsBeginning, IsBadPart, Part, Char, Bad, Splits, nothing, encoding, bad_part}
+use Rattle.octseq_utf8.specs.Parts.{IsFront, IsBeginning, IsBadPart, Part, Char}
+use Rattle.octseq_utf8.specs.Parts.{Bad, Splits, nothing, encoding, bad_part}
 use Rattle.octseq_utf8.specs.Reading.{width_of, width, fitting, part_len, first_part, parts_after, parts_of}
 use Rattle.octseq_utf8.proofs.Rows.{length_of}
 use Rattle.octseq_utf8.proofs.Fits.{Fits, fits_from, width_from, from_fits, fits_more, fits_take, get_left, get_take}
@@ -15,13 +18,16 @@ use Rattle.octseq_utf8.proofs.Fitting.{fitting_fits, fitting_within, fitting_wid
 pub whole_or : (x : List ℕ) → (1 ≤ width x) × (fitting x ≡ width x) ⊎ ((width x ≡ 0) ⊎ (fitting x < width x))
 whole_or x = let h = fitting_wide x in grind arith
 
-pub first_whole : (x : List ℕ) → 1 ≤ width x → fitting x ≡ width x → first_part x ≡ Char (number_of (take (part_len x) x))
+pub first_whole : (x : List ℕ) → 1 ≤ width x → fitting x ≡ width x
+    → first_part x ≡ Char (number_of (take (part_len x) x))
 unfolding first_part
-first_whole x w m = let test : (nat_lt 0 (width x) && fitting x == width x) ≡ true = grind (arith, nat_tests) in ap (λ b. cond b (Char (number_of (take (part_len x) x))) (Bad (take (part_len x) x))) test
+first_whole x w m = let test : (nat_lt 0 (width x) && fitting x == width x) ≡ true = grind (arith, nat_tests) in
+    ap (λ b. cond b (Char (number_of (take (part_len x) x))) (Bad (take (part_len x) x))) test
 
 pub first_bad : (x : List ℕ) → (width x ≡ 0) ⊎ (fitting x < width x) → first_part x ≡ Bad (take (part_len x) x)
 unfolding first_part
-first_bad x m = let test : (nat_lt 0 (width x) && fitting x == width x) ≡ false = grind (arith, nat_tests) in ap (λ b. cond b (Char (number_of (take (part_len x) x))) (Bad (take (part_len x) x))) test
+first_bad x m = let test : (nat_lt 0 (width x) && fitting x == width x) ≡ false = grind (arith, nat_tests) in
+    ap (λ b. cond b (Char (number_of (take (part_len x) x))) (Bad (take (part_len x) x))) test
 
 pub part_len_within : (x : List ℕ) → 1 ≤ length x → (1 ≤ part_len x) × (part_len x ≤ length x)
 part_len_within x h = let m = fitting_within x h in (omega arith, omega arith)
@@ -43,14 +49,16 @@ unfolding parts_after
 parts_step [] h = absurd (omega arith)
 parts_step (b ∷ bs) h =
     let l = part_len_within (b ∷ bs) h in
-    ap (λ ps. first_part (b ∷ bs) ∷ ps) (parts_after-drop (part_len (b ∷ bs) - 1) bs ∙ ap parts_of (sym (drop_one_less (part_len (b ∷ bs)) b bs l.0)))
+    ap (λ ps. first_part (b ∷ bs) ∷ ps) (parts_after-drop (part_len (b ∷ bs) - 1) bs
+        ∙ ap parts_of (sym (drop_one_less (part_len (b ∷ bs)) b bs l.0)))
 
 pub parts_nil : parts_of [] ≡ []
 unfolding parts_after
 parts_nil = refl
 
 -- where an encoding begins, it is the first part
-pub encoding_fitting : {e : List ℕ} → IsEncoding e → (r : List ℕ) → (fitting (e ++ r) ≡ length e) × (width (e ++ r) ≡ length e)
+pub encoding_fitting : {e : List ℕ} → IsEncoding e → (r : List ℕ)
+    → (fitting (e ++ r) ≡ length e) × (width (e ++ r) ≡ length e)
 encoding_fitting {e} p r =
     let l = length_of p in
     let w : width (e ++ r) ≡ length e = ap width_of (get_left e r 0 l.0) ∙ sym (width_from p) in
@@ -103,7 +111,8 @@ beginning_fitting x q (r, same) b =
     (subst (λ y. length q ≤ fitting y) (sym same) k, subst (λ y. 1 ≤ width y) (sym same) (omega arith))
 
 -- what is fitting short of the width is a beginning
-pub fitting_beginning : (x : List ℕ) → 1 ≤ length x → 1 ≤ width x → fitting x < width x → IsBeginning (take (fitting x) x)
+pub fitting_beginning : (x : List ℕ) → 1 ≤ length x → 1 ≤ width x → fitting x < width x
+    → IsBeginning (take (fitting x) x)
 fitting_beginning x s w m =
     let f = fitting_fits x s w in
     let in_x = f.within in
@@ -123,7 +132,8 @@ bad_of x s h = record {
 }
   where
     bad_longest : (x : List ℕ) → 1 ≤ length x → (width x ≡ 0) ⊎ (fitting x < width x)
-        → (IsBeginning (take (part_len x) x) × ((q : List ℕ) → IsFront q x → IsBeginning q → length q ≤ length (take (part_len x) x)))
+        → (IsBeginning (take (part_len x) x) × ((q : List ℕ) → IsFront q x → IsBeginning q
+        → length q ≤ length (take (part_len x) x)))
         ⊎ ((length (take (part_len x) x) ≡ 1) × ((q : List ℕ) → IsFront q x → ¬ IsBeginning q))
     bad_longest x s (inl z) =
         let m = fitting_wide x in
@@ -154,7 +164,8 @@ bad_only x p b = go (whole_or x)
     some = let s = bad_some b in omega arith
 
     long : (width x ≡ 0) ⊎ (fitting x < width x)
-        → (IsBeginning p × ((q : List ℕ) → IsFront q x → IsBeginning q → length q ≤ length p)) ⊎ ((length p ≡ 1) × ((q : List ℕ) → IsFront q x → ¬ IsBeginning q))
+        → (IsBeginning p × ((q : List ℕ) → IsFront q x → IsBeginning q → length q ≤ length p))
+        ⊎ ((length p ≡ 1) × ((q : List ℕ) → IsFront q x → ¬ IsBeginning q))
         → length p ≡ part_len x
     long (inl z) (inl g) = let k = (beginning_fitting x p b.front g.0).1 in absurd (omega arith)
     long (inl z) (inr g) = let m = fitting_wide x in let one = g.0 in omega arith
@@ -163,12 +174,17 @@ bad_only x p b = go (whole_or x)
         let f = fitting_fits x some k.1 in
         let s = f.some in
         let in_x = f.within in
-        let most = g.1 (take (fitting x) x) (drop (fitting x) x, sym (take-append-drop (fitting x) x)) (fitting_beginning x some k.1 z) in
+        let most = g.1 (take (fitting x) x) (drop (fitting x) x, sym (take-append-drop (fitting x) x))
+            (fitting_beginning x some k.1 z) in
         omega (arith, length-take (fitting x) x)
-    long (inr z) (inr g) = absurd (g.1 (take (fitting x) x) (drop (fitting x) x, sym (take-append-drop (fitting x) x)) (fitting_beginning x some (omega arith) z))
+    long (inr z) (inr g) =
+        absurd (g.1 (take (fitting x) x) (drop (fitting x) x, sym (take-append-drop (fitting x) x))
+        (fitting_beginning x some (omega arith) z))
 
-    go : (1 ≤ width x) × (fitting x ≡ width x) ⊎ ((width x ≡ 0) ⊎ (fitting x < width x)) → ((width x ≡ 0) ⊎ (fitting x < width x)) × (length p ≡ part_len x)
-    go (inl h) = absurd (b.none (take (part_len x) x) (drop (part_len x) x, sym (take-append-drop (part_len x) x)) (whole_encoding x some h.0 h.1))
+    go : (1 ≤ width x) × (fitting x ≡ width x) ⊎ ((width x ≡ 0) ⊎ (fitting x < width x))
+        → ((width x ≡ 0) ⊎ (fitting x < width x)) × (length p ≡ part_len x)
+    go (inl h) = absurd (b.none (take (part_len x) x) (drop (part_len x) x, sym (take-append-drop (part_len x) x))
+        (whole_encoding x some h.0 h.1))
     go (inr h) = (h, long h b.longest)
 
 -- where no encoding begins, the bad part is the first part
@@ -187,7 +203,8 @@ parts_bad p r b =
 -- any splitting is the one that is read
 pub only_parts : {x : List ℕ} {parts : List Part} → Splits x parts → parts ≡ parts_of x
 only_parts nothing = sym parts_nil
-only_parts (encoding {e} {rest = r} {parts} p s) = ap (λ ps. Char (number_of e) ∷ ps) (only_parts s) ∙ sym (parts_encoding p r)
+only_parts (encoding {e} {rest = r} {parts} p s) = ap (λ ps. Char (number_of e) ∷ ps) (only_parts s)
+    ∙ sym (parts_encoding p r)
 only_parts (bad_part {bad = p} {rest = r} {parts} b s) = ap (λ ps. Bad p ∷ ps) (only_parts s) ∙ sym (parts_bad p r b)
 
 -- two splittings are equal
@@ -198,7 +215,10 @@ one_splitting s t = only_parts s ∙ sym (only_parts t)
 splits_within : (k : ℕ) (x : List ℕ) → length x ≤ k → Splits x (parts_of x)
 splits_within k [] h = subst (λ ps. Splits [] ps) (sym parts_nil) nothing
 splits_within zero (b ∷ bs) h = absurd (omega arith)
-splits_within (suc k) (b ∷ bs) h = go (whole_or (b ∷ bs)) (splits_within k (drop (part_len (b ∷ bs)) (b ∷ bs)) (omega (arith, length-drop (part_len (b ∷ bs)) (b ∷ bs), part_len_within (b ∷ bs))))
+splits_within (suc k) (b ∷ bs) h =
+    go (whole_or (b ∷ bs))
+    (splits_within k (drop (part_len (b ∷ bs)) (b ∷ bs))
+    (omega (arith, length-drop (part_len (b ∷ bs)) (b ∷ bs), part_len_within (b ∷ bs))))
   where
     x : List ℕ
     x = b ∷ bs
@@ -209,7 +229,8 @@ splits_within (suc k) (b ∷ bs) h = go (whole_or (b ∷ bs)) (splits_within k (
     cut : take (part_len (b ∷ bs)) (b ∷ bs) ++ drop (part_len (b ∷ bs)) (b ∷ bs) ≡ b ∷ bs
     cut = take-append-drop (part_len (b ∷ bs)) (b ∷ bs)
 
-    go : (1 ≤ width (b ∷ bs)) × (fitting (b ∷ bs) ≡ width (b ∷ bs)) ⊎ ((width (b ∷ bs) ≡ 0) ⊎ (fitting (b ∷ bs) < width (b ∷ bs)))
+    go : (1 ≤ width (b ∷ bs)) × (fitting (b ∷ bs) ≡ width (b ∷ bs))
+        ⊎ ((width (b ∷ bs) ≡ 0) ⊎ (fitting (b ∷ bs) < width (b ∷ bs)))
         → Splits (drop (part_len (b ∷ bs)) (b ∷ bs)) (parts_of (drop (part_len (b ∷ bs)) (b ∷ bs)))
         → Splits (b ∷ bs) (parts_of (b ∷ bs))
     go (inl w) s =
@@ -221,7 +242,8 @@ splits_within (suc k) (b ∷ bs) h = go (whole_or (b ∷ bs)) (splits_within k (
         subst (λ y. Splits y (parts_of (b ∷ bs))) cut
         (subst (λ ps. Splits (take (part_len (b ∷ bs)) (b ∷ bs) ++ drop (part_len (b ∷ bs)) (b ∷ bs)) ps)
         (sym (step ∙ ap (λ f. f ∷ parts_of (drop (part_len (b ∷ bs)) (b ∷ bs))) (first_bad (b ∷ bs) w)))
-        (bad_part (subst (λ y. IsBadPart y (take (part_len (b ∷ bs)) (b ∷ bs))) (sym cut) (bad_of (b ∷ bs) (omega arith) w)) s))
+        (bad_part (subst (λ y. IsBadPart y (take (part_len (b ∷ bs)) (b ∷ bs))) (sym cut)
+            (bad_of (b ∷ bs) (omega arith) w)) s))
 
 pub splits : (x : List ℕ) → Splits x (parts_of x)
 splits x = splits_within (length x) x (omega arith)

@@ -1,5 +1,7 @@
 -- A search that begins at a place, and what it tells of the whole.
-use Rattle.std.proofs.Common.{◌≡◌, ℕ, zero, suc, ◌+◌, ◌-◌, ◌*◌, ◌<◌, ◌≤◌, ◌⊎◌, inl, inr, ⊎_elim, List, [], ◌∷◌, map, length, take, drop, get_or, refl, arith, ap, sym, ◌∙◌, subst, length-take, length-drop, Option, Some, None}
+use Rattle.std.proofs.Common.{◌≡◌, ℕ, zero, suc, ◌+◌, ◌-◌, ◌*◌, ◌<◌, ◌≤◌, ◌⊎◌, inl, inr, ⊎_elim}
+use Rattle.std.proofs.Common.{List, [], ◌∷◌, map, length, take, drop, get_or, refl, arith, ap}
+use Rattle.std.proofs.Common.{sym, ◌∙◌, subst, length-take, length-drop, Option, Some, None}
 use Rattle.std.specs.Prelude.{IsNone, IfNone, IfSome, ◌↔◌}
 use Rattle.std.proofs.lemmas.List.{drop-drop, length-map}
 use Rattle.std.specs.List.{All}
@@ -9,7 +11,8 @@ use Rattle.octseq_utf8.specs.Fault.{Fault, IsFault, fault_end, fault_from}
 use Rattle.octseq_utf8.specs.Front.{StandsInFront}
 use Rattle.octseq_utf8.specs.Text.{IsWellFormed, chars}
 use Rattle.octseq_utf8.specs.declared.finder.Front.TheVariants.{Encoding, Bad}
-use Rattle.octseq_utf8.proofs.Faults.{IsAt, IsInLanes, IsFaultAt, at_start, at_more, at_end, fault_at, fault_refutes, fault_behind, lanes_start, spells_low, turns_behind, well_formed_behind}
+use Rattle.octseq_utf8.proofs.Faults.{IsAt, IsInLanes, IsFaultAt, at_start, at_more, at_end, fault_at, fault_refutes}
+use Rattle.octseq_utf8.proofs.Faults.{fault_behind, lanes_start, spells_low, turns_behind, well_formed_behind}
 use Rattle.octseq_utf8.proofs.Mixed.{IsMixed, FewTurns, mixed_start, mixed_skipped, mixed_end, mixed_fault_behind}
 use Rattle.octseq_utf8.proofs.Spelling.{chars_of}
 
@@ -19,7 +22,8 @@ pub record IsBehind (x : List ℕ) (from place old now : ℕ) : Type 0 where
   pub at : IsAt (drop from x) (place - from) old now
 
 drop_further : (x : List ℕ) (from place : ℕ) → from ≤ place → drop (place - from) (drop from x) ≡ drop place x
-drop_further x from place past = drop-drop (place - from) from x ∙ ap (λ k. drop k x) (let e : from + (place - from) ≡ place = omega arith in e)
+drop_further x from place past =
+    drop-drop (place - from) from x ∙ ap (λ k. drop k x) (let e : from + (place - from) ≡ place = omega arith in e)
 
 pub behind_start : (x : List ℕ) (from t : ℕ) → IsBehind x from from t t
 behind_start x from t = record {
@@ -27,65 +31,94 @@ behind_start x from t = record {
   at = subst (λ k. IsAt (drop from x) k t t) (let e : 0 ≡ from - from = omega arith in e) (at_start (drop from x) t);
 }
 
-pub behind_more : (x : List ℕ) (from place old now len : ℕ) → IsBehind x from place old now → StandsInFront (drop place x) (Encoding len) → IsBehind x from (place + len) old (now + 1)
+pub behind_more : (x : List ℕ) (from place old now len : ℕ) → IsBehind x from place old now
+    → StandsInFront (drop place x) (Encoding len) → IsBehind x from (place + len) old (now + 1)
 behind_more x from place old now len b front =
     let past = b.past in
     record {
       past = omega arith;
-      at = subst (λ k. IsAt (drop from x) k old (now + 1)) (let e : place - from + len ≡ place + len - from = omega arith in e)
-          (at_more (drop from x) (place - from) old now len b.at (subst (λ y. StandsInFront y (Encoding len)) (sym (drop_further x from place past)) front));
+      at = subst (λ k. IsAt (drop from x) k old (now + 1))
+          (let e : place - from + len ≡ place + len - from = omega arith in e)
+          (at_more (drop from x) (place - from) old now len b.at
+              (subst (λ y. StandsInFront y (Encoding len)) (sym (drop_further x from place past)) front));
     }
 
-pub behind_end : (x : List ℕ) (from place old now : ℕ) → IsBehind x from place old now → length x ≤ place → IsWellFormed (drop from x) × (now ≤ old + length (chars (drop from x)))
-behind_end x from place old now b past = at_end (drop from x) (place - from) old now b.at (omega (arith, length-drop from x))
+pub behind_end : (x : List ℕ) (from place old now : ℕ) → IsBehind x from place old now → length x ≤ place
+    → IsWellFormed (drop from x) × (now ≤ old + length (chars (drop from x)))
+behind_end x from place old now b past =
+    at_end (drop from x) (place - from) old now b.at (omega (arith, length-drop from x))
 
-pub behind_fault : (x : List ℕ) (from place old now : ℕ) (size : Option ℕ) → IsBehind x from place old now → StandsInFront (drop place x) (Bad size)
+pub behind_fault : (x : List ℕ) (from place old now : ℕ) (size : Option ℕ) → IsBehind x from place old now
+    → StandsInFront (drop place x) (Bad size)
     → IsFaultAt (drop from x) old (now + 1) (fault_from from (record { place = place; size = size }))
 behind_fault x from place old now size b front =
-    fault_at (drop from x) (place - from) old now size b.at (subst (λ y. StandsInFront y (Bad size)) (sym (drop_further x from place b.past)) front)
+    fault_at (drop from x) (place - from) old now size b.at
+        (subst (λ y. StandsInFront y (Bad size)) (sym (drop_further x from place b.past)) front)
 
 -- octets that are all below 80 are characters, one each
 pub low_well_formed : (y : List ℕ) → All (λ o. o < 0x80) y → IsWellFormed y × (length (chars y) ≡ length y)
-low_well_formed y low = ((map (λ o. number_of (o ∷ [])) y, spells_low y low), ap length (chars_of (spells_low y low)) ∙ length-map y (λ o. number_of (o ∷ [])))
+low_well_formed y low =
+    ((map (λ o. number_of (o ∷ [])) y, spells_low y low), ap length (chars_of (spells_low y low))
+    ∙ length-map y (λ o. number_of (o ∷ [])))
 
 -- what is found from a place on, in the whole
-pub found_behind : (x : List ℕ) (place old mid now : ℕ) (fault : Fault) → IsAt x place old mid → place ≤ fault.place → IsFault (drop place x) (fault_from place fault)
-    → now ≤ mid + length (chars (take (fault.place - place) (drop place x))) + 1 → fault_end (drop place x) (fault_from place fault) + 16 * mid ≤ 16 * now
+pub found_behind : (x : List ℕ) (place old mid now : ℕ) (fault : Fault) → IsAt x place old mid → place ≤ fault.place
+    → IsFault (drop place x) (fault_from place fault)
+    → now ≤ mid + length (chars (take (fault.place - place) (drop place x))) + 1
+    → fault_end (drop place x) (fault_from place fault) + 16 * mid ≤ 16 * now
     → IsFaultAt x old now fault
 found_behind x place old mid now fault at past f turns passed =
     let same : place + (fault.place - place) ≡ fault.place = omega arith in
-    subst (λ k. IsFaultAt x old now (record { place = k; size = fault.size })) same (fault_behind x place old mid now (fault_from place fault) at f turns passed)
+    subst (λ k. IsFaultAt x old now (record { place = k; size = fault.size })) same
+        (fault_behind x place old mid now (fault_from place fault) at f turns passed)
 
 -- and what the whole search owes then
 
-pub tail_fault : (x : List ℕ) (place old mid now : ℕ) (r : Option Fault) → IsAt x place old mid → IfSome r (λ fault. place ≤ fault.place) → IfSome r (λ fault. IsFault (drop place x) (fault_from place fault))
-    → IfSome r (λ fault. now ≤ mid + length (chars (take (fault.place - place) (drop place x))) + 1) → IfSome r (λ fault. fault_end (drop place x) (fault_from place fault) + 16 * mid ≤ 16 * now)
+pub tail_fault : (x : List ℕ) (place old mid now : ℕ) (r : Option Fault) → IsAt x place old mid
+    → IfSome r (λ fault. place ≤ fault.place) → IfSome r (λ fault. IsFault (drop place x) (fault_from place fault))
+    → IfSome r (λ fault. now ≤ mid + length (chars (take (fault.place - place) (drop place x))) + 1)
+    → IfSome r (λ fault. fault_end (drop place x) (fault_from place fault) + 16 * mid ≤ 16 * now)
     → IfSome r (IsFaultAt x old now)
 tail_fault x place old mid now None at past f turns passed = past
-tail_fault x place old mid now (Some fault) at past f turns passed = found_behind x place old mid now fault at past f turns passed
+tail_fault x place old mid now (Some fault) at past f turns passed =
+    found_behind x place old mid now fault at past f turns passed
 
-pub tail_none : (x : List ℕ) (place old mid now : ℕ) (r : Option Fault) → IsAt x place old mid → IsNone r ↔ IsWellFormed (drop place x) → IfSome r (IsFaultAt x old now) → IsNone r ↔ IsWellFormed x
-tail_none x place old mid now None at none fault = (λ h. (well_formed_behind x place old mid at (none.0 refl)).0, λ w. refl)
-tail_none x place old mid now (Some found) at none fault = (λ h. absurd (cc), λ w. absurd (fault_refutes fault.is_fault w))
+pub tail_none : (x : List ℕ) (place old mid now : ℕ) (r : Option Fault) → IsAt x place old mid
+    → IsNone r ↔ IsWellFormed (drop place x) → IfSome r (IsFaultAt x old now) → IsNone r ↔ IsWellFormed x
+tail_none x place old mid now None at none fault =
+    (λ h. (well_formed_behind x place old mid at (none.0 refl)).0, λ w. refl)
+tail_none x place old mid now (Some found) at none fault =
+    (λ h. absurd (cc), λ w. absurd (fault_refutes fault.is_fault w))
 
-pub tail_turns : (x : List ℕ) (place old mid now : ℕ) (r : Option Fault) → IsAt x place old mid → IsNone r ↔ IsWellFormed (drop place x) → IfNone r (now ≤ mid + length (chars (drop place x))) → IfNone r (now ≤ old + length (chars x))
+pub tail_turns : (x : List ℕ) (place old mid now : ℕ) (r : Option Fault) → IsAt x place old mid
+    → IsNone r ↔ IsWellFormed (drop place x) → IfNone r (now ≤ mid + length (chars (drop place x)))
+    → IfNone r (now ≤ old + length (chars x))
 tail_turns x place old mid now None at none turns = turns_behind x place old mid now at (none.0 refl) turns
 tail_turns x place old mid now (Some found) at none turns = turns
 
-pub tail_mixed : (x : List ℕ) (place old mid now : ℕ) (r : Option Fault) → IsMixed x place old mid → place ≤ length x → length x - 15 ≤ place → IsNone r ↔ IsWellFormed (drop place x)
-    → IfNone r (now ≤ mid + length (chars (drop place x))) → IfSome r (λ fault. IsFault (drop place x) (fault_from place fault))
-    → IfSome r (λ fault. now ≤ mid + length (chars (take (fault.place - place) (drop place x))) + 1) → FewTurns x old now
-tail_mixed x place old mid now None m within last none turns f turns_to = mixed_end x place old mid m within last now (none.0 refl) turns
-tail_mixed x place old mid now (Some fault) m within last none turns f turns_to = mixed_fault_behind x place old mid m within last now (fault_from place fault) f turns_to
+pub tail_mixed : (x : List ℕ) (place old mid now : ℕ) (r : Option Fault) → IsMixed x place old mid → place ≤ length x
+    → length x - 15 ≤ place → IsNone r ↔ IsWellFormed (drop place x)
+    → IfNone r (now ≤ mid + length (chars (drop place x)))
+    → IfSome r (λ fault. IsFault (drop place x) (fault_from place fault))
+    → IfSome r (λ fault. now ≤ mid + length (chars (take (fault.place - place) (drop place x))) + 1)
+    → FewTurns x old now
+tail_mixed x place old mid now None m within last none turns f turns_to =
+    mixed_end x place old mid m within last now (none.0 refl) turns
+tail_mixed x place old mid now (Some fault) m within last none turns f turns_to =
+    mixed_fault_behind x place old mid m within last now (fault_from place fault) f turns_to
 
 -- The search begins behind octets below 80, of which the first lane has another that isn't.
-module _ (x : List ℕ) (n t : ℕ) (low : All (λ o. o < 0x80) (take n x)) (lane : 0 < n → (n < 16) × (16 ≤ length x)) (high : 0 < n → 0x80 ≤ get_or x n 0) where
+module _ (x : List ℕ) (n t : ℕ) (low : All (λ o. o < 0x80) (take n x)) (lane : 0 < n → (n < 16) × (16 ≤ length x))
+    (high : 0 < n → 0x80 ≤ get_or x n 0) where
   zero_or_some : (k : ℕ) → (k ≡ 0) ⊎ (0 < k)
   zero_or_some zero = inl refl
   zero_or_some (suc k) = inr (omega arith)
 
   pub lanes_from : IsInLanes x n t (t + n)
-  lanes_from = ⊎_elim (λ none. subst (λ k. IsInLanes x k t (t + k)) (sym none) (subst (λ k. IsInLanes x 0 t k) (let e : t ≡ t + 0 = omega arith in e) (lanes_start x t))) (λ some. from some) (zero_or_some n)
+  lanes_from = ⊎_elim
+      (λ none. subst (λ k. IsInLanes x k t (t + k)) (sym none)
+      (subst (λ k. IsInLanes x 0 t k) (let e : t ≡ t + 0 = omega arith in e) (lanes_start x t))) (λ some. from some)
+      (zero_or_some n)
     where
       from : 0 < n → IsInLanes x n t (t + n)
       from some =
@@ -105,4 +138,8 @@ module _ (x : List ℕ) (n t : ℕ) (low : All (λ o. o < 0x80) (take n x)) (lan
           }
 
   pub mixed_from : IsMixed x n t (t + n)
-  mixed_from = ⊎_elim (λ none. subst (λ k. IsMixed x k t (t + k)) (sym none) (subst (λ k. IsMixed x 0 t k) (let e : t ≡ t + 0 = omega arith in e) (mixed_start x t))) (λ some. mixed_skipped x n t (lane some).0 (let few = (lane some).0 in let room = (lane some).1 in omega arith) (high some)) (zero_or_some n)
+  mixed_from = ⊎_elim
+      (λ none. subst (λ k. IsMixed x k t (t + k)) (sym none)
+      (subst (λ k. IsMixed x 0 t k) (let e : t ≡ t + 0 = omega arith in e) (mixed_start x t)))
+      (λ some. mixed_skipped x n t (lane some).0 (let few = (lane some).0 in let room = (lane some).1 in omega arith)
+      (high some)) (zero_or_some n)

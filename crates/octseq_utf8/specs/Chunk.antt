@@ -20,7 +20,8 @@ pub record IsFirstChunk (octets : List ℕ) (chunk : Chunk) (behind : List ℕ) 
 
 -- A call that found these octets left gave a chunk, or none where nothing was left, and left those behind it.
 abbrev pub GivesChunk : List ℕ → Option Chunk → List ℕ → Type 0
-GivesChunk octets result behind = MatchOption result ((octets ≡ []) × (behind ≡ [])) (λ chunk. IsFirstChunk octets chunk behind)
+GivesChunk octets result behind =
+    MatchOption result ((octets ≡ []) × (behind ≡ [])) (λ chunk. IsFirstChunk octets chunk behind)
 
 -- All chunks of octets, from the left.
 pub data AreChunks : List ℕ → List Chunk → Type 0 where

@@ -6,13 +6,20 @@ use Rattle.std.specs.Int.{IsInRange}
 pub data IsEncoding : List ℕ → Type 0 where
   row_00_7F : {a : ℕ} → IsInRange 0x00 0x7F a → IsEncoding (a ∷ [])
   row_C2_DF : {a b : ℕ} → IsInRange 0xC2 0xDF a → IsInRange 0x80 0xBF b → IsEncoding (a ∷ b ∷ [])
-  row_E0 : {a b c : ℕ} → IsInRange 0xE0 0xE0 a → IsInRange 0xA0 0xBF b → IsInRange 0x80 0xBF c → IsEncoding (a ∷ b ∷ c ∷ [])
-  row_E1_EC : {a b c : ℕ} → IsInRange 0xE1 0xEC a → IsInRange 0x80 0xBF b → IsInRange 0x80 0xBF c → IsEncoding (a ∷ b ∷ c ∷ [])
-  row_ED : {a b c : ℕ} → IsInRange 0xED 0xED a → IsInRange 0x80 0x9F b → IsInRange 0x80 0xBF c → IsEncoding (a ∷ b ∷ c ∷ [])
-  row_EE_EF : {a b c : ℕ} → IsInRange 0xEE 0xEF a → IsInRange 0x80 0xBF b → IsInRange 0x80 0xBF c → IsEncoding (a ∷ b ∷ c ∷ [])
-  row_F0 : {a b c d : ℕ} → IsInRange 0xF0 0xF0 a → IsInRange 0x90 0xBF b → IsInRange 0x80 0xBF c → IsInRange 0x80 0xBF d → IsEncoding (a ∷ b ∷ c ∷ d ∷ [])
-  row_F1_F3 : {a b c d : ℕ} → IsInRange 0xF1 0xF3 a → IsInRange 0x80 0xBF b → IsInRange 0x80 0xBF c → IsInRange 0x80 0xBF d → IsEncoding (a ∷ b ∷ c ∷ d ∷ [])
-  row_F4 : {a b c d : ℕ} → IsInRange 0xF4 0xF4 a → IsInRange 0x80 0x8F b → IsInRange 0x80 0xBF c → IsInRange 0x80 0xBF d → IsEncoding (a ∷ b ∷ c ∷ d ∷ [])
+  row_E0 : {a b c : ℕ} → IsInRange 0xE0 0xE0 a → IsInRange 0xA0 0xBF b → IsInRange 0x80 0xBF c
+      → IsEncoding (a ∷ b ∷ c ∷ [])
+  row_E1_EC : {a b c : ℕ} → IsInRange 0xE1 0xEC a → IsInRange 0x80 0xBF b → IsInRange 0x80 0xBF c
+      → IsEncoding (a ∷ b ∷ c ∷ [])
+  row_ED : {a b c : ℕ} → IsInRange 0xED 0xED a → IsInRange 0x80 0x9F b → IsInRange 0x80 0xBF c
+      → IsEncoding (a ∷ b ∷ c ∷ [])
+  row_EE_EF : {a b c : ℕ} → IsInRange 0xEE 0xEF a → IsInRange 0x80 0xBF b → IsInRange 0x80 0xBF c
+      → IsEncoding (a ∷ b ∷ c ∷ [])
+  row_F0 : {a b c d : ℕ} → IsInRange 0xF0 0xF0 a → IsInRange 0x90 0xBF b → IsInRange 0x80 0xBF c → IsInRange 0x80 0xBF d
+      → IsEncoding (a ∷ b ∷ c ∷ d ∷ [])
+  row_F1_F3 : {a b c d : ℕ} → IsInRange 0xF1 0xF3 a → IsInRange 0x80 0xBF b → IsInRange 0x80 0xBF c
+      → IsInRange 0x80 0xBF d → IsEncoding (a ∷ b ∷ c ∷ d ∷ [])
+  row_F4 : {a b c d : ℕ} → IsInRange 0xF4 0xF4 a → IsInRange 0x80 0x8F b → IsInRange 0x80 0xBF c → IsInRange 0x80 0xBF d
+      → IsEncoding (a ∷ b ∷ c ∷ d ∷ [])
 
 -- The number of the character that an encoding stands for.
 unfoldable pub number_of : List ℕ → ℕ

@@ -1,5 +1,6 @@
 -- Where octets stop being well formed.
-use Rattle.std.specs.Prelude.{◌≡◌, ℕ, ◌+◌, ◌-◌, ◌⊎◌, List, [], ◌++◌, length, codes, Option, Some, None, unwrap_or, Bool, nat_eq}
+use Rattle.std.specs.Prelude.{◌≡◌, ℕ, ◌+◌, ◌-◌, ◌⊎◌, List, [], ◌++◌, length}
+use Rattle.std.specs.Prelude.{codes, Option, Some, None, unwrap_or, Bool, nat_eq}
 use Rattle.std.specs.Option.{option_eq}
 use Rattle.std.specs.Fmt.{decimal}
 use Rattle.std.specs.Ordering.{on, eq_of_both}
@@ -37,7 +38,8 @@ fault_from from fault = record { place = fault.place - from; size = fault.size }
 
 -- What a fault prints.
 abbrev pub text_of_size : ℕ → Option ℕ → List ℕ
-text_of_size place (Some size) = codes "invalid utf-8 sequence of " ++ (decimal size ++ (codes " bytes from index " ++ decimal place))
+text_of_size place (Some size) =
+    codes "invalid utf-8 sequence of " ++ (decimal size ++ (codes " bytes from index " ++ decimal place))
 text_of_size place None = codes "incomplete utf-8 byte sequence from index " ++ decimal place
 
 abbrev pub fault_text : Fault → List ℕ

@@ -14,11 +14,13 @@ pub record IsBeginning (octets : List ℕ) : Type 0 where
   pub proper : more ≢ []
   pub encoding : IsEncoding (octets ++ more)
 
--- The bad part of octets of which no front is an encoding: the longest front that is a beginning, or where none is the first octet.
+-- The bad part of octets of which no front is an encoding: the longest front that is a beginning, or where none is the
+-- first octet.
 pub record IsBadPart (octets bad : List ℕ) : Type 0 where
   pub front : IsFront bad octets
   pub none : (e : List ℕ) → IsFront e octets → ¬ IsEncoding e
-  pub longest : (IsBeginning bad × ((other : List ℕ) → IsFront other octets → IsBeginning other → length other ≤ length bad))
+  pub longest : (IsBeginning bad × ((other : List ℕ) → IsFront other octets → IsBeginning other
+      → length other ≤ length bad))
       ⊎ ((length bad ≡ 1) × ((other : List ℕ) → IsFront other octets → ¬ IsBeginning other))
 
 -- A part: a character by its number, or a bad part by its octets.
@@ -29,8 +31,10 @@ pub data Part : Type 0 where
 -- How octets split into parts, from the left: an encoding where one begins, and else the bad part.
 pub data Splits : List ℕ → List Part → Type 0 where
   nothing : Splits [] []
-  encoding : {e rest : List ℕ} {parts : List Part} → IsEncoding e → Splits rest parts → Splits (e ++ rest) (Char (number_of e) ∷ parts)
-  bad_part : {bad rest : List ℕ} {parts : List Part} → IsBadPart (bad ++ rest) bad → Splits rest parts → Splits (bad ++ rest) (Bad bad ∷ parts)
+  encoding : {e rest : List ℕ} {parts : List Part} → IsEncoding e → Splits rest parts
+      → Splits (e ++ rest) (Char (number_of e) ∷ parts)
+  bad_part : {bad rest : List ℕ} {parts : List Part} → IsBadPart (bad ++ rest) bad → Splits rest parts
+      → Splits (bad ++ rest) (Bad bad ∷ parts)
 
 -- The text of parts, with a character in the place of each bad part.
 abbrev pub octets_with : ℕ → Part → List ℕ

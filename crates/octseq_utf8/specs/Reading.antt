@@ -1,13 +1,18 @@
--- How the finder reads: what the first octet says of the others, and how many octets at the front fit. A second account of the table,
+-- How the finder reads: what the first octet says of the others, and how many octets at the front fit. A second account
+-- of the table,
 -- which computes. The proofs show it to be the same, and public contracts don't cite it.
-use Rattle.std.specs.Prelude.{ℕ, zero, suc, ◌-◌, max, Bool, nat_lt, ◌==◌, ◌&&◌, List, [], ◌∷◌, length, take, slice_index, if◌then◌else◌}
+use Rattle.std.specs.Prelude.{ℕ, zero, suc, ◌-◌, max, Bool, nat_lt, ◌==◌, ◌&&◌, List}
+use Rattle.std.specs.Prelude.{[], ◌∷◌, length, take, slice_index, if◌then◌else◌}
 use Rattle.std.specs.Int.{is_in_range}
 use Rattle.octseq_utf8.specs.Encoding.{number_of}
 use Rattle.octseq_utf8.specs.Parts.{Part, Char, Bad}
 
 -- how many octets an encoding that begins with this octet has, or 0 where none does
 unfoldable pub width_of : ℕ → ℕ
-width_of first = if nat_lt first 0x80 then 1 else (if nat_lt first 0xC2 then 0 else (if nat_lt first 0xE0 then 2 else (if nat_lt first 0xF0 then 3 else (if nat_lt first 0xF5 then 4 else 0))))
+width_of first =
+    if nat_lt first 0x80 then 1 else
+    (if nat_lt first 0xC2 then 0 else
+    (if nat_lt first 0xE0 then 2 else (if nat_lt first 0xF0 then 3 else (if nat_lt first 0xF5 then 4 else 0))))
 
 -- the least and the greatest octet that may stand second
 
@@ -32,7 +37,8 @@ width octets = width_of (slice_index octets 0)
 -- how many octets at the front fit an encoding that begins with the first
 abbrev pub fitting : List ℕ → ℕ
 fitting octets = let first = slice_index octets 0 in
-    fitting_by (width_of first) (length octets) (is_in_range (least_second first) (greatest_second first) (slice_index octets 1))
+    fitting_by (width_of first) (length octets)
+        (is_in_range (least_second first) (greatest_second first) (slice_index octets 1))
     (is_in_range 0x80 0xBF (slice_index octets 2)) (is_in_range 0x80 0xBF (slice_index octets 3))
 
 -- how many octets the first part has
@@ -41,7 +47,8 @@ part_len octets = max (fitting octets) 1
 
 -- the first part: an encoding where all of its width fits
 unfoldable pub first_part : List ℕ → Part
-first_part octets = let part = take (part_len octets) octets in if nat_lt 0 (width octets) && fitting octets == width octets then Char (number_of part) else Bad part
+first_part octets = let part = take (part_len octets) octets in
+    if nat_lt 0 (width octets) && fitting octets == width octets then Char (number_of part) else Bad part
 
 -- the parts behind the first n octets
 unfoldable pub parts_after : ℕ → List ℕ → List Part

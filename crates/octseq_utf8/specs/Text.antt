@@ -28,7 +28,8 @@ put_in_front a (group ∷ groups) = (a ∷ group) ∷ groups
 -- The encodings of well-formed octets: cut where the rest doesn't begin within one.
 unfoldable pub encodings_in : List ℕ → List (List ℕ)
 encodings_in [] = []
-encodings_in (a ∷ octets) = if begins_within octets then put_in_front a (encodings_in octets) else (a ∷ []) ∷ encodings_in octets
+encodings_in (a ∷ octets) =
+    if begins_within octets then put_in_front a (encodings_in octets) else (a ∷ []) ∷ encodings_in octets
 
 -- The characters of well-formed octets.
 abbrev pub chars : List ℕ → List ℕ

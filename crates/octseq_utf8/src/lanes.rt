@@ -1,5 +1,6 @@
 //! Sixteen octets at once, or eight, or four.
-ghost use Rattle.std.specs.Prelude.{◌≡◌, ◌+◌, ◌%◌, ◌<◌, ◌≤◌, ◌↔◌, nat_le, true, false, map, length, take, drop, slice_index};
+ghost use Rattle.std.specs.Prelude.{◌≡◌, ◌+◌, ◌%◌, ◌<◌, ◌≤◌, ◌↔◌, nat_le, true};
+ghost use Rattle.std.specs.Prelude.{false, map, length, take, drop, slice_index};
 ghost use Rattle.std.specs.List.{All};
 ghost use Rattle.std.specs.Simd.Lanes.{mask_l};
 

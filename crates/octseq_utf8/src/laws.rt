@@ -33,7 +33,8 @@ pub fn same_in_std()
 /// a splitting of the whole.
 pub fn one_splitting()
     ensures exists { (octets : List ℕ) → (parts : List Part) × Splits octets parts }
-    ensures only { (octets : List ℕ) (parts others : List Part) → Splits octets parts → Splits octets others → parts ≡ others }
+    ensures only { (octets : List ℕ) (parts others : List Part)
+        → Splits octets parts → Splits octets others → parts ≡ others }
     ensures joined { (good characters bad rest : List ℕ) (parts : List Part)
         → Spells good characters → IsBadPart (bad ++ rest) bad → Splits rest parts
         → Splits (good ++ (bad ++ rest)) (map Char characters ++ (Bad bad ∷ parts)) }
@@ -41,9 +42,11 @@ pub fn one_splitting()
 
 /// Octets that have a fault have one, and aren't well formed. Where the fault has a size, that is 1 to 3.
 pub fn one_fault()
-    ensures only { (octets : List ℕ) (fault other : Fault) → IsFault octets fault → IsFault octets other → fault ≡ other }
+    ensures only { (octets : List ℕ) (fault other : Fault)
+        → IsFault octets fault → IsFault octets other → fault ≡ other }
     ensures refutes { (octets : List ℕ) (fault : Fault) → IsFault octets fault → ¬ IsWellFormed octets }
-    ensures size { (octets : List ℕ) (place n : ℕ) → IsFault octets (record { place = place; size = Some n }) → (1 ≤ n) × (n ≤ 3) }
+    ensures size { (octets : List ℕ) (place n : ℕ)
+        → IsFault octets (record { place = place; size = Some n }) → (1 ≤ n) × (n ≤ 3) }
 {}
 
 /// The lossy text is well formed and no shorter than its source, and that of well-formed octets is those
@@ -51,7 +54,8 @@ pub fn one_fault()
 pub fn lossy_text()
     ensures well_formed { (octets : List ℕ) (parts : List Part) → Splits octets parts → IsWellFormed (text parts) }
     ensures longer { (octets : List ℕ) (parts : List Part) → Splits octets parts → length octets ≤ length (text parts) }
-    ensures same { (octets : List ℕ) (parts : List Part) → IsWellFormed octets → Splits octets parts → text parts ≡ octets }
+    ensures same { (octets : List ℕ) (parts : List Part)
+        → IsWellFormed octets → Splits octets parts → text parts ≡ octets }
     ensures again { (octets : List ℕ) (parts others : List Part)
         → Splits octets parts → Splits (text parts) others → text others ≡ text parts }
 {}
@@ -62,7 +66,8 @@ pub fn chunks_are_parts()
     ensures splits { (octets : List ℕ) (chunks : List Chunk)
         → AreChunks octets chunks → Splits octets (flat_map chunk_parts chunks) }
     ensures first { (octets behind : List ℕ) (chunk : Chunk) (parts rest : List Part)
-        → IsFirstChunk octets chunk behind → Splits octets parts → Splits behind rest → parts ≡ chunk_parts chunk ++ rest }
+        → IsFirstChunk octets chunk behind → Splits octets parts → Splits behind rest
+        → parts ≡ chunk_parts chunk ++ rest }
     ensures text { (octets behind : List ℕ) (chunk : Chunk) (parts rest : List Part) (w : ℕ)
         → IsFirstChunk octets chunk behind → Splits octets parts → Splits behind rest
         → text_with w parts ≡ chunk_text w chunk ++ text_with w rest }

@@ -1,5 +1,6 @@
 //! Lists of commands on parsers of the same octets.
-ghost use Rattle.std.specs.Prelude.{◌≡◌, ℕ, ◌+◌, ◌≤◌, ◌<◌, ◌↔◌, [], ◌∷◌, ◌++◌, Some, IfOk, OnOk, OnErr, MatchResult, map, option_to_list, vec_len, vec_capacity};
+ghost use Rattle.std.specs.Prelude.{◌≡◌, ℕ, ◌+◌, ◌≤◌, ◌<◌, ◌↔◌, [], ◌∷◌, ◌++◌, Some, IfOk, OnOk};
+ghost use Rattle.std.specs.Prelude.{OnErr, MatchResult, map, option_to_list, vec_len, vec_capacity};
 ghost use Rattle.octseq.specs.Parser.{window, Takes};
 ghost use Rattle.octseq.specs.Refusal.{IsShort, IsMemory, parse_octets_error};
 ghost use Rattle.octseq.specs.WindowReply.{WindowReply, shown};

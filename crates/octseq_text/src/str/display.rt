@@ -1,5 +1,6 @@
 //! Values that are shown at the end of a text.
-ghost use Rattle.std.specs.Prelude.{◌≡◌, ◌≢◌, ◌+◌, ◌++◌, ℕ, List, [], Some, None, true, false, take, drop, length, IsErr, IfSome, OnOk, OnErr};
+ghost use Rattle.std.specs.Prelude.{◌≡◌, ◌≢◌, ◌+◌, ◌++◌, ℕ, List, [], Some, None, true};
+ghost use Rattle.std.specs.Prelude.{false, take, drop, length, IsErr, IfSome, OnOk, OnErr};
 ghost use Rattle.std.specs.Borrow.{GName};
 ghost use Rattle.octseq_core.specs.Limit.{IsPast};
 ghost use Rattle.octseq_core.specs.Refusal.{Refusal, Is, IsShort, IsMemory};

@@ -2,7 +2,8 @@
 //!
 //! Every call here walks by chunks: a text, and the bad part behind it. What a call answers is one record,
 //! `ReadsLossily` of `specs/Lossy.antt`; [`StrBuilder::try_from_utf8_lossy_counted`] says it at length besides.
-ghost use Rattle.std.specs.Prelude.{◌≡◌, ◌≢◌, ℕ, ◌+◌, ◌*◌, ◌≤◌, true, None, List, [], ◌++◌, length, IsErr, IfOk, OnOk, OnErr};
+ghost use Rattle.std.specs.Prelude.{◌≡◌, ◌≢◌, ℕ, ◌+◌, ◌*◌, ◌≤◌, true, None, List};
+ghost use Rattle.std.specs.Prelude.{[], ◌++◌, length, IsErr, IfOk, OnOk, OnErr};
 ghost use Rattle.octseq_core.specs.Limit.{IsWithin, IsPast};
 ghost use Rattle.octseq_core.specs.Refusal.{IsShort, IsMemory, append_error, alloc_error};
 ghost use Rattle.octseq_utf8.specs.Chunk.{mark_of, chunk_text};

@@ -1,5 +1,6 @@
 //! A text that doesn't grow.
-ghost use Rattle.std.specs.Prelude.{◌≡◌, ◌↔◌, ◌⊎◌, true, None, [], length, string_bytes, IsTrue, IsOk, IfOk, IfErr, OnErr};
+ghost use Rattle.std.specs.Prelude.{◌≡◌, ◌↔◌, ◌⊎◌, true, None, [], length};
+ghost use Rattle.std.specs.Prelude.{string_bytes, IsTrue, IsOk, IfOk, IfErr, OnErr};
 ghost use Rattle.octseq_core.specs.ArrayOctets.{blank};
 ghost use Rattle.octseq_core.specs.Limit.{IsWithin, IsPast};
 ghost use Rattle.octseq_core.specs.Refusal.{IsShort, IsMemory, append_error};

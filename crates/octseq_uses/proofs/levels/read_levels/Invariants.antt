@@ -7,7 +7,8 @@ use Rattle.octseq_uses.specs.Levels.{level_of}
 use Rattle.octseq_uses.proofs.levels.read_levels.Given as goal
 
 abbrev pub invariant-loop-parser : goal.invariant-loop-parser
-invariant-loop-parser g l = IsReadTo (IsSigned 2) level_of (g.R.AsOctets.content l.fn.octets) (rest (window l.parser)) l.levels.items
+invariant-loop-parser g l = IsReadTo (IsSigned 2) level_of (g.R.AsOctets.content l.fn.octets) (rest (window l.parser))
+    l.levels.items
 
 abbrev pub decreases-loop-parser : goal.decreases-loop-parser
 decreases-loop-parser g l = left (window l.parser)

@@ -9,7 +9,8 @@ use Rattle.octseq_uses.proofs.records.take_records.Given as goal
 
 abbrev pub invariant-loop-parser : goal.invariant-loop-parser
 invariant-loop-parser g l = record {
-  read : IsReadTo IsRecord spelled (rest (window l.fn.parser)) (rest (window l.parser)) (map (λ read. (read.key, g.R.Range.AsOctets.content read.value)) l.records.items);
+  read : IsReadTo IsRecord spelled (rest (window l.fn.parser)) (rest (window l.parser))
+      (map (λ read. (read.key, g.R.Range.AsOctets.content read.value)) l.records.items);
   limit : (window l.parser).end ≡ (window l.fn.parser).end;
   same : sequence l.parser ≡ sequence l.fn.parser;
 }

@@ -12,4 +12,6 @@ pub returns-clause-same : goal.returns-clause-same
 returns-clause-same c = text_same 0xFFFD
 
 pub returns-clause-again : goal.returns-clause-again
-returns-clause-again c = λ octets parts others s t. text_same 0xFFFD (text parts) others (text_well_formed 0xFFFD replacement_is_character s) t
+returns-clause-again c =
+    λ octets parts others s t. text_same 0xFFFD (text parts) others (text_well_formed 0xFFFD replacement_is_character s)
+    t

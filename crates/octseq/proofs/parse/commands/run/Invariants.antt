@@ -11,7 +11,8 @@ invariant-loop-command g l =
     let windows = map (window {R = g.row.R.Denot} {g = g.R.AsOctets}) l.parsers.items in
     let so_far = map (shown g.R.Range.AsOctets.content) l.replies.items in
     record {
-      runs : RunsOn g.R.Range.AsOctets.asks (whole (g.R.AsOctets.content l.fn.octets) ∷ []) l.commands l.command-index windows so_far;
+      runs : RunsOn g.R.Range.AsOctets.asks (whole (g.R.AsOctets.content l.fn.octets) ∷ []) l.commands l.command-index
+          windows so_far;
       replied : vec_len l.replies ≡ l.command-index;
       replies_room : length l.commands ≤ vec_capacity l.replies;
       made : vec_len l.parsers ≤ l.command-index + 1;

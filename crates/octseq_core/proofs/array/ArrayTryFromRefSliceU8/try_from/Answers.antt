@@ -6,5 +6,6 @@ use Rattle.octseq_core.proofs.array.ArrayTryFromRefSliceU8.try_from.Goals as goa
 pub returns-in-Ok : goal.returns-in-Ok
 returns-in-Ok g c = (
   grind (arith, common_steps),
-  is_padded g.row.N c.append_slice.new.self c.args.slice.now (grind (arith, common_steps)) (grind (arith, common_steps)),
+  is_padded g.row.N c.append_slice.new.self c.args.slice.now (grind (arith, common_steps))
+      (grind (arith, common_steps)),
 )

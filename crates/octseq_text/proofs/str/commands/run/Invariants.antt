@@ -8,7 +8,8 @@ abbrev pub invariant-loop-command : goal.invariant-loop-command
 invariant-loop-command g l =
     let content = g.B.AsOctets.content in
     record {
-      so_far : TextRun g.B.AsOctets.limit g.B.AsOctets.asks (chars (content l.fn.builder)) (take l.command-index l.commands) l.replies.items (chars (content l.builder));
+      so_far : TextRun g.B.AsOctets.limit g.B.AsOctets.asks (chars (content l.fn.builder))
+          (take l.command-index l.commands) l.replies.items (chars (content l.builder));
       counted : vec_len l.replies ≡ l.command-index;
       room : length l.commands ≤ vec_capacity l.replies;
       borrows : g.B.AsOctets.borrows l.builder ≡ g.B.AsOctets.borrows l.fn.builder;

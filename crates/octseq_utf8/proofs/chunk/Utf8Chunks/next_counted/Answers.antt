@@ -6,7 +6,8 @@ use Rattle.octseq_utf8.proofs.Splitting.{only_parts}
 use Rattle.octseq_utf8.proofs.chunk.Utf8Chunks.next_counted.Goals as goal
 
 pub returns-then-is_empty-clause-turns : goal.returns-then-is_empty-clause-turns
-returns-then-is_empty-clause-turns c = λ parts rest s t. omega (arith, ap length (only_parts s), ap length (only_parts t))
+returns-then-is_empty-clause-turns c =
+    λ parts rest s t. omega (arith, ap length (only_parts s), ap length (only_parts t))
 
 pub returns-in-None-clause-turns : goal.returns-in-None-clause-turns
 returns-in-None-clause-turns c =
@@ -14,7 +15,8 @@ returns-in-None-clause-turns c =
     let counted = c.in-None.ensures.turns in
     rw (← c.self.view_is)
     (λ parts rest s t.
-    let none : length rest ≡ 0 = ap length (only_parts t) ∙ none_left _ (omega (arith, length-take (length x - length x) (drop (length x) x))) in
+    let none : length rest ≡ 0 =
+        ap length (only_parts t) ∙ none_left _ (omega (arith, length-take (length x - length x) (drop (length x) x))) in
     let all = ap length (only_parts s) in
     omega (arith, parts_well_formed x (c.in-None.ensures.none.0 refl)))
 

@@ -5,7 +5,8 @@ use Rattle.octseq_dns_message.specs.Data.{HasString, HasStrings}
 use Rattle.octseq_dns_message.specs.OneRow.{string_code, one_string, string_moves}
 use Rattle.std.specs.Prelude.{slice_range}
 use Rattle.octseq_dns_message.proofs.Strings.{Spelled, short_rest, spelled_none, spelled_one}
-use Rattle.octseq_dns_message.proofs.Rows.{begun, begun_read, with_one, with_one_read, no_more, gone_past, none_here, some_there, reached_as}
+use Rattle.octseq_dns_message.proofs.Rows.{begun, begun_read, with_one, with_one_read, no_more}
+use Rattle.octseq_dns_message.proofs.Rows.{gone_past, none_here, some_there, reached_as}
 use Rattle.octseq_dns_message.proofs.data.txt.Txt.parse.Goals as goal
 
 pub returns-then-pos-end-clause-malformed : goal.returns-then-pos-end-clause-malformed
