@@ -72,6 +72,7 @@ come_next front octets after k many =
       ap rest (past_behind front octets after k many) ∙ rest_behind (front ++ octets) after,
     )
 
+-- behind a front, the octets of an integer, big-endian, come next and are read as it, and others are left behind them
 pub be_comes_next : (front after : List ℕ) (k n : ℕ) → n < 256 ^ k → (k ≤ left (behind front (octets_be k n ++ after)))
     × (be (next k (behind front (octets_be k n ++ after))) ≡ n)
         × (rest (past k (behind front (octets_be k n ++ after))) ≡ after)
@@ -79,6 +80,7 @@ be_comes_next front after k n fits =
     let come = come_next front (octets_be k n) after k (length_be k n) in
     (come.0, ap be come.1 ∙ value_be k n fits, come.2)
 
+-- and so do those of an integer, little-endian
 pub le_comes_next : (front after : List ℕ) (k n : ℕ) → n < 256 ^ k → (k ≤ left (behind front (octets_le k n ++ after)))
     × (le (next k (behind front (octets_le k n ++ after))) ≡ n)
         × (rest (past k (behind front (octets_le k n ++ after))) ≡ after)
@@ -106,6 +108,7 @@ part_comes_next_by front len octets after all k many value together =
       ap (λ n. rest (past n (past k w))) count ∙ ap (λ w. rest (past (length octets) w)) behind_length ∙ second.2,
     )
 
+-- behind a front, a whole part comes next with its own octets, and others are left behind it
 pub part_comes_next : (front octets after : List ℕ) (k : ℕ) → length octets < 256 ^ k
     → HasPart k (behind front (part_of k octets ++ after))
     × (rest (part k (behind front (part_of k octets ++ after))) ≡ octets)

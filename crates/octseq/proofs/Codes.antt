@@ -24,11 +24,13 @@ halves a b x y long e = (
   sym (drop-append_seam a x) ∙ ap (λ n. drop n (a ++ x)) long ∙ ap (drop (length b)) e ∙ drop-append_seam b y,
 )
 
+-- k octets, big-endian, are a code of the integers that fit them
 pub integer_code : (k : ℕ) → IsCode (λ n. n < 256 ^ k) (octets_be k)
 integer_code k m n x y fits also e =
     let both = halves (octets_be k m) (octets_be k n) x y (length_be k m ∙ sym (length_be k n)) e in
     (sym (value_be k m fits) ∙ ap be both.0 ∙ value_be k n also, both.1)
 
+-- k octets, big-endian, are a code of the signed integers that they may stand for
 pub signed_code : (k : ℕ) → IsCode (IsSigned k) (λ z. octets_be k (unsigned k z))
 signed_code k z v x y fits also e =
     let here = signed_unsigned k z fits in
@@ -41,6 +43,7 @@ pub length_part : (k : ℕ) (octets : List ℕ) → length (part_of k octets) �
 length_part k octets =
     length-append (octets_be k (length octets)) octets ∙ ap (λ n. n + length octets) (length_be k (length octets))
 
+-- octets behind their length are a code of those whose length fits its k octets
 pub part_code : (k : ℕ) → IsCode (λ octets. length octets < 256 ^ k) (part_of k)
 part_code k a b x y fits also e =
     let apart : octets_be k (length a) ++ (a ++ x) ≡ octets_be k (length b) ++ (b ++ y) =
@@ -53,6 +56,7 @@ part_code k a b x y fits also e =
 same_pair : {A B : Type 0} (a c : A) (b d : B) → a ≡ c → b ≡ d → ◌≡◌ {A = A × B} (a, b) (c, d)
 same_pair a c b d first second = ap (λ a. (a, b)) first ∙ ap (λ b. (c, b)) second
 
+-- two codes, one behind the other, are a code of pairs
 pub pair_code : {A B : Type 0} (Fits : A → Type 0) (code : A → List ℕ) (Suits : B → Type 0) (spelling : B → List ℕ)
     → IsCode Fits code → IsCode Suits spelling
     → IsCode {A = A × B} (λ p. Fits p.0 × Suits p.1) (λ p. code p.0 ++ spelling p.1)
@@ -87,6 +91,7 @@ no_second Fits code Suits spelling octets behind a told fits read none (p, more,
 
 -- ---- windows
 
+-- in a window of all the octets, all are left
 pub rest_whole : (octets : List ℕ) → rest (whole octets) ≡ octets
 rest_whole octets = let all : length octets - 0 ≡ length octets = omega arith in ap (λ n. take n octets) all
     ∙ take-length octets
@@ -130,9 +135,11 @@ pub too_few : {A : Type 0} (Fits : A → Type 0) (code : A → List ℕ) (w : Wi
     → ((a : A) → n ≤ length (code a)) → (n ≤ left w → ⊥) → ¬ HasFront Fits code (rest w)
 too_few Fits code w n least few = too_few_fit Fits code w n (λ a _. least a) few
 
+-- fewer than k octets are left, so no integer in k octets stands there
 pub no_integer : (w : Window) (k : ℕ) → (k ≤ left w → ⊥) → ¬ HasFront (λ n. n < 256 ^ k) (octets_be k) (rest w)
 no_integer w k few = too_few (λ n. n < 256 ^ k) (octets_be k) w k (λ n. let all = length_be k n in omega arith) few
 
+-- fewer than k octets are left, so no signed integer in k octets stands there
 pub no_signed : (w : Window) (k : ℕ) → (k ≤ left w → ⊥)
     → ¬ HasFront (IsSigned k) (λ z. octets_be k (unsigned k z)) (rest w)
 no_signed w k few =

@@ -25,6 +25,7 @@ one_step_on (Some w) asks others windows after later command r s (done, d, e, f)
     (e ∙ ap (λ o. o.reply) same ∙ sym g, f ∙ ap (λ o. slice_set windows command.parser o.window ++ o.added) same
         ∙ sym h)
 
+-- where memory is never refused, a list of commands on windows has one list of replies
 pub one_replies : (asks others : Bool) (windows : List Window) (commands : List ParserCommand) (x y : List WindowReply)
     → WindowRun asks windows commands x → WindowRun others windows commands y → IsWithoutMemory x → IsWithoutMemory y
     → x ≡ y

@@ -62,10 +62,12 @@ pub record IsReadTo {A : Type 0} (Fits : A → Type 0) (code : A → List ℕ) (
   pub front : octets ≡ flat_map code things ++ rest
   pub behind : IsWhole Fits code octets → IsWhole Fits code rest
 
+-- before the first thing is read, all octets are left
 pub read_none : {A : Type 0} (Fits : A → Type 0) (code : A → List ℕ) (octets : List ℕ)
     → IsReadTo Fits code octets octets []
 read_none Fits code octets = record { each = tt; front = refl; behind = λ all. all }
 
+-- one thing more was read, and what stood behind it is left
 pub read_more : {A : Type 0} (Fits : A → Type 0) (code : A → List ℕ) → IsCode Fits code → HasOctets code
     → (octets before after : List ℕ) (things made : List A) (a : A) → IsReadTo Fits code octets before things → Fits a
     → before ≡ code a ++ after

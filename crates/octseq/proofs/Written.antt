@@ -15,6 +15,7 @@ use Rattle.octseq_core.specs.declared.builder.AppendError.{AppendError}
 use Rattle.octseq.specs.Composer.{AreOctetsOf}
 use Rattle.octseq.specs.Integer.{sum_of_first, be, le, signed, octets_be, octets_le, IsSigned, unsigned}
 
+-- a power of 256 is positive
 pub positive : (k : ℕ) → 0 < 256 ^ k
 positive zero = omega arith
 positive (suc k) = let p = positive k in let e = pow-suc 256 k in omega arith
@@ -42,6 +43,7 @@ scaled (suc k) f =
 
 -- ---- the value of one octet more
 
+-- no octets have the value 0
 pub be_nil : be [] ≡ 0
 unfolding be
 be_nil = refl
@@ -50,6 +52,7 @@ le_nil : le [] ≡ 0
 unfolding le
 le_nil = refl
 
+-- the first of big-endian octets counts 256 to the power of how many are behind it
 pub be_cons : (x : ℕ) (xs : List ℕ) → be (x ∷ xs) ≡ x * 256 ^ length xs + be xs
 unfolding be
 be_cons x xs =
@@ -69,6 +72,7 @@ le_cons x xs =
     sum_first n (λ i. slice_index (x ∷ xs) i * 256 ^ i)
     ∙ (let tail = scaled n (λ i. slice_index xs i) in omega (arith, tail))
 
+-- the last of little-endian octets counts 256 to the power of how many are before it
 pub le_snoc : (xs : List ℕ) (x : ℕ) → le (xs ++ x ∷ []) ≡ le xs + x * 256 ^ length xs
 le_snoc [] x = let last = le_cons x [] in omega (arith, last, le_nil)
 le_snoc (a ∷ xs) x =
@@ -81,6 +85,7 @@ le_snoc (a ∷ xs) x =
 reverse_cons : (x : ℕ) (xs : List ℕ) → reverse (x ∷ xs) ≡ reverse xs ++ x ∷ []
 reverse_cons x xs = reverse-append (x ∷ []) xs
 
+-- octets turned round have the little-endian value that they had big-endian
 pub le_reverse : (xs : List ℕ) → le (reverse xs) ≡ be xs
 le_reverse [] = le_nil ∙ sym be_nil
 le_reverse (x ∷ xs) =
@@ -97,9 +102,11 @@ unfolding octets_be
 length_octets zero n = refl
 length_octets (suc k) n = ap suc (length_octets k n)
 
+-- a number is written in as many big-endian octets as are asked for
 pub length_be : (k n : ℕ) → length (octets_be k n) ≡ k
 length_be k n = length_octets k n
 
+-- a number is written in as many little-endian octets as are asked for
 pub length_le : (k n : ℕ) → length (octets_le k n) ≡ k
 unfolding octets_le
 length_le k n = length-reverse (octets_be k n) ∙ length_octets k n
@@ -117,9 +124,11 @@ be_modulo (suc k) n =
     let sums : be (octet ∷ octets_be k n) ≡ n % (256 * 256 ^ k) = omega (arith, rest, split, cons) in
     sums ∙ ap (λ m. n % m) (sym power)
 
+-- the big-endian octets of a number that fits them have its value
 pub value_be : (k n : ℕ) → n < 256 ^ k → be (octets_be k n) ≡ n
 value_be k n fits = be_modulo k n ∙ mod-eq_of_lt fits
 
+-- the little-endian octets of a number that fits them have its value
 pub value_le : (k n : ℕ) → n < 256 ^ k → le (octets_le k n) ≡ n
 unfolding octets_le
 value_le k n fits = le_reverse (octets_be k n) ∙ value_be k n fits
@@ -137,6 +146,7 @@ each_snoc : (xs : List ℕ) (x : ℕ) → AllByRecursion (λ octet. octet < 256)
 each_snoc [] x each small = (small, tt)
 each_snoc (a ∷ xs) x (first, each) small = (first, each_snoc xs x each small)
 
+-- octets turned round are octets
 pub each_reverse : (xs : List ℕ) → AllByRecursion (λ octet. octet < 256) xs
     → AllByRecursion (λ octet. octet < 256) (reverse xs)
 each_reverse [] each = tt
@@ -148,6 +158,7 @@ each_le k n = each_reverse (octets_be k n) (each_be k n)
 
 -- ---- signed integers
 
+-- a signed number and the sum of its octets each give the other
 pub signed_unsigned : (k : ℕ) (z : ℤ) → IsSigned k z → (unsigned k z < 256 ^ k) × (signed k (unsigned k z) ≡ z)
 unfolding signed unsigned
 signed_unsigned k (pos n) fits = (omega arith, grind (arith, ints))
@@ -185,6 +196,7 @@ made_le k n = low_is k n ∙ ap reverse (made_be k n)
 
 -- ---- what an append says
 
+-- an append of a slice is an append of octets that the slice equals
 pub appends : {limit : Option ℕ} {asks : Bool} {result : Result (Unit {0}) AppendError} {slice octets old new : List ℕ}
     → slice ≡ octets
     → Appends limit asks result slice old new → Appends limit asks result octets old new
@@ -193,57 +205,73 @@ appends {limit} {asks} {result} {slice} {octets} {old} {new} same appended =
 
 -- ---- the widths that integers have
 
+-- a number of 8 bits is its own octet
 pub made_be_1 : (n : ℕ) → Fits w8 n → n ∷ [] ≡ octets_be 1 n
 unfolding octets_be
 made_be_1 n fits = let small : n < 2 ^ 8 = Fits-lt-pow fits in let same : n ≡ n / 256 ^ 0 % 256 = omega arith in
     ap (λ octet. octet ∷ []) same
 
+-- the octets that std makes of 16 bits, big-endian, are the 2 octets of the number
 pub made_be_2 : (n : ℕ) → to_be_bytes w16 n ≡ octets_be 2 n
 made_be_2 n = made_be 2 n
 
+-- the octets that std makes of 32 bits, big-endian, are the 4 octets of the number
 pub made_be_4 : (n : ℕ) → to_be_bytes w32 n ≡ octets_be 4 n
 made_be_4 n = made_be 4 n
 
+-- the octets that std makes of 64 bits, big-endian, are the 8 octets of the number
 pub made_be_8 : (n : ℕ) → to_be_bytes w64 n ≡ octets_be 8 n
 made_be_8 n = made_be 8 n
 
+-- the octets that std makes of 128 bits, big-endian, are the 16 octets of the number
 pub made_be_16 : (n : ℕ) → to_be_bytes w128 n ≡ octets_be 16 n
 made_be_16 n = made_be 16 n
 
+-- the octets that std makes of 16 bits, little-endian, are the 2 octets of the number
 pub made_le_2 : (n : ℕ) → to_le_bytes w16 n ≡ octets_le 2 n
 made_le_2 n = made_le 2 n
 
+-- the octets that std makes of 32 bits, little-endian, are the 4 octets of the number
 pub made_le_4 : (n : ℕ) → to_le_bytes w32 n ≡ octets_le 4 n
 made_le_4 n = made_le 4 n
 
+-- the octets that std makes of 64 bits, little-endian, are the 8 octets of the number
 pub made_le_8 : (n : ℕ) → to_le_bytes w64 n ≡ octets_le 8 n
 made_le_8 n = made_le 8 n
 
+-- the octets that std makes of 128 bits, little-endian, are the 16 octets of the number
 pub made_le_16 : (n : ℕ) → to_le_bytes w128 n ≡ octets_le 16 n
 made_le_16 n = made_le 16 n
 
 -- 3 octets and 6, cut from those that count most
 
+-- the 3 octets of the number are cut from what std makes of 32 bits, big-endian
 pub made_be_3 : (n : ℕ) → slice_range (to_be_bytes w32 n) 1 4 ≡ octets_be 3 n
 made_be_3 n = made_be 3 n
 
+-- the 3 octets of the number are cut from what std makes of 32 bits, little-endian
 pub made_le_3 : (n : ℕ) → slice_range (to_le_bytes w32 n) 0 3 ≡ octets_le 3 n
 made_le_3 n = made_le 3 n
 
+-- the 6 octets of the number are cut from what std makes of 64 bits, big-endian
 pub made_be_6 : (n : ℕ) → slice_range (to_be_bytes w64 n) 2 8 ≡ octets_be 6 n
 made_be_6 n = made_be 6 n
 
+-- the 6 octets of the number are cut from what std makes of 64 bits, little-endian
 pub made_le_6 : (n : ℕ) → slice_range (to_le_bytes w64 n) 0 6 ≡ octets_le 6 n
 made_le_6 n = made_le 6 n
 
 -- ---- what a call's octets are
 
+-- the big-endian octets of a number that fits are those that the contracts ask for
 pub are_be : (k n : ℕ) → n < 256 ^ k → AreOctetsOf be k n (octets_be k n)
 are_be k n fits = record { many = length_be k n; each = each_be k n; value = value_be k n fits }
 
+-- the little-endian octets of a number that fits are those that the contracts ask for
 pub are_le : (k n : ℕ) → n < 256 ^ k → AreOctetsOf le k n (octets_le k n)
 are_le k n fits = record { many = length_le k n; each = each_le k n; value = value_le k n fits }
 
+-- the same of a signed number, big-endian
 pub are_signed_be : (k : ℕ) (z : ℤ) → IsSigned k z
     → AreOctetsOf (λ octets. signed k (be octets)) k z (octets_be k (unsigned k z))
 are_signed_be k z fits =
@@ -251,6 +279,7 @@ are_signed_be k z fits =
     record { many = length_be k (unsigned k z); each = each_be k (unsigned k z);
         value = ap (signed k) (value_be k (unsigned k z) sum.0) ∙ sum.1 }
 
+-- the same of a signed number, little-endian
 pub are_signed_le : (k : ℕ) (z : ℤ) → IsSigned k z
     → AreOctetsOf (λ octets. signed k (le octets)) k z (octets_le k (unsigned k z))
 are_signed_le k z fits =
@@ -260,122 +289,154 @@ are_signed_le k z fits =
 
 -- ---- the widths that integers have
 
+-- one octet can stand for each signed number of 8 bits
 pub is_signed_1 : (z : ℤ) → FitsSigned w8 z → IsSigned 1 z
 is_signed_1 (pos n) fits = grind (arith, ints)
 is_signed_1 (negsuc n) fits = grind (arith, ints)
 
+-- std casts a signed number of 8 bits to its octet
 pub cast_1 : (z : ℤ) → FitsSigned w8 z → cast_unsigned w8 z ≡ unsigned 1 z
 unfolding unsigned
 cast_1 (pos n) fits = grind (arith, ints)
 cast_1 (negsuc n) fits = grind (arith, ints)
 
+-- 2 octets can stand for each signed number of 16 bits
 pub is_signed_2 : (z : ℤ) → FitsSigned w16 z → IsSigned 2 z
 is_signed_2 (pos n) fits = grind (arith, ints)
 is_signed_2 (negsuc n) fits = grind (arith, ints)
 
+-- std casts a signed number of 16 bits to the sum of its octets
 pub cast_2 : (z : ℤ) → FitsSigned w16 z → cast_unsigned w16 z ≡ unsigned 2 z
 unfolding unsigned
 cast_2 (pos n) fits = grind (arith, ints)
 cast_2 (negsuc n) fits = grind (arith, ints)
 
+-- 4 octets can stand for each signed number of 32 bits
 pub is_signed_4 : (z : ℤ) → FitsSigned w32 z → IsSigned 4 z
 is_signed_4 (pos n) fits = grind (arith, ints)
 is_signed_4 (negsuc n) fits = grind (arith, ints)
 
+-- std casts a signed number of 32 bits to the sum of its octets
 pub cast_4 : (z : ℤ) → FitsSigned w32 z → cast_unsigned w32 z ≡ unsigned 4 z
 unfolding unsigned
 cast_4 (pos n) fits = grind (arith, ints)
 cast_4 (negsuc n) fits = grind (arith, ints)
 
+-- 8 octets can stand for each signed number of 64 bits
 pub is_signed_8 : (z : ℤ) → FitsSigned w64 z → IsSigned 8 z
 is_signed_8 (pos n) fits = grind (arith, ints)
 is_signed_8 (negsuc n) fits = grind (arith, ints)
 
+-- std casts a signed number of 64 bits to the sum of its octets
 pub cast_8 : (z : ℤ) → FitsSigned w64 z → cast_unsigned w64 z ≡ unsigned 8 z
 unfolding unsigned
 cast_8 (pos n) fits = grind (arith, ints)
 cast_8 (negsuc n) fits = grind (arith, ints)
 
+-- 16 octets can stand for each signed number of 128 bits
 pub is_signed_16 : (z : ℤ) → FitsSigned w128 z → IsSigned 16 z
 is_signed_16 (pos n) fits = grind (arith, ints)
 is_signed_16 (negsuc n) fits = grind (arith, ints)
 
+-- std casts a signed number of 128 bits to the sum of its octets
 pub cast_16 : (z : ℤ) → FitsSigned w128 z → cast_unsigned w128 z ≡ unsigned 16 z
 unfolding unsigned
 cast_16 (pos n) fits = grind (arith, ints)
 cast_16 (negsuc n) fits = grind (arith, ints)
 
+-- the octet of a number of 8 bits, big-endian, have its value
 pub are_be_1 : (n : ℕ) → Fits w8 n → AreOctetsOf be 1 n (octets_be 1 n)
 are_be_1 n fits = are_be 1 n (Fits-lt-pow fits)
 
+-- the octet of a signed number of 8 bits, big-endian, have its value
 pub are_signed_be_1 : (z : ℤ) → FitsSigned w8 z
     → AreOctetsOf (λ octets. signed 1 (be octets)) 1 z (octets_be 1 (unsigned 1 z))
 are_signed_be_1 z fits = are_signed_be 1 z (is_signed_1 z fits)
 
+-- the 2 octets of a number of 16 bits, big-endian, have its value
 pub are_be_2 : (n : ℕ) → Fits w16 n → AreOctetsOf be 2 n (octets_be 2 n)
 are_be_2 n fits = are_be 2 n (Fits-lt-pow fits)
 
+-- the 2 octets of a signed number of 16 bits, big-endian, have its value
 pub are_signed_be_2 : (z : ℤ) → FitsSigned w16 z
     → AreOctetsOf (λ octets. signed 2 (be octets)) 2 z (octets_be 2 (unsigned 2 z))
 are_signed_be_2 z fits = are_signed_be 2 z (is_signed_2 z fits)
 
+-- the 2 octets of a number of 16 bits, little-endian, have its value
 pub are_le_2 : (n : ℕ) → Fits w16 n → AreOctetsOf le 2 n (octets_le 2 n)
 are_le_2 n fits = are_le 2 n (Fits-lt-pow fits)
 
+-- the 2 octets of a signed number of 16 bits, little-endian, have its value
 pub are_signed_le_2 : (z : ℤ) → FitsSigned w16 z
     → AreOctetsOf (λ octets. signed 2 (le octets)) 2 z (octets_le 2 (unsigned 2 z))
 are_signed_le_2 z fits = are_signed_le 2 z (is_signed_2 z fits)
 
+-- the 3 octets of a number of 24 bits, big-endian, have its value
 pub are_be_3 : (n : ℕ) → n < 256 ^ 3 → AreOctetsOf be 3 n (octets_be 3 n)
 are_be_3 n fits = are_be 3 n fits
 
+-- the 3 octets of a number of 24 bits, little-endian, have its value
 pub are_le_3 : (n : ℕ) → n < 256 ^ 3 → AreOctetsOf le 3 n (octets_le 3 n)
 are_le_3 n fits = are_le 3 n fits
 
+-- the 4 octets of a number of 32 bits, big-endian, have its value
 pub are_be_4 : (n : ℕ) → Fits w32 n → AreOctetsOf be 4 n (octets_be 4 n)
 are_be_4 n fits = are_be 4 n (Fits-lt-pow fits)
 
+-- the 4 octets of a signed number of 32 bits, big-endian, have its value
 pub are_signed_be_4 : (z : ℤ) → FitsSigned w32 z
     → AreOctetsOf (λ octets. signed 4 (be octets)) 4 z (octets_be 4 (unsigned 4 z))
 are_signed_be_4 z fits = are_signed_be 4 z (is_signed_4 z fits)
 
+-- the 4 octets of a number of 32 bits, little-endian, have its value
 pub are_le_4 : (n : ℕ) → Fits w32 n → AreOctetsOf le 4 n (octets_le 4 n)
 are_le_4 n fits = are_le 4 n (Fits-lt-pow fits)
 
+-- the 4 octets of a signed number of 32 bits, little-endian, have its value
 pub are_signed_le_4 : (z : ℤ) → FitsSigned w32 z
     → AreOctetsOf (λ octets. signed 4 (le octets)) 4 z (octets_le 4 (unsigned 4 z))
 are_signed_le_4 z fits = are_signed_le 4 z (is_signed_4 z fits)
 
+-- the 6 octets of a number of 48 bits, big-endian, have its value
 pub are_be_6 : (n : ℕ) → n < 256 ^ 6 → AreOctetsOf be 6 n (octets_be 6 n)
 are_be_6 n fits = are_be 6 n fits
 
+-- the 6 octets of a number of 48 bits, little-endian, have its value
 pub are_le_6 : (n : ℕ) → n < 256 ^ 6 → AreOctetsOf le 6 n (octets_le 6 n)
 are_le_6 n fits = are_le 6 n fits
 
+-- the 8 octets of a number of 64 bits, big-endian, have its value
 pub are_be_8 : (n : ℕ) → Fits w64 n → AreOctetsOf be 8 n (octets_be 8 n)
 are_be_8 n fits = are_be 8 n (Fits-lt-pow fits)
 
+-- the 8 octets of a signed number of 64 bits, big-endian, have its value
 pub are_signed_be_8 : (z : ℤ) → FitsSigned w64 z
     → AreOctetsOf (λ octets. signed 8 (be octets)) 8 z (octets_be 8 (unsigned 8 z))
 are_signed_be_8 z fits = are_signed_be 8 z (is_signed_8 z fits)
 
+-- the 8 octets of a number of 64 bits, little-endian, have its value
 pub are_le_8 : (n : ℕ) → Fits w64 n → AreOctetsOf le 8 n (octets_le 8 n)
 are_le_8 n fits = are_le 8 n (Fits-lt-pow fits)
 
+-- the 8 octets of a signed number of 64 bits, little-endian, have its value
 pub are_signed_le_8 : (z : ℤ) → FitsSigned w64 z
     → AreOctetsOf (λ octets. signed 8 (le octets)) 8 z (octets_le 8 (unsigned 8 z))
 are_signed_le_8 z fits = are_signed_le 8 z (is_signed_8 z fits)
 
+-- the 16 octets of a number of 128 bits, big-endian, have its value
 pub are_be_16 : (n : ℕ) → Fits w128 n → AreOctetsOf be 16 n (octets_be 16 n)
 are_be_16 n fits = are_be 16 n (Fits-lt-pow fits)
 
+-- the 16 octets of a signed number of 128 bits, big-endian, have its value
 pub are_signed_be_16 : (z : ℤ) → FitsSigned w128 z
     → AreOctetsOf (λ octets. signed 16 (be octets)) 16 z (octets_be 16 (unsigned 16 z))
 are_signed_be_16 z fits = are_signed_be 16 z (is_signed_16 z fits)
 
+-- the 16 octets of a number of 128 bits, little-endian, have its value
 pub are_le_16 : (n : ℕ) → Fits w128 n → AreOctetsOf le 16 n (octets_le 16 n)
 are_le_16 n fits = are_le 16 n (Fits-lt-pow fits)
 
+-- the 16 octets of a signed number of 128 bits, little-endian, have its value
 pub are_signed_le_16 : (z : ℤ) → FitsSigned w128 z
     → AreOctetsOf (λ octets. signed 16 (le octets)) 16 z (octets_le 16 (unsigned 16 z))
 are_signed_le_16 z fits = are_signed_le 16 z (is_signed_16 z fits)
@@ -383,14 +444,20 @@ are_signed_le_16 z fits = are_signed_le 16 z (is_signed_16 z fits)
 -- those of each width
 pub ruleset written_1 = (are_be_1, made_be_1, are_signed_be_1, cast_1)
 
+-- how 2 octets are written
 pub ruleset written_2 = (are_be_2, made_be_2, are_signed_be_2, are_le_2, made_le_2, are_signed_le_2, cast_2)
 
+-- how 3 octets are written
 pub ruleset written_3 = (are_be_3, made_be_3, are_le_3, made_le_3)
 
+-- how 4 octets are written
 pub ruleset written_4 = (are_be_4, made_be_4, are_signed_be_4, are_le_4, made_le_4, are_signed_le_4, cast_4)
 
+-- how 6 octets are written
 pub ruleset written_6 = (are_be_6, made_be_6, are_le_6, made_le_6)
 
+-- how 8 octets are written
 pub ruleset written_8 = (are_be_8, made_be_8, are_signed_be_8, are_le_8, made_le_8, are_signed_le_8, cast_8)
 
+-- how 16 octets are written
 pub ruleset written_16 = (are_be_16, made_be_16, are_signed_be_16, are_le_16, made_le_16, are_signed_le_16, cast_16)

@@ -25,6 +25,7 @@ opt_from : ℕ → ℕ → ℕ → Bool → List EdnsOption → Opt
 opt_from size rcode version marked options =
     record { udp_payload_size = size; extended_rcode = rcode; version = version; dnssec_ok = marked; options = options }
 
+-- a record says one thing at most as a record of EDNS
 pub one_opt : (r : Record) (opt other : Opt) → IsOpt r opt → IsOpt r other → opt ≡ other
 unfolding opt_from
 one_opt r opt other a b =

@@ -71,15 +71,18 @@ none_behind_number {k = k} Second w u n is none = none_second (IsNumber k) Secon
 pub no_question : (w : Window) → NoneAt (HasName then IsNumber 2 then IsNumber 2) w → NoneAt IsQuestion w
 no_question w none q v is = none (q.qname, (q.qtype, q.qclass)) v is
 
+-- no record stands where a name, three numbers and data, one behind another, don't
 pub no_record : (w : Window) → NoneAt (HasName then IsNumber 2 then IsNumber 2 then IsNumber 4 then IsData) w
     → NoneAt IsRecord w
 no_record w none r v is = none (r.owner, (r.rtype, (r.class, (r.ttl, r.rdata)))) v is
 
 -- ---- how many octets things take
 
+-- a number in k octets takes k octets at least
 pub number_takes : (k : ℕ) (w v : Window) (n : ℕ) → IsNumber k w n v → left v + k ≤ left w
 number_takes k w v n is = let room = is.0 in let end = ap left is.2 in omega (arith, room, end)
 
+-- a row of numbers in k octets takes k octets at least for each of them
 pub numbers_take : (k : ℕ) (w v : Window) (row : List ℕ) → Row (IsNumber k) w row v → left v + k * length row ≤ left w
 numbers_take k w v [] is = let end = ap left is in omega (arith, end)
 numbers_take k w v (n ∷ row) is =
@@ -87,9 +90,11 @@ numbers_take k w v (n ∷ row) is =
     let more = numbers_take k is.0 v row is.2 in
     omega (arith, one, more)
 
+-- no more octets are left behind data than before it
 pub data_takes : (w inside v : Window) → IsData w inside v → left v ≤ left w
 data_takes w inside v is = let end = ap left is.2 in omega (arith, end)
 
+-- a question takes 5 octets at least
 pub question_takes : (w v : Window) (q : Question) → IsQuestion w q v → left v + 5 ≤ left w
 question_takes w v q is =
     let a = name_takes w is.0 q.qname.labels is.1.1 in
@@ -97,6 +102,7 @@ question_takes w v q is =
     let c = number_takes 2 is.2.0 v q.qclass is.2.2 in
     omega (arith, a, b, c)
 
+-- and so does a record
 pub record_takes : (w v : Window) (r : Record) → IsRecord w r v → left v + 5 ≤ left w
 record_takes w v r is =
     let a = name_takes w is.0 r.owner.labels is.1.1 in
@@ -132,6 +138,7 @@ pub row_more : {A : Type 0} (Is : Window → A → Window → Type 0) (w u v : W
 row_more Is w u v [] one a is = (v, subst (λ x. Is x one v) a is, refl)
 row_more Is w u v (x ∷ row) one a is = (a.0, a.1, row_more Is a.0 u v row one a.2 is)
 
+-- a row of so many things, and one more behind it, is a row of one more
 pub many_more : {A : Type 0} (Is : Window → A → Window → Type 0) (w u v : Window) (taken : ℕ) (row : List A) (one : A)
     → Many taken Is w row u → Is u one v
     → Many (taken + 1) Is w (row ++ one ∷ []) v
@@ -202,5 +209,6 @@ pub held_as : {A : Type 0} (code : Coded A) (Is : Window → A → Window → Ty
 held_as code Is one w end count row held is = ∥∥₁_elim held.1 (Coded-set (coded_list code) row held.0)
     (λ x. (one_many count Is one w end x.0 row held.0 is x.1).0)
 
+-- a row has fewer things behind its first one than in all
 pub fewer : {A : Type 0} (one : A) (row more : List A) → row ≡ one ∷ more → length more < length row
 fewer one row more is = let lengths = ap length is in omega (arith, lengths)

@@ -95,12 +95,15 @@ shape_by k rtype class w v form of is =
 
 -- ---- where no form stands
 
+-- no mail exchange stands where a number of 2 octets and a name behind it don't
 pub no_mx : (w : Window) → NoneAt (IsNumber 2 then HasName) w → NoneAt HasMx w
 no_mx w none mx v is = none (mx.preference, mx.exchange) v is
 
+-- no place of a service stands where three numbers of 2 octets and a name behind them don't
 pub no_srv : (w : Window) → NoneAt (IsNumber 2 then IsNumber 2 then IsNumber 2 then HasName) w → NoneAt HasSrv w
 no_srv w none srv v is = none (srv.priority, (srv.weight, (srv.port, srv.target))) v is
 
+-- no start of a zone of authority stands where two names and five numbers of 4 octets behind them don't
 pub no_soa : (w : Window)
     → NoneAt (HasName then HasName then IsNumber 4 then IsNumber 4 then IsNumber 4 then IsNumber 4 then IsNumber 4) w
     → NoneAt HasSoa w
@@ -112,6 +115,7 @@ pub none_by : (k : Kind) (rtype class : ℕ) (w : Window) → rtype ≡ number k
     → NoneAt (HasForm rtype class) w
 none_by k rtype class w of none form v is = none form v (shape_by k rtype class w v form of is)
 
+-- no form that is made of a thing stands where no such thing does
 pub none_made : {A : Type 0} (make : A → Form) (Has : Window → A → Window → Type 0) (w : Window) → NoneAt Has w
     → NoneAt (Made make Has) w
 none_made make Has w none form v is = none is.0 v is.2

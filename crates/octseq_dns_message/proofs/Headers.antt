@@ -93,6 +93,7 @@ sixth : List ℕ → ℕ × (ℕ × (ℕ × (ℕ × (ℕ × ℕ))))
 sixth (a ∷ b ∷ c ∷ d ∷ e ∷ f ∷ more) = (a, (b, (c, (d, (e, f)))))
 sixth _ = (0, (0, (0, (0, (0, 0)))))
 
+-- at most one header stands at a place, with one end
 pub one_header : IsOne IsHeader
 unfolding sixth
 one_header w u v h k a b =

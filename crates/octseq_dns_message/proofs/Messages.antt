@@ -26,6 +26,7 @@ one_last n m = one_then (Many n IsRecord) (Many m IsRecord) (one_records n) (one
 one_replies : (k n m : ℕ) → IsOne (Many k IsRecord then Many n IsRecord then Many m IsRecord)
 one_replies k n m = one_then (Many k IsRecord) (Many n IsRecord then Many m IsRecord) (one_records k) (one_last n m)
 
+-- the sections that a header counts stand at a place in one way at most, with one end
 pub one_sections : (h : Header) → IsOne (AreSections h)
 one_sections h = one_then (Many h.qdcount IsQuestion)
     (Many h.ancount IsRecord then Many h.nscount IsRecord then Many h.arcount IsRecord)
@@ -103,6 +104,7 @@ some_behind octets h v end s is are some k q a b d m =
 
 -- ---- octets are a message in one way at most
 
+-- readings of octets as a message agree on the header, and on the entries of each section
 pub said_once : (octets : List ℕ) (h k : Header) (q others : List Question) (a b d x y z : List Record)
     → IsMessage octets h q a b d → IsMessage octets k others x y z
     → (h ≡ k) × (q ≡ others) × (a ≡ x) × (b ≡ y) × (d ≡ z)

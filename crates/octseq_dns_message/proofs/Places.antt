@@ -17,6 +17,7 @@ stands_of start w v labels pointers (Stands.label {u = u} {labels = more} has re
 stands_of start w v labels pointers (Stands.pointer has rest) =
     (ap (λ v. v.octets) has.behind, ap (λ v. v.end) has.behind)
 
+-- the window behind a name is of the same octets, with the same end
 pub name_of_window : (w v : Window) (labels : List (List ℕ)) → IsName w labels v → IsOf w v
 name_of_window w v labels name = stands_of w.position w v labels name.pointers name.stands
 

@@ -15,6 +15,7 @@ use Rattle.octseq_dns_message.proofs.Formats.{NoneAt, row_more}
 pub string_less : (w v : Window) (string : List ℕ) → HasString w string v → left v < left w
 string_less w v string is = let moved = ap left is.2 in let room = is.0.0 in omega (arith, moved, room)
 
+-- fewer octets are left behind an option than before it
 pub option_less : (w v : Window) (option : EdnsOption) → HasOption w option v → left v < left w
 option_less w v option is =
     let code = ap left is.1.2 in
@@ -36,6 +37,7 @@ pub record Reading {A : Type 0} (Is : Window → A → Window → Type 0) (w u :
   pub row : Row Is w read u
   pub ahead : (all : List A) (v : Window) → Row Is w all v → v.position ≡ end → (more : List A) × Row Is u more v
 
+-- before anything was read, all of the row is ahead
 pub begun : {A : Type 0} (Is : Window → A → Window → Type 0) (w : Window) (end : ℕ) → Reading Is w w end
 begun Is w end = record { read = []; row = refl; ahead = λ all v row ends. (all, row) }
 
@@ -145,6 +147,7 @@ reached_more code Is single moves w u end one held other is =
     let on = first_of Is single w u x.0 one held.0 (λ same. other (same ∙ x.2)) is x.1 in
     (on.0, ∣ (x.0, on.2, x.2) ∣₁))
 
+-- a row that is kept is the thing that stands first, and then the row that is kept behind it
 pub reached_then : {A : Type 0} (code : Coded A) (Is : Window → A → Window → Type 0) → IsOne Is → Moves Is
     → (w u : Window) (end last : ℕ) (one : A) (held : Reaches Is w end)
     (behind : Reaches Is u last) → last ≡ end → (w.position ≡ end → ⊥) → Is w one u → held.0 ≡ one ∷ behind.0

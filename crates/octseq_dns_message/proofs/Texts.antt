@@ -11,10 +11,12 @@ use Rattle.std.specs.Net.Text.{groups_text, hex_groups_text, ipv6_text, longest_
 use Rattle.octseq_dns_message.specs.DataText.{AreZero, IsFirstLongest, IsGroupsText, aaaa_text, hex_text}
 use Rattle.octseq_dns_message.specs.DataText.{is_compatible, octets_behind}
 
+-- no octets are shown as an empty text, without a space
 pub none_behind : (octets : List ℕ) → length octets ≡ 0 → [] ≡ octets_behind octets
 none_behind [] none = refl
 none_behind (octet ∷ octets) none = absurd (omega (arith, none))
 
+-- octets, where there are any, are shown as a space, and then each in hexadecimal
 pub some_behind : (octets : List ℕ) → 0 < length octets → 32 ∷ flat_map hex_text octets ≡ octets_behind octets
 some_behind [] some = absurd (omega (arith, some))
 some_behind (octet ∷ octets) some = refl
@@ -115,6 +117,7 @@ groups_are_text groups =
     compressed groups run (first_longest groups) (nat_lt 1 run.1) (λ told. omega (arith, leb-true 2 run.1 told))
     (λ told. omega (arith, leb-false 2 run.1 told))
 
+-- an IPv6 address that isn't shown with an IPv4 address in it is shown as the text of its groups
 pub address_is_text : (octets : List ℕ) → (is_compatible octets ≡ true → ⊥) → (IsIpv4Mapped (segments_of octets) → ⊥)
     → IsGroupsText (segments_of octets) (aaaa_text octets)
 unfolding ipv6_text

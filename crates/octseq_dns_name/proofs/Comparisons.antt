@@ -53,6 +53,7 @@ nothing_left (x ∷ xs) [] is = nat_cmp_is (length (x ∷ xs)) 0 Greater (omega 
 nothing_left (x ∷ xs) (y ∷ ys) (inl is) = absurd (omega (arith, is))
 nothing_left (x ∷ xs) (y ∷ ys) (inr is) = absurd (omega (arith, is))
 
+-- from where the shorter of two labels ends on, they compare as their lengths do
 pub label_cmp_end : (xs ys : List ℕ) (i : ℕ) → i ≡ min (length xs) (length ys)
     → label_cmp (drop i xs) (drop i ys) ≡ nat_cmp (length xs) (length ys)
 label_cmp_end xs ys i least =
@@ -97,6 +98,7 @@ canonical_append : (xs more : List (List ℕ)) → canonical (xs ++ more) ≡ ca
 canonical_append xs more = ap reverse (map-append lower_label xs more)
     ∙ reverse-append (lower_labels xs) (lower_labels more)
 
+-- the canonical form of a name has as many labels as the name
 pub canonical_length : (xs : List (List ℕ)) → length (canonical xs) ≡ length xs
 canonical_length xs = length-reverse (lower_labels xs) ∙ length-map xs lower_label
 

@@ -151,6 +151,7 @@ stands_takes start w v labels pointers (Stands.label {u = u} {labels = more} has
 stands_takes start w v labels pointers (Stands.pointer has rest) = let room = has.room in let is = ap left has.behind in
     omega (arith, room, is)
 
+-- so does a name with no more octets and pointers than it may have
 pub name_takes : (w v : Window) (labels : List (List ℕ)) → IsName w labels v → left v + 1 ≤ left w
 name_takes w v labels name = stands_takes w.position w v labels name.pointers name.stands
 
@@ -162,9 +163,11 @@ pub record Reading (w : Window) (start : ℕ) (v : Window) (size pointers : ℕ)
   pub read : LeadsTo w.position w start v labels pointers behind
   pub size_is : size ≡ wire_length labels
 
+-- a reading begins with no labels, whose wire form is the root's one octet, and with no pointer
 pub begun : (w : Window) → Reading w w.position w 1 0 None
 begun w = record { labels = []; read = leads_none w.position w; size_is = refl }
 
+-- the reading goes on behind a label, whose octets and the one of its length are counted
 pub with_label : (w : Window) (start : ℕ) (v u : Window) (size made pointers : ℕ) (behind : Option Window) (l : List ℕ)
     → Reading w start v size pointers behind
     → HasLabel v l u → made ≡ size + (1 + length l) → Reading w start u made pointers behind
@@ -175,6 +178,7 @@ with_label w start v u size made pointers behind l so_far has is = record {
       omega (arith, both, before, is);
 }
 
+-- the reading goes on where a pointer leads, with one pointer more, and no octet more
 pub with_pointer : (w : Window) (start : ℕ) (v u : Window) (size pointers : ℕ) (behind : Option Window) (to : ℕ)
     → Reading w start v size pointers behind
     → HasPointer start v to u → Reading w to (at to v) size (pointers + 1) (Some (end_of behind u))

@@ -280,6 +280,7 @@ ended NameError.LongName labels is =
 ended NameError.IllegalEscape labels is = absurd (no_octet 92 is.1 is.2.0 is.2.1)
 ended NameError.IllegalOctet labels is = absurd (no_octet is.0 is.2 is.3.0 is.3.1)
 
+-- a text that is refused for a reason spells no name
 pub no_name : (fault : NameError) (text : List ℕ) → IsRefused fault text → (labels : List (List ℕ)) → AreLabels labels
     → wire_length labels ≤ 255 → ¬ SpellsName labels text
 no_name fault text is labels are short spells =
@@ -304,6 +305,7 @@ abbrev is_error : {T E : Type 0} → Result T E → Type 0
 is_error (Ok value) = ⊥
 is_error (Err e) = Unit {0}
 
+-- a call that answered a value answered no error
 pub ok_no_err : {T E : Type 0} (result : Result T E) (value : T) (e : E) → result ≡ Ok value → ¬ (result ≡ Err e)
 ok_no_err result value e is told = subst is_error (sym told ∙ is) tt
 

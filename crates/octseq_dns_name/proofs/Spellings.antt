@@ -56,6 +56,7 @@ no_full_stop a s xs ys (SpellsOctet.numbered few) same = let e = head same in ab
 
 -- ---- labels
 
+-- a spelling of a label with a full stop behind it tells the label, and what stands behind the full stop
 pub label_once : (label other s t xs ys : List ℕ) → SpellsLabel label s → SpellsLabel other t
     → s ++ 46 ∷ xs ≡ t ++ 46 ∷ ys → (label ≡ other) × (xs ≡ ys)
 label_once [] [] s t xs ys one two same =
@@ -73,6 +74,7 @@ label_once (a ∷ label) (b ∷ other) s t xs ys one two same =
     let rest = label_once label other one.1 two.1 xs ys one.4 two.4 first.1 in
     (ap (λ o. o ∷ label) first.0 ∙ ap (λ l. b ∷ l) rest.0, rest.1)
 
+-- a text with a full stop in it isn't empty
 pub no_end : (s ys : List ℕ) → ¬ (s ++ 46 ∷ ys ≡ [])
 no_end [] ys same = let e = ap length same in absurd (omega (arith, e))
 no_end (x ∷ s) ys same = let e = ap length same in absurd (omega (arith, e))
@@ -95,6 +97,7 @@ not_root (a ∷ label) labels some spells =
     no_full_stop a first.0 (first.1 ++ 46 ∷ spells.1) [] first.3 (sym (append_assoc first.0 first.1 (46 ∷ spells.1))
     ∙ ap (λ l. l ++ 46 ∷ spells.1) (sym first.2) ∙ sym spells.2)
 
+-- a text spells one name at most
 pub name_once : (labels others : List (List ℕ)) (text : List ℕ) → AreLabels labels → AreLabels others
     → SpellsName labels text → SpellsName others text → labels ≡ others
 name_once [] [] text are others_are one two = refl
@@ -135,6 +138,7 @@ labels_spelled (label ∷ labels) are = (
   labels_spelled labels are.1,
 )
 
+-- the text that is printed of a name spells that name
 pub name_spelled : (labels : List (List ℕ)) → AreOctetLabels labels → SpellsName labels (name_text labels)
 name_spelled [] are = refl
 name_spelled (label ∷ labels) are = labels_spelled (label ∷ labels) are

@@ -17,6 +17,7 @@ bodies = flat_map (λ label. length label ∷ label)
 
 -- ---- lengths
 
+-- labels, each behind its length, have as many octets as their wire form, but for that of the root
 pub bodies_length : (labels : List (List ℕ)) → length (bodies labels) + 1 ≡ wire_length labels
 bodies_length [] = refl
 bodies_length (label ∷ labels) =
@@ -24,6 +25,7 @@ bodies_length (label ∷ labels) =
     let all = length-append label (bodies labels) in
     omega (arith, more, all)
 
+-- the wire form of labels has as many octets as their wire length says
 pub wire_has : (labels : List (List ℕ)) → length (wire labels) ≡ wire_length labels
 wire_has labels = length-append (bodies labels) (0 ∷ []) ∙ bodies_length labels
 
@@ -97,6 +99,7 @@ wire_named octets labels are each short =
 
 -- ---- the writer
 
+-- where labels have 1 to 63 octets each, they still do with one more such label behind them
 pub one_more : (labels : List (List ℕ)) (label : List ℕ) → AreLabels labels → 1 ≤ length label → length label ≤ 63
     → AreLabels (labels ++ label ∷ [])
 one_more [] label are some short = (some, short, tt)

@@ -30,6 +30,7 @@ bad_self q b =
     let all : fitting (q ++ []) ≡ length q = omega arith in
     bad_at q [] some (inr (omega arith)) (omega arith)
 
+-- a beginning splits into one part, the bad part that is all of it
 pub parts_self : (q : List ℕ) → IsBeginning q → parts_of q ≡ Bad q ∷ []
 parts_self q b = ap parts_of (sym (append-nil q)) ∙ parts_bad q [] (bad_self q b) ∙ ap (λ ps. Bad q ∷ ps) parts_nil
 

@@ -143,6 +143,7 @@ pub record AreInTwo (x front rest : List ℕ) : Type 0 where
   pub spells_before : Spells before front
   pub spells_after : Spells after rest
 
+-- octets that spell a front of characters and a rest are in two: those of the front, and those of the rest
 pub are_in_two : {x front rest : List ℕ} → Spells x (front ++ rest) → AreInTwo x front rest
 are_in_two {x} {front} {rest} s =
     let t = in_two s.encodings front rest s.numbers in
@@ -165,6 +166,7 @@ at_boundary x w n front f = are_in_two (subst (Spells x) f.joined (spelled x w))
 length_before : {x front rest : List ℕ} (t : AreInTwo x front rest) → length t.before ≡ length (octets_of front)
 length_before t = sym (ap length (octets_of_spelled t.spells_before))
 
+-- where the characters in front have n octets, the first n octets are those that spell them
 pub take_before : (x : List ℕ) (n : ℕ) {front rest : List ℕ} (t : AreInTwo x front rest) → length (octets_of front) ≡ n
     → take n x ≡ t.before
 take_before x n t long =
@@ -191,6 +193,7 @@ from_boundary x w n (front, f) =
     (omega (arith, length-append t.before t.after), ap begins_within (drop_before x n t f.long)
         ∙ begins_spelled t.spells_after)
 
+-- well-formed octets stay so when they are cut at a boundary, or at their end or past it
 pub well_formed-cut : (x : List ℕ) → IsWellFormed x → (n : ℕ) → (n < length x → IsBoundary x n)
     → IsWellFormed (take n x)
 well_formed-cut x w n h = ⊎_elim (λ lt. cut_at (h lt)) (λ ge. subst IsWellFormed (sym (take_all n x ge)) w)

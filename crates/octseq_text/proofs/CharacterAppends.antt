@@ -42,6 +42,7 @@ on_ok : {T E : Type 0} (r : Result T E) (P Q : Type 0) → (P → Q) → OnOk r 
 on_ok (Ok x) P Q f p = f p
 on_ok (Err e) P Q f p = tt
 
+-- an append of well-formed octets to well-formed ones, done or refused, is an append of their characters
 pub appends : (limit : Option ℕ) (asks : Bool) (r : Result (Unit {0}) AppendError) (new old more : List ℕ)
     → OnOk r (new ≡ old ++ more) → OnErr r (new ≡ old)
     → (IsShort append_error r ↔ IsPast limit (length old + length more)) → (IsMemory append_error r → asks ≡ true)

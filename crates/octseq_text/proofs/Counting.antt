@@ -52,12 +52,14 @@ module _ (b : List ℕ) (o : ℕ) (begins : IsBeginning b) where
       absurd (omega (arith, ap length e, length-append b (o ∷ []), length-append c (d ++ concat es),
           length-append d (concat es)))
 
+-- a beginning and one octet behind it, where they are well formed, are one character at most
 pub one_character : (b seen : List ℕ) (o : ℕ) → IsBeginning b → seen ≡ b ++ o ∷ [] → IsWellFormed seen
     → length (chars seen) ≤ 1
 one_character b seen o begins e (cs, s) =
     let few = one_encoding b o begins s.encodings s.each (s.joined ∙ e) in
     omega (arith, ap length (chars_of s), ap length s.numbers, length-map s.encodings number_of)
 
+-- where a beginning and one octet behind it have a fault, no character stands before it
 pub none_before_fault : (b seen : List ℕ) (o : ℕ) → IsBeginning b → seen ≡ b ++ o ∷ [] → (fault : Fault)
     → IsFault seen fault → length (chars (take fault.place seen)) ≡ 0
 none_before_fault b seen o begins e fault f =

@@ -221,6 +221,7 @@ module _ (x : List ℕ) (w : IsWellFormed x) (some : 0 < length x) (p : ℕ) (is
 
 -- a text without its last character
 
+-- the encoding of a last character is no longer than the octets that end with it
 pub encoding_short : (x : List ℕ) (c : ℕ) → EndsWith x c → length (encoding_of c) ≤ length x
 encoding_short x c e = let long = ap length e.whole in omega (arith, length-append e.before (encoding_of c))
 
@@ -230,11 +231,13 @@ without_last x c n e cut =
     let here : n ≡ length e.before = omega (arith, length-append e.before (encoding_of c)) in
     ap (λ k. take k x) here ∙ ap (λ y. take (length e.before) y) e.whole ∙ take-append_seam e.before (encoding_of c)
 
+-- The text y is x without its last character, which is c.
 pub record IsPopped (x y : List ℕ) (c : ℕ) : Type 0 where
   pub text : IsWellFormed y
   pub octets : x ≡ y ++ encoding_of c
   pub characters : chars x ≡ chars y ++ c ∷ []
 
+-- a text that is cut by as many octets as its last encoding has is without its last character
 pub popped : (x y : List ℕ) (c n : ℕ) → EndsWith x c → n ≡ length x - length (encoding_of c) → y ≡ take n x
     → IsPopped x y c
 popped x y c n e cut taken =

@@ -119,6 +119,7 @@ one_step limit asks other b command.Len r s x y p q kept also_kept = (p.0 ∙ sy
 one_step limit asks other b (command.Is t) r s x y (c, e, p, u) (d, f, q, v) kept also_kept =
     (e ∙ ap (λ z. reply.Is z) (one_truth _ c d p q) ∙ sym f, u ∙ sym v)
 
+-- where memory is never refused, a list of commands on a text has one list of replies, and leaves one text
 pub one_run : (limit : Option ℕ) (asks other : Bool) (b : List ℕ) (commands : List Command) (rs ss : List Reply)
     (x y : List ℕ)
     → TextRun limit asks b commands rs x → TextRun limit other b commands ss y → IsWithoutMemory rs → IsWithoutMemory ss
@@ -147,6 +148,7 @@ no_memory limit b command.Pop x (c, e, p) = cc
 no_memory limit b command.Len x p = let e = p.0 in cc
 no_memory limit b (command.Is t) x (c, e, p, u) = cc
 
+-- where the type requests no memory, no reply says that a request for memory was refused
 pub without_memory : (limit : Option ℕ) (b : List ℕ) (commands : List Command) (rs : List Reply) (x : List ℕ)
     → TextRun limit false b commands rs x → IsWithoutMemory rs
 without_memory limit b commands [] x p = tt

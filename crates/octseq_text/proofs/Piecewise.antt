@@ -32,9 +32,11 @@ nil_from_length (a ∷ x) h = absurd (omega arith)
 
 -- the text grows
 
+-- where no part is read, all octets are left, and the text is as it was
 pub read_none : (x a : List ℕ) → IsRead x x a a
 read_none x a = record { parts = []; reads = reads_none x; grown = sym (append-nil a) }
 
+-- a reading, and one of what it left, are one reading together
 pub read_then : {x y z a b c : List ℕ} → IsRead x y a b → IsRead y z b c → IsRead x z a c
 read_then {x} {y} {z} {a} s t = record {
   parts = s.parts ++ t.parts;
@@ -59,6 +61,7 @@ too_long limit more seen {z = z} {b = b} e s t p = record {
   past = subst (IsPast limit) (ap (λ y. length b + length y) e ∙ sym (length-append b more)) p;
 }
 
+-- octets of which some parts were read are too long where the rest is
 pub too_long_then : {limit : Option ℕ} {x y a b : List ℕ} → IsRead x y a b → IsTooLong limit y b → IsTooLong limit x a
 too_long_then s t = record { rest = t.rest; new = t.new; read = read_then s t.read; past = t.past }
 
@@ -110,14 +113,17 @@ not_so is told e f t = let no : true ≡ false = sym t ∙ sym e ∙ f in absurd
 
 -- whether a fault has a size, as a test of a copy tells it
 
+-- a fault has no size where the test finds none in the copy
 pub size_none : (size copy : Option ℕ) → copy ≡ size → is_some copy ≡ false → size ≡ None
 size_none size None e h = sym e
 size_none size (Some n) e h = absurd (cc)
 
+-- and it has one where the test finds one in the copy
 pub size_some : (size copy : Option ℕ) → copy ≡ size → is_some copy ≡ true → size ≢ None
 size_some size None e h = absurd (cc)
 size_some size (Some n) e h = λ none. cc
 
+-- a beginning has three octets at most
 pub beginning_few : (q : List ℕ) → IsBeginning q → length q ≤ 3
 beginning_few q b = let short = beginning_short b in omega (arith, width_le (get_or q 0 0))
 
@@ -241,6 +247,7 @@ module _ (held : Held) (x piece z new : List ℕ) (s : StandsFor held x)
   feed_text e q settled t =
       all_text ∙ ap text (one_settling (reads_settles (x ++ piece) z (s.settled ++ r.parts) all_read e) t).0
 
+-- where the open end and a piece are too long to be read, the text of what settles with the piece is past the limit
 pub feed_too_long : {limit : Option ℕ} (held : Held) (x piece : List ℕ) → StandsFor held x
     → IsTooLong limit (held.end ++ piece) held.settled_text
     → (q : List ℕ) (settled : List Part) → Settles (x ++ piece) settled q → IsPast limit (length (text settled))
@@ -270,6 +277,7 @@ module _ (held : Held) (x made : List ℕ) (s : StandsFor held x) (closed : held
       subst IsWellFormed (sym (finish_text (parts_of x) (splits x)))
       (text_well_formed 0xFFFD replacement_is_character (splits x))
 
+-- where the held text has no room for the replacement of its open end, the text of all parts is past the limit
 pub finish_too_long : (limit : Option ℕ) (held : Held) (x : List ℕ) (parts : List Part) → StandsFor held x
     → Splits x parts
     → held.end ≢ [] → IsPast limit (length held.settled_text + length (encoding_of 0xFFFD))
@@ -281,6 +289,7 @@ finish_too_long limit held x parts s t n p =
 
 -- A reading that met no refusal is sound, and so is one that met one.
 
+-- a reading that stands for octets is sound, where its text is within the limit
 pub sound_standing : (limit : Option ℕ) (asks : Bool) (held : Held) (x : List ℕ) → StandsFor held x
     → IsWithin limit (length held.settled_text) → IsSound limit asks held
 sound_standing limit asks held x s w = record {
@@ -293,6 +302,7 @@ within_none : (limit : Option ℕ) → IsWithin limit 0
 within_none (Some n) = omega arith
 within_none None = tt
 
+-- a reading that holds nothing and met no refusal stands for an empty list of octets
 pub stands_nothing : (held : Held) → held.settled_text ≡ [] → held.end ≡ [] → held.refusal ≡ None → StandsFor held []
 stands_nothing held t e n = record {
   settled = [];
@@ -301,6 +311,7 @@ stands_nothing held t e n = record {
   fine = n;
 }
 
+-- and such a reading is sound
 pub sound_nothing : (limit : Option ℕ) (asks : Bool) (held : Held) → held.settled_text ≡ [] → held.end ≡ []
     → held.refusal ≡ None → IsSound limit asks held
 sound_nothing limit asks held t e n =

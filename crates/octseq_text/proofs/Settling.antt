@@ -15,22 +15,27 @@ use Rattle.octseq_utf8.proofs.Splitting.{parts_nil, parts_encoding, parts_bad, s
 
 -- what was read, whatever follows
 
+-- where no part is read, all octets are left
 pub reads_none : (x : List ℕ) → Reads x x []
 reads_none x = record { whatever = λ r. refl }
 
+-- octets behind those that are read change no part, and are left behind the rest
 pub reads_more : (x z y : List ℕ) (ps : List Part) → Reads x z ps → Reads (x ++ y) (z ++ y) ps
 reads_more x z y ps s =
     record { whatever = λ r. ap parts_of (append_assoc x y r) ∙ s.whatever (y ++ r)
     ∙ ap (λ w. ps ++ parts_of w) (sym (append_assoc z y r)) }
 
+-- parts that are read of octets, and then parts of the rest, are all read of the octets
 pub reads_then : (x y z : List ℕ) (ps qs : List Part) → Reads x y ps → Reads y z qs → Reads x z (ps ++ qs)
 reads_then x y z ps qs s t =
     record { whatever = λ r. s.whatever r ∙ ap (λ us. ps ++ us) (t.whatever r)
     ∙ sym (append_assoc ps qs (parts_of (z ++ r))) }
 
+-- well-formed octets at the front are read as their characters
 pub reads_good : {g cs : List ℕ} → (z : List ℕ) → Spells g cs → Reads (g ++ z) z (map Char cs)
 reads_good {g} {cs} z s = record { whatever = λ r. ap parts_of (append_assoc g z r) ∙ parts_front s (z ++ r) }
 
+-- a bad part at the front is read, unless it is a beginning that reaches the end
 pub reads_bad : (p s : List ℕ) → IsBadPart (p ++ s) p → ¬ (IsBeginning p × (s ≡ [])) → Reads (p ++ s) s (Bad p ∷ [])
 reads_bad p s b n =
     record { whatever = λ r. ap parts_of (append_assoc p s r) ∙ parts_bad p (s ++ r) (bad_more p s r b n) }
@@ -48,6 +53,7 @@ nil_from_splits (bad_part b s) e = absurd (cc)
 nil_splits : {x : List ℕ} {parts : List Part} → Splits x parts → x ≡ [] → parts ≡ []
 nil_splits {x} {parts} s e = only_parts s ∙ ap parts_of e ∙ parts_nil
 
+-- a list with a last part isn't empty
 pub snoc_some : (ps : List Part) (a : Part) → ps ++ a ∷ [] ≡ [] → ⊥
 snoc_some [] a h = cc
 snoc_some (b ∷ ps) a h = cc
@@ -100,16 +106,19 @@ reads_closed (bad_part {bad = p} {rest = r} {parts = parts} b s) h =
     reads_then (p ++ r) r [] (Bad p ∷ []) parts (reads_bad p r b behind)
         (reads_closed s (λ front q k. h (Bad p ∷ front) q (ap (λ ps. Bad p ∷ ps) k)))
 
+-- the settled parts of octets are read, and their open end is left
 pub settles_reads : {x q : List ℕ} {settled : List Part} → Settles x settled q → Reads x q settled
 settles_reads (open_end {end = q} {settled = settled} s b) = reads_open s settled q b refl
 settles_reads (no_end s h) = reads_closed s h
 
+-- an open end is empty or a beginning
 pub settles_end : {x q : List ℕ} {settled : List Part} → Settles x settled q → IsOpenEnd q
 settles_end (open_end s b) n = b
 settles_end (no_end s h) n = absurd (n refl)
 
 -- octets settle in one way
 
+-- octets have one list of settled parts, and one open end
 pub one_settling : {x q r : List ℕ} {settled others : List Part} → Settles x settled q → Settles x others r
     → (settled ≡ others) × (q ≡ r)
 one_settling (open_end {end = q} {settled = settled} s b) (open_end {end = r} {settled = others} t c) =
@@ -143,6 +152,7 @@ last_bad (bad_part {parts = parts} b s) (a ∷ front) q h = let rest : parts ≡
 char_not_bad : (c : ℕ) (q : List ℕ) → Char c ≢ Bad q
 char_not_bad c q h = cc
 
+-- any octets split into parts
 pub splitting : (x : List ℕ) → (parts : List Part) × Splits x parts
 splitting x = (parts_of x, splits x)
 
@@ -164,6 +174,7 @@ settling_by x parts s (inr (front, Bad q, same)) =
     ))
     (last_bad s front q same).longest
 
+-- any octets have settled parts and an open end, which may be empty
 pub settling : (x : List ℕ) → (settled : List Part) × (end : List ℕ) × Settles x settled end
 settling x = settling_by x (parts_of x) (splits x) (none_or_last (parts_of x))
 
@@ -187,6 +198,7 @@ read_closed {x} {ps} s t front q e b =
     (ap (λ y. y ++ parts_of b.more) (sym e) ∙ sym (t.whatever b.more) ∙ left.whatever b.more
         ∙ ap (λ y. front ++ y) (parts_one b.encoding))))
 
+-- parts that were read are the settled ones, where what is left is empty or a beginning
 pub reads_settles : (x q : List ℕ) (ps : List Part) → Reads x q ps → IsOpenEnd q → Settles x ps q
 reads_settles x [] ps t h =
     let all : parts_of x ≡ ps = ap parts_of (sym (append-nil x)) ∙ t.whatever [] ∙ ap (λ y. ps ++ y) parts_nil
@@ -231,12 +243,15 @@ reads_front x z (o ∷ q) ps settled s t h =
 
 -- the text of what was read
 
+-- the text of parts and of others behind them is that of the first, and then that of the others
 pub text-append : (ps qs : List Part) → text (ps ++ qs) ≡ text ps ++ text qs
 text-append ps qs = flat_map-append _ ps qs
 
+-- the text of the characters of well-formed octets is those octets
 pub text-chars : {g cs : List ℕ} → Spells g cs → text (map Char cs) ≡ g
 text-chars s = ap text (sym (parts_spelled s)) ∙ text_spelled 0xFFFD s
 
+-- the text of parts that were read is no longer than that of the settled parts
 pub text_read : (x z q : List ℕ) (ps settled : List Part) → Reads x z ps → Settles x settled q
     → length (text ps) ≤ length (text settled)
 text_read x z q ps settled s t =

@@ -9,6 +9,7 @@ consumes_none : (known : Option (List ℕ)) → Consumes known known []
 consumes_none None = tt
 consumes_none (Some octets) = refl
 
+-- a reader that keeps its known octets loses none of them
 pub keeps_consumes : (before after : Option (List ℕ)) → Keeps before after → Consumes before after []
 keeps_consumes None after keeps = tt
 keeps_consumes (Some xs) None keeps = absurd keeps
@@ -28,9 +29,11 @@ pub record IsFed (given left : Option (List ℕ)) (held : Held) : Type 0 where
   pub consumed : Consumes given left octets
   pub stands : StandsFor held octets
 
+-- a reading that stands for no octets is fed by a reader that lost none
 pub fed_nothing : (given : Option (List ℕ)) (held : Held) → StandsFor held [] → IsFed given given held
 fed_nothing given held stands = record { octets = []; consumed = consumes_none given; stands = stands }
 
+-- a reading that was fed, and takes in what the reader loses next, is fed still
 pub fed_more : (given left now : Option (List ℕ)) (held after : Held) (octets : List ℕ) → IsFed given left held
     → Consumes left now octets
     → ((before : List ℕ) → StandsFor held before → StandsFor after (before ++ octets)) → IsFed given now after
@@ -47,6 +50,7 @@ all_consumed (Some known) None octets consumed ended = absurd consumed
 all_consumed (Some known) (Some rest) octets consumed ended =
     sym (consumed ∙ ap (λ r. octets ++ r) ended ∙ append-nil octets)
 
+-- at the reader's end, the reading stands for the whole input: all octets of the reader, where they are known
 pub fed_all : (given left : Option (List ℕ)) (held : Held) → IsFed given left held → IsAtEnd left
     → (input : List ℕ) × StandsFor held input × IfSome given (λ octets. input ≡ octets)
 fed_all given left held fed ended = (fed.octets, fed.stands, all_consumed given left fed.octets fed.consumed ended)

@@ -39,6 +39,7 @@ same_name Lossy64 Check e = other_first _ _ (omega arith) e
 same_name Lossy Lossy64 e = other_length _ _ (omega arith) e
 same_name Lossy64 Lossy e = other_length _ _ (omega arith) e
 
+-- a word names one command at most
 pub one_command : (word : List ℕ) (c d : Option Command) → IsNamed name_of word c → IsNamed name_of word d → c ≡ d
 one_command word (Some c) (Some d) e f = ap Some (same_name c d (sym e ∙ f))
 one_command word (Some c) None e f = absurd (f (c, e))

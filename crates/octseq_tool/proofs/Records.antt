@@ -25,6 +25,7 @@ no_record (n ∷ octets) part more (inr short) e =
     let long : length octets ≡ length part + length more = ap length behind ∙ length-append part more in
     absurd (omega arith)
 
+-- octets are whole records, and a rest with none at its front, in one way at most
 pub one_reading : (parts others : List (List ℕ)) (x y : List ℕ) → IsRest x → IsRest y
     → records_of parts ++ x ≡ records_of others ++ y → (parts ≡ others) × (x ≡ y)
 one_reading [] [] x y h k e = (refl, e)
@@ -88,6 +89,7 @@ not_within n m short = omega arith
 
 -- what a call that takes a part says of the record at the front
 
+-- the part that a call took is the record at the front, and what is left then stands behind it
 pub whole_part : {T E : Type 0} (result : Result T E) (view : T → Window) (w after : Window) → w.end ≤ length w.octets
     → (IsOk result ↔ HasPart 1 w) → OnOk result (after ≡ past_part 1 w) → IfOk result (λ taken. view taken ≡ part 1 w)
     → ((w : Window) (n : ℕ) → n ≤ left w → next n w ++ rest (past n w) ≡ rest w)
@@ -98,6 +100,7 @@ whole_part (Ok taken) view w after within variant moved is_part law =
     (whole_record w (part_length 1 w) has.0 within refl has.1 (law (past 1 w) (part_length 1 w) has.1))
 whole_part (Err e) view w after within variant moved is_part law = tt
 
+-- where a call takes no part though octets are left, they begin with no whole record
 pub cut_part : {T E : Type 0} (result : Result T E) (w : Window) → w.end ≤ length w.octets → (IsOk result ↔ HasPart 1 w)
     → OnErr result (0 < left w → IsCut (rest w))
 cut_part (Ok taken) w within variant = tt

@@ -18,6 +18,7 @@ spread separator words = flat_map (λ other. separator ++ other) words
 abbrev pub ToCome : {W : Type 0} → (W → List ℕ) → List ℕ → List W → ℕ → List ℕ → List ℕ → Type 0
 ToCome show separator others place text all = text ++ spread separator (map show (drop place others)) ≡ all
 
+-- behind the first word, all the others are still to come
 pub to_come_first : {W : Type 0} (show : W → List ℕ) (separator old text : List ℕ) (words others : List W) (first : W)
     → words ≡ first ∷ others → text ≡ old ++ show first
     → ToCome show separator others 0 text (old ++ joined separator (map show words))
@@ -26,6 +27,7 @@ to_come_first show separator old text words others first split e =
         ∙ append_assoc old (show first) (spread separator (map show others))
     ∙ ap (λ ws. old ++ joined separator (map show ws)) (sym split)
 
+-- with a separator behind the text, the next word is to come, and then those behind it
 pub to_come_word : {W : Type 0} (show : W → List ℕ) (separator text between all : List ℕ) (others : List W)
     (default : W) (i : ℕ) → i < length others
     → ToCome show separator others i text all → between ≡ text ++ separator
@@ -37,6 +39,7 @@ to_come_word show separator text between all others default i within so_far e =
         ∙ ap (λ x. text ++ x) (sym (append_assoc separator (show word) more))
     ∙ ap (λ ws. text ++ spread separator (map show ws)) (sym (drop-cons others i default within)) ∙ so_far
 
+-- with a separator and the next word behind the text, the words behind that one are still to come
 pub to_come_next : {W : Type 0} (show : W → List ℕ) (separator text between made all : List ℕ) (others : List W)
     (default : W) (i next : ℕ) → i < length others → next ≡ suc i
     → ToCome show separator others i text all → between ≡ text ++ separator
@@ -48,10 +51,12 @@ to_come_next show separator text between made all others default i next within s
         ∙ append_assoc between (show word) more
     ∙ to_come_word show separator text between all others default i within so_far e
 
+-- what holds anyway holds where a call was refused
 pub on_err : {T E : Type 0} {P : Type 0} (result : Result T E) → P → OnErr result P
 on_err (Ok value) p = tt
 on_err (Err e) p = p
 
+-- where no word is still to come, the text is whole
 pub to_come_none : {W : Type 0} (show : W → List ℕ) (separator text all : List ℕ) (others : List W) (i : ℕ)
     → length others ≤ i
     → ToCome show separator others i text all → text ≡ all

@@ -37,6 +37,7 @@ line_more : (x : ℕ) (octets line more : List ℕ) → x ≢ 10 → TakesLine o
 line_more x octets line more other (is, inl e) = ((other, is), inl (ap (λ xs. x ∷ xs) e))
 line_more x octets line more other (is, inr (e, none)) = ((other, is), inr (ap (λ xs. x ∷ xs) e, none))
 
+-- a line, which may be empty, stands at the front of any octets
 pub some_line : (octets : List ℕ) → (line : List ℕ) × (more : List ℕ) × TakesLine octets line more
 some_line [] = ([], [], (tt, inr (refl, refl)))
 some_line (x ∷ octets) =

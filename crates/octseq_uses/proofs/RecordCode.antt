@@ -13,10 +13,12 @@ use Rattle.octseq_uses.specs.Record.{record_of, IsRecord}
 abbrev pub spelled : ℕ × List ℕ → List ℕ
 spelled pair = record_of pair.0 pair.1
 
+-- a record is told from the front of octets, and so is what stands behind it
 pub record_code : IsCode IsRecord spelled
 record_code = pair_code (λ key. key < 65536) (octets_be 2) (λ value. length value < 256) (part_of 1) (integer_code 2)
     (part_code 1)
 
+-- every record has an octet at least
 pub has_octets : HasOctets spelled
 has_octets (key, value) = let all = length-append (octets_be 2 key) (part_of 1 value) in let head = length_be 2 key in
     omega arith

@@ -86,6 +86,7 @@ pub record IsBeforeHigh (x : List ℕ) (n : ℕ) : Type 0 where
 less_or_more : (n k : ℕ) → n ≤ k → (n < k) ⊎ (n ≡ k)
 less_or_more n k h = ⊎_elim (λ e. inr e) (λ l. inl l) (eq-or-lt_of_le h)
 
+-- where the mask of the first lane isn't 0, its lowest bit is that of the first octet of 80 or more
 pub before_high : (x : List ℕ) (high : ℕ) → 16 ≤ length x → high ≡ mask_l (map (leb 128) (take 16 x)) → high ≢ 0
     → IsBeforeHigh x (count_trailing_zeros 64 high)
 before_high x high room same some =
@@ -117,6 +118,7 @@ before_high x high room same some =
     is_high : (o : ℕ) → not (leb 128 o) ≡ false → 128 ≤ o
     is_high o h = grind (arith, nat_tests)
 
+-- a number is below another, or reaches it
 pub less_or_not : (i n : ℕ) → (i < n) ⊎ (n ≤ i)
 less_or_not i zero = inr (omega arith)
 less_or_not zero (suc n) = inl (omega arith)

@@ -7,6 +7,7 @@ use Rattle.octseq_utf8.specs.Reading.{width_of, least_second, greatest_second}
 use Rattle.octseq_utf8.proofs.Rows.{second_bounds, width_le}
 use Rattle.octseq_utf8.proofs.Fits.{Fits, fits_from, width_from, from_fits, fits_more, fits_less, fits_fewer, get_left}
 
+-- a list that isn't empty has at least one octet
 pub nil_or_some : (p : List ℕ) → p ≢ [] → 1 ≤ length p
 nil_or_some [] h = absurd (h refl)
 nil_or_some (a ∷ p) h = omega arith
@@ -19,6 +20,7 @@ beginning_fits {p} b =
     fits_less p b.more (length p) (omega arith)
         (fits_fewer (p ++ b.more) (length p) (length (p ++ b.more)) s (omega (arith, length-append p b.more)) f)
 
+-- a beginning is shorter than the width that its first octet asks for
 pub beginning_short : {p : List ℕ} → IsBeginning p → length p < width_of (get_or p 0 0)
 beginning_short {p} b =
     let s = nil_or_some p b.some in
@@ -73,6 +75,7 @@ complete_3 a b c w e s t l h = complete (a ∷ b ∷ c ∷ []) (0x80 ∷ []) (om
     (record { some = omega arith; within = omega arith; wide = omega arith; second = λ k. s; third = λ k. t;
         fourth = λ k. (omega arith, omega arith) }) (omega arith)
 
+-- octets that fit, and are fewer than the first one asks for, are a beginning
 pub beginning_from : (p : List ℕ) → Fits p (length p) → length p < width_of (get_or p 0 0) → IsBeginning p
 beginning_from [] f h = let s = f.some in absurd (omega arith)
 beginning_from (a ∷ []) f h = complete_1 a (width_of a) refl (widths (width_of a) 1 h (width_le a) (omega arith))

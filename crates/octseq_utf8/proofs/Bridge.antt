@@ -10,17 +10,21 @@ use Rattle.octseq_utf8.specs.Text.{Spells, IsWellFormed}
 use Rattle.octseq_utf8.proofs.Numbers.{number_is_character, encoding_is_of}
 use Rattle.octseq_utf8.proofs.Spelling.{octets_of_spelled}
 
+-- std encodes a number as it is encoded here
 pub encode-is : (c : ℕ) → encode c ≡ encoding_of c
 unfolding encoding_of encode
 encode-is c = refl
 
+-- std encodes a list of numbers as their encodings, one after another
 pub encodes-are : (cs : List ℕ) → encodes cs ≡ flat_map encoding_of cs
 encodes-are [] = refl
 encodes-are (c ∷ cs) = ap (λ y. y ++ encodes cs) (encode-is c) ∙ ap (λ y. encoding_of c ++ y) (encodes-are cs)
 
+-- a character is a scalar of std
 pub scalar_from : (c : ℕ) → IsCharacter c → scalar c ≡ true
 scalar_from c h = grind (arith, nat_tests)
 
+-- a scalar of std is a character
 pub from_scalar : (c : ℕ) → scalar c ≡ true → IsCharacter c
 from_scalar c h = ⊎_elim (λ k. inl (omega arith, omega arith)) (λ k. inr (omega arith, omega arith)) (scalar_cases c h)
 
@@ -47,9 +51,11 @@ spells_all (c ∷ cs) h =
       numbers = ap (λ n. n ∷ map number_of rest.encodings) first.1 ∙ ap (λ ns. c ∷ ns) rest.numbers;
     }
 
+-- well-formed octets are UTF-8 by std's account
 pub utf8_from_well_formed : (x : List ℕ) → IsWellFormed x → IsUtf8 x
 utf8_from_well_formed x (cs, s) =
     (cs, (ap scalars (sym s.numbers) ∙ scalars_from s.encodings s.each, encodes-are cs ∙ octets_of_spelled s))
 
+-- octets that are UTF-8 by std's account are well formed
 pub well_formed_from_utf8 : (x : List ℕ) → IsUtf8 x → IsWellFormed x
 well_formed_from_utf8 x (cs, u) = (cs, subst (λ y. Spells y cs) (sym (encodes-are cs) ∙ u.1) (spells_all cs u.0))

@@ -78,6 +78,7 @@ chunk_at_end x some good = record {
 
 -- what a chunk is made of
 
+-- the mark stands in the place of a bad part that has an octet
 pub mark_some : (mark bad : List ℕ) → 1 ≤ length bad → mark_of mark bad ≡ mark
 mark_some mark [] h = absurd (omega arith)
 mark_some mark (b ∷ bad) h = refl
@@ -155,6 +156,7 @@ no_whole_text x chunk behind c some good = go c.bad
 
 -- the chunks of octets are their one splitting
 
+-- octets split into the parts of their first chunk, and then as what is behind it splits
 pub splits_at_chunk : (x : List ℕ) (chunk : Chunk) (behind : List ℕ) (parts : List Part) → IsFirstChunk x chunk behind
     → Splits behind parts
     → Splits x (chunk_parts chunk ++ parts)
@@ -162,6 +164,7 @@ splits_at_chunk x chunk behind parts c s =
     subst (Splits x) (parts_at_chunk x chunk behind c ∙ ap (λ ps. chunk_parts chunk ++ ps) (sym (only_parts s)))
         (splits x)
 
+-- octets split into the parts of all their chunks, one chunk after another
 pub chunks_split : {x : List ℕ} {chunks : List Chunk} → AreChunks x chunks → Splits x (flat_map chunk_parts chunks)
 chunks_split no_chunk = subst (Splits []) parts_nil (splits [])
 chunks_split (first_chunk {octets = x} {behind} {chunk} {chunks} c s) =
@@ -184,6 +187,7 @@ text_by_chunk x behind chunk parts rest w c s t =
 
 -- a text that grows by chunks is, with the text of what is left, the whole text
 
+-- with a chunk's text added, what is made and the text of what is behind the chunk are still the whole
 pub grown : (w : ℕ) (x made made' all : List ℕ) (chunk : Chunk) (behind : List ℕ)
     → made ++ text_with w (parts_of x) ≡ all → IsFirstChunk x chunk behind
     → made' ≡ made ++ chunk_text w chunk → made' ++ text_with w (parts_of behind) ≡ all
@@ -192,6 +196,7 @@ grown w x made made' all chunk behind before c more =
         (text_with w (parts_of behind))
     ∙ ap (λ y. made ++ y) (sym (text_at_chunk w x chunk behind c)) ∙ before
 
+-- where no octets are left, what is made is the whole text
 pub all_made : (w : ℕ) (made all x : List ℕ) → made ++ text_with w (parts_of x) ≡ all → x ≡ [] → made ≡ all
 all_made w made all x whole nothing =
     sym (append-nil made)

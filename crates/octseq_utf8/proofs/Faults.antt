@@ -36,13 +36,16 @@ pub record IsInLanes (x : List ℕ) (place old now : ℕ) : Type 0 where
   pub at : IsAt x place old now
   pub lanes : All (λ o. o < 0x80) x → place + 16 * old ≡ 16 * now
 
+-- the finder is at the front before it takes a turn
 pub at_start : (x : List ℕ) (t : ℕ) → IsAt x 0 t t
 at_start x t = record { characters = []; within = omega arith; spelled = spells_nothing; turns = omega arith;
     few = omega arith; passed = omega arith }
 
+-- in lanes too, the finder is at the front before it takes a turn
 pub lanes_start : (x : List ℕ) (t : ℕ) → IsInLanes x 0 t t
 lanes_start x t = record { at = at_start x t; lanes = λ low. omega arith }
 
+-- the first i + n octets are the first i and the first n behind those
 pub take-add : (x : List ℕ) (i n : ℕ) → i ≤ length x → take (i + n) x ≡ take i x ++ take n (drop i x)
 take-add x i n h =
     let cut : take i x ++ drop i x ≡ x = take-append-drop i x in
@@ -50,6 +53,7 @@ take-add x i n h =
     ap (λ y. take (i + n) y) (sym cut) ∙ ap (λ k. take (k + n) (take i x ++ drop i x)) (sym long)
         ∙ take-append-add (take i x) (drop i x) n
 
+-- a slice from a place to the end has all octets from that place on
 pub rest_of : (x : List ℕ) (place : ℕ) → take (length x - place) (drop place x) ≡ drop place x
 rest_of x place = take_all (length x - place) (drop place x) (omega (arith, length-drop place x))
 
@@ -103,6 +107,7 @@ octet_front x place lt low =
 
 -- a lane of octets below 80: each spells its character
 
+-- octets that are all below 80 spell one character each
 pub spells_low : (x : List ℕ) → All (λ o. o < 0x80) x → Spells x (map (λ o. number_of (o ∷ [])) x)
 spells_low [] low = spells_nothing
 spells_low (a ∷ x) low =
@@ -110,6 +115,7 @@ spells_low (a ∷ x) low =
     spells-append (spells_one (row_00_7F {a = a} (omega arith, omega arith)))
         (spells_low x (All-tail (λ o. o < 0x80) a x low))
 
+-- a lane of octets that are all below 80 is passed in one turn
 pub lane_passed : (x : List ℕ) (place old now : ℕ) → IsInLanes x place old now → place + 16 ≤ length x
     → All (λ o. o < 0x80) (take 16 (drop place x)) → IsInLanes x (place + 16) old (now + 1)
 lane_passed x place old now l room low =
@@ -155,6 +161,7 @@ pub record IsFaultAt (x : List ℕ) (old now : ℕ) (fault : Fault) : Type 0 whe
   pub turns : now ≤ old + length (chars (take fault.place x)) + 1
   pub passed : fault_end x fault + 16 * old ≤ 16 * now
 
+-- a bad part at the finder's place is the fault there, found in one turn more
 pub fault_at : (x : List ℕ) (place old now : ℕ) (size : Option ℕ) → IsAt x place old now
     → StandsInFront (drop place x) (Bad size)
     → IsFaultAt x old (now + 1) (record { place = place; size = size })
@@ -185,6 +192,7 @@ fault_at x place old now size at front =
 
 -- what is found behind a place is found in the whole
 
+-- octets that are well formed from the finder's place on are so as a whole, and their characters join
 pub well_formed_behind : (x : List ℕ) (place old now : ℕ) → IsAt x place old now → IsWellFormed (drop place x)
     → IsWellFormed x × (chars x ≡ chars (take place x) ++ chars (drop place x))
 well_formed_behind x place old now at w =
@@ -192,6 +200,7 @@ well_formed_behind x place old now at w =
     let whole = take-append-drop place x in
     (subst IsWellFormed whole (well_formed-append _ _ before w), ap chars (sym whole) ∙ chars-append _ _ before w)
 
+-- where the well-formed rest takes at most one turn for each character, so does the whole
 pub turns_behind : (x : List ℕ) (place old mid now : ℕ) → IsAt x place old mid → IsWellFormed (drop place x)
     → now ≤ mid + length (chars (drop place x)) → now ≤ old + length (chars x)
 turns_behind x place old mid now at w turns =
@@ -200,6 +209,7 @@ turns_behind x place old mid now at w turns =
     (well_formed_behind x place old mid at w).1 ∙ ap (λ cs. cs ++ chars (drop place x)) (chars_of at.spelled) in
     rw spelled (omega (arith, length-append at.characters (chars (drop place x))))
 
+-- the fault of what is behind the finder's place is that of the whole, in the turns that the whole may take
 pub fault_behind : (x : List ℕ) (place old mid now : ℕ) (fault : Fault) → IsAt x place old mid
     → IsFault (drop place x) fault
     → now ≤ mid + length (chars (take fault.place (drop place x))) + 1
@@ -253,6 +263,7 @@ ascii_turns x place old mid now l end more low =
 
 -- a fault is one, and refutes
 
+-- parts that are characters and then a bad part are never characters only
 pub no_bad : (cs ds : List ℕ) (p : List ℕ) (ps : List Part) → map Char cs ++ (BadPart p ∷ ps) ≡ map Char ds → ⊥
 no_bad [] [] p ps h = cc
 no_bad [] (d ∷ ds) p ps h = cc
@@ -271,6 +282,7 @@ fault_parts : {x : List ℕ} {fault : Fault} (f : IsFault x fault)
     → parts_of x ≡ map Char f.good.0 ++ (BadPart f.bad ∷ parts_of f.after)
 fault_parts f = ap parts_of f.whole ∙ parts_fault f.good.1 f.bad f.after f.first
 
+-- octets that have a fault aren't well formed
 pub fault_refutes : {x : List ℕ} {fault : Fault} → IsFault x fault → ¬ IsWellFormed x
 fault_refutes f w = no_bad f.good.0 w.0 f.bad (parts_of f.after) (sym (fault_parts f) ∙ parts_spelled w.1)
 
@@ -280,6 +292,7 @@ same_size bad after s t (inl h) (inr k) = absurd (k.1 (h.1, h.2))
 same_size bad after s t (inr h) (inl k) = absurd (h.1 (k.1, k.2))
 same_size bad after s t (inr h) (inr k) = h.0 ∙ sym k.0
 
+-- octets have one fault at most
 pub one_fault : {x : List ℕ} {fault other : Fault} → IsFault x fault → IsFault x other → fault ≡ other
 one_fault {x} {fault} {other} f g =
     let same = first_bad_same f.good.0 g.good.0 f.bad g.bad (parts_of f.after) (parts_of g.after)
@@ -313,6 +326,7 @@ sized : (bad after : List ℕ) (n : ℕ) → IsFaultSize bad after (Some n) → 
 sized bad after n (inl h) = absurd (let e = h.0 in cc)
 sized bad after n (inr h) = let e = h.0 in cc
 
+-- a fault that has a size has one to three octets
 pub fault_small : {octets : List ℕ} {place n : ℕ} → IsFault octets (record { place = place; size = Some n })
     → (1 ≤ n) × (n ≤ 3)
 fault_small {n = n} f =

@@ -29,9 +29,11 @@ fits_from {e} p = let r = rule_from p in record {
   fourth = r.fourth;
 }
 
+-- an encoding has as many octets as its first one asks for
 pub width_from : {e : List ℕ} → IsEncoding e → length e ≡ width_of (get_or e 0 0)
 width_from p = (rule_from p).width
 
+-- octets that all fit, and are as many as the first one asks for, are an encoding
 pub from_fits : (e : List ℕ) → Fits e (length e) → length e ≡ width_of (get_or e 0 0) → IsEncoding e
 from_fits e f w =
     from_rule e (record { some = f.some; width = w; second = f.second; third = f.third; fourth = f.fourth })
@@ -40,6 +42,7 @@ from_fits e f w =
 pub get_left : (p r : List ℕ) (i : ℕ) → i < length p → get_or (p ++ r) i 0 ≡ get_or p i 0
 get_left p r i h = get_or-append p r 0 i h
 
+-- what fits still fits with more octets behind it
 pub fits_more : (p r : List ℕ) (k : ℕ) → Fits p k → Fits (p ++ r) k
 fits_more p r k f =
     let s = f.some in
@@ -54,6 +57,7 @@ fits_more p r k f =
       fourth = λ h. rw (get_left p r 3 (omega arith)) (f.fourth h);
     }
 
+-- what fits still fits without the octets behind it
 pub fits_less : (p r : List ℕ) (k : ℕ) → k ≤ length p → Fits (p ++ r) k → Fits p k
 fits_less p r k w f =
     let s = f.some in
@@ -67,6 +71,7 @@ fits_less p r k w f =
       fourth = λ h. rw (get_left p r 3 (omega arith)) at (f.fourth h);
     }
 
+-- the octets that fit do so by themselves
 pub fits_take : (x : List ℕ) (k : ℕ) → Fits x k → Fits (take k x) k
 fits_take x k f =
     let w = f.within in
@@ -102,5 +107,6 @@ encodings_begin_alike {e} {f} r s p q h =
           ∙ drop-append_seam f s,
     )
 
+-- a front has the same octet as the whole at each place before its end
 pub get_take : (x : List ℕ) (n i : ℕ) → i < n → get_or (take n x) i 0 ≡ get_or x i 0
 get_take x n i h = get_or-take n x i 0 h

@@ -64,12 +64,14 @@ fitting_fits x some lead = record {
   fourth = λ h. in_range_true _ _ _ (fitting_by_fourth (width_of (get_or x 0 0)) (length x) _ _ _ h);
 }
 
+-- no more fit than there are octets, where there is one at least
 pub fitting_within : (x : List ℕ) → 1 ≤ length x → fitting x ≤ length x
 fitting_within x some =
     fitting_by_within (width_of (get_or x 0 0)) (length x)
     (is_in_range (least_second (get_or x 0 0)) (greatest_second (get_or x 0 0)) (get_or x 1 0))
     (is_in_range 0x80 0xBF (get_or x 2 0)) (is_in_range 0x80 0xBF (get_or x 3 0)) some
 
+-- no more octets fit than the first one asks for
 pub fitting_wide : (x : List ℕ) → fitting x ≤ width_of (get_or x 0 0)
 fitting_wide x =
     fitting_by_wide (width_of (get_or x 0 0)) (length x)

@@ -43,10 +43,12 @@ text_fault w {x} {cs} s p r b =
 
 -- the parts of well-formed octets are their characters, and the text is those octets
 
+-- the parts of well-formed octets are the characters that they spell
 pub parts_spelled : {x cs : List ℕ} → Spells x cs → parts_of x ≡ map Char cs
 parts_spelled {x} {cs} s = ap parts_of (sym (append-nil x)) ∙ parts_front s [] ∙ ap (λ ps. map Char cs ++ ps) parts_nil
     ∙ append-nil (map Char cs)
 
+-- the text of well-formed octets is those octets, whatever the replacement
 pub text_spelled : (w : ℕ) {x cs : List ℕ} → Spells x cs → text_with w (parts_of x) ≡ x
 text_spelled w {x} {cs} s =
     ap (text_with w) (parts_spelled s ∙ sym (append-nil (map Char cs))) ∙ text-chars w cs [] ∙ append-nil (octets_of cs)

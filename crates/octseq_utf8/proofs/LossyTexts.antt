@@ -12,6 +12,7 @@ use Rattle.octseq_utf8.proofs.Joins.{parts_fault, text_spelled}
 use Rattle.octseq_utf8.proofs.Spelling.{spells_nothing, spells_one, spells-append}
 use Rattle.octseq_utf8.proofs.Splitting.{splits, only_parts}
 
+-- U+FFFD, the replacement, is a character
 pub replacement_is_character : IsCharacter 0xFFFD
 replacement_is_character = inr (omega arith, omega arith)
 
@@ -38,6 +39,7 @@ replacement_length = refl
 
 -- so with a replacement of three octets or more the text is no shorter than its source
 
+-- with a replacement of three octets or more, the text of parts is no shorter than the octets that split into them
 pub text_with_long : (w : ℕ) → 3 ≤ length (encoding_of w) → {x : List ℕ} {parts : List Part} → Splits x parts
     → length x ≤ length (text_with w parts)
 text_with_long w h nothing = omega arith
@@ -49,6 +51,7 @@ text_with_long w h (bad_part {bad = p} {rest = r} {parts = parts} b s) =
     let k = text_with_long w h s in let l = bad_length b in
     omega (arith, length-append p r, length-append (encoding_of w) (text_with w parts))
 
+-- the lossy text of parts is no shorter than the octets that split into them
 pub text_long : {x : List ℕ} {parts : List Part} → Splits x parts → length x ≤ length (text parts)
 text_long s = text_with_long 0xFFFD (omega (arith, replacement_length)) s
 

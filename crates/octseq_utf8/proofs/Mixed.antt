@@ -75,6 +75,7 @@ spelled_high : {x cs : List ℕ} → Spells x cs → (high_count x ≡ 0) ⊎ (2
 spelled_high {x} {cs} s =
     subst (λ y. (high_count y ≡ 0) ⊎ (2 ≤ high_count y)) s.joined (encodings_high s.encodings s.each)
 
+-- octets spell no more characters than there are octets
 pub spelled_few : {x cs : List ℕ} → Spells x cs → length cs ≤ length x
 spelled_few {x} {cs} s =
     let few = encodings_few s.encodings s.each in
@@ -82,6 +83,7 @@ spelled_few {x} {cs} s =
 
 -- How many octets from the front on are below 80, of the first k.
 
+-- how long the run of octets below 80 at the front is, counted up to k at most
 pub low_run : ℕ → List ℕ → ℕ
 low_run zero y = 0
 low_run (suc k) [] = 0
@@ -149,6 +151,7 @@ run_front (suc k) (a ∷ x) y none room =
 pub record IsMixed (x : List ℕ) (place old now : ℕ) : Type 0 where
   pub reserved : 16 * now + 15 * low_run 15 (drop place x) ≤ 16 * old + place + 120 * high_count (take place x) + 225
 
+-- at the front, before a turn is taken, what the turns cost is reserved
 pub mixed_start : (x : List ℕ) (t : ℕ) → IsMixed x 0 t t
 mixed_start x t = record { reserved = omega (arith, run_le 15 x) }
 
@@ -163,6 +166,7 @@ high_add : (x : List ℕ) (place n : ℕ) → place ≤ length x
     → high_count (take (place + n) x) ≡ high_count (take place x) + high_count (take n (drop place x))
 high_add x place n h = ap high_count (take-add x place n h) ∙ high-append (take place x) (take n (drop place x))
 
+-- behind a lane of octets below 80 that one turn passed, what the turns cost is still reserved
 pub mixed_lane : (x : List ℕ) (place old now : ℕ) → IsMixed x place old now → place + 16 ≤ length x
     → All (λ o. o < 0x80) (take 16 (drop place x)) → IsMixed x (place + 16) old (now + 1)
 mixed_lane x place old now m room low =

@@ -8,24 +8,29 @@ use Rattle.octseq_utf8.specs.Encoding.{row_F0, row_F1_F3, row_F4, IsCharacter, n
 
 -- the encoding by the range of the character
 
+-- a number below 80 is encoded in one octet, itself
 pub encoding_of_1 : (c : ℕ) → c < 0x80 → encoding_of c ≡ c ∷ []
 unfolding encoding_of
 encoding_of_1 c high = grind (arith, nat_tests)
 
+-- a number from 80 to 7FF is encoded in two octets, its low six bits in the second
 pub encoding_of_2 : (c : ℕ) → 0x80 ≤ c → c < 0x800 → encoding_of c ≡ (192 + c / 64) ∷ (128 + c % 64) ∷ []
 unfolding encoding_of
 encoding_of_2 c low high = grind (arith, nat_tests)
 
+-- a number from 800 to FFFF is encoded in three octets, its low bits in the last two, six in each
 pub encoding_of_3 : (c : ℕ) → 0x800 ≤ c → c < 0x1_0000
     → encoding_of c ≡ (224 + c / 4096) ∷ (128 + c / 64 % 64) ∷ (128 + c % 64) ∷ []
 unfolding encoding_of
 encoding_of_3 c low high = grind (arith, nat_tests)
 
+-- a number from 10000 on is encoded in four octets, its low bits in the last three, six in each
 pub encoding_of_4 : (c : ℕ) → 0x1_0000 ≤ c
     → encoding_of c ≡ (240 + c / 262144) ∷ (128 + c / 4096 % 64) ∷ (128 + c / 64 % 64) ∷ (128 + c % 64) ∷ []
 unfolding encoding_of
 encoding_of_4 c low = grind (arith, nat_tests)
 
+-- the encoding of a number has at least one octet
 pub encoding_some : (c : ℕ) → 1 ≤ length (encoding_of c)
 unfolding encoding_of
 encoding_some c = grind (arith, nat_tests)
@@ -60,6 +65,7 @@ from_number_4 : (a b c d n : ℕ) → IsInRange 0xF0 0xF4 a → IsInRange 0x80 0
 from_number_4 a b c d n p q r s e low = encoding_of_4 n low ∙ same_4 _ _ _ _ a b c d (omega arith) (omega arith)
     (omega arith) (omega arith)
 
+-- an encoding is the one that its number has
 pub encoding_of-number_of : {e : List ℕ} → IsEncoding e → encoding_of (number_of e) ≡ e
 unfolding number_of
 encoding_of-number_of (row_00_7F {a} p) = encoding_of_1 a (omega arith)
@@ -98,18 +104,22 @@ one_encoding p q h = sym (encoding_of-number_of p) ∙ ap encoding_of h ∙ enco
 
 -- the number by the octets
 
+-- the number of one octet is that octet
 pub number_of_1 : (a : ℕ) → number_of (a ∷ []) ≡ a
 unfolding number_of
 number_of_1 a = refl
 
+-- the number of two octets is made of what the first has above C0 and the second above 80
 pub number_of_2 : (a b n : ℕ) → (a - 192) * 64 + (b - 128) ≡ n → number_of (a ∷ b ∷ []) ≡ n
 unfolding number_of
 number_of_2 a b n h = h
 
+-- the number of three octets is made of what the first has above E0 and each other above 80
 pub number_of_3 : (a b c n : ℕ) → (a - 224) * 4096 + (b - 128) * 64 + (c - 128) ≡ n → number_of (a ∷ b ∷ c ∷ []) ≡ n
 unfolding number_of
 number_of_3 a b c n h = h
 
+-- the number of four octets is made of what the first has above F0 and each other above 80
 pub number_of_4 : (a b c d n : ℕ) → (a - 240) * 262144 + (b - 128) * 4096 + (c - 128) * 64 + (d - 128) ≡ n
     → number_of (a ∷ b ∷ c ∷ d ∷ []) ≡ n
 unfolding number_of

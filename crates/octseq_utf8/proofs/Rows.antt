@@ -11,14 +11,17 @@ pub width_1 : (a : ℕ) → a ≤ 0x7F → width_of a ≡ 1
 unfolding width_of
 width_1 a h = grind (arith, nat_tests)
 
+-- an octet from C2 to DF begins an encoding of two octets
 pub width_2 : (a : ℕ) → IsInRange 0xC2 0xDF a → width_of a ≡ 2
 unfolding width_of
 width_2 a h = grind (arith, nat_tests)
 
+-- an octet from E0 to EF begins an encoding of three octets
 pub width_3 : (a : ℕ) → IsInRange 0xE0 0xEF a → width_of a ≡ 3
 unfolding width_of
 width_3 a h = grind (arith, nat_tests)
 
+-- an octet from F0 to F4 begins an encoding of four octets
 pub width_4 : (a : ℕ) → IsInRange 0xF0 0xF4 a → width_of a ≡ 4
 unfolding width_of
 width_4 a h = grind (arith, nat_tests)
@@ -28,18 +31,22 @@ pub at_width_1 : (a : ℕ) → width_of a ≡ 1 → a ≤ 0x7F
 unfolding width_of
 at_width_1 a h = grind (arith, nat_tests)
 
+-- an octet that begins an encoding of two octets is from C2 to DF
 pub at_width_2 : (a : ℕ) → width_of a ≡ 2 → (0xC2 ≤ a) × (a ≤ 0xDF)
 unfolding width_of
 at_width_2 a h = (grind (arith, nat_tests), grind (arith, nat_tests))
 
+-- an octet that begins an encoding of three octets is from E0 to EF
 pub at_width_3 : (a : ℕ) → width_of a ≡ 3 → (0xE0 ≤ a) × (a ≤ 0xEF)
 unfolding width_of
 at_width_3 a h = (grind (arith, nat_tests), grind (arith, nat_tests))
 
+-- an octet that begins an encoding of four octets is from F0 to F4
 pub at_width_4 : (a : ℕ) → width_of a ≡ 4 → (0xF0 ≤ a) × (a ≤ 0xF4)
 unfolding width_of
 at_width_4 a h = (grind (arith, nat_tests), grind (arith, nat_tests))
 
+-- no octet asks for a width of more than four
 pub width_le : (a : ℕ) → width_of a ≤ 4
 unfolding width_of
 width_le a = grind (arith, nat_tests)
@@ -49,26 +56,32 @@ pub least_E0 : (a : ℕ) → IsInRange 0xE0 0xE0 a → least_second a ≡ 0xA0
 unfolding least_second
 least_E0 a h = grind (arith, nat_tests)
 
+-- 90 is the least second octet behind F0
 pub least_F0 : (a : ℕ) → IsInRange 0xF0 0xF0 a → least_second a ≡ 0x90
 unfolding least_second
 least_F0 a h = grind (arith, nat_tests)
 
+-- 80 is the least second octet behind any first one but E0 and F0
 pub least_other : (a : ℕ) → a ≢ 0xE0 → a ≢ 0xF0 → least_second a ≡ 0x80
 unfolding least_second
 least_other a h k = grind (arith, nat_tests)
 
+-- 9F is the greatest second octet behind ED
 pub greatest_ED : (a : ℕ) → IsInRange 0xED 0xED a → greatest_second a ≡ 0x9F
 unfolding greatest_second
 greatest_ED a h = grind (arith, nat_tests)
 
+-- 8F is the greatest second octet behind F4
 pub greatest_F4 : (a : ℕ) → IsInRange 0xF4 0xF4 a → greatest_second a ≡ 0x8F
 unfolding greatest_second
 greatest_F4 a h = grind (arith, nat_tests)
 
+-- BF is the greatest second octet behind any first one but ED and F4
 pub greatest_other : (a : ℕ) → a ≢ 0xED → a ≢ 0xF4 → greatest_second a ≡ 0xBF
 unfolding greatest_second
 greatest_other a h k = grind (arith, nat_tests)
 
+-- the bounds of the second octet are in order, and within 80..BF
 pub second_bounds : (a : ℕ) → (0x80 ≤ least_second a) × (least_second a ≤ greatest_second a)
     × (greatest_second a ≤ 0xBF)
 unfolding least_second greatest_second
@@ -120,6 +133,7 @@ rule_4 a b c d w s t u = record {
   fourth = λ h. u;
 }
 
+-- an encoding has the width that its first octet asks for, and the others in their ranges
 pub rule_from : {e : List ℕ} → IsEncoding e → Rule e
 rule_from (row_00_7F {a} p) = rule_1 a p.1
 rule_from (row_C2_DF {a} {b} p q) =

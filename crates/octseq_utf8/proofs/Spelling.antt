@@ -12,6 +12,7 @@ use Rattle.octseq_utf8.proofs.Numbers.{encoding_of-number_of}
 
 -- an octet is within an encoding, or outside
 
+-- an octet in a range that lies within 80..BF passes the test for 80..BF
 pub inside : (low high b : ℕ) → 0x80 ≤ low → high ≤ 0xBF → IsInRange low high b → is_in_range 0x80 0xBF b ≡ true
 inside low high b p q h = grind (arith, nat_tests)
 
@@ -59,6 +60,7 @@ cut_4 : (a b c d : ℕ) (r : List ℕ) → is_in_range 0x80 0xBF b ≡ true → 
     → encodings_in (a ∷ b ∷ c ∷ d ∷ r) ≡ (a ∷ b ∷ c ∷ d ∷ []) ∷ encodings_in r
 cut_4 a b c d r p q s h = cut_before a b (c ∷ d ∷ r) _ _ p (cut_3 b c d r q s h)
 
+-- an octet of 80..BF passes the test for it
 pub plain : (b : ℕ) → IsInRange 0x80 0xBF b → is_in_range 0x80 0xBF b ≡ true
 plain b h = inside 0x80 0xBF b (omega arith) (omega arith) h
 
@@ -76,6 +78,7 @@ cut (row_F1_F3 {a} {b} {c} {d} p q t u) r h = cut_4 a b c d r (plain b q) (plain
 cut (row_F4 {a} {b} {c} {d} p q t u) r h =
     cut_4 a b c d r (inside 0x80 0x8F b (omega arith) (omega arith) q) (plain c t) (plain d u) h
 
+-- encodings, one after another, never begin within one
 pub begins_all : (es : List (List ℕ)) → AllByRecursion IsEncoding es → begins_within (concat es) ≡ false
 begins_all [] h = refl
 begins_all (e ∷ es) h = begins h.0 (concat es)
@@ -93,6 +96,7 @@ encodings_in-concat (e ∷ es) h = cut h.0 (concat es) (begins_all es h.1)
 pub chars_of : {x cs : List ℕ} → Spells x cs → chars x ≡ cs
 chars_of {x} {cs} s = ap chars (sym s.joined) ∙ ap (map number_of) (encodings_in-concat s.encodings s.each) ∙ s.numbers
 
+-- octets that spell some characters spell those that are read from them
 pub spells_chars : {x cs : List ℕ} → Spells x cs → Spells x (chars x)
 spells_chars {x} {cs} s = subst (Spells x) (sym (chars_of s)) s
 
@@ -103,6 +107,7 @@ octets_of_numbers (e ∷ es) h =
     ap (λ y. y ++ octets_of (map number_of es)) (encoding_of-number_of h.0)
         ∙ ap (λ y. e ++ y) (octets_of_numbers es h.1)
 
+-- the characters that octets spell are encoded as those octets
 pub octets_of_spelled : {x cs : List ℕ} → Spells x cs → octets_of cs ≡ x
 octets_of_spelled s = ap octets_of (sym s.numbers) ∙ octets_of_numbers s.encodings s.each ∙ s.joined
 
@@ -121,10 +126,12 @@ each-append : (es fs : List (List ℕ)) → AllByRecursion IsEncoding es → All
 each-append [] fs p q = q
 each-append (e ∷ es) fs p q = (p.0, each-append es fs p.1 q)
 
+-- two lists of encodings, one behind the other, make the octets of the first and then those of the second
 pub concat-append : (es fs : List (List ℕ)) → concat (es ++ fs) ≡ concat es ++ concat fs
 concat-append [] fs = refl
 concat-append (e ∷ es) fs = ap (λ y. e ++ y) (concat-append es fs) ∙ sym (append_assoc e (concat es) (concat fs))
 
+-- two texts joined spell the characters of the first and then those of the second
 pub spells-append : {x y cs ds : List ℕ} → Spells x cs → Spells y ds → Spells (x ++ y) (cs ++ ds)
 spells-append {x} {cs = cs} s t = record {
   encodings = s.encodings ++ t.encodings;

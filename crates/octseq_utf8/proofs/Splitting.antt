@@ -18,17 +18,20 @@ use Rattle.octseq_utf8.proofs.Fitting.{fitting_fits, fitting_within, fitting_wid
 pub whole_or : (x : List ℕ) → (1 ≤ width x) × (fitting x ≡ width x) ⊎ ((width x ≡ 0) ⊎ (fitting x < width x))
 whole_or x = let h = fitting_wide x in grind arith
 
+-- where all of the width fits, the first part is the character that those octets encode
 pub first_whole : (x : List ℕ) → 1 ≤ width x → fitting x ≡ width x
     → first_part x ≡ Char (number_of (take (part_len x) x))
 unfolding first_part
 first_whole x w m = let test : (nat_lt 0 (width x) && fitting x == width x) ≡ true = grind (arith, nat_tests) in
     ap (λ b. cond b (Char (number_of (take (part_len x) x))) (Bad (take (part_len x) x))) test
 
+-- where the first octet has no width, or less than the width fits, the first part is a bad part
 pub first_bad : (x : List ℕ) → (width x ≡ 0) ⊎ (fitting x < width x) → first_part x ≡ Bad (take (part_len x) x)
 unfolding first_part
 first_bad x m = let test : (nat_lt 0 (width x) && fitting x == width x) ≡ false = grind (arith, nat_tests) in
     ap (λ b. cond b (Char (number_of (take (part_len x) x))) (Bad (take (part_len x) x))) test
 
+-- the first part has at least one octet, and no more than there are
 pub part_len_within : (x : List ℕ) → 1 ≤ length x → (1 ≤ part_len x) × (part_len x ≤ length x)
 part_len_within x h = let m = fitting_within x h in (omega arith, omega arith)
 
@@ -44,6 +47,7 @@ drop_one_less : (n b : ℕ) (bs : List ℕ) → 1 ≤ n → drop n (b ∷ bs) �
 drop_one_less zero b bs h = absurd (omega arith)
 drop_one_less (suc n) b bs h = let same : n ≡ suc n - 1 = omega arith in ap (λ k. drop k bs) same
 
+-- where there are octets, their parts are the first part, and then those of what is behind it
 pub parts_step : (x : List ℕ) → 1 ≤ length x → parts_of x ≡ first_part x ∷ parts_of (drop (part_len x) x)
 unfolding parts_after
 parts_step [] h = absurd (omega arith)
@@ -52,6 +56,7 @@ parts_step (b ∷ bs) h =
     ap (λ ps. first_part (b ∷ bs) ∷ ps) (parts_after-drop (part_len (b ∷ bs) - 1) bs
         ∙ ap parts_of (sym (drop_one_less (part_len (b ∷ bs)) b bs l.0)))
 
+-- where there are no octets there are no parts
 pub parts_nil : parts_of [] ≡ []
 unfolding parts_after
 parts_nil = refl
@@ -66,6 +71,7 @@ encoding_fitting {e} p r =
     let n = fitting_wide (e ++ r) in
     (omega arith, w)
 
+-- the parts of an encoding with others behind it are its character, and then those of the others
 pub parts_encoding : {e : List ℕ} → IsEncoding e → (r : List ℕ) → parts_of (e ++ r) ≡ Char (number_of e) ∷ parts_of r
 parts_encoding {e} p r =
     let l = length_of p in
@@ -245,5 +251,6 @@ splits_within (suc k) (b ∷ bs) h =
         (bad_part (subst (λ y. IsBadPart y (take (part_len (b ∷ bs)) (b ∷ bs))) (sym cut)
             (bad_of (b ∷ bs) (omega arith) w)) s))
 
+-- octets split into the parts that are read from them
 pub splits : (x : List ℕ) → Splits x (parts_of x)
 splits x = splits_within (length x) x (omega arith)

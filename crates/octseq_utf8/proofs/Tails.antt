@@ -25,12 +25,14 @@ drop_further : (x : List ℕ) (from place : ℕ) → from ≤ place → drop (pl
 drop_further x from place past =
     drop-drop (place - from) from x ∙ ap (λ k. drop k x) (let e : from + (place - from) ≡ place = omega arith in e)
 
+-- a search is where it begins before it takes a turn
 pub behind_start : (x : List ℕ) (from t : ℕ) → IsBehind x from from t t
 behind_start x from t = record {
   past = omega arith;
   at = subst (λ k. IsAt (drop from x) k t t) (let e : 0 ≡ from - from = omega arith in e) (at_start (drop from x) t);
 }
 
+-- an encoding at the place of a search is passed in one turn
 pub behind_more : (x : List ℕ) (from place old now len : ℕ) → IsBehind x from place old now
     → StandsInFront (drop place x) (Encoding len) → IsBehind x from (place + len) old (now + 1)
 behind_more x from place old now len b front =
@@ -43,11 +45,13 @@ behind_more x from place old now len b front =
               (subst (λ y. StandsInFront y (Encoding len)) (sym (drop_further x from place past)) front));
     }
 
+-- a search that comes to the end has passed well-formed octets, with at most one turn for each character
 pub behind_end : (x : List ℕ) (from place old now : ℕ) → IsBehind x from place old now → length x ≤ place
     → IsWellFormed (drop from x) × (now ≤ old + length (chars (drop from x)))
 behind_end x from place old now b past =
     at_end (drop from x) (place - from) old now b.at (omega (arith, length-drop from x))
 
+-- a bad part at the place of a search is the fault of the octets that it searches, found in one turn more
 pub behind_fault : (x : List ℕ) (from place old now : ℕ) (size : Option ℕ) → IsBehind x from place old now
     → StandsInFront (drop place x) (Bad size)
     → IsFaultAt (drop from x) old (now + 1) (fault_from from (record { place = place; size = size }))
@@ -74,6 +78,7 @@ found_behind x place old mid now fault at past f turns passed =
 
 -- and what the whole search owes then
 
+-- a fault that a search from a place on tells is that of the whole, in the turns that the whole may take
 pub tail_fault : (x : List ℕ) (place old mid now : ℕ) (r : Option Fault) → IsAt x place old mid
     → IfSome r (λ fault. place ≤ fault.place) → IfSome r (λ fault. IsFault (drop place x) (fault_from place fault))
     → IfSome r (λ fault. now ≤ mid + length (chars (take (fault.place - place) (drop place x))) + 1)
@@ -83,6 +88,7 @@ tail_fault x place old mid now None at past f turns passed = past
 tail_fault x place old mid now (Some fault) at past f turns passed =
     found_behind x place old mid now fault at past f turns passed
 
+-- a search from a place on finds no fault exactly where the whole is well formed
 pub tail_none : (x : List ℕ) (place old mid now : ℕ) (r : Option Fault) → IsAt x place old mid
     → IsNone r ↔ IsWellFormed (drop place x) → IfSome r (IsFaultAt x old now) → IsNone r ↔ IsWellFormed x
 tail_none x place old mid now None at none fault =
@@ -90,12 +96,14 @@ tail_none x place old mid now None at none fault =
 tail_none x place old mid now (Some found) at none fault =
     (λ h. absurd (cc), λ w. absurd (fault_refutes fault.is_fault w))
 
+-- where a search from a place on finds no fault, the whole takes at most one turn for each character
 pub tail_turns : (x : List ℕ) (place old mid now : ℕ) (r : Option Fault) → IsAt x place old mid
     → IsNone r ↔ IsWellFormed (drop place x) → IfNone r (now ≤ mid + length (chars (drop place x)))
     → IfNone r (now ≤ old + length (chars x))
 tail_turns x place old mid now None at none turns = turns_behind x place old mid now at (none.0 refl) turns
 tail_turns x place old mid now (Some found) at none turns = turns
 
+-- whether or not a search behind the lanes finds a fault, the whole takes few turns
 pub tail_mixed : (x : List ℕ) (place old mid now : ℕ) (r : Option Fault) → IsMixed x place old mid → place ≤ length x
     → length x - 15 ≤ place → IsNone r ↔ IsWellFormed (drop place x)
     → IfNone r (now ≤ mid + length (chars (drop place x)))

@@ -5,18 +5,23 @@ use Rattle.octseq_utf8.specs.Text.{Spells, IsWellFormed, chars, octets_of}
 use Rattle.octseq_utf8.proofs.Numbers.{encoding_is_of}
 use Rattle.octseq_utf8.proofs.Spelling.{chars_of, octets_of_spelled, spells_chars, spells_one, spells-append}
 
+-- well-formed octets spell their characters
 pub spelled : (x : List ℕ) → IsWellFormed x → Spells x (chars x)
 spelled x (cs, s) = spells_chars s
 
+-- the characters of well-formed octets are encoded as those octets
 pub octets_of-chars : (x : List ℕ) → IsWellFormed x → octets_of (chars x) ≡ x
 octets_of-chars x w = octets_of_spelled (spelled x w)
 
+-- well-formed octets behind well-formed ones are well formed with them
 pub well_formed-append : (x y : List ℕ) → IsWellFormed x → IsWellFormed y → IsWellFormed (x ++ y)
 well_formed-append x y (cs, s) (ds, t) = (cs ++ ds, spells-append s t)
 
+-- the characters of two texts joined are those of the first and then those of the second
 pub chars-append : (x y : List ℕ) → IsWellFormed x → IsWellFormed y → chars (x ++ y) ≡ chars x ++ chars y
 chars-append x y v w = chars_of (spells-append (spelled x v) (spelled y w))
 
+-- the characters of two texts, one after the other, are encoded as the texts joined
 pub octets_of-append : (x y : List ℕ) → IsWellFormed x → IsWellFormed y → octets_of (chars x ++ chars y) ≡ x ++ y
 octets_of-append x y v w = octets_of_spelled (spells-append (spelled x v) (spelled y w))
 
@@ -29,8 +34,10 @@ same_text x y v w e = sym (octets_of-chars x v) ∙ ap octets_of e ∙ octets_of
 spells_encoding : (c : ℕ) → IsCharacter c → Spells (encoding_of c) (c ∷ [])
 spells_encoding c h = let e = encoding_is_of c h in subst (λ n. Spells (encoding_of c) (n ∷ [])) e.1 (spells_one e.0)
 
+-- the encoding of a character is well formed
 pub well_formed-encoding : (c : ℕ) → IsCharacter c → IsWellFormed (encoding_of c)
 well_formed-encoding c h = (c ∷ [], spells_encoding c h)
 
+-- the encoding of a character spells that character only
 pub chars-encoding : (c : ℕ) → IsCharacter c → chars (encoding_of c) ≡ c ∷ []
 chars-encoding c h = chars_of (spells_encoding c h)

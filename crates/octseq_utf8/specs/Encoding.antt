@@ -24,9 +24,9 @@ pub data IsEncoding : List ℕ → Type 0 where
 -- The number of the character that an encoding stands for.
 unfoldable pub number_of : List ℕ → ℕ
 number_of (a ∷ []) = a
-number_of (a ∷ b ∷ []) = (a - 192) * 64 + (b - 128)
-number_of (a ∷ b ∷ c ∷ []) = (a - 224) * 4096 + (b - 128) * 64 + (c - 128)
-number_of (a ∷ b ∷ c ∷ d ∷ []) = (a - 240) * 262144 + (b - 128) * 4096 + (c - 128) * 64 + (d - 128)
+number_of (a ∷ b ∷ []) = (a - 0xC0) * 0x40 + (b - 0x80)
+number_of (a ∷ b ∷ c ∷ []) = (a - 0xE0) * 0x1000 + (b - 0x80) * 0x40 + (c - 0x80)
+number_of (a ∷ b ∷ c ∷ d ∷ []) = (a - 0xF0) * 0x4_0000 + (b - 0x80) * 0x1000 + (c - 0x80) * 0x40 + (d - 0x80)
 number_of _ = 0
 
 -- A character is a number of these two ranges.
@@ -36,6 +36,6 @@ IsCharacter c = IsInRange 0 0xD7FF c ⊎ IsInRange 0xE000 0x10_FFFF c
 -- The encoding of a character, the one that has its number.
 unfoldable pub encoding_of : ℕ → List ℕ
 encoding_of c = if nat_lt c 0x80 then c ∷ []
-    else (if nat_lt c 0x800 then (192 + c / 64) ∷ (128 + c % 64) ∷ []
-    else (if nat_lt c 0x1_0000 then (224 + c / 4096) ∷ (128 + c / 64 % 64) ∷ (128 + c % 64) ∷ []
-    else (240 + c / 262144) ∷ (128 + c / 4096 % 64) ∷ (128 + c / 64 % 64) ∷ (128 + c % 64) ∷ []))
+    else (if nat_lt c 0x800 then (0xC0 + c / 0x40) ∷ (0x80 + c % 0x40) ∷ []
+    else (if nat_lt c 0x1_0000 then (0xE0 + c / 0x1000) ∷ (0x80 + c / 0x40 % 0x40) ∷ (0x80 + c % 0x40) ∷ []
+    else (0xF0 + c / 0x4_0000) ∷ (0x80 + c / 0x1000 % 0x40) ∷ (0x80 + c / 0x40 % 0x40) ∷ (0x80 + c % 0x40) ∷ []))

@@ -37,7 +37,7 @@ pub trait RecordSection: Section {
 }
 
 /// No section yet: nothing stands in the message but its header.
-#[derive(Clone, Copy, Debug)]
+#[derive(Clone, Copy)]
 pub enum NoSection {}
 
 impl Section for NoSection {
@@ -47,7 +47,7 @@ impl Section for NoSection {
 }
 
 /// The questions.
-#[derive(Clone, Copy, Debug)]
+#[derive(Clone, Copy)]
 pub enum Questions {}
 
 impl Section for Questions {
@@ -57,7 +57,7 @@ impl Section for Questions {
 }
 
 /// The answers.
-#[derive(Clone, Copy, Debug)]
+#[derive(Clone, Copy)]
 pub enum Answers {}
 
 impl Section for Answers {
@@ -85,7 +85,7 @@ impl RecordSection for Answers {
 }
 
 /// The records of authorities.
-#[derive(Clone, Copy, Debug)]
+#[derive(Clone, Copy)]
 pub enum Authorities {}
 
 impl Section for Authorities {
@@ -113,7 +113,7 @@ impl RecordSection for Authorities {
 }
 
 /// The additional records.
-#[derive(Clone, Copy, Debug)]
+#[derive(Clone, Copy)]
 pub enum Additionals {}
 
 impl Section for Additionals {
