@@ -66,7 +66,7 @@ pub come_next : (front octets after : List ℕ) (k : ℕ) → length octets ≡ 
 come_next front octets after k many =
     let all : length (octets ++ after) ≡ length octets + length after = length-append octets after in
     let ahead : left (behind front (octets ++ after)) ≡ length (octets ++ after) =
-        left_behind front (octets ++ after) in (
+    left_behind front (octets ++ after) in (
       omega (arith, many, all, ahead),
       next_behind front octets after k many,
       ap rest (past_behind front octets after k many) ∙ rest_behind (front ++ octets) after,
@@ -75,7 +75,7 @@ come_next front octets after k many =
 -- behind a front, the octets of an integer, big-endian, come next and are read as it, and others are left behind them
 pub be_comes_next : (front after : List ℕ) (k n : ℕ) → n < 256 ^ k → (k ≤ left (behind front (octets_be k n ++ after)))
     × (be (next k (behind front (octets_be k n ++ after))) ≡ n)
-        × (rest (past k (behind front (octets_be k n ++ after))) ≡ after)
+    × (rest (past k (behind front (octets_be k n ++ after))) ≡ after)
 be_comes_next front after k n fits =
     let come = come_next front (octets_be k n) after k (length_be k n) in
     (come.0, ap be come.1 ∙ value_be k n fits, come.2)
@@ -83,7 +83,7 @@ be_comes_next front after k n fits =
 -- and so do those of an integer, little-endian
 pub le_comes_next : (front after : List ℕ) (k n : ℕ) → n < 256 ^ k → (k ≤ left (behind front (octets_le k n ++ after)))
     × (le (next k (behind front (octets_le k n ++ after))) ≡ n)
-        × (rest (past k (behind front (octets_le k n ++ after))) ≡ after)
+    × (rest (past k (behind front (octets_le k n ++ after))) ≡ after)
 le_comes_next front after k n fits =
     let come = come_next front (octets_le k n) after k (length_le k n) in
     (come.0, ap le come.1 ∙ value_le k n fits, come.2)
@@ -99,7 +99,7 @@ part_comes_next_by front len octets after all k many value together =
     let here : w ≡ behind front (len ++ (octets ++ after)) = ap (behind front) together in
     let count : part_length k w ≡ length octets = ap (λ w. be (next k w)) here ∙ ap be first.1 ∙ value in
     let behind_length : past k w ≡ behind (front ++ len) (octets ++ after) =
-        ap (past k) here ∙ past_behind front len (octets ++ after) k many in (
+    ap (past k) here ∙ past_behind front len (octets ++ after) k many in (
       (
         subst (λ w. k ≤ left w) (sym here) first.0,
         subst (λ n. n ≤ left (past k w)) (sym count) (subst (λ w. length octets ≤ left w) (sym behind_length) second.0),
@@ -112,8 +112,8 @@ part_comes_next_by front len octets after all k many value together =
 pub part_comes_next : (front octets after : List ℕ) (k : ℕ) → length octets < 256 ^ k
     → HasPart k (behind front (part_of k octets ++ after))
     × (rest (part k (behind front (part_of k octets ++ after))) ≡ octets)
-        × (rest (past_part k (behind front (part_of k octets ++ after))) ≡ after)
+    × (rest (past_part k (behind front (part_of k octets ++ after))) ≡ after)
 part_comes_next front octets after k fits =
     let len = octets_be k (length octets) in
     part_comes_next_by front len octets after (part_of k octets ++ after) k (length_be k (length octets))
-        (value_be k (length octets) fits) (append_assoc len octets after)
+    (value_be k (length octets) fits) (append_assoc len octets after)

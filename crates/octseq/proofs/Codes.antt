@@ -86,7 +86,7 @@ pub no_second : {A B : Type 0} (Fits : A → Type 0) (code : A → List ℕ) (Su
     → ¬ HasFront {A = A × B} (λ p. Fits p.0 × Suits p.1) (λ p. code p.0 ++ spelling p.1) octets
 no_second Fits code Suits spelling octets behind a told fits read none (p, more, here, e) =
     let one = told a p.0 behind (spelling p.1 ++ more) fits here.0
-        (sym read ∙ e ∙ append_assoc (code p.0) (spelling p.1) more) in
+    (sym read ∙ e ∙ append_assoc (code p.0) (spelling p.1) more) in
     none (p.1, more, here.1, one.1)
 
 -- ---- windows
@@ -105,7 +105,7 @@ pub taken : (w v : Window) (n : ℕ) (octets : List ℕ) → (left w < n → ⊥
     → rest w ≡ octets ++ rest v
 taken w v n octets enough moved e =
     sym (next_and_rest w n (omega (arith, enough))) ∙ ap (λ octets. octets ++ rest (past n w)) (sym e)
-        ∙ ap (λ v. octets ++ rest v) (sym moved)
+    ∙ ap (λ v. octets ++ rest v) (sym moved)
 
 -- so of a call that took its octets
 pub took : {R T E : Type 0} {g : Ghosts R} {value : T} {n : ℕ} {p q : Parser R g} (octets : List ℕ)
@@ -151,14 +151,14 @@ pub part_front : (octets between behind value : List ℕ) (k n : ℕ) → octets
     → between ≡ value ++ behind → length value ≡ n → octets ≡ part_of k value ++ behind
 part_front octets between behind value k n e f long =
     pair_front octets between behind (octets_be k (length value)) value
-        (e ∙ ap (λ n. octets_be k n ++ between) (sym long)) f
+    (e ∙ ap (λ n. octets_be k n ++ between) (sym long)) f
 
 -- no part: no room for its length
 pub no_part_length : (w : Window) (k : ℕ) → (k ≤ left w → ⊥)
     → ¬ HasFront (λ octets. length octets < 256 ^ k) (part_of k) (rest w)
 no_part_length w k few = too_few (λ octets. length octets < 256 ^ k) (part_of k) w k
     (λ octets. let all = length-append (octets_be k (length octets)) octets in let head = length_be k (length octets) in
-        omega arith) few
+    omega arith) few
 
 -- no part: fewer octets than its length says
 pub no_part_value : (octets : List ℕ) (w : Window) (k n : ℕ) → n < 256 ^ k → octets ≡ octets_be k n ++ rest w
@@ -166,7 +166,7 @@ pub no_part_value : (octets : List ℕ) (w : Window) (k n : ℕ) → n < 256 ^ k
     → ¬ HasFront (λ octets. length octets < 256 ^ k) (part_of k) octets
 no_part_value octets w k n fits read few (value, more, here, e) =
     let one = integer_code k n (length value) (rest w) (value ++ more) fits here
-        (sym read ∙ e ∙ append_assoc (octets_be k (length value)) value more) in
+    (sym read ∙ e ∙ append_assoc (octets_be k (length value)) value more) in
     let same = one.0 in
     let all : length (rest w) ≡ length value + length more = ap length one.1 ∙ length-append value more in
     let left = length_rest w in
@@ -200,14 +200,14 @@ pub no_fixed_integer : {A : Type 0} (Fits : A → Type 0) (k fixed n : ℕ) (oct
     → ¬ HasFront Fits (λ _. octets_be k fixed) octets
 no_fixed_integer Fits k fixed n octets more fits also read other =
     no_fixed_value Fits (octets_be k fixed) octets (octets_be k n) more read (length_be k n ∙ sym (length_be k fixed))
-        (λ e. other (same_integer k n fixed also fits e))
+    (λ e. other (same_integer k n fixed also fits e))
 
 -- a thing behind fixed octets
 pub marked_code : {A : Type 0} (Fits : A → Type 0) (code : A → List ℕ) (mark : List ℕ) → IsCode Fits code
     → IsCode Fits (λ a. mark ++ code a)
 marked_code Fits code mark told a b x y fits also e =
     let apart : mark ++ (code a ++ x) ≡ mark ++ (code b ++ y) = sym (append_assoc mark (code a) x) ∙ e
-        ∙ append_assoc mark (code b) y in
+    ∙ append_assoc mark (code b) y in
     told a b x y fits also (halves mark mark (code a ++ x) (code b ++ y) refl apart).1
 
 -- the fixed octets don't stand there
@@ -222,8 +222,12 @@ pub no_marked : {A : Type 0} (Fits : A → Type 0) (code : A → List ℕ) (mark
     → octets ≡ mark ++ behind → ¬ HasFront Fits code behind
     → ¬ HasFront Fits (λ a. mark ++ code a) octets
 no_marked Fits code mark octets behind read none (a, more, fits, e) =
-    none (a, more, fits,
-        (halves mark mark behind (code a ++ more) refl (sym read ∙ e ∙ append_assoc mark (code a) more)).1)
+    none (
+      a,
+      more,
+      fits,
+      (halves mark mark behind (code a ++ more) refl (sym read ∙ e ∙ append_assoc mark (code a) more)).1,
+    )
 
 -- octets of a known length are their own code
 pub octets_code : (n : ℕ) → IsCode {A = List ℕ} (λ octets. length octets ≡ n) (λ octets. octets)
@@ -246,7 +250,7 @@ chained_code {A} {B} Fits code Suits spelling first second (a, b) (c, d) x y (fi
     let apart : code a ++ (spelling a b ++ x) ≡ code c ++ (spelling c d ++ y) =
     sym (append_assoc (code a) (spelling a b) x) ∙ e ∙ append_assoc (code c) (spelling c d) y in
     let one : (a ≡ c) × (spelling a b ++ x ≡ spelling c d ++ y) =
-        first a c (spelling a b ++ x) (spelling c d ++ y) fits also apart in
+    first a c (spelling a b ++ x) (spelling c d ++ y) fits also apart in
     let back : c ≡ a = sym one.0 in
     let there : spelling a b ++ x ≡ spelling a d ++ y = one.1 ∙ ap (λ c. spelling c d ++ y) back in
     let two : (b ≡ d) × (x ≡ y) = second a fits b d x y suits (subst (λ c. Suits c d) back likewise) there in
@@ -266,8 +270,8 @@ pub no_chained_second : {A B : Type 0} (Fits : A → Type 0) (code : A → List 
     → ¬ HasFront {A = A × B} (λ p. Fits p.0 × Suits p.0 p.1) (λ p. code p.0 ++ spelling p.0 p.1) octets
 no_chained_second Fits code Suits spelling octets behind a told fits read none (p, more, here, e) =
     let one : (a ≡ p.0) × (behind ≡ spelling p.0 p.1 ++ more) =
-        told a p.0 behind (spelling p.0 p.1 ++ more) fits here.0
-        (sym read ∙ e ∙ append_assoc (code p.0) (spelling p.0 p.1) more) in
+    told a p.0 behind (spelling p.0 p.1 ++ more) fits here.0
+    (sym read ∙ e ∙ append_assoc (code p.0) (spelling p.0 p.1) more) in
     let back : p.0 ≡ a = sym one.0 in
     none (p.1, more, subst (λ c. Suits c p.1) back here.1, one.1 ∙ ap (λ c. spelling c p.1 ++ more) back)
 
@@ -291,4 +295,4 @@ pub no_counted_octets : {A : Type 0} (Fits : A → Type 0) (code : A → List �
     octets
 no_counted_octets Fits code count octets w a told fits read few =
     no_chained_second Fits code (λ a octets. length octets ≡ count a) (λ _ octets. octets) octets (rest w) a told fits
-        read (no_octets w (count a) (λ room. omega arith))
+    read (no_octets w (count a) (λ room. omega arith))

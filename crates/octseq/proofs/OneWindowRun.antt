@@ -21,9 +21,11 @@ one_step_on : (w : Option Window) (asks others : Bool) (windows after later : Li
 one_step_on None asks others windows after later command r s (e, f) (g, h) p q = (e ∙ sym g, f ∙ sym h)
 one_step_on (Some w) asks others windows after later command r s (done, d, e, f) (also, a, g, h) p q =
     let same : done ≡ also = done_is asks w _ done d (λ m. p (e ∙ m))
-        ∙ sym (done_is others w _ also a (λ m. q (g ∙ m))) in
-    (e ∙ ap (λ o. o.reply) same ∙ sym g, f ∙ ap (λ o. slice_set windows command.parser o.window ++ o.added) same
-        ∙ sym h)
+    ∙ sym (done_is others w _ also a (λ m. q (g ∙ m))) in (
+      e ∙ ap (λ o. o.reply) same ∙ sym g,
+      f ∙ ap (λ o. slice_set windows command.parser o.window ++ o.added) same
+          ∙ sym h,
+    )
 
 -- where memory is never refused, a list of commands on windows has one list of replies
 pub one_replies : (asks others : Bool) (windows : List Window) (commands : List ParserCommand) (x y : List WindowReply)
@@ -32,7 +34,7 @@ pub one_replies : (asks others : Bool) (windows : List Window) (commands : List 
 one_replies asks others windows [] [] [] run also p q = refl
 one_replies asks others windows (c ∷ commands) (r ∷ x) (s ∷ y) (after, step, run) (later, other, also) p q =
     let same : (r ≡ s) × (after ≡ later) = one_step_on (slice_get windows c.parser) asks others windows after later c r
-        s step other p.0 q.0 in
+    s step other p.0 q.0 in
     let R : List Window → Type 0 = λ ws. WindowRun others ws commands y in
     let rest : x ≡ y = one_replies asks others after commands x y run (subst R (sym same.1) also) p.1 q.1 in
     ap (λ q. q ∷ x) same.0 ∙ ap (λ ys. s ∷ ys) rest

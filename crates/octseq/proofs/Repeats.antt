@@ -32,7 +32,7 @@ one_list Fits code told some (a ∷ things) [] each all e = absurd (none_of_some
 one_list Fits code told some (a ∷ things) (b ∷ others) (fits, each) (also, all) e =
     let first = told a b (flat_map code things) (flat_map code others) fits also e in
     ap (λ a. a ∷ things) first.0
-        ∙ ap (λ things. b ∷ things) (one_list Fits code told some things others each all first.1)
+    ∙ ap (λ things. b ∷ things) (one_list Fits code told some things others each all first.1)
 
 -- what is left behind a thing is whole where all was
 whole_behind : {A : Type 0} (Fits : A → Type 0) (code : A → List ℕ) → IsCode Fits code → HasOctets code
@@ -75,7 +75,7 @@ pub read_more : {A : Type 0} (Fits : A → Type 0) (code : A → List ℕ) → I
 read_more Fits code told some octets before after things made a so_far fits front is =
     let joined : flat_map code made ≡ flat_map code things ++ code a =
     ap (flat_map code) is ∙ flat_map-append code things (a ∷ []) ∙ ap (λ x. flat_map code things ++ x)
-        (append-nil (code a)) in
+    (append-nil (code a)) in
     record {
       each = subst (AllByRecursion Fits) (sym is) (each_snoc Fits things a so_far.each fits);
       front = so_far.front ∙ ap (λ x. flat_map code things ++ x) front

@@ -13,7 +13,7 @@ use Rattle.octseq.specs.declared.parse.commands.ParserCommand.{ParserCommand}
 abbrev pub RunsOn : Bool → List Window → List ParserCommand → ℕ → List Window → List WindowReply → Type 0
 RunsOn asks start commands i windows so_far =
     (more : List WindowReply) → WindowRun asks windows (drop i commands) more
-        → WindowRun asks start commands (so_far ++ more)
+    → WindowRun asks start commands (so_far ++ more)
 
 -- one command more
 pub runs_more : (asks : Bool) (start : List Window) (commands : List ParserCommand) (i : ℕ) (d : ParserCommand)
@@ -24,7 +24,7 @@ pub runs_more : (asks : Bool) (start : List Window) (commands : List ParserComma
 runs_more asks start commands i d before after so_far reply within runs step = λ more run.
     let R : List ParserCommand → Type 0 = λ cs. WindowRun asks before cs (reply ∷ more) in
     let rest : drop i commands ≡ get_or commands i d ∷ drop (i + 1) commands =
-        rw add-one (drop-cons commands i d within) in
+    rw add-one (drop-cons commands i d within) in
     rw append_assoc (runs (reply ∷ more) (subst R (sym rest) (after, step, run)))
 
 -- no command is left

@@ -15,19 +15,22 @@ use Rattle.octseq.specs.declared.parse.commands.ParserCommand.{ParserCommand}
 pub step_of : {P : Type 0} (view : P → Window) (asks : Bool) (command : ParserCommand) (count : ℕ)
     (ps new made : List P) (before after : P) (reply : WindowReply)
     → count ≡ length ps → command.parser < count → before ≡ get_or ps command.parser before
-    → Does asks (view before) (outcome count (view before) command.call) (record { reply = reply; window = view after;
-    added = map view made })
+    → Does asks (view before) (outcome count (view before) command.call) (record {
+      reply = reply;
+      window = view after;
+      added = map view made;
+    })
     → new ≡ slice_set ps command.parser after ++ made
     → WindowStep asks (map view ps) command reply (map view new)
 step_of view asks command count ps new made before after reply counted within read does behind =
     let done : Outcome = record { reply = reply; window = view after; added = map view made } in
     let found : slice_get (map view ps) command.parser ≡ Some (view before) =
     slice_get-map view ps command.parser
-        ∙ ap (option_map view) (slice_get_read ps count command.parser before counted within read) in
+    ∙ ap (option_map view) (slice_get_read ps count command.parser before counted within read) in
     let all : count ≡ length (map view ps) = counted ∙ sym (length-map ps view) in
     let left : map view new ≡ slice_set (map view ps) command.parser (view after) ++ map view made =
     ap (map view) behind ∙ map-append view _ _ ∙ ap (λ windows. windows ++ map view made)
-        (map-set view ps command.parser after) in
+    (map-set view ps command.parser after) in
     let D : ℕ → Type 0 = λ n. Does asks (view before) (outcome n (view before) command.call) done in
     let S : Option Window → Type 0 = λ w. StepOn w asks (map view ps) command reply (map view new) in
     subst S (sym found) (done, subst D all does, refl, left)
@@ -36,8 +39,11 @@ step_of view asks command count ps new made before after reply counted within re
 pub step_alone : {P : Type 0} (view : P → Window) (asks : Bool) (command : ParserCommand) (count : ℕ) (ps : List P)
     (before after : P) (reply : WindowReply)
     → count ≡ length ps → command.parser < count → before ≡ get_or ps command.parser before
-    → Does asks (view before) (outcome count (view before) command.call) (record { reply = reply; window = view after;
-    added = [] })
+    → Does asks (view before) (outcome count (view before) command.call) (record {
+      reply = reply;
+      window = view after;
+      added = [];
+    })
     → WindowStep asks (map view ps) command reply (map view (slice_set ps command.parser after))
 step_alone view asks command count ps before after reply counted within read does =
     step_of view asks command count ps _ [] before after reply counted within read does (sym (append-nil _))

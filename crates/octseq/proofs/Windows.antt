@@ -30,7 +30,7 @@ rest_past w v n within moved =
     let behind = w.end - (w.position + n) in
     let all : left w ≡ n + behind = omega arith in
     ap (λ k. drop n (take k ahead)) all ∙ drop-take n behind ahead ∙ ap (take behind) (drop-drop n w.position w.octets)
-        ∙ ap rest (sym moved)
+    ∙ ap rest (sym moved)
 
 -- ---- windows cut from another
 

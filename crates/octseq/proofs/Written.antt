@@ -60,7 +60,7 @@ be_cons x xs =
     sum_first n (λ i. slice_index (x ∷ xs) i * 256 ^ (suc n - 1 - i))
     ∙ (let head : suc n - 1 - 0 ≡ n = omega arith in
     let tail = same_sum n (λ i. slice_index xs i * 256 ^ (suc n - 1 - suc i))
-        (λ i. slice_index xs i * 256 ^ (n - 1 - i))
+    (λ i. slice_index xs i * 256 ^ (n - 1 - i))
     (λ i. let e : suc n - 1 - suc i ≡ n - 1 - i = omega arith in ap (λ e. slice_index xs i * 256 ^ e) e) in
     let first : x * 256 ^ (suc n - 1 - 0) ≡ x * 256 ^ n = ap (λ e. x * 256 ^ e) head in
     omega (arith, first, tail))
@@ -276,16 +276,22 @@ pub are_signed_be : (k : ℕ) (z : ℤ) → IsSigned k z
     → AreOctetsOf (λ octets. signed k (be octets)) k z (octets_be k (unsigned k z))
 are_signed_be k z fits =
     let sum = signed_unsigned k z fits in
-    record { many = length_be k (unsigned k z); each = each_be k (unsigned k z);
-        value = ap (signed k) (value_be k (unsigned k z) sum.0) ∙ sum.1 }
+    record {
+      many = length_be k (unsigned k z);
+      each = each_be k (unsigned k z);
+      value = ap (signed k) (value_be k (unsigned k z) sum.0) ∙ sum.1;
+    }
 
 -- the same of a signed number, little-endian
 pub are_signed_le : (k : ℕ) (z : ℤ) → IsSigned k z
     → AreOctetsOf (λ octets. signed k (le octets)) k z (octets_le k (unsigned k z))
 are_signed_le k z fits =
     let sum = signed_unsigned k z fits in
-    record { many = length_le k (unsigned k z); each = each_le k (unsigned k z);
-        value = ap (signed k) (value_le k (unsigned k z) sum.0) ∙ sum.1 }
+    record {
+      many = length_le k (unsigned k z);
+      each = each_le k (unsigned k z);
+      value = ap (signed k) (value_le k (unsigned k z) sum.0) ∙ sum.1;
+    }
 
 -- ---- the widths that integers have
 

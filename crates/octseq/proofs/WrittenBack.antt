@@ -33,13 +33,13 @@ unfolding octets_be
 low_octets zero a n = refl
 low_octets (suc k) a n =
     let scaled : a * 256 ^ suc k ≡ a * 256 * 256 ^ k = ap (λ p. a * p) (pow-suc 256 k ∙ mul_comm (256 ^ k) 256)
-        ∙ sym (mul_assoc a 256 (256 ^ k)) in
+    ∙ sym (mul_assoc a 256 (256 ^ k)) in
     let digit : (a * 256 * 256 ^ k + n) / 256 ^ k ≡ a * 256 + n / 256 ^ k =
-        mul-add-div_right (positive k) (a * 256) n in
+    mul-add-div_right (positive k) (a * 256) n in
     let first : (a * 256 * 256 ^ k + n) / 256 ^ k % 256 ≡ n / 256 ^ k % 256 = omega (arith, digit) in
     let rest : octets_be k (a * 256 * 256 ^ k + n) ≡ octets_be k n = low_octets k (a * 256) n in
     ap (λ s. (s + n) / 256 ^ k % 256 ∷ octets_be k (s + n)) scaled ∙ ap (λ x. x ∷ octets_be k (a * 256 * 256 ^ k + n))
-        first ∙ ap (λ xs. n / 256 ^ k % 256 ∷ xs) rest
+    first ∙ ap (λ xs. n / 256 ^ k % 256 ∷ xs) rest
 
 -- the big-endian octets of the value of octets are those octets
 pub back_be : (xs : List ℕ) → AreOctets xs → octets_be (length xs) (be xs) ≡ xs
@@ -51,7 +51,7 @@ back_be (x ∷ xs) (small, each) =
     let digit : (x * 256 ^ n + be xs) / 256 ^ n ≡ x = div-mul-add x (256 ^ n) (be xs) (small_be xs each) in
     let first : (x * 256 ^ n + be xs) / 256 ^ n % 256 ≡ x = omega (arith, digit, small) in
     ap (octets_be (suc n)) cons ∙ ap (λ y. y ∷ octets_be n (x * 256 ^ n + be xs)) first
-        ∙ ap (λ ys. x ∷ ys) (low_octets n x (be xs) ∙ back_be xs each)
+    ∙ ap (λ ys. x ∷ ys) (low_octets n x (be xs) ∙ back_be xs each)
 
 -- the little-endian octets of the value of octets are those octets
 pub back_le : (xs : List ℕ) → AreOctets xs → octets_le (length xs) (le xs) ≡ xs

@@ -43,8 +43,11 @@ whole octets = record { octets = octets; position = 0; end = length octets }
 
 -- the window of a range of the octets
 abbrev pub window_of_range : List ℕ → Bound ℕ × Bound ℕ → Window
-window_of_range octets bounds = record { octets = octets; position = start_of bounds.0;
-    end = end_of (length octets) bounds.1 }
+window_of_range octets bounds = record {
+  octets = octets;
+  position = start_of bounds.0;
+  end = end_of (length octets) bounds.1;
+}
 
 -- the window on what stands behind a front
 abbrev pub behind : List ℕ → List ℕ → Window

@@ -12,7 +12,7 @@ use std::fmt;
 
 mod array_vec;
 mod as_octets_mut;
-mod bytes;
+mod bytes_mut;
 mod rc_slice;
 mod reference;
 mod slice;

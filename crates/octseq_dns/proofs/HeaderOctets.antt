@@ -24,7 +24,7 @@ past_front front octets after k many =
     let long : length (front ++ octets) ≡ length front + length octets = length-append front octets in
     let place : length front + k ≡ length (front ++ octets) = omega (arith, many, long) in
     ap (λ p. at p (whole (front ++ (octets ++ after)))) place ∙ ap (λ all. at (length (front ++ octets)) (whole all))
-        (sym (append_assoc front octets after))
+    (sym (append_assoc front octets after))
 
 -- a number stands behind a front
 pub number_stands : (front after : List ℕ) (k n : ℕ) → n < 256 ^ k
@@ -55,10 +55,12 @@ numbers_stand front after (n ∷ numbers) small =
     let more = numbers_stand (front ++ octets) after numbers small.1 in
     let one = number_stands front (rest ++ after) 2 n small.0 in
     let End : List ℕ → Type 0 = λ all. Row (IsNumber 2) (behind (front ++ octets) (rest ++ after)) numbers
-        (behind all after) in
-    let Begin : List ℕ → Type 0 = λ all. IsNumber 2 (behind front all) n (behind (front ++ octets) (rest ++ after)) in
-    (behind (front ++ octets) (rest ++ after), subst Begin (sym (append_assoc octets rest after)) one,
-        subst End (append_assoc front octets rest) more)
+    (behind all after) in
+    let Begin : List ℕ → Type 0 = λ all. IsNumber 2 (behind front all) n (behind (front ++ octets) (rest ++ after)) in (
+      behind (front ++ octets) (rest ++ after),
+      subst Begin (sym (append_assoc octets rest after)) one,
+      subst End (append_assoc front octets rest) more,
+    )
 
 -- what a flag counts is at most its weight
 flag_most : (f : Bool) (weight : ℕ) → flag f weight ≤ weight
@@ -83,7 +85,11 @@ pub header_stands : (h : Header) (after : List ℕ) → HeaderFits h
 unfolding numbers_octets AreSmall octets_be
 header_stands h after fits =
     let numbers = header_numbers h in
-    let small : AreSmall numbers =
-        (fits.id, (bits_small h fits.opcode fits.rcode,
-        (fits.qdcount, (fits.ancount, (fits.nscount, (fits.arcount, tt)))))) in
+    let small : AreSmall numbers = (
+      fits.id,
+      (
+        bits_small h fits.opcode fits.rcode,
+        (fits.qdcount, (fits.ancount, (fits.nscount, (fits.arcount, tt)))),
+      ),
+    ) in
     record { numbers = numbers_stand [] after numbers small; opcode = fits.opcode; rcode = fits.rcode }

@@ -98,7 +98,7 @@ pub zone_made : (octets : List ℕ) (places : List Place) (start : ℕ) (first s
 zone_made octets places start first second serial refresh retry expire minimum mname rname made firsts seconds one two
     is =
     ∥∥₁_elim one ∥∥₁_prop
-        (λ one. ∥∥₁_elim two ∥∥₁_prop (λ two. ∣ (mname, rname, firsts, seconds, one, two, is, refl) ∣₁))
+    (λ one. ∥∥₁_elim two ∥∥₁_prop (λ two. ∣ (mname, rname, firsts, seconds, one, two, is, refl) ∣₁))
 
 -- such data were appended,
 pub data_ends : (most : Option ℕ) (octets : List ℕ) (places : List Place) (rtype class ttl : ℕ)
@@ -132,7 +132,7 @@ passes_as limit octets Is Other turns passes = ∥∥₁_elim passes ∥∥₁_p
 -- a name with nothing before it is a name
 pub bare_name : (octets : List ℕ) (places : List Place) (start : ℕ) (labels : List (List ℕ)) (made : List ℕ)
     (added : List Place) → IsNamed octets places start [] labels made added
-        → IsPlaced octets places start labels made added
+    → IsPlaced octets places start labels made added
 bare_name octets places start labels made added is =
     let none : start + length {A = ℕ} [] ≡ start = omega arith in
     subst (λ made. IsPlaced octets places start labels made added) (sym is.2)
@@ -145,9 +145,12 @@ pub preferred_name : (octets : List ℕ) (places : List Place) (start preference
     → IsMade octets places start (Matter.mx preference labels) made added
 preferred_name octets places start preference before labels made added same is =
     let two = ap length same ∙ length_be 2 preference in
-    let place : start + length before ≡ start + 2 = omega (arith, two) in
-    (is.0, subst (λ start. IsPlaced octets places start labels is.0 added) place is.1, is.2
-        ∙ ap (λ before. before ++ is.0) same)
+    let place : start + length before ≡ start + 2 = omega (arith, two) in (
+      is.0,
+      subst (λ start. IsPlaced octets places start labels is.0 added) place is.1,
+      is.2
+          ∙ ap (λ before. before ++ is.0) same,
+    )
 
 -- ---- records
 
@@ -306,7 +309,7 @@ made_good base head places start (Matter.mx preference labels) made added headed
     let few = length_be 2 preference in
     let place : start + 2 ≡ length (base ++ (head ++ before)) = omega (arith, begins, one, two, three, few) in
     name_good base (head ++ before) is.0 [] (base ++ (head ++ made)) places labels (start + 2) added is.1 fits.1 headed
-        place
+    place
     (ap (λ made. base ++ (head ++ made)) is.2 ∙ ap (λ rest. base ++ rest) (sym (append_assoc head before is.0))
     ∙ sym (append_assoc base (head ++ before) is.0) ∙ sym (append-nil (base ++ (head ++ before) ++ is.0)))
 made_good base head places start (Matter.soa first second serial refresh retry expire minimum) made added headed begins
@@ -314,7 +317,7 @@ made_good base head places start (Matter.soa first second serial refresh retry e
     let mname = is.0 in
     let rname = is.1 in
     let numbers = octets_be 4 serial
-        ++ (octets_be 4 refresh ++ (octets_be 4 retry ++ (octets_be 4 expire ++ octets_be 4 minimum))) in
+    ++ (octets_be 4 refresh ++ (octets_be 4 retry ++ (octets_be 4 expire ++ octets_be 4 minimum))) in
     let all = base ++ (head ++ made) in
     let made_is : made ≡ mname ++ (rname ++ numbers) = is.6 in
     let one = length-append base head in
@@ -322,16 +325,16 @@ made_good base head places start (Matter.soa first second serial refresh retry e
     let three = length-append base (head ++ mname) in
     let place : start + length mname ≡ length (base ++ (head ++ mname)) = omega (arith, begins, one, two, three) in
     let firsts : AreGood all is.2 = name_good base head mname (rname ++ numbers) all places first start is.2 is.4 fits.0
-        headed begins
+    headed begins
     (ap (λ made. base ++ (head ++ made)) made_is ∙ sym (append_assoc base head (mname ++ (rname ++ numbers)))
     ∙ sym (append_assoc (base ++ head) mname (rname ++ numbers))) in
     let seconds : AreGood all is.3 =
-        name_good base (head ++ mname) rname numbers all places second (start + length mname) is.3 is.5 fits.1 headed
-        place
+    name_good base (head ++ mname) rname numbers all places second (start + length mname) is.3 is.5 fits.1 headed
+    place
     (ap (λ made. base ++ (head ++ made)) made_is
-        ∙ ap (λ rest. base ++ rest) (sym (append_assoc head mname (rname ++ numbers)))
+    ∙ ap (λ rest. base ++ rest) (sym (append_assoc head mname (rname ++ numbers)))
     ∙ sym (append_assoc base (head ++ mname) (rname ++ numbers))
-        ∙ sym (append_assoc (base ++ (head ++ mname)) rname numbers)) in
+    ∙ sym (append_assoc (base ++ (head ++ mname)) rname numbers)) in
     subst (AreGood all) (sym is.7) (All-append (IsGood all) is.2 is.3 firsts seconds)
 made_good base head places start (Matter.txt strings) made added headed begins is fits =
     subst (AreGood (base ++ (head ++ made))) (sym is.3) (All-nil (IsGood (base ++ (head ++ made))))
@@ -349,7 +352,7 @@ owner_good most octets places labels owner named placed fits headed good =
     ap (λ front. front ++ owner) (sym (append-nil octets)) ∙ sym (append-nil (octets ++ [] ++ owner)) in
     let begins : length octets ≡ length (octets ++ []) = sym (ap length (append-nil octets)) in
     let own = name_good octets [] owner [] (octets ++ owner) places labels (length octets) named placed fits headed
-        begins same in
+    begins same in
     good_kept (octets ++ owner) most (places ++ named)
     (All-append (IsGood (octets ++ owner)) places named (good_grows octets owner places headed good) own)
 
@@ -374,7 +377,7 @@ entry_good most octets places told entry after is fits headed good =
     let parts = head_and_data told.rtype told.class told.ttl is.made in
     let all : octets ++ entry ≡ base ++ (head ++ is.made) =
     ap (λ entry. octets ++ entry) is.entry_is ∙ sym (append_assoc octets is.owner behind)
-        ∙ ap (λ behind. base ++ behind) parts in
+    ∙ ap (λ behind. base ++ behind) parts in
     let long = length-append octets is.owner in
     let both = length-append base head in
     let ten = head_length told.rtype told.class told.ttl (length is.made) in
@@ -383,7 +386,7 @@ entry_good most octets places told entry after is fits headed good =
     let before = good_grows base (head ++ is.made) table room
     (owner_good most octets places told.labels is.owner is.named is.placed fits.owner headed good) in
     let own = made_good base head table (length octets + (length is.owner + 10)) told.said is.made is.added room begins
-        is.is_made fits.said in
+    is.is_made fits.said in
     subst (λ octets. AreGood octets after) (sym all) (subst (AreGood (base ++ (head ++ is.made))) (sym is.after_is)
     (good_kept (base ++ (head ++ is.made)) most (table ++ is.added)
     (All-append (IsGood (base ++ (head ++ is.made))) table is.added before own)))

@@ -113,8 +113,8 @@ module _ (octets : List ℕ) (places : List Place) (labels : List (List ℕ)) wh
       → IsPlaced octets places start labels name added → IsPlaced octets places start labels other others
       → (name ≡ other) × (added ≡ others)
   one_placed start name other added others is there =
-      let one = encodes_once name other is.written there.written is.pointers there.pointers is.encodes there.encodes in
-      (
+      let one =
+      encodes_once name other is.written there.written is.pointers there.pointers is.encodes there.encodes in (
         one.0,
         is.added_are ∙ ap (λ n. places_of start (take n labels) is.pointers) one.1
             ∙ ap (λ n. places_of start (take there.written labels) n) one.2 ∙ sym there.added_are,

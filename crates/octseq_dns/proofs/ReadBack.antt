@@ -17,8 +17,11 @@ asked_row : (w v : Window) (asked : List Asked) → Row IsAsked w asked v
 asked_row w v [] are = ([], are, refl, refl)
 asked_row w v (one ∷ asked) are =
     let more = asked_row are.0 v asked are.2 in
-    let q : Question = record { qname = record { place = w; labels = one.labels }; qtype = one.qtype;
-        qclass = one.qclass } in
+    let q : Question = record {
+      qname = record { place = w; labels = one.labels };
+      qtype = one.qtype;
+      qclass = one.qclass;
+    } in
     (q ∷ more.0, (are.0, are.1, more.1), ap (λ rest. one ∷ rest) more.2, ap suc more.3)
 
 -- records that stand in a row
@@ -28,8 +31,13 @@ told_row w v [] are = ([], are, tt, refl)
 told_row w v (one ∷ told) are =
     let more = told_row are.0 v told are.2 in
     let here = are.1 in
-    let r : Record = record { owner = record { place = w; labels = one.labels }; rtype = one.rtype; class = one.class;
-        ttl = one.ttl; rdata = here.0 } in
+    let r : Record = record {
+      owner = record { place = w; labels = one.labels };
+      rtype = one.rtype;
+      class = one.class;
+      ttl = one.ttl;
+      rdata = here.0;
+    } in
     let is : IsAsTold r one = record { labels = refl; rtype = refl; class = refl; ttl = refl; says = here.1.1 } in
     (r ∷ more.0, (are.0, here.1.0, more.1), (is, more.2), ap suc more.3)
 
@@ -41,7 +49,7 @@ reads_back octets h asked answers authorities additionals writes =
     let body = writes.body in
     let first = header_octets h in
     let all : first ++ (body ++ []) ≡ octets = ap (λ behind. first ++ behind) (append-nil body)
-        ∙ sym writes.octets_are in
+    ∙ sym writes.octets_are in
     let are = writes.pushed first [] (header_length h) in
     let end = at (12 + length body) (whole (first ++ (body ++ []))) in
     let q = asked_row _ are.0 asked are.1 in
@@ -67,8 +75,11 @@ reads_back octets h asked answers authorities additionals writes =
         sections_are = (
           are.0,
           (q.3 ∙ sym writes.qdcount, q.1),
-          (are.2.0, (x.3 ∙ sym writes.ancount, x.1),
-              (are.2.2.0, (y.3 ∙ sym writes.nscount, y.1), (z.3 ∙ sym writes.arcount, z.1))),
+          (
+            are.2.0,
+            (x.3 ∙ sym writes.ancount, x.1),
+            (are.2.2.0, (y.3 ∙ sym writes.nscount, y.1), (z.3 ∙ sym writes.arcount, z.1)),
+          ),
         );
         nothing_behind = omega (arith, both, begins, nil);
       };

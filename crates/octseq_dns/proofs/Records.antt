@@ -40,7 +40,7 @@ data_at all made after p is fits =
     let long = length_be 2 (length made) in
     let together : drop p all ≡ len ++ (made ++ after) = is ∙ append_assoc len made after in
     let here : length (drop p all) ≡ length len + length (made ++ after) =
-        ap length together ∙ length-append len (made ++ after) in
+    ap length together ∙ length-append len (made ++ after) in
     let there = length-append made after in
     let all_are = length-drop p all in
     let first = number_at all (made ++ after) p 2 (length made) together (omega arith) fits in
@@ -60,8 +60,13 @@ StandsAsData said all q n = (form : Form) × (matter form ≡ said) × HasForm (
 module _ (all : List ℕ) (place q n : ℕ) (told : Told) where
   -- the record of a name at one place and data at another
   abbrev record_at : Record
-  record_at = record { owner = record { place = at place (whole all); labels = told.labels }; rtype = told.rtype;
-      class = told.class; ttl = told.ttl; rdata = inside all q n }
+  record_at = record {
+    owner = record { place = at place (whole all); labels = told.labels };
+    rtype = told.rtype;
+    class = told.class;
+    ttl = told.ttl;
+    rdata = inside all q n;
+  }
 
   says_typed : (said : Matter) (form : Form) → matter form ≡ said
       → HasForm (type_of said) 1 (at q (whole all)) form (at (q + n) (whole all))
@@ -87,7 +92,7 @@ pub record_stands : (h : Header) (body name made : List ℕ) (told : Told) → t
     → IsName (at (length (header_octets h ++ body))
     (whole (header ++ drop 12 (header_octets h ++ body ++ name ++ more)))) told.labels
     (at (length (header_octets h ++ body) + length name)
-        (whole (header ++ drop 12 (header_octets h ++ body ++ name ++ more)))))
+    (whole (header ++ drop 12 (header_octets h ++ body ++ name ++ more)))))
     → ((header more : List ℕ) → length header ≡ 12
     → StandsAsData told.said (header ++ (body ++ (name ++ (behind_owner told.rtype told.class told.ttl made ++ more))))
     (12 + length body + length name + 2 + 2 + 4 + 2) (length made))
@@ -103,34 +108,34 @@ record_stands h body name made told typed classed timed fits named says header m
     let place = 12 + length body in
     let shown : header ++ ((body ++ (name ++ behind)) ++ more) ≡ all =
     ap (λ rest. header ++ rest) (append_assoc body (name ++ behind) more
-        ∙ ap (λ rest. body ++ rest) (append_assoc name behind more)) in
+    ∙ ap (λ rest. body ++ rest) (append_assoc name behind more)) in
     let under : header ++ drop 12 (header_octets h ++ body ++ name ++ (behind ++ more)) ≡ all =
     ap (λ rest. header ++ rest)
-        (ap (drop 12) (append_assoc (header_octets h ++ body) name (behind ++ more)
-        ∙ append_assoc (header_octets h) body (name ++ (behind ++ more)))
+    (ap (drop 12) (append_assoc (header_octets h ++ body) name (behind ++ more)
+    ∙ append_assoc (header_octets h) body (name ++ (behind ++ more)))
     ∙ drop_front (header_octets h) (body ++ (name ++ (behind ++ more))) 12 (header_length h)) in
     let begins : length (header_octets h ++ body) ≡ place = let both = length-append (header_octets h) body in
     let first = header_length h in omega (arith, both, first) in
     let is : IsName (at place (whole all)) told.labels (at (place + length name) (whole all)) =
     subst (λ p. IsName (at p (whole all)) told.labels (at (p + length name) (whole all))) begins
     (subst (λ all. IsName (at (length (header_octets h ++ body)) (whole all)) told.labels
-        (at (length (header_octets h ++ body) + length name) (whole all))) under
+    (at (length (header_octets h ++ body) + length name) (whole all))) under
     (named header (behind ++ more) long)) in
     let apart : behind ++ more ≡ rtype ++ (class ++ (ttl ++ (kept ++ more))) =
     append_assoc rtype (class ++ (ttl ++ kept)) more
-        ∙ ap (λ rest. rtype ++ rest) (append_assoc class (ttl ++ kept) more
-        ∙ ap (λ rest. class ++ rest) (append_assoc ttl kept more)) in
+    ∙ ap (λ rest. rtype ++ rest) (append_assoc class (ttl ++ kept) more
+    ∙ ap (λ rest. class ++ rest) (append_assoc ttl kept more)) in
     let at_type = drop_on all name (behind ++ more) place (length name)
-        (drop_body header body (name ++ (behind ++ more)) long) refl ∙ apart in
+    (drop_body header body (name ++ (behind ++ more)) long) refl ∙ apart in
     let at_class = drop_on all rtype (class ++ (ttl ++ (kept ++ more))) (place + length name) 2 at_type
-        (length_be 2 told.rtype) in
+    (length_be 2 told.rtype) in
     let at_ttl = drop_on all class (ttl ++ (kept ++ more)) (place + length name + 2) 2 at_class
-        (length_be 2 told.class) in
+    (length_be 2 told.class) in
     let at_data = drop_on all ttl (kept ++ more) (place + length name + 2 + 2) 4 at_ttl (length_be 4 told.ttl) in
     let first = number_at all (class ++ (ttl ++ (kept ++ more))) (place + length name) 2 told.rtype at_type
-        (omega arith) typed in
+    (omega arith) typed in
     let second = number_at all (ttl ++ (kept ++ more)) (place + length name + 2) 2 told.class at_class (omega arith)
-        classed in
+    classed in
     let third = number_at all (kept ++ more) (place + length name + 2 + 2) 4 told.ttl at_ttl (omega arith) timed in
     let last = data_at all made more (place + length name + 2 + 2 + 4) at_data fits in
     let q = place + length name + 2 + 2 + 4 + 2 in
@@ -152,15 +157,22 @@ record_stands h body name made told typed classed timed fits named says header m
     let stands : IsRecord (at place (whole all)) r (at end (whole all)) = (
       at (place + length name) (whole all),
       (refl, is),
-      (at (place + length name + 2) (whole all), first,
-          (at (place + length name + 2 + 2) (whole all), second,
-          (at (place + length name + 2 + 2 + 4) (whole all), third, last))),
+      (
+        at (place + length name + 2) (whole all),
+        first,
+        (
+          at (place + length name + 2 + 2) (whole all),
+          second,
+          (at (place + length name + 2 + 2 + 4) (whole all), third, last),
+        ),
+      ),
     ) in
-    let is_told : IsTold (at place (whole all)) told (at end (whole all)) =
-        (inside all q (length made),
-        (stands, says_at all place q (length made) told told.said (says header more long))) in
+    let is_told : IsTold (at place (whole all)) told (at end (whole all)) = (
+      inside all q (length made),
+      (stands, says_at all place q (length made) told told.said (says header more long)),
+    ) in
     subst (λ all. IsTold (at place (whole all)) told (at (12 + length (body ++ (name ++ behind))) (whole all)))
-        (sym shown)
+    (sym shown)
     (subst (λ end. IsTold (at place (whole all)) told (at end (whole all))) ends is_told)
 
 -- the data of a record stands behind its head
@@ -177,17 +189,17 @@ data_behind header body name made more told long =
     let place = 12 + length body in
     let apart : behind ++ more ≡ rtype ++ (class ++ (ttl ++ (len ++ (made ++ more)))) =
     append_assoc rtype (class ++ (ttl ++ part_of 2 made)) more
-        ∙ ap (λ rest. rtype ++ rest) (append_assoc class (ttl ++ part_of 2 made) more
+    ∙ ap (λ rest. rtype ++ rest) (append_assoc class (ttl ++ part_of 2 made) more
     ∙ ap (λ rest. class ++ rest) (append_assoc ttl (part_of 2 made) more
-        ∙ ap (λ rest. ttl ++ rest) (append_assoc len made more))) in
+    ∙ ap (λ rest. ttl ++ rest) (append_assoc len made more))) in
     let at_type = drop_on all name (behind ++ more) place (length name)
-        (drop_body header body (name ++ (behind ++ more)) long) refl ∙ apart in
+    (drop_body header body (name ++ (behind ++ more)) long) refl ∙ apart in
     let at_class = drop_on all rtype (class ++ (ttl ++ (len ++ (made ++ more)))) (place + length name) 2 at_type
-        (length_be 2 told.rtype) in
+    (length_be 2 told.rtype) in
     let at_ttl = drop_on all class (ttl ++ (len ++ (made ++ more))) (place + length name + 2) 2 at_class
-        (length_be 2 told.class) in
+    (length_be 2 told.class) in
     let at_len = drop_on all ttl (len ++ (made ++ more)) (place + length name + 2 + 2) 4 at_ttl
-        (length_be 4 told.ttl) in
+    (length_be 4 told.ttl) in
     drop_on all len (made ++ more) (place + length name + 2 + 2 + 4) 2 at_len (length_be 2 (length made))
 
 -- ---- data
@@ -243,9 +255,11 @@ strings_stand all more q (string ∷ strings) short is =
     let both = length-append (part_of 1 string) rest in
     let first = length_part 1 string in
     let end : q + (1 + length string) + length rest ≡ q + length (part_of 1 string ++ rest) =
-        omega (arith, both, first) in
-    (at (q + (1 + length string)) (whole all), one,
-        subst (λ p. Row HasString (at (q + (1 + length string)) (whole all)) strings (at p (whole all))) end others)
+    omega (arith, both, first) in (
+      at (q + (1 + length string)) (whole all),
+      one,
+      subst (λ p. Row HasString (at (q + (1 + length string)) (whole all)) strings (at p (whole all))) end others,
+    )
 
 -- an encoded name stands where it was appended, whatever comes between it and what it was encoded against
 name_stands : (base between name more header all : List ℕ) (places added : List Place) (labels : List (List ℕ))
@@ -255,10 +269,10 @@ name_stands : (base between name more header all : List ℕ) (places added : Lis
     → IsName (at q (whole all)) labels (at (q + length name) (whole all))
 name_stands base between name more header all places added labels start q placed fits headed long is begins =
     let there = encoded_stands_behind base between places labels name placed.encodes.0 fits.each fits.short headed
-        header more long in
+    header more long in
     subst (λ q. IsName (at q (whole all)) labels (at (q + length name) (whole all))) (sym begins)
     (subst (λ all. IsName (at (length (base ++ between)) (whole all)) labels
-        (at (length (base ++ between) + length name) (whole all))) (sym is) there)
+    (at (length (base ++ between) + length name) (whole all))) (sym is) there)
 
 -- a plain name does
 plain_stands : (base between more header all : List ℕ) (labels : List (List ℕ)) (q : ℕ) → FitsName labels
@@ -269,10 +283,10 @@ plain_stands : (base between more header all : List ℕ) (labels : List (List �
 plain_stands base between more header all labels q fits headed long is begins =
     let nowhere : HasNoRun base [] labels = λ k place less. absurd (omega (arith, less)) in
     let there = encoded_stands_behind base between [] labels (wire labels) (IsEncoded.plain nowhere refl) fits.each
-        fits.short headed header more long in
+    fits.short headed header more long in
     subst (λ q. IsName (at q (whole all)) labels (at (q + length (wire labels)) (whole all))) (sym begins)
     (subst (λ all. IsName (at (length (base ++ between)) (whole all)) labels
-        (at (length (base ++ between) + length (wire labels)) (whole all))) (sym is) there)
+    (at (length (base ++ between) + length (wire labels)) (whole all))) (sym is) there)
 
 -- Data of a record stand at a place behind its name and its head, in a message with some header.
 record Data (base head made more header all : List ℕ) (q : ℕ) : Type 0 where
@@ -290,7 +304,7 @@ between_is : (base head before middle after made more header all : List ℕ) (q 
 between_is base head before middle after made more header all q d is =
     let apart : made ++ more ≡ before ++ (middle ++ (after ++ more)) =
     ap (λ made. made ++ more) is ∙ append_assoc before (middle ++ after) more
-        ∙ ap (λ rest. before ++ rest) (append_assoc middle after more) in
+    ∙ ap (λ rest. before ++ rest) (append_assoc middle after more) in
     d.all_are ∙ ap (λ rest. header ++ drop 12 rest) (ap (λ rest. base ++ (head ++ rest)) apart
     ∙ ap (λ rest. base ++ rest) (sym (append_assoc head before (middle ++ (after ++ more))))
     ∙ sym (append_assoc base (head ++ before) (middle ++ (after ++ more)))
@@ -315,9 +329,11 @@ name_is_all : (base head made more header all : List ℕ) (places added : List P
 name_is_all base head made more header all places added labels start q d placed fits =
     let same : all ≡ header ++ drop 12 (base ++ head ++ made ++ more) =
     d.all_are ∙ ap (λ rest. header ++ drop 12 rest) (sym (append_assoc base head (made ++ more))
-        ∙ sym (append_assoc (base ++ head) made more)) in
-    (refl, name_stands base head made more header all places added labels start q placed fits d.room d.long same
-        d.begins)
+    ∙ sym (append_assoc (base ++ head) made more)) in (
+      refl,
+      name_stands base head made more header all places added labels start q placed fits d.room d.long same
+          d.begins,
+    )
 
 -- a mail exchange
 exchange_stands : (base head made more header all : List ℕ) (places added : List Place) (preference : ℕ)
@@ -331,11 +347,11 @@ exchange_stands base head made more header all places added preference labels st
     let w = at (q + 2) (whole all) in
     let shown : made ≡ before ++ (name ++ []) = is.2 ∙ ap (λ rest. before ++ rest) (sym (append-nil name)) in
     let first = number_at all (name ++ more) q 2 preference (d.there ∙ ap (λ made. made ++ more) is.2
-        ∙ append_assoc before name more) (omega arith) fits.0 in
+    ∙ append_assoc before name more) (omega arith) fits.0 in
     let stands = name_stands base (head ++ before) name ([] ++ more) header all places added labels (start + 2) (q + 2)
-        is.1 fits.1 d.room d.long
+    is.1 fits.1 d.room d.long
     (between_is base head before name [] made more header all q d shown)
-        (place_is base head before made more header all q 2 d two) in
+    (place_is base head before made more header all q 2 d two) in
     let size = ap length is.2 ∙ length-append before name in
     let end : q + 2 + length name ≡ q + length made = omega (arith, size, two) in (
       Form.mx (record { preference = preference; exchange = record { place = w; labels = labels } }),
@@ -406,7 +422,7 @@ five_apart a b c d e more =
     let third = octets_be 4 c ++ fourth in
     let second = octets_be 4 b ++ third in
     append_assoc (octets_be 4 a) second more ∙ ap (λ rest. octets_be 4 a ++ rest)
-        (append_assoc (octets_be 4 b) third more
+    (append_assoc (octets_be 4 b) third more
     ∙ ap (λ rest. octets_be 4 b ++ rest) (append_assoc (octets_be 4 c) fourth more
     ∙ ap (λ rest. octets_be 4 c ++ rest) (append_assoc (octets_be 4 d) fifth more)))
 
@@ -425,7 +441,7 @@ zone_stands base head made more header all places added one two a b c d e start 
     let rname = is.1 in
     let numbers = five_octets a b c d e in
     let made_is : made ≡ mname ++ (rname ++ numbers) =
-        is.6 ∙ ap (λ numbers. mname ++ (rname ++ numbers)) (five_are a b c d e) in
+    is.6 ∙ ap (λ numbers. mname ++ (rname ++ numbers)) (five_are a b c d e) in
     let p = q + length mname in
     let s = q + (length mname + length rname) in
     let w = at q (whole all) in
@@ -433,29 +449,36 @@ zone_stands base head made more header all places added one two a b c d e start 
     let v = at s (whole all) in
     let none : q + length {A = ℕ} [] ≡ q = omega arith in
     let begin : q ≡ length (base ++ (head ++ [])) =
-        sym none ∙ place_is base head [] made more header all q 0 rdata refl in
+    sym none ∙ place_is base head [] made more header all q 0 rdata refl in
     let first = name_stands base (head ++ []) mname ((rname ++ numbers) ++ more) header all places is.2 one start q is.4
-        fits.0 rdata.room rdata.long
+    fits.0 rdata.room rdata.long
     (between_is base head [] mname (rname ++ numbers) made more header all q rdata made_is) begin in
     let second = name_stands base (head ++ mname) rname (numbers ++ more) header all places is.3 two
-        (start + length mname) p is.5 fits.1 rdata.room rdata.long
+    (start + length mname) p is.5 fits.1 rdata.room rdata.long
     (between_is base head mname rname numbers made more header all q rdata made_is)
-        (place_is base head mname made more header all q (length mname) rdata refl) in
+    (place_is base head mname made more header all q (length mname) rdata refl) in
     let apart : made ++ more ≡ mname ++ (rname ++ (numbers ++ more)) =
     ap (λ made. made ++ more) made_is ∙ append_assoc mname (rname ++ numbers) more
-        ∙ ap (λ rest. mname ++ rest) (append_assoc rname numbers more) in
+    ∙ ap (λ rest. mname ++ rest) (append_assoc rname numbers more) in
     let at_second = drop_on all mname (rname ++ (numbers ++ more)) q (length mname) (rdata.there ∙ apart) refl in
     let behind = drop_on all rname (numbers ++ more) p (length rname) at_second refl in
     let same : p + length rname ≡ s = omega arith in
     let at_numbers : drop s all ≡ numbers ++ more = ap (λ s. drop s all) (sym same) ∙ behind in
     let five = five_stand all more s a b c d e fits.2 fits.3 fits.4 fits.5 fits.6
-        (at_numbers ∙ five_apart a b c d e more) in
+    (at_numbers ∙ five_apart a b c d e more) in
     let size = ap length made_is ∙ length-append mname (rname ++ numbers) in
     let more_size = length-append rname numbers in
     let twenty = five_length a b c d e in
     let end : s + 20 ≡ q + length made = omega (arith, size, more_size, twenty) in (
-      Form.soa (record { mname = record { place = w; labels = one }; rname = record { place = u; labels = two };
-          serial = a; refresh = b; retry = c; expire = d; minimum = e }),
+      Form.soa (record {
+        mname = record { place = w; labels = one };
+        rname = record { place = u; labels = two };
+        serial = a;
+        refresh = b;
+        retry = c;
+        expire = d;
+        minimum = e;
+      }),
       refl,
       (
         refl,
@@ -490,12 +513,12 @@ service_stands base head made more header all places added a b c labels start q 
     let fewer = length-append second third in
     let six : length before ≡ 6 = omega (arith, one, two, three, few, fewer) in
     let shown : made ≡ before ++ (name ++ []) =
-        is.0 ∙ ap (λ name. first ++ (second ++ (third ++ name))) (sym (append-nil name))
+    is.0 ∙ ap (λ name. first ++ (second ++ (third ++ name))) (sym (append-nil name))
     ∙ ap (λ rest. first ++ rest) (sym (append_assoc second third (name ++ [])))
-        ∙ sym (append_assoc first (second ++ third) (name ++ [])) in
+    ∙ sym (append_assoc first (second ++ third) (name ++ [])) in
     let apart : made ++ more ≡ first ++ (second ++ (third ++ (name ++ more))) =
     ap (λ made. made ++ more) is.0 ∙ append_assoc first (second ++ (third ++ name)) more
-        ∙ ap (λ rest. first ++ rest) (append_assoc second (third ++ name) more
+    ∙ ap (λ rest. first ++ rest) (append_assoc second (third ++ name) more
     ∙ ap (λ rest. second ++ rest) (append_assoc third name more)) in
     let at_first = d.there ∙ apart in
     let at_second = drop_on all first (second ++ (third ++ (name ++ more))) q 2 at_first one in
@@ -504,7 +527,7 @@ service_stands base head made more header all places added a b c labels start q 
     let place : q + 6 ≡ q + 2 + 2 + 2 = omega arith in
     let stands = plain_stands base (head ++ before) ([] ++ more) header all labels (q + 6) fits.3 d.room d.long
     (between_is base head before name [] made more header all q d shown)
-        (place_is base head before made more header all q 6 d six) in
+    (place_is base head before made more header all q 6 d six) in
     let moved = subst (λ p. IsName (at p (whole all)) labels (at (p + length name) (whole all))) place stands in
     let size = ap length shown ∙ length-append before (name ++ []) in
     let last = ap length (append-nil name) in
@@ -520,8 +543,11 @@ service_stands base head made more header all places added a b c labels start q 
           (
             at (q + 2 + 2) (whole all),
             number_at all (third ++ (name ++ more)) (q + 2) 2 b at_second (omega arith) fits.1,
-            (w, number_at all (name ++ more) (q + 2 + 2) 2 c at_third (omega arith) fits.2,
-                (refl, subst (λ p. IsName w labels (at p (whole all))) end moved)),
+            (
+              w,
+              number_at all (name ++ more) (q + 2 + 2) 2 c at_third (omega arith) fits.2,
+              (refl, subst (λ p. IsName w labels (at p (whole all))) end moved),
+            ),
           ),
         ),
       ),
@@ -551,15 +577,21 @@ data_stands base head made more header all places added (Matter.aaaa address) st
         (octets_stand all made more q 16 d.there (ap length is.1 ∙ is.0)),
   ),
 )
-data_stands base head made more header all places added (Matter.ns labels) start q d is fits =
-    (Form.ns (record { place = at q (whole all); labels = labels }), refl,
-        (refl, name_is_all base head made more header all places added labels start q d is fits))
-data_stands base head made more header all places added (Matter.cname labels) start q d is fits =
-    (Form.cname (record { place = at q (whole all); labels = labels }), refl,
-        (refl, name_is_all base head made more header all places added labels start q d is fits))
-data_stands base head made more header all places added (Matter.ptr labels) start q d is fits =
-    (Form.ptr (record { place = at q (whole all); labels = labels }), refl,
-        (refl, name_is_all base head made more header all places added labels start q d is fits))
+data_stands base head made more header all places added (Matter.ns labels) start q d is fits = (
+  Form.ns (record { place = at q (whole all); labels = labels }),
+  refl,
+  (refl, name_is_all base head made more header all places added labels start q d is fits),
+)
+data_stands base head made more header all places added (Matter.cname labels) start q d is fits = (
+  Form.cname (record { place = at q (whole all); labels = labels }),
+  refl,
+  (refl, name_is_all base head made more header all places added labels start q d is fits),
+)
+data_stands base head made more header all places added (Matter.ptr labels) start q d is fits = (
+  Form.ptr (record { place = at q (whole all); labels = labels }),
+  refl,
+  (refl, name_is_all base head made more header all places added labels start q d is fits),
+)
 data_stands base head made more header all places added (Matter.mx preference labels) start q d is fits =
     exchange_stands base head made more header all places added preference labels start q d is fits
 data_stands base head made more header all places added (Matter.soa one two a b c x e) start q d is fits =
@@ -574,7 +606,7 @@ data_stands base head made more header all places added (Matter.txt strings) sta
           is.0,
           subst (λ p. Row HasString (at q (whole all)) strings (at p (whole all))) end
               (strings_stand all more q strings (recursion_from_All (λ string. length string ≤ 255) strings is.1)
-                  (d.there ∙ ap (λ made. made ++ more) is.2)),
+              (d.there ∙ ap (λ made. made ++ more) is.2)),
         ),
       ),
     )
@@ -626,12 +658,12 @@ record_goes_on most old held after told entry h body begins is fits few =
     ap (λ behind. behind ++ more) (head_and_data told.rtype told.class told.ttl made) ∙ append_assoc head made more in
     let shown : base ++ (head ++ (made ++ more)) ≡ first ++ (body ++ (name ++ (behind ++ more))) =
     ap (λ rest. base ++ rest) (sym parts) ∙ append_assoc old name (behind ++ more)
-        ∙ ap (λ old. old ++ (name ++ (behind ++ more))) begins
+    ∙ ap (λ old. old ++ (name ++ (behind ++ more))) begins
     ∙ append_assoc first body (name ++ (behind ++ more)) in
     let there : drop 12 (base ++ (head ++ (made ++ more))) ≡ body ++ (name ++ (behind ++ more)) =
     ap (drop 12) shown ∙ drop_front first (body ++ (name ++ (behind ++ more))) 12 (header_length h) in
     data_stands base head made more header all (table_with most held is.named) is.added told.said
-        (length old + (length name + 10)) (12 + length body + length name + 2 + 2 + 4 + 2)
+    (length old + (length name + 10)) (12 + length body + length name + 2 + 2 + 4 + 2)
     (record {
       room = room;
       long = long;
@@ -641,4 +673,4 @@ record_goes_on most old held after told entry h body begins is fits few =
     }) is.is_made fits.said in
     let stands = record_stands h body name made told fits.rtype fits.class fits.ttl small named says in
     subst (λ entry. StandsIn IsTold (body ++ entry) (12 + length body) told (12 + length (body ++ entry)))
-        (sym is.entry_is) stands
+    (sym is.entry_is) stands

@@ -21,9 +21,9 @@ slices_join octets p q r first second =
     let place : p + (q - p) ≡ q = omega (arith, first) in
     let all : q - p + (r - q) ≡ r - p = omega (arith, first, second) in
     let behind : drop q octets ≡ drop (q - p) ahead =
-        ap (λ n. drop n octets) (sym place) ∙ sym (drop-drop (q - p) p octets) in
+    ap (λ n. drop n octets) (sym place) ∙ sym (drop-drop (q - p) p octets) in
     ap (λ behind. take (q - p) ahead ++ take (r - q) behind) behind ∙ sym (take-add (q - p) (r - q) ahead)
-        ∙ ap (λ n. take n ahead) all
+    ∙ ap (λ n. take n ahead) all
 
 -- the octets of strings and one more
 pub spelling_more : (strings : List (List ℕ)) (one : List ℕ)
@@ -47,8 +47,12 @@ pub record Spelled (w u : Window) (strings : List (List ℕ)) : Type 0 where
 pub spelled_none : (w : Window) → Spelled w w []
 spelled_none w =
     let none : w.position - w.position ≡ 0 = omega arith in
-    record { on = refl; begins = omega arith; octets = ap (λ n. take n (drop w.position w.octets)) none;
-        short = All-nil (λ string. length string ≤ 255) }
+    record {
+      on = refl;
+      begins = omega arith;
+      octets = ap (λ n. take n (drop w.position w.octets)) none;
+      short = All-nil (λ string. length string ≤ 255);
+    }
 
 -- one more
 pub spelled_one : (w u v : Window) (strings : List (List ℕ)) (one : List ℕ) → Spelled w u strings → HasString u one v
@@ -59,12 +63,12 @@ spelled_one w u v strings one so_far is length_is few =
     let same = ap (λ u. u.octets) so_far.on in
     let begins = so_far.begins in
     let string : one ≡ slice_range u.octets (u.position + 1) v.position =
-        is.1 ∙ ap (slice_range u.octets (u.position + 1)) (sym moved) in
+    is.1 ∙ ap (slice_range u.octets (u.position + 1)) (sym moved) in
     let part : part_of 1 one ≡ slice_range u.octets u.position v.position =
     ap (λ len. len ++ one) length_is ∙ ap (λ string. next 1 u ++ string) string
-        ∙ slices_join u.octets u.position (u.position + 1) v.position (omega arith) (omega (arith, moved)) in
+    ∙ slices_join u.octets u.position (u.position + 1) v.position (omega arith) (omega (arith, moved)) in
     let there : part_of 1 one ≡ slice_range w.octets u.position v.position =
-        part ∙ ap (λ octets. slice_range octets u.position v.position) same in
+    part ∙ ap (λ octets. slice_range octets u.position v.position) same in
     record {
       on = is.2 ∙ ap (at (past_part 1 u).position) so_far.on ∙ ap (λ q. at q w) (sym moved);
       begins = omega (arith, begins, moved);

@@ -51,7 +51,7 @@ module _ (p s r : List ℕ) (b : IsBadPart (p ++ s) p) (settled : ¬ (IsBeginnin
       let all = fitting_fits (p ++ (s ++ r)) (omega (arith, length-append p (s ++ r), some)) wide in
       let one = fits_fewer (p ++ (s ++ r)) (length p + 1) (fitting (p ++ (s ++ r))) (omega arith) (omega arith) all in
       let left = fits_less (p ++ s) r (length p + 1) (omega (arith, length-append p s))
-          (subst (λ y. Fits y (length p + 1)) (sym (append_assoc p s r)) one) in
+      (subst (λ y. Fits y (length p + 1)) (sym (append_assoc p s r)) one) in
       let more = fits_fitting (p ++ s) (length p + 1) left in
       absurd (omega arith)
 

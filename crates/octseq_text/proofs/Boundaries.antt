@@ -62,7 +62,7 @@ within_encoding {e} p n y some lt =
     let l = led p in
     let long : length e ≡ length (l.first ∷ l.more) = ap length l.whole in
     ap begins_within (drop-append-le n e y (omega arith)) ∙ ap (λ z. begins_within (drop n z ++ y)) l.whole
-        ∙ within_behind l.first l.more l.within n y some (omega arith)
+    ∙ within_behind l.first l.more l.within n y some (omega arith)
 
 -- Encodings in two, of which the first are n octets.
 record IsCut (es : List (List ℕ)) (n : ℕ) : Type 0 where
@@ -74,8 +74,12 @@ record IsCut (es : List (List ℕ)) (n : ℕ) : Type 0 where
 cut_behind : (e : List ℕ) (es : List (List ℕ)) (n : ℕ) → length e ≤ n → IsCut es (n - length e) → IsCut (e ∷ es) n
 cut_behind e es n ge c =
     let long = c.long in
-    record { front = e ∷ c.front; back = c.back; joined = ap (λ z. e ∷ z) c.joined;
-        long = omega (arith, length-append e (concat c.front)) }
+    record {
+      front = e ∷ c.front;
+      back = c.back;
+      joined = ap (λ z. e ∷ z) c.joined;
+      long = omega (arith, length-append e (concat c.front));
+    }
 
 drop_behind : (e y : List ℕ) (n : ℕ) → length e ≤ n → drop n (e ++ y) ≡ drop (n - length e) y
 drop_behind e y n ge =
@@ -90,7 +94,7 @@ cut_where (e ∷ es) h n le begins =
     (λ some. ⊎_elim
     (λ lt. let within = within_encoding h.0 n (concat es) some lt in absurd (cc))
     (λ ge. cut_behind e es n ge (cut_where es h.1 (n - length e) (omega (arith, length-append e (concat es)))
-        (sym (ap begins_within (drop_behind e (concat es) n ge)) ∙ begins)))
+    (sym (ap begins_within (drop_behind e (concat es) n ge)) ∙ begins)))
     (cases_lt n (length e)))
     (λ none. record { front = []; back = e ∷ es; joined = refl; long = omega arith })
     (cases_lt 0 n)
@@ -108,7 +112,7 @@ pub boundary_from : (x : List ℕ) → IsWellFormed x → (n : ℕ) → n ≤ le
     → IsBoundary x n
 boundary_from x (cs, s) n le begins =
     let c = cut_where s.encodings s.each n (subst (λ y. n ≤ length y) (sym s.joined) le)
-        (subst (λ y. begins_within (drop n y) ≡ false) (sym s.joined) begins) in
+    (subst (λ y. begins_within (drop n y) ≡ false) (sym s.joined) begins) in
     let each = each_in_front c.front c.back (subst (AllByRecursion IsEncoding) c.joined s.each) in (
       map number_of c.front,
       record {
@@ -132,8 +136,13 @@ in_two [] (c ∷ front) rest h = absurd (cc)
 in_two (e ∷ es) (c ∷ front) rest h =
     let t = in_two es front rest (cc) in
     let numbers = t.numbers in
-    record { first = e ∷ t.first; second = t.second; joined = ap (λ z. e ∷ z) t.joined; numbers = cc;
-        others = t.others }
+    record {
+      first = e ∷ t.first;
+      second = t.second;
+      joined = ap (λ z. e ∷ z) t.joined;
+      numbers = cc;
+      others = t.others;
+    }
 
 -- Octets in two by their characters.
 pub record AreInTwo (x front rest : List ℕ) : Type 0 where
@@ -152,10 +161,18 @@ are_in_two {x} {front} {rest} s =
       before = concat t.first;
       after = concat t.second;
       whole = sym s.joined ∙ ap concat t.joined ∙ concat-append t.first t.second;
-      spells_before = record { encodings = t.first; each = each_in_front t.first t.second each; joined = refl;
-          numbers = t.numbers };
-      spells_after = record { encodings = t.second; each = each_in_back t.first t.second each; joined = refl;
-          numbers = t.others };
+      spells_before = record {
+        encodings = t.first;
+        each = each_in_front t.first t.second each;
+        joined = refl;
+        numbers = t.numbers;
+      };
+      spells_after = record {
+        encodings = t.second;
+        each = each_in_back t.first t.second each;
+        joined = refl;
+        numbers = t.others;
+      };
     }
 
 -- the octets before and behind a boundary are texts
@@ -189,9 +206,11 @@ from_boundary x w n (front, f) =
     let t = at_boundary x w n front f in
     let whole : length x ≡ length (t.before ++ t.after) = ap length t.whole in
     let long = length_before t in
-    let n_long = f.long in
-    (omega (arith, length-append t.before t.after), ap begins_within (drop_before x n t f.long)
-        ∙ begins_spelled t.spells_after)
+    let n_long = f.long in (
+      omega (arith, length-append t.before t.after),
+      ap begins_within (drop_before x n t f.long)
+          ∙ begins_spelled t.spells_after,
+    )
 
 -- well-formed octets stay so when they are cut at a boundary, or at their end or past it
 pub well_formed-cut : (x : List ℕ) → IsWellFormed x → (n : ℕ) → (n < length x → IsBoundary x n)

@@ -52,4 +52,4 @@ appends limit asks r new old more ok err short memory v w =
     let long : length old + length more ≡ length (octets_of (chars old ++ chars more)) =
     sym (ap length (octets_of-append old more v w) ∙ length-append old more) in
     appends_with limit asks r new old more ok err (rw (← long) short) memory
-        (on_ok r _ _ (λ e. ap chars e ∙ chars-append old more v w))
+    (on_ok r _ _ (λ e. ap chars e ∙ chars-append old more v w))

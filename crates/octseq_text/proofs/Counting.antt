@@ -49,8 +49,13 @@ module _ (b : List ℕ) (o : ℕ) (begins : IsBeginning b) where
       let lead : width (b ++ o ∷ []) ≡ width b = ap width_of (get_left b (o ∷ []) 0 some) in
       let short = beginning_short begins in
       let more = length_of a.1.0 in
-      absurd (omega (arith, ap length e, length-append b (o ∷ []), length-append c (d ++ concat es),
-          length-append d (concat es)))
+      absurd (omega (
+        arith,
+        ap length e,
+        length-append b (o ∷ []),
+        length-append c (d ++ concat es),
+        length-append d (concat es),
+      ))
 
 -- a beginning and one octet behind it, where they are well formed, are one character at most
 pub one_character : (b seen : List ℕ) (o : ℕ) → IsBeginning b → seen ≡ b ++ o ∷ [] → IsWellFormed seen
@@ -67,5 +72,5 @@ none_before_fault b seen o begins e fault f =
     let none = none_before b o begins fault at at.good.1.encodings at.good.1.each at.good.1.joined in
     let few = spelled_few at.good.1 in
     let same : chars (take fault.place seen) ≡ at.good.0 = ap (λ y. chars (take fault.place y)) e
-        ∙ ap chars (front_is (b ++ o ∷ []) fault at) ∙ chars_of at.good.1 in
+    ∙ ap chars (front_is (b ++ o ∷ []) fault at) ∙ chars_of at.good.1 in
     omega (arith, ap length same, ap length none)

@@ -22,7 +22,7 @@ edge_stays before now s front edge well =
     let whole : now ≡ before ++ more = sym (take-append-drop (length before) now) ∙ ap (λ x. x ++ more) front in
     let all : drop (length before) (now ++ s) ≡ more ++ s =
     ap (λ x. drop (length before) (x ++ s)) whole ∙ ap (drop (length before)) (append_assoc before more s)
-        ∙ drop-append_seam before (more ++ s) in
+    ∙ drop-append_seam before (more ++ s) in
     ap begins_within all ∙ begins_more more s edge well
 
 -- so the text can be cut there

@@ -24,8 +24,14 @@ record Ending (x : List ℕ) : Type 0 where
   whole : x ≡ before ++ last
 
 last_of : (e : List ℕ) (es : List (List ℕ)) → AllByRecursion IsEncoding (e ∷ es) → Ending (concat (e ∷ es))
-last_of e [] h = record { before = []; characters = []; last = e; spelled = spells_nothing; encoding = h.0;
-    whole = append-nil e }
+last_of e [] h = record {
+  before = [];
+  characters = [];
+  last = e;
+  spelled = spells_nothing;
+  encoding = h.0;
+  whole = append-nil e;
+}
 last_of e (f ∷ es) h =
     let t = last_of f es h.1 in
     record {
@@ -97,7 +103,7 @@ two x before a b whole p q =
     let a' = octet x before (a ∷ b ∷ []) 0 2 whole refl (omega arith) in
     let b' = octet x before (a ∷ b ∷ []) 1 1 whole refl (omega arith) in
     width_2 refl (omega (arith, length-append before (a ∷ b ∷ []))) (omega arith) (omega arith)
-        (number_of_2 a b _ (omega arith))
+    (number_of_2 a b _ (omega arith))
 
 three : (x before : List ℕ) (a b c : ℕ) → x ≡ before ++ a ∷ b ∷ c ∷ [] → 0xE0 ≤ a → IsInRange 0x80 0xBF b → 0x80 ≤ c
     → Width x (a ∷ b ∷ c ∷ [])
@@ -107,7 +113,7 @@ three x before a b c whole p q r =
     let b' = octet x before (a ∷ b ∷ c ∷ []) 1 2 whole refl (omega arith) in
     let c' = octet x before (a ∷ b ∷ c ∷ []) 2 1 whole refl (omega arith) in
     width_3 refl (omega (arith, length-append before (a ∷ b ∷ c ∷ []))) (omega arith) (omega arith, omega arith)
-        (omega arith) (number_of_3 a b c _ (omega arith))
+    (omega arith) (number_of_3 a b c _ (omega arith))
 
 four : (x before : List ℕ) (a b c d : ℕ) → x ≡ before ++ a ∷ b ∷ c ∷ d ∷ [] → 0xF0 ≤ a → IsInRange 0x80 0xBF b
     → IsInRange 0x80 0xBF c → 0x80 ≤ d → Width x (a ∷ b ∷ c ∷ d ∷ [])
@@ -118,7 +124,7 @@ four x before a b c d whole p q r s =
     let c' = octet x before (a ∷ b ∷ c ∷ d ∷ []) 2 2 whole refl (omega arith) in
     let d' = octet x before (a ∷ b ∷ c ∷ d ∷ []) 3 1 whole refl (omega arith) in
     width_4 refl (omega (arith, length-append before (a ∷ b ∷ c ∷ d ∷ []))) (omega arith) (omega arith, omega arith)
-        (omega arith, omega arith) (omega arith) (number_of_4 a b c d _ (omega arith))
+    (omega arith, omega arith) (omega arith) (number_of_4 a b c d _ (omega arith))
 
 width_of_last : (x before : List ℕ) {e : List ℕ} → x ≡ before ++ e → IsEncoding e → Width x e
 width_of_last x before w (row_00_7F {a} p) = one x before a w (omega arith)

@@ -22,7 +22,7 @@ module _ {A E : Type 0} (tells : E → Refusal) (limit : Option ℕ) (requests :
       → IfOk result (λ made. IsWellFormed (content made))
   all_good h good text = IfOk-weaker result (λ made. content made ≡ whole (parts_of octets)) _
       (λ made e. subst IsWellFormed (sym e)
-          (well_formed-append front (text_with w (parts_of octets)) good (text_well_formed w h (splits octets)))) text
+      (well_formed-append front (text_with w (parts_of octets)) good (text_well_formed w h (splits octets)))) text
 
   pub reads_lossily : IsCharacter w → IsWellFormed front
       → IfOk result (λ made. content made ≡ front ++ text_with w (parts_of octets))

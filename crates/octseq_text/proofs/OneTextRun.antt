@@ -44,9 +44,9 @@ one_append : (limit : Option ℕ) (asks other : Bool) (b m : List ℕ) (r s : Re
 one_append limit asks other b m r s x y a c kept also_kept =
     ⊎_elim
     (λ d. ⊎_elim (λ e. (d.0 ∙ sym e.0, d.2 ∙ sym e.2)) (λ e. absurd (within_not_past limit _ d.1 e.1))
-        (done_or_refused limit other b m s y c also_kept))
+    (done_or_refused limit other b m s y c also_kept))
     (λ d. ⊎_elim (λ e. absurd (within_not_past limit _ e.1 d.1)) (λ e. (d.0 ∙ sym e.0, d.2 ∙ sym e.2))
-        (done_or_refused limit other b m s y c also_kept))
+    (done_or_refused limit other b m s y c also_kept))
     (done_or_refused limit asks b m r x a kept)
 
 -- fronts of as many octets are one front
@@ -61,8 +61,8 @@ fronts (c ∷ f) (d ∷ g) y z e long =
     let first : c ≡ d = cc in
     let same : length (encoding_of c) ≡ length (encoding_of d) = ap (λ b. length (encoding_of b)) first in
     let rest : f ≡ g =
-        fronts f g y z (cc)
-        (omega (arith, length-append (encoding_of c) (octets_of f), length-append (encoding_of d) (octets_of g))) in
+    fronts f g y z (cc)
+    (omega (arith, length-append (encoding_of c) (octets_of f), length-append (encoding_of d) (octets_of g))) in
     cc
 
 one_front : (b : List ℕ) (n : ℕ) (f g : List ℕ) → IsFrontOf b n f → IsFrontOf b n g → f ≡ g
@@ -153,6 +153,8 @@ pub without_memory : (limit : Option ℕ) (b : List ℕ) (commands : List Comman
     → TextRun limit false b commands rs x → IsWithoutMemory rs
 without_memory limit b commands [] x p = tt
 without_memory limit b [] (r ∷ rs) x p = absurd p
-without_memory limit b (c ∷ commands) (r ∷ rs) x (m, p, t) =
-    ((λ e. no_memory limit b c m (subst (λ s. TextStep limit false b c s m) e p)), without_memory limit m commands rs x
-        t)
+without_memory limit b (c ∷ commands) (r ∷ rs) x (m, p, t) = (
+  (λ e. no_memory limit b c m (subst (λ s. TextStep limit false b c s m) e p)),
+  without_memory limit m commands rs x
+      t,
+)

@@ -34,7 +34,7 @@ less_or a b o h then =
     ⊎_elim
     (λ l. less a b o l)
     (λ g. let e : a ≡ b = omega arith in ap (λ x. ordering_then (nat_cmp x b) o) e
-        ∙ ap (λ x. ordering_then x o) (nat_cmp_same b) ∙ then e)
+    ∙ ap (λ x. ordering_then x o) (nat_cmp_same b) ∙ then e)
     (cases_lt a b)
 
 -- equal fronts decide nothing
@@ -59,7 +59,7 @@ width_3 c d y z h low high =
     rw (encoding_of_3 c low (omega arith), encoding_of_3 d (omega arith) high)
     (less_or (224 + c / 4096) (224 + d / 4096) _ (omega arith) (λ e.
     less_or (128 + c / 64 % 64) (128 + d / 64 % 64) _ (omega arith)
-        (λ f. less (128 + c % 64) (128 + d % 64) _ (omega arith))))
+    (λ f. less (128 + c % 64) (128 + d % 64) _ (omega arith))))
 
 width_4 : (c d : ℕ) (y z : List ℕ) → c < d → 0x1_0000 ≤ c → IsLess c d y z
 width_4 c d y z h low =
@@ -71,13 +71,13 @@ width_4 c d y z h low =
     (less_or (240 + c / 262144) (240 + d / 262144) _ (omega arith) (λ e.
     less_or (128 + c / 4096 % 64) (128 + d / 4096 % 64) _ (omega arith) (λ f.
     less_or (128 + c / 64 % 64) (128 + d / 64 % 64) _ (omega arith)
-        (λ g. less (128 + c % 64) (128 + d % 64) _ (omega arith)))))
+    (λ g. less (128 + c % 64) (128 + d % 64) _ (omega arith)))))
 
 below : (c d : ℕ) (y z : List ℕ) → c < d → IsLess c d y z
 below c d y z h =
     ⊎_elim from_1 (λ c2. ⊎_elim (from_2 c2)
-        (λ c3. ⊎_elim (from_3 c3) (λ c4. width_4 c d y z h c4) (cases_lt c 0x1_0000)) (cases_lt c 0x800))
-        (cases_lt c 0x80)
+    (λ c3. ⊎_elim (from_3 c3) (λ c4. width_4 c d y z h c4) (cases_lt c 0x1_0000)) (cases_lt c 0x800))
+    (cases_lt c 0x80)
   where
     from_1 : c < 0x80 → IsLess c d y z
     from_1 high =
@@ -86,21 +86,21 @@ below c d y z h =
         ⊎_elim (λ d3. rw (encoding_of_2 d d2 d3) (less c (192 + d / 64) _ (omega arith))) (λ d3.
         ⊎_elim (λ d4. rw (encoding_of_3 d d3 d4) (less c (224 + d / 4096) _ (omega arith))) (λ d4.
         rw (encoding_of_4 d d4) (less c (240 + d / 262144) _ (omega arith))) (cases_lt d 0x1_0000)) (cases_lt d 0x800))
-            (cases_lt d 0x80))
+        (cases_lt d 0x80))
 
     from_2 : 0x80 ≤ c → c < 0x800 → IsLess c d y z
     from_2 low high =
         ⊎_elim (λ d2. width_2 c d y z h low d2) (λ d3.
         ⊎_elim (λ d4. rw (encoding_of_2 c low high, encoding_of_3 d d3 d4)
-            (less (192 + c / 64) (224 + d / 4096) _ (omega arith))) (λ d4.
+        (less (192 + c / 64) (224 + d / 4096) _ (omega arith))) (λ d4.
         rw (encoding_of_2 c low high, encoding_of_4 d d4) (less (192 + c / 64) (240 + d / 262144) _ (omega arith)))
-            (cases_lt d 0x1_0000)) (cases_lt d 0x800)
+        (cases_lt d 0x1_0000)) (cases_lt d 0x800)
 
     from_3 : 0x800 ≤ c → c < 0x1_0000 → IsLess c d y z
     from_3 low high =
         ⊎_elim (λ d3. width_3 c d y z h low d3) (λ d4.
         rw (encoding_of_3 c low high, encoding_of_4 d d4) (less (224 + c / 4096) (240 + d / 262144) _ (omega arith)))
-            (cases_lt d 0x1_0000)
+        (cases_lt d 0x1_0000)
 
 -- the first characters decide, and then the rest
 first_decides : (c d : ℕ) (y z : List ℕ) → slice_cmp nat_cmp (encoding_of c ++ y) (encoding_of d ++ z)
@@ -109,7 +109,7 @@ first_decides c d y z =
     ⊎_elim
     (λ e. ap (λ b. slice_cmp nat_cmp (encoding_of b ++ y) (encoding_of d ++ z)) e ∙ behind (encoding_of d) y z
     ∙ sym (ap (λ b. ordering_then (nat_cmp b d) (slice_cmp nat_cmp y z)) e
-        ∙ ap (λ o. ordering_then o (slice_cmp nat_cmp y z)) (nat_cmp_same d)))
+    ∙ ap (λ o. ordering_then o (slice_cmp nat_cmp y z)) (nat_cmp_same d)))
     (⊎_elim
     (λ l. below c d y z l ∙ sym (less c d _ l))
     (λ g. nat_list_cmp_total.antisymm (encoding_of c ++ y) (encoding_of d ++ z) ∙ ap ordering_reverse (below d c z y g)
@@ -122,7 +122,7 @@ nothing_before d z =
     ⊎_elim (λ d1. rw (encoding_of_1 d d1) refl) (λ d2.
     ⊎_elim (λ d3. rw (encoding_of_2 d d2 d3) refl) (λ d3.
     ⊎_elim (λ d4. rw (encoding_of_3 d d3 d4) refl) (λ d4. rw (encoding_of_4 d d4) refl) (cases_lt d 0x1_0000))
-        (cases_lt d 0x800)) (cases_lt d 0x80)
+    (cases_lt d 0x800)) (cases_lt d 0x80)
 
 octets_order : (cs ds : List ℕ) → slice_cmp nat_cmp (octets_of cs) (octets_of ds) ≡ slice_cmp nat_cmp cs ds
 octets_order [] [] = refl
@@ -137,7 +137,7 @@ pub text_order : (x y : List ℕ) → IsWellFormed x → IsWellFormed y
     → slice_cmp nat_cmp x y ≡ slice_cmp nat_cmp (chars x) (chars y)
 text_order x y v w =
     ap (λ z. slice_cmp nat_cmp z y) (sym (octets_of-chars x v)) ∙ ap (λ z. slice_cmp nat_cmp (octets_of (chars x)) z)
-        (sym (octets_of-chars y w)) ∙ octets_order (chars x) (chars y)
+    (sym (octets_of-chars y w)) ∙ octets_order (chars x) (chars y)
 
 -- octets are equal where their characters are
 pub text_equal : (x y : List ℕ) → IsWellFormed x → IsWellFormed y

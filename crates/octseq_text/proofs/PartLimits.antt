@@ -12,7 +12,7 @@ pub past_front : (limit : Option ℕ) (front others parts : List Part) → parts
     → IsPast limit (length (text front)) → IsPast limit (length (text parts))
 past_front limit front others parts whole past =
     let long = ap length (ap text whole ∙ flat_map-append (octets_with 0xFFFD) front others)
-        ∙ length-append (text front) (text others) in
+    ∙ length-append (text front) (text others) in
     past_more limit (length (text front)) (length (text parts)) (omega arith) past
 
 -- and where the text of all of them doesn't, the text of a front doesn't

@@ -66,12 +66,18 @@ pub too_long_then : {limit : Option ℕ} {x y a b : List ℕ} → IsRead x y a b
 too_long_then s t = record { rest = t.rest; new = t.new; read = read_then s t.read; past = t.past }
 
 read_bad : (p s a : List ℕ) → Reads (p ++ s) s (Bad p ∷ []) → IsRead (p ++ s) s a (a ++ encoding_of 0xFFFD)
-read_bad p s a r = record { parts = Bad p ∷ []; reads = r;
-    grown = ap (λ u. a ++ u) (sym (append-nil (encoding_of 0xFFFD))) }
+read_bad p s a r = record {
+  parts = Bad p ∷ [];
+  reads = r;
+  grown = ap (λ u. a ++ u) (sym (append-nil (encoding_of 0xFFFD)));
+}
 
 read_good : {g cs : List ℕ} (z a : List ℕ) → Spells g cs → IsRead (g ++ z) z a (a ++ g)
-read_good {g} {cs} z a s = record { parts = map Char cs; reads = reads_good z s;
-    grown = ap (λ u. a ++ u) (sym (text-chars s)) }
+read_good {g} {cs} z a s = record {
+  parts = map Char cs;
+  reads = reads_good z s;
+  grown = ap (λ u. a ++ u) (sym (text-chars s));
+}
 
 -- well-formed octets are read to their end
 pub read_last : (x a : List ℕ) → IsWellFormed x → IsRead x [] a (a ++ x)
@@ -133,15 +139,21 @@ module _ (b : List ℕ) (o : ℕ) (begins : IsBeginning b) (fault : Fault) (f : 
   none_before [] a e = sym e
   none_before (c ∷ es) a e =
       let all : b ++ o ∷ [] ≡ c ++ (concat es ++ (f.bad ++ f.after)) =
-          f.whole ∙ ap (λ y. y ++ (f.bad ++ f.after)) (sym e) ∙ append_assoc c (concat es) (f.bad ++ f.after) in
+      f.whole ∙ ap (λ y. y ++ (f.bad ++ f.after)) (sym e) ∙ append_assoc c (concat es) (f.bad ++ f.after) in
       let first = encoding_fitting a.0 (concat es ++ (f.bad ++ f.after)) in
       let wide : width (b ++ o ∷ []) ≡ length c = ap width all ∙ first.1 in
       let some = (beginning_fits begins).some in
       let lead : width (b ++ o ∷ []) ≡ width b = ap width_of (get_left b (o ∷ []) 0 some) in
       let short = beginning_short begins in
       let bad = (bad_some f.first).0 in
-      absurd (omega (arith, ap length all, length-append b (o ∷ []), length-append c (concat es ++ (f.bad ++ f.after)),
-          length-append (concat es) (f.bad ++ f.after), length-append f.bad f.after))
+      absurd (omega (
+        arith,
+        ap length all,
+        length-append b (o ∷ []),
+        length-append c (concat es ++ (f.bad ++ f.after)),
+        length-append (concat es) (f.bad ++ f.after),
+        length-append f.bad f.after,
+      ))
 
   whole : b ++ o ∷ [] ≡ f.bad ++ f.after
   whole = f.whole ∙ ap (λ y. y ++ (f.bad ++ f.after)) (none_before f.good.1.encodings f.good.1.each f.good.1.joined)
@@ -171,9 +183,9 @@ module _ (b : List ℕ) (o : ℕ) (begins : IsBeginning b) (fault : Fault) (f : 
       let long : length f.bad ≡ length b = let m = more.1 in
       omega (arith, ap length whole, length-append b (o ∷ []), length-append f.bad f.after) in
       let same : f.bad ≡ b = sym (take-append_seam f.bad f.after) ∙ ap (λ y. take (length f.bad) y) (sym whole)
-          ∙ ap (λ k. take k (b ++ o ∷ [])) long ∙ take-append_seam b (o ∷ []) in
+      ∙ ap (λ k. take k (b ++ o ∷ [])) long ∙ take-append_seam b (o ∷ []) in
       let part : IsBadPart (b ++ o ∷ []) b =
-          subst (λ y. IsBadPart (b ++ o ∷ []) y) same (subst (λ y. IsBadPart y f.bad) (sym whole) f.first) in
+      subst (λ y. IsBadPart (b ++ o ∷ []) y) same (subst (λ y. IsBadPart y f.bad) (sym whole) f.first) in
       reads_bad b (o ∷ r) (bad_more b (o ∷ []) r part (λ z. octet_some [] z.1)) (λ z. octet_some r z.1)
 
   -- where it doesn't, the beginning is a bad part, whatever follows the octet
@@ -190,15 +202,15 @@ module _ (q piece b : List ℕ) (i : ℕ) (h : i < length piece) (begun : b ≡ 
   all_at =
       ap (λ y. q ++ y) (sym (take-append-drop i piece)) ∙ sym (append_assoc q (take i piece) (drop i piece))
       ∙ ap (λ y. (q ++ take i piece) ++ y) from_place ∙ ap (λ y. y ++ (get_or piece i 0 ∷ drop (i + 1) piece))
-          (sym begun)
+      (sym begun)
 
   -- where all that was seen is well formed, the character is whole
   pub closed_whole : (seen a : List ℕ) → seen ≡ b ++ get_or piece i 0 ∷ [] → IsWellFormed seen
       → IsRead (q ++ piece) (drop (i + 1) piece) a (a ++ seen)
   closed_whole seen a e w =
       let all : q ++ piece ≡ seen ++ drop (i + 1) piece =
-          all_at ∙ sym (append_assoc b (get_or piece i 0 ∷ []) (drop (i + 1) piece)) ∙ ap (λ y. y ++ drop (i + 1) piece)
-          (sym e) in
+      all_at ∙ sym (append_assoc b (get_or piece i 0 ∷ []) (drop (i + 1) piece)) ∙ ap (λ y. y ++ drop (i + 1) piece)
+      (sym e) in
       subst (λ y. IsRead y (drop (i + 1) piece) a (a ++ seen)) (sym all) (read_good (drop (i + 1) piece) a w.1)
 
   -- where it has a fault of a size, none can come of the beginning
@@ -234,8 +246,12 @@ module _ (held : Held) (x piece z new : List ℕ) (s : StandsFor held x)
 
   pub feed_stands : IsOpenEnd z → (refusal : Option AppendError) → refusal ≡ None
       → StandsFor (record { settled_text = new; end = z; refusal = refusal }) (x ++ piece)
-  feed_stands e refusal n = record { settled = s.settled ++ r.parts;
-      settles = reads_settles (x ++ piece) z (s.settled ++ r.parts) all_read e; same = all_text; fine = n }
+  feed_stands e refusal n = record {
+    settled = s.settled ++ r.parts;
+    settles = reads_settles (x ++ piece) z (s.settled ++ r.parts) all_read e;
+    same = all_text;
+    fine = n;
+  }
 
   -- the text is no longer than that of what settles, and where all is read it is that
   pub feed_short : (q : List ℕ) (settled : List Part) → Settles (x ++ piece) settled q
@@ -260,8 +276,11 @@ feed_too_long {limit} held x piece s t q settled u =
 settled_all : {x q : List ℕ} {settled parts : List Part} → Settles x settled q → Splits x parts
     → ((q ≡ []) × (text settled ≡ text parts)) ⊎ ((q ≢ []) × (text settled ++ encoding_of 0xFFFD ≡ text parts))
 settled_all (open_end {end = q} {settled = settled} s b) t =
-    inr (b.some, ap (λ y. text settled ++ y) (sym (append-nil (encoding_of 0xFFFD)))
-        ∙ sym (text-append settled (Bad q ∷ [])) ∙ ap text (one_splitting s t))
+    inr (
+      b.some,
+      ap (λ y. text settled ++ y) (sym (append-nil (encoding_of 0xFFFD)))
+          ∙ sym (text-append settled (Bad q ∷ [])) ∙ ap text (one_splitting s t),
+    )
 settled_all (no_end s n) t = inl (refl, ap text (one_splitting s t))
 
 -- the held text, with what became of the open end, is the whole text
@@ -270,7 +289,7 @@ module _ (held : Held) (x made : List ℕ) (s : StandsFor held x) (closed : held
   pub finish_text : (parts : List Part) → Splits x parts → made ≡ text parts
   finish_text parts t =
       ⊎_elim (λ h. closed h.0 ∙ s.same ∙ h.1) (λ h. replaced h.0 ∙ ap (λ y. y ++ encoding_of 0xFFFD) s.same ∙ h.1)
-          (settled_all s.settles t)
+      (settled_all s.settles t)
 
   pub finish_well_formed : IsWellFormed made
   finish_well_formed =
@@ -284,7 +303,7 @@ pub finish_too_long : (limit : Option ℕ) (held : Held) (x : List ℕ) (parts :
     → IsPast limit (length (text parts))
 finish_too_long limit held x parts s t n p =
     subst (λ y. IsPast limit (length y))
-        (finish_text held x (held.settled_text ++ encoding_of 0xFFFD) s (λ e. absurd (n e)) (λ n. refl) parts t)
+    (finish_text held x (held.settled_text ++ encoding_of 0xFFFD) s (λ e. absurd (n e)) (λ n. refl) parts t)
     (subst (IsPast limit) (sym (length-append held.settled_text (encoding_of 0xFFFD))) p)
 
 -- A reading that met no refusal is sound, and so is one that met one.

@@ -25,8 +25,13 @@ pub chunk_short : (limit : Option ℕ) (w : ℕ) (content valid invalid mark lat
 chunk_short limit w content valid invalid mark later m past =
     let one : List ℕ = valid ++ mark_of (encoding_of w) invalid in
     past_more limit _ _
-    (omega (arith, ap (λ y. length (content ++ (valid ++ mark_of y invalid))) m, length-append content one,
-        length-append content (one ++ later), length-append one later))
+    (omega (
+      arith,
+      ap (λ y. length (content ++ (valid ++ mark_of y invalid))) m,
+      length-append content one,
+      length-append content (one ++ later),
+      length-append one later,
+    ))
     past
 
 -- a front of a front
@@ -41,8 +46,12 @@ pub grown_short : (limit : Option ℕ) (w : ℕ) (x made all : List ℕ) (chunk 
 grown_short limit w x made all chunk behind mark before c m past =
     let whole = grown w x made (made ++ chunk_text w chunk) all chunk behind before c refl in
     past_more limit _ _
-    (omega (arith, ap (λ y. length (made ++ (chunk.valid ++ mark_of y chunk.invalid))) m, ap length whole,
-        length-append (made ++ chunk_text w chunk) (text_with w (parts_of behind))))
+    (omega (
+      arith,
+      ap (λ y. length (made ++ (chunk.valid ++ mark_of y chunk.invalid))) m,
+      ap length whole,
+      length-append (made ++ chunk_text w chunk) (text_with w (parts_of behind)),
+    ))
     past
 
 -- a text of nothing adds nothing

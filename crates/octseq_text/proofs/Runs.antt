@@ -25,4 +25,4 @@ pub run_more : (limit : Option ℕ) (asks : Bool) (before middle after : List �
     → TextRun limit asks before (take (i + 1) commands) more after
 run_more limit asks before middle after commands i d replies more r lt u s e =
     rw (take_more commands i d lt, e)
-        (run-append limit asks before middle after (take i commands) replies (get_or commands i d) r u s)
+    (run-append limit asks before middle after (take i commands) replies (get_or commands i d) r u s)

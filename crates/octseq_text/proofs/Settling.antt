@@ -22,14 +22,18 @@ reads_none x = record { whatever = λ r. refl }
 -- octets behind those that are read change no part, and are left behind the rest
 pub reads_more : (x z y : List ℕ) (ps : List Part) → Reads x z ps → Reads (x ++ y) (z ++ y) ps
 reads_more x z y ps s =
-    record { whatever = λ r. ap parts_of (append_assoc x y r) ∙ s.whatever (y ++ r)
-    ∙ ap (λ w. ps ++ parts_of w) (sym (append_assoc z y r)) }
+    record {
+      whatever = λ r. ap parts_of (append_assoc x y r) ∙ s.whatever (y ++ r)
+          ∙ ap (λ w. ps ++ parts_of w) (sym (append_assoc z y r));
+    }
 
 -- parts that are read of octets, and then parts of the rest, are all read of the octets
 pub reads_then : (x y z : List ℕ) (ps qs : List Part) → Reads x y ps → Reads y z qs → Reads x z (ps ++ qs)
 reads_then x y z ps qs s t =
-    record { whatever = λ r. s.whatever r ∙ ap (λ us. ps ++ us) (t.whatever r)
-    ∙ sym (append_assoc ps qs (parts_of (z ++ r))) }
+    record {
+      whatever = λ r. s.whatever r ∙ ap (λ us. ps ++ us) (t.whatever r)
+          ∙ sym (append_assoc ps qs (parts_of (z ++ r)));
+    }
 
 -- well-formed octets at the front are read as their characters
 pub reads_good : {g cs : List ℕ} → (z : List ℕ) → Spells g cs → Reads (g ++ z) z (map Char cs)
@@ -83,7 +87,7 @@ reads_open (encoding {e} {rest = r} {parts = parts} p s) (a ∷ settled) q b h =
     let first : Char (number_of e) ≡ a = cc in
     let rest : parts ≡ settled ++ Bad q ∷ [] = cc in
     subst (λ a. Reads (e ++ r) q (a ∷ settled)) first
-        (reads_then (e ++ r) r q (Char (number_of e) ∷ []) settled (reads_encoding p r) (reads_open s settled q b rest))
+    (reads_then (e ++ r) r q (Char (number_of e) ∷ []) settled (reads_encoding p r) (reads_open s settled q b rest))
 reads_open (bad_part {bad = p} {rest = r} {parts = parts} k s) [] q b h =
     let same : p ≡ q = cc in
     let none : parts ≡ [] = cc in
@@ -93,18 +97,18 @@ reads_open (bad_part {bad = p} {rest = r} {parts = parts} k s) (a ∷ settled) q
     let rest : parts ≡ settled ++ Bad q ∷ [] = cc in
     let behind : ¬ (IsBeginning p × (r ≡ [])) = λ z. snoc_some settled (Bad q) (sym rest ∙ nil_splits s z.1) in
     subst (λ a. Reads (p ++ r) q (a ∷ settled)) first
-        (reads_then (p ++ r) r q (Bad p ∷ []) settled (reads_bad p r k behind) (reads_open s settled q b rest))
+    (reads_then (p ++ r) r q (Bad p ∷ []) settled (reads_bad p r k behind) (reads_open s settled q b rest))
 
 reads_closed : {x : List ℕ} {parts : List Part} → Splits x parts
     → ((front : List Part) (q : List ℕ) → parts ≡ front ++ Bad q ∷ [] → ¬ IsBeginning q) → Reads x [] parts
 reads_closed nothing h = reads_none []
 reads_closed (encoding {e} {rest = r} {parts = parts} p s) h =
     reads_then (e ++ r) r [] (Char (number_of e) ∷ []) parts (reads_encoding p r)
-        (reads_closed s (λ front q k. h (Char (number_of e) ∷ front) q (ap (λ ps. Char (number_of e) ∷ ps) k)))
+    (reads_closed s (λ front q k. h (Char (number_of e) ∷ front) q (ap (λ ps. Char (number_of e) ∷ ps) k)))
 reads_closed (bad_part {bad = p} {rest = r} {parts = parts} b s) h =
     let behind : ¬ (IsBeginning p × (r ≡ [])) = λ k. h [] p (ap (λ ps. Bad p ∷ ps) (nil_splits s k.1)) k.0 in
     reads_then (p ++ r) r [] (Bad p ∷ []) parts (reads_bad p r b behind)
-        (reads_closed s (λ front q k. h (Bad p ∷ front) q (ap (λ ps. Bad p ∷ ps) k)))
+    (reads_closed s (λ front q k. h (Bad p ∷ front) q (ap (λ ps. Bad p ∷ ps) k)))
 
 -- the settled parts of octets are read, and their open end is left
 pub settles_reads : {x q : List ℕ} {settled : List Part} → Settles x settled q → Reads x q settled
@@ -196,19 +200,19 @@ read_closed {x} {ps} s t front q e b =
     char_not_bad (number_of (q ++ b.more)) q
     (sym (same_next front (parts_of b.more) (Bad q) (Char (number_of (q ++ b.more)))
     (ap (λ y. y ++ parts_of b.more) (sym e) ∙ sym (t.whatever b.more) ∙ left.whatever b.more
-        ∙ ap (λ y. front ++ y) (parts_one b.encoding))))
+    ∙ ap (λ y. front ++ y) (parts_one b.encoding))))
 
 -- parts that were read are the settled ones, where what is left is empty or a beginning
 pub reads_settles : (x q : List ℕ) (ps : List Part) → Reads x q ps → IsOpenEnd q → Settles x ps q
 reads_settles x [] ps t h =
     let all : parts_of x ≡ ps = ap parts_of (sym (append-nil x)) ∙ t.whatever [] ∙ ap (λ y. ps ++ y) parts_nil
-        ∙ append-nil ps in
+    ∙ append-nil ps in
     let s : Splits x ps = subst (Splits x) all (splits x) in
     no_end s (read_closed s t)
 reads_settles x (o ∷ q) ps t h =
     let b : IsBeginning (o ∷ q) = h (λ e. let long = ap length e in absurd (omega arith)) in
     let all : parts_of x ≡ ps ++ Bad (o ∷ q) ∷ [] = ap parts_of (sym (append-nil x)) ∙ t.whatever []
-        ∙ ap (λ y. ps ++ y) (ap parts_of (append-nil (o ∷ q)) ∙ parts_self (o ∷ q) b) in
+    ∙ ap (λ y. ps ++ y) (ap parts_of (append-nil (o ∷ q)) ∙ parts_self (o ∷ q) b) in
     open_end (subst (Splits x) all (splits x)) b
 
 -- and what was read at all is a front of what settles
@@ -227,18 +231,20 @@ front_of (d ∷ l) (c ∷ ps) u v a b n h k =
 
 reads_front : (x z q : List ℕ) (ps settled : List Part) → Reads x z ps → Reads x q settled → IsOpenEnd q
     → (w : List Part) × (settled ≡ ps ++ w)
-reads_front x z [] ps settled s t h =
-    (parts_of (z ++ []), sym (append-nil settled) ∙ ap (λ y. settled ++ y) (sym parts_nil) ∙ sym (t.whatever [])
-        ∙ s.whatever [])
+reads_front x z [] ps settled s t h = (
+  parts_of (z ++ []),
+  sym (append-nil settled) ∙ ap (λ y. settled ++ y) (sym parts_nil) ∙ sym (t.whatever [])
+      ∙ s.whatever [],
+)
 reads_front x z (o ∷ q) ps settled s t h =
     let b : IsBeginning (o ∷ q) = h (λ e. let long = ap length e in absurd (omega arith)) in
     let bad : settled ++ Bad (o ∷ q) ∷ [] ≡ ps ++ parts_of (z ++ []) =
     ap (λ y. settled ++ y) (sym (ap parts_of (append-nil (o ∷ q)) ∙ parts_self (o ∷ q) b)) ∙ sym (t.whatever [])
-        ∙ s.whatever [] in
+    ∙ s.whatever [] in
     let whole : settled ++ Char (number_of ((o ∷ q) ++ b.more)) ∷ [] ≡ ps ++ parts_of (z ++ b.more) =
     ap (λ y. settled ++ y) (sym (parts_one b.encoding)) ∙ sym (t.whatever b.more) ∙ s.whatever b.more in
     front_of settled ps (parts_of (z ++ [])) (parts_of (z ++ b.more)) (Bad (o ∷ q))
-        (Char (number_of ((o ∷ q) ++ b.more)))
+    (Char (number_of ((o ∷ q) ++ b.more)))
     (λ e. char_not_bad (number_of ((o ∷ q) ++ b.more)) (o ∷ q) (sym e)) bad whole
 
 -- the text of what was read
@@ -257,5 +263,5 @@ pub text_read : (x z q : List ℕ) (ps settled : List Part) → Reads x z ps →
 text_read x z q ps settled s t =
     let front = reads_front x z q ps settled s (settles_reads t) (settles_end t) in
     let long : length (text settled) ≡ length (text ps ++ text front.0) =
-        ap length (ap text front.1 ∙ text-append ps front.0) in
+    ap length (ap text front.1 ∙ text-append ps front.0) in
     omega (arith, length-append (text ps) (text front.0))

@@ -37,7 +37,7 @@ CutsTo n before after = (length (octets_of before) ≤ n → after ≡ before)
 abbrev pub Cuts : List ℕ → ℕ → Reply → List ℕ → Type 0
 Cuts before n r after = ((r ≡ reply.Done) × CutsTo n before after)
     ⊎ ((r ≡ reply.NoBoundary) × (n < length (octets_of before)) × ((front : List ℕ) → ¬ IsFrontOf before n front)
-        × (after ≡ before))
+    × (after ≡ before))
 
 -- The last character goes, if there is one.
 abbrev pub Pops : List ℕ → Option ℕ → List ℕ → Type 0

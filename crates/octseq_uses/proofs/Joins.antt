@@ -24,7 +24,7 @@ pub to_come_first : {W : Type 0} (show : W → List ℕ) (separator old text : L
     → ToCome show separator others 0 text (old ++ joined separator (map show words))
 to_come_first show separator old text words others first split e =
     ap (λ t. t ++ spread separator (map show others)) e
-        ∙ append_assoc old (show first) (spread separator (map show others))
+    ∙ append_assoc old (show first) (spread separator (map show others))
     ∙ ap (λ ws. old ++ joined separator (map show ws)) (sym split)
 
 -- with a separator behind the text, the next word is to come, and then those behind it
@@ -36,7 +36,7 @@ to_come_word show separator text between all others default i within so_far e =
     let word = get_or others i default in
     let more = spread separator (map show (drop (suc i) others)) in
     ap (λ t. t ++ (show word ++ more)) e ∙ append_assoc text separator (show word ++ more)
-        ∙ ap (λ x. text ++ x) (sym (append_assoc separator (show word) more))
+    ∙ ap (λ x. text ++ x) (sym (append_assoc separator (show word) more))
     ∙ ap (λ ws. text ++ spread separator (map show ws)) (sym (drop-cons others i default within)) ∙ so_far
 
 -- with a separator and the next word behind the text, the words behind that one are still to come
@@ -48,7 +48,7 @@ to_come_next show separator text between made all others default i next within s
     let word = get_or others i default in
     let more = spread separator (map show (drop (suc i) others)) in
     ap (λ n. made ++ spread separator (map show (drop n others))) step ∙ ap (λ t. t ++ more) f
-        ∙ append_assoc between (show word) more
+    ∙ append_assoc between (show word) more
     ∙ to_come_word show separator text between all others default i within so_far e
 
 -- what holds anyway holds where a call was refused
@@ -62,7 +62,7 @@ pub to_come_none : {W : Type 0} (show : W → List ℕ) (separator text all : Li
     → ToCome show separator others i text all → text ≡ all
 to_come_none show separator text all others i past so_far =
     sym (append-nil text) ∙ ap (λ ws. text ++ spread separator (map show ws)) (sym (drop_of_length-le others past))
-        ∙ so_far
+    ∙ so_far
 
 -- ---- limits
 
@@ -76,5 +76,5 @@ pub past_whole : (limit : Option ℕ) (text piece more all : List ℕ) → text 
     → IsPast limit (length text + length piece) → IsPast limit (length all)
 past_whole limit text piece more all e past =
     let long : length all ≡ length text + (length piece + length more) =
-        ap length (sym e) ∙ length-append text (piece ++ more) ∙ ap (λ n. length text + n) (length-append piece more) in
+    ap length (sym e) ∙ length-append text (piece ++ more) ∙ ap (λ n. length text + n) (length-append piece more) in
     past_more limit (length text + length piece) (length all) (omega arith) past

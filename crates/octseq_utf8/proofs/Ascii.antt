@@ -33,7 +33,7 @@ high_none (y ∷ ys) h =
     let low : y < 128 = All-head (λ o. o < 128) y ys h in
     let e : leb 128 y ≡ false = grind (arith, nat_tests) in
     ap (λ b. cond b 1 0 + 2 * mask_l (map (leb 128) ys)) e ∙ (let k = high_none ys (All-tail (λ o. o < 128) y ys h) in
-        omega arith)
+    omega arith)
 
 -- the mask that the code computes, by comparing the lane with sixteen times 0x80
 pub mask_is : (ys : List ℕ) → length ys ≡ 16
@@ -55,10 +55,15 @@ first_of [] h = absurd (omega arith)
 first_of (y ∷ ys) h = go (leb 128 y) refl
   where
     go : (b : Bool) → leb 128 y ≡ b → ((cond (leb 128 y) 1 0 + 2 * mask_l (map (leb 128) ys)) % 2 ≡ 0) ↔ (y < 128)
-    go true e = (λ k. absurd (let f = ap (λ b. (cond b 1 0 + 2 * mask_l (map (leb 128) ys)) % 2) e in omega arith),
-        λ k. absurd (grind (arith, nat_tests)))
-    go false e = (λ k. grind (arith, nat_tests), λ k. ap (λ b. (cond b 1 0 + 2 * mask_l (map (leb 128) ys)) % 2) e
-        ∙ omega arith)
+    go true e = (
+      λ k. absurd (let f = ap (λ b. (cond b 1 0 + 2 * mask_l (map (leb 128) ys)) % 2) e in omega arith),
+      λ k. absurd (grind (arith, nat_tests)),
+    )
+    go false e = (
+      λ k. grind (arith, nat_tests),
+      λ k. ap (λ b. (cond b 1 0 + 2 * mask_l (map (leb 128) ys)) % 2) e
+          ∙ omega arith,
+    )
 
 -- what the code tests next: the mask is even exactly where the octet at hand is ASCII
 pub lane_first : (x : List ℕ) (i : ℕ) → length (take 16 (drop i x)) ≡ 16
@@ -68,7 +73,7 @@ lane_first x i long =
     let e = mask_is (take 16 (drop i x)) long in
     let f = first_of (take 16 (drop i x)) (omega arith) in
     let g : get_or (take 16 (drop i x)) 0 0 ≡ get_or x i 0 = get_or-chunk i 16 x 0 0 (omega arith)
-        ∙ ap (λ k. get_or x k 0) (let q : i + 0 ≡ i = omega arith in q) in
+    ∙ ap (λ k. get_or x k 0) (let q : i + 0 ≡ i = omega arith in q) in
     (λ h. let k = f.0 (ap (λ n. n % 2) (sym e) ∙ h) in omega arith, λ h. ap (λ n. n % 2) e ∙ f.1 (omega arith))
 
 -- where a lane isn't all below 80, neither are the octets
@@ -94,9 +99,9 @@ before_high x high room same some =
     let long : length ys ≡ 16 = length-take 16 x ∙ omega arith in
     let n : ℕ = prefix_len (λ o. not (leb 128 o)) ys in
     let found : count_trailing_zeros 64 high ≡ n =
-        ap (count_trailing_zeros 64) same ∙ trailing_mask_l (leb 128) 64 ys (omega arith) (omega arith) in
+    ap (count_trailing_zeros 64) same ∙ trailing_mask_l (leb 128) 64 ys (omega arith) (omega arith) in
     let below : (i : ℕ) → i < n → get_or ys i 0 < 128 =
-        λ i h. not_high (get_or ys i 0) (prefix_len_passes (λ o. not (leb 128 o)) ys i 0 h) in
+    λ i h. not_high (get_or ys i 0) (prefix_len_passes (λ o. not (leb 128 o)) ys i 0 h) in
     let few : n < length ys =
     ⊎_elim
     (λ less. less)
@@ -134,11 +139,11 @@ ends_low x from n room few first last =
     let here : get_or (drop from x) i 0 ≡ get_or x (from + i) 0 = get_or-drop from x i 0 in
     ⊎_elim
     (λ less. subst (λ o. o < 128) (get_or-chunk from n x i 0 less ∙ sym here)
-        (All-get_or (λ o. o < 128) (take n (drop from x)) i 0 (omega (arith, length-chunk from n x room)) first))
+    (All-get_or (λ o. o < 128) (take n (drop from x)) i 0 (omega (arith, length-chunk from n x room)) first))
     (λ more.
     let k : ℕ = from + i - (length x - n) in
     let same : (length x - n) + k ≡ from + i = omega arith in
     subst (λ o. o < 128) (get_or-chunk (length x - n) n x k 0 (omega arith) ∙ ap (λ j. get_or x j 0) same ∙ sym here)
     (All-get_or (λ o. o < 128) (take n (drop (length x - n) x)) k 0
-        (omega (arith, length-chunk (length x - n) n x (omega arith))) last))
+    (omega (arith, length-chunk (length x - n) n x (omega arith))) last))
     (less_or_not i n))

@@ -44,18 +44,23 @@ module _ (rest : List ℕ) (fault : Fault) (f : IsFault rest fault) where
       let long : fault_end rest fault ≡ length (f.before ++ f.bad) = let place = f.place in
       omega (arith, end_is, length-append f.before f.bad) in
       ap (λ n. drop n rest) long ∙ ap (λ x. drop (length (f.before ++ f.bad)) x) cut
-          ∙ drop-append_seam (f.before ++ f.bad) f.after
+      ∙ drop-append_seam (f.before ++ f.bad) f.after
 
   -- the parts are the characters before it, the bad part, and those behind
   pub parts_at_fault : length (parts_of rest) ≡ length (chars (take fault.place rest)) + 1
       + length (parts_of (drop (fault_end rest fault) rest))
   parts_at_fault =
       let all : parts_of rest ≡ map Char f.good.0 ++ (Bad f.bad ∷ parts_of f.after) =
-          ap parts_of f.whole ∙ parts_fault f.good.1 f.bad f.after f.first in
+      ap parts_of f.whole ∙ parts_fault f.good.1 f.bad f.after f.first in
       let before : chars (take fault.place rest) ≡ f.good.0 = ap chars front_is ∙ chars_of f.good.1 in
       let behind = ap (λ y. length (parts_of y)) behind_is in
-      omega (arith, ap length all, ap length before, length-append (map Char f.good.0) (Bad f.bad ∷ parts_of f.after),
-          length-map f.good.0 Char)
+      omega (
+        arith,
+        ap length all,
+        ap length before,
+        length-append (map Char f.good.0) (Bad f.bad ∷ parts_of f.after),
+        length-map f.good.0 Char,
+      )
 
 -- of well-formed octets the parts are the characters
 pub parts_well_formed : (x : List ℕ) → IsWellFormed x → length (parts_of x) ≡ length (chars x)

@@ -18,7 +18,7 @@ beginning_fits {p} b =
     let s = nil_or_some p b.some in
     let f = fits_from b.encoding in
     fits_less p b.more (length p) (omega arith)
-        (fits_fewer (p ++ b.more) (length p) (length (p ++ b.more)) s (omega (arith, length-append p b.more)) f)
+    (fits_fewer (p ++ b.more) (length p) (length (p ++ b.more)) s (omega (arith, length-append p b.more)) f)
 
 -- a beginning is shorter than the width that its first octet asks for
 pub beginning_short : {p : List ℕ} → IsBeginning p → length p < width_of (get_or p 0 0)
@@ -48,32 +48,68 @@ complete p more s m f w = record {
 complete_1 : (a : ℕ) → (w : ℕ) → width_of a ≡ w → (w ≡ 1 + 1) ⊎ ((w ≡ 1 + 2) ⊎ (w ≡ 1 + 3)) → IsBeginning (a ∷ [])
 complete_1 a w e (inl h) = let b = second_bounds a in
     complete (a ∷ []) (least_second a ∷ []) (omega arith) (omega arith)
-    (record { some = omega arith; within = omega arith; wide = omega arith; second = λ k. (omega arith, b.1);
-        third = λ k. absurd (omega arith); fourth = λ k. absurd (omega arith) }) (omega arith)
+    (record {
+      some = omega arith;
+      within = omega arith;
+      wide = omega arith;
+      second = λ k. (omega arith, b.1);
+      third = λ k. absurd (omega arith);
+      fourth = λ k. absurd (omega arith);
+    }) (omega arith)
 complete_1 a w e (inr (inl h)) = let b = second_bounds a in complete (a ∷ []) (least_second a ∷ 0x80 ∷ []) (omega arith)
     (omega arith)
-    (record { some = omega arith; within = omega arith; wide = omega arith; second = λ k. (omega arith, b.1);
-        third = λ k. (omega arith, omega arith); fourth = λ k. absurd (omega arith) }) (omega arith)
+    (record {
+      some = omega arith;
+      within = omega arith;
+      wide = omega arith;
+      second = λ k. (omega arith, b.1);
+      third = λ k. (omega arith, omega arith);
+      fourth = λ k. absurd (omega arith);
+    }) (omega arith)
 complete_1 a w e (inr (inr h)) = let b = second_bounds a in
     complete (a ∷ []) (least_second a ∷ 0x80 ∷ 0x80 ∷ []) (omega arith) (omega arith)
-    (record { some = omega arith; within = omega arith; wide = omega arith; second = λ k. (omega arith, b.1);
-        third = λ k. (omega arith, omega arith); fourth = λ k. (omega arith, omega arith) }) (omega arith)
+    (record {
+      some = omega arith;
+      within = omega arith;
+      wide = omega arith;
+      second = λ k. (omega arith, b.1);
+      third = λ k. (omega arith, omega arith);
+      fourth = λ k. (omega arith, omega arith);
+    }) (omega arith)
 
 complete_2 : (a b : ℕ) → (w : ℕ) → width_of a ≡ w → IsInRange (least_second a) (greatest_second a) b → w ≤ 4
     → (w ≡ 2 + 1) ⊎ ((w ≡ 2 + 2) ⊎ (w ≡ 2 + 3)) → IsBeginning (a ∷ b ∷ [])
 complete_2 a b w e s l (inl h) = complete (a ∷ b ∷ []) (0x80 ∷ []) (omega arith) (omega arith)
-    (record { some = omega arith; within = omega arith; wide = omega arith; second = λ k. s;
-        third = λ k. (omega arith, omega arith); fourth = λ k. absurd (omega arith) }) (omega arith)
+    (record {
+      some = omega arith;
+      within = omega arith;
+      wide = omega arith;
+      second = λ k. s;
+      third = λ k. (omega arith, omega arith);
+      fourth = λ k. absurd (omega arith);
+    }) (omega arith)
 complete_2 a b w e s l (inr (inl h)) = complete (a ∷ b ∷ []) (0x80 ∷ 0x80 ∷ []) (omega arith) (omega arith)
-    (record { some = omega arith; within = omega arith; wide = omega arith; second = λ k. s;
-        third = λ k. (omega arith, omega arith); fourth = λ k. (omega arith, omega arith) }) (omega arith)
+    (record {
+      some = omega arith;
+      within = omega arith;
+      wide = omega arith;
+      second = λ k. s;
+      third = λ k. (omega arith, omega arith);
+      fourth = λ k. (omega arith, omega arith);
+    }) (omega arith)
 complete_2 a b w e s l (inr (inr h)) = absurd (omega arith)
 
 complete_3 : (a b c : ℕ) → (w : ℕ) → width_of a ≡ w → IsInRange (least_second a) (greatest_second a) b
     → IsInRange 0x80 0xBF c → w ≤ 4 → 3 < w → IsBeginning (a ∷ b ∷ c ∷ [])
 complete_3 a b c w e s t l h = complete (a ∷ b ∷ c ∷ []) (0x80 ∷ []) (omega arith) (omega arith)
-    (record { some = omega arith; within = omega arith; wide = omega arith; second = λ k. s; third = λ k. t;
-        fourth = λ k. (omega arith, omega arith) }) (omega arith)
+    (record {
+      some = omega arith;
+      within = omega arith;
+      wide = omega arith;
+      second = λ k. s;
+      third = λ k. t;
+      fourth = λ k. (omega arith, omega arith);
+    }) (omega arith)
 
 -- octets that fit, and are fewer than the first one asks for, are a beginning
 pub beginning_from : (p : List ℕ) → Fits p (length p) → length p < width_of (get_or p 0 0) → IsBeginning p

@@ -63,7 +63,7 @@ module _ (x : List ℕ) (fault : Fault) (f : IsFault x fault) where
   bad_is =
       let long : fault_end x fault - fault.place ≡ length f.bad = omega (arith, end_is x fault f) in
       ap (take (fault_end x fault - fault.place)) (onward_is x fault f) ∙ ap (λ n. take n (f.bad ++ f.after)) long
-          ∙ take-append_seam f.bad f.after
+      ∙ take-append_seam f.bad f.after
 
 -- the chunk of octets that are a text
 pub chunk_at_end : (x : List ℕ) → x ≢ [] → IsWellFormed x
@@ -99,7 +99,7 @@ parts_at_chunk x chunk behind c = go c.bad
         → parts_of x ≡ chunk_parts chunk ++ parts_of behind
     go (inl none) =
         let same : x ≡ chunk.valid = c.whole ∙ ap (λ y. chunk.valid ++ (y ++ behind)) none.0
-            ∙ ap (λ y. chunk.valid ++ y) none.1 ∙ append-nil chunk.valid in
+        ∙ ap (λ y. chunk.valid ++ y) none.1 ∙ append-nil chunk.valid in
         ap parts_of same ∙ parts_spelled c.good.1 ∙ sym front
         ∙ sym (ap (λ ps. chunk_parts chunk ++ ps) (ap parts_of none.1 ∙ parts_nil) ∙ append-nil (chunk_parts chunk)
         ∙ ap (λ y. map Char (chars chunk.valid) ++ bad_parts y) none.0 ∙ append-nil (map Char (chars chunk.valid)))
@@ -119,17 +119,17 @@ text_at_chunk w x chunk behind c = go c.bad
         → text_with w (parts_of x) ≡ chunk_text w chunk ++ text_with w (parts_of behind)
     go (inl none) =
         let same : x ≡ chunk.valid = c.whole ∙ ap (λ y. chunk.valid ++ (y ++ behind)) none.0
-            ∙ ap (λ y. chunk.valid ++ y) none.1 ∙ append-nil chunk.valid in
+        ∙ ap (λ y. chunk.valid ++ y) none.1 ∙ append-nil chunk.valid in
         let nothing : mark_of (encoding_of w) chunk.invalid ++ text_with w (parts_of behind) ≡ [] =
         ap (λ y. mark_of (encoding_of w) y ++ text_with w (parts_of behind)) none.0 ∙ ap (λ y. text_with w (parts_of y))
-            none.1 ∙ text_spelled w spells_nothing in
+        none.1 ∙ text_spelled w spells_nothing in
         ap (λ y. text_with w (parts_of y)) same ∙ text_spelled w c.good.1
         ∙ sym (append_assoc chunk.valid (mark_of (encoding_of w) chunk.invalid) (text_with w (parts_of behind))
-            ∙ ap (λ y. chunk.valid ++ y) nothing ∙ append-nil chunk.valid)
+        ∙ ap (λ y. chunk.valid ++ y) nothing ∙ append-nil chunk.valid)
     go (inr bad) =
         ap (λ y. text_with w (parts_of y)) c.whole ∙ text_fault w c.good.1 chunk.invalid behind bad
         ∙ ap (λ y. chunk.valid ++ (y ++ text_with w (parts_of behind)))
-            (sym (mark_some (encoding_of w) chunk.invalid (bad_some bad).0))
+        (sym (mark_some (encoding_of w) chunk.invalid (bad_some bad).0))
         ∙ sym (append_assoc chunk.valid (mark_of (encoding_of w) chunk.invalid) (text_with w (parts_of behind)))
 
 -- octets whose first chunk has no bad part are a text
@@ -140,7 +140,7 @@ whole_text x chunk behind c none = go c.bad
     go : ((chunk.invalid ≡ []) × (behind ≡ [])) ⊎ IsBadPart (chunk.invalid ++ behind) chunk.invalid → IsWellFormed x
     go (inl end) =
         let same : x ≡ chunk.valid = c.whole ∙ ap (λ y. chunk.valid ++ (y ++ behind)) end.0
-            ∙ ap (λ y. chunk.valid ++ y) end.1 ∙ append-nil chunk.valid in
+        ∙ ap (λ y. chunk.valid ++ y) end.1 ∙ append-nil chunk.valid in
         subst IsWellFormed (sym same) c.good
     go (inr bad) = let some = (bad_some bad).0 in absurd (omega arith)
 
@@ -162,7 +162,7 @@ pub splits_at_chunk : (x : List ℕ) (chunk : Chunk) (behind : List ℕ) (parts 
     → Splits x (chunk_parts chunk ++ parts)
 splits_at_chunk x chunk behind parts c s =
     subst (Splits x) (parts_at_chunk x chunk behind c ∙ ap (λ ps. chunk_parts chunk ++ ps) (sym (only_parts s)))
-        (splits x)
+    (splits x)
 
 -- octets split into the parts of all their chunks, one chunk after another
 pub chunks_split : {x : List ℕ} {chunks : List Chunk} → AreChunks x chunks → Splits x (flat_map chunk_parts chunks)
@@ -183,7 +183,7 @@ pub text_by_chunk : (x behind : List ℕ) (chunk : Chunk) (parts rest : List Par
     → text_with w parts ≡ chunk_text w chunk ++ text_with w rest
 text_by_chunk x behind chunk parts rest w c s t =
     ap (text_with w) (only_parts s) ∙ text_at_chunk w x chunk behind c ∙ ap (λ ps. chunk_text w chunk ++ text_with w ps)
-        (sym (only_parts t))
+    (sym (only_parts t))
 
 -- a text that grows by chunks is, with the text of what is left, the whole text
 
@@ -193,11 +193,11 @@ pub grown : (w : ℕ) (x made made' all : List ℕ) (chunk : Chunk) (behind : Li
     → made' ≡ made ++ chunk_text w chunk → made' ++ text_with w (parts_of behind) ≡ all
 grown w x made made' all chunk behind before c more =
     ap (λ y. y ++ text_with w (parts_of behind)) more ∙ append_assoc made (chunk_text w chunk)
-        (text_with w (parts_of behind))
+    (text_with w (parts_of behind))
     ∙ ap (λ y. made ++ y) (sym (text_at_chunk w x chunk behind c)) ∙ before
 
 -- where no octets are left, what is made is the whole text
 pub all_made : (w : ℕ) (made all x : List ℕ) → made ++ text_with w (parts_of x) ≡ all → x ≡ [] → made ≡ all
 all_made w made all x whole nothing =
     sym (append-nil made)
-        ∙ ap (λ y. made ++ y) (sym (ap (λ y. text_with w (parts_of y)) nothing ∙ text_spelled w spells_nothing)) ∙ whole
+    ∙ ap (λ y. made ++ y) (sym (ap (λ y. text_with w (parts_of y)) nothing ∙ text_spelled w spells_nothing)) ∙ whole

@@ -38,8 +38,14 @@ pub record IsInLanes (x : List ℕ) (place old now : ℕ) : Type 0 where
 
 -- the finder is at the front before it takes a turn
 pub at_start : (x : List ℕ) (t : ℕ) → IsAt x 0 t t
-at_start x t = record { characters = []; within = omega arith; spelled = spells_nothing; turns = omega arith;
-    few = omega arith; passed = omega arith }
+at_start x t = record {
+  characters = [];
+  within = omega arith;
+  spelled = spells_nothing;
+  turns = omega arith;
+  few = omega arith;
+  passed = omega arith;
+}
 
 -- in lanes too, the finder is at the front before it takes a turn
 pub lanes_start : (x : List ℕ) (t : ℕ) → IsInLanes x 0 t t
@@ -51,7 +57,7 @@ take-add x i n h =
     let cut : take i x ++ drop i x ≡ x = take-append-drop i x in
     let long : length (take i x) ≡ i = length-take i x ∙ omega arith in
     ap (λ y. take (i + n) y) (sym cut) ∙ ap (λ k. take (k + n) (take i x ++ drop i x)) (sym long)
-        ∙ take-append-add (take i x) (drop i x) n
+    ∙ take-append-add (take i x) (drop i x) n
 
 -- a slice from a place to the end has all octets from that place on
 pub rest_of : (x : List ℕ) (place : ℕ) → take (length x - place) (drop place x) ≡ drop place x
@@ -101,9 +107,11 @@ word_front x four place len room same few e =
 -- an octet below 80
 pub octet_front : (x : List ℕ) (place : ℕ) → place < length x → get_or x place 0 < 0x80
     → StandsInFront (drop place x) (Encoding 1)
-octet_front x place lt low =
-    (omega (arith, length-drop place x), subst IsEncoding (sym (ap (take 1) (drop-cons x place 0 lt)))
-        (row_00_7F (omega arith, omega arith)))
+octet_front x place lt low = (
+  omega (arith, length-drop place x),
+  subst IsEncoding (sym (ap (take 1) (drop-cons x place 0 lt)))
+      (row_00_7F (omega arith, omega arith)),
+)
 
 -- a lane of octets below 80: each spells its character
 
@@ -113,7 +121,7 @@ spells_low [] low = spells_nothing
 spells_low (a ∷ x) low =
     let first : a < 0x80 = All-head (λ o. o < 0x80) a x low in
     spells-append (spells_one (row_00_7F {a = a} (omega arith, omega arith)))
-        (spells_low x (All-tail (λ o. o < 0x80) a x low))
+    (spells_low x (All-tail (λ o. o < 0x80) a x low))
 
 -- a lane of octets that are all below 80 is passed in one turn
 pub lane_passed : (x : List ℕ) (place old now : ℕ) → IsInLanes x place old now → place + 16 ≤ length x
@@ -132,8 +140,13 @@ lane_passed x place old now l room low =
         within = omega arith;
         spelled = subst (λ z. Spells z (at.characters ++ next)) (sym (take-add x place 16 in_x))
             (spells-append at.spelled (spells_low lane low));
-        turns = omega (arith, length-append at.characters next, length-map lane (λ o. number_of (o ∷ [])),
-            length-take 16 (drop place x), length-drop place x);
+        turns = omega (
+          arith,
+          length-append at.characters next,
+          length-map lane (λ o. number_of (o ∷ [])),
+          length-take 16 (drop place x),
+          length-drop place x,
+        );
         few = omega arith;
         passed = omega arith;
       };
@@ -143,8 +156,10 @@ lane_passed x place old now l room low =
 -- an encoding more where the lane isn't all below 80
 pub other_passed : (x : List ℕ) (place old now len : ℕ) → IsInLanes x place old now
     → StandsInFront (drop place x) (Encoding len) → ¬ All (λ o. o < 0x80) x → IsInLanes x (place + len) old (now + 1)
-other_passed x place old now len l front high = record { at = at_more x place old now len l.at front;
-    lanes = λ all. absurd (high all) }
+other_passed x place old now len l front high = record {
+  at = at_more x place old now len l.at front;
+  lanes = λ all. absurd (high all);
+}
 
 -- the end
 pub at_end : (x : List ℕ) (place old now : ℕ) → IsAt x place old now → length x ≤ place
@@ -173,7 +188,7 @@ fault_at x place old now size at front =
     let y : List ℕ = drop place x in
     let n : ℕ = unwrap_or size (length y) in
     let left : unwrap_or size (length y) ≡ unwrap_or size (length x - place) =
-        ap (unwrap_or size) (length-drop place x) in
+    ap (unwrap_or size) (length-drop place x) in
     let cut : take n y ++ drop n y ≡ y = take-append-drop n y in
     record {
       is_fault = record {
@@ -223,18 +238,18 @@ fault_behind x place old mid now fault at f turns passed =
     let here = f.place in
     let long : length (take place x) ≡ place = length-take place x ∙ omega arith in
     let front : take fault.place (drop place x) ≡ f.before =
-        ap (λ k. take k (drop place x)) here ∙ ap (take (length f.before)) f.whole
-        ∙ take-append_seam f.before (f.bad ++ f.after) in
+    ap (λ k. take k (drop place x)) here ∙ ap (take (length f.before)) f.whole
+    ∙ take-append_seam f.before (f.bad ++ f.after) in
     let both : take (place + fault.place) x ≡ take place x ++ take fault.place (drop place x) =
-        take-add x place fault.place in_x in
+    take-add x place fault.place in_x in
     let good : IsWellFormed (take fault.place (drop place x)) = subst IsWellFormed (sym front) f.good in
     let spelled : chars (take (place + fault.place) x) ≡ at.characters ++ chars (take fault.place (drop place x)) =
     ap chars both ∙ chars-append _ _ before good ∙ ap (λ cs. cs ++ chars (take fault.place (drop place x)))
-        (chars_of at.spelled) in
+    (chars_of at.spelled) in
     let left : length x - (place + fault.place) ≡ length (drop place x) - fault.place =
-        omega (arith, length-drop place x) in
+    omega (arith, length-drop place x) in
     let end : unwrap_or fault.size (length x - (place + fault.place))
-        ≡ unwrap_or fault.size (length (drop place x) - fault.place) = ap (unwrap_or fault.size) left in
+    ≡ unwrap_or fault.size (length (drop place x) - fault.place) = ap (unwrap_or fault.size) left in
     record {
       is_fault = record {
         before = take place x ++ f.before;
@@ -296,19 +311,19 @@ same_size bad after s t (inr h) (inr k) = h.0 ∙ sym k.0
 pub one_fault : {x : List ℕ} {fault other : Fault} → IsFault x fault → IsFault x other → fault ≡ other
 one_fault {x} {fault} {other} f g =
     let same = first_bad_same f.good.0 g.good.0 f.bad g.bad (parts_of f.after) (parts_of g.after)
-        (sym (fault_parts f) ∙ fault_parts g) in
+    (sym (fault_parts f) ∙ fault_parts g) in
     let front : f.before ≡ g.before = sym (octets_of_spelled f.good.1) ∙ ap octets_of same.0
-        ∙ octets_of_spelled g.good.1 in
+    ∙ octets_of_spelled g.good.1 in
     let place : fault.place ≡ other.place = f.place ∙ ap length front ∙ sym g.place in
     let behind : f.after ≡ g.after =
     sym (drop-append_seam f.bad f.after)
-        ∙ ap (λ y. drop (length f.bad) y) (sym (drop-append_seam f.before (f.bad ++ f.after))
-        ∙ ap (λ y. drop (length f.before) y) (sym f.whole ∙ g.whole)
+    ∙ ap (λ y. drop (length f.bad) y) (sym (drop-append_seam f.before (f.bad ++ f.after))
+    ∙ ap (λ y. drop (length f.before) y) (sym f.whole ∙ g.whole)
     ∙ ap (λ y. drop (length y) (g.before ++ (g.bad ++ g.after))) front ∙ drop-append_seam g.before (g.bad ++ g.after))
-        ∙ ap (λ y. drop (length y) (g.bad ++ g.after)) same.1 ∙ drop-append_seam g.bad g.after in
+    ∙ ap (λ y. drop (length y) (g.bad ++ g.after)) same.1 ∙ drop-append_seam g.bad g.after in
     let long : IsFaultSize g.bad g.after fault.size =
-        subst (λ y. IsFaultSize g.bad y fault.size) behind
-        (subst (λ y. IsFaultSize y f.after fault.size) same.1 f.size) in
+    subst (λ y. IsFaultSize g.bad y fault.size) behind
+    (subst (λ y. IsFaultSize y f.after fault.size) same.1 f.size) in
     let size : fault.size ≡ other.size = same_size g.bad g.after fault.size other.size long g.size in
     λ i. record { place = place i; size = size i }
 
@@ -318,7 +333,7 @@ bad_small : {octets bad : List ℕ} → IsBadPart octets bad → (1 ≤ length b
 bad_small {bad = bad} b =
     ⊎_elim
     (λ l. let short = beginning_short l.0 in let width = width_le (get_or bad 0 0) in
-        (nil_or_some bad l.0.some, omega arith))
+    (nil_or_some bad l.0.some, omega arith))
     (λ one. let n = one.0 in (omega arith, omega arith))
     b.longest
 

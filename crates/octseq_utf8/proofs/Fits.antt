@@ -99,7 +99,7 @@ encodings_begin_alike {e} {f} r s p q h =
     let a = length_of p in
     let b = length_of q in
     let first : get_or e 0 0 ≡ get_or f 0 0 = sym (get_left e r 0 (omega arith)) ∙ ap (λ x. get_or x 0 0) h
-        ∙ get_left f s 0 (omega arith) in
+    ∙ get_left f s 0 (omega arith) in
     let long : length e ≡ length f = width_from p ∙ ap width_of first ∙ sym (width_from q) in (
       sym (take-append_seam e r) ∙ ap (λ x. take (length e) x) h ∙ ap (λ n. take n (f ++ s)) long
           ∙ take-append_seam f s,

@@ -84,4 +84,4 @@ fits_fitting x k f =
     let w = f.wide in
     fitting_by_reaches (width_of (get_or x 0 0)) (length x) k _ _ _ f.within w (omega (arith, width_le (get_or x 0 0)))
     (λ h. true_in_range _ _ _ (f.second h)) (λ h. true_in_range _ _ _ (f.third h))
-        (λ h. true_in_range _ _ _ (f.fourth h))
+    (λ h. true_in_range _ _ _ (f.fourth h))

@@ -31,8 +31,10 @@ front_lead x some none =
       within = some;
       few = omega arith;
       bad = subst (λ k. IsBadPart x (take k x)) one (bad_of x some (inl none));
-      size = inr (ap Some (sym long),
-          λ b. let k = (beginning_fitting x (take 1 x) (drop 1 x, sym (take-append-drop 1 x)) b.0).1 in omega arith);
+      size = inr (
+        ap Some (sym long),
+        λ b. let k = (beginning_fitting x (take 1 x) (drop 1 x, sym (take-append-drop 1 x)) b.0).1 in omega arith,
+      );
     }
 
 -- the octets end within an encoding
@@ -45,8 +47,12 @@ front_cut x some lead short whole =
       within = omega arith;
       few = omega (arith, width_le (get_or x 0 0));
       bad = subst (λ k. IsBadPart x (take k x)) n (bad_of x some (inr (omega arith)));
-      size = inl (refl, subst (λ k. IsBeginning (take k x)) whole
-          (fitting_beginning x some (omega arith) (omega arith)), drop_all (length x) x (omega arith));
+      size = inl (
+        refl,
+        subst (λ k. IsBeginning (take k x)) whole
+            (fitting_beginning x some (omega arith) (omega arith)),
+        drop_all (length x) x (omega arith),
+      );
     }
 
 -- an octet stands where the encoding wants another
@@ -62,8 +68,11 @@ front_other x some lead short more =
       within = within;
       few = omega (arith, width_le (get_or x 0 0));
       bad = subst (λ k. IsBadPart x (take k x)) n (bad_of x some (inr (omega arith)));
-      size = inr (ap Some (sym long), λ b. let none : length x - fitting x ≡ 0 = sym (length-drop (fitting x) x)
-          ∙ ap length b.1 in absurd (more (omega arith)));
+      size = inr (
+        ap Some (sym long),
+        λ b. let none : length x - fitting x ≡ 0 = sym (length-drop (fitting x) x)
+            ∙ ap length b.1 in absurd (more (omega arith)),
+      );
     }
 
 -- no octet of 80 or more is a character by itself
@@ -87,7 +96,7 @@ fitting_one x some lead second =
     let f = fitting_fits x some lead in
     let least = f.some in
     ⊎_elim (λ few. omega arith) (λ more. absurd (let r = second_range (get_or x 0 0) (get_or x 1 0) (f.second more) in
-        let l = r.0 in let g = r.1 in grind (arith, nat_tests))) (few_or_more (fitting x))
+    let l = r.0 in let g = r.1 in grind (arith, nat_tests))) (few_or_more (fitting x))
 
 -- and the first octet, of 80 or more, is the bad part
 pub front_second : (x : List ℕ) → 1 < length x → 0x80 ≤ get_or x 0 0 → is_in_range 0x80 0xBF (get_or x 1 0) ≡ false
@@ -104,4 +113,4 @@ front_second x more high second =
         let one = fitting_one x (omega arith) lead second in
         subst (λ k. IsBadFront x (Some k) k) one
         (front_other x (omega arith) (λ h. omega arith) (λ h. width_high (get_or x 0 0) high (sym h ∙ one))
-            (λ h. omega arith))
+        (λ h. omega arith))

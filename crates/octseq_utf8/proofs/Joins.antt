@@ -15,13 +15,13 @@ join_encodings : (es : List (List ℕ)) → AllByRecursion IsEncoding es → (r 
 join_encodings [] h r = refl
 join_encodings (e ∷ es) h r =
     ap parts_of (append_assoc e (concat es) r) ∙ parts_encoding h.0 (concat es ++ r)
-        ∙ ap (λ ps. Char (number_of e) ∷ ps) (join_encodings es h.1 r)
+    ∙ ap (λ ps. Char (number_of e) ∷ ps) (join_encodings es h.1 r)
 
 -- a well-formed front, and then as the rest
 pub parts_front : {x cs : List ℕ} → Spells x cs → (r : List ℕ) → parts_of (x ++ r) ≡ map Char cs ++ parts_of r
 parts_front {x} {cs} s r =
     ap (λ y. parts_of (y ++ r)) (sym s.joined) ∙ join_encodings s.encodings s.each r
-        ∙ ap (λ y. map Char y ++ parts_of r) s.numbers
+    ∙ ap (λ y. map Char y ++ parts_of r) s.numbers
 
 -- and at a fault: the characters before it, the bad part, and then as the rest
 pub parts_fault : {x cs : List ℕ} → Spells x cs → (p r : List ℕ) → IsBadPart (p ++ r) p
@@ -39,7 +39,7 @@ pub text_fault : (w : ℕ) {x cs : List ℕ} → Spells x cs → (p r : List ℕ
     → text_with w (parts_of (x ++ (p ++ r))) ≡ x ++ (encoding_of w ++ text_with w (parts_of r))
 text_fault w {x} {cs} s p r b =
     ap (text_with w) (parts_fault s p r b) ∙ text-chars w cs (Bad p ∷ parts_of r)
-        ∙ ap (λ y. y ++ (encoding_of w ++ text_with w (parts_of r))) (octets_of_spelled s)
+    ∙ ap (λ y. y ++ (encoding_of w ++ text_with w (parts_of r))) (octets_of_spelled s)
 
 -- the parts of well-formed octets are their characters, and the text is those octets
 
@@ -52,4 +52,4 @@ parts_spelled {x} {cs} s = ap parts_of (sym (append-nil x)) ∙ parts_front s []
 pub text_spelled : (w : ℕ) {x cs : List ℕ} → Spells x cs → text_with w (parts_of x) ≡ x
 text_spelled w {x} {cs} s =
     ap (text_with w) (parts_spelled s ∙ sym (append-nil (map Char cs))) ∙ text-chars w cs [] ∙ append-nil (octets_of cs)
-        ∙ octets_of_spelled s
+    ∙ octets_of_spelled s

@@ -21,9 +21,11 @@ pub text_well_formed : (w : ℕ) → IsCharacter w → {x : List ℕ} {parts : L
     → IsWellFormed (text_with w parts)
 text_well_formed w h nothing = ([], spells_nothing)
 text_well_formed w h (encoding {e} {parts = parts} p s) =
-    let rest = text_well_formed w h s in
-    (number_of e ∷ rest.0, subst (λ y. Spells (y ++ text_with w parts) (number_of e ∷ rest.0))
-        (sym (encoding_of-number_of p)) (spells-append (spells_one p) rest.1))
+    let rest = text_well_formed w h s in (
+      number_of e ∷ rest.0,
+      subst (λ y. Spells (y ++ text_with w parts) (number_of e ∷ rest.0))
+          (sym (encoding_of-number_of p)) (spells-append (spells_one p) rest.1),
+    )
 text_well_formed w h (bad_part b s) =
     let rest = text_well_formed w h s in
     (number_of (encoding_of w) ∷ rest.0, spells-append (spells_one (encoding_is_of w h).0) rest.1)
@@ -45,8 +47,12 @@ pub text_with_long : (w : ℕ) → 3 ≤ length (encoding_of w) → {x : List �
 text_with_long w h nothing = omega arith
 text_with_long w h (encoding {e} {rest = r} {parts = parts} p s) =
     let k = text_with_long w h s in
-    omega (arith, length-append e r, length-append (encoding_of (number_of e)) (text_with w parts),
-        ap length (encoding_of-number_of p))
+    omega (
+      arith,
+      length-append e r,
+      length-append (encoding_of (number_of e)) (text_with w parts),
+      ap length (encoding_of-number_of p),
+    )
 text_with_long w h (bad_part {bad = p} {rest = r} {parts = parts} b s) =
     let k = text_with_long w h s in let l = bad_length b in
     omega (arith, length-append p r, length-append (encoding_of w) (text_with w parts))

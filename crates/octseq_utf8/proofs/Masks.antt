@@ -87,7 +87,7 @@ three w a b c ea eb ec h k l =
     let la = low_4 a in
     let fb = fifth b in
     row_three a b c (omega arith, omega arith) (omega arith, omega arith) (omega arith, omega arith) (λ q. omega arith)
-        (λ q. omega arith)
+    (λ q. omega arith)
 
 -- the rows of four octets, whose second octet's range depends on F0 and F4
 row_four : (a b c d : ℕ) → IsInRange 0xF0 0xF4 a → IsInRange 0x80 0xBF b → IsInRange 0x80 0xBF c → IsInRange 0x80 0xBF d
@@ -105,7 +105,7 @@ high_is w =
     let e : bit_and w 7 ≡ w % 8 = and_mask w 3 in
     let f : bit_and (w / 256) 63 ≡ w / 256 % 64 = and_mask (w / 256) 6 in
     ap (λ k. bit_or k (bit_and (w / 256) 63)) (let g : bit_and w 7 * 256 % 4294967296 ≡ (w % 8) * 256 = omega arith in
-        g)
+    g)
     ∙ ap (λ k. bit_or ((w % 8) * 256) k) f ∙ or_shifted (w % 8) 8 (w / 256 % 64) (omega arith)
 
 -- four octets: the masked word is that of the row, and the bits of the first two octets are a number from 0x10 to
@@ -156,11 +156,11 @@ pub loaded : (x four : List ℕ) (i n : ℕ) → i + 4 ≤ length x → ((k : �
     → four ≡ take 4 (take (i + 4 - i) (drop i x)) → n ≡ from_le_bytes w32 four → to_le_bytes w32 n ≡ take 4 (drop i x)
 loaded x four i n room fits e h =
     let same : four ≡ take 4 (drop i x) =
-        e ∙ take_all 4 (take (i + 4 - i) (drop i x)) (omega (arith, length-take (i + 4 - i) (drop i x)))
-        ∙ ap (λ k. take k (drop i x)) (let q : i + 4 - i ≡ 4 = omega arith in q) in
+    e ∙ take_all 4 (take (i + 4 - i) (drop i x)) (omega (arith, length-take (i + 4 - i) (drop i x)))
+    ∙ ap (λ k. take k (drop i x)) (let q : i + 4 - i ≡ 4 = omega arith in q) in
     let long : length (take 4 (drop i x)) ≡ 4 = length-take 4 (drop i x) ∙ omega (arith, length-drop i x) in
     le_bytes_4 (take 4 (drop i x)) n long (below_of (take 4 (drop i x)) (chunk-fits w8 i 4 x fits))
-        (h ∙ ap (from_le_bytes w32) same)
+    (h ∙ ap (from_le_bytes w32) same)
   where
     below_of : (ys : List ℕ) → Each1 (Fits w8) ys → (k : ℕ) → get_or ys k 0 < 256
     below_of [] f k = omega arith

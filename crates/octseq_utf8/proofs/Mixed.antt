@@ -62,7 +62,7 @@ encodings_high [] h = inl refl
 encodings_high (e ∷ es) h =
     ⊎_elim
     (λ none. ⊎_elim (λ others. inl (omega (arith, high-append e (concat es))))
-        (λ others. inr (omega (arith, high-append e (concat es)))) (encodings_high es h.1))
+    (λ others. inr (omega (arith, high-append e (concat es)))) (encodings_high es h.1))
     (λ two. inr (omega (arith, high-append e (concat es))))
     (encoding_high h.0)
 
@@ -122,7 +122,7 @@ run_short (suc k) [] n = refl
 run_short (suc k) (a ∷ y) n =
     ⊎_elim
     (λ h. run-low (suc k) a y h ∙ ap suc (run_short k y (λ all. n (All-cons (λ o. o < 0x80) a (take (suc k) y) h all)))
-        ∙ sym (run-low k a y h))
+    ∙ sym (run-low k a y h))
     (λ h. run-high (suc k) a y h ∙ sym (run-high k a y h))
     (low_or_high a)
 
@@ -141,7 +141,7 @@ run_front zero (a ∷ x) y none room = absurd (omega arith)
 run_front (suc k) (a ∷ x) y none room =
     ⊎_elim
     (λ h. let rest = run_front k x y (sym (high-cons_low a x h) ∙ none) (omega arith) in
-        omega (arith, run-low k a (x ++ y) h))
+    omega (arith, run-low k a (x ++ y) h))
     (λ h. absurd (omega (arith, high-cons_high a x h)))
     (low_or_high a)
 
@@ -159,7 +159,7 @@ mixed_start x t = record { reserved = omega (arith, run_le 15 x) }
 pub mixed_skipped : (x : List ℕ) (n t : ℕ) → n < 16 → n < length x → 0x80 ≤ get_or x n 0 → IsMixed x n t (t + n)
 mixed_skipped x n t few room high =
     let none : low_run 15 (drop n x) ≡ 0 = ap (low_run 15) (drop-cons x n 0 room)
-        ∙ run-high 14 (get_or x n 0) (drop (suc n) x) high in
+    ∙ run-high 14 (get_or x n 0) (drop (suc n) x) high in
     record { reserved = omega arith }
 
 high_add : (x : List ℕ) (place n : ℕ) → place ≤ length x
@@ -189,7 +189,7 @@ mixed_low x place old now m room low some =
     let one : low_run 15 (drop place x) ≡ suc (low_run 14 y) = ap (low_run 15) at ∙ run-low 14 a y low in
     let same : low_run 15 y ≡ low_run 14 y =
     run_short 14 y (λ all. some
-        (subst (λ z. All (λ o. o < 0x80) (take 16 z)) (sym at) (All-cons (λ o. o < 0x80) a (take 15 y) low all))) in
+    (subst (λ z. All (λ o. o < 0x80) (take 16 z)) (sym at) (All-cons (λ o. o < 0x80) a (take 15 y) low all))) in
     record { reserved = omega arith }
 
 -- an encoding whose first octet is 80 or more
@@ -241,7 +241,7 @@ module _ (x : List ℕ) (place old mid : ℕ) (m : IsMixed x place old mid) (wit
       let cut = high_cut x place in
       ⊎_elim
       (λ none. let run : length y ≤ low_run 15 y = subst (λ z. length y ≤ low_run 15 z) (append-nil y)
-          (run_front 15 y [] none (omega arith)) in omega arith)
+      (run_front 15 y [] none (omega arith)) in omega arith)
       (λ two. omega arith)
       (spelled_high s)
 
@@ -256,14 +256,14 @@ module _ (x : List ℕ) (place old mid : ℕ) (m : IsMixed x place old mid) (wit
       let same : chars (take fault.place y) ≡ f.good.0 = ap chars (front_is y fault f) ∙ chars_of f.good.1 in
       let some = (bad_some f.first).0 in
       let parts : length y ≡ length f.before + (length f.bad + length f.after) =
-          omega (arith, ap length f.whole, length-append f.before rest, length-append f.bad f.after) in
+      omega (arith, ap length f.whole, length-append f.before rest, length-append f.bad f.after) in
       let cut = high_cut x place in
       let high : high_count y ≡ high_count f.before + high_count rest =
-          ap high_count f.whole ∙ high-append f.before rest in
+      ap high_count f.whole ∙ high-append f.before rest in
       let counted = ap length same in
       ⊎_elim
       (λ none. let run : length f.before ≤ low_run 15 y = subst (λ z. length f.before ≤ low_run 15 z) (sym f.whole)
-          (run_front 15 f.before rest none (omega arith)) in omega arith)
+      (run_front 15 f.before rest none (omega arith)) in omega arith)
       (λ two. omega arith)
       (spelled_high f.good.1)
     where

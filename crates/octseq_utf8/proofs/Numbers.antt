@@ -130,7 +130,7 @@ abbrev Rows : ℕ → Type 0
 Rows c = IsInRange 0 0x7F c
     ⊎ (IsInRange 0x80 0x7FF c ⊎ (IsInRange 0x800 0xFFF c ⊎ (IsInRange 0x1000 0xCFFF c ⊎ (IsInRange 0xD000 0xD7FF c
     ⊎ (IsInRange 0xE000 0xFFFF c
-        ⊎ (IsInRange 0x1_0000 0x3_FFFF c ⊎ (IsInRange 0x4_0000 0xF_FFFF c ⊎ IsInRange 0x10_0000 0x10_FFFF c)))))))
+    ⊎ (IsInRange 0x1_0000 0x3_FFFF c ⊎ (IsInRange 0x4_0000 0xF_FFFF c ⊎ IsInRange 0x10_0000 0x10_FFFF c)))))))
 
 rows : (c : ℕ) → IsCharacter c → Rows c
 rows c h = grind arith

@@ -105,7 +105,7 @@ pub octets_of_numbers : (es : List (List ℕ)) → AllByRecursion IsEncoding es 
 octets_of_numbers [] h = refl
 octets_of_numbers (e ∷ es) h =
     ap (λ y. y ++ octets_of (map number_of es)) (encoding_of-number_of h.0)
-        ∙ ap (λ y. e ++ y) (octets_of_numbers es h.1)
+    ∙ ap (λ y. e ++ y) (octets_of_numbers es h.1)
 
 -- the characters that octets spell are encoded as those octets
 pub octets_of_spelled : {x cs : List ℕ} → Spells x cs → octets_of cs ≡ x

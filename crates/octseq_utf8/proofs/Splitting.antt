@@ -54,7 +54,7 @@ parts_step [] h = absurd (omega arith)
 parts_step (b ∷ bs) h =
     let l = part_len_within (b ∷ bs) h in
     ap (λ ps. first_part (b ∷ bs) ∷ ps) (parts_after-drop (part_len (b ∷ bs) - 1) bs
-        ∙ ap parts_of (sym (drop_one_less (part_len (b ∷ bs)) b bs l.0)))
+    ∙ ap parts_of (sym (drop_one_less (part_len (b ∷ bs)) b bs l.0)))
 
 -- where there are no octets there are no parts
 pub parts_nil : parts_of [] ≡ []
@@ -181,7 +181,7 @@ bad_only x p b = go (whole_or x)
         let s = f.some in
         let in_x = f.within in
         let most = g.1 (take (fitting x) x) (drop (fitting x) x, sym (take-append-drop (fitting x) x))
-            (fitting_beginning x some k.1 z) in
+        (fitting_beginning x some k.1 z) in
         omega (arith, length-take (fitting x) x)
     long (inr z) (inr g) =
         absurd (g.1 (take (fitting x) x) (drop (fitting x) x, sym (take-append-drop (fitting x) x))
@@ -249,7 +249,7 @@ splits_within (suc k) (b ∷ bs) h =
         (subst (λ ps. Splits (take (part_len (b ∷ bs)) (b ∷ bs) ++ drop (part_len (b ∷ bs)) (b ∷ bs)) ps)
         (sym (step ∙ ap (λ f. f ∷ parts_of (drop (part_len (b ∷ bs)) (b ∷ bs))) (first_bad (b ∷ bs) w)))
         (bad_part (subst (λ y. IsBadPart y (take (part_len (b ∷ bs)) (b ∷ bs))) (sym cut)
-            (bad_of (b ∷ bs) (omega arith) w)) s))
+        (bad_of (b ∷ bs) (omega arith) w)) s))
 
 -- octets split into the parts that are read from them
 pub splits : (x : List ℕ) → Splits x (parts_of x)

@@ -42,7 +42,7 @@ behind_more x from place old now len b front =
       at = subst (λ k. IsAt (drop from x) k old (now + 1))
           (let e : place - from + len ≡ place + len - from = omega arith in e)
           (at_more (drop from x) (place - from) old now len b.at
-              (subst (λ y. StandsInFront y (Encoding len)) (sym (drop_further x from place past)) front));
+          (subst (λ y. StandsInFront y (Encoding len)) (sym (drop_further x from place past)) front));
     }
 
 -- a search that comes to the end has passed well-formed octets, with at most one turn for each character
@@ -57,13 +57,15 @@ pub behind_fault : (x : List ℕ) (from place old now : ℕ) (size : Option ℕ)
     → IsFaultAt (drop from x) old (now + 1) (fault_from from (record { place = place; size = size }))
 behind_fault x from place old now size b front =
     fault_at (drop from x) (place - from) old now size b.at
-        (subst (λ y. StandsInFront y (Bad size)) (sym (drop_further x from place b.past)) front)
+    (subst (λ y. StandsInFront y (Bad size)) (sym (drop_further x from place b.past)) front)
 
 -- octets that are all below 80 are characters, one each
 pub low_well_formed : (y : List ℕ) → All (λ o. o < 0x80) y → IsWellFormed y × (length (chars y) ≡ length y)
-low_well_formed y low =
-    ((map (λ o. number_of (o ∷ [])) y, spells_low y low), ap length (chars_of (spells_low y low))
-    ∙ length-map y (λ o. number_of (o ∷ [])))
+low_well_formed y low = (
+  (map (λ o. number_of (o ∷ [])) y, spells_low y low),
+  ap length (chars_of (spells_low y low))
+      ∙ length-map y (λ o. number_of (o ∷ [])),
+)
 
 -- what is found from a place on, in the whole
 pub found_behind : (x : List ℕ) (place old mid now : ℕ) (fault : Fault) → IsAt x place old mid → place ≤ fault.place
@@ -74,7 +76,7 @@ pub found_behind : (x : List ℕ) (place old mid now : ℕ) (fault : Fault) → 
 found_behind x place old mid now fault at past f turns passed =
     let same : place + (fault.place - place) ≡ fault.place = omega arith in
     subst (λ k. IsFaultAt x old now (record { place = k; size = fault.size })) same
-        (fault_behind x place old mid now (fault_from place fault) at f turns passed)
+    (fault_behind x place old mid now (fault_from place fault) at f turns passed)
 
 -- and what the whole search owes then
 

@@ -38,7 +38,7 @@ width octets = width_of (slice_index octets 0)
 abbrev pub fitting : List ℕ → ℕ
 fitting octets = let first = slice_index octets 0 in
     fitting_by (width_of first) (length octets)
-        (is_in_range (least_second first) (greatest_second first) (slice_index octets 1))
+    (is_in_range (least_second first) (greatest_second first) (slice_index octets 1))
     (is_in_range 0x80 0xBF (slice_index octets 2)) (is_in_range 0x80 0xBF (slice_index octets 3))
 
 -- how many octets the first part has

@@ -19,7 +19,7 @@ returns-in_err-append_slice-clause-short g c = λ short.
     let len = length_be 2 0 in
     let opened = ap length c.in_ok-append_u16_be.ensures.appended.ok in
     past_more g.B.AsOctets.limit _ _ (omega (arith, length-append {A = ℕ}))
-        (c.in_err-append_slice.ensures.appended.short.0 (search rules))
+    (c.in_err-append_slice.ensures.appended.short.0 (search rules))
 
 pub returns-in_err-append_slice-2-clause-short : goal.returns-in_err-append_slice-2-clause-short
 returns-in_err-append_slice-2-clause-short g c = λ short.
@@ -29,7 +29,7 @@ returns-in_err-append_slice-2-clause-short g c = λ short.
     let opened = ap length c.in_ok-append_u16_be.ensures.appended.ok in
     let named = ap length c.in_ok-append_slice.ensures.appended.ok in
     past_more g.B.AsOctets.limit _ _ (omega (arith, length-append {A = ℕ}))
-        (c.in_err-append_slice-2.ensures.appended.short.0 (search rules))
+    (c.in_err-append_slice-2.ensures.appended.short.0 (search rules))
 
 pub returns-clause-past : goal.returns-clause-past
 returns-clause-past g c = λ past.
@@ -39,4 +39,4 @@ returns-clause-past g c = λ past.
     let opened = ap length c.in_ok-append_u16_be.ensures.appended.ok in
     let named = ap length c.in_ok-append_slice.ensures.appended.ok in
     absurd (c.in_ok-append_slice-2.ensures.appended.short.1
-        (past_more g.B.AsOctets.limit _ _ (omega (arith, length-append {A = ℕ})) past))
+    (past_more g.B.AsOctets.limit _ _ (omega (arith, length-append {A = ℕ})) past))

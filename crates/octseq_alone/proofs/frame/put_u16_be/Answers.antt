@@ -16,6 +16,12 @@ returns-clause-content g c =
     ∙ ap (λ more. take at old ++ (put ++ more)) (drop-drop (at + 2 - at) at old ∙ ap (λ n. drop n old) behind)
     ∙ ap (λ put. take at old ++ (put ++ drop (at + 2) old)) same in
     let long : length (take at old ++ (octets ++ drop (at + 2) old)) ≡ length old =
-    omega (arith, length-append (take at old) (octets ++ drop (at + 2) old), length-append octets (drop (at + 2) old),
-        length_be 2 c.args.value, length-take {A = ℕ}, length-drop {A = ℕ}) in
+    omega (
+      arith,
+      length-append (take at old) (octets ++ drop (at + 2) old),
+      length-append octets (drop (at + 2) old),
+      length_be 2 c.args.value,
+      length-take {A = ℕ},
+      length-drop {A = ℕ},
+    ) in
     g.met.B.AsOctetsMut.written c.args.octets.now _ (ap length all ∙ long) ∙ all

@@ -18,7 +18,7 @@ returns-then-branch-ne-MARK-clause-malformed g c = (
       let octet = c.in_ok-parse_u8.field-0 in
       let read = took (octets_be 1 octet) c.in_ok-parse_u8.ensures.taken c.in_ok-parse_u8.ensures.octets in
       c.if-branch-ne-MARK.true (integer_code 1 octet 0x4E (rest (window c.parse_u8.new.self)) has.0 (omega arith)
-          (omega arith) (sym read ∙ has.1)).0,
+      (omega arith) (sym read ∙ has.1)).0,
   λ _. tt,
 )
 

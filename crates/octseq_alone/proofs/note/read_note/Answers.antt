@@ -18,10 +18,10 @@ returns-clause-taken g c =
     let t = window c.parse_octets.new.self in
     let given = c.in_ok-octets.ensures in
     let words = part_front numbered (rest u) (rest t) octets 1 len
-        (took (octets_be 1 len) c.in_ok-len.ensures.taken c.in_ok-len.ensures.octets)
+    (took (octets_be 1 len) c.in_ok-len.ensures.taken c.in_ok-len.ensures.octets)
     (taken u t c.from.result octets given.short.1 given.ok given.value) (given.length ∙ c.from.ensures) in
     let both = pair_front marked numbered (rest t) (octets_be 2 number) (part_of 1 octets)
-        (took (octets_be 2 number) c.in_ok-number.ensures.taken c.in_ok-number.ensures.octets) words in
+    (took (octets_be 2 number) c.in_ok-number.ensures.taken c.in_ok-number.ensures.octets) words in
     pair_front (rest (window c.args.parser.now)) marked (rest t) mark (octets_be 2 number ++ part_of 1 octets)
-        c.in_ok-next_mark.ensures.ok both
+    c.in_ok-next_mark.ensures.ok both
     ∙ ap (λ text. note_of number (g.R.Range.AsOctets.content text) ++ rest t) (sym c.in_ok-words.ensures.ok)

@@ -1,8 +1,8 @@
 //! The first callers.
 use octseq::CowOctets;
 use octseq::error::ReadError;
-use octseq_uses::single_calls::{extended, field, kept, text_front};
 use octseq_uses::levels::read_levels;
+use octseq_uses::single_calls::{extended, field, kept, text_front};
 use std::test::Fail;
 
 #[test]

@@ -12,7 +12,7 @@ returns-in_err-text-clause-short g c = λ short line more parts takes split.
     let octets = c.peek_all-octets.result.now in
     let here = c.first_line-len.result in
     let same = one_line octets line here.0.now more (drop here.1 octets) (rw c.peek_all-octets.ensures.content takes)
-        c.first_line-len.ensures.line in
+    c.first_line-len.ensures.line in
     c.in_err-text.ensures.answer.short (search rules) parts (subst (λ octets. Splits octets parts) same.0 split)
 
 pub returns-clause-text : goal.returns-clause-text
@@ -24,14 +24,17 @@ returns-clause-text g c =
     let content : octets ≡ rest w = c.peek_all-octets.ensures.content in
     let fits : here.1 ≤ left w = omega (arith, c.first_line-len.ensures.within, c.peek_all-octets.ensures.length) in
     let behind : drop here.1 octets ≡ rest v =
-        ap (drop here.1) content ∙ rest_past w v here.1 fits (rw c.infallible.ensures at c.advance.ensures.ok) in
-    (here.0.now, subst (λ o. TakesLine o here.0.now (rest v)) content
-        (subst (TakesLine octets here.0.now) behind c.first_line-len.ensures.line), c.in_ok-text.ensures.answer.text)
+    ap (drop here.1) content ∙ rest_past w v here.1 fits (rw c.infallible.ensures at c.advance.ensures.ok) in (
+      here.0.now,
+      subst (λ o. TakesLine o here.0.now (rest v)) content
+          (subst (TakesLine octets here.0.now) behind c.first_line-len.ensures.line),
+      c.in_ok-text.ensures.answer.text,
+    )
 
 pub returns-clause-past : goal.returns-clause-past
 returns-clause-past g c = λ line more parts takes split too_long.
     let octets = c.peek_all-octets.result.now in
     let here = c.first_line-len.result in
     let same = one_line octets line here.0.now more (drop here.1 octets) (rw c.peek_all-octets.ensures.content takes)
-        c.first_line-len.ensures.line in
+    c.first_line-len.ensures.line in
     c.in_ok-text.ensures.answer.past parts (subst (λ octets. Splits octets parts) same.0 split) too_long

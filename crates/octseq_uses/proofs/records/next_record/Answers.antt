@@ -12,7 +12,7 @@ pub returns-in_err-key-clause-malformed : goal.returns-in_err-key-clause-malform
 returns-in_err-key-clause-malformed g c = λ _.
     let w = window c.args.parser.now in
     no_first (λ key. key < 65536) (octets_be 2) (λ value. length value < 256) (part_of 1) (rest w)
-        (no_integer w 2 (not_taken c.in_err-key.ensures.taken))
+    (no_integer w 2 (not_taken c.in_err-key.ensures.taken))
 
 pub returns-in_err-len-clause-malformed : goal.returns-in_err-len-clause-malformed
 returns-in_err-len-clause-malformed g c = λ _.
@@ -20,9 +20,9 @@ returns-in_err-len-clause-malformed g c = λ _.
     let w = window c.args.parser.now in
     let v = window c.parse_u16_be.new.self in
     no_second (λ key. key < 65536) (octets_be 2) (λ value. length value < 256) (part_of 1) (rest w) (rest v) key
-        (integer_code 2) (omega arith)
+    (integer_code 2) (omega arith)
     (took (octets_be 2 key) c.in_ok-key.ensures.taken c.in_ok-key.ensures.octets)
-        (no_part_length v 1 (not_taken c.in_err-len.ensures.taken))
+    (no_part_length v 1 (not_taken c.in_err-len.ensures.taken))
 
 pub returns-in_err-value-clause-malformed : goal.returns-in_err-value-clause-malformed
 returns-in_err-value-clause-malformed g c = λ malformed.
@@ -33,10 +33,10 @@ returns-in_err-value-clause-malformed g c = λ malformed.
     let u = window c.parse_u8.new.self in
     let few = c.in_err-value.ensures.short.0 (short_of (g.row.R-Range.Denot) c.in_err-value.field-0.0 (search rules)) in
     no_second (λ key. key < 65536) (octets_be 2) (λ value. length value < 256) (part_of 1) (rest w) (rest v) key
-        (integer_code 2) (omega arith)
+    (integer_code 2) (omega arith)
     (took (octets_be 2 key) c.in_ok-key.ensures.taken c.in_ok-key.ensures.octets)
     (no_part_value (rest v) u 1 len (omega arith)
-        (took (octets_be 1 len) c.in_ok-len.ensures.taken c.in_ok-len.ensures.octets) (omega arith))
+    (took (octets_be 1 len) c.in_ok-len.ensures.taken c.in_ok-len.ensures.octets) (omega arith))
 
 pub returns-clause-taken : goal.returns-clause-taken
 returns-clause-taken g c =
@@ -49,7 +49,7 @@ returns-clause-taken g c =
     let t = window c.parse_octets.new.self in
     let given = c.in_ok-value.ensures in
     pair_front (rest w) (rest v) (rest t) (octets_be 2 key) (part_of 1 value)
-        (took (octets_be 2 key) c.in_ok-key.ensures.taken c.in_ok-key.ensures.octets)
+    (took (octets_be 2 key) c.in_ok-key.ensures.taken c.in_ok-key.ensures.octets)
     (part_front (rest v) (rest u) (rest t) value 1 len
-        (took (octets_be 1 len) c.in_ok-len.ensures.taken c.in_ok-len.ensures.octets)
+    (took (octets_be 1 len) c.in_ok-len.ensures.taken c.in_ok-len.ensures.octets)
     (taken u t c.from.result value given.short.1 given.ok given.value) (given.length ∙ c.from.ensures))

@@ -13,5 +13,5 @@ returns-in-Some-clause-cut c = λ fault is.
     let here : c.valid_up_to.result ≡ length is.before = c.valid_up_to.ensures ∙ ap (λ f. f.place) same ∙ is.place in
     let place = is.place in
     let all : length c.args.octets.now ≡ length is.before + length (is.bad ++ is.after) =
-        ap length is.whole ∙ length-append is.before (is.bad ++ is.after) in
+    ap length is.whole ∙ length-append is.before (is.bad ++ is.after) in
     omega (arith, length-take {A = ℕ})

@@ -9,11 +9,11 @@ use Rattle.octseq_utf8.proofs.chunk.chunk_to.Goals as goal
 pub from_utf8_unchecked-requires : goal.from_utf8_unchecked-requires
 from_utf8_unchecked-requires c =
     utf8_from_well_formed _ (subst IsWellFormed (sym (c.before-valid.ensures ∙ front_is _ _ c.requires))
-        c.requires.good)
+    c.requires.good)
 
 pub returns : goal.returns
 returns c =
     chunk_at_fault _ _ c.requires _ _ _ _ (c.from_utf8_unchecked.ensures ∙ c.before-valid.ensures
-        ∙ front_is _ _ c.requires)
+    ∙ front_is _ _ c.requires)
     (c.bad_part.ensures ∙ bad_is _ _ c.requires) (behind_is _ _ c.requires)
-        (subst (λ size. IsTrue c.is_none.result ↔ (size ≡ None)) c.error_len.ensures (tests_none _ _ c.is_none.ensures))
+    (subst (λ size. IsTrue c.is_none.result ↔ (size ≡ None)) c.error_len.ensures (tests_none _ _ c.is_none.ensures))

@@ -7,27 +7,28 @@ use Rattle.octseq_utf8.proofs.finder.fault_by_parts.Goals as goal
 -- the octets left are few and all below 80
 
 pub returns-then-is_short_ascii-clause-none : goal.returns-then-is_short_ascii-clause-none
-returns-then-is_short_ascii-clause-none c =
-    (λ h. (low_well_formed (drop c.args.from c.args.octets.now) (c.is_short_ascii.ensures c.if-is_short_ascii.true)).0,
-        λ w. refl)
+returns-then-is_short_ascii-clause-none c = (
+  λ h. (low_well_formed (drop c.args.from c.args.octets.now) (c.is_short_ascii.ensures c.if-is_short_ascii.true)).0,
+  λ w. refl,
+)
 
 pub returns-then-is_short_ascii-clause-turns : goal.returns-then-is_short_ascii-clause-turns
 returns-then-is_short_ascii-clause-turns c =
     let passed = c.pass.ensures in
     let same = (low_well_formed (drop c.args.from c.args.octets.now)
-        (c.is_short_ascii.ensures c.if-is_short_ascii.true)).1 in
+    (c.is_short_ascii.ensures c.if-is_short_ascii.true)).1 in
     omega (arith, length-drop c.args.from c.args.octets.now)
 
 pub loop-at-preserved-then-octets-at-lt128 : goal.loop-at-preserved-then-octets-at-lt128
 loop-at-preserved-then-octets-at-lt128 c =
     rw c.tick.ensures
     (behind_more c.args.octets.now c.args.from c.loop-at.at c.args.turns.now c.loop-at.turns 1 c.loop-at.invariant
-        (octet_front c.args.octets.now c.loop-at.at (omega arith) (omega arith)))
+    (octet_front c.args.octets.now c.loop-at.at (omega arith) (omega arith)))
 
 pub loop-at-preserved : goal.loop-at-preserved
 loop-at-preserved c =
     rw c.tick.ensures (behind_more c.args.octets.now c.args.from c.loop-at.at c.args.turns.now c.loop-at.turns
-        c.in-Encoding.len c.loop-at.invariant c.in-Encoding.ensures)
+    c.in-Encoding.len c.loop-at.invariant c.in-Encoding.ensures)
 
 -- what is owed at the fault that is answered
 owed : (c : goal.After-new)
@@ -36,7 +37,7 @@ owed : (c : goal.After-new)
 owed c =
     rw (c.new.ensures, c.tick.ensures)
     (behind_fault c.args.octets.now c.args.from c.loop-at.at c.args.turns.now c.loop-at.turns c.in-Bad.size
-        c.loop-at.invariant c.in-Bad.ensures)
+    c.loop-at.invariant c.in-Bad.ensures)
 
 pub returns-in-Bad-clause-none : goal.returns-in-Bad-clause-none
 returns-in-Bad-clause-none c = (λ h. cc, λ w. absurd (fault_refutes (owed c).is_fault w))

@@ -43,7 +43,7 @@ loop-at-preserved-then-high-eq0-2 c =
       lanes = other_passed c.args.octets.now c.loop-at.at c.args.turns.now c.loop-at.turns 1 c.loop-at.invariant.lanes
           (octet_front c.args.octets.now c.loop-at.at (omega arith) low)
           (high_some c.args.octets.now c.loop-at.at c.high_lanes-high.result c.high_lanes-high.ensures.none
-              c.if-high-eq0.false);
+          c.if-high-eq0.false);
       mixed = mixed_low c.args.octets.now c.loop-at.at c.args.turns.now c.loop-at.turns c.loop-at.invariant.mixed
           (omega arith) low (λ all. c.if-high-eq0.false (c.high_lanes-high.ensures.none.1 all));
     })
@@ -54,13 +54,13 @@ pub loop-at-preserved-then-begins_three : goal.loop-at-preserved-then-begins_thr
 loop-at-preserved-then-begins_three c =
     let lanes = c.saturating_sub-lanes.ensures in
     let front = word_front c.args.octets.now _ c.loop-at.at 3 (omega arith) c.word_at-word.ensures (omega arith)
-        (c.begins_three.ensures c.if-begins_three.true) in
+    (c.begins_three.ensures c.if-begins_three.true) in
     rw c.tick.ensures
     (record {
       lanes = other_passed c.args.octets.now c.loop-at.at c.args.turns.now c.loop-at.turns 3 c.loop-at.invariant.lanes
           front
           (high_some c.args.octets.now c.loop-at.at c.high_lanes-high.result c.high_lanes-high.ensures.none
-              c.if-high-eq0.false);
+          c.if-high-eq0.false);
       mixed = mixed_high c.args.octets.now c.loop-at.at c.args.turns.now c.loop-at.turns 3 c.loop-at.invariant.mixed
           (omega arith)
           (first_high _ _ c.high_lanes-high.ensures.first c.if-high-eq0-2.false) front;
@@ -70,13 +70,13 @@ pub loop-at-preserved-then-begins_two : goal.loop-at-preserved-then-begins_two
 loop-at-preserved-then-begins_two c =
     let lanes = c.saturating_sub-lanes.ensures in
     let front = word_front c.args.octets.now _ c.loop-at.at 2 (omega arith) c.word_at-word.ensures (omega arith)
-        (c.begins_two.ensures c.if-begins_two.true) in
+    (c.begins_two.ensures c.if-begins_two.true) in
     rw c.tick.ensures
     (record {
       lanes = other_passed c.args.octets.now c.loop-at.at c.args.turns.now c.loop-at.turns 2 c.loop-at.invariant.lanes
           front
           (high_some c.args.octets.now c.loop-at.at c.high_lanes-high.result c.high_lanes-high.ensures.none
-              c.if-high-eq0.false);
+          c.if-high-eq0.false);
       mixed = mixed_high c.args.octets.now c.loop-at.at c.args.turns.now c.loop-at.turns 2 c.loop-at.invariant.mixed
           (omega arith)
           (first_high _ _ c.high_lanes-high.ensures.first c.if-high-eq0-2.false) front;
@@ -86,13 +86,13 @@ pub loop-at-preserved-then-is_four : goal.loop-at-preserved-then-is_four
 loop-at-preserved-then-is_four c =
     let lanes = c.saturating_sub-lanes.ensures in
     let front = word_front c.args.octets.now _ c.loop-at.at 4 (omega arith) c.word_at-word.ensures (omega arith)
-        (c.is_four.ensures c.if-is_four.true) in
+    (c.is_four.ensures c.if-is_four.true) in
     rw c.tick.ensures
     (record {
       lanes = other_passed c.args.octets.now c.loop-at.at c.args.turns.now c.loop-at.turns 4 c.loop-at.invariant.lanes
           front
           (high_some c.args.octets.now c.loop-at.at c.high_lanes-high.result c.high_lanes-high.ensures.none
-              c.if-high-eq0.false);
+          c.if-high-eq0.false);
       mixed = mixed_high c.args.octets.now c.loop-at.at c.args.turns.now c.loop-at.turns 4 c.loop-at.invariant.mixed
           (omega arith)
           (first_high _ _ c.high_lanes-high.ensures.first c.if-high-eq0-2.false) front;
@@ -107,7 +107,7 @@ loop-at-preserved c =
       lanes = other_passed c.args.octets.now c.loop-at.at c.args.turns.now c.loop-at.turns c.in-Encoding.len
           c.loop-at.invariant.lanes front
           (high_some c.args.octets.now c.loop-at.at c.high_lanes-high.result c.high_lanes-high.ensures.none
-              c.if-high-eq0.false);
+          c.if-high-eq0.false);
       mixed = mixed_high c.args.octets.now c.loop-at.at c.args.turns.now c.loop-at.turns c.in-Encoding.len
           c.loop-at.invariant.mixed (omega arith)
           (first_high _ _ c.high_lanes-high.ensures.first c.if-high-eq0-2.false) front;
@@ -124,7 +124,7 @@ owed : (c : goal.After-new) → IsFaultAt c.args.octets.now c.args.turns.now c.t
 owed c =
     rw (c.new.ensures, c.tick.ensures)
     (fault_at c.args.octets.now c.loop-at.at c.args.turns.now c.loop-at.turns c.in-Bad.size c.loop-at.invariant.lanes.at
-        (at_place c.args.octets.now c.loop-at.at (Bad c.in-Bad.size) c.in-Bad.ensures))
+    (at_place c.args.octets.now c.loop-at.at (Bad c.in-Bad.size) c.in-Bad.ensures))
 
 pub returns-in-Bad-clause-none : goal.returns-in-Bad-clause-none
 returns-in-Bad-clause-none c = (λ h. cc, λ w. absurd (fault_refutes (owed c).is_fault w))
@@ -141,8 +141,8 @@ behind : (c : goal.After-fault_by_parts)
 behind c =
     let tail = c.fault_by_parts.ensures in
     tail_fault c.args.octets.now c.loop-at.at c.args.turns.now c.loop-at.turns c.fault_by_parts.new.turns
-        c.fault_by_parts.result c.loop-at.invariant.lanes.at tail.place tail.fault tail.turns_to_fault
-        tail.passed_to_fault
+    c.fault_by_parts.result c.loop-at.invariant.lanes.at tail.place tail.fault tail.turns_to_fault
+    tail.passed_to_fault
 
 pub returns-clause-none : goal.returns-clause-none
 returns-clause-none c = tail_none c.args.octets.now c.loop-at.at c.args.turns.now c.loop-at.turns
@@ -158,13 +158,13 @@ returns-clause-turns_to_fault c = IfSome_then c.fault_by_parts.result (behind c)
 pub returns-clause-turns : goal.returns-clause-turns
 returns-clause-turns c =
     tail_turns c.args.octets.now c.loop-at.at c.args.turns.now c.loop-at.turns c.fault_by_parts.new.turns
-        c.fault_by_parts.result c.loop-at.invariant.lanes.at c.fault_by_parts.ensures.none
-        c.fault_by_parts.ensures.turns
+    c.fault_by_parts.result c.loop-at.invariant.lanes.at c.fault_by_parts.ensures.none
+    c.fault_by_parts.ensures.turns
 
 pub returns-clause-mixed : goal.returns-clause-mixed
 returns-clause-mixed c =
     let lanes = c.saturating_sub-lanes.ensures in
     let tail = c.fault_by_parts.ensures in
     tail_mixed c.args.octets.now c.loop-at.at c.args.turns.now c.loop-at.turns c.fault_by_parts.new.turns
-        c.fault_by_parts.result c.loop-at.invariant.mixed c.loop-at.invariant.lanes.at.within (omega arith) tail.none
-        tail.turns tail.fault tail.turns_to_fault
+    c.fault_by_parts.result c.loop-at.invariant.mixed c.loop-at.invariant.lanes.at.within (omega arith) tail.none
+    tail.turns tail.fault tail.turns_to_fault

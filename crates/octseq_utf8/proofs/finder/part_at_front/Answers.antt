@@ -15,17 +15,17 @@ pub returns-then-fitting-width : goal.returns-then-fitting-width
 returns-then-fitting-width c =
     subst (λ k. StandsInFront c.args.octets.now (Encoding k)) (sym c.width-width.ensures)
     (front_encoding c.args.octets.now c.requires (λ h. c.if-width-eq0.false (c.width-width.ensures ∙ h))
-        (sym c.fitting_len-fitting.ensures ∙ c.if-fitting-width.true ∙ c.width-width.ensures))
+    (sym c.fitting_len-fitting.ensures ∙ c.if-fitting-width.true ∙ c.width-width.ensures))
 
 pub returns-then-fitting-octets : goal.returns-then-fitting-octets
 returns-then-fitting-octets c =
     front_cut c.args.octets.now c.requires (λ h. c.if-width-eq0.false (c.width-width.ensures ∙ h))
     (λ h. c.if-fitting-width.false (c.fitting_len-fitting.ensures ∙ h ∙ sym c.width-width.ensures))
-        (sym c.fitting_len-fitting.ensures ∙ c.if-fitting-octets.true)
+    (sym c.fitting_len-fitting.ensures ∙ c.if-fitting-octets.true)
 
 pub returns-else-fitting-octets : goal.returns-else-fitting-octets
 returns-else-fitting-octets c =
     subst (λ k. IsBadFront c.args.octets.now (Some k) k) (sym c.fitting_len-fitting.ensures)
     (front_other c.args.octets.now c.requires (λ h. c.if-width-eq0.false (c.width-width.ensures ∙ h))
     (λ h. c.if-fitting-width.false (c.fitting_len-fitting.ensures ∙ h ∙ sym c.width-width.ensures))
-        (λ h. c.if-fitting-octets.false (c.fitting_len-fitting.ensures ∙ h)))
+    (λ h. c.if-fitting-octets.false (c.fitting_len-fitting.ensures ∙ h)))

@@ -13,7 +13,7 @@ loop-command-preserved g c =
     let len : vec_len c.push-in-loop-command.new.self ≡ vec_len c.loop-command.replies + 1 =
     rw c.unwrap-in-loop-command.ensures at c.push-in-loop-command.ensures.len in
     let so_far : map show c.push-in-loop-command.new.self.items ≡ map show c.loop-command.replies.items
-        ++ show c.step.result ∷ [] =
+    ++ show c.step.result ∷ [] =
     ap (map show) items ∙ map-append show _ _ in
     record {
       runs = rw so_far (runs_more _ _ _ _ _ _ _ _ _ c.loop-command-test.true before.runs c.step.ensures.step);

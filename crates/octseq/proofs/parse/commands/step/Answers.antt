@@ -10,19 +10,19 @@ use Rattle.octseq.proofs.parse.commands.step.Goals as goal
 pub returns-in-Some-clause-step : goal.returns-in-Some-clause-step
 returns-in-Some-clause-step g c =
     let items : c.push.new.self.items ≡ slice_set c.args.parsers.now.items c.args.command.parser c.carry_out.new.parser
-        ++ c.in-Some.parser ∷ [] =
+    ++ c.in-Some.parser ∷ [] =
     rw c.unwrap.ensures at c.push.ensures.items in
     step_of (window {R = g.row.R.Denot} {g = g.R.AsOctets}) _ _ c.len-count.result c.args.parsers.now.items _
-        (option_to_list c.in-Ok.field-0.made)
+    (option_to_list c.in-Ok.field-0.made)
     c.index_mut.result.now c.carry_out.new.parser _ (search rules) (omega arith) c.index_mut.ensures.value
-        (inl (sym c.in-Ok.ensures.ok)) (rw c.in-Some.is items)
+    (inl (sym c.in-Ok.ensures.ok)) (rw c.in-Some.is items)
 
 pub returns-in_default-clause-step : goal.returns-in_default-clause-step
 returns-in_default-clause-step g c =
     step_of (window {R = g.row.R.Denot} {g = g.R.AsOctets}) _ _ c.len-count.result c.args.parsers.now.items _
-        (option_to_list c.in-Ok.field-0.made)
+    (option_to_list c.in-Ok.field-0.made)
     c.index_mut.result.now c.carry_out.new.parser _ (search rules) (omega arith) c.index_mut.ensures.value
-        (inl (sym c.in-Ok.ensures.ok)) (rw c.in_default.is (sym (append-nil _)))
+    (inl (sym c.in-Ok.ensures.ok)) (rw c.in_default.is (sym (append-nil _)))
 
 pub returns-in-Err-Short-clause-step : goal.returns-in-Err-Short-clause-step
 returns-in-Err-Short-clause-step g c =

@@ -10,7 +10,7 @@ pub encode_name-encoded-requires-clause-good : goal.encode_name-encoded-requires
 encode_name-encoded-requires-clause-good g c =
     subst (λ octets. ∥ AreGood octets c.as_slice.result.now ∥₁) (sym c.as_ref.ensures.value)
     (subst (λ places. ∥ AreGood (g.B.AsOctets.content c.args.octets.now) places ∥₁) (sym c.as_slice.ensures.held)
-        c.requires.good)
+    c.requires.good)
 
 pub returns-in_err-append_made-clause-short : goal.returns-in_err-append_made-clause-short
 returns-in_err-append_made-clause-short g c = λ short.
@@ -22,7 +22,7 @@ returns-in_err-append_made-clause-short g c = λ short.
     let made : c.as_slice-3.result.now ≡ c.args.before.now ++ encoded.result.octets.content = search rules in
     let start : length old + 10 + length c.args.before.now ≡ length old + 10 + length c.args.before.now = refl in
     let placed = placed_at _ old _ held labels encoded.result.octets.content encoded.result.written
-        encoded.result.pointers _ _ c.as_ref.ensures.value c.as_slice.ensures.held start encoded.ensures.encoded in
+    encoded.result.pointers _ _ c.as_ref.ensures.value c.as_slice.ensures.held start encoded.ensures.encoded in
     data_passes (message_limit g.B.AsOctets.limit) old (IsNamed old held (length old + 10) c.args.before.now labels) _ _
     (named old held (length old + 10) labels c.args.before.now encoded.result.octets.content _ _ placed made)
     (c.in_err-append_made.ensures.short (search rules))
@@ -36,9 +36,9 @@ returns-clause-ok g c =
     let count = c.len.ensures.content in
     let made : c.as_slice-3.result.now ≡ c.args.before.now ++ encoded.result.octets.content = search rules in
     let start : c.len.result + 10 + length c.args.before.now ≡ length old + 10 + length c.args.before.now =
-        omega (arith, count) in
+    omega (arith, count) in
     let placed = placed_at _ old _ held labels encoded.result.octets.content encoded.result.written
-        encoded.result.pointers _ _ c.as_ref.ensures.value c.as_slice.ensures.held start encoded.ensures.encoded in
+    encoded.result.pointers _ _ c.as_ref.ensures.value c.as_slice.ensures.held start encoded.ensures.encoded in
     data_ends g.T.Places.most old held c.args.fields.rtype c.args.fields.class c.args.fields.ttl
     (IsNamed old held (length old + 10) c.args.before.now labels) _ _ _ _
     (named old held (length old + 10) labels c.args.before.now encoded.result.octets.content _ _ placed made)

@@ -13,12 +13,12 @@ returns-clause-ok g c =
     let srv = c.args.srv.now in
     let plain = plain_name c.as_ref.result.now (labels_of srv.target) _ _ _ c.encode_name-target.ensures.encoded in
     let made : c.as_slice-2.result.now ≡ octets_be 2 srv.priority
-        ++ (octets_be 2 srv.weight ++ (octets_be 2 srv.port ++ wire (labels_of srv.target))) =
+    ++ (octets_be 2 srv.weight ++ (octets_be 2 srv.port ++ wire (labels_of srv.target))) =
     c.as_slice-2.ensures.content ∙ c.srv_octets-made.ensures.octets
     ∙ ap (λ target. octets_be 2 srv.priority ++ (octets_be 2 srv.weight ++ (octets_be 2 srv.port ++ target)))
-        (c.as_slice.ensures.content ∙ plain) in
+    (c.as_slice.ensures.content ∙ plain) in
     subst (λ made. OnOk c.append_made.result (g.B.AsOctets.content c.append_made.new.octets
-        ≡ g.B.AsOctets.content c.args.octets.now
+    ≡ g.B.AsOctets.content c.args.octets.now
     ++ behind_owner c.args.fields.rtype c.args.fields.class c.args.fields.ttl made)) made c.append_made.ensures.ok
 
 pub returns-clause-short : goal.returns-clause-short
@@ -26,10 +26,10 @@ returns-clause-short g c = λ short.
     let srv = c.args.srv.now in
     let plain = plain_name c.as_ref.result.now (labels_of srv.target) _ _ _ c.encode_name-target.ensures.encoded in
     let made : c.as_slice-2.result.now ≡ octets_be 2 srv.priority
-        ++ (octets_be 2 srv.weight ++ (octets_be 2 srv.port ++ wire (labels_of srv.target))) =
+    ++ (octets_be 2 srv.weight ++ (octets_be 2 srv.port ++ wire (labels_of srv.target))) =
     c.as_slice-2.ensures.content ∙ c.srv_octets-made.ensures.octets
     ∙ ap (λ target. octets_be 2 srv.priority ++ (octets_be 2 srv.weight ++ (octets_be 2 srv.port ++ target)))
-        (c.as_slice.ensures.content ∙ plain) in
+    (c.as_slice.ensures.content ∙ plain) in
     subst (λ made. IsPast (message_limit g.B.AsOctets.limit)
-        (length (g.B.AsOctets.content c.args.octets.now) + (10 + length made))) made
+    (length (g.B.AsOctets.content c.args.octets.now) + (10 + length made))) made
     (c.append_made.ensures.short short)

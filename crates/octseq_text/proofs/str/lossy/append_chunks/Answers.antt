@@ -19,10 +19,10 @@ returns-in_err-append_chunk-clause-short g c =
     let empty = ap (λ a. content ++ a.content) c.new-staged.ensures ∙ append-nil content in
     rw (p.1, p.2)
     (λ h. chunk_short g.B.AsOctets.limit c.args.replacement content c.args.first.valid c.args.first.invalid
-        c.as_bytes-mark.result.now
+    c.as_bytes-mark.result.now
     (text_with c.args.replacement (parts_of c.args.rest)) mark
     (subst (λ y. IsPast g.B.AsOctets.limit
-        (length (y ++ (c.args.first.valid ++ mark_of c.as_bytes-mark.result.now c.args.first.invalid)))) empty
+    (length (y ++ (c.args.first.valid ++ mark_of c.as_bytes-mark.result.now c.args.first.invalid)))) empty
     (c.in_err-append_chunk.ensures.short h)))
 
 pub loop-chunk-init : goal.loop-chunk-init
@@ -34,7 +34,7 @@ loop-chunk-init g c =
     let later = text_with w (parts_of c.args.rest) in
     let made = g.B.AsOctets.content c.append_chunk.new.builder ++ c.append_chunk.new.staged.content in
     let first = c.in_ok-append_chunk.ensures.text
-        ∙ ap (λ y. y ++ (c.args.first.valid ++ mark_of c.as_bytes-mark.result.now c.args.first.invalid)) empty in
+    ∙ ap (λ y. y ++ (c.args.first.valid ++ mark_of c.as_bytes-mark.result.now c.args.first.invalid)) empty in
     let one = added w content made c.args.first.valid c.args.first.invalid c.as_bytes-mark.result.now first mark in
     record {
       text = ap (λ y. y ++ later) one ∙ append_assoc content (chunk_text w c.args.first) later;
@@ -53,7 +53,7 @@ loop-chunk-preserved g c =
     let before = g.B.AsOctets.content c.loop-chunk.builder ++ c.loop-chunk.staged.content in
     let made = g.B.AsOctets.content c.append_chunk-in-Some.new.builder ++ c.append_chunk-in-Some.new.staged.content in
     let one = added w before made c.in-Some.chunk.valid c.in-Some.chunk.invalid c.as_bytes-mark.result.now
-        c.in_ok-append_chunk-2.ensures.text mark in
+    c.in_ok-append_chunk-2.ensures.text mark in
     let counted = c.in-Some.ensures.turns _ _ (splits _) (splits _) in
     let turns-before = i.turns in
     let passed = i.passed in
@@ -83,11 +83,11 @@ returns-in_err-append_chunk-2-clause-short g c =
     let mark = c.as_bytes-mark.ensures.value ∙ c.encode_utf8.ensures.value ∙ encode-is c.args.replacement in
     rw (p.1, p.2)
     (λ h. grown_short g.B.AsOctets.limit c.args.replacement c.loop-chunk.rest (g.B.AsOctets.content c.loop-chunk.builder
-        ++ c.loop-chunk.staged.content)
+    ++ c.loop-chunk.staged.content)
     (g.B.AsOctets.content c.args.builder.now
-        ++ (chunk_text c.args.replacement c.args.first ++ text_with c.args.replacement (parts_of c.args.rest)))
-        c.in-Some.chunk c.next_counted.new.self c.as_bytes-mark.result.now c.loop-chunk.invariant.text
-        c.in-Some.ensures.gives mark
+    ++ (chunk_text c.args.replacement c.args.first ++ text_with c.args.replacement (parts_of c.args.rest)))
+    c.in-Some.chunk c.next_counted.new.self c.as_bytes-mark.result.now c.loop-chunk.invariant.text
+    c.in-Some.ensures.gives mark
     (c.in_err-append_chunk-2.ensures.short h))
 
 pub returns-in_err-append_chunk-2-clause-turns : goal.returns-in_err-append_chunk-2-clause-turns
@@ -99,7 +99,7 @@ returns-in_err-append_chunk-2-clause-turns g c =
 pub returns-clause-text : goal.returns-clause-text
 returns-clause-text g c =
     let made = all_made c.args.replacement _ _ c.loop-chunk.rest c.loop-chunk.invariant.text
-        c.in_default.ensures.gives.0 in
+    c.in_default.ensures.gives.0 in
     rw (← made) c.append_stage.ensures.text
 
 pub returns-clause-turns : goal.returns-clause-turns

@@ -8,7 +8,7 @@ abbrev pub invariant-loop-chunk : goal.invariant-loop-chunk
 invariant-loop-chunk g l = record {
   text : (g.B.AsOctets.content l.builder ++ l.staged.content) ++ text_with l.fn.replacement (parts_of l.rest)
       ≡ g.B.AsOctets.content l.fn.builder
-          ++ (chunk_text l.fn.replacement l.fn.first ++ text_with l.fn.replacement (parts_of l.fn.rest));
+      ++ (chunk_text l.fn.replacement l.fn.first ++ text_with l.fn.replacement (parts_of l.fn.rest));
   front : IsFront (g.B.AsOctets.content l.fn.builder) (g.B.AsOctets.content l.builder);
   borrows : g.B.AsOctets.borrows l.builder ≡ g.B.AsOctets.borrows l.fn.builder;
   turns : l.turns + length (parts_of l.rest) ≤ l.fn.turns + length (parts_of l.fn.rest);

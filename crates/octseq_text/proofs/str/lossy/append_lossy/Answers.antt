@@ -13,13 +13,13 @@ returns-in-None-clause-text g c =
 pub returns-clause-text : goal.returns-clause-text
 returns-clause-text g c =
     let whole = text_at_chunk c.args.replacement _ _ _
-        (subst (λ y. IsFirstChunk y c.in-Some.first c.next_counted.new.self) c.chunks-chunks.ensures
-        c.in-Some.ensures.gives) in
+    (subst (λ y. IsFirstChunk y c.in-Some.first c.next_counted.new.self) c.chunks-chunks.ensures
+    c.in-Some.ensures.gives) in
     rw whole c.append_chunks.ensures.text
 
 pub returns-clause-short : goal.returns-clause-short
 returns-clause-short g c =
     let whole = text_at_chunk c.args.replacement _ _ _
-        (subst (λ y. IsFirstChunk y c.in-Some.first c.next_counted.new.self) c.chunks-chunks.ensures
-        c.in-Some.ensures.gives) in
+    (subst (λ y. IsFirstChunk y c.in-Some.first c.next_counted.new.self) c.chunks-chunks.ensures
+    c.in-Some.ensures.gives) in
     rw whole c.append_chunks.ensures.short

@@ -29,7 +29,7 @@ returns-in-None-clause-past g c =
     let nothing = sym whole ∙ c.in-None.ensures.gives.0 in
     let same = nothing ∙ nothing_added c.args.replacement [] x nothing in
     λ p. absurd (within_not_past g.B.AsOctets.limit (length x) c.as_ref-content.ensures.within
-        (subst (λ y. IsPast g.B.AsOctets.limit (length y)) (sym same) p))
+    (subst (λ y. IsPast g.B.AsOctets.limit (length y)) (sym same) p))
 
 pub returns-in-None-clause-turns : goal.returns-in-None-clause-turns
 returns-in-None-clause-turns g c =
@@ -115,7 +115,7 @@ returns-in_err-append_chunks-in-Some-clause-short g c =
     let x = g.B.AsOctets.content c.args.octets in
     let chunk = subst (λ y. IsFirstChunk y c.in-Some.first c.next_counted.new.self) whole c.in-Some.ensures.gives in
     let later = chunk_text c.args.replacement c.in-Some.first
-        ++ text_with c.args.replacement (parts_of c.next_counted.new.self) in
+    ++ text_with c.args.replacement (parts_of c.next_counted.new.self) in
     let text : g.B.AsOctets.content c.in_ok-made-in-Some.made ++ later ≡ text_with c.args.replacement (parts_of x) =
     ap (λ y. y ++ later) c.in_ok-made-in-Some.ensures.ok ∙ sym (text_at_chunk c.args.replacement x _ _ chunk) in
     rw (p.1, p.2, ← text) c.in_err-append_chunks-in-Some.ensures.short
@@ -148,11 +148,11 @@ from_utf8_unchecked-requires-in-Some g c =
     let x = g.B.AsOctets.content c.args.octets in
     let chunk = subst (λ y. IsFirstChunk y c.in-Some.first c.next_counted.new.self) whole c.in-Some.ensures.gives in
     let later = chunk_text c.args.replacement c.in-Some.first
-        ++ text_with c.args.replacement (parts_of c.next_counted.new.self) in
+    ++ text_with c.args.replacement (parts_of c.next_counted.new.self) in
     let text : g.B.AsOctets.content c.in_ok-made-in-Some.made ++ later ≡ text_with c.args.replacement (parts_of x) =
     ap (λ y. y ++ later) c.in_ok-made-in-Some.ensures.ok ∙ sym (text_at_chunk c.args.replacement x _ _ chunk) in
     subst IsWellFormed (sym (c.in_ok-append_chunks-in-Some.ensures.text ∙ text))
-        (text_well_formed c.args.replacement (from_scalar c.args.replacement c.ranges.replacement.0) (splits x))
+    (text_well_formed c.args.replacement (from_scalar c.args.replacement c.ranges.replacement.0) (splits x))
 
 pub returns-in_ok-append_chunks-in-Some-clause-text : goal.returns-in_ok-append_chunks-in-Some-clause-text
 returns-in_ok-append_chunks-in-Some-clause-text g c =
@@ -160,7 +160,7 @@ returns-in_ok-append_chunks-in-Some-clause-text g c =
     let x = g.B.AsOctets.content c.args.octets in
     let chunk = subst (λ y. IsFirstChunk y c.in-Some.first c.next_counted.new.self) whole c.in-Some.ensures.gives in
     let later = chunk_text c.args.replacement c.in-Some.first
-        ++ text_with c.args.replacement (parts_of c.next_counted.new.self) in
+    ++ text_with c.args.replacement (parts_of c.next_counted.new.self) in
     let text : g.B.AsOctets.content c.in_ok-made-in-Some.made ++ later ≡ text_with c.args.replacement (parts_of x) =
     ap (λ y. y ++ later) c.in_ok-made-in-Some.ensures.ok ∙ sym (text_at_chunk c.args.replacement x _ _ chunk) in
     rw c.from_utf8_unchecked-in-Some.ensures (c.in_ok-append_chunks-in-Some.ensures.text ∙ text)
@@ -180,7 +180,7 @@ returns-in_ok-append_chunks-in-Some-clause-past g c =
     let x = g.B.AsOctets.content c.args.octets in
     let chunk = subst (λ y. IsFirstChunk y c.in-Some.first c.next_counted.new.self) whole c.in-Some.ensures.gives in
     let later = chunk_text c.args.replacement c.in-Some.first
-        ++ text_with c.args.replacement (parts_of c.next_counted.new.self) in
+    ++ text_with c.args.replacement (parts_of c.next_counted.new.self) in
     let text : g.B.AsOctets.content c.in_ok-made-in-Some.made ++ later ≡ text_with c.args.replacement (parts_of x) =
     ap (λ y. y ++ later) c.in_ok-made-in-Some.ensures.ok ∙ sym (text_at_chunk c.args.replacement x _ _ chunk) in
     λ p. absurd (within_not_past g.B.AsOctets.limit _ c.in_ok-append_chunks-in-Some.ensures.within

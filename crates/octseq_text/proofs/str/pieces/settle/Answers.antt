@@ -16,15 +16,19 @@ returns-in_err-append_slice-clause-short g c =
     let p = err_from_is_err_and c.from_residual.result c.from_residual.ensures.1 in
     rw (p.1, p.2)
     (λ h. too_long g.B.AsOctets.limit c.in-Some.chunk.valid c.as_bytes.result.now bytes c.loop-chunk.invariant.read
-        (read_valid _ _ _ gives a) (c.in_err-append_slice.ensures.appended.short.0 h))
+    (read_valid _ _ _ gives a) (c.in_err-append_slice.ensures.appended.short.0 h))
 
 -- the octets end within a character
 
 pub open_end-requires : goal.open_end-requires
 open_end-requires g c =
     let cut = sym c.is_incomplete.ensures ∙ c.if-is_incomplete.true in
-    omega (arith, ap length c.invalid.ensures, beginning_few c.in-Some.chunk.invalid
-        (c.in-Some.ensures.gives.cut.0 cut).0)
+    omega (
+      arith,
+      ap length c.invalid.ensures,
+      beginning_few c.in-Some.chunk.invalid
+          (c.in-Some.ensures.gives.cut.0 cut).0,
+    )
 
 pub returns-then-is_incomplete-clause-read : goal.returns-then-is_incomplete-clause-read
 returns-then-is_incomplete-clause-read g c =
@@ -35,7 +39,7 @@ returns-then-is_incomplete-clause-read g c =
     let cut = sym c.is_incomplete.ensures ∙ c.if-is_incomplete.true in
     rw (c.open_end.ensures, c.invalid.ensures)
     (read_more a made c.as_bytes.result.now c.in-Some.chunk.valid c.loop-chunk.invariant.read
-        c.in_ok-append_slice.ensures.appended.ok bytes (read_to_end _ _ _ gives cut a))
+    c.in_ok-append_slice.ensures.appended.ok bytes (read_to_end _ _ _ gives cut a))
 
 -- a bad part stands behind the text
 
@@ -46,15 +50,15 @@ returns-in_err-append_replacement-clause-short g c =
     let bytes = c.as_bytes.ensures.value ∙ c.valid.ensures in
     let made = g.B.AsOctets.content c.append_slice.new.self in
     let uncut = not_so c.in-Some.chunk.incomplete c.is_incomplete.result c.is_incomplete.ensures
-        c.if-is_incomplete.false in
+    c.if-is_incomplete.false in
     let some : 1 ≤ length c.in-Some.chunk.invalid = search rules in
     let valid = read_more a made c.as_bytes.result.now c.in-Some.chunk.valid c.loop-chunk.invariant.read
-        c.in_ok-append_slice.ensures.appended.ok bytes (read_valid _ _ _ gives a) in
+    c.in_ok-append_slice.ensures.appended.ok bytes (read_valid _ _ _ gives a) in
     let p = err_from_is_err_and c.from_residual-in_err-append_replacement.result
-        c.from_residual-in_err-append_replacement.ensures.1 in
+    c.from_residual-in_err-append_replacement.ensures.1 in
     rw (p.1, p.2)
     (λ h. too_long g.B.AsOctets.limit (encoding_of 0xFFFD) (encoding_of 0xFFFD) refl valid
-        (read_invalid _ _ _ gives uncut some made) (c.in_err-append_replacement.ensures.short.0 h))
+    (read_invalid _ _ _ gives uncut some made) (c.in_err-append_replacement.ensures.short.0 h))
 
 pub loop-chunk-preserved-in-Continue-branch-2 : goal.loop-chunk-preserved-in-Continue-branch-2
 loop-chunk-preserved-in-Continue-branch-2 g c =
@@ -63,10 +67,10 @@ loop-chunk-preserved-in-Continue-branch-2 g c =
     let bytes = c.as_bytes.ensures.value ∙ c.valid.ensures in
     let made = g.B.AsOctets.content c.append_slice.new.self in
     let uncut = not_so c.in-Some.chunk.incomplete c.is_incomplete.result c.is_incomplete.ensures
-        c.if-is_incomplete.false in
+    c.if-is_incomplete.false in
     let some : 1 ≤ length c.in-Some.chunk.invalid = search rules in
     let valid = read_more a made c.as_bytes.result.now c.in-Some.chunk.valid c.loop-chunk.invariant.read
-        c.in_ok-append_slice.ensures.appended.ok bytes (read_valid _ _ _ gives a) in
+    c.in_ok-append_slice.ensures.appended.ok bytes (read_valid _ _ _ gives a) in
     let counted = c.in-Some.ensures.turns _ _ (splits _) (splits _) in
     let before = c.loop-chunk.invariant.turns in
     let passed = c.loop-chunk.invariant.passed in

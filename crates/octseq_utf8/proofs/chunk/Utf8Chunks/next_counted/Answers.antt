@@ -16,7 +16,7 @@ returns-in-None-clause-turns c =
     rw (← c.self.view_is)
     (λ parts rest s t.
     let none : length rest ≡ 0 =
-        ap length (only_parts t) ∙ none_left _ (omega (arith, length-take (length x - length x) (drop (length x) x))) in
+    ap length (only_parts t) ∙ none_left _ (omega (arith, length-take (length x - length x) (drop (length x) x))) in
     let all = ap length (only_parts s) in
     omega (arith, parts_well_formed x (c.in-None.ensures.none.0 refl)))
 

@@ -6,4 +6,4 @@ use Rattle.octseq_text.proofs.octets.conversions.ArrayOctetsFrom.try_octets_from
 pub returns-clause-padded : goal.returns-clause-padded
 returns-clause-padded g c =
     is_padded g.row.N c.append_slice.new.self (g.Source.AsOctets.content c.args.source) (grind (arith, common_steps))
-        (grind (arith, common_steps))
+    (grind (arith, common_steps))

@@ -14,17 +14,17 @@ returns-in_err-last-clause-step g c =
 pub shorten-requires : goal.shorten-requires
 shorten-requires g c =
     rw (c.in_ok-last.ensures.width, c.self.view_is, ← c.as_slice.ensures.content)
-        (encoding_short _ _ c.in_ok-last.ensures.some)
+    (encoding_short _ _ c.in_ok-last.ensures.some)
 
 -- what is left of the text
 left : (g : given.Over) (c : goal.After-shorten g)
     → IsPopped c.as_slice.result.now (g.Octets.AsOctets.content c.shorten.new.builder) c.in_ok-last.last
 left g c =
     let cut : length (g.Octets.AsOctets.content c.self.inside.octets) - c.in_ok-last.width
-        ≡ length c.as_slice.result.now - length (encoding_of c.in_ok-last.last) =
+    ≡ length c.as_slice.result.now - length (encoding_of c.in_ok-last.last) =
     rw (c.in_ok-last.ensures.width, c.as_slice.ensures.content, c.self.view_is) refl in
     popped _ _ _ _ c.in_ok-last.ensures.some cut
-        (rw (c.as_slice.ensures.content, ← c.self.view_is) c.shorten.ensures.content)
+    (rw (c.as_slice.ensures.content, ← c.self.view_is) c.shorten.ensures.content)
 
 pub invariant_of-self : goal.invariant_of-self
 invariant_of-self g c = (left g c).text

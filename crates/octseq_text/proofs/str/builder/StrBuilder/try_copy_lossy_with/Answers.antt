@@ -33,7 +33,7 @@ returns-in_err-append_lossy g c =
       answer = reads_lossily append_error _ _ c.args.replacement [] _ _ _
           (from_scalar c.args.replacement c.ranges.replacement.0) ([], spells_nothing)
           tt (λ h. subst (λ y. IsPast g.Octets.AsOctets.limit (length (y ++ text))) c.in_ok-made.ensures.ok
-              (c.in_err-append_lossy.ensures.short h)) (λ past. refl)
+          (c.in_err-append_lossy.ensures.short h)) (λ past. refl)
           c.in_err-append_lossy.ensures.memory;
     })
 
@@ -42,7 +42,7 @@ from_utf8_unchecked-requires g c =
     let text = text_with c.args.replacement (parts_of c.args.octets.now) in
     subst IsWellFormed (sym (c.in_ok-append_lossy.ensures.text ∙ ap (λ y. y ++ text) c.in_ok-made.ensures.ok))
     (text_well_formed c.args.replacement (from_scalar c.args.replacement c.ranges.replacement.0)
-        (splits c.args.octets.now))
+    (splits c.args.octets.now))
 
 pub returns : goal.returns
 returns g c =
@@ -53,6 +53,6 @@ returns g c =
           (from_scalar c.args.replacement c.ranges.replacement.0) ([], spells_nothing)
           (ap g.Octets.AsOctets.content c.from_utf8_unchecked.ensures ∙ made) (λ h. absurd h)
           (λ past. absurd (within_not_past g.Octets.AsOctets.limit _ c.in_ok-append_lossy.ensures.within
-              (subst (λ y. IsPast g.Octets.AsOctets.limit (length y)) (sym made) past)))
+          (subst (λ y. IsPast g.Octets.AsOctets.limit (length y)) (sym made) past)))
           (λ h. absurd h);
     }

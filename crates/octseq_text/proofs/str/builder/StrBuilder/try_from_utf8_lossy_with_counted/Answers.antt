@@ -10,8 +10,8 @@ pub returns-clause-answer : goal.returns-clause-answer
 returns-clause-answer g c =
     let read = c.read_with.ensures in
     reads_lossily append_error _ _ c.args.replacement [] _ _ c.read_with.result
-        (from_scalar c.args.replacement c.ranges.replacement.0) ([], spells_nothing) read.text read.short read.past
-        read.memory
+    (from_scalar c.args.replacement c.ranges.replacement.0) ([], spells_nothing) read.text read.short read.past
+    read.memory
 
 pub returns-clause-turns : goal.returns-clause-turns
 returns-clause-turns g c = λ parts s. subst (λ parts. c.read_with.new.turns ≤ c.args.turns.now + length parts)

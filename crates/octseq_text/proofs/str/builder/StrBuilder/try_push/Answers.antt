@@ -16,7 +16,7 @@ pub invariant_of-self : goal.invariant_of-self
 invariant_of-self g c =
     let e = c.append_encoding.ensures.appended in
     well_formed-appended c.append_encoding.result _ _ _ e.ok e.err c.self.invariant
-        (well_formed_from_utf8 _ c.as_bytes.ensures.utf8)
+    (well_formed_from_utf8 _ c.as_bytes.ensures.utf8)
 
 pub returns-clause-appended : goal.returns-clause-appended
 returns-clause-appended g c = rw (← encoded g c, ← c.self.view_is) c.append_encoding.ensures.appended
@@ -35,4 +35,4 @@ returns-clause-step g c =
     ap chars (encoded g c) ∙ chars-encoding c.args.ch (from_scalar c.args.ch c.ranges.ch.0) in
     rw (← one, ← c.self.view_is)
     (appends g.Octets.AsOctets.limit g.Octets.AsOctets.asks c.append_encoding.result _ _ _ e.ok e.err e.short e.memory
-        c.self.invariant (well_formed_from_utf8 _ c.as_bytes.ensures.utf8))
+    c.self.invariant (well_formed_from_utf8 _ c.as_bytes.ensures.utf8))

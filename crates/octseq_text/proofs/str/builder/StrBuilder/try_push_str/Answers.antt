@@ -6,11 +6,11 @@ pub invariant_of-self : goal.invariant_of-self
 invariant_of-self g c =
     let e = c.append_slice.ensures.appended in
     well_formed-appended c.append_slice.result _ _ _ e.ok e.err c.self.invariant
-        (well_formed_from_utf8 _ c.as_bytes.ensures.utf8)
+    (well_formed_from_utf8 _ c.as_bytes.ensures.utf8)
 
 pub returns-clause-step : goal.returns-clause-step
 returns-clause-step g c =
     let e = c.append_slice.ensures.appended in
     rw (← c.self.view_is, ← c.as_bytes.ensures.value)
     (appends g.Octets.AsOctets.limit g.Octets.AsOctets.asks c.append_slice.result _ _ _ e.ok e.err e.short e.memory
-        c.self.invariant (well_formed_from_utf8 _ c.as_bytes.ensures.utf8))
+    c.self.invariant (well_formed_from_utf8 _ c.as_bytes.ensures.utf8))

@@ -10,14 +10,14 @@ invariant_of-self g c =
     let read = rw c.replace-end.ensures.value at c.in-Ok.ensures.read in
     sound_standing g.B.AsOctets.limit g.B.AsOctets.asks _ (stands.0 ++ c.args.piece.now)
     (feed_stands _ stands.0 c.args.piece.now _ _ stands.1 read c.in-Ok.ensures.open_end c.self.inside.refusal
-        c.in_default.is) c.in-Ok.ensures.within
+    c.in_default.is) c.in-Ok.ensures.within
 
 pub returns-in-Ok-clause-stands : goal.returns-in-Ok-clause-stands
 returns-in-Ok-clause-stands g c =
     let read = rw c.replace-end.ensures.value at c.in-Ok.ensures.read in
     rw (← c.self.view_is)
     (λ octets s. feed_stands _ octets c.args.piece.now _ _ s read c.in-Ok.ensures.open_end c.self.inside.refusal
-        c.in_default.is)
+    c.in_default.is)
 
 pub returns-in-Ok-clause-past : goal.returns-in-Ok-clause-past
 returns-in-Ok-clause-past g c =
@@ -25,7 +25,7 @@ returns-in-Ok-clause-past g c =
     rw (← c.self.view_is)
     (λ octets end settled s t p. absurd (within_not_past g.B.AsOctets.limit _ c.in-Ok.ensures.within
     (subst (λ y. IsPast g.B.AsOctets.limit (length y))
-        (sym (feed_text _ octets c.args.piece.now _ _ s read c.in-Ok.ensures.open_end end settled t)) p)))
+    (sym (feed_text _ octets c.args.piece.now _ _ s read c.in-Ok.ensures.open_end end settled t)) p)))
 
 pub returns-in-Err-clause-short : goal.returns-in-Err-clause-short
 returns-in-Err-clause-short g c =

@@ -10,7 +10,7 @@ returns-in_err-append_end-clause-short g c =
     let p = err_from_is_err_and c.from_residual.result c.from_residual.ensures.1 in
     rw (p.1, p.2, ← c.self.view_is)
     (λ h octets parts s t. let short = c.in_err-append_end.ensures.short h in
-        finish_too_long g.B.AsOctets.limit _ octets parts s t short.0 short.1)
+    finish_too_long g.B.AsOctets.limit _ octets parts s t short.0 short.1)
 
 pub from_utf8_unchecked-requires : goal.from_utf8_unchecked-requires
 from_utf8_unchecked-requires g c =
@@ -21,10 +21,10 @@ pub returns-clause-text : goal.returns-clause-text
 returns-clause-text g c =
     rw (← c.self.view_is, c.from_utf8_unchecked.ensures)
     (λ octets parts s t. finish_text _ octets _ s c.in_ok-append_end.ensures.none c.in_ok-append_end.ensures.some parts
-        t)
+    t)
 
 pub returns-clause-past : goal.returns-clause-past
 returns-clause-past g c = λ octets parts s t p.
     absurd (within_not_past g.B.AsOctets.limit _ c.in_ok-append_end.ensures.within
     (subst (λ y. IsPast g.B.AsOctets.limit (length y)) (sym (returns-clause-text g c octets parts s t)
-        ∙ ap g.B.AsOctets.content c.from_utf8_unchecked.ensures) p))
+    ∙ ap g.B.AsOctets.content c.from_utf8_unchecked.ensures) p))

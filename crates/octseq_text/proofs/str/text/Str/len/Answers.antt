@@ -5,4 +5,4 @@ use Rattle.octseq_text.proofs.str.text.Str.len.Goals as goal
 pub returns-clause-characters : goal.returns-clause-characters
 returns-clause-characters g c =
     rw (← c.as_slice.ensures.content)
-        (sym (ap length (octets_of-chars c.as_slice.result.now c.as_slice.ensures.well_formed)))
+    (sym (ap length (octets_of-chars c.as_slice.result.now c.as_slice.ensures.well_formed)))
