@@ -64,6 +64,20 @@ impl<R: AsOctets> Parser<R> {
     ghost use Rattle.octseq.specs.Parser.{sequence, window, Takes};
 
     /// A parser of all the octets.
+    ///
+    /// # Examples
+    ///
+    /// ```
+    /// // crates/octseq_uses/src/levels.rt
+    /// let mut parser = Parser::from_ref(octets);
+    /// let mut levels = Vec::new(alloc);
+    /// while parser.remaining() > 0 {
+    ///     let level = parser.parse_i16_be()?;
+    ///     if levels.push(level).is_err() {
+    ///         return Err(ReadError::Memory);
+    ///     }
+    /// }
+    /// ```
     pub fn from_ref(octets: R) -> Self
         ensures sequence { sequence result ≡ octets }
         ensures window { window result ≡ whole (R.content octets) }
@@ -223,6 +237,20 @@ impl<R: AsOctets> Parser<R> {
     /// # Errors
     ///
     /// `ShortInput` where the window ends before that position. The parser is then as it was.
+    ///
+    /// # Examples
+    ///
+    /// ```
+    /// // crates/octseq_tests/src/tests/windows.rt
+    /// let mut outer = Parser::from_ref(octets);
+    /// outer.advance(2)?;
+    /// let mut nested = outer.parse_parser(4)?;
+    /// assert_equal!(rt, (nested.pos(), nested.len()), (2, 6));
+    /// assert_equal!(rt, nested.peek_all(), b"2345".as_slice());
+    /// nested.seek(0)?;
+    /// assert_equal!(rt, nested.peek_all(), b"012345".as_slice());
+    /// assert_equal!(rt, nested.seek(7), Err(ShortInput));
+    /// ```
     pub fn seek(&mut self, pos: usize) -> Result<(), ShortInput>
         ensures variant { IsOk result ↔ (pos ≤ (window self.old).end) }
         ensures ok { OnOk result (window self.new ≡ at pos (window self.old)) }
@@ -241,6 +269,20 @@ impl<R: AsOctets> Parser<R> {
     /// # Errors
     ///
     /// `ShortInput` where fewer octets are left. The parser is then as it was.
+    ///
+    /// # Examples
+    ///
+    /// ```
+    /// // crates/octseq_uses/src/lines.rt
+    /// let octets = parser.peek_all();
+    /// if octets.is_empty() {
+    ///     return Ok(None);
+    /// }
+    /// let (line, len) = first_line(octets);
+    /// let text = StrBuilder::try_copy_lossy(alloc, line)?;
+    /// infallible(parser.advance(len));
+    /// Ok(Some(text))
+    /// ```
     pub fn advance(&mut self, len: usize) -> Result<(), ShortInput>
         ensures { Takes result len self.old self.new }
     {
@@ -262,6 +304,16 @@ impl<R: AsOctets> Parser<R> {
     ///
     /// `Short` where fewer octets are left, and else `Memory` where a request for memory was refused, which
     /// a range that is a slice never makes. The parser is then as it was.
+    ///
+    /// # Examples
+    ///
+    /// ```
+    /// // crates/octseq_uses/src/records.rt
+    /// let key = parser.parse_u16_be()?;
+    /// let len = parser.parse_u8()?;
+    /// let value = parser.parse_octets(usize::from(len))?;
+    /// Ok(Record { key, value })
+    /// ```
     pub fn parse_octets(&mut self, len: usize) -> Result<R::Range, ParseOctetsError>
     where
         R: Octets,
@@ -301,6 +353,18 @@ impl<R: AsOctets> Parser<R> {
     /// # Errors
     ///
     /// `ShortInput` where fewer octets are left. The parser is then as it was.
+    ///
+    /// # Examples
+    ///
+    /// ```
+    /// // crates/octseq_tests/src/tests/windows.rt
+    /// let mut outer = Parser::from_static(b"0123456789");
+    /// outer.advance(2)?;
+    /// let mut nested = outer.parse_parser(4)?;
+    /// assert_equal!(&rt, nested.peek_all(), b"2345".as_slice());
+    /// nested.advance(2)?;
+    /// assert_equal!(&rt, nested.peek_all(), b"45".as_slice());
+    /// ```
     pub fn parse_parser(&mut self, len: usize) -> Result<Self, ShortInput>
     where
         R: Copy,

@@ -26,6 +26,18 @@ use std::ops::{DerefSlice, DerefSliceMut};
 
 /// Octets in a buffer of the fixed size `N`. The front of the buffer is the content; what the buffer has behind it is
 /// hidden.
+///
+/// # Examples
+///
+/// ```
+/// // crates/octseq_uses/src/single_calls.rt
+/// pub fn kept<const N: usize>(octets: &[u8]) -> Option<Array<N>>
+///     ensures variant { IsSome result ↔ (length octets.now ≤ N) }
+///     ensures some { IfSome result (λ array. array.content ≡ octets.now) }
+/// {
+///     Array::try_from(octets).ok()
+/// }
+/// ```
 #[derive(Drop)]
 pub struct Array<const N: usize> {
     octets: [u8; N],
@@ -47,6 +59,17 @@ impl<const N: usize> Array<N> {
     ghost use Rattle.octseq_core.specs.Lends.{lends_content};
 
     /// An empty array, all its octets zero.
+    ///
+    /// # Examples
+    ///
+    /// ```
+    /// // crates/octseq_tests/src/tests/builders.rt
+    /// let mut array = Array::<4>::new();
+    /// array.append_slice(b"abcd")?;
+    /// array.truncate(1);
+    /// assert_equal!(&rt, array.resize_raw(3), Ok(()));
+    /// assert_equal!(&rt, array.as_slice(), b"abc".as_slice());
+    /// ```
     pub fn new() -> Self
         ensures { result ≡ blank N }
     {

@@ -98,6 +98,16 @@ pub trait OctetsBuilder: OctetsLimit {
     ///
     /// `Short` where the content would pass the type's limit, and else `Memory` where a request for
     /// memory was refused. The content is then as it was.
+    ///
+    /// # Examples
+    ///
+    /// ```
+    /// // crates/octseq_uses/src/any_builder.rt
+    /// let mut builder = B::empty(alloc)?;
+    /// builder.append_slice(first)?;
+    /// builder.append_slice(second)?;
+    /// Ok(builder)
+    /// ```
     fn append_slice(&mut self, slice: &[u8]) -> Result<(), AppendError>
         ensures appended { Appends Self.limit Self.asks result slice.now
             (Self.content self.old) (Self.content self.new) }
@@ -107,6 +117,18 @@ pub trait OctetsBuilder: OctetsLimit {
 /// A sequence of octets that can be cut short.
 pub trait Truncate: AsOctets {
     /// Keeps the first `len` octets, or all of them where there are no more.
+    ///
+    /// # Examples
+    ///
+    /// ```
+    /// // crates/octseq_alone/src/frame.rt
+    /// let before = builder.len();
+    /// let appended = append_pieces(builder, name, value);
+    /// if appended.is_err() {
+    ///     builder.truncate(before);
+    /// }
+    /// appended
+    /// ```
     fn truncate(&mut self, len: usize)
         ensures content { Self.content self.new ≡ take len (Self.content self.old) }
         ensures borrows { Self.borrows self.new ≡ Self.borrows self.old };
@@ -119,6 +141,15 @@ pub trait EmptyBuilder: OctetsBuilder {
     /// # Errors
     ///
     /// `AllocError` where a request for memory was refused.
+    ///
+    /// # Examples
+    ///
+    /// ```
+    /// // crates/octseq_tests/src/tests/builders.rt
+    /// let mut builder = B::empty(alloc)?;
+    /// builder.append_slice(b"abcd")?;
+    /// assert_equal!(rt, builder.as_ref(), b"abcd".as_slice());
+    /// ```
     fn empty(alloc: Global) -> Result<Self, AllocError>
         ensures ok { IfOk result (λ builder. Self.content builder ≡ []) }
         ensures memory { OnErr result (Self.asks ≡ true) };
@@ -144,6 +175,16 @@ pub trait FreezeBuilder: AsOctets {
     /// # Errors
     ///
     /// `AllocError` where a request for memory was refused. The builder is then given up.
+    ///
+    /// # Examples
+    ///
+    /// ```
+    /// // crates/octseq_tests/src/tests/builders.rt
+    /// let mut builder = B::empty(alloc)?;
+    /// builder.append_slice(b"abc")?;
+    /// let octets = builder.freeze()?;
+    /// assert_equal!(rt, octets.as_ref(), b"abc".as_slice());
+    /// ```
     fn freeze(self) -> Result<Self::Octets, AllocError>
         ensures ok { IfOk result (λ octets. Self.Octets.content octets ≡ Self.content self) }
         ensures memory { OnErr result (Self.Octets.asks ≡ true) };

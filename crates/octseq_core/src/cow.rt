@@ -11,6 +11,19 @@ use crate::builder::{
 use std::alloc::{AllocError, Global};
 
 /// Borrowed octets with the allocator for a copy of them, or octets of its own.
+///
+/// # Examples
+///
+/// ```
+/// // crates/octseq_tests/src/tests/builders.rt
+/// let mut cow = CowOctets::borrowed(rt.alloc(), b"abc");
+/// cow.truncate(5);
+/// assert_equal!(&rt, cow.as_ref(), b"abc".as_slice());
+/// assert_true!(&rt, cow.is_borrowed());
+/// cow.append_slice(b"d")?;
+/// assert_equal!(&rt, cow.as_ref(), b"abcd".as_slice());
+/// assert_true!(&rt, !cow.is_borrowed());
+/// ```
 #[derive(Drop)]
 pub enum CowOctets<'a> {
     /// Octets of another, and the allocator for a copy of them.
@@ -89,6 +102,16 @@ fn joined(alloc: Global, octets: &[u8], more: &[u8]) -> Result<Vec<u8>, AllocErr
 impl OctetsBuilder for CowOctets<'_> {
     /// Makes borrowed octets owned, also where the slice is empty. They are copied first, so a refusal
     /// leaves them borrowed.
+    ///
+    /// # Examples
+    ///
+    /// ```
+    /// // crates/octseq_uses/src/single_calls.rt
+    /// if more.is_empty() {
+    ///     return Ok(());
+    /// }
+    /// octets.append_slice(more)
+    /// ```
     fn append_slice(&mut self, slice: &[u8]) -> Result<(), AppendError>
         ensures appended { Appends None true result slice.now (cow_content self.old) (cow_content self.new) }
         ensures owned { OnOk result (is_borrowed self.new ≡ false) }

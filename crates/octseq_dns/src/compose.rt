@@ -66,6 +66,20 @@ pub fn one_rewriting()
 ///
 /// `Short` exactly where the message so written would pass the limit of the builder's type or 65,535 octets, and
 /// `Memory` where a request for memory was refused. The builder and the table are then dropped.
+///
+/// # Examples
+///
+/// ```
+/// // crates/octseq_dns_tool/src/engine/rewrite.rt
+/// match rewrite(message, Vec::new(alloc), Vec::<Place>::new(alloc)) {
+///     Ok(written) => {
+///         let (octets, _places) = written.finish();
+///         Ok(Some(octets))
+///     }
+///     Err(AppendError::Short(_)) => Ok(None),
+///     Err(AppendError::Memory) => Err(AllocError),
+/// }
+/// ```
 pub fn rewrite<B: OctetsBuilder + Truncate + AsOctetsMut, T: Places, R: AsOctets + Copy>(
     message: &Message<R>,
     octets: B,

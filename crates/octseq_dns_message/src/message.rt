@@ -77,6 +77,18 @@ impl<R: AsOctets + Copy> Message<R> {
     /// # Errors
     ///
     /// `Malformed` where they are no message.
+    ///
+    /// # Examples
+    ///
+    /// ```
+    /// // crates/octseq_tests/src/tests/dns_message.rt
+    /// let mut text = StrBuilder::<Vec<u8>>::new(alloc)?;
+    /// match Message::parse(octets) {
+    ///     Ok(message) => message.append_text(&mut text)?,
+    ///     Err(Malformed) => text.try_push_str("malformed\n")?,
+    /// }
+    /// Ok(text)
+    /// ```
     pub fn parse(octets: R) -> Result<Message<R>, Malformed>
         ensures message { IfOk result (λ message. IsMessage (R.content octets) (header_of message)
             (questions_of message) (answers_of message) (authorities_of message) (additionals_of message)) }
@@ -135,6 +147,16 @@ impl<R: AsOctets + Copy> Message<R> {
     }
 
     /// Its questions, from the first one on.
+    ///
+    /// # Examples
+    ///
+    /// ```
+    /// // crates/octseq_tests/src/tests/dns.rt
+    /// for question in message.questions() {
+    ///     assert_equal!(rt, (question.qtype, question.qclass), (Rtype::A, Class::IN));
+    ///     assert_equal!(rt, question.qname.parser().pos(), 12);
+    /// }
+    /// ```
     pub fn questions(&self) -> Questions<R>
         ensures { questions_left result ≡ questions_of self.now }
     {
@@ -142,6 +164,19 @@ impl<R: AsOctets + Copy> Message<R> {
     }
 
     /// Its answers, from the first one on.
+    ///
+    /// # Examples
+    ///
+    /// ```
+    /// // crates/octseq_tests/src/tests/dns_text.rt
+    /// let message = Message::parse(octets)?;
+    /// let mut text = String::new(alloc);
+    /// for answer in message.answers() {
+    ///     let found = answer.data();
+    ///     write!(text, "{found}")?;
+    /// }
+    /// Ok(text)
+    /// ```
     pub fn answers(&self) -> Records<R>
         ensures { records_left result ≡ answers_of self.now }
     {

@@ -71,6 +71,18 @@ impl<R: AsOctets + Copy> ParsedName<R> {
     /// # Errors
     ///
     /// `Malformed` where no name comes next. The parser is then as it was.
+    ///
+    /// # Examples
+    ///
+    /// ```
+    /// // crates/octseq_tests/src/tests/dns.rt
+    /// let mut parser = Parser::from_ref(octets);
+    /// parser.seek(place).ok()?;
+    /// match ParsedName::parse(&mut parser) {
+    ///     Ok(name) => Some((parser.pos(), name.len())),
+    ///     Err(Malformed) => None,
+    /// }
+    /// ```
     pub fn parse(parser: &mut Parser<R>) -> Result<ParsedName<R>, Malformed>
         ensures place { IfOk result (λ name. place_of name ≡ window parser.old) }
         ensures name { IfOk result (λ name. IsName (window parser.old) (labels_of name) (window parser.new)) }

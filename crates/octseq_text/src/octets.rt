@@ -29,6 +29,16 @@ pub fn span(start: usize, end: usize) -> (Bound, Bound)
 
 /// Whether a range exists in octets of this length: its start is at most its end, and its end at most the length.
 /// `has_bounds` holds of each of std's ranges but of an `a..=b` that was iterated to its end.
+///
+/// # Examples
+///
+/// ```
+/// // crates/octseq_uses/src/single_calls.rt
+/// if !range_exists(octets.len(), start..end) {
+///     return Ok(None);
+/// }
+/// Ok(Some(octets.range(start..end)?))
+/// ```
 pub fn range_exists<R: RangeBounds<usize>>(len: usize, range: R) -> bool
     requires { R.has_bounds range }
     ensures { IsTrue result ↔ RangeExists len (R.start_bound range, R.end_bound range) }
@@ -70,6 +80,16 @@ pub trait Octets: AsOctets {
     /// # Errors
     ///
     /// `AllocError` where a request for memory was refused, which a range that is a slice never makes.
+    ///
+    /// # Examples
+    ///
+    /// ```
+    /// // crates/octseq_alone/src/ranges.rt
+    /// if octets.len() < 3 {
+    ///     return Ok(None);
+    /// }
+    /// Ok(Some(octets.range(1..3)?))
+    /// ```
     fn range<R: RangeBounds<usize>>(&self, range: R) -> Result<Self::Range, AllocError>
         requires known { R.has_bounds range }
         requires exists { RangeExists (length (Self.content self.now)) (R.start_bound range, R.end_bound range) }

@@ -69,6 +69,19 @@ impl<'a> Model for Utf8Chunks<'a> {
 }
 
 /// The chunks of these octets, by the practice of the Unicode Standard, chapter 3, on maximal subparts.
+///
+/// # Examples
+///
+/// ```
+/// // crates/octseq_tests/src/tests/text/chunks.rt
+/// fn bad_octets(octets: &[u8]) -> usize {
+///     let mut count = 0_usize;
+///     for chunk in chunks(octets) {
+///         count = count.saturating_add(chunk.invalid().len());
+///     }
+///     count
+/// }
+/// ```
 pub fn chunks(octets: &[u8]) -> Utf8Chunks<'_>
     ensures { result ≡ octets.now }
 {

@@ -231,6 +231,16 @@ pub fn first_fault(octets: &[u8], turns: &mut Turns) -> Option<Utf8Fault>
 }
 
 /// As [`first_fault`], for callers that read no count.
+///
+/// # Examples
+///
+/// ```
+/// // crates/octseq_uses/src/single_calls.rt
+/// match find_fault(octets) {
+///     None => octets,
+///     Some(fault) => &octets[..fault.valid_up_to()],
+/// }
+/// ```
 pub fn find_fault(octets: &[u8]) -> Option<Utf8Fault>
     ensures none { IsNone result ↔ IsWellFormed octets.now }
     ensures fault { IfSome result (IsFault octets.now) }

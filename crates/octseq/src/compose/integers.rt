@@ -83,6 +83,16 @@ pub fn append_i16_le<B: OctetsBuilder>(builder: &mut B, value: i16) -> Result<()
 ///
 /// `Short` where the content would pass the limit of its type, and else `Memory` where a request for memory
 /// was refused. The content is then as it was.
+///
+/// # Examples
+///
+/// ```
+/// // crates/octseq_alone/src/note.rt
+/// append_u8(builder, MARK)?;
+/// append_u16_be(builder, number)?;
+/// append_part_u8(builder, words.as_bytes())?;
+/// Ok(())
+/// ```
 #[tactic(auto, using(crate::proofs::Written::written_2))]
 pub fn append_u16_be<B: OctetsBuilder>(builder: &mut B, value: u16) -> Result<(), AppendError>
     ensures octets { AreOctetsOf be 2 value (octets_be 2 value) }

@@ -14,6 +14,18 @@ use octseq_core::builder::{OctetsBuilder, Truncate};
 /// `TooLong` where the part has more than 255 octets. Else `Short` where the content, with the length and the
 /// part behind it, would pass the limit of its type, and else `Memory` where a request for memory was refused.
 /// The content is then as it was.
+///
+/// # Examples
+///
+/// ```
+/// // crates/octseq_tests/src/tests/composing.rt
+/// let mut message = Vec::new(rt.alloc());
+/// append_u16_be(&mut message, 0x1234)?;
+/// assert_equal!(&rt, append_part_u8(&mut message, b"abc"), Ok(()));
+/// append_i32_le(&mut message, -2)?;
+/// let octets = b"\x12\x34\x03abc\xFE\xFF\xFF\xFF".as_slice();
+/// assert_equal!(&rt, message.as_slice(), octets);
+/// ```
 #[tactic(auto, using(crate::proofs::Written::written_1))]
 pub fn append_part_u8<B: OctetsBuilder + Truncate>(
     builder: &mut B,

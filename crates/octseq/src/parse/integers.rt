@@ -49,6 +49,16 @@ impl<R: AsOctets> Parser<R> {
     }
 
     /// The next octet, unsigned.
+    ///
+    /// # Examples
+    ///
+    /// ```
+    /// // crates/octseq_alone/src/note.rt
+    /// if parser.parse_u8()? != MARK {
+    ///     return Err(ReadError::Malformed);
+    /// }
+    /// Ok(())
+    /// ```
     #[tactic(auto, using(crate::proofs::WrittenBack::read_1, crate::proofs::Windows::next_of_rest))]
     pub fn parse_u8(&mut self) -> Result<u8, ShortInput>
         ensures taken { Takes result 1 self.old self.new }
@@ -79,6 +89,19 @@ impl<R: AsOctets> Parser<R> {
     }
 
     /// The next 2 octets, big-endian, unsigned.
+    ///
+    /// # Examples
+    ///
+    /// ```
+    /// // crates/octseq_tests/src/tests/composing.rt
+    /// let octets = b"\x12\x34\x03abc\xFE\xFF\xFF\xFF".as_slice();
+    /// assert_equal!(&rt, message.as_slice(), octets);
+    /// let mut parser = Parser::from_ref(&message);
+    /// assert_equal!(&rt, parser.parse_u16_be()?, 0x1234);
+    /// assert_equal!(&rt, parser.parse_part_u8()?.peek_all(), b"abc".as_slice());
+    /// assert_equal!(&rt, parser.parse_i32_le()?, -2);
+    /// assert_equal!(&rt, parser.remaining(), 0);
+    /// ```
     #[tactic(auto, using(crate::proofs::WrittenBack::read_2, crate::proofs::Windows::next_of_rest))]
     pub fn parse_u16_be(&mut self) -> Result<u16, ShortInput>
         ensures taken { Takes result 2 self.old self.new }

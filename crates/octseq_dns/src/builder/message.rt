@@ -19,6 +19,20 @@ impl<B: OctetsBuilder + Truncate + AsOctetsMut, T: Places> MessageBuilder<B, T> 
     ///
     /// `Short` where the limit of the builder's type is less than the 12 octets of a header, and else `Memory` where a
     /// request for memory was refused. The builder and the table are then dropped.
+    ///
+    /// # Examples
+    ///
+    /// ```
+    /// // crates/octseq_tests/src/tests/dns_writing.rt
+    /// let mut message = MessageBuilder::from_builder(octets, places)?;
+    /// message.set_header(header());
+    /// let mut questions = message.question();
+    /// questions.push_question(&name.parsed(), Rtype::A, Class::IN)?;
+    /// let mut answers = questions.answer();
+    /// let ttl = Ttl::from_secs(300);
+    /// answers.push_opaque(&name.parsed(), Rtype::A, Class::IN, ttl, &[1, 2, 3, 4])?;
+    /// Ok(answers.authority().additional().finish())
+    /// ```
     pub fn from_builder(octets: B, places: T) -> Result<Self, AppendError>
         ensures written { IfOk result (λ m. IsWritten (B.content m.octets) blank_header [] [] [] []) }
         ensures header { IfOk result (λ m. m.header ≡ blank_header) }

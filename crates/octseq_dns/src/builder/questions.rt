@@ -20,6 +20,18 @@ impl<B: OctetsBuilder + Truncate + AsOctetsMut, T: Places> QuestionBuilder<B, T>
     ///
     /// `Short` where the message would pass the limit of the builder's type or 65,535 octets, or has 65,535 questions,
     /// and `Memory` where a request for memory was refused. The message is then as it was.
+    ///
+    /// # Examples
+    ///
+    /// ```
+    /// // crates/octseq_tests/src/tests/dns_writing.rt
+    /// let mut questions = MessageBuilder::from_builder(octets, places)?.question();
+    /// for text in names {
+    ///     let name = Name::from_text(text)?;
+    ///     questions.push_question(&name.parsed(), Rtype::A, Class::IN)?;
+    /// }
+    /// Ok(questions.answer().authority().additional().finish())
+    /// ```
     pub fn push_question<R: AsOctets + Copy>(
         &mut self,
         qname: &ParsedName<R>,

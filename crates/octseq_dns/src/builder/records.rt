@@ -29,6 +29,17 @@ impl<B: OctetsBuilder + Truncate + AsOctetsMut, T: Places, S: RecordSection> Sec
     ///
     /// `Short` where the message would pass the limit of the builder's type or 65,535 octets, or its section has 65,535
     /// records, and `Memory` where a request for memory was refused. The message is then as it was.
+    ///
+    /// # Examples
+    ///
+    /// ```
+    /// // crates/octseq_tests/src/tests/dns_round_trips.rt
+    /// let (owner, data) = (entry.owner(), entry.data());
+    /// let (rtype, class, ttl) = (entry.rtype(), entry.class(), entry.ttl());
+    /// let message = MessageBuilder::from_builder(builder, FixedPlaces::<8>::new())?;
+    /// let mut answers = message.question().answer();
+    /// answers.push_record(&owner, rtype, class, ttl, &data)?;
+    /// ```
     pub fn push_record<R: AsOctets + Copy, D: AsOctets + Copy>(
         &mut self,
         owner: &ParsedName<R>,

@@ -45,6 +45,17 @@ impl<Octets: AsOctets> StrBuilder<Octets> {
     /// # Errors
     ///
     /// `AllocError` where a request for memory was refused.
+    ///
+    /// # Examples
+    ///
+    /// ```
+    /// // crates/octseq_tests/src/tests/text.rt
+    /// let mut text = StrBuilder::<Vec<u8>>::new(rt.alloc())?;
+    /// text.push_str("")?;
+    /// assert_equal!(&rt, text.as_str(), "");
+    /// text.push_str("abc")?;
+    /// assert_equal!(&rt, text.as_str(), "abc");
+    /// ```
     pub fn new(alloc: Global) -> Result<Self, AllocError>
     where
         Octets: EmptyBuilder,
@@ -77,6 +88,19 @@ impl<Octets: AsOctets> StrBuilder<Octets> {
     /// # Errors
     ///
     /// Octets that aren't well formed are handed back in the error, with their first fault.
+    ///
+    /// # Examples
+    ///
+    /// ```
+    /// // crates/octseq_tests/src/tests/text.rt
+    /// let octets = "ประเทศไทย中".as_bytes().to_vec(rt.alloc())?;
+    /// let mut text = StrBuilder::from_utf8(octets).ok().ok_or("refused")?;
+    /// for ch in ['华', 'b', '¢', '€', '𤭢'] {
+    ///     text.push(ch)?;
+    /// }
+    /// assert_equal!(&rt, text.len(), 43);
+    /// assert_equal!(&rt, text.as_str(), "ประเทศไทย中华b¢€𤭢");
+    /// ```
     pub fn from_utf8(octets: Octets) -> Result<Self, FromUtf8Error<Octets>>
         ensures variant { IsOk result ↔ IsWellFormed (Octets.content octets) }
         ensures ok { IfOk result (λ text. text ≡ octets) }
@@ -173,6 +197,20 @@ impl<Octets: AsOctets> StrBuilder<Octets> {
     ///
     /// `Short` where the text would pass the limit of its type, and else `Memory` where a request for
     /// memory was refused. The text is then as it was.
+    ///
+    /// # Examples
+    ///
+    /// ```
+    /// // crates/octseq_uses/src/join.rt
+    /// let Some((first, others)) = words.split_first() else {
+    ///     return Ok(());
+    /// };
+    /// text.try_push_str(first)?;
+    /// for word in others {
+    ///     text.try_push_str(separator)?;
+    ///     text.try_push_str(word)?;
+    /// }
+    /// ```
     pub fn try_push_str(&mut self, s: &str) -> Result<(), AppendError>
     where
         Octets: OctetsBuilder,
@@ -193,6 +231,15 @@ impl<Octets: AsOctets> StrBuilder<Octets> {
     ///
     /// `Short` where the text would pass the limit of its type, and else `Memory` where a request for
     /// memory was refused. The text is then as it was.
+    ///
+    /// # Examples
+    ///
+    /// ```
+    /// // crates/octseq_tests/src/tests/text.rt
+    /// let mut text = StrBuilder::<Array<4>>::new(rt.alloc())?;
+    /// assert_equal!(&rt, text.try_push_str("abc"), Ok(()));
+    /// assert_equal!(&rt, text.try_push('¢'), Err(AppendError::Short(ShortBuf)));
+    /// ```
     #[inline(always)]
     pub fn try_push(&mut self, ch: char) -> Result<(), AppendError>
     where

@@ -31,6 +31,17 @@ impl<Octets: AsOctets> StrBuilder<Octets> {
     ///
     /// `Short` where the lossy text passes the limit of the type, `Memory` where a request for memory
     /// was refused.
+    ///
+    /// # Examples
+    ///
+    /// ```
+    /// // crates/octseq_tests/src/tests/refused/spared.rt
+    /// let octets = unread::<B>(alloc, b"a\xFF\xFF")?;
+    /// let mut text = given(StrBuilder::try_from_utf8_lossy(alloc, octets))?;
+    /// given(text.try_push('é'))?;
+    /// given(text.try_push_str("z"))?;
+    /// assert_equal!(rt, text.as_str(), "a\u{FFFD}\u{FFFD}éz");
+    /// ```
     pub fn try_from_utf8_lossy(alloc: Global, octets: Octets) -> Result<Self, AppendError>
     where
         Octets: EmptyBuilder,

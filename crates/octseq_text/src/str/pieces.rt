@@ -68,6 +68,16 @@ impl<B: EmptyBuilder> LossyPieces<B> {
     ///
     /// `Short` where the text of what is settled passes the limit of the type, `Memory` where a request
     /// for memory was refused. Every later call answers that refusal again.
+    ///
+    /// # Examples
+    ///
+    /// ```
+    /// // crates/octseq_tests/src/tests/refused/spared.rt
+    /// let mut pieces = given(LossyPieces::<B>::new(alloc))?;
+    /// given(pieces.feed(b"a\xFF\xE2"))?;
+    /// given(pieces.feed(b"\x82\xAC\xF1"))?;
+    /// assert_equal!(rt, given(pieces.finish())?.as_str(), "a\u{FFFD}€\u{FFFD}");
+    /// ```
     pub fn feed(&mut self, piece: &[u8]) -> Result<(), AppendError>
         // Octets have exactly one list of settled parts, and one open end.
         ensures one_settling { (octets end last : List ℕ) (settled others : List Part)
@@ -163,6 +173,18 @@ impl<B: EmptyBuilder> LossyPieces<B> {
     ///
     /// `Short` where the text passes the limit of the type, `Memory` where a request for memory was
     /// refused. Where a piece was refused, that refusal.
+    ///
+    /// # Examples
+    ///
+    /// ```
+    /// // crates/octseq_tool/src/engine.rt
+    /// let mut pieces = LossyPieces::new(alloc)?;
+    /// feed_all(alloc, reader, &mut pieces)?;
+    /// // (a vector has no limit, so all that it refuses is for want of memory)
+    /// let Ok(text) = pieces.finish() else {
+    ///     return Err(ProgramFault::Memory);
+    /// };
+    /// ```
     pub fn finish(self) -> Result<StrBuilder<B>, AppendError>
         // Exactly one list of parts splits octets.
         ensures one_splitting { (octets : List ℕ) (parts others : List Part)

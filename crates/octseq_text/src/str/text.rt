@@ -42,6 +42,15 @@ impl<Octets: AsOctets> Str<Octets> {
     /// # Errors
     ///
     /// Octets that aren't well formed are handed back in the error, with their first fault.
+    ///
+    /// # Examples
+    ///
+    /// ```
+    /// // crates/octseq_alone/src/note.rt
+    /// let len = parser.parse_u8()?;
+    /// let octets = parser.parse_octets(usize::from(len))?;
+    /// let words = Str::from_utf8(octets)?;
+    /// ```
     pub fn from_utf8(octets: Octets) -> Result<Self, FromUtf8Error<Octets>>
         ensures variant { IsOk result ↔ IsWellFormed (Octets.content octets) }
         ensures ok { IfOk result (λ text. text ≡ octets) }

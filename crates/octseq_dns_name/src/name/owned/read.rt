@@ -27,6 +27,17 @@ impl Name<Array<255>> {
     /// stop or is empty, `EmptyLabel`, `LongLabel` at the 64th octet of a label, `LongName` at the full stop of the
     /// label with which the name has more than 255 octets, `IllegalEscape` at a backslash that spells no octet,
     /// `IllegalOctet` at another octet that doesn't.
+    ///
+    /// # Examples
+    ///
+    /// ```
+    /// // crates/octseq_tests/src/tests/dns_writing.rt
+    /// let name = Name::from_text("example.com.")?;
+    /// let mut message = MessageBuilder::from_builder(octets, places)?;
+    /// message.set_header(header());
+    /// let mut questions = message.question();
+    /// questions.push_question(&name.parsed(), Rtype::A, Class::IN)?;
+    /// ```
     pub fn from_text(text: &str) -> Result<Self, NameError>
         ensures ok { IfOk result (λ name. SpellsName (owned_labels name) text.now) }
         ensures malformed { IsErr result → (labels : List (List ℕ)) → AreLabels labels → wire_length labels ≤ 255
