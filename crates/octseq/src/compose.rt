@@ -2,6 +2,11 @@
 //!
 //! An integer is appended as the octets that [`Parser`](crate::Parser) reads it from. A part is its length,
 //! big-endian in as many octets as the call's name says, and then its octets.
+//!
+//! # Errors
+//!
+//! Each call that appends answers `Short` where the content would pass the limit of its type, and else `Memory` where a
+//! request for memory was refused. The content is then as it was, but where a call says something else.
 ghost use Rattle.std.specs.Prelude.{◌≡◌, Some};
 
 use octseq_core::builder::AppendError;

@@ -1,4 +1,9 @@
 //! Integers as octets at the end of a content.
+//!
+//! # Errors
+//!
+//! Each call answers `Short` where the content would pass the limit of its type, and else `Memory` where a request
+//! for memory was refused. The content is then as it was.
 ghost use Rattle.std.specs.Prelude.{◌≡◌, ◌<◌, ◌^◌};
 ghost use Rattle.octseq_core.specs.Appends.{Appends};
 ghost use Rattle.octseq.specs.Composer.{AreOctetsOf, AppendsInteger};
@@ -14,11 +19,6 @@ const MAX_U24: u32 = 0xFF_FFFF;
 const MAX_U48: u64 = 0xFFFF_FFFF_FFFF;
 
 /// Appends a signed integer in one octet.
-///
-/// # Errors
-///
-/// `Short` where the content would pass the limit of its type, and else `Memory` where a request for memory
-/// was refused. The content is then as it was.
 #[tactic(auto, using(crate::proofs::Written::written_1))]
 pub fn append_i8<B: OctetsBuilder>(builder: &mut B, value: i8) -> Result<(), AppendError>
     ensures octets { AreOctetsOf (λ octets. signed 1 (be octets)) 1 value (octets_be 1 (unsigned 1 value)) }
@@ -30,11 +30,6 @@ pub fn append_i8<B: OctetsBuilder>(builder: &mut B, value: i8) -> Result<(), App
 }
 
 /// Appends an unsigned integer in one octet.
-///
-/// # Errors
-///
-/// `Short` where the content would pass the limit of its type, and else `Memory` where a request for memory
-/// was refused. The content is then as it was.
 #[tactic(auto, using(crate::proofs::Written::written_1))]
 pub fn append_u8<B: OctetsBuilder>(builder: &mut B, value: u8) -> Result<(), AppendError>
     ensures octets { AreOctetsOf be 1 value (octets_be 1 value) }
@@ -46,11 +41,6 @@ pub fn append_u8<B: OctetsBuilder>(builder: &mut B, value: u8) -> Result<(), App
 }
 
 /// Appends a signed integer in 2 octets, big-endian.
-///
-/// # Errors
-///
-/// `Short` where the content would pass the limit of its type, and else `Memory` where a request for memory
-/// was refused. The content is then as it was.
 #[tactic(auto, using(crate::proofs::Written::written_2))]
 pub fn append_i16_be<B: OctetsBuilder>(builder: &mut B, value: i16) -> Result<(), AppendError>
     ensures octets { AreOctetsOf (λ octets. signed 2 (be octets)) 2 value (octets_be 2 (unsigned 2 value)) }
@@ -62,11 +52,6 @@ pub fn append_i16_be<B: OctetsBuilder>(builder: &mut B, value: i16) -> Result<()
 }
 
 /// Appends a signed integer in 2 octets, little-endian.
-///
-/// # Errors
-///
-/// `Short` where the content would pass the limit of its type, and else `Memory` where a request for memory
-/// was refused. The content is then as it was.
 #[tactic(auto, using(crate::proofs::Written::written_2))]
 pub fn append_i16_le<B: OctetsBuilder>(builder: &mut B, value: i16) -> Result<(), AppendError>
     ensures octets { AreOctetsOf (λ octets. signed 2 (le octets)) 2 value (octets_le 2 (unsigned 2 value)) }
@@ -78,11 +63,6 @@ pub fn append_i16_le<B: OctetsBuilder>(builder: &mut B, value: i16) -> Result<()
 }
 
 /// Appends an unsigned integer in 2 octets, big-endian.
-///
-/// # Errors
-///
-/// `Short` where the content would pass the limit of its type, and else `Memory` where a request for memory
-/// was refused. The content is then as it was.
 ///
 /// # Examples
 ///
@@ -104,11 +84,6 @@ pub fn append_u16_be<B: OctetsBuilder>(builder: &mut B, value: u16) -> Result<()
 }
 
 /// Appends an unsigned integer in 2 octets, little-endian.
-///
-/// # Errors
-///
-/// `Short` where the content would pass the limit of its type, and else `Memory` where a request for memory
-/// was refused. The content is then as it was.
 #[tactic(auto, using(crate::proofs::Written::written_2))]
 pub fn append_u16_le<B: OctetsBuilder>(builder: &mut B, value: u16) -> Result<(), AppendError>
     ensures octets { AreOctetsOf le 2 value (octets_le 2 value) }
@@ -123,8 +98,7 @@ pub fn append_u16_le<B: OctetsBuilder>(builder: &mut B, value: u16) -> Result<()
 ///
 /// # Errors
 ///
-/// `TooLong` where the integer is more than 16,777,215. Else `Short` where the content would pass the limit of
-/// its type, and else `Memory` where a request for memory was refused. The content is then as it was.
+/// `TooLong` where the integer is more than 16,777,215, before all else.
 #[tactic(auto, using(crate::proofs::Written::written_3))]
 pub fn append_u24_be<B: OctetsBuilder>(builder: &mut B, value: u32) -> Result<(), ComposeError>
     ensures octets { value < 256 ^ 3 → AreOctetsOf be 3 value (octets_be 3 value) }
@@ -142,8 +116,7 @@ pub fn append_u24_be<B: OctetsBuilder>(builder: &mut B, value: u32) -> Result<()
 ///
 /// # Errors
 ///
-/// `TooLong` where the integer is more than 16,777,215. Else `Short` where the content would pass the limit of
-/// its type, and else `Memory` where a request for memory was refused. The content is then as it was.
+/// `TooLong` where the integer is more than 16,777,215, before all else.
 #[tactic(auto, using(crate::proofs::Written::written_3))]
 pub fn append_u24_le<B: OctetsBuilder>(builder: &mut B, value: u32) -> Result<(), ComposeError>
     ensures octets { value < 256 ^ 3 → AreOctetsOf le 3 value (octets_le 3 value) }
@@ -158,11 +131,6 @@ pub fn append_u24_le<B: OctetsBuilder>(builder: &mut B, value: u32) -> Result<()
 }
 
 /// Appends a signed integer in 4 octets, big-endian.
-///
-/// # Errors
-///
-/// `Short` where the content would pass the limit of its type, and else `Memory` where a request for memory
-/// was refused. The content is then as it was.
 #[tactic(auto, using(crate::proofs::Written::written_4))]
 pub fn append_i32_be<B: OctetsBuilder>(builder: &mut B, value: i32) -> Result<(), AppendError>
     ensures octets { AreOctetsOf (λ octets. signed 4 (be octets)) 4 value (octets_be 4 (unsigned 4 value)) }
@@ -174,11 +142,6 @@ pub fn append_i32_be<B: OctetsBuilder>(builder: &mut B, value: i32) -> Result<()
 }
 
 /// Appends a signed integer in 4 octets, little-endian.
-///
-/// # Errors
-///
-/// `Short` where the content would pass the limit of its type, and else `Memory` where a request for memory
-/// was refused. The content is then as it was.
 #[tactic(auto, using(crate::proofs::Written::written_4))]
 pub fn append_i32_le<B: OctetsBuilder>(builder: &mut B, value: i32) -> Result<(), AppendError>
     ensures octets { AreOctetsOf (λ octets. signed 4 (le octets)) 4 value (octets_le 4 (unsigned 4 value)) }
@@ -190,11 +153,6 @@ pub fn append_i32_le<B: OctetsBuilder>(builder: &mut B, value: i32) -> Result<()
 }
 
 /// Appends an unsigned integer in 4 octets, big-endian.
-///
-/// # Errors
-///
-/// `Short` where the content would pass the limit of its type, and else `Memory` where a request for memory
-/// was refused. The content is then as it was.
 #[tactic(auto, using(crate::proofs::Written::written_4))]
 pub fn append_u32_be<B: OctetsBuilder>(builder: &mut B, value: u32) -> Result<(), AppendError>
     ensures octets { AreOctetsOf be 4 value (octets_be 4 value) }
@@ -206,11 +164,6 @@ pub fn append_u32_be<B: OctetsBuilder>(builder: &mut B, value: u32) -> Result<()
 }
 
 /// Appends an unsigned integer in 4 octets, little-endian.
-///
-/// # Errors
-///
-/// `Short` where the content would pass the limit of its type, and else `Memory` where a request for memory
-/// was refused. The content is then as it was.
 #[tactic(auto, using(crate::proofs::Written::written_4))]
 pub fn append_u32_le<B: OctetsBuilder>(builder: &mut B, value: u32) -> Result<(), AppendError>
     ensures octets { AreOctetsOf le 4 value (octets_le 4 value) }
@@ -225,8 +178,7 @@ pub fn append_u32_le<B: OctetsBuilder>(builder: &mut B, value: u32) -> Result<()
 ///
 /// # Errors
 ///
-/// `TooLong` where the integer is more than 281,474,976,710,655. Else `Short` where the content would pass the limit of
-/// its type, and else `Memory` where a request for memory was refused. The content is then as it was.
+/// `TooLong` where the integer is more than 281,474,976,710,655, before all else.
 #[tactic(auto, using(crate::proofs::Written::written_6))]
 pub fn append_u48_be<B: OctetsBuilder>(builder: &mut B, value: u64) -> Result<(), ComposeError>
     ensures octets { value < 256 ^ 6 → AreOctetsOf be 6 value (octets_be 6 value) }
@@ -244,8 +196,7 @@ pub fn append_u48_be<B: OctetsBuilder>(builder: &mut B, value: u64) -> Result<()
 ///
 /// # Errors
 ///
-/// `TooLong` where the integer is more than 281,474,976,710,655. Else `Short` where the content would pass the limit of
-/// its type, and else `Memory` where a request for memory was refused. The content is then as it was.
+/// `TooLong` where the integer is more than 281,474,976,710,655, before all else.
 #[tactic(auto, using(crate::proofs::Written::written_6))]
 pub fn append_u48_le<B: OctetsBuilder>(builder: &mut B, value: u64) -> Result<(), ComposeError>
     ensures octets { value < 256 ^ 6 → AreOctetsOf le 6 value (octets_le 6 value) }
@@ -260,11 +211,6 @@ pub fn append_u48_le<B: OctetsBuilder>(builder: &mut B, value: u64) -> Result<()
 }
 
 /// Appends a signed integer in 8 octets, big-endian.
-///
-/// # Errors
-///
-/// `Short` where the content would pass the limit of its type, and else `Memory` where a request for memory
-/// was refused. The content is then as it was.
 #[tactic(auto, using(crate::proofs::Written::written_8))]
 pub fn append_i64_be<B: OctetsBuilder>(builder: &mut B, value: i64) -> Result<(), AppendError>
     ensures octets { AreOctetsOf (λ octets. signed 8 (be octets)) 8 value (octets_be 8 (unsigned 8 value)) }
@@ -276,11 +222,6 @@ pub fn append_i64_be<B: OctetsBuilder>(builder: &mut B, value: i64) -> Result<()
 }
 
 /// Appends a signed integer in 8 octets, little-endian.
-///
-/// # Errors
-///
-/// `Short` where the content would pass the limit of its type, and else `Memory` where a request for memory
-/// was refused. The content is then as it was.
 #[tactic(auto, using(crate::proofs::Written::written_8))]
 pub fn append_i64_le<B: OctetsBuilder>(builder: &mut B, value: i64) -> Result<(), AppendError>
     ensures octets { AreOctetsOf (λ octets. signed 8 (le octets)) 8 value (octets_le 8 (unsigned 8 value)) }
@@ -292,11 +233,6 @@ pub fn append_i64_le<B: OctetsBuilder>(builder: &mut B, value: i64) -> Result<()
 }
 
 /// Appends an unsigned integer in 8 octets, big-endian.
-///
-/// # Errors
-///
-/// `Short` where the content would pass the limit of its type, and else `Memory` where a request for memory
-/// was refused. The content is then as it was.
 #[tactic(auto, using(crate::proofs::Written::written_8))]
 pub fn append_u64_be<B: OctetsBuilder>(builder: &mut B, value: u64) -> Result<(), AppendError>
     ensures octets { AreOctetsOf be 8 value (octets_be 8 value) }
@@ -308,11 +244,6 @@ pub fn append_u64_be<B: OctetsBuilder>(builder: &mut B, value: u64) -> Result<()
 }
 
 /// Appends an unsigned integer in 8 octets, little-endian.
-///
-/// # Errors
-///
-/// `Short` where the content would pass the limit of its type, and else `Memory` where a request for memory
-/// was refused. The content is then as it was.
 #[tactic(auto, using(crate::proofs::Written::written_8))]
 pub fn append_u64_le<B: OctetsBuilder>(builder: &mut B, value: u64) -> Result<(), AppendError>
     ensures octets { AreOctetsOf le 8 value (octets_le 8 value) }
@@ -324,11 +255,6 @@ pub fn append_u64_le<B: OctetsBuilder>(builder: &mut B, value: u64) -> Result<()
 }
 
 /// Appends a signed integer in 16 octets, big-endian.
-///
-/// # Errors
-///
-/// `Short` where the content would pass the limit of its type, and else `Memory` where a request for memory
-/// was refused. The content is then as it was.
 #[tactic(auto, using(crate::proofs::Written::written_16))]
 pub fn append_i128_be<B: OctetsBuilder>(builder: &mut B, value: i128) -> Result<(), AppendError>
     ensures octets { AreOctetsOf (λ octets. signed 16 (be octets)) 16 value (octets_be 16 (unsigned 16 value)) }
@@ -340,11 +266,6 @@ pub fn append_i128_be<B: OctetsBuilder>(builder: &mut B, value: i128) -> Result<
 }
 
 /// Appends a signed integer in 16 octets, little-endian.
-///
-/// # Errors
-///
-/// `Short` where the content would pass the limit of its type, and else `Memory` where a request for memory
-/// was refused. The content is then as it was.
 #[tactic(auto, using(crate::proofs::Written::written_16))]
 pub fn append_i128_le<B: OctetsBuilder>(builder: &mut B, value: i128) -> Result<(), AppendError>
     ensures octets { AreOctetsOf (λ octets. signed 16 (le octets)) 16 value (octets_le 16 (unsigned 16 value)) }
@@ -356,11 +277,6 @@ pub fn append_i128_le<B: OctetsBuilder>(builder: &mut B, value: i128) -> Result<
 }
 
 /// Appends an unsigned integer in 16 octets, big-endian.
-///
-/// # Errors
-///
-/// `Short` where the content would pass the limit of its type, and else `Memory` where a request for memory
-/// was refused. The content is then as it was.
 #[tactic(auto, using(crate::proofs::Written::written_16))]
 pub fn append_u128_be<B: OctetsBuilder>(builder: &mut B, value: u128) -> Result<(), AppendError>
     ensures octets { AreOctetsOf be 16 value (octets_be 16 value) }
@@ -372,11 +288,6 @@ pub fn append_u128_be<B: OctetsBuilder>(builder: &mut B, value: u128) -> Result<
 }
 
 /// Appends an unsigned integer in 16 octets, little-endian.
-///
-/// # Errors
-///
-/// `Short` where the content would pass the limit of its type, and else `Memory` where a request for memory
-/// was refused. The content is then as it was.
 #[tactic(auto, using(crate::proofs::Written::written_16))]
 pub fn append_u128_le<B: OctetsBuilder>(builder: &mut B, value: u128) -> Result<(), AppendError>
     ensures octets { AreOctetsOf le 16 value (octets_le 16 value) }

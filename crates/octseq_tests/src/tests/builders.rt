@@ -1,3 +1,4 @@
+//! Each sequence and builder: what it keeps, refuses, copies and freezes to.
 ghost use Rattle.std.specs.Prelude.{◌≡◌, Ok};
 
 use arrayvec::ArrayVec;

@@ -1,3 +1,4 @@
+//! What errors print, and which are made of which.
 use octseq::ShortInput;
 use octseq::parse::ParseOctetsError;
 use std::alloc::{AllocError, Global};

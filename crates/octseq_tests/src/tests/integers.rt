@@ -1,3 +1,4 @@
+//! Integers of each width, read in both orders of octets.
 use super::{Case, over_each};
 use octseq::octets::Octets;
 use octseq::parse::{Parser, ShortInput};

@@ -1,3 +1,4 @@
+//! Lists of calls on parsers, and the reply to each.
 use super::{Case, over_each};
 use octseq::builder::AsOctets;
 use octseq::octets::Octets;

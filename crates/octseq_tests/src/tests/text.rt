@@ -1,3 +1,4 @@
+//! Texts: how they are read, pushed to and refused, and where faults are.
 use super::is_text_or_short;
 use octseq::array::Array;
 use octseq::builder::{AppendError, EmptyBuilder, OctetsBuilder, ShortBuf, Truncate};

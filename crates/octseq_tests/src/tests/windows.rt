@@ -1,3 +1,4 @@
+//! Parsers and their windows: moves, nested parsers, ranges and buffers.
 use super::{Case, over_each};
 use bytes::Bytes;
 use octseq::builder::AsOctets;
