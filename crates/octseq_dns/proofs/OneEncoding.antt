@@ -3,7 +3,7 @@ use Rattle.std.proofs.Common.{◌≡◌, ℕ, ◌+◌, ◌-◌, ◌<◌, ◌≤�
 use Rattle.std.proofs.Common.{ap, ◌∙◌, subst, arith}
 use Rattle.std.proofs.lemmas.List.Elements.{All-contains, Contains-append_right, Contains-get_or}
 use Rattle.std.proofs.Math.Nat.{lt_of_not-le}
-use Rattle.std.specs.List.{All, Contains}
+use Rattle.std.specs.List.{Contains}
 use Rattle.octseq_dns.specs.Encoded.{IsRun, IsLongest, HasNoRun, IsEncoded, Encodes, IsPlaced, unrooted, pointer_to}
 use Rattle.octseq_dns.specs.Encoded.{written_of, pointers_of}
 use Rattle.octseq_dns.specs.Place.{places_of}

@@ -4,8 +4,7 @@ use Rattle.std.proofs.Common.{sym, ap, ◌∙◌, subst, arith}
 use Rattle.std.proofs.lemmas.List.{length-append}
 use Rattle.octseq.specs.Window.{Window}
 use Rattle.octseq_dns_message.specs.Format.{Row}
-use Rattle.octseq_dns_message.specs.declared.header.Header.{Header}
-use Rattle.octseq_dns.specs.Section.{Counts, StandLists, Takes, TakesRecords}
+use Rattle.octseq_dns.specs.Section.{StandLists, Takes, TakesRecords}
 use Rattle.octseq_dns.specs.Section.{UpToQuestions, UpToAnswers, UpToAuthorities, UpToAdditionals}
 use Rattle.octseq_dns.specs.Section.{more_asked, more_answers, more_authorities, more_additionals}
 use Rattle.octseq_dns.specs.Told.{Told, IsTold}

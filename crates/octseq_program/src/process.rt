@@ -49,8 +49,12 @@ pub fn run<C: Commands>(rt: &HostRuntime, word: &str) -> ExitCode
 }
 
 /// Runs the command that the program's arguments name, or `unnamed` where they name none. Arguments that can't be
-/// read are a word that names no command.
-pub fn start<C: Commands>(rt: &HostRuntime, unnamed: &str) -> ExitCode {
+/// read are a word that names no command. The status is that of a run of some word on some input, as no contract can
+/// say what the arguments and standard input give.
+pub fn start<C: Commands>(rt: &HostRuntime, unnamed: &str) -> ExitCode
+    ensures { (word : List ℕ) × (ended : Result Status ProgramFault) × (exit_status result ≡ status_of ended)
+        × IfOk ended (Ran C.name_of C.out word None None None) }
+{
     let Ok(args) = env::args(rt) else {
         return run::<C>(rt, "");
     };

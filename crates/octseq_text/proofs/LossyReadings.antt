@@ -4,7 +4,7 @@ use Rattle.std.proofs.lemmas.Result.{IfOk-weaker}
 use Rattle.octseq_core.specs.Limit.{IsPast}
 use Rattle.octseq_core.specs.Refusal.{Refusal, IsShort, IsMemory}
 use Rattle.octseq_utf8.specs.Encoding.{IsCharacter}
-use Rattle.octseq_utf8.specs.Parts.{Part, Splits, text_with}
+use Rattle.octseq_utf8.specs.Parts.{Part, text_with}
 use Rattle.octseq_utf8.specs.Reading.{parts_of}
 use Rattle.octseq_utf8.specs.Text.{IsWellFormed}
 use Rattle.octseq_utf8.proofs.LossyTexts.{text_well_formed, text_same, text_with_long}

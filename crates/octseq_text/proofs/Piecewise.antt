@@ -3,14 +3,14 @@ use Rattle.std.specs.Prelude.{is_some, IsTrue}
 use Rattle.std.proofs.Common.{Bool, true, false, ◌≡◌, ◌≢◌, ℕ, suc, ◌+◌, ◌<◌, ◌≤◌, List, [], ◌∷◌, ◌++◌}
 use Rattle.std.proofs.Common.{map, length, get_or, take, drop, refl, arith, ◌⊎◌, inl, inr, ⊎_elim, ap}
 use Rattle.std.proofs.Common.{sym, ◌∙◌, subst, append_assoc, length-append, Option, Some, None}
-use Rattle.std.proofs.Math.Seq.{take-append_seam, drop-append_seam, drop-cons, take-suc}
+use Rattle.std.proofs.Math.Seq.{take-append_seam, drop-cons, take-suc}
 use Rattle.std.proofs.lemmas.List.{append-nil, take-append-drop}
 use Rattle.std.specs.List.{concat, AllByRecursion}
 use Rattle.octseq_core.specs.Limit.{IsWithin, IsPast}
 use Rattle.octseq_core.specs.declared.builder.AppendError.{AppendError}
 use Rattle.octseq_utf8.specs.Chunk.{Chunk, IsFirstChunk}
 use Rattle.octseq_utf8.specs.Encoding.{IsEncoding, encoding_of}
-use Rattle.octseq_utf8.specs.Fault.{Fault, IsFault, IsFaultSize, fault_end}
+use Rattle.octseq_utf8.specs.Fault.{Fault, IsFault, IsFaultSize}
 use Rattle.octseq_utf8.specs.Parts.{IsFront, IsBeginning, IsBadPart, Part, Char, Bad, Splits, nothing, text}
 use Rattle.octseq_text.specs.Pieces.{Settles, open_end, no_end, Held, StandsFor, IsSound}
 use Rattle.octseq_utf8.specs.Reading.{width_of, width, parts_of}

@@ -1,8 +1,7 @@
 -- How far a lossy reading has come. Public contracts don't cite it.
-use Rattle.std.specs.Prelude.{◌≡◌, ◌≢◌, ℕ, ◌+◌, ◌*◌, ◌≤◌, ◌++◌, drop, List, [], length, Option}
+use Rattle.std.specs.Prelude.{◌≡◌, ◌≢◌, ℕ, ◌++◌, List, [], length, Option}
 use Rattle.octseq_core.specs.Limit.{IsPast}
-use Rattle.octseq_utf8.specs.Fault.{Fault, fault_end}
-use Rattle.octseq_utf8.specs.Parts.{IsBeginning, Part, text_with, text}
+use Rattle.octseq_utf8.specs.Parts.{IsBeginning, Part, text}
 use Rattle.octseq_utf8.specs.Reading.{parts_of}
 
 -- Of octets some parts were read, and a rest is left: whatever follows, the other parts are those of the rest and of

@@ -1,6 +1,4 @@
-use Rattle.std.proofs.Common.{ap, ◌∙◌, ◌++◌, sym, subst, length}
-use Rattle.std.proofs.lemmas.Result.{on_ok_weaker}
-use Rattle.octseq_core.specs.Limit.{IsPast}
+use Rattle.std.proofs.Common.{◌∙◌, sym, subst}
 use Rattle.octseq_utf8.specs.Chunk.{IsFirstChunk}
 use Rattle.octseq_utf8.proofs.ByChunk.{text_at_chunk}
 use Rattle.octseq_text.proofs.Replacing.{nothing_added}

@@ -1,4 +1,4 @@
-use Rattle.std.proofs.Common.{◌++◌, length, refl, sym, subst}
+use Rattle.std.proofs.Common.{length, refl, sym, subst}
 use Rattle.octseq_core.specs.Limit.{IsPast}
 use Rattle.octseq_core.specs.Refusal.{append_error}
 use Rattle.octseq_core.proofs.Limits.{within_not_past}
