@@ -275,7 +275,7 @@ no_chained_second Fits code Suits spelling octets behind a told fits read none (
     let back : p.0 ≡ a = sym one.0 in
     none (p.1, more, subst (λ c. Suits c p.1) back here.1, one.1 ∙ ap (λ c. spelling c p.1 ++ more) back)
 
--- octets whose length is told by what was read before them, wherever it was told
+-- octets whose length was read before them, wherever that was
 pub counted_code : {A : Type 0} (Fits : A → Type 0) (code : A → List ℕ) (count : A → ℕ) → IsCode Fits code
     → IsCode {A = A × List ℕ} (λ p. Fits p.0 × (length p.1 ≡ count p.0)) (λ p. code p.0 ++ p.1)
 counted_code Fits code count told = chained_code Fits code (λ a octets. length octets ≡ count a) (λ _ octets. octets)

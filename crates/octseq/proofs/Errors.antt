@@ -11,13 +11,13 @@ use Rattle.octseq.specs.declared.parse.error.ParseOctetsError.{ParseOctetsError}
 
 -- ---- of a parser
 
--- a refusal that is told as malformed was for want of octets
+-- a refusal that is reported as malformed was for want of octets
 pub short_of : (T : Type 0) (e : ParseOctetsError) → read_error_of e ≡ ReadError.Malformed
     → IsShort {T = T} parse_octets_error (Err e)
 short_of T (ParseOctetsError.Short e) told = tt
 short_of T ParseOctetsError.Memory told = absurd (cc)
 
--- one that is told as memory was for want of memory
+-- one that is reported as memory was for want of memory
 pub memory_of : (T : Type 0) (e : ParseOctetsError) → read_error_of e ≡ ReadError.Memory
     → IsMemory {T = T} parse_octets_error (Err e)
 memory_of T (ParseOctetsError.Short e) told = absurd (cc)
@@ -25,21 +25,21 @@ memory_of T ParseOctetsError.Memory told = tt
 
 -- ---- of a composer
 
--- a refusal that is told as malformed was for an integer or a length that doesn't fit its octets
+-- a refusal that is reported as malformed was for an integer or a length that doesn't fit its octets
 pub too_long_of : (e : ComposeError) → write_error_of e ≡ WriteError.Malformed
     → IsTooLong {T = Unit {0}} compose_error (Err e)
 too_long_of ComposeError.TooLong told = tt
 too_long_of ComposeError.Short told = absurd (cc)
 too_long_of ComposeError.Memory told = absurd (cc)
 
--- one that is told as short was for want of room
+-- one that is reported as short was for want of room
 pub part_short_of : (e : ComposeError) → write_error_of e ≡ WriteError.Short
     → IsShort {T = Unit {0}} compose_error (Err e)
 part_short_of ComposeError.TooLong told = absurd (cc)
 part_short_of ComposeError.Short told = tt
 part_short_of ComposeError.Memory told = absurd (cc)
 
--- one that is told as memory was for want of memory
+-- one that is reported as memory was for want of memory
 pub part_memory_of : (e : ComposeError) → write_error_of e ≡ WriteError.Memory
     → IsMemory {T = Unit {0}} compose_error (Err e)
 part_memory_of ComposeError.TooLong told = absurd (cc)
@@ -53,13 +53,13 @@ pub append_not_malformed : (e : AppendError) → write_error_of (refusal_of e) �
 append_not_malformed (AppendError.Short e) told = cc
 append_not_malformed AppendError.Memory told = cc
 
--- one that is told as short was for want of room
+-- one that is reported as short was for want of room
 pub append_short_of : (T : Type 0) (e : AppendError) → write_error_of (refusal_of e) ≡ WriteError.Short
     → IsShort {T = T} append_error (Err e)
 append_short_of T (AppendError.Short e) told = tt
 append_short_of T AppendError.Memory told = absurd (cc)
 
--- one that is told as memory was for want of memory
+-- one that is reported as memory was for want of memory
 pub append_memory_of : (T : Type 0) (e : AppendError) → write_error_of (refusal_of e) ≡ WriteError.Memory
     → IsMemory {T = T} append_error (Err e)
 append_memory_of T (AppendError.Short e) told = absurd (cc)

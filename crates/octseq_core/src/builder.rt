@@ -174,7 +174,7 @@ pub trait FreezeBuilder: AsOctets {
     ///
     /// # Errors
     ///
-    /// `AllocError` where a request for memory was refused. The builder is then given up.
+    /// `AllocError` where a request for memory was refused. The builder is then dropped.
     ///
     /// # Examples
     ///
@@ -199,7 +199,7 @@ pub trait IntoBuilder: AsOctets {
     ///
     /// # Errors
     ///
-    /// `AllocError` where a request for memory was refused. The sequence is then given up.
+    /// `AllocError` where a request for memory was refused. The sequence is then dropped.
     fn into_builder(self, alloc: Global) -> Result<Self::Builder, AllocError>
         ensures ok { IfOk result (λ builder. Self.Builder.content builder ≡ Self.content self) }
         ensures memory { OnErr result (Self.Builder.asks ≡ true) };
@@ -214,7 +214,7 @@ pub trait FromBuilder: OctetsLimit {
     ///
     /// # Errors
     ///
-    /// `AllocError` where a request for memory was refused. The builder is then given up.
+    /// `AllocError` where a request for memory was refused. The builder is then dropped.
     fn from_builder(builder: Self::Builder) -> Result<Self, AllocError>
         ensures ok { IfOk result (λ octets. Self.content octets ≡ Self.Builder.content builder) }
         ensures memory { OnErr result (Self.asks ≡ true) };

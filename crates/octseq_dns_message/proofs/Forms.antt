@@ -1,4 +1,4 @@
--- The form of data is told by its type: what stands there by each type, and where no form does.
+-- The form of data follows from its type: what stands there by each type, and where no form does.
 use Rattle.std.proofs.Common.{◌≡◌, ℕ, if◌then◌else◌, nat_eq, refl, sym, ap, ◌∙◌, subst, arith}
 use mathlib.Core.Logic.{inl, inr}
 use Rattle.octseq.specs.Window.{Window, at}

@@ -24,7 +24,7 @@ row_moves Is moves w v (x ∷ row) is =
     let more = row_moves Is moves is.0 v row is.2 in
     omega (arith, one, more)
 
--- and is told by where it ends
+-- and follows from where it ends
 pub one_row_to : {A : Type 0} (Is : Window → A → Window → Type 0) → IsOne Is → Moves Is
     → (w u v : Window) (row others : List A) → u.position ≡ v.position
     → Row Is w row u → Row Is w others v → row ≡ others

@@ -44,7 +44,7 @@ name_eq_equiv = on_equiv lower_labels (lists_equiv (lists_equiv nat_eq_equiv))
 pub name_cmp_total : IsTotalOrder name_cmp
 name_cmp_total = on_total canonical (lists_total nat_list_cmp_total)
 
--- what is hashed is told by the labels in lower case
+-- the labels in lower case decide what is hashed
 writes_lower : (labels : List (List ℕ))
     → flat_map label_writes labels ≡ flat_map (fed.slice fed.u8) (lower_labels labels)
 writes_lower [] = refl

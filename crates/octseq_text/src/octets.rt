@@ -105,7 +105,7 @@ pub trait OctetsFrom<Source: AsOctets>: OctetsLimit {
     /// # Errors
     ///
     /// `Short` where the octets pass the limit of the type, and else `Memory` where a request for memory
-    /// was refused. The source is then given up.
+    /// was refused. The source is then dropped.
     fn try_octets_from(alloc: Global, source: Source) -> Result<Self, AppendError>
         ensures ok { IfOk result (λ octets. Self.content octets ≡ Source.content source) }
         ensures short { IsShort append_error result ↔ IsPast Self.limit (length (Source.content source)) }
@@ -115,7 +115,7 @@ pub trait OctetsFrom<Source: AsOctets>: OctetsLimit {
     ///
     /// # Errors
     ///
-    /// `AllocError` where a request for memory was refused. The source is then given up.
+    /// `AllocError` where a request for memory was refused. The source is then dropped.
     final fn octets_from(alloc: Global, source: Source) -> Result<Self, AllocError>
     where
         Self: Sized,

@@ -13,7 +13,7 @@ use Rattle.octseq_uses.specs.Record.{record_of, IsRecord}
 abbrev pub spelled : ℕ × List ℕ → List ℕ
 spelled pair = record_of pair.0 pair.1
 
--- a record is told from the front of octets, and so is what stands behind it
+-- the front of octets decides which record it is, and what stands behind it
 pub record_code : IsCode IsRecord spelled
 record_code = pair_code (λ key. key < 65536) (octets_be 2) (λ value. length value < 256) (part_of 1) (integer_code 2)
     (part_code 1)

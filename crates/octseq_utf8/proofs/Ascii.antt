@@ -65,7 +65,7 @@ first_of (y ∷ ys) h = go (leb 128 y) refl
           ∙ omega arith,
     )
 
--- what the code tests next: the mask is even exactly where the octet at hand is ASCII
+-- what the code tests next: the mask is even exactly where the current octet is ASCII
 pub lane_first : (x : List ℕ) (i : ℕ) → length (take 16 (drop i x)) ≡ 16
     → (mask_l (map (top 7) (zip2 (λ (a b : ℕ). cond (leb a b) 255 0) (replicate 16 128) (take 16 (drop i x)))) % 2 ^ 64
     % 2 ≡ 0) ↔ (get_or x i 0 < 128)

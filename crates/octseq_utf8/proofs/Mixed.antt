@@ -211,7 +211,7 @@ mixed_high x place old now len m room first (within, e) =
     front_high zero y a r e h k = absurd (omega arith)
     front_high (suc n) y a r e h k = rw e (omega (arith, high-cons_high a (take n r) k))
 
--- the lowest bit of a lane's mask is that of the octet at hand
+-- the lowest bit of a lane's mask is that of the current octet
 pub first_high : (high a : ℕ) → (high % 2 ≡ 0) ↔ (a < 0x80) → high % 2 ≢ 0 → 0x80 ≤ a
 first_high high a first some = ⊎_elim (λ h. absurd (some (first.1 h))) (λ h. h) (low_or_high a)
 

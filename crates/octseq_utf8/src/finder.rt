@@ -3,7 +3,7 @@
 //! Text is mostly ASCII, or mostly of one script; a fault is rare. So the search takes these ways, the quickest first:
 //!
 //! - **Lanes.** Where sixteen octets are left, one load and one mask tell which of them are 80 or more. A lane with
-//!   none is passed at once. Where the octet at hand is below 80 but another of the lane isn't, one octet is passed:
+//!   none is passed at once. Where the current octet is below 80 but another of the lane isn't, one octet is passed:
 //!   the next place then hangs on a branch, which the processor foresees in text, and not on the mask. Only before
 //!   the first octet of 80 or more does the search jump by the mask, since a search that goes on behind a fault is
 //!   often at the next one soon.

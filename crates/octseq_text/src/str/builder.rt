@@ -133,7 +133,7 @@ impl<Octets: AsOctets> StrBuilder<Octets> {
     ///
     /// # Errors
     ///
-    /// `AllocError` where a request for memory was refused. The text is then given up.
+    /// `AllocError` where a request for memory was refused. The text is then dropped.
     pub fn freeze(self) -> Result<Str<Octets::Octets>, AllocError>
     where
         Octets: FreezeBuilder,

@@ -25,7 +25,7 @@ impl<Octets: AsOctets> StrBuilder<Octets> {
     /// the Unicode Standard, chapter 3, on the replacement of maximal subparts.
     ///
     /// Octets that are well formed are given back as they are, and no memory is requested. Else a new
-    /// builder is filled, and the one that was passed is given up.
+    /// builder is filled, and the one that was passed is dropped.
     ///
     /// # Errors
     ///
