@@ -19,14 +19,19 @@ is_built() {
 
 # Reads what a check prints, and tells of each crate how many of its functions are checked, a tenth at a time.
 tell() {
-    awk '
-        /^rt: chose --jobs/ { crate = $NF; told = -1 }
-        / [0-9]+ of [0-9]+( functions checked.*)?$/ {
-            match($0, /[0-9]+ of [0-9]+/)
-            split(substr($0, RSTART, RLENGTH), count, " of ")
-            tenth = int(10 * count[1] / count[2])
-            if (tenth > told) { print "  " crate ": " count[1] " of " count[2] " functions"; fflush(); told = tenth }
-        }'
+    local crate="" told=-1 line tenth
+    while IFS= read -r line; do
+        if [[ "$line" =~ ^"rt: chose --jobs ".*" "([^ ]+)$ ]]; then
+            crate="${BASH_REMATCH[1]}"
+            told=-1
+        elif [[ "$line" =~ " "([0-9]+)" of "([0-9]+)(" functions checked".*)?$ ]]; then
+            tenth=$((10 * BASH_REMATCH[1] / BASH_REMATCH[2]))
+            if ((tenth > told)); then
+                echo "  $crate: ${BASH_REMATCH[1]} of ${BASH_REMATCH[2]} functions"
+                told=$tenth
+            fi
+        fi
+    done
 }
 
 if ! is_built; then

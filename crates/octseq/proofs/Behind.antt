@@ -27,7 +27,8 @@ next_behind front octets after k many =
     ap (λ n. take n (drop (length front) (front ++ (octets ++ after)))) count
     ∙ ap (take (length octets)) (drop-append_seam front (octets ++ after)) ∙ take-append_seam octets after
 
-past_behind : (front octets after : List ℕ) (k : ℕ) → length octets ≡ k
+-- past the octets that stand there, what is behind them is left
+pub past_behind : (front octets after : List ℕ) (k : ℕ) → length octets ≡ k
     → past k (behind front (octets ++ after)) ≡ behind (front ++ octets) after
 past_behind front octets after k many =
     let long : length (front ++ octets) ≡ length front + length octets = length-append front octets in

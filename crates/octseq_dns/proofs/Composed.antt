@@ -3,9 +3,6 @@ use Rattle.std.proofs.Common.{◌≡◌, ℕ, ◌+◌, ◌-◌, ◌<◌, ◌≤�
 use Rattle.std.proofs.Common.{sym, ap, ◌∙◌, subst, arith}
 use Rattle.std.proofs.lemmas.List.{length-append, length-drop, take-append-drop}
 use Rattle.octseq.specs.Integer.{octets_be}
-use Rattle.octseq.proofs.Codes.{length_part}
-use Rattle.octseq.proofs.Written.{length_be}
-use Rattle.octseq.specs.Part.{part_of}
 use Rattle.octseq_dns_message.specs.declared.header.Header.{Header}
 use Rattle.octseq_dns_name.specs.Name.{wire_length}
 use Rattle.octseq_dns_name.specs.Wire.{wire}
@@ -19,6 +16,7 @@ use Rattle.octseq_dns.specs.RecordEntry.{IsMade, IsRecordEntry, behind_owner}
 use Rattle.octseq_dns.specs.Told.{Told, Matter}
 use Rattle.octseq_dns.specs.Written.{Asked, header_octets}
 use Rattle.octseq_dns.specs.declared.place.Place.{Place}
+use Rattle.octseq_dns.proofs.Made.{behind_length}
 use Rattle.octseq_dns.proofs.OneEncoding.{one_placed}
 
 -- ---- one composition
@@ -191,25 +189,6 @@ made_shorter octets others places start begin (Matter.srv priority weight port l
 made_shorter octets others places start begin (Matter.opaque data_are) made plain added more a b =
     let same = ap length (a.0 ∙ sym b.0) in omega (arith, same)
 
--- how many octets stand behind the name of a record
-pub behind_size : (told : Told) (made : List ℕ)
-    → length (behind_owner told.rtype told.class told.ttl made) ≡ 10 + length made
-behind_size told made =
-    let rtype = octets_be 2 told.rtype in
-    let class = octets_be 2 told.class in
-    let ttl = octets_be 4 told.ttl in
-    let kept = part_of 2 made in
-    omega (
-      arith,
-      length-append rtype (class ++ (ttl ++ kept)),
-      length-append class (ttl ++ kept),
-      length-append ttl kept,
-      length_part 2 made,
-      length_be 2 told.rtype,
-      length_be 2 told.class,
-      length_be 4 told.ttl,
-    )
-
 -- Entries of one kind are no longer than the plain ones of a table that holds nothing, which stays so.
 abbrev pub IsShorter : {A : Type 0} → (IsEntry IsPlain : List ℕ → List Place → A → List ℕ → List Place → Type 0)
     → Type 0
@@ -237,8 +216,8 @@ record_shorter most octets others places told entry plain next more a b =
     b.added a.is_made b.is_made in
     let first = ap length a.entry_is ∙ length-append a.owner (behind_owner told.rtype told.class told.ttl a.made) in
     let second = ap length b.entry_is ∙ length-append b.owner (behind_owner told.rtype told.class told.ttl b.made) in
-    let one = behind_size told a.made in
-    let two = behind_size told b.made in
+    let one = behind_length told.rtype told.class told.ttl a.made in
+    let two = behind_length told.rtype told.class told.ttl b.made in
     (omega (arith, owner, made, first, second, one, two), b.after_is)
 
 -- So is a row of them.

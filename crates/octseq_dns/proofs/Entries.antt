@@ -16,7 +16,8 @@ use Rattle.octseq_dns.specs.Pushed.{IsQuestionEntry, IsQuestionLeast, PassesWith
 use Rattle.octseq_dns.specs.RecordEntry.{IsMade, IsRecordEntry, IsRecordLeast, behind_owner}
 use Rattle.octseq_dns.specs.Told.{Matter}
 use Rattle.octseq_dns.specs.declared.place.Place.{Place}
-use Rattle.octseq_dns.proofs.Composed.{IsOneEntry, one_chain, one_question_entry, one_record_entry, behind_size}
+use Rattle.octseq_dns.proofs.Composed.{IsOneEntry, one_chain, one_question_entry, one_record_entry}
+use Rattle.octseq_dns.proofs.Made.{behind_length}
 use Rattle.octseq_dns.proofs.OneEncoding.{one_placed}
 
 -- ---- under another header
@@ -279,8 +280,8 @@ record_less most octets places told entry least next is (inr a) =
     let whole_is = ap length is.entry_is ∙ length-append is.owner (behind_owner told.rtype told.class told.ttl
     is.made) in
     let front_is = ap length a.2 ∙ length-append a.0 (behind_owner told.rtype told.class told.ttl []) in
-    let one = behind_size told is.made in
-    let two = behind_size told [] in
+    let one = behind_length told.rtype told.class told.ttl is.made in
+    let two = behind_length told.rtype told.class told.ttl [] in
     omega (arith, owner, whole_is, front_is, one, two)
 
 -- Where the octets so far pass a limit with what the next entry has at least, all rows of the list pass it.

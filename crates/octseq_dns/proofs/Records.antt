@@ -145,13 +145,7 @@ record_stands h body name made told typed classed timed fits named says header m
       arith,
       length-append body (name ++ behind),
       length-append name behind,
-      length-append rtype (class ++ (ttl ++ kept)),
-      length-append class (ttl ++ kept),
-      length-append ttl kept,
-      length_part 2 made,
-      length_be 2 told.rtype,
-      length_be 2 told.class,
-      length_be 4 told.ttl,
+      behind_length told.rtype told.class told.ttl made,
     ) in
     let r = record_at all place q (length made) told in
     let stands : IsRecord (at place (whole all)) r (at end (whole all)) = (

@@ -8,6 +8,7 @@ use Rattle.octseq.specs.Window.{Window, left, next, past, at, whole}
 use Rattle.octseq_dns.specs.Encoded.{unrooted, pointer_to}
 use Rattle.octseq_dns_name.specs.Name.{HasRoot, HasLabel, HasPointer, Stands, IsName, octet}
 use Rattle.octseq_dns_name.specs.Wire.{AreLabels}
+use Rattle.octseq_dns_name.proofs.Wires.{be_one}
 
 -- ---- pieces
 
@@ -16,10 +17,6 @@ next_at all p n = let same : p + n - p ≡ n = omega arith in ap (λ k. take k (
 
 left_at : (all : List ℕ) (p : ℕ) → left (at p (whole all)) ≡ length (drop p all)
 left_at all p = sym (length-drop p all)
-
-be_one : (n : ℕ) → be (n ∷ []) ≡ n
-unfolding be
-be_one n = omega arith
 
 octet_at : (all after : List ℕ) (p n : ℕ) → drop p all ≡ n ∷ after → octet (at p (whole all)) ≡ n
 octet_at all after p n is = ap be (next_at all p 1) ∙ ap (λ octets. be (take 1 octets)) is ∙ be_one n

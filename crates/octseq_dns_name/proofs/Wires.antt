@@ -5,8 +5,8 @@ use Rattle.std.proofs.lemmas.List.{length-append, flat_map_more}
 use Rattle.octseq.specs.Limit.{IsPast}
 use Rattle.octseq.proofs.Limits.{past_more}
 use Rattle.octseq.specs.Integer.{be}
-use Rattle.octseq.specs.Window.{Window, left, next, past, at, behind, whole}
-use Rattle.octseq.proofs.Behind.{left_behind, come_next}
+use Rattle.octseq.specs.Window.{Window, left, next, past, behind, whole}
+use Rattle.octseq.proofs.Behind.{left_behind, come_next, past_behind}
 use Rattle.octseq_dns_name.specs.Name.{HasRoot, HasLabel, Stands, IsName, octet, wire_length}
 use Rattle.octseq_dns_name.specs.Wire.{wire, AreLabels}
 use Rattle.octseq_dns_name.proofs.Names.{wire_append}
@@ -31,16 +31,8 @@ wire_has labels = length-append (bodies labels) (0 ∷ []) ∙ bodies_length lab
 
 -- ---- a name
 
--- what stands past a front's next octets
-past_behind : (front octets after : List ℕ) (k : ℕ) → length octets ≡ k
-    → past k (behind front (octets ++ after)) ≡ behind (front ++ octets) after
-past_behind front octets after k many =
-    let long : length (front ++ octets) ≡ length front + length octets = length-append front octets in
-    let place : length front + k ≡ length (front ++ octets) = omega (arith, many, long) in
-    ap (λ p. at p (whole (front ++ (octets ++ after)))) place
-    ∙ ap (λ all. at (length (front ++ octets)) (whole all)) (sym (append_assoc front octets after))
-
-be_one : (n : ℕ) → be (n ∷ []) ≡ n
+-- the number of one octet is that octet
+pub be_one : (n : ℕ) → be (n ∷ []) ≡ n
 unfolding be
 be_one n = omega arith
 

@@ -1,6 +1,6 @@
 -- What is written is a function of the word and the input.
-use Rattle.std.proofs.Common.{◌≡◌, ◌≢◌, ◌∙◌, ◌<◌, ◌∷◌, ◌++◌}
-use Rattle.std.proofs.Common.{inl, inr, Bool, true, false, get_or, refl, sym, ap, subst, arith, List, [], length, codes}
+use Rattle.std.proofs.Common.{◌≡◌, ◌∙◌, ◌<◌, ◌∷◌, ◌++◌}
+use Rattle.std.proofs.Common.{inl, inr, Bool, true, false, refl, sym, ap, subst, arith, List, [], length, codes}
 use Rattle.std.proofs.Common.{ℕ, Option, Some, None}
 use Rattle.octseq.specs.Code.{HasFront}
 use Rattle.octseq.specs.Part.{part_of}
@@ -17,18 +17,12 @@ use Rattle.octseq_dns_tool.specs.Shown.{HasText, IsShown}
 use Rattle.octseq_dns_tool.specs.Stream.{FitsStream, IsCut}
 use Rattle.octseq_dns_tool.specs.declared.engine.Command.{Command}
 use Rattle.octseq_dns_tool.specs.declared.engine.Command.TheVariants.{Message, Rewrite, Stream}
-use Rattle.octseq_program.specs.Run.{IsNamed}
+use Rattle.octseq_program.proofs.Naming.{other_first, other_length}
 use Rattle.octseq_program.specs.declared.status.Status.{Status}
 use Rattle.octseq_program.specs.declared.status.Status.TheVariants.{Fine, Refused, Usage}
 
--- words that differ in their first octet, or in their length
-other_first : {P : Type 0} (x y : List ℕ) → get_or x 0 0 ≢ get_or y 0 0 → x ≡ y → P
-other_first x y h e = absurd (h (ap (λ w. get_or w 0 0) e))
-
-other_length : {P : Type 0} (x y : List ℕ) → length x ≢ length y → x ≡ y → P
-other_length x y h e = absurd (h (ap length e))
-
-same_name : (c d : Command) → name_of c ≡ name_of d → c ≡ d
+-- no two commands have one name
+pub same_name : (c d : Command) → name_of c ≡ name_of d → c ≡ d
 same_name Message Message e = refl
 same_name Stream Stream e = refl
 same_name Rewrite Rewrite e = refl
@@ -38,13 +32,6 @@ same_name Stream Rewrite e = other_length _ _ (omega arith) e
 same_name Rewrite Stream e = other_length _ _ (omega arith) e
 same_name Message Rewrite e = other_first _ _ (omega arith) e
 same_name Rewrite Message e = other_first _ _ (omega arith) e
-
--- a word names one command at most
-pub one_command : (word : List ℕ) (c d : Option Command) → IsNamed name_of word c → IsNamed name_of word d → c ≡ d
-one_command word (Some c) (Some d) e f = ap Some (same_name c d (sym e ∙ f))
-one_command word (Some c) None e f = absurd (f (c, e))
-one_command word None (Some d) e f = absurd (e (d, f))
-one_command word None None e f = refl
 
 -- an output and a status that another is
 abbrev Same : List ℕ → List ℕ → Status → Status → Type 0

@@ -1,12 +1,13 @@
 //! A program over any reader and any writer.
-ghost use Rattle.std.specs.Prelude.{◌≡◌, ◌≢◌, ℕ, List, Some, None, Option, Err, IfOk, IfErr, OnOk};
+ghost use Rattle.std.specs.Prelude.{◌≡◌, ◌≢◌, ◌++◌, ℕ, List, codes, Some, None, Option, Err, IfOk, IfErr, OnOk};
 ghost use Rattle.std.specs.Io.KnownBytes.{IsAtEnd};
 ghost use Rattle.octseq_program.specs.Run.{IsCommand, IsNamed, Answers, Ran, Broke};
 ghost use Rattle.octseq_program.specs.declared.status.Status.{Status};
 
 use crate::status::{ProgramFault, Status};
 use crate::streams::write_all;
-use std::alloc::Global;
+use octseq::{ShortInput, StrBuilder};
+use std::alloc::{AllocError, Global};
 use std::io::{Read, Write};
 
 /// What is written, and how the program ends.
@@ -16,6 +17,26 @@ pub struct Answer {
     pub output: Vec<u8>,
     /// How the program ends once that is written.
     pub status: Status,
+}
+
+/// The refusal of an input that ends too early: the line that says so, behind what was made of the input before that.
+///
+/// # Errors
+///
+/// `AllocError` where a request for memory was refused.
+pub fn cut_off(text: StrBuilder<Vec<u8>>, short: ShortInput) -> Result<Answer, AllocError>
+    ensures output { IfOk result (λ answer. answer.output.items ≡ text.items ++ codes "unexpected end of input\n") }
+    ensures status { IfOk result (λ answer. answer.status ≡ Status.Refused) }
+{
+    let mut output = text;
+    let Ok(()) = output.try_push_display(short) else {
+        return Err(AllocError);
+    };
+    output.push_str("\n")?;
+    Ok(Answer {
+        output: output.into_octets_builder(),
+        status: Status::Refused,
+    })
 }
 
 /// The commands of a program. `name_of` is the word that names one, and `out` is what is written for a command, or for

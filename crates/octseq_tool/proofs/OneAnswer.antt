@@ -1,27 +1,21 @@
 -- What is written is a function of the word and the input.
-use Rattle.std.proofs.Common.{◌≡◌, ◌≢◌, ◌∙◌, ◌∷◌, ◌++◌}
-use Rattle.std.proofs.Common.{inl, inr, get_or, refl, sym, ap, subst, arith, List, [], length, codes, ℕ, Option, Some}
+use Rattle.std.proofs.Common.{◌≡◌, ◌∙◌, ◌∷◌, ◌++◌}
+use Rattle.std.proofs.Common.{inl, inr, refl, sym, ap, subst, arith, List, [], length, codes, ℕ, Option, Some}
 use Rattle.std.proofs.Common.{None}
 use Rattle.std.proofs.lemmas.List.{append-nil}
 use Rattle.octseq_tool.proofs.Records.{IsRest, one_reading}
 use Rattle.octseq.specs.Fault.{Fault, IsFault, fault_text}
 use Rattle.octseq.specs.Parts.{Part, Splits, text}
 use Rattle.octseq.specs.Text.{IsWellFormed}
-use Rattle.octseq_program.specs.Run.{IsNamed}
+use Rattle.octseq_program.proofs.Naming.{other_first, other_length}
 use Rattle.octseq_tool.specs.Out.{name_of, HasText, records_of, IsCut, HasLines, Out}
 use Rattle.octseq_tool.specs.declared.engine.Command.{Command}
 use Rattle.octseq_tool.specs.declared.engine.Command.TheVariants.{Check, Lossy, Lossy64, Records}
 use Rattle.octseq_program.specs.declared.status.Status.{Status}
 use Rattle.octseq_program.specs.declared.status.Status.TheVariants.{Fine, Refused, Usage}
 
--- words that differ in their first octet, or in their length
-other_first : {P : Type 0} (x y : List ℕ) → get_or x 0 0 ≢ get_or y 0 0 → x ≡ y → P
-other_first x y h e = absurd (h (ap (λ w. get_or w 0 0) e))
-
-other_length : {P : Type 0} (x y : List ℕ) → length x ≢ length y → x ≡ y → P
-other_length x y h e = absurd (h (ap length e))
-
-same_name : (c d : Command) → name_of c ≡ name_of d → c ≡ d
+-- no two commands have one name
+pub same_name : (c d : Command) → name_of c ≡ name_of d → c ≡ d
 same_name Check Check e = refl
 same_name Lossy Lossy e = refl
 same_name Lossy64 Lossy64 e = refl
@@ -38,13 +32,6 @@ same_name Lossy Check e = other_first _ _ (omega arith) e
 same_name Lossy64 Check e = other_first _ _ (omega arith) e
 same_name Lossy Lossy64 e = other_length _ _ (omega arith) e
 same_name Lossy64 Lossy e = other_length _ _ (omega arith) e
-
--- a word names one command at most
-pub one_command : (word : List ℕ) (c d : Option Command) → IsNamed name_of word c → IsNamed name_of word d → c ≡ d
-one_command word (Some c) (Some d) e f = ap Some (same_name c d (sym e ∙ f))
-one_command word (Some c) None e f = absurd (f (c, e))
-one_command word None (Some d) e f = absurd (e (d, f))
-one_command word None None e f = refl
 
 -- an output and a status that another is
 abbrev Same : List ℕ → List ℕ → Status → Status → Type 0

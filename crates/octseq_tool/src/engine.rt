@@ -18,6 +18,7 @@ use octseq::builder::{AppendError, ShortBuf};
 use octseq::parse::{self, Parser, ShortInput};
 use octseq::str::{LossyPieces, StrBuilder};
 use octseq::utf8;
+use octseq_program::engine::cut_off;
 use octseq_program::streams::{failed_read, read_all};
 use octseq_program::{Answer, Commands, ProgramFault, Status};
 use std::alloc::{AllocError, Global};
@@ -190,22 +191,6 @@ fn push_line(output: &mut StrBuilder<Vec<u8>>, octets: &[u8]) -> Result<(), Allo
         return Err(AllocError);
     };
     output.push_str("\n")
-}
-
-/// The refusal of a rest that is no whole record, behind the lines of the records before it.
-fn cut_off(lines: StrBuilder<Vec<u8>>, short: ShortInput) -> Result<Answer, AllocError>
-    ensures output { IfOk result (λ answer. answer.output.items ≡ lines.items ++ codes "unexpected end of input\n") }
-    ensures status { IfOk result (λ answer. answer.status ≡ Refused) }
-{
-    let mut output = lines;
-    let Ok(()) = output.try_push_display(short) else {
-        return Err(AllocError);
-    };
-    output.push_str("\n")?;
-    Ok(Answer {
-        output: output.into_octets_builder(),
-        status: Status::Refused,
-    })
 }
 
 /// The lossy text of each record on a line. A line is at least as long as its record, so there is room for all of

@@ -8,10 +8,10 @@ ghost use Rattle.octseq_dns_tool.specs.Out.{Out};
 ghost use Rattle.octseq_dns_tool.specs.Shown.{IsShown};
 ghost use Rattle.octseq_dns_tool.specs.Stream.{FitsStream};
 ghost use Rattle.octseq_dns_tool.specs.declared.engine.Command.TheVariants.{Stream};
-ghost use Rattle.octseq_program.specs.declared.status.Status.TheVariants.{Refused};
 
 use crate::engine::push_shown;
 use octseq::{Parser, ShortInput, StrBuilder};
+use octseq_program::engine::cut_off;
 use octseq_program::{Answer, Status};
 use std::alloc::{AllocError, Global};
 
@@ -39,22 +39,6 @@ fn push_block(text: &mut StrBuilder<Vec<u8>>, octets: &[u8]) -> Result<(), Alloc
 {
     let _is_message = push_shown(text, octets)?;
     text.push_str("\n")
-}
-
-/// The refusal of a rest that is no whole message, behind the texts of the messages before it.
-fn cut_off(text: StrBuilder<Vec<u8>>, short: ShortInput) -> Result<Answer, AllocError>
-    ensures output { IfOk result (λ answer. answer.output.items ≡ text.items ++ codes "unexpected end of input\n") }
-    ensures status { IfOk result (λ answer. answer.status ≡ Refused) }
-{
-    let mut output = text;
-    let Ok(()) = output.try_push_display(short) else {
-        return Err(AllocError);
-    };
-    output.push_str("\n")?;
-    Ok(Answer {
-        output: output.into_octets_builder(),
-        status: Status::Refused,
-    })
 }
 
 /// What is shown of each message, with an empty line behind it.
