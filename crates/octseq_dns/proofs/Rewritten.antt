@@ -7,7 +7,10 @@ use Rattle.std.proofs.lemmas.List.{length-map}
 use Rattle.std.specs.Coded.{Coded, Coded-set, code_by, coded_bool, coded_ℕ, coded×}
 use Rattle.octseq.specs.Limit.{IsPast, IsWithin}
 use Rattle.octseq.proofs.Limits.{within_not_past}
-use Rattle.octseq_dns_message.specs.Entry.{Question, Record}
+use Rattle.octseq.specs.declared.AsOctets.{Ghosts}
+use Rattle.octseq_dns_message.specs.Entry.{Question, Record, IsQuestion, IsRecord}
+use Rattle.octseq_dns_message.specs.Parsed.{header_of, questions_of, answers_of, authorities_of, additionals_of}
+use Rattle.octseq_dns_message.specs.declared.message.Message.{Message}
 use Rattle.octseq_dns_message.specs.declared.header.Flags.{Flags}
 use Rattle.octseq_dns_message.specs.declared.header.Header.{Header}
 use Rattle.octseq_dns.specs.Composed.{CutShort, HasHeader, PushesAll, after_all, one_counted}
@@ -22,7 +25,7 @@ use Rattle.octseq_dns.specs.Written.{Asked, Lists, AreWritten, IsWritten, header
 use Rattle.octseq_dns.specs.declared.place.Place.{Place}
 use Rattle.octseq_dns.proofs.Fronts.{front_asked, front_told, front_cut, front_composed, asked_cut}
 use Rattle.octseq_dns.proofs.Fronts.{counting, asked_counted, answers_counted, authorities_counted, additionals_counted}
-use Rattle.octseq_dns.proofs.Fronts.{lists_are, told_length, pushes_header, same_prop}
+use Rattle.octseq_dns.proofs.Fronts.{held_count, lists_are, told_length, pushes_header, same_prop}
 use Rattle.octseq_dns.proofs.Entries.{past_prop}
 use Rattle.octseq_dns.proofs.ReadBack.{read_back}
 use Rattle.octseq_dns.proofs.Rewriting.{one_told, one_rewriting}
@@ -62,7 +65,7 @@ header_code = code_by (ℕ × (Flags × (ℕ × (ℕ × (ℕ × (ℕ × (ℕ × 
     }) (λ _. refl)
 
 -- it is a fact that headers are one
-header_prop : (h k : Header) → IsProp (h ≡ k)
+pub header_prop : (h k : Header) → IsProp (h ≡ k)
 header_prop h k = Coded-set header_code h k
 
 -- a header with one more in each count, as its sections count them
@@ -96,20 +99,29 @@ pub record Begun (h u : Header) (questions : List Question) (answers authorities
   pub fit : CountsFit h
   pub counts : CountsAll h questions answers authorities additionals
 
--- so it does with the header that was read
-pub begun_as : (h j u : Header) (questions : List Question) (answers authorities additionals : List Record)
-    (octets : List ℕ) (places : List Place) → j ≡ h → u ≡ uncounted j → octets ≡ header_octets (uncounted j)
-    → places ≡ [] → AreWritten octets u no_lists → CountsFit j → CountsAll h questions answers authorities additionals
-    → Begun h u questions answers authorities additionals octets places
-begun_as h j u questions answers authorities additionals octets places same counted alone none empty fit counts =
-    record {
-      alone = alone ∙ ap header_octets (sym counted);
-      none = none;
-      counted = counted ∙ ap uncounted same;
-      empty = empty;
-      fit = subst CountsFit same fit;
-      counts = counts;
-    }
+-- it begins so with the header of a message that was read
+abbrev pub BeginsAnew : {R : Type 0} {o : Ghosts R} → Message R o → Header → List ℕ → List Place → Type 0
+BeginsAnew message u octets places =
+    Begun (header_of message) u (questions_of message) (answers_of message) (authorities_of message)
+    (additionals_of message) octets places
+
+-- where that was set, and the counts are left out
+pub begun_as : {R : Type 0} {o : Ghosts R} (message : Message R o) (j u : Header) (octets : List ℕ)
+    (places : List Place) → j ≡ header_of message → u ≡ uncounted j → octets ≡ header_octets (uncounted j)
+    → places ≡ [] → AreWritten octets u no_lists → CountsFit j → BeginsAnew message u octets places
+begun_as message j u octets places same counted alone none empty fit = record {
+  alone = alone ∙ ap header_octets (sym counted);
+  none = none;
+  counted = counted ∙ ap uncounted same;
+  empty = empty;
+  fit = subst CountsFit same fit;
+  counts = record {
+    qdcount = held_count IsQuestion _ _ message.asked;
+    ancount = held_count IsRecord _ _ message.answered;
+    nscount = held_count IsRecord _ _ message.authorized;
+    arcount = held_count IsRecord _ _ message.added;
+  };
+}
 
 -- Records were pushed, and these are what they say.
 abbrev pub TellsAll : Option ℕ → (Header → Told → Header) → (Lists → Told → Lists) → List Record → List ℕ → List Place
@@ -132,6 +144,13 @@ pub asked_header : (most : Option ℕ) (counted : Header → Asked → Header) (
     → ∥ PushesAll Asked (IsQuestionEntry most) counted more asked old held j new after k ∥₁ → HasHeader new k
 asked_header most counted more asked old held j new after k pushes = ∥∥₁_elim pushes (same_prop new _) (λ x.
     pushes_header Asked (IsQuestionEntry most) counted more asked old held j new after k x)
+
+-- A message is another one written anew: its header is that one's, so are its octets, and so is what is read of them.
+abbrev pub IsDone : Option ℕ → Header → List Question → (answers authorities additionals : List Record) → List ℕ
+    → Header → Type 0
+IsDone most h questions answers authorities additionals octets k =
+    (k ≡ h) × IsRewriting most h questions answers authorities additionals octets
+    × ∥ ReadsAgain octets h questions answers authorities additionals ∥₁
 
 module _ (most : Option ℕ) (h u k1 k2 k3 k4 : Header) (questions : List Question)
     (answers authorities additionals : List Record) (c0 c1 c2 c3 c4 : List ℕ) (p0 p1 p2 p3 p4 : List Place) where
@@ -190,8 +209,7 @@ module _ (most : Option ℕ) (h u k1 k2 k3 k4 : Header) (questions : List Questi
   -- What was pushed is a message written anew, which reads back.
   of_pushed : c0 ≡ header_octets u → p0 ≡ [] → u ≡ uncounted h → AreWritten c0 u no_lists
       → CountsAll h questions answers authorities additionals → Asks → Answers → Authorities → Additionals
-      → (k4 ≡ h) × IsRewriting most h questions answers authorities additionals c4
-      × ∥ ReadsAgain c4 h questions answers authorities additionals ∥₁
+      → IsDone most h questions answers authorities additionals c4 k4
   of_pushed alone none counted empty counts asks a b d =
       let asked = map bare questions in
       let one = header_asked counted counts asks in
@@ -242,25 +260,12 @@ module _ (most : Option ℕ) (h u k1 k2 k3 k4 : Header) (questions : List Questi
         } ∣₁),
       )
 
-  module _ (begun : Begun h u questions answers authorities additionals c0 p0) (asks : ∥ Asks ∥₁) where
-    module _ (tells : ∥ Answers ∥₁) (rules : ∥ Authorities ∥₁) (adds : ∥ Additionals ∥₁) where
-      -- Its header is that of the message,
-      pub done_header : k4 ≡ h
-      done_header = ∥∥₁_elim asks (header_prop k4 h) (λ asks. ∥∥₁_elim tells (header_prop k4 h) (λ a.
-          ∥∥₁_elim rules (header_prop k4 h) (λ b. ∥∥₁_elim adds (header_prop k4 h) (λ d.
-          (of_pushed begun.alone begun.none begun.counted begun.empty begun.counts asks a b d).0))))
-
-      -- its octets are the message written anew,
-      pub done_rewriting : ∥ IsRewriting most h questions answers authorities additionals c4 ∥₁
-      done_rewriting = ∥∥₁_elim asks ∥∥₁_prop (λ asks. ∥∥₁_elim tells ∥∥₁_prop (λ a.
-          ∥∥₁_elim rules ∥∥₁_prop (λ b. ∥∥₁_elim adds ∥∥₁_prop (λ d.
-          ∣ (of_pushed begun.alone begun.none begun.counted begun.empty begun.counts asks a b d).1 ∣₁))))
-
-      -- and they read back.
-      pub done_read : ∥ ReadsAgain c4 h questions answers authorities additionals ∥₁
-      done_read = ∥∥₁_elim asks ∥∥₁_prop (λ asks. ∥∥₁_elim tells ∥∥₁_prop (λ a.
-          ∥∥₁_elim rules ∥∥₁_prop (λ b. ∥∥₁_elim adds ∥∥₁_prop (λ d.
-          (of_pushed begun.alone begun.none begun.counted begun.empty begun.counts asks a b d).2))))
+  -- so where that is known of what was pushed in each section
+  pub done : Begun h u questions answers authorities additionals c0 p0 → ∥ Asks ∥₁ → ∥ Answers ∥₁ → ∥ Authorities ∥₁
+      → ∥ Additionals ∥₁ → ∥ IsDone most h questions answers authorities additionals c4 k4 ∥₁
+  done begun asks tells rules adds = ∥∥₁_elim asks ∥∥₁_prop (λ asks. ∥∥₁_elim tells ∥∥₁_prop (λ a.
+      ∥∥₁_elim rules ∥∥₁_prop (λ b. ∥∥₁_elim adds ∥∥₁_prop (λ d.
+      ∣ of_pushed begun.alone begun.none begun.counted begun.empty begun.counts asks a b d ∣₁))))
 
 -- ---- what is refused
 
