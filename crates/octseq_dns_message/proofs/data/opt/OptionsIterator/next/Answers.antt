@@ -53,14 +53,6 @@ returns-in-Ok-clause-steps g c =
 
 pub returns-in-Ok-clause-goes : goal.returns-in-Ok-clause-goes
 returns-in-Ok-clause-goes g c =
-    let self = c.args.self.now in
-    let left = c.remaining.ensures.left in
-    let some = c.if-remaining-eq0.false in
-    let w = window self.parser in
-    let u = window c.parse.new.parser in
-    let option = option_of c.in-Ok.option in
-    let end = option_end w u option c.in-Ok.ensures.option in
-    let steps = reached_then option_code HasOption one_option option_moves w u w.end u.end option self.ahead
-    c.self-1.given.0 end (λ same. omega (arith, left, some, same)) c.in-Ok.ensures.option in
-    let less = fewer option self.ahead.0 c.self-1.given.0.0 steps in
+    let less = fewer (option_of c.in-Ok.option) c.args.self.now.ahead.0 c.self-1.given.0.0
+    (returns-in-Ok-clause-steps g c) in
     record { on = λ finite. (tt, finite, less); keeps = tt; rests = λ _. tt }

@@ -42,11 +42,6 @@ returns-in-Ok-clause-steps g c =
 
 pub returns-in-Ok-clause-goes : goal.returns-in-Ok-clause-goes
 returns-in-Ok-clause-goes g c =
-    let self = c.args.self.now in
-    let is = c.pos.ensures.position in
-    let string = rest (window c.in-Ok.parser) in
-    let steps = reached_then string_code HasString one_string string_moves (window self.parser)
-    (window c.take_string.new.parser) self.end self.end string self.ahead c.self-1.given.0 refl
-    (λ same. omega (arith, is, same)) c.in-Ok.ensures.string in
-    let less = fewer string self.ahead.0 c.self-1.given.0.0 steps in
+    let less = fewer (rest (window c.in-Ok.parser)) c.args.self.now.ahead.0 c.self-1.given.0.0
+    (returns-in-Ok-clause-steps g c) in
     record { on = λ finite. (tt, finite, less); keeps = tt; rests = λ _. tt }

@@ -36,9 +36,6 @@ returns-in-Ok-clause-steps g c =
 
 pub returns-in-Ok-clause-goes : goal.returns-in-Ok-clause-goes
 returns-in-Ok-clause-goes g c =
-    let self = c.args.self.now in
-    let entry = question_of c.in-Ok.entry in
-    let steps = held_then question_code IsQuestion one_question (window self.parser) (window c.parse.new.parser) entry
-    self.left (self.left - 1) self.ahead c.self-1.given.0 c.in-Ok.ensures.question (omega arith) in
-    let less = fewer entry self.ahead.0 c.self-1.given.0.0 steps in
+    let less = fewer (question_of c.in-Ok.entry) c.args.self.now.ahead.0 c.self-1.given.0.0
+    (returns-in-Ok-clause-steps g c) in
     record { on = λ finite. (tt, finite, less); keeps = tt; rests = λ _. tt }

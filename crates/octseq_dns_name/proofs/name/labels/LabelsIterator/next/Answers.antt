@@ -30,8 +30,6 @@ returns-clause-steps g c =
 
 pub returns-clause-goes : goal.returns-clause-goes
 returns-clause-goes g c =
-    let self = c.args.self.now in
-    let steps = then_ahead self.start (window self.parser) c.next_label.new.start (window c.next_label.new.parser)
-    (rest (window c.in_ok-parser.parser)) self.ahead c.self-1.given.0 c.in_ok-parser.ensures.some in
-    let less = shorter (rest (window c.in_ok-parser.parser)) self.ahead.0 c.self-1.given.0.0 steps in
+    let less = shorter (rest (window c.in_ok-parser.parser)) c.args.self.now.ahead.0 c.self-1.given.0.0
+    (returns-clause-steps g c) in
     record { on = λ finite. (tt, finite, less); keeps = tt; rests = λ _. tt }
