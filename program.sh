@@ -3,9 +3,9 @@
 #
 #     ./program.sh CRATE WORD [ARGUMENT..]
 #
-# Input, output and exit status are the program's own, and so are the arguments. It is proved and built first, where that
-# is needed: some minutes the first time, of which standard error tells how far they are. WORD is a command that ends
-# well where there is no input, as the build runs it once.
+# Input, output and exit status are the program's own, and so are the arguments. It is proved and built first, where
+# that is needed: some minutes the first time, of which standard error tells how far they are. WORD is a command that
+# ends well where there is no input, as the build runs it once.
 set -euo pipefail
 top="$(cd "$(dirname "${BASH_SOURCE[0]}")" && pwd)"
 crate="$1"
@@ -14,7 +14,10 @@ shift 2
 program="$top/crates/$crate/out/$crate"
 
 is_built() {
-    [ -x "$program" ] && [ -z "$(find "$top/crates" "$top/crates.txt" -path '*/out' -prune -o -type f -newer "$program" -print -quit)" ]
+    [ -x "$program" ] || return
+    local newer
+    newer="$(find "$top/crates" "$top/crates.txt" -path '*/out' -prune -o -type f -newer "$program" -print -quit)"
+    [ -z "$newer" ]
 }
 
 # Reads what a check prints, and tells of each crate how many of its functions are checked, a tenth at a time.

@@ -145,7 +145,8 @@ pub asked_header : (most : Option ℕ) (counted : Header → Asked → Header) (
 asked_header most counted more asked old held j new after k pushes = ∥∥₁_elim pushes (same_prop new _) (λ x.
     pushes_header Asked (IsQuestionEntry most) counted more asked old held j new after k x)
 
--- A message is another one written anew: its header is that one's, so are its octets, and so is what is read of them.
+-- A message is another one written anew: it has that one's header, its octets are a rewriting of that one, and what is
+-- read of them is what was read of that one.
 abbrev pub IsDone : Option ℕ → Header → List Question → (answers authorities additionals : List Record) → List ℕ
     → Header → Type 0
 IsDone most h questions answers authorities additionals octets k =

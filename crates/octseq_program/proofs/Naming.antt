@@ -2,11 +2,11 @@
 use Rattle.std.proofs.Common.{◌≡◌, ◌≢◌, ◌∙◌, get_or, refl, sym, ap, List, length, ℕ, Option, Some, None}
 use Rattle.octseq_program.specs.Run.{IsNamed}
 
--- words with other first octets are two words
+-- words whose first octets differ aren't the same
 pub other_first : {P : Type 0} (x y : List ℕ) → get_or x 0 0 ≢ get_or y 0 0 → x ≡ y → P
 other_first x y h e = absurd (h (ap (λ w. get_or w 0 0) e))
 
--- words of other lengths are two words
+-- words whose lengths differ aren't the same
 pub other_length : {P : Type 0} (x y : List ℕ) → length x ≢ length y → x ≡ y → P
 other_length x y h e = absurd (h (ap length e))
 
