@@ -4,8 +4,9 @@
 #     ./program.sh CRATE WORD [ARGUMENT..]
 #
 # Input, output and exit status are the program's own, and so are the arguments. It is proved and built first, where
-# that is needed: some minutes the first time, of which standard error tells how far they are. WORD is a command that
-# ends well where there is no input, as the build runs it once.
+# a file of the crates is newer than it is: some minutes the first time, of which standard error tells how far they are.
+# WORD is a command that ends well where there is no input, as the build runs it once. The program is as new as this look
+# at the files, so `run` and `dns` start it without one until git changes something.
 set -euo pipefail
 top="$(cd "$(dirname "${BASH_SOURCE[0]}")" && pwd)"
 crate="$1"
@@ -37,6 +38,7 @@ tell() {
     done
 }
 
+looked="$(mktemp)"
 if ! is_built; then
     echo "proving and building $crate, and the crates that it stands on .." >&2
     log="$(mktemp)"
@@ -44,7 +46,8 @@ if ! is_built; then
         cat "$log" >&2
         exit 5
     fi
-    touch "$program"
     rm -f "$log"
 fi
+touch -r "$looked" "$program"
+rm -f "$looked"
 exec "$program" "$@"
