@@ -21,28 +21,59 @@ is_built() {
     [ -z "$newer" ]
 }
 
-# Reads what a check prints, and tells of each crate how many of its functions are checked, a tenth at a time.
+# Prints the libraries of this repository that a crate stands on, lowest first, some of them more than once.
+below() {
+    local name
+    for name in $(sed -n "s/^$1://p" "$top/crates.txt"); do
+        if grep -q "^$name:" "$top/crates.txt"; then
+            below "$name"
+            echo "$name"
+        fi
+    done
+}
+
+# Reads what a check of a crate prints, and tells how many of its functions are checked, a tenth at a time.
 tell() {
-    local crate="" told=-1 line tenth
+    local told=-1 line tenth
     while IFS= read -r line; do
-        if [[ "$line" =~ ^"rt: chose --jobs ".*" "([^ ]+)$ ]]; then
-            crate="${BASH_REMATCH[1]}"
-            told=-1
-        elif [[ "$line" =~ " "([0-9]+)" of "([0-9]+)(" functions checked".*)?$ ]]; then
+        if [[ "$line" =~ " "([0-9]+)" of "([0-9]+)(" functions checked".*)?$ ]]; then
             tenth=$((10 * BASH_REMATCH[1] / BASH_REMATCH[2]))
             if ((tenth > told)); then
-                echo "  $crate: ${BASH_REMATCH[1]} of ${BASH_REMATCH[2]} functions"
+                echo "  $1: ${BASH_REMATCH[1]} of ${BASH_REMATCH[2]} functions"
                 told=$tenth
             fi
         fi
     done
 }
 
+# Runs a command of rt in a crate, on one processor, as a check that is spread over more takes more of each.
+rt_in() {
+    local name="$1" command="$2"
+    shift 2
+    (cd "$top/crates/$name" && rt "$command" --jobs 1 "$@" </dev/null 2>&1 >"$log.out") | tee -a "$log" | tell "$name" >&2
+}
+
+# Proves and builds the libraries and the program. Those libraries that stand on no other go side by side.
+build() {
+    local name started=()
+    for name in $(below "$crate" | awk '!seen[$0]++'); do
+        if [ -z "$(below "$name")" ]; then
+            rt_in "$name" lib &
+            started+=("$!")
+        else
+            for each in "${started[@]}"; do wait "$each" || return; done
+            started=()
+            rt_in "$name" lib || return
+        fi
+    done
+    rt_in "$crate" run -- "$word"
+}
+
 looked="$(mktemp)"
 if ! is_built; then
     echo "proving and building $crate, and the crates that it stands on .." >&2
     log="$(mktemp)"
-    if ! (cd "$top/crates/$crate" && rt run -- "$word" </dev/null 2>&1 >/dev/null) | tee "$log" | tell >&2; then
+    if ! build; then
         cat "$log" >&2
         exit 5
     fi
