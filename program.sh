@@ -32,7 +32,7 @@ below() {
     done
 }
 
-# Reads what a check of a crate prints, and tells how many of its functions are checked, a tenth at a time.
+# Reads what a check of a crate prints, and tells how many functions it has, and how many are checked where it says so.
 tell() {
     local told=-1 line tenth
     while IFS= read -r line; do
@@ -50,7 +50,8 @@ tell() {
 rt_in() {
     local name="$1" command="$2"
     shift 2
-    (cd "$top/crates/$name" && rt "$command" --jobs 1 "$@" </dev/null 2>&1 >"$log.out") | tee -a "$log" | tell "$name" >&2
+    (cd "$top/crates/$name" && rt "$command" --jobs 1 "$@" </dev/null 2>&1) | tee -a "$log" | tell "$name" >&2 || return
+    echo "  $name: proved" >&2
 }
 
 # Proves and builds the libraries and the program. Those libraries that stand on no other go side by side.
