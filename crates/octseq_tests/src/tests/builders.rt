@@ -10,6 +10,7 @@ use octseq::builder::{
     with_infallible,
 };
 use octseq::cow::CowOctets;
+use octseq_asserts::{assert_equal, assert_true};
 use smallvec::SmallVec;
 use std::alloc::{AllocError, Global};
 use std::cmp::Ordering;

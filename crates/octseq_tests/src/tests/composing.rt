@@ -4,6 +4,7 @@ use octseq::array::Array;
 use octseq::builder::{AppendError, AsOctets, EmptyBuilder, OctetsBuilder, ShortBuf};
 use octseq::compose::*;
 use octseq::parse::Parser;
+use octseq_asserts::{assert_equal, assert_true};
 use std::alloc::Global;
 use std::process::Abort;
 use std::test::Fail;

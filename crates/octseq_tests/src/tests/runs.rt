@@ -1,8 +1,8 @@
 //! Lists of calls on parsers, and the reply to each.
-use super::{Case, over_each};
 use octseq::builder::AsOctets;
 use octseq::octets::Octets;
 use octseq::parse::{Kind, ParserCall, ParserCommand, ParserReply, run};
+use octseq_asserts::{Case, assert_equal, over_each};
 use octseq_uses::scarce::Scarce;
 use std::alloc::{AllocGlobal, Global};
 use std::process::Abort;
@@ -33,12 +33,8 @@ fn shown<R: Octets>(alloc: Global, reply: &ParserReply<R>) -> Result<String, Fai
 #[derive(Drop)]
 struct Answers<'a>(&'a [(usize, ParserCall, &'a str)]);
 
-impl Case for Answers<'_> {
-    fn holds<H: Abort + AllocGlobal, R: Octets + Copy>(
-        &self,
-        rt: &H,
-        octets: R,
-    ) -> Result<(), Fail> {
+impl<H: Abort + AllocGlobal> Case<H> for Answers<'_> {
+    fn holds<R: Octets + Copy>(&self, rt: &H, octets: R) -> Result<(), Fail> {
         let mut commands = Vec::new(rt.alloc());
         for (parser, call, _) in self.0 {
             commands.push(ParserCommand {

@@ -4,6 +4,7 @@ use octseq::array::Array;
 use octseq::builder::{AppendError, EmptyBuilder, OctetsBuilder, ShortBuf, Truncate};
 use octseq::str::{Command, Reply, StrBuilder, run};
 use octseq::utf8::{Turns, find_fault, first_fault};
+use octseq_asserts::{assert_equal, assert_true};
 use octseq_uses::capped::Capped;
 use octseq_uses::rationed::Rationed;
 use std::alloc::Global;

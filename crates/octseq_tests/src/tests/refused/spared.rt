@@ -14,6 +14,7 @@ use octseq::octets::{Octets, OctetsFrom, OctetsInto, range_exists, span};
 use octseq::parse::Parser;
 use octseq::str::{LossyPieces, Str, StrBuilder, boundary, last_char};
 use octseq::utf8::{Turns, first_fault};
+use octseq_asserts::{assert_equal, assert_true};
 use smallvec::SmallVec;
 use std::alloc::Global;
 use std::process::Abort;

@@ -3,6 +3,7 @@ use octseq::array::Array;
 use octseq::builder::{AppendError, ShortBuf};
 use octseq::str::StrBuilder;
 use octseq::utf8::{Turns, Utf8Chunk, chunks};
+use octseq_asserts::{assert_equal, assert_true};
 use std::process::Abort;
 use std::test::Fail;
 

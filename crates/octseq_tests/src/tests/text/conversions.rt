@@ -5,6 +5,7 @@ use octseq::array::Array;
 use octseq::builder::{AppendError, AsOctets, CloneOctets, OctetsBuilder, ShortBuf};
 use octseq::cow::CowOctets;
 use octseq::octets::{Bound, Octets, OctetsFrom, OctetsInto, SmallOctets, range_exists, span};
+use octseq_asserts::{assert_equal, assert_true};
 use smallvec::SmallVec;
 use std::alloc::Global;
 use std::process::Abort;

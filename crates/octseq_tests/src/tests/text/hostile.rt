@@ -6,6 +6,7 @@ use octseq::array::Array;
 use octseq::builder::{AppendError, EmptyBuilder};
 use octseq::str::Str;
 use octseq::utf8::{Turns, first_fault};
+use octseq_asserts::assert_equal;
 use std::alloc::Global;
 use std::process::Abort;
 use std::test::Fail;

@@ -2,6 +2,7 @@
 use super::lossy;
 use super::table::{ROWS, edges, plain_fault};
 use octseq::utf8::{Turns, first_fault};
+use octseq_asserts::assert_equal;
 use std::alloc::Global;
 use std::process::Abort;
 use std::test::Fail;

@@ -4,6 +4,7 @@ use bytes::BytesMut;
 use octseq::builder::AsOctetsMut;
 use octseq::octets::Octets;
 use octseq::{AppendError, Array, EmptyBuilder, OctetsBuilder, ShortBuf, Truncate};
+use octseq_asserts::assert_equal;
 use octseq_dns::header::Flags;
 use octseq_dns::{
     AnswerBuilder, Class, FixedPlaces, Header, Malformed, Message, MessageBuilder, Name,

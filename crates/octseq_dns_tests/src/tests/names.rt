@@ -1,6 +1,6 @@
 //! Names of DNS as text, and how they compare.
-use super::{Case, over_each};
 use octseq::{AppendError, Array, AsOctets, EmptyBuilder, Octets, Parser, ShortBuf};
+use octseq_asserts::{Case, assert_equal, over_each};
 use octseq_dns::error::{LabelsError, NameError};
 use octseq_dns::{Name, ParsedName};
 use std::alloc::{AllocGlobal, Global};
@@ -91,12 +91,8 @@ fn hash_of<T: Hash>(value: &T) -> u64 {
 #[derive(Drop)]
 struct IsOneName;
 
-impl Case for IsOneName {
-    fn holds<H: Abort + AllocGlobal, R: Octets + Copy>(
-        &self,
-        rt: &H,
-        octets: R,
-    ) -> Result<(), Fail> {
+impl<H: Abort + AllocGlobal> Case<H> for IsOneName {
+    fn holds<R: Octets + Copy>(&self, rt: &H, octets: R) -> Result<(), Fail> {
         let mut parser = Parser::from_ref(octets);
         let name = ParsedName::parse(&mut parser)?;
         let same = ParsedName::parse(&mut parser)?;
@@ -134,12 +130,8 @@ fn names_of_one_message_compare(rt: HostRuntime) -> Result<(), Fail> {
 #[derive(Drop)]
 struct IsCopied;
 
-impl Case for IsCopied {
-    fn holds<H: Abort + AllocGlobal, R: Octets + Copy>(
-        &self,
-        rt: &H,
-        octets: R,
-    ) -> Result<(), Fail> {
+impl<H: Abort + AllocGlobal> Case<H> for IsCopied {
+    fn holds<R: Octets + Copy>(&self, rt: &H, octets: R) -> Result<(), Fail> {
         let mut parser = Parser::from_ref(octets);
         let root = ParsedName::parse(&mut parser)?.try_to_name::<Array<1>>(rt.alloc())?;
         let first = ParsedName::parse(&mut parser)?.try_to_name::<Vec<u8>>(rt.alloc())?;

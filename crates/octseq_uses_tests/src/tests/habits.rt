@@ -8,6 +8,7 @@ use octseq::octets::{Octets, try_range};
 use octseq::parse::{Parser, ShortInput};
 use octseq::str::{DisplayError, Str, StrBuilder};
 use octseq::{ReadError, WriteError};
+use octseq_asserts::{assert_equal, assert_true};
 use smallvec::SmallVec;
 use std::alloc::Global;
 use std::convert::{AsSlice, AsStr};

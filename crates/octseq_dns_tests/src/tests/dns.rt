@@ -1,6 +1,6 @@
 //! Names and messages of DNS.
-use super::{Case, over_each};
 use octseq::{AsOctets, Octets, Parser};
+use octseq_asserts::{Case, assert_equal, assert_true, over_each};
 use octseq_dns::header::Flags;
 use octseq_dns::{Class, Header, Malformed, Message, Opcode, ParsedName, Rcode, Rtype};
 use std::alloc::{AllocGlobal, Global};
@@ -119,12 +119,8 @@ fn a_name_has_127_pointers_at_most(rt: HostRuntime) -> Result<(), Fail> {
 #[derive(Drop)]
 struct IsRead;
 
-impl Case for IsRead {
-    fn holds<H: Abort + AllocGlobal, R: Octets + Copy>(
-        &self,
-        rt: &H,
-        octets: R,
-    ) -> Result<(), Fail> {
+impl<H: Abort + AllocGlobal> Case<H> for IsRead {
+    fn holds<R: Octets + Copy>(&self, rt: &H, octets: R) -> Result<(), Fail> {
         let message = Message::parse(octets)?;
         let header = message.header();
         assert_equal!(rt, (header.id, header.flags.qr), (4660, true));
@@ -161,12 +157,8 @@ fn a_message_is_read_from_each_kind_of_octets(rt: HostRuntime) -> Result<(), Fai
 #[derive(Drop)]
 struct EveryField;
 
-impl Case for EveryField {
-    fn holds<H: Abort + AllocGlobal, R: Octets + Copy>(
-        &self,
-        rt: &H,
-        octets: R,
-    ) -> Result<(), Fail> {
+impl<H: Abort + AllocGlobal> Case<H> for EveryField {
+    fn holds<R: Octets + Copy>(&self, rt: &H, octets: R) -> Result<(), Fail> {
         let message = Message::parse(octets)?;
         let header = message.header();
         let flags = Flags {

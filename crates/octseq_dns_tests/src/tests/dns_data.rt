@@ -1,7 +1,7 @@
 //! What the data of records says.
-use super::{Case, over_each};
 use octseq::octets::Octets;
 use octseq::utf8::Turns;
+use octseq_asserts::{Case, assert_equal, assert_true, over_each};
 use octseq_dns::data::Opt;
 use octseq_dns::{Data, Malformed, Message, ParsedName};
 use std::alloc::{AllocError, AllocGlobal, Global};
@@ -200,12 +200,8 @@ fn a_name_ends_where_its_data_does(rt: HostRuntime) -> Result<(), Fail> {
 #[derive(Drop)]
 struct IsService;
 
-impl Case for IsService {
-    fn holds<H: Abort + AllocGlobal, R: Octets + Copy>(
-        &self,
-        rt: &H,
-        octets: R,
-    ) -> Result<(), Fail> {
+impl<H: Abort + AllocGlobal> Case<H> for IsService {
+    fn holds<R: Octets + Copy>(&self, rt: &H, octets: R) -> Result<(), Fail> {
         let text = said(rt.alloc(), octets)?;
         assert_equal!(
             rt,
@@ -225,12 +221,8 @@ fn data_is_read_from_each_kind_of_octets(rt: HostRuntime) -> Result<(), Fail> {
 #[derive(Drop)]
 struct StringsStandInTheMessage;
 
-impl Case for StringsStandInTheMessage {
-    fn holds<H: Abort + AllocGlobal, R: Octets + Copy>(
-        &self,
-        rt: &H,
-        octets: R,
-    ) -> Result<(), Fail> {
+impl<H: Abort + AllocGlobal> Case<H> for StringsStandInTheMessage {
+    fn holds<R: Octets + Copy>(&self, rt: &H, octets: R) -> Result<(), Fail> {
         for answer in Message::parse(octets)?.answers() {
             let mut turns = Turns::new();
             match answer.data_counted(&mut turns).clone()? {

@@ -2,6 +2,7 @@
 use octseq::builder::OctetsBuilder;
 use octseq::str::{DisplayError, Str, StrBuilder};
 use octseq::{Array, Parser, WriteError};
+use octseq_asserts::{assert_equal, assert_true};
 use octseq_alone::frame::append_frame;
 use octseq_alone::note::{append_note, kept, read_note};
 use octseq_alone::ranges::{behind_two, key, onward};
