@@ -161,6 +161,20 @@ fn the_greatest_numbers_are_refused(rt: HostRuntime) -> Result<(), Fail> {
     over_each(&rt, &RefusesTheGreatest, b"0123456789")
 }
 
+/// A parser begins with this range, or there is none where nothing is wanted.
+fn begins<R: Octets + Copy>(
+    rt: &impl Abort,
+    octets: R,
+    bounds: (Bound, Bound),
+    wanted: Option<&[u8]>,
+) {
+    let parser = Parser::try_with_range(octets, bounds);
+    assert_equal!(rt, parser.is_some(), wanted.is_some());
+    if let (Some(parser), Some(wanted)) = (parser, wanted) {
+        assert_equal!(rt, parser.peek_all(), wanted);
+    }
+}
+
 #[derive(Drop)]
 struct BeginsWithRanges;
 
@@ -182,22 +196,39 @@ impl<H: Abort + AllocGlobal> Case<H> for BeginsWithRanges {
             ((Bound::Unbounded, Bound::Included(most)), None),
         ];
         for (bounds, left) in cases {
-            let parser = Parser::try_with_range(octets, bounds);
-            assert_equal!(rt, parser.is_some(), left.is_some());
-            if let (Some(parser), Some(left)) = (parser, left) {
-                assert_equal!(rt, parser.peek_all(), left);
-            }
+            begins(rt, octets, bounds, left);
         }
+        Ok(())
+    }
+}
+
+#[derive(Drop)]
+struct BeginsWithNoOctets;
+
+impl<H: Abort + AllocGlobal> Case<H> for BeginsWithNoOctets {
+    fn holds<R: Octets + Copy>(&self, rt: &H, octets: R) -> Result<(), Fail> {
         let empty = Parser::try_with_range(octets, (Bound::Included(2), Bound::Excluded(2)));
         let parser = empty.ok_or("no range")?;
         assert_true!(rt, !parser.is_empty());
         assert_equal!(rt, (parser.len(), parser.remaining()), (2, 0));
         assert_equal!(rt, parser.as_slice(), [1, 2].as_slice());
+        Ok(())
+    }
+}
+
+#[derive(Drop)]
+struct StaysWhole;
+
+impl<H: Abort + AllocGlobal> Case<H> for StaysWhole {
+    fn holds<R: Octets + Copy>(&self, rt: &H, octets: R) -> Result<(), Fail> {
         let mut whole = Parser::from_ref(octets);
         whole.advance(1)?;
         assert_true!(
             rt,
-            matches!(whole.parse_octets(most), Err(ParseOctetsError::Short(_)))
+            matches!(
+                whole.parse_octets(usize::MAX),
+                Err(ParseOctetsError::Short(_))
+            )
         );
         assert_equal!(rt, whole.pos(), 1);
         Ok(())
@@ -206,7 +237,9 @@ impl<H: Abort + AllocGlobal> Case<H> for BeginsWithRanges {
 
 #[test]
 fn a_parser_begins_with_a_range(rt: HostRuntime) -> Result<(), Fail> {
-    over_each(&rt, &BeginsWithRanges, &[1, 2, 3])
+    over_each(&rt, &BeginsWithRanges, &[1, 2, 3])?;
+    over_each(&rt, &BeginsWithNoOctets, &[1, 2, 3])?;
+    over_each(&rt, &StaysWhole, &[1, 2, 3])
 }
 
 /// Each bound of a place up to 5, with the start and the end in three octets that it stands for.
@@ -235,11 +268,7 @@ impl<H: Abort + AllocGlobal> Case<H> for HasEachRange {
             for (last, _, end) in BOUNDS {
                 let wanted = [1, 2, 3].as_slice().get(start..end);
                 assert_equal!(rt, range_exists(3, (first, last)), wanted.is_some());
-                let parser = Parser::try_with_range(octets, (first, last));
-                assert_equal!(rt, parser.is_some(), wanted.is_some());
-                if let (Some(parser), Some(wanted)) = (parser, wanted) {
-                    assert_equal!(rt, parser.peek_all(), wanted);
-                }
+                begins(rt, octets, (first, last), wanted);
             }
         }
         Ok(())

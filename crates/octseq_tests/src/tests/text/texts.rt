@@ -53,7 +53,7 @@ fn texts_are_borrowed(rt: HostRuntime) {
     let octets = error.map(|error| error.into_octets());
     assert_equal!(&rt, octets, Some(b"a\xC0".as_slice()));
     let borrowed = Str::from_utf8_slice("é".as_bytes()).ok();
-    assert_equal!(&rt, borrowed.map(|text| text.as_str()), Some("é"));
+    assert_equal!(&rt, borrowed.as_ref().map(|text| text.as_str()), Some("é"));
     assert_equal!(&rt, fault(b"a\xF1\x80"), Some((1, None)));
     assert_equal!(&rt, Str::from_utf8_unchecked("é".as_bytes()).len(), 2);
 }
