@@ -35,11 +35,7 @@ pub trait Case<H> {
 }
 
 /// The test on the same octets in each representation that a parser may read.
-pub fn over_each<H: AllocGlobal, C: Case<H>>(
-    rt: &H,
-    case: &C,
-    octets: &[u8],
-) -> Result<(), Fail> {
+pub fn over_each<H: AllocGlobal, C: Case<H>>(rt: &H, case: &C, octets: &[u8]) -> Result<(), Fail> {
     let alloc = rt.alloc();
     case.holds(rt, octets)?;
     case.holds(rt, &octets.to_vec(alloc)?)?;

@@ -170,11 +170,7 @@ fn shared_octets_are_copied(rt: &impl Abort, alloc: Global, slice: &[u8]) -> Res
 }
 
 /// A copy of an array that was cut has what is hidden behind its end, too.
-fn a_cut_array_is_copied(
-    rt: &impl Abort,
-    alloc: Global,
-    mut array: Array<4>,
-) -> Result<(), Fail> {
+fn a_cut_array_is_copied(rt: &impl Abort, alloc: Global, mut array: Array<4>) -> Result<(), Fail> {
     array.truncate(1);
     let mut copy = array.clone_octets(alloc)?;
     is_copied::<_, AllocError>(rt, alloc, Ok(array))?;

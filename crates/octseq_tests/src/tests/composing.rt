@@ -1,9 +1,7 @@
 //! Integers and parts: what is appended, what is refused, and that it is read back.
 use bytes::BytesMut;
 use octseq::array::Array;
-use octseq::builder::{
-    AppendError, AsOctets, EmptyBuilder, OctetsBuilder, ShortBuf, Truncate,
-};
+use octseq::builder::{AppendError, AsOctets, EmptyBuilder, OctetsBuilder, ShortBuf, Truncate};
 use octseq::compose::*;
 use octseq::parse::{Parser, ShortInput};
 use octseq_asserts::{assert_equal, assert_true};

@@ -235,7 +235,10 @@ fn copies_lossily<B: EmptyBuilder>(rt: &impl Abort, alloc: Global) -> Result<(),
     let octets = unread::<Vec<u8>>(alloc)?;
     let octets = octets.as_slice();
     is_lossy(rt, StrBuilder::<B>::try_copy_lossy(alloc, octets))?;
-    is_lossy(rt, StrBuilder::<B>::try_copy_lossy_with(alloc, octets, '\u{FFFD}'))
+    is_lossy(
+        rt,
+        StrBuilder::<B>::try_copy_lossy_with(alloc, octets, '\u{FFFD}'),
+    )
 }
 
 /// Each lossy reading.

@@ -2,12 +2,12 @@
 use octseq::builder::OctetsBuilder;
 use octseq::str::{DisplayError, Str, StrBuilder};
 use octseq::{Array, Parser, WriteError};
-use octseq_asserts::{assert_equal, assert_true};
 use octseq_alone::frame::append_frame;
 use octseq_alone::note::{append_note, kept, read_note};
 use octseq_alone::ranges::{behind_two, key, onward};
 use octseq_alone::shown::{push_number, write_number};
 use octseq_alone::views::{fourth, is_comment};
+use octseq_asserts::{assert_equal, assert_true};
 use std::process::Abort;
 use std::test::Fail;
 
