@@ -240,15 +240,28 @@ fn has_room<B: OctetsBuilder + Truncate + AsOctetsMut>(
     assert_equal!(rt, question, pushed(entries >= 1));
     let wanted = if entries == 0 { NOTHING } else { ASKED };
     assert_equal!(rt, questions.as_slice(), wanted);
-    let mut answers = questions.answer();
+    has_room_for_an_answer(rt, questions.answer(), &name.parsed(), entries);
+    Ok(())
+}
+
+/// The answer is pushed where the message has room for both.
+fn has_room_for_an_answer<B: OctetsBuilder + Truncate + AsOctetsMut>(
+    rt: &impl Abort,
+    mut answers: AnswerBuilder<B, FixedPlaces<8>>,
+    name: &ParsedName<&[u8]>,
+    entries: usize,
+) {
     let ttl = Ttl::from_secs(300);
-    let answer = answers.push_opaque(&name.parsed(), Rtype::A, Class::IN, ttl, &[1, 2, 3, 4]);
+    let answer = answers.push_opaque(name, Rtype::A, Class::IN, ttl, &[1, 2, 3, 4]);
     assert_equal!(rt, answer, pushed(entries >= 2));
-    let wanted = if entries >= 2 { ANSWERED } else { wanted };
+    let wanted = match entries {
+        0 => NOTHING,
+        1 => ASKED,
+        _ => ANSWERED,
+    };
     assert_equal!(rt, answers.as_slice(), wanted);
     let counts = (entries.min(1), entries.saturating_sub(1), 0, 0);
     assert_equal!(rt, counts_of(answers.as_slice()), Ok(counts));
-    Ok(())
 }
 
 #[test]

@@ -88,6 +88,22 @@ fn hash_of<T: Hash>(value: &T) -> u64 {
     hasher.finish()
 }
 
+/// The labels of two names are equal, and have one hash.
+fn have_equal_labels<R: Octets + Copy>(
+    rt: &impl Abort,
+    name: &ParsedName<R>,
+    same: &ParsedName<R>,
+) {
+    for (label, other_label) in name.labels().zip(same.labels()) {
+        assert_equal!(
+            rt,
+            (label == other_label, label.cmp(&other_label)),
+            (true, Ordering::Equal)
+        );
+        assert_equal!(rt, hash_of(&label), hash_of(&other_label));
+    }
+}
+
 #[derive(Drop)]
 struct IsOneName;
 
@@ -105,14 +121,7 @@ impl<H: Abort + AllocGlobal> Case<H> for IsOneName {
         );
         assert_equal!(rt, (name < same, name < other), (false, true));
         assert_equal!(rt, hash_of(&name), hash_of(&same));
-        for (label, other_label) in name.labels().zip(same.labels()) {
-            assert_equal!(
-                rt,
-                (label == other_label, label.cmp(&other_label)),
-                (true, Ordering::Equal)
-            );
-            assert_equal!(rt, hash_of(&label), hash_of(&other_label));
-        }
+        have_equal_labels(rt, &name, &same);
         assert_equal!(rt, format!(in rt.alloc(); "{name}")?.as_str(), "wWw.A.");
         Ok(())
     }
