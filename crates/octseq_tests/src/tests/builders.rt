@@ -68,22 +68,14 @@ fn array_is_written_in_place(rt: HostRuntime) -> Result<(), Fail> {
     Ok(())
 }
 
-/// Fills an empty builder through the traits alone.
-fn fill<B: OctetsBuilder + Truncate>(rt: &impl Abort, builder: &mut B) -> Result<(), AppendError> {
+/// Fills a new builder through the traits alone.
+fn fill<B: EmptyBuilder + Truncate>(rt: &impl Abort, alloc: Global) -> Result<(), AppendError> {
+    let mut builder = B::empty(alloc)?;
     builder.append_slice(b"abcd")?;
     assert_equal!(rt, builder.as_ref(), b"abcd".as_slice());
     builder.truncate(1);
     builder.append_slice(b"e")?;
     assert_equal!(rt, builder.as_ref(), b"ae".as_slice());
-    Ok(())
-}
-
-/// Makes builders, and fills one.
-fn is_filled<B: EmptyBuilder + Truncate>(
-    rt: &impl Abort,
-    alloc: Global,
-) -> Result<(), AppendError> {
-    fill(rt, &mut B::empty(alloc)?)?;
     let reserved = B::with_capacity(alloc, 4)?;
     assert_equal!(rt, reserved.as_ref(), b"".as_slice());
     Ok(())
@@ -92,11 +84,11 @@ fn is_filled<B: EmptyBuilder + Truncate>(
 #[test]
 fn each_builder_is_filled(rt: HostRuntime) {
     let alloc = rt.alloc();
-    assert_equal!(&rt, is_filled::<Vec<u8>>(&rt, alloc), Ok(()));
-    assert_equal!(&rt, is_filled::<Array<4>>(&rt, alloc), Ok(()));
-    assert_equal!(&rt, is_filled::<BytesMut>(&rt, alloc), Ok(()));
-    assert_equal!(&rt, is_filled::<SmallVec<u8, 2>>(&rt, alloc), Ok(()));
-    assert_equal!(&rt, is_filled::<ArrayVec<u8, 4>>(&rt, alloc), Ok(()));
+    assert_equal!(&rt, fill::<Vec<u8>>(&rt, alloc), Ok(()));
+    assert_equal!(&rt, fill::<Array<4>>(&rt, alloc), Ok(()));
+    assert_equal!(&rt, fill::<BytesMut>(&rt, alloc), Ok(()));
+    assert_equal!(&rt, fill::<SmallVec<u8, 2>>(&rt, alloc), Ok(()));
+    assert_equal!(&rt, fill::<ArrayVec<u8, 4>>(&rt, alloc), Ok(()));
 }
 
 /// A type's limit and whether it asks for memory.
@@ -269,33 +261,26 @@ fn a_reference_grows_what_it_refers_to(rt: HostRuntime) -> Result<(), Fail> {
     Ok(())
 }
 
-/// Octets are borrowed or not, and have this content.
-fn is_held(rt: &impl Abort, cow: &CowOctets, is_borrowed: bool, content: &[u8]) {
-    assert_equal!(rt, cow.as_ref(), content);
-    assert_equal!(rt, cow.is_borrowed(), is_borrowed);
-}
-
-/// What is appended to octets stands behind their content, and they own it.
-fn owns_what_is_appended(
-    rt: &impl Abort,
-    cow: &mut CowOctets,
-    octets: &[u8],
-    content: &[u8],
-) -> Result<(), AppendError> {
-    cow.append_slice(octets)?;
-    is_held(rt, cow, false, content);
+/// Octets are owned once nothing was appended to them.
+fn is_owned_behind_nothing(rt: &impl Abort, mut empty: CowOctets) -> Result<(), AppendError> {
+    empty.append_slice(b"")?;
+    assert_true!(rt, !empty.is_borrowed());
     Ok(())
 }
 
 #[test]
 fn borrowed_octets_are_copied_at_the_first_append(rt: HostRuntime) -> Result<(), Fail> {
+    is_owned_behind_nothing(&rt, CowOctets::borrowed(rt.alloc(), b""))?;
     let mut cow = CowOctets::borrowed(rt.alloc(), b"abc");
     cow.truncate(5);
-    is_held(&rt, &cow, true, b"abc");
-    owns_what_is_appended(&rt, &mut cow, b"d", b"abcd")?;
+    assert_equal!(&rt, cow.as_ref(), b"abc".as_slice());
+    assert_true!(&rt, cow.is_borrowed());
+    cow.append_slice(b"d")?;
+    assert_equal!(&rt, cow.as_ref(), b"abcd".as_slice());
+    assert_true!(&rt, !cow.is_borrowed());
     cow.truncate(2);
-    is_held(&rt, &cow, false, b"ab");
-    Ok(owns_what_is_appended(&rt, &mut CowOctets::borrowed(rt.alloc(), b""), b"", b"")?)
+    assert_equal!(&rt, cow.as_ref(), b"ab".as_slice());
+    Ok(())
 }
 
 /// Takes no octet away at the greatest length.

@@ -173,16 +173,11 @@ fn a_message_is_read_back(rt: HostRuntime) -> Result<(), Fail> {
     append_i32_le(&mut message, -2)?;
     let octets = b"\x12\x34\x03abc\xFE\xFF\xFF\xFF".as_slice();
     assert_equal!(&rt, message.as_slice(), octets);
-    Ok(is_message(&rt, message.as_slice())?)
-}
-
-/// A number, a part and a number are read, and nothing is left behind them.
-fn is_message(rt: &impl Abort, octets: &[u8]) -> Result<(), ShortInput> {
-    let mut parser = Parser::from_ref(octets);
-    assert_equal!(rt, parser.parse_u16_be(), Ok(0x1234));
-    assert_equal!(rt, parser.parse_part_u8()?.peek_all(), b"abc".as_slice());
-    assert_equal!(rt, parser.parse_i32_le(), Ok(-2));
-    assert_equal!(rt, parser.remaining(), 0);
+    let mut parser = Parser::from_ref(&message);
+    assert_equal!(&rt, parser.parse_u16_be()?, 0x1234);
+    assert_equal!(&rt, parser.parse_part_u8()?.peek_all(), b"abc".as_slice());
+    assert_equal!(&rt, parser.parse_i32_le()?, -2);
+    assert_equal!(&rt, parser.remaining(), 0);
     Ok(())
 }
 
