@@ -188,13 +188,18 @@ impl<H: Abort + AllocGlobal> Case<H> for EveryField {
     }
 }
 
+/// The test on octets as they are.
+fn has_every_field<H: Abort + AllocGlobal>(rt: &H, octets: &[u8]) -> Result<(), Fail> {
+    EveryField.holds(rt, octets)
+}
+
 #[test]
 fn every_field_of_a_message_is_read(rt: HostRuntime) -> Result<(), Fail> {
     let octets =
         b"\x12\x34\x85\x80\x00\x01\x00\x01\x00\x00\x00\x00\x07example\x03com\x00\x00\x01\x00\x01\
 \xC0\x0C\x00\x01\x00\x01\x00\x00\x01\x2C\x00\x04\x01\x02\x03\x04"
             .as_slice();
-    EveryField.holds(&rt, octets)?;
+    has_every_field(&rt, octets)?;
     has_labels(&rt, octets, 29, &[b"example", b"com"])
 }
 

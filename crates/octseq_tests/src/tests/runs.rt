@@ -235,6 +235,11 @@ fn each_kind_of_integer_is_read(rt: HostRuntime) -> Result<(), Fail> {
     Ok(())
 }
 
+/// The test on octets whose ranges are refused for memory.
+fn over_scarce<H: Abort + AllocGlobal>(rt: &H, answers: &Answers) -> Result<(), Fail> {
+    answers.holds(rt, Scarce(*b"abc"))
+}
+
 #[test]
 fn a_range_that_is_refused_for_memory_moves_nothing(rt: HostRuntime) -> Result<(), Fail> {
     let cases = [
@@ -245,5 +250,5 @@ fn a_range_that_is_refused_for_memory_moves_nothing(rt: HostRuntime) -> Result<(
         (0, ParserCall::Buf(2), "Slice(bc)"),
         (0, ParserCall::Octets(1), "Short"),
     ];
-    Answers(&cases).holds(&rt, Scarce(*b"abc"))
+    over_scarce(&rt, &Answers(&cases))
 }
