@@ -41,21 +41,16 @@ fn texts_are_made(rt: HostRuntime) -> Result<(), Fail> {
     Ok(())
 }
 
-/// The place and the length of what is wrong in octets.
-fn fault(octets: &[u8]) -> Option<(usize, Option<usize>)> {
-    let fault = Str::from_utf8_slice(octets).err()?;
-    Some((fault.valid_up_to(), fault.error_len()))
-}
-
 #[test]
-fn texts_are_borrowed(rt: HostRuntime) {
-    let error = Str::from_utf8(b"a\xC0".as_slice()).err();
-    let octets = error.map(|error| error.into_octets());
-    assert_equal!(&rt, octets, Some(b"a\xC0".as_slice()));
-    let borrowed = Str::from_utf8_slice("é".as_bytes()).ok();
-    assert_equal!(&rt, borrowed.as_ref().map(|text| text.as_str()), Some("é"));
-    assert_equal!(&rt, fault(b"a\xF1\x80"), Some((1, None)));
+fn texts_are_borrowed(rt: HostRuntime) -> Result<(), Fail> {
+    let error = Str::from_utf8(b"a\xC0".as_slice()).err().ok_or("accepted")?;
+    assert_equal!(&rt, error.into_octets(), b"a\xC0".as_slice());
+    let borrowed = Str::from_utf8_slice("é".as_bytes()).ok().ok_or("refused")?;
+    assert_equal!(&rt, borrowed.as_str(), "é");
+    let fault = Str::from_utf8_slice(b"a\xF1\x80").err().ok_or("accepted")?;
+    assert_equal!(&rt, (fault.valid_up_to(), fault.error_len()), (1, None));
     assert_equal!(&rt, Str::from_utf8_unchecked("é".as_bytes()).len(), 2);
+    Ok(())
 }
 
 #[test]
