@@ -1,4 +1,4 @@
-//! Tests of the libraries: what no proof sees.
+//! Tests of sequences, builders, texts, parsers and composers: what no proof sees.
 //!
 //! A crate with tests is proved twice, with them and without. So they stand in a crate of their own, on the public
 //! calls alone.

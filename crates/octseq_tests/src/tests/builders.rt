@@ -10,9 +10,11 @@ use octseq::builder::{
     with_infallible,
 };
 use octseq::cow::CowOctets;
+use octseq_asserts::{assert_equal, assert_true};
 use smallvec::SmallVec;
 use std::alloc::{AllocError, Global};
 use std::cmp::Ordering;
+use std::fmt::Debug;
 use std::hash::{BuildHasher, BuildHasherDefault, FoldHasher};
 use std::process::Abort;
 use std::rc::RcSlice;
@@ -110,34 +112,62 @@ fn types_tell_their_limits(rt: HostRuntime) {
     has_facts::<&mut Array<4>>(&rt, Some(4), false);
 }
 
-/// A copy of a sequence has its content.
-fn copied<T: CloneOctets>(rt: &impl Abort, alloc: Global, octets: &T) -> Result<(), AllocError> {
+/// A copy of a sequence that was made has its content.
+fn is_copied<T: CloneOctets, E: Debug + Drop>(
+    rt: &impl Abort,
+    alloc: Global,
+    made: Result<T, E>,
+) -> Result<(), Fail> {
+    let octets = made?;
     let copy = octets.clone_octets(alloc)?;
     assert_equal!(rt, copy.as_ref(), octets.as_ref());
     Ok(())
 }
 
+/// Octets that are borrowed, and are not refused.
+fn borrowed(alloc: Global, octets: &[u8]) -> Result<CowOctets<'_>, AllocError> {
+    Ok(CowOctets::borrowed(alloc, octets))
+}
+
+/// Octets that are owned.
+fn owned(alloc: Global, octets: &[u8]) -> Result<CowOctets<'static>, AllocError> {
+    Ok(CowOctets::owned(octets.to_vec(alloc)?))
+}
+
+/// A builder of a fixed size that has octets.
+fn fixed(octets: &[u8]) -> Result<ArrayVec<u8, 4>, AppendError> {
+    let mut fixed = ArrayVec::<u8, 4>::new();
+    fixed.append_slice(octets)?;
+    Ok(fixed)
+}
+
 #[test]
 fn each_sequence_is_copied(rt: HostRuntime) -> Result<(), Fail> {
-    let alloc = rt.alloc();
-    let slice = b"abc".as_slice();
-    copied(&rt, alloc, &slice)?;
-    copied(&rt, alloc, &slice.to_vec(alloc)?)?;
-    copied(&rt, alloc, &CowOctets::borrowed(alloc, slice))?;
-    copied(&rt, alloc, &CowOctets::owned(slice.to_vec(alloc)?))?;
-    copied(&rt, alloc, &Bytes::copy_from_slice(alloc, slice)?)?;
-    copied(&rt, alloc, &BytesMut::copy_from_slice(alloc, slice)?)?;
-    copied(&rt, alloc, &SmallVec::<u8, 2>::from_slice(alloc, slice)?)?;
-    copied(&rt, alloc, &RcSlice::<u8>::from_slice(alloc, slice)?)?;
-    let mut fixed = ArrayVec::<u8, 4>::new();
-    fixed.append_slice(slice)?;
-    copied(&rt, alloc, &fixed)?;
-    let mut array = Array::<4>::try_from(slice)?;
+    let (alloc, slice) = (rt.alloc(), b"abc".as_slice());
+    is_copied::<_, AllocError>(&rt, alloc, Ok(slice))?;
+    is_copied(&rt, alloc, slice.to_vec(alloc))?;
+    is_copied(&rt, alloc, borrowed(alloc, slice))?;
+    is_copied(&rt, alloc, owned(alloc, slice))?;
+    shared_octets_are_copied(&rt, alloc, slice)?;
+    is_copied(&rt, alloc, fixed(slice))?;
+    a_cut_array_is_copied(&rt, alloc, Array::try_from(slice)?)
+}
+
+/// Copies of sequences that may share their octets, or hold them inline.
+fn shared_octets_are_copied(rt: &impl Abort, alloc: Global, slice: &[u8]) -> Result<(), Fail> {
+    is_copied(rt, alloc, Bytes::copy_from_slice(alloc, slice))?;
+    is_copied(rt, alloc, BytesMut::copy_from_slice(alloc, slice))?;
+    is_copied(rt, alloc, SmallVec::<u8, 2>::from_slice(alloc, slice))?;
+    is_copied(rt, alloc, RcSlice::<u8>::from_slice(alloc, slice))
+}
+
+/// A copy of an array that was cut has what is hidden behind its end, too.
+fn a_cut_array_is_copied(rt: &impl Abort, alloc: Global, mut array: Array<4>) -> Result<(), Fail> {
     array.truncate(1);
-    copied(&rt, alloc, &array)?;
     let mut copy = array.clone_octets(alloc)?;
-    assert_equal!(&rt, copy.resize_raw(4), Ok(()));
-    assert_equal!(&rt, copy.as_slice(), b"abc\0".as_slice());
+    is_copied::<_, AllocError>(rt, alloc, Ok(array))?;
+    assert_equal!(rt, copy.resize_raw(4), Ok(()));
+    assert_equal!(rt, copy.as_slice(), b"abc\0".as_slice());
     Ok(())
 }
 
@@ -185,42 +215,62 @@ fn sequences_are_made_by_their_builders(rt: HostRuntime) -> Result<(), Fail> {
     is_built::<Array<4>>(&rt, Array::try_from(slice)?)?;
     is_built::<SmallVec<u8, 2>>(&rt, SmallVec::from_slice(alloc, slice)?)?;
     let borrowed = CowOctets::borrowed(alloc, slice).freeze()?;
-    is_built::<CowOctets>(&rt, borrowed.into_builder(alloc)?)?;
-    Ok(())
+    Ok(is_built::<CowOctets>(&rt, borrowed.into_builder(alloc)?)?)
 }
 
 #[test]
 fn fixed_and_shared_octets_are_made_by_their_builders(rt: HostRuntime) -> Result<(), Fail> {
     let (alloc, slice) = (rt.alloc(), b"abc".as_slice());
-    let mut fixed = ArrayVec::<u8, 4>::new();
-    fixed.append_slice(slice)?;
-    is_built::<ArrayVec<u8, 4>>(&rt, fixed)?;
+    is_built::<ArrayVec<u8, 4>>(&rt, fixed(slice)?)?;
     let shared = BytesMut::copy_from_slice(alloc, slice)?;
-    is_built::<Bytes>(&rt, FreezeBuilder::freeze(shared)?.into_builder(alloc)?)?;
+    Ok(is_built::<Bytes>(&rt, FreezeBuilder::freeze(shared)?.into_builder(alloc)?)?)
+}
+
+/// Grows the octets "ab" by a reference, and cuts them.
+fn grows_by_a_reference<B: OctetsBuilder + Truncate>(
+    rt: &impl Abort,
+    mut reference: B,
+) -> Result<(), AppendError> {
+    reference.append_slice(b"cd")?;
+    reference.truncate(3);
+    assert_equal!(rt, reference.as_ref(), b"abc".as_slice());
     Ok(())
+}
+
+/// Octets have the content "abc".
+fn is_abc(rt: &impl Abort, octets: impl AsOctets) {
+    assert_equal!(rt, octets.as_ref(), b"abc".as_slice());
+}
+
+/// Octets "abc" are cut at a length, and are those of their front.
+fn is_cut<T: Truncate>(rt: &impl Abort, octets: &mut T, len: usize, front: &[u8]) {
+    octets.truncate(len);
+    assert_equal!(rt, octets.as_ref(), front);
 }
 
 #[test]
 fn a_reference_grows_what_it_refers_to(rt: HostRuntime) -> Result<(), Fail> {
     let mut octets = b"ab".as_slice().to_vec(rt.alloc())?;
-    let mut reference = &mut octets;
-    OctetsBuilder::append_slice(&mut reference, b"cd")?;
-    Truncate::truncate(&mut reference, 3);
-    assert_equal!(&rt, AsOctets::as_ref(&reference), b"abc".as_slice());
-    assert_equal!(&rt, AsOctets::as_ref(&&octets), b"abc".as_slice());
+    grows_by_a_reference(&rt, &mut octets)?;
+    is_abc(&rt, &octets);
     let mut slice = b"abc".as_slice();
-    Truncate::truncate(&mut slice, 5);
-    assert_equal!(&rt, slice, b"abc".as_slice());
-    Truncate::truncate(&mut slice, 2);
-    assert_equal!(&rt, slice, b"ab".as_slice());
+    is_cut(&rt, &mut slice, 5, b"abc");
+    is_cut(&rt, &mut slice, 2, b"ab");
     let mut shared = Bytes::copy_from_slice(rt.alloc(), b"abc")?;
-    Truncate::truncate(&mut shared, 2);
-    assert_equal!(&rt, AsOctets::as_ref(&shared), b"ab".as_slice());
+    is_cut(&rt, &mut shared, 2, b"ab");
+    Ok(())
+}
+
+/// Octets are owned once nothing was appended to them.
+fn is_owned_behind_nothing(rt: &impl Abort, mut empty: CowOctets) -> Result<(), AppendError> {
+    empty.append_slice(b"")?;
+    assert_true!(rt, !empty.is_borrowed());
     Ok(())
 }
 
 #[test]
 fn borrowed_octets_are_copied_at_the_first_append(rt: HostRuntime) -> Result<(), Fail> {
+    is_owned_behind_nothing(&rt, CowOctets::borrowed(rt.alloc(), b""))?;
     let mut cow = CowOctets::borrowed(rt.alloc(), b"abc");
     cow.truncate(5);
     assert_equal!(&rt, cow.as_ref(), b"abc".as_slice());
@@ -230,36 +280,44 @@ fn borrowed_octets_are_copied_at_the_first_append(rt: HostRuntime) -> Result<(),
     assert_true!(&rt, !cow.is_borrowed());
     cow.truncate(2);
     assert_equal!(&rt, cow.as_ref(), b"ab".as_slice());
-    let mut empty = CowOctets::borrowed(rt.alloc(), b"");
-    empty.append_slice(b"")?;
-    assert_true!(&rt, !empty.is_borrowed());
     Ok(())
 }
 
 /// Takes no octet away at the greatest length.
-fn keeps_all<T: Truncate>(rt: &impl Abort, mut octets: T) {
+fn keeps_all<T: Truncate, E: Debug + Drop>(
+    rt: &impl Abort,
+    made: Result<T, E>,
+) -> Result<(), Fail> {
+    let mut octets = made?;
     octets.truncate(usize::MAX);
     assert_equal!(rt, octets.as_ref(), b"ab".as_slice());
+    Ok(())
 }
 
 #[test]
 fn the_greatest_length_takes_nothing_away(rt: HostRuntime) -> Result<(), Fail> {
     let (alloc, slice) = (rt.alloc(), b"ab".as_slice());
-    keeps_all(&rt, slice);
-    keeps_all(&rt, slice.to_vec(alloc)?);
-    keeps_all(&rt, &mut slice.to_vec(alloc)?);
-    keeps_all(&rt, CowOctets::borrowed(alloc, slice));
-    keeps_all(&rt, CowOctets::owned(slice.to_vec(alloc)?));
-    keeps_all(&rt, Bytes::copy_from_slice(alloc, slice)?);
-    keeps_all(&rt, BytesMut::copy_from_slice(alloc, slice)?);
-    keeps_all(&rt, SmallVec::<u8, 2>::from_slice(alloc, slice)?);
-    let mut fixed = ArrayVec::<u8, 4>::new();
-    fixed.append_slice(slice)?;
-    keeps_all(&rt, fixed);
+    keeps_all::<_, AllocError>(&rt, Ok(slice))?;
+    keeps_all(&rt, slice.to_vec(alloc))?;
+    keeps_all::<_, AllocError>(&rt, Ok(&mut slice.to_vec(alloc)?))?;
+    keeps_all(&rt, borrowed(alloc, slice))?;
+    keeps_all(&rt, owned(alloc, slice))?;
+    shared_and_fixed_octets_are_kept(&rt, alloc, slice)
+}
+
+/// Sequences that share their octets or hold them inline, at the greatest length.
+fn shared_and_fixed_octets_are_kept(
+    rt: &impl Abort,
+    alloc: Global,
+    slice: &[u8],
+) -> Result<(), Fail> {
+    keeps_all(rt, Bytes::copy_from_slice(alloc, slice))?;
+    keeps_all(rt, BytesMut::copy_from_slice(alloc, slice))?;
+    keeps_all(rt, SmallVec::<u8, 2>::from_slice(alloc, slice))?;
+    keeps_all(rt, fixed(slice))?;
     let mut array = Array::<4>::try_from(slice)?;
-    assert_equal!(&rt, array.resize_raw(usize::MAX), Err(ShortBuf));
-    keeps_all(&rt, array);
-    Ok(())
+    assert_equal!(rt, array.resize_raw(usize::MAX), Err(ShortBuf));
+    keeps_all::<_, AllocError>(rt, Ok(array))
 }
 
 #[test]
@@ -323,6 +381,12 @@ fn results_known_to_be_ok_give_their_values(rt: HostRuntime) {
     assert_equal!(&rt, with_infallible(op), 7);
 }
 
+/// What an error shows.
+fn shows<E: ToString>(rt: &impl Abort, alloc: Global, error: &E, text: &str) -> Result<(), Fail> {
+    assert_equal!(rt, error.to_string(alloc)?.as_str(), text);
+    Ok(())
+}
+
 #[test]
 fn errors_are_shown(rt: HostRuntime) -> Result<(), Fail> {
     let alloc = rt.alloc();
@@ -330,21 +394,10 @@ fn errors_are_shown(rt: HostRuntime) -> Result<(), Fail> {
     let memory = AppendError::from(AllocError);
     assert_equal!(&rt, &short, &AppendError::Short(ShortBuf.clone()?));
     assert_equal!(&rt, &memory, &AppendError::Memory);
-    assert_equal!(
-        &rt,
-        ShortBuf.to_string(alloc)?.as_str(),
-        "buffer size exceeded",
-    );
-    assert_equal!(
-        &rt,
-        short.to_string(alloc)?.as_str(),
-        "buffer size exceeded",
-    );
-    assert_equal!(&rt, memory.to_string(alloc)?.as_str(), "out of memory");
-    assert_equal!(
-        &rt,
-        format!(in alloc; "{short:?} {memory:?}")?.as_str(),
-        "Short(ShortBuf) Memory",
-    );
+    shows(&rt, alloc, &ShortBuf, "buffer size exceeded")?;
+    shows(&rt, alloc, &short, "buffer size exceeded")?;
+    shows(&rt, alloc, &memory, "out of memory")?;
+    let shown = format!(in alloc; "{short:?} {memory:?}")?;
+    assert_equal!(&rt, shown.as_str(), "Short(ShortBuf) Memory");
     Ok(())
 }

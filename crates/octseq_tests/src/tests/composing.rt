@@ -1,90 +1,138 @@
 //! Integers and parts: what is appended, what is refused, and that it is read back.
 use bytes::BytesMut;
 use octseq::array::Array;
-use octseq::builder::{AppendError, AsOctets, EmptyBuilder, OctetsBuilder, ShortBuf};
+use octseq::builder::{AppendError, AsOctets, EmptyBuilder, OctetsBuilder, ShortBuf, Truncate};
 use octseq::compose::*;
-use octseq::parse::Parser;
+use octseq::parse::{Parser, ShortInput};
+use octseq_asserts::{assert_equal, assert_true};
 use std::alloc::Global;
 use std::process::Abort;
 use std::test::Fail;
 
-/// Appends the least value of each integer, 0 and the greatest to an empty builder, and reads them back.
-macro_rules! go_round {
-    ($rt:expr, $builder:expr, $($integer:ty, $append:ident, $parse:ident;)*) => {{
-        let mut builder = $builder;
+/// Appends the least value of each integer, 0 and the greatest.
+macro_rules! append_each {
+    ($builder:expr, $($integer:ty, $append:ident;)*) => {{
         $(for value in [<$integer>::MIN, 0, <$integer>::MAX] {
-            $append(&mut builder, value)?;
+            $append($builder, value)?;
         })*
-        let mut parser = Parser::from_static(builder.as_ref());
-        $(for value in [<$integer>::MIN, 0, <$integer>::MAX] {
-            assert_equal!($rt, parser.$parse()?, value);
-        })*
-        assert_equal!($rt, parser.remaining(), 0);
         Ok(())
     }};
 }
 
-fn short_integers_go_round<B: EmptyBuilder>(rt: &impl Abort, alloc: Global) -> Result<(), Fail> {
-    go_round!(
-        rt,
-        B::empty(alloc)?,
-        i8, append_i8, parse_i8;
-        u8, append_u8, parse_u8;
-        i16, append_i16_be, parse_i16_be;
-        i16, append_i16_le, parse_i16_le;
-        u16, append_u16_be, parse_u16_be;
-        u16, append_u16_le, parse_u16_le;
+/// Reads the same values, and nothing is left behind them.
+macro_rules! read_each {
+    ($rt:expr, $octets:expr, $($integer:ty, $parse:ident;)*) => {{
+        let mut parser = Parser::from_ref($octets);
+        $(for value in [<$integer>::MIN, 0, <$integer>::MAX] {
+            assert_equal!($rt, parser.$parse(), Ok(value));
+        })*
+        assert_equal!($rt, parser.remaining(), 0);
+    }};
+}
+
+fn append_short_integers<B: OctetsBuilder>(builder: &mut B) -> Result<(), AppendError> {
+    append_each!(
+        builder,
+        i8, append_i8;
+        u8, append_u8;
+        i16, append_i16_be;
+        i16, append_i16_le;
+        u16, append_u16_be;
+        u16, append_u16_le;
     )
 }
 
-fn integers_of_32_bits_go_round<B: EmptyBuilder>(
-    rt: &impl Abort,
-    alloc: Global,
-) -> Result<(), Fail> {
-    go_round!(
+fn are_short_integers(rt: &impl Abort, octets: &[u8]) {
+    read_each!(
         rt,
-        B::empty(alloc)?,
-        i32, append_i32_be, parse_i32_be;
-        i32, append_i32_le, parse_i32_le;
-        u32, append_u32_be, parse_u32_be;
-        u32, append_u32_le, parse_u32_le;
+        octets,
+        i8, parse_i8;
+        u8, parse_u8;
+        i16, parse_i16_be;
+        i16, parse_i16_le;
+        u16, parse_u16_be;
+        u16, parse_u16_le;
     )
 }
 
-fn integers_of_64_bits_go_round<B: EmptyBuilder>(
-    rt: &impl Abort,
-    alloc: Global,
-) -> Result<(), Fail> {
-    go_round!(
-        rt,
-        B::empty(alloc)?,
-        i64, append_i64_be, parse_i64_be;
-        i64, append_i64_le, parse_i64_le;
-        u64, append_u64_be, parse_u64_be;
-        u64, append_u64_le, parse_u64_le;
+fn append_integers_of_32_bits<B: OctetsBuilder>(builder: &mut B) -> Result<(), AppendError> {
+    append_each!(
+        builder,
+        i32, append_i32_be;
+        i32, append_i32_le;
+        u32, append_u32_be;
+        u32, append_u32_le;
     )
 }
 
-fn integers_of_128_bits_go_round<B: EmptyBuilder>(
-    rt: &impl Abort,
-    alloc: Global,
-) -> Result<(), Fail> {
-    go_round!(
+fn are_integers_of_32_bits(rt: &impl Abort, octets: &[u8]) {
+    read_each!(
         rt,
-        B::empty(alloc)?,
-        i128, append_i128_be, parse_i128_be;
-        i128, append_i128_le, parse_i128_le;
-        u128, append_u128_be, parse_u128_be;
-        u128, append_u128_le, parse_u128_le;
+        octets,
+        i32, parse_i32_be;
+        i32, parse_i32_le;
+        u32, parse_u32_be;
+        u32, parse_u32_le;
+    )
+}
+
+fn append_integers_of_64_bits<B: OctetsBuilder>(builder: &mut B) -> Result<(), AppendError> {
+    append_each!(
+        builder,
+        i64, append_i64_be;
+        i64, append_i64_le;
+        u64, append_u64_be;
+        u64, append_u64_le;
+    )
+}
+
+fn are_integers_of_64_bits(rt: &impl Abort, octets: &[u8]) {
+    read_each!(
+        rt,
+        octets,
+        i64, parse_i64_be;
+        i64, parse_i64_le;
+        u64, parse_u64_be;
+        u64, parse_u64_le;
+    )
+}
+
+fn append_integers_of_128_bits<B: OctetsBuilder>(builder: &mut B) -> Result<(), AppendError> {
+    append_each!(
+        builder,
+        i128, append_i128_be;
+        i128, append_i128_le;
+        u128, append_u128_be;
+        u128, append_u128_le;
+    )
+}
+
+fn are_integers_of_128_bits(rt: &impl Abort, octets: &[u8]) {
+    read_each!(
+        rt,
+        octets,
+        i128, parse_i128_be;
+        i128, parse_i128_le;
+        u128, parse_u128_be;
+        u128, parse_u128_le;
     )
 }
 
 /// Each integer, over one builder.
-fn goes_round<B: EmptyBuilder>(rt: &impl Abort, alloc: Global) -> Result<(), Fail> {
-    short_integers_go_round::<B>(rt, alloc)?;
-    integers_of_32_bits_go_round::<B>(rt, alloc)?;
-    integers_of_64_bits_go_round::<B>(rt, alloc)?;
-    integers_of_128_bits_go_round::<B>(rt, alloc)
+fn goes_round<B: EmptyBuilder + Truncate>(rt: &impl Abort, alloc: Global) -> Result<(), Fail> {
+    let mut builder = B::empty(alloc)?;
+    append_short_integers(&mut builder)?;
+    are_short_integers(rt, builder.as_ref());
+    builder.truncate(0);
+    append_integers_of_32_bits(&mut builder)?;
+    are_integers_of_32_bits(rt, builder.as_ref());
+    builder.truncate(0);
+    append_integers_of_64_bits(&mut builder)?;
+    are_integers_of_64_bits(rt, builder.as_ref());
+    builder.truncate(0);
+    append_integers_of_128_bits(&mut builder)?;
+    are_integers_of_128_bits(rt, builder.as_ref());
+    Ok(())
 }
 
 #[test]
@@ -133,95 +181,118 @@ fn a_message_is_read_back(rt: HostRuntime) -> Result<(), Fail> {
     Ok(())
 }
 
+/// A part was appended, which alone stands in a builder now.
+fn is_appended(
+    rt: &impl Abort,
+    appended: Result<(), ComposeError>,
+    octets: &impl AsOctets,
+    wanted: &[u8],
+) {
+    assert_equal!(rt, appended, Ok(()));
+    assert_equal!(rt, octets.as_ref(), wanted);
+}
+
 #[test]
 fn parts_stand_behind_their_lengths(rt: HostRuntime) -> Result<(), Fail> {
     let mut octets = Vec::new(rt.alloc());
-    assert_equal!(&rt, append_part_u8(&mut octets, b""), Ok(()));
-    assert_equal!(&rt, octets.as_slice(), b"\0".as_slice());
+    let appended = append_part_u8(&mut octets, b"");
+    is_appended(&rt, appended, &octets, b"\0");
     octets.clear();
-    assert_equal!(&rt, append_part_u8(&mut octets, b"z"), Ok(()));
-    assert_equal!(&rt, octets.as_slice(), b"\x01z".as_slice());
+    let appended = append_part_u8(&mut octets, b"z");
+    is_appended(&rt, appended, &octets, b"\x01z");
     octets.clear();
-    assert_equal!(&rt, append_part_u16_be(&mut octets, b"ab"), Ok(()));
-    assert_equal!(&rt, octets.as_slice(), b"\0\x02ab".as_slice());
+    let appended = append_part_u16_be(&mut octets, b"ab");
+    is_appended(&rt, appended, &octets, b"\0\x02ab");
     octets.clear();
-    assert_equal!(&rt, append_part_u32_be(&mut octets, b"ab"), Ok(()));
-    assert_equal!(&rt, octets.as_slice(), b"\0\0\0\x02ab".as_slice());
+    let appended = append_part_u32_be(&mut octets, b"ab");
+    is_appended(&rt, appended, &octets, b"\0\0\0\x02ab");
     let mut fixed = Array::<4>::new();
-    assert_equal!(&rt, append_part_u16_be(&mut fixed, b"ab"), Ok(()));
-    assert_equal!(&rt, fixed.as_slice(), b"\0\x02ab".as_slice());
+    let appended = append_part_u16_be(&mut fixed, b"ab");
+    is_appended(&rt, appended, &fixed, b"\0\x02ab");
     Ok(())
+}
+
+/// A part was refused as too long, and the builder has what it had.
+fn is_too_long(
+    rt: &impl Abort,
+    refused: Result<(), ComposeError>,
+    octets: &impl AsOctets,
+    wanted: &[u8],
+) {
+    assert_equal!(rt, refused, Err(ComposeError::TooLong));
+    assert_equal!(rt, octets.as_ref(), wanted);
 }
 
 #[test]
 fn the_longest_parts_are_appended_and_no_longer_ones(rt: HostRuntime) -> Result<(), Fail> {
-    let alloc = rt.alloc();
-    let longest = Vec::from_elem(alloc, 7, 255)?;
-    let mut octets = Vec::new(alloc);
-    assert_equal!(&rt, append_part_u8(&mut octets, longest.as_slice()), Ok(()));
-    let mut wanted = Vec::from_elem(alloc, 255, 1)?;
-    wanted.extend_from_slice(longest.as_slice())?;
-    assert_equal!(&rt, octets.as_slice(), wanted.as_slice());
-    let longer = Vec::from_elem(alloc, 7, 256)?;
-    let refused = append_part_u8(&mut octets, longer.as_slice());
-    assert_equal!(&rt, refused, Err(ComposeError::TooLong));
-    assert_equal!(&rt, octets.as_slice(), wanted.as_slice());
+    let (longest, longer) = ([7; 255], [7; 256]);
+    let mut wanted = [7; 256];
+    wanted[0] = 255;
+    let mut octets = Vec::new(rt.alloc());
+    let appended = append_part_u8(&mut octets, &longest);
+    is_appended(&rt, appended, &octets, &wanted);
+    let refused = append_part_u8(&mut octets, &longer);
+    is_too_long(&rt, refused, &octets, &wanted);
     let mut fixed = Array::<3>::new();
-    let refused = append_part_u8(&mut fixed, longer.as_slice());
-    assert_equal!(&rt, refused, Err(ComposeError::TooLong));
-    assert_true!(&rt, fixed.as_slice().is_empty());
-    let longer = Vec::from_elem(alloc, 7, 65_536)?;
+    let refused = append_part_u8(&mut fixed, &longer);
+    is_too_long(&rt, refused, &fixed, b"");
     octets.clear();
+    let longer = Vec::from_elem(rt.alloc(), 7, 65_536)?;
     let refused = append_part_u16_be(&mut octets, longer.as_slice());
-    assert_equal!(&rt, refused, Err(ComposeError::TooLong));
-    assert_true!(&rt, octets.is_empty());
+    is_too_long(&rt, refused, &octets, b"");
     Ok(())
+}
+
+/// A part was refused for want of room, and the builder has what it had.
+fn is_short(
+    rt: &impl Abort,
+    refused: Result<(), ComposeError>,
+    octets: &impl AsOctets,
+    wanted: &[u8],
+) {
+    assert_equal!(rt, refused, Err(ComposeError::Short));
+    assert_equal!(rt, octets.as_ref(), wanted);
 }
 
 #[test]
 fn a_part_that_passes_the_limit_leaves_the_content(rt: HostRuntime) -> Result<(), Fail> {
     let mut fixed = Array::<4>::try_from(b"ab".as_slice())?;
-    assert_equal!(
-        &rt,
-        append_part_u8(&mut fixed, b"cd"),
-        Err(ComposeError::Short),
-    );
-    assert_equal!(&rt, fixed.as_slice(), b"ab".as_slice());
+    let refused = append_part_u8(&mut fixed, b"cd");
+    is_short(&rt, refused, &fixed, b"ab");
     let mut fixed = Array::<3>::new();
-    assert_equal!(
-        &rt,
-        append_part_u16_be(&mut fixed, b"ab"),
-        Err(ComposeError::Short),
-    );
-    assert_true!(&rt, fixed.as_slice().is_empty());
+    let refused = append_part_u16_be(&mut fixed, b"ab");
+    is_short(&rt, refused, &fixed, b"");
     let mut full = Array::<1>::try_from(b"a".as_slice())?;
-    assert_equal!(
-        &rt,
-        append_part_u8(&mut full, b""),
-        Err(ComposeError::Short),
-    );
-    assert_equal!(
-        &rt,
-        append_part_u32_be(&mut full, b""),
-        Err(ComposeError::Short),
-    );
-    assert_equal!(&rt, full.as_slice(), b"a".as_slice());
+    let refused = append_part_u8(&mut full, b"");
+    is_short(&rt, refused, &full, b"a");
+    let refused = append_part_u32_be(&mut full, b"");
+    is_short(&rt, refused, &full, b"a");
+    Ok(())
+}
+
+/// A part behind a length of two octets or four isn't there, and the parser stays.
+fn is_cut(rt: &impl Abort, octets: &[u8]) {
+    let mut parser = Parser::from_ref(octets);
+    assert_true!(rt, parser.parse_part_u16_be().is_err());
+    assert_true!(rt, parser.parse_part_u32_be().is_err());
+    assert_equal!(rt, parser.pos(), 0);
+}
+
+/// A part of four octets is a window, and the parser stands behind it.
+fn is_read(rt: &impl Abort) -> Result<(), ShortInput> {
+    let mut parser = Parser::from_static(b"\0\x02abc");
+    let part = parser.parse_part_u16_be()?;
+    assert_equal!(rt, (part.pos(), part.len()), (2, 4));
+    assert_equal!(rt, part.peek_all(), b"ab".as_slice());
+    assert_equal!(rt, parser.pos(), 4);
     Ok(())
 }
 
 #[test]
 fn a_cut_part_is_refused(rt: HostRuntime) -> Result<(), Fail> {
-    let mut parser = Parser::from_static(b"\0\x02abc");
-    let part = parser.parse_part_u16_be()?;
-    assert_equal!(&rt, (part.pos(), part.len()), (2, 4));
-    assert_equal!(&rt, part.peek_all(), b"ab".as_slice());
-    assert_equal!(&rt, parser.pos(), 4);
-    for cut in [b"\0\x02a".as_slice(), b"\0"] {
-        let mut parser = Parser::from_static(cut);
-        assert_true!(&rt, parser.parse_part_u16_be().is_err());
-        assert_true!(&rt, parser.parse_part_u32_be().is_err());
-        assert_equal!(&rt, parser.pos(), 0);
-    }
+    is_read(&rt)?;
+    is_cut(&rt, b"\0\x02a");
+    is_cut(&rt, b"\0");
     let mut parser = Parser::from_static(b"\0\0\0\x01z\x02a");
     assert_equal!(&rt, parser.parse_part_u32_be()?.peek_all(), b"z".as_slice());
     assert_true!(&rt, parser.parse_part_u8().is_err());

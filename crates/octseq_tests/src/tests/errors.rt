@@ -1,6 +1,7 @@
 //! What errors print, and which are made of which.
 use octseq::ShortInput;
 use octseq::parse::ParseOctetsError;
+use octseq_asserts::{assert_equal, assert_true};
 use std::alloc::{AllocError, Global};
 use std::error::Error;
 use std::test::Fail;

@@ -1,7 +1,7 @@
 //! Integers of each width, read in both orders of octets.
-use super::{Case, over_each};
 use octseq::octets::Octets;
 use octseq::parse::{Parser, ShortInput};
+use octseq_asserts::{Case, assert_equal, over_each};
 use std::alloc::AllocGlobal;
 use std::process::Abort;
 use std::test::Fail;
@@ -21,12 +21,8 @@ macro_rules! reads {
 #[derive(Drop)]
 struct ReadsSingleOctets;
 
-impl Case for ReadsSingleOctets {
-    fn holds<H: Abort + AllocGlobal, R: Octets + Copy>(
-        &self,
-        rt: &H,
-        octets: R,
-    ) -> Result<(), Fail> {
+impl<H: Abort + AllocGlobal> Case<H> for ReadsSingleOctets {
+    fn holds<R: Octets + Copy>(&self, rt: &H, octets: R) -> Result<(), Fail> {
         reads!(rt, octets, parse_i8, 18, -42);
         reads!(rt, octets, parse_u8, 18, 214);
         Ok(())
@@ -36,12 +32,8 @@ impl Case for ReadsSingleOctets {
 #[derive(Drop)]
 struct Reads16BitsBe;
 
-impl Case for Reads16BitsBe {
-    fn holds<H: Abort + AllocGlobal, R: Octets + Copy>(
-        &self,
-        rt: &H,
-        octets: R,
-    ) -> Result<(), Fail> {
+impl<H: Abort + AllocGlobal> Case<H> for Reads16BitsBe {
+    fn holds<R: Octets + Copy>(&self, rt: &H, octets: R) -> Result<(), Fail> {
         reads!(rt, octets, parse_i16_be, 4660, -4242);
         reads!(rt, octets, parse_u16_be, 4660, 61294);
         Ok(())
@@ -51,12 +43,8 @@ impl Case for Reads16BitsBe {
 #[derive(Drop)]
 struct Reads16BitsLe;
 
-impl Case for Reads16BitsLe {
-    fn holds<H: Abort + AllocGlobal, R: Octets + Copy>(
-        &self,
-        rt: &H,
-        octets: R,
-    ) -> Result<(), Fail> {
+impl<H: Abort + AllocGlobal> Case<H> for Reads16BitsLe {
+    fn holds<R: Octets + Copy>(&self, rt: &H, octets: R) -> Result<(), Fail> {
         reads!(rt, octets, parse_i16_le, 4660, -4242);
         reads!(rt, octets, parse_u16_le, 4660, 61294);
         Ok(())
@@ -66,12 +54,8 @@ impl Case for Reads16BitsLe {
 #[derive(Drop)]
 struct Reads32BitsBe;
 
-impl Case for Reads32BitsBe {
-    fn holds<H: Abort + AllocGlobal, R: Octets + Copy>(
-        &self,
-        rt: &H,
-        octets: R,
-    ) -> Result<(), Fail> {
+impl<H: Abort + AllocGlobal> Case<H> for Reads32BitsBe {
+    fn holds<R: Octets + Copy>(&self, rt: &H, octets: R) -> Result<(), Fail> {
         reads!(rt, octets, parse_i32_be, 0x12345678, -42424242);
         reads!(rt, octets, parse_u32_be, 0x12345678, 0xfd78a84e);
         Ok(())
@@ -81,12 +65,8 @@ impl Case for Reads32BitsBe {
 #[derive(Drop)]
 struct Reads32BitsLe;
 
-impl Case for Reads32BitsLe {
-    fn holds<H: Abort + AllocGlobal, R: Octets + Copy>(
-        &self,
-        rt: &H,
-        octets: R,
-    ) -> Result<(), Fail> {
+impl<H: Abort + AllocGlobal> Case<H> for Reads32BitsLe {
+    fn holds<R: Octets + Copy>(&self, rt: &H, octets: R) -> Result<(), Fail> {
         reads!(rt, octets, parse_i32_le, 0x12345678, -42424242);
         reads!(rt, octets, parse_u32_le, 0x12345678, 0xfd78a84e);
         Ok(())
@@ -96,12 +76,8 @@ impl Case for Reads32BitsLe {
 #[derive(Drop)]
 struct Reads64BitsBe;
 
-impl Case for Reads64BitsBe {
-    fn holds<H: Abort + AllocGlobal, R: Octets + Copy>(
-        &self,
-        rt: &H,
-        octets: R,
-    ) -> Result<(), Fail> {
+impl<H: Abort + AllocGlobal> Case<H> for Reads64BitsBe {
+    fn holds<R: Octets + Copy>(&self, rt: &H, octets: R) -> Result<(), Fail> {
         reads!(
             rt,
             octets,
@@ -123,12 +99,8 @@ impl Case for Reads64BitsBe {
 #[derive(Drop)]
 struct Reads64BitsLe;
 
-impl Case for Reads64BitsLe {
-    fn holds<H: Abort + AllocGlobal, R: Octets + Copy>(
-        &self,
-        rt: &H,
-        octets: R,
-    ) -> Result<(), Fail> {
+impl<H: Abort + AllocGlobal> Case<H> for Reads64BitsLe {
+    fn holds<R: Octets + Copy>(&self, rt: &H, octets: R) -> Result<(), Fail> {
         reads!(
             rt,
             octets,
@@ -150,12 +122,8 @@ impl Case for Reads64BitsLe {
 #[derive(Drop)]
 struct Reads128BitsBe;
 
-impl Case for Reads128BitsBe {
-    fn holds<H: Abort + AllocGlobal, R: Octets + Copy>(
-        &self,
-        rt: &H,
-        octets: R,
-    ) -> Result<(), Fail> {
+impl<H: Abort + AllocGlobal> Case<H> for Reads128BitsBe {
+    fn holds<R: Octets + Copy>(&self, rt: &H, octets: R) -> Result<(), Fail> {
         reads!(
             rt,
             octets,
@@ -177,12 +145,8 @@ impl Case for Reads128BitsBe {
 #[derive(Drop)]
 struct Reads128BitsLe;
 
-impl Case for Reads128BitsLe {
-    fn holds<H: Abort + AllocGlobal, R: Octets + Copy>(
-        &self,
-        rt: &H,
-        octets: R,
-    ) -> Result<(), Fail> {
+impl<H: Abort + AllocGlobal> Case<H> for Reads128BitsLe {
+    fn holds<R: Octets + Copy>(&self, rt: &H, octets: R) -> Result<(), Fail> {
         reads!(
             rt,
             octets,

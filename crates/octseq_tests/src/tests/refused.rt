@@ -6,10 +6,6 @@
 mod builders;
 mod composing;
 mod conversions;
-mod messages;
-mod names;
 mod parsers;
-mod rewriting;
 mod spared;
 mod texts;
-mod writing;

@@ -1,10 +1,11 @@
 //! Lists of calls on parsers, and the reply to each.
-use super::{Case, over_each};
 use octseq::builder::AsOctets;
 use octseq::octets::Octets;
 use octseq::parse::{Kind, ParserCall, ParserCommand, ParserReply, run};
+use octseq_asserts::{Case, assert_equal, over_each};
 use octseq_uses::scarce::Scarce;
-use std::alloc::{AllocGlobal, Global};
+use std::alloc::{AllocError, AllocGlobal, Global};
+use std::fmt::Write;
 use std::process::Abort;
 use std::test::Fail;
 
@@ -13,32 +14,42 @@ fn text(octets: &[u8]) -> &str {
     str::from_utf8(octets).unwrap_or("?")
 }
 
-fn shown<R: Octets>(alloc: Global, reply: &ParserReply<R>) -> Result<String, Fail> {
-    Ok(match reply {
-        ParserReply::Done => format!(in alloc; "Done")?,
-        ParserReply::Short => format!(in alloc; "Short")?,
-        ParserReply::Memory => format!(in alloc; "Memory")?,
-        ParserReply::NoParser => format!(in alloc; "NoParser")?,
-        ParserReply::Number(n) => format!(in alloc; "Number({n})")?,
-        ParserReply::Flag(b) => format!(in alloc; "Flag({b})")?,
-        ParserReply::Slice(v) => format!(in alloc; "Slice({})", text(v.as_slice()))?,
-        ParserReply::Range(r) => format!(in alloc; "Range({})", text(r.as_ref()))?,
-        ParserReply::Parser(n) => format!(in alloc; "Parser({n})")?,
-        ParserReply::Signed(n) => format!(in alloc; "Signed({n})")?,
-        ParserReply::Unsigned(n) => format!(in alloc; "Unsigned({n})")?,
-    })
+/// Shows a reply.
+fn show<R: Octets>(shown: &mut String, reply: &ParserReply<R>) -> Result<(), AllocError> {
+    match reply {
+        ParserReply::Done => write!(shown, "Done"),
+        ParserReply::Short => write!(shown, "Short"),
+        ParserReply::Memory => write!(shown, "Memory"),
+        ParserReply::NoParser => write!(shown, "NoParser"),
+        ParserReply::Number(n) => write!(shown, "Number({n})"),
+        ParserReply::Flag(b) => write!(shown, "Flag({b})"),
+        ParserReply::Slice(v) => write!(shown, "Slice({})", text(v.as_slice())),
+        ParserReply::Range(r) => write!(shown, "Range({})", text(r.as_ref())),
+        ParserReply::Parser(n) => write!(shown, "Parser({n})"),
+        ParserReply::Signed(n) => write!(shown, "Signed({n})"),
+        ParserReply::Unsigned(n) => write!(shown, "Unsigned({n})"),
+    }
+}
+
+/// A reply shows as this text.
+fn shows<R: Octets>(
+    rt: &impl Abort,
+    alloc: Global,
+    reply: &ParserReply<R>,
+    wanted: &str,
+) -> Result<(), Fail> {
+    let mut shown = String::new(alloc);
+    show(&mut shown, reply)?;
+    assert_equal!(rt, shown.as_str(), wanted);
+    Ok(())
 }
 
 /// Commands, each with the reply that it is to get.
 #[derive(Drop)]
 struct Answers<'a>(&'a [(usize, ParserCall, &'a str)]);
 
-impl Case for Answers<'_> {
-    fn holds<H: Abort + AllocGlobal, R: Octets + Copy>(
-        &self,
-        rt: &H,
-        octets: R,
-    ) -> Result<(), Fail> {
+impl<H: Abort + AllocGlobal> Case<H> for Answers<'_> {
+    fn holds<R: Octets + Copy>(&self, rt: &H, octets: R) -> Result<(), Fail> {
         let mut commands = Vec::new(rt.alloc());
         for (parser, call, _) in self.0 {
             commands.push(ParserCommand {
@@ -49,7 +60,7 @@ impl Case for Answers<'_> {
         let replies = run(rt.alloc(), octets, &commands)?;
         assert_equal!(rt, replies.len(), self.0.len());
         for ((_, _, wanted), reply) in self.0.iter().zip(&replies) {
-            assert_equal!(rt, shown(rt.alloc(), reply)?.as_str(), *wanted);
+            shows(rt, rt.alloc(), reply, wanted)?;
         }
         Ok(())
     }
@@ -224,6 +235,11 @@ fn each_kind_of_integer_is_read(rt: HostRuntime) -> Result<(), Fail> {
     Ok(())
 }
 
+/// The test on octets whose ranges are refused for memory.
+fn over_scarce<H: Abort + AllocGlobal>(rt: &H, answers: &Answers) -> Result<(), Fail> {
+    answers.holds(rt, Scarce(*b"abc"))
+}
+
 #[test]
 fn a_range_that_is_refused_for_memory_moves_nothing(rt: HostRuntime) -> Result<(), Fail> {
     let cases = [
@@ -234,5 +250,5 @@ fn a_range_that_is_refused_for_memory_moves_nothing(rt: HostRuntime) -> Result<(
         (0, ParserCall::Buf(2), "Slice(bc)"),
         (0, ParserCall::Octets(1), "Short"),
     ];
-    Answers(&cases).holds(&rt, Scarce(*b"abc"))
+    over_scarce(&rt, &Answers(&cases))
 }

@@ -2,8 +2,9 @@
 use super::is_text_or_short;
 use octseq::array::Array;
 use octseq::builder::{AppendError, EmptyBuilder, OctetsBuilder, ShortBuf, Truncate};
-use octseq::str::{Command, Reply, StrBuilder, run};
+use octseq::str::{Command, FromUtf8Error, Reply, StrBuilder, run};
 use octseq::utf8::{Turns, find_fault, first_fault};
+use octseq_asserts::{assert_equal, assert_true};
 use octseq_uses::capped::Capped;
 use octseq_uses::rationed::Rationed;
 use std::alloc::Global;
@@ -31,26 +32,50 @@ fn thai_and_chinese_are_read(rt: HostRuntime) -> Result<(), Fail> {
     Ok(())
 }
 
+/// Why octets in an array are no text.
+fn refused(octets: &[u8]) -> Result<FromUtf8Error<Array<4>>, Fail> {
+    let octets = Array::<4>::try_from(octets)?;
+    Ok(StrBuilder::from_utf8(octets).err().ok_or("accepted")?)
+}
+
+/// The refusal has the octets, and says where they are wrong.
+fn is_refused(rt: &impl Abort, error: &FromUtf8Error<Array<4>>) {
+    assert_equal!(rt, error.as_slice(), b"a\xC0".as_slice());
+    let fault = error.utf8_error();
+    assert_equal!(rt, (fault.valid_up_to(), fault.error_len()), (1, Some(1)));
+}
+
 #[test]
 fn octets_that_are_no_text_are_handed_back(rt: HostRuntime) -> Result<(), Fail> {
-    let octets = Array::<4>::try_from(b"a\xC0".as_slice())?;
-    let error = StrBuilder::from_utf8(octets).err().ok_or("accepted")?;
-    assert_equal!(&rt, error.as_slice(), b"a\xC0".as_slice());
-    let fault = error.utf8_error();
-    assert_equal!(&rt, (fault.valid_up_to(), fault.error_len()), (1, Some(1)));
+    let error = refused(b"a\xC0")?;
+    is_refused(&rt, &error);
+    assert_true!(&rt, refused(b"b\xC0")? != error);
+    let shown = format!(in rt.alloc(); "{error:?}")?;
+    assert_equal!(
+        &rt,
+        shown.as_str(),
+        "FromUtf8Error { fault: Utf8Fault { valid_up_to: 1, error_len: Some(1) }, .. }",
+    );
     let copy = error.clone(rt.alloc())?;
     assert_true!(&rt, copy == error);
     assert_equal!(&rt, copy.into_octets().as_slice(), b"a\xC0".as_slice());
-    let other = Array::<4>::try_from(b"b\xC0".as_slice())?;
-    assert_true!(
-        &rt,
-        StrBuilder::from_utf8(other).err().ok_or("accepted")? != error,
-    );
-    assert_equal!(
-        &rt,
-        format!(in rt.alloc(); "{error:?}")?.as_str(),
-        "FromUtf8Error { fault: Utf8Fault { valid_up_to: 1, error_len: Some(1) }, .. }",
-    );
+    Ok(())
+}
+
+/// Octets are no text, and both refusals tell so.
+fn is_faulty(
+    rt: &impl Abort,
+    alloc: Global,
+    octets: &[u8],
+    wanted: (usize, Option<usize>),
+    text: &str,
+) -> Result<(), Fail> {
+    let fault = first_fault(octets, &mut Turns::new()).ok_or("none")?;
+    assert_equal!(rt, (fault.valid_up_to(), fault.error_len()), wanted);
+    assert_equal!(rt, fault.to_string(alloc)?.as_str(), text);
+    let error = StrBuilder::from_utf8(octets).err().ok_or("accepted")?;
+    assert_equal!(rt, error.utf8_error(), fault);
+    assert_equal!(rt, error.to_string(alloc)?.as_str(), text);
     Ok(())
 }
 
@@ -59,43 +84,32 @@ fn faults_are_found_and_shown(rt: HostRuntime) -> Result<(), Fail> {
     let cases = [
         (
             b"a\xF1\x80\x80".as_slice(),
-            1,
-            None,
+            (1, None),
             "incomplete utf-8 byte sequence from index 1",
         ),
         (
             b"a\xC0",
-            1,
-            Some(1),
+            (1, Some(1)),
             "invalid utf-8 sequence of 1 bytes from index 1",
         ),
         (
             b"\xE2\x82A",
-            0,
-            Some(2),
+            (0, Some(2)),
             "invalid utf-8 sequence of 2 bytes from index 0",
         ),
         (
             b"\xC3\xA9\xF0\x9F\x98A",
-            2,
-            Some(3),
+            (2, Some(3)),
             "invalid utf-8 sequence of 3 bytes from index 2",
         ),
         (
             b"\xED\xA0\x80",
-            0,
-            Some(1),
+            (0, Some(1)),
             "invalid utf-8 sequence of 1 bytes from index 0",
         ),
     ];
-    for (octets, place, length, text) in cases {
-        let fault = first_fault(octets, &mut Turns::new()).ok_or("none")?;
-        assert_equal!(&rt, fault.valid_up_to(), place);
-        assert_equal!(&rt, fault.error_len(), length);
-        assert_equal!(&rt, fault.to_string(rt.alloc())?.as_str(), text);
-        let error = StrBuilder::from_utf8(octets).err().ok_or("accepted")?;
-        assert_equal!(&rt, error.utf8_error(), fault);
-        assert_equal!(&rt, error.to_string(rt.alloc())?.as_str(), text);
+    for (octets, wanted, text) in cases {
+        is_faulty(&rt, rt.alloc(), octets, wanted, text)?;
     }
     assert_equal!(&rt, find_fault(b""), None);
     Ok(())
@@ -263,17 +277,23 @@ fn a_refusal_of_memory_leaves_the_text(rt: HostRuntime) -> Result<(), Fail> {
         let mut builder = StrBuilder::from_utf8(rationed).ok().ok_or("refused")?;
         let replies = run(alloc, &mut builder, &commands)?;
         assert_equal!(&rt, builder.as_str(), *text);
-        assert_equal!(&rt, replies.len(), 3);
-        for (i, reply) in replies.iter().enumerate() {
-            let wanted = if i + 1 == n {
-                Reply::Memory
-            } else {
-                Reply::Done
-            };
-            assert_equal!(&rt, reply, &wanted);
-        }
+        are_done_but_one(&rt, replies.as_slice(), n);
     }
     Ok(())
+}
+
+/// Three commands were done, but the n-th, where there is one.
+fn are_done_but_one(rt: &impl Abort, replies: &[Reply], n: usize) {
+    assert_equal!(rt, replies.len(), 3);
+    for (i, reply) in replies.iter().enumerate() {
+        let is_refused = i.checked_add(1) == Some(n);
+        let wanted = if is_refused {
+            Reply::Memory
+        } else {
+            Reply::Done
+        };
+        assert_equal!(rt, reply, &wanted);
+    }
 }
 
 /// Octets and their lossy texts.
@@ -334,21 +354,30 @@ fn lossy(alloc: Global, octets: &[u8]) -> Result<StrBuilder<Vec<u8>>, Fail> {
     Ok(StrBuilder::try_from_utf8_lossy_counted(alloc, octets.to_vec(alloc)?, &mut Turns::new())?)
 }
 
+/// Octets pushed behind a text are their lossy text.
+fn is_pushed_lossily(
+    rt: &impl Abort,
+    alloc: Global,
+    octets: &[u8],
+    text: &str,
+) -> Result<(), AppendError> {
+    let mut pushed = StrBuilder::<Vec<u8>>::try_copy_lossy(alloc, b"\xC3")?;
+    pushed.try_push_lossy(octets)?;
+    assert_equal!(rt, pushed.as_str().strip_prefix("\u{FFFD}"), Some(text));
+    Ok(())
+}
+
 #[test]
 fn each_bad_part_becomes_one_replacement(rt: HostRuntime) -> Result<(), Fail> {
+    let alloc = rt.alloc();
     for (octets, text) in lossy_texts() {
-        assert_equal!(&rt, lossy(rt.alloc(), octets)?.as_str(), text);
-        let read = StrBuilder::from_utf8_lossy(rt.alloc(), octets.to_vec(rt.alloc())?)?;
+        assert_equal!(&rt, lossy(alloc, octets)?.as_str(), text);
+        let read = StrBuilder::from_utf8_lossy(alloc, octets.to_vec(alloc)?)?;
         assert_equal!(&rt, read.as_str(), text);
-        let mut pushed = StrBuilder::<Vec<u8>>::try_copy_lossy(rt.alloc(), b"\xC3")?;
-        pushed.try_push_lossy(octets)?;
-        assert_equal!(&rt, pushed.as_str().strip_prefix("\u{FFFD}"), Some(text));
+        is_pushed_lossily(&rt, alloc, octets, text)?;
     }
-    assert_equal!(
-        &rt,
-        lossy(rt.alloc(), b"Hello\xC0\x80 There\xE6\x83 Goodbye")?.len(),
-        28,
-    );
+    let text = lossy(alloc, b"Hello\xC0\x80 There\xE6\x83 Goodbye")?;
+    assert_equal!(&rt, text.len(), 28);
     Ok(())
 }
 

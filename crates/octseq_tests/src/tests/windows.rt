@@ -1,9 +1,9 @@
 //! Parsers and their windows: moves, nested parsers, ranges and buffers.
-use super::{Case, over_each};
 use bytes::Bytes;
 use octseq::builder::AsOctets;
 use octseq::octets::{Bound, Octets, range_exists, span};
 use octseq::parse::{ParseOctetsError, Parser, ShortInput};
+use octseq_asserts::{Case, assert_equal, assert_true, over_each};
 use std::alloc::AllocGlobal;
 use std::process::Abort;
 use std::test::Fail;
@@ -11,12 +11,8 @@ use std::test::Fail;
 #[derive(Drop)]
 struct Nests;
 
-impl Case for Nests {
-    fn holds<H: Abort + AllocGlobal, R: Octets + Copy>(
-        &self,
-        rt: &H,
-        octets: R,
-    ) -> Result<(), Fail> {
+impl<H: Abort + AllocGlobal> Case<H> for Nests {
+    fn holds<R: Octets + Copy>(&self, rt: &H, octets: R) -> Result<(), Fail> {
         let mut outer = Parser::from_ref(octets);
         outer.advance(2)?;
         let mut nested = outer.parse_parser(4)?;
@@ -34,12 +30,8 @@ impl Case for Nests {
 #[derive(Drop)]
 struct MovesByItself;
 
-impl Case for MovesByItself {
-    fn holds<H: Abort + AllocGlobal, R: Octets + Copy>(
-        &self,
-        rt: &H,
-        octets: R,
-    ) -> Result<(), Fail> {
+impl<H: Abort + AllocGlobal> Case<H> for MovesByItself {
+    fn holds<R: Octets + Copy>(&self, rt: &H, octets: R) -> Result<(), Fail> {
         let mut parser = Parser::from_ref(octets);
         let copy = parser;
         parser.check_len(10)?;
@@ -94,12 +86,8 @@ fn a_parser_moves_within_its_window(rt: HostRuntime) -> Result<(), Fail> {
 #[derive(Drop)]
 struct TakesRanges;
 
-impl Case for TakesRanges {
-    fn holds<H: Abort + AllocGlobal, R: Octets + Copy>(
-        &self,
-        rt: &H,
-        octets: R,
-    ) -> Result<(), Fail> {
+impl<H: Abort + AllocGlobal> Case<H> for TakesRanges {
+    fn holds<R: Octets + Copy>(&self, rt: &H, octets: R) -> Result<(), Fail> {
         let mut parser = Parser::from_ref(octets);
         assert_equal!(rt, parser.parse_octets(2)?.as_ref(), b"01".as_slice());
         assert_equal!(rt, parser.parse_octets(2)?.as_ref(), b"23".as_slice());
@@ -113,12 +101,8 @@ impl Case for TakesRanges {
 #[derive(Drop)]
 struct FillsBuffers;
 
-impl Case for FillsBuffers {
-    fn holds<H: Abort + AllocGlobal, R: Octets + Copy>(
-        &self,
-        rt: &H,
-        octets: R,
-    ) -> Result<(), Fail> {
+impl<H: Abort + AllocGlobal> Case<H> for FillsBuffers {
+    fn holds<R: Octets + Copy>(&self, rt: &H, octets: R) -> Result<(), Fail> {
         let mut parser = Parser::from_ref(octets);
         let mut two = [0; 2];
         for wanted in [b"01", b"23"] {
@@ -155,12 +139,8 @@ fn a_range_of_shared_octets_is_shared(rt: HostRuntime) -> Result<(), Fail> {
 #[derive(Drop)]
 struct RefusesTheGreatest;
 
-impl Case for RefusesTheGreatest {
-    fn holds<H: Abort + AllocGlobal, R: Octets + Copy>(
-        &self,
-        rt: &H,
-        octets: R,
-    ) -> Result<(), Fail> {
+impl<H: Abort + AllocGlobal> Case<H> for RefusesTheGreatest {
+    fn holds<R: Octets + Copy>(&self, rt: &H, octets: R) -> Result<(), Fail> {
         let most = usize::MAX;
         let mut parser = Parser::from_ref(octets);
         parser.advance(1)?;
@@ -181,15 +161,25 @@ fn the_greatest_numbers_are_refused(rt: HostRuntime) -> Result<(), Fail> {
     over_each(&rt, &RefusesTheGreatest, b"0123456789")
 }
 
+/// A parser begins with this range, or there is none where nothing is wanted.
+fn begins<R: Octets + Copy>(
+    rt: &impl Abort,
+    octets: R,
+    bounds: (Bound, Bound),
+    wanted: Option<&[u8]>,
+) {
+    let parser = Parser::try_with_range(octets, bounds);
+    assert_equal!(rt, parser.is_some(), wanted.is_some());
+    if let (Some(parser), Some(wanted)) = (parser, wanted) {
+        assert_equal!(rt, parser.peek_all(), wanted);
+    }
+}
+
 #[derive(Drop)]
 struct BeginsWithRanges;
 
-impl Case for BeginsWithRanges {
-    fn holds<H: Abort + AllocGlobal, R: Octets + Copy>(
-        &self,
-        rt: &H,
-        octets: R,
-    ) -> Result<(), Fail> {
+impl<H: Abort + AllocGlobal> Case<H> for BeginsWithRanges {
+    fn holds<R: Octets + Copy>(&self, rt: &H, octets: R) -> Result<(), Fail> {
         let most = usize::MAX;
         let cases = [
             (
@@ -206,22 +196,39 @@ impl Case for BeginsWithRanges {
             ((Bound::Unbounded, Bound::Included(most)), None),
         ];
         for (bounds, left) in cases {
-            let parser = Parser::try_with_range(octets, bounds);
-            assert_equal!(rt, parser.is_some(), left.is_some());
-            if let (Some(parser), Some(left)) = (parser, left) {
-                assert_equal!(rt, parser.peek_all(), left);
-            }
+            begins(rt, octets, bounds, left);
         }
+        Ok(())
+    }
+}
+
+#[derive(Drop)]
+struct BeginsWithNoOctets;
+
+impl<H: Abort + AllocGlobal> Case<H> for BeginsWithNoOctets {
+    fn holds<R: Octets + Copy>(&self, rt: &H, octets: R) -> Result<(), Fail> {
         let empty = Parser::try_with_range(octets, (Bound::Included(2), Bound::Excluded(2)));
         let parser = empty.ok_or("no range")?;
         assert_true!(rt, !parser.is_empty());
         assert_equal!(rt, (parser.len(), parser.remaining()), (2, 0));
         assert_equal!(rt, parser.as_slice(), [1, 2].as_slice());
+        Ok(())
+    }
+}
+
+#[derive(Drop)]
+struct StaysWhole;
+
+impl<H: Abort + AllocGlobal> Case<H> for StaysWhole {
+    fn holds<R: Octets + Copy>(&self, rt: &H, octets: R) -> Result<(), Fail> {
         let mut whole = Parser::from_ref(octets);
         whole.advance(1)?;
         assert_true!(
             rt,
-            matches!(whole.parse_octets(most), Err(ParseOctetsError::Short(_)))
+            matches!(
+                whole.parse_octets(usize::MAX),
+                Err(ParseOctetsError::Short(_))
+            )
         );
         assert_equal!(rt, whole.pos(), 1);
         Ok(())
@@ -230,7 +237,9 @@ impl Case for BeginsWithRanges {
 
 #[test]
 fn a_parser_begins_with_a_range(rt: HostRuntime) -> Result<(), Fail> {
-    over_each(&rt, &BeginsWithRanges, &[1, 2, 3])
+    over_each(&rt, &BeginsWithRanges, &[1, 2, 3])?;
+    over_each(&rt, &BeginsWithNoOctets, &[1, 2, 3])?;
+    over_each(&rt, &StaysWhole, &[1, 2, 3])
 }
 
 /// Each bound of a place up to 5, with the start and the end in three octets that it stands for.
@@ -253,21 +262,13 @@ const BOUNDS: [(Bound, usize, usize); 13] = [
 #[derive(Drop)]
 struct HasEachRange;
 
-impl Case for HasEachRange {
-    fn holds<H: Abort + AllocGlobal, R: Octets + Copy>(
-        &self,
-        rt: &H,
-        octets: R,
-    ) -> Result<(), Fail> {
+impl<H: Abort + AllocGlobal> Case<H> for HasEachRange {
+    fn holds<R: Octets + Copy>(&self, rt: &H, octets: R) -> Result<(), Fail> {
         for (first, start, _) in BOUNDS {
             for (last, _, end) in BOUNDS {
                 let wanted = [1, 2, 3].as_slice().get(start..end);
                 assert_equal!(rt, range_exists(3, (first, last)), wanted.is_some());
-                let parser = Parser::try_with_range(octets, (first, last));
-                assert_equal!(rt, parser.is_some(), wanted.is_some());
-                if let (Some(parser), Some(wanted)) = (parser, wanted) {
-                    assert_equal!(rt, parser.peek_all(), wanted);
-                }
+                begins(rt, octets, (first, last), wanted);
             }
         }
         Ok(())
@@ -282,12 +283,8 @@ fn a_parser_begins_with_each_range(rt: HostRuntime) -> Result<(), Fail> {
 #[derive(Drop)]
 struct HasNoOctets;
 
-impl Case for HasNoOctets {
-    fn holds<H: Abort + AllocGlobal, R: Octets + Copy>(
-        &self,
-        rt: &H,
-        octets: R,
-    ) -> Result<(), Fail> {
+impl<H: Abort + AllocGlobal> Case<H> for HasNoOctets {
+    fn holds<R: Octets + Copy>(&self, rt: &H, octets: R) -> Result<(), Fail> {
         let most = usize::MAX;
         let cases = [
             ((Bound::Unbounded, Bound::Unbounded), true),

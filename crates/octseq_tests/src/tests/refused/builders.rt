@@ -6,6 +6,7 @@ use octseq::builder::{
     OctetsBuilder,
 };
 use octseq::cow::CowOctets;
+use octseq_asserts::{assert_equal, assert_true};
 use smallvec::SmallVec;
 use std::alloc::{AllocError, Global};
 use std::process::Abort;

@@ -3,6 +3,7 @@ use bytes::BytesMut;
 use octseq::builder::{EmptyBuilder, OctetsBuilder, Truncate};
 use octseq::compose::{ComposeError, append_part_u8, append_part_u16_be, append_u64_be};
 use octseq::cow::CowOctets;
+use octseq_asserts::assert_equal;
 use smallvec::SmallVec;
 use std::alloc::AllocError;
 use std::process::Abort;

@@ -8,6 +8,7 @@ use octseq::builder::{AppendError, AsOctets, CloneOctets};
 use octseq::cow::CowOctets;
 use octseq::octets::{Octets, OctetsFrom, OctetsInto, span};
 use octseq::str::Str;
+use octseq_asserts::assert_equal;
 use smallvec::SmallVec;
 use std::alloc::Global;
 use std::process::Abort;

@@ -6,6 +6,7 @@ use octseq::builder::AsOctets;
 use octseq::cow::CowOctets;
 use octseq::octets::{Octets, OctetsFrom};
 use octseq::parse::{ParseOctetsError, Parser, ParserCall, ParserCommand, ParserReply, run};
+use octseq_asserts::{assert_equal, assert_true};
 use smallvec::SmallVec;
 use std::alloc::{AllocError, AllocGlobal};
 use std::process::Abort;

@@ -14,6 +14,7 @@ use octseq::octets::{Octets, OctetsFrom, OctetsInto, range_exists, span};
 use octseq::parse::Parser;
 use octseq::str::{LossyPieces, Str, StrBuilder, boundary, last_char};
 use octseq::utf8::{Turns, first_fault};
+use octseq_asserts::{assert_equal, assert_true};
 use smallvec::SmallVec;
 use std::alloc::Global;
 use std::process::Abort;
@@ -58,10 +59,10 @@ fn fixed_buffers_stay_what_they_are(rt: HostRuntime) -> Result<(), Fail> {
     )
 }
 
-/// Makes a fixed builder, and texts in it.
-fn is_made<B>(rt: &impl Abort, alloc: Global) -> Result<(), Fail>
+/// Makes texts in a fixed builder.
+fn texts_are_made<B: EmptyBuilder>(rt: &impl Abort, alloc: Global) -> Result<(), Fail>
 where
-    B: EmptyBuilder + Truncate + FreezeBuilder<Octets = B> + FromBuilder<Builder = B>,
+    B: FreezeBuilder<Octets = B> + FromBuilder<Builder = B>,
 {
     assert_true!(rt, given(StrBuilder::<B>::new(alloc))?.is_empty());
     let mut text = given(StrBuilder::<B>::with_capacity(alloc, usize::MAX))?;
@@ -70,6 +71,11 @@ where
     assert_equal!(rt, text.as_str(), "ab€");
     let text = given(Str::<B>::try_copy_from_str(alloc, "ab€"))?;
     assert_equal!(rt, text.as_str(), "ab€");
+    Ok(())
+}
+
+/// Makes a fixed builder, and lends it.
+fn is_lent<B: EmptyBuilder + Truncate>(rt: &impl Abort, alloc: Global) -> Result<(), Fail> {
     let mut builder = given(B::with_capacity(alloc, usize::MAX))?;
     given(builder.append_slice(b"abcd"))?;
     let mut lent = &mut builder;
@@ -81,8 +87,10 @@ where
 
 #[test]
 fn fixed_builders_are_made(rt: HostRuntime) -> Result<(), Fail> {
-    is_made::<Array<5>>(&rt, rt.alloc())?;
-    is_made::<ArrayVec<u8, 5>>(&rt, rt.alloc())
+    texts_are_made::<Array<5>>(&rt, rt.alloc())?;
+    texts_are_made::<ArrayVec<u8, 5>>(&rt, rt.alloc())?;
+    is_lent::<Array<5>>(&rt, rt.alloc())?;
+    is_lent::<ArrayVec<u8, 5>>(&rt, rt.alloc())
 }
 
 /// Makes octets of copies of a sequence.
@@ -185,15 +193,29 @@ fn unread<B: EmptyBuilder>(alloc: Global, octets: &[u8]) -> Result<B, Fail> {
     Ok(builder)
 }
 
-/// Reads octets lossily by each of the calls, and as they come.
+/// The text that a call read.
+fn is_text<B: AsOctets>(
+    rt: &impl Abort,
+    read: Result<StrBuilder<B>, AppendError>,
+    wanted: &str,
+) -> Result<(), Fail> {
+    assert_equal!(rt, given(read)?.as_str(), wanted);
+    Ok(())
+}
+
+/// Reads octets lossily by each of the calls.
 fn is_read<B: EmptyBuilder>(rt: &impl Abort, alloc: Global) -> Result<(), Fail> {
     let (octets, wanted) = (b"a\xFF\xFF".as_slice(), "a??");
-    let text = StrBuilder::try_from_utf8_lossy_with(alloc, unread::<B>(alloc, octets)?, '?');
-    assert_equal!(rt, given(text)?.as_str(), wanted);
     let builder = unread::<B>(alloc, octets)?;
-    let turns = &mut Turns::new();
+    let text = StrBuilder::try_from_utf8_lossy_with(alloc, builder, '?');
+    is_text(rt, text, wanted)?;
+    let (builder, turns) = (unread::<B>(alloc, octets)?, &mut Turns::new());
     let text = StrBuilder::try_from_utf8_lossy_with_counted(alloc, builder, '?', turns);
-    assert_equal!(rt, given(text)?.as_str(), wanted);
+    is_text(rt, text, wanted)
+}
+
+/// Reads octets lossily as they come.
+fn is_read_in_pieces<B: EmptyBuilder>(rt: &impl Abort, alloc: Global) -> Result<(), Fail> {
     let mut pieces = given(LossyPieces::<B>::new(alloc))?;
     given(pieces.feed(b"a\xFF\xE2"))?;
     given(pieces.feed(b"\x82\xAC\xF1"))?;
@@ -221,6 +243,8 @@ fn is_changed<B: EmptyBuilder + Truncate>(rt: &impl Abort, alloc: Global) -> Res
 fn texts_in_fixed_builders_are_read_and_changed(rt: HostRuntime) -> Result<(), Fail> {
     is_read::<Array<10>>(&rt, rt.alloc())?;
     is_read::<ArrayVec<u8, 10>>(&rt, rt.alloc())?;
+    is_read_in_pieces::<Array<10>>(&rt, rt.alloc())?;
+    is_read_in_pieces::<ArrayVec<u8, 10>>(&rt, rt.alloc())?;
     is_changed::<Array<10>>(&rt, rt.alloc())?;
     is_changed::<ArrayVec<u8, 10>>(&rt, rt.alloc())
 }
@@ -253,10 +277,15 @@ fn texts_at_the_limit_of_fixed_builders_are_read(rt: HostRuntime) -> Result<(), 
     is_read_or_short::<ArrayVec<u8, 6>>(&rt, alloc, b"\xFF\xFF", Some("\u{FFFD}\u{FFFD}"))
 }
 
-/// Copies a text, a refusal of octets that are none, and those octets.
-fn is_copied<O: CloneOctets>(rt: &impl Abort, alloc: Global, good: O, bad: O) -> Result<(), Fail> {
+/// Copies a text.
+fn is_copied<O: CloneOctets>(rt: &impl Abort, alloc: Global, good: O) -> Result<(), Fail> {
     let text = Str::from_utf8(good).ok().ok_or("refused")?;
     assert_true!(rt, given(text.clone(alloc))? == text);
+    Ok(())
+}
+
+/// Copies a refusal of octets that are no text, and those octets.
+fn is_refusal_copied<O: CloneOctets>(rt: &impl Abort, alloc: Global, bad: O) -> Result<(), Fail> {
     let error = Str::from_utf8(bad).err().ok_or("accepted")?;
     assert_true!(rt, given(error.clone(alloc))? == error);
     let octets = given(error.into_octets().clone_octets(alloc))?;
@@ -264,26 +293,25 @@ fn is_copied<O: CloneOctets>(rt: &impl Abort, alloc: Global, good: O, bad: O) ->
     Ok(())
 }
 
+/// The same over octets that are made of a slice.
+fn are_copied<O: CloneOctets + OctetsFrom<&'static [u8]>>(
+    rt: &impl Abort,
+    alloc: Global,
+) -> Result<(), Fail> {
+    is_copied(rt, alloc, O::try_octets_from(alloc, "ab€".as_bytes())?)?;
+    is_refusal_copied(rt, alloc, O::try_octets_from(alloc, b"a\xC0")?)
+}
+
 #[test]
 fn fixed_inline_and_borrowed_texts_are_copied(rt: HostRuntime) -> Result<(), Fail> {
     let (alloc, good, bad) = (rt.alloc(), "ab€".as_bytes(), b"a\xC0".as_slice());
-    is_copied(&rt, alloc, good, bad)?;
-    is_copied(
-        &rt,
-        alloc,
-        CowOctets::borrowed(alloc, good),
-        CowOctets::borrowed(alloc, bad),
-    )?;
-    is_copied(
-        &rt,
-        alloc,
-        Array::<5>::try_from(good)?,
-        Array::try_from(bad)?,
-    )?;
-    let fixed = ArrayVec::<u8, 6>::try_octets_from(alloc, good)?;
-    is_copied(&rt, alloc, fixed, ArrayVec::try_octets_from(alloc, bad)?)?;
-    let small = SmallVec::<u8, 5>::from_slice(alloc, good)?;
-    is_copied(&rt, alloc, small, SmallVec::from_slice(alloc, bad)?)
+    is_copied(&rt, alloc, good)?;
+    is_refusal_copied(&rt, alloc, bad)?;
+    is_copied(&rt, alloc, CowOctets::borrowed(alloc, good))?;
+    is_refusal_copied(&rt, alloc, CowOctets::borrowed(alloc, bad))?;
+    are_copied::<Array<5>>(&rt, alloc)?;
+    are_copied::<ArrayVec<u8, 6>>(&rt, alloc)?;
+    are_copied::<SmallVec<u8, 5>>(&rt, alloc)
 }
 
 #[test]
@@ -321,20 +349,23 @@ fn parsers_of_slices_take_what_they_read(rt: HostRuntime) -> Result<(), Fail> {
     Ok(())
 }
 
+/// The octets of the text that a call read.
+fn octets_of<B: OctetsBuilder>(read: Result<StrBuilder<B>, AppendError>) -> Result<B, Fail> {
+    Ok(given(read)?.into_octets_builder())
+}
+
 /// Reads octets that are well formed, which stay where they are, by each of the calls.
 fn is_read_as_it_is<B: EmptyBuilder>(rt: &impl Abort, alloc: Global, octets: B) -> Result<(), Fail>
     requires { B.limit ≡ None }
 {
-    let text = given(StrBuilder::try_from_utf8_lossy(alloc, octets))?;
-    let text = given(StrBuilder::from_utf8_lossy(alloc, text.into_octets_builder()))?;
-    let (octets, turns) = (text.into_octets_builder(), &mut Turns::new());
-    let text = given(StrBuilder::try_from_utf8_lossy_counted(alloc, octets, turns))?;
+    let turns = &mut Turns::new();
+    let octets = octets_of(StrBuilder::try_from_utf8_lossy(alloc, octets))?;
+    let text = given(StrBuilder::from_utf8_lossy(alloc, octets))?;
     let octets = text.into_octets_builder();
-    let text = given(StrBuilder::try_from_utf8_lossy_with(alloc, octets, '?'))?;
-    let octets = text.into_octets_builder();
+    let octets = octets_of(StrBuilder::try_from_utf8_lossy_counted(alloc, octets, turns))?;
+    let octets = octets_of(StrBuilder::try_from_utf8_lossy_with(alloc, octets, '?'))?;
     let text = StrBuilder::try_from_utf8_lossy_with_counted(alloc, octets, '?', turns);
-    assert_equal!(rt, given(text)?.as_str(), "ab€");
-    Ok(())
+    is_text(rt, text, "ab€")
 }
 
 #[test]
@@ -354,14 +385,19 @@ fn strings_are_taken_over(rt: HostRuntime) -> Result<(), Fail> {
     Ok(())
 }
 
+/// An empty builder takes none.
+fn is_empty<B: EmptyBuilder>(rt: &impl Abort, alloc: Global) -> Result<(), Fail> {
+    assert_true!(rt, given(B::empty(alloc))?.as_ref().is_empty());
+    Ok(())
+}
+
 #[test]
 fn empty_builders_and_inline_octets_take_none(rt: HostRuntime) -> Result<(), Fail> {
-    let alloc = rt.alloc();
-    given(<Vec<u8> as EmptyBuilder>::empty(alloc))?;
-    given(<BytesMut as EmptyBuilder>::empty(alloc))?;
-    given(<SmallVec<u8, 4> as EmptyBuilder>::empty(alloc))?;
+    let (alloc, slice) = (rt.alloc(), b"abcd".as_slice());
+    is_empty::<Vec<u8>>(&rt, alloc)?;
+    is_empty::<BytesMut>(&rt, alloc)?;
+    is_empty::<SmallVec<u8, 4>>(&rt, alloc)?;
     given(<SmallVec<u8, 4> as EmptyBuilder>::with_capacity(alloc, 4))?;
-    let slice = b"abcd".as_slice();
     let octets = given(SmallVec::<u8, 4>::octets_from(alloc, slice))?;
     assert_equal!(&rt, octets.as_slice(), slice);
     let octets: SmallVec<u8, 4> = given(slice.octets_into(alloc))?;

@@ -11,9 +11,10 @@ use octseq::builder::{
 use octseq::cow::CowOctets;
 use octseq::str::{Command, LossyPieces, Reply, Str, StrBuilder, run};
 use octseq::utf8::Turns;
+use octseq_asserts::{assert_equal, assert_true};
 use smallvec::SmallVec;
 use std::alloc::{AllocError, Global};
-use std::fmt::Write;
+use std::fmt::{Debug, Write};
 use std::process::Abort;
 use std::rc::RcSlice;
 use std::test::Fail;
@@ -136,38 +137,57 @@ fn a_shared_text_is_frozen(rt: HostRuntime) -> Result<(), Fail> {
     Ok(())
 }
 
-/// Copies a text, and a refusal of octets that are none. Both stand whatever the answer.
-fn is_copied<O: CloneOctets>(rt: &impl Abort, alloc: Global, good: O, bad: O) -> Result<(), Fail> {
-    let text = Str::from_utf8(good).ok().ok_or("no text")?;
+/// Copies a text that was made, which stands whatever the answer.
+fn is_copied<O: CloneOctets, E: Debug + Drop>(
+    rt: &impl Abort,
+    alloc: Global,
+    made: Result<O, E>,
+) -> Result<(), Fail> {
+    let text = Str::from_utf8(made?).ok().ok_or("no text")?;
     let copy = text.clone(alloc);
     assert_equal!(rt, text.as_str(), "ab€");
     assert_equal!(rt, copy?.as_str(), "ab€");
-    let error = StrBuilder::from_utf8(bad).err().ok_or("accepted")?;
+    Ok(())
+}
+
+/// Copies a refusal of octets that are no text, which stands whatever the answer.
+fn is_refusal_copied<O: CloneOctets, E: Debug + Drop>(
+    rt: &impl Abort,
+    alloc: Global,
+    made: Result<O, E>,
+) -> Result<(), Fail> {
+    let error = StrBuilder::from_utf8(made?).err().ok_or("accepted")?;
     let copy = error.clone(alloc);
     assert_equal!(rt, error.as_slice(), b"a\xC0".as_slice());
     assert_true!(rt, copy? == error);
     Ok(())
 }
 
+/// Octets that are owned.
+fn owned(alloc: Global, octets: &[u8]) -> Result<CowOctets<'static>, AllocError> {
+    Ok(CowOctets::owned(octets.to_vec(alloc)?))
+}
+
 #[test]
 fn texts_in_vectors_are_copied(rt: HostRuntime) -> Result<(), Fail> {
     let (alloc, good, bad) = (rt.alloc(), "ab€".as_bytes(), b"a\xC0".as_slice());
-    is_copied(&rt, alloc, good.to_vec(alloc)?, bad.to_vec(alloc)?)?;
-    let owned = CowOctets::owned(good.to_vec(alloc)?);
-    is_copied(&rt, alloc, owned, CowOctets::owned(bad.to_vec(alloc)?))?;
-    let small = SmallVec::<u8, 1>::from_slice(alloc, good)?;
-    is_copied(&rt, alloc, small, SmallVec::from_slice(alloc, bad)?)
+    is_copied(&rt, alloc, good.to_vec(alloc))?;
+    is_refusal_copied(&rt, alloc, bad.to_vec(alloc))?;
+    is_copied(&rt, alloc, owned(alloc, good))?;
+    is_refusal_copied(&rt, alloc, owned(alloc, bad))?;
+    is_copied(&rt, alloc, SmallVec::<u8, 1>::from_slice(alloc, good))?;
+    is_refusal_copied(&rt, alloc, SmallVec::<u8, 1>::from_slice(alloc, bad))
 }
 
 #[test]
 fn shared_texts_are_copied(rt: HostRuntime) -> Result<(), Fail> {
     let (alloc, good, bad) = (rt.alloc(), "ab€".as_bytes(), b"a\xC0".as_slice());
-    let shared = Bytes::copy_from_slice(alloc, good)?;
-    is_copied(&rt, alloc, shared, Bytes::copy_from_slice(alloc, bad)?)?;
-    let buffer = BytesMut::copy_from_slice(alloc, good)?;
-    is_copied(&rt, alloc, buffer, BytesMut::copy_from_slice(alloc, bad)?)?;
-    let counted = RcSlice::<u8>::from_slice(alloc, good)?;
-    is_copied(&rt, alloc, counted, RcSlice::<u8>::from_slice(alloc, bad)?)
+    is_copied(&rt, alloc, Bytes::copy_from_slice(alloc, good))?;
+    is_refusal_copied(&rt, alloc, Bytes::copy_from_slice(alloc, bad))?;
+    is_copied(&rt, alloc, BytesMut::copy_from_slice(alloc, good))?;
+    is_refusal_copied(&rt, alloc, BytesMut::copy_from_slice(alloc, bad))?;
+    is_copied(&rt, alloc, RcSlice::<u8>::from_slice(alloc, good))?;
+    is_refusal_copied(&rt, alloc, RcSlice::<u8>::from_slice(alloc, bad))
 }
 
 /// Octets that aren't well formed, in a builder.
@@ -177,46 +197,57 @@ fn unread<B: EmptyBuilder>(alloc: Global) -> Result<B, AppendError> {
     Ok(octets)
 }
 
-/// The text is the lossy one of those octets.
-fn is_lossy<B: AsOctets>(rt: &impl Abort, text: &StrBuilder<B>) {
-    assert_equal!(rt, text.as_str(), "0123456789\u{FFFD}abcdefgh\u{FFFD}");
+/// The text that was read is the lossy one of those octets.
+fn is_lossy<B: AsOctets>(
+    rt: &impl Abort,
+    read: Result<StrBuilder<B>, AppendError>,
+) -> Result<(), AppendError> {
+    assert_equal!(rt, read?.as_str(), "0123456789\u{FFFD}abcdefgh\u{FFFD}");
+    Ok(())
 }
 
 /// Reads octets that aren't well formed by each of the calls.
 fn is_read<B: EmptyBuilder>(rt: &impl Abort, alloc: Global) -> Result<(), AppendError>
     requires { B.limit ≡ None }
 {
-    let (replacement, turns) = (char::REPLACEMENT_CHARACTER, &mut Turns::new());
     let octets = unread::<B>(alloc)?;
-    is_lossy(rt, &StrBuilder::try_from_utf8_lossy(alloc, octets)?);
+    is_lossy(rt, StrBuilder::try_from_utf8_lossy(alloc, octets))?;
     let octets = unread::<B>(alloc)?;
-    is_lossy(rt, &StrBuilder::from_utf8_lossy(alloc, octets)?);
-    let octets = unread::<B>(alloc)?;
-    is_lossy(
-        rt,
-        &StrBuilder::try_from_utf8_lossy_counted(alloc, octets, turns)?,
-    );
-    let octets = unread::<B>(alloc)?;
-    is_lossy(
-        rt,
-        &StrBuilder::try_from_utf8_lossy_with(alloc, octets, replacement)?,
-    );
-    let octets = unread::<B>(alloc)?;
-    let text = StrBuilder::try_from_utf8_lossy_with_counted(alloc, octets, replacement, turns)?;
-    is_lossy(rt, &text);
-    copies_lossily::<B>(rt, alloc)
+    is_lossy(rt, Ok(StrBuilder::from_utf8_lossy(alloc, octets)?))?;
+    let (octets, turns) = (unread::<B>(alloc)?, &mut Turns::new());
+    let text = StrBuilder::try_from_utf8_lossy_counted(alloc, octets, turns);
+    is_lossy(rt, text)
 }
 
-/// Lossy readings of a slice, and at the end of a text, which has all of it afterwards or is as it was.
+/// The same by the calls that take a replacement.
+fn is_read_with<B: EmptyBuilder>(rt: &impl Abort, alloc: Global) -> Result<(), AppendError> {
+    let replacement = char::REPLACEMENT_CHARACTER;
+    let octets = unread::<B>(alloc)?;
+    let text = StrBuilder::try_from_utf8_lossy_with(alloc, octets, replacement);
+    is_lossy(rt, text)?;
+    let (octets, turns) = (unread::<B>(alloc)?, &mut Turns::new());
+    let text = StrBuilder::try_from_utf8_lossy_with_counted(alloc, octets, replacement, turns);
+    is_lossy(rt, text)
+}
+
+/// Lossy readings of a slice.
 fn copies_lossily<B: EmptyBuilder>(rt: &impl Abort, alloc: Global) -> Result<(), AppendError> {
     let octets = unread::<Vec<u8>>(alloc)?;
+    let octets = octets.as_slice();
+    is_lossy(rt, StrBuilder::<B>::try_copy_lossy(alloc, octets))?;
     is_lossy(
         rt,
-        &StrBuilder::<B>::try_copy_lossy(alloc, octets.as_slice())?,
-    );
-    let text = StrBuilder::<B>::try_copy_lossy_with(alloc, octets.as_slice(), '\u{FFFD}')?;
-    is_lossy(rt, &text);
-    Ok(())
+        StrBuilder::<B>::try_copy_lossy_with(alloc, octets, '\u{FFFD}'),
+    )
+}
+
+/// Each lossy reading.
+fn each_reads<B: EmptyBuilder>(rt: &impl Abort, alloc: Global) -> Result<(), AppendError>
+    requires { B.limit ≡ None }
+{
+    is_read::<B>(rt, alloc)?;
+    is_read_with::<B>(rt, alloc)?;
+    copies_lossily::<B>(rt, alloc)
 }
 
 /// A push at the end of a text of ten octets, which has all of the lossy text afterwards or is as it was.
@@ -243,9 +274,9 @@ fn octets_are_pushed_as_text_or_not_at_all(rt: HostRuntime) -> Result<(), Fail> 
 
 #[test]
 fn octets_are_read_lossily(rt: HostRuntime) -> Result<(), Fail> {
-    is_read::<Vec<u8>>(&rt, rt.alloc())?;
-    is_read::<BytesMut>(&rt, rt.alloc())?;
-    Ok(is_read::<SmallVec<u8, 2>>(&rt, rt.alloc())?)
+    each_reads::<Vec<u8>>(&rt, rt.alloc())?;
+    each_reads::<BytesMut>(&rt, rt.alloc())?;
+    Ok(each_reads::<SmallVec<u8, 2>>(&rt, rt.alloc())?)
 }
 
 /// Reads octets in pieces. A refusal is answered from then on.

@@ -3,6 +3,7 @@ use octseq::array::Array;
 use octseq::builder::{AppendError, ShortBuf};
 use octseq::str::StrBuilder;
 use octseq::utf8::{Turns, Utf8Chunk, chunks};
+use octseq_asserts::{assert_equal, assert_true};
 use std::process::Abort;
 use std::test::Fail;
 
@@ -70,19 +71,34 @@ fn chunks_are_read_by_a_loop(rt: HostRuntime) -> Result<(), Fail> {
     Ok(())
 }
 
+/// A push of octets behind a text answers so, and leaves this text.
+fn is_left(
+    rt: &impl Abort,
+    pushed: Result<(), AppendError>,
+    fits: bool,
+    text: &StrBuilder<Array<8>>,
+    wanted: &str,
+) {
+    let answer = if fits {
+        Ok(())
+    } else {
+        Err(AppendError::Short(ShortBuf))
+    };
+    assert_equal!(rt, pushed, answer);
+    assert_equal!(rt, text.as_str(), wanted);
+}
+
 #[test]
 fn a_push_of_octets_keeps_the_limit(rt: HostRuntime) -> Result<(), Fail> {
     let mut text = StrBuilder::<Array<8>>::try_copy_lossy(rt.alloc(), b"ab")?;
-    text.try_push_lossy(b"\xFF\xFF")?;
-    assert_equal!(&rt, text.as_str(), "ab\u{FFFD}\u{FFFD}");
+    let pushed = text.try_push_lossy(b"\xFF\xFF");
+    is_left(&rt, pushed, true, &text, "ab\u{FFFD}\u{FFFD}");
     let pushed = text.try_push_lossy_with(b"\xFF", '?');
-    assert_equal!(&rt, pushed, Err(AppendError::Short(ShortBuf)));
-    assert_equal!(&rt, text.as_str(), "ab\u{FFFD}\u{FFFD}");
+    is_left(&rt, pushed, false, &text, "ab\u{FFFD}\u{FFFD}");
     let mut text = StrBuilder::<Array<8>>::try_copy_lossy(rt.alloc(), b"ab")?;
     let pushed = text.try_push_lossy(b"c\xFF\xFF");
-    assert_equal!(&rt, pushed, Err(AppendError::Short(ShortBuf)));
-    assert_equal!(&rt, text.as_str(), "ab");
-    text.try_push_lossy_with(b"c\xFF\xFF\xFFde", '?')?;
-    assert_equal!(&rt, text.as_str(), "abc???de");
+    is_left(&rt, pushed, false, &text, "ab");
+    let pushed = text.try_push_lossy_with(b"c\xFF\xFF\xFFde", '?');
+    is_left(&rt, pushed, true, &text, "abc???de");
     Ok(())
 }

@@ -2,11 +2,13 @@
 use arrayvec::ArrayVec;
 use bytes::{Bytes, BytesMut};
 use octseq::array::Array;
-use octseq::builder::{AppendError, AsOctets, CloneOctets, OctetsBuilder, ShortBuf};
+use octseq::builder::{AppendError, AsOctets, CloneOctets, ShortBuf};
 use octseq::cow::CowOctets;
 use octseq::octets::{Bound, Octets, OctetsFrom, OctetsInto, SmallOctets, range_exists, span};
+use octseq_asserts::{assert_equal, assert_true};
 use smallvec::SmallVec;
 use std::alloc::Global;
+use std::fmt::Debug;
 use std::process::Abort;
 use std::rc::RcSlice;
 use std::test::Fail;
@@ -111,47 +113,76 @@ fn converts<S: AsOctets, T: OctetsFrom<S>>(
     Ok(())
 }
 
+/// A conversion of a copy of a source keeps the octets.
+fn is_made_into<S: CloneOctets, T: OctetsFrom<S>>(
+    rt: &impl Abort,
+    alloc: Global,
+    source: &S,
+) -> Result<(), Fail> {
+    converts::<S, T>(rt, alloc, source.clone_octets(alloc)?)
+}
+
 /// Every conversion of a source.
-fn into_each<S: CloneOctets>(rt: &impl Abort, alloc: Global, source: S) -> Result<(), Fail> {
-    converts::<S, Vec<u8>>(rt, alloc, source.clone_octets(alloc)?)?;
-    converts::<S, Bytes>(rt, alloc, source.clone_octets(alloc)?)?;
-    converts::<S, BytesMut>(rt, alloc, source.clone_octets(alloc)?)?;
-    converts::<S, SmallVec<u8, 2>>(rt, alloc, source.clone_octets(alloc)?)?;
-    converts::<S, ArrayVec<u8, 3>>(rt, alloc, source.clone_octets(alloc)?)?;
-    converts::<S, Array<3>>(rt, alloc, source.clone_octets(alloc)?)?;
-    converts::<&S, &[u8]>(rt, alloc, &source)?;
-    converts::<&S, Vec<u8>>(rt, alloc, &source)
+fn into_each_of<S: CloneOctets>(rt: &impl Abort, alloc: Global, source: &S) -> Result<(), Fail> {
+    is_made_into::<S, Vec<u8>>(rt, alloc, source)?;
+    is_made_into::<S, Bytes>(rt, alloc, source)?;
+    is_made_into::<S, BytesMut>(rt, alloc, source)?;
+    is_made_into::<S, SmallVec<u8, 2>>(rt, alloc, source)?;
+    is_made_into::<S, ArrayVec<u8, 3>>(rt, alloc, source)?;
+    is_made_into::<S, Array<3>>(rt, alloc, source)?;
+    converts::<&S, &[u8]>(rt, alloc, source)?;
+    converts::<&S, Vec<u8>>(rt, alloc, source)
+}
+
+/// Every conversion of a source that was made.
+fn into_each<S: CloneOctets, E: Debug + Drop>(
+    rt: &impl Abort,
+    alloc: Global,
+    made: Result<S, E>,
+) -> Result<(), Fail> {
+    into_each_of(rt, alloc, &made?)
 }
 
 #[test]
 fn each_sequence_is_made_into_each_other(rt: HostRuntime) -> Result<(), Fail> {
-    let alloc = rt.alloc();
-    let slice = b"abc".as_slice();
-    into_each(&rt, alloc, slice)?;
-    into_each(&rt, alloc, slice.to_vec(alloc)?)?;
-    into_each(&rt, alloc, CowOctets::borrowed(alloc, slice))?;
-    into_each(&rt, alloc, Bytes::copy_from_slice(alloc, slice)?)?;
-    into_each(&rt, alloc, BytesMut::copy_from_slice(alloc, slice)?)?;
-    into_each(&rt, alloc, SmallVec::<u8, 2>::from_slice(alloc, slice)?)?;
-    into_each(&rt, alloc, RcSlice::<u8>::from_slice(alloc, slice)?)?;
-    into_each(&rt, alloc, Array::<4>::try_from(slice)?)?;
-    let mut fixed = ArrayVec::<u8, 4>::new();
-    fixed.append_slice(slice)?;
-    into_each(&rt, alloc, fixed)
+    let (alloc, slice) = (rt.alloc(), b"abc".as_slice());
+    into_each_of(&rt, alloc, &slice)?;
+    into_each(&rt, alloc, slice.to_vec(alloc))?;
+    into_each_of(&rt, alloc, &CowOctets::borrowed(alloc, slice))?;
+    into_each(&rt, alloc, Bytes::copy_from_slice(alloc, slice))?;
+    into_each(&rt, alloc, BytesMut::copy_from_slice(alloc, slice))?;
+    into_each(&rt, alloc, SmallVec::<u8, 2>::from_slice(alloc, slice))?;
+    into_each(&rt, alloc, RcSlice::<u8>::from_slice(alloc, slice))?;
+    into_each(&rt, alloc, Array::<4>::try_from(slice))?;
+    into_each(&rt, alloc, ArrayVec::<u8, 4>::try_octets_from(alloc, slice))
+}
+
+/// What was made has the octets that are wanted, or where none are, it was refused for want of room.
+fn is_whole_or_short<T: AsOctets>(
+    rt: &impl Abort,
+    made: Result<T, AppendError>,
+    wanted: Option<&[u8]>,
+) {
+    match made {
+        Ok(octets) => assert_equal!(rt, Some(octets.as_ref()), wanted),
+        Err(error) => {
+            assert_true!(rt, wanted.is_none());
+            assert_equal!(rt, error, AppendError::Short(ShortBuf));
+        }
+    }
 }
 
 #[test]
 fn a_conversion_that_passes_the_limit_is_refused(rt: HostRuntime) -> Result<(), Fail> {
-    let alloc = rt.alloc();
-    let slice = b"abcd".as_slice();
+    let (alloc, slice) = (rt.alloc(), b"abcd".as_slice());
     let short: Result<Array<3>, AppendError> = slice.to_vec(alloc)?.try_octets_into(alloc);
-    assert_equal!(&rt, short.err(), Some(AppendError::Short(ShortBuf)));
-    let whole: Array<4> = slice.to_vec(alloc)?.try_octets_into(alloc)?;
-    assert_equal!(&rt, whole.as_slice(), slice);
-    let fixed = ArrayVec::<u8, 4>::try_octets_from(alloc, slice.to_vec(alloc)?)?;
-    assert_equal!(&rt, fixed.as_slice(), slice);
+    is_whole_or_short(&rt, short, None);
+    let whole: Result<Array<4>, AppendError> = slice.to_vec(alloc)?.try_octets_into(alloc);
+    is_whole_or_short(&rt, whole, Some(slice));
+    let fixed = ArrayVec::<u8, 4>::try_octets_from(alloc, slice.to_vec(alloc)?);
+    is_whole_or_short(&rt, fixed, Some(slice));
     let short = Array::<3>::try_octets_from(alloc, slice.to_vec(alloc)?);
-    assert_equal!(&rt, short.err(), Some(AppendError::Short(ShortBuf)));
+    is_whole_or_short(&rt, short, None);
     Ok(())
 }
 

@@ -6,6 +6,7 @@ use octseq::array::Array;
 use octseq::builder::{AppendError, EmptyBuilder};
 use octseq::str::Str;
 use octseq::utf8::{Turns, first_fault};
+use octseq_asserts::assert_equal;
 use std::alloc::Global;
 use std::process::Abort;
 use std::test::Fail;
@@ -15,17 +16,28 @@ fn fault(octets: &[u8]) -> Option<(usize, Option<usize>)> {
     first_fault(octets, &mut Turns::new()).map(|fault| (fault.valid_up_to(), fault.error_len()))
 }
 
+/// Octets begin with one ill-formed part of this length, and have this lossy text.
+fn is_one_part(
+    rt: &impl Abort,
+    alloc: Global,
+    octets: &[u8],
+    length: Option<usize>,
+    text: &str,
+) -> Result<(), Fail> {
+    assert_equal!(rt, fault(octets), Some((0, length)));
+    assert_equal!(rt, lossy(alloc, octets)?.as_str(), text);
+    Ok(())
+}
+
 /// Whole an encoding is well formed. Cut it is one ill-formed part, which reaches the end or what follows.
 fn is_whole_or_cut(rt: &impl Abort, alloc: Global, encoding: &[u8]) -> Result<(), Fail> {
     assert_equal!(rt, fault(encoding), None);
     assert_equal!(rt, lossy(alloc, encoding)?.as_slice(), encoding);
     for count in 1..encoding.len() {
         let mut cut = encoding[..count].to_vec(alloc)?;
-        assert_equal!(rt, fault(cut.as_slice()), Some((0, None)));
-        assert_equal!(rt, lossy(alloc, cut.as_slice())?.as_str(), "\u{FFFD}");
+        is_one_part(rt, alloc, cut.as_slice(), None, "\u{FFFD}")?;
         cut.push(b'A')?;
-        assert_equal!(rt, fault(cut.as_slice()), Some((0, Some(count))));
-        assert_equal!(rt, lossy(alloc, cut.as_slice())?.as_str(), "\u{FFFD}A");
+        is_one_part(rt, alloc, cut.as_slice(), Some(count), "\u{FFFD}A")?;
     }
     Ok(())
 }

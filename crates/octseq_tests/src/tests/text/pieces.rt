@@ -4,6 +4,7 @@ use crate::tests::is_text_or_short;
 use octseq::array::Array;
 use octseq::builder::{AppendError, EmptyBuilder, ShortBuf};
 use octseq::str::LossyPieces;
+use octseq_asserts::assert_equal;
 use octseq_uses::rationed::Rationed;
 use std::alloc::Global;
 use std::process::Abort;

@@ -2,6 +2,7 @@
 use super::lossy;
 use super::table::{ROWS, edges, plain_fault};
 use octseq::utf8::{Turns, first_fault};
+use octseq_asserts::assert_equal;
 use std::alloc::Global;
 use std::process::Abort;
 use std::test::Fail;
@@ -80,29 +81,44 @@ fn ascii_with(alloc: Global, len: usize, place: usize, others: &[u8]) -> Result<
     Ok(octets)
 }
 
+/// The place and the length of the first fault in 48 octets of ASCII with others put in place of those from one on.
+fn fault_within(
+    alloc: Global,
+    place: usize,
+    others: &[u8],
+) -> Result<Option<(usize, Option<usize>)>, Fail> {
+    let octets = ascii_with(alloc, 48, place, others)?;
+    let fault = first_fault(octets.as_slice(), &mut Turns::new());
+    Ok(fault.map(|fault| (fault.valid_up_to(), fault.error_len())))
+}
+
+/// A lane of ASCII has no fault.
+fn is_passed(rt: &impl Abort, alloc: Global, len: usize) -> Result<(), Fail> {
+    let octets = ascii_with(alloc, len, 0, b"")?;
+    assert_equal!(rt, first_fault(octets.as_slice(), &mut Turns::new()), None);
+    Ok(())
+}
+
+/// How many octets the lossy text has where one octet at a place is none of a text.
+fn lossy_length(alloc: Global, place: usize) -> Result<usize, Fail> {
+    let octets = ascii_with(alloc, 48, place, b"\xFF")?;
+    Ok(lossy(alloc, octets.as_slice())?.len())
+}
+
 #[test]
 fn lanes_are_passed_and_faults_within_them_found(rt: HostRuntime) -> Result<(), Fail> {
     let alloc = rt.alloc();
     for len in [0, 15, 16, 17, 31, 32, 48] {
-        let octets = ascii_with(alloc, len, 0, b"")?;
-        assert_equal!(&rt, first_fault(octets.as_slice(), &mut Turns::new()), None);
+        is_passed(&rt, alloc, len)?;
     }
     for place in 0..48 {
-        let octets = ascii_with(alloc, 48, place, b"\xFF")?;
-        let fault = first_fault(octets.as_slice(), &mut Turns::new()).ok_or("none")?;
-        assert_equal!(
-            &rt,
-            (fault.valid_up_to(), fault.error_len()),
-            (place, Some(1)),
-        );
-        assert_equal!(&rt, lossy(alloc, octets.as_slice())?.len(), 50);
+        let fault = fault_within(alloc, place, b"\xFF")?;
+        assert_equal!(&rt, fault, Some((place, Some(1))));
+        assert_equal!(&rt, lossy_length(alloc, place)?, 50);
     }
-    let whole = ascii_with(alloc, 48, 15, b"\xC3\xA9")?;
-    assert_equal!(&rt, first_fault(whole.as_slice(), &mut Turns::new()), None);
+    assert_equal!(&rt, fault_within(alloc, 15, b"\xC3\xA9")?, None);
     for (place, cut) in [(47, b"\xC3".as_slice()), (46, b"\xE2\x82")] {
-        let octets = ascii_with(alloc, 48, place, cut)?;
-        let fault = first_fault(octets.as_slice(), &mut Turns::new()).ok_or("none")?;
-        assert_equal!(&rt, (fault.valid_up_to(), fault.error_len()), (place, None));
+        assert_equal!(&rt, fault_within(alloc, place, cut)?, Some((place, None)));
     }
     Ok(())
 }

@@ -10,24 +10,30 @@ use octseq::cow::CowOctets;
 use octseq::octets::OctetsFrom;
 use octseq::str::{Command, Reply, Str, StrBuilder, boundary, last_char, run};
 use octseq::utf8::Turns;
+use octseq_asserts::{assert_equal, assert_true};
 use smallvec::SmallVec;
 use std::alloc::Global;
 use std::cmp::Ordering;
+use std::fmt::{Debug, Display};
 use std::hash::{BuildHasher, BuildHasherDefault, DefaultHasher, Hash};
 use std::process::Abort;
 use std::test::Fail;
 
+/// A text of three octets shows them by each call.
+fn is_abc(rt: &impl Abort, text: &Str<Vec<u8>>) {
+    assert_equal!(rt, text.as_str(), "abc");
+    assert_equal!(rt, text.as_slice(), b"abc".as_slice());
+    assert_equal!(rt, text.as_octets().as_slice(), b"abc".as_slice());
+    assert_equal!(rt, text.len(), 3);
+    assert_true!(rt, !text.is_empty());
+}
+
 #[test]
 fn texts_are_made(rt: HostRuntime) -> Result<(), Fail> {
     let alloc = rt.alloc();
-    let text = Str::from_utf8(b"abc".as_slice().to_vec(alloc)?)
-        .ok()
-        .ok_or("refused")?;
-    assert_equal!(&rt, text.as_str(), "abc");
-    assert_equal!(&rt, text.as_slice(), b"abc".as_slice());
-    assert_equal!(&rt, text.as_octets().as_slice(), b"abc".as_slice());
-    assert_equal!(&rt, text.len(), 3);
-    assert_true!(&rt, !text.is_empty());
+    let octets = b"abc".as_slice().to_vec(alloc)?;
+    let text = Str::from_utf8(octets).ok().ok_or("refused")?;
+    is_abc(&rt, &text);
     assert_true!(&rt, text.clone(alloc)? == text);
     assert_equal!(&rt, text.into_octets().as_slice(), b"abc".as_slice());
     let string = String::from_str(alloc, "été")?;
@@ -54,21 +60,35 @@ fn texts_begin_empty(rt: HostRuntime) {
     assert_true!(&rt, StrBuilder::<Array<2>>::default().is_empty());
 }
 
+/// A copy is the text that is wanted, or where none is, it was refused for want of room.
+fn is_copy_or_short<O: AsOctets>(
+    rt: &impl Abort,
+    copy: Result<Str<O>, AppendError>,
+    wanted: Option<&str>,
+) {
+    match copy {
+        Ok(text) => assert_equal!(rt, Some(text.as_str()), wanted),
+        Err(error) => {
+            assert_true!(rt, wanted.is_none());
+            assert_equal!(rt, error, AppendError::Short(ShortBuf));
+        }
+    }
+}
+
 #[test]
 fn texts_are_copied_where_the_limit_allows(rt: HostRuntime) -> Result<(), Fail> {
     let alloc = rt.alloc();
-    let short = Str::<ArrayVec<u8, 2>>::try_copy_from_str(alloc, "abc");
-    assert_equal!(&rt, short.err(), Some(AppendError::Short(ShortBuf)));
-    let whole = Str::<ArrayVec<u8, 3>>::try_copy_from_str(alloc, "abc")?;
-    assert_equal!(&rt, whole.as_str(), "abc");
+    let copied = Str::<ArrayVec<u8, 2>>::try_copy_from_str(alloc, "abc");
+    is_copy_or_short(&rt, copied, None);
+    let copied = Str::<ArrayVec<u8, 3>>::try_copy_from_str(alloc, "abc");
+    is_copy_or_short(&rt, copied, Some("abc"));
     let copied = Str::<Vec<u8>>::copy_from_str(alloc, "ab€")?;
     assert_equal!(&rt, copied.as_str(), "ab€");
     let source = Str::<Vec<u8>>::copy_from_str(alloc, "€b")?;
-    let short = Str::<Array<3>>::try_octets_from(alloc, source);
-    assert_equal!(&rt, short.err(), Some(AppendError::Short(ShortBuf)));
+    is_copy_or_short(&rt, Str::<Array<3>>::try_octets_from(alloc, source), None);
     let source = Str::<Vec<u8>>::copy_from_str(alloc, "€b")?;
-    let whole = Str::<Array<4>>::try_octets_from(alloc, source)?;
-    assert_equal!(&rt, whole.as_str(), "€b");
+    let copied = Str::<Array<4>>::try_octets_from(alloc, source);
+    is_copy_or_short(&rt, copied, Some("€b"));
     Ok(())
 }
 
@@ -151,20 +171,19 @@ fn texts_are_the_same_in_each_representation(rt: HostRuntime) -> Result<(), Fail
     Ok(())
 }
 
+/// A text of two characters shows them, flush right where that is asked for, and with quotes.
+fn is_shown<T: Display + Debug>(rt: &impl Abort, alloc: Global, text: &T) -> Result<(), Fail> {
+    assert_equal!(rt, format!(in alloc; "{text}")?.as_str(), "ab");
+    assert_equal!(rt, format!(in alloc; "{text:>4}")?.as_str(), "  ab");
+    assert_equal!(rt, format!(in alloc; "{text:?}")?.as_str(), "\"ab\"");
+    Ok(())
+}
+
 #[test]
 fn texts_are_shown(rt: HostRuntime) -> Result<(), Fail> {
-    let alloc = rt.alloc();
-    let text = Str::from_str("ab");
-    assert_equal!(&rt, format!(in alloc; "{text}")?.as_str(), "ab");
-    assert_equal!(&rt, format!(in alloc; "{text:>4}")?.as_str(), "  ab");
-    assert_equal!(&rt, format!(in alloc; "{text:?}")?.as_str(), "\"ab\"");
-    let builder = StrBuilder::from_utf8(b"ab".as_slice())
-        .ok()
-        .ok_or("refused")?;
-    assert_equal!(&rt, format!(in alloc; "{builder}")?.as_str(), "ab");
-    assert_equal!(&rt, format!(in alloc; "{builder:>4}")?.as_str(), "  ab");
-    assert_equal!(&rt, format!(in alloc; "{builder:?}")?.as_str(), "\"ab\"");
-    Ok(())
+    is_shown(&rt, rt.alloc(), &Str::from_str("ab"))?;
+    let builder = StrBuilder::from_utf8(b"ab".as_slice());
+    is_shown(&rt, rt.alloc(), &builder.ok().ok_or("refused")?)
 }
 
 #[test]
@@ -193,25 +212,19 @@ fn the_last_character_is_found(rt: HostRuntime) -> Result<(), Fail> {
     Ok(())
 }
 
+/// Whether a place is a boundary of a text.
+fn is_boundary(text: &str, place: usize) -> bool {
+    boundary(Str::from_str(text).as_slice(), place, &mut Turns::new())
+}
+
 #[test]
 fn places_between_characters_are_boundaries(rt: HostRuntime) -> Result<(), Fail> {
-    let text = Str::from_str("𤭢");
     let wanted = [true, false, false, false, true, false];
-    for (place, is_boundary) in wanted.iter().enumerate() {
-        assert_equal!(
-            &rt,
-            boundary(text.as_slice(), place, &mut Turns::new()),
-            *is_boundary,
-        );
+    for (place, wanted) in wanted.iter().enumerate() {
+        assert_equal!(&rt, is_boundary("𤭢", place), *wanted);
     }
-    assert_true!(
-        &rt,
-        !boundary(text.as_slice(), usize::MAX, &mut Turns::new()),
-    );
-    assert_true!(
-        &rt,
-        boundary(Str::from_str("").as_slice(), 0, &mut Turns::new()),
-    );
+    assert_true!(&rt, !is_boundary("𤭢", usize::MAX));
+    assert_true!(&rt, is_boundary("", 0));
     let builder = StrBuilder::from_utf8("aé".as_bytes())
         .ok()
         .ok_or("refused")?;
@@ -240,10 +253,22 @@ fn characters_are_popped(rt: HostRuntime) -> Result<(), Fail> {
     Ok(())
 }
 
+/// A text in this builder answers these commands so.
+fn answers<B: OctetsBuilder + Truncate>(
+    rt: &impl Abort,
+    alloc: Global,
+    builder: B,
+    commands: &[Command],
+    wanted: &[Reply],
+) -> Result<(), Fail> {
+    let mut text = StrBuilder::from_utf8(builder).ok().ok_or("refused")?;
+    assert_equal!(rt, run(alloc, &mut text, commands)?.as_slice(), wanted);
+    Ok(())
+}
+
 #[test]
 fn cuts_within_a_character_are_refused(rt: HostRuntime) -> Result<(), Fail> {
     let alloc = rt.alloc();
-    let mut text = StrBuilder::<Vec<u8>>::new(alloc)?;
     let commands = [
         Command::Push('é'),
         Command::Truncate(1),
@@ -262,13 +287,7 @@ fn cuts_within_a_character_are_refused(rt: HostRuntime) -> Result<(), Fail> {
         Reply::Done,
         Reply::Popped(None),
     ];
-    assert_equal!(
-        &rt,
-        run(alloc, &mut text, &commands)?.as_slice(),
-        wanted.as_slice(),
-    );
-    let borrowed = CowOctets::borrowed(alloc, "€".as_bytes());
-    let mut text = StrBuilder::from_utf8(borrowed).ok().ok_or("refused")?;
+    answers(&rt, alloc, Vec::new(alloc), &commands, &wanted)?;
     let commands = [
         Command::Push('b'),
         Command::Truncate(1),
@@ -285,12 +304,8 @@ fn cuts_within_a_character_are_refused(rt: HostRuntime) -> Result<(), Fail> {
         Reply::Popped(None),
         Reply::Len(0),
     ];
-    assert_equal!(
-        &rt,
-        run(alloc, &mut text, &commands)?.as_slice(),
-        wanted.as_slice(),
-    );
-    Ok(())
+    let borrowed = CowOctets::borrowed(alloc, "€".as_bytes());
+    answers(&rt, alloc, borrowed, &commands, &wanted)
 }
 
 /// The replies to a list of commands on an empty text.
@@ -309,10 +324,13 @@ fn replies<B: OctetsBuilder + Truncate>(alloc: Global, builder: B) -> Result<Vec
     Ok(run(alloc, &mut text, &commands)?)
 }
 
-#[test]
-fn each_representation_answers_by_its_limit(rt: HostRuntime) -> Result<(), Fail> {
-    let alloc = rt.alloc();
-    let at_four = [
+/// A builder with the limit 4 answers the commands by it.
+fn answers_at_four<B: OctetsBuilder + Truncate>(
+    rt: &impl Abort,
+    alloc: Global,
+    builder: B,
+) -> Result<(), Fail> {
+    let wanted = [
         Reply::Done,
         Reply::Short,
         Reply::Done,
@@ -322,14 +340,17 @@ fn each_representation_answers_by_its_limit(rt: HostRuntime) -> Result<(), Fail>
         Reply::Len(4),
         Reply::Is(true),
     ];
-    let at_four = at_four.as_slice();
-    assert_equal!(&rt, replies(alloc, Array::<4>::new())?.as_slice(), at_four);
-    assert_equal!(
-        &rt,
-        replies(alloc, ArrayVec::<u8, 4>::new())?.as_slice(),
-        at_four,
-    );
-    let unlimited = [
+    assert_equal!(rt, replies(alloc, builder)?.as_slice(), wanted.as_slice());
+    Ok(())
+}
+
+/// A builder without a limit does what each command says.
+fn answers_without_a_limit<B: OctetsBuilder + Truncate>(
+    rt: &impl Abort,
+    alloc: Global,
+    builder: B,
+) -> Result<(), Fail> {
+    let wanted = [
         Reply::Done,
         Reply::Done,
         Reply::Done,
@@ -339,31 +360,26 @@ fn each_representation_answers_by_its_limit(rt: HostRuntime) -> Result<(), Fail>
         Reply::Len(6),
         Reply::Is(false),
     ];
-    let unlimited = unlimited.as_slice();
-    assert_equal!(
-        &rt,
-        replies(alloc, Vec::empty(alloc)?)?.as_slice(),
-        unlimited,
-    );
-    assert_equal!(
-        &rt,
-        replies(alloc, BytesMut::empty(alloc)?)?.as_slice(),
-        unlimited,
-    );
-    assert_equal!(
-        &rt,
-        replies(alloc, SmallVec::<u8, 2>::empty(alloc)?)?.as_slice(),
-        unlimited,
-    );
-    assert_equal!(
-        &rt,
-        replies(alloc, CowOctets::borrowed(alloc, b""))?.as_slice(),
-        unlimited,
-    );
-    assert_equal!(
-        &rt,
-        replies(alloc, &mut Array::<4>::new())?.as_slice(),
-        at_four,
-    );
+    assert_equal!(rt, replies(alloc, builder)?.as_slice(), wanted.as_slice());
     Ok(())
+}
+
+/// A builder without a limit, which is made here.
+fn one_answers_without_a_limit<B: EmptyBuilder + Truncate>(
+    rt: &impl Abort,
+    alloc: Global,
+) -> Result<(), Fail> {
+    answers_without_a_limit(rt, alloc, B::empty(alloc)?)
+}
+
+#[test]
+fn each_representation_answers_by_its_limit(rt: HostRuntime) -> Result<(), Fail> {
+    let alloc = rt.alloc();
+    answers_at_four(&rt, alloc, Array::<4>::new())?;
+    answers_at_four(&rt, alloc, ArrayVec::<u8, 4>::new())?;
+    answers_at_four(&rt, alloc, &mut Array::<4>::new())?;
+    one_answers_without_a_limit::<Vec<u8>>(&rt, alloc)?;
+    one_answers_without_a_limit::<BytesMut>(&rt, alloc)?;
+    one_answers_without_a_limit::<SmallVec<u8, 2>>(&rt, alloc)?;
+    answers_without_a_limit(&rt, alloc, CowOctets::borrowed(alloc, b""))
 }

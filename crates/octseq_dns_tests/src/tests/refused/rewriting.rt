@@ -1,6 +1,7 @@
 //! Messages written anew: a refused request for memory leaves the message that was read, and is answered.
 use super::super::dns_round_trips::{COMPRESSED, PLAIN};
 use octseq::octets::Octets;
+use octseq_asserts::assert_equal;
 use octseq_dns::compose::rewrite;
 use octseq_dns::{Message, Place};
 use std::alloc::AllocGlobal;

@@ -3,6 +3,7 @@
 use bytes::BytesMut;
 use octseq::builder::AsOctetsMut;
 use octseq::{AppendError, Array, EmptyBuilder, OctetsBuilder, Truncate};
+use octseq_asserts::assert_equal;
 use octseq_dns::{
     AdditionalBuilder, Class, FixedPlaces, MessageBuilder, Name, Place, Places, QuestionBuilder,
     Rtype, Ttl,

@@ -1,8 +1,8 @@
 //! What the data of records says.
-use super::{Case, over_each};
 use octseq::octets::Octets;
 use octseq::utf8::Turns;
-use octseq_dns::data::Opt;
+use octseq_asserts::{Case, assert_equal, assert_true, over_each};
+use octseq_dns::data::{Opt, Soa, Srv, Txt};
 use octseq_dns::{Data, Malformed, Message, ParsedName};
 use std::alloc::{AllocError, AllocGlobal, Global};
 use std::process::Abort;
@@ -31,62 +31,68 @@ fn push_name<R: Octets + Copy>(text: &mut Vec<u8>, name: &ParsedName<R>) -> Resu
     Ok(())
 }
 
+/// Appends a word for the form, and octets.
+fn push_octets(text: &mut Vec<u8>, word: &[u8], octets: &[u8]) -> Result<(), AllocError> {
+    text.extend_from_slice(word)?;
+    text.extend_from_slice(octets)
+}
+
+/// Appends a word for the form, and a name.
+fn push_named<R: Octets + Copy>(
+    text: &mut Vec<u8>,
+    word: &[u8],
+    name: &ParsedName<R>,
+) -> Result<(), AllocError> {
+    text.extend_from_slice(word)?;
+    push_name(text, name)
+}
+
+/// Appends the start of a zone: two names and five numbers.
+fn push_soa<R: Octets + Copy>(text: &mut Vec<u8>, soa: &Soa<R>) -> Result<(), AllocError> {
+    push_named(text, b"soa ", &soa.mname)?;
+    push_name(text, &soa.rname)?;
+    for number in [soa.serial, soa.refresh, soa.retry, soa.expire, soa.minimum] {
+        text.extend_from_slice(&number.to_be_bytes())?;
+    }
+    Ok(())
+}
+
+/// Appends strings, each with a bar behind it.
+fn push_txt<R: Octets + Copy>(text: &mut Vec<u8>, txt: &Txt<R>) -> Result<(), AllocError> {
+    text.extend_from_slice(b"txt ")?;
+    for string in txt.strings() {
+        text.extend_from_slice(string.as_slice())?;
+        text.push(b'|')?;
+    }
+    Ok(())
+}
+
+/// Appends the place of a service: three numbers and a name.
+fn push_srv<R: Octets + Copy>(text: &mut Vec<u8>, srv: &Srv<R>) -> Result<(), AllocError> {
+    text.extend_from_slice(b"srv ")?;
+    for number in [srv.priority, srv.weight, srv.port] {
+        text.extend_from_slice(&number.to_be_bytes())?;
+    }
+    push_name(text, &srv.target)
+}
+
 /// Appends a word for the form, and its parts: addresses and numbers as octets, a bar behind each string.
 fn push_data<R: Octets + Copy>(text: &mut Vec<u8>, found: &Data<R>) -> Result<(), AllocError> {
     match found {
-        Data::A(octets) => {
-            text.extend_from_slice(b"a ")?;
-            text.extend_from_slice(octets)?;
-        }
-        Data::Aaaa(octets) => {
-            text.extend_from_slice(b"aaaa ")?;
-            text.extend_from_slice(octets)?;
-        }
-        Data::Ns(name) => {
-            text.extend_from_slice(b"ns ")?;
-            push_name(text, name)?;
-        }
-        Data::Cname(name) => {
-            text.extend_from_slice(b"cname ")?;
-            push_name(text, name)?;
-        }
-        Data::Ptr(name) => {
-            text.extend_from_slice(b"ptr ")?;
-            push_name(text, name)?;
-        }
+        Data::A(octets) => push_octets(text, b"a ", octets),
+        Data::Aaaa(octets) => push_octets(text, b"aaaa ", octets),
+        Data::Ns(name) => push_named(text, b"ns ", name),
+        Data::Cname(name) => push_named(text, b"cname ", name),
+        Data::Ptr(name) => push_named(text, b"ptr ", name),
         Data::Mx(mx) => {
-            text.extend_from_slice(b"mx ")?;
-            text.extend_from_slice(&mx.preference.to_be_bytes())?;
-            push_name(text, &mx.exchange)?;
+            push_octets(text, b"mx ", &mx.preference.to_be_bytes())?;
+            push_name(text, &mx.exchange)
         }
-        Data::Soa(soa) => {
-            text.extend_from_slice(b"soa ")?;
-            push_name(text, &soa.mname)?;
-            push_name(text, &soa.rname)?;
-            for number in [soa.serial, soa.refresh, soa.retry, soa.expire, soa.minimum] {
-                text.extend_from_slice(&number.to_be_bytes())?;
-            }
-        }
-        Data::Txt(txt) => {
-            text.extend_from_slice(b"txt ")?;
-            for string in txt.strings() {
-                text.extend_from_slice(string.as_slice())?;
-                text.push(b'|')?;
-            }
-        }
-        Data::Srv(srv) => {
-            text.extend_from_slice(b"srv ")?;
-            for number in [srv.priority, srv.weight, srv.port] {
-                text.extend_from_slice(&number.to_be_bytes())?;
-            }
-            push_name(text, &srv.target)?;
-        }
-        Data::Opaque(octets) => {
-            text.extend_from_slice(b"opaque ")?;
-            text.extend_from_slice(octets.peek_all())?;
-        }
+        Data::Soa(soa) => push_soa(text, soa),
+        Data::Txt(txt) => push_txt(text, txt),
+        Data::Srv(srv) => push_srv(text, srv),
+        Data::Opaque(octets) => push_octets(text, b"opaque ", octets.peek_all()),
     }
-    Ok(())
 }
 
 /// What the data of the answers of a message says.
@@ -200,12 +206,8 @@ fn a_name_ends_where_its_data_does(rt: HostRuntime) -> Result<(), Fail> {
 #[derive(Drop)]
 struct IsService;
 
-impl Case for IsService {
-    fn holds<H: Abort + AllocGlobal, R: Octets + Copy>(
-        &self,
-        rt: &H,
-        octets: R,
-    ) -> Result<(), Fail> {
+impl<H: Abort + AllocGlobal> Case<H> for IsService {
+    fn holds<R: Octets + Copy>(&self, rt: &H, octets: R) -> Result<(), Fail> {
         let text = said(rt.alloc(), octets)?;
         assert_equal!(
             rt,
@@ -225,12 +227,8 @@ fn data_is_read_from_each_kind_of_octets(rt: HostRuntime) -> Result<(), Fail> {
 #[derive(Drop)]
 struct StringsStandInTheMessage;
 
-impl Case for StringsStandInTheMessage {
-    fn holds<H: Abort + AllocGlobal, R: Octets + Copy>(
-        &self,
-        rt: &H,
-        octets: R,
-    ) -> Result<(), Fail> {
+impl<H: Abort + AllocGlobal> Case<H> for StringsStandInTheMessage {
+    fn holds<R: Octets + Copy>(&self, rt: &H, octets: R) -> Result<(), Fail> {
         for answer in Message::parse(octets)?.answers() {
             let mut turns = Turns::new();
             match answer.data_counted(&mut turns).clone()? {

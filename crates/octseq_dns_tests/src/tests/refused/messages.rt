@@ -1,5 +1,6 @@
 //! Messages: lists of their entries.
 use octseq::octets::Octets;
+use octseq_asserts::assert_equal;
 use octseq_dns::Message;
 use octseq_dns::message::Lists;
 use std::alloc::{AllocError, AllocGlobal};

@@ -2,6 +2,7 @@
 use octseq::octets::Octets;
 use octseq::str::DisplayError;
 use octseq::{Array, AsOctets, StrBuilder};
+use octseq_asserts::{assert_equal, assert_true};
 use octseq_dns::{Data, Malformed, Message, Record};
 use std::alloc::{AllocGlobal, Global};
 use std::process::Abort;

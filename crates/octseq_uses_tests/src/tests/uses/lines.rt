@@ -1,6 +1,7 @@
 //! Lines.
 use octseq::builder::{AppendError, EmptyBuilder, ShortBuf};
 use octseq::{Array, AsOctets, Parser, StrBuilder};
+use octseq_asserts::{assert_equal, assert_true};
 use octseq_uses::lines::next_line;
 use std::alloc::Global;
 use std::process::Abort;

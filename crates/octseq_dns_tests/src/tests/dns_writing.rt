@@ -4,10 +4,11 @@ use bytes::BytesMut;
 use octseq::builder::AsOctetsMut;
 use octseq::octets::Octets;
 use octseq::{AppendError, Array, EmptyBuilder, OctetsBuilder, ShortBuf, Truncate};
+use octseq_asserts::assert_equal;
 use octseq_dns::header::Flags;
 use octseq_dns::{
     AnswerBuilder, Class, FixedPlaces, Header, Malformed, Message, MessageBuilder, Name,
-    NoCompression, Opcode, Place, Places, Rcode, Record, Rtype, Ttl,
+    NoCompression, Opcode, ParsedName, Place, Places, Rcode, Record, Rtype, Ttl,
 };
 use smallvec::SmallVec;
 use std::alloc::{AllocError, Global};
@@ -239,15 +240,28 @@ fn has_room<B: OctetsBuilder + Truncate + AsOctetsMut>(
     assert_equal!(rt, question, pushed(entries >= 1));
     let wanted = if entries == 0 { NOTHING } else { ASKED };
     assert_equal!(rt, questions.as_slice(), wanted);
-    let mut answers = questions.answer();
+    has_room_for_an_answer(rt, questions.answer(), &name.parsed(), entries);
+    Ok(())
+}
+
+/// The answer is pushed where the message has room for both.
+fn has_room_for_an_answer<B: OctetsBuilder + Truncate + AsOctetsMut>(
+    rt: &impl Abort,
+    mut answers: AnswerBuilder<B, FixedPlaces<8>>,
+    name: &ParsedName<&[u8]>,
+    entries: usize,
+) {
     let ttl = Ttl::from_secs(300);
-    let answer = answers.push_opaque(&name.parsed(), Rtype::A, Class::IN, ttl, &[1, 2, 3, 4]);
+    let answer = answers.push_opaque(name, Rtype::A, Class::IN, ttl, &[1, 2, 3, 4]);
     assert_equal!(rt, answer, pushed(entries >= 2));
-    let wanted = if entries >= 2 { ANSWERED } else { wanted };
+    let wanted = match entries {
+        0 => NOTHING,
+        1 => ASKED,
+        _ => ANSWERED,
+    };
     assert_equal!(rt, answers.as_slice(), wanted);
     let counts = (entries.min(1), entries.saturating_sub(1), 0, 0);
     assert_equal!(rt, counts_of(answers.as_slice()), Ok(counts));
-    Ok(())
 }
 
 #[test]
@@ -292,25 +306,28 @@ fn a_refused_record_leaves_no_place(rt: HostRuntime) -> Result<(), Fail> {
     Ok(())
 }
 
-/// A question, an answer, an authority and an additional record, with names that end like the ones before them.
-fn in_each_section(alloc: Global) -> Result<Vec<u8>, Fail> {
-    let (name, end) = (Name::from_text("example.com.")?, Name::from_text("com.")?);
-    let mut questions = MessageBuilder::from_builder(
-        Vec::new(alloc),
-        FixedPlaces::<8>::new(),
-    )?.question();
+/// A question and an answer of one name.
+fn in_two_sections(alloc: Global) -> Result<AnswerBuilder<Vec<u8>, FixedPlaces<8>>, Fail> {
+    let name = Name::from_text("example.com.")?;
+    let message = MessageBuilder::from_builder(Vec::new(alloc), FixedPlaces::<8>::new())?;
+    let mut questions = message.question();
     questions.push_question(&name.parsed(), Rtype::ANY, Class::IN)?;
     let mut answers = questions.answer();
     let ttl = Ttl::from_secs(300);
     answers.push_opaque(&name.parsed(), Rtype::A, Class::IN, ttl, &[1, 2, 3, 4])?;
-    let mut authorities = answers.authority();
+    Ok(answers)
+}
+
+/// A question, an answer, an authority and an additional record, with names that end like the ones before them.
+fn in_each_section(alloc: Global) -> Result<Vec<u8>, Fail> {
+    let (root, end) = (Name::from_text(".")?, Name::from_text("com.")?);
+    let mut authorities = in_two_sections(alloc)?.authority();
     let ttl = Ttl::from_secs(4_294_967_295);
     authorities.push_opaque(&end.parsed(), Rtype::TXT, Class::CH, ttl, b"\x02hi")?;
     let mut additionals = authorities.additional();
-    let (root, class) = (Name::from_text(".")?, Class::from_int(4096));
-    additionals.push_opaque(&root.parsed(), Rtype::OPT, class, Ttl::from_secs(0), b"")?;
-    let (octets, _) = additionals.finish();
-    Ok(octets)
+    let (class, ttl) = (Class::from_int(4096), Ttl::from_secs(0));
+    additionals.push_opaque(&root.parsed(), Rtype::OPT, class, ttl, b"")?;
+    Ok(additionals.finish().0)
 }
 
 /// The record is of a name with these labels, and has this type, class, TTL and data.
@@ -367,26 +384,30 @@ fn entries_of_each_section_are_read(rt: HostRuntime) -> Result<(), Fail> {
     Ok(are_read(&rt, octets.as_slice())?)
 }
 
-#[test]
-fn each_section_has_its_count(rt: HostRuntime) -> Result<(), Fail> {
-    let root = Name::from_text(".")?;
-    let (rtype, class, ttl) = (Rtype::NS, Class::IN, Ttl::from_secs(1));
+/// Questions and answers of the root, one and two of them.
+fn one_and_two(root: &ParsedName<&[u8]>) -> Result<AnswerBuilder<Array<128>, NoCompression>, Fail> {
     let message = MessageBuilder::from_builder(Array::<128>::new(), NoCompression)?;
     let mut questions = message.question();
-    questions.push_question(&root.parsed(), rtype, class)?;
+    questions.push_question(root, Rtype::NS, Class::IN)?;
     let mut answers = questions.answer();
     for _ in 0..2 {
-        answers.push_opaque(&root.parsed(), rtype, class, ttl, b"\0")?;
+        answers.push_opaque(root, Rtype::NS, Class::IN, Ttl::from_secs(1), b"\0")?;
     }
-    let mut authorities = answers.authority();
+    Ok(answers)
+}
+
+#[test]
+fn each_section_has_its_count(rt: HostRuntime) -> Result<(), Fail> {
+    let (root, ttl) = (Name::from_text(".")?, Ttl::from_secs(1));
+    let mut authorities = one_and_two(&root.parsed())?.authority();
     for _ in 0..3 {
-        authorities.push_opaque(&root.parsed(), rtype, class, ttl, b"\0")?;
+        authorities.push_opaque(&root.parsed(), Rtype::NS, Class::IN, ttl, b"\0")?;
     }
     let mut additionals = authorities.additional();
     for _ in 0..4 {
-        additionals.push_opaque(&root.parsed(), rtype, class, ttl, b"\0")?;
+        additionals.push_opaque(&root.parsed(), Rtype::NS, Class::IN, ttl, b"\0")?;
     }
-    let (octets, NoCompression) = additionals.finish();
+    let octets = additionals.finish().0;
     let wanted = b"\0\0\0\0\0\x01\0\x02\0\x03\0\x04".as_slice();
     assert_equal!(&rt, octets.as_slice().get(..12), Some(wanted));
     assert_equal!(&rt, counts_of(octets.as_slice()), Ok((1, 2, 3, 4)));
@@ -402,9 +423,25 @@ fn is_sent(rt: &impl Abort, octets: &[u8], found: Header, id: u8) {
     assert_equal!(rt, counts, (0, 0, 0, 0));
 }
 
+/// The header of an answer with this id.
+fn sent(id: u16) -> Header {
+    Header { id, ..header() }
+}
+
+/// The builders of records set the header.
+fn is_set_in_records(rt: &impl Abort, mut answers: AnswerBuilder<Array<12>, NoCompression>) {
+    answers.set_header(sent(3));
+    is_sent(rt, answers.as_slice(), answers.header(), 3);
+    let mut authorities = answers.authority();
+    authorities.set_header(sent(4));
+    is_sent(rt, authorities.as_slice(), authorities.header(), 4);
+    let mut additionals = authorities.additional();
+    additionals.set_header(sent(5));
+    is_sent(rt, additionals.as_slice(), additionals.header(), 5);
+}
+
 #[test]
 fn each_builder_sets_the_header(rt: HostRuntime) -> Result<(), Fail> {
-    let sent = |id: u16| Header { id, ..header() };
     let mut message = MessageBuilder::from_builder(Array::<12>::new(), NoCompression)?;
     assert_equal!(&rt, message.as_slice(), [0u8; 12].as_slice());
     message.set_header(sent(1));
@@ -412,15 +449,7 @@ fn each_builder_sets_the_header(rt: HostRuntime) -> Result<(), Fail> {
     let mut questions = message.question();
     questions.set_header(sent(2));
     is_sent(&rt, questions.as_slice(), questions.header(), 2);
-    let mut answers = questions.answer();
-    answers.set_header(sent(3));
-    is_sent(&rt, answers.as_slice(), answers.header(), 3);
-    let mut authorities = answers.authority();
-    authorities.set_header(sent(4));
-    is_sent(&rt, authorities.as_slice(), authorities.header(), 4);
-    let mut additionals = authorities.additional();
-    additionals.set_header(sent(5));
-    is_sent(&rt, additionals.as_slice(), additionals.header(), 5);
+    is_set_in_records(&rt, questions.answer());
     Ok(())
 }
 
@@ -464,34 +493,52 @@ fn codes_of_a_header_are_written(rt: HostRuntime) -> Result<(), Fail> {
     Ok(())
 }
 
+/// An answer of the root with this data is pushed, or refused, and the message has so many octets behind it.
+fn is_pushed<B: OctetsBuilder + Truncate + AsOctetsMut, T: Places>(
+    rt: &impl Abort,
+    answers: &mut AnswerBuilder<B, T>,
+    rdata: &[u8],
+    fits: bool,
+    len: usize,
+) -> Result<(), Fail> {
+    assert_equal!(rt, push_answer(answers, ".", rdata)?, pushed(fits));
+    assert_equal!(rt, answers.as_slice().len(), len);
+    Ok(())
+}
+
 #[test]
 fn a_written_message_has_65535_octets_at_most(rt: HostRuntime) -> Result<(), Fail> {
     let mut rdata = Vec::new(rt.alloc());
     rdata.resize(65536, 0xAA)?;
     let message = MessageBuilder::from_builder(Vec::new(rt.alloc()), NoCompression)?;
     let mut answers = message.question().answer();
-    assert_equal!(&rt, push_answer(&mut answers, ".", &rdata)?, SHORT);
+    is_pushed(&rt, &mut answers, &rdata, false, 12)?;
     rdata.truncate(65513);
-    assert_equal!(&rt, push_answer(&mut answers, ".", &rdata)?, SHORT);
+    is_pushed(&rt, &mut answers, &rdata, false, 12)?;
     assert_equal!(&rt, answers.as_slice(), [0u8; 12].as_slice());
     rdata.truncate(65512);
-    assert_equal!(&rt, push_answer(&mut answers, ".", &rdata)?, Ok(()));
-    assert_equal!(&rt, answers.as_slice().len(), 65535);
-    assert_equal!(&rt, push_answer(&mut answers, ".", b"")?, SHORT);
-    assert_equal!(&rt, answers.as_slice().len(), 65535);
+    is_pushed(&rt, &mut answers, &rdata, true, 65535)?;
+    is_pushed(&rt, &mut answers, b"", false, 65535)?;
     assert_equal!(&rt, counts_of(answers.as_slice()), Ok((0, 1, 0, 0)));
     Ok(())
 }
 
+/// Pushes a record of the root with this data, and two records of one name.
+fn push_three<B: OctetsBuilder + Truncate + AsOctetsMut, T: Places>(
+    answers: &mut AnswerBuilder<B, T>,
+    rdata: &[u8],
+) -> Result<(), Fail> {
+    push_answer(answers, ".", rdata)??;
+    push_answer(answers, "com.", b"")??;
+    Ok(push_answer(answers, "com.", b"")??)
+}
+
 /// What is written behind a record of the root with so many octets of data: two records of one name.
 fn written_behind(alloc: Global, len: usize) -> Result<Vec<u8>, Fail> {
-    let mut rdata = Vec::new(alloc);
-    rdata.resize(len, 0)?;
+    let rdata = Vec::from_elem(alloc, 0, len)?;
     let message = MessageBuilder::from_builder(Vec::new(alloc), Vec::new(alloc))?;
     let mut answers = message.question().answer();
-    push_answer(&mut answers, ".", &rdata)??;
-    push_answer(&mut answers, "com.", b"")??;
-    push_answer(&mut answers, "com.", b"")??;
+    push_three(&mut answers, &rdata)?;
     let behind = answers.as_slice().get(len.saturating_add(23)..);
     Ok(behind.ok_or("too short")?.to_vec(alloc)?)
 }
@@ -507,22 +554,47 @@ fn a_pointer_says_a_place_up_to_16383(rt: HostRuntime) -> Result<(), Fail> {
     Ok(())
 }
 
-/// An empty table keeps the places that are added up to so many of them, and fewer once it is cut off.
-fn keeps<T: Places>(rt: &impl Abort, mut table: T, most: usize) -> Result<(), AllocError> {
-    let places = [(12, 0), (14, 1), (16383, 126)].map(|(at, pointers)| Place { at, pointers });
+/// Places in messages.
+const PLACES: [Place; 3] = [
+    Place {
+        at: 12,
+        pointers: 0,
+    },
+    Place {
+        at: 14,
+        pointers: 1,
+    },
+    Place {
+        at: 16383,
+        pointers: 126,
+    },
+];
+
+/// An empty table keeps the places that are added up to so many of them.
+fn adds<T: Places>(rt: &impl Abort, table: &mut T, most: usize) -> Result<(), AllocError> {
     assert_equal!(rt, table.as_slice(), [].as_slice());
-    for (count, place) in places.iter().enumerate() {
+    for (count, place) in PLACES.iter().enumerate() {
         table.add(*place)?;
         let held = count.saturating_add(1).min(most);
-        assert_equal!(rt, Some(table.as_slice()), places.get(..held));
+        assert_equal!(rt, Some(table.as_slice()), PLACES.get(..held));
     }
-    table.truncate(4);
-    assert_equal!(rt, Some(table.as_slice()), places.get(..most.min(3)));
-    table.truncate(1);
-    assert_equal!(rt, Some(table.as_slice()), places.get(..most.min(1)));
+    Ok(())
+}
+
+/// A table that is cut off has so many places.
+fn is_cut<T: Places>(rt: &impl Abort, table: &mut T, len: usize, held: usize) {
+    table.truncate(len);
+    assert_equal!(rt, Some(table.as_slice()), PLACES.get(..held));
+}
+
+/// An empty table keeps the places that are added up to so many of them, and fewer once it is cut off.
+fn keeps<T: Places>(rt: &impl Abort, mut table: T, most: usize) -> Result<(), AllocError> {
+    adds(rt, &mut table, most)?;
+    is_cut(rt, &mut table, 4, most.min(3));
+    is_cut(rt, &mut table, 1, most.min(1));
     table.truncate(0);
-    table.add(places[1])?;
-    let wanted = places.get(1..most.min(1).saturating_add(1));
+    table.add(PLACES[1])?;
+    let wanted = PLACES.get(1..most.min(1).saturating_add(1));
     assert_equal!(rt, Some(table.as_slice()), wanted);
     Ok(())
 }

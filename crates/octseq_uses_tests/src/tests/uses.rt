@@ -3,6 +3,7 @@ use octseq::builder::{AppendError, AsOctets, EmptyBuilder, ShortBuf};
 use octseq::compose::ComposeError;
 use octseq::error::ReadError;
 use octseq::{Array, StrBuilder};
+use octseq_asserts::assert_equal;
 use octseq_uses::any_builder::paired;
 use octseq_uses::join::join;
 use octseq_uses::records::{append_record, read_records};

@@ -2,6 +2,7 @@
 use octseq::builder::AsOctetsMut;
 use octseq::octets::Octets;
 use octseq::{AppendError, Array, OctetsBuilder, ShortBuf, Truncate};
+use octseq_asserts::assert_equal;
 use octseq_dns::compose::rewrite;
 use octseq_dns::{FixedPlaces, Malformed, Message, MessageBuilder, NoCompression, Places, Record};
 use std::alloc::AllocGlobal;

@@ -1,5 +1,6 @@
 //! How the data of records shows.
 use octseq::octets::Octets;
+use octseq_asserts::assert_equal;
 use octseq_dns::Message;
 use std::alloc::{AllocGlobal, Global};
 use std::fmt::Write;

@@ -7,6 +7,8 @@ use octseq_alone::note::{append_note, kept, read_note};
 use octseq_alone::ranges::{behind_two, key, onward};
 use octseq_alone::shown::{push_number, write_number};
 use octseq_alone::views::{fourth, is_comment};
+use octseq_asserts::{assert_equal, assert_true};
+use std::process::Abort;
 use std::test::Fail;
 
 #[test]
@@ -18,6 +20,20 @@ fn a_frame_has_its_length_in_front(rt: HostRuntime) {
     assert_equal!(&rt, octets.as_slice(), b"\x00\x03abc".as_slice());
 }
 
+/// No note stands at the front of octets.
+fn has_no_note(rt: &impl Abort, octets: &[u8]) {
+    assert_true!(rt, read_note(&mut Parser::from_ref(octets)).is_err());
+}
+
+/// A note is all that octets have.
+fn is_note(rt: &impl Abort, octets: &[u8]) -> Result<(), Fail> {
+    let mut parser = Parser::from_ref(octets);
+    let note = read_note(&mut parser).ok().ok_or("no note")?;
+    assert_equal!(rt, (note.number, note.words.as_str()), (258, "hé"));
+    assert_equal!(rt, parser.remaining(), 0);
+    Ok(())
+}
+
 #[test]
 fn a_note_is_written_and_read(rt: HostRuntime) -> Result<(), Fail> {
     let mut octets = Array::<8>::new();
@@ -25,17 +41,11 @@ fn a_note_is_written_and_read(rt: HostRuntime) -> Result<(), Fail> {
     assert_true!(&rt, append_note(&mut octets, 1, "h").is_err());
     let wanted = b"N\x01\x02\x03h\xC3\xA9";
     assert_equal!(&rt, octets.as_slice(), wanted.as_slice());
-    let mut parser = Parser::from_ref(wanted.as_slice());
-    let note = read_note(&mut parser).ok().ok_or("no note")?;
-    assert_equal!(&rt, (note.number, note.words.as_str()), (258, "hé"));
-    assert_equal!(&rt, parser.remaining(), 0);
-    let cut = read_note(&mut Parser::from_ref(b"N\x01".as_slice()));
-    assert_true!(&rt, cut.is_err());
-    let other = read_note(&mut Parser::from_ref(b"n\x01\x02\x00".as_slice()));
-    assert_true!(&rt, other.is_err());
+    has_no_note(&rt, b"N\x01");
+    has_no_note(&rt, b"n\x01\x02\x00");
     assert_true!(&rt, kept(&[0; 64]).is_ok());
     assert_true!(&rt, kept(&[0; 65]).is_err());
-    Ok(())
+    is_note(&rt, wanted)
 }
 
 #[test]

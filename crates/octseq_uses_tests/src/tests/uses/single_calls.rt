@@ -1,6 +1,7 @@
 //! The first callers.
 use octseq::CowOctets;
 use octseq::error::ReadError;
+use octseq_asserts::assert_equal;
 use octseq_uses::levels::read_levels;
 use octseq_uses::single_calls::{extended, field, kept, text_front};
 use std::test::Fail;

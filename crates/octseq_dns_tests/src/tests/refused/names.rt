@@ -1,4 +1,5 @@
 //! Names of labels.
+use octseq_asserts::assert_equal;
 use octseq_dns::Name;
 use octseq_dns::error::LabelsError;
 use std::test::Fail;

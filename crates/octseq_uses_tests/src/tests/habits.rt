@@ -8,11 +8,12 @@ use octseq::octets::{Octets, try_range};
 use octseq::parse::{Parser, ShortInput};
 use octseq::str::{DisplayError, Str, StrBuilder};
 use octseq::{ReadError, WriteError};
+use octseq_asserts::{assert_equal, assert_true};
 use smallvec::SmallVec;
 use std::alloc::Global;
 use std::convert::{AsSlice, AsStr};
 use std::error::Error;
-use std::fmt::{self, Display, Write};
+use std::fmt::{self, Debug, Display, Write};
 use std::ops::RangeBounds;
 use std::process::Abort;
 use std::test::Fail;
@@ -25,21 +26,27 @@ fn cut<O: Octets, R: RangeBounds<usize>>(octets: O, range: R) -> Option<O::Range
     octets.range(found).ok()
 }
 
+/// A range of "abcd" is this slice, or isn't there.
+fn is_cut<R: RangeBounds<usize>>(rt: &impl Abort, range: R, wanted: Option<&[u8]>)
+    requires { R.has_bounds range }
+{
+    assert_equal!(rt, cut(b"abcd".as_slice(), range), wanted);
+}
+
 #[test]
 fn ranges_are_written_as_rusts(rt: HostRuntime) -> Result<(), Fail> {
-    let octets = b"abcd".as_slice();
-    assert_equal!(&rt, cut(octets, 1..3), Some(b"bc".as_slice()));
-    assert_equal!(&rt, cut(octets, 1..=3), Some(b"bcd".as_slice()));
-    assert_equal!(&rt, cut(octets, 2..), Some(b"cd".as_slice()));
-    assert_equal!(&rt, cut(octets, ..1), Some(b"a".as_slice()));
-    assert_equal!(&rt, cut(octets, ..=1), Some(b"ab".as_slice()));
-    assert_equal!(&rt, cut(octets, ..), Some(b"abcd".as_slice()));
-    assert_equal!(&rt, cut(octets, 4..), Some(b"".as_slice()));
-    assert_equal!(&rt, cut(octets, 3..5), None);
-    assert_equal!(&rt, cut(octets, 5..), None);
-    assert_equal!(&rt, cut(octets, ..=4), None);
+    is_cut(&rt, 1..3, Some(b"bc"));
+    is_cut(&rt, 1..=3, Some(b"bcd"));
+    is_cut(&rt, 2.., Some(b"cd"));
+    is_cut(&rt, ..1, Some(b"a"));
+    is_cut(&rt, ..=1, Some(b"ab"));
+    is_cut(&rt, .., Some(b"abcd"));
+    is_cut(&rt, 4.., Some(b""));
+    is_cut(&rt, 3..5, None);
+    is_cut(&rt, 5.., None);
+    is_cut(&rt, ..=4, None);
     assert_equal!(&rt, try_range(4, 1..=2), Some(1..3));
-    let shared = Bytes::copy_from_slice(rt.alloc(), octets)?;
+    let shared = Bytes::copy_from_slice(rt.alloc(), b"abcd")?;
     let inner = cut(&shared, 1..).ok_or("no range")?;
     assert_equal!(&rt, inner.as_slice(), b"bcd".as_slice());
     Ok(())
@@ -109,27 +116,36 @@ fn texts_are_strs(rt: HostRuntime) -> Result<(), Fail> {
 }
 
 /// A length is written over in the octets of each type.
-fn is_written_over<B: AsOctetsMut>(rt: &impl Abort, mut octets: B) {
+fn is_written_over<B: AsOctetsMut, E: Debug + Drop>(
+    rt: &impl Abort,
+    made: Result<B, E>,
+) -> Result<(), Fail> {
+    let mut octets = made?;
     assert_equal!(rt, octets.len(), 3);
     assert_true!(rt, !octets.is_empty());
     if let Some(first) = octets.as_mut().first_mut() {
         *first = b'x';
     }
     assert_equal!(rt, octets.as_ref(), b"xbc".as_slice());
+    Ok(())
+}
+
+/// A builder of a fixed size that has octets.
+fn fixed(octets: &[u8]) -> Result<ArrayVec<u8, 4>, AppendError> {
+    let mut fixed = ArrayVec::<u8, 4>::new();
+    fixed.append_slice(octets)?;
+    Ok(fixed)
 }
 
 #[test]
 fn octets_are_written_over_in_place(rt: HostRuntime) -> Result<(), Fail> {
     let (alloc, slice) = (rt.alloc(), b"abc".as_slice());
-    is_written_over(&rt, slice.to_vec(alloc)?);
-    is_written_over(&rt, &mut slice.to_vec(alloc)?);
-    is_written_over(&rt, BytesMut::copy_from_slice(alloc, slice)?);
-    is_written_over(&rt, SmallVec::<u8, 2>::from_slice(alloc, slice)?);
-    is_written_over(&rt, Array::<4>::try_from(slice)?);
-    let mut fixed = ArrayVec::<u8, 4>::new();
-    fixed.append_slice(slice)?;
-    is_written_over(&rt, fixed);
-    Ok(())
+    is_written_over(&rt, slice.to_vec(alloc))?;
+    is_written_over::<_, AppendError>(&rt, Ok(&mut slice.to_vec(alloc)?))?;
+    is_written_over(&rt, BytesMut::copy_from_slice(alloc, slice))?;
+    is_written_over(&rt, SmallVec::<u8, 2>::from_slice(alloc, slice))?;
+    is_written_over(&rt, Array::<4>::try_from(slice))?;
+    is_written_over(&rt, fixed(slice))
 }
 
 /// It shows nothing, and answers an error.

@@ -1,6 +1,6 @@
 //! Names of DNS as text, and how they compare.
-use super::{Case, over_each};
 use octseq::{AppendError, Array, AsOctets, EmptyBuilder, Octets, Parser, ShortBuf};
+use octseq_asserts::{Case, assert_equal, over_each};
 use octseq_dns::error::{LabelsError, NameError};
 use octseq_dns::{Name, ParsedName};
 use std::alloc::{AllocGlobal, Global};
@@ -88,15 +88,27 @@ fn hash_of<T: Hash>(value: &T) -> u64 {
     hasher.finish()
 }
 
+/// The labels of two names are equal, and have one hash.
+fn have_equal_labels<R: Octets + Copy>(
+    rt: &impl Abort,
+    name: &ParsedName<R>,
+    same: &ParsedName<R>,
+) {
+    for (label, other_label) in name.labels().zip(same.labels()) {
+        assert_equal!(
+            rt,
+            (label == other_label, label.cmp(&other_label)),
+            (true, Ordering::Equal)
+        );
+        assert_equal!(rt, hash_of(&label), hash_of(&other_label));
+    }
+}
+
 #[derive(Drop)]
 struct IsOneName;
 
-impl Case for IsOneName {
-    fn holds<H: Abort + AllocGlobal, R: Octets + Copy>(
-        &self,
-        rt: &H,
-        octets: R,
-    ) -> Result<(), Fail> {
+impl<H: Abort + AllocGlobal> Case<H> for IsOneName {
+    fn holds<R: Octets + Copy>(&self, rt: &H, octets: R) -> Result<(), Fail> {
         let mut parser = Parser::from_ref(octets);
         let name = ParsedName::parse(&mut parser)?;
         let same = ParsedName::parse(&mut parser)?;
@@ -109,14 +121,7 @@ impl Case for IsOneName {
         );
         assert_equal!(rt, (name < same, name < other), (false, true));
         assert_equal!(rt, hash_of(&name), hash_of(&same));
-        for (label, other_label) in name.labels().zip(same.labels()) {
-            assert_equal!(
-                rt,
-                (label == other_label, label.cmp(&other_label)),
-                (true, Ordering::Equal)
-            );
-            assert_equal!(rt, hash_of(&label), hash_of(&other_label));
-        }
+        have_equal_labels(rt, &name, &same);
         assert_equal!(rt, format!(in rt.alloc(); "{name}")?.as_str(), "wWw.A.");
         Ok(())
     }
@@ -131,44 +136,87 @@ fn names_of_one_message_compare(rt: HostRuntime) -> Result<(), Fail> {
     )
 }
 
+/// A copy of a name has its octets in plain form.
+fn has_its_octets<R: Octets + Copy>(
+    rt: &(impl Abort + AllocGlobal),
+    name: &ParsedName<R>,
+) -> Result<(), Fail> {
+    let copy = name.try_to_name::<Vec<u8>>(rt.alloc())?;
+    assert_equal!(
+        rt,
+        (copy.len(), copy.label_count(), copy.labels().count()),
+        (13, 2, 2)
+    );
+    assert_equal!(rt, copy.as_slice(), b"\x03www\x07example\x00".as_slice());
+    assert_equal!(rt, copy.is_root(), false);
+    Ok(())
+}
+
+/// A copy of a name compares, is hashed and shows as the name does.
+fn is_as_the_name<R: Octets + Copy>(
+    rt: &(impl Abort + AllocGlobal),
+    name: &ParsedName<R>,
+) -> Result<(), Fail> {
+    let copy = name.try_to_name::<Vec<u8>>(rt.alloc())?;
+    assert_equal!(rt, copy.parsed().name_eq(name), true);
+    assert_equal!(rt, hash_of(&copy), hash_of(name));
+    let text = format!(in rt.alloc(); "{copy}")?;
+    assert_equal!(rt, text.as_str(), "www.example.");
+    Ok(())
+}
+
+/// Copies of two names compare as these do.
+fn is_before<R: Octets + Copy>(
+    rt: &(impl Abort + AllocGlobal),
+    first: &ParsedName<R>,
+    name: &ParsedName<R>,
+) -> Result<(), Fail> {
+    let first = first.try_to_name::<Vec<u8>>(rt.alloc())?;
+    let copy = name.try_to_name::<Vec<u8>>(rt.alloc())?;
+    assert_equal!(
+        rt,
+        (first == copy, first < copy, first.cmp(&first)),
+        (false, true, Ordering::Equal)
+    );
+    Ok(())
+}
+
+/// A copy of a name stands in an array that has room for it, and in no smaller one.
+fn is_held<R: Octets + Copy>(
+    rt: &(impl Abort + AllocGlobal),
+    name: &ParsedName<R>,
+) -> Result<(), Fail> {
+    let held = name.try_to_name::<Array<13>>(rt.alloc())?.into_octets();
+    assert_equal!(rt, held.as_slice(), b"\x03www\x07example\x00".as_slice());
+    let refused = name.try_to_name::<Array<12>>(rt.alloc()).err();
+    assert_equal!(rt, refused, Some(AppendError::Short(ShortBuf)));
+    Ok(())
+}
+
+/// A copy of the root is the root.
+fn is_root<R: Octets + Copy>(
+    rt: &(impl Abort + AllocGlobal),
+    name: &ParsedName<R>,
+) -> Result<(), Fail> {
+    let root = name.try_to_name::<Array<1>>(rt.alloc())?;
+    assert_equal!(rt, root.is_root(), true);
+    assert_equal!(rt, format!(in rt.alloc(); "{root}")?.as_str(), ".");
+    Ok(())
+}
+
 #[derive(Drop)]
 struct IsCopied;
 
-impl Case for IsCopied {
-    fn holds<H: Abort + AllocGlobal, R: Octets + Copy>(
-        &self,
-        rt: &H,
-        octets: R,
-    ) -> Result<(), Fail> {
+impl<H: Abort + AllocGlobal> Case<H> for IsCopied {
+    fn holds<R: Octets + Copy>(&self, rt: &H, octets: R) -> Result<(), Fail> {
         let mut parser = Parser::from_ref(octets);
-        let root = ParsedName::parse(&mut parser)?.try_to_name::<Array<1>>(rt.alloc())?;
-        let first = ParsedName::parse(&mut parser)?.try_to_name::<Vec<u8>>(rt.alloc())?;
+        is_root(rt, &ParsedName::parse(&mut parser)?)?;
+        let first = ParsedName::parse(&mut parser)?;
         let name = ParsedName::parse(&mut parser)?;
-        let copy = name.try_to_name::<Vec<u8>>(rt.alloc())?;
-        assert_equal!(rt, (root.is_root(), copy.is_root()), (true, false));
-        assert_equal!(
-            rt,
-            (copy.len(), copy.label_count(), copy.labels().count()),
-            (13, 2, 2)
-        );
-        assert_equal!(rt, copy.as_slice(), b"\x03www\x07example\x00".as_slice());
-        assert_equal!(rt, copy.parsed().name_eq(&name), true);
-        assert_equal!(
-            rt,
-            (first == copy, first < copy, first.cmp(&first)),
-            (false, true, Ordering::Equal)
-        );
-        assert_equal!(rt, hash_of(&copy), hash_of(&name));
-        assert_equal!(
-            rt,
-            format!(in rt.alloc(); "{root} {copy}")?.as_str(),
-            ". www.example."
-        );
-        let held = name.try_to_name::<Array<13>>(rt.alloc())?.into_octets();
-        assert_equal!(rt, held.as_slice(), copy.as_slice());
-        let refused = name.try_to_name::<Array<12>>(rt.alloc()).err();
-        assert_equal!(rt, refused, Some(AppendError::Short(ShortBuf)));
-        Ok(())
+        has_its_octets(rt, &name)?;
+        is_as_the_name(rt, &name)?;
+        is_before(rt, &first, &name)?;
+        is_held(rt, &name)
     }
 }
 

@@ -1,0 +1,8 @@
+//! Tests of names and messages of DNS: what no proof sees.
+//!
+//! A crate with tests is proved twice, with them and without. So they stand in a crate of their own, on the public
+//! calls alone.
+#![tactic(auto)]
+
+#[cfg(test)]
+mod tests;

@@ -1,0 +1,16 @@
+use std::fmt::Debug;
+use std::process::Abort;
+
+/// What an assertion calls: it ends the test where two values differ.
+fn equal<T: PartialEq + Debug + Drop>(rt: &impl Abort, what: &str, left: T, right: T) {
+    assert_eq!(rt; left, right, "{what}");
+}
+
+mod dns;
+mod dns_data;
+mod dns_message;
+mod dns_round_trips;
+mod dns_text;
+mod dns_writing;
+mod names;
+mod refused;
