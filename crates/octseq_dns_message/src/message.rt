@@ -81,7 +81,7 @@ impl<R: AsOctets + Copy> Message<R> {
     /// # Examples
     ///
     /// ```
-    /// // crates/octseq_tests/src/tests/dns_message.rt
+    /// // crates/octseq_dns_tests/src/tests/dns_message.rt
     /// let mut text = StrBuilder::<Vec<u8>>::new(alloc)?;
     /// match Message::parse(octets) {
     ///     Ok(message) => message.append_text(&mut text)?,
@@ -151,7 +151,7 @@ impl<R: AsOctets + Copy> Message<R> {
     /// # Examples
     ///
     /// ```
-    /// // crates/octseq_tests/src/tests/dns.rt
+    /// // crates/octseq_dns_tests/src/tests/dns.rt
     /// for question in message.questions() {
     ///     assert_equal!(rt, (question.qtype, question.qclass), (Rtype::A, Class::IN));
     ///     assert_equal!(rt, question.qname.parser().pos(), 12);
@@ -168,7 +168,7 @@ impl<R: AsOctets + Copy> Message<R> {
     /// # Examples
     ///
     /// ```
-    /// // crates/octseq_tests/src/tests/dns_text.rt
+    /// // crates/octseq_dns_tests/src/tests/dns_text.rt
     /// let message = Message::parse(octets)?;
     /// let mut text = String::new(alloc);
     /// for answer in message.answers() {

@@ -75,7 +75,7 @@ impl<R: AsOctets + Copy> ParsedName<R> {
     /// # Examples
     ///
     /// ```
-    /// // crates/octseq_tests/src/tests/dns.rt
+    /// // crates/octseq_dns_tests/src/tests/dns.rt
     /// let mut parser = Parser::from_ref(octets);
     /// parser.seek(place).ok()?;
     /// match ParsedName::parse(&mut parser) {

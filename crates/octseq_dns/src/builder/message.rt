@@ -23,7 +23,7 @@ impl<B: OctetsBuilder + Truncate + AsOctetsMut, T: Places> MessageBuilder<B, T> 
     /// # Examples
     ///
     /// ```
-    /// // crates/octseq_tests/src/tests/dns_writing.rt
+    /// // crates/octseq_dns_tests/src/tests/dns_writing.rt
     /// let mut message = MessageBuilder::from_builder(octets, places)?;
     /// message.set_header(header());
     /// let mut questions = message.question();

@@ -24,7 +24,7 @@ impl<B: OctetsBuilder + Truncate + AsOctetsMut, T: Places> QuestionBuilder<B, T>
     /// # Examples
     ///
     /// ```
-    /// // crates/octseq_tests/src/tests/dns_writing.rt
+    /// // crates/octseq_dns_tests/src/tests/dns_writing.rt
     /// let mut questions = MessageBuilder::from_builder(octets, places)?.question();
     /// for text in names {
     ///     let name = Name::from_text(text)?;

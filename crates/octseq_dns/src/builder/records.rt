@@ -33,7 +33,7 @@ impl<B: OctetsBuilder + Truncate + AsOctetsMut, T: Places, S: RecordSection> Sec
     /// # Examples
     ///
     /// ```
-    /// // crates/octseq_tests/src/tests/dns_round_trips.rt
+    /// // crates/octseq_dns_tests/src/tests/dns_round_trips.rt
     /// let (owner, data) = (entry.owner(), entry.data());
     /// let (rtype, class, ttl) = (entry.rtype(), entry.class(), entry.ttl());
     /// let message = MessageBuilder::from_builder(builder, FixedPlaces::<8>::new())?;

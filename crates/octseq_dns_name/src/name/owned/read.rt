@@ -31,7 +31,7 @@ impl Name<Array<255>> {
     /// # Examples
     ///
     /// ```
-    /// // crates/octseq_tests/src/tests/dns_writing.rt
+    /// // crates/octseq_dns_tests/src/tests/dns_writing.rt
     /// let name = Name::from_text("example.com.")?;
     /// let mut message = MessageBuilder::from_builder(octets, places)?;
     /// message.set_header(header());
