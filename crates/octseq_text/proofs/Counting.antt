@@ -1,19 +1,20 @@
 -- The turns of a reading in pieces.
-use Rattle.std.proofs.Common.{◌≡◌, ℕ, ◌+◌, ◌≤◌, List, [], ◌∷◌, ◌++◌, length, take}
-use Rattle.std.proofs.Common.{arith, ap, sym, subst, ◌∙◌, length-append}
+use Rattle.std.proofs.Common.{◌≡◌, ℕ, ◌+◌, ◌*◌, ◌<◌, ◌≤◌, List, [], ◌∷◌, ◌++◌, length, take}
+use Rattle.std.proofs.Common.{arith, ◌⊎◌, inl, inr, ap, sym, subst, ◌∙◌, length-append}
 use Rattle.std.proofs.lemmas.List.{length-map}
 use Rattle.std.specs.List.{concat, AllByRecursion}
+use Rattle.octseq_utf8.specs.Chunk.{Chunk, IsFirstChunk}
 use Rattle.octseq_utf8.specs.Encoding.{IsEncoding, number_of}
 use Rattle.octseq_utf8.specs.Fault.{Fault, IsFault, fault_end}
-use Rattle.octseq_utf8.specs.Parts.{IsBeginning, Part, Splits, nothing, encoding, bad_part}
-use Rattle.octseq_utf8.specs.Reading.{width_of, width}
+use Rattle.octseq_utf8.specs.Parts.{IsBeginning, IsBadPart, Part, Splits, nothing, encoding, bad_part}
+use Rattle.octseq_utf8.specs.Reading.{width_of, width, parts_of}
 use Rattle.octseq_utf8.specs.Text.{IsWellFormed, chars}
-use Rattle.octseq_utf8.proofs.Beginnings.{beginning_fits, beginning_short}
+use Rattle.octseq_utf8.proofs.Beginnings.{beginning_fits, beginning_short, nil_or_some}
 use Rattle.octseq_utf8.proofs.Fits.{get_left}
 use Rattle.octseq_utf8.proofs.Mixed.{spelled_few}
 use Rattle.octseq_utf8.proofs.Rows.{length_of}
 use Rattle.octseq_utf8.proofs.Spelling.{chars_of}
-use Rattle.octseq_utf8.proofs.Splitting.{bad_some, encoding_fitting}
+use Rattle.octseq_utf8.proofs.Splitting.{bad_some, encoding_fitting, splits}
 use Rattle.octseq_text.proofs.Piecewise.{none_before}
 use Rattle.octseq_utf8.proofs.AtFault.{end_bounds, front_is}
 
@@ -24,6 +25,39 @@ parts_few (encoding {e} {rest = r} p s) = let few = parts_few s in let long = le
     omega (arith, length-append e r)
 parts_few (bad_part {bad = p} {rest = r} b s) = let few = parts_few s in let some = bad_some b in
     omega (arith, length-append p r)
+
+-- so turns within the parts are within the octets
+pub turns_within : (x rest : List ℕ) (old new : ℕ) → new + length (parts_of rest) ≤ old + length (parts_of x)
+    → new ≤ old + length x
+turns_within x rest old new counted = let few = parts_few (splits x) in omega arith
+
+-- what turns passed, and what more turns passed of the rest
+pub passed_on : (all left rest old mid new : ℕ) → all + 16 * old ≤ 16 * mid + left → left + 16 * mid ≤ 16 * new + rest
+    → all + 16 * old ≤ 16 * new + rest
+passed_on all left rest old mid new h k = omega arith
+
+-- where no rest is left, all is passed
+pub passed_all : (all old new : ℕ) (rest : List ℕ) → rest ≡ [] → all + 16 * old ≤ 16 * new + length rest
+    → all + 16 * old ≤ 16 * new
+passed_all all old new rest none h = omega (arith, ap length none)
+
+-- before a turn nothing is passed
+pub passed_none : (all old : ℕ) → all + old ≤ old + all
+passed_none all old = omega arith
+
+-- behind a chunk fewer octets are left
+pub fewer_left : (x : List ℕ) (chunk : Chunk) (behind : List ℕ) → IsFirstChunk x chunk behind
+    → length behind < length x
+fewer_left x chunk behind c = go c.bad
+  where
+    long : length x ≡ length chunk.valid + (length chunk.invalid + length behind)
+    long = ap length c.whole ∙ length-append chunk.valid (chunk.invalid ++ behind)
+        ∙ ap (λ n. length chunk.valid + n) (length-append chunk.invalid behind)
+
+    go : ((chunk.invalid ≡ []) × (behind ≡ [])) ⊎ IsBadPart (chunk.invalid ++ behind) chunk.invalid
+        → length behind < length x
+    go (inl none) = let some = nil_or_some x c.some in omega (arith, ap length none.1)
+    go (inr bad) = let some = (bad_some bad).0 in omega (arith, long)
 
 -- nor more turns to a fault than octets to its end
 pub turns_few : (x : List ℕ) (fault : Fault) → IsFault x fault
