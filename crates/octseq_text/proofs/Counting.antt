@@ -1,6 +1,6 @@
 -- The turns of a reading in pieces.
-use Rattle.std.proofs.Common.{◌≡◌, ℕ, ◌+◌, ◌*◌, ◌<◌, ◌≤◌, List, [], ◌∷◌, ◌++◌, length, take}
-use Rattle.std.proofs.Common.{arith, ◌⊎◌, inl, inr, ap, sym, subst, ◌∙◌, length-append}
+use Rattle.std.proofs.Common.{◌≡◌, ℕ, ◌+◌, ◌-◌, ◌*◌, ◌<◌, ◌≤◌, List, [], ◌∷◌, ◌++◌, length, take, drop}
+use Rattle.std.proofs.Common.{arith, ◌⊎◌, inl, inr, ap, sym, subst, ◌∙◌, length-append, length-take, length-drop}
 use Rattle.std.proofs.lemmas.List.{length-map}
 use Rattle.std.specs.List.{concat, AllByRecursion}
 use Rattle.octseq_utf8.specs.Chunk.{Chunk, IsFirstChunk}
@@ -107,3 +107,56 @@ none_before_fault b seen o begins e fault f =
     let same : chars (take fault.place seen) ≡ at.good.0 = ap (λ y. chars (take fault.place y)) e
     ∙ ap chars (front_is (b ++ o ∷ []) fault at) ∙ chars_of at.good.1 in
     omega (arith, ap length same, ap length none)
+
+-- A piece is read octet by octet, with one turn at most and one at least for each.
+
+-- a turn for the octet, or none, is one at most
+pub one_more : (few mid new : ℕ) → new ≤ mid + few → few ≤ 1 → new ≤ mid + 1
+one_more few mid new counted h = omega arith
+
+-- and so are those to a fault at which no character stands before it
+pub one_to_fault : (few mid new : ℕ) → new ≤ mid + few + 1 → few ≡ 0 → new ≤ mid + 1
+one_to_fault few mid new counted h = omega arith
+
+-- turns within a place of the piece are within the next place
+pub turns_next : (at old mid new : ℕ) → mid ≤ old + at → new ≤ mid + 1 → new ≤ old + (at + 1)
+turns_next at old mid new before one = omega arith
+
+-- and within its length
+pub turns_inside : (size at old mid new : ℕ) → at < size → mid ≤ old + at → new ≤ mid + 1 → new ≤ old + size
+turns_inside size at old mid new h before one = omega arith
+
+-- with what is left behind a place they are within its length and one
+pub turns_to_rest : (piece : List ℕ) (place at old mid new : ℕ) → at ≤ place → place ≤ length piece
+    → mid ≤ old + at → new ≤ mid + 1
+    → new + length (take (length piece - place) (drop place piece)) ≤ old + length piece + 1
+turns_to_rest piece place at old mid new h k before one =
+    omega (arith, length-take (length piece - place) (drop place piece), length-drop place piece)
+
+-- octets are passed to a place, and what is left is behind it
+pub passed_to_rest : (piece : List ℕ) (place old new : ℕ) → place + 16 * old ≤ 16 * new
+    → length piece + 16 * old ≤ 16 * new + length (take (length piece - place) (drop place piece))
+passed_to_rest piece place old new h =
+    omega (arith, length-take (length piece - place) (drop place piece), length-drop place piece)
+
+-- what was passed stays passed
+pub passed_still : (at end old mid new : ℕ) → at + 16 * old ≤ 16 * mid → end + 16 * mid ≤ 16 * new
+    → at + 16 * old ≤ 16 * new
+passed_still at end old mid new h k = omega arith
+
+-- where an octet at least was looked at, one more is passed
+pub passed_next : (at end old mid new : ℕ) → at + 16 * old ≤ 16 * mid → end + 16 * mid ≤ 16 * new → 1 ≤ end
+    → at + 1 + 16 * old ≤ 16 * new
+passed_next at end old mid new h k some = omega arith
+
+-- the turns that passed octets are no fewer than before
+pub turns_kept : (passed old new : ℕ) → passed + 16 * old ≤ 16 * new → old ≤ new
+turns_kept passed old new h = omega arith
+
+-- an octet stands behind a beginning
+pub octet_behind : (b seen : List ℕ) (o : ℕ) → seen ≡ b ++ o ∷ [] → 1 ≤ length seen
+octet_behind b seen o e = omega (arith, ap length e, length-append b (o ∷ []))
+
+-- a fault ends behind an octet
+pub fault_end_some : (x : List ℕ) (fault : Fault) → IsFault x fault → 1 ≤ fault_end x fault
+fault_end_some x fault f = let bounds = end_bounds x fault f in omega arith
