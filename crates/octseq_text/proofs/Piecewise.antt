@@ -1,9 +1,10 @@
 -- A lossy reading in pieces: what is read of a piece, and what is then held.
-use Rattle.std.specs.Prelude.{is_some, IsTrue}
+use Rattle.std.specs.Prelude.{is_some, IsTrue, ◌==◌}
 use Rattle.std.proofs.Common.{Bool, true, false, ◌≡◌, ◌≢◌, ℕ, suc, ◌+◌, ◌<◌, ◌≤◌, List, [], ◌∷◌, ◌++◌}
 use Rattle.std.proofs.Common.{map, length, get_or, take, drop, refl, arith, ◌⊎◌, inl, inr, ⊎_elim, ap}
 use Rattle.std.proofs.Common.{sym, ◌∙◌, subst, append_assoc, length-append, Option, Some, None}
 use Rattle.std.proofs.Math.Seq.{take-append_seam, drop-cons, take-suc}
+use Rattle.std.proofs.lemmas.Bool.{eqb-true}
 use Rattle.std.proofs.lemmas.List.{append-nil, take-append-drop}
 use Rattle.std.specs.List.{concat, AllByRecursion}
 use Rattle.octseq_core.specs.Limit.{IsWithin, IsPast}
@@ -116,6 +117,14 @@ module _ (x : List ℕ) (chunk : Chunk) (behind : List ℕ) (c : IsFirstChunk x 
 -- what a test answers
 pub not_so : (is told : Bool) → told ≡ is → told ≡ false → ¬ IsTrue is
 not_so is told e f t = let no : true ≡ false = sym t ∙ sym e ∙ f in absurd (cc)
+
+-- and what a test for none tells of the octets that it looked at
+pub none_of : (x seen : List ℕ) (test : Bool) → seen ≡ x → test ≡ (length seen == 0) → test ≡ true → length x ≡ 0
+none_of x seen test e f t = sym (ap length e) ∙ eqb-true (length seen) 0 (sym f ∙ t)
+
+pub some_of : (x seen : List ℕ) (test : Bool) → seen ≡ x → test ≡ (length seen == 0) → test ≡ false → 1 ≤ length x
+some_of x [] test e f t = let no : true ≡ false = sym f ∙ t in absurd (cc)
+some_of x (o ∷ seen) test e f t = omega (arith, ap length e)
 
 -- whether a fault has a size, as a test of a copy tells it
 

@@ -48,6 +48,15 @@ end_passed size at old new h passed = omega arith
 pub push-requires : goal.push-requires
 push-requires g c = few_enough _ (beginning_few c.loop-at.begun.content c.loop-at.invariant.begins)
 
+pub bounds-piece-at : goal.bounds-piece-at
+bounds-piece-at g c = c.loop-at-test.true
+
+pub slice_bounds-result-count : goal.slice_bounds-result-count
+slice_bounds-result-count g c = next_within _ _ c.loop-at-test.true
+
+pub slice_bounds-result-count-then-is_some : goal.slice_bounds-result-count-then-is_some
+slice_bounds-result-count-then-is_some g c = place_within _ _ c.loop-at-test.true
+
 pub loop-at-init : goal.loop-at-init
 loop-at-init g c = record {
   begun = sym (append-nil _);
