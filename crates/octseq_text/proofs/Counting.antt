@@ -31,6 +31,13 @@ pub turns_within : (x rest : List ℕ) (old new : ℕ) → new + length (parts_o
     → new ≤ old + length x
 turns_within x rest old new counted = let few = parts_few (splits x) in omega arith
 
+-- and with parts left, they are fewer still
+pub turns_left : (new rest all : ℕ) → new + rest ≤ all → new ≤ all
+turns_left new rest all h = omega arith
+
+pub none_turned : (turns parts : ℕ) → turns ≤ turns + parts
+none_turned turns parts = omega arith
+
 -- what turns passed, and what more turns passed of the rest
 pub passed_on : (all left rest old mid new : ℕ) → all + 16 * old ≤ 16 * mid + left → left + 16 * mid ≤ 16 * new + rest
     → all + 16 * old ≤ 16 * new + rest
