@@ -38,6 +38,9 @@ turns_left new rest all h = omega arith
 pub none_turned : (turns parts : ℕ) → turns ≤ turns + parts
 none_turned turns parts = omega arith
 
+pub one_turned : (turns size : ℕ) → turns ≤ turns + size + 1
+one_turned turns size = omega arith
+
 -- what turns passed, and what more turns passed of the rest
 pub passed_on : (all left rest old mid new : ℕ) → all + 16 * old ≤ 16 * mid + left → left + 16 * mid ≤ 16 * new + rest
     → all + 16 * old ≤ 16 * new + rest
