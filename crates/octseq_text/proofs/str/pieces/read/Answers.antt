@@ -1,13 +1,10 @@
-use Rattle.std.proofs.Common.{◌≡◌, ℕ, ◌+◌, ◌*◌, ◌≤◌, Option, Some, IfSome, arith, subst}
+use Rattle.std.proofs.Common.{ℕ, ◌+◌, ◌*◌, ◌≤◌, arith}
 use Rattle.std.proofs.Math.Nat.{le_trans}
+use Rattle.std.proofs.lemmas.Option.{MatchOption-at_some}
 use Rattle.std.proofs.lemmas.Result.{err_from_is_err_and, IfOk-from_err, IfOk-weaker}
 use Rattle.octseq_text.specs.Progress.{IsRead}
 use Rattle.octseq_text.proofs.Piecewise.{read_then, too_long_then}
 use Rattle.octseq_text.proofs.str.pieces.read.Goals as goal
-
--- what holds of a value that there is
-at_some : {A : Type 0} (P : A → Type 0) {option : Option A} {x : A} → option ≡ Some x → IfSome option P → P x
-at_some P {x = x} e h = subst (λ o. IfSome o P) e h
 
 -- turns within the octets are within one more
 one_past : (old size new : ℕ) → new ≤ old + size → new ≤ old + size + 1
@@ -20,7 +17,7 @@ passed_both all rest old mid new h k = omega arith
 
 pub returns-in-Some-clause-read : goal.returns-in-Some-clause-read
 returns-in-Some-clause-read g c =
-    let closed = at_some _ c.in-Some.is c.in_ok-rest.ensures.closed in
+    let closed = MatchOption-at_some _ _ _ c.in-Some.is c.in_ok-rest.ensures.closed in
     IfOk-weaker c.settle-in-Some.result
     (λ left. IsRead c.in-Some.rest.now left.content (g.B.AsOctets.content c.close.new.text)
     (g.B.AsOctets.content c.settle-in-Some.new.text)) _
@@ -28,7 +25,7 @@ returns-in-Some-clause-read g c =
 
 pub returns-in-Some-clause-short : goal.returns-in-Some-clause-short
 returns-in-Some-clause-short g c =
-    let closed = at_some _ c.in-Some.is c.in_ok-rest.ensures.closed in
+    let closed = MatchOption-at_some _ _ _ c.in-Some.is c.in_ok-rest.ensures.closed in
     λ h. too_long_then closed (c.settle-in-Some.ensures.short h)
 
 -- with no open end
@@ -94,12 +91,12 @@ returns-in-Some-clause-memory g c = c.settle-in-Some.ensures.memory
 
 pub returns-in-Some-clause-turns : goal.returns-in-Some-clause-turns
 returns-in-Some-clause-turns g c =
-    let closed = at_some _ c.in-Some.is c.in_ok-rest.ensures.turns_closed in
+    let closed = MatchOption-at_some _ _ _ c.in-Some.is c.in_ok-rest.ensures.turns_closed in
     le_trans c.settle-in-Some.ensures.turns closed
 
 pub returns-in-Some-clause-passed : goal.returns-in-Some-clause-passed
 returns-in-Some-clause-passed g c =
-    let closed = at_some _ c.in-Some.is c.in_ok-rest.ensures.passed_closed in
+    let closed = MatchOption-at_some _ _ _ c.in-Some.is c.in_ok-rest.ensures.passed_closed in
     IfOk-weaker c.settle-in-Some.result _ _ (λ left passed. passed_both _ _ _ _ _ closed passed) c.settle-in-Some.ensures.passed
 
 pub returns-in-Some-clause-kept : goal.returns-in-Some-clause-kept
