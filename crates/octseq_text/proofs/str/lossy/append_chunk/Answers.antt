@@ -1,4 +1,4 @@
-use Rattle.std.proofs.Common.{◌≡◌, ℕ, ◌≤◌, Option, List, [], ◌∷◌, ◌++◌, length, refl, arith, ap, sym, ◌∙◌, subst}
+use Rattle.std.proofs.Common.{◌≡◌, ℕ, ◌≤◌, Option, List, [], ◌∷◌, ◌++◌, length, arith, ap, sym, ◌∙◌, subst}
 use Rattle.std.proofs.Common.{append_assoc, length-append}
 use Rattle.std.proofs.lemmas.List.{append-nil}
 use Rattle.std.proofs.lemmas.Result.{err_from_is_err_and, IfOk-from_err, IfOk-weaker}
@@ -11,15 +11,16 @@ use Rattle.octseq_text.proofs.Replacing.{front_then}
 use Rattle.octseq_text.proofs.str.lossy.append_chunk.Goals as goal
 
 -- with no bad part there is no mark
-unmarked : (mark valid invalid : List ℕ) → length invalid ≡ 0 → valid ≡ valid ++ mark_of mark invalid
-unmarked mark valid [] none = sym (append-nil valid)
-unmarked mark valid (o ∷ invalid) none = absurd (omega arith)
+unmarked : (all made read mark valid invalid : List ℕ) → made ≡ all ++ read → read ≡ valid → length invalid ≡ 0
+    → made ≡ all ++ (valid ++ mark_of mark invalid)
+unmarked all made read mark valid [] e same none = e ∙ ap (λ y. all ++ y) (same ∙ sym (append-nil valid))
+unmarked all made read mark valid (o ∷ invalid) e same none = absurd (omega arith)
 
 -- with one the mark stands behind the text
-marked : (all read mark valid invalid : List ℕ) → read ≡ valid → 1 ≤ length invalid
-    → (all ++ read) ++ mark ≡ all ++ (valid ++ mark_of mark invalid)
-marked all read mark valid invalid same some =
-    append_assoc all read mark ∙ ap (λ y. all ++ (y ++ mark)) same
+marked : (all made read mark valid invalid : List ℕ) → made ≡ all ++ read → read ≡ valid → 1 ≤ length invalid
+    → made ++ mark ≡ all ++ (valid ++ mark_of mark invalid)
+marked all made read mark valid invalid e same some =
+    ap (λ y. y ++ mark) e ∙ append_assoc all read mark ∙ ap (λ y. all ++ (y ++ mark)) same
     ∙ ap (λ y. all ++ (valid ++ y)) (sym (mark_some mark invalid some))
 
 -- what is past the limit with the text is past it with the mark
@@ -64,12 +65,12 @@ returns-in_err-append_staged-clause-borrows g c = c.in_err-append_staged.ensures
 
 pub returns-then-is_empty-clause-text : goal.returns-then-is_empty-clause-text
 returns-then-is_empty-clause-text g c =
-    let all = g.B.AsOctets.content c.args.builder.now ++ c.args.staged.now.content in
     let none = none_of c.args.chunk.now.invalid c.invalid.result.now c.is_empty.result c.invalid.ensures c.is_empty.ensures
     c.if-is_empty.true in
-    c.in_ok-append_staged.ensures.text
-    ∙ ap (λ y. all ++ y) ((c.as_bytes.ensures.value ∙ c.valid.ensures)
-    ∙ unmarked c.args.mark.now c.args.chunk.now.valid c.args.chunk.now.invalid none)
+    unmarked (g.B.AsOctets.content c.args.builder.now ++ c.args.staged.now.content)
+    (g.B.AsOctets.content c.append_staged.new.builder ++ c.append_staged.new.staged.content) c.as_bytes.result.now
+    c.args.mark.now c.args.chunk.now.valid c.args.chunk.now.invalid c.in_ok-append_staged.ensures.text
+    (c.as_bytes.ensures.value ∙ c.valid.ensures) none
 
 pub returns-then-is_empty-clause-front : goal.returns-then-is_empty-clause-front
 returns-then-is_empty-clause-front g c = c.in_ok-append_staged.ensures.front
@@ -81,11 +82,11 @@ returns-then-is_empty-clause-borrows g c = c.in_ok-append_staged.ensures.borrows
 
 pub returns-clause-text : goal.returns-clause-text
 returns-clause-text g c =
-    let all = g.B.AsOctets.content c.args.builder.now ++ c.args.staged.now.content in
     let some = some_of c.args.chunk.now.invalid c.invalid.result.now c.is_empty.result c.invalid.ensures c.is_empty.ensures
     c.if-is_empty.false in
-    let made = ap (λ y. y ++ c.args.mark.now) c.in_ok-append_staged.ensures.text
-    ∙ marked all c.as_bytes.result.now c.args.mark.now c.args.chunk.now.valid c.args.chunk.now.invalid
+    let made = marked (g.B.AsOctets.content c.args.builder.now ++ c.args.staged.now.content)
+    (g.B.AsOctets.content c.append_staged.new.builder ++ c.append_staged.new.staged.content) c.as_bytes.result.now
+    c.args.mark.now c.args.chunk.now.valid c.args.chunk.now.invalid c.in_ok-append_staged.ensures.text
     (c.as_bytes.ensures.value ∙ c.valid.ensures) some in
     IfOk-weaker c.append_staged-2.result _ _ (λ _ e. e ∙ made) c.append_staged-2.ensures.text
 
@@ -94,11 +95,11 @@ returns-clause-front g c = front_then _ _ _ c.in_ok-append_staged.ensures.front 
 
 pub returns-clause-short : goal.returns-clause-short
 returns-clause-short g c =
-    let all = g.B.AsOctets.content c.args.builder.now ++ c.args.staged.now.content in
     let some = some_of c.args.chunk.now.invalid c.invalid.result.now c.is_empty.result c.invalid.ensures c.is_empty.ensures
     c.if-is_empty.false in
-    let made = ap (λ y. y ++ c.args.mark.now) c.in_ok-append_staged.ensures.text
-    ∙ marked all c.as_bytes.result.now c.args.mark.now c.args.chunk.now.valid c.args.chunk.now.invalid
+    let made = marked (g.B.AsOctets.content c.args.builder.now ++ c.args.staged.now.content)
+    (g.B.AsOctets.content c.append_staged.new.builder ++ c.append_staged.new.staged.content) c.as_bytes.result.now
+    c.args.mark.now c.args.chunk.now.valid c.args.chunk.now.invalid c.in_ok-append_staged.ensures.text
     (c.as_bytes.ensures.value ∙ c.valid.ensures) some in
     λ h. subst (λ y. IsPast g.B.AsOctets.limit (length y)) made (c.append_staged-2.ensures.short h)
 
