@@ -1,19 +1,20 @@
 -- The turns of a reading in pieces.
-use Rattle.std.proofs.Common.{◌≡◌, ℕ, ◌+◌, ◌≤◌, List, [], ◌∷◌, ◌++◌, length, take}
-use Rattle.std.proofs.Common.{arith, ap, sym, subst, ◌∙◌, length-append}
+use Rattle.std.proofs.Common.{◌≡◌, ℕ, ◌+◌, ◌-◌, ◌*◌, ◌<◌, ◌≤◌, List, [], ◌∷◌, ◌++◌, length, take, drop}
+use Rattle.std.proofs.Common.{arith, ◌⊎◌, inl, inr, ap, sym, subst, ◌∙◌, length-append, length-take, length-drop}
 use Rattle.std.proofs.lemmas.List.{length-map}
 use Rattle.std.specs.List.{concat, AllByRecursion}
+use Rattle.octseq_utf8.specs.Chunk.{Chunk, IsFirstChunk}
 use Rattle.octseq_utf8.specs.Encoding.{IsEncoding, number_of}
 use Rattle.octseq_utf8.specs.Fault.{Fault, IsFault, fault_end}
-use Rattle.octseq_utf8.specs.Parts.{IsBeginning, Part, Splits, nothing, encoding, bad_part}
-use Rattle.octseq_utf8.specs.Reading.{width_of, width}
+use Rattle.octseq_utf8.specs.Parts.{IsBeginning, IsBadPart, Part, Splits, nothing, encoding, bad_part}
+use Rattle.octseq_utf8.specs.Reading.{width_of, width, parts_of}
 use Rattle.octseq_utf8.specs.Text.{IsWellFormed, chars}
-use Rattle.octseq_utf8.proofs.Beginnings.{beginning_fits, beginning_short}
+use Rattle.octseq_utf8.proofs.Beginnings.{beginning_fits, beginning_short, nil_or_some}
 use Rattle.octseq_utf8.proofs.Fits.{get_left}
 use Rattle.octseq_utf8.proofs.Mixed.{spelled_few}
 use Rattle.octseq_utf8.proofs.Rows.{length_of}
 use Rattle.octseq_utf8.proofs.Spelling.{chars_of}
-use Rattle.octseq_utf8.proofs.Splitting.{bad_some, encoding_fitting}
+use Rattle.octseq_utf8.proofs.Splitting.{bad_some, encoding_fitting, splits}
 use Rattle.octseq_text.proofs.Piecewise.{none_before}
 use Rattle.octseq_utf8.proofs.AtFault.{end_bounds, front_is}
 
@@ -24,6 +25,49 @@ parts_few (encoding {e} {rest = r} p s) = let few = parts_few s in let long = le
     omega (arith, length-append e r)
 parts_few (bad_part {bad = p} {rest = r} b s) = let few = parts_few s in let some = bad_some b in
     omega (arith, length-append p r)
+
+-- so turns within the parts are within the octets
+pub turns_within : (x rest : List ℕ) (old new : ℕ) → new + length (parts_of rest) ≤ old + length (parts_of x)
+    → new ≤ old + length x
+turns_within x rest old new counted = let few = parts_few (splits x) in omega arith
+
+-- and with parts left, they are fewer still
+pub turns_left : (new rest all : ℕ) → new + rest ≤ all → new ≤ all
+turns_left new rest all h = omega arith
+
+pub none_turned : (turns parts : ℕ) → turns ≤ turns + parts
+none_turned turns parts = omega arith
+
+pub one_turned : (turns size : ℕ) → turns ≤ turns + size + 1
+one_turned turns size = omega arith
+
+-- what turns passed, and what more turns passed of the rest
+pub passed_on : (all left rest old mid new : ℕ) → all + 16 * old ≤ 16 * mid + left → left + 16 * mid ≤ 16 * new + rest
+    → all + 16 * old ≤ 16 * new + rest
+passed_on all left rest old mid new h k = omega arith
+
+-- where no rest is left, all is passed
+pub passed_all : (all old new : ℕ) (rest : List ℕ) → rest ≡ [] → all + 16 * old ≤ 16 * new + length rest
+    → all + 16 * old ≤ 16 * new
+passed_all all old new rest none h = omega (arith, ap length none)
+
+-- before a turn nothing is passed
+pub passed_none : (all old : ℕ) → all + old ≤ old + all
+passed_none all old = omega arith
+
+-- behind a chunk fewer octets are left
+pub fewer_left : (x : List ℕ) (chunk : Chunk) (behind : List ℕ) → IsFirstChunk x chunk behind
+    → length behind < length x
+fewer_left x chunk behind c = go c.bad
+  where
+    long : length x ≡ length chunk.valid + (length chunk.invalid + length behind)
+    long = ap length c.whole ∙ length-append chunk.valid (chunk.invalid ++ behind)
+        ∙ ap (λ n. length chunk.valid + n) (length-append chunk.invalid behind)
+
+    go : ((chunk.invalid ≡ []) × (behind ≡ [])) ⊎ IsBadPart (chunk.invalid ++ behind) chunk.invalid
+        → length behind < length x
+    go (inl none) = let some = nil_or_some x c.some in omega (arith, ap length none.1)
+    go (inr bad) = let some = (bad_some bad).0 in omega (arith, long)
 
 -- nor more turns to a fault than octets to its end
 pub turns_few : (x : List ℕ) (fault : Fault) → IsFault x fault
@@ -73,3 +117,56 @@ none_before_fault b seen o begins e fault f =
     let same : chars (take fault.place seen) ≡ at.good.0 = ap (λ y. chars (take fault.place y)) e
     ∙ ap chars (front_is (b ++ o ∷ []) fault at) ∙ chars_of at.good.1 in
     omega (arith, ap length same, ap length none)
+
+-- A piece is read octet by octet, with one turn at most and one at least for each.
+
+-- a turn for the octet, or none, is one at most
+pub one_more : (few mid new : ℕ) → new ≤ mid + few → few ≤ 1 → new ≤ mid + 1
+one_more few mid new counted h = omega arith
+
+-- and so are those to a fault at which no character stands before it
+pub one_to_fault : (few mid new : ℕ) → new ≤ mid + few + 1 → few ≡ 0 → new ≤ mid + 1
+one_to_fault few mid new counted h = omega arith
+
+-- turns within a place of the piece are within the next place
+pub turns_next : (at old mid new : ℕ) → mid ≤ old + at → new ≤ mid + 1 → new ≤ old + (at + 1)
+turns_next at old mid new before one = omega arith
+
+-- and within its length
+pub turns_inside : (size at old mid new : ℕ) → at < size → mid ≤ old + at → new ≤ mid + 1 → new ≤ old + size
+turns_inside size at old mid new h before one = omega arith
+
+-- with what is left behind a place they are within its length and one
+pub turns_to_rest : (piece : List ℕ) (place at old mid new : ℕ) → at ≤ place → place ≤ length piece
+    → mid ≤ old + at → new ≤ mid + 1
+    → new + length (take (length piece - place) (drop place piece)) ≤ old + length piece + 1
+turns_to_rest piece place at old mid new h k before one =
+    omega (arith, length-take (length piece - place) (drop place piece), length-drop place piece)
+
+-- octets are passed to a place, and what is left is behind it
+pub passed_to_rest : (piece : List ℕ) (place old new : ℕ) → place + 16 * old ≤ 16 * new
+    → length piece + 16 * old ≤ 16 * new + length (take (length piece - place) (drop place piece))
+passed_to_rest piece place old new h =
+    omega (arith, length-take (length piece - place) (drop place piece), length-drop place piece)
+
+-- what was passed stays passed
+pub passed_still : (at end old mid new : ℕ) → at + 16 * old ≤ 16 * mid → end + 16 * mid ≤ 16 * new
+    → at + 16 * old ≤ 16 * new
+passed_still at end old mid new h k = omega arith
+
+-- where an octet at least was looked at, one more is passed
+pub passed_next : (at end old mid new : ℕ) → at + 16 * old ≤ 16 * mid → end + 16 * mid ≤ 16 * new → 1 ≤ end
+    → at + 1 + 16 * old ≤ 16 * new
+passed_next at end old mid new h k some = omega arith
+
+-- the turns that passed octets are no fewer than before
+pub turns_kept : (passed old new : ℕ) → passed + 16 * old ≤ 16 * new → old ≤ new
+turns_kept passed old new h = omega arith
+
+-- an octet stands behind a beginning
+pub octet_behind : (b seen : List ℕ) (o : ℕ) → seen ≡ b ++ o ∷ [] → 1 ≤ length seen
+octet_behind b seen o e = omega (arith, ap length e, length-append b (o ∷ []))
+
+-- a fault ends behind an octet
+pub fault_end_some : (x : List ℕ) (fault : Fault) → IsFault x fault → 1 ≤ fault_end x fault
+fault_end_some x fault f = let bounds = end_bounds x fault f in omega arith

@@ -1,13 +1,16 @@
 -- A lossy reading in pieces: what is read of a piece, and what is then held.
-use Rattle.std.specs.Prelude.{is_some, IsTrue}
+use Rattle.std.specs.Prelude.{is_some, IsTrue, ◌==◌}
 use Rattle.std.proofs.Common.{Bool, true, false, ◌≡◌, ◌≢◌, ℕ, suc, ◌+◌, ◌<◌, ◌≤◌, List, [], ◌∷◌, ◌++◌}
 use Rattle.std.proofs.Common.{map, length, get_or, take, drop, refl, arith, ◌⊎◌, inl, inr, ⊎_elim, ap}
 use Rattle.std.proofs.Common.{sym, ◌∙◌, subst, append_assoc, length-append, Option, Some, None}
 use Rattle.std.proofs.Math.Seq.{take-append_seam, drop-cons, take-suc}
+use Rattle.std.proofs.lemmas.Bool.{eqb-true}
 use Rattle.std.proofs.lemmas.List.{append-nil, take-append-drop}
 use Rattle.std.specs.List.{concat, AllByRecursion}
 use Rattle.octseq_core.specs.Limit.{IsWithin, IsPast}
+use Rattle.octseq_core.specs.Refusal.{Refusal, Is, append_error}
 use Rattle.octseq_core.specs.declared.builder.AppendError.{AppendError}
+use Rattle.octseq_core.specs.declared.builder.AppendError.TheVariants.{Short, Memory}
 use Rattle.octseq_utf8.specs.Chunk.{Chunk, IsFirstChunk}
 use Rattle.octseq_utf8.specs.Encoding.{IsEncoding, encoding_of}
 use Rattle.octseq_utf8.specs.Fault.{Fault, IsFault, IsFaultSize}
@@ -116,6 +119,14 @@ module _ (x : List ℕ) (chunk : Chunk) (behind : List ℕ) (c : IsFirstChunk x 
 -- what a test answers
 pub not_so : (is told : Bool) → told ≡ is → told ≡ false → ¬ IsTrue is
 not_so is told e f t = let no : true ≡ false = sym t ∙ sym e ∙ f in absurd (cc)
+
+-- and what a test for none tells of the octets that it looked at
+pub none_of : (x seen : List ℕ) (test : Bool) → seen ≡ x → test ≡ (length seen == 0) → test ≡ true → length x ≡ 0
+none_of x seen test e f t = sym (ap length e) ∙ eqb-true (length seen) 0 (sym f ∙ t)
+
+pub some_of : (x seen : List ℕ) (test : Bool) → seen ≡ x → test ≡ (length seen == 0) → test ≡ false → 1 ≤ length x
+some_of x [] test e f t = let no : true ≡ false = sym f ∙ t in absurd (cc)
+some_of x (o ∷ seen) test e f t = omega (arith, ap length e)
 
 -- whether a fault has a size, as a test of a copy tells it
 
@@ -315,6 +326,31 @@ sound_standing limit asks held x s w = record {
   stands = λ none. (x, s);
   within = λ none. w;
   memory = λ met. let none = s.fine in absurd (cc);
+}
+
+-- no refusal, and one
+pub not_met : (met : Option AppendError) (refusal : AppendError) → met ≡ None → met ≡ Some refusal → ⊥
+not_met met refusal none some = let no : None ≡ Some refusal = sym none ∙ some in absurd (cc)
+
+-- one refusal was met
+pub same_refusal : (met : Option AppendError) (refusal other : AppendError) → met ≡ Some refusal → met ≡ Some other
+    → refusal ≡ other
+same_refusal met refusal other e f = let same : Some refusal ≡ Some other = sym e ∙ f in cc
+
+-- memory was refused only where the type asks for it
+pub memory_met : (met : Option AppendError) (refusal : AppendError) (asks : Bool) → (met ≡ Some Memory → asks ≡ true)
+    → met ≡ Some refusal → Is Refusal.memory (append_error refusal) → asks ≡ true
+memory_met met (Short short) asks memory e h = absurd h
+memory_met met Memory asks memory e h = memory e
+
+-- a reading that met a refusal is sound
+pub sound_met : (limit : Option ℕ) (asks : Bool) (held : Held) (refusal : AppendError) → held.refusal ≡ Some refusal
+    → (Is Refusal.memory (append_error refusal) → asks ≡ true) → IsSound limit asks held
+sound_met limit asks held refusal met memory = record {
+  stands = λ none. absurd (not_met held.refusal refusal none met);
+  within = λ none. absurd (not_met held.refusal refusal none met);
+  memory = λ m. memory (subst (λ r. Is Refusal.memory (append_error r)) (same_refusal held.refusal Memory refusal m met)
+      tt);
 }
 
 within_none : (limit : Option ℕ) → IsWithin limit 0

@@ -115,7 +115,6 @@ impl<B: EmptyBuilder> LossyPieces<B> {
     ///
     /// `Short` where the text of what is settled passes the limit of the type, `Memory` where a request
     /// for memory was refused. Every later call answers that refusal again.
-    #[tactic(auto, using(crate::proofs::Settling::one_settling, crate::proofs::Settling::settling))]
     pub fn feed_counted(&mut self, piece: &[u8], turns: &mut Turns) -> Result<(), AppendError>
         // Octets have exactly one list of settled parts, and one open end.
         ensures one_settling { (octets end last : List ℕ) (settled others : List Part)
@@ -217,7 +216,6 @@ impl<B: EmptyBuilder> LossyPieces<B> {
     ///
     /// `Short` where the text passes the limit of the type, `Memory` where a request for memory was
     /// refused. Where a piece was refused, that refusal.
-    #[tactic(auto, using(octseq_utf8::proofs::Splitting::one_splitting, crate::proofs::Settling::splitting))]
     pub fn finish_counted(self, turns: &mut Turns) -> Result<StrBuilder<B>, AppendError>
         // Exactly one list of parts splits octets.
         ensures one_splitting { (octets : List ℕ) (parts others : List Part)

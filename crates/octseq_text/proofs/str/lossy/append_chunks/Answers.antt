@@ -1,15 +1,29 @@
-use Rattle.std.proofs.Common.{◌++◌, length, arith, ap, ◌∙◌, subst, append_assoc}
+use Rattle.std.proofs.Common.{◌≡◌, ℕ, List, ◌++◌, length, ap, ◌∙◌, subst, append_assoc}
+use Rattle.std.proofs.Common.{Result, Ok, Err, OnOk, OnErr}
+use Rattle.std.proofs.Math.Nat.{le_refl, le_trans}
 use Rattle.std.proofs.lemmas.List.{append-nil}
-use Rattle.std.proofs.lemmas.Result.{err_from_is_err_and}
+use Rattle.std.proofs.lemmas.Result.{err_from_is_err_and, IfOk-from_err}
 use Rattle.octseq_core.specs.Limit.{IsPast}
 use Rattle.octseq_utf8.specs.Chunk.{chunk_text, mark_of}
-use Rattle.octseq_utf8.specs.Parts.{text_with}
+use Rattle.octseq_utf8.specs.Parts.{IsFront, text_with}
 use Rattle.octseq_utf8.specs.Reading.{parts_of}
 use Rattle.octseq_utf8.proofs.Bridge.{encode-is}
 use Rattle.octseq_utf8.proofs.ByChunk.{grown, all_made}
 use Rattle.octseq_utf8.proofs.Splitting.{splits}
+use Rattle.octseq_text.proofs.Counting.{turns_left, none_turned, passed_on, passed_all, passed_none, fewer_left}
 use Rattle.octseq_text.proofs.Replacing.{added, chunk_short, front_then, grown_short}
 use Rattle.octseq_text.proofs.str.lossy.append_chunks.Goals as goal
+
+-- what is so whatever the answer is so where it is Ok
+IfOk-any : {T E : Type 0} (r : Result T E) (P : Type 0) → P → OnOk r P
+IfOk-any (Ok x) P p = p
+IfOk-any (Err e) P p = tt
+
+-- a front stays where an error left the content as it was
+front_kept : {T E : Type 0} (r : Result T E) (a b c : List ℕ) → IsFront a b → OnErr r (c ≡ b)
+    → OnErr r (IsFront a c)
+front_kept (Ok x) a b c front same = tt
+front_kept (Err e) a b c front same = (front.0, same ∙ front.1)
 
 pub returns-in_err-append_chunk-clause-short : goal.returns-in_err-append_chunk-clause-short
 returns-in_err-append_chunk-clause-short g c =
@@ -40,9 +54,9 @@ loop-chunk-init g c =
       text = ap (λ y. y ++ later) one ∙ append_assoc content (chunk_text w c.args.first) later;
       front = c.in_ok-append_chunk.ensures.front;
       borrows = c.in_ok-append_chunk.ensures.borrows;
-      turns = omega arith;
-      passed = omega arith;
-      kept = omega arith;
+      turns = le_refl _;
+      passed = passed_none _ _;
+      kept = le_refl _;
     }
 
 pub loop-chunk-preserved : goal.loop-chunk-preserved
@@ -54,20 +68,14 @@ loop-chunk-preserved g c =
     let made = g.B.AsOctets.content c.append_chunk-in-Some.new.builder ++ c.append_chunk-in-Some.new.staged.content in
     let one = added w before made c.in-Some.chunk.valid c.in-Some.chunk.invalid c.as_bytes-mark.result.now
     c.in_ok-append_chunk-2.ensures.text mark in
-    let counted = c.in-Some.ensures.turns _ _ (splits _) (splits _) in
-    let turns-before = i.turns in
-    let passed = i.passed in
-    let reached = c.in-Some.ensures.passed in
-    let kept = c.in-Some.ensures.kept in
-    let kept-before = i.kept in
     record {
       text = grown w c.loop-chunk.rest before _ _ c.in-Some.chunk c.next_counted.new.self i.text c.in-Some.ensures.gives
           one;
       front = front_then _ _ _ i.front c.in_ok-append_chunk-2.ensures.front;
       borrows = c.in_ok-append_chunk-2.ensures.borrows ∙ i.borrows;
-      turns = omega arith;
-      passed = omega arith;
-      kept = omega arith;
+      turns = le_trans (c.in-Some.ensures.turns _ _ (splits _) (splits _)) i.turns;
+      passed = passed_on _ _ _ _ _ _ i.passed c.in-Some.ensures.passed;
+      kept = le_trans i.kept c.in-Some.ensures.kept;
     }
 
 pub returns-in_err-append_chunk-2-clause-front : goal.returns-in_err-append_chunk-2-clause-front
@@ -92,9 +100,7 @@ returns-in_err-append_chunk-2-clause-short g c =
 
 pub returns-in_err-append_chunk-2-clause-turns : goal.returns-in_err-append_chunk-2-clause-turns
 returns-in_err-append_chunk-2-clause-turns g c =
-    let counted = c.in-Some.ensures.turns _ _ (splits _) (splits _) in
-    let before = c.loop-chunk.invariant.turns in
-    omega arith
+    turns_left _ _ _ (le_trans (c.in-Some.ensures.turns _ _ (splits _) (splits _)) c.loop-chunk.invariant.turns)
 
 pub returns-clause-text : goal.returns-clause-text
 returns-clause-text g c =
@@ -104,6 +110,91 @@ returns-clause-text g c =
 
 pub returns-clause-turns : goal.returns-clause-turns
 returns-clause-turns g c =
-    let counted = c.in_default.ensures.turns _ _ (splits _) (splits _) in
-    let before = c.loop-chunk.invariant.turns in
-    omega arith
+    turns_left _ _ _ (le_trans (c.in_default.ensures.turns _ _ (splits _) (splits _)) c.loop-chunk.invariant.turns)
+
+-- the rest of the clauses
+
+pub loop-chunk-smaller : goal.loop-chunk-smaller
+loop-chunk-smaller g c = fewer_left _ _ _ c.in-Some.ensures.gives
+
+pub returns-in_err-append_chunk-clause-text : goal.returns-in_err-append_chunk-clause-text
+returns-in_err-append_chunk-clause-text g c =
+    IfOk-from_err c.from_residual.result _ c.from_residual.ensures.0
+
+pub returns-in_err-append_chunk-clause-within : goal.returns-in_err-append_chunk-clause-within
+returns-in_err-append_chunk-clause-within g c =
+    IfOk-from_err c.from_residual.result _ c.from_residual.ensures.0
+
+pub returns-in_err-append_chunk-clause-passed : goal.returns-in_err-append_chunk-clause-passed
+returns-in_err-append_chunk-clause-passed g c =
+    IfOk-from_err c.from_residual.result _ c.from_residual.ensures.0
+
+pub returns-in_err-append_chunk-clause-memory : goal.returns-in_err-append_chunk-clause-memory
+returns-in_err-append_chunk-clause-memory g c =
+    let p = err_from_is_err_and c.from_residual.result c.from_residual.ensures.1 in
+    rw (p.1, p.2) c.in_err-append_chunk.ensures.memory
+
+pub returns-in_err-append_chunk-2-clause-text : goal.returns-in_err-append_chunk-2-clause-text
+returns-in_err-append_chunk-2-clause-text g c =
+    IfOk-from_err c.from_residual-in_err-append_chunk-2.result _ c.from_residual-in_err-append_chunk-2.ensures.0
+
+pub returns-in_err-append_chunk-2-clause-within : goal.returns-in_err-append_chunk-2-clause-within
+returns-in_err-append_chunk-2-clause-within g c =
+    IfOk-from_err c.from_residual-in_err-append_chunk-2.result _ c.from_residual-in_err-append_chunk-2.ensures.0
+
+pub returns-in_err-append_chunk-2-clause-passed : goal.returns-in_err-append_chunk-2-clause-passed
+returns-in_err-append_chunk-2-clause-passed g c =
+    IfOk-from_err c.from_residual-in_err-append_chunk-2.result _ c.from_residual-in_err-append_chunk-2.ensures.0
+
+pub returns-in_err-append_chunk-2-clause-memory : goal.returns-in_err-append_chunk-2-clause-memory
+returns-in_err-append_chunk-2-clause-memory g c =
+    let p = err_from_is_err_and c.from_residual-in_err-append_chunk-2.result c.from_residual-in_err-append_chunk-2.ensures.1 in
+    rw (p.1, p.2) c.in_err-append_chunk-2.ensures.memory
+
+pub returns-in_err-append_chunk-clause-front : goal.returns-in_err-append_chunk-clause-front
+returns-in_err-append_chunk-clause-front g c =
+    let p = err_from_is_err_and c.from_residual.result c.from_residual.ensures.1 in
+    rw p.1 c.in_err-append_chunk.ensures.front
+
+pub returns-in_err-append_chunk-clause-borrows : goal.returns-in_err-append_chunk-clause-borrows
+returns-in_err-append_chunk-clause-borrows g c = c.in_err-append_chunk.ensures.borrows
+
+pub returns-in_err-append_chunk-clause-turns : goal.returns-in_err-append_chunk-clause-turns
+returns-in_err-append_chunk-clause-turns g c = none_turned _ _
+
+pub returns-in_err-append_chunk-clause-kept : goal.returns-in_err-append_chunk-clause-kept
+returns-in_err-append_chunk-clause-kept g c = le_refl _
+
+pub returns-in_err-append_chunk-2-clause-borrows : goal.returns-in_err-append_chunk-2-clause-borrows
+returns-in_err-append_chunk-2-clause-borrows g c =
+    c.in_err-append_chunk-2.ensures.borrows ∙ c.loop-chunk.invariant.borrows
+
+pub returns-in_err-append_chunk-2-clause-kept : goal.returns-in_err-append_chunk-2-clause-kept
+returns-in_err-append_chunk-2-clause-kept g c = le_trans c.loop-chunk.invariant.kept c.in-Some.ensures.kept
+
+pub returns-clause-front : goal.returns-clause-front
+returns-clause-front g c = front_kept _ _ _ _ c.loop-chunk.invariant.front c.append_stage.ensures.err
+
+pub returns-clause-short : goal.returns-clause-short
+returns-clause-short g c =
+    let made = all_made c.args.replacement _ _ c.loop-chunk.rest c.loop-chunk.invariant.text
+    c.in_default.ensures.gives.0 in
+    rw (← made) c.append_stage.ensures.short
+
+pub returns-clause-within : goal.returns-clause-within
+returns-clause-within g c = c.append_stage.ensures.within
+
+pub returns-clause-memory : goal.returns-clause-memory
+returns-clause-memory g c = c.append_stage.ensures.memory
+
+pub returns-clause-borrows : goal.returns-clause-borrows
+returns-clause-borrows g c = c.append_stage.ensures.borrows ∙ c.loop-chunk.invariant.borrows
+
+pub returns-clause-passed : goal.returns-clause-passed
+returns-clause-passed g c =
+    IfOk-any c.append_stage.result _
+    (passed_all _ _ _ _ c.in_default.ensures.gives.1
+    (passed_on _ _ _ _ _ _ c.loop-chunk.invariant.passed c.in_default.ensures.passed))
+
+pub returns-clause-kept : goal.returns-clause-kept
+returns-clause-kept g c = le_trans c.loop-chunk.invariant.kept c.in_default.ensures.kept

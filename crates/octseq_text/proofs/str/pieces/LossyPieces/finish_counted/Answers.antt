@@ -1,7 +1,10 @@
-use Rattle.std.proofs.Common.{length, ap, sym, ◌∙◌, subst}
-use Rattle.std.proofs.lemmas.Result.{err_from_is_err_and}
+use Rattle.std.proofs.Common.{length, refl, ap, sym, ◌∙◌, subst, Err}
+use Rattle.std.proofs.lemmas.Result.{err_from_is_err_and, IfOk-from_err}
 use Rattle.octseq_core.specs.Limit.{IsPast}
+use Rattle.octseq_utf8.proofs.Splitting.{one_splitting}
 use Rattle.octseq_text.proofs.Piecewise.{finish_text, finish_well_formed, finish_too_long}
+use Rattle.octseq_text.proofs.Piecewise.{not_met, same_refusal, memory_met}
+use Rattle.octseq_text.proofs.Settling.{splitting}
 use Rattle.octseq_core.proofs.Limits.{within_not_past}
 use Rattle.octseq_text.proofs.str.pieces.LossyPieces.finish_counted.Goals as goal
 
@@ -28,3 +31,74 @@ returns-clause-past g c = λ octets parts s t p.
     absurd (within_not_past g.B.AsOctets.limit _ c.in_ok-append_end.ensures.within
     (subst (λ y. IsPast g.B.AsOctets.limit (length y)) (sym (returns-clause-text g c octets parts s t)
     ∙ ap g.B.AsOctets.content c.from_utf8_unchecked.ensures) p))
+
+-- the parts are what they are
+
+pub returns-in-Some-clause-one_splitting : goal.returns-in-Some-clause-one_splitting
+returns-in-Some-clause-one_splitting g c = λ octets parts others s t. one_splitting s t
+
+pub returns-in-Some-clause-splitting : goal.returns-in-Some-clause-splitting
+returns-in-Some-clause-splitting g c = splitting
+
+pub returns-in_err-append_end-clause-one_splitting : goal.returns-in_err-append_end-clause-one_splitting
+returns-in_err-append_end-clause-one_splitting g c = λ octets parts others s t. one_splitting s t
+
+pub returns-in_err-append_end-clause-splitting : goal.returns-in_err-append_end-clause-splitting
+returns-in_err-append_end-clause-splitting g c = splitting
+
+pub returns-clause-one_splitting : goal.returns-clause-one_splitting
+returns-clause-one_splitting g c = λ octets parts others s t. one_splitting s t
+
+pub returns-clause-splitting : goal.returns-clause-splitting
+returns-clause-splitting g c = splitting
+
+-- where a refusal was met before
+
+pub returns-in-Some-clause-short : goal.returns-in-Some-clause-short
+returns-in-Some-clause-short g c =
+    rw (← c.self.view_is)
+    (λ h octets parts s t. absurd (not_met c.self.inside.refusal c.in-Some.refusal s.fine c.in-Some.is))
+
+pub returns-in-Some-clause-past : goal.returns-in-Some-clause-past
+returns-in-Some-clause-past g c = λ octets parts s t p. refl
+
+pub returns-in-Some-clause-memory : goal.returns-in-Some-clause-memory
+returns-in-Some-clause-memory g c =
+    memory_met c.self.inside.refusal c.in-Some.refusal g.B.AsOctets.asks c.self.invariant.memory c.in-Some.is
+
+pub returns-in-Some-clause-again : goal.returns-in-Some-clause-again
+returns-in-Some-clause-again g c =
+    rw (← c.self.view_is)
+    (λ refusal e. ap (λ r. Err r) (same_refusal c.self.inside.refusal c.in-Some.refusal refusal c.in-Some.is e))
+
+-- where none was
+
+pub returns-in_err-append_end-clause-text : goal.returns-in_err-append_end-clause-text
+returns-in_err-append_end-clause-text g c =
+    IfOk-from_err c.from_residual.result _ c.from_residual.ensures.0
+
+pub returns-in_err-append_end-clause-well_formed : goal.returns-in_err-append_end-clause-well_formed
+returns-in_err-append_end-clause-well_formed g c =
+    IfOk-from_err c.from_residual.result _ c.from_residual.ensures.0
+
+pub returns-in_err-append_end-clause-past : goal.returns-in_err-append_end-clause-past
+returns-in_err-append_end-clause-past g c = λ octets parts s t p. c.from_residual.ensures.0
+
+pub returns-in_err-append_end-clause-memory : goal.returns-in_err-append_end-clause-memory
+returns-in_err-append_end-clause-memory g c =
+    let p = err_from_is_err_and c.from_residual.result c.from_residual.ensures.1 in
+    rw (p.1, p.2) c.in_err-append_end.ensures.memory
+
+pub returns-in_err-append_end-clause-again : goal.returns-in_err-append_end-clause-again
+returns-in_err-append_end-clause-again g c =
+    rw (← c.self.view_is) (λ refusal e. absurd (not_met c.self.inside.refusal refusal c.in_default.is e))
+
+pub returns-clause-again : goal.returns-clause-again
+returns-clause-again g c =
+    rw (← c.self.view_is) (λ refusal e. absurd (not_met c.self.inside.refusal refusal c.in_default.is e))
+
+pub returns-clause-well_formed : goal.returns-clause-well_formed
+returns-clause-well_formed g c =
+    let stands = c.self.invariant.stands c.in_default.is in
+    rw c.from_utf8_unchecked.ensures
+    (finish_well_formed _ stands.0 _ stands.1 c.in_ok-append_end.ensures.none c.in_ok-append_end.ensures.some)

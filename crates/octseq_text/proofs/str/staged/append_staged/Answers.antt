@@ -1,0 +1,110 @@
+use Rattle.std.proofs.Common.{◌≡◌, ℕ, ◌+◌, Option, Bool, true, false, List, [], ◌++◌, length, arith, ap, sym, ◌∙◌, subst}
+use Rattle.std.proofs.Common.{append_assoc, length-append, Result, Ok, Err, OnOk, OnErr}
+use Rattle.std.specs.Prelude.{is_ok}
+use Rattle.std.proofs.lemmas.List.{append-nil}
+use Rattle.std.proofs.lemmas.Result.{err_from_is_err_and, IfOk-from_err, IfOk-weaker}
+use Rattle.octseq_core.specs.Limit.{IsPast}
+use Rattle.octseq_core.proofs.Limits.{past_more}
+use Rattle.octseq_utf8.specs.Parts.{IsFront}
+use Rattle.octseq_text.proofs.str.staged.append_staged.Goals as goal
+
+-- what a test for Ok tells
+where_ok : {T E : Type 0} (r : Result T E) (P : Type 0) (test : Bool) → OnOk r P → test ≡ is_ok r → test ≡ true → P
+where_ok (Ok x) P test h e t = h
+where_ok (Err x) P test h e t = let no : true ≡ false = sym t ∙ e in absurd (cc)
+
+where_err : {T E : Type 0} (r : Result T E) (P : Type 0) (test : Bool) → OnErr r P → test ≡ is_ok r → test ≡ false → P
+where_err (Ok x) P test h e t = let no : true ≡ false = sym e ∙ t in absurd (cc)
+where_err (Err x) P test h e t = h
+
+-- what is past the limit is past it with more octets behind it
+past_with : (limit : Option ℕ) (content kept staged octets : List ℕ) → kept ≡ staged
+    → IsPast limit (length (content ++ kept)) → IsPast limit (length ((content ++ staged) ++ octets))
+past_with limit content kept staged octets same past =
+    past_more limit _ _
+    (omega (
+      arith,
+      ap (λ y. length (content ++ y)) same,
+      length-append (content ++ staged) octets,
+    ))
+    past
+
+-- an append leaves a front in front, whatever it answers
+front_appended : {T E : Type 0} (r : Result T E) (front old new octets : List ℕ) → IsFront front old
+    → OnOk r (new ≡ old ++ octets) → OnErr r (new ≡ old) → IsFront front new
+front_appended (Ok x) front old new octets f ok err =
+    (f.0 ++ octets, ok ∙ ap (λ y. y ++ octets) f.1 ∙ append_assoc front f.0 octets)
+front_appended (Err x) front old new octets f ok err = (f.0, err ∙ f.1)
+
+-- the octets are staged
+
+pub returns-then-is_ok-clause-text : goal.returns-then-is_ok-clause-text
+returns-then-is_ok-clause-text g c =
+    let content = g.B.AsOctets.content c.args.builder.now in
+    let staged = where_ok c.append_encoding.result _ c.is_ok.result c.append_encoding.ensures.appended.ok c.is_ok.ensures.value
+    c.if-is_ok.true in
+    ap (λ y. content ++ y) staged ∙ sym (append_assoc content c.args.staged.now.content c.args.octets.now)
+
+pub returns-then-is_ok-clause-front : goal.returns-then-is_ok-clause-front
+returns-then-is_ok-clause-front g c = ([], sym (append-nil _))
+
+-- what was staged is refused
+
+pub returns-in_err-append_stage-clause-text : goal.returns-in_err-append_stage-clause-text
+returns-in_err-append_stage-clause-text g c = IfOk-from_err c.from_residual.result _ c.from_residual.ensures.0
+
+pub returns-in_err-append_stage-clause-front : goal.returns-in_err-append_stage-clause-front
+returns-in_err-append_stage-clause-front g c = ([], c.in_err-append_stage.ensures.err ∙ sym (append-nil _))
+
+pub returns-in_err-append_stage-clause-short : goal.returns-in_err-append_stage-clause-short
+returns-in_err-append_stage-clause-short g c =
+    let p = err_from_is_err_and c.from_residual.result c.from_residual.ensures.1 in
+    let same = where_err c.append_encoding.result _ c.is_ok.result c.append_encoding.ensures.appended.err c.is_ok.ensures.value
+    c.if-is_ok.false in
+    rw (p.1, p.2)
+    (λ h. past_with g.B.AsOctets.limit (g.B.AsOctets.content c.args.builder.now) c.append_encoding.new.builder.content
+    c.args.staged.now.content c.args.octets.now same (c.in_err-append_stage.ensures.short h))
+
+pub returns-in_err-append_stage-clause-memory : goal.returns-in_err-append_stage-clause-memory
+returns-in_err-append_stage-clause-memory g c =
+    let p = err_from_is_err_and c.from_residual.result c.from_residual.ensures.1 in
+    rw (p.1, p.2) c.in_err-append_stage.ensures.memory
+
+pub returns-in_err-append_stage-clause-borrows : goal.returns-in_err-append_stage-clause-borrows
+returns-in_err-append_stage-clause-borrows g c = c.in_err-append_stage.ensures.borrows
+
+-- or appended, and then the octets
+
+pub returns-clause-text : goal.returns-clause-text
+returns-clause-text g c =
+    let content = g.B.AsOctets.content c.args.builder.now in
+    let made = g.B.AsOctets.content c.append_slice.new.self in
+    let same = where_err c.append_encoding.result _ c.is_ok.result c.append_encoding.ensures.appended.err c.is_ok.ensures.value
+    c.if-is_ok.false in
+    let all = c.in_ok-append_stage.ensures.text ∙ ap (λ y. content ++ y) same in
+    IfOk-weaker c.append_slice.result _ _
+    (λ _ e. ap (λ y. made ++ y) c.in_ok-append_stage.ensures.empty ∙ append-nil made ∙ e
+    ∙ ap (λ y. y ++ c.args.octets.now) all)
+    c.append_slice.ensures.appended.ok
+
+pub returns-clause-front : goal.returns-clause-front
+returns-clause-front g c =
+    front_appended c.append_slice.result _ _ _ c.args.octets.now
+    (c.append_encoding.new.builder.content, c.in_ok-append_stage.ensures.text) c.append_slice.ensures.appended.ok
+    c.append_slice.ensures.appended.err
+
+pub returns-clause-short : goal.returns-clause-short
+returns-clause-short g c =
+    let content = g.B.AsOctets.content c.args.builder.now in
+    let same = where_err c.append_encoding.result _ c.is_ok.result c.append_encoding.ensures.appended.err c.is_ok.ensures.value
+    c.if-is_ok.false in
+    let all = c.in_ok-append_stage.ensures.text ∙ ap (λ y. content ++ y) same in
+    let long = ap (λ y. length y + length c.args.octets.now) all
+    ∙ sym (length-append (content ++ c.args.staged.now.content) c.args.octets.now) in
+    λ h. subst (λ n. IsPast g.B.AsOctets.limit n) long (c.append_slice.ensures.appended.short.0 h)
+
+pub returns-clause-memory : goal.returns-clause-memory
+returns-clause-memory g c = c.append_slice.ensures.appended.memory
+
+pub returns-clause-borrows : goal.returns-clause-borrows
+returns-clause-borrows g c = c.append_slice.ensures.borrows ∙ c.in_ok-append_stage.ensures.borrows
