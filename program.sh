@@ -56,7 +56,7 @@ rt_in() {
 
 # Proves and builds the libraries and the program. Those libraries that stand on no other go side by side.
 build() {
-    local name started=()
+    local name each started=()
     for name in $(below "$crate" | awk '!seen[$0]++'); do
         if [ -z "$(below "$name")" ]; then
             rt_in "$name" lib &
