@@ -1,12 +1,32 @@
 //! Errors that readers and writers of formats share, so that `?` passes each refusal on.
-ghost use Rattle.std.specs.Prelude.{◌≡◌, Some};
+ghost use Rattle.std.specs.Prelude.{◌≡◌, Some, codes};
 
 use crate::compose::ComposeError;
 use crate::parse::{ParseOctetsError, ShortInput};
 use octseq_core::builder::AppendError;
-use std::alloc::AllocError;
+use std::alloc::{AllocError, AllocFailed};
 use std::error::Error;
 use std::fmt;
+
+/// What was to be read isn't there.
+#[derive(Clone, Copy, Debug, Default, PartialEq, Eq)]
+pub struct Malformed;
+
+impl Error for Malformed {}
+
+impl fmt::Display for Malformed {
+    ghost output = { λ _. Some (codes "malformed") };
+
+    fn fmt<W: fmt::Write>(&self, f: &mut fmt::Formatter<W>) -> fmt::Result {
+        f.write_str("malformed")
+    }
+}
+
+impl From<ShortInput> for Malformed {
+    fn from(_e: ShortInput) -> Malformed {
+        Malformed
+    }
+}
 
 /// Why octets were not read.
 #[derive(Clone, Copy, Debug, PartialEq, Eq)]
@@ -29,6 +49,16 @@ impl fmt::Display for ReadError {
             ReadError::Malformed => f.write_str("malformed data"),
             ReadError::Memory => f.write_str("out of memory"),
         }
+    }
+}
+
+impl From<Malformed> for ReadError {
+    ghost use Rattle.octseq.specs.declared.error.ReadError.TheVariants as read;
+
+    ghost from_gives = { λ _ made. made ≡ read.Malformed };
+
+    fn from(_e: Malformed) -> ReadError {
+        ReadError::Malformed
     }
 }
 
@@ -61,6 +91,17 @@ impl From<AllocError> for ReadError {
     ghost from_gives = { λ _ made. made ≡ Memory };
 
     fn from(_e: AllocError) -> ReadError {
+        ReadError::Memory
+    }
+}
+
+/// The refusal of a `push` onto a vector. The value is dropped.
+impl<T: Drop> From<AllocFailed<T>> for ReadError {
+    ghost use Rattle.octseq.specs.declared.error.ReadError.TheVariants.{Memory};
+
+    ghost from_gives = { λ _ made. made ≡ Memory };
+
+    fn from(_e: AllocFailed<T>) -> ReadError {
         ReadError::Memory
     }
 }
@@ -126,6 +167,17 @@ impl From<AllocError> for WriteError {
     ghost from_gives = { λ _ made. made ≡ Memory };
 
     fn from(_e: AllocError) -> WriteError {
+        WriteError::Memory
+    }
+}
+
+/// The refusal of a `push` onto a vector. The value is dropped.
+impl<T: Drop> From<AllocFailed<T>> for WriteError {
+    ghost use Rattle.octseq.specs.declared.error.WriteError.TheVariants.{Memory};
+
+    ghost from_gives = { λ _ made. made ≡ Memory };
+
+    fn from(_e: AllocFailed<T>) -> WriteError {
         WriteError::Memory
     }
 }

@@ -9,7 +9,7 @@ pub mod compose;
 pub mod error;
 pub mod parse;
 
-pub use error::{ReadError, WriteError};
+pub use error::{Malformed, ReadError, WriteError};
 pub use octseq_core::array::Array;
 pub use octseq_core::builder::{
     AppendError, AsOctets, CloneOctets, EmptyBuilder, FreezeBuilder, FromBuilder, IntoBuilder,

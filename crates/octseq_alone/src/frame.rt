@@ -1,13 +1,13 @@
 //! Frames: octets behind their length, which is known when all of them stand there.
-ghost use Rattle.std.specs.Prelude.{◌≡◌, ◌+◌, ◌<◌, ◌≤◌, ◌++◌, true, length, take, drop, IsErr, OnOk, OnErr};
+ghost use Rattle.std.specs.Prelude.{◌≡◌, ◌+◌, ◌<◌, ◌≤◌, ◌++◌, ◌∷◌, [], true, length, take, drop, IsErr, OnOk, OnErr};
 ghost use Rattle.octseq.specs.Integer.{octets_be};
 ghost use Rattle.octseq.specs.Limit.{IsPast};
 ghost use Rattle.octseq.specs.Part.{part_of};
-ghost use Rattle.octseq.specs.Refusal.{IsShort, IsMemory, IsMalformed, write_error};
+ghost use Rattle.octseq.specs.Refusal.{IsShort, IsMemory, IsMalformed, append_error, write_error};
 
 use octseq::builder::AsOctetsMut;
 use octseq::compose::append_u16_be;
-use octseq::{OctetsBuilder, Truncate, WriteError};
+use octseq::{AppendError, OctetsBuilder, Truncate, WriteError};
 
 /// Writes an integer over the two octets at a place, which stand there, big-endian.
 pub fn put_u16_be<B: AsOctetsMut>(octets: &mut B, at: usize, value: u16)
@@ -78,4 +78,32 @@ pub fn append_frame<B: OctetsBuilder + AsOctetsMut + Truncate>(
         builder.truncate(before);
     }
     appended
+}
+
+/// Appends a line: octets and a line feed.
+///
+/// # Errors
+///
+/// `Short` only where the content with the line would pass the limit of its type, and `Memory` only where a request for
+/// memory was refused. The content is then as it was.
+#[tactic(auto, using(octseq::proofs::Limits::past_more))]
+pub fn append_line<B: OctetsBuilder + Truncate>(
+    builder: &mut B,
+    line: &[u8],
+) -> Result<(), AppendError>
+    ensures ok { OnOk result (B.content builder.new ≡ B.content builder.old ++ (line.now ++ 10 ∷ [])) }
+    ensures err { OnErr result (B.content builder.new ≡ B.content builder.old) }
+    ensures short { IsShort append_error result
+        → IsPast B.limit (length (B.content builder.old) + (length line.now + 1)) }
+    ensures past { IsPast B.limit (length (B.content builder.old) + (length line.now + 1)) → IsErr result }
+    ensures memory { IsMemory append_error result → B.asks ≡ true }
+    ensures borrows { B.borrows builder.new ≡ B.borrows builder.old }
+{
+    let before = builder.len();
+    builder.append_slice(line)?;
+    let ended = builder.append_slice(b"\n");
+    if ended.is_err() {
+        builder.truncate(before);
+    }
+    ended
 }

@@ -2,7 +2,7 @@
 use Rattle.std.proofs.Common.{◌≡◌, ℕ, zero, suc, ◌+◌, ◌-◌, ◌<◌, ◌≤◌, Option, Some, None, List, [], ◌∷◌, ◌++◌, length}
 use Rattle.std.proofs.Common.{take, if◌then◌else◌, append_assoc, refl, sym, ap, ◌∙◌, arith}
 use Rattle.std.proofs.lemmas.Bool.{le-leb, lt-leb}
-use Rattle.std.proofs.lemmas.List.{append-nil}
+use Rattle.std.proofs.lemmas.List.{append-nil, take_all}
 use Rattle.octseq.specs.Limit.{IsWithin}
 use Rattle.octseq_dns.specs.Place.{places_of, kept}
 use Rattle.octseq_dns.specs.declared.place.Place.{Place}
@@ -36,6 +36,11 @@ kept_front (Some most) held done all within is =
     let front = front_taken most held done within in
     (front.0, is ∙ front.1)
 kept_front None held done all within is = (done, is)
+
+-- nothing more leaves what it held
+pub kept_none : (most : Option ℕ) (held : List Place) → IsWithin most (length held) → held ≡ kept most (held ++ [])
+kept_none (Some most) held within = sym (ap (take most) (append-nil held) ∙ take_all most held within)
+kept_none None held within = sym (append-nil held)
 
 -- ---- places of labels
 

@@ -4,10 +4,10 @@
 //! authorities, additional records. Each has a type of builder of its own, which the one before it turns into, so that
 //! nothing is pushed behind a later section. What is pushed is pushed whole or not at all, and the octets are a message
 //! at all times.
-ghost use Rattle.std.specs.Prelude.{◌≡◌, ℕ, List};
+ghost use Rattle.std.specs.Prelude.{◌≡◌, ◌++◌, ℕ, List, drop};
 ghost use Rattle.octseq_dns.specs.ReadBack.{ReadsBack};
 ghost use Rattle.octseq_dns.specs.Told.{Told};
-ghost use Rattle.octseq_dns.specs.Written.{Asked, Lists, AreWritten, IsWritten};
+ghost use Rattle.octseq_dns.specs.Written.{Asked, Lists, AreWritten, IsWritten, header_octets};
 ghost use Rattle.octseq_dns_message.specs.declared.header.Header.{Header as Fields};
 
 use crate::builder::header::put_header;
@@ -90,6 +90,8 @@ impl<B: OctetsBuilder + Truncate + AsOctetsMut, T: Places, S: Section> SectionBu
             { id = header.id; flags = header.flags; opcode = header.opcode; rcode = header.rcode } }
         ensures written { (lists : Lists) → AreWritten (B.content self.old.octets) self.old.header lists
             → AreWritten (B.content self.new.octets) self.new.header lists }
+        ensures octets { B.content self.new.octets
+            ≡ header_octets self.new.header ++ drop 12 (B.content self.old.octets) }
         ensures places { T.held self.new.places ≡ T.held self.old.places }
         ensures borrows { B.borrows self.new.octets ≡ B.borrows self.old.octets }
     {

@@ -151,7 +151,7 @@ fn push_questions<B: OctetsBuilder + Truncate + AsOctetsMut, T: Places, R: AsOct
 {
     let mut message = builder;
     for question in questions {
-        message.push_question(&question.qname, question.qtype, question.qclass)?;
+        message.push_question(&question.qname(), question.qtype(), question.qclass())?;
     }
     Ok(message)
 }

@@ -6,5 +6,6 @@ pub mod MessageTexts
 pub mod Messages
 pub mod Places
 pub mod Rows
+pub mod StringItems
 pub mod Strings
 pub mod Texts

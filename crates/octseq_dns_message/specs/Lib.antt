@@ -2,6 +2,7 @@ pub mod Data
 pub mod DataText
 pub mod Edns
 pub mod Entry
+pub mod EntryTurns
 pub mod Flag
 pub mod Format
 pub mod Header

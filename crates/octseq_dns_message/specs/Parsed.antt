@@ -1,13 +1,28 @@
 -- What contracts see of a message that was read.
-use Rattle.std.specs.Prelude.{List}
+use Rattle.std.specs.Prelude.{ℕ, ◌+◌, List}
 use Rattle.octseq.specs.declared.AsOctets.{Ghosts}
 use Rattle.octseq_dns_message.specs.Entry.{Question, Record}
+use Rattle.octseq_dns_message.specs.EntryTurns.{questions_turns, records_turns}
 use Rattle.octseq_dns_message.specs.declared.message.Message.{Message}
+use Rattle.octseq_dns_message.specs.declared.message.Numbers.{Numbers}
 use Rattle.octseq_dns_message.specs.declared.header.Header.{Header}
+
+-- the header that numbers are of
+abbrev pub fields_of : Numbers → Header
+fields_of numbers = record {
+  id = numbers.id;
+  flags = numbers.flags;
+  opcode = numbers.opcode;
+  rcode = numbers.rcode;
+  qdcount = numbers.qdcount;
+  ancount = numbers.ancount;
+  nscount = numbers.nscount;
+  arcount = numbers.arcount;
+}
 
 -- its header
 abbrev pub header_of : {R : Type 0} {g : Ghosts R} → Message R g → Header
-header_of message = message.header
+header_of message = fields_of message.header
 
 -- its questions
 abbrev pub questions_of : {R : Type 0} {g : Ghosts R} → Message R g → List Question
@@ -24,3 +39,8 @@ authorities_of message = message.authorized.0
 -- its additional records
 abbrev pub additionals_of : {R : Type 0} {g : Ghosts R} → Message R g → List Record
 additionals_of message = message.added.0
+
+-- the least number of turns that its names take
+abbrev pub message_turns : {R : Type 0} {g : Ghosts R} → Message R g → ℕ
+message_turns message = questions_turns (questions_of message) + (records_turns (answers_of message)
+    + (records_turns (authorities_of message) + records_turns (additionals_of message)))

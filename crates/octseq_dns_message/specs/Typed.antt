@@ -1,10 +1,12 @@
 -- What contracts see of data that was read.
+use Rattle.std.specs.Prelude.{◌≡◌}
 use Rattle.octseq.specs.declared.AsOctets.{Ghosts}
 use Rattle.octseq.specs.Parser.{window}
+use Rattle.octseq.specs.Window.{Window}
 use Rattle.octseq_dns_message.specs.Data as said
 use Rattle.octseq_dns_message.specs.Data.{Form}
 use Rattle.octseq_dns_name.specs.Read.{name_of}
-use Rattle.octseq_dns_message.specs.Txt.{strings_of}
+use Rattle.octseq_dns_message.specs.Txt.{strings_of, txt_place}
 use Rattle.octseq_dns_message.specs.declared.data.Data.{Data}
 use Rattle.octseq_dns_message.specs.declared.data.Data.TheVariants as kind
 use Rattle.octseq_dns_message.specs.declared.data.mx.Mx.{Mx}
@@ -43,3 +45,8 @@ form_of (kind.Soa soa) = Form.soa (soa_of soa)
 form_of (kind.Txt txt) = Form.txt (strings_of txt)
 form_of (kind.Srv srv) = Form.srv (srv_of srv)
 form_of (kind.Opaque octets) = Form.opaque (window octets)
+
+-- strings of text are at a window's position (a name says its place itself)
+abbrev pub IsAt : {R : Type 0} {g : Ghosts R} → Window → Data R g → Type 0
+IsAt w (kind.Txt txt) = txt_place txt ≡ w
+IsAt w _ = Unit {0}

@@ -83,7 +83,7 @@ impl<R: AsOctets + Copy> Clone for Data<R> {
 }
 
 impl<R: AsOctets + Copy> Data<R> {
-    ghost use Rattle.octseq_dns_message.specs.Typed.{form_of};
+    ghost use Rattle.octseq_dns_message.specs.Typed.{form_of, IsAt};
 
     /// Takes the data of a type and a class, which ends at a place of the message. It counts the turns that names in
     /// it take.
@@ -96,6 +96,7 @@ impl<R: AsOctets + Copy> Data<R> {
     ) -> Result<Data<R>, Malformed>
         ensures form { IfOk result (λ found.
             HasForm rtype class (window parser.old) (form_of found) (window parser.new)) }
+        ensures place { IfOk result (IsAt (window parser.old)) }
         ensures ends { OnOk result ((window parser.new).position ≡ end) }
         ensures malformed { IsErr result → (form : Form) (v : Window)
             → HasForm rtype class (window parser.old) form v → ¬ (v.position ≡ end) }
@@ -120,6 +121,7 @@ impl<R: AsOctets + Copy> Data<R> {
     ) -> Result<Data<R>, Malformed>
         ensures form { IfOk result (λ found.
             HasForm rtype class (window parser.old) (form_of found) (window parser.new)) }
+        ensures place { IfOk result (IsAt (window parser.old)) }
         ensures malformed { IsErr result → rtype ≢ 16 → (form : Form) (v : Window)
             → ¬ HasForm rtype class (window parser.old) form v }
         ensures turns { turns.new ≤ turns.old + 510 }

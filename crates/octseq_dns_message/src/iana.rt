@@ -200,3 +200,44 @@ impl Rcode {
         self.number
     }
 }
+
+// The numbers that IANA assigned to these names. A constant with another number isn't compiled.
+const _: () = prove!(
+    Rtype::A.number == 1
+        && Rtype::NS.number == 2
+        && Rtype::CNAME.number == 5
+        && Rtype::SOA.number == 6
+        && Rtype::PTR.number == 12
+        && Rtype::MX.number == 15
+        && Rtype::TXT.number == 16
+        && Rtype::AAAA.number == 28
+        && Rtype::SRV.number == 33
+        && Rtype::OPT.number == 41
+        && Rtype::AXFR.number == 252
+        && Rtype::ANY.number == 255
+);
+
+const _: () = prove!(
+    Class::IN.number == 1
+        && Class::CH.number == 3
+        && Class::HS.number == 4
+        && Class::NONE.number == 254
+        && Class::ANY.number == 255
+);
+
+const _: () = prove!(
+    Opcode::QUERY.number == 0
+        && Opcode::IQUERY.number == 1
+        && Opcode::STATUS.number == 2
+        && Opcode::NOTIFY.number == 4
+        && Opcode::UPDATE.number == 5
+);
+
+const _: () = prove!(
+    Rcode::NOERROR.number == 0
+        && Rcode::FORMERR.number == 1
+        && Rcode::SERVFAIL.number == 2
+        && Rcode::NXDOMAIN.number == 3
+        && Rcode::NOTIMP.number == 4
+        && Rcode::REFUSED.number == 5
+);

@@ -1,5 +1,5 @@
 //! DNS messages: RFC 1035, 4.1.
-ghost use Rattle.std.specs.Prelude.{◌≡◌, ℕ, List, ⊤};
+ghost use Rattle.std.specs.Prelude.{◌≡◌, ◌<◌, ℕ, List, ⊤};
 ghost use Rattle.octseq.specs.Parser.{window};
 ghost use Rattle.octseq_dns_message.specs.Entry as said;
 ghost use Rattle.octseq_dns_message.specs.Entry.{IsQuestion, IsRecord};
@@ -8,7 +8,8 @@ ghost use Rattle.octseq_dns_message.specs.Message.{IsMessage};
 ghost use Rattle.octseq_dns_message.specs.OneEntry.{questions_once, records_once};
 ghost use Rattle.octseq_dns_message.specs.declared.header.Header.{Header as Fields};
 
-use crate::header::Header;
+use crate::header::{Flags, Header};
+use crate::iana::{Opcode, Rcode};
 use crate::message::sections::{pass_questions, pass_records};
 use octseq::utf8::Turns;
 use octseq::{AsOctets, Parser};
@@ -40,10 +41,70 @@ pub fn one_message()
         → (h ≡ k) × (q ≡ others) × (a ≡ x) × (b ≡ y) × (d ≡ z) }
 {}
 
+/// The numbers of a header. A `?` on a result that holds a reference beside a type with a model, as `Opcode`, isn't
+/// proved, so a message has its header's numbers plain.
+#[derive(Clone, Copy, Debug)]
+struct Numbers {
+    id: u16,
+    flags: Flags,
+    opcode: u8,
+    rcode: u8,
+    qdcount: u16,
+    ancount: u16,
+    nscount: u16,
+    arcount: u16,
+    ghost opcodes: { opcode < 16 },
+    ghost rcodes: { rcode < 16 },
+}
+
+impl Numbers {
+    ghost use Rattle.std.specs.Prelude.{IsErr, IfOk};
+    ghost use Rattle.octseq.specs.Parser.{sequence};
+    ghost use Rattle.octseq.specs.Window.{Window};
+    ghost use Rattle.octseq_dns_message.specs.Header.{IsHeader};
+    ghost use Rattle.octseq_dns_message.specs.Parsed.{fields_of};
+
+    /// Takes the header of a message, as `Header::parse`.
+    fn parse<R: AsOctets + Copy>(parser: &mut Parser<R>) -> Result<Numbers, Malformed>
+        ensures header { IfOk result (λ numbers.
+            IsHeader (window parser.old) (fields_of numbers) (window parser.new)) }
+        ensures malformed { IsErr result → (header : Fields) (v : Window) → ¬ IsHeader (window parser.old) header v }
+        ensures same { sequence parser.new ≡ sequence parser.old }
+    {
+        let header = Header::parse(parser)?;
+        Ok(Numbers {
+            id: header.id,
+            flags: header.flags,
+            opcode: header.opcode.to_int(),
+            rcode: header.rcode.to_int(),
+            qdcount: header.qdcount,
+            ancount: header.ancount,
+            nscount: header.nscount,
+            arcount: header.arcount,
+        })
+    }
+
+    /// The header that they are of.
+    fn header(self) -> Header
+        ensures { result ≡ fields_of self }
+    {
+        Header {
+            id: self.id,
+            flags: self.flags,
+            opcode: Opcode::from_int(self.opcode),
+            rcode: Rcode::from_int(self.rcode),
+            qdcount: self.qdcount,
+            ancount: self.ancount,
+            nscount: self.nscount,
+            arcount: self.arcount,
+        }
+    }
+}
+
 /// A message: its header, and where its sections begin. It copies no octet of them.
 #[derive(Debug)]
 pub struct Message<R: AsOctets> {
-    header: Header,
+    header: Numbers,
     questions: Parser<R>,
     answers: Parser<R>,
     authorities: Parser<R>,
@@ -69,7 +130,7 @@ impl<R: AsOctets + Copy> Clone for Message<R> {
 impl<R: AsOctets + Copy> Message<R> {
     ghost use Rattle.std.specs.Prelude.{◌+◌, ◌*◌, ◌≤◌, length, IsErr, IfOk};
     ghost use Rattle.octseq_dns_message.specs.Parsed.{header_of, questions_of, answers_of, authorities_of};
-    ghost use Rattle.octseq_dns_message.specs.Parsed.{additionals_of};
+    ghost use Rattle.octseq_dns_message.specs.Parsed.{additionals_of, message_turns};
     ghost use Rattle.octseq_dns_message.specs.Walk.{questions_left, records_left};
 
     /// Reads all of the octets as a message. It requests no memory.
@@ -113,12 +174,13 @@ impl<R: AsOctets + Copy> Message<R> {
         ensures turns { turns.new ≤ turns.old + 51 * length (R.content octets) + 255 }
         ensures entries { IfOk result (λ message. turns.new ≤ turns.old + 255 * ((header_of message).qdcount
             + (header_of message).ancount + (header_of message).nscount + (header_of message).arcount)) }
+        ensures least { IfOk result (λ message. turns.old + message_turns message ≤ turns.new) }
     {
         let mut parser = Parser::from_ref(octets);
         if parser.remaining() > MESSAGE_MOST {
             return Err(Malformed);
         }
-        let header = Header::parse(&mut parser)?;
+        let header = Numbers::parse(&mut parser)?;
         let questions = parser;
         pass_questions(&mut parser, header.qdcount, turns)?;
         let answers = parser;
@@ -143,7 +205,7 @@ impl<R: AsOctets + Copy> Message<R> {
     pub fn header(&self) -> Header
         ensures { result ≡ header_of self.now }
     {
-        self.header
+        self.header.header()
     }
 
     /// Its questions, from the first one on.
@@ -153,8 +215,9 @@ impl<R: AsOctets + Copy> Message<R> {
     /// ```
     /// // crates/octseq_dns_tests/src/tests/dns.rt
     /// for question in message.questions() {
-    ///     assert_equal!(rt, (question.qtype, question.qclass), (Rtype::A, Class::IN));
-    ///     assert_equal!(rt, question.qname.parser().pos(), 12);
+    ///     let typed = (question.qtype(), question.qclass());
+    ///     assert_equal!(rt, typed, (Rtype::A, Class::IN));
+    ///     assert_equal!(rt, question.qname().parser().pos(), 12);
     /// }
     /// ```
     pub fn questions(&self) -> Questions<R>

@@ -136,11 +136,7 @@ impl<R: AsOctets + Copy> fmt::Display for Question<R> {
     ghost output = { λ question. Some (question_text (question_of question)) };
 
     fn fmt<W: fmt::Write>(&self, f: &mut fmt::Formatter<W>) -> fmt::Result {
-        let Question {
-            qname,
-            qtype,
-            qclass,
-        } = *self;
+        let (qname, qtype, qclass) = (self.qname(), self.qtype(), self.qclass());
         write!(f, "{qname} {qclass} {qtype}")
     }
 }

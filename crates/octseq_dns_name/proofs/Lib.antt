@@ -1,4 +1,6 @@
 pub mod Comparisons
+pub mod LabelItems
+pub mod LabelLaws
 pub mod Names
 pub mod Refusals
 pub mod SpellingSteps

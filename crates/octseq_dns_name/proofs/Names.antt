@@ -1,12 +1,13 @@
 -- How a name is read piece by piece: what was read, what is ahead, and when there is no name.
 use Rattle.std.proofs.Common.{◌≡◌, ℕ, suc, ◌+◌, ◌<◌, ◌≤◌, List, [], ◌∷◌, ◌++◌, length, Option, Some, None, refl, sym}
-use Rattle.std.proofs.Common.{ap, ◌∙◌, subst, append_assoc, arith, IfSome}
+use Rattle.std.proofs.Common.{ap, ◌∙◌, subst, append_assoc, length-append, arith, IfSome}
 use Rattle.std.proofs.Math.Logic.{∥∥₁_prop, ∥∥₁_elim}
 use Rattle.std.specs.Coded.{le_prop}
 use Rattle.std.specs.Option.{unwrap_or}
 use Rattle.std.proofs.lemmas.List.{append-nil}
 use Rattle.octseq.specs.Window.{Window, left, at}
 use Rattle.octseq_dns_name.specs.Name.{HasRoot, HasLabel, HasPointer, Stands, IsName, wire_length}
+use Rattle.octseq_dns_name.specs.NameTurns.{name_turns}
 use Rattle.octseq_dns_name.specs.OneName.{at_label, at_pointer, one_standing, one_labels, one_name, Named, Ahead}
 use Rattle.octseq_dns_name.specs.OneName.{ahead_once}
 use Rattle.octseq_dns_name.specs.Piece.{Piece, HasPiece, end_of, kept_at}
@@ -163,6 +164,12 @@ pub record Reading (w : Window) (start : ℕ) (v : Window) (size pointers : ℕ)
   pub read : LeadsTo w.position w start v labels pointers behind
   pub size_is : size ≡ wire_length labels
 
+-- it took a turn for each label and for each pointer
+abbrev pub Counted : (w : Window) (start : ℕ) (v : Window) (size pointers : ℕ) (behind : Option Window) (old new : ℕ)
+    → Type 0
+Counted w start v size pointers behind old new =
+    (read : Reading w start v size pointers behind) × (new ≡ old + (length read.labels + pointers))
+
 -- a reading begins with no labels, whose wire form is the root's one octet, and with no pointer
 pub begun : (w : Window) → Reading w w.position w 1 0 None
 begun w = record { labels = []; read = leads_none w.position w; size_is = refl }
@@ -187,6 +194,31 @@ with_pointer w start v u size pointers behind to so_far has = record {
   read = leads_past_pointer w.position w start v u so_far.labels pointers to behind so_far.read has;
   size_is = so_far.size_is;
 }
+
+-- and with no turn
+pub counted_none : (w : Window) (start old : ℕ) → start ≡ w.position → Counted w start w 1 0 None old old
+unfolding begun
+counted_none w start old is =
+    subst (λ start. Counted w start w 1 0 None old old) (sym is) (begun w, omega arith)
+
+-- one turn more for a label more
+pub counted_label : (w : Window) (start : ℕ) (v u : Window) (size made pointers : ℕ) (behind : Option Window)
+    (l : List ℕ) (old before new : ℕ) → Counted w start v size pointers behind old before
+    → HasLabel v l u → made ≡ size + (1 + length l) → new ≡ before + 1 → Counted w start u made pointers behind old new
+unfolding with_label
+counted_label w start v u size made pointers behind l old before new (read, counted) has is tick = (
+  with_label w start v u size made pointers behind l read has is,
+  omega (arith, length-append read.labels (l ∷ []), counted, tick),
+)
+
+-- or for a pointer more
+pub counted_pointer : (w : Window) (start : ℕ) (v u : Window) (size pointers : ℕ) (behind : Option Window) (to : ℕ)
+    (old before new : ℕ) → Counted w start v size pointers behind old before
+    → HasPointer start v to u → new ≡ before + 1
+    → Counted w to (at to v) size (pointers + 1) (Some (end_of behind u)) old new
+unfolding with_pointer
+counted_pointer w start v u size pointers behind to old before new (read, counted) has tick =
+    (with_pointer w start v u size pointers behind to read has, omega (arith, counted, tick))
 
 -- labels that are too long are no name, however they go on
 pub too_long : (w : Window) (start : ℕ) (v : Window) (size pointers : ℕ) (behind : Option Window)
@@ -230,6 +262,17 @@ whole_name w start v u size pointers behind so_far has short few = record {
   short = let is = so_far.size_is in omega (arith, is, short);
   few = few;
 }
+
+-- and at last for the root: however the name is read, those are its turns
+pub counted_name : (w : Window) (start : ℕ) (v u : Window) (size pointers : ℕ) (behind : Option Window)
+    (old before new : ℕ) → Counted w start v size pointers behind old before → HasRoot v u → size ≤ 255 → pointers ≤ 127
+    → new ≡ before + 1 → (labels : List (List ℕ)) (end : Window) (name : IsName w labels end)
+    → new ≡ old + name_turns name
+unfolding whole_name
+counted_name w start v u size pointers behind old before new (read, counted) has short few tick labels end name =
+    let whole = whole_name w start v u size pointers behind read has short few in
+    let same = one_standing w.position w _ end read.labels labels pointers name.pointers whole.stands name.stands in
+    omega (arith, ap length same.0, same.1, counted, tick)
 
 -- ---- where the name ends
 

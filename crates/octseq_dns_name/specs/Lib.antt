@@ -1,4 +1,6 @@
 pub mod Name
+pub mod NameTurns
+pub mod NextLabel
 pub mod OneName
 pub mod Order
 pub mod OrderLaws

@@ -1,7 +1,8 @@
 -- What the readers of a name share: the piece that stands at a place, and where the name ends.
-use Rattle.std.specs.Prelude.{ℕ, ◌≤◌, List, Option, Some, None}
+use Rattle.std.specs.Prelude.{◌≡◌, ℕ, ◌≤◌, List, Option, Some, None}
 use Rattle.octseq.specs.declared.AsOctets.{Ghosts}
 use Rattle.octseq.specs.Parser.{window}
+use Rattle.octseq.specs.Part.{part}
 use Rattle.octseq.specs.declared.parse.Parser.{Parser}
 use Rattle.octseq.specs.Window.{Window, left, rest, at}
 use Rattle.octseq_dns_name.specs.Name.{HasRoot, HasLabel, HasPointer}
@@ -34,6 +35,11 @@ IsShort parser = (1 ≤ left (window parser)) × (left (window parser) ≤ 63)
 abbrev pub IsShortLabel : {R : Type 0} {g : Ghosts R} → Step R g → Type 0
 IsShortLabel (step.Label l) = IsShort l
 IsShortLabel _ = Unit {0}
+
+-- a label that was taken is where its octets are: after its length
+abbrev pub IsPlaced : {R : Type 0} {g : Ghosts R} → Window → Step R g → Type 0
+IsPlaced w (step.Label l) = window l ≡ part 1 w
+IsPlaced w _ = Unit {0}
 
 -- where a name ends: behind its first pointer, if there was one
 abbrev pub end_of : Option Window → Window → Window

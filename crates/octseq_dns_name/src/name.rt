@@ -22,7 +22,7 @@ mod wire;
 
 pub use crate::name::labels::{Label, Labels};
 pub use crate::name::owned::Name;
-pub use crate::name::text::{a_name_is_spelled_by_its_text, one_name_of_a_text};
+pub use crate::name::text::{a_name_has_labels, a_name_is_spelled_by_its_text, one_name_of_a_text};
 
 /// How many octets a name may have in wire form: RFC 1035, 2.3.4.
 const NAME_MOST: usize = 255;
@@ -62,8 +62,10 @@ impl<R: AsOctets + Copy> Clone for ParsedName<R> {
 }
 
 impl<R: AsOctets + Copy> ParsedName<R> {
-    ghost use Rattle.std.specs.Prelude.{◌+◌, ◌≤◌, ◌↔◌, [], length, IsTrue, IsErr, IfOk, OnErr};
+    ghost use Rattle.std.specs.Prelude.{◌+◌, ◌≤◌, ◌↔◌, [], length, IsTrue, IsErr, IfOk, OnOk, OnErr};
     ghost use Rattle.octseq.specs.Parser.{sequence};
+    ghost use Rattle.octseq_dns_name.specs.NameTurns.{CountsName};
+    ghost use Rattle.octseq_dns_name.specs.NextLabel.{ahead_of};
     ghost use Rattle.octseq_dns_name.specs.Read.{place_of, labels_of, labels_left};
 
     /// Takes the next name of a message. The parser is then behind it: behind its first pointer, if it has one.
@@ -110,7 +112,9 @@ impl<R: AsOctets + Copy> ParsedName<R> {
             → ¬ IsName (window parser.old) labels end }
         ensures kept { OnErr result (window parser.new ≡ window parser.old) }
         ensures same { sequence parser.new ≡ sequence parser.old }
+        ensures counted { OnOk result (CountsName (window parser.old) turns.old turns.new) }
         ensures turns { turns.new ≤ turns.old + 255 }
+        ensures some { turns.old + 1 ≤ turns.new }
     {
         let mut ahead = *parser;
         let mut behind = None;
@@ -155,7 +159,8 @@ impl<R: AsOctets + Copy> ParsedName<R> {
 
     /// Its labels, from the first one on.
     pub fn labels(&self) -> Labels<R>
-        ensures { labels_left result ≡ labels_of self.now }
+        ensures labels { labels_left result ≡ labels_of self.now }
+        ensures ahead { ahead_of result ≡ place_of self.now }
     {
         Labels::at(self.parser)
     }

@@ -86,6 +86,8 @@ fn show_message(alloc: Global, input: &[u8]) -> Result<Answer, AllocError>
 impl Commands for Command {
     ghost name_of = { name_of };
 
+    ghost default_word = { codes "message" };
+
     ghost out = { Out };
 
     fn named(word: &str) -> Option<Command> {
@@ -95,6 +97,10 @@ impl Commands for Command {
             "rewrite" => Some(Command::Rewrite),
             _ => None,
         }
+    }
+
+    fn default_word() -> &'static str {
+        "message"
     }
 
     fn usage() -> &'static str {

@@ -13,5 +13,5 @@ mod engine;
 mod moved;
 
 fn main(rt: HostRuntime) -> ExitCode {
-    start::<Command>(&rt, "message")
+    start::<Command>(&rt)
 }

@@ -39,16 +39,23 @@ pub fn cut_off(text: StrBuilder<Vec<u8>>, short: ShortInput) -> Result<Answer, A
     })
 }
 
-/// The commands of a program. `name_of` is the word that names one, and `out` is what is written for a command, or for
-/// a word that names none, and an input, and how the program ends.
+/// The commands of a program. `name_of` is the word that names one, `default_word` the word of a program without
+/// arguments, and `out` what is written for a command, or for a word that names none, and an input, and how the program
+/// ends.
 pub trait Commands: Copy {
     ghost name_of: { Self → List ℕ };
+
+    ghost default_word: { List ℕ };
 
     ghost out: { Option Self → List ℕ → List ℕ → Status → Type 0 };
 
     /// The command of this name.
     fn named(word: &str) -> Option<Self>
         ensures { IsNamed name_of word.now result };
+
+    /// The word of a program without arguments.
+    fn default_word() -> &'static str
+        ensures { result.now ≡ default_word };
 
     /// The line for a word that names no command.
     fn usage() -> &'static str

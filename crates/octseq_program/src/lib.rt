@@ -13,5 +13,5 @@ pub mod status;
 pub mod streams;
 
 pub use engine::{Answer, Commands};
-pub use process::{command_word, exit_code, start};
+pub use process::{arguments, command_word, exit_code, run, start};
 pub use status::{ProgramFault, Status};

@@ -9,18 +9,29 @@ ghost use Rattle.octseq_program.specs.declared.status.Status.{Status};
 use crate::engine::{Commands, engine};
 use crate::status::{ProgramFault, Status};
 use std::alloc::AllocError;
+use std::env;
+use std::io::{self, ErrorKind};
 use std::process::ExitCode;
-use std::{env, io};
 
-/// The word for the command, of the program's arguments, of which the first is its own name: the one argument behind
-/// that, or `unnamed` where there is none. Where there are more, it is the empty word.
-pub fn command_word<'a>(args: &'a [String], unnamed: &'a str) -> &'a str
-    ensures none { length args.now ≤ 1 → result.now ≡ unnamed.now }
+/// The program's arguments, of which the first is its own name.
+///
+/// # Errors
+///
+/// An error of the kind `OutOfMemory` where there is no memory for them, of another kind where one is no text.
+pub fn arguments(rt: &HostRuntime) -> io::Result<Vec<String>> {
+    let args: Result<Vec<String>, AllocError> = env::args(rt)?.collect(rt.alloc());
+    Ok(args?)
+}
+
+/// The word for the command, of the program's arguments: the one argument after its own name, or the program's default
+/// where there is none. Where there are more, it is the empty word.
+pub fn command_word<C: Commands>(args: &[String]) -> &str
+    ensures none { length args.now ≤ 1 → result.now ≡ C.default_word }
     ensures one { (name word : List ℕ) → map string_bytes args.now ≡ name ∷ word ∷ [] → result.now ≡ word }
     ensures more { 2 < length args.now → result.now ≡ [] }
 {
     match args {
-        [] | [_] => unnamed,
+        [] | [_] => C::default_word(),
         [_, word] => word.as_str(),
         _ => "",
     }
@@ -48,19 +59,18 @@ pub fn run<C: Commands>(rt: &HostRuntime, word: &str) -> ExitCode
     exit_code(engine::<C, _, _>(rt.alloc(), word, &mut rt.reader(), &mut io::writer(rt)))
 }
 
-/// Runs the command that the program's arguments name, or `unnamed` where they name none. Arguments that can't be
-/// read are a word that names no command. The status is that of a run of some word on some input, as no contract can
-/// say what the arguments and standard input give.
-pub fn start<C: Commands>(rt: &HostRuntime, unnamed: &str) -> ExitCode
+/// Runs the command that the program's arguments name. Where there is no memory for them, the program ends so; where
+/// one is no text, they are a word that names no command. The status is that of a run of some word on some input, as no
+/// contract can say what the arguments and standard input give.
+pub fn start<C: Commands>(rt: &HostRuntime) -> ExitCode
     ensures { (word : List ℕ) × (ended : Result Status ProgramFault) × (exit_status result ≡ status_of ended)
         × IfOk ended (Ran C.name_of C.out word None None None) }
 {
-    let Ok(args) = env::args(rt) else {
-        return run::<C>(rt, "");
-    };
-    let args: Result<Vec<String>, AllocError> = args.collect(rt.alloc());
-    match args {
-        Ok(args) => run::<C>(rt, command_word(&args, unnamed)),
-        Err(_) => exit_code(Err(ProgramFault::Memory)),
+    match arguments(rt) {
+        Ok(args) => run::<C>(rt, command_word::<C>(&args)),
+        Err(error) if error.kind() == ErrorKind::OutOfMemory => exit_code(Err(
+            ProgramFault::Memory,
+        )),
+        Err(_) => run::<C>(rt, ""),
     }
 }

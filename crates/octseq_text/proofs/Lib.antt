@@ -2,6 +2,7 @@ pub mod BadParts
 pub mod Boundaries
 pub mod CharacterAppends
 pub mod Counting
+pub mod Counts
 pub mod Edges
 pub mod Ends
 pub mod LossyReadings

@@ -2,6 +2,7 @@
 mod builder;
 mod commands;
 mod compare;
+mod counter;
 mod deref;
 mod display;
 mod ends;
@@ -14,6 +15,7 @@ mod text;
 
 pub use builder::StrBuilder;
 pub use commands::{Command, Reply, run};
+pub use counter::Counter;
 pub use display::DisplayError;
 pub use ends::{boundary, last_char};
 pub use error::FromUtf8Error;

@@ -215,6 +215,8 @@ fn records(alloc: Global, input: &[u8]) -> Result<Answer, AllocError>
 impl Commands for Command {
     ghost name_of = { name_of };
 
+    ghost default_word = { codes "check" };
+
     ghost out = { Out };
 
     fn named(word: &str) -> Option<Command> {
@@ -225,6 +227,10 @@ impl Commands for Command {
             "records" => Some(Command::Records),
             _ => None,
         }
+    }
+
+    fn default_word() -> &'static str {
+        "check"
     }
 
     fn usage() -> &'static str {

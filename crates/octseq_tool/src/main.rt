@@ -7,11 +7,15 @@
 #![tactic(auto)]
 
 use engine::Command;
-use octseq_program::start;
+use octseq_program::{arguments, command_word, run};
 use std::process::ExitCode;
 
 mod engine;
 
 fn main(rt: HostRuntime) -> ExitCode {
-    start::<Command>(&rt, "check")
+    // Arguments that can't be had are a word that names no command, also where it is memory that they lack.
+    match arguments(&rt) {
+        Ok(args) => run::<Command>(&rt, command_word::<Command>(&args)),
+        Err(_) => run::<Command>(&rt, ""),
+    }
 }

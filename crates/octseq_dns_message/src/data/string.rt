@@ -2,6 +2,7 @@
 ghost use Rattle.std.specs.Prelude.{◌≡◌, ◌≤◌, ℕ, List, IsErr, IfOk, length};
 ghost use Rattle.octseq.specs.Integer.{octets_be};
 ghost use Rattle.octseq.specs.Parser.{window};
+ghost use Rattle.octseq.specs.Part.{part};
 ghost use Rattle.octseq.specs.Window.{Window, left, next, rest};
 ghost use Rattle.octseq_dns_message.specs.Data.{HasOctets, HasString};
 
@@ -27,6 +28,7 @@ pub(crate) fn take_string<R: AsOctets + Copy>(
     ensures string { IfOk result (λ string.
         HasString (window parser.old) (rest (window string)) (window parser.new)) }
     ensures short { IfOk result (λ string. left (window string) ≤ 255) }
+    ensures place { IfOk result (λ string. window string ≡ part 1 (window parser.old)) }
     ensures length { IfOk result (λ string. octets_be 1 (length (rest (window string)))
         ≡ next 1 (window parser.old)) }
     ensures malformed { IsErr result → (string : List ℕ) (v : Window) → ¬ HasString (window parser.old) string v }

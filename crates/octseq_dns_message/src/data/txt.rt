@@ -94,11 +94,31 @@ impl<R: AsOctets + Copy> Txt<R> {
     ghost use Rattle.std.specs.Prelude.{ℕ, List, IsErr, IfOk, OnOk};
     ghost use Rattle.octseq.specs.Window.{Window};
     ghost use Rattle.octseq_dns_message.specs.Data.{HasStrings};
-    ghost use Rattle.octseq_dns_message.specs.Txt.{strings_of, strings_left};
+    ghost use Rattle.octseq.specs.Window.{whole};
+    ghost use Rattle.octseq_dns_message.specs.Txt.{strings_of, strings_left, txt_place, strings_ahead};
+
+    /// Reads all of the octets as strings: at least one, each after its length, which has one octet, as
+    /// `append_part_u8` writes them. So text that was never in a message is data that can be pushed.
+    ///
+    /// # Errors
+    ///
+    /// `Malformed` where the octets are no such strings.
+    pub fn from_octets(octets: R) -> Result<Txt<R>, Malformed>
+        ensures txt { IfOk result (λ txt. (end : Window) × HasStrings (whole (R.content octets)) (strings_of txt) end
+            × (end.position ≡ length (R.content octets))) }
+        ensures malformed { IsErr result → (strings : List (List ℕ)) (end : Window)
+            → HasStrings (whole (R.content octets)) strings end → ¬ (end.position ≡ length (R.content octets)) }
+        ensures place { IfOk result (λ txt. txt_place txt ≡ whole (R.content octets)) }
+    {
+        let mut parser = Parser::from_ref(octets);
+        let end = parser.len();
+        Txt::parse(&mut parser, end)
+    }
 
     /// Takes the strings of a message up to a place.
     pub(crate) fn parse(parser: &mut Parser<R>, end: usize) -> Result<Txt<R>, Malformed>
         ensures txt { IfOk result (λ txt. HasStrings (window parser.old) (strings_of txt) (window parser.new)) }
+        ensures place { IfOk result (λ txt. txt_place txt ≡ window parser.old) }
         ensures ends { OnOk result ((window parser.new).position ≡ end) }
         ensures malformed { IsErr result → (strings : List (List ℕ)) (v : Window)
             → HasStrings (window parser.old) strings v → ¬ (v.position ≡ end) }
@@ -128,6 +148,7 @@ impl<R: AsOctets + Copy> Txt<R> {
     /// The strings, from the first one on.
     pub fn strings(&self) -> Strings<R>
         ensures strings { strings_left result ≡ strings_of self.now }
+        ensures ahead { strings_ahead result ≡ txt_place self.now }
         ensures some { 1 ≤ length (strings_left result) }
     {
         Strings {
@@ -158,12 +179,12 @@ impl<R: AsOctets + Copy> Clone for Strings<R> {
 }
 
 impl<R: AsOctets + Copy> Iterator for Strings<R> {
-    ghost use Rattle.std.specs.Iterator.{YieldsFirstBy, item_count};
-    ghost use Rattle.octseq_dns_message.specs.Txt.{string_octets, strings_left};
+    ghost use Rattle.std.specs.Iterator.{item_count};
+    ghost use Rattle.octseq_dns_message.specs.Txt.{strings_left, YieldsNextString};
 
     type Item = CharStr<R>;
 
-    ghost next_gives = { YieldsFirstBy string_octets strings_left };
+    ghost next_gives = { YieldsNextString };
 
     ghost remaining = { item_count strings_left };
 

@@ -1,5 +1,5 @@
 //! Questions: RFC 1035, 4.1.2.
-ghost use Rattle.std.specs.Prelude.{◌≡◌, ◌+◌, ◌≤◌, IsErr, IfOk, OnErr, ⊤};
+ghost use Rattle.std.specs.Prelude.{◌≡◌, ◌+◌, ◌≤◌, IsErr, IfOk, OnOk, OnErr, ⊤};
 ghost use Rattle.octseq.specs.Parser.{sequence, window};
 ghost use Rattle.octseq.specs.Window.{Window};
 
@@ -9,15 +9,12 @@ use octseq::{AsOctets, Parser};
 use octseq_dns_name::{Malformed, ParsedName};
 use std::alloc::AllocError;
 
-/// A question of a message.
+/// A question of a message: the name that is asked for, and which type and class.
 #[derive(Debug)]
 pub struct Question<R: AsOctets> {
-    /// The name that is asked for.
-    pub qname: ParsedName<R>,
-    /// Which type of records.
-    pub qtype: Rtype,
-    /// Which class.
-    pub qclass: Class,
+    qname: ParsedName<R>,
+    qtype: u16,
+    qclass: u16,
 }
 
 impl<R: AsOctets + Copy> Copy for Question<R> {}
@@ -36,6 +33,8 @@ impl<R: AsOctets + Copy> Question<R> {
     ghost use Rattle.octseq_dns_message.specs.Entry as said;
     ghost use Rattle.octseq_dns_message.specs.Entry.{IsQuestion};
     ghost use Rattle.octseq_dns_message.specs.Said.{question_of};
+    ghost use Rattle.octseq_dns_name.specs.NameTurns.{CountsName};
+    ghost use Rattle.octseq_dns_name.specs.Read.{name_of};
 
     /// Takes the next question of a message.
     ///
@@ -70,7 +69,9 @@ impl<R: AsOctets + Copy> Question<R> {
             → ¬ IsQuestion (window parser.old) question v }
         ensures kept { OnErr result (window parser.new ≡ window parser.old) }
         ensures same { sequence parser.new ≡ sequence parser.old }
+        ensures counted { OnOk result (CountsName (window parser.old) turns.old turns.new) }
         ensures turns { turns.new ≤ turns.old + 255 }
+        ensures some { turns.old + 1 ≤ turns.new }
     {
         let mut ahead = *parser;
         let qname = ParsedName::parse_counted(&mut ahead, turns)?;
@@ -79,8 +80,29 @@ impl<R: AsOctets + Copy> Question<R> {
         *parser = ahead;
         Ok(Question {
             qname,
-            qtype: Rtype::from_int(qtype),
-            qclass: Class::from_int(qclass),
+            qtype,
+            qclass,
         })
+    }
+
+    /// The name that is asked for.
+    pub fn qname(&self) -> ParsedName<R>
+        ensures { name_of result ≡ (question_of self.now).qname }
+    {
+        self.qname
+    }
+
+    /// Which type of records.
+    pub fn qtype(&self) -> Rtype
+        ensures { result ≡ (question_of self.now).qtype }
+    {
+        Rtype::from_int(self.qtype)
+    }
+
+    /// Which class.
+    pub fn qclass(&self) -> Class
+        ensures { result ≡ (question_of self.now).qclass }
+    {
+        Class::from_int(self.qclass)
     }
 }

@@ -1,5 +1,5 @@
 //! Records: RFC 1035, 4.1.3.
-ghost use Rattle.std.specs.Prelude.{◌≡◌, ◌+◌, ◌≤◌, IsErr, IfOk, OnErr, ⊤};
+ghost use Rattle.std.specs.Prelude.{◌≡◌, ◌+◌, ◌≤◌, IsErr, IfOk, OnOk, OnErr, ⊤};
 ghost use Rattle.octseq.specs.Parser.{sequence, window};
 ghost use Rattle.octseq.specs.Window.{Window};
 ghost use Rattle.octseq_dns_name.specs.Read.{place_of};
@@ -18,9 +18,9 @@ use std::alloc::AllocError;
 #[derive(Debug)]
 pub struct Record<R: AsOctets> {
     owner: ParsedName<R>,
-    rtype: Rtype,
-    class: Class,
-    ttl: Ttl,
+    rtype: u16,
+    class: u16,
+    ttl: u32,
     rdata: Parser<R>,
     ghost octets: { (window rdata).octets ≡ (place_of owner).octets },
     ghost within: { (window rdata).end ≤ (place_of owner).end },
@@ -39,12 +39,14 @@ impl<R: AsOctets + Copy> Clone for Record<R> {
 }
 
 impl<R: AsOctets + Copy> Record<R> {
+    ghost use Rattle.octseq.specs.Window.{at};
     ghost use Rattle.octseq_dns_message.specs.Entry as said;
     ghost use Rattle.octseq_dns_message.specs.Entry.{IsRecord};
     ghost use Rattle.octseq_dns_message.specs.Data.{IsDataOf};
+    ghost use Rattle.octseq_dns_name.specs.NameTurns.{CountsName};
     ghost use Rattle.octseq_dns_name.specs.Read.{name_of};
     ghost use Rattle.octseq_dns_message.specs.Said.{record_of};
-    ghost use Rattle.octseq_dns_message.specs.Typed.{form_of};
+    ghost use Rattle.octseq_dns_message.specs.Typed.{form_of, IsAt};
 
     /// Takes the next record of a message.
     ///
@@ -76,7 +78,9 @@ impl<R: AsOctets + Copy> Record<R> {
             → ¬ IsRecord (window parser.old) entry v }
         ensures kept { OnErr result (window parser.new ≡ window parser.old) }
         ensures same { sequence parser.new ≡ sequence parser.old }
+        ensures counted { OnOk result (CountsName (window parser.old) turns.old turns.new) }
         ensures turns { turns.new ≤ turns.old + 255 }
+        ensures some { turns.old + 1 ≤ turns.new }
     {
         let mut ahead = *parser;
         let owner = ParsedName::parse_counted(&mut ahead, turns)?;
@@ -87,9 +91,9 @@ impl<R: AsOctets + Copy> Record<R> {
         *parser = ahead;
         Ok(Record {
             owner,
-            rtype: Rtype::from_int(rtype),
-            class: Class::from_int(class),
-            ttl: Ttl::from_secs(ttl),
+            rtype,
+            class,
+            ttl,
             rdata,
         })
     }
@@ -105,21 +109,21 @@ impl<R: AsOctets + Copy> Record<R> {
     pub fn rtype(&self) -> Rtype
         ensures { result ≡ (record_of self.now).rtype }
     {
-        self.rtype
+        Rtype::from_int(self.rtype)
     }
 
     /// Its class.
     pub fn class(&self) -> Class
         ensures { result ≡ (record_of self.now).class }
     {
-        self.class
+        Class::from_int(self.class)
     }
 
     /// For how many seconds it may be kept.
     pub fn ttl(&self) -> Ttl
         ensures { result ≡ (record_of self.now).ttl }
     {
-        self.ttl
+        Ttl::from_secs(self.ttl)
     }
 
     /// The place of its data: a parser of the message that begins and ends with the data.
@@ -135,7 +139,8 @@ impl<R: AsOctets + Copy> Record<R> {
     /// data ends exactly where its form does. Data that isn't of its type's form is opaque, and so is the data of a
     /// type that has no form here.
     pub fn data(&self) -> Data<R>
-        ensures { IsDataOf (record_of self.now) (form_of result) }
+        ensures form { IsDataOf (record_of self.now) (form_of result) }
+        ensures place { IsAt (at (record_of self.now).rdata.position (record_of self.now).owner.place) result }
     {
         self.data_counted(&mut Turns::new())
     }
@@ -144,11 +149,18 @@ impl<R: AsOctets + Copy> Record<R> {
     /// and each pointer. There are at most two names.
     pub fn data_counted(&self, turns: &mut Turns) -> Data<R>
         ensures form { IsDataOf (record_of self.now) (form_of result) }
+        ensures place { IsAt (at (record_of self.now).rdata.position (record_of self.now).owner.place) result }
         ensures turns { turns.new ≤ turns.old + 510 }
     {
         let mut parser = self.owner.parser();
         infallible(parser.seek(self.rdata.pos()));
-        match Data::parse(&mut parser, self.rtype, self.class, self.rdata.len(), turns) {
+        match Data::parse(
+            &mut parser,
+            self.rtype(),
+            self.class(),
+            self.rdata.len(),
+            turns,
+        ) {
             Ok(found) => found,
             Err(_) => Data::Opaque(self.rdata),
         }

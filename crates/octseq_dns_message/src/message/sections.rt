@@ -4,6 +4,7 @@ ghost use Rattle.octseq.specs.Parser.{sequence, window};
 ghost use Rattle.octseq.specs.Window.{Window, left};
 ghost use Rattle.octseq_dns_message.specs.Entry as said;
 ghost use Rattle.octseq_dns_message.specs.Entry.{IsQuestion, IsRecord};
+ghost use Rattle.octseq_dns_message.specs.EntryTurns.{questions_turns, records_turns};
 ghost use Rattle.octseq_dns_message.specs.Format.{Many};
 
 use crate::message::question::Question;
@@ -26,6 +27,8 @@ pub(crate) fn pass_questions<R: AsOctets + Copy>(
     ensures turns { turns.new ≤ turns.old + 51 * left (window parser.old) + 255 }
     ensures whole { OnOk result (turns.new + 51 * left (window parser.new)
         ≤ turns.old + 51 * left (window parser.old)) }
+    ensures least { OnOk result ((row : List said.Question) (end : Window)
+        → Many count IsQuestion (window parser.old) row end → turns.old + questions_turns row ≤ turns.new) }
     ensures entries { OnOk result (turns.new ≤ turns.old + 255 * count) }
     ensures same { sequence parser.new ≡ sequence parser.old }
 {
@@ -49,6 +52,8 @@ pub(crate) fn pass_records<R: AsOctets + Copy>(
     ensures turns { turns.new ≤ turns.old + 51 * left (window parser.old) + 255 }
     ensures whole { OnOk result (turns.new + 51 * left (window parser.new)
         ≤ turns.old + 51 * left (window parser.old)) }
+    ensures least { OnOk result ((row : List said.Record) (end : Window)
+        → Many count IsRecord (window parser.old) row end → turns.old + records_turns row ≤ turns.new) }
     ensures entries { OnOk result (turns.new ≤ turns.old + 255 * count) }
     ensures same { sequence parser.new ≡ sequence parser.old }
 {

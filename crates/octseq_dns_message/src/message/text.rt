@@ -19,7 +19,8 @@ ghost use Rattle.octseq_dns_message.specs.Walk.{questions_left, records_left};
 use crate::data::Data;
 use crate::header::Header;
 use crate::message::{Message, Question, Questions, Record, Records};
-use octseq::str::DisplayError;
+use octseq::builder::OctetsLimit;
+use octseq::str::{Counter, DisplayError};
 use octseq::{AsOctets, OctetsBuilder, StrBuilder, Truncate};
 use std::fmt;
 
@@ -172,7 +173,8 @@ impl<R: AsOctets + Copy> Message<R> {
     /// # Errors
     ///
     /// `Short` where the text would pass the limit of its type, `Memory` where a request for memory was refused. The
-    /// text is then as it was.
+    /// text is then as it was. (`Display` is never answered, though no contract says so: by std's, a `fmt` may always
+    /// fail.)
     pub fn append_text<B: OctetsBuilder + Truncate>(
         &self,
         text: &mut StrBuilder<B>,
@@ -184,18 +186,59 @@ impl<R: AsOctets + Copy> Message<R> {
         ensures past { (lines : List ℕ) → IsMessageText (header_of self.now) (questions_of self.now)
             (answers_of self.now) (authorities_of self.now) (additionals_of self.now) lines
             → IsPast B.limit (length (B.content text.old) + length lines) → IsErr result }
-        ensures short { IsShort display_error result → B.limit ≢ None }
+        ensures short { IsShort display_error result → (lines : List ℕ) → IsMessageText (header_of self.now)
+            (questions_of self.now) (answers_of self.now) (authorities_of self.now) (additionals_of self.now) lines
+            → IsPast B.limit (length (B.content text.old) + length lines) }
+        ensures limited { IsShort display_error result → B.limit ≢ None }
         ensures memory { IsMemory display_error result → B.asks ≡ true }
         ensures borrows { B.borrows text.new ≡ B.borrows text.old }
     {
         let len = text.len();
-        let answer = append_lines(text, self);
-        // What is lent is well formed, as the cut asks, and within the limit.
-        let _lent = text.as_slice();
-        if answer.is_err() {
-            text.truncate(len);
+        match append_whole(text, self) {
+            Err(DisplayError::Short) if !passes::<B, R>(len, self) => Err(DisplayError::Display),
+            answer => answer,
         }
-        answer
+    }
+}
+
+/// Appends the text of a message, or nothing. A part of it may be refused as short, though the whole would fit.
+fn append_whole<B: OctetsBuilder + Truncate, R: AsOctets + Copy>(
+    text: &mut StrBuilder<B>,
+    message: &Message<R>,
+) -> Result<(), DisplayError>
+    ensures text { OnOk result ((lines : List ℕ) × IsMessageText (header_of message.now) (questions_of message.now)
+        (answers_of message.now) (authorities_of message.now) (additionals_of message.now) lines
+        × (B.content text.new ≡ B.content text.old ++ lines)) }
+    ensures err { OnErr result (B.content text.new ≡ B.content text.old) }
+    ensures past { (lines : List ℕ) → IsMessageText (header_of message.now) (questions_of message.now)
+        (answers_of message.now) (authorities_of message.now) (additionals_of message.now) lines
+        → IsPast B.limit (length (B.content text.old) + length lines) → IsErr result }
+    ensures limited { IsShort display_error result → B.limit ≢ None }
+    ensures memory { IsMemory display_error result → B.asks ≡ true }
+    ensures borrows { B.borrows text.new ≡ B.borrows text.old }
+{
+    let len = text.len();
+    let answer = append_lines(text, message);
+    // What is lent is well formed, as the cut asks, and within the limit.
+    let _lent = text.as_slice();
+    if answer.is_err() {
+        text.truncate(len);
+    }
+    answer
+}
+
+/// Whether the text of a message that follows so many octets passes the limit. It doesn't where it can't be shown.
+fn passes<B: OctetsLimit, R: AsOctets + Copy>(len: usize, message: &Message<R>) -> bool
+    ensures { result ≡ true → (lines : List ℕ) → IsMessageText (header_of message.now) (questions_of message.now)
+        (answers_of message.now) (authorities_of message.now) (additionals_of message.now) lines
+        → IsPast B.limit (len + length lines) }
+{
+    let mut f = fmt::Formatter::new(Counter { count: len });
+    let shown = fmt::Display::fmt(message, &mut f);
+    let counter = f.into_inner();
+    match (B::limit(), shown) {
+        (Some(limit), Ok(())) if limit < counter.count => true,
+        _ => false,
     }
 }
 

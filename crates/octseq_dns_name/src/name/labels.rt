@@ -80,12 +80,14 @@ impl<R: AsOctets + Copy> Clone for Labels<R> {
 }
 
 impl<R: AsOctets + Copy> Labels<R> {
+    ghost use Rattle.octseq_dns_name.specs.NextLabel.{ahead_of};
     ghost use Rattle.octseq_dns_name.specs.Read.{labels_left};
 
     /// The labels of the name that stands at the position of a parser.
     pub(crate) fn at(parser: Parser<R>) -> Labels<R>
         requires { Named (window parser) }
-        ensures { (named : Named (window parser)) → labels_left result ≡ named.0 }
+        ensures labels { (named : Named (window parser)) → labels_left result ≡ named.0 }
+        ensures ahead { ahead_of result ≡ window parser }
     {
         let start = parser.pos();
         Labels { parser, start }
@@ -93,12 +95,13 @@ impl<R: AsOctets + Copy> Labels<R> {
 }
 
 impl<R: AsOctets + Copy> Iterator for Labels<R> {
-    ghost use Rattle.std.specs.Iterator.{YieldsFirstBy, item_count};
-    ghost use Rattle.octseq_dns_name.specs.Read.{label_octets, labels_left};
+    ghost use Rattle.std.specs.Iterator.{item_count};
+    ghost use Rattle.octseq_dns_name.specs.NextLabel.{YieldsNextLabel};
+    ghost use Rattle.octseq_dns_name.specs.Read.{labels_left};
 
     type Item = Label<R>;
 
-    ghost next_gives = { YieldsFirstBy label_octets labels_left };
+    ghost next_gives = { YieldsNextLabel };
 
     ghost remaining = { item_count labels_left };
 

@@ -3,7 +3,8 @@ ghost use Rattle.std.specs.Prelude.{◌≡◌, ◌≤◌, ℕ, List, [], ◌∷�
 ghost use Rattle.octseq.specs.Parser.{sequence, window};
 ghost use Rattle.octseq.specs.Window.{Window, rest};
 ghost use Rattle.octseq_dns_name.specs.Name.{Stands};
-ghost use Rattle.octseq_dns_name.specs.Piece.{Piece, HasPiece, piece, IsShort, IsShortLabel};
+ghost use Rattle.octseq_dns_name.specs.NextLabel.{NextLabel};
+ghost use Rattle.octseq_dns_name.specs.Piece.{Piece, HasPiece, piece, IsPlaced, IsShort, IsShortLabel};
 
 use crate::error::Malformed;
 use octseq::builder::infallible;
@@ -28,6 +29,7 @@ pub(crate) fn next_step<R: AsOctets + Copy>(
 ) -> Result<Step<R>, Malformed>
     ensures step { IfOk result (λ step. HasPiece start (window parser.old) (piece step) (window parser.new)) }
     ensures label { IfOk result IsShortLabel }
+    ensures place { IfOk result (IsPlaced (window parser.old)) }
     ensures malformed { IsErr result → (other : Piece) (v : Window)
         → ¬ HasPiece start (window parser.old) other v }
     ensures ordered { start ≤ (window parser.old).position → start ≤ (window parser.new).position }
@@ -66,6 +68,8 @@ pub(crate) fn next_label<R: AsOctets + Copy>(
         → Stands start.old (window parser.old) labels pointers end → labels ≡ [] }
     ensures ordered { start.new ≤ (window parser.new).position }
     ensures short { IfSome result IsShort }
+    ensures place { IfSome result (λ label.
+        NextLabel start.old (window parser.old) (window label) start.new (window parser.new)) }
 {
     'pointers: loop {
         match next_step(parser, *start) {

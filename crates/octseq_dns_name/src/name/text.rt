@@ -2,7 +2,7 @@
 ghost use Rattle.std.specs.Prelude.{◌≡◌, ℕ, ◌<◌, ◌+◌, List, [], ◌∷◌, Some};
 ghost use Rattle.std.specs.Fmt.{WritesOnOk};
 ghost use Rattle.octseq_dns_name.specs.Read.{labels_of, label_octets};
-ghost use Rattle.octseq_dns_name.specs.Spelling.{AreOctetLabels, SpellsName};
+ghost use Rattle.octseq_dns_name.specs.Spelling.{AreOctets, AreOctetLabels, SpellsName};
 ghost use Rattle.octseq_dns_name.specs.Wire.{AreLabels};
 ghost use Rattle.octseq_dns_name.specs.Text.{is_quoted, three_digits, octet_text, label_text, name_text};
 
@@ -24,6 +24,24 @@ pub fn one_name_of_a_text()
 pub fn a_name_is_spelled_by_its_text()
     ensures { (labels : List (List ℕ)) → AreOctetLabels labels → SpellsName labels (name_text labels) }
 {}
+
+/// The labels of a name have 1 to 63 octets each, so the text that is printed of it reads back as that name.
+///
+/// It does nothing but look where the name stands. A caller that calls it has the law in its proof.
+pub fn a_name_has_labels<R: AsOctets + Copy>(name: &ParsedName<R>)
+    ensures labels { AreLabels (labels_of name.now) }
+    ensures octets { AreOctetLabels (labels_of name.now) }
+{
+    let sequence = name.parser.octets_ref();
+    are_octets(sequence.as_ref());
+}
+
+/// A slice is of octets.
+fn are_octets(octets: &[u8])
+    ensures { AreOctets octets.now }
+{
+    let _octets = octets;
+}
 
 /// Prints the octets of the label: each of `"().;\@$` behind a backslash, each other one of 21 to 7E (hexadecimal) as
 /// itself, and any other as a backslash and three decimal digits.

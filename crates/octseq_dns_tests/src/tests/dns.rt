@@ -1,5 +1,5 @@
 //! Names and messages of DNS.
-use octseq::{AsOctets, Octets, Parser};
+use octseq::{AsOctets, Octets, Parser, ReadError};
 use octseq_asserts::{Case, assert_equal, assert_true, over_each};
 use octseq_dns::header::Flags;
 use octseq_dns::{Class, Header, Malformed, Message, Opcode, ParsedName, Rcode, Rtype};
@@ -175,8 +175,9 @@ impl<H: Abort + AllocGlobal> Case<H> for EveryField {
             (Opcode::QUERY, Rcode::NOERROR)
         );
         for question in message.questions() {
-            assert_equal!(rt, (question.qtype, question.qclass), (Rtype::A, Class::IN));
-            assert_equal!(rt, question.qname.parser().pos(), 12);
+            let typed = (question.qtype(), question.qclass());
+            assert_equal!(rt, typed, (Rtype::A, Class::IN));
+            assert_equal!(rt, question.qname().parser().pos(), 12);
         }
         for answer in message.answers() {
             assert_equal!(rt, (answer.rtype(), answer.class()), (Rtype::A, Class::IN));
@@ -328,5 +329,6 @@ fn a_refusal_tells_what_it_is(rt: HostRuntime) -> Result<(), Fail> {
         "malformed"
     );
     assert_equal!(&rt, refused, Malformed);
+    assert_equal!(&rt, ReadError::from(refused), ReadError::Malformed);
     Ok(())
 }

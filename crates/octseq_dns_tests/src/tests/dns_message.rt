@@ -1,9 +1,9 @@
 //! The text of whole messages, lists of their entries, and a reader of messages as a caller writes it.
 use octseq::octets::Octets;
 use octseq::str::DisplayError;
-use octseq::{Array, AsOctets, StrBuilder};
+use octseq::{Array, AsOctets, Parser, StrBuilder};
 use octseq_asserts::{assert_equal, assert_true};
-use octseq_dns::{Data, Malformed, Message, Record};
+use octseq_dns::{Data, Malformed, Message, Record, Rtype, Ttl};
 use std::alloc::{AllocGlobal, Global};
 use std::process::Abort;
 use std::test::Fail;
@@ -14,7 +14,7 @@ fn count_addresses<R: AsOctets + Copy>(octets: R) -> Result<usize, Malformed> {
     let mut count: usize = 0;
     for question in message.questions() {
         for answer in message.answers() {
-            if answer.owner().name_eq(&question.qname) {
+            if answer.owner().name_eq(&question.qname()) {
                 match answer.data() {
                     Data::A(_) | Data::Aaaa(_) => count = count.saturating_add(1),
                     _ => {}
@@ -23,6 +23,20 @@ fn count_addresses<R: AsOctets + Copy>(octets: R) -> Result<usize, Malformed> {
         }
     }
     Ok(count)
+}
+
+/// The type that the first question of a message in a slice asks for.
+fn first_qtype(octets: &[u8]) -> Result<Option<Rtype>, Malformed> {
+    let message = Message::parse(octets)?;
+    Ok(message.questions().next().map(|asked| asked.qtype()))
+}
+
+/// The time to live of the record at a place of a message in a slice.
+fn ttl_at(octets: &[u8], place: usize) -> Result<Ttl, Malformed> {
+    let mut parser = Parser::from_ref(octets);
+    parser.seek(place)?;
+    let entry = Record::parse(&mut parser)?;
+    Ok(entry.ttl())
 }
 
 /// What a message shows as.
@@ -96,6 +110,14 @@ fn a_text_that_would_pass_the_limit_stays(rt: HostRuntime) -> Result<(), Fail> {
     assert_equal!(&rt, appended(nothing, &mut text)?, Ok(()));
     assert_equal!(&rt, text.as_str(), "before id 0 opcode 0 rcode 0 flags\n");
     Ok(())
+}
+
+#[test]
+fn slices_are_read(rt: HostRuntime) {
+    assert_equal!(&rt, first_qtype(ANSWERED), Ok(Some(Rtype::A)));
+    assert_equal!(&rt, first_qtype(b"\0".as_slice()), Err(Malformed));
+    assert_equal!(&rt, ttl_at(ANSWERED, 29), Ok(Ttl::from_secs(300)));
+    assert_equal!(&rt, ttl_at(ANSWERED, 30), Err(Malformed));
 }
 
 #[test]

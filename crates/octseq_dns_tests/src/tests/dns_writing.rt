@@ -2,12 +2,14 @@
 use arrayvec::ArrayVec;
 use bytes::BytesMut;
 use octseq::builder::AsOctetsMut;
+use octseq::compose::append_part_u8;
 use octseq::octets::Octets;
 use octseq::{AppendError, Array, EmptyBuilder, OctetsBuilder, ShortBuf, Truncate};
 use octseq_asserts::assert_equal;
+use octseq_dns::data::Txt;
 use octseq_dns::header::Flags;
 use octseq_dns::{
-    AnswerBuilder, Class, FixedPlaces, Header, Malformed, Message, MessageBuilder, Name,
+    AnswerBuilder, Class, Data, FixedPlaces, Header, Malformed, Message, MessageBuilder, Name,
     NoCompression, Opcode, ParsedName, Place, Places, Rcode, Record, Rtype, Ttl,
 };
 use smallvec::SmallVec;
@@ -351,8 +353,8 @@ fn is_record<R: Octets + Copy>(
 fn are_read<R: Octets + Copy>(rt: &impl Abort, octets: R) -> Result<(), Malformed> {
     let message = Message::parse(octets)?;
     for entry in message.questions() {
-        assert_equal!(rt, entry.qname.label_count(), 2);
-        assert_equal!(rt, (entry.qtype, entry.qclass), (Rtype::ANY, Class::IN));
+        assert_equal!(rt, entry.qname().label_count(), 2);
+        assert_equal!(rt, (entry.qtype(), entry.qclass()), (Rtype::ANY, Class::IN));
     }
     for entry in message.answers() {
         let (name, fields) = ([b"example".as_slice(), b"com"], (Rtype::A, Class::IN, 300));
@@ -622,5 +624,30 @@ fn a_table_shows_its_places(rt: HostRuntime) -> Result<(), Fail> {
         format!(in rt.alloc(); "{table:?}")?.as_str(),
         "FixedPlaces([Place { at: 12, pointers: 1 }])"
     );
+    Ok(())
+}
+
+/// A message with one answer, which is of the root and of this text.
+fn with_text<R: Octets + Copy>(txt: Txt<R>) -> Result<Array<64>, Fail> {
+    let root = Name::from_text(".")?;
+    let message = MessageBuilder::from_builder(Array::<64>::new(), NoCompression)?;
+    let mut answers = message.question().answer();
+    let found = Data::Txt(txt);
+    let ttl = Ttl::from_secs(300);
+    answers.push_record(&root.parsed(), Rtype::TXT, Class::IN, ttl, &found)?;
+    Ok(answers.authority().additional().finish().0)
+}
+
+#[test]
+fn text_that_was_never_read_is_pushed(rt: HostRuntime) -> Result<(), Fail> {
+    let mut strings = Array::<16>::new();
+    append_part_u8(&mut strings, b"ab")?;
+    append_part_u8(&mut strings, b"")?;
+    let octets = with_text(Txt::from_octets(strings.as_slice())?)?;
+    let wanted = b"\0\0\0\0\0\0\0\x01\0\0\0\0\0\0\x10\0\x01\0\0\x01\x2C\0\x04\x02ab\0".as_slice();
+    assert_equal!(&rt, octets.as_slice(), wanted);
+    for other in [b"".as_slice(), b"\x02a", b"\x01ab"] {
+        assert_equal!(&rt, Txt::from_octets(other).err(), Some(Malformed));
+    }
     Ok(())
 }

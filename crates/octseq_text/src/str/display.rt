@@ -8,7 +8,8 @@ ghost use Rattle.octseq_text.specs.Display.{display_error};
 ghost use Rattle.octseq_utf8.specs.Text.{begins_within};
 
 use super::builder::StrBuilder;
-use octseq_core::builder::{AppendError, AsOctets, OctetsBuilder, Truncate};
+use super::counter::Counter;
+use octseq_core::builder::{AppendError, AsOctets, OctetsBuilder, OctetsLimit, Truncate};
 use std::error::Error;
 use std::fmt::{self, Display, Write};
 use std::marker::{Brand, PhantomData};
@@ -72,14 +73,16 @@ impl<Octets: OctetsBuilder + Truncate> StrBuilder<Octets> {
     /// # Errors
     ///
     /// `Short` where the text would pass the limit of its type, `Memory` where a request for memory was refused,
-    /// and `Display` where the value's own `fmt` answered an error though nothing was refused. The text is then as it
+    /// and `Display` where the value's own `fmt` answers an error though nothing is refused. The text is then as it
     /// was.
     pub fn try_push_display<D: Display + Drop>(&mut self, value: D) -> Result<(), DisplayError>
         ensures ok { OnOk result (IfSome (D.output value)
             (λ octets. Octets.content self.new ≡ Octets.content self.old ++ octets)) }
         ensures err { OnErr result (Octets.content self.new ≡ Octets.content self.old) }
         ensures front { take (length (Octets.content self.old)) (Octets.content self.new) ≡ Octets.content self.old }
-        ensures short { IsShort display_error result → Octets.limit ≢ None }
+        ensures short { IsShort display_error result → IfSome (D.output value)
+            (λ octets. IsPast Octets.limit (length (Octets.content self.old) + length octets)) }
+        ensures limited { IsShort display_error result → Octets.limit ≢ None }
         ensures past { IfSome (D.output value)
             (λ octets. IsPast Octets.limit (length (Octets.content self.old) + length octets) → IsErr result) }
         ensures memory { IsMemory display_error result → Octets.asks ≡ true }
@@ -155,7 +158,9 @@ fn append_from<'a, K: Begun, B: OctetsBuilder + Truncate, D: Display + Drop>(
         (λ octets. B.content result.text.now ≡ B.content text.old ++ octets)) }
     ensures err { OnErr result.answer (B.content result.text.now ≡ B.content text.old) }
     ensures front { take (length (B.content text.old)) (B.content result.text.now) ≡ B.content text.old }
-    ensures short { IsShort display_error result.answer → B.limit ≢ None }
+    ensures short { IsShort display_error result.answer → IfSome (D.output value)
+        (λ octets. IsPast B.limit (length (B.content text.old) + length octets)) }
+    ensures limited { IsShort display_error result.answer → B.limit ≢ None }
     ensures past { IfSome (D.output value)
         (λ octets. IsPast B.limit (length (B.content text.old) + length octets) → IsErr result.answer) }
     ensures memory { IsMemory display_error result.answer → B.asks ≡ true }
@@ -167,7 +172,7 @@ fn append_from<'a, K: Begun, B: OctetsBuilder + Truncate, D: Display + Drop>(
         refusal: DisplayError::Display,
         of: PhantomData::<K>,
     };
-    let written = writer.write(value);
+    let written = writer.write(&value);
     let Appending { text, refusal, .. } = writer;
     // What is lent is well formed, as the cut asks, and within the limit.
     let _lent = text.as_slice();
@@ -178,10 +183,35 @@ fn append_from<'a, K: Begun, B: OctetsBuilder + Truncate, D: Display + Drop>(
         },
         Err(_) => {
             text.truncate(len);
-            Appended {
-                text,
-                answer: Err(refusal),
-            }
+            let answer = Err(reason::<B, D>(refusal, len, &value));
+            Appended { text, answer }
         }
+    }
+}
+
+/// Why a value wasn't appended at the end of so many octets, where an append of a part of it was refused: `Short` is
+/// said only where all of it passes the limit.
+fn reason<B: OctetsLimit, D: Display>(refusal: DisplayError, len: usize, value: &D) -> DisplayError
+    requires limited { Is Refusal.short (display_error refusal) → B.limit ≢ None }
+    requires memory { Is Refusal.memory (display_error refusal) → B.asks ≡ true }
+    ensures short { Is Refusal.short (display_error result) → IfSome (D.output value.now)
+        (λ octets. IsPast B.limit (len + length octets)) }
+    ensures limited { Is Refusal.short (display_error result) → B.limit ≢ None }
+    ensures memory { Is Refusal.memory (display_error result) → B.asks ≡ true }
+{
+    match refusal {
+        DisplayError::Short if !passes::<B, D>(len, value) => DisplayError::Display,
+        refusal => refusal,
+    }
+}
+
+/// Whether a value that follows so many octets passes the limit. It doesn't where it can't be shown.
+fn passes<B: OctetsLimit, D: Display>(len: usize, value: &D) -> bool
+    ensures { result ≡ true → IfSome (D.output value.now) (λ octets. IsPast B.limit (len + length octets)) }
+{
+    let mut counter = Counter { count: len };
+    match (B::limit(), counter.write(value)) {
+        (Some(limit), Ok(())) if limit < counter.count => true,
+        _ => false,
     }
 }

@@ -87,7 +87,7 @@ fn one_argument_is_the_command(rt: HostRuntime) -> Result<(), Fail> {
         for word in words {
             args.push(String::from_str(alloc, word)?)?;
         }
-        assert_equal!(&rt, command_word(&args, "check"), wanted);
+        assert_equal!(&rt, command_word::<Command>(&args), wanted);
     }
     Ok(())
 }

@@ -6,11 +6,11 @@ use octseq::builder::{AppendError, AsOctets, AsOctetsMut, OctetsBuilder, ShortBu
 use octseq::compose::{ComposeError, append_u24_be, append_u24_le, append_u48_be, append_u48_le};
 use octseq::octets::{Octets, try_range};
 use octseq::parse::{Parser, ShortInput};
-use octseq::str::{DisplayError, Str, StrBuilder};
+use octseq::str::{Counter, DisplayError, Str, StrBuilder};
 use octseq::{ReadError, WriteError};
 use octseq_asserts::{assert_equal, assert_true};
 use smallvec::SmallVec;
-use std::alloc::Global;
+use std::alloc::{AllocFailed, Global};
 use std::convert::{AsSlice, AsStr};
 use std::error::Error;
 use std::fmt::{self, Debug, Display, Write};
@@ -158,6 +158,17 @@ impl Display for Unshowable {
     }
 }
 
+/// It shows more than a text of 8 octets holds, and then answers an error.
+#[derive(Drop)]
+struct Unfinished;
+
+impl Display for Unfinished {
+    fn fmt<W: fmt::Write>(&self, f: &mut fmt::Formatter<W>) -> fmt::Result {
+        f.write_str("abcdefghi")?;
+        Err(fmt::Error)
+    }
+}
+
 #[test]
 fn values_are_written_to_texts(rt: HostRuntime) -> Result<(), Fail> {
     let mut text = StrBuilder::<Array<8>>::new(rt.alloc())?;
@@ -178,10 +189,25 @@ fn values_are_pushed_whole_or_not_at_all(rt: HostRuntime) -> Result<(), Fail> {
         .ok_or("a text")?;
     assert_equal!(&rt, text.try_push_display(fault), Err(DisplayError::Short));
     assert_equal!(&rt, text.as_str(), "4321");
-    let shown = text.try_push_display(Unshowable);
-    assert_equal!(&rt, shown, Err(DisplayError::Display));
+    for shown in [
+        text.try_push_display(Unshowable),
+        text.try_push_display(Unfinished),
+    ] {
+        assert_equal!(&rt, shown, Err(DisplayError::Display));
+    }
     assert_equal!(&rt, text.as_str(), "4321");
     Ok(())
+}
+
+#[test]
+fn octets_are_counted(rt: HostRuntime) {
+    let mut counter = Counter { count: 0 };
+    assert_true!(&rt, write!(counter, "{}/{}", 12_u8, "é").is_ok());
+    assert_equal!(&rt, counter.count, 5);
+    counter.count = usize::MAX;
+    assert_true!(&rt, counter.write_str("").is_ok());
+    assert_true!(&rt, counter.write_str("a").is_err());
+    assert_equal!(&rt, counter, Counter { count: usize::MAX });
 }
 
 /// What an error prints, through the trait of errors.
@@ -218,6 +244,10 @@ fn errors_are_copied_and_passed_on(rt: HostRuntime) {
         WriteError::Malformed
     );
     assert_equal!(&rt, ReadError::from(ShortInput), ReadError::Malformed);
+    let refused = AllocFailed { value: 1_u8 };
+    assert_equal!(&rt, ReadError::from(refused), ReadError::Memory);
+    let refused = AllocFailed { value: 1_u8 };
+    assert_equal!(&rt, WriteError::from(refused), WriteError::Memory);
     assert_equal!(
         &rt,
         DisplayError::from(AppendError::Memory),

@@ -1,12 +1,13 @@
-use Rattle.std.proofs.Common.{[], ◌∷◌, ◌++◌, map, refl, sym, ap, ◌∙◌, subst, append_assoc, append-nil, rules}
+use Rattle.std.proofs.Common.{ℕ, ◌≡◌, [], ◌∷◌, ◌++◌, map, refl, sym, ap, ◌∙◌, subst, append_assoc, append-nil, rules}
 use Rattle.octseq_dns.specs.Composed.{PushesAll, one_counted}
 use Rattle.octseq_dns.specs.Pushed.{IsQuestionEntry, IsQuestionLeast, message_limit}
 use Rattle.octseq_dns.specs.ReadBack.{bare}
 use Rattle.octseq_dns.specs.Section.{more_asked}
-use Rattle.octseq_dns.specs.Written.{Asked}
+use Rattle.octseq_dns.specs.Written.{Asked, asked_of}
 use Rattle.octseq_dns_message.specs.Said.{question_of}
 use Rattle.octseq_dns_message.specs.Walk.{questions_left}
 use Rattle.octseq_dns_message.specs.declared.header.Header.{Header}
+use Rattle.octseq_dns_name.specs.Name.{Name}
 use Rattle.octseq_dns.proofs.Composed.{one_question_entry}
 use Rattle.octseq_dns.proofs.Entries.{question_headless, question_less}
 use Rattle.octseq_dns.proofs.ListPushes.{pushes_none, pushes_more, cut_behind}
@@ -15,6 +16,15 @@ use Rattle.octseq_dns.proofs.compose.push_questions.Goals as goal
 -- a header with a question more
 abbrev counted : Header → Asked → Header
 counted = one_counted (λ h. h.qdcount) (λ h n. record h { qdcount = n })
+
+-- what is asked is what was read
+same_asked : {name other : Name} {qtype t qclass c : ℕ} → name ≡ other → qtype ≡ t → qclass ≡ c
+    → Path Asked (record { labels = name.labels; qtype = qtype; qclass = qclass })
+    (record { labels = other.labels; qtype = t; qclass = c })
+same_asked {other = other} {qtype = qtype} {t = t} {qclass = qclass} names qtypes qclasses =
+    ap (λ n. record { labels = n.labels; qtype = qtype; qclass = qclass }) names
+    ∙ ap (λ t. record { labels = other.labels; qtype = t; qclass = qclass }) qtypes
+    ∙ ap (λ c. record { labels = other.labels; qtype = t; qclass = c }) qclasses
 
 pub loop-question-init : goal.loop-question-init
 loop-question-init g c = record {
@@ -30,7 +40,8 @@ pub loop-question-preserved : goal.loop-question-preserved
 loop-question-preserved g c =
     let so_far = c.loop-question.invariant in
     let most = g.T.Places.most in
-    let one = bare (question_of c.in-Some.question) in
+    let one = asked_of c.qname.result c.qtype.result c.qclass.result in
+    let same = same_asked c.qname.ensures c.qtype.ensures c.qclass.ensures in
     let went = c.in_ok-push_question.ensures in
     let now = c.loop-question.message in
     let new = c.push_question.new.self in
@@ -44,6 +55,7 @@ loop-question-preserved g c =
       fits = went.pushed.fits.0;
       borrows = went.borrows ∙ so_far.borrows;
       whole = so_far.whole ∙ ap (λ questions. so_far.done ++ map bare questions) c.in-Some.ensures.steps
+          ∙ ap (λ asked. so_far.done ++ asked ∷ map bare (questions_left c.next.new.self)) (sym same)
           ∙ sym (append_assoc so_far.done (one ∷ []) (map bare (questions_left c.next.new.self)));
     }
 
@@ -51,8 +63,10 @@ pub returns-in_err-push_question-clause-short : goal.returns-in_err-push_questio
 returns-in_err-push_question-clause-short g c = λ short.
     let so_far = c.loop-question.invariant in
     let most = g.T.Places.most in
-    let one = bare (question_of c.in-Some.question) in
-    let whole = so_far.whole ∙ ap (λ questions. so_far.done ++ map bare questions) c.in-Some.ensures.steps in
+    let one = asked_of c.qname.result c.qtype.result c.qclass.result in
+    let same = same_asked c.qname.ensures c.qtype.ensures c.qclass.ensures in
+    let whole = so_far.whole ∙ ap (λ questions. so_far.done ++ map bare questions) c.in-Some.ensures.steps
+    ∙ ap (λ asked. so_far.done ++ asked ∷ map bare (questions_left c.next.new.self)) (sym same) in
     let past = c.in_err-push_question.ensures.pushed.short (search rules) in
     let now = c.loop-question.message in
     cut_behind (IsQuestionEntry most) (question_headless most) counted more_asked (IsQuestionLeast most)

@@ -59,13 +59,13 @@ loop-entry-preserved g c =
       borrows = went.borrows ∙ so_far.borrows;
       whole = λ more are.
           let ahead = subst (λ records. AreToldOf records (one ∷ more)) (sym c.in-Some.ensures.steps)
-          (form, more, c.data-found.ensures, are, refl) in
+          (form, more, c.data-found.ensures.form, are, refl) in
           subst (AreToldOf (records_left c.args.records)) (sym (append_assoc so_far.done (one ∷ []) more))
           (so_far.whole (one ∷ more) ahead);
       apart = λ all are.
           let x = so_far.apart all are in
           let here = subst (λ records. AreToldOf records x.0) c.in-Some.ensures.steps x.1 in
-          let y = told_ahead r (records_left c.next.new.self) form x.0 c.data-found.ensures here in (
+          let y = told_ahead r (records_left c.next.new.self) form x.0 c.data-found.ensures.form here in (
             y.0,
             y.1,
             x.2 ∙ ap (λ ahead. so_far.done ++ ahead) y.2 ∙ sym (append_assoc so_far.done (one ∷ []) y.0),
@@ -85,7 +85,7 @@ returns-in_err-push_record-clause-short g c = λ short all are.
     c.rtype.ensures c.class.ensures c.ttl.ensures in
     let x = so_far.apart all are in
     let here = subst (λ records. AreToldOf records x.0) c.in-Some.ensures.steps x.1 in
-    let y = told_ahead r (records_left c.next.new.self) form x.0 c.data-found.ensures here in
+    let y = told_ahead r (records_left c.next.new.self) form x.0 c.data-found.ensures.form here in
     let whole : all ≡ so_far.done ++ told ∷ y.0 =
     x.2 ∙ ap (λ ahead. so_far.done ++ ahead) (y.2 ∙ ap (λ one. one ∷ y.0) (sym same)) in
     let past = c.in_err-push_record.ensures.pushed.short (search rules) in

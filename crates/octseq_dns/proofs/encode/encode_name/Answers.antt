@@ -13,8 +13,8 @@ append-requires g c =
     let written = c.label_count.result - c.longest_run-run.result.count in
     let first = c.first_labels-encoded.result.content in
     let first_is : first ≡ unrooted (take written labels) = c.first_labels-encoded.ensures
-    ∙ ap (λ labels. unrooted (take written labels)) c.labels.ensures in
-    let short = subst (λ labels. wire_length labels ≤ 255) c.labels.ensures c.labels.result.short in
+    ∙ ap (λ labels. unrooted (take written labels)) c.labels.ensures.labels in
+    let short = subst (λ labels. wire_length labels ≤ 255) c.labels.ensures.labels c.labels.result.short in
     let room = room_for_root labels first written first_is in
     omega (arith, short, room)
 
@@ -25,8 +25,8 @@ returns-then-run-eq0-clause-encoded g c =
     let written = c.label_count.result - count in
     let first = c.first_labels-encoded.result.content in
     let first_is : first ≡ unrooted (take written labels) = c.first_labels-encoded.ensures
-    ∙ ap (λ labels. unrooted (take written labels)) c.labels.ensures in
-    let short = subst (λ labels. wire_length labels ≤ 255) c.labels.ensures c.labels.result.short in
+    ∙ ap (λ labels. unrooted (take written labels)) c.labels.ensures.labels in
+    let short = subst (λ labels. wire_length labels ≤ 255) c.labels.ensures.labels c.labels.result.short in
     ∣ encodes_plain c.args.octets.now c.args.places.now labels c.append.new.octets.content first count written
     c.requires.header short c.longest_run-run.ensures.longest
     c.if-run-eq0.true (ap (λ n. n - count) c.label_count.ensures) first_is c.append.ensures ∣₁
@@ -37,7 +37,7 @@ returns-then-run-eq0-clause-short g c =
     let written = c.label_count.result - c.longest_run-run.result.count in
     let first = c.first_labels-encoded.result.content in
     let first_is : first ≡ unrooted (take written labels) = c.first_labels-encoded.ensures
-    ∙ ap (λ labels. unrooted (take written labels)) c.labels.ensures in
+    ∙ ap (λ labels. unrooted (take written labels)) c.labels.ensures.labels in
     let room = room_for_root labels first written first_is in
     let size = ap length c.append.ensures in
     let both = length-append first (0 ∷ []) in
@@ -54,8 +54,8 @@ append-requires-2 g c =
     let written = c.label_count.result - count in
     let first = c.first_labels-encoded.result.content in
     let first_is : first ≡ unrooted (take written labels) = c.first_labels-encoded.ensures
-    ∙ ap (λ labels. unrooted (take written labels)) c.labels.ensures in
-    let short = subst (λ labels. wire_length labels ≤ 255) c.labels.ensures c.labels.result.short in
+    ∙ ap (λ labels. unrooted (take written labels)) c.labels.ensures.labels in
+    let short = subst (λ labels. wire_length labels ≤ 255) c.labels.ensures.labels c.labels.result.short in
     let not_zero = c.if-run-eq0.false in
     let some : 1 ≤ count = omega (arith, not_zero) in
     let run = c.longest_run-run.ensures.run some in
@@ -71,8 +71,8 @@ returns-clause-encoded g c =
     let written = c.label_count.result - count in
     let first = c.first_labels-encoded.result.content in
     let first_is : first ≡ unrooted (take written labels) = c.first_labels-encoded.ensures
-    ∙ ap (λ labels. unrooted (take written labels)) c.labels.ensures in
-    let short = subst (λ labels. wire_length labels ≤ 255) c.labels.ensures c.labels.result.short in
+    ∙ ap (λ labels. unrooted (take written labels)) c.labels.ensures.labels in
+    let short = subst (λ labels. wire_length labels ≤ 255) c.labels.ensures.labels c.labels.result.short in
     let not_zero = c.if-run-eq0.false in
     let some : 1 ≤ count = omega (arith, not_zero) in
     let run = c.longest_run-run.ensures.run some in
@@ -90,7 +90,7 @@ returns-clause-short g c =
     let written = c.label_count.result - count in
     let first = c.first_labels-encoded.result.content in
     let first_is : first ≡ unrooted (take written labels) = c.first_labels-encoded.ensures
-    ∙ ap (λ labels. unrooted (take written labels)) c.labels.ensures in
+    ∙ ap (λ labels. unrooted (take written labels)) c.labels.ensures.labels in
     let not_zero = c.if-run-eq0.false in
     let some : 1 ≤ count = omega (arith, not_zero) in
     let run = c.longest_run-run.ensures.run some in

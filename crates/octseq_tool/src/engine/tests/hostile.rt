@@ -3,7 +3,7 @@ use super::{engine, ran, repeated};
 use octseq_program::hostile::{Drip, Faltering, Narrow};
 use octseq_program::{ProgramFault, Status};
 use std::alloc::Global;
-use std::io::ErrorKind;
+use std::io::{self, Error, ErrorKind, Read};
 use std::process::Abort;
 use std::test::Fail;
 
@@ -207,4 +207,49 @@ fn nothing_is_written_behind_a_failure(rt: HostRuntime) {
             assert_equal!(&rt, writer.taken.as_slice(), taken);
         }
     }
+}
+
+#[test]
+fn a_writer_that_takes_nothing_has_failed(rt: HostRuntime) {
+    let mut writer = Narrow {
+        taken: Vec::new(rt.alloc()),
+        at_once: 0,
+        calls: usize::MAX,
+    };
+    let mut reader = b"a".as_slice();
+    let answer = engine(rt.alloc(), "check", &mut reader, &mut writer);
+    assert_equal!(&rt, answer, Err(ProgramFault::Write));
+    assert_true!(&rt, writer.taken.is_empty());
+}
+
+/// A reader that lacks memory.
+#[derive(Drop)]
+struct Starved;
+
+impl Read for Starved {
+    fn read(&mut self, _buf: &mut [u8]) -> io::Result<usize> {
+        Err(Error::from(ErrorKind::OutOfMemory))
+    }
+}
+
+#[test]
+fn a_reader_without_memory_is_told_apart(rt: HostRuntime) {
+    for command in ["check", "lossy", "lossy64", "records"] {
+        let mut written = Vec::new(rt.alloc());
+        let answer = engine(rt.alloc(), command, &mut Starved, &mut written);
+        assert_equal!(&rt, answer, Err(ProgramFault::Memory));
+        assert_true!(&rt, written.is_empty());
+    }
+}
+
+#[test]
+fn a_second_run_writes_after_the_first(rt: HostRuntime) {
+    let mut written = Vec::new(rt.alloc());
+    for (command, octets) in [("lossy", b"a\xFF".as_slice()), ("check", b"ab")] {
+        let mut reader = octets;
+        let answer = engine(rt.alloc(), command, &mut reader, &mut written);
+        assert_equal!(&rt, answer, Ok(Status::Fine));
+    }
+    let both = "a\u{FFFD}well formed: 2 octets\n";
+    assert_equal!(&rt, written.as_slice(), both.as_bytes());
 }

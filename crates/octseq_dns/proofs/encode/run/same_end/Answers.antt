@@ -30,7 +30,7 @@ returns-then-left-len-clause-none g c none count within is =
     elim c.else-left-len-2.branch [
       | else-left-len-2-via-then-left-len-2+else-same_labels w ↦
           let equal : IsTrue w.same_labels.result = w.same_labels.ensures.1
-          (so_far.ahead_is ∙ sym same ∙ sym w.labels.ensures) in
+          (so_far.ahead_is ∙ sym same ∙ sym w.labels.ensures.labels) in
           let differ = w.if-same_labels.false in
           absurd (grind (arith, equal, differ))
       | else-left-len-2-via-else-left-len-2 w ↦
@@ -47,15 +47,15 @@ passed-preserved g c =
     let ahead = labels_left c.passed.ahead in
     let more = labels_left c.next.new.self in
     let more_is : more ≡ drop (i + 1) labels = passes label_octets ahead more labels i c.next.result
-    c.next.ensures.steps so_far.ahead_is in
+    c.next.ensures.steps.0 so_far.ahead_is in
     record {
       ahead_is = more_is;
       left_is = elim c.match-next.branch [
         | in-Some w ↦ octets_behind labels ahead more (label_octets w.in-Some.label) i c.passed.left c.match-next.left
-            so_far.ahead_is w.in-Some.ensures.steps more_is so_far.left_is
+            so_far.ahead_is w.in-Some.ensures.steps.0 more_is so_far.left_is
             (w.left-is ∙ ap (λ size. c.passed.left - (1 + size)) w.len.ensures)
         | in_default w ↦
-            let none = ap length (sym w.in_default.ensures.steps.0 ∙ so_far.ahead_is) in
+            let none = ap length (sym w.in_default.ensures.steps.0.0 ∙ so_far.ahead_is) in
             let all = length-drop i labels in
             let inside = c.passed-test.true in
             let count = c.requires.all in

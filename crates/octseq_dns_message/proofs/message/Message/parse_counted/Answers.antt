@@ -4,6 +4,7 @@ use Rattle.octseq.specs.Window.{left}
 use Rattle.octseq_dns_message.specs.Entry.{IsQuestion, IsRecord}
 use Rattle.octseq_dns_message.specs.Format.{Many}
 use Rattle.octseq_dns_message.specs.Header.{IsHeader}
+use Rattle.octseq_dns_message.specs.Parsed.{fields_of}
 use Rattle.octseq_dns_message.specs.OneEntry.{one_question, one_record, question_code, record_code}
 use Rattle.octseq_dns_message.proofs.Formats.{NoneAt, held_as}
 use Rattle.octseq_dns_message.proofs.Messages.{no_header, no_questions, no_answers, no_authorities, no_additionals}
@@ -18,14 +19,14 @@ returns-in_err-header-clause-malformed g c = λ _.
 pub returns-in_err-pass_questions-clause-malformed : goal.returns-in_err-pass_questions-clause-malformed
 returns-in_err-pass_questions-clause-malformed g c = λ _.
     let v = window c.parse.new.parser in
-    let h = c.in_ok-header.header in
+    let h = fields_of c.in_ok-header.header in
     let is = subst (λ w. IsHeader w h v) c.from_ref-parser.ensures.window c.in_ok-header.ensures.header in
     no_questions (g.R.AsOctets.content c.args.octets) h v is (c.in_err-pass_questions.ensures.malformed refl)
 
 pub returns-in_err-pass_records-clause-malformed : goal.returns-in_err-pass_records-clause-malformed
 returns-in_err-pass_records-clause-malformed g c = λ _.
     let v = window c.parse.new.parser in
-    let h = c.in_ok-header.header in
+    let h = fields_of c.in_ok-header.header in
     let is = subst (λ w. IsHeader w h v) c.from_ref-parser.ensures.window c.in_ok-header.ensures.header in
     let asked = c.in_ok-pass_questions.ensures.all in
     no_answers (g.R.AsOctets.content c.args.octets) h v is asked.0 (window c.pass_questions.new.parser) asked.1
@@ -34,7 +35,7 @@ returns-in_err-pass_records-clause-malformed g c = λ _.
 pub returns-in_err-pass_records-2-clause-malformed : goal.returns-in_err-pass_records-2-clause-malformed
 returns-in_err-pass_records-2-clause-malformed g c = λ _.
     let v = window c.parse.new.parser in
-    let h = c.in_ok-header.header in
+    let h = fields_of c.in_ok-header.header in
     let is = subst (λ w. IsHeader w h v) c.from_ref-parser.ensures.window c.in_ok-header.ensures.header in
     let asked = c.in_ok-pass_questions.ensures.all in
     let answered = c.in_ok-pass_records.ensures.all in
@@ -45,7 +46,7 @@ returns-in_err-pass_records-2-clause-malformed g c = λ _.
 pub returns-in_err-pass_records-3-clause-malformed : goal.returns-in_err-pass_records-3-clause-malformed
 returns-in_err-pass_records-3-clause-malformed g c = λ _.
     let v = window c.parse.new.parser in
-    let h = c.in_ok-header.header in
+    let h = fields_of c.in_ok-header.header in
     let is = subst (λ w. IsHeader w h v) c.from_ref-parser.ensures.window c.in_ok-header.ensures.header in
     let asked = c.in_ok-pass_questions.ensures.all in
     let answered = c.in_ok-pass_records.ensures.all in
@@ -57,7 +58,7 @@ returns-in_err-pass_records-3-clause-malformed g c = λ _.
 pub returns-then-remaining-gt0-clause-malformed : goal.returns-then-remaining-gt0-clause-malformed
 returns-then-remaining-gt0-clause-malformed g c = λ _.
     let v = window c.parse.new.parser in
-    let h = c.in_ok-header.header in
+    let h = fields_of c.in_ok-header.header in
     let is = subst (λ w. IsHeader w h v) c.from_ref-parser.ensures.window c.in_ok-header.ensures.header in
     let asked = c.in_ok-pass_questions.ensures.all in
     let answered = c.in_ok-pass_records.ensures.all in
@@ -99,7 +100,7 @@ returns-clause-message g c =
     let y = window c.pass_records.new.parser in
     let z = window c.pass_records-2.new.parser in
     let end = window c.pass_records-3.new.parser in
-    let h = c.in_ok-header.header in
+    let h = fields_of c.in_ok-header.header in
     let kept = c.result-1.given in
     let asked = c.in_ok-pass_questions.ensures.all in
     let answered = c.in_ok-pass_records.ensures.all in
@@ -126,3 +127,13 @@ returns-clause-message g c =
       sections_are = (x, q, (y, a, (z, b, d)));
       nothing_behind = omega (arith, rest, none);
     }
+
+pub returns-clause-least : goal.returns-clause-least
+unfolding returns-clause-message
+returns-clause-least g c =
+    let row = (returns-clause-message g c).sections_are in
+    let q = c.in_ok-pass_questions.ensures.least _ _ row.1 in
+    let a = c.in_ok-pass_records.ensures.least _ _ row.2.1 in
+    let b = c.in_ok-pass_records-2.ensures.least _ _ row.2.2.1 in
+    let d = c.in_ok-pass_records-3.ensures.least _ _ row.2.2.2 in
+    omega (arith, q, a, b, d)

@@ -27,7 +27,7 @@ loop-entry-preserved g c =
       borrows = c.in_ok-try_push_display.ensures.borrows ∙ so_far.borrows;
       whole = λ more text.
           let ahead = subst (λ records. IsRecordsText word records (shown ++ more)) (sym c.in-Some.ensures.steps)
-          (form_of c.data-rdata.result, more, c.data-rdata.ensures, text, refl) in
+          (form_of c.data-rdata.result, more, c.data-rdata.ensures.form, text, refl) in
           subst (IsRecordsText word (records_left c.args.records)) (sym (append_assoc so_far.done shown more))
           (so_far.whole (shown ++ more) ahead);
     }

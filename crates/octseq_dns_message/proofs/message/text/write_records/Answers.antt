@@ -25,7 +25,7 @@ loop-entry-preserved g c =
       written = λ plain. has_written_append _ _ _ _ _ _ (so_far.written plain) (search rules);
       whole = λ more is.
           let ahead = subst (λ records. IsRecordsText word records (text ++ more)) (sym c.in-Some.ensures.steps)
-          (form_of c.data-rdata.result, more, c.data-rdata.ensures, is, refl) in
+          (form_of c.data-rdata.result, more, c.data-rdata.ensures.form, is, refl) in
           subst (IsRecordsText word (records_left c.args.records)) (sym (append_assoc so_far.done text more))
           (so_far.whole (text ++ more) ahead);
     }

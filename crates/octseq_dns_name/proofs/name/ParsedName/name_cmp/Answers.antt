@@ -13,8 +13,8 @@ returns g c =
     let n = c.saturating_sub-2.result in
     let m_is : m ≡ length labels - length others = search rules in
     let n_is : n ≡ length others - length labels = search rules in
-    let first = c.passed-last.ensures ∙ ap (drop m) c.labels.ensures in
-    let second = c.passed-other_last.ensures ∙ ap (drop n) c.labels-2.ensures in
+    let first = c.passed-last.ensures ∙ ap (drop m) c.labels.ensures.labels in
+    let second = c.passed-other_last.ensures ∙ ap (drop n) c.labels-2.ensures.labels in
     let lasts = c.labels_cmp.ensures ∙ ap (λ l. name_cmp l (labels_left c.passed-other_last.result)) first
     ∙ ap (name_cmp (drop m labels)) second in
     let counts = c.cmp.ensures ∙ ap (λ k. nat_cmp k c.label_count-others.result) c.label_count-count.ensures

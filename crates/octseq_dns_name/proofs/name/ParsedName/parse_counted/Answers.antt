@@ -4,15 +4,29 @@ use Rattle.octseq.specs.Parser.{window}
 use Rattle.octseq.specs.Window.{at, rest}
 use Rattle.octseq_dns_name.specs.Name.{IsName, octet}
 use Rattle.octseq_dns_name.specs.Piece.{kept_at, end_of}
-use Rattle.octseq_dns_name.proofs.Names.{Reading, with_label, with_pointer, no_next, too_long}
-use Rattle.octseq_dns_name.proofs.Names.{whole_name, named_as, at_of, kept_end, kept_within}
+use Rattle.octseq_dns_name.proofs.Names.{Counted, counted_none, counted_label, counted_pointer, counted_name}
+use Rattle.octseq_dns_name.proofs.Names.{with_label, no_next, too_long, whole_name, named_as, at_of}
+use Rattle.octseq_dns_name.proofs.Names.{kept_end, kept_within}
 use Rattle.octseq_dns_name.proofs.name.ParsedName.parse_counted.Goals as goal
+
+pub pieces-init : goal.pieces-init
+pieces-init g c =
+    let w = window c.args.parser.now in
+    record {
+      read = counted_none w c.pos-start.result c.args.turns.now c.pos-start.ensures.position;
+      ordered = let is = c.pos-start.ensures.position in omega (arith, is);
+      turns = omega arith;
+      short = omega arith;
+      few = omega arith;
+      of = refl;
+      kept = tt;
+    }
 
 pub returns-in_err-next_step-clause-malformed : goal.returns-in_err-next_step-clause-malformed
 returns-in_err-next_step-clause-malformed g c = λ _.
     let w = window c.args.parser.now in
     no_next w c.pieces.start (window c.pieces.ahead) c.pieces.len c.pieces.pointers
-    (kept_at w c.pieces.behind) c.pieces.invariant.read
+    (kept_at w c.pieces.behind) c.pieces.invariant.read.0
     (c.in_err-next_step.ensures.malformed refl)
 
 pub returns-then-len-gt-NAME_MOST-clause-malformed : goal.returns-then-len-gt-NAME_MOST-clause-malformed
@@ -23,7 +37,7 @@ returns-then-len-gt-NAME_MOST-clause-malformed g c = λ _.
     let has = rw c.in-Label.is at c.in_ok-next_step.ensures.step in
     let read = with_label w c.pieces.start (window c.pieces.ahead)
     (window c.next_step.new.parser) c.pieces.len made c.pieces.pointers
-    (kept_at w c.pieces.behind) l c.pieces.invariant.read has
+    (kept_at w c.pieces.behind) l c.pieces.invariant.read.0 has
     (ap (λ n. c.pieces.len + (1 + n)) c.remaining.ensures.rest) in
     too_long w c.pieces.start (window c.next_step.new.parser) made c.pieces.pointers
     (kept_at w c.pieces.behind) read c.if-len-gt-NAME_MOST.true
@@ -37,10 +51,10 @@ pieces-preserved-else-len-gt-NAME_MOST g c =
     let short = rw c.in-Label.is at c.in_ok-next_step.ensures.label in
     let so_far = c.pieces.invariant in
     record {
-      read = with_label w c.pieces.start (window c.pieces.ahead)
+      read = counted_label w c.pieces.start (window c.pieces.ahead)
           (window c.next_step.new.parser) c.pieces.len made c.pieces.pointers
-          (kept_at w c.pieces.behind) l so_far.read has
-          (ap (λ n. c.pieces.len + (1 + n)) c.remaining.ensures.rest);
+          (kept_at w c.pieces.behind) l c.args.turns.now c.pieces.turns c.tick.new.self so_far.read has
+          (ap (λ n. c.pieces.len + (1 + n)) c.remaining.ensures.rest) c.tick.ensures;
       ordered = let moved = ap (λ w. w.position) has.behind in let before = so_far.ordered in
           omega (arith, moved, before);
       turns = let turns = so_far.turns in let tick = c.tick.ensures in let some = short.0 in
@@ -68,11 +82,13 @@ pieces-preserved g c =
     let ends = ap (λ w. w.end) of in
     let kept : c.unwrap_or.result ≡ unwrap_or c.pieces.behind u.position =
     c.unwrap_or.ensures ∙ ap (unwrap_or c.pieces.behind) c.pos.ensures.position in
-    let read = with_pointer start c.pieces.start w u len c.pieces.pointers
-    (kept_at start c.pieces.behind) to so_far.read has in
+    let old = c.args.turns.now in
+    let new = c.tick.new.self in
+    let read = counted_pointer start c.pieces.start w u len c.pieces.pointers
+    (kept_at start c.pieces.behind) to old c.pieces.turns new so_far.read has c.tick.ensures in
     record {
-      read = subst (λ v. Reading start to v len pointers (kept_at start (Some c.unwrap_or.result))) (sym moved)
-          (subst (λ u. Reading start to (at to w) len pointers (Some u))
+      read = subst (λ v. Counted start to v len pointers (kept_at start (Some c.unwrap_or.result)) old new) (sym moved)
+          (subst (λ u. Counted start to (at to w) len pointers (Some u) old new)
           (kept_end start u c.pieces.behind of ∙ ap (λ place. at place start) (sym kept)) read);
       ordered = let place = ap (λ w. w.position) moved in omega (arith, place);
       turns = let turns = so_far.turns in let tick = c.tick.ensures in omega (arith, turns, tick);
@@ -91,10 +107,10 @@ invariant_of-name g c =
     let w = window c.args.parser.now in
     let whole = whole_name w c.pieces.start (window c.pieces.ahead) (window c.next_step.new.parser)
     c.pieces.len c.pieces.pointers (kept_at w c.pieces.behind)
-    so_far.read has so_far.short so_far.few in
+    so_far.read.0 has so_far.short so_far.few in
     record {
-      named = (so_far.read.labels, ∣ (end_of (kept_at w c.pieces.behind) (window c.next_step.new.parser), whole) ∣₁);
-      measured = so_far.read.size_is;
+      named = (so_far.read.0.labels, ∣ (end_of (kept_at w c.pieces.behind) (window c.next_step.new.parser), whole) ∣₁);
+      measured = so_far.read.0.size_is;
     }
 
 pub returns-clause-name : goal.returns-clause-name
@@ -106,11 +122,20 @@ returns-clause-name g c =
     let end = end_of (kept_at w c.pieces.behind) u in
     let whole = whole_name w c.pieces.start (window c.pieces.ahead) u
     c.pieces.len c.pieces.pointers (kept_at w c.pieces.behind)
-    so_far.read has so_far.short so_far.few in
+    so_far.read.0 has so_far.short so_far.few in
     let of = at_of w (window c.pieces.ahead) u ((window c.pieces.ahead).position + 1) so_far.of has.behind in
     let moved = rw c.infallible-2.ensures at c.seek-2.ensures.ok in
     let kept : c.unwrap_or-2.result ≡ unwrap_or c.pieces.behind u.position =
     c.unwrap_or-2.ensures ∙ ap (unwrap_or c.pieces.behind) c.pos-2.ensures.position in
     subst (λ end. IsName w c.result-1.given.0.0 end)
     (kept_end w u c.pieces.behind of ∙ ap (λ place. at place w) (sym kept) ∙ sym moved)
-    (subst (λ labels. IsName w labels end) (named_as w end so_far.read.labels c.result-1.given.0 whole) whole)
+    (subst (λ labels. IsName w labels end) (named_as w end so_far.read.0.labels c.result-1.given.0 whole) whole)
+
+pub returns-clause-counted : goal.returns-clause-counted
+returns-clause-counted g c = λ labels end name.
+    let has = rw c.in-Root.is at c.in_ok-next_step.ensures.step in
+    let so_far = c.pieces.invariant in
+    let w = window c.args.parser.now in
+    counted_name w c.pieces.start (window c.pieces.ahead) (window c.next_step.new.parser) c.pieces.len c.pieces.pointers
+    (kept_at w c.pieces.behind) c.args.turns.now c.pieces.turns c.tick.new.self so_far.read has so_far.short so_far.few
+    c.tick.ensures labels end name

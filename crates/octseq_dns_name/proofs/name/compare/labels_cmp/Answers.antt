@@ -25,11 +25,11 @@ loop-label-preserved g c =
     record {
       done = so_far.done ++ label ∷ [];
       others_done = so_far.others_done ++ other ∷ [];
-      labels_are = so_far.labels_are ∙ ap (λ labels. so_far.done ++ labels) c.in-Some.ensures.steps
+      labels_are = so_far.labels_are ∙ ap (λ labels. so_far.done ++ labels) c.in-Some.ensures.steps.0
           ∙ sym (append_assoc so_far.done (label ∷ []) (labels_left c.next.new.self));
-      others_are = so_far.others_are ∙ ap (λ labels. so_far.others_done ++ labels) c.in-Some-next.ensures.steps
+      others_are = so_far.others_are ∙ ap (λ labels. so_far.others_done ++ labels) c.in-Some-next.ensures.steps.0
           ∙ sym (append_assoc so_far.others_done (other ∷ []) (labels_left c.next-in-loop-label.new.self));
-      as_many = let a = ap length c.in-Some.ensures.steps in let b = ap length c.in-Some-next.ensures.steps in
+      as_many = let a = ap length c.in-Some.ensures.steps.0 in let b = ap length c.in-Some-next.ensures.steps.0 in
           let same = so_far.as_many in omega (arith, a, b, same);
       found = c.then-found.ensures ∙ ap (λ o. ordering_then o c.loop-label.found) c.label_cmp.ensures
           ∙ ap (ordering_then (label_cmp label other)) so_far.found

@@ -25,7 +25,7 @@ append-requires-in-loop-label g c =
     let label = label_octets c.in-Some.label in
     let made = ap length c.in_ok-append.ensures.ok in
     let is = ap length c.as_slice-slice.ensures.octets in
-    let steps = ap wire_length c.in-Some.ensures.steps in
+    let steps = ap wire_length c.in-Some.ensures.steps.0 in
     let fits : 1 + length slice ≤ wire_length ahead = omega (arith, is, steps) in
     let size : length (content c.loop-label.octets) + (1 + length slice) ≡ length
     (content c.append.new.octets) + length slice =
@@ -43,7 +43,7 @@ loop-label-preserved g c =
     let same = c.as_slice-slice.ensures.octets in
     record {
       done = so_far.done ++ label ∷ [];
-      labels_are = so_far.labels_are ∙ ap (λ labels. so_far.done ++ labels) c.in-Some.ensures.steps
+      labels_are = so_far.labels_are ∙ ap (λ labels. so_far.done ++ labels) c.in-Some.ensures.steps.0
           ∙ sym (append_assoc so_far.done (label ∷ []) (labels_left c.next.new.self));
       each = one_more so_far.done label so_far.each (subst (λ l. 1 ≤ length l) same c.as_slice-slice.ensures.some)
           (subst (λ l. length l ≤ 63) same c.as_slice-slice.ensures.most);

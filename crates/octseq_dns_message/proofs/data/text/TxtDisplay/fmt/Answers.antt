@@ -11,5 +11,5 @@ loop-string-preserved g c = λ plain.
       so_far.0 ++ text,
       has_written_append _ _ _ _ _ _ so_far.1 (search rules),
       append_assoc so_far.0 text (strings_behind (strings_left c.next-in-loop-string.new.self))
-          ∙ ap (λ strings. so_far.0 ++ strings_behind strings) (sym c.in-Some-string.ensures.steps) ∙ so_far.2,
+          ∙ ap (λ strings. so_far.0 ++ strings_behind strings) (sym c.in-Some-string.ensures.steps.0) ∙ so_far.2,
     )

@@ -13,7 +13,7 @@ returns-then-pos-self-clause-steps g c =
     let is = c.pos.ensures.position in
     let none = reached_none string_code HasString string_moves (window self.parser) self.end self.ahead
     (omega (arith, is)) in
-    (none, none)
+    ((none, none), tt)
 
 pub returns-in-Err-clause-steps : goal.returns-in-Err-clause-steps
 returns-in-Err-clause-steps g c =
@@ -35,13 +35,15 @@ invariant_of-self g c =
 pub returns-in-Ok-clause-steps : goal.returns-in-Ok-clause-steps
 returns-in-Ok-clause-steps g c =
     let self = c.args.self.now in
-    let is = c.pos.ensures.position in
-    reached_then string_code HasString one_string string_moves (window self.parser) (window c.take_string.new.parser)
-    self.end self.end (rest (window c.in-Ok.parser)) self.ahead c.self-1.given.0 refl
-    (λ same. omega (arith, is, same)) c.in-Ok.ensures.string
+    let is = c.pos.ensures.position in (
+      reached_then string_code HasString one_string string_moves (window self.parser)
+          (window c.take_string.new.parser) self.end self.end (rest (window c.in-Ok.parser)) self.ahead c.self-1.given.0
+          refl (λ same. omega (arith, is, same)) c.in-Ok.ensures.string,
+      (c.in-Ok.ensures.place, c.in-Ok.ensures.string.2),
+    )
 
 pub returns-in-Ok-clause-goes : goal.returns-in-Ok-clause-goes
 returns-in-Ok-clause-goes g c =
     let less = fewer (rest (window c.in-Ok.parser)) c.args.self.now.ahead.0 c.self-1.given.0.0
-    (returns-in-Ok-clause-steps g c) in
+    (returns-in-Ok-clause-steps g c).0 in
     record { on = λ finite. (tt, finite, less); keeps = tt; rests = λ _. tt }

@@ -11,6 +11,6 @@ returns g c = record {
   shown = λ form is.
       let entry = record_of c.args.self.now in
       subst (λ said. WritesOnOk g.W.Write.write_str_gives c.args.f.now c.write_record.result (record_text entry said)
-      c.write_record.new.f) (one_said entry (form_of c.data-rdata.result) form c.data-rdata.ensures is)
+      c.write_record.new.f) (one_said entry (form_of c.data-rdata.result) form c.data-rdata.ensures.form is)
       c.write_record.ensures;
 }

@@ -12,7 +12,7 @@ loop-label-preserved g c =
     let write = g.H.Hasher.write in
     record {
       done = so_far.done ++ label ∷ [];
-      labels_are = so_far.labels_are ∙ ap (λ labels. so_far.done ++ labels) c.in-Some.ensures.steps
+      labels_are = so_far.labels_are ∙ ap (λ labels. so_far.done ++ labels) c.in-Some.ensures.steps.0
           ∙ sym (append_assoc so_far.done (label ∷ []) (labels_left c.next.new.self));
       written = fed.fed_along write c.args.state.now c.hash.new.state (flat_map_more label_writes [] so_far.done label)
           (fed.fed_then write c.args.state.now c.loop-label.state c.hash.new.state (flat_map label_writes so_far.done)

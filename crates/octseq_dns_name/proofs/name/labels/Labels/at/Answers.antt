@@ -21,8 +21,8 @@ invariant_of-result g c =
       short = all.1;
     }
 
-pub returns : goal.returns
-returns g c = λ named.
+pub returns-clause-labels : goal.returns-clause-labels
+returns-clause-labels g c = λ named.
     let all = ahead_of_name (window c.args.parser) named in
     let is = c.pos-start.ensures.position in
     one_ahead c.pos-start.result (window c.args.parser) c.result-1.given.0 (

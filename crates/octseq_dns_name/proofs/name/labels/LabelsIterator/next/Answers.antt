@@ -9,7 +9,7 @@ pub returns-in_err-parser-clause-steps : goal.returns-in_err-parser-clause-steps
 returns-in_err-parser-clause-steps g c =
     let self = c.args.self.now in
     let none = none_ahead self.start (window self.parser) self.ahead (c.in_err-parser.ensures.none refl) in
-    search rules
+    (search rules, search rules)
 
 pub invariant_of-self : goal.invariant_of-self
 invariant_of-self g c =
@@ -24,12 +24,14 @@ invariant_of-self g c =
 
 pub returns-clause-steps : goal.returns-clause-steps
 returns-clause-steps g c =
-    let self = c.args.self.now in
-    then_ahead self.start (window self.parser) c.next_label.new.start (window c.next_label.new.parser)
-    (rest (window c.in_ok-parser.parser)) self.ahead c.self-1.given.0 c.in_ok-parser.ensures.some
+    let self = c.args.self.now in (
+      then_ahead self.start (window self.parser) c.next_label.new.start (window c.next_label.new.parser)
+          (rest (window c.in_ok-parser.parser)) self.ahead c.self-1.given.0 c.in_ok-parser.ensures.some,
+      c.in_ok-parser.ensures.place,
+    )
 
 pub returns-clause-goes : goal.returns-clause-goes
 returns-clause-goes g c =
     let less = shorter (rest (window c.in_ok-parser.parser)) c.args.self.now.ahead.0 c.self-1.given.0.0
-    (returns-clause-steps g c) in
+    (returns-clause-steps g c).0 in
     record { on = λ finite. (tt, finite, less); keeps = tt; rests = λ _. tt }

@@ -14,10 +14,10 @@ invariant_of-result g c =
     let is = c.len.ensures.len in
     let most = c.len.ensures.most in
     let short : wire_length labels ≤ 255 = omega (arith, is, most) in
-    let each = subst AreLabels c.labels.ensures c.in_ok-append_labels.ensures.labels in
+    let each = subst AreLabels c.labels.ensures.labels c.in_ok-append_labels.ensures.labels in
     let plain : octets ≡ wire labels = c.in_ok-append_labels.ensures.ok
     ∙ ap (λ before. before ++ wire (labels_left c.labels.result)) c.in_ok-octets.ensures.ok
-    ∙ ap wire c.labels.ensures in
+    ∙ ap wire c.labels.ensures.labels in
     record {
       named = (labels, wire_named octets labels plain each short);
       plain = plain;
@@ -30,9 +30,9 @@ returns-clause-ok g c =
     let is = c.len.ensures.len in
     let most = c.len.ensures.most in
     let short : wire_length labels ≤ 255 = omega (arith, is, most) in
-    let each = subst AreLabels c.labels.ensures c.in_ok-append_labels.ensures.labels in
+    let each = subst AreLabels c.labels.ensures.labels c.in_ok-append_labels.ensures.labels in
     let plain : octets ≡ wire labels = c.in_ok-append_labels.ensures.ok
     ∙ ap (λ before. before ++ wire (labels_left c.labels.result)) c.in_ok-octets.ensures.ok
-    ∙ ap wire c.labels.ensures in
+    ∙ ap wire c.labels.ensures.labels in
     let here : Named (whole octets) = (labels, wire_named octets labels plain each short) in
     ap (λ named. named.0) (named_once (whole octets) c.result-1.given.0 here)

@@ -9,7 +9,7 @@ loop-label-init g c = λ plain. (
   [],
   search rules,
   ap (λ l. labels_text (labels_left l)) c.into_iter-label-iterator.ensures.into_iter_gives
-      ∙ ap labels_text c.labels-label-items.ensures,
+      ∙ ap labels_text c.labels-label-items.ensures.labels,
 )
 
 pub loop-label-preserved : goal.loop-label-preserved
@@ -19,5 +19,5 @@ loop-label-preserved g c = λ plain.
       so_far.0 ++ text,
       has_written_append _ _ _ _ _ _ so_far.1 (search rules),
       append_assoc so_far.0 text (labels_text (labels_left c.next.new.self))
-          ∙ ap (λ labels. so_far.0 ++ labels_text labels) (sym c.in-Some.ensures.steps) ∙ so_far.2,
+          ∙ ap (λ labels. so_far.0 ++ labels_text labels) (sym c.in-Some.ensures.steps.0) ∙ so_far.2,
     )

@@ -4,7 +4,7 @@ use Rattle.octseq.specs.Limit.{IsPast}
 use Rattle.octseq.specs.Text.{IsWellFormed, IsBoundary}
 use Rattle.octseq.proofs.Limits.{within_not_past}
 use Rattle.octseq_dns_message.proofs.MessageTexts.{cut_there, one_message_text, refused_unless, left_by}
-use Rattle.octseq_dns_message.proofs.message.Message.append_text.Goals as goal
+use Rattle.octseq_dns_message.proofs.message.text.append_whole.Goals as goal
 
 pub truncate-requires : goal.truncate-requires
 truncate-requires g c = λ _.

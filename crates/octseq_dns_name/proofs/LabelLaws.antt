@@ -1,0 +1,83 @@
+-- The labels of a name have 1 to 63 octets each.
+use Rattle.std.proofs.Common.{◌≡◌, ℕ, zero, suc, ◌+◌, ◌-◌, ◌<◌, ◌≤◌, List, [], ◌∷◌, length, take, drop}
+use Rattle.std.proofs.Common.{ap, sym, ◌∙◌, arith, length-take, length-drop, subst, slice_index_or, Fits, w8}
+use Rattle.std.proofs.Math.Logic.{∥∥₁_elim}
+use Rattle.std.specs.Coded.{le_prop, ×_prop, Unit-prop}
+use mathlib.Core.HLevel.{×₃_prop}
+use Rattle.octseq.specs.Window.{Window, next, past, at}
+use Rattle.octseq_dns_name.specs.Name.{HasLabel, Stands, octet}
+use Rattle.octseq_dns_name.specs.OneName.{Named}
+use Rattle.octseq_dns_name.specs.Spelling.{AreOctets, AreOctetLabels}
+use Rattle.octseq_dns_name.specs.Wire.{AreLabels}
+
+labels_prop : (labels : List (List ℕ)) → IsProp (AreLabels labels)
+labels_prop [] = Unit-prop
+labels_prop (l ∷ labels) =
+    ×₃_prop (le_prop {n = 1} {m = length l}) (le_prop {n = length l} {m = 63}) (labels_prop labels)
+
+octets_prop : (xs : List ℕ) → IsProp (AreOctets xs)
+octets_prop [] = Unit-prop
+octets_prop (x ∷ xs) = ×_prop (le_prop {n = suc x} {m = 256}) (octets_prop xs)
+
+octet_labels_prop : (labels : List (List ℕ)) → IsProp (AreOctetLabels labels)
+octet_labels_prop [] = Unit-prop
+octet_labels_prop (l ∷ labels) = ×_prop (octets_prop l) (octet_labels_prop labels)
+
+-- a label is as long as the octet before it says
+label_length : (w u : Window) (l : List ℕ) → w.end ≤ length w.octets → HasLabel w l u → length l ≡ octet w
+label_length w u l within has =
+    let whole = has.whole in
+    let some = has.some in
+    let size : length l ≡ length (next (octet w) (past 1 w)) = ap length has.octets in
+    let from = w.position + 1 in
+    let taken = length-take (from + octet w - from) (drop from w.octets) in
+    omega (arith, size, whole, some, within, taken, length-drop from w.octets)
+
+-- the labels that stand at a window's position
+standing_labels : (start : ℕ) (w v : Window) (labels : List (List ℕ)) (pointers : ℕ) → w.end ≤ length w.octets
+    → Stands start w labels pointers v → AreLabels labels
+standing_labels start w v labels pointers within (Stands.root has) = tt
+standing_labels start w v labels pointers within (Stands.label {u = u} {l = l} {labels = more} has rest) =
+    let size = label_length w u l within has in
+    let some = has.some in
+    let short = has.short in
+    let inside : u.end ≤ length u.octets = subst (λ u. u.end ≤ length u.octets) (sym has.behind) within in
+    (omega (arith, size, some), omega (arith, size, short), standing_labels start u v more pointers inside rest)
+standing_labels start w v labels pointers within (Stands.pointer {to = to} {pointers = fewer} {u = u} has rest) =
+    standing_labels to (at to w) u labels fewer within rest
+
+taken_octets : (n : ℕ) (xs : List ℕ) → AreOctets xs → AreOctets (take n xs)
+taken_octets zero xs each = tt
+taken_octets (suc n) [] each = tt
+taken_octets (suc n) (x ∷ xs) each = (each.0, taken_octets n xs each.1)
+
+dropped_octets : (n : ℕ) (xs : List ℕ) → AreOctets xs → AreOctets (drop n xs)
+dropped_octets zero xs each = each
+dropped_octets (suc n) [] each = tt
+dropped_octets (suc n) (x ∷ xs) each = dropped_octets n xs each.1
+
+standing_octets : (start : ℕ) (w v : Window) (labels : List (List ℕ)) (pointers : ℕ) → AreOctets w.octets
+    → Stands start w labels pointers v → AreOctetLabels labels
+standing_octets start w v labels pointers each (Stands.root has) = tt
+standing_octets start w v labels pointers each (Stands.label {u = u} {l = l} {labels = more} has rest) =
+    let inside : AreOctets u.octets = subst (λ u. AreOctets u.octets) (sym has.behind) each in (
+      subst AreOctets (sym has.octets) (taken_octets _ _ (dropped_octets _ _ each)),
+      standing_octets start u v more pointers inside rest,
+    )
+standing_octets start w v labels pointers each (Stands.pointer {to = to} {pointers = fewer} {u = u} has rest) =
+    standing_octets to (at to w) u labels fewer each rest
+
+-- the labels of a name
+pub named_labels : (w : Window) (named : Named w) → w.end ≤ length w.octets → AreLabels named.0
+named_labels w named within = ∥∥₁_elim named.1 (labels_prop named.0) (λ x.
+    standing_labels w.position w x.0 named.0 x.1.pointers within x.1.stands)
+
+-- and their octets, where the window's are octets
+pub named_octets : (w : Window) (named : Named w) → AreOctets w.octets → AreOctetLabels named.0
+named_octets w named each = ∥∥₁_elim named.1 (octet_labels_prop named.0) (λ x.
+    standing_octets w.position w x.0 named.0 x.1.pointers each x.1.stands)
+
+-- a slice's items are octets
+pub slice_octets : (xs : List ℕ) → ((k : ℕ) → Fits w8 (slice_index_or xs k 0)) → AreOctets xs
+slice_octets [] each = tt
+slice_octets (x ∷ xs) each = (let fits = each 0 in omega (arith, fits), slice_octets xs (λ k. each (suc k)))

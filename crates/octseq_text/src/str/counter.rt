@@ -1,0 +1,35 @@
+//! How many octets a value writes.
+ghost use Rattle.std.specs.Prelude.{◌≡◌, ◌+◌, length};
+
+use std::fmt;
+
+/// A writer that counts octets and keeps none. `write!(counter, "{value}")` tells how many `{}` shows of a value.
+///
+/// # Examples
+///
+/// ```
+/// // crates/octseq_uses_tests/src/tests/habits.rt
+/// let mut counter = Counter { count: 0 };
+/// assert_true!(&rt, write!(counter, "{}/{}", 12_u8, "é").is_ok());
+/// assert_equal!(&rt, counter.count, 5);
+/// ```
+#[derive(Clone, Copy, Debug, PartialEq, Eq)]
+pub struct Counter {
+    /// How many octets were written.
+    pub count: usize,
+}
+
+impl fmt::Write for Counter {
+    ghost write_str_gives = { λ before octets after. after.count ≡ before.count + length octets };
+
+    /// Counts the octets of `s`. An error is answered where a `usize` doesn't count them.
+    fn write_str(&mut self, s: &str) -> fmt::Result {
+        match self.count.checked_add(s.len()) {
+            Some(count) => {
+                self.count = count;
+                Ok(())
+            }
+            None => Err(fmt::Error),
+        }
+    }
+}
