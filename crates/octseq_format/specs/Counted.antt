@@ -1,0 +1,100 @@
+-- A thing after its length, which has k octets, big-endian. The length counts `extra` octets more, those that a format
+-- has before the thing and counts with it.
+use Rattle.std.specs.Prelude.{◌≡◌, ℕ, ◌+◌, ◌-◌, ◌<◌, ◌≤◌, ◌^◌, List, ◌++◌, length, refl}
+use Rattle.std.proofs.Common.{sym, ap, ◌∙◌, subst, arith, length-append, append_assoc}
+use Rattle.octseq.specs.Integer.{be, octets_be}
+use Rattle.octseq.specs.Window.{Window, left, next, past, nested, rest, at}
+use Rattle.octseq.proofs.Behind.{front_comes_next}
+use Rattle.octseq.proofs.Written.{length_be, value_be}
+use Rattle.octseq_format.specs.Laws.{Relation, Takes, IsOne, IsOnward, IsMoving, IsReadBack, IsDelimited, back_of}
+
+-- how many octets of its own the thing has, as its length says
+abbrev pub counted_length : ℕ → ℕ → Window → ℕ
+counted_length k extra w = be (next k w) - extra
+
+-- the whole thing is there, after its length
+abbrev pub HasCounted : ℕ → ℕ → Window → Type 0
+HasCounted k extra w = (k ≤ left w) × (extra ≤ be (next k w)) × (counted_length k extra w ≤ left (past k w))
+
+-- the window of its octets alone
+abbrev pub counted : ℕ → ℕ → Window → Window
+counted k extra w = nested (counted_length k extra w) (past k w)
+
+-- the window past them
+abbrev pub past_counted : ℕ → ℕ → Window → Window
+past_counted k extra w = past (counted_length k extra w) (past k w)
+
+-- It takes all of the octets that its length counts.
+abbrev pub Counted : {A : Type 0} → ℕ → ℕ → Relation A → Relation A
+Counted k extra Is w a v = HasCounted k extra w
+    × Is (counted k extra w) a (past (counted_length k extra w) (counted k extra w))
+    × (v ≡ past_counted k extra w)
+
+-- its octets, after their length
+abbrev pub counted_octets : {S : Type 0} → ℕ → ℕ → (S → List ℕ) → S → List ℕ
+counted_octets k extra octets said = octets_be k (extra + length (octets said)) ++ octets said
+
+-- It fits, and the length of its octets fits k octets.
+pub record CountFits {S : Type 0} (k extra : ℕ) (octets : S → List ℕ) (Fits : S → Type 0) (said : S) : Type 0 where
+  pub inside : Fits said
+  pub count : extra + length (octets said) < 256 ^ k
+
+-- how many octets that are
+pub counted_long : (k n : ℕ) (octets : List ℕ) → length (octets_be k n ++ octets) ≡ k + length octets
+counted_long k n octets =
+    length-append (octets_be k n) octets ∙ ap (λ m. m + length octets) (length_be k n)
+
+pub onward_counted : {A : Type 0} (k extra : ℕ) (Is : Relation A) → IsOnward (Counted k extra Is)
+onward_counted k extra Is = record {
+  on = λ w a v ordered is.
+      let position = ap (λ (x : Window). x.position) is.2 in
+      let end = ap (λ (x : Window). x.end) is.2 in (
+        ap (λ (x : Window). x.octets) is.2,
+        end,
+        omega (arith, position),
+        omega (arith, position, end, is.0.0, is.0.2, ordered),
+      );
+  less = λ w a v is. let same = ap left is.2 in omega (arith, same);
+}
+
+pub moving_counted : {A : Type 0} (k extra : ℕ) (Is : Relation A) → 0 < k → IsMoving (Counted k extra Is)
+moving_counted k extra Is some = record {
+  on = λ w a v is. let same = ap left is.2 in omega (arith, same, is.0.0, some);
+}
+
+module _ {A : Type 0} {Is : Relation A} {k extra : ℕ} where
+  pub one_counted : IsOne Is → IsOne (Counted k extra Is)
+  one_counted one = record {
+    same = λ w a b u v is other. ((one.same (counted k extra w) a b _ _ is.1 other.1).0, is.2 ∙ sym other.2);
+  }
+
+  module _ {S : Type 0} {says : A → S} {octets : S → List ℕ} {Fits : S → Type 0} where
+    pub delimited_counted : IsReadBack Is says octets Fits
+        → IsDelimited (Counted k extra Is) says (counted_octets k extra octets) (CountFits k extra octets Fits)
+    delimited_counted back = record {
+      next = λ w said more fits is.
+          let o = octets said in
+          let head = octets_be k (extra + length o) in
+          let wide = length_be k (extra + length o) in
+          let apart : rest w ≡ head ++ (o ++ more) = is ∙ append_assoc head o more in
+          let first = front_comes_next w head (o ++ more) k apart wide in
+          let value : be (next k w) ≡ extra + length o = ap be first.1 ∙ value_be k (extra + length o) fits.count in
+          let count : counted_length k extra w ≡ length o = omega (arith, value) in
+          let second = front_comes_next (past k w) o more (length o) first.2 refl in
+          let inside : rest (counted k extra w) ≡ o = ap (λ n. next n (past k w)) count ∙ second.1 in
+          let taken = back.back (counted k extra w) said fits.inside inside (omega (arith, count)) in
+          let long = counted_long k (extra + length o) o in
+          record {
+            it = taken.it;
+            tells = taken.tells;
+            is = (
+              (first.0, omega (arith, value), omega (arith, count, second.0)),
+              subst (λ n. Is (counted k extra w) taken.it (past n (counted k extra w))) (sym count) taken.is,
+              ap (λ p. at p w) (omega (arith, long, count)),
+            );
+          };
+    }
+
+    pub counted_read_back : IsReadBack Is says octets Fits
+        → IsReadBack (Counted k extra Is) says (counted_octets k extra octets) (CountFits k extra octets Fits)
+    counted_read_back back = back_of (delimited_counted back)

@@ -1,0 +1,53 @@
+-- A thing of so many octets, whatever they are.
+use Rattle.std.specs.Prelude.{◌≡◌, ℕ, ◌<◌, ◌≤◌, List, ◌++◌, length, refl}
+use Rattle.std.proofs.Common.{sym, ap, ◌∙◌, arith}
+use Rattle.octseq.specs.Window.{Window, left, next, past}
+use Rattle.octseq.proofs.Behind.{front_comes_next}
+use Rattle.octseq_format.specs.Laws.{Relation, IsOne, IsOnward, IsMoving, IsReadBack, IsDelimited, back_of}
+
+-- the next k octets, by what they are read as
+abbrev pub IsFixed : {A : Type 0} → ℕ → (List ℕ → A) → Relation A
+IsFixed k reading w a v = (k ≤ left w) × (a ≡ reading (next k w)) × (v ≡ past k w)
+
+-- The octets of a thing that fits are k, and are read as it.
+pub record AreFixed {A : Type 0} (k : ℕ) (reading : List ℕ → A) (octets : A → List ℕ) (Fits : A → Type 0) : Type 0 where
+  pub many : (a : A) → Fits a → length (octets a) ≡ k
+  pub back : (a : A) → Fits a → reading (octets a) ≡ a
+
+module _ {A : Type 0} (k : ℕ) (reading : List ℕ → A) where
+  pub one_fixed : IsOne (IsFixed k reading)
+  one_fixed = record { same = λ w a b u v is other. (is.1 ∙ sym other.1, is.2 ∙ sym other.2) }
+
+  pub onward_fixed : IsOnward (IsFixed k reading)
+  onward_fixed = record {
+    on = λ w a v ordered is.
+        let position = ap (λ (x : Window). x.position) is.2 in
+        let end = ap (λ (x : Window). x.end) is.2 in (
+          ap (λ (x : Window). x.octets) is.2,
+          end,
+          omega (arith, position),
+          omega (arith, position, end, is.0, ordered),
+        );
+    less = λ w a v is. let same = ap left is.2 in omega (arith, same);
+  }
+
+  pub moving_fixed : 0 < k → IsMoving (IsFixed k reading)
+  moving_fixed some = record {
+    on = λ w a v is. let same = ap left is.2 in omega (arith, same, is.0, some);
+  }
+
+module _ {A : Type 0} {k : ℕ} {reading : List ℕ → A} {octets : A → List ℕ} {Fits : A → Type 0} where
+  pub delimited_fixed : AreFixed k reading octets Fits → IsDelimited (IsFixed k reading) (λ a. a) octets Fits
+  delimited_fixed are = record {
+    next = λ w a more fits is.
+        let long = are.many a fits in
+        let come = front_comes_next w (octets a) more k is long in
+        record {
+          it = a;
+          tells = refl;
+          is = (come.0, sym (are.back a fits) ∙ ap reading (sym come.1), ap (λ n. past n w) long);
+        };
+  }
+
+  pub fixed_read_back : AreFixed k reading octets Fits → IsReadBack (IsFixed k reading) (λ a. a) octets Fits
+  fixed_read_back are = back_of (delimited_fixed are)

@@ -1,0 +1,17 @@
+pub mod Case
+pub mod Counted
+pub mod Either
+pub mod Ended
+pub mod Exactly
+pub mod Fixed
+pub mod Integers
+pub mod Laws
+pub mod Octets
+pub mod Optional
+pub mod Pair
+pub mod Rest
+pub mod Row
+pub mod Text
+pub mod Turns
+pub mod Walk
+pub mod Where

@@ -1,0 +1,128 @@
+-- One thing, followed by another.
+use Rattle.std.specs.Prelude.{◌≡◌, ℕ, ◌+◌, ◌*◌, ◌<◌, ◌≤◌, ◌^◌, List, ◌++◌, length, refl}
+use Rattle.std.proofs.Common.{sym, ap, ◌∙◌, subst, arith, length-append, append_assoc}
+use Rattle.std.specs.Coded.{Coded, coded×}
+use Rattle.octseq.specs.Window.{Window, left, rest, at, past}
+use Rattle.octseq.proofs.Behind.{front_comes_next}
+use Rattle.octseq_format.specs.Laws.{Relation, Takes, IsOne, IsOnward, IsMoving, IsReadBack, IsDelimited}
+
+infixr 5 ◌then◌
+abbrev pub ◌then◌ : {A B : Type 0} → Relation A → Relation B → Relation (A × B)
+(First then Second) w both v = (u : Window) × First w both.0 u × Second u both.1 v
+
+-- what both say
+unfoldable pub both_say : {A B S T : Type 0} → (A → S) → (B → T) → A × B → S × T
+both_say first second both = (first both.0, second both.1)
+
+infixr 5 ◌and◌
+abbrev pub ◌and◌ : {A B S T : Type 0} → (A → S) → (B → T) → A × B → S × T
+first and second = both_say first second
+
+-- the octets of both
+unfoldable pub both_octets : {A B : Type 0} → (A → List ℕ) → (B → List ℕ) → A × B → List ℕ
+both_octets first second both = first both.0 ++ second both.1
+
+infixr 5 ◌before◌
+abbrev pub ◌before◌ : {A B : Type 0} → (A → List ℕ) → (B → List ℕ) → A × B → List ℕ
+first before second = both_octets first second
+
+-- Both fit.
+pub record BothFit {A B : Type 0} (First : A → Type 0) (Second : B → Type 0) (both : A × B) : Type 0 where
+  pub first : First both.0
+  pub second : Second both.1
+
+infixr 5 ◌also◌
+abbrev pub ◌also◌ : {A B : Type 0} → (A → Type 0) → (B → Type 0) → A × B → Type 0
+First also Second = BothFit First Second
+
+infixr 5 ◌code_then◌
+-- the code of both
+abbrev pub ◌code_then◌ : {A B : Type 0} → Coded A → Coded B → Coded (A × B)
+first code_then second = coded× first second
+
+same_pair : {A B : Type 0} {a c : A} {b d : B} → a ≡ c → b ≡ d → Path (A × B) (a, b) (c, d)
+same_pair {c = c} {b = b} first second = ap (λ a. (a, b)) first ∙ ap (λ b. (c, b)) second
+
+-- past two lists of octets is past the first and past the second
+past_both : (w : Window) (x y : List ℕ) → past (length y) (past (length x) w) ≡ past (length (x ++ y)) w
+past_both w x y =
+    let long : length (x ++ y) ≡ length x + length y = length-append x y in
+    ap (λ p. at p w) (omega (arith, long))
+
+module _ {A B : Type 0} {First : Relation A} {Second : Relation B} where
+  infixr 5 ◌one_then◌
+  pub ◌one_then◌ : IsOne First → IsOne Second → IsOne (First then Second)
+  first one_then second = record {
+    same = λ w a b u v is other.
+        let here = first.same w a.0 b.0 is.0 other.0 is.1 other.1 in
+        let there = second.same is.0 a.1 b.1 u v is.2 (subst (λ x. Second x b.1 v) (sym here.1) other.2) in
+        (same_pair here.0 there.0, there.1);
+  }
+
+  infixr 5 ◌onward_then◌
+  pub ◌onward_then◌ : IsOnward First → IsOnward Second → IsOnward (First then Second)
+  first onward_then second = record {
+    on = λ w a v ordered is.
+        let one = first.on w a.0 is.0 ordered is.1 in
+        let two = second.on is.0 a.1 v (omega (arith, one.1, one.2, one.3)) is.2 in
+        (two.0 ∙ one.0, two.1 ∙ one.1, omega (arith, one.2, two.2), two.3);
+    less = λ w a v is.
+        let one = first.less w a.0 is.0 is.1 in
+        let two = second.less is.0 a.1 v is.2 in
+        omega (arith, one, two);
+  }
+
+  pub moving_pair : IsMoving First → IsOnward Second → IsMoving (First then Second)
+  moving_pair moving onward = record {
+    on = λ w a v is.
+        let one = moving.on w a.0 is.0 is.1 in
+        let two = onward.less is.0 a.1 v is.2 in
+        omega (arith, one, two);
+  }
+
+  module _ {S T : Type 0} {says : A → S} {tells : B → T} where
+    -- a second thing that takes its octets, past those of a first one
+    both_taken : (w : Window) (said : S × T) (x y : List ℕ) → Takes First says w said.0 (length x)
+        → Takes Second tells (past (length x) w) said.1 (length y)
+        → Takes (First then Second) (says and tells) w said (length (x ++ y))
+    unfolding both_say
+    both_taken w said x y one two = record {
+      it = (one.it, two.it);
+      tells = same_pair one.tells two.tells;
+      is = (
+        past (length x) w,
+        one.is,
+        subst (Second (past (length x) w) two.it) (past_both w x y) two.is,
+      );
+    }
+
+    module _ {first : S → List ℕ} {second : T → List ℕ} {FirstFits : S → Type 0} {SecondFits : T → Type 0} where
+      infixr 5 ◌delimited_then◌
+      pub ◌delimited_then◌ : IsDelimited First says first FirstFits → IsDelimited Second tells second SecondFits
+          → IsDelimited (First then Second) (says and tells) (first before second)
+          (FirstFits also SecondFits)
+      unfolding both_octets
+      one delimited_then two = record {
+        next = λ w said more fits is.
+            let x = first said.0 in
+            let y = second said.1 in
+            let apart : rest w ≡ x ++ (y ++ more) = is ∙ append_assoc x y more in
+            let come = front_comes_next w x (y ++ more) (length x) apart refl in
+            both_taken w said x y (one.next w said.0 (y ++ more) fits.first apart)
+            (two.next (past (length x) w) said.1 more fits.second come.2);
+      }
+
+      infixr 5 ◌back_then◌
+      pub ◌back_then◌ : IsDelimited First says first FirstFits → IsReadBack Second tells second SecondFits
+          → IsReadBack (First then Second) (says and tells) (first before second)
+          (FirstFits also SecondFits)
+      unfolding both_octets
+      one back_then two = record {
+        back = λ w said fits is all.
+            let x = first said.0 in
+            let y = second said.1 in
+            let come = front_comes_next w x y (length x) is refl in
+            let long : length (x ++ y) ≡ length x + length y = length-append x y in
+            both_taken w said x y (one.next w said.0 y fits.first is)
+            (two.back (past (length x) w) said.1 fits.second come.2 (omega (arith, all, long)));
+      }

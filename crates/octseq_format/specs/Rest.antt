@@ -1,0 +1,39 @@
+-- All octets up to the end of a window.
+use Rattle.std.specs.Prelude.{◌≡◌, ℕ, ◌+◌, ◌-◌, ◌<◌, ◌≤◌, ◌^◌, List, length, refl}
+use Rattle.std.proofs.Common.{sym, ap, ◌∙◌, arith}
+use Rattle.std.specs.Coded.{Coded, code_by, coded_list, coded×, coded_ℕ}
+use Rattle.octseq.specs.Window.{Window, left, rest, past}
+use Rattle.octseq_format.specs.Laws.{Relation, IsOne, IsOnward, IsReadBack}
+
+-- the window of what is left
+abbrev pub IsRest : Relation Window
+IsRest w inside v = (inside ≡ w) × (v ≡ past (left w) w)
+
+-- windows are equal in one way at most
+abbrev pub window_code : Coded Window
+window_code = code_by (List ℕ × (ℕ × ℕ)) (coded× (coded_list coded_ℕ) (coded× coded_ℕ coded_ℕ))
+    (λ w. (w.octets, (w.position, w.end)))
+    (λ c. record { octets = c.0; position = c.1.0; end = c.1.1 }) (λ _. refl)
+
+pub one_rest : IsOne IsRest
+one_rest = record { same = λ w a b u v is other. (is.0 ∙ sym other.0, is.1 ∙ sym other.1) }
+
+pub onward_rest : IsOnward IsRest
+onward_rest = record {
+  on = λ w a v ordered is.
+      let position = ap (λ (x : Window). x.position) is.1 in
+      let end = ap (λ (x : Window). x.end) is.1 in (
+        ap (λ (x : Window). x.octets) is.1,
+        end,
+        omega (arith, position),
+        omega (arith, position, end, ordered),
+      );
+  less = λ w a v is. let same = ap left is.1 in omega (arith, same);
+}
+
+pub rest_read_back : IsReadBack IsRest rest (λ octets. octets) (λ _. Unit {0})
+rest_read_back = record {
+  back = λ w said fits is all.
+      let many : left w ≡ length said = omega (arith, all) in
+      record { it = w; tells = is; is = (refl, ap (λ n. past n w) (sym many)) };
+}

@@ -1,0 +1,245 @@
+-- Things of one kind, one after another.
+use Rattle.std.specs.Prelude.{◌≡◌, ℕ, ◌+◌, ◌<◌, ◌≤◌, ◌^◌, List, [], ◌∷◌, ◌++◌, length, map, refl}
+use Rattle.std.proofs.Common.{sym, ap, ◌∙◌, subst, arith, length-append, append_assoc, append-nil}
+use Rattle.std.proofs.lemmas.List.{length-map}
+use Rattle.std.proofs.lemmas.List.Concat.{flat_map-cons}
+use Rattle.std.proofs.Math.Logic.{∥∥₁_prop, ∥∥₁_elim}
+use Rattle.std.specs.Coded.{Coded, Coded-set, coded_list}
+use Rattle.std.specs.List.{AllByRecursion, flat_map}
+use mathlib.Core.HLevel.{Σ_prop_path}
+use Rattle.octseq.specs.Integer.{be, octets_be}
+use Rattle.octseq.specs.Window.{Window, left, next, rest, at, past}
+use Rattle.octseq.proofs.Behind.{front_comes_next}
+use Rattle.octseq.proofs.Written.{length_be, value_be}
+use Rattle.octseq_format.specs.Laws.{Relation, NoneAt, Takes, IsOne, IsOnward, IsMoving, IsReadBack, IsDelimited, back_of}
+
+abbrev pub Row : {A : Type 0} → Relation A → Relation (List A)
+Row Is w [] v = v ≡ w
+Row Is w (one ∷ more) v = (u : Window) × Is w one u × Row Is u more v
+
+-- so many of them
+abbrev pub Many : {A : Type 0} → ℕ → Relation A → Relation (List A)
+Many count Is w row v = (length row ≡ count) × Row Is w row v
+
+-- so many of them are there, and these are they
+abbrev pub Holds : {A : Type 0} → Relation A → Window → ℕ → Type 0
+Holds {A} Is w count = (row : List A) × ∥ ((end : Window) × Many count Is w row end) ∥₁
+
+-- as many as a count says, which has k octets, big-endian
+abbrev pub Times : {A : Type 0} → ℕ → Relation A → Relation (List A)
+Times k Is w row v = (k ≤ left w) × Many (be (next k w)) Is (past k w) row v
+
+-- a thing that takes an octet at least
+abbrev pub Moved : {A : Type 0} → Relation A → Relation A
+Moved Is w a v = Is w a v × (left v < left w)
+
+-- all up to the end of the window
+abbrev pub RowTo : {A : Type 0} → Relation A → Relation (List A)
+RowTo Is w row v = Row Is w row v × (left v ≡ 0)
+
+-- the octets of each
+abbrev pub row_octets : {S : Type 0} → (S → List ℕ) → List S → List ℕ
+row_octets octets said = flat_map octets said
+
+-- the octets of a count of k octets, and of each
+abbrev pub times_octets : {S : Type 0} → ℕ → (S → List ℕ) → List S → List ℕ
+times_octets k octets said = octets_be k (length said) ++ row_octets octets said
+
+-- Each fits, and their number fits k octets.
+pub record TimesFit {S : Type 0} (k : ℕ) (Fits : S → Type 0) (said : List S) : Type 0 where
+  pub each : AllByRecursion Fits said
+  pub count : length said < 256 ^ k
+
+-- ---- one row at most
+
+same_cons : {A : Type 0} {a b : A} {more others : List A} → a ≡ b → more ≡ others → a ∷ more ≡ b ∷ others
+same_cons {b = b} {more = more} first second = ap (λ a. a ∷ more) first ∙ ap (λ more. b ∷ more) second
+
+-- of one length
+pub one_row : {A : Type 0} (Is : Relation A) → IsOne Is → (w u v : Window) (row others : List A)
+    → length row ≡ length others → Row Is w row u → Row Is w others v → (row ≡ others) × (u ≡ v)
+one_row Is one w u v [] [] same a b = (refl, a ∙ sym b)
+one_row Is one w u v [] (y ∷ others) same a b = absurd (omega (arith, same))
+one_row Is one w u v (x ∷ row) [] same a b = absurd (omega (arith, same))
+one_row Is one w u v (x ∷ row) (y ∷ others) same a b =
+    let begins = one.same w x y a.0 b.0 a.1 b.1 in
+    let more = one_row Is one b.0 u v row others (omega (arith, same)) (subst (λ x. Row Is x row u) begins.1 a.2) b.2 in
+    (same_cons begins.0 more.0, more.1)
+
+pub one_many : {A : Type 0} (count : ℕ) (Is : Relation A) → IsOne Is → IsOne (Many count Is)
+one_many count Is one = record {
+  same = λ w row others u v a b. one_row Is one w u v row others (a.0 ∙ sym b.0) a.1 b.1;
+}
+
+pub one_times : {A : Type 0} (k : ℕ) (Is : Relation A) → IsOne Is → IsOne (Times k Is)
+one_times k Is one = record {
+  same = λ w row others u v a b. one_row Is one (past k w) u v row others (a.1.0 ∙ sym b.1.0) a.1.1 b.1.1;
+}
+
+-- so it is a fact that a row is there
+pub held_once : {A : Type 0} (code : Coded A) (Is : Relation A) → IsOne Is → (w : Window) (count : ℕ)
+    → IsProp (Holds Is w count)
+held_once {A} code Is one w count a b =
+    let set : IsProp (a.0 ≡ b.0) = Coded-set (coded_list code) a.0 b.0 in
+    Σ_prop_path (λ row. ∥∥₁_prop)
+    (∥∥₁_elim a.1 set (λ x. ∥∥₁_elim b.1 set (λ y. ((one_many count Is one).same w a.0 b.0 x.0 y.0 x.1 y.1).0)))
+
+-- ---- rows of things that take octets
+
+-- no more octets are left after a row than before it
+pub row_moves : {A : Type 0} (Is : Relation A) → IsMoving Is → (w v : Window) (row : List A)
+    → Row Is w row v → left v ≤ left w
+row_moves Is moving w v [] is = let same = ap left is in omega (arith, same)
+row_moves Is moving w v (x ∷ row) is =
+    let one = moving.on w x is.0 is.1 in
+    let more = row_moves Is moving is.0 v row is.2 in
+    omega (arith, one, more)
+
+-- so how many octets are left after it decides which it is
+pub one_row_to : {A : Type 0} (Is : Relation A) → IsOne Is → IsMoving Is → (w u v : Window) (row others : List A)
+    → left u ≡ left v → Row Is w row u → Row Is w others v → (row ≡ others) × (u ≡ v)
+one_row_to Is one moving w u v [] [] same a b = (refl, a ∙ sym b)
+one_row_to Is one moving w u v [] (y ∷ others) same a b =
+    let here = ap left a in
+    let first = moving.on w y b.0 b.1 in
+    let more = row_moves Is moving b.0 v others b.2 in
+    absurd (omega (arith, same, here, first, more))
+one_row_to Is one moving w u v (x ∷ row) [] same a b =
+    let here = ap left b in
+    let first = moving.on w x a.0 a.1 in
+    let more = row_moves Is moving a.0 u row a.2 in
+    absurd (omega (arith, same, here, first, more))
+one_row_to Is one moving w u v (x ∷ row) (y ∷ others) same a b =
+    let begins = one.same w x y a.0 b.0 a.1 b.1 in
+    let more = one_row_to Is one moving b.0 u v row others same (subst (λ x. Row Is x row u) begins.1 a.2) b.2 in
+    (same_cons begins.0 more.0, more.1)
+
+pub one_to : {A : Type 0} (Is : Relation A) → IsOne Is → IsMoving Is → IsOne (RowTo Is)
+one_to Is one moving = record {
+  same = λ w row others u v a b. one_row_to Is one moving w u v row others (a.1 ∙ sym b.1) a.0 b.0;
+}
+
+pub one_moved : {A : Type 0} {Is : Relation A} → IsOne Is → IsOne (Moved Is)
+one_moved one = record { same = λ w a b u v is other. one.same w a b u v is.0 other.0 }
+
+pub moving_moved : {A : Type 0} (Is : Relation A) → IsMoving (Moved Is)
+moving_moved Is = record { on = λ w a v is. is.1 }
+
+pub onward_moved : {A : Type 0} {Is : Relation A} → IsOnward Is → IsOnward (Moved Is)
+onward_moved onward = record {
+  on = λ w a v ordered is. onward.on w a v ordered is.0;
+  less = λ w a v is. onward.less w a v is.0;
+}
+
+pub delimited_moved : {A S : Type 0} {Is : Relation A} {says : A → S} {octets : S → List ℕ} {Fits : S → Type 0}
+    → IsMoving Is → IsDelimited Is says octets Fits → IsDelimited (Moved Is) says octets Fits
+delimited_moved moving delimited = record {
+  next = λ w said more fits is.
+      let taken = delimited.next w said more fits is in
+      record { it = taken.it; tells = taken.tells; is = (taken.is, moving.on w taken.it _ taken.is) };
+}
+
+-- ---- onward
+
+pub onward_row : {A : Type 0} (Is : Relation A) → IsOnward Is → IsOnward (Row Is)
+onward_row {A} Is onward = record { on = on; less = less } where
+  on : (w : Window) (row : List A) (v : Window) → w.position ≤ w.end → Row Is w row v
+      → (v.octets ≡ w.octets) × (v.end ≡ w.end) × (w.position ≤ v.position) × (v.position ≤ v.end)
+  on w [] v ordered is =
+      let position = ap (λ (v : Window). v.position) is in
+      let end = ap (λ (v : Window). v.end) is in
+      (ap (λ (v : Window). v.octets) is, end, omega (arith, position), omega (arith, position, end, ordered))
+  on w (x ∷ row) v ordered is =
+      let one = onward.on w x is.0 ordered is.1 in
+      let more = on is.0 row v (omega (arith, one.1, one.2, one.3)) is.2 in
+      (more.0 ∙ one.0, more.1 ∙ one.1, omega (arith, one.2, more.2), more.3)
+
+  less : (w : Window) (row : List A) (v : Window) → Row Is w row v → left v ≤ left w
+  less w [] v is = let same = ap left is in omega (arith, same)
+  less w (x ∷ row) v is =
+      let one = onward.less w x is.0 is.1 in
+      let more = less is.0 row v is.2 in
+      omega (arith, one, more)
+
+pub onward_times : {A : Type 0} (k : ℕ) (Is : Relation A) → IsOnward Is → IsOnward (Times k Is)
+onward_times k Is onward = record {
+  on = λ w row v ordered is.
+      let more = (onward_row Is onward).on (past k w) row v (omega (arith, ordered, is.0)) is.1.1 in
+      (more.0, more.1, omega (arith, more.2), more.3);
+  less = λ w row v is.
+      let more = (onward_row Is onward).less (past k w) row v is.1.1 in
+      omega (arith, more);
+}
+
+pub onward_to : {A : Type 0} (Is : Relation A) → IsOnward Is → IsOnward (RowTo Is)
+onward_to Is onward = record {
+  on = λ w row v ordered is. (onward_row Is onward).on w row v ordered is.0;
+  less = λ w row v is. (onward_row Is onward).less w row v is.0;
+}
+
+pub moving_times : {A : Type 0} (k : ℕ) (Is : Relation A) → 0 < k → IsOnward Is → IsMoving (Times k Is)
+moving_times k Is some onward = record {
+  on = λ w row v is.
+      let more = (onward_row Is onward).less (past k w) row v is.1.1 in
+      omega (arith, more, is.0, some);
+}
+
+-- ---- read back
+
+module _ {A S : Type 0} (Is : Relation A) (says : A → S) (octets : S → List ℕ) (Fits : S → Type 0)
+    (delimited : IsDelimited Is says octets Fits) where
+  -- where the octets of each come next, a row of them is there
+  pub row_next : (w : Window) (said : List S) (more : List ℕ) → AllByRecursion Fits said
+      → rest w ≡ row_octets octets said ++ more → Takes (Row Is) (map says) w said (length (row_octets octets said))
+  row_next w [] more fits is = record { it = []; tells = refl; is = ap (λ p. at p w) (omega arith) }
+  row_next w (one ∷ others) more fits is =
+      let x = octets one in
+      let y = row_octets octets others in
+      let both : row_octets octets (one ∷ others) ≡ x ++ y = flat_map-cons octets one others in
+      let apart : rest w ≡ x ++ (y ++ more) = is ∙ ap (λ o. o ++ more) both ∙ append_assoc x y more in
+      let come = front_comes_next w x (y ++ more) (length x) apart refl in
+      let first = delimited.next w one (y ++ more) fits.0 apart in
+      let then = row_next (past (length x) w) others more fits.1 come.2 in
+      let long : length (row_octets octets (one ∷ others)) ≡ length x + length y = ap length both ∙ length-append x y in
+      record {
+        it = first.it ∷ then.it;
+        tells = same_cons first.tells then.tells;
+        is = (
+          past (length x) w,
+          first.is,
+          subst (Row Is (past (length x) w) then.it) (ap (λ p. at p w) (omega (arith, long))) then.is,
+        );
+      }
+
+  pub delimited_times : (k : ℕ)
+      → IsDelimited (Times k Is) (map says) (times_octets k octets) (TimesFit k Fits)
+  delimited_times k = record {
+    next = λ w said more fits is.
+        let o = row_octets octets said in
+        let head = octets_be k (length said) in
+        let wide = length_be k (length said) in
+        let apart : rest w ≡ head ++ (o ++ more) = is ∙ append_assoc head o more in
+        let first = front_comes_next w head (o ++ more) k apart wide in
+        let value : be (next k w) ≡ length said = ap be first.1 ∙ value_be k (length said) fits.count in
+        let row = row_next (past k w) said more fits.each first.2 in
+        let many : length row.it ≡ length said = sym (length-map row.it says) ∙ ap length row.tells in
+        let long : length (head ++ o) ≡ k + length o = length-append head o ∙ ap (λ n. n + length o) wide in
+        record {
+          it = row.it;
+          tells = row.tells;
+          is = (
+            first.0,
+            (many ∙ sym value, subst (Row Is (past k w) row.it) (ap (λ p. at p w) (omega (arith, long))) row.is),
+          );
+        };
+  }
+
+  pub times_read_back : (k : ℕ) → IsReadBack (Times k Is) (map says) (times_octets k octets) (TimesFit k Fits)
+  times_read_back k = back_of (delimited_times k)
+
+  pub to_read_back : IsReadBack (RowTo Is) (map says) (row_octets octets) (AllByRecursion Fits)
+  to_read_back = record {
+    back = λ w said fits is all.
+        let row = row_next w said [] fits (is ∙ sym (append-nil (row_octets octets said))) in
+        record { it = row.it; tells = row.tells; is = (row.is, omega (arith, all)) };
+  }

@@ -1,0 +1,438 @@
+//! One of several things, by a tag: a number that was read before them.
+ghost use Rattle.std.specs.Prelude.{◌≡◌, ◌≤◌, ◌<◌, ◌^◌, ◌↔◌, ◌+◌, ◌*◌, ◌++◌, ℕ, ◌⊎◌, List, length, true, IsTrue};
+ghost use Rattle.std.specs.Prelude.{IsErr, IfOk, OnOk, OnErr, IsNone, IsSome, IfSome};
+ghost use Rattle.std.specs.Coded.{Coded, coded_ℕ, coded×, coded⊎};
+ghost use Rattle.octseq.specs.Limit.{IsWithin};
+ghost use Rattle.octseq.specs.Parser.{window, sequence};
+ghost use Rattle.octseq.specs.Window.{Window, left};
+ghost use Rattle.octseq_format.specs.Case.{ByTag, IsCaseReadBack, IsCaseDelimited, IsCase, case_says, case_tag};
+ghost use Rattle.octseq_format.specs.Case.{case_octets, CaseFits, one_case, onward_case, case_read_back, delimited_case};
+ghost use Rattle.octseq_format.specs.Case.{IsLast, one_last, onward_last, last_read_back, delimited_last};
+ghost use Rattle.octseq_format.specs.Case.{IsOther, other_says, one_other, onward_other, other_read_back};
+ghost use Rattle.octseq_format.specs.Case.{delimited_other, Tagged, tagged_octets, TaggedFits, one_tagged, onward_tagged};
+ghost use Rattle.octseq_format.specs.Case.{moving_tagged, tagged_read_back, delimited_tagged};
+ghost use Rattle.octseq_format.specs.Laws.{IsOne, IsOnward, HasOctets};
+ghost use Rattle.octseq_format.specs.Turns.{TakesTurns};
+
+use crate::counted::Length;
+use crate::format::{Delimited, Format, Moving};
+use octseq::utf8::Turns;
+use octseq::{AsOctets, Malformed, OctetsBuilder, Parser, Truncate};
+use std::alloc::AllocError;
+use std::marker::PhantomData;
+
+/// What comes after a tag: a format for each tag.
+pub trait Cases<R: AsOctets + Copy> {
+    /// What is read and written.
+    type Value: Copy + Drop;
+
+    ghost Found: { Type 0 };
+
+    ghost found: { Self.Value → Found };
+
+    // It is at a window's position, after a tag.
+    ghost is_at: { ByTag Found };
+
+    ghost Said: { Type 0 };
+
+    ghost says: { Found → Said };
+
+    // Its tag.
+    ghost tag: { Said → ℕ };
+
+    // Its octets, without the tag.
+    ghost octets: { Said → List ℕ };
+
+    ghost fits: { Said → Type 0 };
+
+    ghost one: { (number : ℕ) → IsOne (is_at number) };
+
+    ghost found_code: { Coded Found };
+
+    ghost base: { ℕ };
+
+    ghost rate: { ℕ };
+
+    /// Takes what is at the parser's position, after this tag, and counts the turns that this takes.
+    ///
+    /// # Errors
+    ///
+    /// `Malformed` where nothing of this format is there. The parser is then as it was.
+    fn parse_case(
+        number: usize,
+        parser: &mut Parser<R>,
+        turns: &mut Turns,
+    ) -> Result<Self::Value, Malformed>
+        ensures value { IfOk result (λ value. is_at number (window parser.old) (found value) (window parser.new)) }
+        ensures malformed { IsErr result → (other : Found) (end : Window)
+            → ¬ is_at number (window parser.old) other end }
+        ensures kept { OnErr result (window parser.new ≡ window parser.old) }
+        ensures same { sequence parser.new ≡ sequence parser.old }
+        ensures end { (window parser.new).end ≡ (window parser.old).end }
+        ensures onward { left (window parser.new) ≤ left (window parser.old) }
+        ensures turns { TakesTurns base rate (left (window parser.old)) turns.old turns.new }
+        ensures took { OnOk result (turns.new + rate * left (window parser.new)
+            ≤ turns.old + base + rate * left (window parser.old)) };
+
+    /// The tag of a value.
+    fn tag_of(value: &Self::Value) -> usize
+        ensures { result ≡ tag (says (found value.now)) };
+
+    /// How many octets say a value, or `None` where none do.
+    fn case_len(value: &Self::Value) -> Option<usize>
+        ensures some { IfSome result (λ len. len ≡ length (octets (says (found value.now)))) }
+        ensures fit { IsSome result → fits (says (found value.now)) }
+        ensures none { IsNone result → ¬ HasOctets octets fits (says (found value.now)) };
+
+    /// Appends the octets of a value where they fit.
+    ///
+    /// # Errors
+    ///
+    /// `AllocError` where a request for memory was refused. The content is then as it was.
+    fn put_case<B: OctetsBuilder + Truncate>(
+        builder: &mut B,
+        value: &Self::Value,
+    ) -> Result<(), AllocError>
+        requires fit { HasOctets octets fits (says (found value.now)) }
+        requires within { IsWithin B.limit (length (B.content builder.now) + length (octets (says (found value.now)))) }
+        ensures ok { OnOk result (B.content builder.new ≡ B.content builder.old ++ octets (says (found value.now))) }
+        ensures err { OnErr result (B.content builder.new ≡ B.content builder.old) }
+        ensures memory { IsErr result → B.asks ≡ true }
+        ensures borrows { B.borrows builder.new ≡ B.borrows builder.old };
+
+    ghost onward: { (number : ℕ) → IsOnward (is_at number) };
+
+    ghost read_back: { IsCaseReadBack is_at says tag octets fits };
+}
+
+/// Cases whose octets tell where they end.
+pub trait DelimitedCases<R: AsOctets + Copy>: Cases<R> {
+    ghost delimited: { IsCaseDelimited Self.is_at Self.says Self.tag Self.octets Self.fits };
+}
+
+/// One of two things.
+#[derive(Clone, Copy, Debug, PartialEq, Eq, Drop)]
+pub enum Either<A, B> {
+    /// The thing of the case.
+    This(A),
+    /// One of another case.
+    Other(B),
+}
+
+/// `F` where the tag is `N`, and else one of the cases `C`.
+#[derive(Debug)]
+pub struct Case<const N: usize, F, C> {
+    this: PhantomData<F>,
+    other: PhantomData<C>,
+}
+
+impl<R: AsOctets + Copy, const N: usize, F: Format<R>, C: Cases<R>> Cases<R> for Case<N, F, C> {
+    ghost use Rattle.octseq_format.specs.Either.{either_found};
+
+    type Value = Either<F::Value, C::Value>;
+
+    ghost Found = { F.Found ⊎ C.Found };
+
+    ghost found = { either_found F.found C.found };
+
+    ghost is_at = { IsCase N F.is_at C.is_at };
+
+    ghost Said = { F.Said ⊎ C.Said };
+
+    ghost says = { case_says F.says C.says };
+
+    ghost tag = { case_tag N C.tag };
+
+    ghost octets = { case_octets F.octets C.octets };
+
+    ghost fits = { CaseFits N C.tag F.fits C.fits };
+
+    ghost one = { one_case N F.is_at C.is_at F.one C.one };
+
+    ghost found_code = { coded⊎ F.found_code C.found_code };
+
+    ghost base = { F.base + C.base };
+
+    ghost rate = { F.rate + C.rate };
+
+    #[inline(always)]
+    fn parse_case(
+        number: usize,
+        parser: &mut Parser<R>,
+        turns: &mut Turns,
+    ) -> Result<Self::Value, Malformed> {
+        if number == N {
+            match F::parse_counted(parser, turns) {
+                Ok(value) => Ok(Either::This(value)),
+                Err(e) => Err(e),
+            }
+        } else {
+            match C::parse_case(number, parser, turns) {
+                Ok(value) => Ok(Either::Other(value)),
+                Err(e) => Err(e),
+            }
+        }
+    }
+
+    #[inline(always)]
+    fn tag_of(value: &Self::Value) -> usize {
+        match value {
+            Either::This(_) => N,
+            Either::Other(other) => C::tag_of(other),
+        }
+    }
+
+    #[inline(always)]
+    fn case_len(value: &Self::Value) -> Option<usize> {
+        match value {
+            Either::This(this) => F::compose_len(this),
+            Either::Other(other) => {
+                if C::tag_of(other) == N {
+                    return None;
+                }
+                C::case_len(other)
+            }
+        }
+    }
+
+    #[inline(always)]
+    fn put_case<B: OctetsBuilder + Truncate>(
+        builder: &mut B,
+        value: &Self::Value,
+    ) -> Result<(), AllocError> {
+        match value {
+            Either::This(this) => F::put(builder, this),
+            Either::Other(other) => C::put_case(builder, other),
+        }
+    }
+
+    ghost onward = { onward_case N F.is_at C.is_at F.onward C.onward };
+
+    ghost read_back = { case_read_back F.read_back C.read_back };
+}
+
+impl<R: AsOctets + Copy, const N: usize, F: Delimited<R>, C: DelimitedCases<R>> DelimitedCases<R>
+    for Case<N, F, C> {
+    ghost delimited = { delimited_case F.delimited C.delimited };
+}
+
+/// `F` where the tag is `N`, and nothing else: the last of the cases.
+#[derive(Debug)]
+pub struct Last<const N: usize, F> {
+    this: PhantomData<F>,
+}
+
+impl<R: AsOctets + Copy, const N: usize, F: Format<R>> Cases<R> for Last<N, F> {
+    type Value = F::Value;
+
+    ghost Found = { F.Found };
+
+    ghost found = { F.found };
+
+    ghost is_at = { IsLast N F.is_at };
+
+    ghost Said = { F.Said };
+
+    ghost says = { F.says };
+
+    ghost tag = { λ _. N };
+
+    ghost octets = { F.octets };
+
+    ghost fits = { F.fits };
+
+    ghost one = { one_last N F.is_at F.one };
+
+    ghost found_code = { F.found_code };
+
+    ghost base = { F.base + 1 };
+
+    ghost rate = { F.rate };
+
+    #[inline(always)]
+    fn parse_case(
+        number: usize,
+        parser: &mut Parser<R>,
+        turns: &mut Turns,
+    ) -> Result<F::Value, Malformed> {
+        turns.tick();
+        if number != N {
+            return Err(Malformed);
+        }
+        F::parse_counted(parser, turns)
+    }
+
+    #[inline(always)]
+    fn tag_of(_value: &F::Value) -> usize {
+        N
+    }
+
+    #[inline(always)]
+    fn case_len(value: &F::Value) -> Option<usize> {
+        F::compose_len(value)
+    }
+
+    #[inline(always)]
+    fn put_case<B: OctetsBuilder + Truncate>(
+        builder: &mut B,
+        value: &F::Value,
+    ) -> Result<(), AllocError> {
+        F::put(builder, value)
+    }
+
+    ghost onward = { onward_last N F.is_at F.onward };
+
+    ghost read_back = { last_read_back F.read_back };
+}
+
+impl<R: AsOctets + Copy, const N: usize, F: Delimited<R>> DelimitedCases<R> for Last<N, F> {
+    ghost delimited = { delimited_last F.delimited };
+}
+
+/// `F`, whatever the tag is, which is kept: the last of the cases.
+#[derive(Debug)]
+pub struct Others<F> {
+    other: PhantomData<F>,
+}
+
+impl<R: AsOctets + Copy, F: Format<R>> Cases<R> for Others<F> {
+    type Value = (usize, F::Value);
+
+    ghost Found = { ℕ × F.Found };
+
+    ghost found = { λ other. (other.0, F.found other.1) };
+
+    ghost is_at = { IsOther F.is_at };
+
+    ghost Said = { ℕ × F.Said };
+
+    ghost says = { other_says F.says };
+
+    ghost tag = { λ said. said.0 };
+
+    ghost octets = { λ said. F.octets said.1 };
+
+    ghost fits = { λ said. F.fits said.1 };
+
+    ghost one = { one_other F.is_at F.one };
+
+    ghost found_code = { coded× coded_ℕ F.found_code };
+
+    ghost base = { F.base };
+
+    ghost rate = { F.rate };
+
+    #[inline(always)]
+    fn parse_case(
+        number: usize,
+        parser: &mut Parser<R>,
+        turns: &mut Turns,
+    ) -> Result<Self::Value, Malformed> {
+        match F::parse_counted(parser, turns) {
+            Ok(value) => Ok((number, value)),
+            Err(e) => Err(e),
+        }
+    }
+
+    #[inline(always)]
+    fn tag_of(value: &Self::Value) -> usize {
+        value.0
+    }
+
+    #[inline(always)]
+    fn case_len(value: &Self::Value) -> Option<usize> {
+        F::compose_len(&value.1)
+    }
+
+    #[inline(always)]
+    fn put_case<B: OctetsBuilder + Truncate>(
+        builder: &mut B,
+        value: &Self::Value,
+    ) -> Result<(), AllocError> {
+        F::put(builder, &value.1)
+    }
+
+    ghost onward = { onward_other F.is_at F.onward };
+
+    ghost read_back = { other_read_back F.read_back };
+}
+
+impl<R: AsOctets + Copy, F: Delimited<R>> DelimitedCases<R> for Others<F> {
+    ghost delimited = { delimited_other F.delimited };
+}
+
+/// A tag in as many octets as `L` has, followed by what the cases `C` have for it.
+#[derive(Debug)]
+pub struct Tagged<L, C> {
+    tag: PhantomData<L>,
+    cases: PhantomData<C>,
+}
+
+impl<R: AsOctets + Copy, L: Length, C: Cases<R>> Format<R> for Tagged<L, C> {
+    type Value = C::Value;
+
+    ghost Found = { C.Found };
+
+    ghost found = { C.found };
+
+    ghost is_at = { Tagged L.width C.is_at };
+
+    ghost Said = { C.Said };
+
+    ghost says = { C.says };
+
+    ghost octets = { tagged_octets L.width C.tag C.octets };
+
+    ghost fits = { TaggedFits L.width C.tag C.fits };
+
+    ghost one = { one_tagged L.width C.is_at C.one };
+
+    ghost found_code = { C.found_code };
+
+    ghost base = { C.base + 1 };
+
+    ghost rate = { C.rate };
+
+    #[inline(always)]
+    fn parse_counted(parser: &mut Parser<R>, turns: &mut Turns) -> Result<C::Value, Malformed> {
+        turns.tick();
+        let mut ahead = *parser;
+        let tag = L::parse_len(&mut ahead)?;
+        let value = C::parse_case(tag, &mut ahead, turns)?;
+        *parser = ahead;
+        Ok(value)
+    }
+
+    #[inline(always)]
+    #[tactic(auto, using(crate::specs::Counted::counted_long))]
+    fn compose_len(value: &C::Value) -> Option<usize> {
+        L::count_len(C::tag_of(value), C::case_len(value)?)
+    }
+
+    #[inline(always)]
+    #[tactic(auto, using(crate::specs::Counted::counted_long))]
+    fn put<B: OctetsBuilder + Truncate>(
+        builder: &mut B,
+        value: &C::Value,
+    ) -> Result<(), AllocError> {
+        let before = builder.len();
+        L::put_len(builder, C::tag_of(value), 0)?;
+        let appended = C::put_case(builder, value);
+        if appended.is_err() {
+            builder.truncate(before);
+        }
+        appended
+    }
+
+    ghost onward = { onward_tagged L.width C.is_at C.onward };
+
+    ghost read_back = { tagged_read_back C.read_back };
+}
+
+impl<R: AsOctets + Copy, L: Length, C: DelimitedCases<R>> Delimited<R> for Tagged<L, C> {
+    ghost delimited = { delimited_tagged C.delimited };
+}
+
+impl<R: AsOctets + Copy, L: Length, C: DelimitedCases<R>> Moving<R> for Tagged<L, C> {
+    ghost moving = { moving_tagged L.width C.is_at L.wide C.onward };
+}

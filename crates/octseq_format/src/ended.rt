@@ -1,0 +1,101 @@
+//! Octets up to the first zero.
+ghost use Rattle.std.specs.Prelude.{◌≡◌, ◌≤◌, ℕ, List, length, IfSome, IsNone};
+ghost use Rattle.octseq.specs.Parser.{window};
+ghost use Rattle.octseq.specs.Window.{Window, rest};
+ghost use Rattle.octseq_format.specs.Ended.{EndsAt, HasNoZero, IsEnded, ended_octets, one_ended, onward_ended};
+ghost use Rattle.octseq_format.specs.Ended.{moving_ended, delimited_ended, ended_read_back};
+ghost use Rattle.octseq_format.specs.Rest.{window_code};
+
+use crate::format::{Delimited, Format, Moving};
+use memchr::memchr;
+use octseq::utf8::Turns;
+use octseq::{AsOctets, Malformed, OctetsBuilder, Parser, Truncate};
+use std::alloc::AllocError;
+
+/// Where the first zero is.
+fn first_zero(octets: &[u8]) -> Option<usize>
+    ensures some { IfSome result (λ n. EndsAt octets.now n) }
+    ensures none { IsNone result → HasNoZero octets.now }
+{
+    memchr(0, octets)
+}
+
+/// The octets before the first zero, as a parser of them alone. What comes next is after the zero.
+#[derive(Debug)]
+pub struct ZeroEnded;
+
+impl<R: AsOctets + Copy> Format<R> for ZeroEnded {
+    type Value = Parser<R>;
+
+    ghost Found = { Window };
+
+    ghost found = { λ parser. window parser };
+
+    ghost is_at = { IsEnded };
+
+    ghost Said = { List ℕ };
+
+    ghost says = { rest };
+
+    ghost octets = { ended_octets };
+
+    ghost fits = { HasNoZero };
+
+    ghost one = { one_ended };
+
+    ghost found_code = { window_code };
+
+    ghost base = { 1 };
+
+    ghost rate = { 0 };
+
+    #[inline(always)]
+    fn parse_counted(parser: &mut Parser<R>, turns: &mut Turns) -> Result<Parser<R>, Malformed> {
+        turns.tick();
+        let mut ahead = *parser;
+        let Some(len) = first_zero(ahead.peek_all()) else {
+            return Err(Malformed);
+        };
+        let before = ahead.parse_parser(len)?;
+        ahead.advance(1)?;
+        *parser = ahead;
+        Ok(before)
+    }
+
+    #[inline(always)]
+    fn compose_len(value: &Parser<R>) -> Option<usize> {
+        let octets = value.peek_all();
+        if first_zero(octets).is_some() {
+            return None;
+        }
+        octets.len().checked_add(1)
+    }
+
+    #[inline(always)]
+    fn put<B: OctetsBuilder + Truncate>(
+        builder: &mut B,
+        value: &Parser<R>,
+    ) -> Result<(), AllocError> {
+        let before = builder.len();
+        builder
+            .append_slice(value.peek_all())
+            .map_err(|_| AllocError)?;
+        let appended = builder.append_slice(&[0]);
+        if appended.is_err() {
+            builder.truncate(before);
+        }
+        appended.map_err(|_| AllocError)
+    }
+
+    ghost onward = { onward_ended };
+
+    ghost read_back = { ended_read_back };
+}
+
+impl<R: AsOctets + Copy> Delimited<R> for ZeroEnded {
+    ghost delimited = { delimited_ended };
+}
+
+impl<R: AsOctets + Copy> Moving<R> for ZeroEnded {
+    ghost moving = { moving_ended };
+}

@@ -1,0 +1,79 @@
+//! A number that is fixed.
+ghost use Rattle.std.specs.Prelude.{◌≡◌, ◌<◌, ◌^◌};
+ghost use Rattle.octseq.specs.Integer.{octets_be};
+ghost use Rattle.octseq_format.specs.Exactly.{IsExactly, coded_unit, one_exactly, onward_exactly, moving_exactly};
+ghost use Rattle.octseq_format.specs.Exactly.{delimited_exactly, exactly_read_back};
+
+use crate::counted::Length;
+use crate::format::{Delimited, Format, Moving};
+use octseq::utf8::Turns;
+use octseq::{AsOctets, Malformed, OctetsBuilder, Parser, Truncate};
+use std::alloc::AllocError;
+use std::marker::PhantomData;
+
+/// The number `N`, in as many octets as `L` has.
+#[derive(Debug)]
+pub struct Exactly<L, const N: usize> {
+    number: PhantomData<L>,
+}
+
+impl<R: AsOctets + Copy, L: Length, const N: usize> Format<R> for Exactly<L, N> {
+    type Value = ();
+
+    ghost Found = { Unit {0} };
+
+    ghost found = { λ a. a };
+
+    ghost is_at = { IsExactly L.width N };
+
+    ghost Said = { Unit {0} };
+
+    ghost says = { λ a. a };
+
+    ghost octets = { λ _. octets_be L.width N };
+
+    ghost fits = { λ _. N < 256 ^ L.width };
+
+    ghost one = { one_exactly L.width N };
+
+    ghost found_code = { coded_unit };
+
+    ghost base = { 1 };
+
+    ghost rate = { 0 };
+
+    #[inline(always)]
+    fn parse_counted(parser: &mut Parser<R>, turns: &mut Turns) -> Result<(), Malformed> {
+        turns.tick();
+        let mut ahead = *parser;
+        if L::parse_len(&mut ahead)? != N {
+            return Err(Malformed);
+        }
+        *parser = ahead;
+        Ok(())
+    }
+
+    #[inline(always)]
+    #[tactic(auto, using(octseq::proofs::Written::length_be))]
+    fn compose_len(_value: &()) -> Option<usize> {
+        L::count_len(N, 0)
+    }
+
+    #[inline(always)]
+    #[tactic(auto, using(octseq::proofs::Written::length_be))]
+    fn put<B: OctetsBuilder + Truncate>(builder: &mut B, _value: &()) -> Result<(), AllocError> {
+        L::put_len(builder, N, 0)
+    }
+
+    ghost onward = { onward_exactly L.width N };
+
+    ghost read_back = { exactly_read_back L.width N };
+}
+
+impl<R: AsOctets + Copy, L: Length, const N: usize> Delimited<R> for Exactly<L, N> {
+    ghost delimited = { delimited_exactly L.width N };
+}
+
+impl<R: AsOctets + Copy, L: Length, const N: usize> Moving<R> for Exactly<L, N> {
+    ghost moving = { moving_exactly L.width N L.wide };
+}

@@ -1,0 +1,93 @@
+//! Structs and enums of one's own.
+ghost use Rattle.std.specs.Prelude.{◌≡◌};
+
+use crate::format::{Delimited, Format, Moving};
+use octseq::utf8::Turns;
+use octseq::{AsOctets, Malformed, OctetsBuilder, Parser, Truncate};
+use std::alloc::AllocError;
+use std::marker::PhantomData;
+
+/// A struct or an enum of one's own, by the format of its fields.
+pub trait Fields<R: AsOctets + Copy>: Copy + Drop {
+    /// The format of the fields: a tuple, say.
+    type Format: Format<R>;
+
+    // The fields.
+    ghost fields: { Self → Self.Format.Value };
+
+    /// The value that has these fields.
+    fn from_fields(parts: <Self::Format as Format<R>>::Value) -> Self
+        ensures { fields result ≡ parts };
+
+    /// Its fields.
+    fn to_fields(&self) -> <Self::Format as Format<R>>::Value
+        ensures { result ≡ fields self.now };
+}
+
+/// A struct or an enum of one's own: what its fields are.
+#[derive(Debug)]
+pub struct Of<S> {
+    whole: PhantomData<S>,
+}
+
+impl<R: AsOctets + Copy, S: Fields<R>> Format<R> for Of<S> {
+    type Value = S;
+
+    ghost Found = { S.Format.Found };
+
+    ghost found = { λ s. S.Format.found (S.fields s) };
+
+    ghost is_at = { S.Format.is_at };
+
+    ghost Said = { S.Format.Said };
+
+    ghost says = { S.Format.says };
+
+    ghost octets = { S.Format.octets };
+
+    ghost fits = { S.Format.fits };
+
+    ghost one = { S.Format.one };
+
+    ghost found_code = { S.Format.found_code };
+
+    ghost base = { S.Format.base };
+
+    ghost rate = { S.Format.rate };
+
+    #[inline(always)]
+    fn parse_counted(parser: &mut Parser<R>, turns: &mut Turns) -> Result<S, Malformed> {
+        match S::Format::parse_counted(parser, turns) {
+            Ok(parts) => Ok(S::from_fields(parts)),
+            Err(e) => Err(e),
+        }
+    }
+
+    #[inline(always)]
+    fn compose_len(value: &S) -> Option<usize> {
+        S::Format::compose_len(&value.to_fields())
+    }
+
+    #[inline(always)]
+    fn put<B: OctetsBuilder + Truncate>(builder: &mut B, value: &S) -> Result<(), AllocError> {
+        S::Format::put(builder, &value.to_fields())
+    }
+
+    ghost onward = { S.Format.onward };
+
+    ghost read_back = { S.Format.read_back };
+}
+
+impl<R: AsOctets + Copy, S: Fields<R>> Delimited<R> for Of<S>
+where
+    S::Format: Delimited<R>,
+{
+    ghost delimited = { S.Format.delimited };
+}
+
+impl<R: AsOctets + Copy, S: Fields<R>> Moving<R> for Of<S>
+where
+    S::Format: Moving<R>,
+{
+    ghost moving = { S.Format.moving };
+}

@@ -1,0 +1,217 @@
+//! What a format is.
+ghost use Rattle.std.specs.Prelude.{◌≡◌, ◌≤◌, ◌↔◌, ◌+◌, ◌*◌, ◌++◌, ℕ, List, length, true, IsTrue, IsFalse, IsErr, IfOk};
+ghost use Rattle.std.specs.Prelude.{OnOk, OnErr, IsNone, IsSome, IfSome};
+ghost use Rattle.std.specs.Coded.{Coded};
+ghost use Rattle.octseq.specs.Limit.{IsPast, IsWithin};
+ghost use Rattle.octseq.specs.Parser.{window, sequence};
+ghost use Rattle.octseq.specs.Refusal.{IsShort, IsMemory, IsTooLong, compose_error};
+ghost use Rattle.octseq.specs.Window.{Window, left, whole, past};
+ghost use Rattle.octseq_format.specs.Laws.{Relation, IsOne, IsOnward, IsReadBack, IsDelimited, IsMoving, HasOctets};
+ghost use Rattle.octseq_format.specs.Turns.{TakesTurns};
+
+use octseq::compose::ComposeError;
+use octseq::utf8::Turns;
+use octseq::{AsOctets, EmptyBuilder, Malformed, OctetsBuilder, OctetsLimit, Parser, Truncate};
+use std::alloc::{AllocError, Global};
+
+/// What octets say, and the octets that say it.
+pub trait Format<R: AsOctets + Copy> {
+    /// What is read and written.
+    type Value: Copy + Drop;
+
+    // What contracts see of a value: what it says, and the places where that was found.
+    ghost Found: { Type 0 };
+
+    ghost found: { Self.Value → Found };
+
+    // It is at a window's position, and the second window is past it.
+    ghost is_at: { Relation Found };
+
+    // What it says, wherever it was found.
+    ghost Said: { Type 0 };
+
+    ghost says: { Found → Said };
+
+    // The octets that say it.
+    ghost octets: { Said → List ℕ };
+
+    // It has octets: its lengths fit their numbers.
+    ghost fits: { Said → Type 0 };
+
+    // One thing is at a place at most.
+    ghost one: { IsOne is_at };
+
+    // Two of them are equal in one way at most.
+    ghost found_code: { Coded Found };
+
+    // How many turns a reading takes at most, and how many more for each octet.
+    ghost base: { ℕ };
+
+    ghost rate: { ℕ };
+
+    /// Takes what is at the parser's position, and counts the turns that this takes.
+    ///
+    /// # Errors
+    ///
+    /// `Malformed` where nothing of this format is there. The parser is then as it was.
+    fn parse_counted(parser: &mut Parser<R>, turns: &mut Turns) -> Result<Self::Value, Malformed>
+        ensures value { IfOk result (λ value. is_at (window parser.old) (found value) (window parser.new)) }
+        ensures malformed { IsErr result → (other : Found) (end : Window) → ¬ is_at (window parser.old) other end }
+        ensures kept { OnErr result (window parser.new ≡ window parser.old) }
+        ensures same { sequence parser.new ≡ sequence parser.old }
+        ensures end { (window parser.new).end ≡ (window parser.old).end }
+        ensures onward { left (window parser.new) ≤ left (window parser.old) }
+        ensures turns { TakesTurns base rate (left (window parser.old)) turns.old turns.new }
+        ensures took { OnOk result (turns.new + rate * left (window parser.new)
+            ≤ turns.old + base + rate * left (window parser.old)) };
+
+    /// How many octets say a value, or `None` where none do: where a length doesn't fit its number, or there are more
+    /// than a `usize` counts.
+    fn compose_len(value: &Self::Value) -> Option<usize>
+        ensures some { IfSome result (λ len. len ≡ length (octets (says (found value.now)))) }
+        ensures fit { IsSome result → fits (says (found value.now)) }
+        ensures none { IsNone result → ¬ HasOctets octets fits (says (found value.now)) };
+
+    /// Appends the octets of a value where they fit: [`append`](Self::append) asks that first.
+    ///
+    /// # Errors
+    ///
+    /// `AllocError` where a request for memory was refused. The content is then as it was.
+    fn put<B: OctetsBuilder + Truncate>(
+        builder: &mut B,
+        value: &Self::Value,
+    ) -> Result<(), AllocError>
+        requires fit { HasOctets octets fits (says (found value.now)) }
+        requires within { IsWithin B.limit (length (B.content builder.now) + length (octets (says (found value.now)))) }
+        ensures ok { OnOk result (B.content builder.new ≡ B.content builder.old ++ octets (says (found value.now))) }
+        ensures err { OnErr result (B.content builder.new ≡ B.content builder.old) }
+        ensures memory { IsErr result → B.asks ≡ true }
+        ensures borrows { B.borrows builder.new ≡ B.borrows builder.old };
+
+    /// Takes what is at the parser's position.
+    ///
+    /// # Errors
+    ///
+    /// `Malformed` where nothing of this format is there. The parser is then as it was.
+    #[inline(always)]
+    final fn parse(parser: &mut Parser<R>) -> Result<Self::Value, Malformed>
+        ensures value { IfOk result (λ value. is_at (window parser.old) (found value) (window parser.new)) }
+        ensures malformed { IsErr result → (other : Found) (end : Window) → ¬ is_at (window parser.old) other end }
+        ensures kept { OnErr result (window parser.new ≡ window parser.old) }
+        ensures same { sequence parser.new ≡ sequence parser.old }
+        ensures end { (window parser.new).end ≡ (window parser.old).end }
+    {
+        Self::parse_counted(parser, &mut Turns::new())
+    }
+
+    /// What all the octets say.
+    ///
+    /// # Errors
+    ///
+    /// `Malformed` where they don't say such a thing, or octets are left after it.
+    #[inline(always)]
+    final fn parse_whole(from: R) -> Result<Self::Value, Malformed>
+        ensures value { IfOk result (λ value. is_at (whole (R.content from)) (found value)
+            (past (length (R.content from)) (whole (R.content from)))) }
+        ensures malformed { IsErr result → (other : Found)
+            → ¬ is_at (whole (R.content from)) other (past (length (R.content from)) (whole (R.content from))) }
+    {
+        let mut parser = Parser::from_ref(from);
+        let value = Self::parse(&mut parser)?;
+        if parser.remaining() > 0 {
+            return Err(Malformed);
+        }
+        Ok(value)
+    }
+
+    /// Appends the octets of a value, or nothing.
+    ///
+    /// # Errors
+    ///
+    /// `TooLong` where a length doesn't fit its number. Else `Short` where the content would pass the limit of its
+    /// type, and else `Memory` where a request for memory was refused. The content is then as it was.
+    #[inline(always)]
+    final fn append<B: OctetsBuilder + Truncate>(
+        builder: &mut B,
+        value: &Self::Value,
+    ) -> Result<(), ComposeError>
+        ensures ok { OnOk result (B.content builder.new ≡ B.content builder.old ++ octets (says (found value.now))) }
+        ensures err { OnErr result (B.content builder.new ≡ B.content builder.old) }
+        ensures too_long { IsTooLong compose_error result ↔ ¬ HasOctets octets fits (says (found value.now)) }
+        ensures short { IsShort compose_error result ↔ HasOctets octets fits (says (found value.now))
+            × IsPast B.limit (length (B.content builder.old) + length (octets (says (found value.now)))) }
+        ensures memory { IsMemory compose_error result → B.asks ≡ true }
+        ensures borrows { B.borrows builder.new ≡ B.borrows builder.old }
+    {
+        let Some(len) = Self::compose_len(value) else {
+            return Err(ComposeError::TooLong);
+        };
+        if !has_room::<B>(builder.len(), len) {
+            return Err(ComposeError::Short);
+        }
+        match Self::put(builder, value) {
+            Ok(()) => Ok(()),
+            Err(_) => Err(ComposeError::Memory),
+        }
+    }
+
+    /// A builder with the octets of a value.
+    ///
+    /// # Errors
+    ///
+    /// `TooLong` where a length doesn't fit its number. Else `Short` where the octets pass the limit of the builder's
+    /// type, and else `Memory` where a request for memory was refused.
+    #[inline(always)]
+    final fn compose_whole<B: EmptyBuilder + Truncate>(
+        alloc: Global,
+        value: &Self::Value,
+    ) -> Result<B, ComposeError>
+        ensures ok { IfOk result (λ builder. B.content builder ≡ octets (says (found value.now))) }
+        ensures too_long { IsTooLong compose_error result ↔ ¬ HasOctets octets fits (says (found value.now)) }
+        ensures short { IsShort compose_error result ↔ HasOctets octets fits (says (found value.now))
+            × IsPast B.limit (length (octets (says (found value.now)))) }
+        ensures memory { IsMemory compose_error result → B.asks ≡ true }
+    {
+        let Some(len) = Self::compose_len(value) else {
+            return Err(ComposeError::TooLong);
+        };
+        if !has_room::<B>(0, len) {
+            return Err(ComposeError::Short);
+        }
+        let Ok(mut builder) = B::with_capacity(alloc, len) else {
+            return Err(ComposeError::Memory);
+        };
+        match Self::put(&mut builder, value) {
+            Ok(()) => Ok(builder),
+            Err(_) => Err(ComposeError::Memory),
+        }
+    }
+
+    // What is past it is a window on the same octets, no further back and with the same end.
+    ghost onward: { IsOnward is_at };
+
+    // Where nothing but its octets is left, it is read back.
+    ghost read_back: { IsReadBack is_at says octets fits };
+}
+
+/// A format whose octets tell where it ends, whatever comes after them.
+pub trait Delimited<R: AsOctets + Copy>: Format<R> {
+    // Where its octets come next, it is read back.
+    ghost delimited: { IsDelimited Self.is_at Self.says Self.octets Self.fits };
+}
+
+/// A format whose things take an octet each at least.
+pub trait Moving<R: AsOctets + Copy>: Delimited<R> {
+    ghost moving: { IsMoving Self.is_at };
+}
+
+/// Whether a content of `before` octets has room for `len` more. One with no limit has.
+fn has_room<B: OctetsLimit>(before: usize, len: usize) -> bool
+    ensures within { IsTrue result → IsWithin B.limit (before + len) }
+    ensures past { IsFalse result ↔ IsPast B.limit (before + len) }
+{
+    match B::limit() {
+        None => true,
+        Some(limit) => before <= limit && len <= limit - before,
+    }
+}

@@ -1,0 +1,23 @@
+//! What holds of every format. Each law is the contract of a function that does nothing.
+ghost use Rattle.std.specs.Prelude.{◌≡◌, ℕ, List, ◌++◌, length};
+ghost use Rattle.octseq.specs.Window.{Window, rest, past, whole};
+
+use crate::format::{Delimited, Format};
+use octseq::AsOctets;
+
+/// One thing is at a place at most, with one end.
+pub fn one_reading<R: AsOctets + Copy, F: Format<R>>()
+    ensures { (w : Window) (a b : F.Found) (u v : Window) → F.is_at w a u → F.is_at w b v → (a ≡ b) × (u ≡ v) }
+{}
+
+/// What was written is read back: all of the octets that say a thing are read as that thing.
+pub fn whole_is_read_back<R: AsOctets + Copy, F: Format<R>>()
+    ensures { (said : F.Said) → F.fits said → (found : F.Found) × (F.says found ≡ said)
+        × F.is_at (whole (F.octets said)) found (past (length (F.octets said)) (whole (F.octets said))) }
+{}
+
+/// And so they are wherever they come next, whatever comes after them, where the format tells where it ends.
+pub fn next_is_read_back<R: AsOctets + Copy, F: Delimited<R>>()
+    ensures { (w : Window) (said : F.Said) (more : List ℕ) → F.fits said → rest w ≡ F.octets said ++ more
+        → (found : F.Found) × (F.says found ≡ said) × F.is_at w found (past (length (F.octets said)) w) }
+{}

@@ -1,0 +1,133 @@
+//! Octets as they are.
+ghost use Rattle.std.specs.Prelude.{◌≡◌, ℕ, List, length};
+ghost use Rattle.std.specs.Coded.{coded_list, coded_ℕ};
+ghost use Rattle.octseq.specs.Parser.{window};
+ghost use Rattle.octseq.specs.Window.{Window, rest};
+
+use crate::format::{Delimited, Format};
+use octseq::utf8::Turns;
+use octseq::{AsOctets, Malformed, OctetsBuilder, Parser, Truncate};
+use std::alloc::AllocError;
+
+/// All octets up to the end of the window, as a parser of them alone. A slice is written by a parser of it.
+#[derive(Debug)]
+pub struct Rest;
+
+impl<R: AsOctets + Copy> Format<R> for Rest {
+    ghost use Rattle.octseq_format.specs.Rest.{IsRest, window_code, one_rest, onward_rest, rest_read_back};
+
+    type Value = Parser<R>;
+
+    ghost Found = { Window };
+
+    ghost found = { λ parser. window parser };
+
+    ghost is_at = { IsRest };
+
+    ghost Said = { List ℕ };
+
+    ghost says = { rest };
+
+    ghost octets = { λ octets. octets };
+
+    ghost fits = { λ _. Unit {0} };
+
+    ghost one = { one_rest };
+
+    ghost found_code = { window_code };
+
+    ghost base = { 1 };
+
+    ghost rate = { 0 };
+
+    #[inline(always)]
+    fn parse_counted(parser: &mut Parser<R>, turns: &mut Turns) -> Result<Parser<R>, Malformed> {
+        turns.tick();
+        let len = parser.remaining();
+        Ok(parser.parse_parser(len)?)
+    }
+
+    #[inline(always)]
+    fn compose_len(value: &Parser<R>) -> Option<usize> {
+        Some(value.remaining())
+    }
+
+    #[inline(always)]
+    fn put<B: OctetsBuilder + Truncate>(
+        builder: &mut B,
+        value: &Parser<R>,
+    ) -> Result<(), AllocError> {
+        builder
+            .append_slice(value.peek_all())
+            .map_err(|_| AllocError)
+    }
+
+    ghost onward = { onward_rest };
+
+    ghost read_back = { rest_read_back };
+}
+
+/// The next `N` octets, as an array.
+#[derive(Debug)]
+pub struct Octets<const N: usize>;
+
+impl<R: AsOctets + Copy, const N: usize> Format<R> for Octets<N> {
+    ghost use Rattle.octseq_format.specs.Fixed.{IsFixed, one_fixed, onward_fixed, fixed_read_back};
+    ghost use Rattle.octseq_format.specs.Octets.{are_octets};
+
+    type Value = [u8; N];
+
+    ghost Found = { List ℕ };
+
+    ghost found = { λ octets. octets };
+
+    ghost is_at = { IsFixed N (λ octets. octets) };
+
+    ghost Said = { List ℕ };
+
+    ghost says = { λ octets. octets };
+
+    ghost octets = { λ octets. octets };
+
+    ghost fits = { λ octets. length octets ≡ N };
+
+    ghost one = { one_fixed N (λ octets. octets) };
+
+    ghost found_code = { coded_list coded_ℕ };
+
+    ghost base = { 1 };
+
+    ghost rate = { 0 };
+
+    #[inline(always)]
+    fn parse_counted(parser: &mut Parser<R>, turns: &mut Turns) -> Result<[u8; N], Malformed> {
+        turns.tick();
+        let mut octets = [0; N];
+        parser.parse_buf(&mut octets)?;
+        Ok(octets)
+    }
+
+    #[inline(always)]
+    fn compose_len(value: &[u8; N]) -> Option<usize> {
+        Some(N)
+    }
+
+    #[inline(always)]
+    fn put<B: OctetsBuilder + Truncate>(
+        builder: &mut B,
+        value: &[u8; N],
+    ) -> Result<(), AllocError> {
+        builder.append_slice(value).map_err(|_| AllocError)
+    }
+
+    ghost onward = { onward_fixed N (λ octets. octets) };
+
+    ghost read_back = { fixed_read_back (are_octets N) };
+}
+
+impl<R: AsOctets + Copy, const N: usize> Delimited<R> for Octets<N> {
+    ghost use Rattle.octseq_format.specs.Fixed.{delimited_fixed};
+    ghost use Rattle.octseq_format.specs.Octets.{are_octets};
+
+    ghost delimited = { delimited_fixed (are_octets N) };
+}

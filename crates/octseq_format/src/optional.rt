@@ -1,0 +1,81 @@
+//! A thing at the end, or nothing.
+ghost use Rattle.std.specs.Prelude.{◌+◌, Option};
+ghost use Rattle.std.specs.Coded.{coded_option};
+ghost use Rattle.octseq_format.specs.Optional.{IsOptional, optional_says, optional_octets, OptionalFits};
+ghost use Rattle.octseq_format.specs.Optional.{one_optional, onward_optional, optional_read_back};
+
+use crate::format::Format;
+use octseq::utf8::Turns;
+use octseq::{AsOctets, Malformed, OctetsBuilder, Parser, Truncate};
+use std::alloc::AllocError;
+use std::marker::PhantomData;
+
+/// What `A` is, or nothing where nothing is left.
+#[derive(Debug)]
+pub struct Optional<A> {
+    inside: PhantomData<A>,
+}
+
+impl<R: AsOctets + Copy, A: Format<R>> Format<R> for Optional<A> {
+    type Value = Option<A::Value>;
+
+    ghost Found = { Option A.Found };
+
+    ghost found = { optional_says A.found };
+
+    ghost is_at = { IsOptional A.is_at };
+
+    ghost Said = { Option A.Said };
+
+    ghost says = { optional_says A.says };
+
+    ghost octets = { optional_octets A.octets };
+
+    ghost fits = { OptionalFits A.octets A.fits };
+
+    ghost one = { one_optional A.is_at A.one };
+
+    ghost found_code = { coded_option A.found_code };
+
+    ghost base = { A.base + 1 };
+
+    ghost rate = { A.rate };
+
+    #[inline(always)]
+    fn parse_counted(parser: &mut Parser<R>, turns: &mut Turns) -> Result<Self::Value, Malformed> {
+        turns.tick();
+        if parser.remaining() == 0 {
+            return Ok(None);
+        }
+        match A::parse_counted(parser, turns) {
+            Ok(value) => Ok(Some(value)),
+            Err(e) => Err(e),
+        }
+    }
+
+    #[inline(always)]
+    fn compose_len(value: &Self::Value) -> Option<usize> {
+        match value {
+            None => Some(0),
+            Some(inside) => match A::compose_len(inside) {
+                Some(len) if len > 0 => Some(len),
+                _ => None,
+            },
+        }
+    }
+
+    #[inline(always)]
+    fn put<B: OctetsBuilder + Truncate>(
+        builder: &mut B,
+        value: &Self::Value,
+    ) -> Result<(), AllocError> {
+        match value {
+            None => Ok(()),
+            Some(inside) => A::put(builder, inside),
+        }
+    }
+
+    ghost onward = { onward_optional A.is_at A.onward };
+
+    ghost read_back = { optional_read_back A.read_back };
+}

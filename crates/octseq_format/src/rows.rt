@@ -1,0 +1,254 @@
+//! Things of one kind, one after another.
+ghost use Rattle.std.specs.Prelude.{◌≡◌, ◌≤◌, ◌<◌, ◌+◌, ◌*◌, ◌++◌, ℕ, List, length, map, true, IsErr, IsNone, IsSome, IfSome};
+ghost use Rattle.std.specs.Prelude.{IfOk, OnOk, OnErr};
+ghost use Rattle.std.specs.Coded.{coded_list};
+ghost use Rattle.std.specs.List.{AllByRecursion};
+ghost use Rattle.octseq.specs.Limit.{IsWithin};
+ghost use Rattle.octseq.specs.Parser.{window, sequence};
+ghost use Rattle.octseq.specs.Parts.{IsFront};
+ghost use Rattle.octseq.specs.Window.{Window, left};
+ghost use Rattle.octseq_format.specs.Laws.{HasOctets};
+ghost use Rattle.octseq_format.specs.Row.{Many, RowTo, row_octets};
+ghost use Rattle.octseq_format.specs.Walk.{items_left};
+
+use crate::counted::Length;
+use crate::format::{Delimited, Format, Moving};
+use crate::walk::Walk;
+use octseq::utf8::Turns;
+use octseq::{AsOctets, Malformed, OctetsBuilder, Parser, Truncate};
+use std::alloc::AllocError;
+use std::marker::PhantomData;
+
+/// Takes so many.
+fn pass_many<R: AsOctets + Copy, F: Moving<R>>(
+    parser: &mut Parser<R>,
+    count: usize,
+    turns: &mut Turns,
+) -> Result<(), Malformed>
+    ensures all { OnOk result ((row : List F.Found) × Many count F.is_at (window parser.old) row (window parser.new)) }
+    ensures malformed { IsErr result → (row : List F.Found) (v : Window) → ¬ Many count F.is_at (window parser.old) row v }
+    ensures same { sequence parser.new ≡ sequence parser.old }
+    ensures end { (window parser.new).end ≡ (window parser.old).end }
+    ensures onward { left (window parser.new) ≤ left (window parser.old) }
+    ensures some { turns.old ≤ turns.new }
+    ensures most { turns.new ≤ turns.old + F.base + (F.base + F.rate) * left (window parser.old) }
+    ensures took { OnOk result (turns.new + (F.base + F.rate) * left (window parser.new)
+        ≤ turns.old + (F.base + F.rate) * left (window parser.old)) }
+{
+    for taken in 0..count {
+        let _item = F::parse_counted(parser, turns)?;
+    }
+    Ok(())
+}
+
+/// Takes all up to the end of the window, and tells how many they are.
+fn pass_all<R: AsOctets + Copy, F: Moving<R>>(
+    parser: &mut Parser<R>,
+    turns: &mut Turns,
+) -> Result<usize, Malformed>
+    ensures all { IfOk result (λ count. (row : List F.Found)
+        × Many count F.is_at (window parser.old) row (window parser.new)) }
+    ensures ends { OnOk result (left (window parser.new) ≡ 0) }
+    ensures malformed { IsErr result → (row : List F.Found) (v : Window) → ¬ RowTo F.is_at (window parser.old) row v }
+    ensures same { sequence parser.new ≡ sequence parser.old }
+    ensures end { (window parser.new).end ≡ (window parser.old).end }
+    ensures onward { left (window parser.new) ≤ left (window parser.old) }
+    ensures some { turns.old ≤ turns.new }
+    ensures most { turns.new ≤ turns.old + F.base + (F.base + F.rate) * left (window parser.old) }
+    ensures took { OnOk result (turns.new + (F.base + F.rate) * left (window parser.new)
+        ≤ turns.old + (F.base + F.rate) * left (window parser.old)) }
+{
+    let mut count = 0;
+    let mut left = parser.remaining();
+    'items: while left > 0 {
+        let _item = F::parse_counted(parser, turns)?;
+        left = parser.remaining();
+        count += 1;
+    }
+    Ok(count)
+}
+
+/// How many octets they have in all.
+fn items_len<R: AsOctets + Copy, F: Format<R>>(walk: Walk<R, F>) -> Option<usize>
+    ensures some { IfSome result (λ len. len ≡ length (row_octets F.octets (map F.says (items_left walk)))) }
+    ensures fit { IsSome result → AllByRecursion F.fits (map F.says (items_left walk)) }
+    ensures none { IsNone result
+        → ¬ HasOctets (row_octets F.octets) (AllByRecursion F.fits) (map F.says (items_left walk)) }
+{
+    let mut len = 0_usize;
+    for item in walk {
+        len = len.checked_add(F::compose_len(&item)?)?;
+    }
+    Some(len)
+}
+
+/// Appends the octets of each. A refusal leaves those of some.
+fn put_items<B: OctetsBuilder + Truncate, R: AsOctets + Copy, F: Format<R>>(
+    builder: &mut B,
+    walk: Walk<R, F>,
+) -> Result<(), AllocError>
+    requires fit { HasOctets (row_octets F.octets) (AllByRecursion F.fits) (map F.says (items_left walk)) }
+    requires within { IsWithin B.limit (length (B.content builder.now)
+        + length (row_octets F.octets (map F.says (items_left walk)))) }
+    ensures ok { OnOk result (B.content builder.new
+        ≡ B.content builder.old ++ row_octets F.octets (map F.says (items_left walk))) }
+    ensures front { OnErr result (IsFront (B.content builder.old) (B.content builder.new)) }
+    ensures memory { IsErr result → B.asks ≡ true }
+    ensures borrows { B.borrows builder.new ≡ B.borrows builder.old }
+{
+    for item in walk {
+        F::put(builder, &item)?;
+    }
+    Ok(())
+}
+
+/// All things up to the end of the window.
+#[derive(Debug)]
+pub struct Repeated<F> {
+    item: PhantomData<F>,
+}
+
+impl<R: AsOctets + Copy, F: Moving<R>> Format<R> for Repeated<F> {
+    ghost use Rattle.octseq_format.specs.Row.{Moved, one_to, one_moved, moving_moved, onward_to};
+    ghost use Rattle.octseq_format.specs.Row.{onward_moved, delimited_moved, to_read_back};
+
+    type Value = Walk<R, F>;
+
+    ghost Found = { List F.Found };
+
+    ghost found = { λ walk. items_left walk };
+
+    ghost is_at = { RowTo (Moved F.is_at) };
+
+    ghost Said = { List F.Said };
+
+    ghost says = { map F.says };
+
+    ghost octets = { row_octets F.octets };
+
+    ghost fits = { AllByRecursion F.fits };
+
+    ghost one = { one_to (Moved F.is_at) (one_moved F.one) (moving_moved F.is_at) };
+
+    ghost found_code = { coded_list F.found_code };
+
+    ghost base = { F.base + 1 };
+
+    ghost rate = { F.base + F.rate };
+
+    #[inline(always)]
+    fn parse_counted(parser: &mut Parser<R>, turns: &mut Turns) -> Result<Walk<R, F>, Malformed> {
+        turns.tick();
+        let first = *parser;
+        let mut ahead = first;
+        let count = pass_all::<R, F>(&mut ahead, turns)?;
+        *parser = ahead;
+        Ok(Walk::at(first, count))
+    }
+
+    #[inline(always)]
+    fn compose_len(value: &Walk<R, F>) -> Option<usize> {
+        items_len(value.iter())
+    }
+
+    #[inline(always)]
+    fn put<B: OctetsBuilder + Truncate>(
+        builder: &mut B,
+        value: &Walk<R, F>,
+    ) -> Result<(), AllocError> {
+        let before = builder.len();
+        let appended = put_items(builder, value.iter());
+        if appended.is_err() {
+            builder.truncate(before);
+        }
+        appended
+    }
+
+    ghost onward = { onward_to (Moved F.is_at) (onward_moved F.onward) };
+
+    ghost read_back = { to_read_back (Moved F.is_at) F.says F.octets F.fits (delimited_moved F.moving F.delimited) };
+}
+
+/// As many things as the count before them says.
+#[derive(Debug)]
+pub struct Times<N, F> {
+    count: PhantomData<N>,
+    item: PhantomData<F>,
+}
+
+impl<R: AsOctets + Copy, N: Length, F: Moving<R>> Format<R> for Times<N, F> {
+    ghost use Rattle.octseq_format.specs.Row.{Times, times_octets, TimesFit, one_times, onward_times, times_read_back};
+
+    type Value = Walk<R, F>;
+
+    ghost Found = { List F.Found };
+
+    ghost found = { λ walk. items_left walk };
+
+    ghost is_at = { Times N.width F.is_at };
+
+    ghost Said = { List F.Said };
+
+    ghost says = { map F.says };
+
+    ghost octets = { times_octets N.width F.octets };
+
+    ghost fits = { TimesFit N.width F.fits };
+
+    ghost one = { one_times N.width F.is_at F.one };
+
+    ghost found_code = { coded_list F.found_code };
+
+    ghost base = { F.base + 1 };
+
+    ghost rate = { F.base + F.rate };
+
+    #[inline(always)]
+    fn parse_counted(parser: &mut Parser<R>, turns: &mut Turns) -> Result<Walk<R, F>, Malformed> {
+        turns.tick();
+        let mut ahead = *parser;
+        let count = N::parse_len(&mut ahead)?;
+        let first = ahead;
+        pass_many::<R, F>(&mut ahead, count, turns)?;
+        *parser = ahead;
+        Ok(Walk::at(first, count))
+    }
+
+    #[inline(always)]
+    #[tactic(auto, using(crate::specs::Counted::counted_long))]
+    fn compose_len(value: &Walk<R, F>) -> Option<usize> {
+        let len = items_len(value.iter())?;
+        N::count_len(value.len(), len)
+    }
+
+    #[inline(always)]
+    #[tactic(auto, using(crate::specs::Counted::counted_long))]
+    fn put<B: OctetsBuilder + Truncate>(
+        builder: &mut B,
+        value: &Walk<R, F>,
+    ) -> Result<(), AllocError> {
+        let before = builder.len();
+        N::put_len(builder, value.len(), 0)?;
+        let appended = put_items(builder, value.iter());
+        if appended.is_err() {
+            builder.truncate(before);
+        }
+        appended
+    }
+
+    ghost onward = { onward_times N.width F.is_at F.onward };
+
+    ghost read_back = { times_read_back F.is_at F.says F.octets F.fits F.delimited N.width };
+}
+
+impl<R: AsOctets + Copy, N: Length, F: Moving<R>> Delimited<R> for Times<N, F> {
+    ghost use Rattle.octseq_format.specs.Row.{delimited_times};
+
+    ghost delimited = { delimited_times F.is_at F.says F.octets F.fits F.delimited N.width };
+}
+
+impl<R: AsOctets + Copy, N: Length, F: Moving<R>> Moving<R> for Times<N, F> {
+    ghost use Rattle.octseq_format.specs.Row.{moving_times};
+
+    ghost moving = { moving_times N.width F.is_at N.wide F.onward };
+}

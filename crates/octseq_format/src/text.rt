@@ -1,0 +1,74 @@
+//! Octets that are UTF-8.
+ghost use Rattle.std.specs.Prelude.{ℕ, List};
+ghost use Rattle.octseq.specs.Parser.{window};
+ghost use Rattle.octseq.specs.Window.{Window, rest};
+ghost use Rattle.octseq_format.specs.Rest.{window_code};
+ghost use Rattle.octseq_format.specs.Text.{IsText, TextFits, one_text, onward_text, text_read_back};
+
+use crate::format::Format;
+use octseq::utf8::{Turns, find_fault};
+use octseq::{AsOctets, Malformed, OctetsBuilder, Parser, Truncate};
+use std::alloc::AllocError;
+
+/// All octets up to the end of the window, where they are well-formed UTF-8, as a parser of them alone. They are known
+/// to be a text, so `Str::from_utf8_unchecked` makes one of them with no second search.
+#[derive(Debug)]
+pub struct Text;
+
+impl<R: AsOctets + Copy> Format<R> for Text {
+    type Value = Parser<R>;
+
+    ghost Found = { Window };
+
+    ghost found = { λ parser. window parser };
+
+    ghost is_at = { IsText };
+
+    ghost Said = { List ℕ };
+
+    ghost says = { rest };
+
+    ghost octets = { λ octets. octets };
+
+    ghost fits = { TextFits };
+
+    ghost one = { one_text };
+
+    ghost found_code = { window_code };
+
+    ghost base = { 1 };
+
+    ghost rate = { 0 };
+
+    #[inline(always)]
+    fn parse_counted(parser: &mut Parser<R>, turns: &mut Turns) -> Result<Parser<R>, Malformed> {
+        turns.tick();
+        if find_fault(parser.peek_all()).is_some() {
+            return Err(Malformed);
+        }
+        let len = parser.remaining();
+        Ok(parser.parse_parser(len)?)
+    }
+
+    #[inline(always)]
+    fn compose_len(value: &Parser<R>) -> Option<usize> {
+        if find_fault(value.peek_all()).is_some() {
+            return None;
+        }
+        Some(value.remaining())
+    }
+
+    #[inline(always)]
+    fn put<B: OctetsBuilder + Truncate>(
+        builder: &mut B,
+        value: &Parser<R>,
+    ) -> Result<(), AllocError> {
+        builder
+            .append_slice(value.peek_all())
+            .map_err(|_| AllocError)
+    }
+
+    ghost onward = { onward_text };
+
+    ghost read_back = { text_read_back };
+}

@@ -1,0 +1,68 @@
+//! The packets of TFTP: RFC 1350, 5.
+
+use octseq::{AsOctets, Parser};
+use octseq_format::{Case, Either, Fields, Format, Last, Rest, Tagged, U16Be, ZeroEnded};
+
+/// What a packet says. Texts are parsers of their octets.
+#[derive(Clone, Copy, Debug, Drop)]
+pub enum Packet<R: AsOctets + Copy> {
+    /// A request to read: a file's name, and a mode.
+    Read(Parser<R>, Parser<R>),
+    /// A request to write: a file's name, and a mode.
+    Write(Parser<R>, Parser<R>),
+    /// A block of a file: its number, and its octets.
+    Data(u16, Parser<R>),
+    /// That a block came: its number.
+    Acknowledgment(u16),
+    /// An error: its code, and words for a person.
+    Error(u16, Parser<R>),
+}
+
+impl<R: AsOctets + Copy> Fields<R> for Packet<R> {
+    ghost use Rattle.octseq_formats.specs.Tftp.{packet_fields};
+
+    type Format = Tagged<
+        u16,
+        Case<
+            1,
+            (ZeroEnded, ZeroEnded),
+            Case<
+                2,
+                (ZeroEnded, ZeroEnded),
+                Case<3, (U16Be, Rest), Case<4, U16Be, Last<5, (U16Be, ZeroEnded)>>>,
+            >,
+        >,
+    >;
+
+    ghost fields = { packet_fields };
+
+    fn from_fields(parts: <Self::Format as Format<R>>::Value) -> Self {
+        match parts {
+            Either::This((name, mode)) => Packet::Read(name, mode),
+            Either::Other(Either::This((name, mode))) => Packet::Write(name, mode),
+            Either::Other(Either::Other(Either::This((block, octets)))) => Packet::Data(
+                block, octets,
+            ),
+            Either::Other(Either::Other(Either::Other(Either::This(block)))) =>
+                Packet::Acknowledgment(block),
+            Either::Other(Either::Other(Either::Other(Either::Other((code, words))))) =>
+                Packet::Error(code, words),
+        }
+    }
+
+    fn to_fields(&self) -> <Self::Format as Format<R>>::Value {
+        match *self {
+            Packet::Read(name, mode) => Either::This((name, mode)),
+            Packet::Write(name, mode) => Either::Other(Either::This((name, mode))),
+            Packet::Data(block, octets) => Either::Other(Either::Other(Either::This((
+                block, octets,
+            )))),
+            Packet::Acknowledgment(block) => Either::Other(Either::Other(Either::Other(Either::This(
+                block,
+            )))),
+            Packet::Error(code, words) => Either::Other(Either::Other(Either::Other(Either::Other((
+                code, words,
+            ))))),
+        }
+    }
+}

@@ -1,0 +1,78 @@
+//! A record of TLS with a ClientHello: RFC 8446, 5.1 and 4.1.2.
+use octseq::{AsOctets, Parser};
+use octseq_format::{
+    Counted, Exactly, Fields, Format, Octets, Of, Repeated, Rest, U16Be, U24, Walk,
+};
+
+/// An extension: its type, and its data after a length.
+pub type Extension = (U16Be, Counted<u16, Rest, 0>);
+
+/// What a client says first, with its lists as `S` and `E`.
+#[derive(Clone, Copy, Debug, Drop)]
+pub struct ClientHello<R: AsOctets + Copy, S, E> {
+    /// The version, before there were extensions.
+    pub version: u16,
+    /// 32 octets at random.
+    pub random: [u8; 32],
+    /// The session that it takes up again.
+    pub session: Parser<R>,
+    /// Suites of ciphers.
+    pub suites: S,
+    /// Methods of compression.
+    pub compression: Parser<R>,
+    /// Extensions.
+    pub extensions: E,
+}
+
+/// As it is read: its lists are walks.
+pub type Hello<R> = ClientHello<R, Walk<R, U16Be>, Walk<R, Extension>>;
+
+impl<R: AsOctets + Copy> Fields<R> for Hello<R> {
+    type Format = (
+        U16Be,
+        Octets<32>,
+        Counted<u8, Rest, 0>,
+        Counted<u16, Repeated<U16Be>, 0>,
+        Counted<u8, Rest, 0>,
+        Counted<u16, Repeated<Extension>, 0>,
+    );
+
+    ghost fields = { λ hello. (
+      hello.version,
+      hello.random,
+      hello.session,
+      hello.suites,
+      hello.compression,
+      hello.extensions,
+    ) };
+
+    fn from_fields(parts: <Self::Format as Format<R>>::Value) -> Self {
+        let (version, random, session, suites, compression, extensions) = parts;
+        ClientHello {
+            version,
+            random,
+            session,
+            suites,
+            compression,
+            extensions,
+        }
+    }
+
+    fn to_fields(&self) -> <Self::Format as Format<R>>::Value {
+        (
+            self.version,
+            self.random,
+            self.session,
+            self.suites,
+            self.compression,
+            self.extensions,
+        )
+    }
+}
+
+/// A record of type 22, handshake: a version, and after its length a message of type 1, ClientHello, after its own.
+pub type Record<R> = (
+    Exactly<u8, 22>,
+    U16Be,
+    Counted<u16, (Exactly<u8, 1>, Counted<U24, Of<Hello<R>>, 0>), 0>,
+);

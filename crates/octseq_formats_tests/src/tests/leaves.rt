@@ -1,0 +1,168 @@
+//! Each format once: octets, and what they say.
+use octseq::{AsOctets, Malformed};
+use octseq_asserts::assert_equal;
+use octseq_format::{
+    Case, Either, Exactly, Format, I8, I16Be, I16Le, I32Be, I32Le, I64Be, I64Le, I128Be, I128Le,
+    Last, Octets, Optional, Others, Repeated, Tagged, Test, Text, U8, U16Be, U16Le, U24Be, U24Le,
+    U32Be, U32Le, U48Be, U48Le, U64Be, U64Le, U128Be, U128Le, Where, ZeroEnded,
+};
+use std::alloc::AllocGlobal;
+use std::fmt::Debug;
+use std::process::Abort;
+use std::test::Fail;
+
+/// What all of a slice says by a format, which is written again.
+fn is_said<'a, F: Format<&'a [u8]>>(
+    rt: &(impl AllocGlobal + Abort),
+    octets: &'a [u8],
+    wanted: F::Value,
+) -> Result<(), Fail>
+where
+    F::Value: PartialEq + Debug,
+{
+    let value = F::parse_whole(octets)?;
+    assert_equal!(rt, value, wanted);
+    let written: Vec<u8> = F::compose_whole(rt.alloc(), &value)?;
+    assert_equal!(rt, written.as_slice(), octets);
+    Ok(())
+}
+
+#[test]
+fn integers_are_big_endian(rt: HostRuntime) -> Result<(), Fail> {
+    is_said::<U8>(&rt, b"\x81", 0x81)?;
+    is_said::<U16Be>(&rt, b"\x81\x02", 0x8102)?;
+    is_said::<U24Be>(&rt, b"\x81\x02\x03", 0x81_0203)?;
+    is_said::<U32Be>(&rt, b"\x81\x02\x03\x04", 0x8102_0304)?;
+    is_said::<U48Be>(&rt, b"\x81\x02\x03\x04\x05\x06", 0x8102_0304_0506)?;
+    is_said::<U64Be>(
+        &rt,
+        b"\x81\x02\x03\x04\x05\x06\x07\x08",
+        0x8102_0304_0506_0708,
+    )?;
+    is_said::<U128Be>(&rt, b"\0\0\0\0\0\0\0\0\0\0\0\0\0\0\x01\x02", 0x0102)
+}
+
+#[test]
+fn integers_are_little_endian(rt: HostRuntime) -> Result<(), Fail> {
+    is_said::<U16Le>(&rt, b"\x02\x81", 0x8102)?;
+    is_said::<U24Le>(&rt, b"\x03\x02\x81", 0x81_0203)?;
+    is_said::<U32Le>(&rt, b"\x04\x03\x02\x81", 0x8102_0304)?;
+    is_said::<U48Le>(&rt, b"\x06\x05\x04\x03\x02\x81", 0x8102_0304_0506)?;
+    is_said::<U64Le>(
+        &rt,
+        b"\x08\x07\x06\x05\x04\x03\x02\x81",
+        0x8102_0304_0506_0708,
+    )?;
+    is_said::<U128Le>(&rt, b"\x02\x01\0\0\0\0\0\0\0\0\0\0\0\0\0\0", 0x0102)
+}
+
+#[test]
+fn integers_may_be_signed(rt: HostRuntime) -> Result<(), Fail> {
+    is_said::<I8>(&rt, b"\xFE", -2)?;
+    is_said::<I16Be>(&rt, b"\xFF\xFE", -2)?;
+    is_said::<I16Le>(&rt, b"\xFE\xFF", -2)?;
+    is_said::<I32Be>(&rt, b"\xFF\xFF\xFF\xFE", -2)?;
+    is_said::<I32Le>(&rt, b"\xFE\xFF\xFF\xFF", -2)?;
+    is_said::<I64Be>(&rt, b"\xFF\xFF\xFF\xFF\xFF\xFF\xFF\xFE", -2)?;
+    is_said::<I64Le>(&rt, b"\xFE\xFF\xFF\xFF\xFF\xFF\xFF\xFF", -2)?;
+    is_said::<I128Be>(
+        &rt,
+        b"\xFF\xFF\xFF\xFF\xFF\xFF\xFF\xFF\xFF\xFF\xFF\xFF\xFF\xFF\xFF\xFE",
+        -2,
+    )?;
+    is_said::<I128Le>(
+        &rt,
+        b"\xFE\xFF\xFF\xFF\xFF\xFF\xFF\xFF\xFF\xFF\xFF\xFF\xFF\xFF\xFF\xFF",
+        -2,
+    )
+}
+
+/// A version that is known.
+struct Known;
+
+impl Test for Known {
+    ghost use Rattle.std.specs.Prelude.{◌<◌};
+
+    ghost holds = { λ n. 3 < n };
+
+    fn test(number: usize) -> bool {
+        number > 3
+    }
+}
+
+#[test]
+fn a_number_may_be_fixed_or_tested(rt: HostRuntime) -> Result<(), Fail> {
+    is_said::<Exactly<u16, 258>>(&rt, b"\x01\x02", ())?;
+    assert_equal!(
+        &rt,
+        <Exactly<u16, 258> as Format<&[u8]>>::parse_whole(b"\x01\x03".as_slice()),
+        Err(Malformed)
+    );
+    is_said::<Where<u8, Known>>(&rt, b"\x04", 4)?;
+    assert_equal!(
+        &rt,
+        <Where<u8, Known> as Format<&[u8]>>::parse_whole(b"\x03".as_slice()),
+        Err(Malformed)
+    );
+    let written: Result<Vec<u8>, _> = <Where<u8, Known> as Format<&[u8]>>::compose_whole(
+        rt.alloc(),
+        &3,
+    );
+    assert_equal!(&rt, written.is_err(), true);
+    Ok(())
+}
+
+/// How many octets the first texts with a zero have, of those that all octets are, and how many texts are left.
+fn lens_of<R: AsOctets + Copy>(
+    octets: R,
+) -> Result<(Option<usize>, Option<usize>, usize), Malformed> {
+    let mut walk = Repeated::<ZeroEnded>::parse_whole(octets)?;
+    let first = walk.next().map(|item| item.remaining());
+    let second = walk.next().map(|item| item.remaining());
+    Ok((first, second, walk.len()))
+}
+
+/// How many octets a text has.
+fn len_of_text<R: AsOctets + Copy>(octets: R) -> Result<usize, Malformed> {
+    Ok(Text::parse_whole(octets)?.remaining())
+}
+
+#[test]
+fn octets_may_be_a_text_or_many(rt: HostRuntime) -> Result<(), Fail> {
+    is_said::<Octets<3>>(&rt, b"abc", *b"abc")?;
+    assert_equal!(&rt, len_of_text("h\u{e9}".as_bytes()), Ok(3));
+    assert_equal!(&rt, len_of_text(b"h\xC3".as_slice()), Err(Malformed));
+    assert_equal!(
+        &rt,
+        lens_of(b"a\0\0bc\0".as_slice()),
+        Ok((Some(1), Some(0), 1))
+    );
+    assert_equal!(&rt, lens_of(b"a\0b".as_slice()), Err(Malformed));
+    Ok(())
+}
+
+#[test]
+fn a_thing_at_the_end_may_be_left_out(rt: HostRuntime) -> Result<(), Fail> {
+    is_said::<(U8, Optional<U16Be>)>(&rt, b"\x01", (1, None))?;
+    is_said::<(U8, Optional<U16Be>)>(&rt, b"\x01\0\x02", (1, Some(2)))?;
+    let refused = <(U8, Optional<U16Be>) as Format<&[u8]>>::parse_whole(b"\x01\0".as_slice());
+    assert_equal!(&rt, refused, Err(Malformed));
+    Ok(())
+}
+
+#[test]
+fn a_tag_tells_what_comes(rt: HostRuntime) -> Result<(), Fail> {
+    is_said::<Tagged<u8, Case<1, U8, Others<U16Be>>>>(&rt, b"\x01\x07", Either::This(7))?;
+    is_said::<Tagged<u8, Case<1, U8, Others<U16Be>>>>(&rt, b"\x02\0\x07", Either::Other((2, 7)))?;
+    is_said::<Tagged<u8, Case<1, U8, Last<2, U16Be>>>>(&rt, b"\x02\0\x07", Either::Other(7))?;
+    let refused = <Tagged<u8, Case<1, U8, Last<2, U16Be>>> as Format<&[u8]>>::parse_whole(
+        b"\x03\0\x07".as_slice(),
+    );
+    assert_equal!(&rt, refused.is_err(), true);
+    let value = Either::Other((1, 7));
+    let written: Result<Vec<u8>, _> = <Tagged<u8, Case<1, U8, Others<U16Be>>> as Format<
+        &[u8],
+    >>::compose_whole(rt.alloc(), &value);
+    assert_equal!(&rt, written.is_err(), true);
+    Ok(())
+}

@@ -1,0 +1,37 @@
+//! Refused requests for memory.
+//!
+//! `.ci/refused` runs these tests with their n-th request refused, for each n up to the last of them. A refusal
+//! ends a test by the error that it was answered with, once the test has looked at what is there.
+use octseq::compose::ComposeError;
+use octseq::{AsOctets, Parser};
+use octseq_asserts::assert_equal;
+use octseq_format::{Format, Of};
+use octseq_formats::tftp::Packet;
+use std::alloc::AllocGlobal;
+use std::process::Abort;
+use std::test::Fail;
+
+/// Appends a request to write to a vector.
+fn append_request<H: AllocGlobal + Abort, R: AsOctets + Copy>(
+    rt: &H,
+    name: R,
+    mode: R,
+) -> Result<(), Fail> {
+    let packet = Packet::Write(Parser::from_ref(name), Parser::from_ref(mode));
+    let mut content = Vec::new(rt.alloc());
+    let appended = Of::<Packet<R>>::append(&mut content, &packet);
+    match appended {
+        Ok(()) => assert_equal!(rt, content.len(), 40),
+        Err(refusal) => {
+            assert_equal!(rt, refusal, ComposeError::Memory);
+            assert_equal!(rt, content.len(), 0);
+        }
+    }
+    Ok(appended?)
+}
+
+#[test]
+fn a_packet_is_appended_or_not_at_all(rt: HostRuntime) -> Result<(), Fail> {
+    let name = b"a name of a file that is longer".as_slice();
+    append_request(&rt, name, b"octet".as_slice())
+}
