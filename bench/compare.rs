@@ -4,6 +4,7 @@
 //! compiled into their callers either. Both read what they push from memory, by lengths that the compiler doesn't know,
 //! and both look at what a builder holds.
 mod dns;
+mod formats;
 mod inputs;
 mod report;
 
@@ -28,6 +29,10 @@ unsafe extern "C" {
     fn octseq_dns_checked(octets: *const u8, len: usize) -> u64;
     fn octseq_dns_read(octets: *const u8, len: usize) -> u64;
     fn octseq_dns_written(octets: *const u8, len: usize) -> u64;
+    fn octseq_ntp_by_format(octets: *const u8, len: usize) -> u64;
+    fn octseq_ntp_by_calls(octets: *const u8, len: usize) -> u64;
+    fn octseq_ntp_written(octets: *const u8, len: usize) -> u64;
+    fn octseq_hello_by_format(octets: *const u8, len: usize) -> u64;
 }
 
 type Sum = unsafe extern "C" fn(*const u8, usize) -> u64;
@@ -309,6 +314,24 @@ fn messages(bench: &mut Bench) {
     bench.add(section);
 }
 
+/// Formats: headers of NTP and ClientHellos, a hundred of each, one after another.
+fn formats(bench: &mut Bench) {
+    let hellos = formats::octets_of_lines(include_str!("hellos.hex")).repeat(25);
+    let calls: [(&str, &str, Sum, fn(&[u8]) -> u64, Vec<u8>); 4] = [
+        ("headers of NTP, by their format", "a reader of 48 octets, by hand", octseq_ntp_by_format, formats::headers, random(4800)),
+        ("headers of NTP, by calls of a parser", "the same", octseq_ntp_by_calls, formats::headers, random(4800)),
+        ("headers of NTP, read and written", "a writer of 48 octets, by hand", octseq_ntp_written, formats::headers_written, random(4800)),
+        ("ClientHellos of TLS, checked and read", "a reader over slices, by hand", octseq_hello_by_format, formats::hellos, hellos),
+    ];
+    for (what, beside, call, rust, octets) in calls {
+        let mut section = Section::new("formats", what, beside);
+        let theirs = octets.clone();
+        section.add(what, octets.len(), move || unsafe { call(octets.as_ptr(), octets.len()) },
+            move || rust(black_box(&theirs)));
+        bench.add(section);
+    }
+}
+
 fn main() {
     let mut bench = Bench::default();
     finder(&mut bench);
@@ -317,6 +340,7 @@ fn main() {
     pops(&mut bench);
     integers(&mut bench);
     messages(&mut bench);
+    formats(&mut bench);
     bench.measure(3);
     bench.tell();
     let mut words = std::env::args().skip(1);

@@ -8,7 +8,6 @@ use Rattle.octseq.specs.Limit.{IsPast, IsWithin}
 use Rattle.octseq.specs.Window.{Window}
 use Rattle.octseq.proofs.Limits.{past_more, within_if_not_past}
 use Rattle.octseq_dns_message.specs.Entry.{Record}
-use Rattle.octseq_dns_message.specs.Format.{Holds}
 use Rattle.octseq_dns_message.specs.declared.header.Header.{Header}
 use Rattle.octseq_dns.specs.Composed.{Chain, ChainUnder, CutShort, HasHeader, IsComposed, PushesAll, after_all}
 use Rattle.octseq_dns.specs.Composed.{one_counted}
@@ -24,6 +23,7 @@ use Rattle.octseq_dns.proofs.Entries.{chain_append, chain_grows, chain_split, pa
 use Rattle.octseq_dns.proofs.Entries.{question_headless, record_headless}
 use Rattle.octseq_dns.proofs.HeaderOctets.{header_length}
 use Rattle.octseq_dns.proofs.ListPushes.{chain_under}
+use Rattle.octseq_format.specs.Row.{Holds}
 
 -- ---- headers
 

@@ -7,10 +7,11 @@ use Rattle.octseq.specs.Window.{past, at, whole, behind}
 use Rattle.octseq.proofs.Behind.{be_comes_next}
 use Rattle.octseq.proofs.Written.{length_be}
 use Rattle.octseq_dns_message.specs.Flag.{flag}
-use Rattle.octseq_dns_message.specs.Format.{IsNumber, Row}
+use Rattle.octseq_dns_message.specs.Format.{IsNumber}
 use Rattle.octseq_dns_message.specs.Header.{IsHeader, flag_bits, header_numbers}
 use Rattle.octseq_dns_message.specs.declared.header.Header.{Header}
 use Rattle.octseq_dns.specs.Written.{HeaderFits, header_octets}
+use Rattle.octseq_format.specs.Row.{Row}
 
 -- a header has 12 octets
 pub header_length : (h : Header) → length (header_octets h) ≡ 12

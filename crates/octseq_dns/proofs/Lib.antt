@@ -32,3 +32,4 @@ pub use Rattle.octseq_dns_name.proofs.Names
 pub use Rattle.octseq_dns_name.proofs.SpellingSteps
 pub use Rattle.octseq_dns_name.proofs.Spellings
 pub use Rattle.octseq_dns_name.proofs.Wires
+pub use Rattle.octseq_format.proofs.RowSteps

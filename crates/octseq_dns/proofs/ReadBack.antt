@@ -4,12 +4,12 @@ use Rattle.std.proofs.Math.Logic.{∥∥₁_prop, ∥∥₁_elim}
 use Rattle.std.proofs.lemmas.List.{length-append, append-nil}
 use Rattle.octseq.specs.Window.{Window, at, whole}
 use Rattle.octseq_dns_message.specs.Entry.{Question, Record, IsQuestion, IsRecord}
-use Rattle.octseq_dns_message.specs.Format.{Row}
 use Rattle.octseq_dns_message.specs.declared.header.Header.{Header}
 use Rattle.octseq_dns.specs.ReadBack.{bare, IsAsTold, AreAsTold, ReadsBack}
 use Rattle.octseq_dns.specs.Told.{Told, IsTold}
 use Rattle.octseq_dns.specs.Written.{Asked, IsAsked, IsWritten, Writes, header_octets}
 use Rattle.octseq_dns.proofs.HeaderOctets.{header_length, header_stands}
+use Rattle.octseq_format.specs.Row.{Row}
 
 -- questions that stand in a row
 asked_row : (w v : Window) (asked : List Asked) → Row IsAsked w asked v

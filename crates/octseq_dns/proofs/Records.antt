@@ -12,7 +12,7 @@ use Rattle.octseq.proofs.Codes.{length_part}
 use Rattle.octseq.proofs.Written.{length_be}
 use Rattle.octseq_dns_message.specs.Data.{Form, HasForm, HasOctets, HasString, IsTyped}
 use Rattle.octseq_dns_message.specs.Entry.{Record, IsRecord}
-use Rattle.octseq_dns_message.specs.Format.{IsData, IsNumber, Row, ◌then◌}
+use Rattle.octseq_dns_message.specs.Format.{IsData, IsNumber}
 use Rattle.octseq_dns_message.specs.declared.header.Header.{Header}
 use Rattle.octseq_dns_name.specs.Name.{HasName, IsName}
 use Rattle.octseq_dns_name.specs.Wire.{wire}
@@ -27,6 +27,8 @@ use Rattle.octseq_dns.proofs.HeaderOctets.{header_length}
 use Rattle.octseq_dns.proofs.Made.{behind_length, head_and_data, head_length, head_octets}
 use Rattle.octseq_dns.proofs.Pushing.{drop_front, drop_body, number_at}
 use Rattle.octseq_dns.proofs.Standing.{drop_on}
+use Rattle.octseq_format.specs.Pair.{◌then◌}
+use Rattle.octseq_format.specs.Row.{Row}
 
 -- the window of n octets at a place
 abbrev pub inside : List ℕ → ℕ → ℕ → Window

@@ -44,3 +44,7 @@ pub use Rattle.octseq_dns_name.specs.Spelling
 pub use Rattle.octseq_dns_name.specs.Text
 pub use Rattle.octseq_dns_name.specs.Unfit
 pub use Rattle.octseq_dns_name.specs.Wire
+pub use Rattle.octseq_format.specs.Fixed
+pub use Rattle.octseq_format.specs.Laws
+pub use Rattle.octseq_format.specs.Pair
+pub use Rattle.octseq_format.specs.Row

@@ -3,26 +3,22 @@ use Rattle.std.specs.Prelude.{◌≡◌, ℕ, ◌+◌, List, [], ◌∷◌, ◌+
 use Rattle.std.proofs.Common.{sym, ap, ◌∙◌, subst, arith}
 use Rattle.std.proofs.lemmas.List.{length-append}
 use Rattle.octseq.specs.Window.{Window}
-use Rattle.octseq_dns_message.specs.Format.{Row}
 use Rattle.octseq_dns.specs.Section.{StandLists, Takes, TakesRecords}
 use Rattle.octseq_dns.specs.Section.{UpToQuestions, UpToAnswers, UpToAuthorities, UpToAdditionals}
 use Rattle.octseq_dns.specs.Section.{more_asked, more_answers, more_authorities, more_additionals}
 use Rattle.octseq_dns.specs.Told.{Told, IsTold}
 use Rattle.octseq_dns.specs.Written.{Asked, Lists, IsAsked}
-
--- one more stands behind a row
-row_more : {A : Type 0} (Is : Window → A → Window → Type 0) (w u v : Window) (row : List A) (one : A)
-    → Row Is w row u → Is u one v → Row Is w (row ++ one ∷ []) v
-row_more Is w u v [] one a is = (v, subst (λ x. Is x one v) a is, refl)
-row_more Is w u v (x ∷ row) one a is = (a.0, a.1, row_more Is a.0 u v row one a.2 is)
+use Rattle.octseq_format.specs.Laws.{Relation}
+use Rattle.octseq_format.specs.Row.{Row}
+use Rattle.octseq_format.proofs.RowSteps.{row_more}
 
 -- nothing stands in a row of nothing
-row_none : {A : Type 0} (Is : Window → A → Window → Type 0) (w v : Window) (row : List A) → row ≡ [] → Row Is w row v
+row_none : {A : Type 0} (Is : Relation A) (w v : Window) (row : List A) → row ≡ [] → Row Is w row v
     → v ≡ w
 row_none Is w v row none are = subst (λ row. Row Is w row v) none are
 
 -- and there a row of nothing stands
-row_nothing : {A : Type 0} (Is : Window → A → Window → Type 0) (w : Window) (row : List A) → row ≡ [] → Row Is w row w
+row_nothing : {A : Type 0} (Is : Relation A) (w : Window) (row : List A) → row ≡ [] → Row Is w row w
 row_nothing Is w row none = subst (λ row. Row Is w row w) (sym none) refl
 
 -- a list is one longer

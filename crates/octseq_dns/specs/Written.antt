@@ -4,12 +4,13 @@ use Rattle.octseq.specs.Integer.{octets_be}
 use Rattle.octseq.specs.declared.AsOctets.{Ghosts}
 use Rattle.octseq.specs.Window.{Window, at, whole}
 use Rattle.octseq_dns_message.specs.Entry.{Question, IsQuestion}
-use Rattle.octseq_dns_message.specs.Format.{Row, ◌then◌}
 use Rattle.octseq_dns_message.specs.Header.{flag_bits}
 use Rattle.octseq_dns_message.specs.declared.header.Header.{Header}
 use Rattle.octseq_dns_name.specs.Read.{labels_of}
 use Rattle.octseq_dns_name.specs.declared.name.ParsedName.{ParsedName}
 use Rattle.octseq_dns.specs.Told.{Told, IsTold}
+use Rattle.octseq_format.specs.Pair.{◌then◌}
+use Rattle.octseq_format.specs.Row.{Row}
 
 -- A question that was pushed: the labels of its name, its type and its class.
 pub record Asked : Type 0 where

@@ -2,7 +2,7 @@
 use Rattle.std.proofs.Common.{◌≡◌, ℕ, ◌+◌, ◌*◌, ◌<◌, Bool, true, false, List, refl, sym, ap, ◌∙◌, arith}
 use Rattle.octseq_dns_message.specs.Entry.{Record}
 use Rattle.octseq_dns_message.specs.Flag.{flag}
-use Rattle.octseq_dns_message.specs.OneRow.{one_row_to, one_option, option_moves}
+use Rattle.octseq_dns_message.specs.OneRow.{one_row_at, option_item}
 use Rattle.octseq_dns_message.specs.Opt.{EdnsOption, Opt, HasOption, IsOpt}
 
 -- a TTL with a response code, a version and a bit
@@ -31,8 +31,8 @@ unfolding opt_from
 one_opt r opt other a b =
     let parts = same_parts opt.dnssec_ok other.dnssec_ok opt.extended_rcode opt.version a.z other.extended_rcode
     other.version b.z a.version b.version a.few b.few (sym a.ttl ∙ b.ttl) in
-    let options = one_row_to HasOption one_option option_moves r.rdata a.end b.end opt.options other.options (a.ends
-    ∙ sym b.ends) a.options b.options in
+    let options = one_row_at HasOption option_item r.rdata a.end b.end opt.options other.options
+    (a.ends ∙ sym b.ends) a.options b.options in
     ap (λ n. opt_from n opt.extended_rcode opt.version opt.dnssec_ok opt.options) (a.size ∙ sym b.size)
     ∙ ap (λ n. opt_from other.udp_payload_size n opt.version opt.dnssec_ok opt.options) parts.0
     ∙ ap (λ n. opt_from other.udp_payload_size other.extended_rcode n opt.dnssec_ok opt.options) parts.1

@@ -1,15 +1,17 @@
--- The form of data follows from its type: what stands there by each type, and where no form does.
+-- The form of data follows from its type: what is there by each type, and where no form is.
 use Rattle.std.proofs.Common.{◌≡◌, ℕ, if◌then◌else◌, nat_eq, refl, sym, ap, ◌∙◌, subst, arith}
 use mathlib.Core.Logic.{inl, inr}
 use Rattle.octseq.specs.Window.{Window, at}
 use Rattle.octseq_dns_message.specs.Data.{Form, Mx, Soa, Srv, HasForm, HasOctets, HasString, HasStrings, HasMx}
 use Rattle.octseq_dns_message.specs.Data.{HasSoa, HasSrv, IsTyped, IsDataOf}
 use Rattle.octseq_dns_message.specs.Entry.{Record}
-use Rattle.octseq_dns_message.specs.Format.{IsNumber, ◌then◌}
+use Rattle.octseq_dns_message.specs.Format.{IsNumber}
 use Rattle.octseq_dns_name.specs.Name.{Name, HasName}
-use Rattle.octseq_dns_message.specs.OneEntry.{IsOne, one_named, one_number, one_then}
-use Rattle.octseq_dns_message.specs.OneRow.{one_row_to, one_string, string_moves}
-use Rattle.octseq_dns_message.proofs.Formats.{NoneAt}
+use Rattle.octseq_dns_message.specs.OneEntry.{one_named, one_number}
+use Rattle.octseq_dns_message.specs.OneRow.{one_row_at, string_item}
+use Rattle.octseq_format.specs.Fixed.{one_fixed}
+use Rattle.octseq_format.specs.Laws.{Relation, IsOne, NoneAt}
+use Rattle.octseq_format.specs.Pair.{◌then◌, ◌one_then◌}
 
 -- ---- each form is of one type
 
@@ -57,12 +59,12 @@ kind_again Kind.of_srv = refl
 one_kind : (k l : Kind) → number k ≡ number l → k ≡ l
 one_kind k l same = sym (kind_again k) ∙ ap kind_of same ∙ kind_again l
 
--- a form that is made of what stands there
-abbrev pub Made : {A : Type 0} → (A → Form) → (Window → A → Window → Type 0) → Window → Form → Window → Type 0
+-- a form that is made of what is there
+abbrev pub Made : {A : Type 0} → (A → Form) → Relation A → Relation Form
 Made {A} make Has w form v = (one : A) × (form ≡ make one) × Has w one v
 
 -- the form of each type
-abbrev pub Shape : Kind → Window → Form → Window → Type 0
+abbrev pub Shape : Kind → Relation Form
 Shape Kind.of_a = Made Form.a (HasOctets 4)
 Shape Kind.of_aaaa = Made Form.aaaa (HasOctets 16)
 Shape Kind.of_ns = Made Form.ns HasName
@@ -93,64 +95,58 @@ shape_by k rtype class w v form of is =
     let found = shape_of rtype class w v form is in
     subst (λ l. Shape l w form v) (one_kind found.0 k (sym found.1 ∙ of)) found.2
 
--- ---- where no form stands
+-- ---- where no form is
 
--- no mail exchange stands where a number of 2 octets and a name behind it don't
+-- no mail exchange is where a number of 2 octets and a name after it aren't
 pub no_mx : (w : Window) → NoneAt (IsNumber 2 then HasName) w → NoneAt HasMx w
 no_mx w none mx v is = none (mx.preference, mx.exchange) v is
 
--- no place of a service stands where three numbers of 2 octets and a name behind them don't
+-- no place of a service is where three numbers of 2 octets and a name after them aren't
 pub no_srv : (w : Window) → NoneAt (IsNumber 2 then IsNumber 2 then IsNumber 2 then HasName) w → NoneAt HasSrv w
 no_srv w none srv v is = none (srv.priority, (srv.weight, (srv.port, srv.target))) v is
 
--- no start of a zone of authority stands where two names and five numbers of 4 octets behind them don't
+-- no start of a zone of authority is where two names and five numbers of 4 octets after them aren't
 pub no_soa : (w : Window)
     → NoneAt (HasName then HasName then IsNumber 4 then IsNumber 4 then IsNumber 4 then IsNumber 4 then IsNumber 4) w
     → NoneAt HasSoa w
 no_soa w none soa v is =
     none (soa.mname, (soa.rname, (soa.serial, (soa.refresh, (soa.retry, (soa.expire, soa.minimum)))))) v is
 
--- none of a type, where its form doesn't stand
+-- none of a type, where its form isn't
 pub none_by : (k : Kind) (rtype class : ℕ) (w : Window) → rtype ≡ number k → NoneAt (Shape k) w
     → NoneAt (HasForm rtype class) w
 none_by k rtype class w of none form v is = none form v (shape_by k rtype class w v form of is)
 
--- no form that is made of a thing stands where no such thing does
-pub none_made : {A : Type 0} (make : A → Form) (Has : Window → A → Window → Type 0) (w : Window) → NoneAt Has w
+-- no form that is made of a thing is where no such thing is
+pub none_made : {A : Type 0} (make : A → Form) (Has : Relation A) (w : Window) → NoneAt Has w
     → NoneAt (Made make Has) w
 none_made make Has w none form v is = none is.0 v is.2
 
--- ---- at most one stands at a place
-
-one_octets : (n : ℕ) → IsOne (HasOctets n)
-one_octets n w u v one other a b = (a.1 ∙ sym b.1, a.2 ∙ sym b.2)
+-- ---- at most one is at a place
 
 mx_from : ℕ × Name → Mx
 mx_from mx = record { preference = mx.0; exchange = mx.1 }
 
 one_mx : IsOne HasMx
 unfolding mx_from
-one_mx w u v one other a b =
-    let same = one_then (IsNumber 2) HasName (one_number 2) one_named w u v (one.preference, one.exchange)
-    (other.preference, other.exchange) a b in
-    (ap mx_from same.0, same.1)
+one_mx = record {
+  same = λ w a b u v is other.
+      let parts = (one_number 2 one_then one_named).same w (a.preference, a.exchange) (b.preference, b.exchange) u v
+      is other in
+      (ap mx_from parts.0, parts.1);
+}
 
 srv_from : ℕ × (ℕ × (ℕ × Name)) → Srv
 srv_from srv = record { priority = srv.0; weight = srv.1.0; port = srv.1.1.0; target = srv.1.1.1 }
 
-one_target : IsOne (IsNumber 2 then HasName)
-one_target = one_then (IsNumber 2) HasName (one_number 2) one_named
-
-one_weighed : IsOne (IsNumber 2 then IsNumber 2 then HasName)
-one_weighed = one_then (IsNumber 2) (IsNumber 2 then HasName) (one_number 2) one_target
-
 one_srv : IsOne HasSrv
 unfolding srv_from
-one_srv w u v one other a b =
-    let same = one_then (IsNumber 2) (IsNumber 2 then IsNumber 2 then HasName) (one_number 2) one_weighed w u v
-    (one.priority, (one.weight, (one.port, one.target))) (other.priority, (other.weight, (other.port, other.target))) a
-    b in
-    (ap srv_from same.0, same.1)
+one_srv = record {
+  same = λ w a b u v is other.
+      let parts = (one_number 2 one_then one_number 2 one_then one_number 2 one_then one_named).same w
+      (a.priority, (a.weight, (a.port, a.target))) (b.priority, (b.weight, (b.port, b.target))) u v is other in
+      (ap srv_from parts.0, parts.1);
+}
 
 soa_from : Name × (Name × (ℕ × (ℕ × (ℕ × (ℕ × ℕ))))) → Soa
 soa_from soa = record {
@@ -164,37 +160,33 @@ soa_from soa = record {
 }
 
 -- numbers of 4 octets
-abbrev pub IsLong : Window → ℕ → Window → Type 0
+abbrev pub IsLong : Relation ℕ
 IsLong = IsNumber 4
 
-one_long : {A : Type 0} (Has : Window → A → Window → Type 0) → IsOne Has → IsOne (IsLong then Has)
-one_long Has one = one_then IsLong Has (one_number 4) one
-
 one_times : IsOne (IsLong then IsLong then IsLong then IsLong then IsLong)
-one_times = one_long (IsLong then IsLong then IsLong then IsLong)
-    (one_long (IsLong then IsLong then IsLong) (one_long (IsLong then IsLong) (one_long IsLong (one_number 4))))
-
-one_mailbox : IsOne (HasName then IsLong then IsLong then IsLong then IsLong then IsLong)
-one_mailbox = one_then HasName (IsLong then IsLong then IsLong then IsLong then IsLong) one_named one_times
+one_times = one_number 4 one_then one_number 4 one_then one_number 4 one_then one_number 4 one_then one_number 4
 
 one_soa : IsOne HasSoa
 unfolding soa_from
-one_soa w u v one other a b =
-    let same = one_then HasName (HasName then IsLong then IsLong then IsLong then IsLong then IsLong) one_named
-    one_mailbox w u v
-    (one.mname, (one.rname, (one.serial, (one.refresh, (one.retry, (one.expire, one.minimum))))))
-    (other.mname, (other.rname, (other.serial, (other.refresh, (other.retry, (other.expire, other.minimum)))))) a b in
-    (ap soa_from same.0, same.1)
+one_soa = record {
+  same = λ w a b u v is other.
+      let parts = (one_named one_then one_named one_then one_times).same w
+      (a.mname, (a.rname, (a.serial, (a.refresh, (a.retry, (a.expire, a.minimum))))))
+      (b.mname, (b.rname, (b.serial, (b.refresh, (b.retry, (b.expire, b.minimum)))))) u v is other in
+      (ap soa_from parts.0, parts.1);
+}
 
-one_made : {A : Type 0} (make : A → Form) (Has : Window → A → Window → Type 0) → IsOne Has → IsOne (Made make Has)
-one_made make Has one w u v form other a b =
-    let same = one w u v a.0 b.0 a.2 b.2 in
-    (a.1 ∙ ap make same.0 ∙ sym b.1, same.1)
+one_made : {A : Type 0} (make : A → Form) (Has : Relation A) → IsOne Has → IsOne (Made make Has)
+one_made make Has one = record {
+  same = λ w form other u v a b.
+      let it = one.same w a.0 b.0 u v a.2 b.2 in
+      (a.1 ∙ ap make it.0 ∙ sym b.1, it.1);
+}
 
 -- of any type but TXT
 one_shape : (k : Kind) → (number k ≡ 16 → ⊥) → IsOne (Shape k)
-one_shape Kind.of_a other_type = one_made Form.a (HasOctets 4) (one_octets 4)
-one_shape Kind.of_aaaa other_type = one_made Form.aaaa (HasOctets 16) (one_octets 16)
+one_shape Kind.of_a other_type = one_made Form.a (HasOctets 4) (one_fixed 4 (λ octets. octets))
+one_shape Kind.of_aaaa other_type = one_made Form.aaaa (HasOctets 16) (one_fixed 16 (λ octets. octets))
 one_shape Kind.of_ns other_type = one_made Form.ns HasName one_named
 one_shape Kind.of_cname other_type = one_made Form.cname HasName one_named
 one_shape Kind.of_ptr other_type = one_made Form.ptr HasName one_named
@@ -207,12 +199,12 @@ one_shape Kind.of_srv other_type = one_made Form.srv HasSrv one_srv
 one_text : (w u v : Window) (form other : Form) → u.position ≡ v.position → Shape Kind.of_txt w form u
     → Shape Kind.of_txt w other v → form ≡ other
 one_text w u v form other same a b =
-    a.1 ∙ ap Form.txt (one_row_to HasString one_string string_moves w u v a.0 b.0 same a.2.1 b.2.1) ∙ sym b.1
+    a.1 ∙ ap Form.txt (one_row_at HasString string_item w u v a.0 b.0 same a.2.1 b.2.1) ∙ sym b.1
 
 one_ending : (k : Kind) (w u v : Window) (form other : Form) → u.position ≡ v.position → Shape k w form u
     → Shape k w other v → form ≡ other
 one_ending Kind.of_txt w u v form other same a b = one_text w u v form other same a b
-one_ending k w u v form other same a b = (one_shape k (λ is. omega (arith, is)) w u v form other a b).0
+one_ending k w u v form other same a b = ((one_shape k (λ is. omega (arith, is))).same w form other u v a b).0
 
 -- so data has one form at most
 one_typed : (r : Record) (form other : Form) → IsTyped r form → IsTyped r other → form ≡ other
@@ -234,10 +226,10 @@ pub one_end : (rtype class : ℕ) (w u v : Window) (form other : Form) → (rtyp
     → HasForm rtype class w other v → u ≡ v
 one_end rtype class w u v form other untold a b =
     let found = shape_of rtype class w u form a in
-    (one_shape found.0 (λ is. untold (found.1 ∙ is)) w u v form other found.2
+    ((one_shape found.0 (λ is. untold (found.1 ∙ is))).same w form other u v found.2
     (shape_by found.0 rtype class w v other found.1 b)).1
 
--- none ends at the place where the one that stands there doesn't
+-- none ends at the place where the one that is there doesn't
 pub none_ends : (rtype class : ℕ) (w u v : Window) (form other : Form) (end : ℕ) → (rtype ≡ 16 → ⊥)
     → HasForm rtype class w form u → (u.position ≡ end → ⊥)
     → HasForm rtype class w other v → v.position ≡ end → ⊥

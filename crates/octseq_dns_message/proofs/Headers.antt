@@ -1,12 +1,14 @@
--- At most one header stands at a place: its flags and numbers can be told from their sum.
+-- At most one header is at a place: its flags and numbers can be told from their sum.
 use Rattle.std.proofs.Common.{◌≡◌, ℕ, ◌+◌, ◌*◌, ◌<◌, ◌≤◌, Bool, true, false, List, ◌∷◌, refl, sym, ap, ◌∙◌, arith}
 use Rattle.octseq.specs.Window.{Window, left}
 use Rattle.octseq_dns_message.specs.Flag.{flag}
 use Rattle.octseq_dns_message.specs.Format.{IsNumber}
 use Rattle.octseq_dns_message.specs.Header.{IsHeader, flag_bits, header_numbers}
-use Rattle.octseq_dns_message.specs.OneEntry.{IsOne, one_number, one_row}
+use Rattle.octseq_dns_message.specs.OneEntry.{one_number}
 use Rattle.octseq_dns_message.specs.declared.header.Header.{Header}
 use Rattle.octseq_dns_message.proofs.Formats.{numbers_take}
+use Rattle.octseq_format.specs.Laws.{IsOne}
+use Rattle.octseq_format.specs.Row.{one_row}
 
 -- a flag counts its weight once or not at all
 flag_scaled : (f : Bool) (weight : ℕ) → flag f weight ≡ flag f 1 * weight
@@ -93,10 +95,9 @@ sixth : List ℕ → ℕ × (ℕ × (ℕ × (ℕ × (ℕ × ℕ))))
 sixth (a ∷ b ∷ c ∷ d ∷ e ∷ f ∷ more) = (a, (b, (c, (d, (e, f)))))
 sixth _ = (0, (0, (0, (0, (0, 0)))))
 
--- at most one header stands at a place, with one end
-pub one_header : IsOne IsHeader
+same_headers : (w : Window) (h k : Header) (u v : Window) → IsHeader w h u → IsHeader w k v → (h ≡ k) × (u ≡ v)
 unfolding sixth
-one_header w u v h k a b =
+same_headers w h k u v a b =
     let same = one_row (IsNumber 2) (one_number 2) w u v (header_numbers h) (header_numbers k) refl a.numbers b.numbers
     in
     let six = ap sixth same.0 in
@@ -127,6 +128,10 @@ one_header w u v h k a b =
       },
       same.1,
     )
+
+-- at most one header is at a place, with one end
+pub one_header : IsOne IsHeader
+one_header = record { same = same_headers }
 
 -- a header has 12 octets
 pub header_takes : (w v : Window) (h : Header) → IsHeader w h v → left v + 12 ≤ left w

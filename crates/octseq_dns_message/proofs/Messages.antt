@@ -1,41 +1,36 @@
--- How a message is read: a header, four sections, and nothing behind them.
+-- How a message is read: a header, four sections, and nothing after them.
 use Rattle.std.proofs.Common.{◌≡◌, ℕ, ◌<◌, List, length, ap, subst, arith}
 use Rattle.octseq.specs.Window.{Window, left, whole}
 use Rattle.octseq_dns_message.specs.Entry.{Question, Record, IsQuestion, IsRecord}
-use Rattle.octseq_dns_message.specs.Format.{◌then◌, Many}
 use Rattle.octseq_dns_message.specs.Header.{IsHeader}
 use Rattle.octseq_dns_message.specs.Message.{Sections, AreSections, IsMessage}
-use Rattle.octseq_dns_message.specs.OneEntry.{IsOne, one_then, one_many, one_question, one_record}
+use Rattle.octseq_dns_message.specs.OneEntry.{one_question, one_record}
 use Rattle.octseq_dns_message.specs.declared.header.Header.{Header}
-use Rattle.octseq_dns_message.proofs.Formats.{NoneAt, none_first, none_second}
+use Rattle.octseq_dns_message.proofs.Formats.{none_first, none_second}
 use Rattle.octseq_dns_message.proofs.Headers.{one_header}
+use Rattle.octseq_format.specs.Laws.{IsOne, NoneAt}
+use Rattle.octseq_format.specs.Pair.{◌then◌, ◌one_then◌}
+use Rattle.octseq_format.specs.Row.{Many, one_many}
 
 -- no header and sections make these octets a message
 abbrev pub Refuses : List ℕ → Type 0
 Refuses octets = (header : Header) (questions : List Question) (answers authorities additionals : List Record)
     → IsMessage octets header questions answers authorities additionals → ⊥
 
--- ---- the sections that stand at a place are one
+-- ---- the sections that are at a place are one
 
 one_records : (n : ℕ) → IsOne (Many n IsRecord)
 one_records n = one_many n IsRecord one_record
 
-one_last : (n m : ℕ) → IsOne (Many n IsRecord then Many m IsRecord)
-one_last n m = one_then (Many n IsRecord) (Many m IsRecord) (one_records n) (one_records m)
-
-one_replies : (k n m : ℕ) → IsOne (Many k IsRecord then Many n IsRecord then Many m IsRecord)
-one_replies k n m = one_then (Many k IsRecord) (Many n IsRecord then Many m IsRecord) (one_records k) (one_last n m)
-
--- the sections that a header counts stand at a place in one way at most, with one end
+-- the sections that a header counts are at a place in one way at most, with one end
 pub one_sections : (h : Header) → IsOne (AreSections h)
-one_sections h = one_then (Many h.qdcount IsQuestion)
-    (Many h.ancount IsRecord then Many h.nscount IsRecord then Many h.arcount IsRecord)
-    (one_many h.qdcount IsQuestion one_question) (one_replies h.ancount h.nscount h.arcount)
+one_sections h = one_many h.qdcount IsQuestion one_question one_then one_records h.ancount
+    one_then one_records h.nscount one_then one_records h.arcount
 
--- a message's sections stand behind the header that stands at its front
+-- a message's sections are after the header that is at its front
 module _ (octets : List ℕ) (h k : Header) (q : List Question) (a b d : List Record) (v : Window) where
   same_header : IsHeader (whole octets) h v → (m : IsMessage octets k q a b d) → (k ≡ h) × (m.past_header ≡ v)
-  same_header is m = one_header (whole octets) m.past_header v k h m.header_is is
+  same_header is m = one_header.same (whole octets) k h m.past_header v m.header_is is
 
   same_sections : (is : IsHeader (whole octets) h v) → (m : IsMessage octets k q a b d)
       → AreSections h v (q, (a, (b, d))) m.past_sections
@@ -54,7 +49,7 @@ too_large octets large k q a b d m = let size = m.size in omega (arith, large, s
 pub no_header : (octets : List ℕ) → NoneAt IsHeader (whole octets) → Refuses octets
 no_header octets none k q a b d m = none k m.past_header m.header_is
 
--- sections that don't stand behind it
+-- no sections after it
 no_sections : (octets : List ℕ) (h : Header) (v : Window) → IsHeader (whole octets) h v → NoneAt (AreSections h) v
     → Refuses octets
 no_sections octets h v is none k q a b d m = none (q, (a, (b, d))) m.past_sections
@@ -93,11 +88,12 @@ module _ (octets : List ℕ) (h : Header) (v : Window) (is : IsHeader (whole oct
           (none_second (Many h.nscount IsRecord) (Many h.arcount IsRecord) y z b (one_records h.nscount) authorized
           none)
 
--- octets behind the sections
+-- octets after the sections
 pub some_behind : (octets : List ℕ) (h : Header) (v end : Window) (s : Sections) → IsHeader (whole octets) h v
     → AreSections h v s end → 0 < left end → Refuses octets
 some_behind octets h v end s is are some k q a b d m =
-    let same = one_sections h v m.past_sections end (q, (a, (b, d))) s (same_sections octets h k q a b d v is m) are in
+    let same = (one_sections h).same v (q, (a, (b, d))) s m.past_sections end
+    (same_sections octets h k q a b d v is m) are in
     let left_is = ap left same.1 in
     let none = m.nothing_behind in
     omega (arith, left_is, none, some)
@@ -109,8 +105,8 @@ pub said_once : (octets : List ℕ) (h k : Header) (q others : List Question) (a
     → IsMessage octets h q a b d → IsMessage octets k others x y z
     → (h ≡ k) × (q ≡ others) × (a ≡ x) × (b ≡ y) × (d ≡ z)
 said_once octets h k q others a b d x y z m n =
-    let begun = one_header (whole octets) m.past_header n.past_header h k m.header_is n.header_is in
+    let begun = one_header.same (whole octets) h k m.past_header n.past_header m.header_is n.header_is in
     let are = same_sections octets k h q a b d n.past_header n.header_is m in
-    let same = one_sections k n.past_header m.past_sections n.past_sections (q, (a, (b, d))) (others, (x, (y, z))) are
-    n.sections_are in
+    let same = (one_sections k).same n.past_header (q, (a, (b, d))) (others, (x, (y, z))) m.past_sections
+    n.past_sections are n.sections_are in
     (begun.0, ap (λ s. s.0) same.0, ap (λ s. s.1.0) same.0, ap (λ s. s.1.1.0) same.0, ap (λ s. s.1.1.1) same.0)

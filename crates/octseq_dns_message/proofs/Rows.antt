@@ -3,116 +3,93 @@ use Rattle.std.proofs.Common.{◌≡◌, ℕ, ◌<◌, ◌≤◌, List, [], ◌�
 use Rattle.std.proofs.Math.Logic.{∥∥₁_elim}
 use Rattle.std.specs.Coded.{Coded, Coded-set, coded_list}
 use mathlib.Core.HLevel.{⊥_prop}
-use Rattle.octseq.specs.Window.{Window, left}
-use Rattle.octseq_dns_message.specs.Data.{HasString}
-use Rattle.octseq_dns_message.specs.Format.{Row}
-use Rattle.octseq_dns_message.specs.OneEntry.{IsOne}
-use Rattle.octseq_dns_message.specs.OneRow.{Moves, row_moves, one_row_to, Reaches, reached_once}
-use Rattle.octseq_dns_message.specs.Opt.{EdnsOption, HasOption}
-use Rattle.octseq_dns_message.proofs.Formats.{NoneAt, row_more}
-
--- fewer octets are left behind a string, and behind an option
-pub string_less : (w v : Window) (string : List ℕ) → HasString w string v → left v < left w
-string_less w v string is = let moved = ap left is.2 in let room = is.0.0 in omega (arith, moved, room)
-
--- fewer octets are left behind an option than before it
-pub option_less : (w v : Window) (option : EdnsOption) → HasOption w option v → left v < left w
-option_less w v option is =
-    let code = ap left is.1.2 in
-    let octets = ap left is.2.2 in
-    let room = is.1.0 in
-    omega (arith, code, octets, room)
-
--- in a window of one end
-pub option_end : (w v : Window) (option : EdnsOption) → HasOption w option v → v.end ≡ w.end
-option_end w v option is = ap (λ v. v.end) is.2.2 ∙ ap (λ v. v.end) is.1.2
+use Rattle.octseq.specs.Window.{Window}
+use Rattle.octseq_dns_message.specs.OneRow.{IsItem, row_on, one_row_at, Reaches, reached_once}
+use Rattle.octseq_format.specs.Laws.{Relation, NoneAt}
+use Rattle.octseq_format.specs.Row.{Row}
+use Rattle.octseq_format.proofs.RowSteps.{row_more}
 
 -- ---- reading up to a place
 
--- What was read so far, from a first window to a second one: a row; and where a row stands at the first one and ends
--- at the place, another
--- is ahead of the second one.
-pub record Reading {A : Type 0} (Is : Window → A → Window → Type 0) (w u : Window) (end : ℕ) : Type 0 where
+-- What was read so far, from a first window to a second one: a row; and where a row is at the first one and ends at the
+-- place, another is ahead of the second one.
+pub record Reading {A : Type 0} (Is : Relation A) (w u : Window) (end : ℕ) : Type 0 where
   pub read : List A
   pub row : Row Is w read u
   pub ahead : (all : List A) (v : Window) → Row Is w all v → v.position ≡ end → (more : List A) × Row Is u more v
 
 -- before anything was read, all of the row is ahead
-pub begun : {A : Type 0} (Is : Window → A → Window → Type 0) (w : Window) (end : ℕ) → Reading Is w w end
+pub begun : {A : Type 0} (Is : Relation A) (w : Window) (end : ℕ) → Reading Is w w end
 begun Is w end = record { read = []; row = refl; ahead = λ all v row ends. (all, row) }
 
 -- nothing was
-pub begun_read : {A : Type 0} (Is : Window → A → Window → Type 0) (w : Window) (end : ℕ) → (begun Is w end).read ≡ []
+pub begun_read : {A : Type 0} (Is : Relation A) (w : Window) (end : ℕ) → (begun Is w end).read ≡ []
 unfolding begun
 begun_read Is w end = refl
 
--- before the place a row goes on, and what stands there is its first
-first_of : {A : Type 0} (Is : Window → A → Window → Type 0) → IsOne Is → (u x v : Window) (one : A) (row : List A)
+-- before the place a row goes on, and what is there is its first
+first_of : {A : Type 0} (Is : Relation A) → IsItem Is → (u x v : Window) (one : A) (row : List A)
     → (u.position ≡ v.position → ⊥) → Is u one x → Row Is u row v
     → (more : List A) × (row ≡ one ∷ more) × Row Is x more v
-first_of Is single u x v one [] before is row = absurd (before (sym (ap (λ v. v.position) row)))
-first_of Is single u x v one (y ∷ row) before is all =
-    let same = single u all.0 x y one all.1 is in
+first_of Is item u x v one [] before is row = absurd (before (sym (ap (λ v. v.position) row)))
+first_of Is item u x v one (y ∷ row) before is all =
+    let same = item.one.same u y one all.0 x all.1 is in
     (row, ap (λ y. y ∷ row) same.0, subst (λ x. Row Is x row v) same.1 all.2)
 
-some_of : {A : Type 0} (Is : Window → A → Window → Type 0) (u v : Window) (row : List A) → (u.position ≡ v.position → ⊥)
+some_of : {A : Type 0} (Is : Relation A) (u v : Window) (row : List A) → (u.position ≡ v.position → ⊥)
     → NoneAt Is u → Row Is u row v → ⊥
 some_of Is u v [] before none row = before (sym (ap (λ v. v.position) row))
 some_of Is u v (y ∷ row) before none all = none y all.0 all.1
 
-none_of : {A : Type 0} (Is : Window → A → Window → Type 0) → Moves Is → (w v : Window) (row : List A)
+none_of : {A : Type 0} (Is : Relation A) → IsItem Is → (w v : Window) (row : List A)
     → w.position ≡ v.position → Row Is w row v → row ≡ []
-none_of Is moves w v [] same row = refl
-none_of Is moves w v (x ∷ row) same all =
-    let one = moves w all.0 x all.1 in
-    let more = row_moves Is moves all.0 v row all.2 in
-    absurd (omega (arith, same, one, more))
+none_of Is item w v row same all = one_row_at Is item w v w row [] (sym same) all refl
 
 -- one more
-pub with_one : {A : Type 0} (Is : Window → A → Window → Type 0) → IsOne Is → (w u x : Window) (end : ℕ) (one : A)
+pub with_one : {A : Type 0} (Is : Relation A) → IsItem Is → (w u x : Window) (end : ℕ) (one : A)
     → Reading Is w u end → u.position < end → Is u one x → Reading Is w x end
-with_one Is single w u x end one so_far before is = record {
+with_one Is item w u x end one so_far before is = record {
   read = so_far.read ++ one ∷ [];
   row = row_more Is w u x so_far.read one so_far.row is;
   ahead = λ all v row ends.
       let more = so_far.ahead all v row ends in
-      let on = first_of Is single u x v one more.0 (λ same. omega (arith, before, ends, same)) is more.1 in
+      let on = first_of Is item u x v one more.0 (λ same. omega (arith, before, ends, same)) is more.1 in
       (on.0, on.2);
 }
 
 -- it is the last that was read
-pub with_one_read : {A : Type 0} (Is : Window → A → Window → Type 0) (single : IsOne Is) (w u x : Window) (end : ℕ)
+pub with_one_read : {A : Type 0} (Is : Relation A) (item : IsItem Is) (w u x : Window) (end : ℕ)
     (one : A) (so_far : Reading Is w u end) (before : u.position < end) (is : Is u one x)
-    → (with_one Is single w u x end one so_far before is).read ≡ so_far.read ++ one ∷ []
+    → (with_one Is item w u x end one so_far before is).read ≡ so_far.read ++ one ∷ []
 unfolding with_one
-with_one_read Is single w u x end one so_far before is = refl
+with_one_read Is item w u x end one so_far before is = refl
 
 -- a row that ends at the place
-abbrev pub NoneTo : {A : Type 0} → (Window → A → Window → Type 0) → Window → ℕ → Type 0
+abbrev pub NoneTo : {A : Type 0} → Relation A → Window → ℕ → Type 0
 NoneTo {A} Is w end = (all : List A) (v : Window) → Row Is w all v → v.position ≡ end → ⊥
 
--- there is none where before the place nothing more stands
-pub no_more : {A : Type 0} (Is : Window → A → Window → Type 0) (w u : Window) (end : ℕ) → Reading Is w u end
+-- there is none where nothing more is before the place
+pub no_more : {A : Type 0} (Is : Relation A) (w u : Window) (end : ℕ) → Reading Is w u end
     → u.position < end → NoneAt Is u → NoneTo Is w end
 no_more Is w u end so_far before none all v row ends =
     let more = so_far.ahead all v row ends in
     some_of Is u v more.0 (λ same. omega (arith, before, ends, same)) none more.1
 
--- nor where what stands there goes past it
-pub gone_past : {A : Type 0} (Is : Window → A → Window → Type 0) → Moves Is → (w u : Window) (end : ℕ)
+-- nor where what is there goes past it
+pub gone_past : {A : Type 0} (Is : Relation A) → IsItem Is → (w u : Window) (end : ℕ)
     → Reading Is w u end → end < u.position → NoneTo Is w end
-gone_past Is moves w u end so_far past all v row ends =
+gone_past Is item w u end so_far past all v row ends =
     let more = so_far.ahead all v row ends in
-    let on = row_moves Is moves u v more.0 more.1 in
+    let on = row_on Is item u v more.0 more.1 in
     omega (arith, past, ends, on)
 
 -- none but the empty one ends where it begins
-pub none_here : {A : Type 0} (Is : Window → A → Window → Type 0) → Moves Is → (w v : Window) (row : List A)
+pub none_here : {A : Type 0} (Is : Relation A) → IsItem Is → (w v : Window) (row : List A)
     → w.position ≡ v.position → Row Is w row v → length row ≡ 0
-none_here Is moves w v row same all = ap length (none_of Is moves w v row same all)
+none_here Is item w v row same all = ap length (none_of Is item w v row same all)
 
 -- and the empty one ends nowhere else
-pub some_there : {A : Type 0} (Is : Window → A → Window → Type 0) (w v : Window) (row : List A)
+pub some_there : {A : Type 0} (Is : Relation A) (w v : Window) (row : List A)
     → (w.position ≡ v.position → ⊥) → Row Is w row v → 1 ≤ length row
 some_there Is w v [] other row = absurd (other (sym (ap (λ v. v.position) row)))
 some_there Is w v (x ∷ row) other all = omega arith
@@ -120,38 +97,38 @@ some_there Is w v (x ∷ row) other all = omega arith
 -- ---- rows that a value keeps
 
 -- what was read is what is kept
-pub reached_as : {A : Type 0} (code : Coded A) (Is : Window → A → Window → Type 0) → IsOne Is → Moves Is
+pub reached_as : {A : Type 0} (code : Coded A) (Is : Relation A) → IsItem Is
     → (w v : Window) (end : ℕ) (row : List A) (held : Reaches Is w end)
     → v.position ≡ end → Row Is w row v → row ≡ held.0
-reached_as code Is one moves w v end row held ends is = ∥∥₁_elim held.1 (Coded-set (coded_list code) row held.0) (λ x.
-    one_row_to Is one moves w v x.0 row held.0 (ends ∙ sym x.2) is x.1)
+reached_as code Is item w v end row held ends is = ∥∥₁_elim held.1 (Coded-set (coded_list code) row held.0) (λ x.
+    one_row_at Is item w v x.0 row held.0 (ends ∙ sym x.2) is x.1)
 
 -- at the place nothing is left
-pub reached_none : {A : Type 0} (code : Coded A) (Is : Window → A → Window → Type 0) → Moves Is
+pub reached_none : {A : Type 0} (code : Coded A) (Is : Relation A) → IsItem Is
     → (w : Window) (end : ℕ) (held : Reaches Is w end) → w.position ≡ end → held.0 ≡ []
-reached_none code Is moves w end held same = ∥∥₁_elim held.1 (Coded-set (coded_list code) held.0 [])
-    (λ x. none_of Is moves w x.0 held.0 (same ∙ sym x.2) x.1)
+reached_none code Is item w end held same = ∥∥₁_elim held.1 (Coded-set (coded_list code) held.0 [])
+    (λ x. none_of Is item w x.0 held.0 (same ∙ sym x.2) x.1)
 
--- before it something stands there
-pub reached_not : {A : Type 0} (Is : Window → A → Window → Type 0) (w : Window) (end : ℕ) (held : Reaches Is w end)
+-- before it something is there
+pub reached_not : {A : Type 0} (Is : Relation A) (w : Window) (end : ℕ) (held : Reaches Is w end)
     → (w.position ≡ end → ⊥) → NoneAt Is w → ⊥
 reached_not Is w end held other none = ∥∥₁_elim held.1 ⊥_prop
     (λ x. some_of Is w x.0 held.0 (λ same. other (same ∙ x.2)) none x.1)
 
--- and the rest behind it is a fact
-pub reached_more : {A : Type 0} (code : Coded A) (Is : Window → A → Window → Type 0) → IsOne Is → Moves Is
+-- and the rest after it is a fact
+pub reached_more : {A : Type 0} (code : Coded A) (Is : Relation A) → IsItem Is
     → (w u : Window) (end : ℕ) (one : A) (held : Reaches Is w end)
     → (w.position ≡ end → ⊥) → Is w one u → Reaches Is u end
-reached_more code Is single moves w u end one held other is =
-    ∥∥₁_elim held.1 (reached_once code Is single moves u end) (λ x.
-    let on = first_of Is single w u x.0 one held.0 (λ same. other (same ∙ x.2)) is x.1 in
+reached_more code Is item w u end one held other is =
+    ∥∥₁_elim held.1 (reached_once code Is item u end) (λ x.
+    let on = first_of Is item w u x.0 one held.0 (λ same. other (same ∙ x.2)) is x.1 in
     (on.0, ∣ (x.0, on.2, x.2) ∣₁))
 
--- a row that is kept is the thing that stands first, and then the row that is kept behind it
-pub reached_then : {A : Type 0} (code : Coded A) (Is : Window → A → Window → Type 0) → IsOne Is → Moves Is
+-- a row that is kept is its first thing, and then the row that is kept after it
+pub reached_then : {A : Type 0} (code : Coded A) (Is : Relation A) → IsItem Is
     → (w u : Window) (end last : ℕ) (one : A) (held : Reaches Is w end)
-    (behind : Reaches Is u last) → last ≡ end → (w.position ≡ end → ⊥) → Is w one u → held.0 ≡ one ∷ behind.0
-reached_then code Is single moves w u end last one held behind to other is =
-    ∥∥₁_elim held.1 (Coded-set (coded_list code) held.0 (one ∷ behind.0)) (λ x.
-    let on = first_of Is single w u x.0 one held.0 (λ same. other (same ∙ x.2)) is x.1 in
-    on.1 ∙ ap (λ more. one ∷ more) (reached_as code Is single moves u x.0 last on.0 behind (x.2 ∙ sym to) on.2))
+    (after : Reaches Is u last) → last ≡ end → (w.position ≡ end → ⊥) → Is w one u → held.0 ≡ one ∷ after.0
+reached_then code Is item w u end last one held after to other is =
+    ∥∥₁_elim held.1 (Coded-set (coded_list code) held.0 (one ∷ after.0)) (λ x.
+    let on = first_of Is item w u x.0 one held.0 (λ same. other (same ∙ x.2)) is x.1 in
+    on.1 ∙ ap (λ more. one ∷ more) (reached_as code Is item u x.0 last on.0 after (x.2 ∙ sym to) on.2))

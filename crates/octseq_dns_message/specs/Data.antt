@@ -4,8 +4,10 @@ use Rattle.std.specs.Prelude.{◌≡◌, ℕ, ◌≤◌, ◌⊎◌, List, length
 use Rattle.octseq.specs.Part.{HasPart, part, past_part}
 use Rattle.octseq.specs.Window.{Window, left, next, rest, at, past}
 use Rattle.octseq_dns_message.specs.Entry.{Record}
-use Rattle.octseq_dns_message.specs.Format.{IsNumber, ◌then◌, Row}
+use Rattle.octseq_dns_message.specs.Format.{IsNumber}
 use Rattle.octseq_dns_name.specs.Name.{Name, HasName}
+use Rattle.octseq_format.specs.Pair.{◌then◌}
+use Rattle.octseq_format.specs.Row.{Row}
 
 -- so many octets
 abbrev pub HasOctets : ℕ → Window → List ℕ → Window → Type 0

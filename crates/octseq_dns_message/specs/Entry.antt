@@ -1,8 +1,9 @@
 -- The entries of a message: questions (RFC 1035, 4.1.2) and records (RFC 1035, 4.1.3). A TTL is unsigned: RFC 2181, 8.
 use Rattle.std.specs.Prelude.{ℕ}
 use Rattle.octseq.specs.Window.{Window}
-use Rattle.octseq_dns_message.specs.Format.{IsNumber, IsData, ◌then◌}
+use Rattle.octseq_dns_message.specs.Format.{IsNumber, IsData}
 use Rattle.octseq_dns_name.specs.Name.{Name, HasName}
+use Rattle.octseq_format.specs.Pair.{◌then◌}
 
 -- A question: the name that is asked for, and which type and class.
 pub record Question : Type 0 where

@@ -2,8 +2,9 @@
 use Rattle.std.specs.Prelude.{ℕ, ◌+◌, ◌*◌, ◌<◌, List, [], ◌∷◌}
 use Rattle.octseq.specs.Window.{Window}
 use Rattle.octseq_dns_message.specs.Flag.{flag}
-use Rattle.octseq_dns_message.specs.Format.{IsNumber, Row}
+use Rattle.octseq_dns_message.specs.Format.{IsNumber}
 use Rattle.octseq_dns_message.specs.declared.header.Header.{Header}
+use Rattle.octseq_format.specs.Row.{Row}
 
 -- The second number of a header, from its highest bit: QR, four bits of opcode, AA, TC, RD, RA, a bit of no meaning,
 -- AD, CD, and four bits of rcode.

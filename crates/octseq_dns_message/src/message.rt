@@ -3,10 +3,10 @@ ghost use Rattle.std.specs.Prelude.{◌≡◌, ◌<◌, ℕ, List, ⊤};
 ghost use Rattle.octseq.specs.Parser.{window};
 ghost use Rattle.octseq_dns_message.specs.Entry as said;
 ghost use Rattle.octseq_dns_message.specs.Entry.{IsQuestion, IsRecord};
-ghost use Rattle.octseq_dns_message.specs.Format.{Holds};
 ghost use Rattle.octseq_dns_message.specs.Message.{IsMessage};
 ghost use Rattle.octseq_dns_message.specs.OneEntry.{questions_once, records_once};
 ghost use Rattle.octseq_dns_message.specs.declared.header.Header.{Header as Fields};
+ghost use Rattle.octseq_format.specs.Row.{Holds};
 
 use crate::header::{Flags, Header};
 use crate::iana::{Opcode, Rcode};

@@ -5,9 +5,10 @@ use Rattle.std.proofs.Math.Logic.{∥∥₁_elim}
 use Rattle.std.specs.Coded.{Coded, Coded-set, coded_list}
 use mathlib.Core.HLevel.{⊥_prop}
 use Rattle.std.proofs.Math.Nat.{mul-le-mul_left}
+use Rattle.std.proofs.lemmas.List.Sums.{sum_by_push}
 use Rattle.octseq.specs.Window.{Window, left}
 use Rattle.octseq_format.specs.Laws.{Relation, NoneAt, IsOne, IsMoving}
-use Rattle.octseq_format.specs.Row.{Row, Many, Moved, Holds, one_row, one_many, held_once}
+use Rattle.octseq_format.specs.Row.{Row, Many, Moved, Holds, row_turns, one_row, one_many, held_once}
 
 -- ---- rows that are read one by one
 
@@ -139,15 +140,21 @@ row_of_moved Is w v (x ∷ row) is = (is.0, is.1.0, row_of_moved Is is.0 v row i
 
 -- ---- turns
 
+-- one more thing, and a turn for it
+pub row_turns_more : {A : Type 0} (turns : A → ℕ) (row : List A) (one : A)
+    → row_turns turns (row ++ one ∷ []) ≡ row_turns turns row + (1 + turns one)
+row_turns_more turns row one = sum_by_push (λ a. 1 + turns a) row one
+
 -- one more thing takes an octet at least, which pays for its turns
-pub turns_more : (base rate before after turns more : ℕ) → after < before
-    → more + rate * after ≤ turns + base + rate * before
-    → more + (base + rate) * after ≤ turns + (base + rate) * before
-turns_more base rate before after turns more less took =
-    let paid : base * (after + 1) ≤ base * before = mul-le-mul_left base (omega (arith, less)) in
-    omega (arith, paid, took)
+pub turns_more : (base rate before after turns start more : ℕ) → after < before → start ≡ turns + 1
+    → more + rate * after ≤ start + base + rate * before
+    → more + (base + 1 + rate) * after ≤ turns + (base + 1 + rate) * before
+turns_more base rate before after turns start more less tick took =
+    let paid : (base + 1) * (after + 1) ≤ (base + 1) * before = mul-le-mul_left (base + 1) (omega (arith, less)) in
+    omega (arith, paid, tick, took)
 
 -- one that is refused
-pub turns_most : (base rate before octets turns start more : ℕ) → turns + (base + rate) * before ≤ start + (base + rate) * octets
-    → more ≤ turns + base + rate * before → more ≤ start + base + (base + rate) * octets
+pub turns_most : (base rate before octets turns start more : ℕ)
+    → turns + (base + 1 + rate) * before ≤ start + (base + 1 + rate) * octets
+    → more ≤ turns + 1 + base + rate * before → more ≤ start + (base + 1) + (base + 1 + rate) * octets
 turns_most base rate before octets turns start more taken most = omega (arith, taken, most)

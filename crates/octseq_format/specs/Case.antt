@@ -42,6 +42,10 @@ abbrev pub case_octets : {S T : Type 0} → (S → List ℕ) → (T → List ℕ
 case_octets octets other (inl a) = octets a
 case_octets octets other (inr b) = other b
 
+abbrev pub case_turns : {A B : Type 0} → (A → ℕ) → (B → ℕ) → A ⊎ B → ℕ
+case_turns turns other (inl a) = turns a
+case_turns turns other (inr b) = other b
+
 -- It fits, and what is said by another tag doesn't have this one.
 abbrev pub CaseFits : {S T : Type 0} → ℕ → (T → ℕ) → (S → Type 0) → (T → Type 0) → S ⊎ T → Type 0
 CaseFits n tag Fits Other (inl a) = Fits a
@@ -60,18 +64,20 @@ module _ {A B : Type 0} (n : ℕ) (Is : Relation A) (Other : ByTag B) where
   pub one_case : IsOne Is → ((tag : ℕ) → IsOne (Other tag)) → (tag : ℕ) → IsOne (IsCase n Is Other tag)
   one_case one others tag = record { same = same_case one others tag }
 
-  case_on : IsOnward Is → ((tag : ℕ) → IsOnward (Other tag)) → (tag : ℕ) (w : Window) (a : A ⊎ B) (v : Window)
+  case_on : {l m : ℕ} → IsOnward l Is → ((tag : ℕ) → IsOnward m (Other tag)) → (tag : ℕ) (w : Window) (a : A ⊎ B)
+      (v : Window)
       → w.position ≤ w.end → IsCase n Is Other tag w a v
       → (v.octets ≡ w.octets) × (v.end ≡ w.end) × (w.position ≤ v.position) × (v.position ≤ v.end)
   case_on on others tag w (inl a) v ordered is = on.on w a v ordered is.1
   case_on on others tag w (inr b) v ordered is = (others tag).on w b v ordered is.1
 
-  case_less : IsOnward Is → ((tag : ℕ) → IsOnward (Other tag)) → (tag : ℕ) (w : Window) (a : A ⊎ B) (v : Window)
-      → IsCase n Is Other tag w a v → left v ≤ left w
-  case_less on others tag w (inl a) v is = on.less w a v is.1
-  case_less on others tag w (inr b) v is = (others tag).less w b v is.1
+  case_less : {l m : ℕ} → IsOnward l Is → ((tag : ℕ) → IsOnward m (Other tag)) → (tag : ℕ) (w : Window) (a : A ⊎ B)
+      (v : Window) → IsCase n Is Other tag w a v → left v + 0 ≤ left w
+  case_less on others tag w (inl a) v is = let less = on.less w a v is.1 in omega (arith, less)
+  case_less on others tag w (inr b) v is = let less = (others tag).less w b v is.1 in omega (arith, less)
 
-  pub onward_case : IsOnward Is → ((tag : ℕ) → IsOnward (Other tag)) → (tag : ℕ) → IsOnward (IsCase n Is Other tag)
+  pub onward_case : {l m : ℕ} → IsOnward l Is → ((tag : ℕ) → IsOnward m (Other tag)) → (tag : ℕ)
+      → IsOnward 0 (IsCase n Is Other tag)
   onward_case on others tag = record { on = case_on on others tag; less = case_less on others tag }
 
 module _ {A B S T : Type 0} {n : ℕ} {Is : Relation A} {Other : ByTag B} {says : A → S} {other_says : B → T}
@@ -115,10 +121,10 @@ module _ {A : Type 0} (n : ℕ) (Is : Relation A) where
   pub one_last : IsOne Is → (tag : ℕ) → IsOne (IsLast n Is tag)
   one_last one tag = record { same = λ w a b u v is other. one.same w a b u v is.1 other.1 }
 
-  pub onward_last : IsOnward Is → (tag : ℕ) → IsOnward (IsLast n Is tag)
+  pub onward_last : {least : ℕ} → IsOnward least Is → (tag : ℕ) → IsOnward 0 (IsLast n Is tag)
   onward_last onward tag = record {
     on = λ w a v ordered is. onward.on w a v ordered is.1;
-    less = λ w a v is. onward.less w a v is.1;
+    less = λ w a v is. let less = onward.less w a v is.1 in omega (arith, less);
   }
 
 module _ {A S : Type 0} {n : ℕ} {Is : Relation A} {says : A → S} {octets : S → List ℕ} {Fits : S → Type 0} where
@@ -155,10 +161,10 @@ module _ {A : Type 0} (Is : Relation A) where
         (same_other (is.0 ∙ sym other.0) same.0, same.1);
   }
 
-  pub onward_other : IsOnward Is → (tag : ℕ) → IsOnward (IsOther Is tag)
+  pub onward_other : {least : ℕ} → IsOnward least Is → (tag : ℕ) → IsOnward 0 (IsOther Is tag)
   onward_other onward tag = record {
     on = λ w a v ordered is. onward.on w a.1 v ordered is.1;
-    less = λ w a v is. onward.less w a.1 v is.1;
+    less = λ w a v is. let less = onward.less w a.1 v is.1 in omega (arith, less);
   }
 
 module _ {A S : Type 0} {Is : Relation A} {says : A → S} {octets : S → List ℕ} {Fits : S → Type 0} where
@@ -198,21 +204,14 @@ module _ {A : Type 0} (k : ℕ) (Is : ByTag A) where
   pub one_tagged : ((tag : ℕ) → IsOne (Is tag)) → IsOne (Tagged k Is)
   one_tagged one = record { same = λ w a b u v is other. (one (be (next k w))).same (past k w) a b u v is.1 other.1 }
 
-  pub onward_tagged : ((tag : ℕ) → IsOnward (Is tag)) → IsOnward (Tagged k Is)
+  pub onward_tagged : ((tag : ℕ) → IsOnward 0 (Is tag)) → IsOnward k (Tagged k Is)
   onward_tagged onward = record {
     on = λ w a v ordered is.
         let more = (onward (be (next k w))).on (past k w) a v (omega (arith, is.0, ordered)) is.1 in
         (more.0, more.1, omega (arith, more.2), more.3);
     less = λ w a v is.
         let more = (onward (be (next k w))).less (past k w) a v is.1 in
-        omega (arith, more);
-  }
-
-  pub moving_tagged : 0 < k → ((tag : ℕ) → IsOnward (Is tag)) → IsMoving (Tagged k Is)
-  moving_tagged some onward = record {
-    on = λ w a v is.
-        let more = (onward (be (next k w))).less (past k w) a v is.1 in
-        omega (arith, more, some, is.0);
+        omega (arith, more, is.0);
   }
 
 -- a thing that takes its octets, past a tag of k octets
@@ -232,7 +231,8 @@ tagged_taken k Is w said tag octets room value taken =
       );
     }
 
-module _ {A S : Type 0} {k : ℕ} {Is : ByTag A} {says : A → S} {tag : S → ℕ} {octets : S → List ℕ} {Fits : S → Type 0} where
+module _ {A S : Type 0} {k : ℕ} {Is : ByTag A} {says : A → S} {tag : S → ℕ} {octets : S → List ℕ}
+    {Fits : S → Type 0} where
   pub tagged_read_back : IsCaseReadBack Is says tag octets Fits
       → IsReadBack (Tagged k Is) says (tagged_octets k tag octets) (TaggedFits k tag Fits)
   tagged_read_back more = record {

@@ -44,7 +44,7 @@ pub counted_long : (k n : ℕ) (octets : List ℕ) → length (octets_be k n ++ 
 counted_long k n octets =
     length-append (octets_be k n) octets ∙ ap (λ m. m + length octets) (length_be k n)
 
-pub onward_counted : {A : Type 0} (k extra : ℕ) (Is : Relation A) → IsOnward (Counted k extra Is)
+pub onward_counted : {A : Type 0} (k extra : ℕ) (Is : Relation A) → IsOnward k (Counted k extra Is)
 onward_counted k extra Is = record {
   on = λ w a v ordered is.
       let position = ap (λ (x : Window). x.position) is.2 in
@@ -54,12 +54,7 @@ onward_counted k extra Is = record {
         omega (arith, position),
         omega (arith, position, end, is.0.0, is.0.2, ordered),
       );
-  less = λ w a v is. let same = ap left is.2 in omega (arith, same);
-}
-
-pub moving_counted : {A : Type 0} (k extra : ℕ) (Is : Relation A) → 0 < k → IsMoving (Counted k extra Is)
-moving_counted k extra Is some = record {
-  on = λ w a v is. let same = ap left is.2 in omega (arith, same, is.0.0, some);
+  less = λ w a v is. let same = ap left is.2 in omega (arith, same, is.0.0);
 }
 
 module _ {A : Type 0} {Is : Relation A} {k extra : ℕ} where

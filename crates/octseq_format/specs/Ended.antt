@@ -44,7 +44,7 @@ one_ended = record {
       );
 }
 
-pub onward_ended : IsOnward IsEnded
+pub onward_ended : IsOnward 1 IsEnded
 onward_ended = record {
   on = λ w a v ordered is.
       let position = ap (λ (x : Window). x.position) is.3 in
@@ -55,12 +55,7 @@ onward_ended = record {
         omega (arith, position),
         omega (arith, position, end, is.1.0, room, ordered),
       );
-  less = λ w a v is. let same = ap left is.3 in omega (arith, same);
-}
-
-pub moving_ended : IsMoving IsEnded
-moving_ended = record {
-  on = λ w a v is.
+  less = λ w a v is.
       let same = ap left is.3 in
       let room = length_rest w in
       omega (arith, same, room, is.1.0);

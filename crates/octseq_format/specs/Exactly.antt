@@ -16,7 +16,7 @@ module _ (k n : ℕ) where
   pub one_exactly : IsOne (IsExactly k n)
   one_exactly = record { same = λ w a b u v is other. (refl, is.2 ∙ sym other.2) }
 
-  pub onward_exactly : IsOnward (IsExactly k n)
+  pub onward_exactly : IsOnward k (IsExactly k n)
   onward_exactly = record {
     on = λ w a v ordered is.
         let position = ap (λ (x : Window). x.position) is.2 in
@@ -26,11 +26,8 @@ module _ (k n : ℕ) where
           omega (arith, position),
           omega (arith, position, end, is.0, ordered),
         );
-    less = λ w a v is. let same = ap left is.2 in omega (arith, same);
+    less = λ w a v is. let same = ap left is.2 in omega (arith, same, is.0);
   }
-
-  pub moving_exactly : 0 < k → IsMoving (IsExactly k n)
-  moving_exactly some = record { on = λ w a v is. let same = ap left is.2 in omega (arith, same, is.0, some) }
 
   pub delimited_exactly : IsDelimited (IsExactly k n) (λ a. a) (λ _. octets_be k n) (λ _. n < 256 ^ k)
   delimited_exactly = record {

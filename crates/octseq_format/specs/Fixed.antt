@@ -18,7 +18,7 @@ module _ {A : Type 0} (k : ℕ) (reading : List ℕ → A) where
   pub one_fixed : IsOne (IsFixed k reading)
   one_fixed = record { same = λ w a b u v is other. (is.1 ∙ sym other.1, is.2 ∙ sym other.2) }
 
-  pub onward_fixed : IsOnward (IsFixed k reading)
+  pub onward_fixed : IsOnward k (IsFixed k reading)
   onward_fixed = record {
     on = λ w a v ordered is.
         let position = ap (λ (x : Window). x.position) is.2 in
@@ -28,12 +28,7 @@ module _ {A : Type 0} (k : ℕ) (reading : List ℕ → A) where
           omega (arith, position),
           omega (arith, position, end, is.0, ordered),
         );
-    less = λ w a v is. let same = ap left is.2 in omega (arith, same);
-  }
-
-  pub moving_fixed : 0 < k → IsMoving (IsFixed k reading)
-  moving_fixed some = record {
-    on = λ w a v is. let same = ap left is.2 in omega (arith, same, is.0, some);
+    less = λ w a v is. let same = ap left is.2 in omega (arith, same, is.0);
   }
 
 module _ {A : Type 0} {k : ℕ} {reading : List ℕ → A} {octets : A → List ℕ} {Fits : A → Type 0} where

@@ -1,6 +1,6 @@
 -- What a format says of octets, and the laws that reading and writing by it rest on.
 use Rattle.std.specs.Prelude.{◌≡◌, ℕ, ◌+◌, ◌^◌, ◌<◌, ◌≤◌, List, [], ◌++◌, length}
-use Rattle.std.proofs.Common.{sym, ◌∙◌, append-nil}
+use Rattle.std.proofs.Common.{sym, ◌∙◌, arith, append-nil}
 use Rattle.octseq.specs.Window.{Window, left, rest, past}
 
 -- A thing is at a window's position, and the second window is past it.
@@ -15,12 +15,12 @@ NoneAt {A} Is w = (a : A) (v : Window) → Is w a v → ⊥
 pub record IsOne {A : Type 0} (Is : Relation A) : Type 0 where
   pub same : (w : Window) (a b : A) (u v : Window) → Is w a u → Is w b v → (a ≡ b) × (u ≡ v)
 
--- The second window has the octets and the end of the first, and its position isn't before the first one's: no more
--- octets are left.
-pub record IsOnward {A : Type 0} (Is : Relation A) : Type 0 where
+-- The second window has the octets and the end of the first, and its position isn't before the first one's. At least
+-- so many octets fewer are left.
+pub record IsOnward {A : Type 0} (least : ℕ) (Is : Relation A) : Type 0 where
   pub on : (w : Window) (a : A) (v : Window) → w.position ≤ w.end → Is w a v
       → (v.octets ≡ w.octets) × (v.end ≡ w.end) × (w.position ≤ v.position) × (v.position ≤ v.end)
-  pub less : (w : Window) (a : A) (v : Window) → Is w a v → left v ≤ left w
+  pub less : (w : Window) (a : A) (v : Window) → Is w a v → left v + least ≤ left w
 
 -- A thing that says this is there, and takes so many octets.
 pub record Takes {A S : Type 0} (Is : Relation A) (says : A → S) (w : Window) (said : S) (n : ℕ) : Type 0 where
@@ -29,7 +29,8 @@ pub record Takes {A S : Type 0} (Is : Relation A) (says : A → S) (w : Window) 
   pub is : Is w it (past n w)
 
 -- Where nothing but its octets is left, what was said is there, and takes them all.
-pub record IsReadBack {A S : Type 0} (Is : Relation A) (says : A → S) (octets : S → List ℕ) (Fits : S → Type 0) : Type 0 where
+pub record IsReadBack {A S : Type 0} (Is : Relation A) (says : A → S) (octets : S → List ℕ)
+    (Fits : S → Type 0) : Type 0 where
   pub back : (w : Window) (said : S) → Fits said → rest w ≡ octets said → w.end ≡ w.position + length (octets said)
       → Takes Is says w said (length (octets said))
 
@@ -37,8 +38,12 @@ pub record IsReadBack {A S : Type 0} (Is : Relation A) (says : A → S) (octets 
 pub record IsMoving {A : Type 0} (Is : Relation A) : Type 0 where
   pub on : (w : Window) (a : A) (v : Window) → Is w a v → left v < left w
 
+pub moving_of : {A : Type 0} {Is : Relation A} {least : ℕ} → IsOnward least Is → 0 < least → IsMoving Is
+moving_of onward some = record { on = λ w a v is. let less = onward.less w a v is in omega (arith, less, some) }
+
 -- Where its octets come next, what was said is there, and takes those alone, whatever is left after them.
-pub record IsDelimited {A S : Type 0} (Is : Relation A) (says : A → S) (octets : S → List ℕ) (Fits : S → Type 0) : Type 0 where
+pub record IsDelimited {A S : Type 0} (Is : Relation A) (says : A → S) (octets : S → List ℕ)
+    (Fits : S → Type 0) : Type 0 where
   pub next : (w : Window) (said : S) (more : List ℕ) → Fits said → rest w ≡ octets said ++ more
       → Takes Is says w said (length (octets said))
 

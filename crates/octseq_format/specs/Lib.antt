@@ -1,3 +1,4 @@
+pub mod Bits
 pub mod Case
 pub mod Counted
 pub mod Either

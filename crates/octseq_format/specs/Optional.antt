@@ -22,6 +22,11 @@ abbrev pub OptionalFits : {S : Type 0} → (S → List ℕ) → (S → Type 0) �
 OptionalFits octets Fits None = Unit {0}
 OptionalFits octets Fits (Some said) = Fits said × (0 < length (octets said))
 
+-- the turns of the thing, if it is there
+abbrev pub optional_turns : {A : Type 0} → (A → ℕ) → Option A → ℕ
+optional_turns turns None = 0
+optional_turns turns (Some a) = turns a
+
 module _ {A : Type 0} (Is : Relation A) where
   same_optional : IsOne Is → (w : Window) (a b : Option A) (u v : Window) → IsOptional Is w a u → IsOptional Is w b v
       → (a ≡ b) × (u ≡ v)
@@ -34,7 +39,8 @@ module _ {A : Type 0} (Is : Relation A) where
   pub one_optional : IsOne Is → IsOne (IsOptional Is)
   one_optional one = record { same = same_optional one }
 
-  optional_on : IsOnward Is → (w : Window) (a : Option A) (v : Window) → w.position ≤ w.end → IsOptional Is w a v
+  optional_on : {least : ℕ} → IsOnward least Is → (w : Window) (a : Option A) (v : Window) → w.position ≤ w.end
+      → IsOptional Is w a v
       → (v.octets ≡ w.octets) × (v.end ≡ w.end) × (w.position ≤ v.position) × (v.position ≤ v.end)
   optional_on onward w None v ordered is =
       let position = ap (λ (v : Window). v.position) is.1 in
@@ -42,11 +48,12 @@ module _ {A : Type 0} (Is : Relation A) where
       (ap (λ (v : Window). v.octets) is.1, end, omega (arith, position), omega (arith, position, end, ordered))
   optional_on onward w (Some a) v ordered is = onward.on w a v ordered is.1
 
-  optional_less : IsOnward Is → (w : Window) (a : Option A) (v : Window) → IsOptional Is w a v → left v ≤ left w
+  optional_less : {least : ℕ} → IsOnward least Is → (w : Window) (a : Option A) (v : Window) → IsOptional Is w a v
+      → left v + 0 ≤ left w
   optional_less onward w None v is = let same = ap left is.1 in omega (arith, same)
-  optional_less onward w (Some a) v is = onward.less w a v is.1
+  optional_less onward w (Some a) v is = let less = onward.less w a v is.1 in omega (arith, less)
 
-  pub onward_optional : IsOnward Is → IsOnward (IsOptional Is)
+  pub onward_optional : {least : ℕ} → IsOnward least Is → IsOnward 0 (IsOptional Is)
   onward_optional onward = record { on = optional_on onward; less = optional_less onward }
 
 module _ {A S : Type 0} {Is : Relation A} {says : A → S} {octets : S → List ℕ} {Fits : S → Type 0} where

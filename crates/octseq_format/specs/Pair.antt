@@ -35,6 +35,11 @@ infixr 5 ◌also◌
 abbrev pub ◌also◌ : {A B : Type 0} → (A → Type 0) → (B → Type 0) → A × B → Type 0
 First also Second = BothFit First Second
 
+infixr 5 ◌plus◌
+-- the turns of both
+abbrev pub ◌plus◌ : {A B : Type 0} → (A → ℕ) → (B → ℕ) → A × B → ℕ
+(first plus second) both = first both.0 + second both.1
+
 infixr 5 ◌code_then◌
 -- the code of both
 abbrev pub ◌code_then◌ : {A B : Type 0} → Coded A → Coded B → Coded (A × B)
@@ -49,6 +54,10 @@ past_both w x y =
     let long : length (x ++ y) ≡ length x + length y = length-append x y in
     ap (λ p. at p w) (omega (arith, long))
 
+-- a sum is no less than its first number
+pub some_more : {m : ℕ} (n : ℕ) → 0 < m → 0 < m + n
+some_more n some = omega (arith, some)
+
 module _ {A B : Type 0} {First : Relation A} {Second : Relation B} where
   infixr 5 ◌one_then◌
   pub ◌one_then◌ : IsOne First → IsOne Second → IsOne (First then Second)
@@ -60,7 +69,7 @@ module _ {A B : Type 0} {First : Relation A} {Second : Relation B} where
   }
 
   infixr 5 ◌onward_then◌
-  pub ◌onward_then◌ : IsOnward First → IsOnward Second → IsOnward (First then Second)
+  pub ◌onward_then◌ : {m n : ℕ} → IsOnward m First → IsOnward n Second → IsOnward (m + n) (First then Second)
   first onward_then second = record {
     on = λ w a v ordered is.
         let one = first.on w a.0 is.0 ordered is.1 in
@@ -69,14 +78,6 @@ module _ {A B : Type 0} {First : Relation A} {Second : Relation B} where
     less = λ w a v is.
         let one = first.less w a.0 is.0 is.1 in
         let two = second.less is.0 a.1 v is.2 in
-        omega (arith, one, two);
-  }
-
-  pub moving_pair : IsMoving First → IsOnward Second → IsMoving (First then Second)
-  moving_pair moving onward = record {
-    on = λ w a v is.
-        let one = moving.on w a.0 is.0 is.1 in
-        let two = onward.less is.0 a.1 v is.2 in
         omega (arith, one, two);
   }
 

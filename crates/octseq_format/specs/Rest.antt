@@ -18,7 +18,7 @@ window_code = code_by (List ℕ × (ℕ × ℕ)) (coded× (coded_list coded_ℕ)
 pub one_rest : IsOne IsRest
 one_rest = record { same = λ w a b u v is other. (is.0 ∙ sym other.0, is.1 ∙ sym other.1) }
 
-pub onward_rest : IsOnward IsRest
+pub onward_rest : IsOnward 0 IsRest
 onward_rest = record {
   on = λ w a v ordered is.
       let position = ap (λ (x : Window). x.position) is.1 in

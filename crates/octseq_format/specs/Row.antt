@@ -5,13 +5,13 @@ use Rattle.std.proofs.lemmas.List.{length-map}
 use Rattle.std.proofs.lemmas.List.Concat.{flat_map-cons}
 use Rattle.std.proofs.Math.Logic.{∥∥₁_prop, ∥∥₁_elim}
 use Rattle.std.specs.Coded.{Coded, Coded-set, coded_list}
-use Rattle.std.specs.List.{AllByRecursion, flat_map}
+use Rattle.std.specs.List.{AllByRecursion, flat_map, sum_by}
 use mathlib.Core.HLevel.{Σ_prop_path}
 use Rattle.octseq.specs.Integer.{be, octets_be}
 use Rattle.octseq.specs.Window.{Window, left, next, rest, at, past}
 use Rattle.octseq.proofs.Behind.{front_comes_next}
 use Rattle.octseq.proofs.Written.{length_be, value_be}
-use Rattle.octseq_format.specs.Laws.{Relation, NoneAt, Takes, IsOne, IsOnward, IsMoving, IsReadBack, IsDelimited, back_of}
+use Rattle.octseq_format.specs.Laws.{Relation, Takes, IsOne, IsOnward, IsMoving, IsReadBack, IsDelimited, back_of}
 
 abbrev pub Row : {A : Type 0} → Relation A → Relation (List A)
 Row Is w [] v = v ≡ w
@@ -44,6 +44,10 @@ row_octets octets said = flat_map octets said
 -- the octets of a count of k octets, and of each
 abbrev pub times_octets : {S : Type 0} → ℕ → (S → List ℕ) → List S → List ℕ
 times_octets k octets said = octets_be k (length said) ++ row_octets octets said
+
+-- the turns of each, and one more for it
+abbrev pub row_turns : {A : Type 0} → (A → ℕ) → List A → ℕ
+row_turns turns row = sum_by (λ a. 1 + turns a) row
 
 -- Each fits, and their number fits k octets.
 pub record TimesFit {S : Type 0} (k : ℕ) (Fits : S → Type 0) (said : List S) : Type 0 where
@@ -125,7 +129,7 @@ one_moved one = record { same = λ w a b u v is other. one.same w a b u v is.0 o
 pub moving_moved : {A : Type 0} (Is : Relation A) → IsMoving (Moved Is)
 moving_moved Is = record { on = λ w a v is. is.1 }
 
-pub onward_moved : {A : Type 0} {Is : Relation A} → IsOnward Is → IsOnward (Moved Is)
+pub onward_moved : {A : Type 0} {Is : Relation A} {least : ℕ} → IsOnward least Is → IsOnward least (Moved Is)
 onward_moved onward = record {
   on = λ w a v ordered is. onward.on w a v ordered is.0;
   less = λ w a v is. onward.less w a v is.0;
@@ -141,7 +145,7 @@ delimited_moved moving delimited = record {
 
 -- ---- onward
 
-pub onward_row : {A : Type 0} (Is : Relation A) → IsOnward Is → IsOnward (Row Is)
+pub onward_row : {A : Type 0} (Is : Relation A) {least : ℕ} → IsOnward least Is → IsOnward 0 (Row Is)
 onward_row {A} Is onward = record { on = on; less = less } where
   on : (w : Window) (row : List A) (v : Window) → w.position ≤ w.end → Row Is w row v
       → (v.octets ≡ w.octets) × (v.end ≡ w.end) × (w.position ≤ v.position) × (v.position ≤ v.end)
@@ -154,34 +158,27 @@ onward_row {A} Is onward = record { on = on; less = less } where
       let more = on is.0 row v (omega (arith, one.1, one.2, one.3)) is.2 in
       (more.0 ∙ one.0, more.1 ∙ one.1, omega (arith, one.2, more.2), more.3)
 
-  less : (w : Window) (row : List A) (v : Window) → Row Is w row v → left v ≤ left w
+  less : (w : Window) (row : List A) (v : Window) → Row Is w row v → left v + 0 ≤ left w
   less w [] v is = let same = ap left is in omega (arith, same)
   less w (x ∷ row) v is =
       let one = onward.less w x is.0 is.1 in
       let more = less is.0 row v is.2 in
       omega (arith, one, more)
 
-pub onward_times : {A : Type 0} (k : ℕ) (Is : Relation A) → IsOnward Is → IsOnward (Times k Is)
+pub onward_times : {A : Type 0} (k : ℕ) (Is : Relation A) {least : ℕ} → IsOnward least Is → IsOnward k (Times k Is)
 onward_times k Is onward = record {
   on = λ w row v ordered is.
       let more = (onward_row Is onward).on (past k w) row v (omega (arith, ordered, is.0)) is.1.1 in
       (more.0, more.1, omega (arith, more.2), more.3);
   less = λ w row v is.
       let more = (onward_row Is onward).less (past k w) row v is.1.1 in
-      omega (arith, more);
+      omega (arith, more, is.0);
 }
 
-pub onward_to : {A : Type 0} (Is : Relation A) → IsOnward Is → IsOnward (RowTo Is)
+pub onward_to : {A : Type 0} (Is : Relation A) {least : ℕ} → IsOnward least Is → IsOnward 0 (RowTo Is)
 onward_to Is onward = record {
   on = λ w row v ordered is. (onward_row Is onward).on w row v ordered is.0;
   less = λ w row v is. (onward_row Is onward).less w row v is.0;
-}
-
-pub moving_times : {A : Type 0} (k : ℕ) (Is : Relation A) → 0 < k → IsOnward Is → IsMoving (Times k Is)
-moving_times k Is some onward = record {
-  on = λ w row v is.
-      let more = (onward_row Is onward).less (past k w) row v is.1.1 in
-      omega (arith, more, is.0, some);
 }
 
 -- ---- read back

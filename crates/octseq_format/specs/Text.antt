@@ -18,7 +18,7 @@ TextFits = WhereFits (λ _. Unit {0}) IsWellFormed
 pub one_text : IsOne IsText
 one_text = one_where IsRest rest IsWellFormed one_rest
 
-pub onward_text : IsOnward IsText
+pub onward_text : IsOnward 0 IsText
 onward_text = onward_where IsRest rest IsWellFormed onward_rest
 
 pub text_read_back : IsReadBack IsText rest (λ octets. octets) TextFits

@@ -16,14 +16,11 @@ module _ {A S : Type 0} (Is : Relation A) (says : A → S) (Holds : S → Type 0
   pub one_where : IsOne Is → IsOne (IsWhere Is says Holds)
   one_where one = record { same = λ w a b u v is other. one.same w a b u v is.0 other.0 }
 
-  pub onward_where : IsOnward Is → IsOnward (IsWhere Is says Holds)
+  pub onward_where : {least : ℕ} → IsOnward least Is → IsOnward least (IsWhere Is says Holds)
   onward_where onward = record {
     on = λ w a v ordered is. onward.on w a v ordered is.0;
     less = λ w a v is. onward.less w a v is.0;
   }
-
-  pub moving_where : IsMoving Is → IsMoving (IsWhere Is says Holds)
-  moving_where moving = record { on = λ w a v is. moving.on w a v is.0 }
 
   module _ (octets : S → List ℕ) (Fits : S → Type 0) where
     pub where_read_back : IsReadBack Is says octets Fits

@@ -6,11 +6,13 @@ ghost use Rattle.octseq.specs.Limit.{IsWithin};
 ghost use Rattle.octseq.specs.Parser.{window, sequence};
 ghost use Rattle.octseq.specs.Window.{Window, left};
 ghost use Rattle.octseq_format.specs.Case.{ByTag, IsCaseReadBack, IsCaseDelimited, IsCase, case_says, case_tag};
-ghost use Rattle.octseq_format.specs.Case.{case_octets, CaseFits, one_case, onward_case, case_read_back, delimited_case};
+ghost use Rattle.octseq_format.specs.Case.{case_octets, CaseFits, case_turns, one_case, onward_case};
+ghost use Rattle.octseq_format.specs.Case.{case_read_back, delimited_case};
 ghost use Rattle.octseq_format.specs.Case.{IsLast, one_last, onward_last, last_read_back, delimited_last};
 ghost use Rattle.octseq_format.specs.Case.{IsOther, other_says, one_other, onward_other, other_read_back};
-ghost use Rattle.octseq_format.specs.Case.{delimited_other, Tagged, tagged_octets, TaggedFits, one_tagged, onward_tagged};
-ghost use Rattle.octseq_format.specs.Case.{moving_tagged, tagged_read_back, delimited_tagged};
+ghost use Rattle.octseq_format.specs.Case.{delimited_other, Tagged, tagged_octets, TaggedFits};
+ghost use Rattle.octseq_format.specs.Case.{one_tagged, onward_tagged};
+ghost use Rattle.octseq_format.specs.Case.{tagged_read_back, delimited_tagged};
 ghost use Rattle.octseq_format.specs.Laws.{IsOne, IsOnward, HasOctets};
 ghost use Rattle.octseq_format.specs.Turns.{TakesTurns};
 
@@ -49,11 +51,13 @@ pub trait Cases<R: AsOctets + Copy> {
 
     ghost found_code: { Coded Found };
 
+    ghost turns_of: { Found → ℕ };
+
     ghost base: { ℕ };
 
     ghost rate: { ℕ };
 
-    /// Takes what is at the parser's position, after this tag, and counts the turns that this takes.
+    /// Takes what is at the parser's position, after this tag, and counts the turns of loops that this takes.
     ///
     /// # Errors
     ///
@@ -70,6 +74,7 @@ pub trait Cases<R: AsOctets + Copy> {
         ensures same { sequence parser.new ≡ sequence parser.old }
         ensures end { (window parser.new).end ≡ (window parser.old).end }
         ensures onward { left (window parser.new) ≤ left (window parser.old) }
+        ensures counted { IfOk result (λ value. turns.old + turns_of (found value) ≤ turns.new) }
         ensures turns { TakesTurns base rate (left (window parser.old)) turns.old turns.new }
         ensures took { OnOk result (turns.new + rate * left (window parser.new)
             ≤ turns.old + base + rate * left (window parser.old)) };
@@ -100,7 +105,7 @@ pub trait Cases<R: AsOctets + Copy> {
         ensures memory { IsErr result → B.asks ≡ true }
         ensures borrows { B.borrows builder.new ≡ B.borrows builder.old };
 
-    ghost onward: { (number : ℕ) → IsOnward (is_at number) };
+    ghost onward: { (number : ℕ) → IsOnward 0 (is_at number) };
 
     ghost read_back: { IsCaseReadBack is_at says tag octets fits };
 }
@@ -150,6 +155,8 @@ impl<R: AsOctets + Copy, const N: usize, F: Format<R>, C: Cases<R>> Cases<R> for
     ghost one = { one_case N F.is_at C.is_at F.one C.one };
 
     ghost found_code = { coded⊎ F.found_code C.found_code };
+
+    ghost turns_of = { case_turns F.turns_of C.turns_of };
 
     ghost base = { F.base + C.base };
 
@@ -245,7 +252,9 @@ impl<R: AsOctets + Copy, const N: usize, F: Format<R>> Cases<R> for Last<N, F> {
 
     ghost found_code = { F.found_code };
 
-    ghost base = { F.base + 1 };
+    ghost turns_of = { F.turns_of };
+
+    ghost base = { F.base };
 
     ghost rate = { F.rate };
 
@@ -255,7 +264,6 @@ impl<R: AsOctets + Copy, const N: usize, F: Format<R>> Cases<R> for Last<N, F> {
         parser: &mut Parser<R>,
         turns: &mut Turns,
     ) -> Result<F::Value, Malformed> {
-        turns.tick();
         if number != N {
             return Err(Malformed);
         }
@@ -317,6 +325,8 @@ impl<R: AsOctets + Copy, F: Format<R>> Cases<R> for Others<F> {
     ghost one = { one_other F.is_at F.one };
 
     ghost found_code = { coded× coded_ℕ F.found_code };
+
+    ghost turns_of = { λ other. F.turns_of other.1 };
 
     ghost base = { F.base };
 
@@ -389,18 +399,26 @@ impl<R: AsOctets + Copy, L: Length, C: Cases<R>> Format<R> for Tagged<L, C> {
 
     ghost found_code = { C.found_code };
 
-    ghost base = { C.base + 1 };
+    ghost least = { L.width };
+
+    ghost turns_of = { C.turns_of };
+
+    ghost base = { C.base };
 
     ghost rate = { C.rate };
 
     #[inline(always)]
     fn parse_counted(parser: &mut Parser<R>, turns: &mut Turns) -> Result<C::Value, Malformed> {
-        turns.tick();
         let mut ahead = *parser;
         let tag = L::parse_len(&mut ahead)?;
         let value = C::parse_case(tag, &mut ahead, turns)?;
         *parser = ahead;
         Ok(value)
+    }
+
+    #[inline(always)]
+    fn least_len() -> usize {
+        L::octets()
     }
 
     #[inline(always)]
@@ -434,5 +452,5 @@ impl<R: AsOctets + Copy, L: Length, C: DelimitedCases<R>> Delimited<R> for Tagge
 }
 
 impl<R: AsOctets + Copy, L: Length, C: DelimitedCases<R>> Moving<R> for Tagged<L, C> {
-    ghost moving = { moving_tagged L.width C.is_at L.wide C.onward };
+    ghost moving = { L.wide };
 }

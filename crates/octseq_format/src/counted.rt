@@ -19,6 +19,10 @@ use std::marker::PhantomData;
 pub trait Length {
     ghost width: { ℕ };
 
+    /// How many octets one has.
+    fn octets() -> usize
+        ensures { result ≡ width };
+
     /// The next one.
     fn parse_len<R: AsOctets>(parser: &mut Parser<R>) -> Result<usize, ShortInput>
         ensures taken { Takes result width parser.old parser.new }
@@ -49,10 +53,17 @@ pub trait Length {
         ensures borrows { B.borrows builder.new ≡ B.borrows builder.old };
 
     ghost wide: { 0 < width };
+
+    // Its numbers are `usize`s.
+    ghost most: { 256 ^ width ≤ 2 ^ 64 };
 }
 
 impl Length for u8 {
     ghost width = { 1 };
+
+    fn octets() -> usize {
+        1
+    }
 
     fn parse_len<R: AsOctets>(parser: &mut Parser<R>) -> Result<usize, ShortInput> {
         Ok(parser.parse_u8()? as usize)
@@ -82,10 +93,16 @@ impl Length for u8 {
     }
 
     ghost wide = { Prim.search rules };
+
+    ghost most = { Prim.search rules };
 }
 
 impl Length for u16 {
     ghost width = { 2 };
+
+    fn octets() -> usize {
+        2
+    }
 
     fn parse_len<R: AsOctets>(parser: &mut Parser<R>) -> Result<usize, ShortInput> {
         Ok(parser.parse_u16_be()? as usize)
@@ -115,10 +132,16 @@ impl Length for u16 {
     }
 
     ghost wide = { Prim.search rules };
+
+    ghost most = { Prim.search rules };
 }
 
 impl Length for U24 {
     ghost width = { 3 };
+
+    fn octets() -> usize {
+        3
+    }
 
     fn parse_len<R: AsOctets>(parser: &mut Parser<R>) -> Result<usize, ShortInput> {
         Ok(parser.parse_u24_be()? as usize)
@@ -148,10 +171,16 @@ impl Length for U24 {
     }
 
     ghost wide = { Prim.search rules };
+
+    ghost most = { Prim.search rules };
 }
 
 impl Length for u32 {
     ghost width = { 4 };
+
+    fn octets() -> usize {
+        4
+    }
 
     fn parse_len<R: AsOctets>(parser: &mut Parser<R>) -> Result<usize, ShortInput> {
         Ok(parser.parse_u32_be()? as usize)
@@ -181,6 +210,8 @@ impl Length for u32 {
     }
 
     ghost wide = { Prim.search rules };
+
+    ghost most = { Prim.search rules };
 }
 
 /// What `A` is, after a length of its octets. It takes all of the octets that the length counts. The length counts
@@ -216,13 +247,16 @@ impl<R: AsOctets + Copy, L: Length, A: Format<R>, const EXTRA: usize> Format<R>
 
     ghost found_code = { A.found_code };
 
-    ghost base = { A.base + 1 };
+    ghost least = { L.width };
+
+    ghost turns_of = { A.turns_of };
+
+    ghost base = { A.base };
 
     ghost rate = { A.rate };
 
     #[inline(always)]
     fn parse_counted(parser: &mut Parser<R>, turns: &mut Turns) -> Result<A::Value, Malformed> {
-        turns.tick();
         let mut ahead = *parser;
         let len = L::parse_len(&mut ahead)?;
         if len < EXTRA {
@@ -235,6 +269,11 @@ impl<R: AsOctets + Copy, L: Length, A: Format<R>, const EXTRA: usize> Format<R>
         }
         *parser = ahead;
         Ok(value)
+    }
+
+    #[inline(always)]
+    fn least_len() -> usize {
+        L::octets()
     }
 
     #[inline(always)]
@@ -275,7 +314,5 @@ impl<R: AsOctets + Copy, L: Length, A: Format<R>, const EXTRA: usize> Delimited<
 
 impl<R: AsOctets + Copy, L: Length, A: Format<R>, const EXTRA: usize> Moving<R>
     for Counted<L, A, EXTRA> {
-    ghost use Rattle.octseq_format.specs.Counted.{moving_counted};
-
-    ghost moving = { moving_counted L.width EXTRA A.is_at L.wide };
+    ghost moving = { L.wide };
 }

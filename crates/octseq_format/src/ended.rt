@@ -1,9 +1,10 @@
 //! Octets up to the first zero.
 ghost use Rattle.std.specs.Prelude.{◌≡◌, ◌≤◌, ℕ, List, length, IfSome, IsNone};
+ghost use Rattle.std.proofs.Common.{rules};
 ghost use Rattle.octseq.specs.Parser.{window};
 ghost use Rattle.octseq.specs.Window.{Window, rest};
 ghost use Rattle.octseq_format.specs.Ended.{EndsAt, HasNoZero, IsEnded, ended_octets, one_ended, onward_ended};
-ghost use Rattle.octseq_format.specs.Ended.{moving_ended, delimited_ended, ended_read_back};
+ghost use Rattle.octseq_format.specs.Ended.{delimited_ended, ended_read_back};
 ghost use Rattle.octseq_format.specs.Rest.{window_code};
 
 use crate::format::{Delimited, Format, Moving};
@@ -45,6 +46,10 @@ impl<R: AsOctets + Copy> Format<R> for ZeroEnded {
 
     ghost found_code = { window_code };
 
+    ghost least = { 1 };
+
+    ghost turns_of = { λ _. 1 };
+
     ghost base = { 1 };
 
     ghost rate = { 0 };
@@ -60,6 +65,11 @@ impl<R: AsOctets + Copy> Format<R> for ZeroEnded {
         ahead.advance(1)?;
         *parser = ahead;
         Ok(before)
+    }
+
+    #[inline(always)]
+    fn least_len() -> usize {
+        1
     }
 
     #[inline(always)]
@@ -97,5 +107,5 @@ impl<R: AsOctets + Copy> Delimited<R> for ZeroEnded {
 }
 
 impl<R: AsOctets + Copy> Moving<R> for ZeroEnded {
-    ghost moving = { moving_ended };
+    ghost moving = { Prim.search rules };
 }

@@ -1,7 +1,7 @@
 //! A number that is fixed.
 ghost use Rattle.std.specs.Prelude.{◌≡◌, ◌<◌, ◌^◌};
 ghost use Rattle.octseq.specs.Integer.{octets_be};
-ghost use Rattle.octseq_format.specs.Exactly.{IsExactly, coded_unit, one_exactly, onward_exactly, moving_exactly};
+ghost use Rattle.octseq_format.specs.Exactly.{IsExactly, coded_unit, one_exactly, onward_exactly};
 ghost use Rattle.octseq_format.specs.Exactly.{delimited_exactly, exactly_read_back};
 
 use crate::counted::Length;
@@ -38,19 +38,27 @@ impl<R: AsOctets + Copy, L: Length, const N: usize> Format<R> for Exactly<L, N> 
 
     ghost found_code = { coded_unit };
 
-    ghost base = { 1 };
+    ghost least = { L.width };
+
+    ghost turns_of = { λ _. 0 };
+
+    ghost base = { 0 };
 
     ghost rate = { 0 };
 
     #[inline(always)]
-    fn parse_counted(parser: &mut Parser<R>, turns: &mut Turns) -> Result<(), Malformed> {
-        turns.tick();
+    fn parse_counted(parser: &mut Parser<R>, _turns: &mut Turns) -> Result<(), Malformed> {
         let mut ahead = *parser;
         if L::parse_len(&mut ahead)? != N {
             return Err(Malformed);
         }
         *parser = ahead;
         Ok(())
+    }
+
+    #[inline(always)]
+    fn least_len() -> usize {
+        L::octets()
     }
 
     #[inline(always)]
@@ -75,5 +83,5 @@ impl<R: AsOctets + Copy, L: Length, const N: usize> Delimited<R> for Exactly<L, 
 }
 
 impl<R: AsOctets + Copy, L: Length, const N: usize> Moving<R> for Exactly<L, N> {
-    ghost moving = { moving_exactly L.width N L.wide };
+    ghost moving = { L.wide };
 }

@@ -51,6 +51,10 @@ impl<R: AsOctets + Copy, S: Fields<R>> Format<R> for Of<S> {
 
     ghost found_code = { S.Format.found_code };
 
+    ghost least = { S.Format.least };
+
+    ghost turns_of = { S.Format.turns_of };
+
     ghost base = { S.Format.base };
 
     ghost rate = { S.Format.rate };
@@ -61,6 +65,11 @@ impl<R: AsOctets + Copy, S: Fields<R>> Format<R> for Of<S> {
             Ok(parts) => Ok(S::from_fields(parts)),
             Err(e) => Err(e),
         }
+    }
+
+    #[inline(always)]
+    fn least_len() -> usize {
+        S::Format::least_len()
     }
 
     #[inline(always)]

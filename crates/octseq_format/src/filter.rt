@@ -2,10 +2,10 @@
 ghost use Rattle.std.specs.Prelude.{◌≡◌, ◌<◌, ◌^◌, ℕ, IsTrue, IsFalse};
 ghost use Rattle.std.specs.Coded.{coded_ℕ};
 ghost use Rattle.octseq.specs.Integer.{be, octets_be};
-ghost use Rattle.octseq_format.specs.Fixed.{IsFixed, one_fixed, onward_fixed, moving_fixed, delimited_fixed};
+ghost use Rattle.octseq_format.specs.Fixed.{IsFixed, one_fixed, onward_fixed, delimited_fixed};
 ghost use Rattle.octseq_format.specs.Fixed.{fixed_read_back};
 ghost use Rattle.octseq_format.specs.Integers.{are_be};
-ghost use Rattle.octseq_format.specs.Where.{IsWhere, WhereFits, one_where, onward_where, moving_where};
+ghost use Rattle.octseq_format.specs.Where.{IsWhere, WhereFits, one_where, onward_where};
 ghost use Rattle.octseq_format.specs.Where.{where_read_back, delimited_where};
 
 use crate::counted::Length;
@@ -53,13 +53,16 @@ impl<R: AsOctets + Copy, L: Length, T: Test> Format<R> for Where<L, T> {
 
     ghost found_code = { coded_ℕ };
 
-    ghost base = { 1 };
+    ghost least = { L.width };
+
+    ghost turns_of = { λ _. 0 };
+
+    ghost base = { 0 };
 
     ghost rate = { 0 };
 
     #[inline(always)]
-    fn parse_counted(parser: &mut Parser<R>, turns: &mut Turns) -> Result<usize, Malformed> {
-        turns.tick();
+    fn parse_counted(parser: &mut Parser<R>, _turns: &mut Turns) -> Result<usize, Malformed> {
         let mut ahead = *parser;
         let number = L::parse_len(&mut ahead)?;
         if !T::test(number) {
@@ -67,6 +70,11 @@ impl<R: AsOctets + Copy, L: Length, T: Test> Format<R> for Where<L, T> {
         }
         *parser = ahead;
         Ok(number)
+    }
+
+    #[inline(always)]
+    fn least_len() -> usize {
+        L::octets()
     }
 
     #[inline(always)]
@@ -96,5 +104,5 @@ impl<R: AsOctets + Copy, L: Length, T: Test> Delimited<R> for Where<L, T> {
 }
 
 impl<R: AsOctets + Copy, L: Length, T: Test> Moving<R> for Where<L, T> {
-    ghost moving = { moving_where (IsFixed L.width be) (λ n. n) T.holds (moving_fixed L.width be L.wide) };
+    ghost moving = { L.wide };
 }

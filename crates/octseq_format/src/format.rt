@@ -1,12 +1,12 @@
 //! What a format is.
-ghost use Rattle.std.specs.Prelude.{◌≡◌, ◌≤◌, ◌↔◌, ◌+◌, ◌*◌, ◌++◌, ℕ, List, length, true, IsTrue, IsFalse, IsErr, IfOk};
-ghost use Rattle.std.specs.Prelude.{OnOk, OnErr, IsNone, IsSome, IfSome};
+ghost use Rattle.std.specs.Prelude.{◌≡◌, ◌≤◌, ◌<◌, ◌↔◌, ◌+◌, ◌*◌, ◌++◌, ℕ, List, length, true, IsTrue, IsFalse};
+ghost use Rattle.std.specs.Prelude.{IsErr, IfOk, OnOk, OnErr, IsNone, IsSome, IfSome};
 ghost use Rattle.std.specs.Coded.{Coded};
 ghost use Rattle.octseq.specs.Limit.{IsPast, IsWithin};
 ghost use Rattle.octseq.specs.Parser.{window, sequence};
 ghost use Rattle.octseq.specs.Refusal.{IsShort, IsMemory, IsTooLong, compose_error};
 ghost use Rattle.octseq.specs.Window.{Window, left, whole, past};
-ghost use Rattle.octseq_format.specs.Laws.{Relation, IsOne, IsOnward, IsReadBack, IsDelimited, IsMoving, HasOctets};
+ghost use Rattle.octseq_format.specs.Laws.{Relation, IsOne, IsOnward, IsReadBack, IsDelimited, HasOctets};
 ghost use Rattle.octseq_format.specs.Turns.{TakesTurns};
 
 use octseq::compose::ComposeError;
@@ -44,12 +44,18 @@ pub trait Format<R: AsOctets + Copy> {
     // Two of them are equal in one way at most.
     ghost found_code: { Coded Found };
 
-    // How many turns a reading takes at most, and how many more for each octet.
+    // How many octets it takes at least.
+    ghost least: { ℕ };
+
+    // How many turns of loops the reading of it takes at least.
+    ghost turns_of: { Found → ℕ };
+
+    // How many a reading takes at most, whatever is there, and how many more for each octet that is left.
     ghost base: { ℕ };
 
     ghost rate: { ℕ };
 
-    /// Takes what is at the parser's position, and counts the turns that this takes.
+    /// Takes what is at the parser's position, and counts the turns of loops that this takes.
     ///
     /// # Errors
     ///
@@ -61,9 +67,14 @@ pub trait Format<R: AsOctets + Copy> {
         ensures same { sequence parser.new ≡ sequence parser.old }
         ensures end { (window parser.new).end ≡ (window parser.old).end }
         ensures onward { left (window parser.new) ≤ left (window parser.old) }
+        ensures counted { IfOk result (λ value. turns.old + turns_of (found value) ≤ turns.new) }
         ensures turns { TakesTurns base rate (left (window parser.old)) turns.old turns.new }
         ensures took { OnOk result (turns.new + rate * left (window parser.new)
             ≤ turns.old + base + rate * left (window parser.old)) };
+
+    /// How many octets a thing takes at least.
+    fn least_len() -> usize
+        ensures { result ≤ least };
 
     /// How many octets say a value, or `None` where none do: where a length doesn't fit its number, or there are more
     /// than a `usize` counts.
@@ -167,6 +178,7 @@ pub trait Format<R: AsOctets + Copy> {
         value: &Self::Value,
     ) -> Result<B, ComposeError>
         ensures ok { IfOk result (λ builder. B.content builder ≡ octets (says (found value.now))) }
+        ensures fit { OnOk result (HasOctets octets fits (says (found value.now))) }
         ensures too_long { IsTooLong compose_error result ↔ ¬ HasOctets octets fits (says (found value.now)) }
         ensures short { IsShort compose_error result ↔ HasOctets octets fits (says (found value.now))
             × IsPast B.limit (length (octets (says (found value.now)))) }
@@ -188,7 +200,7 @@ pub trait Format<R: AsOctets + Copy> {
     }
 
     // What is past it is a window on the same octets, no further back and with the same end.
-    ghost onward: { IsOnward is_at };
+    ghost onward: { IsOnward least is_at };
 
     // Where nothing but its octets is left, it is read back.
     ghost read_back: { IsReadBack is_at says octets fits };
@@ -202,11 +214,11 @@ pub trait Delimited<R: AsOctets + Copy>: Format<R> {
 
 /// A format whose things take an octet each at least.
 pub trait Moving<R: AsOctets + Copy>: Delimited<R> {
-    ghost moving: { IsMoving Self.is_at };
+    ghost moving: { 0 < Self.least };
 }
 
 /// Whether a content of `before` octets has room for `len` more. One with no limit has.
-fn has_room<B: OctetsLimit>(before: usize, len: usize) -> bool
+pub(crate) fn has_room<B: OctetsLimit>(before: usize, len: usize) -> bool
     ensures within { IsTrue result → IsWithin B.limit (before + len) }
     ensures past { IsFalse result ↔ IsPast B.limit (before + len) }
 {

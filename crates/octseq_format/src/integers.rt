@@ -517,14 +517,22 @@ impl<R: AsOctets + Copy, T: Integer> Format<R> for Be<T> {
 
     ghost found_code = { T.kind.code };
 
-    ghost base = { 1 };
+    ghost least = { T.kind.width };
+
+    ghost turns_of = { λ _. 0 };
+
+    ghost base = { 0 };
 
     ghost rate = { 0 };
 
     #[inline(always)]
-    fn parse_counted(parser: &mut Parser<R>, turns: &mut Turns) -> Result<T::Value, Malformed> {
-        turns.tick();
+    fn parse_counted(parser: &mut Parser<R>, _turns: &mut Turns) -> Result<T::Value, Malformed> {
         Ok(T::parse_be(parser)?)
+    }
+
+    #[inline(always)]
+    fn least_len() -> usize {
+        T::width()
     }
 
     #[inline(always)]
@@ -556,9 +564,7 @@ impl<R: AsOctets + Copy, T: Integer> Delimited<R> for Be<T> {
 }
 
 impl<R: AsOctets + Copy, T: Integer> Moving<R> for Be<T> {
-    ghost use Rattle.octseq_format.specs.Fixed.{moving_fixed};
-
-    ghost moving = { moving_fixed T.kind.width T.kind.be T.wide };
+    ghost moving = { T.wide };
 }
 
 /// An integer, little-endian.
@@ -590,14 +596,22 @@ impl<R: AsOctets + Copy, T: Integer> Format<R> for Le<T> {
 
     ghost found_code = { T.kind.code };
 
-    ghost base = { 1 };
+    ghost least = { T.kind.width };
+
+    ghost turns_of = { λ _. 0 };
+
+    ghost base = { 0 };
 
     ghost rate = { 0 };
 
     #[inline(always)]
-    fn parse_counted(parser: &mut Parser<R>, turns: &mut Turns) -> Result<T::Value, Malformed> {
-        turns.tick();
+    fn parse_counted(parser: &mut Parser<R>, _turns: &mut Turns) -> Result<T::Value, Malformed> {
         Ok(T::parse_le(parser)?)
+    }
+
+    #[inline(always)]
+    fn least_len() -> usize {
+        T::width()
     }
 
     #[inline(always)]
@@ -629,9 +643,7 @@ impl<R: AsOctets + Copy, T: Integer> Delimited<R> for Le<T> {
 }
 
 impl<R: AsOctets + Copy, T: Integer> Moving<R> for Le<T> {
-    ghost use Rattle.octseq_format.specs.Fixed.{moving_fixed};
-
-    ghost moving = { moving_fixed T.kind.width T.kind.le T.wide };
+    ghost moving = { T.wide };
 }
 
 /// An octet, unsigned.

@@ -1,5 +1,6 @@
 //! What holds of every format. Each law is the contract of a function that does nothing.
 ghost use Rattle.std.specs.Prelude.{◌≡◌, ℕ, List, ◌++◌, length};
+ghost use Rattle.octseq_format.specs.Laws.{HasOctets};
 ghost use Rattle.octseq.specs.Window.{Window, rest, past, whole};
 
 use crate::format::{Delimited, Format};
@@ -21,3 +22,15 @@ pub fn next_is_read_back<R: AsOctets + Copy, F: Delimited<R>>()
     ensures { (w : Window) (said : F.Said) (more : List ℕ) → F.fits said → rest w ≡ F.octets said ++ more
         → (found : F.Found) × (F.says found ≡ said) × F.is_at w found (past (length (F.octets said)) w) }
 {}
+
+/// Reads octets that were composed of a value. It isn't refused, and what is read says the same.
+pub fn parse_composed<R: AsOctets + Copy, F: Format<R>>(octets: R, value: &F::Value) -> F::Value
+    requires fit { HasOctets F.octets F.fits (F.says (F.found value.now)) }
+    requires octets { R.content octets ≡ F.octets (F.says (F.found value.now)) }
+    ensures { F.says (F.found result) ≡ F.says (F.found value.now) }
+{
+    match F::parse_whole(octets) {
+        Ok(again) => again,
+        Err(_) => unreachable!(),
+    }
+}

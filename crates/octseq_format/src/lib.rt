@@ -1,6 +1,7 @@
 //! Formats: what octets say, written down as a type. Its reader, its writer and their laws come with it.
 #![tactic(auto)]
 
+pub mod bits;
 pub mod case;
 pub mod counted;
 pub mod ended;
@@ -15,8 +16,10 @@ pub mod optional;
 pub mod rows;
 pub mod text;
 pub mod tuples;
+pub mod values;
 pub mod walk;
 
+pub use bits::{BitFields, Bits, Flag, Low};
 pub use case::{Case, Cases, DelimitedCases, Either, Last, Others, Tagged};
 pub use counted::{Counted, Length};
 pub use ended::ZeroEnded;
@@ -28,9 +31,10 @@ pub use integers::{
     Be, I8, I16Be, I16Le, I32Be, I32Le, I64Be, I64Le, I128Be, I128Le, Integer, Le, U8, U16Be,
     U16Le, U24, U24Be, U24Le, U32Be, U32Le, U48, U48Be, U48Le, U64Be, U64Le, U128Be, U128Le,
 };
-pub use laws::{next_is_read_back, one_reading, whole_is_read_back};
+pub use laws::{next_is_read_back, one_reading, parse_composed, whole_is_read_back};
 pub use octets::{Octets, Rest};
 pub use optional::Optional;
-pub use rows::{Repeated, Times};
+pub use rows::{Repeated, Times, parse_many};
 pub use text::Text;
+pub use values::append_all;
 pub use walk::Walk;

@@ -36,15 +36,23 @@ impl<R: AsOctets + Copy> Format<R> for Rest {
 
     ghost found_code = { window_code };
 
-    ghost base = { 1 };
+    ghost least = { 0 };
+
+    ghost turns_of = { λ _. 0 };
+
+    ghost base = { 0 };
 
     ghost rate = { 0 };
 
     #[inline(always)]
-    fn parse_counted(parser: &mut Parser<R>, turns: &mut Turns) -> Result<Parser<R>, Malformed> {
-        turns.tick();
+    fn parse_counted(parser: &mut Parser<R>, _turns: &mut Turns) -> Result<Parser<R>, Malformed> {
         let len = parser.remaining();
         Ok(parser.parse_parser(len)?)
+    }
+
+    #[inline(always)]
+    fn least_len() -> usize {
+        0
     }
 
     #[inline(always)]
@@ -95,16 +103,24 @@ impl<R: AsOctets + Copy, const N: usize> Format<R> for Octets<N> {
 
     ghost found_code = { coded_list coded_ℕ };
 
-    ghost base = { 1 };
+    ghost least = { N };
+
+    ghost turns_of = { λ _. 0 };
+
+    ghost base = { 0 };
 
     ghost rate = { 0 };
 
     #[inline(always)]
-    fn parse_counted(parser: &mut Parser<R>, turns: &mut Turns) -> Result<[u8; N], Malformed> {
-        turns.tick();
+    fn parse_counted(parser: &mut Parser<R>, _turns: &mut Turns) -> Result<[u8; N], Malformed> {
         let mut octets = [0; N];
         parser.parse_buf(&mut octets)?;
         Ok(octets)
+    }
+
+    #[inline(always)]
+    fn least_len() -> usize {
+        N
     }
 
     #[inline(always)]

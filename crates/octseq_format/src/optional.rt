@@ -1,8 +1,8 @@
 //! A thing at the end, or nothing.
-ghost use Rattle.std.specs.Prelude.{◌+◌, Option};
+ghost use Rattle.std.specs.Prelude.{Option};
 ghost use Rattle.std.specs.Coded.{coded_option};
 ghost use Rattle.octseq_format.specs.Optional.{IsOptional, optional_says, optional_octets, OptionalFits};
-ghost use Rattle.octseq_format.specs.Optional.{one_optional, onward_optional, optional_read_back};
+ghost use Rattle.octseq_format.specs.Optional.{optional_turns, one_optional, onward_optional, optional_read_back};
 
 use crate::format::Format;
 use octseq::utf8::Turns;
@@ -37,13 +37,16 @@ impl<R: AsOctets + Copy, A: Format<R>> Format<R> for Optional<A> {
 
     ghost found_code = { coded_option A.found_code };
 
-    ghost base = { A.base + 1 };
+    ghost least = { 0 };
+
+    ghost turns_of = { optional_turns A.turns_of };
+
+    ghost base = { A.base };
 
     ghost rate = { A.rate };
 
     #[inline(always)]
     fn parse_counted(parser: &mut Parser<R>, turns: &mut Turns) -> Result<Self::Value, Malformed> {
-        turns.tick();
         if parser.remaining() == 0 {
             return Ok(None);
         }
@@ -51,6 +54,11 @@ impl<R: AsOctets + Copy, A: Format<R>> Format<R> for Optional<A> {
             Ok(value) => Ok(Some(value)),
             Err(e) => Err(e),
         }
+    }
+
+    #[inline(always)]
+    fn least_len() -> usize {
+        0
     }
 
     #[inline(always)]

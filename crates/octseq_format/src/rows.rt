@@ -1,6 +1,6 @@
 //! Things of one kind, one after another.
-ghost use Rattle.std.specs.Prelude.{◌≡◌, ◌≤◌, ◌<◌, ◌+◌, ◌*◌, ◌++◌, ℕ, List, length, map, true, IsErr, IsNone, IsSome, IfSome};
-ghost use Rattle.std.specs.Prelude.{IfOk, OnOk, OnErr};
+ghost use Rattle.std.specs.Prelude.{◌≡◌, ◌≤◌, ◌<◌, ◌+◌, ◌*◌, ◌++◌, ℕ, List, length, map, true, IsErr, IsNone, IsSome};
+ghost use Rattle.std.specs.Prelude.{IfSome, IfOk, OnOk, OnErr};
 ghost use Rattle.std.specs.Coded.{coded_list};
 ghost use Rattle.std.specs.List.{AllByRecursion};
 ghost use Rattle.octseq.specs.Limit.{IsWithin};
@@ -8,7 +8,8 @@ ghost use Rattle.octseq.specs.Parser.{window, sequence};
 ghost use Rattle.octseq.specs.Parts.{IsFront};
 ghost use Rattle.octseq.specs.Window.{Window, left};
 ghost use Rattle.octseq_format.specs.Laws.{HasOctets};
-ghost use Rattle.octseq_format.specs.Row.{Many, RowTo, row_octets};
+ghost use Rattle.octseq_format.specs.Row.{Many, RowTo, row_octets, row_turns};
+ghost use Rattle.octseq_format.specs.Turns.{TakesTurns};
 ghost use Rattle.octseq_format.specs.Walk.{items_left};
 
 use crate::counted::Length;
@@ -25,20 +26,52 @@ fn pass_many<R: AsOctets + Copy, F: Moving<R>>(
     count: usize,
     turns: &mut Turns,
 ) -> Result<(), Malformed>
-    ensures all { OnOk result ((row : List F.Found) × Many count F.is_at (window parser.old) row (window parser.new)) }
-    ensures malformed { IsErr result → (row : List F.Found) (v : Window) → ¬ Many count F.is_at (window parser.old) row v }
+    ensures all { OnOk result ((row : List F.Found) × Many count F.is_at (window parser.old) row (window parser.new)
+        × (turns.old + row_turns F.turns_of row ≤ turns.new)) }
+    ensures malformed { IsErr result → (row : List F.Found) (v : Window)
+        → ¬ Many count F.is_at (window parser.old) row v }
     ensures same { sequence parser.new ≡ sequence parser.old }
     ensures end { (window parser.new).end ≡ (window parser.old).end }
     ensures onward { left (window parser.new) ≤ left (window parser.old) }
     ensures some { turns.old ≤ turns.new }
-    ensures most { turns.new ≤ turns.old + F.base + (F.base + F.rate) * left (window parser.old) }
-    ensures took { OnOk result (turns.new + (F.base + F.rate) * left (window parser.new)
-        ≤ turns.old + (F.base + F.rate) * left (window parser.old)) }
+    ensures most { turns.new ≤ turns.old + (F.base + 1) + (F.base + 1 + F.rate) * left (window parser.old) }
+    ensures took { OnOk result (turns.new + (F.base + 1 + F.rate) * left (window parser.new)
+        ≤ turns.old + (F.base + 1 + F.rate) * left (window parser.old)) }
 {
     for taken in 0..count {
+        turns.tick();
         let _item = F::parse_counted(parser, turns)?;
     }
     Ok(())
+}
+
+/// Takes as many things as a count that was read elsewhere says, and counts the turns of loops that this takes.
+///
+/// # Errors
+///
+/// `Malformed` where there aren't as many. The parser is then as it was.
+pub fn parse_many<R: AsOctets + Copy, F: Moving<R>>(
+    parser: &mut Parser<R>,
+    count: usize,
+    turns: &mut Turns,
+) -> Result<Walk<R, F>, Malformed>
+    ensures value { IfOk result (λ walk. Many count F.is_at (window parser.old) (items_left walk) (window parser.new)) }
+    ensures malformed { IsErr result → (row : List F.Found) (v : Window)
+        → ¬ Many count F.is_at (window parser.old) row v }
+    ensures kept { OnErr result (window parser.new ≡ window parser.old) }
+    ensures same { sequence parser.new ≡ sequence parser.old }
+    ensures end { (window parser.new).end ≡ (window parser.old).end }
+    ensures onward { left (window parser.new) ≤ left (window parser.old) }
+    ensures counted { IfOk result (λ walk. turns.old + row_turns F.turns_of (items_left walk) ≤ turns.new) }
+    ensures turns { TakesTurns (F.base + 1) (F.base + 1 + F.rate) (left (window parser.old)) turns.old turns.new }
+    ensures took { OnOk result (turns.new + (F.base + 1 + F.rate) * left (window parser.new)
+        ≤ turns.old + (F.base + 1 + F.rate) * left (window parser.old)) }
+{
+    let first = *parser;
+    let mut ahead = first;
+    pass_many::<R, F>(&mut ahead, count, turns)?;
+    *parser = ahead;
+    Ok(Walk::at(first, count))
 }
 
 /// Takes all up to the end of the window, and tells how many they are.
@@ -47,20 +80,22 @@ fn pass_all<R: AsOctets + Copy, F: Moving<R>>(
     turns: &mut Turns,
 ) -> Result<usize, Malformed>
     ensures all { IfOk result (λ count. (row : List F.Found)
-        × Many count F.is_at (window parser.old) row (window parser.new)) }
+        × Many count F.is_at (window parser.old) row (window parser.new)
+        × (turns.old + row_turns F.turns_of row ≤ turns.new)) }
     ensures ends { OnOk result (left (window parser.new) ≡ 0) }
     ensures malformed { IsErr result → (row : List F.Found) (v : Window) → ¬ RowTo F.is_at (window parser.old) row v }
     ensures same { sequence parser.new ≡ sequence parser.old }
     ensures end { (window parser.new).end ≡ (window parser.old).end }
     ensures onward { left (window parser.new) ≤ left (window parser.old) }
     ensures some { turns.old ≤ turns.new }
-    ensures most { turns.new ≤ turns.old + F.base + (F.base + F.rate) * left (window parser.old) }
-    ensures took { OnOk result (turns.new + (F.base + F.rate) * left (window parser.new)
-        ≤ turns.old + (F.base + F.rate) * left (window parser.old)) }
+    ensures most { turns.new ≤ turns.old + (F.base + 1) + (F.base + 1 + F.rate) * left (window parser.old) }
+    ensures took { OnOk result (turns.new + (F.base + 1 + F.rate) * left (window parser.new)
+        ≤ turns.old + (F.base + 1 + F.rate) * left (window parser.old)) }
 {
     let mut count = 0;
     let mut left = parser.remaining();
     'items: while left > 0 {
+        turns.tick();
         let _item = F::parse_counted(parser, turns)?;
         left = parser.remaining();
         count += 1;
@@ -109,6 +144,7 @@ pub struct Repeated<F> {
 }
 
 impl<R: AsOctets + Copy, F: Moving<R>> Format<R> for Repeated<F> {
+    ghost use Rattle.octseq_format.specs.Laws.{moving_of};
     ghost use Rattle.octseq_format.specs.Row.{Moved, one_to, one_moved, moving_moved, onward_to};
     ghost use Rattle.octseq_format.specs.Row.{onward_moved, delimited_moved, to_read_back};
 
@@ -132,18 +168,26 @@ impl<R: AsOctets + Copy, F: Moving<R>> Format<R> for Repeated<F> {
 
     ghost found_code = { coded_list F.found_code };
 
+    ghost least = { 0 };
+
+    ghost turns_of = { row_turns F.turns_of };
+
     ghost base = { F.base + 1 };
 
-    ghost rate = { F.base + F.rate };
+    ghost rate = { F.base + 1 + F.rate };
 
     #[inline(always)]
     fn parse_counted(parser: &mut Parser<R>, turns: &mut Turns) -> Result<Walk<R, F>, Malformed> {
-        turns.tick();
         let first = *parser;
         let mut ahead = first;
         let count = pass_all::<R, F>(&mut ahead, turns)?;
         *parser = ahead;
         Ok(Walk::at(first, count))
+    }
+
+    #[inline(always)]
+    fn least_len() -> usize {
+        0
     }
 
     #[inline(always)]
@@ -166,7 +210,8 @@ impl<R: AsOctets + Copy, F: Moving<R>> Format<R> for Repeated<F> {
 
     ghost onward = { onward_to (Moved F.is_at) (onward_moved F.onward) };
 
-    ghost read_back = { to_read_back (Moved F.is_at) F.says F.octets F.fits (delimited_moved F.moving F.delimited) };
+    ghost read_back = { to_read_back (Moved F.is_at) F.says F.octets F.fits
+        (delimited_moved (moving_of F.onward F.moving) F.delimited) };
 }
 
 /// As many things as the count before them says.
@@ -199,19 +244,26 @@ impl<R: AsOctets + Copy, N: Length, F: Moving<R>> Format<R> for Times<N, F> {
 
     ghost found_code = { coded_list F.found_code };
 
+    ghost least = { N.width };
+
+    ghost turns_of = { row_turns F.turns_of };
+
     ghost base = { F.base + 1 };
 
-    ghost rate = { F.base + F.rate };
+    ghost rate = { F.base + 1 + F.rate };
 
     #[inline(always)]
     fn parse_counted(parser: &mut Parser<R>, turns: &mut Turns) -> Result<Walk<R, F>, Malformed> {
-        turns.tick();
         let mut ahead = *parser;
         let count = N::parse_len(&mut ahead)?;
-        let first = ahead;
-        pass_many::<R, F>(&mut ahead, count, turns)?;
+        let walk = parse_many(&mut ahead, count, turns)?;
         *parser = ahead;
-        Ok(Walk::at(first, count))
+        Ok(walk)
+    }
+
+    #[inline(always)]
+    fn least_len() -> usize {
+        N::octets()
     }
 
     #[inline(always)]
@@ -248,7 +300,5 @@ impl<R: AsOctets + Copy, N: Length, F: Moving<R>> Delimited<R> for Times<N, F> {
 }
 
 impl<R: AsOctets + Copy, N: Length, F: Moving<R>> Moving<R> for Times<N, F> {
-    ghost use Rattle.octseq_format.specs.Row.{moving_times};
-
-    ghost moving = { moving_times N.width F.is_at N.wide F.onward };
+    ghost moving = { N.wide };
 }

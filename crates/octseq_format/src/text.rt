@@ -36,6 +36,10 @@ impl<R: AsOctets + Copy> Format<R> for Text {
 
     ghost found_code = { window_code };
 
+    ghost least = { 0 };
+
+    ghost turns_of = { λ _. 1 };
+
     ghost base = { 1 };
 
     ghost rate = { 0 };
@@ -48,6 +52,11 @@ impl<R: AsOctets + Copy> Format<R> for Text {
         }
         let len = parser.remaining();
         Ok(parser.parse_parser(len)?)
+    }
+
+    #[inline(always)]
+    fn least_len() -> usize {
+        0
     }
 
     #[inline(always)]

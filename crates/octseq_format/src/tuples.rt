@@ -1,7 +1,7 @@
 //! Tuples: one thing after another.
 ghost use Rattle.std.specs.Prelude.{◌+◌};
-ghost use Rattle.octseq_format.specs.Pair.{◌then◌, ◌and◌, ◌before◌, ◌also◌, ◌code_then◌};
-ghost use Rattle.octseq_format.specs.Pair.{◌one_then◌, ◌onward_then◌, ◌back_then◌, ◌delimited_then◌, moving_pair};
+ghost use Rattle.octseq_format.specs.Pair.{◌then◌, ◌and◌, ◌before◌, ◌also◌, ◌code_then◌, ◌plus◌};
+ghost use Rattle.octseq_format.specs.Pair.{◌one_then◌, ◌onward_then◌, ◌back_then◌, ◌delimited_then◌, some_more};
 
 use crate::format::{Delimited, Format, Moving};
 use octseq::utf8::Turns;
@@ -29,17 +29,29 @@ impl<R: AsOctets + Copy, A: Delimited<R>, B: Format<R>> Format<R> for (A, B) {
 
     ghost found_code = { A.found_code code_then B.found_code };
 
+    ghost least = { A.least + B.least };
+
+    ghost turns_of = { A.turns_of plus B.turns_of };
+
     ghost base = { A.base + B.base };
 
     ghost rate = { A.rate + B.rate };
 
     #[inline(always)]
     fn parse_counted(parser: &mut Parser<R>, turns: &mut Turns) -> Result<Self::Value, Malformed> {
+        if parser.remaining() < Self::least_len() {
+            return Err(Malformed);
+        }
         let mut ahead = *parser;
         let first = A::parse_counted(&mut ahead, turns)?;
         let second = B::parse_counted(&mut ahead, turns)?;
         *parser = ahead;
         Ok((first, second))
+    }
+
+    #[inline(always)]
+    fn least_len() -> usize {
+        A::least_len().saturating_add(B::least_len())
     }
 
     #[inline(always)]
@@ -73,7 +85,7 @@ impl<R: AsOctets + Copy, A: Delimited<R>, B: Delimited<R>> Delimited<R> for (A, 
 }
 
 impl<R: AsOctets + Copy, A: Moving<R>, B: Delimited<R>> Moving<R> for (A, B) {
-    ghost moving = { moving_pair A.moving B.onward };
+    ghost moving = { some_more B.least A.moving };
 }
 
 impl<R: AsOctets + Copy, A: Delimited<R>, B: Delimited<R>, C: Format<R>> Format<R> for (A, B, C) {
@@ -97,6 +109,10 @@ impl<R: AsOctets + Copy, A: Delimited<R>, B: Delimited<R>, C: Format<R>> Format<
 
     ghost found_code = { A.found_code code_then B.found_code code_then C.found_code };
 
+    ghost least = { A.least + (B.least + C.least) };
+
+    ghost turns_of = { A.turns_of plus B.turns_of plus C.turns_of };
+
     ghost base = { A.base + (B.base + C.base) };
 
     ghost rate = { A.rate + (B.rate + C.rate) };
@@ -107,6 +123,11 @@ impl<R: AsOctets + Copy, A: Delimited<R>, B: Delimited<R>, C: Format<R>> Format<
             Ok((a, (b, c))) => Ok((a, b, c)),
             Err(e) => Err(e),
         }
+    }
+
+    #[inline(always)]
+    fn least_len() -> usize {
+        <(A, (B, C)) as Format<R>>::least_len()
     }
 
     #[inline(always)]
@@ -133,7 +154,7 @@ impl<R: AsOctets + Copy, A: Delimited<R>, B: Delimited<R>, C: Delimited<R>> Deli
 }
 
 impl<R: AsOctets + Copy, A: Moving<R>, B: Delimited<R>, C: Delimited<R>> Moving<R> for (A, B, C) {
-    ghost moving = { moving_pair A.moving (B.onward onward_then C.onward) };
+    ghost moving = { some_more (B.least + C.least) A.moving };
 }
 
 impl<R: AsOctets + Copy, A: Delimited<R>, B: Delimited<R>, C: Delimited<R>, D: Format<R>> Format<R>
@@ -158,6 +179,10 @@ impl<R: AsOctets + Copy, A: Delimited<R>, B: Delimited<R>, C: Delimited<R>, D: F
 
     ghost found_code = { A.found_code code_then B.found_code code_then C.found_code code_then D.found_code };
 
+    ghost least = { A.least + (B.least + (C.least + D.least)) };
+
+    ghost turns_of = { A.turns_of plus B.turns_of plus C.turns_of plus D.turns_of };
+
     ghost base = { A.base + (B.base + (C.base + D.base)) };
 
     ghost rate = { A.rate + (B.rate + (C.rate + D.rate)) };
@@ -168,6 +193,11 @@ impl<R: AsOctets + Copy, A: Delimited<R>, B: Delimited<R>, C: Delimited<R>, D: F
             Ok((a, (b, c, d))) => Ok((a, b, c, d)),
             Err(e) => Err(e),
         }
+    }
+
+    #[inline(always)]
+    fn least_len() -> usize {
+        <(A, (B, C, D)) as Format<R>>::least_len()
     }
 
     #[inline(always)]
@@ -195,12 +225,13 @@ impl<
     C: Delimited<R>,
     D: Delimited<R>,
 > Delimited<R> for (A, B, C, D) {
-    ghost delimited = { A.delimited delimited_then B.delimited delimited_then C.delimited delimited_then D.delimited };
+    ghost delimited = { A.delimited delimited_then B.delimited delimited_then C.delimited
+        delimited_then D.delimited };
 }
 
 impl<R: AsOctets + Copy, A: Moving<R>, B: Delimited<R>, C: Delimited<R>, D: Delimited<R>> Moving<R>
     for (A, B, C, D) {
-    ghost moving = { moving_pair A.moving (B.onward onward_then C.onward onward_then D.onward) };
+    ghost moving = { some_more (B.least + (C.least + D.least)) A.moving };
 }
 
 impl<
@@ -232,6 +263,10 @@ impl<
     ghost found_code = { A.found_code code_then B.found_code code_then C.found_code code_then D.found_code
         code_then E.found_code };
 
+    ghost least = { A.least + (B.least + (C.least + (D.least + E.least))) };
+
+    ghost turns_of = { A.turns_of plus B.turns_of plus C.turns_of plus D.turns_of plus E.turns_of };
+
     ghost base = { A.base + (B.base + (C.base + (D.base + E.base))) };
 
     ghost rate = { A.rate + (B.rate + (C.rate + (D.rate + E.rate))) };
@@ -242,6 +277,11 @@ impl<
             Ok((a, (b, c, d, e))) => Ok((a, b, c, d, e)),
             Err(e) => Err(e),
         }
+    }
+
+    #[inline(always)]
+    fn least_len() -> usize {
+        <(A, (B, C, D, E)) as Format<R>>::least_len()
     }
 
     #[inline(always)]
@@ -265,7 +305,8 @@ impl<
 
     ghost onward = { A.onward onward_then B.onward onward_then C.onward onward_then D.onward onward_then E.onward };
 
-    ghost read_back = { A.delimited back_then B.delimited back_then C.delimited back_then D.delimited back_then E.read_back };
+    ghost read_back = { A.delimited back_then B.delimited back_then C.delimited back_then D.delimited
+        back_then E.read_back };
 }
 
 impl<
@@ -276,8 +317,8 @@ impl<
     D: Delimited<R>,
     E: Delimited<R>,
 > Delimited<R> for (A, B, C, D, E) {
-    ghost delimited = { A.delimited delimited_then B.delimited delimited_then C.delimited delimited_then D.delimited
-        delimited_then E.delimited };
+    ghost delimited = { A.delimited delimited_then B.delimited delimited_then C.delimited
+        delimited_then D.delimited delimited_then E.delimited };
 }
 
 impl<
@@ -288,7 +329,7 @@ impl<
     D: Delimited<R>,
     E: Delimited<R>,
 > Moving<R> for (A, B, C, D, E) {
-    ghost moving = { moving_pair A.moving (B.onward onward_then C.onward onward_then D.onward onward_then E.onward) };
+    ghost moving = { some_more (B.least + (C.least + (D.least + E.least))) A.moving };
 }
 
 impl<
@@ -304,7 +345,19 @@ impl<
 
     ghost Found = { A.Found × (B.Found × (C.Found × (D.Found × (E.Found × F.Found)))) };
 
-    ghost found = { λ all. (A.found all.0, (B.found all.1, (C.found all.2, (D.found all.3, (E.found all.4, F.found all.5))))) };
+    ghost found = { λ all. (
+      A.found all.0,
+      (
+        B.found all.1,
+        (
+          C.found all.2,
+          (
+            D.found all.3,
+            (E.found all.4, F.found all.5),
+          ),
+        ),
+      ),
+    ) };
 
     ghost is_at = { A.is_at then B.is_at then C.is_at then D.is_at then E.is_at then F.is_at };
 
@@ -321,6 +374,10 @@ impl<
     ghost found_code = { A.found_code code_then B.found_code code_then C.found_code code_then D.found_code
         code_then E.found_code code_then F.found_code };
 
+    ghost least = { A.least + (B.least + (C.least + (D.least + (E.least + F.least)))) };
+
+    ghost turns_of = { A.turns_of plus B.turns_of plus C.turns_of plus D.turns_of plus E.turns_of plus F.turns_of };
+
     ghost base = { A.base + (B.base + (C.base + (D.base + (E.base + F.base)))) };
 
     ghost rate = { A.rate + (B.rate + (C.rate + (D.rate + (E.rate + F.rate)))) };
@@ -331,6 +388,11 @@ impl<
             Ok((a, (b, c, d, e, f))) => Ok((a, b, c, d, e, f)),
             Err(e) => Err(e),
         }
+    }
+
+    #[inline(always)]
+    fn least_len() -> usize {
+        <(A, (B, C, D, E, F)) as Format<R>>::least_len()
     }
 
     #[inline(always)]
@@ -355,8 +417,8 @@ impl<
     ghost onward = { A.onward onward_then B.onward onward_then C.onward onward_then D.onward onward_then E.onward
         onward_then F.onward };
 
-    ghost read_back = { A.delimited back_then B.delimited back_then C.delimited back_then D.delimited back_then E.delimited
-        back_then F.read_back };
+    ghost read_back = { A.delimited back_then B.delimited back_then C.delimited back_then D.delimited
+        back_then E.delimited back_then F.read_back };
 }
 
 impl<
@@ -368,8 +430,8 @@ impl<
     E: Delimited<R>,
     F: Delimited<R>,
 > Delimited<R> for (A, B, C, D, E, F) {
-    ghost delimited = { A.delimited delimited_then B.delimited delimited_then C.delimited delimited_then D.delimited
-        delimited_then E.delimited delimited_then F.delimited };
+    ghost delimited = { A.delimited delimited_then B.delimited delimited_then C.delimited
+        delimited_then D.delimited delimited_then E.delimited delimited_then F.delimited };
 }
 
 impl<
@@ -381,7 +443,7 @@ impl<
     E: Delimited<R>,
     F: Delimited<R>,
 > Moving<R> for (A, B, C, D, E, F) {
-    ghost moving = { moving_pair A.moving (B.onward onward_then C.onward onward_then D.onward onward_then E.onward onward_then F.onward) };
+    ghost moving = { some_more (B.least + (C.least + (D.least + (E.least + F.least)))) A.moving };
 }
 
 impl<
@@ -406,7 +468,22 @@ impl<
 
     ghost Found = { A.Found × (B.Found × (C.Found × (D.Found × (E.Found × (F.Found × G.Found))))) };
 
-    ghost found = { λ all. (A.found all.0, (B.found all.1, (C.found all.2, (D.found all.3, (E.found all.4, (F.found all.5, G.found all.6)))))) };
+    ghost found = { λ all. (
+      A.found all.0,
+      (
+        B.found all.1,
+        (
+          C.found all.2,
+          (
+            D.found all.3,
+            (
+              E.found all.4,
+              (F.found all.5, G.found all.6),
+            ),
+          ),
+        ),
+      ),
+    ) };
 
     ghost is_at = { A.is_at then B.is_at then C.is_at then D.is_at then E.is_at then F.is_at then G.is_at };
 
@@ -424,6 +501,11 @@ impl<
     ghost found_code = { A.found_code code_then B.found_code code_then C.found_code code_then D.found_code
         code_then E.found_code code_then F.found_code code_then G.found_code };
 
+    ghost least = { A.least + (B.least + (C.least + (D.least + (E.least + (F.least + G.least))))) };
+
+    ghost turns_of = { A.turns_of plus B.turns_of plus C.turns_of plus D.turns_of plus E.turns_of plus F.turns_of
+        plus G.turns_of };
+
     ghost base = { A.base + (B.base + (C.base + (D.base + (E.base + (F.base + G.base))))) };
 
     ghost rate = { A.rate + (B.rate + (C.rate + (D.rate + (E.rate + (F.rate + G.rate))))) };
@@ -434,6 +516,11 @@ impl<
             Ok((a, (b, c, d, e, f, g))) => Ok((a, b, c, d, e, f, g)),
             Err(e) => Err(e),
         }
+    }
+
+    #[inline(always)]
+    fn least_len() -> usize {
+        <(A, (B, C, D, E, F, G)) as Format<R>>::least_len()
     }
 
     #[inline(always)]
@@ -461,8 +548,8 @@ impl<
     ghost onward = { A.onward onward_then B.onward onward_then C.onward onward_then D.onward onward_then E.onward
         onward_then F.onward onward_then G.onward };
 
-    ghost read_back = { A.delimited back_then B.delimited back_then C.delimited back_then D.delimited back_then E.delimited
-        back_then F.delimited back_then G.read_back };
+    ghost read_back = { A.delimited back_then B.delimited back_then C.delimited back_then D.delimited
+        back_then E.delimited back_then F.delimited back_then G.read_back };
 }
 
 impl<
@@ -475,8 +562,9 @@ impl<
     F: Delimited<R>,
     G: Delimited<R>,
 > Delimited<R> for (A, B, C, D, E, F, G) {
-    ghost delimited = { A.delimited delimited_then B.delimited delimited_then C.delimited delimited_then D.delimited
-        delimited_then E.delimited delimited_then F.delimited delimited_then G.delimited };
+    ghost delimited = { A.delimited delimited_then B.delimited delimited_then C.delimited
+        delimited_then D.delimited delimited_then E.delimited delimited_then F.delimited
+        delimited_then G.delimited };
 }
 
 impl<
@@ -489,7 +577,7 @@ impl<
     F: Delimited<R>,
     G: Delimited<R>,
 > Moving<R> for (A, B, C, D, E, F, G) {
-    ghost moving = { moving_pair A.moving (B.onward onward_then C.onward onward_then D.onward onward_then E.onward onward_then F.onward onward_then G.onward) };
+    ghost moving = { some_more (B.least + (C.least + (D.least + (E.least + (F.least + G.least))))) A.moving };
 }
 
 impl<
@@ -516,9 +604,25 @@ impl<
 
     ghost Found = { A.Found × (B.Found × (C.Found × (D.Found × (E.Found × (F.Found × (G.Found × H.Found)))))) };
 
-    ghost found = { λ all. (A.found all.0, (B.found all.1, (C.found all.2, (D.found all.3, (E.found all.4, (F.found all.5, (G.found all.6, H.found all.7))))))) };
+    ghost found = { λ all. (
+      A.found all.0,
+      (
+        B.found all.1,
+        (
+          C.found all.2,
+          (
+            D.found all.3,
+            (
+              E.found all.4,
+              (F.found all.5, (G.found all.6, H.found all.7)),
+            ),
+          ),
+        ),
+      ),
+    ) };
 
-    ghost is_at = { A.is_at then B.is_at then C.is_at then D.is_at then E.is_at then F.is_at then G.is_at then H.is_at };
+    ghost is_at = { A.is_at then B.is_at then C.is_at then D.is_at then E.is_at then F.is_at then G.is_at
+        then H.is_at };
 
     ghost Said = { A.Said × (B.Said × (C.Said × (D.Said × (E.Said × (F.Said × (G.Said × H.Said)))))) };
 
@@ -535,6 +639,11 @@ impl<
     ghost found_code = { A.found_code code_then B.found_code code_then C.found_code code_then D.found_code
         code_then E.found_code code_then F.found_code code_then G.found_code code_then H.found_code };
 
+    ghost least = { A.least + (B.least + (C.least + (D.least + (E.least + (F.least + (G.least + H.least)))))) };
+
+    ghost turns_of = { A.turns_of plus B.turns_of plus C.turns_of plus D.turns_of plus E.turns_of plus F.turns_of
+        plus G.turns_of plus H.turns_of };
+
     ghost base = { A.base + (B.base + (C.base + (D.base + (E.base + (F.base + (G.base + H.base)))))) };
 
     ghost rate = { A.rate + (B.rate + (C.rate + (D.rate + (E.rate + (F.rate + (G.rate + H.rate)))))) };
@@ -545,6 +654,11 @@ impl<
             Ok((a, (b, c, d, e, f, g, h))) => Ok((a, b, c, d, e, f, g, h)),
             Err(e) => Err(e),
         }
+    }
+
+    #[inline(always)]
+    fn least_len() -> usize {
+        <(A, (B, C, D, E, F, G, H)) as Format<R>>::least_len()
     }
 
     #[inline(always)]
@@ -576,8 +690,8 @@ impl<
     ghost onward = { A.onward onward_then B.onward onward_then C.onward onward_then D.onward onward_then E.onward
         onward_then F.onward onward_then G.onward onward_then H.onward };
 
-    ghost read_back = { A.delimited back_then B.delimited back_then C.delimited back_then D.delimited back_then E.delimited
-        back_then F.delimited back_then G.delimited back_then H.read_back };
+    ghost read_back = { A.delimited back_then B.delimited back_then C.delimited back_then D.delimited
+        back_then E.delimited back_then F.delimited back_then G.delimited back_then H.read_back };
 }
 
 impl<
@@ -591,9 +705,9 @@ impl<
     G: Delimited<R>,
     H: Delimited<R>,
 > Delimited<R> for (A, B, C, D, E, F, G, H) {
-    ghost delimited = { A.delimited delimited_then B.delimited delimited_then C.delimited delimited_then D.delimited
-        delimited_then E.delimited delimited_then F.delimited delimited_then G.delimited
-        delimited_then H.delimited };
+    ghost delimited = { A.delimited delimited_then B.delimited delimited_then C.delimited
+        delimited_then D.delimited delimited_then E.delimited delimited_then F.delimited
+        delimited_then G.delimited delimited_then H.delimited };
 }
 
 impl<
@@ -607,5 +721,6 @@ impl<
     G: Delimited<R>,
     H: Delimited<R>,
 > Moving<R> for (A, B, C, D, E, F, G, H) {
-    ghost moving = { moving_pair A.moving (B.onward onward_then C.onward onward_then D.onward onward_then E.onward onward_then F.onward onward_then G.onward onward_then H.onward) };
+    ghost moving = { some_more (B.least + (C.least + (D.least + (E.least + (F.least + (G.least + H.least))))))
+        A.moving };
 }

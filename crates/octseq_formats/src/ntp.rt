@@ -1,13 +1,21 @@
 //! The header of NTP, version 4: RFC 5905, 7.3.
 
+ghost use Rattle.std.specs.Prelude.{◌≡◌, IfOk};
+
 use octseq::AsOctets;
-use octseq_format::{Fields, Format, I8, U8, U32Be, U64Be};
+use octseq::compose::ComposeError;
+use octseq_format::{Bits, Fields, Format, I8, Low, Of, U8, U32Be, U64Be, parse_composed};
+use std::alloc::Global;
 
 /// What a header says.
 #[derive(Clone, Copy, Debug, PartialEq, Eq)]
 pub struct Ntp {
-    /// A leap indicator of 2 bits, a version of 3, and a mode of 3.
-    pub flags: u8,
+    /// Whether the last minute of the day has another number of seconds.
+    pub leap_indicator: usize,
+    /// The version.
+    pub version: usize,
+    /// Who sends it: 3 a client, 4 a server.
+    pub mode: usize,
     /// How far the clock is from a reference.
     pub stratum: u8,
     /// The logarithm to the base 2 of the most seconds between messages.
@@ -26,7 +34,7 @@ pub struct Ntp {
 
 impl<R: AsOctets + Copy> Fields<R> for Ntp {
     type Format = (
-        U8,
+        Bits<u8, (Low<2>, Low<3>, Low<3>)>,
         U8,
         I8,
         I8,
@@ -37,7 +45,7 @@ impl<R: AsOctets + Copy> Fields<R> for Ntp {
     );
 
     ghost fields = { λ ntp. (
-      ntp.flags,
+      (ntp.leap_indicator, ntp.version, ntp.mode),
       ntp.stratum,
       ntp.poll,
       ntp.precision,
@@ -49,7 +57,9 @@ impl<R: AsOctets + Copy> Fields<R> for Ntp {
 
     fn from_fields(parts: <Self::Format as Format<R>>::Value) -> Self {
         Ntp {
-            flags: parts.0,
+            leap_indicator: parts.0.0,
+            version: parts.0.1,
+            mode: parts.0.2,
             stratum: parts.1,
             poll: parts.2,
             precision: parts.3,
@@ -62,7 +72,7 @@ impl<R: AsOctets + Copy> Fields<R> for Ntp {
 
     fn to_fields(&self) -> <Self::Format as Format<R>>::Value {
         (
-            self.flags,
+            (self.leap_indicator, self.version, self.mode),
             self.stratum,
             self.poll,
             self.precision,
@@ -72,4 +82,17 @@ impl<R: AsOctets + Copy> Fields<R> for Ntp {
             self.timestamps,
         )
     }
+}
+
+/// Writes a header, and reads it again: it says the same.
+///
+/// # Errors
+///
+/// `TooLong` where a number has more bits than its field, `Memory` where a request for memory was refused.
+#[tactic(auto, unfolding(octseq_format::specs::Pair::both_say))]
+pub fn round_trip(alloc: Global, ntp: &Ntp) -> Result<Ntp, ComposeError>
+    ensures { IfOk result (λ again. again ≡ ntp.now) }
+{
+    let octets: Vec<u8> = <Of<Ntp> as Format<&[u8]>>::compose_whole(alloc, ntp)?;
+    Ok(parse_composed::<&[u8], Of<Ntp>>(octets.as_slice(), ntp))
 }

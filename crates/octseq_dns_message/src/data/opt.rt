@@ -4,10 +4,10 @@ ghost use Rattle.octseq.specs.Parser.{window};
 ghost use Rattle.octseq.specs.Window.{Window};
 ghost use Rattle.octseq_dns_message.specs.Entry.{Record as Entry};
 ghost use Rattle.octseq_dns_message.specs.Flag.{flag};
-ghost use Rattle.octseq_dns_message.specs.Format.{Row};
 ghost use Rattle.octseq_dns_message.specs.OneRow.{OptionsAhead, options_once};
 ghost use Rattle.octseq_dns_message.specs.Opt as said;
 ghost use Rattle.octseq_dns_message.specs.Opt.{HasOption, IsOpt};
+ghost use Rattle.octseq_format.specs.Row.{Row};
 
 use crate::iana::Rtype;
 use crate::message::Record;

@@ -5,7 +5,7 @@ ghost use Rattle.octseq.specs.Window.{Window, left};
 ghost use Rattle.octseq_dns_message.specs.Entry as said;
 ghost use Rattle.octseq_dns_message.specs.Entry.{IsQuestion, IsRecord};
 ghost use Rattle.octseq_dns_message.specs.EntryTurns.{questions_turns, records_turns};
-ghost use Rattle.octseq_dns_message.specs.Format.{Many};
+ghost use Rattle.octseq_format.specs.Row.{Many};
 
 use crate::message::question::Question;
 use crate::message::record::Record;

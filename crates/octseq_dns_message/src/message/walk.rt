@@ -2,8 +2,8 @@
 ghost use Rattle.std.specs.Prelude.{◌≡◌, ⊤};
 ghost use Rattle.octseq.specs.Parser.{window};
 ghost use Rattle.octseq_dns_message.specs.Entry.{IsQuestion, IsRecord};
-ghost use Rattle.octseq_dns_message.specs.Format.{Holds};
 ghost use Rattle.octseq_dns_message.specs.OneEntry.{questions_once, records_once};
+ghost use Rattle.octseq_format.specs.Row.{Holds};
 
 use crate::message::question::Question;
 use crate::message::record::Record;

@@ -1,10 +1,13 @@
 //! Each format once: octets, and what they say.
-use octseq::{AsOctets, Malformed};
+use octseq::compose::ComposeError;
+use octseq::utf8::Turns;
+use octseq::{Array, AsOctets, Malformed, Parser};
 use octseq_asserts::assert_equal;
 use octseq_format::{
-    Case, Either, Exactly, Format, I8, I16Be, I16Le, I32Be, I32Le, I64Be, I64Le, I128Be, I128Le,
-    Last, Octets, Optional, Others, Repeated, Tagged, Test, Text, U8, U16Be, U16Le, U24Be, U24Le,
-    U32Be, U32Le, U48Be, U48Le, U64Be, U64Le, U128Be, U128Le, Where, ZeroEnded,
+    Bits, Case, Either, Exactly, Flag, Format, I8, I16Be, I16Le, I32Be, I32Le, I64Be, I64Le,
+    I128Be, I128Le, Last, Low, Octets, Optional, Others, Repeated, Tagged, Test, Text, U8, U16Be,
+    U16Le, U24Be, U24Le, U32Be, U32Le, U48Be, U48Le, U64Be, U64Le, U128Be, U128Le, Where,
+    ZeroEnded, append_all, parse_many,
 };
 use std::alloc::AllocGlobal;
 use std::fmt::Debug;
@@ -109,6 +112,68 @@ fn a_number_may_be_fixed_or_tested(rt: HostRuntime) -> Result<(), Fail> {
         &3,
     );
     assert_equal!(&rt, written.is_err(), true);
+    Ok(())
+}
+
+/// The flags of a message of DNS: a response, an opcode, three flags, one more, three bits that are zero, and an rcode.
+type DnsFlags = (Flag, (Low<4>, Flag, Flag), (Flag, Flag, Low<3>, Low<4>));
+
+#[test]
+fn a_number_may_be_bits(rt: HostRuntime) -> Result<(), Fail> {
+    is_said::<Bits<u8, (Low<2>, Low<3>, Low<3>)>>(&rt, b"\x23", (0, 4, 3))?;
+    is_said::<Bits<u16, DnsFlags>>(
+        &rt,
+        b"\x85\x83",
+        (true, (0, true, false), (true, true, 0, 3)),
+    )?;
+    let value = <Bits<u8, (Low<2>, Low<3>)> as Format<&[u8]>>::parse_whole(b"\x1F".as_slice());
+    assert_equal!(&rt, value, Ok((3, 7)));
+    let refused = <Bits<u8, (Low<2>, Low<3>)> as Format<&[u8]>>::parse_whole(b"\x20".as_slice());
+    assert_equal!(&rt, refused, Err(Malformed));
+    let written: Result<Vec<u8>, _> = <Bits<u8, (Low<2>, Low<6>)> as Format<&[u8]>>::compose_whole(
+        rt.alloc(),
+        &(4, 0),
+    );
+    assert_equal!(&rt, written, Err(ComposeError::TooLong));
+    Ok(())
+}
+
+/// The sum of as many numbers as a count says, and how many octets are left.
+fn sum_of<R: AsOctets + Copy>(octets: R, count: usize) -> Result<(u64, usize), Malformed> {
+    let mut parser = Parser::from_ref(octets);
+    let mut sum: u64 = 0;
+    for number in parse_many::<R, U16Be>(&mut parser, count, &mut Turns::new())? {
+        sum = sum.wrapping_add(u64::from(number));
+    }
+    Ok((sum, parser.remaining()))
+}
+
+#[test]
+fn a_count_may_come_from_elsewhere(rt: HostRuntime) -> Result<(), Fail> {
+    assert_equal!(
+        &rt,
+        sum_of(b"\0\x01\0\x02\0\x04\x09".as_slice(), 2),
+        Ok((3, 3))
+    );
+    assert_equal!(
+        &rt,
+        sum_of(b"\0\x01\0\x02\x09".as_slice(), 3),
+        Err(Malformed)
+    );
+    assert_equal!(&rt, sum_of(b"\x09".as_slice(), 0), Ok((0, 1)));
+    Ok(())
+}
+
+#[test]
+fn values_may_be_in_a_slice(rt: HostRuntime) -> Result<(), Fail> {
+    let mut octets = Array::<5>::new();
+    append_all::<&[u8], U16Be, _>(&mut octets, &[1, 0x0203])?;
+    assert_equal!(&rt, octets.as_slice(), b"\0\x01\x02\x03");
+    let short = append_all::<&[u8], U16Be, _>(&mut octets, &[4]);
+    assert_equal!(&rt, short, Err(ComposeError::Short));
+    let long = append_all::<&[u8], U24Be, _>(&mut octets, &[0x100_0000]);
+    assert_equal!(&rt, long, Err(ComposeError::TooLong));
+    assert_equal!(&rt, octets.as_slice(), b"\0\x01\x02\x03");
     Ok(())
 }
 

@@ -9,7 +9,9 @@ use std::test::Fail;
 
 /// A header of NTP, all of whose numbers are 0 or 1.
 const NTP: Ntp = Ntp {
-    flags: 1,
+    leap_indicator: 0,
+    version: 0,
+    mode: 1,
     stratum: 0,
     poll: 1,
     precision: 0,

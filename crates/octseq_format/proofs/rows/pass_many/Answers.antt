@@ -1,7 +1,8 @@
 use Rattle.std.proofs.Common.{◌∙◌, ◌++◌, [], ◌∷◌, refl, arith}
 use Rattle.octseq.specs.Parser.{window}
 use Rattle.octseq.specs.Window.{left}
-use Rattle.octseq_format.proofs.RowSteps.{many_ends, many_more, turns_more}
+use Rattle.octseq_format.specs.Laws.{moving_of}
+use Rattle.octseq_format.proofs.RowSteps.{many_ends, many_more, row_turns_more, turns_more}
 use Rattle.octseq_format.proofs.rows.pass_many.Goals as goal
 
 pub loop-taken-preserved : goal.loop-taken-preserved
@@ -12,18 +13,22 @@ loop-taken-preserved g c =
     let v = window c.parse_counted.new.parser in
     let one = f.found c.in_ok-_item._item in
     let is = c.in_ok-_item.ensures.value in
-    let less = g.met.F.Moving.moving.on u one v is in
+    let less = (moving_of g.met.F.Format.onward g.met.F.Moving.moving).on u one v is in
+    let tick = c.tick.ensures in
     record {
       all = (
         so_far.all.0 ++ one ∷ [],
         many_more f.is_at (window c.args.parser.now) u v c.loop-taken.taken so_far.all.0 one so_far.all.1 is,
+        let before = so_far.all.2 in
+            omega (arith, before, tick, c.in_ok-_item.ensures.counted, row_turns_more f.turns_of so_far.all.0 one),
       );
       same = c.parse_counted.ensures.same ∙ so_far.same;
       end = c.parse_counted.ensures.end ∙ so_far.end;
       onward = let before = so_far.onward in omega (arith, before, less);
-      some = let before = so_far.some in let more = c.parse_counted.ensures.turns.some in omega (arith, before, more);
+      some = let before = so_far.some in let more = c.parse_counted.ensures.turns.some in
+          omega (arith, before, tick, more);
       took = let before = so_far.took in
-          let more = turns_more f.base f.rate (left u) (left v) _ _ less c.in_ok-_item.ensures.took in
+          let more = turns_more f.base f.rate (left u) (left v) _ _ _ less tick c.in_ok-_item.ensures.took in
           omega (arith, before, more);
     }
 

@@ -1,9 +1,9 @@
 use Rattle.std.proofs.Common.{◌∙◌, refl, arith}
 use Rattle.octseq.specs.Parser.{window}
 use Rattle.octseq_dns_message.specs.Edns.{option_of}
-use Rattle.octseq_dns_message.specs.OneRow.{one_option}
+use Rattle.octseq_dns_message.specs.OneRow.{option_item}
 use Rattle.octseq_dns_message.specs.Opt.{HasOption}
-use Rattle.octseq_dns_message.proofs.Rows.{option_end, with_one, no_more}
+use Rattle.octseq_dns_message.proofs.Rows.{with_one, no_more}
 use Rattle.octseq_dns_message.proofs.data.opt.pass_options.Goals as goal
 
 pub returns-in_err-_option-clause-malformed : goal.returns-in_err-_option-clause-malformed
@@ -25,9 +25,9 @@ options-preserved g c =
     let some = c.options-test.true in
     let ends = c.options.invariant.ends in
     record {
-      read = with_one HasOption one_option w u v w.end option c.options.invariant.read (omega (arith, left, some, ends))
-          c.in_ok-_option.ensures.option;
-      ends = option_end u v option c.in_ok-_option.ensures.option ∙ ends;
+      read = with_one HasOption option_item w u v w.end option c.options.invariant.read
+          (omega (arith, left, some, ends)) c.in_ok-_option.ensures.option;
+      ends = option_item.ends u option v c.in_ok-_option.ensures.option ∙ ends;
     }
 
 pub returns-clause-options : goal.returns-clause-options

@@ -2,13 +2,14 @@ use Rattle.std.proofs.Common.{ap, refl, subst, arith}
 use Rattle.octseq.specs.Parser.{window}
 use Rattle.octseq.specs.Window.{left}
 use Rattle.octseq_dns_message.specs.Entry.{IsQuestion, IsRecord}
-use Rattle.octseq_dns_message.specs.Format.{Many}
 use Rattle.octseq_dns_message.specs.Header.{IsHeader}
 use Rattle.octseq_dns_message.specs.Parsed.{fields_of}
 use Rattle.octseq_dns_message.specs.OneEntry.{one_question, one_record, question_code, record_code}
-use Rattle.octseq_dns_message.proofs.Formats.{NoneAt, held_as}
 use Rattle.octseq_dns_message.proofs.Messages.{no_header, no_questions, no_answers, no_authorities, no_additionals}
 use Rattle.octseq_dns_message.proofs.Messages.{some_behind}
+use Rattle.octseq_format.specs.Laws.{NoneAt}
+use Rattle.octseq_format.specs.Row.{Many}
+use Rattle.octseq_format.proofs.RowSteps.{held_as}
 use Rattle.octseq_dns_message.proofs.message.Message.parse_counted.Goals as goal
 
 pub returns-in_err-header-clause-malformed : goal.returns-in_err-header-clause-malformed

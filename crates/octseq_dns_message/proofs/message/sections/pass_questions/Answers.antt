@@ -3,9 +3,11 @@ use Rattle.std.proofs.lemmas.List.Sums.{sum_by_push}
 use Rattle.octseq.specs.Parser.{window}
 use Rattle.octseq_dns_message.specs.Entry.{IsQuestion}
 use Rattle.octseq_dns_message.specs.EntryTurns.{question_turns, questions_turns}
-use Rattle.octseq_dns_message.specs.OneEntry.{one_question, one_row}
+use Rattle.octseq_dns_message.specs.OneEntry.{one_question}
 use Rattle.octseq_dns_message.specs.Said.{question_of}
-use Rattle.octseq_dns_message.proofs.Formats.{many_ends, many_more, question_takes}
+use Rattle.octseq_dns_message.proofs.Formats.{question_takes}
+use Rattle.octseq_format.specs.Row.{one_row}
+use Rattle.octseq_format.proofs.RowSteps.{many_ends, many_more}
 use Rattle.octseq_dns_message.proofs.message.sections.pass_questions.Goals as goal
 
 pub loop-taken-init : goal.loop-taken-init
@@ -51,7 +53,7 @@ returns-clause-least g c = λ row end is.
     let all = c.loop-taken.invariant.all in
     let taken = all.1.0 in
     let counted = is.0 in
-    let same = one_row IsQuestion one_question (window c.args.parser.now) _ end all.0 row (omega (arith, taken, counted))
-    all.1.1 is.1 in
+    let same = one_row IsQuestion one_question (window c.args.parser.now) _ end all.0 row
+    (omega (arith, taken, counted)) all.1.1 is.1 in
     let least = c.loop-taken.invariant.least in
     omega (arith, ap questions_turns same.0, least)

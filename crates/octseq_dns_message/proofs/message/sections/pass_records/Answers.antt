@@ -3,9 +3,11 @@ use Rattle.std.proofs.lemmas.List.Sums.{sum_by_push}
 use Rattle.octseq.specs.Parser.{window}
 use Rattle.octseq_dns_message.specs.Entry.{IsRecord}
 use Rattle.octseq_dns_message.specs.EntryTurns.{record_turns, records_turns}
-use Rattle.octseq_dns_message.specs.OneEntry.{one_record, one_row}
+use Rattle.octseq_dns_message.specs.OneEntry.{one_record}
 use Rattle.octseq_dns_message.specs.Said.{record_of}
-use Rattle.octseq_dns_message.proofs.Formats.{many_ends, many_more, record_takes}
+use Rattle.octseq_dns_message.proofs.Formats.{record_takes}
+use Rattle.octseq_format.specs.Row.{one_row}
+use Rattle.octseq_format.proofs.RowSteps.{many_ends, many_more}
 use Rattle.octseq_dns_message.proofs.message.sections.pass_records.Goals as goal
 
 pub loop-taken-init : goal.loop-taken-init

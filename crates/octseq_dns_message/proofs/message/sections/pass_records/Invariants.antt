@@ -2,9 +2,9 @@
 use Rattle.std.proofs.Common.{◌≡◌, ◌+◌, ◌*◌, ◌≤◌, List}
 use Rattle.octseq.specs.Parser.{sequence, window}
 use Rattle.octseq.specs.Window.{left}
-use Rattle.octseq_dns_message.specs.Format.{Many}
 use Rattle.octseq_dns_message.specs.Entry.{IsRecord, Record}
 use Rattle.octseq_dns_message.specs.EntryTurns.{records_turns}
+use Rattle.octseq_format.specs.Row.{Many}
 use Rattle.octseq_dns_message.proofs.message.sections.pass_records.Given as goal
 
 abbrev pub invariant-loop-taken : goal.invariant-loop-taken

@@ -1,6 +1,7 @@
-use Rattle.std.proofs.Common.{refl, sym, subst}
+use Rattle.std.proofs.Common.{◌+◌, ◌≤◌, refl, sym, subst}
 use Rattle.octseq.specs.Parser.{window}
-use Rattle.octseq_format.specs.Row.{Row}
+use Rattle.octseq_format.specs.Laws.{moving_of}
+use Rattle.octseq_format.specs.Row.{Row, row_turns}
 use Rattle.octseq_format.specs.Walk.{items_left}
 use Rattle.octseq_format.proofs.RowSteps.{row_moved, row_of_moved}
 use Rattle.octseq_format.proofs.rows.RepeatedFormat.parse_counted.Goals as goal
@@ -16,6 +17,14 @@ returns-clause-value g c =
     let w = window c.args.parser.now in
     let v = window c.pass_all.new.parser in
     let all = c.in_ok-count.ensures.all in
-    let same = c.at.ensures (all.0, ∣ (v, all.1) ∣₁) in
+    let same = c.at.ensures (all.0, ∣ (v, (all.1.0, all.1.1)) ∣₁) in
     let row = subst (λ row. Row f.is_at w row v) (sym same) all.1.1 in
-    (row_moved f.is_at g.met.F.Moving.moving w v (items_left c.at.result) row, c.in_ok-count.ensures.ends)
+    let moving = moving_of g.met.F.Format.onward g.met.F.Moving.moving in
+    (row_moved f.is_at moving w v (items_left c.at.result) row, c.in_ok-count.ensures.ends)
+
+pub returns-clause-counted : goal.returns-clause-counted
+returns-clause-counted g c =
+    let v = window c.pass_all.new.parser in
+    let all = c.in_ok-count.ensures.all in
+    let same = c.at.ensures (all.0, ∣ (v, (all.1.0, all.1.1)) ∣₁) in
+    subst (λ row. c.args.turns.now + row_turns g.F.Format.turns_of row ≤ c.pass_all.new.turns) (sym same) all.2

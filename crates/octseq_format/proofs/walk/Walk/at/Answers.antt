@@ -9,4 +9,5 @@ invariant_of-result g c = record { ahead = c.requires }
 pub returns : goal.returns
 returns g c = λ held.
     let f = g.F.Format in
-    ap (λ held. held.0) (held_once f.found_code f.is_at f.one (window c.args.parser) c.args.left c.result-1.given.0 held)
+    ap (λ held. held.0)
+    (held_once f.found_code f.is_at f.one (window c.args.parser) c.args.left c.result-1.given.0 held)

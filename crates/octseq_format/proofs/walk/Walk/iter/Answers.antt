@@ -7,4 +7,5 @@ pub returns : goal.returns
 returns g c =
     let self = c.args.self.now in
     let f = g.F.Format in
-    ap (λ held. held.0) (held_once f.found_code f.is_at f.one (window self.parser) self.left c.result-2-1.given.0 self.ahead)
+    ap (λ held. held.0)
+    (held_once f.found_code f.is_at f.one (window self.parser) self.left c.result-2-1.given.0 self.ahead)

@@ -29,8 +29,8 @@ pub returns-in-Ok-clause-steps : goal.returns-in-Ok-clause-steps
 returns-in-Ok-clause-steps g c =
     let self = c.args.self.now in
     let f = g.F.Format in
-    held_then f.found_code f.is_at f.one (window self.parser) (window c.parse.new.parser) (f.found c.in-Ok.item) self.left
-    (self.left - 1) self.ahead c.self-1.given.0 c.in-Ok.ensures.value (omega arith)
+    held_then f.found_code f.is_at f.one (window self.parser) (window c.parse.new.parser) (f.found c.in-Ok.item)
+    self.left (self.left - 1) self.ahead c.self-1.given.0 c.in-Ok.ensures.value (omega arith)
 
 pub returns-in-Ok-clause-goes : goal.returns-in-Ok-clause-goes
 returns-in-Ok-clause-goes g c =

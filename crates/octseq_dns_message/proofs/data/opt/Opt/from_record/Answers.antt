@@ -1,9 +1,9 @@
 use Rattle.std.proofs.Common.{◌%◌, refl, sym, ap, ◌∙◌, subst, arith, rules}
 use Rattle.octseq.specs.Parser.{window}
-use Rattle.octseq_dns_message.specs.Format.{Row}
-use Rattle.octseq_dns_message.specs.OneRow.{option_code, one_option, option_moves}
+use Rattle.octseq_dns_message.specs.OneRow.{option_code, option_item}
 use Rattle.octseq_dns_message.specs.Opt.{HasOption}
 use Rattle.octseq_dns_message.proofs.Rows.{reached_as}
+use Rattle.octseq_format.specs.Row.{Row}
 use Rattle.octseq_dns_message.proofs.data.opt.Opt.from_record.Goals as goal
 
 pub returns-in_err-pass_options-clause-malformed : goal.returns-in_err-pass_options-clause-malformed
@@ -26,7 +26,7 @@ returns-clause-opt g c =
     let seconds = c.ttl.ensures in
     let number = c.as_secs-bits.ensures in
     let marked = c.is_dnssec_ok.ensures in
-    let row = subst (λ row. Row HasOption w row passed.1) (reached_as option_code HasOption one_option option_moves w
+    let row = subst (λ row. Row HasOption w row passed.1) (reached_as option_code HasOption option_item w
     passed.1 w.end passed.0 c.result-1.given.0 passed.3 passed.2) passed.2 in
     record {
       rtype = search rules;

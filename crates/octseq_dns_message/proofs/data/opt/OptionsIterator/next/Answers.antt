@@ -1,10 +1,10 @@
 use Rattle.std.proofs.Common.{refl, sym, subst, arith}
 use Rattle.octseq.specs.Parser.{window}
 use Rattle.octseq_dns_message.specs.Edns.{option_of}
-use Rattle.octseq_dns_message.specs.OneRow.{Reaches, option_code, one_option, option_moves}
+use Rattle.octseq_dns_message.specs.OneRow.{Reaches, option_code, option_item}
 use Rattle.octseq_dns_message.specs.Opt.{HasOption}
-use Rattle.octseq_dns_message.proofs.Formats.{fewer}
-use Rattle.octseq_dns_message.proofs.Rows.{option_end, reached_none, reached_not, reached_more, reached_then}
+use Rattle.octseq_dns_message.proofs.Rows.{reached_none, reached_not, reached_more, reached_then}
+use Rattle.octseq_format.proofs.RowSteps.{fewer}
 use Rattle.octseq_dns_message.proofs.data.opt.OptionsIterator.next.Goals as goal
 
 pub returns-then-remaining-eq0-clause-steps : goal.returns-then-remaining-eq0-clause-steps
@@ -13,7 +13,7 @@ returns-then-remaining-eq0-clause-steps g c =
     let left = c.remaining.ensures.left in
     let nothing = c.if-remaining-eq0.true in
     let ordered = self.parser.ordered in
-    let none = reached_none option_code HasOption option_moves (window self.parser) (window self.parser).end self.ahead
+    let none = reached_none option_code HasOption option_item (window self.parser) (window self.parser).end self.ahead
     (omega (arith, left, nothing, ordered)) in
     (none, none)
 
@@ -34,8 +34,8 @@ invariant_of-self g c =
     let u = window c.parse.new.parser in
     let option = option_of c.in-Ok.option in
     record {
-      ahead = subst (Reaches HasOption u) (sym (option_end w u option c.in-Ok.ensures.option))
-          (reached_more option_code HasOption one_option option_moves w u w.end option self.ahead
+      ahead = subst (Reaches HasOption u) (sym (option_item.ends w option u c.in-Ok.ensures.option))
+          (reached_more option_code HasOption option_item w u w.end option self.ahead
           (λ same. omega (arith, left, some, same)) c.in-Ok.ensures.option);
     }
 
@@ -47,8 +47,8 @@ returns-in-Ok-clause-steps g c =
     let w = window self.parser in
     let u = window c.parse.new.parser in
     let option = option_of c.in-Ok.option in
-    let end = option_end w u option c.in-Ok.ensures.option in
-    reached_then option_code HasOption one_option option_moves w u w.end u.end option self.ahead c.self-1.given.0 end
+    let end = option_item.ends w option u c.in-Ok.ensures.option in
+    reached_then option_code HasOption option_item w u w.end u.end option self.ahead c.self-1.given.0 end
     (λ same. omega (arith, left, some, same)) c.in-Ok.ensures.option
 
 pub returns-in-Ok-clause-goes : goal.returns-in-Ok-clause-goes

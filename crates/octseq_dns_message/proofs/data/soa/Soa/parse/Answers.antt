@@ -1,10 +1,10 @@
 use Rattle.std.proofs.Common.{ℕ, refl}
 use Rattle.octseq.specs.Window.{Window}
-use Rattle.octseq_dns_message.specs.Format.{◌then◌}
 use Rattle.octseq_dns_name.specs.Name.{HasName}
 use Rattle.octseq_dns_message.proofs.Formats.{no_name, no_number, is_number, none_first, none_behind_name}
 use Rattle.octseq_dns_message.proofs.Formats.{none_behind_number}
 use Rattle.octseq_dns_message.proofs.Forms.{IsLong, no_soa}
+use Rattle.octseq_format.specs.Pair.{◌then◌}
 use Rattle.octseq_dns_message.proofs.data.soa.Soa.parse.Goals as goal
 
 -- two numbers, three, four and five, one behind another

@@ -1,9 +1,10 @@
 use Rattle.std.proofs.Common.{refl}
 use Rattle.octseq.specs.Parser.{window}
-use Rattle.octseq_dns_message.specs.Format.{IsNumber, ◌then◌}
+use Rattle.octseq_dns_message.specs.Format.{IsNumber}
 use Rattle.octseq_dns_name.specs.Name.{HasName}
 use Rattle.octseq_dns_message.proofs.Formats.{no_name, is_number, none_behind_number}
 use Rattle.octseq_dns_message.proofs.Forms.{no_srv}
+use Rattle.octseq_format.specs.Pair.{◌then◌}
 use Rattle.octseq_dns_message.proofs.data.srv.Srv.parse.Goals as goal
 
 pub returns-in_err-target-clause-malformed : goal.returns-in_err-target-clause-malformed

@@ -2,16 +2,16 @@ use Rattle.std.proofs.Common.{refl, arith}
 use Rattle.octseq.specs.Parser.{window}
 use Rattle.octseq.specs.Window.{rest}
 use Rattle.octseq_dns_message.specs.Data.{HasString}
-use Rattle.octseq_dns_message.specs.OneRow.{string_code, one_string, string_moves}
-use Rattle.octseq_dns_message.proofs.Formats.{fewer}
+use Rattle.octseq_dns_message.specs.OneRow.{string_code, string_item}
 use Rattle.octseq_dns_message.proofs.Rows.{reached_none, reached_not, reached_more, reached_then}
+use Rattle.octseq_format.proofs.RowSteps.{fewer}
 use Rattle.octseq_dns_message.proofs.data.txt.StringsIterator.next.Goals as goal
 
 pub returns-then-pos-self-clause-steps : goal.returns-then-pos-self-clause-steps
 returns-then-pos-self-clause-steps g c =
     let self = c.args.self.now in
     let is = c.pos.ensures.position in
-    let none = reached_none string_code HasString string_moves (window self.parser) self.end self.ahead
+    let none = reached_none string_code HasString string_item (window self.parser) self.end self.ahead
     (omega (arith, is)) in
     ((none, none), tt)
 
@@ -27,7 +27,7 @@ invariant_of-self g c =
     let self = c.args.self.now in
     let is = c.pos.ensures.position in
     record {
-      ahead = reached_more string_code HasString one_string string_moves (window self.parser)
+      ahead = reached_more string_code HasString string_item (window self.parser)
           (window c.take_string.new.parser) self.end (rest (window c.in-Ok.parser)) self.ahead
           (λ same. omega (arith, is, same)) c.in-Ok.ensures.string;
     }
@@ -36,7 +36,7 @@ pub returns-in-Ok-clause-steps : goal.returns-in-Ok-clause-steps
 returns-in-Ok-clause-steps g c =
     let self = c.args.self.now in
     let is = c.pos.ensures.position in (
-      reached_then string_code HasString one_string string_moves (window self.parser)
+      reached_then string_code HasString string_item (window self.parser)
           (window c.take_string.new.parser) self.end self.end (rest (window c.in-Ok.parser)) self.ahead c.self-1.given.0
           refl (λ same. omega (arith, is, same)) c.in-Ok.ensures.string,
       (c.in-Ok.ensures.place, c.in-Ok.ensures.string.2),

@@ -2,7 +2,7 @@ use Rattle.std.proofs.Common.{◌≡◌, ◌<◌, refl, sym, ap, ◌∙◌, subs
 use Rattle.octseq.specs.Parser.{window}
 use Rattle.octseq.specs.Window.{rest}
 use Rattle.octseq_dns_message.specs.Data.{HasString, HasStrings}
-use Rattle.octseq_dns_message.specs.OneRow.{string_code, one_string, string_moves}
+use Rattle.octseq_dns_message.specs.OneRow.{string_code, string_item}
 use Rattle.std.specs.Prelude.{slice_range}
 use Rattle.octseq_dns_message.proofs.Strings.{Spelled, short_rest, spelled_none, spelled_one}
 use Rattle.octseq_dns_message.proofs.Rows.{begun, begun_read, with_one, with_one_read, no_more}
@@ -13,7 +13,7 @@ pub returns-then-pos-end-clause-malformed : goal.returns-then-pos-end-clause-mal
 returns-then-pos-end-clause-malformed g c = λ _ strings v has ends.
     let place = c.pos.ensures.position in
     let here = c.if-pos-end.true in
-    let none = none_here HasString string_moves (window c.args.parser.now) v strings (omega (arith, place, here, ends))
+    let none = none_here HasString string_item (window c.args.parser.now) v strings (omega (arith, place, here, ends))
     has.1 in
     let some = has.0 in
     omega (arith, none, some)
@@ -46,8 +46,8 @@ strings-preserved g c =
     let before = c.strings-test.true in
     let ahead : u.position < c.args.end = omega (arith, place, before) in
     record {
-      read = with_one HasString one_string w u v c.args.end string read ahead is;
-      spelled = subst (Spelled w v) (sym (with_one_read HasString one_string w u v c.args.end string read ahead is))
+      read = with_one HasString string_item w u v c.args.end string read ahead is;
+      spelled = subst (Spelled w v) (sym (with_one_read HasString string_item w u v c.args.end string read ahead is))
           (spelled_one w u v read.read string c.strings.invariant.spelled is c.in_ok-_string.ensures.length few);
     }
 
@@ -55,7 +55,7 @@ pub returns-then-pos-end-2-clause-malformed : goal.returns-then-pos-end-2-clause
 returns-then-pos-end-2-clause-malformed g c = λ _ strings v has.
     let place = c.pos-2.ensures.position in
     let past = c.if-pos-end-2.true in
-    gone_past HasString string_moves (window c.args.parser.now) (window c.strings.parser) c.args.end
+    gone_past HasString string_item (window c.args.parser.now) (window c.strings.parser) c.args.end
     c.strings.invariant.read (omega (arith, place, past)) strings v has.1
 
 pub invariant_of-result : goal.invariant_of-result
@@ -104,7 +104,7 @@ returns-clause-txt g c =
     let last = c.pos-2.ensures.position in
     let within = c.if-pos-end-2.false in
     subst (λ strings. HasStrings w strings v)
-    (reached_as string_code HasString one_string string_moves w v c.args.end read.read c.result-1.given.0
+    (reached_as string_code HasString string_item w v c.args.end read.read c.result-1.given.0
     (omega (arith, inside, reached, last, within)) read.row) (
       some_there HasString w v read.read (λ same. omega (arith, same, first, other, inside, reached, last, within))
           read.row,

@@ -1,10 +1,11 @@
 use Rattle.std.proofs.Common.{refl}
 use Rattle.octseq.specs.Parser.{window}
-use Rattle.octseq_dns_message.specs.Format.{IsNumber, ◌then◌}
+use Rattle.octseq_dns_message.specs.Format.{IsNumber}
 use Rattle.octseq_dns_name.specs.Name.{HasName}
 use Rattle.octseq_dns_name.specs.Read.{labels_of}
 use Rattle.octseq_dns_message.proofs.Formats.{no_name, no_number, no_question, is_number, none_first}
 use Rattle.octseq_dns_message.proofs.Formats.{none_behind_name, none_behind_number}
+use Rattle.octseq_format.specs.Pair.{◌then◌}
 use Rattle.octseq_dns_message.proofs.message.question.Question.parse_counted.Goals as goal
 
 pub returns-in_err-qname-clause-malformed : goal.returns-in_err-qname-clause-malformed

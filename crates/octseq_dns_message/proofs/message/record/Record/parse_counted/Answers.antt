@@ -2,12 +2,13 @@ use Rattle.std.proofs.Common.{ℕ, refl}
 use Rattle.octseq.specs.Parser.{window}
 use Rattle.octseq.specs.Window.{Window}
 use Rattle.octseq_dns_message.specs.Entry.{Record}
-use Rattle.octseq_dns_message.specs.Format.{IsNumber, IsData, ◌then◌}
+use Rattle.octseq_dns_message.specs.Format.{IsNumber, IsData}
 use Rattle.octseq_dns_name.specs.Name.{HasName}
 use Rattle.octseq_dns_name.specs.Read.{name_of}
 use Rattle.octseq_dns_message.proofs.Formats.{no_name, no_number, no_data, no_record, is_number, none_first}
 use Rattle.octseq_dns_message.proofs.Formats.{none_behind_name, none_behind_number}
 use Rattle.octseq_dns_message.proofs.Places.{record_of_window}
+use Rattle.octseq_format.specs.Pair.{◌then◌}
 use Rattle.octseq_dns_message.proofs.message.record.Record.parse_counted.Goals as goal
 
 -- what stands behind the class of a record, its type and its owner

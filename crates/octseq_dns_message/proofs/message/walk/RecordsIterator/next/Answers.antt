@@ -3,7 +3,7 @@ use Rattle.octseq.specs.Parser.{window}
 use Rattle.octseq_dns_message.specs.Entry.{IsRecord}
 use Rattle.octseq_dns_message.specs.OneEntry.{one_record, record_code}
 use Rattle.octseq_dns_message.specs.Said.{record_of}
-use Rattle.octseq_dns_message.proofs.Formats.{held_none, held_not, held_more, held_then, fewer}
+use Rattle.octseq_format.proofs.RowSteps.{held_none, held_not, held_more, held_then, fewer}
 use Rattle.octseq_dns_message.proofs.message.walk.RecordsIterator.next.Goals as goal
 
 pub returns-then-self-eq0-clause-steps : goal.returns-then-self-eq0-clause-steps

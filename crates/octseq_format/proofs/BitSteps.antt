@@ -1,0 +1,31 @@
+-- Powers of two, as the sizes of bits.
+use Rattle.std.proofs.Common.{◌≡◌, ℕ, ◌+◌, ◌*◌, ◌/◌, ◌<◌, ◌≤◌, ◌^◌, ap, arith}
+use Rattle.std.proofs.Math.Nat.{pow-le-pow_right, lt-div-mul-add, one-le-pow}
+use Rattle.std.proofs.lemmas.Nat.{pow-add}
+
+-- numbers of 64 bits or more are more than a `usize` counts
+pub long_power : (bits : ℕ) → 64 ≤ bits → 2 ^ 64 ≤ 2 ^ bits
+long_power bits long = pow-le-pow_right (omega arith) long
+
+-- and so are those that have some besides
+pub more_above : (a b : ℕ) → 2 ^ 64 ≤ 2 ^ a → 2 ^ 64 ≤ 2 ^ (a + b)
+more_above a b big =
+    let more : 2 ^ a ≤ 2 ^ (a + b) = pow-le-pow_right (omega arith) (omega arith) in
+    omega (arith, big, more)
+
+pub more_below : (a b : ℕ) → 2 ^ 64 ≤ 2 ^ b → 2 ^ 64 ≤ 2 ^ (a + b)
+more_below a b big =
+    let more : 2 ^ b ≤ 2 ^ (a + b) = pow-le-pow_right (omega arith) (omega arith) in
+    omega (arith, big, more)
+
+-- how many numbers both have
+pub both_size : (a b : ℕ) → 2 ^ (a + b) ≡ 2 ^ a * 2 ^ b
+both_size a b = pow-add 2 a b
+
+-- a number with no bits above
+pub none_above : (n bits : ℕ) → n / 2 ^ bits ≡ 0 → n < 2 ^ bits
+none_above n bits none =
+    let size = 2 ^ bits in
+    let below : n < n / size * size + size = lt-div-mul-add (one-le-pow bits 2 (omega arith)) in
+    let zero = ap (λ m. m * size) none in
+    omega (arith, below, zero)

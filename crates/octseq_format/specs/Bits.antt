@@ -1,0 +1,127 @@
+-- Numbers as the bits of a larger one.
+use Rattle.std.specs.Prelude.{◌≡◌, ℕ, ◌+◌, ◌*◌, ◌/◌, ◌%◌, ◌<◌, ◌≤◌, ◌^◌, Bool, true, false, List, ◌++◌}
+use Rattle.std.specs.Prelude.{length, cond, refl}
+use Rattle.std.proofs.Common.{sym, ap, ◌∙◌, subst, arith}
+use Rattle.std.proofs.Math.Nat.{mul-le-mul_right}
+use Rattle.std.proofs.lemmas.Nat.{div-mul-add, mod-mul-add, pow-add}
+use Rattle.octseq.specs.Integer.{be, octets_be}
+use Rattle.octseq.specs.Window.{Window, past}
+use Rattle.octseq_format.specs.Fixed.{IsFixed, one_fixed, onward_fixed, delimited_fixed}
+use Rattle.octseq_format.specs.Integers.{are_be}
+use Rattle.octseq_format.specs.Laws.{Relation, IsOne, IsOnward, IsMoving, IsReadBack, IsDelimited, back_of}
+use Rattle.octseq_format.specs.Pair.{◌also◌}
+
+-- A number is of one thing at most.
+pub record IsOneNumber {S : Type 0} (number : S → ℕ) (Fits : S → Type 0) : Type 0 where
+  pub same : (a b : S) → Fits a → Fits b → number a ≡ number b → a ≡ b
+
+-- A number of what fits has so many bits.
+pub record HasBits {S : Type 0} (bits : ℕ) (number : S → ℕ) (Fits : S → Type 0) : Type 0 where
+  pub few : (a : S) → Fits a → number a < 2 ^ bits
+
+-- the number of two things, whose upper bits are of the first, and whose lowest, so many, of the second
+abbrev pub both_bits : {S T : Type 0} → (S → ℕ) → ℕ → (T → ℕ) → S × T → ℕ
+both_bits high bits low both = high both.0 * 2 ^ bits + low both.1
+
+-- the number of one bit
+abbrev pub bit_number : Bool → ℕ
+bit_number bit = cond bit 1 0
+
+-- It is the number in k octets, big-endian.
+abbrev pub IsBits : {S : Type 0} → ℕ → (S → ℕ) → (S → Type 0) → Relation S
+IsBits k number Fits w a v = IsFixed k be w (number a) v × Fits a
+
+-- Each fits its bits, and all of them the octets.
+pub record BitsFit {S : Type 0} (k : ℕ) (number : S → ℕ) (Fits : S → Type 0) (said : S) : Type 0 where
+  pub each : Fits said
+  pub count : number said < 256 ^ k
+
+pub one_number : (bits : ℕ) → IsOneNumber (λ n. n) (λ n. n < 2 ^ bits)
+one_number bits = record { same = λ a b _ _ same. same }
+
+pub has_number : (bits : ℕ) → HasBits bits (λ n. n) (λ n. n < 2 ^ bits)
+has_number bits = record { few = λ a fits. fits }
+
+same_bit : (a b : Bool) → bit_number a ≡ bit_number b → a ≡ b
+same_bit true true same = refl
+same_bit true false same = absurd (omega (arith, same))
+same_bit false true same = absurd (omega (arith, same))
+same_bit false false same = refl
+
+few_bit : (a : Bool) → bit_number a < 2 ^ 1
+few_bit true = omega arith
+few_bit false = omega arith
+
+pub one_bit : IsOneNumber bit_number (λ _. Unit {0})
+one_bit = record { same = λ a b _ _ same. same_bit a b same }
+
+pub has_bit : HasBits 1 bit_number (λ _. Unit {0})
+has_bit = record { few = λ a _. few_bit a }
+
+same_both : {S T : Type 0} {a c : S} {b d : T} → a ≡ c → b ≡ d → Path (S × T) (a, b) (c, d)
+same_both {c = c} {b = b} first second = ap (λ a. (a, b)) first ∙ ap (λ b. (c, b)) second
+
+-- the upper bits of such a number
+pub upper_of : {S T : Type 0} (high : S → ℕ) (low : T → ℕ) {Low : T → Type 0} (bits : ℕ) → HasBits bits low Low
+    → (both : S × T) → Low both.1 → both_bits high bits low both / 2 ^ bits ≡ high both.0
+upper_of high low bits has both fits = div-mul-add (high both.0) (2 ^ bits) (low both.1) (has.few both.1 fits)
+
+-- and the lowest
+pub lowest_of : {S T : Type 0} (high : S → ℕ) (low : T → ℕ) {Low : T → Type 0} (bits : ℕ) → HasBits bits low Low
+    → (both : S × T) → Low both.1 → both_bits high bits low both % 2 ^ bits ≡ low both.1
+lowest_of high low bits has both fits = mod-mul-add (high both.0) (2 ^ bits) (low both.1) (has.few both.1 fits)
+
+module _ {S T : Type 0} {high : S → ℕ} {low : T → ℕ} {High : S → Type 0} {Low : T → Type 0} where
+  pub one_both : (bits : ℕ) → HasBits bits low Low → IsOneNumber high High → IsOneNumber low Low
+      → IsOneNumber (both_bits high bits low) (High also Low)
+  one_both bits has first second = record {
+    same = λ a b x y same.
+        let upper = sym (upper_of high low bits has a x.second) ∙ ap (λ n. n / 2 ^ bits) same
+        ∙ upper_of high low bits has b y.second in
+        let lowest = sym (lowest_of high low bits has a x.second) ∙ ap (λ n. n % 2 ^ bits) same
+        ∙ lowest_of high low bits has b y.second in
+        same_both (first.same a.0 b.0 x.first y.first upper) (second.same a.1 b.1 x.second y.second lowest);
+  }
+
+  pub has_both : (upper bits : ℕ) → HasBits upper high High → HasBits bits low Low
+      → HasBits (upper + bits) (both_bits high bits low) (High also Low)
+  has_both upper bits first second = record {
+    few = λ a fits.
+        let big = first.few a.0 fits.first in
+        let small = second.few a.1 fits.second in
+        let whole : (high a.0 + 1) * 2 ^ bits ≤ 2 ^ upper * 2 ^ bits =
+        mul-le-mul_right (2 ^ bits) (omega (arith, big)) in
+        let power = pow-add 2 upper bits in
+        omega (arith, whole, power, small);
+  }
+
+module _ {S : Type 0} (k : ℕ) (number : S → ℕ) (Fits : S → Type 0) where
+  pub one_bits : IsOneNumber number Fits → IsOne (IsBits k number Fits)
+  one_bits one = record {
+    same = λ w a b u v is other.
+        let same = (one_fixed k be).same w (number a) (number b) u v is.0 other.0 in
+        (one.same a b is.1 other.1 same.0, same.1);
+  }
+
+  pub onward_bits : IsOnward k (IsBits k number Fits)
+  onward_bits = record {
+    on = λ w a v ordered is. (onward_fixed k be).on w (number a) v ordered is.0;
+    less = λ w a v is. (onward_fixed k be).less w (number a) v is.0;
+  }
+
+  pub delimited_bits : IsDelimited (IsBits k number Fits) (λ a. a) (λ said. octets_be k (number said))
+      (BitsFit k number Fits)
+  delimited_bits = record {
+    next = λ w said more fits is.
+        let taken = (delimited_fixed (are_be k)).next w (number said) more fits.count is in
+        let end = past (length (octets_be k (number said))) w in
+        record {
+          it = said;
+          tells = refl;
+          is = (subst (λ n. IsFixed k be w n end) taken.tells taken.is, fits.each);
+        };
+  }
+
+  pub bits_read_back : IsReadBack (IsBits k number Fits) (λ a. a) (λ said. octets_be k (number said))
+      (BitsFit k number Fits)
+  bits_read_back = back_of delimited_bits

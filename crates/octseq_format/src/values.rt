@@ -1,0 +1,88 @@
+//! Values in a slice, written one after another.
+ghost use Rattle.std.specs.Prelude.{◌≡◌, ◌↔◌, ◌+◌, ◌++◌, length, map, true, IsErr, IsNone, IsSome, IfSome, OnOk, OnErr};
+ghost use Rattle.std.specs.List.{AllByRecursion};
+ghost use Rattle.octseq.specs.Limit.{IsPast, IsWithin};
+ghost use Rattle.octseq.specs.Parts.{IsFront};
+ghost use Rattle.octseq.specs.Refusal.{IsShort, IsMemory, IsTooLong, compose_error};
+ghost use Rattle.octseq_format.specs.Laws.{HasOctets};
+ghost use Rattle.octseq_format.specs.Row.{row_octets};
+
+use crate::format::{Format, has_room};
+use octseq::compose::ComposeError;
+use octseq::{AsOctets, OctetsBuilder, Truncate};
+use std::alloc::AllocError;
+
+/// How many octets they have in all.
+fn values_len<R: AsOctets + Copy, F: Format<R>>(values: &[F::Value]) -> Option<usize>
+    ensures some { IfSome result (λ len.
+        len ≡ length (row_octets F.octets (map (λ v. F.says (F.found v)) values.now))) }
+    ensures fit { IsSome result → AllByRecursion F.fits (map (λ v. F.says (F.found v)) values.now) }
+    ensures none { IsNone result → ¬ HasOctets (row_octets F.octets) (AllByRecursion F.fits)
+        (map (λ v. F.says (F.found v)) values.now) }
+{
+    let mut len = 0_usize;
+    let mut left = values;
+    'values: while let Some((value, others)) = left.split_first() {
+        len = len.checked_add(F::compose_len(value)?)?;
+        left = others;
+    }
+    Some(len)
+}
+
+/// Appends the octets of each. A refusal leaves those of some.
+fn put_values<B: OctetsBuilder + Truncate, R: AsOctets + Copy, F: Format<R>>(
+    builder: &mut B,
+    values: &[F::Value],
+) -> Result<(), AllocError>
+    requires fit { HasOctets (row_octets F.octets) (AllByRecursion F.fits) (map (λ v. F.says (F.found v)) values.now) }
+    requires within { IsWithin B.limit (length (B.content builder.now)
+        + length (row_octets F.octets (map (λ v. F.says (F.found v)) values.now))) }
+    ensures ok { OnOk result (B.content builder.new
+        ≡ B.content builder.old ++ row_octets F.octets (map (λ v. F.says (F.found v)) values.now)) }
+    ensures front { OnErr result (IsFront (B.content builder.old) (B.content builder.new)) }
+    ensures memory { IsErr result → B.asks ≡ true }
+    ensures borrows { B.borrows builder.new ≡ B.borrows builder.old }
+{
+    let mut left = values;
+    'values: while let Some((value, others)) = left.split_first() {
+        F::put(builder, value)?;
+        left = others;
+    }
+    Ok(())
+}
+
+/// Appends the octets of values, one after another, or nothing.
+///
+/// # Errors
+///
+/// `TooLong` where a length doesn't fit its number. Else `Short` where the content would pass the limit of its type,
+/// and else `Memory` where a request for memory was refused. The content is then as it was.
+pub fn append_all<R: AsOctets + Copy, F: Format<R>, B: OctetsBuilder + Truncate>(
+    builder: &mut B,
+    values: &[F::Value],
+) -> Result<(), ComposeError>
+    ensures ok { OnOk result (B.content builder.new
+        ≡ B.content builder.old ++ row_octets F.octets (map (λ v. F.says (F.found v)) values.now)) }
+    ensures err { OnErr result (B.content builder.new ≡ B.content builder.old) }
+    ensures too_long { IsTooLong compose_error result ↔ ¬ HasOctets (row_octets F.octets) (AllByRecursion F.fits)
+        (map (λ v. F.says (F.found v)) values.now) }
+    ensures short { IsShort compose_error result ↔ HasOctets (row_octets F.octets) (AllByRecursion F.fits)
+        (map (λ v. F.says (F.found v)) values.now)
+        × IsPast B.limit (length (B.content builder.old)
+        + length (row_octets F.octets (map (λ v. F.says (F.found v)) values.now))) }
+    ensures memory { IsMemory compose_error result → B.asks ≡ true }
+    ensures borrows { B.borrows builder.new ≡ B.borrows builder.old }
+{
+    let Some(len) = values_len::<R, F>(values) else {
+        return Err(ComposeError::TooLong);
+    };
+    let before = builder.len();
+    if !has_room::<B>(before, len) {
+        return Err(ComposeError::Short);
+    }
+    if put_values::<B, R, F>(builder, values).is_err() {
+        builder.truncate(before);
+        return Err(ComposeError::Memory);
+    }
+    Ok(())
+}
