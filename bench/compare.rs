@@ -33,6 +33,7 @@ unsafe extern "C" {
     fn octseq_ntp_by_calls(octets: *const u8, len: usize) -> u64;
     fn octseq_ntp_written(octets: *const u8, len: usize) -> u64;
     fn octseq_hello_by_format(octets: *const u8, len: usize) -> u64;
+    fn octseq_hello_written(octets: *const u8, len: usize) -> u64;
 }
 
 type Sum = unsafe extern "C" fn(*const u8, usize) -> u64;
@@ -317,11 +318,12 @@ fn messages(bench: &mut Bench) {
 /// Formats: headers of NTP and ClientHellos, a hundred of each, one after another.
 fn formats(bench: &mut Bench) {
     let hellos = formats::octets_of_lines(include_str!("hellos.hex")).repeat(25);
-    let calls: [(&str, &str, Sum, fn(&[u8]) -> u64, Vec<u8>); 4] = [
+    let calls: [(&str, &str, Sum, fn(&[u8]) -> u64, Vec<u8>); 5] = [
         ("headers of NTP, by their format", "a reader of 48 octets, by hand", octseq_ntp_by_format, formats::headers, random(4800)),
         ("headers of NTP, by calls of a parser", "the same", octseq_ntp_by_calls, formats::headers, random(4800)),
         ("headers of NTP, read and written", "a writer of 48 octets, by hand", octseq_ntp_written, formats::headers_written, random(4800)),
-        ("ClientHellos of TLS, checked and read", "a reader over slices, by hand", octseq_hello_by_format, formats::hellos, hellos),
+        ("ClientHellos of TLS, checked and read", "a reader over slices, by hand", octseq_hello_by_format, formats::hellos, hellos.clone()),
+        ("ClientHellos of TLS, read and written", "a writer over slices, by hand", octseq_hello_written, formats::hellos_written, hellos),
     ];
     for (what, beside, call, rust, octets) in calls {
         let mut section = Section::new("formats", what, beside);

@@ -103,49 +103,97 @@ fn part<'a, const N: usize>(octets: &mut &'a [u8]) -> Option<&'a [u8]> {
     Some(part)
 }
 
-/// The next ClientHello, checked whole, and then read.
-fn hello(octets: &mut &[u8]) -> Option<u64> {
-    if number::<1>(octets)? != 22 {
-        return None;
+pub struct Hello<'a> {
+    record: u16,
+    version: u16,
+    random: &'a [u8; 32],
+    session: &'a [u8],
+    suites: &'a [u8],
+    compression: &'a [u8],
+    extensions: &'a [u8],
+}
+
+impl<'a> Hello<'a> {
+    /// The next ClientHello, checked whole.
+    fn parse(octets: &mut &'a [u8]) -> Option<Self> {
+        if number::<1>(octets)? != 22 {
+            return None;
+        }
+        let record = number::<2>(octets)? as u16;
+        let mut message = part::<2>(octets)?;
+        if number::<1>(&mut message)? != 1 {
+            return None;
+        }
+        let mut body = part::<3>(&mut message)?;
+        let version = number::<2>(&mut body)? as u16;
+        let (random, mut body) = body.split_first_chunk::<32>()?;
+        let session = part::<1>(&mut body)?;
+        let suites = part::<2>(&mut body)?;
+        let compression = part::<1>(&mut body)?;
+        let extensions = part::<2>(&mut body)?;
+        let mut checked = extensions;
+        while !checked.is_empty() {
+            number::<2>(&mut checked)?;
+            part::<2>(&mut checked)?;
+        }
+        let is_whole = message.is_empty() && body.is_empty() && suites.len() % 2 == 0;
+        is_whole.then_some(Hello { record, version, random, session, suites, compression, extensions })
     }
-    let record = number::<2>(octets)?;
-    let mut message = part::<2>(octets)?;
-    if number::<1>(&mut message)? != 1 {
-        return None;
+
+    fn sum(&self) -> Option<u64> {
+        let mut sum = u64::from(self.record ^ self.version);
+        for suite in self.suites.as_chunks::<2>().0 {
+            sum = sum.wrapping_add(u16::from_be_bytes(*suite).into());
+        }
+        let mut rest = self.extensions;
+        while let Some(kind) = number::<2>(&mut rest) {
+            let data = part::<2>(&mut rest)?;
+            sum = sum.wrapping_add(kind as u64).wrapping_add(data.len() as u64);
+        }
+        Some(sum)
     }
-    let mut body = part::<3>(&mut message)?;
-    let version = number::<2>(&mut body)?;
-    let (_random, mut body) = body.split_first_chunk::<32>()?;
-    let _session = part::<1>(&mut body)?;
-    let suites = part::<2>(&mut body)?;
-    let _compression = part::<1>(&mut body)?;
-    let extensions = part::<2>(&mut body)?;
-    let mut checked = extensions;
-    while !checked.is_empty() {
-        number::<2>(&mut checked)?;
-        part::<2>(&mut checked)?;
+
+    /// Its lists are copied whole.
+    fn write(&self, content: &mut Vec<u8>) {
+        let lists = self.session.len() + self.suites.len() + self.compression.len() + self.extensions.len();
+        let body = 2 + 32 + 1 + 2 + 1 + 2 + lists;
+        content.push(22);
+        content.extend_from_slice(&self.record.to_be_bytes());
+        content.extend_from_slice(&(4 + body as u16).to_be_bytes());
+        content.push(1);
+        content.extend_from_slice(&(body as u32).to_be_bytes()[1..]);
+        content.extend_from_slice(&self.version.to_be_bytes());
+        content.extend_from_slice(self.random);
+        content.push(self.session.len() as u8);
+        content.extend_from_slice(self.session);
+        content.extend_from_slice(&(self.suites.len() as u16).to_be_bytes());
+        content.extend_from_slice(self.suites);
+        content.push(self.compression.len() as u8);
+        content.extend_from_slice(self.compression);
+        content.extend_from_slice(&(self.extensions.len() as u16).to_be_bytes());
+        content.extend_from_slice(self.extensions);
     }
-    if !message.is_empty() || !body.is_empty() || suites.len() % 2 != 0 {
-        return None;
-    }
-    let mut sum = (record ^ version) as u64;
-    for suite in suites.as_chunks::<2>().0 {
-        sum = sum.wrapping_add(u16::from_be_bytes(*suite).into());
-    }
-    let mut rest = extensions;
-    while let Some(kind) = number::<2>(&mut rest) {
-        let data = part::<2>(&mut rest)?;
-        sum = sum.wrapping_add(kind as u64).wrapping_add(data.len() as u64);
-    }
-    Some(sum)
 }
 
 #[inline(never)]
 pub fn hellos(octets: &[u8]) -> u64 {
     let mut rest = octets;
     let mut sum: u64 = 0;
-    while let Some(more) = hello(&mut rest) {
+    while let Some(more) = Hello::parse(&mut rest).and_then(|hello| hello.sum()) {
         sum = sum.wrapping_add(more);
+    }
+    sum
+}
+
+#[inline(never)]
+pub fn hellos_written(octets: &[u8]) -> u64 {
+    let mut rest = octets;
+    let mut content = Vec::new();
+    let mut sum: u64 = 0;
+    while let Some(hello) = Hello::parse(&mut rest) {
+        content.clear();
+        hello.write(&mut content);
+        sum = sum.wrapping_add(u64::from_be_bytes(*content.last_chunk().unwrap())).wrapping_add(content.len() as u64);
     }
     sum
 }

@@ -19,7 +19,8 @@ use Rattle.octseq_dns.proofs.Standing.{root_at, pointer_at, first_stand, drop_on
 use Rattle.octseq_dns_name.specs.Name.{Stands, IsName, wire_length}
 use Rattle.octseq_dns_name.specs.OneName.{one_standing}
 use Rattle.octseq_dns_name.specs.Wire.{AreLabels}
-use Rattle.octseq_dns_name.proofs.Names.{wire_append, stands_takes, label_count}
+use Rattle.octseq_dns_name.specs.NameFormat.{stands_takes}
+use Rattle.octseq_dns_name.proofs.Names.{wire_append, label_count}
 use Rattle.octseq_dns_name.proofs.Wires.{bodies_length, wire_has}
 pub use Rattle.octseq_dns.proofs.Standing.{grown, stands_grown, name_grown}
 

@@ -8,7 +8,7 @@ use Rattle.octseq.specs.Window.{Window, left, next, past, at, whole}
 use Rattle.octseq_dns.specs.Encoded.{unrooted, pointer_to}
 use Rattle.octseq_dns_name.specs.Name.{HasRoot, HasLabel, HasPointer, Stands, IsName, octet}
 use Rattle.octseq_dns_name.specs.Wire.{AreLabels}
-use Rattle.octseq_dns_name.proofs.Wires.{be_one}
+use Rattle.octseq_dns_name.specs.NameFormat.{be_one}
 
 -- ---- pieces
 

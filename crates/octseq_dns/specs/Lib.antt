@@ -32,6 +32,7 @@ pub use Rattle.octseq_dns_message.specs.Txt
 pub use Rattle.octseq_dns_message.specs.Typed
 pub use Rattle.octseq_dns_message.specs.Walk
 pub use Rattle.octseq_dns_name.specs.Name
+pub use Rattle.octseq_dns_name.specs.NameFormat
 pub use Rattle.octseq_dns_name.specs.OneName
 pub use Rattle.octseq_dns_name.specs.Order
 pub use Rattle.octseq_dns_name.specs.OrderLaws

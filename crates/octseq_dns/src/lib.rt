@@ -25,6 +25,6 @@ pub use octseq_dns_message::message::{Message, Question, Record};
 pub use octseq_dns_message::ttl::Ttl;
 pub use octseq_dns_message::{data, header, iana, message, ttl};
 pub use octseq_dns_name::error::{LabelsError, Malformed, NameError};
-pub use octseq_dns_name::name::{Name, ParsedName};
+pub use octseq_dns_name::name::{DomainName, Name, ParsedName};
 pub use octseq_dns_name::{error, name};
 pub use place::{FixedPlaces, NoCompression, Place, Places};

@@ -7,10 +7,11 @@ use Rattle.octseq_dns_message.specs.Data.{HasSoa, HasSrv, IsTyped, IsDataOf}
 use Rattle.octseq_dns_message.specs.Entry.{Record}
 use Rattle.octseq_dns_message.specs.Format.{IsNumber}
 use Rattle.octseq_dns_name.specs.Name.{Name, HasName}
-use Rattle.octseq_dns_message.specs.OneEntry.{one_named, one_number}
+use Rattle.octseq_dns_name.specs.NameFormat.{one_named}
+use Rattle.octseq_dns_message.specs.OneEntry.{one_number}
 use Rattle.octseq_dns_message.specs.OneRow.{one_row_at, string_item}
 use Rattle.octseq_format.specs.Fixed.{one_fixed}
-use Rattle.octseq_format.specs.Laws.{Relation, IsOne, NoneAt}
+use Rattle.octseq_format.specs.Laws.{Relation, IsOne, NoneAt, one_by}
 use Rattle.octseq_format.specs.Pair.{◌then◌, ◌one_then◌}
 
 -- ---- each form is of one type
@@ -124,31 +125,16 @@ none_made make Has w none form v is = none is.0 v is.2
 
 -- ---- at most one is at a place
 
-mx_from : ℕ × Name → Mx
-mx_from mx = record { preference = mx.0; exchange = mx.1 }
-
 one_mx : IsOne HasMx
-unfolding mx_from
-one_mx = record {
-  same = λ w a b u v is other.
-      let parts = (one_number 2 one_then one_named).same w (a.preference, a.exchange) (b.preference, b.exchange) u v
-      is other in
-      (ap mx_from parts.0, parts.1);
-}
-
-srv_from : ℕ × (ℕ × (ℕ × Name)) → Srv
-srv_from srv = record { priority = srv.0; weight = srv.1.0; port = srv.1.1.0; target = srv.1.1.1 }
+one_mx = one_by (λ (mx : Mx). (mx.preference, mx.exchange)) (λ c. record { preference = c.0; exchange = c.1 })
+    (λ _. refl) (one_number 2 one_then one_named)
 
 one_srv : IsOne HasSrv
-unfolding srv_from
-one_srv = record {
-  same = λ w a b u v is other.
-      let parts = (one_number 2 one_then one_number 2 one_then one_number 2 one_then one_named).same w
-      (a.priority, (a.weight, (a.port, a.target))) (b.priority, (b.weight, (b.port, b.target))) u v is other in
-      (ap srv_from parts.0, parts.1);
-}
+one_srv = one_by (λ (srv : Srv). (srv.priority, (srv.weight, (srv.port, srv.target))))
+    (λ c. record { priority = c.0; weight = c.1.0; port = c.1.1.0; target = c.1.1.1 }) (λ _. refl)
+    (one_number 2 one_then one_number 2 one_then one_number 2 one_then one_named)
 
-soa_from : Name × (Name × (ℕ × (ℕ × (ℕ × (ℕ × ℕ))))) → Soa
+abbrev soa_from : Name × (Name × (ℕ × (ℕ × (ℕ × (ℕ × ℕ))))) → Soa
 soa_from soa = record {
   mname = soa.0;
   rname = soa.1.0;
@@ -159,22 +145,13 @@ soa_from soa = record {
   minimum = soa.1.1.1.1.1.1;
 }
 
--- numbers of 4 octets
-abbrev pub IsLong : Relation ℕ
-IsLong = IsNumber 4
-
-one_times : IsOne (IsLong then IsLong then IsLong then IsLong then IsLong)
+one_times : IsOne (IsNumber 4 then IsNumber 4 then IsNumber 4 then IsNumber 4 then IsNumber 4)
 one_times = one_number 4 one_then one_number 4 one_then one_number 4 one_then one_number 4 one_then one_number 4
 
 one_soa : IsOne HasSoa
-unfolding soa_from
-one_soa = record {
-  same = λ w a b u v is other.
-      let parts = (one_named one_then one_named one_then one_times).same w
-      (a.mname, (a.rname, (a.serial, (a.refresh, (a.retry, (a.expire, a.minimum))))))
-      (b.mname, (b.rname, (b.serial, (b.refresh, (b.retry, (b.expire, b.minimum)))))) u v is other in
-      (ap soa_from parts.0, parts.1);
-}
+one_soa = one_by
+    (λ (soa : Soa). (soa.mname, (soa.rname, (soa.serial, (soa.refresh, (soa.retry, (soa.expire, soa.minimum)))))))
+    soa_from (λ _. refl) (one_named one_then one_named one_then one_times)
 
 one_made : {A : Type 0} (make : A → Form) (Has : Relation A) → IsOne Has → IsOne (Made make Has)
 one_made make Has one = record {

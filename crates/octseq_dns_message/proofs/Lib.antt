@@ -4,6 +4,7 @@ pub mod Forms
 pub mod Headers
 pub mod MessageTexts
 pub mod Messages
+pub mod Options
 pub mod Places
 pub mod Rows
 pub mod StringItems

@@ -6,11 +6,11 @@ use Rattle.octseq_dns_message.specs.Header.{IsHeader}
 use Rattle.octseq_dns_message.specs.Message.{Sections, AreSections, IsMessage}
 use Rattle.octseq_dns_message.specs.OneEntry.{one_question, one_record}
 use Rattle.octseq_dns_message.specs.declared.header.Header.{Header}
-use Rattle.octseq_dns_message.proofs.Formats.{none_first, none_second}
 use Rattle.octseq_dns_message.proofs.Headers.{one_header}
 use Rattle.octseq_format.specs.Laws.{IsOne, NoneAt}
 use Rattle.octseq_format.specs.Pair.{◌then◌, ◌one_then◌}
 use Rattle.octseq_format.specs.Row.{Many, one_many}
+use Rattle.octseq_format.proofs.Nones.{none_first, none_second}
 
 -- no header and sections make these octets a message
 abbrev pub Refuses : List ℕ → Type 0

@@ -1,25 +1,8 @@
 -- What stands at a place and behind it lies in the same octets, with the same end.
-use Rattle.std.proofs.Common.{◌≡◌, ℕ, ◌≤◌, List, ap, sym, ◌∙◌, arith}
+use Rattle.std.proofs.Common.{◌≡◌, ◌≤◌, ap, sym, ◌∙◌, arith}
 use Rattle.octseq.specs.Window.{Window}
 use Rattle.octseq_dns_message.specs.Entry.{Record, IsRecord}
-use Rattle.octseq_dns_name.specs.Name.{Stands, IsName}
-
--- one window is another at some position
-abbrev pub IsOf : Window → Window → Type 0
-IsOf w v = (v.octets ≡ w.octets) × (v.end ≡ w.end)
-
-stands_of : (start : ℕ) (w v : Window) (labels : List (List ℕ)) (pointers : ℕ) → Stands start w labels pointers v
-    → IsOf w v
-stands_of start w v labels pointers (Stands.root has) = (ap (λ v. v.octets) has.behind, ap (λ v. v.end) has.behind)
-stands_of start w v labels pointers (Stands.label {u = u} {labels = more} has rest) =
-    let on = stands_of start u v more pointers rest in
-    (on.0 ∙ ap (λ v. v.octets) has.behind, on.1 ∙ ap (λ v. v.end) has.behind)
-stands_of start w v labels pointers (Stands.pointer has rest) =
-    (ap (λ v. v.octets) has.behind, ap (λ v. v.end) has.behind)
-
--- the window behind a name is of the same octets, with the same end
-pub name_of_window : (w v : Window) (labels : List (List ℕ)) → IsName w labels v → IsOf w v
-name_of_window w v labels name = stands_of w.position w v labels name.pointers name.stands
+use Rattle.octseq_dns_name.specs.NameFormat.{name_of_window}
 
 -- the data of a record lies in the octets that its name stands in, and ends within them
 pub record_of_window : (w v : Window) (r : Record) → IsRecord w r v → (r.rdata.octets ≡ r.owner.place.octets)

@@ -9,7 +9,7 @@ use Rattle.octseq.specs.Window.{Window, left}
 use Rattle.octseq_dns_message.specs.Data.{HasString}
 use Rattle.octseq_dns_message.specs.OneEntry.{one_data, one_number}
 use Rattle.octseq_dns_message.specs.Opt.{EdnsOption, HasOption}
-use Rattle.octseq_format.specs.Laws.{Relation, IsOne, IsMoving}
+use Rattle.octseq_format.specs.Laws.{Relation, IsOne, IsMoving, one_by}
 use Rattle.octseq_format.specs.Pair.{◌one_then◌}
 use Rattle.octseq_format.specs.Rest.{window_code}
 use Rattle.octseq_format.specs.Row.{Row, row_moves, one_row_to}
@@ -75,16 +75,14 @@ abbrev pub option_code : Coded EdnsOption
 option_code = code_by (ℕ × Window) (coded× coded_ℕ window_code) (λ o. (o.code, o.octets))
     (λ c. record { code = c.0; octets = c.1 }) (λ _. refl)
 
-option_from : ℕ × Window → EdnsOption
+abbrev pub option_parts : EdnsOption → ℕ × Window
+option_parts option = (option.code, option.octets)
+
+abbrev pub option_from : ℕ × Window → EdnsOption
 option_from option = record { code = option.0; octets = option.1 }
 
 one_option : IsOne HasOption
-unfolding option_from
-one_option = record {
-  same = λ w a b u v is other.
-      let parts = (one_number 2 one_then one_data).same w (a.code, a.octets) (b.code, b.octets) u v is other in
-      (ap option_from parts.0, parts.1);
-}
+one_option = one_by option_parts option_from (λ _. refl) (one_number 2 one_then one_data)
 
 pub option_item : IsItem HasOption
 option_item = record {

@@ -7,11 +7,11 @@ ghost use Rattle.octseq_dns_message.specs.Data.{Form, HasForm, IsDataOf};
 ghost use Rattle.octseq_dns_message.specs.DataText.{IsGroupsText, is_compatible, aaaa_text};
 ghost use Rattle.octseq_dns_message.specs.Entry as said;
 
-use crate::data::string::take_octets;
 use crate::iana::{Class, Rtype};
 use octseq::utf8::Turns;
 use octseq::{AsOctets, Parser};
-use octseq_dns_name::{Malformed, ParsedName};
+use octseq_dns_name::{DomainName, Malformed, ParsedName};
+use octseq_format::{Format, Octets, Of};
 use std::alloc::AllocError;
 
 mod mx;
@@ -127,31 +127,31 @@ impl<R: AsOctets + Copy> Data<R> {
         ensures turns { turns.new ≤ turns.old + 510 }
     {
         if rtype == Rtype::NS {
-            return Ok(Data::Ns(ParsedName::parse_counted(parser, turns)?));
+            return Ok(Data::Ns(DomainName::parse_counted(parser, turns)?));
         }
         if rtype == Rtype::CNAME {
-            return Ok(Data::Cname(ParsedName::parse_counted(parser, turns)?));
+            return Ok(Data::Cname(DomainName::parse_counted(parser, turns)?));
         }
         if rtype == Rtype::PTR {
-            return Ok(Data::Ptr(ParsedName::parse_counted(parser, turns)?));
+            return Ok(Data::Ptr(DomainName::parse_counted(parser, turns)?));
         }
         if rtype == Rtype::MX {
-            return Ok(Data::Mx(Mx::parse(parser, turns)?));
+            return Ok(Data::Mx(Of::<Mx<R>>::parse_counted(parser, turns)?));
         }
         if rtype == Rtype::SOA {
-            return Ok(Data::Soa(Soa::parse(parser, turns)?));
+            return Ok(Data::Soa(Of::<Soa<R>>::parse_counted(parser, turns)?));
         }
         if class != Class::IN {
             return Err(Malformed);
         }
         if rtype == Rtype::A {
-            return Ok(Data::A(take_octets(parser)?));
+            return Ok(Data::A(Octets::<4>::parse(parser)?));
         }
         if rtype == Rtype::AAAA {
-            return Ok(Data::Aaaa(take_octets(parser)?));
+            return Ok(Data::Aaaa(Octets::<16>::parse(parser)?));
         }
         if rtype == Rtype::SRV {
-            return Ok(Data::Srv(Srv::parse(parser, turns)?));
+            return Ok(Data::Srv(Of::<Srv<R>>::parse_counted(parser, turns)?));
         }
         Err(Malformed)
     }

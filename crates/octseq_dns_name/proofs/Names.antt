@@ -7,6 +7,7 @@ use Rattle.std.specs.Option.{unwrap_or}
 use Rattle.std.proofs.lemmas.List.{append-nil}
 use Rattle.octseq.specs.Window.{Window, left, at}
 use Rattle.octseq_dns_name.specs.Name.{HasRoot, HasLabel, HasPointer, Stands, IsName, wire_length}
+use Rattle.octseq_dns_name.specs.NameFormat.{stands_takes}
 use Rattle.octseq_dns_name.specs.NameTurns.{name_turns}
 use Rattle.octseq_dns_name.specs.OneName.{at_label, at_pointer, one_standing, one_labels, one_name, Named, Ahead}
 use Rattle.octseq_dns_name.specs.OneName.{ahead_once}
@@ -140,19 +141,6 @@ label_count [] = omega arith
 label_count (l ∷ labels) = let so_far = label_count labels in omega (arith, so_far)
 
 -- a name takes an octet at least
-pub stands_takes : (start : ℕ) (w v : Window) (labels : List (List ℕ)) (pointers : ℕ) → Stands start w labels pointers v
-    → left v + 1 ≤ left w
-stands_takes start w v labels pointers (Stands.root has) = let room = has.room in let is = ap left has.behind in
-    omega (arith, room, is)
-stands_takes start w v labels pointers (Stands.label {u = u} {labels = more} has rest) =
-    let room = has.room in
-    let is = ap left has.behind in
-    let less = stands_takes start u v more pointers rest in
-    omega (arith, room, is, less)
-stands_takes start w v labels pointers (Stands.pointer has rest) = let room = has.room in let is = ap left has.behind in
-    omega (arith, room, is)
-
--- so does a name with no more octets and pointers than it may have
 pub name_takes : (w v : Window) (labels : List (List ℕ)) → IsName w labels v → left v + 1 ≤ left w
 name_takes w v labels name = stands_takes w.position w v labels name.pointers name.stands
 

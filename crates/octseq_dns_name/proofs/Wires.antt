@@ -1,19 +1,15 @@
 -- The plain wire form of labels is a name.
-use Rattle.std.proofs.Common.{◌≡◌, ℕ, ◌+◌, ◌≤◌, Option, List, [], ◌∷◌, ◌++◌, length, flat_map, refl, sym, ap, ◌∙◌}
-use Rattle.std.proofs.Common.{subst, append_assoc, arith}
-use Rattle.std.proofs.lemmas.List.{length-append, flat_map_more}
+use Rattle.std.proofs.Common.{◌≡◌, ℕ, ◌+◌, ◌≤◌, Option, List, [], ◌∷◌, ◌++◌, length, refl, sym, ap, ◌∙◌}
+use Rattle.std.proofs.Common.{append_assoc, arith}
+use Rattle.std.proofs.lemmas.List.{append-nil, length-append, flat_map_more}
 use Rattle.octseq.specs.Limit.{IsPast}
+use Rattle.octseq.specs.Window.{Window, past, rest, whole}
+use Rattle.octseq.proofs.Codes.{rest_whole}
 use Rattle.octseq.proofs.Limits.{past_more}
-use Rattle.octseq.specs.Integer.{be}
-use Rattle.octseq.specs.Window.{Window, left, next, past, behind, whole}
-use Rattle.octseq.proofs.Behind.{left_behind, come_next, past_behind}
-use Rattle.octseq_dns_name.specs.Name.{HasRoot, HasLabel, Stands, IsName, octet, wire_length}
+use Rattle.octseq_dns_name.specs.Name.{IsName, wire_length}
+use Rattle.octseq_dns_name.specs.NameFormat.{bodies, wire_stands}
 use Rattle.octseq_dns_name.specs.Wire.{wire, AreLabels}
 use Rattle.octseq_dns_name.proofs.Names.{wire_append}
-
--- each label behind its length
-abbrev pub bodies : List (List ℕ) → List ℕ
-bodies = flat_map (λ label. length label ∷ label)
 
 -- ---- lengths
 
@@ -31,63 +27,17 @@ wire_has labels = length-append (bodies labels) (0 ∷ []) ∙ bodies_length lab
 
 -- ---- a name
 
--- the number of one octet is that octet
-pub be_one : (n : ℕ) → be (n ∷ []) ≡ n
-unfolding be
-be_one n = omega arith
-
-octet_behind : (front after : List ℕ) (n : ℕ) → octet (behind front (n ∷ after)) ≡ n
-octet_behind front after n = ap be ((come_next front (n ∷ []) after 1 refl).1) ∙ be_one n
-
-root_behind : (front : List ℕ) → HasRoot (behind front (0 ∷ [])) (behind (front ++ 0 ∷ []) [])
-root_behind front = record {
-  room = let is = left_behind front (0 ∷ []) in omega (arith, is);
-  zero = octet_behind front [] 0;
-  behind = sym (past_behind front (0 ∷ []) [] 1 refl);
-}
-
-label_behind : (front label after : List ℕ) → 1 ≤ length label → length label ≤ 63
-    → HasLabel (behind front (length label ∷ (label ++ after))) label
-    (behind ((front ++ length label ∷ []) ++ label) after)
-label_behind front label after some short =
-    let w = behind front (length label ∷ (label ++ after)) in
-    let inside = behind (front ++ length label ∷ []) (label ++ after) in
-    let first : octet w ≡ length label = octet_behind front (label ++ after) (length label) in
-    let moved : past 1 w ≡ inside = past_behind front (length label ∷ []) (label ++ after) 1 refl in
-    record {
-      room = let is = left_behind front (length label ∷ (label ++ after)) in omega (arith, is);
-      some = omega (arith, first, some);
-      short = omega (arith, first, short);
-      whole = let there = ap left moved in let is = left_behind (front ++ length label ∷ []) (label ++ after) in
-          let both = length-append label after in omega (arith, first, there, is, both);
-      octets = sym (ap (λ n. next n (past 1 w)) first ∙ ap (next (length label)) moved
-          ∙ (come_next (front ++ length label ∷ []) label after (length label) refl).1);
-      behind = sym (ap (λ n. past n (past 1 w)) first ∙ ap (past (length label)) moved
-          ∙ past_behind (front ++ length label ∷ []) label after (length label) refl);
-    }
-
--- so the wire form of labels stands behind a front
-wire_stands : (start : ℕ) (front : List ℕ) (labels : List (List ℕ)) → AreLabels labels
-    → (v : Window) × Stands start (behind front (wire labels)) labels 0 v
-wire_stands start front [] are = (behind (front ++ 0 ∷ []) [], Stands.root (root_behind front))
-wire_stands start front (label ∷ labels) are =
-    let rest = wire_stands start ((front ++ length label ∷ []) ++ label) labels are.2 in
-    let same : wire (label ∷ labels) ≡ length label ∷ (label ++ wire labels) =
-    ap (λ l. length label ∷ l) (append_assoc label (bodies labels) (0 ∷ [])) in (
-      rest.0,
-      subst (λ octets. Stands start (behind front octets) (label ∷ labels) 0 rest.0) (sym same)
-          (Stands.label (label_behind front label (wire labels) are.0 are.1) rest.1),
-    )
-
--- and they are the name of those octets
+-- octets that are the wire form of labels are the name that has them
 pub wire_named : (octets : List ℕ) (labels : List (List ℕ)) → octets ≡ wire labels → AreLabels labels
     → wire_length labels ≤ 255
     → ∥ ((end : Window) × IsName (whole octets) labels end) ∥₁
 wire_named octets labels are each short =
-    let stands = wire_stands 0 [] labels each in
-    let name : IsName (whole (wire labels)) labels stands.0 =
-    record { pointers = 0; stands = stands.1; short = short; few = omega arith } in
-    ∣ (stands.0, subst (λ octets. IsName (whole octets) labels stands.0) (sym are) name) ∣₁
+    let all : rest (whole octets) ≡ octets = rest_whole octets in
+    let stands = wire_stands 0 (whole octets) labels [] each (all ∙ are ∙ sym (append-nil (wire labels))) in
+    ∣ (
+      past (length (wire labels)) (whole octets),
+      record { pointers = 0; stands = stands; short = short; few = omega arith },
+    ) ∣₁
 
 -- ---- the writer
 

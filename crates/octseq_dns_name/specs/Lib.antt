@@ -1,4 +1,5 @@
 pub mod Name
+pub mod NameFormat
 pub mod NameTurns
 pub mod NextLabel
 pub mod OneName

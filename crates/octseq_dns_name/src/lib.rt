@@ -9,4 +9,4 @@ pub mod name;
 
 pub use error::{LabelsError, Malformed, NameError};
 pub use name::text::write_digits;
-pub use name::{Name, ParsedName};
+pub use name::{DomainName, Name, ParsedName};

@@ -13,6 +13,7 @@ use octseq::{AsOctets, Parser};
 use std::alloc::AllocError;
 
 mod compare;
+mod format;
 mod labels;
 mod owned;
 mod spelling;
@@ -20,6 +21,7 @@ mod step;
 pub(crate) mod text;
 mod wire;
 
+pub use crate::name::format::DomainName;
 pub use crate::name::labels::{Label, Labels};
 pub use crate::name::owned::Name;
 pub use crate::name::text::{a_name_has_labels, a_name_is_spelled_by_its_text, one_name_of_a_text};

@@ -8,6 +8,7 @@ fn equal<T: PartialEq + Debug + Drop>(rt: &impl Abort, what: &str, left: T, righ
 
 mod dns;
 mod dns_data;
+mod dns_formats;
 mod dns_message;
 mod dns_round_trips;
 mod dns_text;

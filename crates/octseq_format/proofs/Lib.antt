@@ -1,3 +1,5 @@
 pub mod BitSteps
+pub mod Nones
+pub mod Parts
 pub mod RowSteps
 pub mod Wholes

@@ -1,6 +1,6 @@
 -- Rows that a walk keeps, and rows that are read one by one.
-use Rattle.std.proofs.Common.{◌≡◌, ℕ, ◌+◌, ◌<◌, ◌≤◌, ◌*◌, List, [], ◌∷◌, ◌++◌, length, length-append, refl, sym, ap}
-use Rattle.std.proofs.Common.{◌∙◌, subst, arith}
+use Rattle.std.proofs.Common.{◌≡◌, ℕ, ◌+◌, ◌<◌, ◌≤◌, ◌*◌, List, [], ◌∷◌, ◌++◌, length, length-append, map, refl}
+use Rattle.std.proofs.Common.{sym, ap, ◌∙◌, subst, arith}
 use Rattle.std.proofs.Math.Logic.{∥∥₁_elim}
 use Rattle.std.specs.Coded.{Coded, Coded-set, coded_list}
 use mathlib.Core.HLevel.{⊥_prop}
@@ -44,6 +44,13 @@ many_more Is w u v taken row one a is = (
   length-append row (one ∷ []) ∙ ap (λ n. n + 1) a.0,
   row_more Is w u v row one a.1 is,
 )
+
+-- a row of things is one of what they are by another name
+pub row_by : {A B : Type 0} (Is : Relation A) (Are : Relation B) (to : A → B)
+    → ((w : Window) (a : A) (v : Window) → Is w a v → Are w (to a) v)
+    → (w v : Window) (row : List A) → Row Is w row v → Row Are w (map to row) v
+row_by Is Are to each w v [] is = is
+row_by Is Are to each w v (x ∷ row) is = (is.0, each w x is.0 is.1, row_by Is Are to each is.0 v row is.2)
 
 -- ---- rows that a walk keeps
 

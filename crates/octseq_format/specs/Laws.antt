@@ -1,6 +1,6 @@
 -- What a format says of octets, and the laws that reading and writing by it rest on.
 use Rattle.std.specs.Prelude.{◌≡◌, ℕ, ◌+◌, ◌^◌, ◌<◌, ◌≤◌, List, [], ◌++◌, length}
-use Rattle.std.proofs.Common.{sym, ◌∙◌, arith, append-nil}
+use Rattle.std.proofs.Common.{sym, ap, ◌∙◌, arith, append-nil}
 use Rattle.octseq.specs.Window.{Window, left, rest, past}
 
 -- A thing is at a window's position, and the second window is past it.
@@ -14,6 +14,15 @@ NoneAt {A} Is w = (a : A) (v : Window) → Is w a v → ⊥
 -- One thing is there at most, with one end.
 pub record IsOne {A : Type 0} (Is : Relation A) : Type 0 where
   pub same : (w : Window) (a b : A) (u v : Window) → Is w a u → Is w b v → (a ≡ b) × (u ≡ v)
+
+-- so is a thing that is another by name
+pub one_by : {A B : Type 0} {Is : Relation A} (to : B → A) (from : A → B) → ((b : B) → from (to b) ≡ b) → IsOne Is
+    → IsOne (λ w b v. Is w (to b) v)
+one_by to from back one = record {
+  same = λ w a b u v is other.
+      let parts = one.same w (to a) (to b) u v is other in
+      (sym (back a) ∙ ap from parts.0 ∙ back b, parts.1);
+}
 
 -- The second window has the octets and the end of the first, and its position isn't before the first one's. At least
 -- so many octets fewer are left.

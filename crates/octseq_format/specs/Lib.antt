@@ -10,6 +10,7 @@ pub mod Laws
 pub mod Octets
 pub mod Optional
 pub mod Pair
+pub mod Part
 pub mod Rest
 pub mod Row
 pub mod Text

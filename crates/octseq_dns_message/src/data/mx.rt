@@ -1,11 +1,9 @@
 //! Mail exchanges: RFC 1035, 3.3.9.
-ghost use Rattle.std.specs.Prelude.{◌≡◌, ◌+◌, ◌≤◌, IsErr, IfOk, ⊤};
-ghost use Rattle.octseq.specs.Parser.{window};
-ghost use Rattle.octseq.specs.Window.{Window};
+ghost use Rattle.std.specs.Prelude.{◌≡◌, ⊤};
 
-use octseq::utf8::Turns;
-use octseq::{AsOctets, Parser};
-use octseq_dns_name::{Malformed, ParsedName};
+use octseq::AsOctets;
+use octseq_dns_name::{DomainName, ParsedName};
+use octseq_format::{Fields, Format, U16Be};
 use std::alloc::AllocError;
 
 /// A mail exchange.
@@ -29,22 +27,20 @@ impl<R: AsOctets + Copy> Clone for Mx<R> {
     }
 }
 
-impl<R: AsOctets + Copy> Mx<R> {
-    ghost use Rattle.octseq_dns_message.specs.Data as said;
-    ghost use Rattle.octseq_dns_message.specs.Data.{HasMx};
-    ghost use Rattle.octseq_dns_message.specs.Typed.{mx_of};
+impl<R: AsOctets + Copy> Fields<R> for Mx<R> {
+    type Format = (U16Be, DomainName);
 
-    /// Takes the next mail exchange of a message, and counts the turns that its name takes.
-    pub(crate) fn parse(parser: &mut Parser<R>, turns: &mut Turns) -> Result<Mx<R>, Malformed>
-        ensures mx { IfOk result (λ mx. HasMx (window parser.old) (mx_of mx) (window parser.new)) }
-        ensures malformed { IsErr result → (mx : said.Mx) (v : Window) → ¬ HasMx (window parser.old) mx v }
-        ensures turns { turns.new ≤ turns.old + 255 }
-    {
-        let preference = parser.parse_u16_be()?;
-        let exchange = ParsedName::parse_counted(parser, turns)?;
-        Ok(Mx {
+    ghost fields = { λ mx. (mx.preference, mx.exchange) };
+
+    fn from_fields(parts: <Self::Format as Format<R>>::Value) -> Self {
+        let (preference, exchange) = parts;
+        Mx {
             preference,
             exchange,
-        })
+        }
+    }
+
+    fn to_fields(&self) -> <Self::Format as Format<R>>::Value {
+        (self.preference, self.exchange)
     }
 }

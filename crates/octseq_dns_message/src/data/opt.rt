@@ -1,18 +1,17 @@
 //! The record of EDNS and its options: RFC 6891, 6.1.
-ghost use Rattle.std.specs.Prelude.{◌≡◌, ◌*◌, ◌/◌, ◌%◌, List, IsErr, OnOk, ⊤};
+ghost use Rattle.std.specs.Prelude.{◌≡◌, ◌*◌, ◌/◌, ◌%◌, IsErr, ⊤};
 ghost use Rattle.octseq.specs.Parser.{window};
-ghost use Rattle.octseq.specs.Window.{Window};
 ghost use Rattle.octseq_dns_message.specs.Entry.{Record as Entry};
 ghost use Rattle.octseq_dns_message.specs.Flag.{flag};
 ghost use Rattle.octseq_dns_message.specs.OneRow.{OptionsAhead, options_once};
 ghost use Rattle.octseq_dns_message.specs.Opt as said;
-ghost use Rattle.octseq_dns_message.specs.Opt.{HasOption, IsOpt};
-ghost use Rattle.octseq_format.specs.Row.{Row};
+ghost use Rattle.octseq_dns_message.specs.Opt.{IsOpt};
 
 use crate::iana::Rtype;
 use crate::message::Record;
 use octseq::{AsOctets, Parser};
 use octseq_dns_name::Malformed;
+use octseq_format::{Counted, Fields, Format, Of, Repeated, Rest, U16Be};
 use std::alloc::AllocError;
 
 /// A record of EDNS says one thing at most.
@@ -43,19 +42,18 @@ impl<R: AsOctets + Copy> Clone for EdnsOption<R> {
     }
 }
 
-impl<R: AsOctets + Copy> EdnsOption<R> {
-    ghost use Rattle.std.specs.Prelude.{IfOk};
-    ghost use Rattle.octseq_dns_message.specs.Edns.{option_of};
+impl<R: AsOctets + Copy> Fields<R> for EdnsOption<R> {
+    type Format = (U16Be, Counted<u16, Rest, 0>);
 
-    /// Takes the next option.
-    fn parse(parser: &mut Parser<R>) -> Result<EdnsOption<R>, Malformed>
-        ensures option { IfOk result (λ option. HasOption (window parser.old) (option_of option) (window parser.new)) }
-        ensures malformed { IsErr result → (option : said.EdnsOption) (v : Window)
-            → ¬ HasOption (window parser.old) option v }
-    {
-        let code = parser.parse_u16_be()?;
-        let octets = parser.parse_part_u16_be()?;
-        Ok(EdnsOption { code, octets })
+    ghost fields = { λ option. (option.code, option.octets) };
+
+    fn from_fields(parts: <Self::Format as Format<R>>::Value) -> Self {
+        let (code, octets) = parts;
+        EdnsOption { code, octets }
+    }
+
+    fn to_fields(&self) -> <Self::Format as Format<R>>::Value {
+        (self.code, self.octets)
     }
 }
 
@@ -101,7 +99,8 @@ impl<R: AsOctets + Copy> Opt<R> {
             return Err(Malformed);
         }
         let parser = entry.rdata();
-        pass_options(parser)?;
+        let mut options = parser;
+        let _walk = Repeated::<Of<EdnsOption<R>>>::parse(&mut options)?;
         let bits = entry.ttl().as_secs();
         Ok(Opt {
             udp_payload_size: entry.class().to_int(),
@@ -184,7 +183,7 @@ impl<R: AsOctets + Copy> Iterator for Options<R> {
         if parser.remaining() == 0 {
             return None;
         }
-        match EdnsOption::parse(&mut parser) {
+        match Of::<EdnsOption<R>>::parse(&mut parser) {
             Ok(option) => {
                 *self = Options { parser };
                 Some(option)
@@ -199,18 +198,4 @@ fn is_dnssec_ok(bits: u32) -> bool
     ensures { flag result 32768 ≡ bits / 32768 % 2 * 32768 }
 {
     bits / 32768 % 2 == 1
-}
-
-/// Takes options up to the end of data.
-fn pass_options<R: AsOctets + Copy>(rdata: Parser<R>) -> Result<(), Malformed>
-    ensures options { OnOk result ((row : List said.EdnsOption) × (v : Window)
-        × Row HasOption (window rdata) row v × (v.position ≡ (window rdata).end)) }
-    ensures malformed { IsErr result → (row : List said.EdnsOption) (v : Window)
-        → Row HasOption (window rdata) row v → ¬ (v.position ≡ (window rdata).end) }
-{
-    let mut ahead = rdata;
-    'options: while ahead.remaining() > 0 {
-        let _option = EdnsOption::parse(&mut ahead)?;
-    }
-    Ok(())
 }

@@ -1,11 +1,9 @@
 //! Starts of zones of authority: RFC 1035, 3.3.13.
-ghost use Rattle.std.specs.Prelude.{◌≡◌, ◌+◌, ◌≤◌, IsErr, IfOk, ⊤};
-ghost use Rattle.octseq.specs.Parser.{window};
-ghost use Rattle.octseq.specs.Window.{Window};
+ghost use Rattle.std.specs.Prelude.{◌≡◌, ⊤};
 
-use octseq::utf8::Turns;
-use octseq::{AsOctets, Parser};
-use octseq_dns_name::{Malformed, ParsedName};
+use octseq::AsOctets;
+use octseq_dns_name::{DomainName, ParsedName};
+use octseq_format::{Fields, Format, U32Be};
 use std::alloc::AllocError;
 
 /// The start of a zone of authority. Its times are numbers of seconds.
@@ -39,25 +37,22 @@ impl<R: AsOctets + Copy> Clone for Soa<R> {
     }
 }
 
-impl<R: AsOctets + Copy> Soa<R> {
-    ghost use Rattle.octseq_dns_message.specs.Data as said;
-    ghost use Rattle.octseq_dns_message.specs.Data.{HasSoa};
-    ghost use Rattle.octseq_dns_message.specs.Typed.{soa_of};
+impl<R: AsOctets + Copy> Fields<R> for Soa<R> {
+    type Format = (DomainName, DomainName, U32Be, U32Be, U32Be, U32Be, U32Be);
 
-    /// Takes the next start of a zone of a message, and counts the turns that its names take.
-    pub(crate) fn parse(parser: &mut Parser<R>, turns: &mut Turns) -> Result<Soa<R>, Malformed>
-        ensures soa { IfOk result (λ soa. HasSoa (window parser.old) (soa_of soa) (window parser.new)) }
-        ensures malformed { IsErr result → (soa : said.Soa) (v : Window) → ¬ HasSoa (window parser.old) soa v }
-        ensures turns { turns.new ≤ turns.old + 510 }
-    {
-        let mname = ParsedName::parse_counted(parser, turns)?;
-        let rname = ParsedName::parse_counted(parser, turns)?;
-        let serial = parser.parse_u32_be()?;
-        let refresh = parser.parse_u32_be()?;
-        let retry = parser.parse_u32_be()?;
-        let expire = parser.parse_u32_be()?;
-        let minimum = parser.parse_u32_be()?;
-        Ok(Soa {
+    ghost fields = { λ soa. (
+      soa.mname,
+      soa.rname,
+      soa.serial,
+      soa.refresh,
+      soa.retry,
+      soa.expire,
+      soa.minimum,
+    ) };
+
+    fn from_fields(parts: <Self::Format as Format<R>>::Value) -> Self {
+        let (mname, rname, serial, refresh, retry, expire, minimum) = parts;
+        Soa {
             mname,
             rname,
             serial,
@@ -65,6 +60,18 @@ impl<R: AsOctets + Copy> Soa<R> {
             retry,
             expire,
             minimum,
-        })
+        }
+    }
+
+    fn to_fields(&self) -> <Self::Format as Format<R>>::Value {
+        (
+            self.mname,
+            self.rname,
+            self.serial,
+            self.refresh,
+            self.retry,
+            self.expire,
+            self.minimum,
+        )
     }
 }

@@ -1,11 +1,9 @@
 //! Places of services: RFC 2782.
-ghost use Rattle.std.specs.Prelude.{◌≡◌, ◌+◌, ◌≤◌, IsErr, IfOk, ⊤};
-ghost use Rattle.octseq.specs.Parser.{window};
-ghost use Rattle.octseq.specs.Window.{Window};
+ghost use Rattle.std.specs.Prelude.{◌≡◌, ⊤};
 
-use octseq::utf8::Turns;
-use octseq::{AsOctets, Parser};
-use octseq_dns_name::{Malformed, ParsedName};
+use octseq::AsOctets;
+use octseq_dns_name::{DomainName, ParsedName};
+use octseq_format::{Fields, Format, U16Be};
 use std::alloc::AllocError;
 
 /// The place of a service.
@@ -33,26 +31,22 @@ impl<R: AsOctets + Copy> Clone for Srv<R> {
     }
 }
 
-impl<R: AsOctets + Copy> Srv<R> {
-    ghost use Rattle.octseq_dns_message.specs.Data as said;
-    ghost use Rattle.octseq_dns_message.specs.Data.{HasSrv};
-    ghost use Rattle.octseq_dns_message.specs.Typed.{srv_of};
+impl<R: AsOctets + Copy> Fields<R> for Srv<R> {
+    type Format = (U16Be, U16Be, U16Be, DomainName);
 
-    /// Takes the next place of a service of a message, and counts the turns that its name takes.
-    pub(crate) fn parse(parser: &mut Parser<R>, turns: &mut Turns) -> Result<Srv<R>, Malformed>
-        ensures srv { IfOk result (λ srv. HasSrv (window parser.old) (srv_of srv) (window parser.new)) }
-        ensures malformed { IsErr result → (srv : said.Srv) (v : Window) → ¬ HasSrv (window parser.old) srv v }
-        ensures turns { turns.new ≤ turns.old + 255 }
-    {
-        let priority = parser.parse_u16_be()?;
-        let weight = parser.parse_u16_be()?;
-        let port = parser.parse_u16_be()?;
-        let target = ParsedName::parse_counted(parser, turns)?;
-        Ok(Srv {
+    ghost fields = { λ srv. (srv.priority, srv.weight, srv.port, srv.target) };
+
+    fn from_fields(parts: <Self::Format as Format<R>>::Value) -> Self {
+        let (priority, weight, port, target) = parts;
+        Srv {
             priority,
             weight,
             port,
             target,
-        })
+        }
+    }
+
+    fn to_fields(&self) -> <Self::Format as Format<R>>::Value {
+        (self.priority, self.weight, self.port, self.target)
     }
 }

@@ -1,25 +1,13 @@
-//! The octets and the strings that data is made of.
+//! The strings that data is made of.
 ghost use Rattle.std.specs.Prelude.{◌≡◌, ◌≤◌, ℕ, List, IsErr, IfOk, length};
 ghost use Rattle.octseq.specs.Integer.{octets_be};
 ghost use Rattle.octseq.specs.Parser.{window};
 ghost use Rattle.octseq.specs.Part.{part};
 ghost use Rattle.octseq.specs.Window.{Window, left, next, rest};
-ghost use Rattle.octseq_dns_message.specs.Data.{HasOctets, HasString};
+ghost use Rattle.octseq_dns_message.specs.Data.{HasString};
 
 use octseq::{AsOctets, Parser};
 use octseq_dns_name::Malformed;
-
-/// Takes the next `N` octets.
-pub(crate) fn take_octets<const N: usize, R: AsOctets>(
-    parser: &mut Parser<R>,
-) -> Result<[u8; N], Malformed>
-    ensures octets { IfOk result (λ octets. HasOctets N (window parser.old) octets (window parser.new)) }
-    ensures malformed { IsErr result → (octets : List ℕ) (v : Window) → ¬ HasOctets N (window parser.old) octets v }
-{
-    let mut octets = [0; N];
-    parser.parse_buf(&mut octets)?;
-    Ok(octets)
-}
 
 /// Takes the next string: a parser of its octets.
 pub(crate) fn take_string<R: AsOctets + Copy>(

@@ -7,7 +7,11 @@ use crate::iana::{Class, Rtype};
 use octseq::utf8::Turns;
 use octseq::{AsOctets, Parser};
 use octseq_dns_name::{Malformed, ParsedName};
+use octseq_format::{Format, U16Be};
 use std::alloc::AllocError;
+
+/// What comes after the name of a question: a type and a class.
+type AfterName = (U16Be, U16Be);
 
 /// A question of a message: the name that is asked for, and which type and class.
 #[derive(Debug)]
@@ -75,8 +79,7 @@ impl<R: AsOctets + Copy> Question<R> {
     {
         let mut ahead = *parser;
         let qname = ParsedName::parse_counted(&mut ahead, turns)?;
-        let qtype = ahead.parse_u16_be()?;
-        let qclass = ahead.parse_u16_be()?;
+        let (qtype, qclass) = AfterName::parse(&mut ahead)?;
         *parser = ahead;
         Ok(Question {
             qname,

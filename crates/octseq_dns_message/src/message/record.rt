@@ -11,7 +11,11 @@ use octseq::builder::infallible;
 use octseq::utf8::Turns;
 use octseq::{AsOctets, Parser};
 use octseq_dns_name::{Malformed, ParsedName};
+use octseq_format::{Counted, Format, Rest, U16Be, U32Be};
 use std::alloc::AllocError;
+
+/// What comes after the owner of a record: a type, a class, a TTL, and data after its length.
+type AfterOwner = (U16Be, U16Be, U32Be, Counted<u16, Rest, 0>);
 
 /// A record of a message: the name that it is of, its type, its class, for how many seconds it may be kept, and where
 /// its data stands. [`data`](Self::data) tells what the data says.
@@ -84,10 +88,7 @@ impl<R: AsOctets + Copy> Record<R> {
     {
         let mut ahead = *parser;
         let owner = ParsedName::parse_counted(&mut ahead, turns)?;
-        let rtype = ahead.parse_u16_be()?;
-        let class = ahead.parse_u16_be()?;
-        let ttl = ahead.parse_u32_be()?;
-        let rdata = ahead.parse_part_u16_be()?;
+        let (rtype, class, ttl, rdata) = AfterOwner::parse(&mut ahead)?;
         *parser = ahead;
         Ok(Record {
             owner,

@@ -6,7 +6,8 @@ use Rattle.octseq_dns_name.specs.Refused.{IsFault}
 use Rattle.octseq_dns_name.specs.declared.error.NameError.{NameError}
 use Rattle.octseq_dns_name.proofs.Names.{wire_append}
 use Rattle.octseq_dns_name.proofs.SpellingSteps.{none_left, read_no_label, read_label}
-use Rattle.octseq_dns_name.proofs.Wires.{bodies, bodies_length}
+use Rattle.octseq_dns_name.specs.NameFormat.{bodies}
+use Rattle.octseq_dns_name.proofs.Wires.{bodies_length}
 use Rattle.octseq_dns_name.proofs.name.spelling.wire_of.Goals as goal
 
 pub returns-then-is_empty-clause-refused : goal.returns-then-is_empty-clause-refused

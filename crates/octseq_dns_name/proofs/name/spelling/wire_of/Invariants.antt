@@ -1,7 +1,7 @@
 -- The labels so far are read, and appended, and what is ahead is behind them.
 use Rattle.std.proofs.Common.{◌≡◌, ◌+◌, ◌≤◌, ℕ, List, length}
 use Rattle.octseq_dns_name.specs.Refused.{ReadsLabels}
-use Rattle.octseq_dns_name.proofs.Wires.{bodies}
+use Rattle.octseq_dns_name.specs.NameFormat.{bodies}
 use Rattle.octseq_dns_name.proofs.name.spelling.wire_of.Given as goal
 
 abbrev pub invariant-labels : goal.invariant-labels

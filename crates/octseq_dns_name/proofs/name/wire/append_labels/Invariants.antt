@@ -2,7 +2,7 @@
 use Rattle.std.proofs.Common.{◌≡◌, ℕ, List, ◌++◌}
 use Rattle.octseq_dns_name.specs.Read.{labels_left}
 use Rattle.octseq_dns_name.specs.Wire.{AreLabels}
-use Rattle.octseq_dns_name.proofs.Wires.{bodies}
+use Rattle.octseq_dns_name.specs.NameFormat.{bodies}
 use Rattle.octseq_dns_name.proofs.name.wire.append_labels.Given as goal
 
 abbrev pub invariant-loop-label : goal.invariant-loop-label

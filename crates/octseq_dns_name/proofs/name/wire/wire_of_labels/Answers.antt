@@ -6,7 +6,8 @@ use Rattle.octseq_dns_name.specs.Wire.{AreLabels}
 use Rattle.octseq_dns_name.proofs.Names.{wire_append}
 use Rattle.octseq_dns_name.proofs.SpellingSteps.{some_long}
 use Rattle.octseq_dns_name.proofs.Unfits.{contents, parted, taken}
-use Rattle.octseq_dns_name.proofs.Wires.{bodies, bodies_length, one_more}
+use Rattle.octseq_dns_name.specs.NameFormat.{bodies}
+use Rattle.octseq_dns_name.proofs.Wires.{bodies_length, one_more}
 use Rattle.octseq_dns_name.proofs.name.wire.wire_of_labels.Goals as goal
 
 pub returns-then-is_empty-clause-wrong : goal.returns-then-is_empty-clause-wrong

@@ -1,8 +1,9 @@
 use Rattle.std.proofs.Common.{refl, sym, subst, arith}
 use Rattle.octseq.specs.Parser.{window}
 use Rattle.octseq_dns_message.specs.Edns.{option_of}
-use Rattle.octseq_dns_message.specs.OneRow.{Reaches, option_code, option_item}
+use Rattle.octseq_dns_message.specs.OneRow.{Reaches, option_code, option_item, option_parts}
 use Rattle.octseq_dns_message.specs.Opt.{HasOption}
+use Rattle.octseq_dns_message.proofs.Options.{option_found, option_is}
 use Rattle.octseq_dns_message.proofs.Rows.{reached_none, reached_not, reached_more, reached_then}
 use Rattle.octseq_format.proofs.RowSteps.{fewer}
 use Rattle.octseq_dns_message.proofs.data.opt.OptionsIterator.next.Goals as goal
@@ -23,7 +24,8 @@ returns-in-Err-clause-steps g c =
     let left = c.remaining.ensures.left in
     let some = c.if-remaining-eq0.false in
     absurd (reached_not HasOption (window self.parser) (window self.parser).end self.ahead
-    (λ same. omega (arith, left, some, same)) (c.in-Err.ensures.malformed refl))
+    (λ same. omega (arith, left, some, same))
+    (λ option v is. c.in-Err.ensures.malformed refl (option_parts option) v (option_found (window self.parser) option v is)))
 
 pub invariant_of-self : goal.invariant_of-self
 invariant_of-self g c =
@@ -33,10 +35,11 @@ invariant_of-self g c =
     let w = window self.parser in
     let u = window c.parse.new.parser in
     let option = option_of c.in-Ok.option in
+    let is = option_is w (option.code, option.octets) u c.in-Ok.ensures.value in
     record {
-      ahead = subst (Reaches HasOption u) (sym (option_item.ends w option u c.in-Ok.ensures.option))
+      ahead = subst (Reaches HasOption u) (sym (option_item.ends w option u is))
           (reached_more option_code HasOption option_item w u w.end option self.ahead
-          (λ same. omega (arith, left, some, same)) c.in-Ok.ensures.option);
+          (λ same. omega (arith, left, some, same)) is);
     }
 
 pub returns-in-Ok-clause-steps : goal.returns-in-Ok-clause-steps
@@ -47,9 +50,10 @@ returns-in-Ok-clause-steps g c =
     let w = window self.parser in
     let u = window c.parse.new.parser in
     let option = option_of c.in-Ok.option in
-    let end = option_item.ends w option u c.in-Ok.ensures.option in
+    let is = option_is w (option.code, option.octets) u c.in-Ok.ensures.value in
+    let end = option_item.ends w option u is in
     reached_then option_code HasOption option_item w u w.end u.end option self.ahead c.self-1.given.0 end
-    (λ same. omega (arith, left, some, same)) c.in-Ok.ensures.option
+    (λ same. omega (arith, left, some, same)) is
 
 pub returns-in-Ok-clause-goes : goal.returns-in-Ok-clause-goes
 returns-in-Ok-clause-goes g c =

@@ -1,0 +1,172 @@
+-- A domain name as a format: one is at a place at most, what is past it, and the octets that say it. They are its plain
+-- wire form; a name that is read may have pointers.
+use Rattle.std.specs.Prelude.{◌≡◌, ℕ, ◌+◌, ◌≤◌, List, [], ◌∷◌, ◌++◌, length, refl}
+use Rattle.std.proofs.Common.{sym, ap, ◌∙◌, subst, arith, length-append, append_assoc}
+use Rattle.std.specs.Coded.{Coded, code_by, coded_list, coded×, coded_ℕ}
+use Rattle.std.specs.List.{flat_map}
+use Rattle.octseq.specs.Integer.{be}
+use Rattle.octseq.specs.Window.{Window, left, next, rest, at, past}
+use Rattle.octseq.proofs.Behind.{front_comes_next}
+use Rattle.octseq_format.specs.Laws.{IsOne, IsOnward, IsReadBack, IsDelimited, back_of}
+use Rattle.octseq_format.specs.Rest.{window_code}
+use Rattle.octseq_dns_name.specs.Name.{Name, HasName, IsName, HasLabel, Stands, octet, wire_length}
+use Rattle.octseq_dns_name.specs.OneName.{one_name}
+use Rattle.octseq_dns_name.specs.Wire.{wire, AreLabels}
+
+-- the labels of a name
+abbrev pub name_labels : Name → List (List ℕ)
+name_labels name = name.labels
+
+-- The labels of a name: 1 to 63 octets each, and at most 255 in all.
+pub record NameFits (labels : List (List ℕ)) : Type 0 where
+  pub each : AreLabels labels
+  pub short : wire_length labels ≤ 255
+
+-- a turn for the root, and one for each label. Each pointer takes one more
+abbrev pub least_turns : Name → ℕ
+least_turns name = 1 + length name.labels
+
+-- ---- one name
+
+-- the name of a place and labels
+name_from : Window → List (List ℕ) → Name
+name_from place labels = record { place = place; labels = labels }
+
+pub one_named : IsOne HasName
+unfolding name_from
+one_named = record {
+  same = λ w a b u v is other.
+      let labels = one_name w u v a.labels b.labels is.1 other.1 in
+      (ap (λ place. name_from place a.labels) (is.0 ∙ sym other.0) ∙ ap (name_from b.place) labels.0, labels.1);
+}
+
+-- names are equal in one way at most
+abbrev pub name_code : Coded Name
+name_code = code_by (Window × List (List ℕ)) (coded× window_code (coded_list (coded_list coded_ℕ)))
+    (λ n. (n.place, n.labels))
+    (λ c. record { place = c.0; labels = c.1 }) (λ _. refl)
+
+-- ---- what is past a name
+
+-- one window is another at some position
+abbrev pub IsOf : Window → Window → Type 0
+IsOf w v = (v.octets ≡ w.octets) × (v.end ≡ w.end)
+
+-- it is of the same octets, with the same end
+stands_of : (start : ℕ) (w v : Window) (labels : List (List ℕ)) (pointers : ℕ) → Stands start w labels pointers v
+    → IsOf w v
+stands_of start w v labels pointers (Stands.root has) = (ap (λ v. v.octets) has.behind, ap (λ v. v.end) has.behind)
+stands_of start w v labels pointers (Stands.label {u = u} {labels = more} has rest) =
+    let on = stands_of start u v more pointers rest in
+    (on.0 ∙ ap (λ v. v.octets) has.behind, on.1 ∙ ap (λ v. v.end) has.behind)
+stands_of start w v labels pointers (Stands.pointer has rest) =
+    (ap (λ v. v.octets) has.behind, ap (λ v. v.end) has.behind)
+
+-- and within its end
+stands_within : (start : ℕ) (w v : Window) (labels : List (List ℕ)) (pointers : ℕ) → Stands start w labels pointers v
+    → v.position ≤ v.end
+stands_within start w v labels pointers (Stands.root has) =
+    let position = ap (λ v. v.position) has.behind in
+    let end = ap (λ v. v.end) has.behind in
+    let room = has.room in
+    omega (arith, position, end, room)
+stands_within start w v labels pointers (Stands.label {u = u} {labels = more} has rest) =
+    stands_within start u v more pointers rest
+stands_within start w v labels pointers (Stands.pointer has rest) =
+    let position = ap (λ v. v.position) has.behind in
+    let end = ap (λ v. v.end) has.behind in
+    let room = has.room in
+    omega (arith, position, end, room)
+
+-- a name takes an octet at least
+pub stands_takes : (start : ℕ) (w v : Window) (labels : List (List ℕ)) (pointers : ℕ) → Stands start w labels pointers v
+    → left v + 1 ≤ left w
+stands_takes start w v labels pointers (Stands.root has) = let room = has.room in let is = ap left has.behind in
+    omega (arith, room, is)
+stands_takes start w v labels pointers (Stands.label {u = u} {labels = more} has rest) =
+    let room = has.room in
+    let is = ap left has.behind in
+    let less = stands_takes start u v more pointers rest in
+    omega (arith, room, is, less)
+stands_takes start w v labels pointers (Stands.pointer has rest) = let room = has.room in let is = ap left has.behind in
+    omega (arith, room, is)
+
+-- the window past a name is of the same octets, with the same end
+pub name_of_window : (w v : Window) (labels : List (List ℕ)) → IsName w labels v → IsOf w v
+name_of_window w v labels name = stands_of w.position w v labels name.pointers name.stands
+
+pub onward_name : IsOnward 1 HasName
+onward_name = record {
+  on = λ w name v ordered is.
+      let of = name_of_window w v name.labels is.1 in
+      let within = stands_within w.position w v name.labels is.1.pointers is.1.stands in
+      let less = stands_takes w.position w v name.labels is.1.pointers is.1.stands in
+      let end = of.1 in
+      (of.0, of.1, omega (arith, ordered, within, less, end), within);
+  less = λ w name v is. stands_takes w.position w v name.labels is.1.pointers is.1.stands;
+}
+
+-- ---- its octets
+
+-- the number of one octet is that octet
+pub be_one : (n : ℕ) → be (n ∷ []) ≡ n
+unfolding be
+be_one n = omega arith
+
+-- labels, each after its length
+abbrev pub bodies : List (List ℕ) → List ℕ
+bodies = flat_map (λ label. length label ∷ label)
+
+-- a label's length and octets, followed by the wire form of others
+pub wire_more : (label : List ℕ) (labels : List (List ℕ)) → wire (label ∷ labels) ≡ length label ∷ (label ++ wire labels)
+wire_more label labels = ap (λ l. length label ∷ l) (append_assoc label (bodies labels) (0 ∷ []))
+
+-- where the wire form of labels comes next, they are there, and what comes after them is past them
+pub wire_stands : (start : ℕ) (w : Window) (labels : List (List ℕ)) (more : List ℕ) → AreLabels labels
+    → rest w ≡ wire labels ++ more → Stands start w labels 0 (past (length (wire labels)) w)
+wire_stands start w [] more are is =
+    let root = front_comes_next w (0 ∷ []) more 1 is refl in
+    Stands.root (record { room = root.0; zero = ap be root.1 ∙ be_one 0; behind = refl })
+wire_stands start w (label ∷ labels) more are is =
+    let after = wire labels ++ more in
+    let all : rest w ≡ length label ∷ (label ++ after) = is ∙ ap (λ octets. octets ++ more) (wire_more label labels)
+    ∙ ap (λ octets. length label ∷ octets) (append_assoc label (wire labels) more) in
+    let first = front_comes_next w (length label ∷ []) (label ++ after) 1 all refl in
+    let said : octet w ≡ length label = ap be first.1 ∙ be_one (length label) in
+    let second = front_comes_next (past 1 w) label after (length label) first.2 refl in
+    let u = past (length label) (past 1 w) in
+    let some = are.0 in
+    let short = are.1 in
+    let room = second.0 in
+    let has : HasLabel w label u = record {
+      room = first.0;
+      some = omega (arith, said, some);
+      short = omega (arith, said, short);
+      whole = omega (arith, said, room);
+      octets = sym (ap (λ n. next n (past 1 w)) said ∙ second.1);
+      behind = ap (λ n. past n (past 1 w)) (sym said);
+    } in
+    let more_long = ap length (wire_more label labels) in
+    let both = length-append label (wire labels) in
+    subst (Stands start w (label ∷ labels) 0) (ap (λ p. at p w) (omega (arith, more_long, both)))
+    (Stands.label has (wire_stands start u labels more are.2 second.2))
+
+pub delimited_name : IsDelimited HasName name_labels wire NameFits
+delimited_name = record {
+  next = λ w labels more fits is. record {
+    it = record { place = w; labels = labels };
+    tells = refl;
+    is = (
+      refl,
+      record {
+        pointers = 0;
+        stands = wire_stands w.position w labels more fits.each is;
+        short = fits.short;
+        few = omega arith;
+      },
+    );
+  };
+}
+
+pub name_read_back : IsReadBack HasName name_labels wire NameFits
+name_read_back = back_of delimited_name
