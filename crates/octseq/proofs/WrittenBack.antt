@@ -17,7 +17,8 @@ use Rattle.octseq.proofs.Written.{positive, be_nil, be_cons, le_reverse, each_re
 abbrev pub AreOctets : List ℕ → Type 0
 AreOctets xs = AllByRecursion (λ octet. octet < 256) xs
 
-small_be : (xs : List ℕ) → AreOctets xs → be xs < 256 ^ length xs
+-- the value of octets is less than 256 to the power of how many they are, big-endian
+pub small_be : (xs : List ℕ) → AreOctets xs → be xs < 256 ^ length xs
 small_be [] each = omega (arith, be_nil)
 small_be (x ∷ xs) (small, each) =
     let n = length xs in
@@ -53,19 +54,31 @@ back_be (x ∷ xs) (small, each) =
     ap (octets_be (suc n)) cons ∙ ap (λ y. y ∷ octets_be n (x * 256 ^ n + be xs)) first
     ∙ ap (λ ys. x ∷ ys) (low_octets n x (be xs) ∙ back_be xs each)
 
+-- octets have the little-endian value that they have big-endian when they are turned round
+le_turned : (xs : List ℕ) → le xs ≡ be (reverse xs)
+le_turned xs = ap le (sym (reverse-reverse xs)) ∙ le_reverse (reverse xs)
+
+-- so is their value little-endian
+pub small_le : (xs : List ℕ) → AreOctets xs → le xs < 256 ^ length xs
+small_le xs each =
+    subst (λ n. n < 256 ^ length xs) (sym (le_turned xs)) (subst (λ k. be (reverse xs) < 256 ^ k) (length-reverse xs)
+    (small_be (reverse xs) (each_reverse xs each)))
+
 -- the little-endian octets of the value of octets are those octets
 pub back_le : (xs : List ℕ) → AreOctets xs → octets_le (length xs) (le xs) ≡ xs
 unfolding octets_le
 back_le xs each =
-    let turned : le xs ≡ be (reverse xs) = ap le (sym (reverse-reverse xs)) ∙ le_reverse (reverse xs) in
+    let turned = le_turned xs in
     let count : length xs ≡ length (reverse xs) = sym (length-reverse xs) in
     ap (λ n. reverse (octets_be (length xs) n)) turned ∙ ap (λ k. reverse (octets_be k (be (reverse xs)))) count
     ∙ ap reverse (back_be (reverse xs) (each_reverse xs each)) ∙ reverse-reverse xs
 
-as_be : (k : ℕ) (xs : List ℕ) → length xs ≡ k → AreOctets xs → octets_be k (be xs) ≡ xs
+-- the same of octets whose number is known
+pub as_be : (k : ℕ) (xs : List ℕ) → length xs ≡ k → AreOctets xs → octets_be k (be xs) ≡ xs
 as_be k xs many each = subst (λ k. octets_be k (be xs) ≡ xs) many (back_be xs each)
 
-as_le : (k : ℕ) (xs : List ℕ) → length xs ≡ k → AreOctets xs → octets_le k (le xs) ≡ xs
+-- and little-endian
+pub as_le : (k : ℕ) (xs : List ℕ) → length xs ≡ k → AreOctets xs → octets_le k (le xs) ≡ xs
 as_le k xs many each = subst (λ k. octets_le k (le xs) ≡ xs) many (back_le xs each)
 
 -- ---- the widths that integers have

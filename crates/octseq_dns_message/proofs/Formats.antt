@@ -1,5 +1,5 @@
 -- Where entries are and where they aren't, and how many octets they take.
-use Rattle.std.proofs.Common.{◌≡◌, ℕ, ◌+◌, ◌*◌, ◌≤◌, List, [], ◌∷◌, length, refl, ap, arith}
+use Rattle.std.proofs.Common.{ℕ, ◌+◌, ◌*◌, ◌≤◌, List, [], ◌∷◌, length, refl, ap, arith}
 use Rattle.octseq.specs.Integer.{be}
 use Rattle.octseq.specs.Window.{Window, left}
 use Rattle.octseq_dns_message.specs.Entry.{Question, Record, IsQuestion, IsRecord}

@@ -1,31 +1,14 @@
--- How a row of things that take octets is read one by one up to a place, and when there is none.
-use Rattle.std.proofs.Common.{◌≡◌, ℕ, ◌<◌, ◌≤◌, List, [], ◌∷◌, ◌++◌, length, refl, sym, ap, ◌∙◌, subst, arith}
+-- Rows of things that take octets, up to a place.
+use Rattle.std.proofs.Common.{◌≡◌, ℕ, List, [], ◌∷◌, refl, sym, ap, ◌∙◌, subst}
 use Rattle.std.proofs.Math.Logic.{∥∥₁_elim}
 use Rattle.std.specs.Coded.{Coded, Coded-set, coded_list}
 use mathlib.Core.HLevel.{⊥_prop}
 use Rattle.octseq.specs.Window.{Window}
-use Rattle.octseq_dns_message.specs.OneRow.{IsItem, row_on, one_row_at, Reaches, reached_once}
+use Rattle.octseq_dns_message.specs.OneRow.{IsItem, one_row_at, Reaches, reached_once}
 use Rattle.octseq_format.specs.Laws.{Relation, NoneAt}
 use Rattle.octseq_format.specs.Row.{Row}
-use Rattle.octseq_format.proofs.RowSteps.{row_more}
 
--- ---- reading up to a place
-
--- What was read so far, from a first window to a second one: a row; and where a row is at the first one and ends at the
--- place, another is ahead of the second one.
-pub record Reading {A : Type 0} (Is : Relation A) (w u : Window) (end : ℕ) : Type 0 where
-  pub read : List A
-  pub row : Row Is w read u
-  pub ahead : (all : List A) (v : Window) → Row Is w all v → v.position ≡ end → (more : List A) × Row Is u more v
-
--- before anything was read, all of the row is ahead
-pub begun : {A : Type 0} (Is : Relation A) (w : Window) (end : ℕ) → Reading Is w w end
-begun Is w end = record { read = []; row = refl; ahead = λ all v row ends. (all, row) }
-
--- nothing was
-pub begun_read : {A : Type 0} (Is : Relation A) (w : Window) (end : ℕ) → (begun Is w end).read ≡ []
-unfolding begun
-begun_read Is w end = refl
+-- ---- rows up to a place
 
 -- before the place a row goes on, and what is there is its first
 first_of : {A : Type 0} (Is : Relation A) → IsItem Is → (u x v : Window) (one : A) (row : List A)
@@ -41,58 +24,10 @@ some_of : {A : Type 0} (Is : Relation A) (u v : Window) (row : List A) → (u.po
 some_of Is u v [] before none row = before (sym (ap (λ v. v.position) row))
 some_of Is u v (y ∷ row) before none all = none y all.0 all.1
 
-none_of : {A : Type 0} (Is : Relation A) → IsItem Is → (w v : Window) (row : List A)
+-- none but the empty one ends where it begins
+pub none_of : {A : Type 0} (Is : Relation A) → IsItem Is → (w v : Window) (row : List A)
     → w.position ≡ v.position → Row Is w row v → row ≡ []
 none_of Is item w v row same all = one_row_at Is item w v w row [] (sym same) all refl
-
--- one more
-pub with_one : {A : Type 0} (Is : Relation A) → IsItem Is → (w u x : Window) (end : ℕ) (one : A)
-    → Reading Is w u end → u.position < end → Is u one x → Reading Is w x end
-with_one Is item w u x end one so_far before is = record {
-  read = so_far.read ++ one ∷ [];
-  row = row_more Is w u x so_far.read one so_far.row is;
-  ahead = λ all v row ends.
-      let more = so_far.ahead all v row ends in
-      let on = first_of Is item u x v one more.0 (λ same. omega (arith, before, ends, same)) is more.1 in
-      (on.0, on.2);
-}
-
--- it is the last that was read
-pub with_one_read : {A : Type 0} (Is : Relation A) (item : IsItem Is) (w u x : Window) (end : ℕ)
-    (one : A) (so_far : Reading Is w u end) (before : u.position < end) (is : Is u one x)
-    → (with_one Is item w u x end one so_far before is).read ≡ so_far.read ++ one ∷ []
-unfolding with_one
-with_one_read Is item w u x end one so_far before is = refl
-
--- a row that ends at the place
-abbrev pub NoneTo : {A : Type 0} → Relation A → Window → ℕ → Type 0
-NoneTo {A} Is w end = (all : List A) (v : Window) → Row Is w all v → v.position ≡ end → ⊥
-
--- there is none where nothing more is before the place
-pub no_more : {A : Type 0} (Is : Relation A) (w u : Window) (end : ℕ) → Reading Is w u end
-    → u.position < end → NoneAt Is u → NoneTo Is w end
-no_more Is w u end so_far before none all v row ends =
-    let more = so_far.ahead all v row ends in
-    some_of Is u v more.0 (λ same. omega (arith, before, ends, same)) none more.1
-
--- nor where what is there goes past it
-pub gone_past : {A : Type 0} (Is : Relation A) → IsItem Is → (w u : Window) (end : ℕ)
-    → Reading Is w u end → end < u.position → NoneTo Is w end
-gone_past Is item w u end so_far past all v row ends =
-    let more = so_far.ahead all v row ends in
-    let on = row_on Is item u v more.0 more.1 in
-    omega (arith, past, ends, on)
-
--- none but the empty one ends where it begins
-pub none_here : {A : Type 0} (Is : Relation A) → IsItem Is → (w v : Window) (row : List A)
-    → w.position ≡ v.position → Row Is w row v → length row ≡ 0
-none_here Is item w v row same all = ap length (none_of Is item w v row same all)
-
--- and the empty one ends nowhere else
-pub some_there : {A : Type 0} (Is : Relation A) (w v : Window) (row : List A)
-    → (w.position ≡ v.position → ⊥) → Row Is w row v → 1 ≤ length row
-some_there Is w v [] other row = absurd (other (sym (ap (λ v. v.position) row)))
-some_there Is w v (x ∷ row) other all = omega arith
 
 -- ---- rows that a value keeps
 

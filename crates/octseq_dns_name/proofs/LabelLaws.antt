@@ -7,8 +7,9 @@ use mathlib.Core.HLevel.{×₃_prop}
 use Rattle.octseq.specs.Window.{Window, next, past, at}
 use Rattle.octseq_dns_name.specs.Name.{HasLabel, Stands, octet}
 use Rattle.octseq_dns_name.specs.OneName.{Named}
-use Rattle.octseq_dns_name.specs.Spelling.{AreOctets, AreOctetLabels}
+use Rattle.octseq_dns_name.specs.Spelling.{AreOctetLabels}
 use Rattle.octseq_dns_name.specs.Wire.{AreLabels}
+use Rattle.octseq_format.specs.Canonical.{AreOctets, each_taken, each_dropped}
 
 labels_prop : (labels : List (List ℕ)) → IsProp (AreLabels labels)
 labels_prop [] = Unit-prop
@@ -46,22 +47,12 @@ standing_labels start w v labels pointers within (Stands.label {u = u} {l = l} {
 standing_labels start w v labels pointers within (Stands.pointer {to = to} {pointers = fewer} {u = u} has rest) =
     standing_labels to (at to w) u labels fewer within rest
 
-taken_octets : (n : ℕ) (xs : List ℕ) → AreOctets xs → AreOctets (take n xs)
-taken_octets zero xs each = tt
-taken_octets (suc n) [] each = tt
-taken_octets (suc n) (x ∷ xs) each = (each.0, taken_octets n xs each.1)
-
-dropped_octets : (n : ℕ) (xs : List ℕ) → AreOctets xs → AreOctets (drop n xs)
-dropped_octets zero xs each = each
-dropped_octets (suc n) [] each = tt
-dropped_octets (suc n) (x ∷ xs) each = dropped_octets n xs each.1
-
 standing_octets : (start : ℕ) (w v : Window) (labels : List (List ℕ)) (pointers : ℕ) → AreOctets w.octets
     → Stands start w labels pointers v → AreOctetLabels labels
 standing_octets start w v labels pointers each (Stands.root has) = tt
 standing_octets start w v labels pointers each (Stands.label {u = u} {l = l} {labels = more} has rest) =
     let inside : AreOctets u.octets = subst (λ u. AreOctets u.octets) (sym has.behind) each in (
-      subst AreOctets (sym has.octets) (taken_octets _ _ (dropped_octets _ _ each)),
+      subst AreOctets (sym has.octets) (each_taken _ _ (each_dropped _ _ each)),
       standing_octets start u v more pointers inside rest,
     )
 standing_octets start w v labels pointers each (Stands.pointer {to = to} {pointers = fewer} {u = u} has rest) =
@@ -76,8 +67,3 @@ named_labels w named within = ∥∥₁_elim named.1 (labels_prop named.0) (λ x
 pub named_octets : (w : Window) (named : Named w) → AreOctets w.octets → AreOctetLabels named.0
 named_octets w named each = ∥∥₁_elim named.1 (octet_labels_prop named.0) (λ x.
     standing_octets w.position w x.0 named.0 x.1.pointers each x.1.stands)
-
--- a slice's items are octets
-pub slice_octets : (xs : List ℕ) → ((k : ℕ) → Fits w8 (slice_index_or xs k 0)) → AreOctets xs
-slice_octets [] each = tt
-slice_octets (x ∷ xs) each = (let fits = each 0 in omega (arith, fits), slice_octets xs (λ k. each (suc k)))

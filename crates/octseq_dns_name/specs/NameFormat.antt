@@ -118,7 +118,8 @@ abbrev pub bodies : List (List ℕ) → List ℕ
 bodies = flat_map (λ label. length label ∷ label)
 
 -- a label's length and octets, followed by the wire form of others
-pub wire_more : (label : List ℕ) (labels : List (List ℕ)) → wire (label ∷ labels) ≡ length label ∷ (label ++ wire labels)
+pub wire_more : (label : List ℕ) (labels : List (List ℕ))
+    → wire (label ∷ labels) ≡ length label ∷ (label ++ wire labels)
 wire_more label labels = ap (λ l. length label ∷ l) (append_assoc label (bodies labels) (0 ∷ []))
 
 -- where the wire form of labels comes next, they are there, and what comes after them is past them

@@ -2,6 +2,7 @@
 use Rattle.std.specs.Prelude.{◌≡◌, ℕ, ◌<◌, true, false, List, [], ◌∷◌, ◌++◌}
 use Rattle.std.specs.Char.{is_ascii_digit, is_ascii_graphic}
 use Rattle.octseq_dns_name.specs.Text.{is_quoted, three_digits}
+use Rattle.octseq_format.specs.Canonical.{AreOctets}
 
 -- An octet: as itself, where it is visible ASCII and needs no backslash (92); behind a backslash, where it is no digit;
 -- or as a backslash and its number.
@@ -28,10 +29,6 @@ SpellsName [] text = text ≡ 46 ∷ []
 SpellsName (label ∷ labels) text = SpellsLabels (label ∷ labels) text
 
 -- labels are of octets, as those of every name are
-abbrev pub AreOctets : List ℕ → Type 0
-AreOctets [] = Unit {0}
-AreOctets (octet ∷ label) = (octet < 256) × AreOctets label
-
 abbrev pub AreOctetLabels : List (List ℕ) → Type 0
 AreOctetLabels [] = Unit {0}
 AreOctetLabels (label ∷ labels) = AreOctets label × AreOctetLabels labels

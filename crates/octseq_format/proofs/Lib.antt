@@ -1,4 +1,5 @@
 pub mod BitSteps
+pub mod Copies
 pub mod Nones
 pub mod Parts
 pub mod RowSteps

@@ -1,14 +1,15 @@
 -- Rows that a walk keeps, and rows that are read one by one.
 use Rattle.std.proofs.Common.{◌≡◌, ℕ, ◌+◌, ◌<◌, ◌≤◌, ◌*◌, List, [], ◌∷◌, ◌++◌, length, length-append, map, refl}
 use Rattle.std.proofs.Common.{sym, ap, ◌∙◌, subst, arith}
-use Rattle.std.proofs.Math.Logic.{∥∥₁_elim}
+use Rattle.std.proofs.Math.Logic.{∥∥₁_elim, ∥∥₁_prop}
 use Rattle.std.specs.Coded.{Coded, Coded-set, coded_list}
 use mathlib.Core.HLevel.{⊥_prop}
 use Rattle.std.proofs.Math.Nat.{mul-le-mul_left}
 use Rattle.std.proofs.lemmas.List.Sums.{sum_by_push}
 use Rattle.octseq.specs.Window.{Window, left}
 use Rattle.octseq_format.specs.Laws.{Relation, NoneAt, IsOne, IsMoving}
-use Rattle.octseq_format.specs.Row.{Row, Many, Moved, Holds, row_turns, one_row, one_many, held_once}
+use Rattle.octseq_format.specs.Row.{Row, Many, Moved, Holds, HoldsTo, row_turns, one_row, one_many, held_once}
+use Rattle.octseq_format.specs.Row.{held_to_once}
 
 -- ---- rows that are read one by one
 
@@ -106,6 +107,22 @@ held_more code Is single w u one count less held is down = ∥∥₁_elim held.1
     let on = rest_of_row Is single w u x.0 one held.0 is (omega (arith, counted, down)) x.1.1 in
     let lengths = ap length on.1 in
     (on.0, ∣ (x.0, (omega (arith, lengths, counted, down), on.2)) ∣₁))
+
+-- what is held up to a place is held
+abbrev pub holds_of : {A : Type 0} (Is : Relation A) (w : Window) (count end : ℕ) → HoldsTo Is w count end
+    → Holds Is w count
+holds_of Is w count end held = (held.0, ∥∥₁_elim held.1 ∥∥₁_prop (λ x. ∣ (x.0, x.1.0) ∣₁))
+
+-- and so is what is after the first, up to the same place
+pub held_to_more : {A : Type 0} (code : Coded A) (Is : Relation A) → IsOne Is
+    → (w u : Window) (one : A) (count less end : ℕ) (held : HoldsTo Is w count end)
+    → Is w one u → count ≡ less + 1 → HoldsTo Is u less end
+held_to_more code Is single w u one count less end held is down =
+    ∥∥₁_elim held.1 (held_to_once code Is single u less end) (λ x.
+    let counted = x.1.0.0 in
+    let on = rest_of_row Is single w u x.0 one held.0 is (omega (arith, counted, down)) x.1.0.1 in
+    let lengths = ap length on.1 in
+    (on.0, ∣ (x.0, ((omega (arith, lengths, counted, down), on.2), x.1.1)) ∣₁))
 
 -- so many were read, and those are kept
 pub held_as : {A : Type 0} (code : Coded A) (Is : Relation A) → IsOne Is

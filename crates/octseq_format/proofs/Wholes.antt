@@ -1,7 +1,7 @@
 -- All of the octets that say a thing.
 use Rattle.std.proofs.Common.{◌≡◌, ℕ, List, length, ◌-◌, take, sym, ap, ◌∙◌, subst, arith}
 use Rattle.std.proofs.Math.Seq.{take-length}
-use Rattle.octseq.specs.Window.{Window, whole}
+use Rattle.octseq.specs.Window.{whole}
 use Rattle.octseq_format.specs.Laws.{Relation, Takes, IsReadBack}
 
 -- they are read as one that says it

@@ -1,12 +1,16 @@
 -- A thing after its length, which has k octets, big-endian. The length counts `extra` octets more, those that a format
 -- has before the thing and counts with it.
 use Rattle.std.specs.Prelude.{◌≡◌, ℕ, ◌+◌, ◌-◌, ◌<◌, ◌≤◌, ◌^◌, List, ◌++◌, length, refl}
-use Rattle.std.proofs.Common.{sym, ap, ◌∙◌, subst, arith, length-append, append_assoc}
+use Rattle.std.proofs.Common.{sym, ap, ◌∙◌, subst, suc, take, drop, arith, length-append, append_assoc, append-nil}
+use Rattle.std.specs.Coded.{le_prop}
 use Rattle.octseq.specs.Integer.{be, octets_be}
 use Rattle.octseq.specs.Window.{Window, left, next, past, nested, rest, at}
 use Rattle.octseq.proofs.Behind.{front_comes_next}
+use Rattle.octseq.proofs.Windows.{next_and_rest}
 use Rattle.octseq.proofs.Written.{length_be, value_be}
-use Rattle.octseq_format.specs.Laws.{Relation, Takes, IsOne, IsOnward, IsMoving, IsReadBack, IsDelimited, back_of}
+use Rattle.octseq.proofs.WrittenBack.{small_be, as_be}
+use Rattle.octseq_format.specs.Canonical.{IsCanonical, each_next, many_next, sound_past, sound_nested}
+use Rattle.octseq_format.specs.Laws.{Relation, IsOne, IsOnward, IsReadBack, IsDelimited, back_of}
 
 -- how many octets of its own the thing has, as its length says
 abbrev pub counted_length : ℕ → ℕ → Window → ℕ
@@ -43,6 +47,13 @@ pub record CountFits {S : Type 0} (k extra : ℕ) (octets : S → List ℕ) (Fit
 pub counted_long : (k n : ℕ) (octets : List ℕ) → length (octets_be k n ++ octets) ≡ k + length octets
 counted_long k n octets =
     length-append (octets_be k n) octets ∙ ap (λ m. m + length octets) (length_be k n)
+
+count_once : {S : Type 0} (k extra : ℕ) (octets : S → List ℕ) {Fits : S → Type 0}
+    → ((said : S) → IsProp (Fits said)) → (said : S) → IsProp (CountFits k extra octets Fits said)
+count_once k extra octets once said a b =
+    ap (λ inside. record { inside = inside; count = a.count }) (once said a.inside b.inside)
+    ∙ ap (λ count. record { inside = b.inside; count = count })
+    (le_prop {n = suc (extra + length (octets said))} {m = 256 ^ k} a.count b.count)
 
 pub onward_counted : {A : Type 0} (k extra : ℕ) (Is : Relation A) → IsOnward k (Counted k extra Is)
 onward_counted k extra Is = record {
@@ -93,3 +104,32 @@ module _ {A : Type 0} {Is : Relation A} {k extra : ℕ} where
     pub counted_read_back : IsReadBack Is says octets Fits
         → IsReadBack (Counted k extra Is) says (counted_octets k extra octets) (CountFits k extra octets Fits)
     counted_read_back back = back_of (delimited_counted back)
+
+    pub canonical_counted : IsCanonical Is says octets Fits
+        → IsCanonical (Counted k extra Is) says (counted_octets k extra octets) (CountFits k extra octets Fits)
+    canonical_counted canonical = record {
+      once = count_once k extra octets canonical.once;
+      written = λ w a v sound is.
+          let n = counted_length k extra w in
+          let head = next k w in
+          let far = past k w in
+          let o = octets (says a) in
+          let after = sound_past k w sound is.0.0 in
+          let inside = canonical.written (nested n far) a _ (sound_nested n far after is.0.2) is.1 in
+          let none : far.position + n - (far.position + n) ≡ 0 = omega arith in
+          let all : next n far ≡ o =
+          inside.1 ∙ ap (λ m. o ++ take m (drop (far.position + n) w.octets)) none ∙ append-nil o in
+          let long = many_next k w sound is.0.0 in
+          let each = each_next k w sound in
+          let many = sym (ap length all) ∙ many_next n far after is.0.2 in
+          let value : extra + length o ≡ be head = omega (arith, many, is.0.1) in
+          let first : octets_be k (extra + length o) ≡ head = ap (octets_be k) value ∙ as_be k head long each in
+          let small = subst (λ m. be head < 256 ^ m) long (small_be head each) in (
+            record { inside = inside.0; count = subst (λ m. m < 256 ^ k) (sym value) small },
+            sym (next_and_rest w k is.0.0) ∙ ap (λ more. head ++ more) (sym (next_and_rest far n is.0.2))
+                ∙ sym (append_assoc head (next n far) (rest (past n far)))
+                ∙ ap (λ h. (h ++ next n far) ++ rest (past n far)) (sym first)
+                ∙ ap (λ o. (octets_be k (extra + length (octets (says a))) ++ o) ++ rest (past n far)) all
+                ∙ ap (λ v. counted_octets k extra octets (says a) ++ rest v) (sym is.2),
+          );
+    }

@@ -1,12 +1,12 @@
 -- Octets up to the first zero.
-use Rattle.std.specs.Prelude.{◌≡◌, ℕ, zero, suc, ◌+◌, ◌-◌, ◌<◌, ◌≤◌, List, [], ◌∷◌, ◌++◌, length, slice_index, refl}
-use Rattle.std.proofs.Common.{sym, ap, ◌∙◌, subst, arith, length-append, append_assoc}
+use Rattle.std.specs.Prelude.{◌≡◌, ℕ, zero, suc, ◌+◌, ◌-◌, ◌<◌, List, [], ◌∷◌, ◌++◌, length, slice_index, refl}
+use Rattle.std.proofs.Common.{sym, ap, ◌∙◌, arith, length-append, append_assoc}
 use Rattle.std.proofs.Math.ListN.{get_or-append}
 use Rattle.std.proofs.Math.Seq.{get_or-append_seam}
-use Rattle.octseq.specs.Window.{Window, left, rest, next, nested, past, at}
+use Rattle.octseq.specs.Window.{Window, left, rest, nested, past}
 use Rattle.octseq.proofs.Behind.{front_comes_next}
 use Rattle.octseq.proofs.Codes.{length_rest}
-use Rattle.octseq_format.specs.Laws.{Relation, IsOne, IsOnward, IsMoving, IsReadBack, IsDelimited, back_of}
+use Rattle.octseq_format.specs.Laws.{Relation, IsOne, IsOnward, IsReadBack, IsDelimited, back_of}
 
 -- none of the first n octets is zero
 abbrev pub NoneIsZero : List ℕ → ℕ → Type 0

@@ -1,12 +1,16 @@
 -- A number that is fixed.
-use Rattle.std.specs.Prelude.{◌≡◌, ℕ, ◌<◌, ◌≤◌, ◌^◌, List, ◌++◌, length, refl}
-use Rattle.std.proofs.Common.{sym, ap, ◌∙◌, arith}
+use Rattle.std.specs.Prelude.{◌≡◌, ℕ, ◌<◌, ◌≤◌, ◌^◌, ◌++◌, refl}
+use Rattle.std.proofs.Common.{sym, ap, ◌∙◌, subst, suc, arith}
+use Rattle.std.specs.Coded.{le_prop}
 pub use base.Stored.{coded_unit}
 use Rattle.octseq.specs.Integer.{be, octets_be}
-use Rattle.octseq.specs.Window.{Window, left, next, past}
+use Rattle.octseq.specs.Window.{Window, left, next, rest, past}
 use Rattle.octseq.proofs.Behind.{front_comes_next}
+use Rattle.octseq.proofs.Windows.{next_and_rest}
 use Rattle.octseq.proofs.Written.{length_be, value_be}
-use Rattle.octseq_format.specs.Laws.{Relation, IsOne, IsOnward, IsMoving, IsReadBack, IsDelimited, back_of}
+use Rattle.octseq.proofs.WrittenBack.{small_be, as_be}
+use Rattle.octseq_format.specs.Canonical.{IsCanonical, each_next, many_next}
+use Rattle.octseq_format.specs.Laws.{Relation, IsOne, IsOnward, IsReadBack, IsDelimited, back_of}
 
 -- n, in k octets, big-endian
 abbrev pub IsExactly : ℕ → ℕ → Relation (Unit {0})
@@ -43,3 +47,17 @@ module _ (k n : ℕ) where
 
   pub exactly_read_back : IsReadBack (IsExactly k n) (λ a. a) (λ _. octets_be k n) (λ _. n < 256 ^ k)
   exactly_read_back = back_of delimited_exactly
+
+  pub canonical_exactly : IsCanonical (IsExactly k n) (λ a. a) (λ _. octets_be k n) (λ _. n < 256 ^ k)
+  canonical_exactly = record {
+    once = λ _. le_prop {n = suc n} {m = 256 ^ k};
+    written = λ w a v sound is.
+        let xs = next k w in
+        let many = many_next k w sound is.0 in
+        let each = each_next k w sound in (
+          subst (λ m. m < 256 ^ k) is.1 (subst (λ m. be xs < 256 ^ m) many (small_be xs each)),
+          sym (next_and_rest w k is.0)
+              ∙ ap (λ o. o ++ rest (past k w)) (sym (as_be k xs many each) ∙ ap (octets_be k) is.1)
+              ∙ ap (λ v. octets_be k n ++ rest v) (sym is.2),
+        );
+  }

@@ -1,18 +1,23 @@
 -- A thing of so many octets, whatever they are.
-use Rattle.std.specs.Prelude.{◌≡◌, ℕ, ◌<◌, ◌≤◌, List, ◌++◌, length, refl}
-use Rattle.std.proofs.Common.{sym, ap, ◌∙◌, arith}
-use Rattle.octseq.specs.Window.{Window, left, next, past}
+use Rattle.std.specs.Prelude.{◌≡◌, ℕ, ◌≤◌, List, ◌++◌, length, refl}
+use Rattle.std.proofs.Common.{sym, ap, ◌∙◌, subst, arith}
+use Rattle.octseq.specs.Window.{Window, left, next, rest, past}
 use Rattle.octseq.proofs.Behind.{front_comes_next}
-use Rattle.octseq_format.specs.Laws.{Relation, IsOne, IsOnward, IsMoving, IsReadBack, IsDelimited, back_of}
+use Rattle.octseq.proofs.Windows.{next_and_rest}
+use Rattle.octseq_format.specs.Canonical.{AreOctets, IsCanonical, each_next, many_next}
+use Rattle.octseq_format.specs.Laws.{Relation, IsOne, IsOnward, IsReadBack, IsDelimited, back_of}
 
 -- the next k octets, by what they are read as
 abbrev pub IsFixed : {A : Type 0} → ℕ → (List ℕ → A) → Relation A
 IsFixed k reading w a v = (k ≤ left w) × (a ≡ reading (next k w)) × (v ≡ past k w)
 
--- The octets of a thing that fits are k, and are read as it.
+-- The octets of a thing that fits are k, and are read as it. Any k octets are read as a thing that fits, in one way,
+-- and are its octets.
 pub record AreFixed {A : Type 0} (k : ℕ) (reading : List ℕ → A) (octets : A → List ℕ) (Fits : A → Type 0) : Type 0 where
   pub many : (a : A) → Fits a → length (octets a) ≡ k
   pub back : (a : A) → Fits a → reading (octets a) ≡ a
+  pub once : (a : A) → IsProp (Fits a)
+  pub written : (xs : List ℕ) → length xs ≡ k → AreOctets xs → Fits (reading xs) × (octets (reading xs) ≡ xs)
 
 module _ {A : Type 0} (k : ℕ) (reading : List ℕ → A) where
   pub one_fixed : IsOne (IsFixed k reading)
@@ -46,3 +51,14 @@ module _ {A : Type 0} {k : ℕ} {reading : List ℕ → A} {octets : A → List 
 
   pub fixed_read_back : AreFixed k reading octets Fits → IsReadBack (IsFixed k reading) (λ a. a) octets Fits
   fixed_read_back are = back_of (delimited_fixed are)
+
+  pub canonical_fixed : AreFixed k reading octets Fits → IsCanonical (IsFixed k reading) (λ a. a) octets Fits
+  canonical_fixed are = record {
+    once = are.once;
+    written = λ w a v sound is.
+        let told = are.written (next k w) (many_next k w sound is.0) (each_next k w sound) in (
+          subst Fits (sym is.1) told.0,
+          sym (next_and_rest w k is.0) ∙ ap (λ o. o ++ rest (past k w)) (sym told.1 ∙ ap octets (sym is.1))
+              ∙ ap (λ v. octets a ++ rest v) (sym is.2),
+        );
+  }

@@ -1,9 +1,12 @@
 -- Integers of one width and sign, and their octets in both orders.
-use Rattle.std.specs.Prelude.{◌≡◌, ℕ, ℤ, ◌<◌, ◌^◌, List, length, refl}
-use Rattle.std.proofs.Common.{ap, ◌∙◌}
-use Rattle.std.specs.Coded.{Coded, coded_ℕ, coded_ℤ}
+use Rattle.std.specs.Prelude.{◌≡◌, ℕ, suc, ℤ, pos, negsuc, ◌-◌, ◌*◌, ◌<◌, ◌≤◌, ◌^◌, List, refl}
+use Rattle.std.proofs.Common.{ap, sym, ◌∙◌, subst, arith}
+use Rattle.std.proofs.Math.Decide.{dec_le}
+use Rattle.std.proofs.Math.Nat.{lt_of_not-le}
+use Rattle.std.specs.Coded.{Coded, coded_ℕ, coded_ℤ, le_prop}
 use Rattle.octseq.specs.Integer.{be, le, signed, octets_be, octets_le, IsSigned, unsigned}
 use Rattle.octseq.proofs.Written.{length_be, length_le, value_be, value_le, signed_unsigned}
+use Rattle.octseq.proofs.WrittenBack.{small_be, small_le, as_be, as_le}
 use Rattle.octseq_format.specs.Fixed.{AreFixed}
 
 -- A kind of integers: how many octets they have, how those are read and written, big-endian and little-endian, and
@@ -22,7 +25,53 @@ pub record Kind : Type 1 where
 
 -- the octets of unsigned integers, big-endian
 pub are_be : (k : ℕ) → AreFixed k be (octets_be k) (λ n. n < 256 ^ k)
-are_be k = record { many = λ n _. length_be k n; back = λ n fits. value_be k n fits }
+are_be k = record {
+  many = λ n _. length_be k n;
+  back = λ n fits. value_be k n fits;
+  once = λ n. le_prop {n = suc n} {m = 256 ^ k};
+  written = λ xs many each. (subst (λ m. be xs < 256 ^ m) many (small_be xs each), as_be k xs many each);
+}
+
+-- little-endian
+pub are_le : (k : ℕ) → AreFixed k le (octets_le k) (λ n. n < 256 ^ k)
+are_le k = record {
+  many = λ n _. length_le k n;
+  back = λ n fits. value_le k n fits;
+  once = λ n. le_prop {n = suc n} {m = 256 ^ k};
+  written = λ xs many each. (subst (λ m. le xs < 256 ^ m) many (small_le xs each), as_le k xs many each);
+}
+
+signed_once : (k : ℕ) (z : ℤ) → IsProp (IsSigned k z)
+signed_once k (pos n) = le_prop {n = suc (2 * n)} {m = 256 ^ k}
+signed_once k (negsuc n) = le_prop {n = 2 * suc n} {m = 256 ^ k}
+
+-- what fits k octets is the sum of those of a signed integer
+summed : (k n : ℕ) → Dec (256 ^ k ≤ 2 * n) → n < 256 ^ k → (z : ℤ) × IsSigned k z × (unsigned k z ≡ n)
+unfolding unsigned
+summed k n (yes big) fits = (negsuc (256 ^ k - suc n), omega (arith, big, fits), omega (arith, fits))
+summed k n (no small) fits = (pos n, lt_of_not-le small, refl)
+
+-- so it is the sum of those of the signed integer that it is read as
+signed_written : (k n : ℕ) → n < 256 ^ k → IsSigned k (signed k n) × (unsigned k (signed k n) ≡ n)
+signed_written k n fits =
+    let sum = summed k n (dec_le (256 ^ k) (2 * n)) fits in
+    let back : sum.0 ≡ signed k n = sym (signed_unsigned k sum.0 sum.1).1 ∙ ap (signed k) sum.2 in
+    (subst (IsSigned k) back sum.1, ap (unsigned k) (sym back) ∙ sum.2)
+
+-- the octets of signed integers, from those of unsigned ones
+pub are_signed : (k : ℕ) {reading : List ℕ → ℕ} {octets : ℕ → List ℕ} → AreFixed k reading octets (λ n. n < 256 ^ k)
+    → AreFixed k (λ xs. signed k (reading xs)) (λ z. octets (unsigned k z)) (IsSigned k)
+are_signed k {reading} {octets} are = record {
+  many = λ z fits. are.many (unsigned k z) (signed_unsigned k z fits).0;
+  back = λ z fits.
+      let sum = signed_unsigned k z fits in
+      ap (signed k) (are.back (unsigned k z) sum.0) ∙ sum.1;
+  once = signed_once k;
+  written = λ xs many each.
+      let told = are.written xs many each in
+      let sum = signed_written k (reading xs) told.0 in
+      (sum.0, ap octets sum.1 ∙ told.1);
+}
 
 -- unsigned integers of k octets
 abbrev pub unsigned_kind : ℕ → Kind
@@ -36,7 +85,7 @@ unsigned_kind k = record {
   octets_le = octets_le k;
   Fits = λ n. n < 256 ^ k;
   are_be = are_be k;
-  are_le = record { many = λ n _. length_le k n; back = λ n fits. value_le k n fits };
+  are_le = are_le k;
 }
 
 -- signed integers of k octets
@@ -50,18 +99,8 @@ signed_kind k = record {
   octets_be = λ z. octets_be k (unsigned k z);
   octets_le = λ z. octets_le k (unsigned k z);
   Fits = IsSigned k;
-  are_be = record {
-    many = λ z _. length_be k (unsigned k z);
-    back = λ z fits.
-        let sum = signed_unsigned k z fits in
-        ap (signed k) (value_be k (unsigned k z) sum.0) ∙ sum.1;
-  };
-  are_le = record {
-    many = λ z _. length_le k (unsigned k z);
-    back = λ z fits.
-        let sum = signed_unsigned k z fits in
-        ap (signed k) (value_le k (unsigned k z) sum.0) ∙ sum.1;
-  };
+  are_be = are_signed k (are_be k);
+  are_le = are_signed k (are_le k);
 }
 
 -- the same of one octet, which both orders read alike

@@ -1,4 +1,5 @@
 pub mod Bits
+pub mod Canonical
 pub mod Case
 pub mod Counted
 pub mod Either

@@ -1,7 +1,7 @@
 -- A thing at the end of a window, or nothing.
 use Rattle.std.specs.Prelude.{◌≡◌, ℕ, ◌+◌, ◌<◌, ◌≤◌, Option, Some, None, List, [], length, refl}
-use Rattle.std.proofs.Common.{sym, ap, ◌∙◌, subst, arith}
-use Rattle.octseq.specs.Window.{Window, left, rest, at, past}
+use Rattle.std.proofs.Common.{sym, ap, ◌∙◌, arith}
+use Rattle.octseq.specs.Window.{Window, left, rest, at}
 use Rattle.octseq_format.specs.Laws.{Relation, Takes, IsOne, IsOnward, IsReadBack}
 
 -- nothing where nothing is left, and else the thing

@@ -1,10 +1,11 @@
 -- One thing, followed by another.
-use Rattle.std.specs.Prelude.{◌≡◌, ℕ, ◌+◌, ◌*◌, ◌<◌, ◌≤◌, ◌^◌, List, ◌++◌, length, refl}
+use Rattle.std.specs.Prelude.{◌≡◌, ℕ, ◌+◌, ◌<◌, List, ◌++◌, length, refl}
 use Rattle.std.proofs.Common.{sym, ap, ◌∙◌, subst, arith, length-append, append_assoc}
 use Rattle.std.specs.Coded.{Coded, coded×}
-use Rattle.octseq.specs.Window.{Window, left, rest, at, past}
+use Rattle.octseq.specs.Window.{Window, rest, at, past}
 use Rattle.octseq.proofs.Behind.{front_comes_next}
-use Rattle.octseq_format.specs.Laws.{Relation, Takes, IsOne, IsOnward, IsMoving, IsReadBack, IsDelimited}
+use Rattle.octseq_format.specs.Canonical.{IsCanonical, sound_on}
+use Rattle.octseq_format.specs.Laws.{Relation, Takes, IsOne, IsOnward, IsReadBack, IsDelimited}
 
 infixr 5 ◌then◌
 abbrev pub ◌then◌ : {A B : Type 0} → Relation A → Relation B → Relation (A × B)
@@ -34,6 +35,12 @@ pub record BothFit {A B : Type 0} (First : A → Type 0) (Second : B → Type 0)
 infixr 5 ◌also◌
 abbrev pub ◌also◌ : {A B : Type 0} → (A → Type 0) → (B → Type 0) → A × B → Type 0
 First also Second = BothFit First Second
+
+fit_once : {A B : Type 0} {First : A → Type 0} {Second : B → Type 0} → ((a : A) → IsProp (First a))
+    → ((b : B) → IsProp (Second b)) → (both : A × B) → IsProp ((First also Second) both)
+fit_once one two both a b =
+    ap (λ first. record { first = first; second = a.second }) (one both.0 a.first b.first)
+    ∙ ap (λ second. record { first = b.first; second = second }) (two both.1 a.second b.second)
 
 infixr 5 ◌plus◌
 -- the turns of both
@@ -126,4 +133,19 @@ module _ {A B : Type 0} {First : Relation A} {Second : Relation B} where
             let long : length (x ++ y) ≡ length x + length y = length-append x y in
             both_taken w said x y (one.next w said.0 y fits.first is)
             (two.back (past (length x) w) said.1 fits.second come.2 (omega (arith, all, long)));
+      }
+
+      pub canonical_then : {m : ℕ} → IsOnward m First → IsCanonical First says first FirstFits
+          → IsCanonical Second tells second SecondFits
+          → IsCanonical (First then Second) (says and tells) (first before second) (FirstFits also SecondFits)
+      unfolding both_octets both_say
+      canonical_then onward one two = record {
+        once = fit_once one.once two.once;
+        written = λ w a v sound is.
+            let here = one.written w a.0 is.0 sound is.1 in
+            let there = two.written is.0 a.1 v (sound_on onward w a.0 is.0 sound is.1) is.2 in
+            let x = first (says a.0) in (
+              record { first = here.0; second = there.0 },
+              here.1 ∙ ap (λ o. x ++ o) there.1 ∙ sym (append_assoc x (second (tells a.1)) (rest v)),
+            );
       }

@@ -1,5 +1,5 @@
 -- Octets after their length, which has k octets, big-endian, as a parser takes them.
-use Rattle.std.specs.Prelude.{◌≡◌, ℕ, ◌+◌, ◌≤◌}
+use Rattle.std.specs.Prelude.{◌≡◌, ℕ}
 use Rattle.std.proofs.Common.{sym, ap, ◌∙◌, arith}
 use Rattle.octseq.specs.Part.{HasPart, part, past_part}
 use Rattle.octseq.specs.Window.{Window, left}

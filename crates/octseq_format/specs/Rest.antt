@@ -1,8 +1,9 @@
 -- All octets up to the end of a window.
-use Rattle.std.specs.Prelude.{◌≡◌, ℕ, ◌+◌, ◌-◌, ◌<◌, ◌≤◌, ◌^◌, List, length, refl}
-use Rattle.std.proofs.Common.{sym, ap, ◌∙◌, arith}
-use Rattle.std.specs.Coded.{Coded, code_by, coded_list, coded×, coded_ℕ}
+use Rattle.std.specs.Prelude.{◌≡◌, ℕ, ◌+◌, ◌-◌, ◌≤◌, List, length, refl}
+use Rattle.std.proofs.Common.{sym, ap, ◌∙◌, arith, take, drop, [], ◌++◌, append-nil}
+use Rattle.std.specs.Coded.{Coded, code_by, coded_list, coded×, coded_ℕ, Unit-prop}
 use Rattle.octseq.specs.Window.{Window, left, rest, past}
+use Rattle.octseq_format.specs.Canonical.{IsCanonical}
 use Rattle.octseq_format.specs.Laws.{Relation, IsOne, IsOnward, IsReadBack}
 
 -- the window of what is left
@@ -36,4 +37,20 @@ rest_read_back = record {
   back = λ w said fits is all.
       let many : left w ≡ length said = omega (arith, all) in
       record { it = w; tells = is; is = (refl, ap (λ n. past n w) (sym many)) };
+}
+
+-- nothing is left after it
+pub nothing_left : (w v : Window) → w.position ≤ w.end → v ≡ past (left w) w → rest v ≡ []
+nothing_left w v ordered is =
+    let none : w.end - (w.position + left w) ≡ 0 = omega (arith, ordered) in
+    ap rest is ∙ ap (λ n. take n (drop (w.position + left w) w.octets)) none
+
+pub canonical_rest : IsCanonical IsRest rest (λ octets. octets) (λ _. Unit {0})
+canonical_rest = record {
+  once = λ _. Unit-prop;
+  written = λ w inside v sound is. (
+    tt,
+    ap rest (sym is.0) ∙ sym (append-nil (rest inside)) ∙ ap (λ more. rest inside ++ more)
+        (sym (nothing_left w v sound.ordered is.1)),
+  );
 }

@@ -1,16 +1,19 @@
 -- Things of one kind, one after another.
 use Rattle.std.specs.Prelude.{◌≡◌, ℕ, ◌+◌, ◌<◌, ◌≤◌, ◌^◌, List, [], ◌∷◌, ◌++◌, length, map, refl}
-use Rattle.std.proofs.Common.{sym, ap, ◌∙◌, subst, arith, length-append, append_assoc, append-nil}
+use Rattle.std.proofs.Common.{sym, ap, ◌∙◌, subst, suc, arith, length-append, append_assoc, append-nil}
 use Rattle.std.proofs.lemmas.List.{length-map}
 use Rattle.std.proofs.lemmas.List.Concat.{flat_map-cons}
 use Rattle.std.proofs.Math.Logic.{∥∥₁_prop, ∥∥₁_elim}
-use Rattle.std.specs.Coded.{Coded, Coded-set, coded_list}
+use Rattle.std.specs.Coded.{Coded, Coded-set, coded_list, le_prop, ×_prop, Unit-prop}
 use Rattle.std.specs.List.{AllByRecursion, flat_map, sum_by}
 use mathlib.Core.HLevel.{Σ_prop_path}
 use Rattle.octseq.specs.Integer.{be, octets_be}
 use Rattle.octseq.specs.Window.{Window, left, next, rest, at, past}
 use Rattle.octseq.proofs.Behind.{front_comes_next}
+use Rattle.octseq.proofs.Windows.{next_and_rest}
+use Rattle.octseq.proofs.WrittenBack.{small_be, as_be}
 use Rattle.octseq.proofs.Written.{length_be, value_be}
+use Rattle.octseq_format.specs.Canonical.{IsSound, IsCanonical, sound_on, sound_past, each_next, many_next}
 use Rattle.octseq_format.specs.Laws.{Relation, Takes, IsOne, IsOnward, IsMoving, IsReadBack, IsDelimited, back_of}
 
 abbrev pub Row : {A : Type 0} → Relation A → Relation (List A)
@@ -21,9 +24,17 @@ Row Is w (one ∷ more) v = (u : Window) × Is w one u × Row Is u more v
 abbrev pub Many : {A : Type 0} → ℕ → Relation A → Relation (List A)
 Many count Is w row v = (length row ≡ count) × Row Is w row v
 
+-- so many of them, up to a place
+abbrev pub ManyTo : {A : Type 0} → ℕ → ℕ → Relation A → Relation (List A)
+ManyTo count end Is w row v = Many count Is w row v × (v.position ≡ end)
+
 -- so many of them are there, and these are they
 abbrev pub Holds : {A : Type 0} → Relation A → Window → ℕ → Type 0
 Holds {A} Is w count = (row : List A) × ∥ ((end : Window) × Many count Is w row end) ∥₁
+
+-- and this is the place past them
+abbrev pub HoldsTo : {A : Type 0} → Relation A → Window → ℕ → ℕ → Type 0
+HoldsTo {A} Is w count end = (row : List A) × ∥ ((v : Window) × ManyTo count end Is w row v) ∥₁
 
 -- as many as a count says, which has k octets, big-endian
 abbrev pub Times : {A : Type 0} → ℕ → Relation A → Relation (List A)
@@ -87,6 +98,13 @@ held_once {A} code Is one w count a b =
     let set : IsProp (a.0 ≡ b.0) = Coded-set (coded_list code) a.0 b.0 in
     Σ_prop_path (λ row. ∥∥₁_prop)
     (∥∥₁_elim a.1 set (λ x. ∥∥₁_elim b.1 set (λ y. ((one_many count Is one).same w a.0 b.0 x.0 y.0 x.1 y.1).0)))
+
+pub held_to_once : {A : Type 0} (code : Coded A) (Is : Relation A) → IsOne Is → (w : Window) (count end : ℕ)
+    → IsProp (HoldsTo Is w count end)
+held_to_once {A} code Is one w count end a b =
+    let set : IsProp (a.0 ≡ b.0) = Coded-set (coded_list code) a.0 b.0 in
+    Σ_prop_path (λ row. ∥∥₁_prop)
+    (∥∥₁_elim a.1 set (λ x. ∥∥₁_elim b.1 set (λ y. ((one_many count Is one).same w a.0 b.0 x.0 y.0 x.1.0 y.1.0).0)))
 
 -- ---- rows of things that take octets
 
@@ -240,3 +258,64 @@ module _ {A S : Type 0} (Is : Relation A) (says : A → S) (octets : S → List 
         let row = row_next w said [] fits (is ∙ sym (append-nil (row_octets octets said))) in
         record { it = row.it; tells = row.tells; is = (row.is, omega (arith, all)) };
   }
+
+-- ---- written as they were read
+
+pub each_once : {S : Type 0} {Fits : S → Type 0} → ((said : S) → IsProp (Fits said)) → (said : List S)
+    → IsProp (AllByRecursion Fits said)
+each_once once [] = Unit-prop
+each_once once (one ∷ said) = ×_prop (once one) (each_once once said)
+
+times_once : {S : Type 0} (k : ℕ) {Fits : S → Type 0} → ((said : S) → IsProp (Fits said)) → (said : List S)
+    → IsProp (TimesFit k Fits said)
+times_once k once said a b =
+    ap (λ each. record { each = each; count = a.count }) (each_once once said a.each b.each)
+    ∙ ap (λ count. record { each = b.each; count = count })
+    (le_prop {n = suc (length said)} {m = 256 ^ k} a.count b.count)
+
+module _ {A S : Type 0} {Is : Relation A} {says : A → S} {octets : S → List ℕ} {Fits : S → Type 0} {least : ℕ}
+    (onward : IsOnward least Is) (canonical : IsCanonical Is says octets Fits) where
+  pub row_written : (w : Window) (row : List A) (v : Window) → IsSound w → Row Is w row v
+      → AllByRecursion Fits (map says row) × (rest w ≡ row_octets octets (map says row) ++ rest v)
+  row_written w [] v sound is = (tt, ap rest (sym is))
+  row_written w (x ∷ row) v sound is =
+      let here = canonical.written w x is.0 sound is.1 in
+      let there = row_written is.0 row v (sound_on onward w x is.0 sound is.1) is.2 in
+      let o = octets (says x) in
+      let more = row_octets octets (map says row) in (
+        (here.0, there.0),
+        here.1 ∙ ap (λ more. o ++ more) there.1 ∙ sym (append_assoc o more (rest v))
+            ∙ ap (λ all. all ++ rest v) (sym (flat_map-cons octets (says x) (map says row))),
+      )
+
+  pub canonical_to : IsCanonical (RowTo Is) (map says) (row_octets octets) (AllByRecursion Fits)
+  canonical_to = record {
+    once = each_once canonical.once;
+    written = λ w row v sound is. row_written w row v sound is.0;
+  }
+
+  pub canonical_times : (k : ℕ)
+      → IsCanonical (Times k Is) (map says) (times_octets k octets) (TimesFit k Fits)
+  canonical_times k = record {
+    once = times_once k canonical.once;
+    written = λ w row v sound is.
+        let head = next k w in
+        let o = row_octets octets (map says row) in
+        let there = row_written (past k w) row v (sound_past k w sound is.0) is.1.1 in
+        let long = many_next k w sound is.0 in
+        let each = each_next k w sound in
+        let many : length (map says row) ≡ be head = length-map row says ∙ is.1.0 in
+        let first : octets_be k (length (map says row)) ≡ head = ap (octets_be k) many ∙ as_be k head long each in
+        let small = subst (λ m. be head < 256 ^ m) long (small_be head each) in (
+          record { each = there.0; count = subst (λ m. m < 256 ^ k) (sym many) small },
+          sym (next_and_rest w k is.0) ∙ ap (λ more. head ++ more) there.1 ∙ sym (append_assoc head o (rest v))
+              ∙ ap (λ h. (h ++ o) ++ rest v) (sym first),
+        );
+  }
+
+pub canonical_moved : {A S : Type 0} {Is : Relation A} {says : A → S} {octets : S → List ℕ} {Fits : S → Type 0}
+    → IsCanonical Is says octets Fits → IsCanonical (Moved Is) says octets Fits
+canonical_moved canonical = record {
+  once = canonical.once;
+  written = λ w a v sound is. canonical.written w a v sound is.0;
+}

@@ -1,6 +1,5 @@
 -- All octets up to the end of a window, which are a text.
-use Rattle.std.specs.Prelude.{◌≡◌, ℕ, List, length, refl}
-use Rattle.std.proofs.Common.{sym, subst}
+use Rattle.std.specs.Prelude.{ℕ, List}
 use Rattle.octseq.specs.Text.{IsWellFormed}
 use Rattle.octseq.specs.Window.{Window, rest}
 use Rattle.octseq_format.specs.Laws.{Relation, IsOne, IsOnward, IsReadBack}

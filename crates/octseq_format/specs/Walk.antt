@@ -1,5 +1,5 @@
 -- What contracts see of a walk over things of one kind.
-use Rattle.std.specs.Prelude.{ℕ, List}
+use Rattle.std.specs.Prelude.{List}
 use Rattle.octseq.specs.declared.AsOctets.{Ghosts as OctetsGhosts}
 use Rattle.octseq_format.specs.declared.walk.Walk.{Walk}
 use Rattle.octseq_format.specs.declared.format.Format.{Ghosts}

@@ -1,8 +1,7 @@
 -- A thing that meets a test.
-use Rattle.std.specs.Prelude.{ℕ, List, ◌++◌, length}
+use Rattle.std.specs.Prelude.{ℕ, List}
 use Rattle.std.proofs.Common.{sym, subst}
-use Rattle.octseq.specs.Window.{Window, rest}
-use Rattle.octseq_format.specs.Laws.{Relation, IsOne, IsOnward, IsMoving, IsReadBack, IsDelimited}
+use Rattle.octseq_format.specs.Laws.{Relation, IsOne, IsOnward, IsReadBack, IsDelimited}
 
 -- what it says meets the test
 abbrev pub IsWhere : {A S : Type 0} → Relation A → (A → S) → (S → Type 0) → Relation A

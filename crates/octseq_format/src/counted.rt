@@ -277,6 +277,11 @@ impl<R: AsOctets + Copy, L: Length, A: Format<R>, const EXTRA: usize> Format<R>
     }
 
     #[inline(always)]
+    fn is_canonical() -> bool {
+        A::is_canonical()
+    }
+
+    #[inline(always)]
     #[tactic(auto, using(crate::specs::Counted::counted_long))]
     fn compose_len(value: &A::Value) -> Option<usize> {
         L::whole_len(A::compose_len(value)?, EXTRA)

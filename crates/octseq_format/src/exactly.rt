@@ -62,6 +62,11 @@ impl<R: AsOctets + Copy, L: Length, const N: usize> Format<R> for Exactly<L, N> 
     }
 
     #[inline(always)]
+    fn is_canonical() -> bool {
+        true
+    }
+
+    #[inline(always)]
     #[tactic(auto, using(octseq::proofs::Written::length_be))]
     fn compose_len(_value: &()) -> Option<usize> {
         L::count_len(N, 0)

@@ -73,6 +73,11 @@ impl<R: AsOctets + Copy, S: Fields<R>> Format<R> for Of<S> {
     }
 
     #[inline(always)]
+    fn is_canonical() -> bool {
+        S::Format::is_canonical()
+    }
+
+    #[inline(always)]
     fn compose_len(value: &S) -> Option<usize> {
         S::Format::compose_len(&value.to_fields())
     }

@@ -6,6 +6,7 @@ ghost use Rattle.octseq.specs.Limit.{IsPast, IsWithin};
 ghost use Rattle.octseq.specs.Parser.{window, sequence};
 ghost use Rattle.octseq.specs.Refusal.{IsShort, IsMemory, IsTooLong, compose_error};
 ghost use Rattle.octseq.specs.Window.{Window, left, whole, past};
+ghost use Rattle.octseq_format.specs.Canonical.{IsCanonical};
 ghost use Rattle.octseq_format.specs.Laws.{Relation, IsOne, IsOnward, IsReadBack, IsDelimited, HasOctets};
 ghost use Rattle.octseq_format.specs.Turns.{TakesTurns};
 
@@ -75,6 +76,14 @@ pub trait Format<R: AsOctets + Copy> {
     /// How many octets a thing takes at least.
     fn least_len() -> usize
         ensures { result ≤ least };
+
+    /// Whether a thing is said in one way: then what was read is written as the octets that it was read from. `false`
+    /// where that isn't known.
+    fn is_canonical() -> bool
+        ensures { IsTrue result → IsCanonical is_at says octets fits }
+    {
+        false
+    }
 
     /// How many octets say a value, or `None` where none do: where a length doesn't fit its number, or there are more
     /// than a `usize` counts.

@@ -536,6 +536,11 @@ impl<R: AsOctets + Copy, T: Integer> Format<R> for Be<T> {
     }
 
     #[inline(always)]
+    fn is_canonical() -> bool {
+        true
+    }
+
+    #[inline(always)]
     fn compose_len(value: &T::Value) -> Option<usize> {
         if T::fits(*value) {
             Some(T::width())
@@ -612,6 +617,11 @@ impl<R: AsOctets + Copy, T: Integer> Format<R> for Le<T> {
     #[inline(always)]
     fn least_len() -> usize {
         T::width()
+    }
+
+    #[inline(always)]
+    fn is_canonical() -> bool {
+        true
     }
 
     #[inline(always)]

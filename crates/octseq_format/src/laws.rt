@@ -1,10 +1,18 @@
 //! What holds of every format. Each law is the contract of a function that does nothing.
 ghost use Rattle.std.specs.Prelude.{◌≡◌, ℕ, List, ◌++◌, length};
+ghost use Rattle.octseq_format.specs.Canonical.{AreOctets};
 ghost use Rattle.octseq_format.specs.Laws.{HasOctets};
 ghost use Rattle.octseq.specs.Window.{Window, rest, past, whole};
 
 use crate::format::{Delimited, Format};
 use octseq::AsOctets;
+
+/// What a slice has are octets.
+pub fn are_octets(octets: &[u8])
+    ensures { AreOctets octets.now }
+{
+    let _octets = octets;
+}
 
 /// One thing is at a place at most, with one end.
 pub fn one_reading<R: AsOctets + Copy, F: Format<R>>()

@@ -31,7 +31,7 @@ pub use integers::{
     Be, I8, I16Be, I16Le, I32Be, I32Le, I64Be, I64Le, I128Be, I128Le, Integer, Le, U8, U16Be,
     U16Le, U24, U24Be, U24Le, U32Be, U32Le, U48, U48Be, U48Le, U64Be, U64Le, U128Be, U128Le,
 };
-pub use laws::{next_is_read_back, one_reading, parse_composed, whole_is_read_back};
+pub use laws::{are_octets, next_is_read_back, one_reading, parse_composed, whole_is_read_back};
 pub use octets::{Octets, Rest};
 pub use optional::Optional;
 pub use rows::{Repeated, Times, parse_many};

@@ -56,6 +56,11 @@ impl<R: AsOctets + Copy> Format<R> for Rest {
     }
 
     #[inline(always)]
+    fn is_canonical() -> bool {
+        true
+    }
+
+    #[inline(always)]
     fn compose_len(value: &Parser<R>) -> Option<usize> {
         Some(value.remaining())
     }
@@ -121,6 +126,11 @@ impl<R: AsOctets + Copy, const N: usize> Format<R> for Octets<N> {
     #[inline(always)]
     fn least_len() -> usize {
         N
+    }
+
+    #[inline(always)]
+    fn is_canonical() -> bool {
+        true
     }
 
     #[inline(always)]

@@ -71,7 +71,7 @@ pub fn parse_many<R: AsOctets + Copy, F: Moving<R>>(
     let mut ahead = first;
     pass_many::<R, F>(&mut ahead, count, turns)?;
     *parser = ahead;
-    Ok(Walk::at(first, count))
+    Ok(Walk::at(first, count, ahead.pos()))
 }
 
 /// Takes all up to the end of the window, and tells how many they are.
@@ -110,6 +110,9 @@ fn items_len<R: AsOctets + Copy, F: Format<R>>(walk: Walk<R, F>) -> Option<usize
     ensures none { IsNone result
         → ¬ HasOctets (row_octets F.octets) (AllByRecursion F.fits) (map F.says (items_left walk)) }
 {
+    if F::is_canonical() {
+        return Some(walk.as_slice().len());
+    }
     let mut len = 0_usize;
     for item in walk {
         len = len.checked_add(F::compose_len(&item)?)?;
@@ -131,6 +134,11 @@ fn put_items<B: OctetsBuilder + Truncate, R: AsOctets + Copy, F: Format<R>>(
     ensures memory { IsErr result → B.asks ≡ true }
     ensures borrows { B.borrows builder.new ≡ B.borrows builder.old }
 {
+    if F::is_canonical() {
+        return builder
+            .append_slice(walk.as_slice())
+            .map_err(|_| AllocError);
+    }
     for item in walk {
         F::put(builder, &item)?;
     }
@@ -182,12 +190,17 @@ impl<R: AsOctets + Copy, F: Moving<R>> Format<R> for Repeated<F> {
         let mut ahead = first;
         let count = pass_all::<R, F>(&mut ahead, turns)?;
         *parser = ahead;
-        Ok(Walk::at(first, count))
+        Ok(Walk::at(first, count, ahead.pos()))
     }
 
     #[inline(always)]
     fn least_len() -> usize {
         0
+    }
+
+    #[inline(always)]
+    fn is_canonical() -> bool {
+        F::is_canonical()
     }
 
     #[inline(always)]
@@ -264,6 +277,11 @@ impl<R: AsOctets + Copy, N: Length, F: Moving<R>> Format<R> for Times<N, F> {
     #[inline(always)]
     fn least_len() -> usize {
         N::octets()
+    }
+
+    #[inline(always)]
+    fn is_canonical() -> bool {
+        F::is_canonical()
     }
 
     #[inline(always)]

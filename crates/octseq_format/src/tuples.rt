@@ -55,6 +55,11 @@ impl<R: AsOctets + Copy, A: Delimited<R>, B: Format<R>> Format<R> for (A, B) {
     }
 
     #[inline(always)]
+    fn is_canonical() -> bool {
+        A::is_canonical() && B::is_canonical()
+    }
+
+    #[inline(always)]
     #[tactic(auto, unfolding(crate::specs::Pair::both_octets, crate::specs::Pair::both_say))]
     fn compose_len(value: &Self::Value) -> Option<usize> {
         A::compose_len(&value.0)?.checked_add(B::compose_len(&value.1)?)
@@ -131,6 +136,11 @@ impl<R: AsOctets + Copy, A: Delimited<R>, B: Delimited<R>, C: Format<R>> Format<
     }
 
     #[inline(always)]
+    fn is_canonical() -> bool {
+        <(A, (B, C)) as Format<R>>::is_canonical()
+    }
+
+    #[inline(always)]
     fn compose_len(value: &Self::Value) -> Option<usize> {
         <(A, (B, C)) as Format<R>>::compose_len(&(value.0, (value.1, value.2)))
     }
@@ -198,6 +208,11 @@ impl<R: AsOctets + Copy, A: Delimited<R>, B: Delimited<R>, C: Delimited<R>, D: F
     #[inline(always)]
     fn least_len() -> usize {
         <(A, (B, C, D)) as Format<R>>::least_len()
+    }
+
+    #[inline(always)]
+    fn is_canonical() -> bool {
+        <(A, (B, C, D)) as Format<R>>::is_canonical()
     }
 
     #[inline(always)]
@@ -282,6 +297,11 @@ impl<
     #[inline(always)]
     fn least_len() -> usize {
         <(A, (B, C, D, E)) as Format<R>>::least_len()
+    }
+
+    #[inline(always)]
+    fn is_canonical() -> bool {
+        <(A, (B, C, D, E)) as Format<R>>::is_canonical()
     }
 
     #[inline(always)]
@@ -393,6 +413,11 @@ impl<
     #[inline(always)]
     fn least_len() -> usize {
         <(A, (B, C, D, E, F)) as Format<R>>::least_len()
+    }
+
+    #[inline(always)]
+    fn is_canonical() -> bool {
+        <(A, (B, C, D, E, F)) as Format<R>>::is_canonical()
     }
 
     #[inline(always)]
@@ -521,6 +546,11 @@ impl<
     #[inline(always)]
     fn least_len() -> usize {
         <(A, (B, C, D, E, F, G)) as Format<R>>::least_len()
+    }
+
+    #[inline(always)]
+    fn is_canonical() -> bool {
+        <(A, (B, C, D, E, F, G)) as Format<R>>::is_canonical()
     }
 
     #[inline(always)]
@@ -659,6 +689,11 @@ impl<
     #[inline(always)]
     fn least_len() -> usize {
         <(A, (B, C, D, E, F, G, H)) as Format<R>>::least_len()
+    }
+
+    #[inline(always)]
+    fn is_canonical() -> bool {
+        <(A, (B, C, D, E, F, G, H)) as Format<R>>::is_canonical()
     }
 
     #[inline(always)]

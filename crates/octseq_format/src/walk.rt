@@ -1,9 +1,13 @@
 //! A walk over things of one kind, one after another. It can't fail: they were read before.
-ghost use Rattle.std.specs.Prelude.{◌≡◌, ◌↔◌, ⊤, [], length, IsTrue};
+ghost use Rattle.std.specs.Prelude.{◌≡◌, ◌≤◌, ◌+◌, ◌↔◌, ⊤, [], length, map, IsTrue};
 ghost use Rattle.octseq.specs.Parser.{window};
-ghost use Rattle.octseq_format.specs.Row.{Holds, held_once};
+ghost use Rattle.octseq.specs.Window.{left};
+ghost use Rattle.std.specs.List.{AllByRecursion};
+ghost use Rattle.octseq_format.specs.Canonical.{IsCanonical};
+ghost use Rattle.octseq_format.specs.Row.{HoldsTo, held_to_once, row_octets};
 
 use crate::format::Format;
+use crate::laws::are_octets;
 use octseq::{AsOctets, Parser};
 use std::alloc::AllocError;
 use std::marker::PhantomData;
@@ -13,8 +17,9 @@ use std::marker::PhantomData;
 pub struct Walk<R: AsOctets + Copy, F: Format<R>> {
     parser: Parser<R>,
     left: usize,
+    end: usize,
     item: PhantomData<F>,
-    ghost ahead: { Holds F.is_at (window parser) left } by { held_once F.found_code F.is_at F.one (window parser) left },
+    ghost ahead: { HoldsTo F.is_at (window parser) left end } by { held_to_once F.found_code F.is_at F.one _ _ _ },
 }
 
 impl<R: AsOctets + Copy, F: Format<R>> Copy for Walk<R, F> {}
@@ -28,6 +33,7 @@ impl<R: AsOctets + Copy, F: Format<R>> Clone for Walk<R, F> {
         Ok(Walk {
             parser: self.parser,
             left: self.left,
+            end: self.end,
             item: PhantomData,
         })
     }
@@ -57,18 +63,38 @@ impl<R: AsOctets + Copy, F: Format<R>> Walk<R, F> {
         Walk {
             parser: self.parser,
             left: self.left,
+            end: self.end,
             item: PhantomData,
         }
     }
 
-    /// So many that are at the position of a parser.
-    pub(crate) fn at(parser: Parser<R>, left: usize) -> Walk<R, F>
-        requires { Holds F.is_at (window parser) left }
-        ensures { (held : Holds F.is_at (window parser) left) → items_left result ≡ held.0 }
+    /// The octets that they were read from, where those are the ones that say them.
+    pub(crate) fn as_slice(&self) -> &[u8]
+        ensures { IsCanonical F.is_at F.says F.octets F.fits → AllByRecursion F.fits (map F.says (items_left self.now))
+            × (result.now ≡ row_octets F.octets (map F.says (items_left self.now))) }
+    {
+        let sequence = self.parser.octets_ref();
+        are_octets(sequence.as_ref());
+        &self.parser.peek_all()[..self.octets_len()]
+    }
+
+    /// How many octets they were read from.
+    fn octets_len(&self) -> usize
+        ensures end { (window self.now.parser).position + result ≡ self.now.end }
+        ensures within { result ≤ left (window self.now.parser) }
+    {
+        self.end - self.parser.pos()
+    }
+
+    /// So many that are at the position of a parser, up to a place.
+    pub(crate) fn at(parser: Parser<R>, left: usize, end: usize) -> Walk<R, F>
+        requires { HoldsTo F.is_at (window parser) left end }
+        ensures { (held : HoldsTo F.is_at (window parser) left end) → items_left result ≡ held.0 }
     {
         Walk {
             parser,
             left,
+            end,
             item: PhantomData,
         }
     }
@@ -93,9 +119,11 @@ impl<R: AsOctets + Copy, F: Format<R>> Iterator for Walk<R, F> {
         match F::parse(&mut parser) {
             Ok(item) => {
                 let left = self.left - 1;
+                let end = self.end;
                 *self = Walk {
                     parser,
                     left,
+                    end,
                     item: PhantomData,
                 };
                 Some(item)

@@ -1,13 +1,16 @@
 //! The strings that data is made of.
-ghost use Rattle.std.specs.Prelude.{◌≡◌, ◌≤◌, ℕ, List, IsErr, IfOk, length};
-ghost use Rattle.octseq.specs.Integer.{octets_be};
+ghost use Rattle.std.specs.Prelude.{◌≡◌, ◌≤◌, ℕ, List, IsErr, IfOk};
 ghost use Rattle.octseq.specs.Parser.{window};
 ghost use Rattle.octseq.specs.Part.{part};
-ghost use Rattle.octseq.specs.Window.{Window, left, next, rest};
+ghost use Rattle.octseq.specs.Window.{Window, left, rest};
 ghost use Rattle.octseq_dns_message.specs.Data.{HasString};
 
 use octseq::{AsOctets, Parser};
 use octseq_dns_name::Malformed;
+use octseq_format::{Counted, Format, Rest, are_octets};
+
+/// The format of a string: its octets after their length, which has one octet.
+pub(crate) type CharacterString = Counted<u8, Rest, 0>;
 
 /// Takes the next string: a parser of its octets.
 pub(crate) fn take_string<R: AsOctets + Copy>(
@@ -17,10 +20,10 @@ pub(crate) fn take_string<R: AsOctets + Copy>(
         HasString (window parser.old) (rest (window string)) (window parser.new)) }
     ensures short { IfOk result (λ string. left (window string) ≤ 255) }
     ensures place { IfOk result (λ string. window string ≡ part 1 (window parser.old)) }
-    ensures length { IfOk result (λ string. octets_be 1 (length (rest (window string)))
-        ≡ next 1 (window parser.old)) }
     ensures malformed { IsErr result → (string : List ℕ) (v : Window) → ¬ HasString (window parser.old) string v }
 {
-    let len = parser.parse_u8()?;
-    Ok(parser.parse_parser(usize::from(len))?)
+    let sequence = parser.octets_ref();
+    are_octets(sequence.as_ref());
+    let string = CharacterString::parse(parser)?;
+    Ok(string)
 }

@@ -7,9 +7,10 @@ ghost use Rattle.octseq_dns_message.specs.Data.{HasString};
 ghost use Rattle.octseq_dns_message.specs.OneRow.{Reaches, strings_once};
 ghost use Rattle.octseq_dns_message.specs.Strings.{spelling};
 
-use crate::data::string::take_string;
+use crate::data::string::{CharacterString, take_string};
 use octseq::{AsOctets, Parser};
 use octseq_dns_name::Malformed;
+use octseq_format::{Format, Repeated, are_octets};
 use std::alloc::AllocError;
 
 /// A string of text: at most 255 octets of a message, where they stand.
@@ -124,15 +125,17 @@ impl<R: AsOctets + Copy> Txt<R> {
             → HasStrings (window parser.old) strings v → ¬ (v.position ≡ end) }
     {
         let first = *parser;
-        if first.pos() == end {
+        let place = first.pos();
+        if place > end {
             return Err(Malformed);
         }
-        'strings: while parser.pos() < end {
-            let _string = take_string(parser)?;
-        }
-        if parser.pos() > end {
+        let mut octets = parser.parse_parser(end - place)?;
+        let strings = Repeated::<CharacterString>::parse(&mut octets)?;
+        if strings.is_empty() {
             return Err(Malformed);
         }
+        let sequence = first.octets_ref();
+        are_octets(sequence.as_ref());
         Ok(Txt { parser: first, end })
     }
 

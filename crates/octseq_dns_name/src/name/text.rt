@@ -2,12 +2,13 @@
 ghost use Rattle.std.specs.Prelude.{◌≡◌, ℕ, ◌<◌, ◌+◌, List, [], ◌∷◌, Some};
 ghost use Rattle.std.specs.Fmt.{WritesOnOk};
 ghost use Rattle.octseq_dns_name.specs.Read.{labels_of, label_octets};
-ghost use Rattle.octseq_dns_name.specs.Spelling.{AreOctets, AreOctetLabels, SpellsName};
+ghost use Rattle.octseq_dns_name.specs.Spelling.{AreOctetLabels, SpellsName};
 ghost use Rattle.octseq_dns_name.specs.Wire.{AreLabels};
 ghost use Rattle.octseq_dns_name.specs.Text.{is_quoted, three_digits, octet_text, label_text, name_text};
 
 use crate::name::{Label, ParsedName};
 use octseq::AsOctets;
+use octseq_format::are_octets;
 use std::fmt;
 
 /// A text spells one name at most.
@@ -34,13 +35,6 @@ pub fn a_name_has_labels<R: AsOctets + Copy>(name: &ParsedName<R>)
 {
     let sequence = name.parser.octets_ref();
     are_octets(sequence.as_ref());
-}
-
-/// A slice is of octets.
-fn are_octets(octets: &[u8])
-    ensures { AreOctets octets.now }
-{
-    let _octets = octets;
 }
 
 /// Prints the octets of the label: each of `"().;\@$` behind a backslash, each other one of 21 to 7E (hexadecimal) as

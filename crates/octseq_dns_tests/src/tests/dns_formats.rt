@@ -4,11 +4,12 @@ use octseq::{Array, AsOctets, EmptyBuilder, Parser, Truncate};
 use octseq_asserts::assert_equal;
 use octseq_dns::DomainName;
 use octseq_dns::data::{EdnsOption, Mx, Soa, Srv};
-use octseq_format::{Format, Of};
+use octseq_format::{Format, Of, Repeated};
 use std::alloc::Global;
 use std::test::Fail;
 
-/// `F.ISI.ARPA.` at place 0, and at place 12 a number of 2 octets, `FOO` and a pointer to place 0: names of RFC 1035, 4.1.4.
+/// `F.ISI.ARPA.` at place 0, and at place 12 a number of 2 octets, `FOO` and a pointer to place 0: names of RFC 1035,
+/// 4.1.4.
 const EXCHANGE: &[u8] = b"\x01F\x03ISI\x04ARPA\0\0\x0A\x03FOO\xC0\0";
 
 /// Reads what is at a place, and tells where it ends and how it is written.
@@ -80,6 +81,27 @@ fn a_mail_exchange_is_written_plain(rt: HostRuntime) -> Result<(), Fail> {
         octets.as_slice(),
         b"\0\x0A\x03FOO\x01F\x03ISI\x04ARPA\0".as_slice()
     );
+    Ok(())
+}
+
+/// Mail exchanges up to the end.
+fn mxs<R: AsOctets + Copy>(
+    alloc: Global,
+    octets: R,
+    place: usize,
+) -> Result<(usize, Vec<u8>), Fail> {
+    let (end, octets) = written::<R, Repeated<Of<Mx<R>>>, Vec<u8>>(alloc, octets, place)?;
+    Ok((end, octets?))
+}
+
+/// They aren't the octets that they were read from.
+#[test]
+fn mail_exchanges_are_written_plain(rt: HostRuntime) -> Result<(), Fail> {
+    let packed = b"\x01F\x03ISI\x04ARPA\0\0\x0A\x03FOO\xC0\0\0\x14\x03BAR\xC0\x02".as_slice();
+    let plain = b"\0\x0A\x03FOO\x01F\x03ISI\x04ARPA\0\0\x14\x03BAR\x03ISI\x04ARPA\0".as_slice();
+    let (end, octets) = mxs(rt.alloc(), packed, 12)?;
+    assert_equal!(&rt, end, 28);
+    assert_equal!(&rt, octets.as_slice(), plain);
     Ok(())
 }
 

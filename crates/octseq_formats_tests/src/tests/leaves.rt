@@ -4,9 +4,9 @@ use octseq::utf8::Turns;
 use octseq::{Array, AsOctets, Malformed, Parser};
 use octseq_asserts::assert_equal;
 use octseq_format::{
-    Bits, Case, Either, Exactly, Flag, Format, I8, I16Be, I16Le, I32Be, I32Le, I64Be, I64Le,
-    I128Be, I128Le, Last, Low, Octets, Optional, Others, Repeated, Tagged, Test, Text, U8, U16Be,
-    U16Le, U24Be, U24Le, U32Be, U32Le, U48Be, U48Le, U64Be, U64Le, U128Be, U128Le, Where,
+    Bits, Case, Counted, Either, Exactly, Flag, Format, I8, I16Be, I16Le, I32Be, I32Le, I64Be,
+    I64Le, I128Be, I128Le, Last, Low, Octets, Optional, Others, Repeated, Tagged, Test, Text, U8,
+    U16Be, U16Le, U24Be, U24Le, U32Be, U32Le, U48Be, U48Le, U64Be, U64Le, U128Be, U128Le, Where,
     ZeroEnded, append_all, parse_many,
 };
 use std::alloc::AllocGlobal;
@@ -213,6 +213,20 @@ fn a_thing_at_the_end_may_be_left_out(rt: HostRuntime) -> Result<(), Fail> {
     let refused = <(U8, Optional<U16Be>) as Format<&[u8]>>::parse_whole(b"\x01\0".as_slice());
     assert_equal!(&rt, refused, Err(Malformed));
     Ok(())
+}
+
+/// Whether what was read is written as the octets that it was read from.
+fn is_copied<'a, F: Format<&'a [u8]>>(_octets: &'a [u8]) -> bool {
+    F::is_canonical()
+}
+
+#[test]
+fn what_is_said_in_one_way_is_copied(rt: HostRuntime) {
+    let octets = b"\x01".as_slice();
+    assert_equal!(&rt, is_copied::<Repeated<(U8, U16Be)>>(octets), true);
+    assert_equal!(&rt, is_copied::<Counted<u16, Octets<4>, 2>>(octets), true);
+    assert_equal!(&rt, is_copied::<Exactly<u8, 1>>(octets), true);
+    assert_equal!(&rt, is_copied::<(U8, Optional<U8>)>(octets), false);
 }
 
 #[test]

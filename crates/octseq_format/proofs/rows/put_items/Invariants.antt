@@ -1,5 +1,5 @@
 -- The octets of some were appended, and the others fit.
-use Rattle.std.proofs.Common.{◌≡◌, ◌++◌, ℕ, List, length, map}
+use Rattle.std.proofs.Common.{◌≡◌, ◌++◌, ℕ, List, map}
 use Rattle.std.specs.List.{AllByRecursion}
 use Rattle.octseq_format.specs.Laws.{HasOctets}
 use Rattle.octseq_format.specs.Row.{row_octets}

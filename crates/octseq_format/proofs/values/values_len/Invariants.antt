@@ -1,5 +1,5 @@
 -- The octets of some were counted, and the others are ahead.
-use Rattle.std.proofs.Common.{◌≡◌, ◌+◌, List, ℕ, length, map}
+use Rattle.std.proofs.Common.{◌≡◌, ◌+◌, length, map}
 use Rattle.std.specs.List.{AllByRecursion}
 use Rattle.octseq_format.specs.Row.{row_octets}
 use Rattle.octseq_format.proofs.values.values_len.Given as goal

@@ -1,6 +1,5 @@
 use Rattle.std.proofs.Common.{rules, subst}
 use Rattle.octseq.specs.Parser.{window}
-use Rattle.octseq_dns_name.specs.Spelling.{AreOctets}
 use Rattle.octseq_dns_name.proofs.LabelLaws.{named_labels, named_octets}
 use Rattle.octseq_dns_name.proofs.name.text.a_name_has_labels.Goals as goal
 

@@ -17,7 +17,7 @@ returns-clause-value g c =
     let w = window c.args.parser.now in
     let v = window c.pass_all.new.parser in
     let all = c.in_ok-count.ensures.all in
-    let same = c.at.ensures (all.0, ∣ (v, (all.1.0, all.1.1)) ∣₁) in
+    let same = c.at.ensures (all.0, ∣ (v, ((all.1.0, all.1.1), sym c.pos.ensures.position)) ∣₁) in
     let row = subst (λ row. Row f.is_at w row v) (sym same) all.1.1 in
     let moving = moving_of g.met.F.Format.onward g.met.F.Moving.moving in
     (row_moved f.is_at moving w v (items_left c.at.result) row, c.in_ok-count.ensures.ends)
@@ -26,5 +26,5 @@ pub returns-clause-counted : goal.returns-clause-counted
 returns-clause-counted g c =
     let v = window c.pass_all.new.parser in
     let all = c.in_ok-count.ensures.all in
-    let same = c.at.ensures (all.0, ∣ (v, (all.1.0, all.1.1)) ∣₁) in
+    let same = c.at.ensures (all.0, ∣ (v, ((all.1.0, all.1.1), sym c.pos.ensures.position)) ∣₁) in
     subst (λ row. c.args.turns.now + row_turns g.F.Format.turns_of row ≤ c.pass_all.new.turns) (sym same) all.2

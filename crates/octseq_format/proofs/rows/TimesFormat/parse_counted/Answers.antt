@@ -1,6 +1,5 @@
 use Rattle.std.proofs.Common.{◌∙◌, refl, subst}
 use Rattle.octseq.specs.Parser.{window}
-use Rattle.octseq.specs.Window.{past}
 use Rattle.octseq_format.specs.Row.{Row}
 use Rattle.octseq_format.specs.Walk.{items_left}
 use Rattle.octseq_format.proofs.rows.TimesFormat.parse_counted.Goals as goal

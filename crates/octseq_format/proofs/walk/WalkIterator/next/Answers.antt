@@ -1,19 +1,22 @@
 use Rattle.std.proofs.Common.{◌-◌, refl, arith, rules}
 use Rattle.octseq.specs.Parser.{window}
-use Rattle.octseq_format.proofs.RowSteps.{held_none, held_not, held_more, held_then, fewer}
+use Rattle.octseq_format.proofs.RowSteps.{holds_of, held_none, held_not, held_to_more, held_then, fewer}
 use Rattle.octseq_format.proofs.walk.WalkIterator.next.Goals as goal
 
 pub returns-then-self-eq0-clause-steps : goal.returns-then-self-eq0-clause-steps
 returns-then-self-eq0-clause-steps g c =
     let self = c.args.self.now in
     let f = g.F.Format in
-    let none = held_none f.found_code f.is_at (window self.parser) self.left self.ahead (search rules) in
+    let none = held_none f.found_code f.is_at (window self.parser) self.left
+    (holds_of f.is_at (window self.parser) self.left self.end self.ahead) (search rules) in
     (none, none)
 
 pub returns-in-Err-clause-steps : goal.returns-in-Err-clause-steps
 returns-in-Err-clause-steps g c =
     let self = c.args.self.now in
-    absurd (held_not g.F.Format.is_at (window self.parser) self.left self.ahead (omega arith)
+    let f = g.F.Format in
+    absurd (held_not f.is_at (window self.parser) self.left
+    (holds_of f.is_at (window self.parser) self.left self.end self.ahead) (omega arith)
     (c.in-Err.ensures.malformed refl))
 
 pub invariant_of-self : goal.invariant_of-self
@@ -21,16 +24,20 @@ invariant_of-self g c =
     let self = c.args.self.now in
     let f = g.F.Format in
     record {
-      ahead = held_more f.found_code f.is_at f.one (window self.parser) (window c.parse.new.parser)
-          (f.found c.in-Ok.item) self.left (self.left - 1) self.ahead c.in-Ok.ensures.value (omega arith);
+      ahead = held_to_more f.found_code f.is_at f.one (window self.parser) (window c.parse.new.parser)
+          (f.found c.in-Ok.item) self.left (self.left - 1) self.end self.ahead c.in-Ok.ensures.value (omega arith);
     }
 
 pub returns-in-Ok-clause-steps : goal.returns-in-Ok-clause-steps
 returns-in-Ok-clause-steps g c =
     let self = c.args.self.now in
     let f = g.F.Format in
-    held_then f.found_code f.is_at f.one (window self.parser) (window c.parse.new.parser) (f.found c.in-Ok.item)
-    self.left (self.left - 1) self.ahead c.self-1.given.0 c.in-Ok.ensures.value (omega arith)
+    let w = window self.parser in
+    let u = window c.parse.new.parser in
+    let less = self.left - 1 in
+    held_then f.found_code f.is_at f.one w u (f.found c.in-Ok.item) self.left less
+    (holds_of f.is_at w self.left self.end self.ahead) (holds_of f.is_at u less self.end c.self-1.given.0)
+    c.in-Ok.ensures.value (omega arith)
 
 pub returns-in-Ok-clause-goes : goal.returns-in-Ok-clause-goes
 returns-in-Ok-clause-goes g c =

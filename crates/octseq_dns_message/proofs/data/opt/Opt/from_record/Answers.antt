@@ -1,4 +1,4 @@
-use Rattle.std.proofs.Common.{◌≡◌, ◌%◌, map, refl, sym, ap, ◌∙◌, subst, arith, rules}
+use Rattle.std.proofs.Common.{◌%◌, map, refl, sym, ap, ◌∙◌, subst, arith, rules}
 use Rattle.octseq.specs.Parser.{window}
 use Rattle.octseq_dns_message.specs.OneRow.{option_code, option_from, option_item}
 use Rattle.octseq_dns_message.specs.Opt.{HasOption}

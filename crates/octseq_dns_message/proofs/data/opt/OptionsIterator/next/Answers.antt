@@ -23,9 +23,9 @@ returns-in-Err-clause-steps g c =
     let self = c.args.self.now in
     let left = c.remaining.ensures.left in
     let some = c.if-remaining-eq0.false in
-    absurd (reached_not HasOption (window self.parser) (window self.parser).end self.ahead
-    (λ same. omega (arith, left, some, same))
-    (λ option v is. c.in-Err.ensures.malformed refl (option_parts option) v (option_found (window self.parser) option v is)))
+    let w = window self.parser in
+    absurd (reached_not HasOption w w.end self.ahead (λ same. omega (arith, left, some, same))
+    (λ option v is. c.in-Err.ensures.malformed refl (option_parts option) v (option_found w option v is)))
 
 pub invariant_of-self : goal.invariant_of-self
 invariant_of-self g c =

@@ -1,0 +1,71 @@
+-- Formats that say a thing in one way: what was read is written as the octets that it was read from.
+use Rattle.std.specs.Prelude.{◌≡◌, ℕ, zero, suc, ◌+◌, ◌-◌, ◌≤◌, List, [], ◌∷◌, ◌++◌, length}
+use Rattle.std.proofs.Common.{take, drop, length-take, length-drop, ap, sym, subst, arith}
+pub use Rattle.octseq.proofs.WrittenBack.{AreOctets}
+use Rattle.octseq.specs.Window.{Window, left, next, rest, past, nested}
+use Rattle.octseq_format.specs.Laws.{Relation, IsOnward}
+
+-- A window on octets.
+pub record IsSound (w : Window) : Type 0 where
+  pub each : AreOctets w.octets
+  pub ordered : w.position ≤ w.end
+  pub within : w.end ≤ length w.octets
+
+-- What is there fits, in one way, and its octets are those that it takes.
+pub record IsCanonical {A S : Type 0} (Is : Relation A) (says : A → S) (octets : S → List ℕ)
+    (Fits : S → Type 0) : Type 0 where
+  pub once : (said : S) → IsProp (Fits said)
+  pub written : (w : Window) (a : A) (v : Window) → IsSound w → Is w a v
+      → Fits (says a) × (rest w ≡ octets (says a) ++ rest v)
+
+pub each_taken : (n : ℕ) (xs : List ℕ) → AreOctets xs → AreOctets (take n xs)
+each_taken zero xs each = tt
+each_taken (suc n) [] each = tt
+each_taken (suc n) (x ∷ xs) each = (each.0, each_taken n xs each.1)
+
+pub each_dropped : (n : ℕ) (xs : List ℕ) → AreOctets xs → AreOctets (drop n xs)
+each_dropped zero xs each = each
+each_dropped (suc n) [] each = tt
+each_dropped (suc n) (x ∷ xs) each = each_dropped n xs each.1
+
+-- the next n are octets
+pub each_next : (n : ℕ) (w : Window) → IsSound w → AreOctets (next n w)
+each_next n w sound =
+    each_taken (w.position + n - w.position) (drop w.position w.octets) (each_dropped w.position w.octets sound.each)
+
+-- and as many as that
+pub many_next : (n : ℕ) (w : Window) → IsSound w → n ≤ left w → length (next n w) ≡ n
+many_next n w sound few =
+    let taken = length-take (w.position + n - w.position) (drop w.position w.octets) in
+    let dropped = length-drop w.position w.octets in
+    omega (arith, taken, dropped, few, sound.within, sound.ordered)
+
+-- all that are left are as many as that
+pub many_rest : (w : Window) → IsSound w → length (rest w) ≡ left w
+many_rest w sound =
+    let taken = length-take (left w) (drop w.position w.octets) in
+    let dropped = length-drop w.position w.octets in
+    omega (arith, taken, dropped, sound.within, sound.ordered)
+
+pub sound_past : (n : ℕ) (w : Window) → IsSound w → n ≤ left w → IsSound (past n w)
+sound_past n w sound few =
+    record { each = sound.each; ordered = omega (arith, few, sound.ordered); within = sound.within }
+
+pub sound_nested : (n : ℕ) (w : Window) → IsSound w → n ≤ left w → IsSound (nested n w)
+sound_nested n w sound few = record {
+  each = sound.each;
+  ordered = omega arith;
+  within = omega (arith, few, sound.ordered, sound.within);
+}
+
+-- the window past a thing
+pub sound_on : {A : Type 0} {Is : Relation A} {least : ℕ} → IsOnward least Is → (w : Window) (a : A) (v : Window)
+    → IsSound w → Is w a v → IsSound v
+sound_on onward w a v sound is =
+    let on = onward.on w a v sound.ordered is in
+    let many = ap length on.0 in
+    record {
+      each = subst AreOctets (sym on.0) sound.each;
+      ordered = on.3;
+      within = omega (arith, on.1, many, sound.within);
+    }
