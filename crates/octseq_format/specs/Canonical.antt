@@ -1,7 +1,8 @@
 -- Formats that say a thing in one way: what was read is written as the octets that it was read from.
-use Rattle.std.specs.Prelude.{◌≡◌, ℕ, zero, suc, ◌+◌, ◌-◌, ◌≤◌, List, [], ◌∷◌, ◌++◌, length}
+use Rattle.std.specs.Prelude.{◌≡◌, Bool, true, false, ◌&&◌, IsTrue, refl, ℕ, zero, suc, ◌+◌, ◌-◌, ◌≤◌, List, [], ◌∷◌, ◌++◌, length}
 use Rattle.std.proofs.Common.{take, drop, length-take, length-drop, ap, sym, subst, arith}
 pub use Rattle.octseq.proofs.WrittenBack.{AreOctets}
+use Rattle.std.proofs.Math.Bool.{true≢false}
 use Rattle.octseq.specs.Window.{Window, left, next, rest, past, nested}
 use Rattle.octseq_format.specs.Laws.{Relation, IsOnward}
 
@@ -69,3 +70,12 @@ sound_on onward w a v sound is =
       ordered = on.3;
       within = omega (arith, on.1, many, sound.within);
     }
+
+-- of what isn't known to be said in one way nothing follows
+pub not_one_way : {A S : Type 0} {Is : Relation A} {says : A → S} {octets : S → List ℕ} {Fits : S → Type 0}
+    → IsTrue false → IsCanonical Is says octets Fits
+not_one_way told = absurd (true≢false (sym told))
+
+pub both_ways : (a b : Bool) → IsTrue (a && b) → IsTrue a × IsTrue b
+both_ways true b both = (refl, both)
+both_ways false b both = absurd (true≢false (sym both))

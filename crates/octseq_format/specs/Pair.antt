@@ -1,10 +1,10 @@
 -- One thing, followed by another.
-use Rattle.std.specs.Prelude.{◌≡◌, ℕ, ◌+◌, ◌<◌, List, ◌++◌, length, refl}
+use Rattle.std.specs.Prelude.{◌≡◌, Bool, ◌&&◌, IsTrue, ℕ, ◌+◌, ◌<◌, List, ◌++◌, length, refl}
 use Rattle.std.proofs.Common.{sym, ap, ◌∙◌, subst, arith, length-append, append_assoc}
 use Rattle.std.specs.Coded.{Coded, coded×}
 use Rattle.octseq.specs.Window.{Window, rest, at, past}
 use Rattle.octseq.proofs.Behind.{front_comes_next}
-use Rattle.octseq_format.specs.Canonical.{IsCanonical, sound_on}
+use Rattle.octseq_format.specs.Canonical.{IsCanonical, sound_on, both_ways}
 use Rattle.octseq_format.specs.Laws.{Relation, Takes, IsOne, IsOnward, IsReadBack, IsDelimited}
 
 infixr 5 ◌then◌
@@ -149,3 +149,11 @@ module _ {A B : Type 0} {First : Relation A} {Second : Relation B} where
               here.1 ∙ ap (λ o. x ++ o) there.1 ∙ sym (append_assoc x (second (tells a.1)) (rest v)),
             );
       }
+
+      pub canonical_both : {m : ℕ} {a b : Bool} → IsOnward m First
+          → (IsTrue a → IsCanonical First says first FirstFits)
+          → (IsTrue b → IsCanonical Second tells second SecondFits) → IsTrue (a && b)
+          → IsCanonical (First then Second) (says and tells) (first before second) (FirstFits also SecondFits)
+      canonical_both {a = a} {b = b} onward one two both =
+          let ways = both_ways a b both in
+          canonical_then onward (one ways.0) (two ways.1)

@@ -5,6 +5,8 @@ ghost use Rattle.octseq.specs.Integer.{octets_be};
 ghost use Rattle.octseq_format.specs.Bits.{IsOneNumber, HasBits, IsBits, BitsFit, both_bits, bit_number, one_number};
 ghost use Rattle.octseq_format.specs.Bits.{has_number, one_bit, has_bit, one_both, has_both, one_bits, onward_bits};
 ghost use Rattle.octseq_format.specs.Bits.{delimited_bits, bits_read_back};
+ghost use Rattle.std.specs.Prelude.{false};
+ghost use Rattle.octseq_format.specs.Canonical.{not_one_way};
 ghost use Rattle.octseq_format.specs.Pair.{◌also◌};
 
 use crate::counted::Length;
@@ -332,6 +334,11 @@ impl<R: AsOctets + Copy, L: Length, B: BitFields> Format<R> for Bits<L, B> {
     }
 
     #[inline(always)]
+    fn is_canonical() -> bool {
+        false
+    }
+
+    #[inline(always)]
     #[tactic(auto, using(octseq::proofs::Written::length_be))]
     fn compose_len(value: &B::Value) -> Option<usize> {
         L::count_len(B::join(*value)?, 0)
@@ -348,6 +355,10 @@ impl<R: AsOctets + Copy, L: Length, B: BitFields> Format<R> for Bits<L, B> {
         };
         L::put_len(builder, number, 0)
     }
+
+    ghost one_way = { false };
+
+    ghost canonical = { not_one_way };
 
     ghost onward = { onward_bits L.width B.number B.fits };
 

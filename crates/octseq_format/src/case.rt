@@ -14,6 +14,8 @@ ghost use Rattle.octseq_format.specs.Case.{delimited_other, Tagged, tagged_octet
 ghost use Rattle.octseq_format.specs.Case.{one_tagged, onward_tagged};
 ghost use Rattle.octseq_format.specs.Case.{tagged_read_back, delimited_tagged};
 ghost use Rattle.octseq_format.specs.Laws.{IsOne, IsOnward, HasOctets};
+ghost use Rattle.std.specs.Prelude.{false};
+ghost use Rattle.octseq_format.specs.Canonical.{not_one_way};
 ghost use Rattle.octseq_format.specs.Turns.{TakesTurns};
 
 use crate::counted::Length;
@@ -422,6 +424,11 @@ impl<R: AsOctets + Copy, L: Length, C: Cases<R>> Format<R> for Tagged<L, C> {
     }
 
     #[inline(always)]
+    fn is_canonical() -> bool {
+        false
+    }
+
+    #[inline(always)]
     #[tactic(auto, using(crate::specs::Counted::counted_long))]
     fn compose_len(value: &C::Value) -> Option<usize> {
         L::count_len(C::tag_of(value), C::case_len(value)?)
@@ -441,6 +448,10 @@ impl<R: AsOctets + Copy, L: Length, C: Cases<R>> Format<R> for Tagged<L, C> {
         }
         appended
     }
+
+    ghost one_way = { false };
+
+    ghost canonical = { not_one_way };
 
     ghost onward = { onward_tagged L.width C.is_at C.onward };
 

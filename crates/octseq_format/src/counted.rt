@@ -225,7 +225,7 @@ pub struct Counted<L, A, const EXTRA: usize> {
 impl<R: AsOctets + Copy, L: Length, A: Format<R>, const EXTRA: usize> Format<R>
     for Counted<L, A, EXTRA> {
     ghost use Rattle.octseq_format.specs.Counted.{Counted, counted_octets, CountFits, one_counted, onward_counted};
-    ghost use Rattle.octseq_format.specs.Counted.{counted_read_back};
+    ghost use Rattle.octseq_format.specs.Counted.{counted_read_back, canonical_counted};
 
     type Value = A::Value;
 
@@ -304,6 +304,10 @@ impl<R: AsOctets + Copy, L: Length, A: Format<R>, const EXTRA: usize> Format<R>
         }
         appended
     }
+
+    ghost one_way = { A.one_way };
+
+    ghost canonical = { λ yes. canonical_counted (A.canonical yes) };
 
     ghost onward = { onward_counted L.width EXTRA A.is_at };
 

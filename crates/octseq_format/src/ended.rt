@@ -5,6 +5,8 @@ ghost use Rattle.octseq.specs.Parser.{window};
 ghost use Rattle.octseq.specs.Window.{Window, rest};
 ghost use Rattle.octseq_format.specs.Ended.{EndsAt, HasNoZero, IsEnded, ended_octets, one_ended, onward_ended};
 ghost use Rattle.octseq_format.specs.Ended.{delimited_ended, ended_read_back};
+ghost use Rattle.std.specs.Prelude.{false};
+ghost use Rattle.octseq_format.specs.Canonical.{not_one_way};
 ghost use Rattle.octseq_format.specs.Rest.{window_code};
 
 use crate::format::{Delimited, Format, Moving};
@@ -73,6 +75,11 @@ impl<R: AsOctets + Copy> Format<R> for ZeroEnded {
     }
 
     #[inline(always)]
+    fn is_canonical() -> bool {
+        false
+    }
+
+    #[inline(always)]
     fn compose_len(value: &Parser<R>) -> Option<usize> {
         let octets = value.peek_all();
         if first_zero(octets).is_some() {
@@ -96,6 +103,10 @@ impl<R: AsOctets + Copy> Format<R> for ZeroEnded {
         }
         appended.map_err(|_| AllocError)
     }
+
+    ghost one_way = { false };
+
+    ghost canonical = { not_one_way };
 
     ghost onward = { onward_ended };
 

@@ -1,8 +1,8 @@
 //! A number that is fixed.
-ghost use Rattle.std.specs.Prelude.{◌≡◌, ◌<◌, ◌^◌};
+ghost use Rattle.std.specs.Prelude.{◌≡◌, ◌<◌, ◌^◌, true};
 ghost use Rattle.octseq.specs.Integer.{octets_be};
 ghost use Rattle.octseq_format.specs.Exactly.{IsExactly, coded_unit, one_exactly, onward_exactly};
-ghost use Rattle.octseq_format.specs.Exactly.{delimited_exactly, exactly_read_back};
+ghost use Rattle.octseq_format.specs.Exactly.{delimited_exactly, exactly_read_back, canonical_exactly};
 
 use crate::counted::Length;
 use crate::format::{Delimited, Format, Moving};
@@ -77,6 +77,10 @@ impl<R: AsOctets + Copy, L: Length, const N: usize> Format<R> for Exactly<L, N> 
     fn put<B: OctetsBuilder + Truncate>(builder: &mut B, _value: &()) -> Result<(), AllocError> {
         L::put_len(builder, N, 0)
     }
+
+    ghost one_way = { true };
+
+    ghost canonical = { λ _. canonical_exactly L.width N };
 
     ghost onward = { onward_exactly L.width N };
 

@@ -87,6 +87,10 @@ impl<R: AsOctets + Copy, S: Fields<R>> Format<R> for Of<S> {
         S::Format::put(builder, &value.to_fields())
     }
 
+    ghost one_way = { S.Format.one_way };
+
+    ghost canonical = { S.Format.canonical };
+
     ghost onward = { S.Format.onward };
 
     ghost read_back = { S.Format.read_back };

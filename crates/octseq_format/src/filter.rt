@@ -6,6 +6,8 @@ ghost use Rattle.octseq_format.specs.Fixed.{IsFixed, one_fixed, onward_fixed, de
 ghost use Rattle.octseq_format.specs.Fixed.{fixed_read_back};
 ghost use Rattle.octseq_format.specs.Integers.{are_be};
 ghost use Rattle.octseq_format.specs.Where.{IsWhere, WhereFits, one_where, onward_where};
+ghost use Rattle.std.specs.Prelude.{false};
+ghost use Rattle.octseq_format.specs.Canonical.{not_one_way};
 ghost use Rattle.octseq_format.specs.Where.{where_read_back, delimited_where};
 
 use crate::counted::Length;
@@ -78,6 +80,11 @@ impl<R: AsOctets + Copy, L: Length, T: Test> Format<R> for Where<L, T> {
     }
 
     #[inline(always)]
+    fn is_canonical() -> bool {
+        false
+    }
+
+    #[inline(always)]
     #[tactic(auto, using(octseq::proofs::Written::length_be))]
     fn compose_len(value: &usize) -> Option<usize> {
         if !T::test(*value) {
@@ -91,6 +98,10 @@ impl<R: AsOctets + Copy, L: Length, T: Test> Format<R> for Where<L, T> {
     fn put<B: OctetsBuilder + Truncate>(builder: &mut B, value: &usize) -> Result<(), AllocError> {
         L::put_len(builder, *value, 0)
     }
+
+    ghost one_way = { false };
+
+    ghost canonical = { not_one_way };
 
     ghost onward = { onward_where (IsFixed L.width be) (λ n. n) T.holds (onward_fixed L.width be) };
 

@@ -1,5 +1,5 @@
 //! What a format is.
-ghost use Rattle.std.specs.Prelude.{◌≡◌, ◌≤◌, ◌<◌, ◌↔◌, ◌+◌, ◌*◌, ◌++◌, ℕ, List, length, true, IsTrue, IsFalse};
+ghost use Rattle.std.specs.Prelude.{◌≡◌, ◌≤◌, ◌<◌, ◌↔◌, ◌+◌, ◌*◌, ◌++◌, ℕ, List, length, Bool, true, IsTrue, IsFalse};
 ghost use Rattle.std.specs.Prelude.{IsErr, IfOk, OnOk, OnErr, IsNone, IsSome, IfSome};
 ghost use Rattle.std.specs.Coded.{Coded};
 ghost use Rattle.octseq.specs.Limit.{IsPast, IsWithin};
@@ -56,6 +56,9 @@ pub trait Format<R: AsOctets + Copy> {
 
     ghost rate: { ℕ };
 
+    // Whether it is known to be said in one way.
+    ghost one_way: { Bool };
+
     /// Takes what is at the parser's position, and counts the turns of loops that this takes.
     ///
     /// # Errors
@@ -80,10 +83,7 @@ pub trait Format<R: AsOctets + Copy> {
     /// Whether a thing is said in one way: then what was read is written as the octets that it was read from. `false`
     /// where that isn't known.
     fn is_canonical() -> bool
-        ensures { IsTrue result → IsCanonical is_at says octets fits }
-    {
-        false
-    }
+        ensures { result ≡ one_way };
 
     /// How many octets say a value, or `None` where none do: where a length doesn't fit its number, or there are more
     /// than a `usize` counts.
@@ -207,6 +207,9 @@ pub trait Format<R: AsOctets + Copy> {
             Err(_) => Err(ComposeError::Memory),
         }
     }
+
+    // Where it is said in one way, what was read is written as the octets that it was read from.
+    ghost canonical: { IsTrue one_way → IsCanonical is_at says octets fits };
 
     // What is past it is a window on the same octets, no further back and with the same end.
     ghost onward: { IsOnward least is_at };

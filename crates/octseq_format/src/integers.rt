@@ -495,7 +495,7 @@ pub struct Be<T> {
 }
 
 impl<R: AsOctets + Copy, T: Integer> Format<R> for Be<T> {
-    ghost use Rattle.octseq_format.specs.Fixed.{IsFixed, one_fixed, onward_fixed, fixed_read_back};
+    ghost use Rattle.octseq_format.specs.Fixed.{IsFixed, one_fixed, onward_fixed, fixed_read_back, canonical_fixed};
 
     type Value = T::Value;
 
@@ -557,6 +557,10 @@ impl<R: AsOctets + Copy, T: Integer> Format<R> for Be<T> {
         T::put_be(builder, *value)
     }
 
+    ghost one_way = { true };
+
+    ghost canonical = { λ _. canonical_fixed T.kind.are_be };
+
     ghost onward = { onward_fixed T.kind.width T.kind.be };
 
     ghost read_back = { fixed_read_back T.kind.are_be };
@@ -579,7 +583,7 @@ pub struct Le<T> {
 }
 
 impl<R: AsOctets + Copy, T: Integer> Format<R> for Le<T> {
-    ghost use Rattle.octseq_format.specs.Fixed.{IsFixed, one_fixed, onward_fixed, fixed_read_back};
+    ghost use Rattle.octseq_format.specs.Fixed.{IsFixed, one_fixed, onward_fixed, fixed_read_back, canonical_fixed};
 
     type Value = T::Value;
 
@@ -640,6 +644,10 @@ impl<R: AsOctets + Copy, T: Integer> Format<R> for Le<T> {
     ) -> Result<(), AllocError> {
         T::put_le(builder, *value)
     }
+
+    ghost one_way = { true };
+
+    ghost canonical = { λ _. canonical_fixed T.kind.are_le };
 
     ghost onward = { onward_fixed T.kind.width T.kind.le };
 

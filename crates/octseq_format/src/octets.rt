@@ -1,5 +1,5 @@
 //! Octets as they are.
-ghost use Rattle.std.specs.Prelude.{◌≡◌, ℕ, List, length};
+ghost use Rattle.std.specs.Prelude.{◌≡◌, ℕ, List, length, true};
 ghost use Rattle.std.specs.Coded.{coded_list, coded_ℕ};
 ghost use Rattle.octseq.specs.Parser.{window};
 ghost use Rattle.octseq.specs.Window.{Window, rest};
@@ -14,7 +14,7 @@ use std::alloc::AllocError;
 pub struct Rest;
 
 impl<R: AsOctets + Copy> Format<R> for Rest {
-    ghost use Rattle.octseq_format.specs.Rest.{IsRest, window_code, one_rest, onward_rest, rest_read_back};
+    ghost use Rattle.octseq_format.specs.Rest.{IsRest, window_code, one_rest, onward_rest, rest_read_back, canonical_rest};
 
     type Value = Parser<R>;
 
@@ -75,6 +75,10 @@ impl<R: AsOctets + Copy> Format<R> for Rest {
             .map_err(|_| AllocError)
     }
 
+    ghost one_way = { true };
+
+    ghost canonical = { λ _. canonical_rest };
+
     ghost onward = { onward_rest };
 
     ghost read_back = { rest_read_back };
@@ -85,7 +89,7 @@ impl<R: AsOctets + Copy> Format<R> for Rest {
 pub struct Octets<const N: usize>;
 
 impl<R: AsOctets + Copy, const N: usize> Format<R> for Octets<N> {
-    ghost use Rattle.octseq_format.specs.Fixed.{IsFixed, one_fixed, onward_fixed, fixed_read_back};
+    ghost use Rattle.octseq_format.specs.Fixed.{IsFixed, one_fixed, onward_fixed, fixed_read_back, canonical_fixed};
     ghost use Rattle.octseq_format.specs.Octets.{are_octets};
 
     type Value = [u8; N];
@@ -145,6 +149,10 @@ impl<R: AsOctets + Copy, const N: usize> Format<R> for Octets<N> {
     ) -> Result<(), AllocError> {
         builder.append_slice(value).map_err(|_| AllocError)
     }
+
+    ghost one_way = { true };
+
+    ghost canonical = { λ _. canonical_fixed (are_octets N) };
 
     ghost onward = { onward_fixed N (λ octets. octets) };
 

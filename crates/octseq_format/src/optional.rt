@@ -2,6 +2,8 @@
 ghost use Rattle.std.specs.Prelude.{Option};
 ghost use Rattle.std.specs.Coded.{coded_option};
 ghost use Rattle.octseq_format.specs.Optional.{IsOptional, optional_says, optional_octets, OptionalFits};
+ghost use Rattle.std.specs.Prelude.{false};
+ghost use Rattle.octseq_format.specs.Canonical.{not_one_way};
 ghost use Rattle.octseq_format.specs.Optional.{optional_turns, one_optional, onward_optional, optional_read_back};
 
 use crate::format::Format;
@@ -62,6 +64,11 @@ impl<R: AsOctets + Copy, A: Format<R>> Format<R> for Optional<A> {
     }
 
     #[inline(always)]
+    fn is_canonical() -> bool {
+        false
+    }
+
+    #[inline(always)]
     fn compose_len(value: &Self::Value) -> Option<usize> {
         match value {
             None => Some(0),
@@ -82,6 +89,10 @@ impl<R: AsOctets + Copy, A: Format<R>> Format<R> for Optional<A> {
             Some(inside) => A::put(builder, inside),
         }
     }
+
+    ghost one_way = { false };
+
+    ghost canonical = { not_one_way };
 
     ghost onward = { onward_optional A.is_at A.onward };
 

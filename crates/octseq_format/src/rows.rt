@@ -154,7 +154,7 @@ pub struct Repeated<F> {
 impl<R: AsOctets + Copy, F: Moving<R>> Format<R> for Repeated<F> {
     ghost use Rattle.octseq_format.specs.Laws.{moving_of};
     ghost use Rattle.octseq_format.specs.Row.{Moved, one_to, one_moved, moving_moved, onward_to};
-    ghost use Rattle.octseq_format.specs.Row.{onward_moved, delimited_moved, to_read_back};
+    ghost use Rattle.octseq_format.specs.Row.{onward_moved, delimited_moved, to_read_back, canonical_moved, canonical_to};
 
     type Value = Walk<R, F>;
 
@@ -221,6 +221,10 @@ impl<R: AsOctets + Copy, F: Moving<R>> Format<R> for Repeated<F> {
         appended
     }
 
+    ghost one_way = { F.one_way };
+
+    ghost canonical = { λ yes. canonical_to (onward_moved F.onward) (canonical_moved (F.canonical yes)) };
+
     ghost onward = { onward_to (Moved F.is_at) (onward_moved F.onward) };
 
     ghost read_back = { to_read_back (Moved F.is_at) F.says F.octets F.fits
@@ -236,6 +240,7 @@ pub struct Times<N, F> {
 
 impl<R: AsOctets + Copy, N: Length, F: Moving<R>> Format<R> for Times<N, F> {
     ghost use Rattle.octseq_format.specs.Row.{Times, times_octets, TimesFit, one_times, onward_times, times_read_back};
+    ghost use Rattle.octseq_format.specs.Row.{canonical_times};
 
     type Value = Walk<R, F>;
 
@@ -305,6 +310,10 @@ impl<R: AsOctets + Copy, N: Length, F: Moving<R>> Format<R> for Times<N, F> {
         }
         appended
     }
+
+    ghost one_way = { F.one_way };
+
+    ghost canonical = { λ yes. canonical_times F.onward (F.canonical yes) N.width };
 
     ghost onward = { onward_times N.width F.is_at F.onward };
 

@@ -3,6 +3,8 @@ ghost use Rattle.std.specs.Prelude.{ℕ, List};
 ghost use Rattle.octseq.specs.Parser.{window};
 ghost use Rattle.octseq.specs.Window.{Window, rest};
 ghost use Rattle.octseq_format.specs.Rest.{window_code};
+ghost use Rattle.std.specs.Prelude.{false};
+ghost use Rattle.octseq_format.specs.Canonical.{not_one_way};
 ghost use Rattle.octseq_format.specs.Text.{IsText, TextFits, one_text, onward_text, text_read_back};
 
 use crate::format::Format;
@@ -60,6 +62,11 @@ impl<R: AsOctets + Copy> Format<R> for Text {
     }
 
     #[inline(always)]
+    fn is_canonical() -> bool {
+        false
+    }
+
+    #[inline(always)]
     fn compose_len(value: &Parser<R>) -> Option<usize> {
         if find_fault(value.peek_all()).is_some() {
             return None;
@@ -76,6 +83,10 @@ impl<R: AsOctets + Copy> Format<R> for Text {
             .append_slice(value.peek_all())
             .map_err(|_| AllocError)
     }
+
+    ghost one_way = { false };
+
+    ghost canonical = { not_one_way };
 
     ghost onward = { onward_text };
 

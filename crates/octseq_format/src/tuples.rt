@@ -1,7 +1,7 @@
 //! Tuples: one thing after another.
-ghost use Rattle.std.specs.Prelude.{◌+◌};
+ghost use Rattle.std.specs.Prelude.{◌+◌, ◌&&◌};
 ghost use Rattle.octseq_format.specs.Pair.{◌then◌, ◌and◌, ◌before◌, ◌also◌, ◌code_then◌, ◌plus◌};
-ghost use Rattle.octseq_format.specs.Pair.{◌one_then◌, ◌onward_then◌, ◌back_then◌, ◌delimited_then◌, some_more};
+ghost use Rattle.octseq_format.specs.Pair.{◌one_then◌, ◌onward_then◌, ◌back_then◌, ◌delimited_then◌, canonical_both, some_more};
 
 use crate::format::{Delimited, Format, Moving};
 use octseq::utf8::Turns;
@@ -80,6 +80,10 @@ impl<R: AsOctets + Copy, A: Delimited<R>, B: Format<R>> Format<R> for (A, B) {
         appended
     }
 
+    ghost one_way = { A.one_way && B.one_way };
+
+    ghost canonical = { canonical_both A.onward A.canonical B.canonical };
+
     ghost onward = { A.onward onward_then B.onward };
 
     ghost read_back = { A.delimited back_then B.read_back };
@@ -152,6 +156,10 @@ impl<R: AsOctets + Copy, A: Delimited<R>, B: Delimited<R>, C: Format<R>> Format<
     ) -> Result<(), AllocError> {
         <(A, (B, C)) as Format<R>>::put(builder, &(value.0, (value.1, value.2)))
     }
+
+    ghost one_way = { A.one_way && (B.one_way && C.one_way) };
+
+    ghost canonical = { canonical_both A.onward A.canonical (canonical_both B.onward B.canonical C.canonical) };
 
     ghost onward = { A.onward onward_then B.onward onward_then C.onward };
 
@@ -227,6 +235,10 @@ impl<R: AsOctets + Copy, A: Delimited<R>, B: Delimited<R>, C: Delimited<R>, D: F
     ) -> Result<(), AllocError> {
         <(A, (B, C, D)) as Format<R>>::put(builder, &(value.0, (value.1, value.2, value.3)))
     }
+
+    ghost one_way = { A.one_way && (B.one_way && (C.one_way && D.one_way)) };
+
+    ghost canonical = { canonical_both A.onward A.canonical (canonical_both B.onward B.canonical (canonical_both C.onward C.canonical D.canonical)) };
 
     ghost onward = { A.onward onward_then B.onward onward_then C.onward onward_then D.onward };
 
@@ -322,6 +334,10 @@ impl<
             &(value.0, (value.1, value.2, value.3, value.4)),
         )
     }
+
+    ghost one_way = { A.one_way && (B.one_way && (C.one_way && (D.one_way && E.one_way))) };
+
+    ghost canonical = { canonical_both A.onward A.canonical (canonical_both B.onward B.canonical (canonical_both C.onward C.canonical (canonical_both D.onward D.canonical E.canonical))) };
 
     ghost onward = { A.onward onward_then B.onward onward_then C.onward onward_then D.onward onward_then E.onward };
 
@@ -438,6 +454,10 @@ impl<
             &(value.0, (value.1, value.2, value.3, value.4, value.5)),
         )
     }
+
+    ghost one_way = { A.one_way && (B.one_way && (C.one_way && (D.one_way && (E.one_way && F.one_way)))) };
+
+    ghost canonical = { canonical_both A.onward A.canonical (canonical_both B.onward B.canonical (canonical_both C.onward C.canonical (canonical_both D.onward D.canonical (canonical_both E.onward E.canonical F.canonical)))) };
 
     ghost onward = { A.onward onward_then B.onward onward_then C.onward onward_then D.onward onward_then E.onward
         onward_then F.onward };
@@ -574,6 +594,10 @@ impl<
             ),
         )
     }
+
+    ghost one_way = { A.one_way && (B.one_way && (C.one_way && (D.one_way && (E.one_way && (F.one_way && G.one_way))))) };
+
+    ghost canonical = { canonical_both A.onward A.canonical (canonical_both B.onward B.canonical (canonical_both C.onward C.canonical (canonical_both D.onward D.canonical (canonical_both E.onward E.canonical (canonical_both F.onward F.canonical G.canonical))))) };
 
     ghost onward = { A.onward onward_then B.onward onward_then C.onward onward_then D.onward onward_then E.onward
         onward_then F.onward onward_then G.onward };
@@ -721,6 +745,10 @@ impl<
             ),
         )
     }
+
+    ghost one_way = { A.one_way && (B.one_way && (C.one_way && (D.one_way && (E.one_way && (F.one_way && (G.one_way && H.one_way)))))) };
+
+    ghost canonical = { canonical_both A.onward A.canonical (canonical_both B.onward B.canonical (canonical_both C.onward C.canonical (canonical_both D.onward D.canonical (canonical_both E.onward E.canonical (canonical_both F.onward F.canonical (canonical_both G.onward G.canonical H.canonical)))))) };
 
     ghost onward = { A.onward onward_then B.onward onward_then C.onward onward_then D.onward onward_then E.onward
         onward_then F.onward onward_then G.onward onward_then H.onward };

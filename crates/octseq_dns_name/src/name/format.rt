@@ -1,11 +1,12 @@
 //! A domain name as a format.
-ghost use Rattle.std.specs.Prelude.{◌≡◌, ◌≤◌, ◌+◌, List, ℕ, length};
+ghost use Rattle.std.specs.Prelude.{◌≡◌, ◌≤◌, ◌+◌, List, ℕ, length, false};
 ghost use Rattle.std.proofs.Common.{rules};
 ghost use Rattle.octseq_dns_name.specs.Name.{Name as Named, HasName};
 ghost use Rattle.octseq_dns_name.specs.NameFormat.{NameFits, delimited_name, least_turns, name_code, name_labels};
 ghost use Rattle.octseq_dns_name.specs.NameFormat.{name_read_back, one_named, onward_name};
 ghost use Rattle.octseq_dns_name.specs.Read.{name_of};
 ghost use Rattle.octseq_dns_name.specs.Wire.{wire};
+ghost use Rattle.octseq_format.specs.Canonical.{not_one_way};
 
 use crate::error::Malformed;
 use crate::name::ParsedName;
@@ -64,6 +65,11 @@ impl<R: AsOctets + Copy> Format<R> for DomainName {
     }
 
     #[inline(always)]
+    fn is_canonical() -> bool {
+        false
+    }
+
+    #[inline(always)]
     fn compose_len(value: &ParsedName<R>) -> Option<usize> {
         Some(value.len())
     }
@@ -78,6 +84,10 @@ impl<R: AsOctets + Copy> Format<R> for DomainName {
             .append_slice(octets.as_slice())
             .map_err(|_| AllocError)
     }
+
+    ghost one_way = { false };
+
+    ghost canonical = { not_one_way };
 
     ghost onward = { onward_name };
 
