@@ -13,15 +13,16 @@ use Rattle.octseq.proofs.WrittenBack.{small_be}
 use Rattle.octseq_dns_message.specs.Data.{HasString}
 use Rattle.octseq_dns_message.specs.OneRow.{row_on, string_item}
 use Rattle.octseq_dns_message.specs.Strings.{spelling}
-use Rattle.octseq_format.specs.Canonical.{IsSound, sound_on, many_rest, many_next, each_next}
+use Rattle.octseq_format.specs.Canonical.{IsSound, many_rest, many_next, each_next}
 use Rattle.octseq_format.specs.Counted.{Counted, CountFits, counted_octets, onward_counted, canonical_counted}
 use Rattle.octseq_format.specs.Laws.{Relation, NoneAt}
 use Rattle.octseq_format.specs.Rest.{IsRest, canonical_rest}
 use Rattle.octseq_format.specs.Row.{Row, RowTo, Moved, row_octets, row_written, onward_row, onward_moved}
-use Rattle.octseq_format.specs.Row.{canonical_moved}
+use Rattle.octseq_format.specs.Row.{canonical_moved, sound_row}
 use Rattle.octseq_format.proofs.Parts.{part_of_counted, counted_of_part}
 use Rattle.octseq_format.proofs.RowSteps.{row_by}
 
+-- octets after their length, which are at least the length's one
 abbrev pub IsFound : Relation Window
 IsFound = Moved (Counted 1 0 IsRest)
 
@@ -48,9 +49,11 @@ strings_found w (string ∷ strings) v is =
 
 -- ---- windows with another end
 
+-- the window with that end
 abbrev pub up_to : ℕ → Window → Window
 up_to end w = record { octets = w.octets; position = w.position; end = end }
 
+-- so is the window of the next octets up to a place
 pub same_up_to : (w u : Window) (place end : ℕ) → place ≡ w.position → place ≤ end → u ≡ nested (end - place) w
     → u ≡ up_to end w
 same_up_to w u place end is before same = same ∙ ap (λ end. up_to end w) (omega (arith, is, before))
@@ -137,10 +140,10 @@ taken w end found v sound ordered within is =
     let said = map rest found in
     let inside : IsSound u =
     record { each = sound.each; ordered = ordered; within = omega (arith, within, sound.within) } in
-    let onward = onward_moved (onward_counted 1 0 IsRest) in
-    let on = (onward_row IsFound onward).on u found v ordered is.0 in
-    let row = row_written onward (canonical_moved (canonical_counted canonical_rest)) u found v inside is.0 in
-    let more = many_rest v (sound_on (onward_row IsFound onward) u found v inside is.0) in
+    let on = (onward_row IsFound (onward_moved (onward_counted 1 0 IsRest))).on u found v ordered is.0 in
+    let canonical = canonical_moved (canonical_counted {k = 1} {extra = 0} canonical_rest) in
+    let row = row_written canonical u found v inside is.0 in
+    let more = many_rest v (sound_row canonical u found v inside is.0) in
     let none = is.1 in
     let place : v.position ≡ end = omega (arith, on.1, on.3, none) in
     record {

@@ -6,9 +6,9 @@ use Rattle.std.proofs.Math.Seq.{take-append_seam}
 use Rattle.std.specs.Coded.{Coded-set, coded_list, coded_ℕ, le_prop, ×_prop}
 use Rattle.std.specs.List.{AllByRecursion}
 use Rattle.octseq.specs.Window.{Window, rest}
-use Rattle.octseq_format.specs.Canonical.{AreOctets, IsSound, IsCanonical, many_rest, sound_on}
+use Rattle.octseq_format.specs.Canonical.{AreOctets, IsSound, IsCanonical, many_rest}
 use Rattle.octseq_format.specs.Laws.{Relation, IsOnward}
-use Rattle.octseq_format.specs.Row.{HoldsTo, row_octets, onward_row, row_written, each_once}
+use Rattle.octseq_format.specs.Row.{HoldsTo, row_octets, onward_row, row_written, sound_row, each_once}
 
 -- what a slice has are octets
 pub slice_octets : (xs : List ℕ) → ((k : ℕ) → Fits w8 (slice_index_or xs k 0)) → AreOctets xs
@@ -34,10 +34,10 @@ held_written {Is = Is} {says = says} {octets = octets} onward canonical w count 
     let set = Coded-set (coded_list coded_ℕ) (take n (rest w)) o in
     ∥∥₁_elim held.1 (×_prop (each_once canonical.once (map says held.0)) set) (λ x.
     let v = x.0 in
-    let row = row_written onward canonical w held.0 v sound x.1.0.1 in
+    let row = row_written canonical w held.0 v sound x.1.0.1 in
     let on = (onward_row Is onward).on w held.0 v sound.ordered x.1.0.1 in
     let all = many_rest w sound in
-    let more = many_rest v (sound_on (onward_row Is onward) w held.0 v sound x.1.0.1) in
+    let more = many_rest v (sound_row canonical w held.0 v sound x.1.0.1) in
     let both = ap length row.1 ∙ length-append o (rest v) in
     let place = x.1.1 in
     let long : length o ≡ n = omega (arith, all, more, both, place, ends, on.1, on.2, on.3) in

@@ -1,8 +1,8 @@
 -- Formats that say a thing in one way: what was read is written as the octets that it was read from.
 use Rattle.std.specs.Prelude.{◌≡◌, Bool, true, false, ◌&&◌, IsTrue, refl, ℕ, zero, suc, ◌+◌, ◌-◌, ◌≤◌, List, [], ◌∷◌, ◌++◌, length}
 use Rattle.std.proofs.Common.{take, drop, length-take, length-drop, ap, sym, subst, arith}
-pub use Rattle.octseq.proofs.WrittenBack.{AreOctets}
 use Rattle.std.proofs.Math.Bool.{true≢false}
+pub use Rattle.octseq.proofs.WrittenBack.{AreOctets}
 use Rattle.octseq.specs.Window.{Window, left, next, rest, past, nested}
 use Rattle.octseq_format.specs.Laws.{Relation, IsOnward}
 
@@ -12,12 +12,13 @@ pub record IsSound (w : Window) : Type 0 where
   pub ordered : w.position ≤ w.end
   pub within : w.end ≤ length w.octets
 
--- What is there fits, in one way, and its octets are those that it takes.
+-- What is there fits, in one way, and its octets are those that it takes. The window past it is on the same octets.
 pub record IsCanonical {A S : Type 0} (Is : Relation A) (says : A → S) (octets : S → List ℕ)
     (Fits : S → Type 0) : Type 0 where
   pub once : (said : S) → IsProp (Fits said)
   pub written : (w : Window) (a : A) (v : Window) → IsSound w → Is w a v
       → Fits (says a) × (rest w ≡ octets (says a) ++ rest v)
+  pub on : (w : Window) (a : A) (v : Window) → IsSound w → Is w a v → IsSound v
 
 pub each_taken : (n : ℕ) (xs : List ℕ) → AreOctets xs → AreOctets (take n xs)
 each_taken zero xs each = tt

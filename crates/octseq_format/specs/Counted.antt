@@ -9,7 +9,7 @@ use Rattle.octseq.proofs.Behind.{front_comes_next}
 use Rattle.octseq.proofs.Windows.{next_and_rest}
 use Rattle.octseq.proofs.Written.{length_be, value_be}
 use Rattle.octseq.proofs.WrittenBack.{small_be, as_be}
-use Rattle.octseq_format.specs.Canonical.{IsCanonical, each_next, many_next, sound_past, sound_nested}
+use Rattle.octseq_format.specs.Canonical.{IsCanonical, each_next, many_next, sound_past, sound_nested, sound_on}
 use Rattle.octseq_format.specs.Laws.{Relation, IsOne, IsOnward, IsReadBack, IsDelimited, back_of}
 
 -- how many octets of its own the thing has, as its length says
@@ -132,4 +132,5 @@ module _ {A : Type 0} {Is : Relation A} {k extra : ℕ} where
                 ∙ ap (λ o. (octets_be k (extra + length (octets (says a))) ++ o) ++ rest (past n far)) all
                 ∙ ap (λ v. counted_octets k extra octets (says a) ++ rest v) (sym is.2),
           );
+      on = sound_on (onward_counted k extra Is);
     }

@@ -9,7 +9,7 @@ use Rattle.octseq.proofs.Behind.{front_comes_next}
 use Rattle.octseq.proofs.Windows.{next_and_rest}
 use Rattle.octseq.proofs.Written.{length_be, value_be}
 use Rattle.octseq.proofs.WrittenBack.{small_be, as_be}
-use Rattle.octseq_format.specs.Canonical.{IsCanonical, each_next, many_next}
+use Rattle.octseq_format.specs.Canonical.{IsCanonical, each_next, many_next, sound_on}
 use Rattle.octseq_format.specs.Laws.{Relation, IsOne, IsOnward, IsReadBack, IsDelimited, back_of}
 
 -- n, in k octets, big-endian
@@ -60,4 +60,5 @@ module _ (k n : ℕ) where
               ∙ ap (λ o. o ++ rest (past k w)) (sym (as_be k xs many each) ∙ ap (octets_be k) is.1)
               ∙ ap (λ v. octets_be k n ++ rest v) (sym is.2),
         );
+    on = sound_on onward_exactly;
   }

@@ -4,7 +4,7 @@ use Rattle.std.proofs.Common.{sym, ap, ◌∙◌, subst, arith}
 use Rattle.octseq.specs.Window.{Window, left, next, rest, past}
 use Rattle.octseq.proofs.Behind.{front_comes_next}
 use Rattle.octseq.proofs.Windows.{next_and_rest}
-use Rattle.octseq_format.specs.Canonical.{AreOctets, IsCanonical, each_next, many_next}
+use Rattle.octseq_format.specs.Canonical.{AreOctets, IsCanonical, each_next, many_next, sound_on}
 use Rattle.octseq_format.specs.Laws.{Relation, IsOne, IsOnward, IsReadBack, IsDelimited, back_of}
 
 -- the next k octets, by what they are read as
@@ -61,4 +61,5 @@ module _ {A : Type 0} {k : ℕ} {reading : List ℕ → A} {octets : A → List 
           sym (next_and_rest w k is.0) ∙ ap (λ o. o ++ rest (past k w)) (sym told.1 ∙ ap octets (sym is.1))
               ∙ ap (λ v. octets a ++ rest v) (sym is.2),
         );
+    on = sound_on (onward_fixed k reading);
   }

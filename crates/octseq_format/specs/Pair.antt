@@ -4,7 +4,7 @@ use Rattle.std.proofs.Common.{sym, ap, ◌∙◌, subst, arith, length-append, a
 use Rattle.std.specs.Coded.{Coded, coded×}
 use Rattle.octseq.specs.Window.{Window, rest, at, past}
 use Rattle.octseq.proofs.Behind.{front_comes_next}
-use Rattle.octseq_format.specs.Canonical.{IsCanonical, sound_on, both_ways}
+use Rattle.octseq_format.specs.Canonical.{IsCanonical, both_ways}
 use Rattle.octseq_format.specs.Laws.{Relation, Takes, IsOne, IsOnward, IsReadBack, IsDelimited}
 
 infixr 5 ◌then◌
@@ -135,25 +135,25 @@ module _ {A B : Type 0} {First : Relation A} {Second : Relation B} where
             (two.back (past (length x) w) said.1 fits.second come.2 (omega (arith, all, long)));
       }
 
-      pub canonical_then : {m : ℕ} → IsOnward m First → IsCanonical First says first FirstFits
-          → IsCanonical Second tells second SecondFits
+      canonical_pair : IsCanonical First says first FirstFits → IsCanonical Second tells second SecondFits
           → IsCanonical (First then Second) (says and tells) (first before second) (FirstFits also SecondFits)
       unfolding both_octets both_say
-      canonical_then onward one two = record {
+      canonical_pair one two = record {
         once = fit_once one.once two.once;
         written = λ w a v sound is.
             let here = one.written w a.0 is.0 sound is.1 in
-            let there = two.written is.0 a.1 v (sound_on onward w a.0 is.0 sound is.1) is.2 in
+            let there = two.written is.0 a.1 v (one.on w a.0 is.0 sound is.1) is.2 in
             let x = first (says a.0) in (
               record { first = here.0; second = there.0 },
               here.1 ∙ ap (λ o. x ++ o) there.1 ∙ sym (append_assoc x (second (tells a.1)) (rest v)),
             );
+        on = λ w a v sound is. two.on is.0 a.1 v (one.on w a.0 is.0 sound is.1) is.2;
       }
 
-      pub canonical_both : {m : ℕ} {a b : Bool} → IsOnward m First
-          → (IsTrue a → IsCanonical First says first FirstFits)
+      infixr 5 ◌canonical_then◌
+      pub ◌canonical_then◌ : {a b : Bool} → (IsTrue a → IsCanonical First says first FirstFits)
           → (IsTrue b → IsCanonical Second tells second SecondFits) → IsTrue (a && b)
           → IsCanonical (First then Second) (says and tells) (first before second) (FirstFits also SecondFits)
-      canonical_both {a = a} {b = b} onward one two both =
-          let ways = both_ways a b both in
-          canonical_then onward (one ways.0) (two ways.1)
+      (one canonical_then two) both =
+          let ways = both_ways _ _ both in
+          canonical_pair (one ways.0) (two ways.1)

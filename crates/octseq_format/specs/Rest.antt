@@ -3,7 +3,7 @@ use Rattle.std.specs.Prelude.{◌≡◌, ℕ, ◌+◌, ◌-◌, ◌≤◌, List,
 use Rattle.std.proofs.Common.{sym, ap, ◌∙◌, arith, take, drop, [], ◌++◌, append-nil}
 use Rattle.std.specs.Coded.{Coded, code_by, coded_list, coded×, coded_ℕ, Unit-prop}
 use Rattle.octseq.specs.Window.{Window, left, rest, past}
-use Rattle.octseq_format.specs.Canonical.{IsCanonical}
+use Rattle.octseq_format.specs.Canonical.{IsCanonical, sound_on}
 use Rattle.octseq_format.specs.Laws.{Relation, IsOne, IsOnward, IsReadBack}
 
 -- the window of what is left
@@ -53,4 +53,5 @@ canonical_rest = record {
     ap rest (sym is.0) ∙ sym (append-nil (rest inside)) ∙ ap (λ more. rest inside ++ more)
         (sym (nothing_left w v sound.ordered is.1)),
   );
+  on = sound_on onward_rest;
 }

@@ -13,7 +13,7 @@ use Rattle.octseq.proofs.Behind.{front_comes_next}
 use Rattle.octseq.proofs.Windows.{next_and_rest}
 use Rattle.octseq.proofs.WrittenBack.{small_be, as_be}
 use Rattle.octseq.proofs.Written.{length_be, value_be}
-use Rattle.octseq_format.specs.Canonical.{IsSound, IsCanonical, sound_on, sound_past, each_next, many_next}
+use Rattle.octseq_format.specs.Canonical.{IsSound, IsCanonical, sound_past, each_next, many_next}
 use Rattle.octseq_format.specs.Laws.{Relation, Takes, IsOne, IsOnward, IsMoving, IsReadBack, IsDelimited, back_of}
 
 abbrev pub Row : {A : Type 0} → Relation A → Relation (List A)
@@ -86,25 +86,31 @@ one_many count Is one = record {
   same = λ w row others u v a b. one_row Is one w u v row others (a.0 ∙ sym b.0) a.1 b.1;
 }
 
+one_many_to : {A : Type 0} (count end : ℕ) (Is : Relation A) → IsOne Is → IsOne (ManyTo count end Is)
+one_many_to count end Is one = record {
+  same = λ w row others u v a b. (one_many count Is one).same w row others u v a.0 b.0;
+}
+
 pub one_times : {A : Type 0} (k : ℕ) (Is : Relation A) → IsOne Is → IsOne (Times k Is)
 one_times k Is one = record {
   same = λ w row others u v a b. one_row Is one (past k w) u v row others (a.1.0 ∙ sym b.1.0) a.1.1 b.1.1;
 }
 
--- so it is a fact that a row is there
+-- so it is a fact that one is there
+one_held : {A : Type 0} (code : Coded A) (Is : Relation A) → IsOne Is → (w : Window)
+    → IsProp ((a : A) × ∥ ((v : Window) × Is w a v) ∥₁)
+one_held code Is one w a b =
+    let set : IsProp (a.0 ≡ b.0) = Coded-set code a.0 b.0 in
+    Σ_prop_path (λ a. ∥∥₁_prop)
+    (∥∥₁_elim a.1 set (λ x. ∥∥₁_elim b.1 set (λ y. (one.same w a.0 b.0 x.0 y.0 x.1 y.1).0)))
+
 pub held_once : {A : Type 0} (code : Coded A) (Is : Relation A) → IsOne Is → (w : Window) (count : ℕ)
     → IsProp (Holds Is w count)
-held_once {A} code Is one w count a b =
-    let set : IsProp (a.0 ≡ b.0) = Coded-set (coded_list code) a.0 b.0 in
-    Σ_prop_path (λ row. ∥∥₁_prop)
-    (∥∥₁_elim a.1 set (λ x. ∥∥₁_elim b.1 set (λ y. ((one_many count Is one).same w a.0 b.0 x.0 y.0 x.1 y.1).0)))
+held_once code Is one w count = one_held (coded_list code) (Many count Is) (one_many count Is one) w
 
 pub held_to_once : {A : Type 0} (code : Coded A) (Is : Relation A) → IsOne Is → (w : Window) (count end : ℕ)
     → IsProp (HoldsTo Is w count end)
-held_to_once {A} code Is one w count end a b =
-    let set : IsProp (a.0 ≡ b.0) = Coded-set (coded_list code) a.0 b.0 in
-    Σ_prop_path (λ row. ∥∥₁_prop)
-    (∥∥₁_elim a.1 set (λ x. ∥∥₁_elim b.1 set (λ y. ((one_many count Is one).same w a.0 b.0 x.0 y.0 x.1.0 y.1.0).0)))
+held_to_once code Is one w count end = one_held (coded_list code) (ManyTo count end Is) (one_many_to count end Is one) w
 
 -- ---- rows of things that take octets
 
@@ -273,14 +279,19 @@ times_once k once said a b =
     ∙ ap (λ count. record { each = b.each; count = count })
     (le_prop {n = suc (length said)} {m = 256 ^ k} a.count b.count)
 
-module _ {A S : Type 0} {Is : Relation A} {says : A → S} {octets : S → List ℕ} {Fits : S → Type 0} {least : ℕ}
-    (onward : IsOnward least Is) (canonical : IsCanonical Is says octets Fits) where
+module _ {A S : Type 0} {Is : Relation A} {says : A → S} {octets : S → List ℕ} {Fits : S → Type 0}
+    (canonical : IsCanonical Is says octets Fits) where
+  -- the window past a row
+  pub sound_row : (w : Window) (row : List A) (v : Window) → IsSound w → Row Is w row v → IsSound v
+  sound_row w [] v sound is = subst IsSound (sym is) sound
+  sound_row w (x ∷ row) v sound is = sound_row is.0 row v (canonical.on w x is.0 sound is.1) is.2
+
   pub row_written : (w : Window) (row : List A) (v : Window) → IsSound w → Row Is w row v
       → AllByRecursion Fits (map says row) × (rest w ≡ row_octets octets (map says row) ++ rest v)
   row_written w [] v sound is = (tt, ap rest (sym is))
   row_written w (x ∷ row) v sound is =
       let here = canonical.written w x is.0 sound is.1 in
-      let there = row_written is.0 row v (sound_on onward w x is.0 sound is.1) is.2 in
+      let there = row_written is.0 row v (canonical.on w x is.0 sound is.1) is.2 in
       let o = octets (says x) in
       let more = row_octets octets (map says row) in (
         (here.0, there.0),
@@ -292,6 +303,7 @@ module _ {A S : Type 0} {Is : Relation A} {says : A → S} {octets : S → List 
   canonical_to = record {
     once = each_once canonical.once;
     written = λ w row v sound is. row_written w row v sound is.0;
+    on = λ w row v sound is. sound_row w row v sound is.0;
   }
 
   pub canonical_times : (k : ℕ)
@@ -311,6 +323,7 @@ module _ {A S : Type 0} {Is : Relation A} {says : A → S} {octets : S → List 
           sym (next_and_rest w k is.0) ∙ ap (λ more. head ++ more) there.1 ∙ sym (append_assoc head o (rest v))
               ∙ ap (λ h. (h ++ o) ++ rest v) (sym first),
         );
+    on = λ w row v sound is. sound_row (past k w) row v (sound_past k w sound is.0) is.1.1;
   }
 
 pub canonical_moved : {A S : Type 0} {Is : Relation A} {says : A → S} {octets : S → List ℕ} {Fits : S → Type 0}
@@ -318,4 +331,5 @@ pub canonical_moved : {A S : Type 0} {Is : Relation A} {says : A → S} {octets 
 canonical_moved canonical = record {
   once = canonical.once;
   written = λ w a v sound is. canonical.written w a v sound is.0;
+  on = λ w a v sound is. canonical.on w a v sound is.0;
 }

@@ -1,11 +1,10 @@
 //! Bits of a number, as numbers and flags.
-ghost use Rattle.std.specs.Prelude.{◌≡◌, ◌≢◌, ◌≤◌, ◌<◌, ◌+◌, ◌*◌, ◌/◌, ◌%◌, ◌^◌, ℕ, Bool, IsNone, IfSome};
+ghost use Rattle.std.specs.Prelude.{◌≡◌, ◌≢◌, ◌≤◌, ◌<◌, ◌+◌, ◌*◌, ◌/◌, ◌%◌, ◌^◌, ℕ, Bool, IsNone, IfSome, false};
 ghost use Rattle.std.specs.Coded.{Coded, coded_ℕ, coded_bool, coded×};
 ghost use Rattle.octseq.specs.Integer.{octets_be};
 ghost use Rattle.octseq_format.specs.Bits.{IsOneNumber, HasBits, IsBits, BitsFit, both_bits, bit_number, one_number};
 ghost use Rattle.octseq_format.specs.Bits.{has_number, one_bit, has_bit, one_both, has_both, one_bits, onward_bits};
 ghost use Rattle.octseq_format.specs.Bits.{delimited_bits, bits_read_back};
-ghost use Rattle.std.specs.Prelude.{false};
 ghost use Rattle.octseq_format.specs.Canonical.{not_one_way};
 ghost use Rattle.octseq_format.specs.Pair.{◌also◌};
 

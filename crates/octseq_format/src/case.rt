@@ -1,6 +1,6 @@
 //! One of several things, by a tag: a number that was read before them.
 ghost use Rattle.std.specs.Prelude.{◌≡◌, ◌≤◌, ◌<◌, ◌^◌, ◌↔◌, ◌+◌, ◌*◌, ◌++◌, ℕ, ◌⊎◌, List, length, true, IsTrue};
-ghost use Rattle.std.specs.Prelude.{IsErr, IfOk, OnOk, OnErr, IsNone, IsSome, IfSome};
+ghost use Rattle.std.specs.Prelude.{IsErr, IfOk, OnOk, OnErr, IsNone, IsSome, IfSome, false};
 ghost use Rattle.std.specs.Coded.{Coded, coded_ℕ, coded×, coded⊎};
 ghost use Rattle.octseq.specs.Limit.{IsWithin};
 ghost use Rattle.octseq.specs.Parser.{window, sequence};
@@ -14,7 +14,6 @@ ghost use Rattle.octseq_format.specs.Case.{delimited_other, Tagged, tagged_octet
 ghost use Rattle.octseq_format.specs.Case.{one_tagged, onward_tagged};
 ghost use Rattle.octseq_format.specs.Case.{tagged_read_back, delimited_tagged};
 ghost use Rattle.octseq_format.specs.Laws.{IsOne, IsOnward, HasOctets};
-ghost use Rattle.std.specs.Prelude.{false};
 ghost use Rattle.octseq_format.specs.Canonical.{not_one_way};
 ghost use Rattle.octseq_format.specs.Turns.{TakesTurns};
 

@@ -1,11 +1,10 @@
 //! Octets up to the first zero.
-ghost use Rattle.std.specs.Prelude.{◌≡◌, ◌≤◌, ℕ, List, length, IfSome, IsNone};
+ghost use Rattle.std.specs.Prelude.{◌≡◌, ◌≤◌, ℕ, List, length, IfSome, IsNone, false};
 ghost use Rattle.std.proofs.Common.{rules};
 ghost use Rattle.octseq.specs.Parser.{window};
 ghost use Rattle.octseq.specs.Window.{Window, rest};
 ghost use Rattle.octseq_format.specs.Ended.{EndsAt, HasNoZero, IsEnded, ended_octets, one_ended, onward_ended};
 ghost use Rattle.octseq_format.specs.Ended.{delimited_ended, ended_read_back};
-ghost use Rattle.std.specs.Prelude.{false};
 ghost use Rattle.octseq_format.specs.Canonical.{not_one_way};
 ghost use Rattle.octseq_format.specs.Rest.{window_code};
 

@@ -1,12 +1,11 @@
 //! A number that meets a test.
-ghost use Rattle.std.specs.Prelude.{◌≡◌, ◌<◌, ◌^◌, ℕ, IsTrue, IsFalse};
+ghost use Rattle.std.specs.Prelude.{◌≡◌, ◌<◌, ◌^◌, ℕ, IsTrue, IsFalse, false};
 ghost use Rattle.std.specs.Coded.{coded_ℕ};
 ghost use Rattle.octseq.specs.Integer.{be, octets_be};
 ghost use Rattle.octseq_format.specs.Fixed.{IsFixed, one_fixed, onward_fixed, delimited_fixed};
 ghost use Rattle.octseq_format.specs.Fixed.{fixed_read_back};
 ghost use Rattle.octseq_format.specs.Integers.{are_be};
 ghost use Rattle.octseq_format.specs.Where.{IsWhere, WhereFits, one_where, onward_where};
-ghost use Rattle.std.specs.Prelude.{false};
 ghost use Rattle.octseq_format.specs.Canonical.{not_one_way};
 ghost use Rattle.octseq_format.specs.Where.{where_read_back, delimited_where};
 

@@ -1,8 +1,7 @@
 //! A thing at the end, or nothing.
-ghost use Rattle.std.specs.Prelude.{Option};
+ghost use Rattle.std.specs.Prelude.{Option, false};
 ghost use Rattle.std.specs.Coded.{coded_option};
 ghost use Rattle.octseq_format.specs.Optional.{IsOptional, optional_says, optional_octets, OptionalFits};
-ghost use Rattle.std.specs.Prelude.{false};
 ghost use Rattle.octseq_format.specs.Canonical.{not_one_way};
 ghost use Rattle.octseq_format.specs.Optional.{optional_turns, one_optional, onward_optional, optional_read_back};
 

@@ -154,7 +154,8 @@ pub struct Repeated<F> {
 impl<R: AsOctets + Copy, F: Moving<R>> Format<R> for Repeated<F> {
     ghost use Rattle.octseq_format.specs.Laws.{moving_of};
     ghost use Rattle.octseq_format.specs.Row.{Moved, one_to, one_moved, moving_moved, onward_to};
-    ghost use Rattle.octseq_format.specs.Row.{onward_moved, delimited_moved, to_read_back, canonical_moved, canonical_to};
+    ghost use Rattle.octseq_format.specs.Row.{onward_moved, delimited_moved, to_read_back};
+    ghost use Rattle.octseq_format.specs.Row.{canonical_moved, canonical_to};
 
     type Value = Walk<R, F>;
 
@@ -223,7 +224,7 @@ impl<R: AsOctets + Copy, F: Moving<R>> Format<R> for Repeated<F> {
 
     ghost one_way = { F.one_way };
 
-    ghost canonical = { λ yes. canonical_to (onward_moved F.onward) (canonical_moved (F.canonical yes)) };
+    ghost canonical = { λ yes. canonical_to (canonical_moved (F.canonical yes)) };
 
     ghost onward = { onward_to (Moved F.is_at) (onward_moved F.onward) };
 
@@ -313,7 +314,7 @@ impl<R: AsOctets + Copy, N: Length, F: Moving<R>> Format<R> for Times<N, F> {
 
     ghost one_way = { F.one_way };
 
-    ghost canonical = { λ yes. canonical_times F.onward (F.canonical yes) N.width };
+    ghost canonical = { λ yes. canonical_times (F.canonical yes) N.width };
 
     ghost onward = { onward_times N.width F.is_at F.onward };
 

@@ -1,9 +1,8 @@
 //! Octets that are UTF-8.
-ghost use Rattle.std.specs.Prelude.{ℕ, List};
+ghost use Rattle.std.specs.Prelude.{ℕ, List, false};
 ghost use Rattle.octseq.specs.Parser.{window};
 ghost use Rattle.octseq.specs.Window.{Window, rest};
 ghost use Rattle.octseq_format.specs.Rest.{window_code};
-ghost use Rattle.std.specs.Prelude.{false};
 ghost use Rattle.octseq_format.specs.Canonical.{not_one_way};
 ghost use Rattle.octseq_format.specs.Text.{IsText, TextFits, one_text, onward_text, text_read_back};
 

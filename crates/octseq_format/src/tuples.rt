@@ -1,7 +1,8 @@
 //! Tuples: one thing after another.
 ghost use Rattle.std.specs.Prelude.{◌+◌, ◌&&◌};
 ghost use Rattle.octseq_format.specs.Pair.{◌then◌, ◌and◌, ◌before◌, ◌also◌, ◌code_then◌, ◌plus◌};
-ghost use Rattle.octseq_format.specs.Pair.{◌one_then◌, ◌onward_then◌, ◌back_then◌, ◌delimited_then◌, canonical_both, some_more};
+ghost use Rattle.octseq_format.specs.Pair.{◌one_then◌, ◌onward_then◌, ◌back_then◌, ◌delimited_then◌, ◌canonical_then◌};
+ghost use Rattle.octseq_format.specs.Pair.{some_more};
 
 use crate::format::{Delimited, Format, Moving};
 use octseq::utf8::Turns;
@@ -82,7 +83,7 @@ impl<R: AsOctets + Copy, A: Delimited<R>, B: Format<R>> Format<R> for (A, B) {
 
     ghost one_way = { A.one_way && B.one_way };
 
-    ghost canonical = { canonical_both A.onward A.canonical B.canonical };
+    ghost canonical = { A.canonical canonical_then B.canonical };
 
     ghost onward = { A.onward onward_then B.onward };
 
@@ -159,7 +160,7 @@ impl<R: AsOctets + Copy, A: Delimited<R>, B: Delimited<R>, C: Format<R>> Format<
 
     ghost one_way = { A.one_way && (B.one_way && C.one_way) };
 
-    ghost canonical = { canonical_both A.onward A.canonical (canonical_both B.onward B.canonical C.canonical) };
+    ghost canonical = { A.canonical canonical_then B.canonical canonical_then C.canonical };
 
     ghost onward = { A.onward onward_then B.onward onward_then C.onward };
 
@@ -238,7 +239,7 @@ impl<R: AsOctets + Copy, A: Delimited<R>, B: Delimited<R>, C: Delimited<R>, D: F
 
     ghost one_way = { A.one_way && (B.one_way && (C.one_way && D.one_way)) };
 
-    ghost canonical = { canonical_both A.onward A.canonical (canonical_both B.onward B.canonical (canonical_both C.onward C.canonical D.canonical)) };
+    ghost canonical = { A.canonical canonical_then B.canonical canonical_then C.canonical canonical_then D.canonical };
 
     ghost onward = { A.onward onward_then B.onward onward_then C.onward onward_then D.onward };
 
@@ -337,7 +338,8 @@ impl<
 
     ghost one_way = { A.one_way && (B.one_way && (C.one_way && (D.one_way && E.one_way))) };
 
-    ghost canonical = { canonical_both A.onward A.canonical (canonical_both B.onward B.canonical (canonical_both C.onward C.canonical (canonical_both D.onward D.canonical E.canonical))) };
+    ghost canonical = { A.canonical canonical_then B.canonical canonical_then C.canonical canonical_then D.canonical
+        canonical_then E.canonical };
 
     ghost onward = { A.onward onward_then B.onward onward_then C.onward onward_then D.onward onward_then E.onward };
 
@@ -457,7 +459,8 @@ impl<
 
     ghost one_way = { A.one_way && (B.one_way && (C.one_way && (D.one_way && (E.one_way && F.one_way)))) };
 
-    ghost canonical = { canonical_both A.onward A.canonical (canonical_both B.onward B.canonical (canonical_both C.onward C.canonical (canonical_both D.onward D.canonical (canonical_both E.onward E.canonical F.canonical)))) };
+    ghost canonical = { A.canonical canonical_then B.canonical canonical_then C.canonical canonical_then D.canonical
+        canonical_then E.canonical canonical_then F.canonical };
 
     ghost onward = { A.onward onward_then B.onward onward_then C.onward onward_then D.onward onward_then E.onward
         onward_then F.onward };
@@ -595,9 +598,11 @@ impl<
         )
     }
 
-    ghost one_way = { A.one_way && (B.one_way && (C.one_way && (D.one_way && (E.one_way && (F.one_way && G.one_way))))) };
+    ghost one_way = { A.one_way && (B.one_way && (C.one_way && (D.one_way && (E.one_way && (F.one_way
+        && G.one_way))))) };
 
-    ghost canonical = { canonical_both A.onward A.canonical (canonical_both B.onward B.canonical (canonical_both C.onward C.canonical (canonical_both D.onward D.canonical (canonical_both E.onward E.canonical (canonical_both F.onward F.canonical G.canonical))))) };
+    ghost canonical = { A.canonical canonical_then B.canonical canonical_then C.canonical canonical_then D.canonical
+        canonical_then E.canonical canonical_then F.canonical canonical_then G.canonical };
 
     ghost onward = { A.onward onward_then B.onward onward_then C.onward onward_then D.onward onward_then E.onward
         onward_then F.onward onward_then G.onward };
@@ -746,9 +751,12 @@ impl<
         )
     }
 
-    ghost one_way = { A.one_way && (B.one_way && (C.one_way && (D.one_way && (E.one_way && (F.one_way && (G.one_way && H.one_way)))))) };
+    ghost one_way = { A.one_way && (B.one_way && (C.one_way && (D.one_way && (E.one_way && (F.one_way
+        && (G.one_way && H.one_way)))))) };
 
-    ghost canonical = { canonical_both A.onward A.canonical (canonical_both B.onward B.canonical (canonical_both C.onward C.canonical (canonical_both D.onward D.canonical (canonical_both E.onward E.canonical (canonical_both F.onward F.canonical (canonical_both G.onward G.canonical H.canonical)))))) };
+    ghost canonical = { A.canonical canonical_then B.canonical canonical_then C.canonical canonical_then D.canonical
+        canonical_then E.canonical canonical_then F.canonical canonical_then G.canonical
+        canonical_then H.canonical };
 
     ghost onward = { A.onward onward_then B.onward onward_then C.onward onward_then D.onward onward_then E.onward
         onward_then F.onward onward_then G.onward onward_then H.onward };
