@@ -1,0 +1,134 @@
+-- Targets in their order, searched by halves.
+use Rattle.std.proofs.Common.{◌≡◌, ◌⊎◌, inl, inr, true, false, ℕ, zero, suc, ◌+◌, ◌*◌, ◌/◌, ◌^◌, ◌<◌, ◌≤◌}
+use Rattle.std.proofs.Common.{List, [], ◌∷◌, length, refl, sym, ap, ◌∙◌, subst, arith}
+use Rattle.std.proofs.lemmas.Cmp.{nat_list_cmp_total}
+use Rattle.std.proofs.lemmas.Map.Lookups.{exact_bytes}
+use Rattle.std.proofs.Math.Bool.{true≢false}
+use Rattle.std.proofs.Math.Decide.{dec_le}
+use Rattle.std.proofs.Math.Nat.{eq-or-lt_of_le, lt_of_not-le, pow-suc, pow-le-pow_right, mul_assoc, mul-le-mul_left}
+use Rattle.std.specs.Cmp.Lexicographic.{slice_cmp}
+use Rattle.std.specs.Ordering.{nat_cmp, is_lt, ordering_reverse}
+use Rattle.std.specs.Prelude.{slice_index_or}
+use Rattle.std.specs.declared.cmp.Ordering.{Ordering}
+use Rattle.octseq_dns_compress.specs.Key.{key_of, key_cmp, AreTargets, IsPosition, HasKeyAt, HasNoKey}
+use Rattle.octseq_dns_compress.specs.declared.table.Target.{Target}
+
+-- what is in the list is so whatever the default is
+pub same_index : (xs : List Target) (i : ℕ) (d e : Target) → i < length xs
+    → slice_index_or xs i d ≡ slice_index_or xs i e
+same_index [] i d e inside = absurd (omega (arith, inside))
+same_index (x ∷ xs) zero d e inside = refl
+same_index (x ∷ xs) (suc i) d e inside = same_index xs i d e (omega (arith, inside))
+
+pub less_told : (told : Ordering) → is_lt told ≡ true → told ≡ Ordering.Less
+less_told Ordering.Less lt = refl
+less_told Ordering.Equal lt = absurd (true≢false (sym lt))
+less_told Ordering.Greater lt = absurd (true≢false (sym lt))
+
+module _ (octets : List ℕ) (targets : List Target) (key : List ℕ) (sorted : AreTargets octets targets) where
+  -- what is before one that is before the key is before it too
+  pub before_more : (mid : ℕ) (d : Target) (told : Ordering) → mid < length targets
+      → told ≡ key_cmp octets (slice_index_or targets mid d) key → is_lt told ≡ true
+      → (k : ℕ) (e : Target) → k < mid + 1 → key_cmp octets (slice_index_or targets k e) key ≡ Ordering.Less
+  before_more mid d told inside is lt k e before = at_most (eq-or-lt_of_le (omega (arith, before))) where
+    less : key_cmp octets (slice_index_or targets mid d) key ≡ Ordering.Less
+    less = sym is ∙ less_told told lt
+
+    at_most : (k ≡ mid) ⊎ (k < mid) → key_cmp octets (slice_index_or targets k e) key ≡ Ordering.Less
+    at_most (inl same) =
+        subst (λ t. key_cmp octets t key ≡ Ordering.Less)
+        (same_index targets mid d e inside ∙ ap (λ k. slice_index_or targets k e) (sym same)) less
+    at_most (inr below) =
+        let there = subst (λ t. key_cmp octets t key ≡ Ordering.Less) (same_index targets mid d e inside) less in
+        nat_list_cmp_total.trans (key_of octets (slice_index_or targets k e))
+        (key_of octets (slice_index_or targets mid e)) key (sorted.less k mid e below inside) there
+
+  -- and what is after one that isn't isn't either
+  pub after_more : (mid : ℕ) (d : Target) (told : Ordering) → mid < length targets
+      → told ≡ key_cmp octets (slice_index_or targets mid d) key → is_lt told ≡ false
+      → (k : ℕ) (e : Target) → mid ≤ k → k < length targets
+      → ¬ (key_cmp octets (slice_index_or targets k e) key ≡ Ordering.Less)
+  after_more mid d told inside is ge k e from within less = at_least (eq-or-lt_of_le from) where
+    other : ¬ (key_cmp octets (slice_index_or targets mid d) key ≡ Ordering.Less)
+    other same = true≢false (sym (ap is_lt (is ∙ same)) ∙ ge)
+
+    at_least : (mid ≡ k) ⊎ (mid < k) → ⊥
+    at_least (inl same) =
+        other (subst (λ t. key_cmp octets t key ≡ Ordering.Less)
+        (ap (λ k. slice_index_or targets k e) (sym same) ∙ same_index targets mid e d inside) less)
+    at_least (inr above) =
+        other (subst (λ t. key_cmp octets t key ≡ Ordering.Less) (same_index targets mid e d inside)
+        (nat_list_cmp_total.trans (key_of octets (slice_index_or targets mid e))
+        (key_of octets (slice_index_or targets k e)) key (sorted.less mid k e above within) less))
+
+-- halves of at most 16,384 are 15
+pub halved : (ticks more left fewer all : ℕ) → more ≡ ticks + 1 → fewer ≤ left / 2 → 2 ^ ticks * left ≤ all
+    → 2 ^ more * fewer ≤ all
+halved ticks more left fewer all next half few =
+    let power : 2 ^ more ≡ 2 ^ ticks * 2 = ap (λ n. 2 ^ n) (omega (arith, next)) ∙ pow-suc 2 ticks in
+    let same : 2 ^ more * fewer ≡ 2 ^ ticks * (2 * fewer) =
+    ap (λ p. p * fewer) power ∙ mul_assoc (2 ^ ticks) 2 fewer in
+    let less : 2 ^ ticks * (2 * fewer) ≤ 2 ^ ticks * left = mul-le-mul_left (2 ^ ticks) (omega (arith, half)) in
+    omega (arith, same, less, few)
+
+pub few_halves : (ticks left : ℕ) → 0 < left → 2 ^ ticks * left ≤ 16384 → ticks ≤ 14
+few_halves ticks left some few = lt_or_ge (dec_le 15 ticks) where
+  lt_or_ge : Dec (15 ≤ ticks) → ticks ≤ 14
+  lt_or_ge (no less) = let small = lt_of_not-le less in omega (arith, small)
+  lt_or_ge (yes many) =
+      let power : 2 ^ 15 ≤ 2 ^ ticks = pow-le-pow_right (omega arith) many in
+      let one : 2 ^ ticks * 1 ≤ 2 ^ ticks * left = mul-le-mul_left (2 ^ ticks) (omega (arith, some)) in
+      omega (arith, power, one, few)
+
+-- ---- keys that are there
+
+-- a key is neither before itself nor after
+same_key : (key : List ℕ) → slice_cmp nat_cmp key key ≡ Ordering.Equal
+same_key key = alike (slice_cmp nat_cmp key key) (nat_list_cmp_total.antisymm key key) where
+  alike : (told : Ordering) → told ≡ ordering_reverse told → told ≡ Ordering.Equal
+  alike Ordering.Less same = absurd (true≢false (ap is_lt same))
+  alike Ordering.Equal same = refl
+  alike Ordering.Greater same = absurd (true≢false (sym (ap is_lt same)))
+
+pub key_there : (octets : List ℕ) (targets : List Target) (key : List ℕ) (index : ℕ) (d : Target)
+    → index < length targets → key_cmp octets (slice_index_or targets index d) key ≡ Ordering.Equal
+    → HasKeyAt octets targets key index
+key_there octets targets key index d within told = record {
+  within = within;
+  is = λ e. ap (key_of octets) (same_index targets index e d within)
+      ∙ exact_bytes (key_of octets (slice_index_or targets index d)) key told;
+}
+
+pub key_equal : (octets : List ℕ) (targets : List Target) (key : List ℕ) (index : ℕ) (d : Target)
+    → HasKeyAt octets targets key index → key_cmp octets (slice_index_or targets index d) key ≡ Ordering.Equal
+key_equal octets targets key index d has =
+    subst (λ k. slice_cmp nat_cmp k key ≡ Ordering.Equal) (sym (has.is d)) (same_key key)
+
+not_less : (told : Ordering) → told ≡ Ordering.Equal → told ≡ Ordering.Less → ⊥
+not_less told equal less = true≢false (sym (ap is_lt less) ∙ ap is_lt equal)
+
+-- where it isn't at its position it is nowhere
+pub nowhere : (octets : List ℕ) (targets : List Target) (key : List ℕ) (position : ℕ) → AreTargets octets targets
+    → IsPosition octets targets key position → ¬ HasKeyAt octets targets key position
+    → HasNoKey octets targets key
+nowhere octets targets key position sorted is none index has = below (lt_or_ge (dec_le position index)) where
+  d : Target
+  d = record { at = 0; next = 0; pointers = 0 }
+
+  equal : key_cmp octets (slice_index_or targets index d) key ≡ Ordering.Equal
+  equal = key_equal octets targets key index d has
+
+  lt_or_ge : Dec (position ≤ index) → (index < position) ⊎ (position ≤ index)
+  lt_or_ge (yes from) = inr from
+  lt_or_ge (no before) = inl (lt_of_not-le before)
+
+  past : (position ≡ index) ⊎ (position < index) → ⊥
+  past (inl same) = none (subst (HasKeyAt octets targets key) (sym same) has)
+  past (inr before) =
+      is.after position d (omega arith) (omega (arith, before, has.within))
+      (subst (λ k. slice_cmp nat_cmp (key_of octets (slice_index_or targets position d)) k ≡ Ordering.Less) (has.is d)
+      (sorted.less position index d before has.within))
+
+  below : (index < position) ⊎ (position ≤ index) → ⊥
+  below (inl before) = not_less (key_cmp octets (slice_index_or targets index d) key) equal (is.before index d before)
+  below (inr from) = past (eq-or-lt_of_le from)

@@ -1,0 +1,11 @@
+pub mod Added
+pub mod Composing
+pub mod Grown
+pub mod Keeping
+pub mod KeptNames
+pub mod Keys
+pub mod KeptSoFar
+pub mod MoreNames
+pub mod PlainLabels
+pub mod Searched
+pub mod Steps

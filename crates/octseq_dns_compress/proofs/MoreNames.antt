@@ -1,0 +1,203 @@
+-- Targets of names, and one more of each.
+use Rattle.std.specs.Prelude.{slice_index_or, IsTrue, cond}
+use Rattle.std.proofs.Common.{◌≡◌, ◌⊎◌, inl, inr, ℕ, ◌+◌, ◌<◌, ◌≤◌, Some, None, List, [], ◌∷◌, length, drop, refl, sym}
+use Rattle.std.proofs.Common.{ap, ◌∙◌, subst, arith, is_some}
+use Rattle.std.proofs.Math.Decide.{dec_le}
+use Rattle.std.proofs.Math.Nat.{lt_of_not-le}
+use Rattle.std.proofs.lemmas.List.Edits.{get_or-insert_at, get_or-insert_below, get_or-insert_above, length-insert}
+use Rattle.std.specs.FinMap.{get, len, insert as put, len-insert}
+use Rattle.std.specs.List.{insert}
+use Rattle.octseq_dns_compress.specs.Agrees.{Agrees, IsOfName, HasTarget, place_of, target_of, at_or_zero}
+use Rattle.octseq_dns_compress.specs.FoundNames.{labels_total, get_new, get_other, alike_there, some_or_none}
+use Rattle.octseq_dns_compress.specs.FoundNames.{place_there, same_or_other, one_place}
+use Rattle.octseq_dns_compress.specs.Key.{label_at, key_of, IsWhole, IsPosition, HasNoKey}
+use Rattle.octseq_dns_compress.specs.Known.{name_key, found}
+use Rattle.octseq_dns_compress.specs.Names.{Names, Place, is_there}
+use Rattle.octseq_dns_compress.specs.declared.table.Target.{Target}
+use Rattle.octseq_dns_compress.proofs.Added.{targets_added, each_of}
+
+-- A name that isn't there may be kept: its first label is at its place, which a pointer can say and no other name has,
+-- and what follows is there.
+pub record MayBeKept (octets : List ℕ) (names : Names) (label : List ℕ) (rest : List (List ℕ)) (place : Place)
+    : Type 0 where
+  pub new : get names (label ∷ rest) ≡ None
+  pub more : IsTrue (is_there names rest)
+  pub label_is : label_at octets place.at ≡ length label ∷ label
+  pub whole : IsWhole octets place.at
+  pub after_header : 12 ≤ place.at
+  pub near : place.at ≤ 16383
+  pub few : place.pointers ≤ 126
+  pub fresh : (labels : List (List ℕ)) (other : Place) → get names labels ≡ Some other → ¬ (other.at ≡ place.at)
+
+module _ (octets : List ℕ) (targets : List Target) (names : Names) (agrees : Agrees octets targets names)
+    (label : List ℕ) (rest : List (List ℕ)) (place : Place) (may : MayBeKept octets names label rest place) where
+  all_names : Names
+  all_names = put names (label ∷ rest) place
+
+  apart : (labels : List (List ℕ)) → IsTrue (is_there names labels) → ¬ (labels ≡ label ∷ rest)
+  apart [] there same = absurd (omega (arith, ap length same))
+  apart (l ∷ labels) there same =
+      let found = place_there names l labels there in
+      some_or_none (get names (l ∷ labels)) found.0 found.1 (ap (get names) same ∙ may.new)
+
+  get_stays : (labels : List (List ℕ)) → IsTrue (is_there names labels) → get all_names labels ≡ get names labels
+  unfolding all_names
+  get_stays labels there = get_other names (label ∷ rest) labels place (apart labels there)
+
+  target_stays : (labels : List (List ℕ)) (p : Place) → IsTrue (is_there names labels)
+      → target_of names labels p ≡ target_of all_names labels p
+  target_stays labels p there =
+      ap (λ found. record { at = p.at; next = at_or_zero found; pointers = p.pointers }) (sym (get_stays labels there))
+
+  there_stays : (labels : List (List ℕ)) → IsTrue (is_there names labels) → IsTrue (is_there all_names labels)
+  there_stays labels there = alike_there all_names names labels (get_stays labels there) ∙ there
+
+  target : Target
+  target = target_of names rest place
+
+  key_is : key_of octets target ≡ name_key names label rest
+  unfolding target
+  key_is = ap (λ xs. place_of names rest ∷ xs) may.label_is
+
+  -- no target has its key
+  none : HasNoKey octets targets (name_key names label rest)
+  none index has =
+      let d : Target = record { at = 0; next = 0; pointers = 0 } in
+      let found = found agrees label rest index d may.more has in
+      some_or_none (get names (label ∷ rest)) found.0 found.1 may.new
+
+  module _ (position : ℕ) (is : IsPosition octets targets (name_key names label rest) position) where
+    all_targets : List Target
+    all_targets = insert targets position target
+
+    at_position : IsPosition octets targets (key_of octets target) position
+    at_position = subst (λ key. IsPosition octets targets key position) (sym key_is) is
+
+    none_there : HasNoKey octets targets (key_of octets target)
+    none_there = subst (HasNoKey octets targets) (sym key_is) none
+
+    held_added : (index : ℕ) (d : Target) → index < length all_targets
+        → IsOfName octets all_names (slice_index_or all_targets index d)
+    unfolding all_targets all_names target
+    held_added =
+        each_of octets targets target position is.within (IsOfName octets all_names)
+        (λ index d within.
+        let held = agrees.held index d within in
+        let mine = agrees.all held.label held.rest held.place held.there in
+        record {
+          label = held.label;
+          rest = held.rest;
+          place = held.place;
+          there = get_stays (held.label ∷ held.rest) (ap is_some held.there) ∙ held.there;
+          target_is = held.target_is ∙ target_stays held.rest held.place mine.more;
+        })
+        (record {
+          label = label;
+          rest = rest;
+          place = place;
+          there = get_new names (label ∷ rest) place;
+          target_is = target_stays rest place may.more;
+        })
+
+    new_has : HasTarget octets all_targets all_names label rest place
+    unfolding all_targets target
+    new_has = record {
+      label_is = may.label_is;
+      whole = may.whole;
+      after_header = may.after_header;
+      more = there_stays rest may.more;
+      index = position;
+      within = let long = length-insert targets position target is.within in
+          let within = is.within in omega (arith, long, within);
+      target_is = λ d. get_or-insert_at targets position target d is.within ∙ target_stays rest place may.more;
+    }
+
+    old_has : (l : List ℕ) (r : List (List ℕ)) (p : Place) → HasTarget octets targets names l r p
+        → HasTarget octets all_targets all_names l r p
+    unfolding all_targets target
+    old_has l r p has = at (dec_le position has.index) where
+      within : position ≤ length targets
+      within = is.within
+
+      long : length (insert targets position target) ≡ length targets + 1
+      long = length-insert targets position target within
+
+      inside : has.index < length targets
+      inside = has.within
+
+      to : (index : ℕ) → index < length (insert targets position target)
+          → ((d : Target) → slice_index_or (insert targets position target) index d ≡ slice_index_or targets has.index d)
+          → HasTarget octets (insert targets position target) all_names l r p
+      to index less same = record {
+        label_is = has.label_is;
+        whole = has.whole;
+        after_header = has.after_header;
+        more = there_stays r has.more;
+        index = index;
+        within = less;
+        target_is = λ d. same d ∙ has.target_is d ∙ target_stays r p has.more;
+      }
+
+      at : Dec (position ≤ has.index) → HasTarget octets (insert targets position target) all_names l r p
+      at (yes from) =
+          to (has.index + 1) (omega (arith, long, inside))
+          (λ d. get_or-insert_above targets position target d has.index from within)
+      at (no less) =
+          let below = lt_of_not-le less in
+          to has.index (omega (arith, long, inside))
+          (λ d. get_or-insert_below targets position target d has.index below within)
+
+    all_added : (l : List ℕ) (r : List (List ℕ)) (p : Place) → get all_names (l ∷ r) ≡ Some p
+        → HasTarget octets all_targets all_names l r p
+    unfolding all_names
+    all_added l r p found = by_name (same_or_other (l ∷ r) (label ∷ rest)) where
+      by_name : ((l ∷ r) ≡ (label ∷ rest)) ⊎ ¬ ((l ∷ r) ≡ (label ∷ rest)) → HasTarget octets all_targets all_names l r p
+      by_name (inl same) =
+          let one : p ≡ place = one_place p place
+          (sym found ∙ ap (get (put names (label ∷ rest) place)) same ∙ get_new names (label ∷ rest) place) in
+          subst (λ p. HasTarget octets all_targets all_names l r p) (sym one)
+          (subst (λ l. HasTarget octets all_targets all_names l r place)
+          (sym (ap (λ xs. slice_index_or xs 0 []) same))
+          (subst (λ r. HasTarget octets all_targets all_names label r place) (sym (ap (drop 1) same)) new_has))
+      by_name (inr other) =
+          old_has l r p (agrees.all l r p (sym (get_other names (label ∷ rest) (l ∷ r) place other) ∙ found))
+
+    once_added : (labels others : List (List ℕ)) (p o : Place) → get all_names labels ≡ Some p
+        → get all_names others ≡ Some o → p.at ≡ o.at → labels ≡ others
+    unfolding all_names
+    once_added labels others p o one two at =
+        by_name (same_or_other labels (label ∷ rest)) (same_or_other others (label ∷ rest)) where
+          new_place : (q : List (List ℕ)) (x : Place) → q ≡ label ∷ rest
+              → get (put names (label ∷ rest) place) q ≡ Some x → x.at ≡ place.at
+          new_place q x same found =
+              ap (λ x. x.at) (one_place x place
+              (sym found ∙ ap (get (put names (label ∷ rest) place)) same ∙ get_new names (label ∷ rest) place))
+
+          old_place : (q : List (List ℕ)) (x : Place) → ¬ (q ≡ label ∷ rest)
+              → get (put names (label ∷ rest) place) q ≡ Some x → get names q ≡ Some x
+          old_place q x other found = sym (get_other names (label ∷ rest) q place other) ∙ found
+
+          by_name : (labels ≡ label ∷ rest) ⊎ ¬ (labels ≡ label ∷ rest)
+              → (others ≡ label ∷ rest) ⊎ ¬ (others ≡ label ∷ rest) → labels ≡ others
+          by_name (inl same) (inl other) = same ∙ sym other
+          by_name (inl same) (inr other) =
+              absurd (may.fresh others o (old_place others o other two) (sym at ∙ new_place labels p same one))
+          by_name (inr same) (inl other) =
+              absurd (may.fresh labels p (old_place labels p same one) (at ∙ new_place others o other two))
+          by_name (inr same) (inr other) =
+              agrees.once labels others p o (old_place labels p same one) (old_place others o other two) at
+
+    pub agrees_added : Agrees octets (insert targets position (target_of names rest place))
+        (put names (label ∷ rest) place)
+    unfolding all_targets all_names target
+    agrees_added = record {
+      targets_are = targets_added octets targets target position is.within agrees.targets_are may.whole may.near
+          may.few at_position none_there;
+      count = length-insert targets position target is.within ∙ ap (λ n. n + 1) agrees.count
+          ∙ sym (len-insert labels_total names (label ∷ rest) place
+          ∙ ap (λ there. cond there (len names) (len names + 1)) (ap is_some may.new));
+      root = get_other names (label ∷ rest) [] place (apart [] refl) ∙ agrees.root;
+      held = held_added;
+      all = all_added;
+      once = once_added;
+    }

@@ -1,0 +1,89 @@
+use Rattle.std.proofs.Common.{◌≤◌, ◌<◌, ◌+◌, ap, ◌∙◌, refl, sym, length, arith}
+use Rattle.std.proofs.Math.Bool.{true≢false}
+use Rattle.std.specs.Prelude.{nat_lt}
+use Rattle.std.specs.List.{filter}
+use Rattle.std.proofs.lemmas.List.Edits.{length-insert}
+use Rattle.octseq_dns_compress.specs.PlainNames.{plain_labels}
+use Rattle.octseq_dns_compress.proofs.Keeping.{none_before, kept_none, kept_yet, kept_at, kept_far, kept_full, kept_all}
+use Rattle.octseq_dns_compress.proofs.keep.keep.Goals as goal
+use Rattle.octseq_dns_compress.proofs.keep.keep.Goals.{then-at-gt-PLACE_MAX-via-then-at-gt-PLACE_MAX, then-at-gt-PLACE_MAX-via-else-at-gt-PLACE_MAX+then-is_full}
+
+pub returns-then-ending-gt-POINTERS_MAX-clause-kept : goal.returns-then-ending-gt-POINTERS_MAX-clause-kept
+returns-then-ending-gt-POINTERS_MAX-clause-kept g c octets names agrees ends written =
+    kept_none g.T.Compressor.most octets (g.T.Compressor.held c.args.table.now) names (plain_labels c.args.name.now)
+    c.args.start c.args.ending agrees ends c.requires.written written c.if-ending-gt-POINTERS_MAX.true
+
+pub labels-init : goal.labels-init
+labels-init g c =
+    let all = ap length c.as_slice-older.ensures in
+    record {
+      within = omega arith;
+      position = c.requires.position;
+      more = omega (arith, all);
+      few = c.requires.few;
+      turned = omega arith;
+      before = refl;
+      kept = λ octets names agrees ends written. kept_yet g.T.Compressor.most octets
+          (g.T.Compressor.held c.args.table.now) names (plain_labels c.args.name.now) c.args.start c.args.ending
+          agrees ends c.requires.written written (length c.as_slice-older.result.now) all c.requires.position;
+    }
+
+pub returns-then-at-gt-PLACE_MAX-clause-kept : goal.returns-then-at-gt-PLACE_MAX-clause-kept
+returns-then-at-gt-PLACE_MAX-clause-kept g c octets names agrees ends written =
+    let so_far = c.labels.invariant in
+    let kept = so_far.kept octets names agrees ends written in
+    let some : 0 < c.labels.left = omega (arith, c.labels-test.true) in
+    let begin = c.start.ensures.start in
+    elim c.then-at-gt-PLACE_MAX.branch [
+      | then-at-gt-PLACE_MAX-via-then-at-gt-PLACE_MAX w ↦
+          kept_far g.T.Compressor.most octets (g.T.Compressor.held c.args.table.now) names
+          (plain_labels c.args.name.now) c.args.start c.args.ending agrees ends c.requires.written written
+          (g.T.Compressor.held c.labels.table) (length c.as_slice-older.result.now) c.labels.left c.labels.next
+          c.labels.position kept some so_far.within
+          (let far = w.if-at-gt-PLACE_MAX.true in omega (arith, far, begin))
+      | then-at-gt-PLACE_MAX-via-else-at-gt-PLACE_MAX+then-is_full w ↦
+          kept_full g.T.Compressor.most octets (g.T.Compressor.held c.args.table.now) names
+          (plain_labels c.args.name.now) c.args.start c.args.ending agrees ends c.requires.written written
+          (g.T.Compressor.held c.labels.table) (length c.as_slice-older.result.now) c.labels.left c.labels.next
+          c.labels.position kept some so_far.within (w.if-is_full.ensures.0 refl)
+    ]
+
+pub labels-preserved : goal.labels-preserved
+labels-preserved g c =
+    let so_far = c.labels.invariant in
+    let held = g.T.Compressor.held c.labels.table in
+    let inserted = c.in_ok-insert.ensures.ok in
+    let long = ap length inserted ∙ length-insert held c.labels.position _ so_far.position in
+    let within = so_far.within in
+    let more = so_far.more in
+    let turned = so_far.turned in
+    let few = so_far.few in
+    let tick = c.tick.ensures in
+    let room : ¬ (g.T.Compressor.most ≤ length held) = λ full. true≢false (sym (c.if-is_full.ensures.1 full)) in
+    let begin = c.start.ensures.start in
+    let few_pointers = c.if-ending-gt-POINTERS_MAX.false in
+    let near = c.if-at-gt-PLACE_MAX.false in
+    record {
+      within = omega (arith, within);
+      position = omega (arith, long, more);
+      more = omega (arith, long, more);
+      few = omega (arith, long, room);
+      turned = omega (arith, turned, tick, c.labels-test.true);
+      before = ap (filter (λ t. nat_lt t.at c.args.start)) inserted
+          ∙ none_before c.args.start held c.labels.position _ (omega arith) ∙ so_far.before;
+      kept = λ octets names agrees ends written. kept_at g.T.Compressor.most octets
+          (g.T.Compressor.held c.args.table.now) names (plain_labels c.args.name.now) c.args.start c.args.ending
+          agrees ends c.requires.written written held (length c.as_slice-older.result.now) c.labels.left c.labels.next
+          c.labels.position (so_far.kept octets names agrees ends written) (omega (arith, c.labels-test.true)) within
+          (c.args.start + c.start.result) (g.T.Compressor.held c.insert.new.self) (omega (arith, begin)) inserted
+          (omega (arith, near)) (omega (arith, few_pointers)) room;
+    }
+
+pub returns-clause-kept : goal.returns-clause-kept
+returns-clause-kept g c octets names agrees ends written =
+    let so_far = c.labels.invariant in
+    let none = c.labels-test.false in
+    kept_all g.T.Compressor.most octets (g.T.Compressor.held c.args.table.now) names (plain_labels c.args.name.now)
+    c.args.start c.args.ending agrees ends c.requires.written written (g.T.Compressor.held c.labels.table)
+    (length c.as_slice-older.result.now) c.labels.left c.labels.next c.labels.position
+    (so_far.kept octets names agrees ends written) (omega (arith, none))

@@ -1,0 +1,31 @@
+-- The labels after those that are left are kept.
+use Rattle.std.specs.Prelude.{nat_lt}
+use Rattle.std.specs.List.{filter}
+use Rattle.std.proofs.Common.{◌≡◌, ◌≤◌, ◌+◌, ℕ, List, length, drop}
+use Rattle.octseq_dns_compress.specs.Agrees.{Agrees}
+use Rattle.octseq_dns_compress.specs.Ending.{IsEnding}
+use Rattle.octseq_dns_compress.specs.Names.{Names, with_labels}
+use Rattle.octseq_dns_compress.specs.PlainNames.{plain_labels}
+use Rattle.octseq_dns_compress.specs.Written.{IsWritten}
+use Rattle.octseq_dns_compress.proofs.KeptSoFar.{KeptSoFar, place_after}
+use Rattle.octseq_dns_compress.proofs.keep.keep.Given as goal
+
+abbrev pub invariant-labels : goal.invariant-labels
+invariant-labels g l = record {
+  within : l.left ≤ l.fn.ending.written;
+  position : l.position ≤ length (g.T.Compressor.held l.table);
+  more : l.older ≤ length (g.T.Compressor.held l.table);
+  few : length (g.T.Compressor.held l.table) ≤ g.T.Compressor.most;
+  turned : l.turns + l.left ≤ l.fn.turns + l.fn.ending.written;
+  before : filter (λ target. nat_lt target.at l.fn.start) (g.T.Compressor.held l.table)
+      ≡ filter (λ target. nat_lt target.at l.fn.start) (g.T.Compressor.held l.fn.table);
+  kept : (octets : List ℕ) (names : Names) → Agrees octets (g.T.Compressor.held l.fn.table) names
+      → IsEnding octets (g.T.Compressor.held l.fn.table) names (plain_labels l.name) l.fn.ending
+      → IsWritten octets names l.fn.start (plain_labels l.name) l.fn.ending.written
+      → KeptSoFar octets (g.T.Compressor.held l.table)
+      (with_labels g.T.Compressor.most l.fn.ending.pointers names (place_after l.fn.start (plain_labels l.name) l.left)
+      (drop l.left (plain_labels l.name))) (plain_labels l.name) l.fn.start l.older l.left l.next l.position;
+}
+
+abbrev pub decreases-labels : goal.decreases-labels
+decreases-labels g l = l.left

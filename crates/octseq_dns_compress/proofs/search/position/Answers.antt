@@ -1,0 +1,52 @@
+use Rattle.std.proofs.Common.{◌+◌, ◌-◌, ◌/◌, ◌<◌, ◌∷◌, length, arith, rules}
+use Rattle.octseq_dns_compress.proofs.Keys.{before_more, after_more, halved, few_halves}
+use Rattle.octseq_dns_compress.proofs.search.position.Goals as goal
+
+pub halves-preserved-then-is_lt : goal.halves-preserved-then-is_lt
+halves-preserved-then-is_lt c =
+    let so_far = c.halves.invariant in
+    let octets = c.args.octets.now in
+    let targets = c.args.targets.now in
+    let key = c.args.next ∷ c.args.label.now in
+    let half = c.halves.left / 2 in
+    let mid = c.halves.from + half in
+    let within = so_far.within in
+    let inside : mid < length targets = omega (arith, within, c.halves-test.true) in
+    let tick = c.tick.ensures in
+    let some = so_far.some in
+    let few = few_halves (c.halves.turns - c.args.turns.now) c.halves.left c.halves-test.true
+    (let halved = so_far.halved in let all = c.requires.few in omega (arith, halved, all)) in
+    record {
+      within = omega (arith, within, c.halves-test.true);
+      before = λ k e below. before_more octets targets key c.requires.targets mid _ c.compare.result inside
+          c.compare.ensures (search rules) k e (omega (arith, below));
+      after = λ k e from inside. so_far.after k e (omega (arith, from, c.halves-test.true)) inside;
+      some = omega (arith, some, tick);
+      halved = halved (c.halves.turns - c.args.turns.now) _ c.halves.left _ (length targets) (omega (arith, some, tick))
+          (omega (arith, c.halves-test.true)) so_far.halved;
+      most = omega (arith, some, tick, few);
+    }
+
+pub halves-preserved : goal.halves-preserved
+halves-preserved c =
+    let so_far = c.halves.invariant in
+    let octets = c.args.octets.now in
+    let targets = c.args.targets.now in
+    let key = c.args.next ∷ c.args.label.now in
+    let half = c.halves.left / 2 in
+    let mid = c.halves.from + half in
+    let within = so_far.within in
+    let tick = c.tick.ensures in
+    let some = so_far.some in
+    let few = few_halves (c.halves.turns - c.args.turns.now) c.halves.left c.halves-test.true
+    (let halved = so_far.halved in let all = c.requires.few in omega (arith, halved, all)) in
+    record {
+      within = omega (arith, within);
+      before = so_far.before;
+      after = λ k e from inside. after_more octets targets key c.requires.targets mid _ c.compare.result
+          (omega (arith, from, inside)) c.compare.ensures (search rules) k e from inside;
+      some = omega (arith, some, tick);
+      halved = halved (c.halves.turns - c.args.turns.now) _ c.halves.left half (length targets)
+          (omega (arith, some, tick)) (omega arith) so_far.halved;
+      most = omega (arith, some, tick, few);
+    }

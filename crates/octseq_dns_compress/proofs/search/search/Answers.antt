@@ -1,0 +1,45 @@
+use Rattle.std.proofs.Common.{◌∷◌, refl, subst, arith}
+use Rattle.octseq_dns_compress.specs.Key.{IsPosition}
+use Rattle.octseq_dns_compress.specs.PlainNames.{plain_labels}
+use Rattle.octseq_dns_compress.specs.declared.table.Target.{Target}
+use Rattle.octseq_dns_compress.proofs.Searched.{ends_at, none_at, ending_is}
+use Rattle.octseq_dns_compress.proofs.search.search.Goals as goal
+
+pub labels-preserved : goal.labels-preserved
+labels-preserved c =
+    let so_far = c.labels.invariant in
+    let labels = plain_labels c.args.name.now in
+    let within = so_far.within in
+    let turned = so_far.turned in
+    let turns = c.in-Ok.ensures.turns in
+    let found = c.in-Ok.ensures.found in
+    let index = found.within in
+    let d : Target = record { at = 0; next = 0; pointers = 0 } in
+    record {
+      within = omega (arith, within);
+      position = so_far.position;
+      near = c.requires.targets.near c.in-Ok.index d index;
+      few = (let few = c.requires.targets.few c.in-Ok.index d index in omega (arith, few));
+      turned = omega (arith, turned, turns, c.labels-test.true);
+      ends = λ names agrees. ends_at c.args.octets.now c.args.targets.now names agrees labels c.labels.ending.written
+          c.label-label.result.now c.labels.ending.next c.labels.ending.pointers c.in-Ok.index d
+          (omega (arith, c.labels-test.true)) within c.label-label.ensures found (so_far.ends names agrees);
+    }
+
+pub returns-in-Err-clause-ending : goal.returns-in-Err-clause-ending
+returns-in-Err-clause-ending c names agrees =
+    let so_far = c.labels.invariant in
+    let labels = plain_labels c.args.name.now in
+    let ends = so_far.ends names agrees in
+    let is = ending_is names agrees labels c.labels.ending.written so_far.within ends.there
+    (λ v is. none_at c.args.octets.now c.args.targets.now names agrees labels c.labels.ending.written v
+    c.label-label.result.now c.labels.ending.next c.labels.ending.pointers is so_far.within c.label-label.ensures
+    (c.in-Err.ensures.none refl) ends) in
+    record {
+      first = is.0;
+      last = is.1;
+      ends = ends;
+      position = λ label rest some here.
+          subst (λ o. IsPosition c.args.octets.now c.args.targets.now (c.labels.ending.next ∷ o) c.in-Err.position)
+          (c.label-label.ensures label rest here) c.in-Err.ensures.position;
+    }

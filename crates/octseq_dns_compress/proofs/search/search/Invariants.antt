@@ -1,0 +1,21 @@
+-- The labels after those that are left are there.
+use Rattle.std.proofs.Common.{◌≤◌, ◌+◌, ◌*◌, length, drop}
+use Rattle.octseq_dns_compress.specs.Agrees.{Agrees}
+use Rattle.octseq_dns_compress.specs.Ending.{Ends}
+use Rattle.octseq_dns_compress.specs.Names.{Names}
+use Rattle.octseq_dns_compress.specs.PlainNames.{plain_labels}
+use Rattle.octseq_dns_compress.proofs.search.search.Given as goal
+
+abbrev pub invariant-labels : goal.invariant-labels
+invariant-labels l = record {
+  within : l.ending.written ≤ length (plain_labels l.name);
+  position : l.ending.position ≤ length l.targets;
+  near : l.ending.next ≤ 16383;
+  few : l.ending.pointers ≤ 127;
+  turned : l.turns + 16 * l.ending.written ≤ l.fn.turns + 16 * length (plain_labels l.name);
+  ends : (names : Names) → Agrees l.octets l.targets names
+      → Ends names (drop l.ending.written (plain_labels l.name)) l.ending.next l.ending.pointers;
+}
+
+abbrev pub decreases-labels : goal.decreases-labels
+decreases-labels l = l.ending.written

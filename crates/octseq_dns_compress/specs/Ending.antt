@@ -1,0 +1,25 @@
+-- Where a name ends among names that are kept.
+use Rattle.std.specs.Prelude.{◌≡◌, ℕ, ◌-◌, ◌<◌, List, ◌∷◌, length, take, drop, IsTrue}
+use Rattle.std.specs.FinMap.{get}
+use Rattle.octseq_dns_compress.specs.Agrees.{place_of}
+use Rattle.octseq_dns_compress.specs.Key.{IsPosition}
+use Rattle.octseq_dns_compress.specs.Names.{Names, is_there, first_labels, last_place, pointers_from}
+use Rattle.octseq_dns_compress.specs.declared.search.Ending.{Ending}
+use Rattle.octseq_dns_compress.specs.declared.table.Target.{Target}
+
+-- Labels are there, at a place, and as many pointers are followed from a label that is written before them.
+pub record Ends (names : Names) (labels : List (List ℕ)) (next pointers : ℕ) : Type 0 where
+  pub there : IsTrue (is_there names labels)
+  pub next_is : next ≡ place_of names labels
+  pub pointers_are : pointers ≡ pointers_from (get names labels)
+
+-- As many labels of a name are written as come before those that are there, and the target of the last one comes at a
+-- position.
+pub record IsEnding (octets : List ℕ) (targets : List Target) (names : Names) (labels : List (List ℕ))
+    (ending : Ending) : Type 0 where
+  pub first : take ending.written labels ≡ first_labels names labels
+  pub last : get names (drop ending.written labels) ≡ last_place names labels
+  pub ends : Ends names (drop ending.written labels) ending.next ending.pointers
+  pub position : (label : List ℕ) (rest : List (List ℕ)) → 0 < ending.written
+      → drop (ending.written - 1) labels ≡ label ∷ rest
+      → IsPosition octets targets (ending.next ∷ length label ∷ label) ending.position

@@ -1,0 +1,9 @@
+-- Tables hold no more targets than there are places that a pointer can say.
+use Rattle.std.specs.Prelude.{ℕ, ◌≤◌, min}
+use Rattle.std.proofs.Common.{arith}
+
+pub array_few : (n : ℕ) → min n 16384 ≤ 16384
+array_few n = omega arith
+
+pub vector_few : 16384 ≤ 16384
+vector_few = omega arith

@@ -1,0 +1,103 @@
+-- What is found among names that are kept.
+use Rattle.std.specs.Prelude.{◌≡◌, ℕ, Bool, true, false, cond, Option, Some, None, List, [], ◌∷◌, refl, IsTrue}
+use Rattle.std.specs.Prelude.{is_some}
+use Rattle.std.proofs.Common.{◌⊎◌, inl, inr, sym, ap, ◌∙◌}
+use Rattle.std.proofs.Math.Bool.{true≢false}
+use Rattle.std.proofs.lemmas.Cmp.{lists_total, nat_list_cmp_total, eq_by_cmp_equiv}
+use Rattle.std.specs.Cmp.{IsTotalOrder, Equal-is}
+use Rattle.std.specs.FinMap.{get, insert, get-insert, IsAntisymmetric, slice_cmp-IsAntisymmetric, nat_cmp-IsAntisymmetric}
+use Rattle.std.specs.Ordering.{eq_by_cmp}
+use Rattle.octseq_dns_compress.specs.Names.{Names, Place, labels_cmp, is_there}
+
+pub labels_total : IsTotalOrder labels_cmp
+labels_total = lists_total nat_list_cmp_total
+
+pub labels_alike : IsAntisymmetric labels_cmp
+labels_alike = slice_cmp-IsAntisymmetric (slice_cmp-IsAntisymmetric nat_cmp-IsAntisymmetric)
+
+-- labels that are tested to be others are those
+tested : (labels others : List (List ℕ)) (told : Bool) → eq_by_cmp labels_cmp labels others ≡ told
+    → ¬ (labels ≡ others) → told ≡ false
+tested labels others true is other =
+    absurd (other (labels_alike labels others ((Equal-is (labels_cmp labels others)).0 is)))
+tested labels others false is other = refl
+
+-- a name that was put there
+pub get_new : (names : Names) (labels : List (List ℕ)) (place : Place)
+    → get (insert names labels place) labels ≡ Some place
+get_new names labels place =
+    get-insert labels_total names labels place labels
+    ∙ ap (λ told. cond told (Some place) (get names labels)) ((eq_by_cmp_equiv labels_total).refl labels)
+
+-- leaves the others
+pub get_other : (names : Names) (labels others : List (List ℕ)) (place : Place) → ¬ (others ≡ labels)
+    → get (insert names labels place) others ≡ get names others
+get_other names labels others place other =
+    get-insert labels_total names labels place others
+    ∙ ap (λ told. cond told (Some place) (get names others))
+    (tested others labels (eq_by_cmp labels_cmp others labels) refl other)
+
+-- ---- whether labels are there
+
+-- by what is found of them
+abbrev there_by : List (List ℕ) → Option Place → Bool
+there_by [] found = true
+there_by (label ∷ labels) found = is_some found
+
+there_is : (names : Names) (labels : List (List ℕ)) → is_there names labels ≡ there_by labels (get names labels)
+there_is names [] = refl
+there_is names (label ∷ labels) = refl
+
+-- names in which the same is found of labels have them alike
+pub alike_there : (names others : Names) (labels : List (List ℕ)) → get names labels ≡ get others labels
+    → is_there names labels ≡ is_there others labels
+alike_there names others labels same =
+    there_is names labels ∙ ap (there_by labels) same ∙ sym (there_is others labels)
+
+found_place : (found : Option Place) → IsTrue (is_some found) → (place : Place) × (found ≡ Some place)
+found_place (Some place) some = (place, refl)
+found_place None some = absurd (true≢false (sym some))
+
+-- labels that are there have a place
+pub place_there : (names : Names) (label : List ℕ) (labels : List (List ℕ)) → IsTrue (is_there names (label ∷ labels))
+    → (place : Place) × (get names (label ∷ labels) ≡ Some place)
+place_there names label labels there = found_place (get names (label ∷ labels)) there
+
+-- and those with a place are there
+pub there_found : (names : Names) (labels : List (List ℕ)) (place : Place) → get names labels ≡ Some place
+    → IsTrue (is_there names labels)
+there_found names [] place found = refl
+there_found names (label ∷ labels) place found = ap is_some found
+
+-- what is found in one as in another is found alike
+pub found_alike : (a b : Option Place) → ((place : Place) → a ≡ Some place → b ≡ Some place)
+    → ((place : Place) → b ≡ Some place → a ≡ Some place) → a ≡ b
+found_alike (Some place) b on back = sym (on place refl)
+found_alike None (Some place) on back = back place refl
+found_alike None None on back = refl
+
+-- nothing is found where nothing can be
+pub none_found : (a : Option Place) → ((place : Place) → ¬ (a ≡ Some place)) → a ≡ None
+none_found (Some place) never = absurd (never place refl)
+none_found None never = refl
+
+-- what is found is not nothing
+pub some_or_none : (a : Option Place) (place : Place) → a ≡ Some place → ¬ (a ≡ None)
+some_or_none a place some none = true≢false (ap is_some (sym some ∙ none))
+
+-- labels are others or they aren't
+pub same_or_other : (labels others : List (List ℕ)) → (labels ≡ others) ⊎ ¬ (labels ≡ others)
+same_or_other labels others = by_test (eq_by_cmp labels_cmp labels others) refl where
+  by_test : (told : Bool) → eq_by_cmp labels_cmp labels others ≡ told → (labels ≡ others) ⊎ ¬ (labels ≡ others)
+  by_test true is = inl (labels_alike labels others ((Equal-is (labels_cmp labels others)).0 is))
+  by_test false is = inr (λ same. true≢false
+      (sym (ap (eq_by_cmp labels_cmp labels) (sym same) ∙ (eq_by_cmp_equiv labels_total).refl labels) ∙ is))
+
+-- the place that was found, or another
+place_or : Place → Option Place → Place
+place_or other (Some place) = place
+place_or other None = other
+
+pub one_place : (place other : Place) → Some place ≡ Some other → place ≡ other
+unfolding place_or
+one_place place other same = ap (place_or place) same

@@ -1,0 +1,131 @@
+-- The names that targets are of: a name is found by its key, so they are those of one table of names alone.
+use Rattle.std.specs.Prelude.{◌≡◌, ℕ, Some, None, List, [], ◌∷◌, length, drop, slice_index_or}
+use Rattle.std.specs.Prelude.{IsTrue, refl}
+use Rattle.std.proofs.Common.{sym, ap, ◌∙◌, subst, arith}
+use Rattle.std.proofs.Math.Logic.{∥∥₁_prop, ∥∥₁_elim}
+use Rattle.std.specs.Coded.{Coded, Coded-set, coded_list, coded_ℕ, coded×, code_by}
+use Rattle.std.specs.FinMap.{get, code, same_map}
+use mathlib.Core.HLevel.{Σ_prop_path}
+use Rattle.octseq_dns_compress.specs.Agrees.{Agrees, HasTarget, at_or_zero, place_of, target_of}
+use Rattle.octseq_dns_compress.specs.FoundNames.{labels_total, labels_alike, alike_there, place_there}
+use Rattle.octseq_dns_compress.specs.FoundNames.{found_alike, none_found}
+use Rattle.octseq_dns_compress.specs.Key.{key_of, HasKeyAt, HasNoKey}
+use Rattle.octseq_dns_compress.specs.Names.{Names, Place, is_there}
+use Rattle.octseq_dns_compress.specs.declared.table.Target.{Target}
+
+-- what a name is found by: the place of what follows its first label, and that label after its length
+abbrev pub name_key : Names → List ℕ → List (List ℕ) → List ℕ
+name_key names label rest = place_of names rest ∷ length label ∷ label
+
+-- so is a target that is its own
+pub key_there : (octets : List ℕ) (targets : List Target) (names : Names) (label : List ℕ) (rest : List (List ℕ))
+    (place : Place) (has : HasTarget octets targets names label rest place)
+    → HasKeyAt octets targets (name_key names label rest) has.index
+key_there octets targets names label rest place has = record {
+  within = has.within;
+  is = λ d. ap (key_of octets) (has.target_is d) ∙ ap (λ xs. place_of names rest ∷ xs) has.label_is;
+}
+
+module _ {octets : List ℕ} {targets : List Target} {names : Names} (agrees : Agrees octets targets names) where
+  -- names that are there at one place, or the root, are one
+  one_rest : (labels others : List (List ℕ)) → IsTrue (is_there names labels) → IsTrue (is_there names others)
+      → place_of names labels ≡ place_of names others → labels ≡ others
+  one_rest [] [] there here same = refl
+  one_rest [] (label ∷ others) there here same =
+      let place = place_there names label others here in
+      let after = (agrees.all label others place.0 place.1).after_header in
+      let zero = ap at_or_zero agrees.root in
+      let at = ap at_or_zero place.1 in
+      absurd (omega (arith, after, zero, at, same))
+  one_rest (label ∷ labels) [] there here same =
+      let place = place_there names label labels there in
+      let after = (agrees.all label labels place.0 place.1).after_header in
+      let zero = ap at_or_zero agrees.root in
+      let at = ap at_or_zero place.1 in
+      absurd (omega (arith, after, zero, at, same))
+  one_rest (label ∷ labels) (other ∷ others) there here same =
+      let place = place_there names label labels there in
+      let found = place_there names other others here in
+      agrees.once (label ∷ labels) (other ∷ others) place.0 found.0 place.1 found.1
+      (sym (ap at_or_zero place.1) ∙ same ∙ ap at_or_zero found.1)
+
+  -- a target with a name's key is that of the name
+  pub found : (label : List ℕ) (rest : List (List ℕ)) (index : ℕ) (d : Target) → IsTrue (is_there names rest)
+      → HasKeyAt octets targets (name_key names label rest) index
+      → (place : Place) × (get names (label ∷ rest) ≡ Some place)
+      × (slice_index_or targets index d ≡ target_of names rest place)
+  found label rest index d there has =
+      let held = agrees.held index d has.within in
+      let mine = agrees.all held.label held.rest held.place held.there in
+      let key : place_of names held.rest ∷ (length held.label ∷ held.label) ≡ name_key names label rest =
+      sym (ap (key_of octets) held.target_is ∙ ap (λ xs. place_of names held.rest ∷ xs) mine.label_is) ∙ has.is d in
+      let same_label : held.label ≡ label = ap (drop 2) key in
+      let same_rest : held.rest ≡ rest =
+      one_rest held.rest rest mine.more there (ap (λ xs. slice_index_or xs 0 0) key) in (
+        held.place,
+        ap (λ r. get names (label ∷ r)) (sym same_rest)
+            ∙ ap (λ l. get names (l ∷ held.rest)) (sym same_label) ∙ held.there,
+        held.target_is ∙ ap (λ r. target_of names r held.place) same_rest,
+      )
+
+  -- and where no target has its key the name isn't there
+  pub missing : (label : List ℕ) (rest : List (List ℕ)) → HasNoKey octets targets (name_key names label rest)
+      → get names (label ∷ rest) ≡ None
+  missing label rest none =
+      none_found (get names (label ∷ rest)) (λ place is.
+      let has = agrees.all label rest place is in
+      none has.index (key_there octets targets names label rest place has))
+
+-- ---- one table of names
+
+place_code : Coded Place
+place_code = code_by (ℕ × ℕ) (coded× coded_ℕ coded_ℕ) (λ p. (p.at, p.pointers))
+    (λ c. record { at = c.0; pointers = c.1 }) (λ _. refl)
+
+pub names_code : Coded Names
+names_code = code (coded_list (coded_list coded_ℕ)) place_code
+
+-- equal names are equal in one way
+names_once : (names others : Names) → IsProp (names ≡ others)
+names_once = Coded-set names_code
+
+module _ {octets : List ℕ} {targets : List Target} where
+  -- a name of one table is one of the other, where what follows its first label is alike
+  carried : {names others : Names} → Agrees octets targets names → Agrees octets targets others
+      → (label : List ℕ) (rest : List (List ℕ)) (place : Place) → get names rest ≡ get others rest
+      → get names (label ∷ rest) ≡ Some place → get others (label ∷ rest) ≡ Some place
+  carried {names = names} {others = others} agrees other label rest place same is =
+      let has = agrees.all label rest place is in
+      let d : Target = record { at = 0; next = 0; pointers = 0 } in
+      let there = sym (alike_there names others rest same) ∙ has.more in
+      let key = subst (λ next. HasKeyAt octets targets (next ∷ length label ∷ label) has.index) (ap at_or_zero same)
+      (key_there octets targets names label rest place has) in
+      let it = found other label rest has.index d there key in
+      let both : target_of names rest place ≡ target_of others rest it.0 = sym (has.target_is d) ∙ it.2 in
+      let one : it.0 ≡ place =
+      λ i. record { at = (sym (ap (λ t. t.at) both)) i; pointers = (sym (ap (λ t. t.pointers) both)) i } in
+      it.1 ∙ ap Some one
+
+  same_found : {names others : Names} → Agrees octets targets names → Agrees octets targets others
+      → (labels : List (List ℕ)) → get names labels ≡ get others labels
+  same_found agrees other [] = agrees.root ∙ sym other.root
+  same_found {names = names} {others = others} agrees other (label ∷ rest) =
+      let same = same_found agrees other rest in
+      found_alike (get names (label ∷ rest)) (get others (label ∷ rest))
+      (λ place is. carried agrees other label rest place same is)
+      (λ place is. carried other agrees label rest place (sym same) is)
+
+  pub one_table : {names others : Names} → Agrees octets targets names → Agrees octets targets others
+      → names ≡ others
+  one_table {names = names} {others = others} agrees other =
+      same_map labels_total labels_alike names others (same_found agrees other)
+
+-- the names that targets are of
+abbrev pub Known : List ℕ → List Target → Type 0
+Known octets targets = (names : Names) × ∥ Agrees octets targets names ∥₁
+
+-- they are a fact
+pub known_once : (octets : List ℕ) (targets : List Target) → IsProp (Known octets targets)
+known_once octets targets a b =
+    Σ_prop_path (λ names. ∥∥₁_prop)
+    (∥∥₁_elim a.1 (names_once a.0 b.0) (λ x. ∥∥₁_elim b.1 (names_once a.0 b.0) (λ y. one_table x y)))

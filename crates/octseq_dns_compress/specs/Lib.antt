@@ -1,0 +1,12 @@
+pub mod Key
+pub mod Known
+pub mod Names
+pub mod Agrees
+pub mod Composed
+pub mod Ended
+pub mod Ending
+pub mod Few
+pub mod FoundNames
+pub mod PlainName
+pub mod PlainNames
+pub mod Written

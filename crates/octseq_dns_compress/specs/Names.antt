@@ -1,0 +1,80 @@
+-- Names of a message that pointers may lead to, and how a name is written with them: RFC 1035, 4.1.4.
+use Rattle.std.specs.Prelude.{ℕ, ◌+◌, ◌/◌, ◌%◌, Bool, true, ◌&&◌, Option, Some, None, List, [], ◌∷◌, ◌++◌, length}
+use Rattle.std.specs.Prelude.{if◌then◌else◌, nat_le, nat_lt}
+use Rattle.std.specs.Cmp.Lexicographic.{slice_cmp}
+use Rattle.std.specs.FinMap.{FinMap, get, insert, contains_key, len}
+use Rattle.std.specs.List.{flat_map}
+use Rattle.std.specs.Option.{option_or}
+use Rattle.std.specs.Ordering.{nat_cmp}
+use Rattle.std.specs.declared.cmp.Ordering.{Ordering}
+
+-- A place of a message, and how many pointers are followed from there.
+pub record Place : Type 0 where
+  pub at : ℕ
+  pub pointers : ℕ
+
+-- an order of labels
+abbrev pub labels_cmp : List (List ℕ) → List (List ℕ) → Ordering
+labels_cmp = slice_cmp (slice_cmp nat_cmp)
+
+-- the names that pointers may lead to: the labels of each, and its place
+abbrev pub Names : Type 0
+Names = FinMap labels_cmp Place
+
+-- ---- how a name is written
+
+-- where the most of a name's last labels are
+abbrev pub last_place : Names → List (List ℕ) → Option Place
+last_place names [] = None
+last_place names (label ∷ labels) = option_or (get names (label ∷ labels)) (last_place names labels)
+
+-- the labels before those
+abbrev pub first_labels : Names → List (List ℕ) → List (List ℕ)
+first_labels names [] = []
+first_labels names (label ∷ labels) =
+    if contains_key names (label ∷ labels) then [] else label ∷ first_labels names labels
+
+-- each label after its length
+abbrev pub unrooted : List (List ℕ) → List ℕ
+unrooted labels = flat_map (λ label. length label ∷ label) labels
+
+-- the root, or the two octets of a pointer to a place
+abbrev pub ending : Option Place → List ℕ
+ending None = 0 ∷ []
+ending (Some place) = (192 + place.at / 256) ∷ (place.at % 256) ∷ []
+
+-- The octets of a name: its first labels, and a pointer to where the most of its last ones are. It ends with the root
+-- where none of them is anywhere.
+abbrev pub name_octets : Names → List (List ℕ) → List ℕ
+name_octets names labels = unrooted (first_labels names labels) ++ ending (last_place names labels)
+
+-- ---- what pointers may lead to once it is written
+
+-- how many pointers are followed from each label that is written
+abbrev pub pointers_from : Option Place → ℕ
+pointers_from None = 0
+pointers_from (Some place) = place.pointers + 1
+
+-- labels are there, or there are none
+abbrev pub is_there : Names → List (List ℕ) → Bool
+is_there names [] = true
+is_there names (label ∷ labels) = contains_key names (label ∷ labels)
+
+-- A name is kept where a pointer can say its place, at most 126 pointers are followed from there, fewer names than
+-- `most` are there, and what follows its first label is one of them.
+abbrev pub is_kept : ℕ → Names → List (List ℕ) → Place → Bool
+is_kept most names rest place =
+    nat_le place.at 16383 && (nat_le place.pointers 126 && (nat_lt (len names) most && is_there names rest))
+
+-- the names with those of labels that are written from `start` on, of which the last ones come first
+abbrev pub with_labels : ℕ → ℕ → Names → ℕ → List (List ℕ) → Names
+with_labels most pointers names start [] = names
+with_labels most pointers names start (label ∷ labels) =
+    if contains_key names (label ∷ labels) then names
+    else let more = with_labels most pointers names (start + (1 + length label)) labels in
+    let place : Place = record { at = start; pointers = pointers } in
+    if is_kept most more labels place then insert more (label ∷ labels) place else more
+
+-- the names, of which at most so many are kept, once a name is written from `start` on
+abbrev pub names_with : ℕ → Names → ℕ → List (List ℕ) → Names
+names_with most names start labels = with_labels most (pointers_from (last_place names labels)) names start labels

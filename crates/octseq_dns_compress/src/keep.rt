@@ -1,0 +1,75 @@
+//! The labels of a name that was written, kept in a table.
+ghost use Rattle.std.specs.Prelude.{◌≡◌, ◌≤◌, ◌+◌, ℕ, List, length, nat_lt, true, OnOk, OnErr};
+ghost use Rattle.std.specs.List.{filter};
+ghost use Rattle.octseq_dns_compress.specs.Agrees.{Agrees};
+ghost use Rattle.octseq_dns_compress.specs.Ending.{IsEnding};
+ghost use Rattle.octseq_dns_compress.specs.Names.{Names, names_with};
+ghost use Rattle.octseq_dns_compress.specs.PlainNames.{plain_labels};
+ghost use Rattle.octseq_dns_compress.specs.Written.{IsWritten};
+
+use crate::plain::PlainName;
+use crate::search::Ending;
+use crate::table::{Compressor, Target};
+use octseq::utf8::Turns;
+use std::alloc::AllocError;
+
+/// The last place that a pointer can say: RFC 1035, 4.1.4.
+const PLACE_MAX: usize = 16383;
+
+/// How many pointers may be followed from where a pointer leads.
+const POINTERS_MAX: u8 = 126;
+
+/// Keeps the labels of a name that were written from `start` on, from the last one on: as many as have a place that a
+/// pointer can say, and as the table has room for.
+///
+/// # Errors
+///
+/// `AllocError` where a request for memory was refused. Some of the labels may then be kept.
+pub(crate) fn keep<T: Compressor>(
+    table: &mut T,
+    name: &PlainName,
+    ending: Ending,
+    start: usize,
+    turns: &mut Turns,
+) -> Result<(), AllocError>
+    requires few { length (T.held table.old) ≤ T.most }
+    requires written { ending.written ≤ length (plain_labels name.now) }
+    requires position { ending.position ≤ length (T.held table.old) }
+    requires start { start ≤ 65535 }
+    ensures kept { (octets : List ℕ) (names : Names) → Agrees octets (T.held table.old) names
+        → IsEnding octets (T.held table.old) names (plain_labels name.now) ending
+        → IsWritten octets names start (plain_labels name.now) ending.written
+        → OnOk result (Agrees octets (T.held table.new) (names_with T.most names start (plain_labels name.now))) }
+    ensures before { filter (λ target. nat_lt target.at start) (T.held table.new)
+        ≡ filter (λ target. nat_lt target.at start) (T.held table.old) }
+    ensures few { length (T.held table.new) ≤ T.most }
+    ensures memory { OnErr result (T.asks ≡ true) }
+    ensures turns { turns.new ≤ turns.old + ending.written }
+{
+    if ending.pointers > POINTERS_MAX {
+        return Ok(());
+    }
+    let older = table.as_slice().len();
+    let mut left = ending.written;
+    let mut next = ending.next;
+    let mut position = ending.position;
+    'labels: while left > 0 {
+        turns.tick();
+        let at = start + name.start(left - 1);
+        if at > PLACE_MAX || table.is_full() {
+            return Ok(());
+        }
+        table.insert(
+            position,
+            Target {
+                at: at as u16,
+                next,
+                pointers: ending.pointers,
+            },
+        )?;
+        left -= 1;
+        next = at as u16;
+        position = older + 1;
+    }
+    Ok(())
+}

@@ -1,0 +1,51 @@
+//! The last place that a pointer can say is 16,383: RFC 1035, 4.1.4.
+use crate::tests::name_of;
+use octseq::AsOctets;
+use octseq::utf8::Turns;
+use octseq_asserts::assert_equal;
+use octseq_dns_compress::{Composer, Target};
+use std::alloc::AllocGlobal;
+use std::process::Abort;
+use std::test::Fail;
+
+/// Writes a name at a place, and again after it: what is there from the second one on.
+fn twice(rt: &(impl AllocGlobal + Abort), place: usize, wanted: &[u8]) -> Result<(), Fail> {
+    let mut turns = Turns::new();
+    let octets = Vec::<u8>::new(rt.alloc());
+    let mut composer = Composer::from_builder(octets, Vec::<Target>::new(rt.alloc()))?;
+    for _zero in 12..place {
+        composer.append_slice(b"\x00")?;
+    }
+    composer.append_name(&name_of(b"\x01a\x00")?, &mut turns)?;
+    composer.append_name(&name_of(b"\x01b\x01a\x00")?, &mut turns)?;
+    let written = composer.as_slice();
+    let end = written.get(place.saturating_add(3)..).unwrap_or(b"");
+    assert_equal!(rt, end, wanted);
+    Ok(())
+}
+
+#[test]
+fn a_pointer_says_16383(rt: HostRuntime) -> Result<(), Fail> {
+    twice(&rt, 16383, b"\x01b\xFF\xFF")
+}
+
+#[test]
+fn and_no_more(rt: HostRuntime) -> Result<(), Fail> {
+    twice(&rt, 16384, b"\x01b\x01a\x00")
+}
+
+#[test]
+fn names_differ_by_case(rt: HostRuntime) -> Result<(), Fail> {
+    let mut turns = Turns::new();
+    let octets = Vec::<u8>::new(rt.alloc());
+    let mut composer = Composer::from_builder(octets, Vec::<Target>::new(rt.alloc()))?;
+    composer.append_name(&name_of(b"\x01a\x01C\x00")?, &mut turns)?;
+    composer.append_name(&name_of(b"\x01a\x01c\x00")?, &mut turns)?;
+    composer.append_name(&name_of(b"\x01b\x01c\x00")?, &mut turns)?;
+    assert_equal!(
+        &rt,
+        composer.as_slice().get(12..).unwrap_or(b""),
+        b"\x01a\x01C\x00\x01a\x01c\x00\x01b\xC0\x13".as_slice()
+    );
+    Ok(())
+}

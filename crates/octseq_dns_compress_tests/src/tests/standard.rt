@@ -1,0 +1,90 @@
+//! The example of RFC 1035, 4.1.4: F.ISI.ARPA at place 20, FOO.F.ISI.ARPA at 40, ARPA at 64 and the root at 92.
+use crate::tests::name_of;
+use arrayvec::ArrayVec;
+use octseq::utf8::Turns;
+use octseq::{AppendError, Array, AsOctets, OctetsBuilder, Truncate};
+use octseq_asserts::assert_equal;
+use octseq_dns_compress::{Composer, Compressor, Target};
+use std::process::Abort;
+use std::test::Fail;
+
+const HOST: &[u8] = b"\x01F\x03ISI\x04ARPA\x00";
+
+const OTHER: &[u8] = b"\x03FOO\x01F\x03ISI\x04ARPA\x00";
+
+const LAST: &[u8] = b"\x04ARPA\x00";
+
+const ROOT: &[u8] = b"\x00";
+
+/// Writes the four names, with zeros up to their places: what is there from place 40 on.
+fn compose<B: OctetsBuilder + Truncate, T: Compressor>(
+    rt: &impl Abort,
+    octets: B,
+    table: T,
+    wanted: &[u8],
+) -> Result<(B, T), Fail> {
+    let mut turns = Turns::new();
+    let mut composer = Composer::from_builder(octets, table)?;
+    composer.append_slice(&[0; 8])?;
+    composer.append_name(&name_of(HOST)?, &mut turns)?;
+    composer.append_slice(&[0; 8])?;
+    composer.append_name(&name_of(OTHER)?, &mut turns)?;
+    composer.append_name(&name_of(LAST)?, &mut turns)?;
+    composer.append_name(&name_of(ROOT)?, &mut turns)?;
+    let written = composer.as_slice();
+    assert_equal!(rt, written.get(..20).unwrap_or(b""), [0; 20].as_slice());
+    assert_equal!(rt, written.get(20..32).unwrap_or(b""), HOST);
+    assert_equal!(rt, written.get(40..).unwrap_or(b""), wanted);
+    Ok(composer.finish())
+}
+
+#[test]
+fn the_example_of_the_standard(rt: HostRuntime) -> Result<(), Fail> {
+    let wanted = b"\x03FOO\xC0\x14\xC0\x1A\x00".as_slice();
+    let table = Vec::<Target>::new(rt.alloc());
+    let (octets, table) = compose(&rt, Vec::<u8>::new(rt.alloc()), table, wanted)?;
+    let (octets, table) = compose(&rt, octets, table, wanted)?;
+    assert_equal!(&rt, octets.len(), 49);
+    assert_equal!(&rt, table.len(), 4);
+    compose(
+        &rt,
+        Array::<49>::new(),
+        ArrayVec::<Target, 4>::new(),
+        wanted,
+    )?;
+    Ok(())
+}
+
+#[test]
+fn a_full_table_compresses_less(rt: HostRuntime) -> Result<(), Fail> {
+    let one = b"\x03FOO\x01F\x03ISI\xC0\x1A\xC0\x1A\x00".as_slice();
+    compose(&rt, Array::<255>::new(), ArrayVec::<Target, 1>::new(), one)?;
+    let none = b"\x03FOO\x01F\x03ISI\x04ARPA\x00\x04ARPA\x00\x00".as_slice();
+    compose(&rt, Array::<255>::new(), ArrayVec::<Target, 0>::new(), none)?;
+    Ok(())
+}
+
+#[test]
+fn what_passes_the_limit_is_refused(rt: HostRuntime) -> Result<(), Fail> {
+    let mut turns = Turns::new();
+    let table = ArrayVec::<Target, 4>::new();
+    assert_equal!(
+        &rt,
+        Composer::from_builder(Array::<11>::new(), table).is_err(),
+        true
+    );
+    let mut composer = Composer::from_builder(Array::<26>::new(), ArrayVec::<Target, 4>::new())?;
+    composer.append_name(&name_of(HOST)?, &mut turns)?;
+    let refused = composer.append_name(&name_of(b"\x01A\x00")?, &mut turns);
+    assert_equal!(&rt, matches!(refused, Err(AppendError::Short(_))), true);
+    composer.append_name(&name_of(HOST)?, &mut turns)?;
+    assert_equal!(
+        &rt,
+        composer.as_slice().get(24..).unwrap_or(b""),
+        b"\xC0\x0C".as_slice()
+    );
+    let (octets, table) = composer.finish();
+    assert_equal!(&rt, octets.len(), 26);
+    assert_equal!(&rt, table.len(), 3);
+    Ok(())
+}
