@@ -1,11 +1,15 @@
 pub mod Added
+pub mod Composes
 pub mod Composing
+pub mod Fields
 pub mod Grown
 pub mod Keeping
 pub mod KeptNames
 pub mod Keys
 pub mod KeptSoFar
+pub mod Marked
 pub mod MoreNames
+pub mod Over
 pub mod PlainLabels
 pub mod Searched
 pub mod Steps

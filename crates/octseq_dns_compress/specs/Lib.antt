@@ -6,7 +6,11 @@ pub mod Composed
 pub mod Ended
 pub mod Ending
 pub mod Few
+pub mod Fits
 pub mod FoundNames
 pub mod PlainName
 pub mod PlainNames
+pub mod Apart
+pub mod Named
+pub mod State
 pub mod Written

@@ -5,6 +5,7 @@
 //! name takes at most a constant of work for each of its labels, whatever names came before it.
 #![tactic(auto)]
 
+mod append;
 pub mod compose;
 mod encode;
 mod keep;
@@ -12,5 +13,5 @@ mod plain;
 mod search;
 pub mod table;
 
-pub use compose::Composer;
+pub use compose::{Compose, Composer};
 pub use table::{Compressor, Target};
