@@ -1,11 +1,15 @@
 pub mod Added
 pub mod Composing
+pub mod Fields
 pub mod Grown
 pub mod Keeping
 pub mod KeptNames
-pub mod Keys
 pub mod KeptSoFar
+pub mod Keys
 pub mod MoreNames
+pub mod Pieces
+pub mod PlainForm
 pub mod PlainLabels
 pub mod Searched
+pub mod Standing
 pub mod Steps

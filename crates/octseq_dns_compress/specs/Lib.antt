@@ -9,4 +9,7 @@ pub mod Few
 pub mod FoundNames
 pub mod PlainName
 pub mod PlainNames
+pub mod Standing
 pub mod Written
+pub mod Fits
+pub mod State
