@@ -4,11 +4,13 @@ use Rattle.std.proofs.Common.{subst, arith, append_assoc, append-nil, length-app
 use Rattle.std.proofs.lemmas.List.{drop-append-le, drop_at}
 use Rattle.std.proofs.lemmas.Slice.{drop-append-drop}
 use Rattle.octseq.specs.Limit.{IsPast, IsWithin}
+use Rattle.octseq.specs.Integer.{octets_be}
 use Rattle.octseq.specs.Part.{part_of}
+use Rattle.octseq.proofs.Written.{length_be}
 use Rattle.octseq_dns_compress.specs.Names.{Names, name_octets, names_with}
 use Rattle.octseq_dns_compress.specs.State.{State, Field, Entry, with_octets, with_name, with_field, with_fields, count_put}
 use Rattle.octseq_dns_compress.specs.State.{with_counted, with_data, with_entry, with_entries, with_header}
-use Rattle.octseq_dns_compress.proofs.Steps.{Grows}
+use Rattle.octseq_dns_compress.proofs.Steps.{Grows, grown_length}
 
 -- ---- octets come after others
 
@@ -53,10 +55,6 @@ entries_grow most s (entry ∷ entries) =
     grows_on s.octets then.octets (with_entries most then entries).octets (entry_grows most s entry)
     (entries_grow most then entries)
 
--- so there are more of them
-pub grown_longer : {old new : List ℕ} → Grows old new → length old ≤ length new
-grown_longer {old = old} grows = let long = ap length grows.1 ∙ length-append old grows.0 in omega (arith, long)
-
 -- as many octets as data say, and the two of their number
 pub counted_length : (most : ℕ) (s : State) (fields : List Field)
     → length (with_counted most s fields).octets
@@ -68,13 +66,20 @@ counted_length most s fields =
     let outer = length-append s.octets (part_of 2 data_octets) in
     let left = length-drop (length s.octets + 2) after.octets in
     let first = length-append s.octets (0 ∷ 0 ∷ []) in
-    let less = grown_longer (fields_grow most from fields) in
-    omega (arith, outer, left, first, less)
+    let less = grown_length from.octets after.octets (fields_grow most from fields) in
+    let inner = length-append (octets_be 2 (length data_octets)) data_octets in
+    let two = length_be 2 (length data_octets) in
+    omega (arith, outer, left, first, less, inner, two)
 
 -- what passes a limit passes it with more
 pub past_longer : (limit : Option ℕ) (n m : ℕ) → n ≤ m → IsPast limit n → IsPast limit m
 past_longer (Some limit) n m less past = omega (arith, less, past)
 past_longer None n m less past = past
+
+-- states of the same octets and names are the same
+pub one_state : {octets others : List ℕ} {names more : Names} → octets ≡ others → names ≡ more
+    → ◌≡◌ {A = State} (record { octets = octets; names = names }) (record { octets = others; names = more })
+one_state octets names = λ i. record { octets = octets i; names = names i }
 
 -- ---- another header
 
@@ -99,17 +104,15 @@ module _ (header : List ℕ) (twelve : length header ≡ 12) where
   headed_field most s (Field.name labels) late =
       let octets = headed_more s (name_octets s.names labels) late in
       let names = ap (λ n. names_with most s.names n labels) (headed_length s late) in
-      λ i. record { octets = octets i; names = names i }
-  headed_field most s (Field.octets more) late =
-      let octets = headed_more s more late in
-      λ i. record { octets = octets i; names = s.names }
+      one_state octets names
+  headed_field most s (Field.octets more) late = one_state (headed_more s more late) refl
 
   pub headed_fields : (most : ℕ) (s : State) (fields : List Field) → 12 ≤ length s.octets
       → with_fields most (with_header s header) fields ≡ with_header (with_fields most s fields) header
   headed_fields most s [] late = refl
   headed_fields most s (field ∷ fields) late =
       let then = with_field most s field in
-      let longer = grown_longer (field_grows most s field) in
+      let longer = grown_length s.octets then.octets (field_grows most s field) in
       ap (λ s. with_fields most s fields) (headed_field most s field late)
       ∙ headed_fields most then fields (omega (arith, late, longer))
 
@@ -121,7 +124,7 @@ module _ (header : List ℕ) (twelve : length header ≡ 12) where
       ∙ drop-append-drop 12 after.octets header n (omega (arith, late)) twelve in
       let octets = ap (λ o. (header ++ drop 12 s.octets) ++ part_of 2 o) same
       ∙ headed_more s (part_of 2 (drop n after.octets)) late in
-      λ i. record { octets = octets i; names = after.names }
+      one_state octets refl
 
   pub headed_counted : (most : ℕ) (s : State) (fields : List Field) → 12 ≤ length s.octets
       → with_counted most (with_header s header) fields ≡ with_header (with_counted most s fields) header
@@ -141,7 +144,7 @@ module _ (header : List ℕ) (twelve : length header ≡ 12) where
       → with_entry most (with_header s header) entry ≡ with_header (with_entry most s entry) header
   headed_entry most s entry late =
       let then = with_fields most s entry.head in
-      let longer = grown_longer (fields_grow most s entry.head) in
+      let longer = grown_length s.octets then.octets (fields_grow most s entry.head) in
       ap (λ s. with_data most s entry.data_fields) (headed_fields most s entry.head late)
       ∙ headed_data most then entry.data_fields (omega (arith, late, longer))
 
@@ -150,7 +153,7 @@ module _ (header : List ℕ) (twelve : length header ≡ 12) where
   headed_entries most s [] late = refl
   headed_entries most s (entry ∷ entries) late =
       let then = with_entry most s entry in
-      let longer = grown_longer (entry_grows most s entry) in
+      let longer = grown_length s.octets then.octets (entry_grows most s entry) in
       ap (λ s. with_entries most s entries) (headed_entry most s entry late)
       ∙ headed_entries most then entries (omega (arith, late, longer))
 

@@ -1,6 +1,9 @@
 pub mod Added
 pub mod Composing
+pub mod FieldNames
 pub mod Fields
+pub mod FieldSizes
+pub mod FieldsRead
 pub mod Grown
 pub mod Keeping
 pub mod KeptNames

@@ -102,7 +102,8 @@ name_next names start w (label ∷ labels) after are each is =
           let more = name_octets names labels in
           let new = octets_new names label labels in
           let apart = ap (λ octets. length label ∷ octets) (append_assoc label more after) in
-          let next = label_next w label (more ++ after) each.0 each.1 (is ∙ ap (λ octets. octets ++ after) new ∙ apart) in
+          let all = is ∙ ap (λ octets. octets ++ after) new ∙ apart in
+          let next = label_next w label (more ++ after) each.0 each.1 all in
           let long = ap length new in
           let both = length-append label more in
           subst (λ p. Stands start w (label ∷ labels) (pointers_from (last_place names labels)) (at p w))

@@ -5,6 +5,7 @@ pub mod Agrees
 pub mod Composed
 pub mod Ended
 pub mod Ending
+pub mod Fields
 pub mod Few
 pub mod FoundNames
 pub mod PlainName

@@ -3,6 +3,7 @@ use Rattle.std.specs.Prelude.{◌≡◌, ℕ, ◌≤◌, Some, List, ◌++◌, l
 use Rattle.std.specs.FinMap.{get}
 use Rattle.octseq.specs.Window.{Window, at, whole}
 use Rattle.octseq_dns_compress.specs.Names.{Names, Place}
+use Rattle.octseq_dns_compress.specs.State.{State}
 use Rattle.octseq_dns_name.specs.Name.{Stands}
 
 -- Labels are at a place after the header of a message, through as many pointers, whatever the header says and whatever
@@ -17,3 +18,8 @@ pub record AreNamed (octets : List ℕ) (names : Names) : Type 0 where
       → AreAt octets place.at labels place.pointers
   pub near : (labels : List (List ℕ)) (place : Place) → get names labels ≡ Some place → place.at ≤ 16383
   pub few : (labels : List (List ℕ)) (place : Place) → get names labels ≡ Some place → place.pointers ≤ 126
+
+-- A message has a header, and its names are at their places.
+pub record IsWellNamed (s : State) : Type 0 where
+  pub headed : 12 ≤ length s.octets
+  pub named : AreNamed s.octets s.names
