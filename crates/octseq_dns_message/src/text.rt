@@ -92,7 +92,6 @@ impl fmt::Display for Header {
             flags,
             opcode,
             rcode,
-            ..
         } = *self;
         write!(f, "id {id} opcode {opcode} rcode {rcode} flags")?;
         write_flags(f, flags)
