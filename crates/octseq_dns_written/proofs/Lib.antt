@@ -1,0 +1,4 @@
+pub mod EntriesRead
+pub mod FieldParts
+pub mod HeaderRead
+pub mod ReadBack
