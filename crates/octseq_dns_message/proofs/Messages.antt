@@ -58,38 +58,38 @@ no_sections octets h counts v is none k q a b d m = none (q, (a, (b, d))) m.past
     (same_sections octets h k counts q a b d v is m)
 
 module _ (octets : List ℕ) (h : Header) (counts : HeaderCounts) (v : Window) (is : IsHeader (whole octets) h counts v)
-    where
-  pub no_questions : NoneAt (Many counts.qdcount IsQuestion) v → Refuses octets
-  no_questions none = no_sections octets h counts v is
-      (none_first (Many counts.qdcount IsQuestion)
-      (Many counts.ancount IsRecord then Many counts.nscount IsRecord then Many counts.arcount IsRecord) v none)
+  where
+    pub no_questions : NoneAt (Many counts.qdcount IsQuestion) v → Refuses octets
+    no_questions none = no_sections octets h counts v is
+        (none_first (Many counts.qdcount IsQuestion)
+        (Many counts.ancount IsRecord then Many counts.nscount IsRecord then Many counts.arcount IsRecord) v none)
 
-  module _ (q : List Question) (x : Window) (asked : Many counts.qdcount IsQuestion v q x) where
-    none_after_questions : NoneAt (Many counts.ancount IsRecord then Many counts.nscount IsRecord then Many counts.arcount IsRecord) x
-        → Refuses octets
-    none_after_questions none = no_sections octets h counts v is
-        (none_second (Many counts.qdcount IsQuestion)
-        (Many counts.ancount IsRecord then Many counts.nscount IsRecord then Many counts.arcount IsRecord) v x q
-        (one_many counts.qdcount IsQuestion one_question) asked none)
+    module _ (q : List Question) (x : Window) (asked : Many counts.qdcount IsQuestion v q x) where
+      none_after_questions : NoneAt (Many counts.ancount IsRecord then Many counts.nscount IsRecord then Many counts.arcount IsRecord) x
+          → Refuses octets
+      none_after_questions none = no_sections octets h counts v is
+          (none_second (Many counts.qdcount IsQuestion)
+          (Many counts.ancount IsRecord then Many counts.nscount IsRecord then Many counts.arcount IsRecord) v x q
+          (one_many counts.qdcount IsQuestion one_question) asked none)
 
-    pub no_answers : NoneAt (Many counts.ancount IsRecord) x → Refuses octets
-    no_answers none = none_after_questions (none_first (Many counts.ancount IsRecord)
-        (Many counts.nscount IsRecord then Many counts.arcount IsRecord) x none)
+      pub no_answers : NoneAt (Many counts.ancount IsRecord) x → Refuses octets
+      no_answers none = none_after_questions (none_first (Many counts.ancount IsRecord)
+          (Many counts.nscount IsRecord then Many counts.arcount IsRecord) x none)
 
-    module _ (a : List Record) (y : Window) (answered : Many counts.ancount IsRecord x a y) where
-      none_after_answers : NoneAt (Many counts.nscount IsRecord then Many counts.arcount IsRecord) y → Refuses octets
-      none_after_answers none = none_after_questions
-          (none_second (Many counts.ancount IsRecord) (Many counts.nscount IsRecord then Many counts.arcount IsRecord) x y a
-          (one_records counts.ancount) answered none)
+      module _ (a : List Record) (y : Window) (answered : Many counts.ancount IsRecord x a y) where
+        none_after_answers : NoneAt (Many counts.nscount IsRecord then Many counts.arcount IsRecord) y → Refuses octets
+        none_after_answers none = none_after_questions
+            (none_second (Many counts.ancount IsRecord) (Many counts.nscount IsRecord then Many counts.arcount IsRecord) x y a
+            (one_records counts.ancount) answered none)
 
-      pub no_authorities : NoneAt (Many counts.nscount IsRecord) y → Refuses octets
-      no_authorities none = none_after_answers (none_first (Many counts.nscount IsRecord) (Many counts.arcount IsRecord) y none)
+        pub no_authorities : NoneAt (Many counts.nscount IsRecord) y → Refuses octets
+        no_authorities none = none_after_answers (none_first (Many counts.nscount IsRecord) (Many counts.arcount IsRecord) y none)
 
-      pub no_additionals : (b : List Record) (z : Window) → Many counts.nscount IsRecord y b z
-          → NoneAt (Many counts.arcount IsRecord) z → Refuses octets
-      no_additionals b z authorized none = none_after_answers
-          (none_second (Many counts.nscount IsRecord) (Many counts.arcount IsRecord) y z b (one_records counts.nscount) authorized
-          none)
+        pub no_additionals : (b : List Record) (z : Window) → Many counts.nscount IsRecord y b z
+            → NoneAt (Many counts.arcount IsRecord) z → Refuses octets
+        no_additionals b z authorized none = none_after_answers
+            (none_second (Many counts.nscount IsRecord) (Many counts.arcount IsRecord) y z b (one_records counts.nscount) authorized
+            none)
 
 -- octets after the sections
 pub some_after : (octets : List ℕ) (h : Header) (counts : HeaderCounts) (v end : Window) (s : Sections)
