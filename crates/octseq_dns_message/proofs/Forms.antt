@@ -3,7 +3,7 @@ use Rattle.std.proofs.Common.{◌≡◌, ℕ, if◌then◌else◌, nat_eq, refl,
 use mathlib.Core.Logic.{inl, inr}
 use Rattle.octseq.specs.Window.{Window, at}
 use Rattle.octseq_dns_message.specs.Data.{Form, Mx, Soa, Srv, HasForm, HasOctets, HasString, HasStrings, HasMx}
-use Rattle.octseq_dns_message.specs.Data.{HasSoa, HasSrv, IsTyped, IsDataOf}
+use Rattle.octseq_dns_message.specs.Data.{HasSoa, HasSrv, IsTyped, IsDataOf, rtype_of}
 use Rattle.octseq_dns_message.specs.Entry.{Record}
 use Rattle.octseq_dns_message.specs.Format.{IsNumber}
 use Rattle.octseq_dns_name.specs.Name.{Name, HasName}
@@ -87,7 +87,7 @@ shape_of rtype class w v (Form.mx x) is = (Kind.of_mx, is.0, (x, refl, is.1))
 shape_of rtype class w v (Form.soa x) is = (Kind.of_soa, is.0, (x, refl, is.1))
 shape_of rtype class w v (Form.txt x) is = (Kind.of_txt, is.0, (x, refl, is.1))
 shape_of rtype class w v (Form.srv x) is = (Kind.of_srv, is.0, (x, refl, is.2))
-shape_of rtype class w v (Form.opaque x) is = absurd is
+shape_of rtype class w v (Form.unknown other x) is = absurd is
 
 -- data of a type has that type's form
 pub shape_by : (k : Kind) (rtype class : ℕ) (w v : Window) (form : Form) → rtype ≡ number k
@@ -197,6 +197,25 @@ one_said r form other (inl a) (inl b) = one_typed r form other a b
 one_said r form other (inl a) (inr b) = absurd (b.1 form a)
 one_said r form other (inr a) (inl b) = absurd (a.1 other b)
 one_said r form other (inr a) (inr b) = a.0 ∙ sym b.0
+
+-- a form that is there is of the type
+typed_rtype : (rtype class : ℕ) (w v : Window) (form : Form) → HasForm rtype class w form v → rtype_of form ≡ rtype
+typed_rtype rtype class w v (Form.a x) is = sym is.0
+typed_rtype rtype class w v (Form.aaaa x) is = sym is.0
+typed_rtype rtype class w v (Form.ns x) is = sym is.0
+typed_rtype rtype class w v (Form.cname x) is = sym is.0
+typed_rtype rtype class w v (Form.ptr x) is = sym is.0
+typed_rtype rtype class w v (Form.mx x) is = sym is.0
+typed_rtype rtype class w v (Form.soa x) is = sym is.0
+typed_rtype rtype class w v (Form.txt x) is = sym is.0
+typed_rtype rtype class w v (Form.srv x) is = sym is.0
+typed_rtype rtype class w v (Form.unknown other x) is = absurd is
+
+-- so what data says is of the record's type
+pub said_rtype : (r : Record) (form : Form) → IsDataOf r form → rtype_of form ≡ r.rtype
+said_rtype r form (inl is) =
+    typed_rtype r.rtype r.class (at r.rdata.position r.owner.place) is.end form is.form_is
+said_rtype r form (inr is) = ap rtype_of is.0
 
 -- data of a type but TXT ends at one place
 pub one_end : (rtype class : ℕ) (w u v : Window) (form other : Form) → (rtype ≡ 16 → ⊥) → HasForm rtype class w form u

@@ -56,7 +56,7 @@ HasSrv w srv v = (IsNumber 2 then IsNumber 2 then IsNumber 2 then HasName) w
     (srv.priority, (srv.weight, (srv.port, srv.target))) v
 
 -- What data says: an address of 4 octets or of 16, a name, one of the above, strings of text; or nothing that is
--- known here, and then it is the window of the data.
+-- known here, and then it is the record's type and the window of the data (RFC 3597).
 pub data Form : Type 0 where
   a : List ℕ → Form
   aaaa : List ℕ → Form
@@ -67,7 +67,20 @@ pub data Form : Type 0 where
   soa : Soa → Form
   txt : List (List ℕ) → Form
   srv : Srv → Form
-  opaque : Window → Form
+  unknown : ℕ → Window → Form
+
+-- the type of which it is
+abbrev pub rtype_of : Form → ℕ
+rtype_of (Form.a octets) = 1
+rtype_of (Form.aaaa octets) = 28
+rtype_of (Form.ns name) = 2
+rtype_of (Form.cname name) = 5
+rtype_of (Form.ptr name) = 12
+rtype_of (Form.mx it) = 15
+rtype_of (Form.soa it) = 6
+rtype_of (Form.txt strings) = 16
+rtype_of (Form.srv it) = 33
+rtype_of (Form.unknown rtype octets) = rtype
 
 -- It stands at a window's position, in data of a type and a class. Addresses and places of services are of the class
 -- IN alone.
@@ -81,7 +94,7 @@ HasForm rtype class w (Form.mx it) v = (rtype ≡ 15) × HasMx w it v
 HasForm rtype class w (Form.soa it) v = (rtype ≡ 6) × HasSoa w it v
 HasForm rtype class w (Form.txt strings) v = (rtype ≡ 16) × HasStrings w strings v
 HasForm rtype class w (Form.srv it) v = (rtype ≡ 33) × (class ≡ 1) × HasSrv w it v
-HasForm rtype class w (Form.opaque octets) v = ⊥
+HasForm rtype class w (Form.unknown other octets) v = ⊥
 
 -- A record's data has this form: it stands where the data begins, in the message, so that names may point before it;
 -- and it ends exactly where the data does.
@@ -90,6 +103,6 @@ pub record IsTyped (r : Record) (form : Form) : Type 0 where
   pub form_is : HasForm r.rtype r.class (at r.rdata.position r.owner.place) form end
   pub ends : end.position ≡ r.rdata.end
 
--- What a record's data says: it has the form, or it has none and is opaque.
+-- What a record's data says: it has the form, or it has none and is unknown, of the record's own type.
 abbrev pub IsDataOf : Record → Form → Type 0
-IsDataOf r form = IsTyped r form ⊎ (form ≡ Form.opaque r.rdata) × ((other : Form) → ¬ IsTyped r other)
+IsDataOf r form = IsTyped r form ⊎ (form ≡ Form.unknown r.rtype r.rdata) × ((other : Form) → ¬ IsTyped r other)

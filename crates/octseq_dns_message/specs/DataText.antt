@@ -1,4 +1,4 @@
--- The text of data: RFC 1035, 5.1, RFC 2782 (SRV), RFC 5952 (AAAA) and RFC 3597, 5 (opaque data).
+-- The text of data: RFC 1035, 5.1, RFC 2782 (SRV), RFC 5952 (AAAA) and RFC 3597, 5 (unknown data).
 use Rattle.std.specs.Prelude.{◌≡◌, ℕ, ◌+◌, ◌/◌, ◌%◌, ◌≤◌, Bool, ◌&&◌, ◌||◌, not, ◌==◌, if◌then◌else◌, List, [], ◌∷◌}
 use Rattle.std.specs.Prelude.{◌++◌, length, take, drop, replicate, codes, bytes_eq}
 use Rattle.std.specs.Char.{char_set_contains, digit_char, is_ascii_graphic}
@@ -72,8 +72,8 @@ octets_behind [] = []
 octets_behind (octet ∷ octets) = 32 ∷ flat_map hex_text (octet ∷ octets)
 
 -- how many octets, and they themselves
-abbrev pub opaque_text : List ℕ → List ℕ
-opaque_text octets = codes "\\# " ++ decimal (length octets) ++ octets_behind octets
+abbrev pub unknown_text : List ℕ → List ℕ
+unknown_text octets = codes "\\# " ++ decimal (length octets) ++ octets_behind octets
 
 abbrev pub mx_text : Mx → List ℕ
 mx_text mx = decimal mx.preference ++ 32 ∷ name_text mx.exchange.labels
@@ -98,4 +98,4 @@ form_text (Form.mx mx) = mx_text mx
 form_text (Form.soa soa) = soa_text soa
 form_text (Form.txt strings) = strings_text strings
 form_text (Form.srv srv) = srv_text srv
-form_text (Form.opaque octets) = opaque_text (rest octets)
+form_text (Form.unknown rtype octets) = unknown_text (rest octets)

@@ -44,7 +44,7 @@ form_of (kind.Mx mx) = Form.mx (mx_of mx)
 form_of (kind.Soa soa) = Form.soa (soa_of soa)
 form_of (kind.Txt txt) = Form.txt (strings_of txt)
 form_of (kind.Srv srv) = Form.srv (srv_of srv)
-form_of (kind.Opaque octets) = Form.opaque (window octets)
+form_of (kind.Unknown rtype octets) = Form.unknown rtype (window octets)
 
 -- strings of text are at a window's position (a name says its place itself)
 abbrev pub IsAt : {R : Type 0} {g : Ghosts R} → Window → Data R g → Type 0

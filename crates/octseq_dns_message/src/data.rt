@@ -3,7 +3,7 @@ ghost use Rattle.std.specs.Prelude.{◌≡◌, ◌≢◌, ℕ, ◌+◌, ◌≤�
 ghost use Rattle.std.specs.Net.Addr.{IsIpv4Mapped, segments_of};
 ghost use Rattle.octseq.specs.Parser.{window};
 ghost use Rattle.octseq.specs.Window.{Window};
-ghost use Rattle.octseq_dns_message.specs.Data.{Form, HasForm, IsDataOf};
+ghost use Rattle.octseq_dns_message.specs.Data.{Form, HasForm, IsDataOf, rtype_of};
 ghost use Rattle.octseq_dns_message.specs.DataText.{IsGroupsText, is_compatible, aaaa_text};
 ghost use Rattle.octseq_dns_message.specs.Entry as said;
 
@@ -36,6 +36,13 @@ pub fn one_form_of_data()
         → form ≡ other }
 {}
 
+/// What a record's data says is of the record's type.
+///
+/// It does nothing. A caller that calls it has the law in its proof.
+pub fn data_has_the_records_type()
+    ensures { (entry : said.Record) (form : Form) → IsDataOf entry form → rtype_of form ≡ entry.rtype }
+{}
+
 /// An IPv6 address that doesn't end in an IPv4 address shows its eight groups, with `::` in the place of the first of
 /// the longest runs of two or more zero groups: RFC 5952, 4.2.
 ///
@@ -66,8 +73,9 @@ pub enum Data<R: AsOctets> {
     Txt(Txt<R>),
     /// The place of a service, in class IN: RFC 2782.
     Srv(Srv<R>),
-    /// Anything else: a parser of the message that begins and ends with the data.
-    Opaque(Parser<R>),
+    /// Anything else, as RFC 3597 has it: the record's type, and a parser of the message that begins and ends with the
+    /// data.
+    Unknown(Rtype, Parser<R>),
 }
 
 impl<R: AsOctets + Copy> Copy for Data<R> {}
@@ -84,6 +92,24 @@ impl<R: AsOctets + Copy> Clone for Data<R> {
 
 impl<R: AsOctets + Copy> Data<R> {
     ghost use Rattle.octseq_dns_message.specs.Typed.{form_of, IsAt};
+
+    /// The type of which it is: the record's.
+    pub fn rtype(&self) -> Rtype
+        ensures { result ≡ rtype_of (form_of self.now) }
+    {
+        match self {
+            Data::A(_) => Rtype::A,
+            Data::Aaaa(_) => Rtype::AAAA,
+            Data::Ns(_) => Rtype::NS,
+            Data::Cname(_) => Rtype::CNAME,
+            Data::Ptr(_) => Rtype::PTR,
+            Data::Mx(_) => Rtype::MX,
+            Data::Soa(_) => Rtype::SOA,
+            Data::Txt(_) => Rtype::TXT,
+            Data::Srv(_) => Rtype::SRV,
+            Data::Unknown(rtype, _) => *rtype,
+        }
+    }
 
     /// Takes the data of a type and a class, which ends at a place of the message. It counts the turns that names in
     /// it take.

@@ -4,7 +4,7 @@ ghost use Rattle.std.specs.Fmt.{WritesOnOk};
 ghost use Rattle.std.specs.List.{flat_map};
 ghost use Rattle.std.specs.Net.Text.{ipv4_text};
 ghost use Rattle.octseq_dns_message.specs.DataText.{is_compatible, aaaa_text, is_string_quoted, string_octet_text};
-ghost use Rattle.octseq_dns_message.specs.DataText.{string_text, strings_text, hex_text, opaque_text};
+ghost use Rattle.octseq_dns_message.specs.DataText.{string_text, strings_text, hex_text, unknown_text};
 ghost use Rattle.octseq_dns_message.specs.DataText.{mx_text, soa_text, srv_text, form_text};
 ghost use Rattle.octseq_dns_message.specs.Txt.{strings_of, string_octets};
 ghost use Rattle.octseq_dns_message.specs.Typed.{mx_of, soa_of, srv_of, form_of};
@@ -110,7 +110,7 @@ impl<R: AsOctets + Copy> fmt::Display for Data<R> {
             Data::Soa(soa) => write!(f, "{soa}"),
             Data::Txt(txt) => write!(f, "{txt}"),
             Data::Srv(srv) => write!(f, "{srv}"),
-            Data::Opaque(parser) => write_opaque(f, parser.peek_all()),
+            Data::Unknown(_, parser) => write_unknown(f, parser.peek_all()),
         }
     }
 }
@@ -166,8 +166,8 @@ fn needs_backslash(octet: u8) -> bool
 }
 
 /// Writes how many octets there are, and they themselves if there are any.
-fn write_opaque<W: fmt::Write>(f: &mut fmt::Formatter<W>, octets: &[u8]) -> fmt::Result
-    ensures { WritesOnOk W.write_str_gives f.old result (opaque_text octets.now) f.new }
+fn write_unknown<W: fmt::Write>(f: &mut fmt::Formatter<W>, octets: &[u8]) -> fmt::Result
+    ensures { WritesOnOk W.write_str_gives f.old result (unknown_text octets.now) f.new }
 {
     let len = octets.len();
     write!(f, "\\# {len}")?;

@@ -137,7 +137,7 @@ impl<R: AsOctets + Copy> Record<R> {
     }
 
     /// What its data says, by its type and class. Names in it are read in the message, with their pointers, and the
-    /// data ends exactly where its form does. Data that isn't of its type's form is opaque, and so is the data of a
+    /// data ends exactly where its form does. Data that isn't of its type's form is unknown, and so is the data of a
     /// type that has no form here.
     pub fn data(&self) -> Data<R>
         ensures form { IsDataOf (record_of self.now) (form_of result) }
@@ -163,7 +163,7 @@ impl<R: AsOctets + Copy> Record<R> {
             turns,
         ) {
             Ok(found) => found,
-            Err(_) => Data::Opaque(self.rdata),
+            Err(_) => Data::Unknown(self.rtype(), self.rdata),
         }
     }
 }
