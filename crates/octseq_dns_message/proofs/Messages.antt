@@ -3,7 +3,7 @@ use Rattle.std.proofs.Common.{◌≡◌, ℕ, ◌<◌, List, length, ap, subst, 
 use Rattle.octseq.specs.Window.{Window, left, whole}
 use Rattle.octseq_dns_message.specs.Entry.{Question, Record, IsQuestion, IsRecord}
 use Rattle.octseq_dns_message.specs.Header.{IsHeader}
-use Rattle.octseq_dns_message.specs.Message.{Sections, AreSections, IsMessage}
+use Rattle.octseq_dns_message.specs.Message.{Entries, AreSections, IsMessage}
 use Rattle.octseq_dns_message.specs.OneEntry.{one_question, one_record}
 use Rattle.octseq_dns_message.specs.declared.header.Header.{Header}
 use Rattle.octseq_dns_message.specs.declared.header.HeaderCounts.{HeaderCounts}
@@ -38,10 +38,6 @@ same_sections octets h k counts q a b d v is m =
     (subst (λ n. AreSections n m.past_header (q, (a, (b, d))) m.past_sections) same.1 m.sections_are)
 
 -- ---- what is no message
-
--- more than 65,535 octets
-pub too_large : (octets : List ℕ) → 65535 < length octets → Refuses octets
-too_large octets large k q a b d m = let size = m.size in omega (arith, large, size)
 
 -- no header with its counts is at a window's position
 abbrev pub NoHeader : Window → Type 0
@@ -92,7 +88,7 @@ module _ (octets : List ℕ) (h : Header) (counts : HeaderCounts) (v : Window) (
             none)
 
 -- octets after the sections
-pub some_after : (octets : List ℕ) (h : Header) (counts : HeaderCounts) (v end : Window) (s : Sections)
+pub some_after : (octets : List ℕ) (h : Header) (counts : HeaderCounts) (v end : Window) (s : Entries)
     → IsHeader (whole octets) h counts v → AreSections counts v s end → 0 < left end → Refuses octets
 some_after octets h counts v end s is are some k q a b d m =
     let same = (one_sections counts).same v (q, (a, (b, d))) s m.past_sections end

@@ -34,7 +34,7 @@ label_length w u l within has =
     let taken = length-take (from + octet w - from) (drop from w.octets) in
     omega (arith, size, whole, some, within, taken, length-drop from w.octets)
 
--- the labels that stand at a window's position
+-- the labels that are at a window's position
 standing_labels : (start : ℕ) (w v : Window) (labels : List (List ℕ)) (pointers : ℕ) → w.end ≤ length w.octets
     → Stands start w labels pointers v → AreLabels labels
 standing_labels start w v labels pointers within (Stands.root has) = tt
