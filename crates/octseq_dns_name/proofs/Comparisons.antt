@@ -1,7 +1,7 @@
 -- How labels and names compare, piece by piece.
 use Rattle.std.proofs.Common.{◌≡◌, ℕ, zero, suc, min, ◌+◌, ◌-◌, ◌<◌, ◌≤◌, ◌⊎◌, inl, inr, List, [], ◌∷◌, ◌++◌, length}
-use Rattle.std.proofs.Common.{take, drop, get_or, reverse, refl, sym, ap, ◌∙◌, arith, Option, Some, None, MatchOption}
-use Rattle.std.proofs.lemmas.List.{drop_more, drop_all, length-drop, length-reverse, reverse-append, map-append}
+use Rattle.std.proofs.Common.{take, drop, reverse, refl, sym, ap, ◌∙◌, arith, Option, Some, None, MatchOption}
+use Rattle.std.proofs.lemmas.List.{drop_all, length-drop, length-reverse, reverse-append, map-append}
 use Rattle.std.proofs.lemmas.List.{length-map, length-append, take-append-drop}
 use Rattle.std.specs.Char.{to_ascii_lowercase}
 use Rattle.std.specs.Cmp.{nat_cmp_is, ranks}

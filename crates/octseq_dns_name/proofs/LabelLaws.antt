@@ -1,6 +1,6 @@
 -- The labels of a name have 1 to 63 octets each.
-use Rattle.std.proofs.Common.{◌≡◌, ℕ, zero, suc, ◌+◌, ◌-◌, ◌<◌, ◌≤◌, List, [], ◌∷◌, length, take, drop}
-use Rattle.std.proofs.Common.{ap, sym, ◌∙◌, arith, length-take, length-drop, subst, slice_index_or, Fits, w8}
+use Rattle.std.proofs.Common.{◌≡◌, ℕ, suc, ◌+◌, ◌-◌, ◌≤◌, List, [], ◌∷◌, length, drop}
+use Rattle.std.proofs.Common.{ap, sym, arith, length-take, length-drop, subst}
 use Rattle.std.proofs.Math.Logic.{∥∥₁_elim}
 use Rattle.std.specs.Coded.{le_prop, ×_prop, Unit-prop}
 use mathlib.Core.HLevel.{×₃_prop}

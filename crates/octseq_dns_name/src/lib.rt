@@ -7,6 +7,6 @@
 pub mod error;
 pub mod name;
 
-pub use error::{FromLabelsError, Malformed, FromTextError};
+pub use error::{FromLabelsError, FromTextError, Malformed};
 pub use name::text::write_digits;
 pub use name::{DomainName, NAME_MAX, Name, POINTER_MAX, ParsedName};
