@@ -3,7 +3,7 @@ use Rattle.std.proofs.Common.{◌≡◌, ℕ, ◌<◌, List, length, ap, subst, 
 use Rattle.octseq.specs.Window.{Window, left, whole}
 use Rattle.octseq_dns_message.specs.Entry.{Question, Record, IsQuestion, IsRecord}
 use Rattle.octseq_dns_message.specs.Header.{IsHeader}
-use Rattle.octseq_dns_message.specs.Message.{Sections, AreSections, IsMessage}
+use Rattle.octseq_dns_message.specs.Message.{Entries, AreSections, IsMessage}
 use Rattle.octseq_dns_message.specs.OneEntry.{one_question, one_record}
 use Rattle.octseq_dns_message.specs.declared.header.Header.{Header}
 use Rattle.octseq_dns_message.specs.declared.header.HeaderCounts.{HeaderCounts}
@@ -39,10 +39,6 @@ same_sections octets h k counts q a b d v is m =
 
 -- ---- what is no message
 
--- more than 65,535 octets
-pub too_large : (octets : List ℕ) → 65535 < length octets → Refuses octets
-too_large octets large k q a b d m = let size = m.size in omega (arith, large, size)
-
 -- no header with its counts is at a window's position
 abbrev pub NoHeader : Window → Type 0
 NoHeader w = (h : Header) (counts : HeaderCounts) (v : Window) → IsHeader w h counts v → ⊥
@@ -58,41 +54,41 @@ no_sections octets h counts v is none k q a b d m = none (q, (a, (b, d))) m.past
     (same_sections octets h k counts q a b d v is m)
 
 module _ (octets : List ℕ) (h : Header) (counts : HeaderCounts) (v : Window) (is : IsHeader (whole octets) h counts v)
-    where
-  pub no_questions : NoneAt (Many counts.qdcount IsQuestion) v → Refuses octets
-  no_questions none = no_sections octets h counts v is
-      (none_first (Many counts.qdcount IsQuestion)
-      (Many counts.ancount IsRecord then Many counts.nscount IsRecord then Many counts.arcount IsRecord) v none)
+  where
+    pub no_questions : NoneAt (Many counts.qdcount IsQuestion) v → Refuses octets
+    no_questions none = no_sections octets h counts v is
+        (none_first (Many counts.qdcount IsQuestion)
+        (Many counts.ancount IsRecord then Many counts.nscount IsRecord then Many counts.arcount IsRecord) v none)
 
-  module _ (q : List Question) (x : Window) (asked : Many counts.qdcount IsQuestion v q x) where
-    none_after_questions : NoneAt (Many counts.ancount IsRecord then Many counts.nscount IsRecord then Many counts.arcount IsRecord) x
-        → Refuses octets
-    none_after_questions none = no_sections octets h counts v is
-        (none_second (Many counts.qdcount IsQuestion)
-        (Many counts.ancount IsRecord then Many counts.nscount IsRecord then Many counts.arcount IsRecord) v x q
-        (one_many counts.qdcount IsQuestion one_question) asked none)
+    module _ (q : List Question) (x : Window) (asked : Many counts.qdcount IsQuestion v q x) where
+      none_after_questions : NoneAt (Many counts.ancount IsRecord then Many counts.nscount IsRecord then Many counts.arcount IsRecord) x
+          → Refuses octets
+      none_after_questions none = no_sections octets h counts v is
+          (none_second (Many counts.qdcount IsQuestion)
+          (Many counts.ancount IsRecord then Many counts.nscount IsRecord then Many counts.arcount IsRecord) v x q
+          (one_many counts.qdcount IsQuestion one_question) asked none)
 
-    pub no_answers : NoneAt (Many counts.ancount IsRecord) x → Refuses octets
-    no_answers none = none_after_questions (none_first (Many counts.ancount IsRecord)
-        (Many counts.nscount IsRecord then Many counts.arcount IsRecord) x none)
+      pub no_answers : NoneAt (Many counts.ancount IsRecord) x → Refuses octets
+      no_answers none = none_after_questions (none_first (Many counts.ancount IsRecord)
+          (Many counts.nscount IsRecord then Many counts.arcount IsRecord) x none)
 
-    module _ (a : List Record) (y : Window) (answered : Many counts.ancount IsRecord x a y) where
-      none_after_answers : NoneAt (Many counts.nscount IsRecord then Many counts.arcount IsRecord) y → Refuses octets
-      none_after_answers none = none_after_questions
-          (none_second (Many counts.ancount IsRecord) (Many counts.nscount IsRecord then Many counts.arcount IsRecord) x y a
-          (one_records counts.ancount) answered none)
+      module _ (a : List Record) (y : Window) (answered : Many counts.ancount IsRecord x a y) where
+        none_after_answers : NoneAt (Many counts.nscount IsRecord then Many counts.arcount IsRecord) y → Refuses octets
+        none_after_answers none = none_after_questions
+            (none_second (Many counts.ancount IsRecord) (Many counts.nscount IsRecord then Many counts.arcount IsRecord) x y a
+            (one_records counts.ancount) answered none)
 
-      pub no_authorities : NoneAt (Many counts.nscount IsRecord) y → Refuses octets
-      no_authorities none = none_after_answers (none_first (Many counts.nscount IsRecord) (Many counts.arcount IsRecord) y none)
+        pub no_authorities : NoneAt (Many counts.nscount IsRecord) y → Refuses octets
+        no_authorities none = none_after_answers (none_first (Many counts.nscount IsRecord) (Many counts.arcount IsRecord) y none)
 
-      pub no_additionals : (b : List Record) (z : Window) → Many counts.nscount IsRecord y b z
-          → NoneAt (Many counts.arcount IsRecord) z → Refuses octets
-      no_additionals b z authorized none = none_after_answers
-          (none_second (Many counts.nscount IsRecord) (Many counts.arcount IsRecord) y z b (one_records counts.nscount) authorized
-          none)
+        pub no_additionals : (b : List Record) (z : Window) → Many counts.nscount IsRecord y b z
+            → NoneAt (Many counts.arcount IsRecord) z → Refuses octets
+        no_additionals b z authorized none = none_after_answers
+            (none_second (Many counts.nscount IsRecord) (Many counts.arcount IsRecord) y z b (one_records counts.nscount) authorized
+            none)
 
 -- octets after the sections
-pub some_after : (octets : List ℕ) (h : Header) (counts : HeaderCounts) (v end : Window) (s : Sections)
+pub some_after : (octets : List ℕ) (h : Header) (counts : HeaderCounts) (v end : Window) (s : Entries)
     → IsHeader (whole octets) h counts v → AreSections counts v s end → 0 < left end → Refuses octets
 some_after octets h counts v end s is are some k q a b d m =
     let same = (one_sections counts).same v (q, (a, (b, d))) s m.past_sections end

@@ -68,7 +68,7 @@ reached_then code Is item w u end last one held after to other is =
     let on = first_of Is item w u x.0 one held.0 (λ same. other (same ∙ x.2)) is x.1 in
     on.1 ∙ ap (λ more. one ∷ more) (reached_as code Is item u x.0 last on.0 after (x.2 ∙ sym to) on.2))
 
--- ---- rows of so many
+-- ---- rows of as many as a count says
 
 -- a row that is held has as many things as it is said to
 pub held_count : {A : Type 0} (Is : Relation A) (w : Window) (count : ℕ) (held : Holds Is w count)

@@ -9,11 +9,11 @@ use Rattle.octseq_format.specs.Pair.{◌then◌}
 use Rattle.octseq_format.specs.Row.{Many}
 
 -- questions, and the records of answers, of authorities, and additional ones
-abbrev pub Sections : Type 0
-Sections = List Question × (List Record × (List Record × List Record))
+abbrev pub Entries : Type 0
+Entries = List Question × (List Record × (List Record × List Record))
 
 -- as many of each as a header counts, one section after another
-abbrev pub AreSections : HeaderCounts → Window → Sections → Window → Type 0
+abbrev pub AreSections : HeaderCounts → Window → Entries → Window → Type 0
 AreSections counts = Many counts.qdcount IsQuestion then Many counts.ancount IsRecord
     then Many counts.nscount IsRecord then Many counts.arcount IsRecord
 

@@ -17,21 +17,21 @@ use octseq::{AsOctets, Parser};
 use octseq_dns_name::Malformed;
 use std::alloc::AllocError;
 
-mod lists;
+mod collect;
 mod question;
 mod record;
 mod sections;
 mod text;
 mod walk;
 
-pub use crate::message::lists::Lists;
+pub use crate::message::collect::Sections;
 pub use crate::message::question::Question;
 pub use crate::message::record::Record;
 pub use crate::message::text::one_text_of_a_message;
 pub use crate::message::walk::{Questions, Records};
 
 /// How many octets a message may have: RFC 1035, 4.2.2.
-const MESSAGE_MOST: usize = 65535;
+pub const MESSAGE_MAX: usize = 65535;
 
 /// Octets are a message in one way at most.
 ///
@@ -169,7 +169,7 @@ impl<R: AsOctets + Copy> Message<R> {
         ensures least { IfOk result (λ message. turns.old + message_turns message ≤ turns.new) }
     {
         let mut parser = Parser::from_ref(octets);
-        if parser.remaining() > MESSAGE_MOST {
+        if parser.remaining() > MESSAGE_MAX {
             return Err(Malformed);
         }
         let header = Numbers::parse(&mut parser)?;

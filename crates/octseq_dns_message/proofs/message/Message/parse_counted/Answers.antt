@@ -124,7 +124,7 @@ returns-clause-message g c =
     let none = c.if-remaining-gt0.false in
     let all = ap left c.from_ref-parser.ensures.window in
     let size = c.remaining.ensures.left in
-    let small = c.if-remaining-gt-MESSAGE_MOST.false in
+    let small = c.if-remaining-gt-MESSAGE_MAX.false in
     record {
       size = omega (arith, all, size, small);
       counts = counts;
