@@ -1,6 +1,6 @@
 -- The 12 octets of a header are read as that header with its counts.
-use Rattle.std.proofs.Common.{◌≡◌, ℕ, ◌+◌, ◌≤◌, ◌<◌, Bool, true, false, List, [], ◌∷◌, ◌++◌, length, refl, sym, ap, ◌∙◌}
-use Rattle.std.proofs.Common.{subst, arith}
+use Rattle.std.proofs.Common.{◌≡◌, ℕ, ◌≤◌, ◌<◌, Bool, true, false, List, [], ◌∷◌, ◌++◌, length, refl, ap}
+use Rattle.std.proofs.Common.{arith}
 use Rattle.octseq.specs.Integer.{octets_be}
 use Rattle.octseq.specs.Window.{Window, past, at, whole}
 use Rattle.octseq.proofs.Behind.{front_comes_next}

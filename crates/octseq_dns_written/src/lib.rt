@@ -1,5 +1,6 @@
 //! What is read of messages that were written. Each law is the contract of a function that does nothing.
 #![tactic(auto)]
+
 ghost use Rattle.std.specs.Prelude.{◌≤◌, ℕ, length};
 ghost use Rattle.octseq_dns_written.specs.Contents.{Message, Fits, octets_of};
 ghost use Rattle.octseq_dns_written.specs.ReadsBack.{ReadsBack};
