@@ -82,7 +82,13 @@ record_at w p q n r fits small end within head data_are =
           ),
         ),
       ),
-      record { labels = refl; rtype = refl; class = refl; ttl = refl; data_is = (at q w, count.1, end) },
+      record {
+        labels = refl;
+        rtype = refl;
+        class = refl;
+        ttl = refl;
+        data_is = record { in_message = refl; end = at q w; fields_are = count.1; ends = end };
+      },
     )
 
 -- ---- in a message
@@ -142,13 +148,18 @@ record_read most s r fits named header after twelve few =
     let grows = counted_grows most then r.fields in
     let size = counted_size most then r.fields in
     let within = all_length header octets after twelve in
-    let head_is = fields_read_in most s head named (fits.name, (tt, tt)) header (grows.0 ++ after) all then.octets twelve
-    refl (all_grows header then.octets grows.0 after then_named.headed
-    ∙ ap (λ octets. all_of header octets after) (sym grows.1)) in
-    let data_are = fields_read_in most then (Field.octets (octets_be 2 n) ∷ r.fields) then_named (tt, fits.fields) header
-    after all octets twelve (ap (λ (s : State). s.octets) (sym (counted_is most then r.fields))) refl in
-    record_at (at (length s.octets) (whole all)) (length then.octets) (length octets) n r fits (omega (arith, size, few))
-    (omega (arith, size)) within head_is data_are
+    let same : all_of header then.octets (grows.0 ++ after) ≡ all =
+    all_grows header then.octets grows.0 after then_named.headed
+    ∙ ap (λ octets. all_of header octets after) (sym grows.1) in
+    let head_is =
+    fields_read_in most s head named (fits.name, (tt, tt)) header (grows.0 ++ after) all then.octets twelve refl same in
+    let count = Field.octets (octets_be 2 n) in
+    let counted = ap (λ (s : State). s.octets) (sym (counted_is most then r.fields)) in
+    let data_are = fields_read_in most then (count ∷ r.fields) then_named (tt, fits.fields) header after all octets
+    twelve counted refl in
+    let w = at (length s.octets) (whole all) in
+    record_at w (length then.octets) (length octets) n r fits (omega (arith, size, few)) (omega (arith, size)) within
+    head_is data_are
 
 pub record_is_read : IsRead IsRecord IsAsWritten record_entry FitsRecord
 record_is_read = record {

@@ -1,4 +1,5 @@
 pub mod EntriesRead
 pub mod FieldParts
 pub mod HeaderRead
+pub mod RdataRead
 pub mod ReadBack

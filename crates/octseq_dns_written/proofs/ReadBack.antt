@@ -62,11 +62,11 @@ with_additionals most m = with_entries most (with_authorities most m) (map recor
 
 composed_is : (most : ℕ) (m : Message) → composed most m ≡ with_additionals most m
 composed_is most m =
-    let records = m.answers ++ (m.authorities ++ m.additionals) in
-    entries_more most (headed m.header (counts_of m)) (map question_entry m.questions) (map record_entry records)
-    ∙ ap (with_entries most (with_questions most m)) (map-append record_entry m.answers (m.authorities ++ m.additionals))
-    ∙ entries_more most (with_questions most m) (map record_entry m.answers)
-    (map record_entry (m.authorities ++ m.additionals))
+    let later = m.authorities ++ m.additionals in
+    entries_more most (headed m.header (counts_of m)) (map question_entry m.questions)
+    (map record_entry (m.answers ++ later))
+    ∙ ap (with_entries most (with_questions most m)) (map-append record_entry m.answers later)
+    ∙ entries_more most (with_questions most m) (map record_entry m.answers) (map record_entry later)
     ∙ ap (with_entries most (with_answers most m)) (map-append record_entry m.authorities m.additionals)
     ∙ entries_more most (with_answers most m) (map record_entry m.authorities) (map record_entry m.additionals)
 

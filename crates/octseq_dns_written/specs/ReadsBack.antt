@@ -12,10 +12,13 @@ use Rattle.octseq_dns_written.specs.Contents.{Question, Record, Message}
 abbrev pub bare : entry.Question → Question
 bare q = record { labels = q.qname.labels; qtype = q.qtype; qclass = q.qclass }
 
--- the data of a record has these fields, and nothing else
-abbrev pub HasFields : entry.Record → List Field → Type 0
-HasFields r fields = (end : Window) × AreFields (at r.rdata.position r.owner.place) fields end
-    × (end.position ≡ r.rdata.end)
+-- The data of a record has these fields, and nothing else. They are in the message that its owner is in, so that names
+-- may have pointers.
+pub record HasFields (r : entry.Record) (fields : List Field) : Type 0 where
+  pub in_message : r.rdata.octets ≡ r.owner.place.octets
+  pub end : Window
+  pub fields_are : AreFields (at r.rdata.position r.owner.place) fields end
+  pub ends : end.position ≡ r.rdata.end
 
 -- A record is one that was written.
 pub record IsAsWritten (r : entry.Record) (written : Record) : Type 0 where
