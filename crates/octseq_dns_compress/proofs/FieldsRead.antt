@@ -12,7 +12,7 @@ use Rattle.octseq_dns_compress.specs.Standing.{IsWellNamed}
 use Rattle.octseq_dns_compress.specs.State.{State, Field, with_field, with_fields}
 use Rattle.octseq_dns_compress.proofs.FieldNames.{field_named}
 use Rattle.octseq_dns_compress.proofs.Fields.{fields_grow}
-use Rattle.octseq_dns_compress.proofs.Standing.{all_of, all_grows, rest_at, name_is_read}
+use Rattle.octseq_dns_compress.proofs.Standing.{all_of, all_grown, rest_at, name_is_read}
 
 -- octets come after a message
 octets_are_read : (octets more header after : List ℕ) → 12 ≤ length octets → length header ≡ 12
@@ -56,9 +56,7 @@ fields_are_read most s (field ∷ fields) sound fit header after long =
     let then_named = field_named most s field sound fit.0 in
     let octets = (with_fields most then fields).octets in
     let grows = fields_grow most then fields in
-    let same : all_of header then.octets (grows.0 ++ after) ≡ all_of header octets after =
-    all_grows header then.octets grows.0 after then_named.headed
-    ∙ ap (λ octets. all_of header octets after) (sym grows.1) in
+    let same = all_grown header then.octets octets after grows then_named.headed in
     subst (λ all. AreFields (at (length s.octets) (whole all)) (field ∷ fields) (at (length octets) (whole all))) same
     (field_is_read most s field sound fit.0 header (grows.0 ++ after) long fields
     (at (length octets) (whole (all_of header then.octets (grows.0 ++ after))))

@@ -17,6 +17,7 @@ use Rattle.octseq_dns_compress.specs.Names.{Names, Place, labels_cmp, last_place
 use Rattle.octseq_dns_compress.specs.Names.{is_there, is_kept, with_labels, names_with}
 use Rattle.octseq_dns_compress.specs.Standing.{AreAt, AreNamed}
 use Rattle.octseq_dns_compress.proofs.Pieces.{octets_by, octets_new, name_next}
+use Rattle.octseq_dns_compress.proofs.Steps.{Grows}
 use Rattle.octseq_dns_name.specs.Name.{Stands, IsName}
 use Rattle.octseq_dns_name.specs.NameFormat.{stands_takes}
 use Rattle.octseq_dns_name.specs.Wire.{AreLabels}
@@ -51,11 +52,16 @@ named_by octets new names stay named = record {
 }
 
 -- a message that grows, with more after it
-pub all_grows : (header octets more after : List ℕ) → 12 ≤ length octets
+all_grows : (header octets more after : List ℕ) → 12 ≤ length octets
     → all_of header octets (more ++ after) ≡ all_of header (octets ++ more) after
 all_grows header octets more after headed =
     ap (λ rest. header ++ rest) (sym (append_assoc (drop 12 octets) more after))
     ∙ ap (λ rest. header ++ (rest ++ after)) (sym (drop-append-le 12 octets more headed))
+
+pub all_grown : (header octets new after : List ℕ) (grows : Grows octets new) → 12 ≤ length octets
+    → all_of header octets (grows.0 ++ after) ≡ all_of header new after
+all_grown header octets new after grows headed =
+    all_grows header octets grows.0 after headed ∙ ap (λ octets. all_of header octets after) (sym grows.1)
 
 -- labels stay as it grows
 at_grows : (octets more : List ℕ) (place : ℕ) (labels : List (List ℕ)) (pointers : ℕ) → 12 ≤ length octets

@@ -12,7 +12,7 @@ use Rattle.octseq_dns_compress.proofs.FieldNames.{FitsEntry, data_octets, counte
 use Rattle.octseq_dns_compress.proofs.FieldNames.{fields_named, entry_named}
 use Rattle.octseq_dns_compress.proofs.Fields.{counted_grows, entries_grow}
 use Rattle.octseq_dns_compress.proofs.FieldsRead.{fields_are_read}
-use Rattle.octseq_dns_compress.proofs.Standing.{all_of, all_grows}
+use Rattle.octseq_dns_compress.proofs.Standing.{all_of, all_grown}
 use Rattle.octseq_dns_compress.proofs.Steps.{grown_length}
 use Rattle.octseq_dns_message.specs.Entry as entry
 use Rattle.octseq_dns_message.specs.Entry.{IsQuestion, IsRecord}
@@ -148,9 +148,7 @@ record_read most s r fits named header after twelve few =
     let grows = counted_grows most then r.fields in
     let size = counted_size most then r.fields in
     let within = all_length header octets after twelve in
-    let same : all_of header then.octets (grows.0 ++ after) ≡ all =
-    all_grows header then.octets grows.0 after then_named.headed
-    ∙ ap (λ octets. all_of header octets after) (sym grows.1) in
+    let same = all_grown header then.octets octets after grows then_named.headed in
     let head_is =
     fields_read_in most s head named (fits.name, (tt, tt)) header (grows.0 ++ after) all then.octets twelve refl same in
     let count = Field.octets (octets_be 2 n) in
@@ -199,9 +197,7 @@ module _ {A B : Type 0} {Is : Relation A} {IsAs : A → B → Type 0} {to_entry 
       let octets = (with_entries most then (map to_entry row)).octets in
       let grows = entries_grow most then (map to_entry row) in
       let less = grown_length then.octets octets grows in
-      let same : all_of header then.octets (grows.0 ++ after) ≡ all_of header octets after =
-      all_grows header then.octets grows.0 after then_named.headed
-      ∙ ap (λ octets. all_of header octets after) (sym grows.1) in
+      let same = all_grown header then.octets octets after grows then_named.headed in
       let one = subst (λ all. (a : A) × Is (at (length s.octets) (whole all)) a (at (length then.octets) (whole all))
       × IsAs a b) same
       (reads.read most s b fit.0 named header (grows.0 ++ after) twelve (omega (arith, less, few))) in

@@ -8,7 +8,7 @@ use Rattle.octseq_dns_compress.specs.Standing.{IsWellNamed}
 use Rattle.octseq_dns_compress.specs.State.{State, Entry, with_entries}
 use Rattle.octseq_dns_compress.proofs.FieldSizes.{entries_never_longer}
 use Rattle.octseq_dns_compress.proofs.Fields.{entries_grow, entries_more, grows_on}
-use Rattle.octseq_dns_compress.proofs.Standing.{all_of, all_grows, none_named}
+use Rattle.octseq_dns_compress.proofs.Standing.{all_of, all_grown, none_named}
 use Rattle.octseq_dns_compress.proofs.Steps.{Grows, grown_length}
 use Rattle.octseq_format.specs.Laws.{Relation}
 use Rattle.octseq_dns_written.specs.Contents.{Message, Fits, counts_of, header_octets, headed}
@@ -41,8 +41,7 @@ section_is_read {Is = Is} {IsAs = IsAs} {to_entry = to_entry} reads most s row f
     let octets = (with_entries most s (map to_entry row)).octets in
     let less = grown_length octets last grows in
     let late = (rows_named reads most s row fit named).headed in
-    let same : all_of header octets (grows.0 ++ []) ≡ all_of header last [] =
-    all_grows header octets grows.0 [] late ∙ ap (λ octets. all_of header octets []) (sym grows.1) in
+    let same = all_grown header octets last [] grows late in
     subst (λ all. AreRead Is IsAs (at (length s.octets) (whole all)) row (at (length octets) (whole all))) same
     (rows_are_read reads most s row fit named header (grows.0 ++ []) twelve (omega (arith, less, few)))
 
