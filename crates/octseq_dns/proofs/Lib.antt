@@ -1,1 +1,6 @@
+pub mod EntriesRead
+pub mod FieldParts
+pub mod HeaderRead
 pub mod Pushed
+pub mod RdataRead
+pub mod ReadBack

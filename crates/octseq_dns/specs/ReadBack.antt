@@ -1,28 +1,24 @@
 -- What is read of a message that was written.
-use Rattle.std.specs.Prelude.{◌≡◌, ℕ, ◌≤◌, List, [], ◌∷◌, length, map}
+use Rattle.std.specs.Prelude.{◌≡◌, ℕ, List, map}
 use Rattle.std.specs.List.{AllZip}
-use Rattle.octseq.specs.Window.{Window, left, next, at, past}
+use Rattle.octseq.specs.Window.{Window, at}
+use Rattle.octseq_dns_compress.specs.Fields.{AreFields}
 use Rattle.octseq_dns_compress.specs.State.{Field}
 use Rattle.octseq_dns_message.specs.Entry as entry
 use Rattle.octseq_dns_message.specs.Message.{IsMessage}
-use Rattle.octseq_dns_name.specs.Name.{IsName}
 use Rattle.octseq_dns.specs.Contents.{Question, Record, Message}
 
 -- a question without its place
 abbrev pub bare : entry.Question → Question
 bare q = record { labels = q.qname.labels; qtype = q.qtype; qclass = q.qclass }
 
--- Fields are at a window's position, one after another: a name, which may have pointers, or those octets.
-abbrev pub AreFields : Window → List Field → Window → Type 0
-AreFields w [] v = v ≡ w
-AreFields w (Field.name labels ∷ fields) v = (u : Window) × IsName w labels u × AreFields u fields v
-AreFields w (Field.octets octets ∷ fields) v =
-    (length octets ≤ left w) × (next (length octets) w ≡ octets) × AreFields (past (length octets) w) fields v
-
--- the data of a record has these fields, and nothing else
-abbrev pub HasFields : entry.Record → List Field → Type 0
-HasFields r fields = (end : Window) × AreFields (at r.rdata.position r.owner.place) fields end
-    × (end.position ≡ r.rdata.end)
+-- The data of a record has these fields, and nothing else. They are in the message that its owner is in, so that names
+-- may have pointers.
+pub record HasFields (r : entry.Record) (fields : List Field) : Type 0 where
+  pub in_message : r.rdata.octets ≡ r.owner.place.octets
+  pub end : Window
+  pub fields_are : AreFields (at r.rdata.position r.owner.place) fields end
+  pub ends : end.position ≡ r.rdata.end
 
 -- A record is one that was written.
 pub record IsAsWritten (r : entry.Record) (written : Record) : Type 0 where

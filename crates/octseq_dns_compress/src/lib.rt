@@ -9,9 +9,11 @@ mod append;
 pub mod compose;
 mod encode;
 mod keep;
+pub mod laws;
 mod plain;
 mod search;
 pub mod table;
 
 pub use compose::{Compose, Composer};
+pub use laws::{a_compressed_name_is_read, never_longer_than_plain};
 pub use table::{Compressor, Target};

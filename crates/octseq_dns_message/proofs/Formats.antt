@@ -1,5 +1,5 @@
 -- Where entries are and where they aren't, and how many octets they take.
-use Rattle.std.proofs.Common.{ℕ, ◌+◌, ◌*◌, ◌≤◌, List, [], ◌∷◌, length, refl, ap, arith}
+use Rattle.std.proofs.Common.{ℕ, ◌+◌, ◌≤◌, List, refl}
 use Rattle.octseq.specs.Integer.{be}
 use Rattle.octseq.specs.Window.{Window, left}
 use Rattle.octseq_dns_message.specs.Entry.{Question, Record, IsQuestion, IsRecord}
@@ -12,7 +12,6 @@ use Rattle.octseq_format.specs.Laws.{Relation, NoneAt}
 use Rattle.octseq_format.specs.Pair.{◌then◌, ◌onward_then◌}
 use Rattle.octseq_format.specs.Part.{onward_part}
 use Rattle.octseq_format.specs.Rest.{IsRest}
-use Rattle.octseq_format.specs.Row.{Row}
 use Rattle.octseq_format.proofs.Nones.{none_second}
 use Rattle.octseq_format.proofs.Parts.{part_of_counted, counted_of_part}
 
@@ -53,14 +52,6 @@ no_record w u labels owner none r v is =
     (r.owner, (r.rtype, (r.class, (r.ttl, r.rdata)))) v is
 
 -- ---- how many octets things take
-
--- a row of numbers in k octets takes k octets at least for each of them
-pub numbers_take : (k : ℕ) (w v : Window) (row : List ℕ) → Row (IsNumber k) w row v → left v + k * length row ≤ left w
-numbers_take k w v [] is = let end = ap left is in omega (arith, end)
-numbers_take k w v (n ∷ row) is =
-    let one = (onward_fixed k be).less w n is.0 is.1 in
-    let more = numbers_take k is.0 v row is.2 in
-    omega (arith, one, more)
 
 -- a question takes 5 octets at least
 pub question_takes : (w v : Window) (q : Question) → IsQuestion w q v → left v + 5 ≤ left w

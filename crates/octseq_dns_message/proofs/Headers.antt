@@ -1,13 +1,12 @@
 -- At most one header is at a place: its flags and numbers can be told from their sum.
-use Rattle.std.proofs.Common.{◌≡◌, ℕ, ◌+◌, ◌*◌, ◌<◌, ◌≤◌, Bool, true, false, List, ◌∷◌, refl, sym, ap, ◌∙◌, arith}
-use Rattle.octseq.specs.Window.{Window, left}
+use Rattle.std.proofs.Common.{◌≡◌, ℕ, ◌+◌, ◌*◌, ◌<◌, Bool, true, false, List, ◌∷◌, refl, sym, ap, ◌∙◌, arith}
+use Rattle.octseq.specs.Window.{Window}
 use Rattle.octseq_dns_message.specs.Flag.{flag}
 use Rattle.octseq_dns_message.specs.Format.{IsNumber}
 use Rattle.octseq_dns_message.specs.Header.{IsHeader, flag_bits, header_numbers}
 use Rattle.octseq_dns_message.specs.OneEntry.{one_number}
 use Rattle.octseq_dns_message.specs.declared.header.Header.{Header}
-use Rattle.octseq_dns_message.proofs.Formats.{numbers_take}
-use Rattle.octseq_format.specs.Laws.{IsOne}
+use Rattle.octseq_dns_message.specs.declared.header.HeaderCounts.{HeaderCounts}
 use Rattle.octseq_format.specs.Row.{one_row}
 
 -- a flag counts its weight once or not at all
@@ -25,7 +24,7 @@ same_flag true false is = absurd (omega (arith, is))
 same_flag false true is = absurd (omega (arith, is))
 same_flag false false is = refl
 
--- the lowest digit can be told from a sum, and what stands above it
+-- the lowest digit can be told from a sum, and what is above it
 low_16 : (a b x y : ℕ) → a < 16 → b < 16 → a + 16 * x ≡ b + 16 * y → (a ≡ b) × (x ≡ y)
 low_16 a b x y fits also is = (omega (arith, fits, also, is), omega (arith, fits, also, is))
 
@@ -95,11 +94,13 @@ sixth : List ℕ → ℕ × (ℕ × (ℕ × (ℕ × (ℕ × ℕ))))
 sixth (a ∷ b ∷ c ∷ d ∷ e ∷ f ∷ more) = (a, (b, (c, (d, (e, f)))))
 sixth _ = (0, (0, (0, (0, (0, 0)))))
 
-same_headers : (w : Window) (h k : Header) (u v : Window) → IsHeader w h u → IsHeader w k v → (h ≡ k) × (u ≡ v)
+-- at most one header is at a place, with its counts and one end
+pub one_header : (w : Window) (h k : Header) (counts others : HeaderCounts) (u v : Window) → IsHeader w h counts u
+    → IsHeader w k others v → (h ≡ k) × (counts ≡ others) × (u ≡ v)
 unfolding sixth
-same_headers w h k u v a b =
-    let same = one_row (IsNumber 2) (one_number 2) w u v (header_numbers h) (header_numbers k) refl a.numbers b.numbers
-    in
+one_header w h k counts others u v a b =
+    let same = one_row (IsNumber 2) (one_number 2) w u v (header_numbers h counts) (header_numbers k others) refl
+    a.numbers b.numbers in
     let six = ap sixth same.0 in
     let bits = same_bits h k a.opcode b.opcode a.rcode b.rcode (ap (λ n. n.1.0) six) in
     let id = ap (λ n. n.0) six in
@@ -121,6 +122,8 @@ same_headers w h k u v a b =
         };
         opcode = bits.opcode i;
         rcode = bits.rcode i;
+      },
+      λ i. record {
         qdcount = qdcount i;
         ancount = ancount i;
         nscount = nscount i;
@@ -128,11 +131,3 @@ same_headers w h k u v a b =
       },
       same.1,
     )
-
--- at most one header is at a place, with one end
-pub one_header : IsOne IsHeader
-one_header = record { same = same_headers }
-
--- a header has 12 octets
-pub header_takes : (w v : Window) (h : Header) → IsHeader w h v → left v + 12 ≤ left w
-header_takes w v h is = let all = numbers_take 2 w v (header_numbers h) is.numbers in omega (arith, all)

@@ -1,12 +1,11 @@
 pub mod Edns
 pub mod Formats
-pub mod Forms
+pub mod Rdata
 pub mod Headers
 pub mod MessageTexts
 pub mod Messages
 pub mod Options
 pub mod Places
 pub mod Rows
-pub mod StringItems
 pub mod Strings
 pub mod Texts

@@ -11,9 +11,9 @@ use Rattle.octseq_dns_message.specs.MessageText.{record_text, line, header_line,
 use Rattle.octseq_dns_message.specs.MessageText.{IsMessageText}
 use Rattle.octseq_dns_message.specs.TextFront.{BeginsAtLine}
 use Rattle.octseq_dns_message.specs.declared.header.Header.{Header}
-use Rattle.octseq_dns_message.proofs.Forms.{one_said}
+use Rattle.octseq_dns_message.proofs.Rdata.{one_said}
 
--- one more behind what was added
+-- one more after what was added
 pub then_more : (old t u x y : List ℕ) → t ≡ old ++ x → u ≡ t ++ y → u ≡ old ++ (x ++ y)
 then_more old t u x y e f = f ∙ ap (λ z. z ++ y) e ∙ append_assoc old x y
 
@@ -21,7 +21,7 @@ then_more old t u x y e f = f ∙ ap (λ z. z ++ y) e ∙ append_assoc old x y
 pub front_on : (a b c : List ℕ) → IsFront a b → IsFront b c → IsFront a c
 front_on a b c f g = (f.0 ++ g.0, then_more a b c f.0 g.0 f.1 g.1)
 
--- a header's line begins with `i`, and so does what goes on behind it
+-- a header's line begins with `i`, and so does what goes on after it
 pub at_line : (old shown now : List ℕ) (header : Header) → shown ≡ old ++ header_line header → IsFront shown now
     → BeginsAtLine old now
 at_line old shown now header e f =
@@ -46,7 +46,7 @@ one_records_text word [] text other a b = a ∙ sym b
 one_records_text word (r ∷ records) text other a b =
     let forms = one_said r a.0 b.0 a.2 b.2 in
     let mores = one_records_text word records a.1 b.1 a.3 b.3 in
-    a.4 ∙ ap (λ form. line word (record_text r form) ++ a.1) forms
+    a.4 ∙ ap (λ rdata. line word (record_text r rdata) ++ a.1) forms
     ∙ ap (λ more. line word (record_text r b.0) ++ more) mores ∙ sym b.4
 
 -- five parts of which the last three are equal
@@ -68,7 +68,7 @@ one_message_text header questions answers authorities additionals text other x y
     (one_records_text (codes "authority") authorities _ _ x.authorities_are y.authorities_are)
     (one_records_text (codes "additional") additionals _ _ x.additionals_are y.additionals_are)
 
--- the lines of the sections, one behind another, are the text of the message
+-- the lines of the sections, one after another, are the text of the message
 pub text_of_parts : (header : Header) (questions : List Question) (answers authorities additionals : List Record)
     (a b c : List ℕ) → IsRecordsText (codes "answer") answers a → IsRecordsText (codes "authority") authorities b
     → IsRecordsText (codes "additional") additionals c → IsMessageText header questions answers authorities additionals

@@ -1,12 +1,12 @@
 -- Rows of things that take octets, up to a place.
-use Rattle.std.proofs.Common.{◌≡◌, ℕ, List, [], ◌∷◌, refl, sym, ap, ◌∙◌, subst}
+use Rattle.std.proofs.Common.{◌≡◌, ℕ, List, [], ◌∷◌, length, refl, sym, ap, ◌∙◌, subst}
 use Rattle.std.proofs.Math.Logic.{∥∥₁_elim}
-use Rattle.std.specs.Coded.{Coded, Coded-set, coded_list}
+use Rattle.std.specs.Coded.{Coded, Coded-set, coded_list, coded_ℕ}
 use mathlib.Core.HLevel.{⊥_prop}
 use Rattle.octseq.specs.Window.{Window}
 use Rattle.octseq_dns_message.specs.OneRow.{IsItem, one_row_at, Reaches, reached_once}
 use Rattle.octseq_format.specs.Laws.{Relation, NoneAt}
-use Rattle.octseq_format.specs.Row.{Row}
+use Rattle.octseq_format.specs.Row.{Row, Holds}
 
 -- ---- rows up to a place
 
@@ -67,3 +67,10 @@ reached_then code Is item w u end last one held after to other is =
     ∥∥₁_elim held.1 (Coded-set (coded_list code) held.0 (one ∷ after.0)) (λ x.
     let on = first_of Is item w u x.0 one held.0 (λ same. other (same ∙ x.2)) is x.1 in
     on.1 ∙ ap (λ more. one ∷ more) (reached_as code Is item u x.0 last on.0 after (x.2 ∙ sym to) on.2))
+
+-- ---- rows of as many as a count says
+
+-- a row that is held has as many things as it is said to
+pub held_count : {A : Type 0} (Is : Relation A) (w : Window) (count : ℕ) (held : Holds Is w count)
+    → count ≡ length held.0
+held_count Is w count held = ∥∥₁_elim held.1 (Coded-set coded_ℕ count (length held.0)) (λ x. sym x.1.0)

@@ -11,16 +11,6 @@ use Rattle.std.specs.Net.Text.{groups_text, hex_groups_text, ipv6_text, longest_
 use Rattle.octseq_dns_message.specs.DataText.{AreZero, IsFirstLongest, IsGroupsText, aaaa_text, hex_text}
 use Rattle.octseq_dns_message.specs.DataText.{is_compatible, octets_behind}
 
--- no octets are shown as an empty text, without a space
-pub none_behind : (octets : List ℕ) → length octets ≡ 0 → [] ≡ octets_behind octets
-none_behind [] none = refl
-none_behind (octet ∷ octets) none = absurd (omega (arith, none))
-
--- octets, where there are any, are shown as a space, and then each in hexadecimal
-pub some_behind : (octets : List ℕ) → 0 < length octets → 32 ∷ flat_map hex_text octets ≡ octets_behind octets
-some_behind [] some = absurd (omega (arith, some))
-some_behind (octet ∷ octets) some = refl
-
 -- ---- the first longest run of zero groups
 
 not_told : (told : Bool) → (told ≡ true → ⊥) → told ≡ false
@@ -48,7 +38,7 @@ none_in_none : (other size : ℕ) → AreZero [] other size → size ≤ 0
 none_in_none zero size is = most_at_front [] size is
 none_in_none (suc other) size is = most_at_front [] size is
 
--- a run at the front that is as long as any behind it
+-- a run at the front that is as long as any after it
 at_front : (x : ℕ) (xs : List ℕ) (start len : ℕ) → IsFirstLongest xs start len → len ≤ zero_run (x ∷ xs)
     → IsFirstLongest (x ∷ xs) 0 (zero_run (x ∷ xs))
 at_front x xs start len behind long =
@@ -58,7 +48,7 @@ at_front x xs start len behind long =
     longest zero size is = most_at_front (x ∷ xs) size is
     longest (suc other) size is = let most = behind.longest other size is in omega (arith, long, most)
 
--- and one behind that is longer
+-- and one after it that is longer
 further : (x : ℕ) (xs : List ℕ) (start len : ℕ) → IsFirstLongest xs start len → zero_run (x ∷ xs) < len
     → IsFirstLongest (x ∷ xs) (start + 1) len
 further x xs start len behind short =

@@ -9,15 +9,15 @@ use Rattle.octseq_dns_name.specs.Name.{Name, HasName}
 use Rattle.octseq_format.specs.Pair.{◌then◌}
 use Rattle.octseq_format.specs.Row.{Row}
 
--- so many octets
+-- as many octets as a number says
 abbrev pub HasOctets : ℕ → Window → List ℕ → Window → Type 0
 HasOctets n w octets v = (n ≤ left w) × (octets ≡ next n w) × (v ≡ past n w)
 
--- a string: octets behind their length, which has one octet
+-- a string: octets after their length, which has one octet
 abbrev pub HasString : Window → List ℕ → Window → Type 0
 HasString w string v = HasPart 1 w × (string ≡ rest (part 1 w)) × (v ≡ past_part 1 w)
 
--- strings, one behind another, at least one
+-- strings, one after another, at least one
 abbrev pub HasStrings : Window → List (List ℕ) → Window → Type 0
 HasStrings w strings v = (1 ≤ length strings) × Row HasString w strings v
 
@@ -56,40 +56,53 @@ HasSrv w srv v = (IsNumber 2 then IsNumber 2 then IsNumber 2 then HasName) w
     (srv.priority, (srv.weight, (srv.port, srv.target))) v
 
 -- What data says: an address of 4 octets or of 16, a name, one of the above, strings of text; or nothing that is
--- known here, and then it is the window of the data.
-pub data Form : Type 0 where
-  a : List ℕ → Form
-  aaaa : List ℕ → Form
-  ns : Name → Form
-  cname : Name → Form
-  ptr : Name → Form
-  mx : Mx → Form
-  soa : Soa → Form
-  txt : List (List ℕ) → Form
-  srv : Srv → Form
-  opaque : Window → Form
+-- known here, and then it is the record's type and the window of the data (RFC 3597).
+pub data ParsedRdata : Type 0 where
+  a : List ℕ → ParsedRdata
+  aaaa : List ℕ → ParsedRdata
+  ns : Name → ParsedRdata
+  cname : Name → ParsedRdata
+  ptr : Name → ParsedRdata
+  mx : Mx → ParsedRdata
+  soa : Soa → ParsedRdata
+  txt : List (List ℕ) → ParsedRdata
+  srv : Srv → ParsedRdata
+  unknown : ℕ → Window → ParsedRdata
 
--- It stands at a window's position, in data of a type and a class. Addresses and places of services are of the class
+-- the type of which it is
+abbrev pub rtype_of : ParsedRdata → ℕ
+rtype_of (ParsedRdata.a octets) = 1
+rtype_of (ParsedRdata.aaaa octets) = 28
+rtype_of (ParsedRdata.ns name) = 2
+rtype_of (ParsedRdata.cname name) = 5
+rtype_of (ParsedRdata.ptr name) = 12
+rtype_of (ParsedRdata.mx it) = 15
+rtype_of (ParsedRdata.soa it) = 6
+rtype_of (ParsedRdata.txt strings) = 16
+rtype_of (ParsedRdata.srv it) = 33
+rtype_of (ParsedRdata.unknown rtype octets) = rtype
+
+-- It is at a window's position, in data of a type and a class. Addresses and places of services are of the class
 -- IN alone.
-abbrev pub HasForm : ℕ → ℕ → Window → Form → Window → Type 0
-HasForm rtype class w (Form.a octets) v = (rtype ≡ 1) × (class ≡ 1) × HasOctets 4 w octets v
-HasForm rtype class w (Form.aaaa octets) v = (rtype ≡ 28) × (class ≡ 1) × HasOctets 16 w octets v
-HasForm rtype class w (Form.ns name) v = (rtype ≡ 2) × HasName w name v
-HasForm rtype class w (Form.cname name) v = (rtype ≡ 5) × HasName w name v
-HasForm rtype class w (Form.ptr name) v = (rtype ≡ 12) × HasName w name v
-HasForm rtype class w (Form.mx it) v = (rtype ≡ 15) × HasMx w it v
-HasForm rtype class w (Form.soa it) v = (rtype ≡ 6) × HasSoa w it v
-HasForm rtype class w (Form.txt strings) v = (rtype ≡ 16) × HasStrings w strings v
-HasForm rtype class w (Form.srv it) v = (rtype ≡ 33) × (class ≡ 1) × HasSrv w it v
-HasForm rtype class w (Form.opaque octets) v = ⊥
+abbrev pub HasRdata : ℕ → ℕ → Window → ParsedRdata → Window → Type 0
+HasRdata rtype class w (ParsedRdata.a octets) v = (rtype ≡ 1) × (class ≡ 1) × HasOctets 4 w octets v
+HasRdata rtype class w (ParsedRdata.aaaa octets) v = (rtype ≡ 28) × (class ≡ 1) × HasOctets 16 w octets v
+HasRdata rtype class w (ParsedRdata.ns name) v = (rtype ≡ 2) × HasName w name v
+HasRdata rtype class w (ParsedRdata.cname name) v = (rtype ≡ 5) × HasName w name v
+HasRdata rtype class w (ParsedRdata.ptr name) v = (rtype ≡ 12) × HasName w name v
+HasRdata rtype class w (ParsedRdata.mx it) v = (rtype ≡ 15) × HasMx w it v
+HasRdata rtype class w (ParsedRdata.soa it) v = (rtype ≡ 6) × HasSoa w it v
+HasRdata rtype class w (ParsedRdata.txt strings) v = (rtype ≡ 16) × HasStrings w strings v
+HasRdata rtype class w (ParsedRdata.srv it) v = (rtype ≡ 33) × (class ≡ 1) × HasSrv w it v
+HasRdata rtype class w (ParsedRdata.unknown other octets) v = ⊥
 
--- A record's data has this form: it stands where the data begins, in the message, so that names may point before it;
+-- A record's data has this form: it is where the data begins, in the message, so that names may point before it;
 -- and it ends exactly where the data does.
-pub record IsTyped (r : Record) (form : Form) : Type 0 where
+pub record IsTyped (r : Record) (rdata : ParsedRdata) : Type 0 where
   pub end : Window
-  pub form_is : HasForm r.rtype r.class (at r.rdata.position r.owner.place) form end
+  pub rdata_is : HasRdata r.rtype r.class (at r.rdata.position r.owner.place) rdata end
   pub ends : end.position ≡ r.rdata.end
 
--- What a record's data says: it has the form, or it has none and is opaque.
-abbrev pub IsDataOf : Record → Form → Type 0
-IsDataOf r form = IsTyped r form ⊎ (form ≡ Form.opaque r.rdata) × ((other : Form) → ¬ IsTyped r other)
+-- What a record's data says: it has the form, or it has none and is unknown, of the record's own type.
+abbrev pub IsDataOf : Record → ParsedRdata → Type 0
+IsDataOf r rdata = IsTyped r rdata ⊎ (rdata ≡ ParsedRdata.unknown r.rtype r.rdata) × ((other : ParsedRdata) → ¬ IsTyped r other)

@@ -1,4 +1,4 @@
--- The text of data: RFC 1035, 5.1, RFC 2782 (SRV), RFC 5952 (AAAA) and RFC 3597, 5 (opaque data).
+-- The text of data: RFC 1035, 5.1, RFC 2782 (SRV), RFC 5952 (AAAA) and RFC 3597, 5 (unknown data).
 use Rattle.std.specs.Prelude.{◌≡◌, ℕ, ◌+◌, ◌/◌, ◌%◌, ◌≤◌, Bool, ◌&&◌, ◌||◌, not, ◌==◌, if◌then◌else◌, List, [], ◌∷◌}
 use Rattle.std.specs.Prelude.{◌++◌, length, take, drop, replicate, codes, bytes_eq}
 use Rattle.std.specs.Char.{char_set_contains, digit_char, is_ascii_graphic}
@@ -7,21 +7,21 @@ use Rattle.std.specs.List.{flat_map}
 use Rattle.std.specs.Net.Addr.{segments_of}
 use Rattle.std.specs.Net.Text.{groups_text, ipv4_text, ipv6_text}
 use Rattle.octseq.specs.Window.{rest}
-use Rattle.octseq_dns_message.specs.Data.{Mx, Soa, Srv, Form}
+use Rattle.octseq_dns_message.specs.Data.{Mx, Soa, Srv, ParsedRdata}
 use Rattle.octseq_dns_name.specs.Text.{three_digits, name_text}
 
--- whether an IPv6 address ends in an IPv4 address: behind twelve zeros, and not in 0.0.0.0 to 0.0.255.255
+-- whether an IPv6 address ends in an IPv4 address: after twelve zeros, and not in 0.0.0.0 to 0.0.255.255
 abbrev pub is_compatible : List ℕ → Bool
 is_compatible octets = bytes_eq (take 12 octets) (replicate 12 0)
     && not (bytes_eq (take 2 (drop 12 octets)) (0 ∷ 0 ∷ []))
 
 -- An IPv6 address of 16 octets: `::` and the IPv4 address in which it ends, or else what std's `ipv6_text` has, which
--- also shows the IPv4 address behind ten zeros and FF FF.
+-- also shows the IPv4 address after ten zeros and FF FF.
 abbrev pub aaaa_text : List ℕ → List ℕ
 aaaa_text octets =
     if is_compatible octets then codes "::" ++ ipv4_text (drop 12 octets) else ipv6_text (segments_of octets)
 
--- from a place on so many groups are zero
+-- from a place on as many groups are zero as a number says
 abbrev pub AreZero : List ℕ → ℕ → ℕ → Type 0
 AreZero groups start len = take len (drop start groups) ≡ replicate len 0
 
@@ -40,7 +40,7 @@ pub record IsGroupsText (groups text : List ℕ) : Type 0 where
       ++ groups_text (drop (start + len) groups)
   pub plain : len ≤ 1 → text ≡ groups_text groups
 
--- An octet of a string: behind a backslash (92), as itself where it is visible ASCII or a space, or as a backslash
+-- An octet of a string: after a backslash (92), as itself where it is visible ASCII or a space, or as a backslash
 -- and its number.
 abbrev pub is_string_quoted : ℕ → Bool
 is_string_quoted = char_set_contains (codes "\"\\")
@@ -53,7 +53,7 @@ string_octet_text octet = if is_string_quoted octet then 92 ∷ octet ∷ []
 abbrev pub string_text : List ℕ → List ℕ
 string_text octets = 34 ∷ flat_map string_octet_text octets ++ 34 ∷ []
 
--- strings, each behind a space (32)
+-- strings, each after a space (32)
 abbrev pub strings_behind : List (List ℕ) → List ℕ
 strings_behind = flat_map (λ string. 32 ∷ string_text string)
 
@@ -66,14 +66,14 @@ strings_text (string ∷ strings) = string_text string ++ strings_behind strings
 abbrev pub hex_text : ℕ → List ℕ
 hex_text octet = digit_char (octet / 16) ∷ digit_char (octet % 16) ∷ []
 
--- octets in hexadecimal, behind a space if there are any
+-- octets in hexadecimal, after a space if there are any
 abbrev pub octets_behind : List ℕ → List ℕ
 octets_behind [] = []
 octets_behind (octet ∷ octets) = 32 ∷ flat_map hex_text (octet ∷ octets)
 
 -- how many octets, and they themselves
-abbrev pub opaque_text : List ℕ → List ℕ
-opaque_text octets = codes "\\# " ++ decimal (length octets) ++ octets_behind octets
+abbrev pub unknown_text : List ℕ → List ℕ
+unknown_text octets = codes "\\# " ++ decimal (length octets) ++ octets_behind octets
 
 abbrev pub mx_text : Mx → List ℕ
 mx_text mx = decimal mx.preference ++ 32 ∷ name_text mx.exchange.labels
@@ -88,14 +88,14 @@ srv_text srv = decimal srv.priority ++ 32 ∷ decimal srv.weight ++ 32 ∷ decim
     ++ 32 ∷ name_text srv.target.labels
 
 -- what data says
-abbrev pub form_text : Form → List ℕ
-form_text (Form.a octets) = ipv4_text octets
-form_text (Form.aaaa octets) = aaaa_text octets
-form_text (Form.ns name) = name_text name.labels
-form_text (Form.cname name) = name_text name.labels
-form_text (Form.ptr name) = name_text name.labels
-form_text (Form.mx mx) = mx_text mx
-form_text (Form.soa soa) = soa_text soa
-form_text (Form.txt strings) = strings_text strings
-form_text (Form.srv srv) = srv_text srv
-form_text (Form.opaque octets) = opaque_text (rest octets)
+abbrev pub rdata_text : ParsedRdata → List ℕ
+rdata_text (ParsedRdata.a octets) = ipv4_text octets
+rdata_text (ParsedRdata.aaaa octets) = aaaa_text octets
+rdata_text (ParsedRdata.ns name) = name_text name.labels
+rdata_text (ParsedRdata.cname name) = name_text name.labels
+rdata_text (ParsedRdata.ptr name) = name_text name.labels
+rdata_text (ParsedRdata.mx mx) = mx_text mx
+rdata_text (ParsedRdata.soa soa) = soa_text soa
+rdata_text (ParsedRdata.txt strings) = strings_text strings
+rdata_text (ParsedRdata.srv srv) = srv_text srv
+rdata_text (ParsedRdata.unknown rtype octets) = unknown_text (rest octets)

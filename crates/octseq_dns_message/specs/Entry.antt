@@ -24,7 +24,7 @@ pub record Record : Type 0 where
   pub ttl : ℕ
   pub rdata : Window
 
--- a name, a type, a class, a TTL, and data behind its length
+-- a name, a type, a class, a TTL, and data after its length
 abbrev pub IsRecord : Window → Record → Window → Type 0
 IsRecord w r v = (HasName then IsNumber 2 then IsNumber 2 then IsNumber 4 then IsData)
     w (r.owner, (r.rtype, (r.class, (r.ttl, r.rdata)))) v

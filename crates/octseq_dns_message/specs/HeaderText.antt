@@ -7,7 +7,7 @@ use Rattle.octseq_dns_name.specs.Text.{name_text}
 use Rattle.octseq_dns_message.specs.declared.header.Flags.{Flags}
 use Rattle.octseq_dns_message.specs.declared.header.Header.{Header}
 
--- a flag that is set, behind a space (32)
+-- a flag that is set, after a space (32)
 abbrev pub flag_text : Bool → List ℕ → List ℕ
 flag_text true name = 32 ∷ name
 flag_text false name = []

@@ -2,8 +2,8 @@
 use Rattle.std.specs.Prelude.{◌≡◌, ℕ, List, [], ◌∷◌, ◌++◌, codes}
 use Rattle.std.specs.Fmt.{decimal}
 use Rattle.std.specs.List.{flat_map}
-use Rattle.octseq_dns_message.specs.Data.{Form, IsDataOf}
-use Rattle.octseq_dns_message.specs.DataText.{form_text}
+use Rattle.octseq_dns_message.specs.Data.{ParsedRdata, IsDataOf}
+use Rattle.octseq_dns_message.specs.DataText.{rdata_text}
 use Rattle.octseq_dns_message.specs.Entry.{Question, Record}
 use Rattle.octseq_dns_message.specs.HeaderText.{header_text, question_text}
 use Rattle.octseq_dns_message.specs.Mnemonic.{class_text, rtype_text}
@@ -11,9 +11,9 @@ use Rattle.octseq_dns_name.specs.Text.{name_text}
 use Rattle.octseq_dns_message.specs.declared.header.Header.{Header}
 
 -- a name, a TTL, a class, a type and what the data says, with a space (32) between
-abbrev pub record_text : Record → Form → List ℕ
-record_text r form = name_text r.owner.labels ++ 32 ∷ decimal r.ttl ++ 32 ∷ class_text r.class
-    ++ 32 ∷ rtype_text r.rtype ++ 32 ∷ form_text form
+abbrev pub record_text : Record → ParsedRdata → List ℕ
+record_text r rdata = name_text r.owner.labels ++ 32 ∷ decimal r.ttl ++ 32 ∷ class_text r.class
+    ++ 32 ∷ rtype_text r.rtype ++ 32 ∷ rdata_text rdata
 
 -- a word, what it is about, and a line feed (10)
 abbrev pub line : List ℕ → List ℕ → List ℕ
@@ -30,8 +30,8 @@ questions_text = flat_map (λ q. line (codes "question") (question_text q))
 -- a line for each record, with what its data says
 abbrev pub IsRecordsText : List ℕ → List Record → List ℕ → Type 0
 IsRecordsText word [] text = text ≡ []
-IsRecordsText word (r ∷ records) text = (form : Form) × (more : List ℕ) × IsDataOf r form
-    × IsRecordsText word records more × (text ≡ line word (record_text r form) ++ more)
+IsRecordsText word (r ∷ records) text = (rdata : ParsedRdata) × (more : List ℕ) × IsDataOf r rdata
+    × IsRecordsText word records more × (text ≡ line word (record_text r rdata) ++ more)
 
 -- The text of a message: its header's line, and those of the sections.
 pub record IsMessageText (header : Header) (questions : List Question) (answers authorities additionals : List Record)

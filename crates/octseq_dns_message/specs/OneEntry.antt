@@ -1,4 +1,4 @@
--- At most one entry is at a place, with one end, so a row of so many is a fact.
+-- At most one entry is at a place, with one end, so a row of them is a fact.
 use Rattle.std.specs.Prelude.{ℕ, refl}
 use Rattle.std.specs.Coded.{Coded, code_by, coded×, coded_ℕ}
 use Rattle.octseq.specs.Integer.{be}

@@ -12,7 +12,7 @@ pub record EdnsOption : Type 0 where
   pub code : ℕ
   pub octets : Window
 
--- a number, and octets behind their length
+-- a number, and octets after their length
 abbrev pub HasOption : Window → EdnsOption → Window → Type 0
 HasOption w option v = (IsNumber 2 then IsData) w (option.code, option.octets) v
 
@@ -25,7 +25,7 @@ pub record Opt : Type 0 where
   pub options : List EdnsOption
 
 -- A record says it: its type is OPT, its class is the size, and its TTL has, from the highest bit, eight bits of a
--- response code, eight of a version, the bit DO, and fifteen that mean nothing. Its data is options, one behind
+-- response code, eight of a version, the bit DO, and fifteen that mean nothing. Its data is options, one after
 -- another, up to its end.
 pub record IsOpt (r : Record) (opt : Opt) : Type 0 where
   pub rtype : r.rtype ≡ 41

@@ -6,6 +6,7 @@ use Rattle.octseq_dns_message.specs.EntryTurns.{questions_turns, records_turns}
 use Rattle.octseq_dns_message.specs.declared.message.Message.{Message}
 use Rattle.octseq_dns_message.specs.declared.message.Numbers.{Numbers}
 use Rattle.octseq_dns_message.specs.declared.header.Header.{Header}
+use Rattle.octseq_dns_message.specs.declared.header.HeaderCounts.{HeaderCounts}
 
 -- the header that numbers are of
 abbrev pub fields_of : Numbers → Header
@@ -14,15 +15,15 @@ fields_of numbers = record {
   flags = numbers.flags;
   opcode = numbers.opcode;
   rcode = numbers.rcode;
-  qdcount = numbers.qdcount;
-  ancount = numbers.ancount;
-  nscount = numbers.nscount;
-  arcount = numbers.arcount;
 }
 
 -- its header
 abbrev pub header_of : {R : Type 0} {g : Ghosts R} → Message R g → Header
 header_of message = fields_of message.header
+
+-- how many entries its header counts in each section
+abbrev pub counts_of : {R : Type 0} {g : Ghosts R} → Message R g → HeaderCounts
+counts_of message = message.header.counts
 
 -- its questions
 abbrev pub questions_of : {R : Type 0} {g : Ghosts R} → Message R g → List Question

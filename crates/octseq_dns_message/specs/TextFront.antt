@@ -1,4 +1,4 @@
--- What an append of a message's text that was refused leaves behind, before it is cut off.
+-- What an append of a message's text that was refused leaves, before it is cut off.
 use Rattle.std.specs.Prelude.{◌≡◌, ◌⊎◌, ℕ, List, ◌∷◌, ◌++◌}
 
 -- nothing, or lines of which the first begins with `i` (105), as that of a header does

@@ -4,7 +4,7 @@ use Rattle.octseq.specs.declared.AsOctets.{Ghosts}
 use Rattle.octseq.specs.Parser.{window}
 use Rattle.octseq.specs.Window.{Window}
 use Rattle.octseq_dns_message.specs.Data as said
-use Rattle.octseq_dns_message.specs.Data.{Form}
+use Rattle.octseq_dns_message.specs.Data.{ParsedRdata}
 use Rattle.octseq_dns_name.specs.Read.{name_of}
 use Rattle.octseq_dns_message.specs.Txt.{strings_of, txt_place}
 use Rattle.octseq_dns_message.specs.declared.data.Data.{Data}
@@ -34,17 +34,17 @@ abbrev pub srv_of : {R : Type 0} {g : Ghosts R} → Srv R g → said.Srv
 srv_of srv = record { priority = srv.priority; weight = srv.weight; port = srv.port; target = name_of srv.target }
 
 -- what the data says
-abbrev pub form_of : {R : Type 0} {g : Ghosts R} → Data R g → Form
-form_of (kind.A octets) = Form.a octets
-form_of (kind.Aaaa octets) = Form.aaaa octets
-form_of (kind.Ns name) = Form.ns (name_of name)
-form_of (kind.Cname name) = Form.cname (name_of name)
-form_of (kind.Ptr name) = Form.ptr (name_of name)
-form_of (kind.Mx mx) = Form.mx (mx_of mx)
-form_of (kind.Soa soa) = Form.soa (soa_of soa)
-form_of (kind.Txt txt) = Form.txt (strings_of txt)
-form_of (kind.Srv srv) = Form.srv (srv_of srv)
-form_of (kind.Opaque octets) = Form.opaque (window octets)
+abbrev pub rdata_of : {R : Type 0} {g : Ghosts R} → Data R g → ParsedRdata
+rdata_of (kind.A octets) = ParsedRdata.a octets
+rdata_of (kind.Aaaa octets) = ParsedRdata.aaaa octets
+rdata_of (kind.Ns name) = ParsedRdata.ns (name_of name)
+rdata_of (kind.Cname name) = ParsedRdata.cname (name_of name)
+rdata_of (kind.Ptr name) = ParsedRdata.ptr (name_of name)
+rdata_of (kind.Mx mx) = ParsedRdata.mx (mx_of mx)
+rdata_of (kind.Soa soa) = ParsedRdata.soa (soa_of soa)
+rdata_of (kind.Txt txt) = ParsedRdata.txt (strings_of txt)
+rdata_of (kind.Srv srv) = ParsedRdata.srv (srv_of srv)
+rdata_of (kind.Unknown rtype octets) = ParsedRdata.unknown rtype (window octets)
 
 -- strings of text are at a window's position (a name says its place itself)
 abbrev pub IsAt : {R : Type 0} {g : Ghosts R} → Window → Data R g → Type 0

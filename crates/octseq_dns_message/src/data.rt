@@ -3,7 +3,7 @@ ghost use Rattle.std.specs.Prelude.{◌≡◌, ◌≢◌, ℕ, ◌+◌, ◌≤�
 ghost use Rattle.std.specs.Net.Addr.{IsIpv4Mapped, segments_of};
 ghost use Rattle.octseq.specs.Parser.{window};
 ghost use Rattle.octseq.specs.Window.{Window};
-ghost use Rattle.octseq_dns_message.specs.Data.{Form, HasForm, IsDataOf};
+ghost use Rattle.octseq_dns_message.specs.Data.{ParsedRdata, HasRdata, IsDataOf, rtype_of};
 ghost use Rattle.octseq_dns_message.specs.DataText.{IsGroupsText, is_compatible, aaaa_text};
 ghost use Rattle.octseq_dns_message.specs.Entry as said;
 
@@ -31,9 +31,16 @@ pub use crate::data::txt::{CharStr, Strings, Txt};
 /// A record's data says one thing at most.
 ///
 /// It does nothing. A caller that calls it has the law in its proof.
-pub fn one_form_of_data()
-    ensures { (entry : said.Record) (form other : Form) → IsDataOf entry form → IsDataOf entry other
-        → form ≡ other }
+pub fn one_reading_of_data()
+    ensures { (entry : said.Record) (rdata other : ParsedRdata) → IsDataOf entry rdata → IsDataOf entry other
+        → rdata ≡ other }
+{}
+
+/// What a record's data says is of the record's type.
+///
+/// It does nothing. A caller that calls it has the law in its proof.
+pub fn data_has_the_records_type()
+    ensures { (entry : said.Record) (rdata : ParsedRdata) → IsDataOf entry rdata → rtype_of rdata ≡ entry.rtype }
 {}
 
 /// An IPv6 address that doesn't end in an IPv4 address shows its eight groups, with `::` in the place of the first of
@@ -45,7 +52,7 @@ pub fn zero_groups_are_shortened()
         → IsGroupsText (segments_of octets) (aaaa_text octets) }
 {}
 
-/// What the data of a record says. Names in it stand in the message, and no octet of them is copied.
+/// What the data of a record says. Names in it are in the message, and no octet of them is copied.
 #[derive(Debug)]
 pub enum Data<R: AsOctets> {
     /// An IPv4 address, in class IN: RFC 1035, 3.4.1.
@@ -66,8 +73,9 @@ pub enum Data<R: AsOctets> {
     Txt(Txt<R>),
     /// The place of a service, in class IN: RFC 2782.
     Srv(Srv<R>),
-    /// Anything else: a parser of the message that begins and ends with the data.
-    Opaque(Parser<R>),
+    /// Anything else, as RFC 3597 has it: the record's type, and a parser of the message that begins and ends with the
+    /// data.
+    Unknown(Rtype, Parser<R>),
 }
 
 impl<R: AsOctets + Copy> Copy for Data<R> {}
@@ -83,7 +91,25 @@ impl<R: AsOctets + Copy> Clone for Data<R> {
 }
 
 impl<R: AsOctets + Copy> Data<R> {
-    ghost use Rattle.octseq_dns_message.specs.Typed.{form_of, IsAt};
+    ghost use Rattle.octseq_dns_message.specs.Typed.{rdata_of, IsAt};
+
+    /// The type of which it is: the record's.
+    pub fn rtype(&self) -> Rtype
+        ensures { result ≡ rtype_of (rdata_of self.now) }
+    {
+        match self {
+            Data::A(_) => Rtype::A,
+            Data::Aaaa(_) => Rtype::AAAA,
+            Data::Ns(_) => Rtype::NS,
+            Data::Cname(_) => Rtype::CNAME,
+            Data::Ptr(_) => Rtype::PTR,
+            Data::Mx(_) => Rtype::MX,
+            Data::Soa(_) => Rtype::SOA,
+            Data::Txt(_) => Rtype::TXT,
+            Data::Srv(_) => Rtype::SRV,
+            Data::Unknown(rtype, _) => *rtype,
+        }
+    }
 
     /// Takes the data of a type and a class, which ends at a place of the message. It counts the turns that names in
     /// it take.
@@ -94,12 +120,12 @@ impl<R: AsOctets + Copy> Data<R> {
         end: usize,
         turns: &mut Turns,
     ) -> Result<Data<R>, Malformed>
-        ensures form { IfOk result (λ found.
-            HasForm rtype class (window parser.old) (form_of found) (window parser.new)) }
+        ensures rdata { IfOk result (λ found.
+            HasRdata rtype class (window parser.old) (rdata_of found) (window parser.new)) }
         ensures place { IfOk result (IsAt (window parser.old)) }
         ensures ends { OnOk result ((window parser.new).position ≡ end) }
-        ensures malformed { IsErr result → (form : Form) (v : Window)
-            → HasForm rtype class (window parser.old) form v → ¬ (v.position ≡ end) }
+        ensures malformed { IsErr result → (rdata : ParsedRdata) (v : Window)
+            → HasRdata rtype class (window parser.old) rdata v → ¬ (v.position ≡ end) }
         ensures turns { turns.new ≤ turns.old + 510 }
     {
         if rtype == Rtype::TXT {
@@ -119,11 +145,11 @@ impl<R: AsOctets + Copy> Data<R> {
         class: Class,
         turns: &mut Turns,
     ) -> Result<Data<R>, Malformed>
-        ensures form { IfOk result (λ found.
-            HasForm rtype class (window parser.old) (form_of found) (window parser.new)) }
+        ensures rdata { IfOk result (λ found.
+            HasRdata rtype class (window parser.old) (rdata_of found) (window parser.new)) }
         ensures place { IfOk result (IsAt (window parser.old)) }
-        ensures malformed { IsErr result → rtype ≢ 16 → (form : Form) (v : Window)
-            → ¬ HasForm rtype class (window parser.old) form v }
+        ensures malformed { IsErr result → rtype ≢ 16 → (rdata : ParsedRdata) (v : Window)
+            → ¬ HasRdata rtype class (window parser.old) rdata v }
         ensures turns { turns.new ≤ turns.old + 510 }
     {
         if rtype == Rtype::NS {

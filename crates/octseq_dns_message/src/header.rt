@@ -29,7 +29,7 @@ pub struct Flags {
     pub cd: bool,
 }
 
-/// The header of a message: what it says of itself, and how many entries each section has.
+/// The header of a message: what it says of itself. [`HeaderCounts`] has its counts.
 #[derive(Clone, Copy, Debug, PartialEq, Eq, Hash)]
 pub struct Header {
     /// The number of the message.
@@ -40,6 +40,11 @@ pub struct Header {
     pub opcode: Opcode,
     /// What a response tells of its success.
     pub rcode: Rcode,
+}
+
+/// How many entries each section of a message has, as its header counts them.
+#[derive(Clone, Copy, Debug, PartialEq, Eq, Hash)]
+pub struct HeaderCounts {
     /// How many questions there are.
     pub qdcount: u16,
     /// How many answers there are.
@@ -100,14 +105,17 @@ fn rcode_in(bits: u16) -> Rcode
 impl Header {
     ghost use Rattle.octseq_dns_message.specs.Header.{IsHeader};
 
-    /// Takes the header of a message: 12 octets.
+    /// Takes the header of a message, with its counts: 12 octets.
     ///
     /// # Errors
     ///
     /// `Malformed` where fewer octets are left. The parser is then as it was.
-    pub fn parse<R: AsOctets + Copy>(parser: &mut Parser<R>) -> Result<Header, Malformed>
-        ensures header { IfOk result (λ header. IsHeader (window parser.old) header (window parser.new)) }
-        ensures malformed { IsErr result → (header : Header) (v : Window) → ¬ IsHeader (window parser.old) header v }
+    pub fn parse<R: AsOctets + Copy>(
+        parser: &mut Parser<R>,
+    ) -> Result<(Header, HeaderCounts), Malformed>
+        ensures header { IfOk result (λ found. IsHeader (window parser.old) found.0 found.1 (window parser.new)) }
+        ensures malformed { IsErr result → (header : Header) (counts : HeaderCounts) (v : Window)
+            → ¬ IsHeader (window parser.old) header counts v }
         ensures kept { OnErr result (window parser.new ≡ window parser.old) }
         ensures same { sequence parser.new ≡ sequence parser.old }
     {
@@ -119,15 +127,18 @@ impl Header {
         let nscount = ahead.parse_u16_be()?;
         let arcount = ahead.parse_u16_be()?;
         *parser = ahead;
-        Ok(Header {
+        let header = Header {
             id,
             flags: Flags::from_bits(bits),
             opcode: opcode_in(bits),
             rcode: rcode_in(bits),
+        };
+        let counts = HeaderCounts {
             qdcount,
             ancount,
             nscount,
             arcount,
-        })
+        };
+        Ok((header, counts))
     }
 }

@@ -10,7 +10,7 @@ mod text;
 pub mod ttl;
 
 pub use data::Data;
-pub use header::{Flags, Header};
+pub use header::{Flags, Header, HeaderCounts};
 pub use iana::{Class, Opcode, Rcode, Rtype};
 pub use message::{Message, Question, Record};
 pub use ttl::Ttl;

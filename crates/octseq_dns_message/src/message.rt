@@ -6,9 +6,10 @@ ghost use Rattle.octseq_dns_message.specs.Entry.{IsQuestion, IsRecord};
 ghost use Rattle.octseq_dns_message.specs.Message.{IsMessage};
 ghost use Rattle.octseq_dns_message.specs.OneEntry.{questions_once, records_once};
 ghost use Rattle.octseq_dns_message.specs.declared.header.Header.{Header as Fields};
+ghost use Rattle.octseq_dns_message.specs.declared.header.HeaderCounts.{HeaderCounts as Counts};
 ghost use Rattle.octseq_format.specs.Row.{Holds};
 
-use crate::header::{Flags, Header};
+use crate::header::{Flags, Header, HeaderCounts};
 use crate::iana::{Opcode, Rcode};
 use crate::message::sections::{pass_questions, pass_records};
 use octseq::utf8::Turns;
@@ -16,21 +17,21 @@ use octseq::{AsOctets, Parser};
 use octseq_dns_name::Malformed;
 use std::alloc::AllocError;
 
-mod lists;
+mod collect;
 mod question;
 mod record;
 mod sections;
 mod text;
 mod walk;
 
-pub use crate::message::lists::Lists;
+pub use crate::message::collect::Sections;
 pub use crate::message::question::Question;
 pub use crate::message::record::Record;
 pub use crate::message::text::one_text_of_a_message;
 pub use crate::message::walk::{Questions, Records};
 
 /// How many octets a message may have: RFC 1035, 4.2.2.
-const MESSAGE_MOST: usize = 65535;
+pub const MESSAGE_MAX: usize = 65535;
 
 /// Octets are a message in one way at most.
 ///
@@ -41,18 +42,15 @@ pub fn one_message()
         → (h ≡ k) × (q ≡ others) × (a ≡ x) × (b ≡ y) × (d ≡ z) }
 {}
 
-/// The numbers of a header. A `?` on a result that holds a reference beside a type with a model, as `Opcode`, isn't
-/// proved, so a message has its header's numbers plain.
+/// The numbers of a header, and its counts. A `?` on a result that holds a reference beside a type with a model, as
+/// `Opcode`, isn't proved, so a message has its header's numbers plain.
 #[derive(Clone, Copy, Debug)]
 struct Numbers {
     id: u16,
     flags: Flags,
     opcode: u8,
     rcode: u8,
-    qdcount: u16,
-    ancount: u16,
-    nscount: u16,
-    arcount: u16,
+    counts: HeaderCounts,
     ghost opcodes: { opcode < 16 },
     ghost rcodes: { rcode < 16 },
 }
@@ -67,20 +65,18 @@ impl Numbers {
     /// Takes the header of a message, as `Header::parse`.
     fn parse<R: AsOctets + Copy>(parser: &mut Parser<R>) -> Result<Numbers, Malformed>
         ensures header { IfOk result (λ numbers.
-            IsHeader (window parser.old) (fields_of numbers) (window parser.new)) }
-        ensures malformed { IsErr result → (header : Fields) (v : Window) → ¬ IsHeader (window parser.old) header v }
+            IsHeader (window parser.old) (fields_of numbers) numbers.counts (window parser.new)) }
+        ensures malformed { IsErr result → (header : Fields) (counts : Counts) (v : Window)
+            → ¬ IsHeader (window parser.old) header counts v }
         ensures same { sequence parser.new ≡ sequence parser.old }
     {
-        let header = Header::parse(parser)?;
+        let (header, counts) = Header::parse(parser)?;
         Ok(Numbers {
             id: header.id,
             flags: header.flags,
             opcode: header.opcode.to_int(),
             rcode: header.rcode.to_int(),
-            qdcount: header.qdcount,
-            ancount: header.ancount,
-            nscount: header.nscount,
-            arcount: header.arcount,
+            counts,
         })
     }
 
@@ -93,10 +89,6 @@ impl Numbers {
             flags: self.flags,
             opcode: Opcode::from_int(self.opcode),
             rcode: Rcode::from_int(self.rcode),
-            qdcount: self.qdcount,
-            ancount: self.ancount,
-            nscount: self.nscount,
-            arcount: self.arcount,
         }
     }
 }
@@ -109,10 +101,10 @@ pub struct Message<R: AsOctets> {
     answers: Parser<R>,
     authorities: Parser<R>,
     additionals: Parser<R>,
-    ghost asked: { Holds IsQuestion (window questions) header.qdcount } by { questions_once _ _ },
-    ghost answered: { Holds IsRecord (window answers) header.ancount } by { records_once _ _ },
-    ghost authorized: { Holds IsRecord (window authorities) header.nscount } by { records_once _ _ },
-    ghost added: { Holds IsRecord (window additionals) header.arcount } by { records_once _ _ },
+    ghost asked: { Holds IsQuestion (window questions) header.counts.qdcount } by { questions_once _ _ },
+    ghost answered: { Holds IsRecord (window answers) header.counts.ancount } by { records_once _ _ },
+    ghost authorized: { Holds IsRecord (window authorities) header.counts.nscount } by { records_once _ _ },
+    ghost added: { Holds IsRecord (window additionals) header.counts.arcount } by { records_once _ _ },
 }
 
 impl<R: AsOctets + Copy> Copy for Message<R> {}
@@ -129,8 +121,8 @@ impl<R: AsOctets + Copy> Clone for Message<R> {
 
 impl<R: AsOctets + Copy> Message<R> {
     ghost use Rattle.std.specs.Prelude.{◌+◌, ◌*◌, ◌≤◌, length, IsErr, IfOk};
-    ghost use Rattle.octseq_dns_message.specs.Parsed.{header_of, questions_of, answers_of, authorities_of};
-    ghost use Rattle.octseq_dns_message.specs.Parsed.{additionals_of, message_turns};
+    ghost use Rattle.octseq_dns_message.specs.Parsed.{header_of, counts_of, questions_of, answers_of};
+    ghost use Rattle.octseq_dns_message.specs.Parsed.{authorities_of, additionals_of, message_turns};
     ghost use Rattle.octseq_dns_message.specs.Walk.{questions_left, records_left};
 
     /// Reads all of the octets as a message. It requests no memory.
@@ -172,23 +164,23 @@ impl<R: AsOctets + Copy> Message<R> {
             (answers authorities additionals : List said.Record)
             → ¬ IsMessage (R.content octets) header questions answers authorities additionals }
         ensures turns { turns.new ≤ turns.old + 51 * length (R.content octets) + 255 }
-        ensures entries { IfOk result (λ message. turns.new ≤ turns.old + 255 * ((header_of message).qdcount
-            + (header_of message).ancount + (header_of message).nscount + (header_of message).arcount)) }
+        ensures entries { IfOk result (λ message. turns.new ≤ turns.old + 255 * ((counts_of message).qdcount
+            + (counts_of message).ancount + (counts_of message).nscount + (counts_of message).arcount)) }
         ensures least { IfOk result (λ message. turns.old + message_turns message ≤ turns.new) }
     {
         let mut parser = Parser::from_ref(octets);
-        if parser.remaining() > MESSAGE_MOST {
+        if parser.remaining() > MESSAGE_MAX {
             return Err(Malformed);
         }
         let header = Numbers::parse(&mut parser)?;
         let questions = parser;
-        pass_questions(&mut parser, header.qdcount, turns)?;
+        pass_questions(&mut parser, header.counts.qdcount, turns)?;
         let answers = parser;
-        pass_records(&mut parser, header.ancount, turns)?;
+        pass_records(&mut parser, header.counts.ancount, turns)?;
         let authorities = parser;
-        pass_records(&mut parser, header.nscount, turns)?;
+        pass_records(&mut parser, header.counts.nscount, turns)?;
         let additionals = parser;
-        pass_records(&mut parser, header.arcount, turns)?;
+        pass_records(&mut parser, header.counts.arcount, turns)?;
         if parser.remaining() > 0 {
             return Err(Malformed);
         }
@@ -208,6 +200,17 @@ impl<R: AsOctets + Copy> Message<R> {
         self.header.header()
     }
 
+    /// How many entries its header counts in each section: as many as there are.
+    pub fn header_counts(&self) -> HeaderCounts
+        ensures counts { result ≡ counts_of self.now }
+        ensures qdcount { result.qdcount ≡ length (questions_of self.now) }
+        ensures ancount { result.ancount ≡ length (answers_of self.now) }
+        ensures nscount { result.nscount ≡ length (authorities_of self.now) }
+        ensures arcount { result.arcount ≡ length (additionals_of self.now) }
+    {
+        self.header.counts
+    }
+
     /// Its questions, from the first one on.
     ///
     /// # Examples
@@ -223,7 +226,7 @@ impl<R: AsOctets + Copy> Message<R> {
     pub fn questions(&self) -> Questions<R>
         ensures { questions_left result ≡ questions_of self.now }
     {
-        Questions::at(self.questions, self.header.qdcount)
+        Questions::at(self.questions, self.header.counts.qdcount)
     }
 
     /// Its answers, from the first one on.
@@ -243,20 +246,20 @@ impl<R: AsOctets + Copy> Message<R> {
     pub fn answers(&self) -> Records<R>
         ensures { records_left result ≡ answers_of self.now }
     {
-        Records::at(self.answers, self.header.ancount)
+        Records::at(self.answers, self.header.counts.ancount)
     }
 
     /// Its records of authorities, from the first one on.
     pub fn authorities(&self) -> Records<R>
         ensures { records_left result ≡ authorities_of self.now }
     {
-        Records::at(self.authorities, self.header.nscount)
+        Records::at(self.authorities, self.header.counts.nscount)
     }
 
     /// Its additional records, from the first one on.
     pub fn additionals(&self) -> Records<R>
         ensures { records_left result ≡ additionals_of self.now }
     {
-        Records::at(self.additionals, self.header.arcount)
+        Records::at(self.additionals, self.header.counts.arcount)
     }
 }

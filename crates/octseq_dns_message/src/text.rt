@@ -92,14 +92,13 @@ impl fmt::Display for Header {
             flags,
             opcode,
             rcode,
-            ..
         } = *self;
         write!(f, "id {id} opcode {opcode} rcode {rcode} flags")?;
         write_flags(f, flags)
     }
 }
 
-/// Writes each flag that is set behind a space, from the highest bit to the lowest, but for the one of no meaning.
+/// Writes each flag that is set after a space, from the highest bit to the lowest, but for the one of no meaning.
 fn write_flags<W: fmt::Write>(f: &mut fmt::Formatter<W>, flags: Flags) -> fmt::Result
     ensures { WritesOnOk W.write_str_gives f.old result (flags_text flags) f.new }
 {
@@ -121,7 +120,7 @@ fn write_low_flags<W: fmt::Write>(f: &mut fmt::Formatter<W>, flags: Flags) -> fm
     write_flag(f, flags.cd, "CD")
 }
 
-/// Writes the name of a flag that is set behind a space.
+/// Writes the name of a flag that is set after a space.
 fn write_flag<W: fmt::Write>(f: &mut fmt::Formatter<W>, is_set: bool, name: &str) -> fmt::Result
     ensures { WritesOnOk W.write_str_gives f.old result (flag_text is_set name.now) f.new }
 {

@@ -21,7 +21,7 @@ impl Model for Ttl {
 }
 
 impl Ttl {
-    /// So many seconds.
+    /// A number of seconds.
     pub fn from_secs(secs: u32) -> Self
         ensures { result ≡ secs }
     {

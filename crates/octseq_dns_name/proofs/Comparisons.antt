@@ -1,7 +1,7 @@
 -- How labels and names compare, piece by piece.
 use Rattle.std.proofs.Common.{◌≡◌, ℕ, zero, suc, min, ◌+◌, ◌-◌, ◌<◌, ◌≤◌, ◌⊎◌, inl, inr, List, [], ◌∷◌, ◌++◌, length}
-use Rattle.std.proofs.Common.{take, drop, get_or, reverse, refl, sym, ap, ◌∙◌, arith, Option, Some, None, MatchOption}
-use Rattle.std.proofs.lemmas.List.{drop_more, drop_all, length-drop, length-reverse, reverse-append, map-append}
+use Rattle.std.proofs.Common.{take, drop, reverse, refl, sym, ap, ◌∙◌, arith, Option, Some, None, MatchOption}
+use Rattle.std.proofs.lemmas.List.{drop_all, length-drop, length-reverse, reverse-append, map-append}
 use Rattle.std.proofs.lemmas.List.{length-map, length-append, take-append-drop}
 use Rattle.std.specs.Char.{to_ascii_lowercase}
 use Rattle.std.specs.Cmp.{nat_cmp_is, ranks}
@@ -36,14 +36,6 @@ lesser a b i is = (omega (arith, is), omega (arith, is), which (zero_or_more (a 
     which (inr more) = inr (omega (arith, is, more))
 
 -- ---- labels
-
--- the octets at a place decide, or those behind them
-pub label_cmp_at : (xs ys : List ℕ) (i : ℕ) → i < length xs → i < length ys
-    → label_cmp (drop i xs) (drop i ys) ≡ ordering_then
-    (nat_cmp (to_ascii_lowercase (get_or xs i 0)) (to_ascii_lowercase (get_or ys i 0)))
-    (label_cmp (drop (i + 1) xs) (drop (i + 1) ys))
-label_cmp_at xs ys i few fewer = ap (λ l. label_cmp l (drop i ys)) (drop_more xs i 0 few)
-    ∙ ap (λ l. label_cmp (get_or xs i 0 ∷ drop (i + 1) xs) l) (drop_more ys i 0 fewer)
 
 -- where one of them ends their lengths decide
 nothing_left : (xs ys : List ℕ) → (length xs ≡ 0) ⊎ (length ys ≡ 0) → label_cmp xs ys ≡ nat_cmp (length xs) (length ys)
@@ -84,7 +76,7 @@ then_equal Less = refl
 then_equal Equal = refl
 then_equal Greater = refl
 
--- fronts of one length decide, or what is behind them
+-- fronts of one length decide, or what is after them
 fronts : {X : Type 0} (R : X → X → Ordering) (xs ys more others : List X) → length xs ≡ length ys
     → slice_cmp R (xs ++ more) (ys ++ others) ≡ ordering_then (slice_cmp R xs ys) (slice_cmp R more others)
 fronts R [] [] more others same = refl
@@ -111,7 +103,7 @@ name_cmp_append xs ys more others same =
     ∙ fronts (slice_cmp nat_cmp) (canonical more) (canonical others) (canonical xs) (canonical ys)
     (canonical_length more ∙ same ∙ sym (canonical_length others))
 
--- so a label behind others decides first
+-- so a label after others decides first
 pub name_cmp_last : (xs ys : List (List ℕ)) (x y : List ℕ)
     → name_cmp (xs ++ x ∷ []) (ys ++ y ∷ []) ≡ ordering_then (label_cmp x y) (name_cmp xs ys)
 name_cmp_last xs ys x y = name_cmp_append xs ys (x ∷ []) (y ∷ []) refl
@@ -137,7 +129,7 @@ name_cmp_none xs ys is =
     none (inl e) = inl (canonical_length xs ∙ e)
     none (inr e) = inr (canonical_length ys ∙ e)
 
--- a list is its first items and those behind them
+-- a list is its first items and those after them
 parts : (m : ℕ) (xs : List (List ℕ)) → length (take m xs) + length (drop m xs) ≡ length xs
 parts m xs = sym (length-append (take m xs) (drop m xs)) ∙ ap length (take-append-drop m xs)
 

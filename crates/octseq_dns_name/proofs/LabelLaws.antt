@@ -1,6 +1,6 @@
 -- The labels of a name have 1 to 63 octets each.
-use Rattle.std.proofs.Common.{◌≡◌, ℕ, zero, suc, ◌+◌, ◌-◌, ◌<◌, ◌≤◌, List, [], ◌∷◌, length, take, drop}
-use Rattle.std.proofs.Common.{ap, sym, ◌∙◌, arith, length-take, length-drop, subst, slice_index_or, Fits, w8}
+use Rattle.std.proofs.Common.{◌≡◌, ℕ, suc, ◌+◌, ◌-◌, ◌≤◌, List, [], ◌∷◌, length, drop}
+use Rattle.std.proofs.Common.{ap, sym, arith, length-take, length-drop, subst}
 use Rattle.std.proofs.Math.Logic.{∥∥₁_elim}
 use Rattle.std.specs.Coded.{le_prop, ×_prop, Unit-prop}
 use mathlib.Core.HLevel.{×₃_prop}
@@ -34,7 +34,7 @@ label_length w u l within has =
     let taken = length-take (from + octet w - from) (drop from w.octets) in
     omega (arith, size, whole, some, within, taken, length-drop from w.octets)
 
--- the labels that stand at a window's position
+-- the labels that are at a window's position
 standing_labels : (start : ℕ) (w v : Window) (labels : List (List ℕ)) (pointers : ℕ) → w.end ≤ length w.octets
     → Stands start w labels pointers v → AreLabels labels
 standing_labels start w v labels pointers within (Stands.root has) = tt

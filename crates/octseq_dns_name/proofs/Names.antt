@@ -13,16 +13,16 @@ use Rattle.octseq_dns_name.specs.OneName.{at_label, at_pointer, one_standing, on
 use Rattle.octseq_dns_name.specs.OneName.{ahead_once}
 use Rattle.octseq_dns_name.specs.Piece.{Piece, HasPiece, end_of, kept_at}
 
--- ---- what stands ahead
+-- ---- what is ahead
 
--- where no piece stands, no labels do
+-- where no piece is, no labels are
 pub no_piece : (start : ℕ) (w x : Window) (labels : List (List ℕ)) (pointers : ℕ)
     → ((p : Piece) (v : Window) → HasPiece start w p v → ⊥) → Stands start w labels pointers x → ⊥
 no_piece start w x labels pointers none (Stands.root has) = none Piece.root x has
 no_piece start w x labels pointers none (Stands.label {u = u} {l = l} has rest) = none (Piece.label l) u has
 no_piece start w x labels pointers none (Stands.pointer {to = to} has rest) = none (Piece.pointer to) x has
 
--- A name that stands at a first window is these labels and pointers, and then what stands at a second one.
+-- A name at a first window is these labels and pointers, and then what is at a second one.
 pub record GoesOn (start : ℕ) (v : Window) (labels : List (List ℕ)) (pointers : ℕ) (behind : Option Window)
     (all : List (List ℕ)) (count : ℕ) (x : Window) : Type 0 where
   pub more : List (List ℕ)
@@ -33,8 +33,8 @@ pub record GoesOn (start : ℕ) (v : Window) (labels : List (List ℕ)) (pointer
   pub pointers_are : count ≡ pointers + fewer
   pub end_is : x ≡ end_of behind u
 
--- These labels and pointers lead from a first window to a second one: a name stands at the one exactly where the rest
--- of it stands at the other.
+-- These labels and pointers lead from a first window to a second one: a name is at the one exactly where the rest
+-- of it is at the other.
 pub record LeadsTo (first : ℕ) (w : Window) (start : ℕ) (v : Window) (labels : List (List ℕ)) (pointers : ℕ)
     (behind : Option Window) : Type 0 where
   pub forward : (more : List (List ℕ)) (fewer : ℕ) (u : Window) → Stands start v more fewer u
@@ -119,7 +119,7 @@ leads_to_root first w start v u labels pointers behind so_far has =
 
 -- ---- lengths
 
--- the wire length of labels and of more behind them, which have one root between them
+-- the wire length of labels and of more after them, which have one root between them
 pub wire_append : (labels more : List (List ℕ))
     → wire_length (labels ++ more) + 1 ≡ wire_length labels + wire_length more
 wire_append [] more = omega arith
@@ -162,7 +162,7 @@ Counted w start v size pointers behind old new =
 pub begun : (w : Window) → Reading w w.position w 1 0 None
 begun w = record { labels = []; read = leads_none w.position w; size_is = refl }
 
--- the reading goes on behind a label, whose octets and the one of its length are counted
+-- the reading goes on after a label, whose octets and the one of its length are counted
 pub with_label : (w : Window) (start : ℕ) (v u : Window) (size made pointers : ℕ) (behind : Option Window) (l : List ℕ)
     → Reading w start v size pointers behind
     → HasLabel v l u → made ≡ size + (1 + length l) → Reading w start u made pointers behind
@@ -221,16 +221,6 @@ too_long w start v size pointers behind so_far long labels end name =
     let short = name.short in
     omega (arith, both, some, all, is, short, long)
 
--- nor are too many pointers
-pub too_many : (w : Window) (start : ℕ) (v : Window) (size pointers : ℕ) (behind : Option Window)
-    → Reading w start v size pointers behind → 127 < pointers
-    → (labels : List (List ℕ)) (end : Window) → ¬ IsName w labels end
-too_many w start v size pointers behind so_far many labels end name =
-    let on = so_far.read.backward labels name.pointers end name.stands in
-    let all = on.pointers_are in
-    let few = name.few in
-    omega (arith, all, few, many)
-
 -- nor is what has no next piece
 pub no_next : (w : Window) (start : ℕ) (v : Window) (size pointers : ℕ) (behind : Option Window)
     → Reading w start v size pointers behind
@@ -288,14 +278,14 @@ pub named_as : (w end : Window) (labels : List (List ℕ)) (named : Named w) →
 named_as w end labels named name =
     ∥∥₁_elim named.1 (one_labels labels named.0) (λ x. (one_name w end x.0 labels named.0 name x.1).0)
 
--- the labels that an iterator keeps are those that stand there
+-- the labels that an iterator keeps are those that are there
 pub ahead_is : (start : ℕ) (w end : Window) (labels : List (List ℕ)) (pointers : ℕ) (ahead : Ahead start w)
     → Stands start w labels pointers end → ahead.0 ≡ labels
 ahead_is start w end labels pointers ahead stands =
     ∥∥₁_elim ahead.1 (one_labels ahead.0 labels)
     (λ x. (one_standing start w x.1 end ahead.0 labels x.0 pointers x.2 stands).0)
 
--- a label was taken, and the rest stands behind it
+-- a label was taken, and the rest is after it
 abbrev pub Taken : ℕ → Window → ℕ → Window → List ℕ → Type 0
 Taken start w on v l = (labels : List (List ℕ)) (pointers : ℕ) (end : Window) → Stands start w labels pointers end
     → (more : List (List ℕ)) × (fewer : ℕ) × (last : Window) × (labels ≡ l ∷ more) × Stands on v more fewer last
@@ -325,7 +315,7 @@ more_ahead start w on v l ahead takes =
 pub shorter : (l : List ℕ) (labels more : List (List ℕ)) → labels ≡ l ∷ more → length more < length labels
 shorter l labels more is = let lengths = ap length is in omega (arith, lengths)
 
--- the labels of a name stand ahead of its start
+-- the labels of a name are ahead of its start
 pub ahead_of_name : (w : Window) → (named : Named w)
     → ∥ ((pointers : ℕ) × (end : Window) × Stands w.position w named.0 pointers end) ∥₁ × (wire_length named.0 ≤ 255)
 ahead_of_name w named = (

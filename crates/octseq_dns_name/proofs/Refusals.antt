@@ -8,14 +8,14 @@ use Rattle.octseq_dns_name.specs.Name.{wire_length}
 use Rattle.octseq_dns_name.specs.Refused.{Reads, SpellsNone, IsFault, IsRefused}
 use Rattle.octseq_dns_name.specs.Spelling.{SpellsOctet, SpellsLabel, SpellsLabels, SpellsName}
 use Rattle.octseq_dns_name.specs.Wire.{AreLabels}
-use Rattle.octseq_dns_name.specs.declared.error.NameError.{NameError}
+use Rattle.octseq_dns_name.specs.declared.error.FromTextError.{FromTextError}
 use Rattle.octseq_dns_name.proofs.Names.{wire_append, wire_some}
 use Rattle.octseq_dns_name.proofs.Spellings.{octet_once, no_full_stop, label_once}
 use Rattle.octseq_dns_name.proofs.SpellingSteps.{spelled, later, spelling_long}
 
 -- ---- two runs of octets at one text's front
 
--- behind the shorter one an octet is spelled
+-- after the shorter one an octet is spelled
 longer_run : (label other s t xs ys : List ℕ) → SpellsLabel label s → SpellsLabel other t → s ++ xs ≡ t ++ ys
     → length label < length other → (octet : ℕ) × (first rest : List ℕ) × (xs ≡ first ++ rest) × SpellsOctet octet first
 longer_run [] [] s t xs ys one two same less = absurd (omega (arith, less))
@@ -47,7 +47,7 @@ same_run (a ∷ label) (b ∷ other) s t xs ys one two same size =
     let more = same_run label other one.1 two.1 xs ys one.4 two.4 rest.1 (omega (arith, size)) in
     (ap (λ o. o ∷ label) rest.0 ∙ ap (λ l. b ∷ l) more.0, more.1)
 
--- so none is longer than one behind which no octet is spelled
+-- so none is longer than one after which no octet is spelled
 none_longer : (text label xs other ys : List ℕ) → Reads text label xs → Reads text other ys → SpellsNone xs
     → length label < length other → ⊥
 none_longer text label xs other ys one two none less =
@@ -89,49 +89,49 @@ none_at_stop rest = λ octet first more is one. no_full_stop octet first more re
 
 -- ---- the reason
 
--- what a full stop behind the octets of a label tells
-abbrev at_stop : List ℕ → NameError
-at_stop [] = NameError.EmptyLabel
-at_stop (octet ∷ label) = NameError.LongName
+-- what a full stop after the octets of a label tells
+abbrev at_stop : List ℕ → FromTextError
+at_stop [] = FromTextError.EmptyLabel
+at_stop (octet ∷ label) = FromTextError.LongName
 
--- and what comes behind them where no octet is spelled
-abbrev told : List ℕ → List ℕ → NameError
-told label [] = NameError.UnexpectedEnd
+-- and what comes after them where no octet is spelled
+abbrev told : List ℕ → List ℕ → FromTextError
+told label [] = FromTextError.UnexpectedEnd
 told label (octet ∷ rest) =
     if nat_eq octet 46 then at_stop label else
-    (if nat_eq octet 92 then NameError.IllegalEscape else NameError.IllegalOctet)
+    (if nat_eq octet 92 then FromTextError.IllegalEscape else FromTextError.IllegalOctet)
 
--- the octets of a label that were read, and what they and what is behind them tell
-abbrev Stops : NameError → List ℕ → Type 0
+-- the octets of a label that were read, and what they and what is after them tell
+abbrev Stops : FromTextError → List ℕ → Type 0
 Stops fault text = (label rest : List ℕ) × Reads text label rest
-    × (((length label ≡ 64) × (fault ≡ NameError.LongLabel))
+    × (((length label ≡ 64) × (fault ≡ FromTextError.LongLabel))
     ⊎ ((length label ≤ 63) × SpellsNone rest × (fault ≡ told label rest)))
 
-stopped_long : (label rest : List ℕ) → 1 ≤ length label → NameError.LongName ≡ told label (46 ∷ rest)
+stopped_long : (label rest : List ℕ) → 1 ≤ length label → FromTextError.LongName ≡ told label (46 ∷ rest)
 stopped_long [] rest some = absurd (omega (arith, some))
 stopped_long (octet ∷ label) rest some = refl
 
 illegal : (octet : ℕ) (label rest : List ℕ) → ¬ (octet ≡ 46) → ¬ (octet ≡ 92)
-    → NameError.IllegalOctet ≡ told label (octet ∷ rest)
+    → FromTextError.IllegalOctet ≡ told label (octet ∷ rest)
 illegal octet label rest no_stop no_backslash =
     let first : nat_eq octet 46 ≡ false = search rules in
     let second : nat_eq octet 92 ≡ false = search rules in
     sym (ap (λ b. if b then at_stop label else
-    (if nat_eq octet 92 then NameError.IllegalEscape else NameError.IllegalOctet))
-    first ∙ ap (λ b. if b then NameError.IllegalEscape else NameError.IllegalOctet) second)
+    (if nat_eq octet 92 then FromTextError.IllegalEscape else FromTextError.IllegalOctet))
+    first ∙ ap (λ b. if b then FromTextError.IllegalEscape else FromTextError.IllegalOctet) second)
 
-stops : (fault : NameError) (labels : List (List ℕ)) (text : List ℕ) → IsFault fault labels text → Stops fault text
-stops NameError.UnexpectedEnd labels text is = (is.0, [], is.1, inr (is.2, none_at_end, refl))
-stops NameError.EmptyLabel labels text is =
+stops : (fault : FromTextError) (labels : List (List ℕ)) (text : List ℕ) → IsFault fault labels text → Stops fault text
+stops FromTextError.UnexpectedEnd labels text is = (is.0, [], is.1, inr (is.2, none_at_end, refl))
+stops FromTextError.EmptyLabel labels text is =
     ([], 46 ∷ is.0, ([], is.1, refl), inr (omega arith, none_at_stop is.0, refl))
-stops NameError.LongLabel labels text is = (is.0, is.1, is.2, inl (is.3, refl))
-stops NameError.LongName labels text is =
+stops FromTextError.LongLabel labels text is = (is.0, is.1, is.2, inl (is.3, refl))
+stops FromTextError.LongName labels text is =
     (is.0, 46 ∷ is.1, is.2, inr (is.4, none_at_stop is.1, stopped_long is.0 is.1 is.3))
-stops NameError.IllegalEscape labels text is = (is.0, 92 ∷ is.1, is.2, inr (is.3, is.4, refl))
-stops NameError.IllegalOctet labels text is =
+stops FromTextError.IllegalEscape labels text is = (is.0, 92 ∷ is.1, is.2, inr (is.3, is.4, refl))
+stops FromTextError.IllegalOctet labels text is =
     (is.1, is.0 ∷ is.2, is.3, inr (is.4, is.7, illegal is.0 is.1 is.2 is.5 is.6))
 
-one_stop : (fault other_fault : NameError) (text : List ℕ) → Stops fault text → Stops other_fault text
+one_stop : (fault other_fault : FromTextError) (text : List ℕ) → Stops fault text → Stops other_fault text
     → fault ≡ other_fault
 one_stop fault other_fault text (label, xs, one, inl is) (other, ys, two, inl other_is) = is.1 ∙ sym other_is.1
 one_stop fault other_fault text (label, xs, one, inl is) (other, ys, two, inr other_is) =
@@ -148,8 +148,8 @@ one_stop fault other_fault text (label, xs, one, inr is) (other, ys, two, inr ot
 
 -- ---- no label is where something is wrong
 
-stopped_name : (fault : NameError) (text label rest : List ℕ) → Stops fault text → Reads text label (46 ∷ rest)
-    → 1 ≤ length label → length label ≤ 63 → fault ≡ NameError.LongName
+stopped_name : (fault : FromTextError) (text label rest : List ℕ) → Stops fault text → Reads text label (46 ∷ rest)
+    → 1 ≤ length label → length label ≤ 63 → fault ≡ FromTextError.LongName
 stopped_name fault text label rest (other, ys, two, inl is) one some short =
     let long = is.0 in
     absurd (none_longer text label (46 ∷ rest) other ys one two (none_at_stop rest) (omega (arith, long, short)))
@@ -157,7 +157,7 @@ stopped_name fault text label rest (other, ys, two, inr is) one some short =
     let same = one_run text label (46 ∷ rest) other ys one two (none_at_stop rest) is.1 in
     is.2 ∙ ap (told other) (sym same.1) ∙ ap (λ l. told l (46 ∷ rest)) (sym same.0) ∙ sym (stopped_long label rest some)
 
-no_label_here : (fault : NameError) (labels : List (List ℕ)) (text label rest : List ℕ) → IsFault fault labels text
+no_label_here : (fault : FromTextError) (labels : List (List ℕ)) (text label rest : List ℕ) → IsFault fault labels text
     → Reads text label (46 ∷ rest) → 1 ≤ length label → length label ≤ 63 → wire_length (labels ++ label ∷ []) ≤ 255 → ⊥
 no_label_here fault labels text label rest is one some short fits =
     let long = subst (λ f. IsFault f labels text)
@@ -170,7 +170,7 @@ no_label_here fault labels text label rest is one some short fits =
 
 -- ---- whole labels at one text's front
 
--- the second ones go on behind the first ones
+-- the second ones go on after the first ones
 abbrev GoOn : List (List ℕ) → List (List ℕ) → List ℕ → Type 0
 GoOn xs ys ahead = (label : List ℕ) × (more : List (List ℕ)) × (rest : List ℕ)
     × (ys ≡ xs ++ label ∷ more) × Reads ahead label (46 ∷ rest)
@@ -228,7 +228,7 @@ whole_labels (x ∷ xs) (y ∷ ys) s t ahead other one two same =
     whole_more x y xs ys ahead other first.0 (whole_labels xs ys one.1 two.1 ahead other one.4 two.4 first.1)
 
 -- so none go on where something is wrong
-none_go_on : (fault : NameError) (xs ys : List (List ℕ)) (ahead : List ℕ) → IsFault fault xs ahead → AreLabels ys
+none_go_on : (fault : FromTextError) (xs ys : List (List ℕ)) (ahead : List ℕ) → IsFault fault xs ahead → AreLabels ys
     → wire_length ys ≤ 255 → GoOn xs ys ahead → ⊥
 none_go_on fault xs ys ahead is are short on =
     let label = on.0 in
@@ -241,7 +241,7 @@ none_go_on fault xs ys ahead is are short on =
 
 -- ---- the laws
 
-one_reason : (fault other : NameError) (text : List ℕ) → IsRefused fault text → IsRefused other text → fault ≡ other
+one_reason : (fault other : FromTextError) (text : List ℕ) → IsRefused fault text → IsRefused other text → fault ≡ other
 one_reason fault other text one two =
     let here = one.3 in
     let there = two.3 in
@@ -268,20 +268,20 @@ no_octet octet rest first is =
     let e = ap length is ∙ length-append first (octet ∷ rest) in absurd (omega (arith, e))
 
 -- so what is wrong there is that it ends, with no label before it
-ended : (fault : NameError) (labels : List (List ℕ)) → IsFault fault labels [] → labels ≡ []
-ended NameError.UnexpectedEnd labels (label, one, short, inl none) = none
-ended NameError.UnexpectedEnd labels (label, one, short, inr some) =
+ended : (fault : FromTextError) (labels : List (List ℕ)) → IsFault fault labels [] → labels ≡ []
+ended FromTextError.UnexpectedEnd labels (label, one, short, inl none) = none
+ended FromTextError.UnexpectedEnd labels (label, one, short, inr some) =
     let none = nothing_read label [] one in absurd (omega (arith, some, none))
-ended NameError.EmptyLabel labels is = let e = ap length is.1 in absurd (omega (arith, e))
-ended NameError.LongLabel labels is =
+ended FromTextError.EmptyLabel labels is = let e = ap length is.1 in absurd (omega (arith, e))
+ended FromTextError.LongLabel labels is =
     let none = nothing_read is.0 is.1 is.2 in let long = is.3 in absurd (omega (arith, none, long))
-ended NameError.LongName labels is =
+ended FromTextError.LongName labels is =
     let none = nothing_read is.0 (46 ∷ is.1) is.2 in let some = is.3 in absurd (omega (arith, none, some))
-ended NameError.IllegalEscape labels is = absurd (no_octet 92 is.1 is.2.0 is.2.1)
-ended NameError.IllegalOctet labels is = absurd (no_octet is.0 is.2 is.3.0 is.3.1)
+ended FromTextError.IllegalEscape labels is = absurd (no_octet 92 is.1 is.2.0 is.2.1)
+ended FromTextError.IllegalOctet labels is = absurd (no_octet is.0 is.2 is.3.0 is.3.1)
 
 -- a text that is refused for a reason spells no name
-pub no_name : (fault : NameError) (text : List ℕ) → IsRefused fault text → (labels : List (List ℕ)) → AreLabels labels
+pub no_name : (fault : FromTextError) (text : List ℕ) → IsRefused fault text → (labels : List (List ℕ)) → AreLabels labels
     → wire_length labels ≤ 255 → ¬ SpellsName labels text
 no_name fault text is labels are short spells =
     let here = is.3 in
@@ -315,8 +315,8 @@ pub refused_by : {T E : Type 0} (result : Result T E) (fault : E) → result ≡
 refused_by result fault is P holds = subst (λ r. IfErr r P) (sym is) holds
 
 -- a call that was refused for a reason was refused for no other one
-pub told_of : {T : Type 0} (result : Result T NameError) (fault : NameError) (text : List ℕ) → result ≡ Err fault
-    → IsRefused fault text → (other : NameError) → IsErrOf result other ↔ IsRefused other text
+pub told_of : {T : Type 0} (result : Result T FromTextError) (fault : FromTextError) (text : List ℕ) → result ≡ Err fault
+    → IsRefused fault text → (other : FromTextError) → IsErrOf result other ↔ IsRefused other text
 told_of result fault text is refused other = (
   λ told. subst (λ f. IsRefused f text) (ap (λ r. error_or r fault) (sym is ∙ told)) refused,
   λ same. is ∙ ap Err (one_reason fault other text refused same),

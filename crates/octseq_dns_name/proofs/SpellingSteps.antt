@@ -1,4 +1,4 @@
--- How a text is read octet by octet and label by label: what was read, and what is behind it.
+-- How a text is read octet by octet and label by label: what was read, and what is after it.
 use Rattle.std.proofs.Common.{◌≡◌, inr, ℕ, ◌≤◌, List, [], ◌∷◌, ◌++◌, length, get_or}
 use Rattle.std.proofs.Common.{refl, sym, ap, ◌∙◌, subst, append_assoc, arith}
 use Rattle.std.proofs.lemmas.List.{append-nil}
@@ -6,7 +6,7 @@ use Rattle.octseq_dns_name.specs.Name.{wire_length}
 use Rattle.octseq_dns_name.specs.Refused.{Reads, ReadsLabels, SpellsNone, BeginsWith, IsFault}
 use Rattle.octseq_dns_name.specs.Spelling.{SpellsOctet, SpellsLabel, SpellsLabels, SpellsName}
 use Rattle.octseq_dns_name.specs.Wire.{AreLabels}
-use Rattle.octseq_dns_name.specs.declared.error.NameError.{NameError}
+use Rattle.octseq_dns_name.specs.declared.error.FromTextError.{FromTextError}
 use Rattle.octseq_dns_name.proofs.Wires.{one_more}
 
 -- ---- lists
@@ -65,23 +65,23 @@ some_read text (octet ∷ label) so_far some = omega arith
 
 -- the text ends within the label
 pub unended : (labels : List (List ℕ)) (text label ahead : List ℕ) → Reads text label ahead → ahead ≡ []
-    → 1 ≤ length text → length label ≤ 63 → IsFault NameError.UnexpectedEnd labels text
+    → 1 ≤ length text → length label ≤ 63 → IsFault FromTextError.UnexpectedEnd labels text
 unended labels text label ahead so_far end some short =
     let read = subst (Reads text label) end so_far in (label, read, short, inr (some_read text label read some))
 
 -- no octet comes next
-pub octet_fault : (fault : NameError) (labels : List (List ℕ)) (text label ahead : List ℕ) (octet : ℕ) (rest : List ℕ)
+pub octet_fault : (fault : FromTextError) (labels : List (List ℕ)) (text label ahead : List ℕ) (octet : ℕ) (rest : List ℕ)
     → Reads text label ahead → length label ≤ 63 → ahead ≡ octet ∷ rest → ¬ (octet ≡ 46) → SpellsNone ahead
     → BeginsWith fault ahead → IsFault fault labels text
-octet_fault NameError.UnexpectedEnd labels text label ahead octet rest so_far short here no_stop none begins =
+octet_fault FromTextError.UnexpectedEnd labels text label ahead octet rest so_far short here no_stop none begins =
     let e = ap length (sym here ∙ begins) in absurd (omega (arith, e))
-octet_fault NameError.EmptyLabel labels text label ahead octet rest so_far short here no_stop none begins =
+octet_fault FromTextError.EmptyLabel labels text label ahead octet rest so_far short here no_stop none begins =
     absurd begins
-octet_fault NameError.LongLabel labels text label ahead octet rest so_far short here no_stop none begins = absurd begins
-octet_fault NameError.LongName labels text label ahead octet rest so_far short here no_stop none begins = absurd begins
-octet_fault NameError.IllegalEscape labels text label ahead octet rest so_far short here no_stop none begins =
+octet_fault FromTextError.LongLabel labels text label ahead octet rest so_far short here no_stop none begins = absurd begins
+octet_fault FromTextError.LongName labels text label ahead octet rest so_far short here no_stop none begins = absurd begins
+octet_fault FromTextError.IllegalEscape labels text label ahead octet rest so_far short here no_stop none begins =
     (label, begins.0, subst (Reads text label) begins.1 so_far, short, subst SpellsNone begins.1 none)
-octet_fault NameError.IllegalOctet labels text label ahead octet rest so_far short here no_stop none begins = (
+octet_fault FromTextError.IllegalOctet labels text label ahead octet rest so_far short here no_stop none begins = (
   begins.0,
   label,
   begins.1,

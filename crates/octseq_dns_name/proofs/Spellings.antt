@@ -26,7 +26,7 @@ numbers : (a b : ℕ) → 48 + a / 100 ≡ 48 + b / 100 → 48 + a / 10 % 10 ≡
     → a ≡ b
 numbers a b first second third = omega (arith, first, second, third)
 
--- a spelling of an octet tells it, and what stands behind it
+-- a spelling of an octet tells it, and what is after it
 pub octet_once : (a b : ℕ) (s t xs ys : List ℕ) → SpellsOctet a s → SpellsOctet b t → s ++ xs ≡ t ++ ys
     → (a ≡ b) × (xs ≡ ys)
 octet_once a b s t xs ys (SpellsOctet.plain bare seen) (SpellsOctet.plain other_bare other_seen) same =
@@ -57,7 +57,7 @@ no_full_stop a s xs ys (SpellsOctet.numbered few) same = let e = head same in ab
 
 -- ---- labels
 
--- a spelling of a label with a full stop behind it tells the label, and what stands behind the full stop
+-- a spelling of a label with a full stop after it tells the label, and what is after the full stop
 pub label_once : (label other s t xs ys : List ℕ) → SpellsLabel label s → SpellsLabel other t
     → s ++ 46 ∷ xs ≡ t ++ 46 ∷ ys → (label ≡ other) × (xs ≡ ys)
 label_once [] [] s t xs ys one two same =
@@ -111,7 +111,7 @@ name_once (label ∷ labels) (other ∷ others) text are others_are one two =
 
 -- ---- what is printed
 
--- a backslash stands before no digit
+-- a backslash is before no digit
 letters : (octet : ℕ) → is_quoted octet ≡ true → is_ascii_digit octet ≡ false
 letters octet told = search rules
 

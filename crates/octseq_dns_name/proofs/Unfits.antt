@@ -7,14 +7,14 @@ use Rattle.octseq.specs.Limit.{IsPast}
 use Rattle.octseq_dns_name.specs.Name.{wire_length}
 use Rattle.octseq_dns_name.specs.Unfit.{IsWrong, HasWrong, AreUnfit}
 use Rattle.octseq_dns_name.specs.Wire.{AreLabels}
-use Rattle.octseq_dns_name.specs.declared.error.LabelsError.{LabelsError}
+use Rattle.octseq_dns_name.specs.declared.error.FromLabelsError.{FromLabelsError}
 use Rattle.octseq_dns_name.proofs.Names.{wire_append, wire_some}
 use Rattle.octseq_dns_name.proofs.Refusals.{error_or}
 use Rattle.octseq_dns_name.proofs.SpellingSteps.{later}
 
 -- ---- two labels of a list
 
--- the label behind the first ones is among the second ones
+-- the label after the first ones is among the second ones
 abbrev Before : List (List ℕ) → List ℕ → List (List ℕ) → Type 0
 Before xs x ys = (rest : List (List ℕ)) × (ys ≡ xs ++ x ∷ rest)
 
@@ -45,7 +45,7 @@ placed (a ∷ xs) (b ∷ ys) x y more others same =
 -- ---- a label that is wrong
 
 -- is among none that are right
-none_right : (fault : LabelsError) (before : List (List ℕ)) (label : List ℕ) (labels : List (List ℕ))
+none_right : (fault : FromLabelsError) (before : List (List ℕ)) (label : List ℕ) (labels : List (List ℕ))
     → IsWrong fault before label → Before before label labels → AreLabels labels → wire_length labels ≤ 255 → ⊥
 none_right fault before label labels wrong (rest, is) are short =
     let sizes = later before label rest (subst AreLabels is are) in
@@ -54,43 +54,43 @@ none_right fault before label labels wrong (rest, is) are short =
     let some = wire_some rest in
     by_fault fault wrong sizes.0 sizes.1 (omega (arith, all, both, some, short))
   where
-    by_fault : (fault : LabelsError) → IsWrong fault before label → 1 ≤ length label → length label ≤ 63
+    by_fault : (fault : FromLabelsError) → IsWrong fault before label → 1 ≤ length label → length label ≤ 63
         → wire_length (before ++ label ∷ []) ≤ 255 → ⊥
-    by_fault LabelsError.EmptyLabel wrong some few fits = let none = ap length wrong in omega (arith, none, some)
-    by_fault LabelsError.LongLabel wrong some few fits = omega (arith, wrong, few)
-    by_fault LabelsError.LongName wrong some few fits = let long = wrong.2 in omega (arith, long, fits)
-    by_fault LabelsError.Short wrong some few fits = wrong
-    by_fault LabelsError.Memory wrong some few fits = wrong
+    by_fault FromLabelsError.EmptyLabel wrong some few fits = let none = ap length wrong in omega (arith, none, some)
+    by_fault FromLabelsError.LongLabel wrong some few fits = omega (arith, wrong, few)
+    by_fault FromLabelsError.LongName wrong some few fits = let long = wrong.2 in omega (arith, long, fits)
+    by_fault FromLabelsError.Short wrong some few fits = wrong
+    by_fault FromLabelsError.Memory wrong some few fits = wrong
 
 -- is so in one way
-one_way : (fault other : LabelsError) (before : List (List ℕ)) (label : List ℕ) → IsWrong fault before label
+one_way : (fault other : FromLabelsError) (before : List (List ℕ)) (label : List ℕ) → IsWrong fault before label
     → IsWrong other before label → fault ≡ other
-one_way LabelsError.EmptyLabel LabelsError.EmptyLabel before label one two = refl
-one_way LabelsError.EmptyLabel LabelsError.LongLabel before label one two =
+one_way FromLabelsError.EmptyLabel FromLabelsError.EmptyLabel before label one two = refl
+one_way FromLabelsError.EmptyLabel FromLabelsError.LongLabel before label one two =
     let none = ap length one in absurd (omega (arith, none, two))
-one_way LabelsError.EmptyLabel LabelsError.LongName before label one two =
+one_way FromLabelsError.EmptyLabel FromLabelsError.LongName before label one two =
     let none = ap length one in let some = two.0 in absurd (omega (arith, none, some))
-one_way LabelsError.LongLabel LabelsError.EmptyLabel before label one two =
+one_way FromLabelsError.LongLabel FromLabelsError.EmptyLabel before label one two =
     let none = ap length two in absurd (omega (arith, none, one))
-one_way LabelsError.LongLabel LabelsError.LongLabel before label one two = refl
-one_way LabelsError.LongLabel LabelsError.LongName before label one two =
+one_way FromLabelsError.LongLabel FromLabelsError.LongLabel before label one two = refl
+one_way FromLabelsError.LongLabel FromLabelsError.LongName before label one two =
     let few = two.1 in absurd (omega (arith, few, one))
-one_way LabelsError.LongName LabelsError.EmptyLabel before label one two =
+one_way FromLabelsError.LongName FromLabelsError.EmptyLabel before label one two =
     let none = ap length two in let some = one.0 in absurd (omega (arith, none, some))
-one_way LabelsError.LongName LabelsError.LongLabel before label one two =
+one_way FromLabelsError.LongName FromLabelsError.LongLabel before label one two =
     let few = one.1 in absurd (omega (arith, few, two))
-one_way LabelsError.LongName LabelsError.LongName before label one two = refl
-one_way LabelsError.Short other before label one two = absurd one
-one_way LabelsError.Memory other before label one two = absurd one
-one_way fault LabelsError.Short before label one two = absurd two
-one_way fault LabelsError.Memory before label one two = absurd two
+one_way FromLabelsError.LongName FromLabelsError.LongName before label one two = refl
+one_way FromLabelsError.Short other before label one two = absurd one
+one_way FromLabelsError.Memory other before label one two = absurd one
+one_way fault FromLabelsError.Short before label one two = absurd two
+one_way fault FromLabelsError.Memory before label one two = absurd two
 
-all_right : (fault : LabelsError) (labels : List (List ℕ)) → HasWrong fault labels → AreLabels labels
+all_right : (fault : FromLabelsError) (labels : List (List ℕ)) → HasWrong fault labels → AreLabels labels
     → wire_length labels ≤ 255 → ⊥
 all_right fault labels (before, label, more, is, are_before, short_before, wrong) are short =
     none_right fault before label labels wrong (more, is) are short
 
-one_wrong : (fault other : LabelsError) (labels : List (List ℕ)) → HasWrong fault labels → HasWrong other labels
+one_wrong : (fault other : FromLabelsError) (labels : List (List ℕ)) → HasWrong fault labels → HasWrong other labels
     → fault ≡ other
 one_wrong fault other labels (xs, x, more, is, are, short, wrong)
     (ys, y, others, other_is, other_are, other_short, other_wrong) =
@@ -109,7 +109,7 @@ one_wrong fault other labels (xs, x, more, is, are, short, wrong)
 abbrev pub contents : List (Bor (List ℕ)) → List (List ℕ)
 contents = map (λ slice. slice.now)
 
--- the first ones, the one at a place, and those behind it
+-- the first ones, the one at a place, and those after it
 pub parted : (xs : List (Bor (List ℕ))) (i : ℕ) (d : Bor (List ℕ)) → i < length xs
     → contents xs ≡ contents (take i xs) ++ (get_or xs i d).now ∷ contents (drop (i + 1) xs)
 parted xs i d few =
@@ -124,62 +124,62 @@ taken xs i d few =
 
 -- ---- what a call answers
 
-unfit : (limit : Option ℕ) (fault : LabelsError) (labels : List (List ℕ)) → HasWrong fault labels
+unfit : (limit : Option ℕ) (fault : FromLabelsError) (labels : List (List ℕ)) → HasWrong fault labels
     → AreUnfit limit fault labels
-unfit limit LabelsError.EmptyLabel labels has = has
-unfit limit LabelsError.LongLabel labels has = has
-unfit limit LabelsError.LongName labels has = has
-unfit limit LabelsError.Short labels has = absurd has.6
-unfit limit LabelsError.Memory labels has = has
+unfit limit FromLabelsError.EmptyLabel labels has = has
+unfit limit FromLabelsError.LongLabel labels has = has
+unfit limit FromLabelsError.LongName labels has = has
+unfit limit FromLabelsError.Short labels has = absurd has.6
+unfit limit FromLabelsError.Memory labels has = has
 
-wrong_or_short : (limit : Option ℕ) (fault : LabelsError) (labels : List (List ℕ)) → AreUnfit limit fault labels
-    → HasWrong fault labels ⊎ ((fault ≡ LabelsError.Short) × AreLabels labels × (wire_length labels ≤ 255)
+wrong_or_short : (limit : Option ℕ) (fault : FromLabelsError) (labels : List (List ℕ)) → AreUnfit limit fault labels
+    → HasWrong fault labels ⊎ ((fault ≡ FromLabelsError.Short) × AreLabels labels × (wire_length labels ≤ 255)
     × IsPast limit (wire_length labels))
-wrong_or_short limit LabelsError.EmptyLabel labels is = inl is
-wrong_or_short limit LabelsError.LongLabel labels is = inl is
-wrong_or_short limit LabelsError.LongName labels is = inl is
-wrong_or_short limit LabelsError.Short labels is = inr (refl, is.0, is.1, is.2)
-wrong_or_short limit LabelsError.Memory labels is = inl is
+wrong_or_short limit FromLabelsError.EmptyLabel labels is = inl is
+wrong_or_short limit FromLabelsError.LongLabel labels is = inl is
+wrong_or_short limit FromLabelsError.LongName labels is = inl is
+wrong_or_short limit FromLabelsError.Short labels is = inr (refl, is.0, is.1, is.2)
+wrong_or_short limit FromLabelsError.Memory labels is = inl is
 
 -- a label was wrong
-pub wrong_told : {T : Type 0} (result : Result T LabelsError) (limit : Option ℕ) (fault : LabelsError)
+pub wrong_told : {T : Type 0} (result : Result T FromLabelsError) (limit : Option ℕ) (fault : FromLabelsError)
     (labels : List (List ℕ)) → result ≡ Err fault → HasWrong fault labels
-    → (other : LabelsError) → other ≢ LabelsError.Memory → IsErrOf result other ↔ AreUnfit limit other labels
+    → (other : FromLabelsError) → other ≢ FromLabelsError.Memory → IsErrOf result other ↔ AreUnfit limit other labels
 wrong_told result limit fault labels is wrong other no_memory = (
   λ told. subst (λ f. AreUnfit limit f labels) (ap (λ r. error_or r fault) (sym is ∙ told))
       (unfit limit fault labels wrong),
   λ refused. back (wrong_or_short limit other labels refused),
 )
   where
-    back : HasWrong other labels ⊎ ((other ≡ LabelsError.Short) × AreLabels labels × (wire_length labels ≤ 255)
+    back : HasWrong other labels ⊎ ((other ≡ FromLabelsError.Short) × AreLabels labels × (wire_length labels ≤ 255)
         × IsPast limit (wire_length labels)) → IsErrOf result other
     back (inl also) = is ∙ ap Err (one_wrong fault other labels wrong also)
     back (inr short) = absurd (all_right fault labels wrong short.1 short.2)
 
 -- the name passed the limit
-pub short_told : {T : Type 0} (result : Result T LabelsError) (limit : Option ℕ) (labels : List (List ℕ))
-    → result ≡ Err LabelsError.Short → AreLabels labels → wire_length labels ≤ 255 → IsPast limit (wire_length labels)
-    → (other : LabelsError) → other ≢ LabelsError.Memory → IsErrOf result other ↔ AreUnfit limit other labels
+pub short_told : {T : Type 0} (result : Result T FromLabelsError) (limit : Option ℕ) (labels : List (List ℕ))
+    → result ≡ Err FromLabelsError.Short → AreLabels labels → wire_length labels ≤ 255 → IsPast limit (wire_length labels)
+    → (other : FromLabelsError) → other ≢ FromLabelsError.Memory → IsErrOf result other ↔ AreUnfit limit other labels
 short_told result limit labels is are short past other no_memory = (
-  λ told. subst (λ f. AreUnfit limit f labels) (ap (λ r. error_or r LabelsError.Short) (sym is ∙ told))
+  λ told. subst (λ f. AreUnfit limit f labels) (ap (λ r. error_or r FromLabelsError.Short) (sym is ∙ told))
       (are, short, past),
   λ refused. back (wrong_or_short limit other labels refused),
 )
   where
-    back : HasWrong other labels ⊎ ((other ≡ LabelsError.Short) × AreLabels labels × (wire_length labels ≤ 255)
+    back : HasWrong other labels ⊎ ((other ≡ FromLabelsError.Short) × AreLabels labels × (wire_length labels ≤ 255)
         × IsPast limit (wire_length labels)) → IsErrOf result other
     back (inl wrong) = absurd (all_right other labels wrong are short)
     back (inr also) = is ∙ ap Err (sym also.0)
 
 -- nothing was wrong but that memory was refused
-pub fit_told : {T : Type 0} (result : Result T LabelsError) (limit : Option ℕ) (labels : List (List ℕ))
-    → ((other : LabelsError) → IsErrOf result other → other ≡ LabelsError.Memory) → AreLabels labels
+pub fit_told : {T : Type 0} (result : Result T FromLabelsError) (limit : Option ℕ) (labels : List (List ℕ))
+    → ((other : FromLabelsError) → IsErrOf result other → other ≡ FromLabelsError.Memory) → AreLabels labels
     → wire_length labels ≤ 255 → ¬ IsPast limit (wire_length labels)
-    → (other : LabelsError) → other ≢ LabelsError.Memory → IsErrOf result other ↔ AreUnfit limit other labels
+    → (other : FromLabelsError) → other ≢ FromLabelsError.Memory → IsErrOf result other ↔ AreUnfit limit other labels
 fit_told result limit labels only are short room other no_memory =
     (λ told. absurd (no_memory (only other told)), λ refused. back (wrong_or_short limit other labels refused))
   where
-    back : HasWrong other labels ⊎ ((other ≡ LabelsError.Short) × AreLabels labels × (wire_length labels ≤ 255)
+    back : HasWrong other labels ⊎ ((other ≡ FromLabelsError.Short) × AreLabels labels × (wire_length labels ≤ 255)
         × IsPast limit (wire_length labels)) → IsErrOf result other
     back (inl wrong) = absurd (all_right other labels wrong are short)
     back (inr past) = absurd (room past.3)

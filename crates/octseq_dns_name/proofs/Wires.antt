@@ -13,7 +13,7 @@ use Rattle.octseq_dns_name.proofs.Names.{wire_append}
 
 -- ---- lengths
 
--- labels, each behind its length, have as many octets as their wire form, but for that of the root
+-- labels, each after its length, have as many octets as their wire form, but for that of the root
 pub bodies_length : (labels : List (List ℕ)) → length (bodies labels) + 1 ≡ wire_length labels
 bodies_length [] = refl
 bodies_length (label ∷ labels) =
@@ -41,13 +41,13 @@ wire_named octets labels are each short =
 
 -- ---- the writer
 
--- where labels have 1 to 63 octets each, they still do with one more such label behind them
+-- where labels have 1 to 63 octets each, they still do with one more such label after them
 pub one_more : (labels : List (List ℕ)) (label : List ℕ) → AreLabels labels → 1 ≤ length label → length label ≤ 63
     → AreLabels (labels ++ label ∷ [])
 one_more [] label are some short = (some, short, tt)
 one_more (first ∷ labels) label are some short = (are.0, are.1, one_more labels label are.2 some short)
 
--- There is room for octets of what is ahead, behind the labels that were appended.
+-- There is room for octets of what is ahead, after the labels that were appended.
 pub room_ahead : (limit : Option ℕ) (content before : List ℕ) (labels done ahead : List (List ℕ)) (n : ℕ)
     → content ≡ before ++ bodies done → labels ≡ done ++ ahead
     → n ≤ wire_length ahead → ¬ IsPast limit (length before + wire_length labels) → ¬ IsPast limit (length content + n)

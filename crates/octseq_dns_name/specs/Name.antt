@@ -1,4 +1,4 @@
--- Domain names as they stand in a message: RFC 1035, 2.3.4 (sizes), 3.1 (labels) and 4.1.4 (pointers).
+-- Domain names as they are in a message: RFC 1035, 2.3.4 (sizes), 3.1 (labels) and 4.1.4 (pointers).
 use Rattle.std.specs.Prelude.{◌≡◌, ℕ, suc, ◌+◌, ◌-◌, ◌*◌, ◌<◌, ◌≤◌, List, [], ◌∷◌, length}
 use Rattle.octseq.specs.Integer.{be}
 use Rattle.octseq.specs.Window.{Window, left, next, at, past}
@@ -13,7 +13,7 @@ pub record HasRoot (w v : Window) : Type 0 where
   pub zero : octet w ≡ 0
   pub behind : v ≡ past 1 w
 
--- A label: an octet of 1 to 63, and so many octets.
+-- A label: an octet of 1 to 63, and as many octets as it says.
 pub record HasLabel (w : Window) (label : List ℕ) (v : Window) : Type 0 where
   pub room : 1 ≤ left w
   pub some : 1 ≤ octet w
@@ -31,9 +31,9 @@ pub record HasPointer (start : ℕ) (w : Window) (to : ℕ) (v : Window) : Type 
   pub before : to < start
   pub behind : v ≡ past 2 w
 
--- The labels that stand at a window's position, how many pointers lead on, and the window behind them all. They end
--- with the root; or a label stands there, and behind it the rest; or a pointer does, and where it points the rest.
--- Reading goes on behind the first pointer. A pointer points before the place where the part of the name that has it
+-- The labels that are at a window's position, how many pointers lead on, and the window after them all. They end
+-- with the root; or a label is there, and after it the rest; or a pointer is, and where it points the rest.
+-- Reading goes on after the first pointer. A pointer points before the place where the part of the name that has it
 -- began, which is `start`.
 pub data Stands : ℕ → Window → List (List ℕ) → ℕ → Window → Type 0 where
   root : {start : ℕ} {w v : Window} → HasRoot w v → Stands start w [] 0 v
@@ -42,24 +42,24 @@ pub data Stands : ℕ → Window → List (List ℕ) → ℕ → Window → Type
   pointer : {start to pointers : ℕ} {w u v : Window} {labels : List (List ℕ)}
       → HasPointer start w to v → Stands to (at to w) labels pointers u → Stands start w labels (suc pointers) v
 
--- how many octets the labels have in wire form: each behind an octet of its length, and one for the root
+-- how many octets the labels have in wire form: each after an octet of its length, and one for the root
 abbrev pub wire_length : List (List ℕ) → ℕ
 wire_length [] = 1
 wire_length (l ∷ labels) = 1 + length l + wire_length labels
 
--- A name stands at a window's position: its labels, of at most 255 octets in wire form, through at most 127 pointers;
--- and the window behind it.
+-- A name is at a window's position: its labels, of at most 255 octets in wire form, through at most 127 pointers;
+-- and the window after it.
 pub record IsName (w : Window) (labels : List (List ℕ)) (v : Window) : Type 0 where
   pub pointers : ℕ
   pub stands : Stands w.position w labels pointers v
   pub short : wire_length labels ≤ 255
   pub few : pointers ≤ 127
 
--- A name of a message: the window at whose position it stands, and its labels.
+-- A name of a message: the window at whose position it is, and its labels.
 pub record Name : Type 0 where
   pub place : Window
   pub labels : List (List ℕ)
 
--- it stands at a window's position
+-- it is at a window's position
 abbrev pub HasName : Window → Name → Window → Type 0
 HasName w name v = (name.place ≡ w) × IsName w name.labels v

@@ -1,4 +1,4 @@
--- At most one name stands at a place, with one end: so a value may keep its labels as a fact.
+-- At most one name is at a place, with one end: so a value may keep its labels as a fact.
 use Rattle.std.specs.Prelude.{◌≡◌, ℕ, suc, List, [], ◌∷◌, refl}
 use Rattle.std.proofs.Common.{sym, ap, ◌∙◌, subst, arith}
 use Rattle.std.specs.Coded.{Coded-set, coded_list, coded_ℕ}
@@ -7,7 +7,7 @@ use mathlib.Core.HLevel.{Σ_prop_path}
 use Rattle.octseq.specs.Window.{Window, at}
 use Rattle.octseq_dns_name.specs.Name.{HasRoot, HasLabel, HasPointer, Stands, IsName}
 
--- the octet tells which of the three stands there
+-- the octet tells which of the three is there
 pub no_label_at_root : {w u v : Window} {l : List ℕ} → HasRoot w u → HasLabel w l v → ⊥
 no_label_at_root here other = let zero = here.zero in let some = other.some in omega (arith, zero, some)
 
@@ -17,7 +17,7 @@ no_pointer_at_root here other = let zero = here.zero in let mark = other.mark in
 pub no_pointer_at_label : {start to : ℕ} {w u v : Window} {l : List ℕ} → HasLabel w l u → HasPointer start w to v → ⊥
 no_pointer_at_label here other = let short = here.short in let mark = other.mark in omega (arith, short, mark)
 
--- where the root stands there are no labels
+-- where the root is there are no labels
 pub at_root : (start : ℕ) (w u x : Window) (labels : List (List ℕ)) (pointers : ℕ) → HasRoot w u
     → Stands start w labels pointers x
     → (labels ≡ []) × (pointers ≡ 0) × (x ≡ u)
@@ -25,7 +25,7 @@ at_root start w u x labels pointers has (Stands.root other) = (refl, refl, other
 at_root start w u x labels pointers has (Stands.label other rest) = absurd (no_label_at_root has other)
 at_root start w u x labels pointers has (Stands.pointer other rest) = absurd (no_pointer_at_root has other)
 
--- behind a label the name goes on
+-- after a label the name goes on
 pub at_label : (start : ℕ) (w u x : Window) (l : List ℕ) (labels : List (List ℕ)) (pointers : ℕ) → HasLabel w l u
     → Stands start w labels pointers x
     → (more : List (List ℕ)) × (labels ≡ l ∷ more) × Stands start u more pointers x
@@ -51,7 +51,7 @@ at_pointer start w u x to labels pointers has (Stands.pointer {pointers = fewer}
   subst (λ on. Stands on (at on w) labels fewer v) (other.place ∙ sym has.place) rest,
 )
 
--- what stands at a place is one
+-- what is at a place is one
 pub one_standing : (start : ℕ) (w u v : Window) (labels others : List (List ℕ)) (pointers count : ℕ)
     → Stands start w labels pointers u → Stands start w others count v
     → (labels ≡ others) × (pointers ≡ count) × (u ≡ v)
@@ -78,7 +78,7 @@ one_name w u v labels others name other =
 pub one_labels : (labels others : List (List ℕ)) → IsProp (labels ≡ others)
 one_labels = Coded-set (coded_list (coded_list coded_ℕ))
 
--- the labels of the name that stands at a window's position
+-- the labels of the name that is at a window's position
 abbrev pub Named : Window → Type 0
 Named w = (labels : List (List ℕ)) × ∥ ((end : Window) × IsName w labels end) ∥₁
 
@@ -88,7 +88,7 @@ named_once w a b = Σ_prop_path (λ labels. ∥∥₁_prop)
     (∥∥₁_elim a.1 (one_labels a.0 b.0) (λ x. ∥∥₁_elim b.1 (one_labels a.0 b.0) (λ y.
     (one_name w x.0 y.0 a.0 b.0 x.1 y.1).0)))
 
--- the labels that stand at a window's position, of a part of a name that began at `start`
+-- the labels that are at a window's position, of a part of a name that began at `start`
 abbrev pub Ahead : ℕ → Window → Type 0
 Ahead start w = (labels : List (List ℕ)) × ∥ ((pointers : ℕ) × (end : Window) × Stands start w labels pointers end) ∥₁
 

@@ -28,7 +28,7 @@ abbrev pub name_eq : List (List ℕ) → List (List ℕ) → Bool
 name_eq = on lower_labels (pointwise (pointwise nat_eq))
 
 -- The order of labels is that of their octets, and that of names is that of their labels from the last one on: the
--- first two that differ decide, and a list comes before one that goes on behind it.
+-- first two that differ decide, and a list comes before one that goes on after it.
 abbrev pub label_cmp : List ℕ → List ℕ → Ordering
 label_cmp = on lower_label (slice_cmp nat_cmp)
 

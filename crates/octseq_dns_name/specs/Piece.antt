@@ -1,4 +1,4 @@
--- What the readers of a name share: the piece that stands at a place, and where the name ends.
+-- What the readers of a name share: the piece that is at a place, and where the name ends.
 use Rattle.std.specs.Prelude.{◌≡◌, ℕ, ◌≤◌, List, Option, Some, None}
 use Rattle.octseq.specs.declared.AsOctets.{Ghosts}
 use Rattle.octseq.specs.Parser.{window}
@@ -9,13 +9,13 @@ use Rattle.octseq_dns_name.specs.Name.{HasRoot, HasLabel, HasPointer}
 use Rattle.octseq_dns_name.specs.declared.name.step.Step.{Step}
 use Rattle.octseq_dns_name.specs.declared.name.step.Step.TheVariants as step
 
--- one of the three things that may stand at a place of a name
+-- one of the three things that may be at a place of a name
 pub data Piece : Type 0 where
   root : Piece
   label : List ℕ → Piece
   pointer : ℕ → Piece
 
--- it stands at a window's position
+-- it is at a window's position
 abbrev pub HasPiece : ℕ → Window → Piece → Window → Type 0
 HasPiece start w Piece.root v = HasRoot w v
 HasPiece start w (Piece.label l) v = HasLabel w l v
@@ -31,7 +31,7 @@ piece (step.Pointer to) = Piece.pointer to
 abbrev pub IsShort : {R : Type 0} {g : Ghosts R} → Parser R g → Type 0
 IsShort parser = (1 ≤ left (window parser)) × (left (window parser) ≤ 63)
 
--- a label that was taken has so many
+-- a label that was taken is one
 abbrev pub IsShortLabel : {R : Type 0} {g : Ghosts R} → Step R g → Type 0
 IsShortLabel (step.Label l) = IsShort l
 IsShortLabel _ = Unit {0}
@@ -41,7 +41,7 @@ abbrev pub IsPlaced : {R : Type 0} {g : Ghosts R} → Window → Step R g → Ty
 IsPlaced w (step.Label l) = window l ≡ part 1 w
 IsPlaced w _ = Unit {0}
 
--- where a name ends: behind its first pointer, if there was one
+-- where a name ends: after its first pointer, if there was one
 abbrev pub end_of : Option Window → Window → Window
 end_of None u = u
 end_of (Some v) u = v

@@ -12,7 +12,7 @@ use Rattle.octseq_dns_name.specs.declared.name.ParsedName.{ParsedName}
 abbrev pub labels_of : {R : Type 0} {g : Ghosts R} → ParsedName R g → List (List ℕ)
 labels_of name = name.named.0
 
--- the window at whose position a name stands
+-- the window at whose position a name is
 abbrev pub place_of : {R : Type 0} {g : Ghosts R} → ParsedName R g → Window
 place_of name = window name.parser
 

@@ -3,13 +3,13 @@ use Rattle.std.specs.Prelude.{◌≡◌, ◌⊎◌, ℕ, ◌<◌, ◌≤◌, Lis
 use Rattle.octseq_dns_name.specs.Name.{wire_length}
 use Rattle.octseq_dns_name.specs.Spelling.{SpellsOctet, SpellsLabel, SpellsLabels}
 use Rattle.octseq_dns_name.specs.Wire.{AreLabels}
-use Rattle.octseq_dns_name.specs.declared.error.NameError.{NameError}
+use Rattle.octseq_dns_name.specs.declared.error.FromTextError.{FromTextError}
 
--- the octets of a label, or of a part of it, are spelled at a text's front, and this is behind them
+-- the octets of a label, or of a part of it, are spelled at a text's front, and this is after them
 abbrev pub Reads : List ℕ → List ℕ → List ℕ → Type 0
 Reads text label rest = (first : List ℕ) × (text ≡ first ++ rest) × SpellsLabel label first
 
--- whole labels are, each with the full stop behind it, of no more octets than a name may have
+-- whole labels are, each with the full stop after it, of no more octets than a name may have
 abbrev pub ReadsLabels : List ℕ → List (List ℕ) → List ℕ → Type 0
 ReadsLabels text labels rest =
     (first : List ℕ) × (text ≡ first ++ rest) × SpellsLabels labels first × AreLabels labels
@@ -20,31 +20,31 @@ abbrev pub SpellsNone : List ℕ → Type 0
 SpellsNone text = (octet : ℕ) (first rest : List ℕ) → text ≡ first ++ rest → ¬ SpellsOctet octet first
 
 -- what such a text begins with, where an octet of a label was to come
-abbrev pub BeginsWith : NameError → List ℕ → Type 0
-BeginsWith NameError.UnexpectedEnd text = text ≡ []
-BeginsWith NameError.IllegalEscape text = (rest : List ℕ) × (text ≡ 92 ∷ rest)
-BeginsWith NameError.IllegalOctet text = (octet : ℕ) × (rest : List ℕ) × (text ≡ octet ∷ rest) × ¬ (octet ≡ 92)
+abbrev pub BeginsWith : FromTextError → List ℕ → Type 0
+BeginsWith FromTextError.UnexpectedEnd text = text ≡ []
+BeginsWith FromTextError.IllegalEscape text = (rest : List ℕ) × (text ≡ 92 ∷ rest)
+BeginsWith FromTextError.IllegalOctet text = (octet : ℕ) × (rest : List ℕ) × (text ≡ octet ∷ rest) × ¬ (octet ≡ 92)
 BeginsWith _ text = ⊥
 
--- What is wrong with the label that comes behind whole ones, in the rest of the text. The text ends within it, or there
+-- What is wrong with the label that comes after whole ones, in the rest of the text. The text ends within it, or there
 -- is no text; a full stop (46) is at its front; a 64th octet belongs to it; the name has more than 255 octets with it;
 -- a backslash (92) spells no octet; or another octet of the text doesn't.
-abbrev pub IsFault : NameError → List (List ℕ) → List ℕ → Type 0
-IsFault NameError.UnexpectedEnd labels text =
+abbrev pub IsFault : FromTextError → List (List ℕ) → List ℕ → Type 0
+IsFault FromTextError.UnexpectedEnd labels text =
     (label : List ℕ) × Reads text label [] × (length label ≤ 63) × ((labels ≡ []) ⊎ (1 ≤ length label))
-IsFault NameError.EmptyLabel labels text = (rest : List ℕ) × (text ≡ 46 ∷ rest)
-IsFault NameError.LongLabel labels text = (label rest : List ℕ) × Reads text label rest × (length label ≡ 64)
-IsFault NameError.LongName labels text =
+IsFault FromTextError.EmptyLabel labels text = (rest : List ℕ) × (text ≡ 46 ∷ rest)
+IsFault FromTextError.LongLabel labels text = (label rest : List ℕ) × Reads text label rest × (length label ≡ 64)
+IsFault FromTextError.LongName labels text =
     (label rest : List ℕ) × Reads text label (46 ∷ rest) × (1 ≤ length label) × (length label ≤ 63)
     × (255 < wire_length (labels ++ label ∷ []))
-IsFault NameError.IllegalEscape labels text =
+IsFault FromTextError.IllegalEscape labels text =
     (label rest : List ℕ) × Reads text label (92 ∷ rest) × (length label ≤ 63) × SpellsNone (92 ∷ rest)
-IsFault NameError.IllegalOctet labels text =
+IsFault FromTextError.IllegalOctet labels text =
     (octet : ℕ) × (label rest : List ℕ) × Reads text label (octet ∷ rest) × (length label ≤ 63)
     × ¬ (octet ≡ 46) × ¬ (octet ≡ 92) × SpellsNone (octet ∷ rest)
 
--- Whole labels are at a text's front, and this is wrong behind them. The full stop of the root is a name.
-abbrev pub IsRefused : NameError → List ℕ → Type 0
+-- Whole labels are at a text's front, and this is wrong after them. The full stop of the root is a name.
+abbrev pub IsRefused : FromTextError → List ℕ → Type 0
 IsRefused fault text =
     ¬ (text ≡ 46 ∷ []) × (labels : List (List ℕ)) × (rest : List ℕ) × ReadsLabels text labels rest
     × IsFault fault labels rest

@@ -1,19 +1,19 @@
 -- What errors print.
 use Rattle.std.specs.Prelude.{ℕ, List, codes}
-use Rattle.octseq_dns_name.specs.declared.error.LabelsError.{LabelsError}
-use Rattle.octseq_dns_name.specs.declared.error.NameError.{NameError}
+use Rattle.octseq_dns_name.specs.declared.error.FromLabelsError.{FromLabelsError}
+use Rattle.octseq_dns_name.specs.declared.error.FromTextError.{FromTextError}
 
-abbrev pub name_error_text : NameError → List ℕ
-name_error_text NameError.UnexpectedEnd = codes "unexpected end of input"
-name_error_text NameError.EmptyLabel = codes "empty label"
-name_error_text NameError.LongLabel = codes "long label"
-name_error_text NameError.LongName = codes "long domain name"
-name_error_text NameError.IllegalEscape = codes "illegal escape sequence"
-name_error_text NameError.IllegalOctet = codes "illegal octet"
+abbrev pub from_text_error_text : FromTextError → List ℕ
+from_text_error_text FromTextError.UnexpectedEnd = codes "unexpected end of input"
+from_text_error_text FromTextError.EmptyLabel = codes "empty label"
+from_text_error_text FromTextError.LongLabel = codes "long label"
+from_text_error_text FromTextError.LongName = codes "long domain name"
+from_text_error_text FromTextError.IllegalEscape = codes "illegal escape sequence"
+from_text_error_text FromTextError.IllegalOctet = codes "illegal octet"
 
-abbrev pub labels_error_text : LabelsError → List ℕ
-labels_error_text LabelsError.EmptyLabel = codes "empty label"
-labels_error_text LabelsError.LongLabel = codes "long label"
-labels_error_text LabelsError.LongName = codes "long domain name"
-labels_error_text LabelsError.Short = codes "buffer size exceeded"
-labels_error_text LabelsError.Memory = codes "out of memory"
+abbrev pub from_labels_error_text : FromLabelsError → List ℕ
+from_labels_error_text FromLabelsError.EmptyLabel = codes "empty label"
+from_labels_error_text FromLabelsError.LongLabel = codes "long label"
+from_labels_error_text FromLabelsError.LongName = codes "long domain name"
+from_labels_error_text FromLabelsError.Short = codes "buffer size exceeded"
+from_labels_error_text FromLabelsError.Memory = codes "out of memory"

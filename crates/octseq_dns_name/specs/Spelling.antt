@@ -4,20 +4,20 @@ use Rattle.std.specs.Char.{is_ascii_digit, is_ascii_graphic}
 use Rattle.octseq_dns_name.specs.Text.{is_quoted, three_digits}
 use Rattle.octseq_format.specs.Canonical.{AreOctets}
 
--- An octet: as itself, where it is visible ASCII and needs no backslash (92); behind a backslash, where it is no digit;
+-- An octet: as itself, where it is visible ASCII and needs no backslash (92); after a backslash, where it is no digit;
 -- or as a backslash and its number.
 pub data SpellsOctet : ℕ → List ℕ → Type 0 where
   plain : {octet : ℕ} → is_quoted octet ≡ false → is_ascii_graphic octet ≡ true → SpellsOctet octet (octet ∷ [])
   quoted : {octet : ℕ} → is_ascii_digit octet ≡ false → SpellsOctet octet (92 ∷ octet ∷ [])
   numbered : {octet : ℕ} → octet < 256 → SpellsOctet octet (92 ∷ three_digits octet)
 
--- a label: its octets, one behind another
+-- a label: its octets, one after another
 abbrev pub SpellsLabel : List ℕ → List ℕ → Type 0
 SpellsLabel [] text = text ≡ []
 SpellsLabel (octet ∷ label) text = (first rest : List ℕ) × (text ≡ first ++ rest) × SpellsOctet octet first
     × SpellsLabel label rest
 
--- labels: each with a full stop (46) behind it
+-- labels: each with a full stop (46) after it
 abbrev pub SpellsLabels : List (List ℕ) → List ℕ → Type 0
 SpellsLabels [] text = text ≡ []
 SpellsLabels (label ∷ labels) text = (first rest : List ℕ) × (text ≡ first ++ 46 ∷ rest) × SpellsLabel label first

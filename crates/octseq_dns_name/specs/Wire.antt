@@ -2,7 +2,7 @@
 use Rattle.std.specs.Prelude.{ℕ, ◌≤◌, List, [], ◌∷◌, ◌++◌, length}
 use Rattle.std.specs.List.{flat_map}
 
--- each label behind its length, and the root
+-- each label after its length, and the root
 abbrev pub wire : List (List ℕ) → List ℕ
 wire labels = flat_map (λ label. length label ∷ label) labels ++ 0 ∷ []
 

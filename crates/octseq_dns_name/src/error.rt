@@ -8,7 +8,7 @@ use std::fmt;
 
 /// Why a text spells no name. It is read from the left, and the first thing wrong decides.
 #[derive(Clone, Copy, Debug, PartialEq, Eq)]
-pub enum NameError {
+pub enum FromTextError {
     /// The text ends without a full stop, or is empty.
     UnexpectedEnd,
     /// A label has no octet.
@@ -17,35 +17,35 @@ pub enum NameError {
     LongLabel,
     /// The name has more than 255 octets in wire form.
     LongName,
-    /// A backslash is the last octet of the text, or no number of three digits up to 255 is behind it though a digit
-    /// is.
+    /// A backslash is the last octet of the text, or no number of three digits up to 255 follows it though a
+    /// digit does.
     IllegalEscape,
-    /// An octet is in the text that has to be behind a backslash, or isn't visible ASCII.
+    /// An octet is in the text that has to be after a backslash, or isn't visible ASCII.
     IllegalOctet,
 }
 
-impl Error for NameError {}
+impl Error for FromTextError {}
 
-impl fmt::Display for NameError {
-    ghost use Rattle.octseq_dns_name.specs.Shown.{name_error_text};
+impl fmt::Display for FromTextError {
+    ghost use Rattle.octseq_dns_name.specs.Shown.{from_text_error_text};
 
-    ghost output = { λ e. Some (name_error_text e) };
+    ghost output = { λ e. Some (from_text_error_text e) };
 
     fn fmt<W: fmt::Write>(&self, f: &mut fmt::Formatter<W>) -> fmt::Result {
         f.write_str(match self {
-            NameError::UnexpectedEnd => "unexpected end of input",
-            NameError::EmptyLabel => "empty label",
-            NameError::LongLabel => "long label",
-            NameError::LongName => "long domain name",
-            NameError::IllegalEscape => "illegal escape sequence",
-            NameError::IllegalOctet => "illegal octet",
+            FromTextError::UnexpectedEnd => "unexpected end of input",
+            FromTextError::EmptyLabel => "empty label",
+            FromTextError::LongLabel => "long label",
+            FromTextError::LongName => "long domain name",
+            FromTextError::IllegalEscape => "illegal escape sequence",
+            FromTextError::IllegalOctet => "illegal octet",
         })
     }
 }
 
 /// Why no name was made of labels.
 #[derive(Clone, Copy, Debug, PartialEq, Eq)]
-pub enum LabelsError {
+pub enum FromLabelsError {
     /// A label has no octet.
     EmptyLabel,
     /// A label has more than 63 octets.
@@ -58,30 +58,30 @@ pub enum LabelsError {
     Memory,
 }
 
-impl Error for LabelsError {}
+impl Error for FromLabelsError {}
 
-impl fmt::Display for LabelsError {
-    ghost use Rattle.octseq_dns_name.specs.Shown.{labels_error_text};
+impl fmt::Display for FromLabelsError {
+    ghost use Rattle.octseq_dns_name.specs.Shown.{from_labels_error_text};
 
-    ghost output = { λ e. Some (labels_error_text e) };
+    ghost output = { λ e. Some (from_labels_error_text e) };
 
     fn fmt<W: fmt::Write>(&self, f: &mut fmt::Formatter<W>) -> fmt::Result {
         f.write_str(match self {
-            LabelsError::EmptyLabel => "empty label",
-            LabelsError::LongLabel => "long label",
-            LabelsError::LongName => "long domain name",
-            LabelsError::Short => "buffer size exceeded",
-            LabelsError::Memory => "out of memory",
+            FromLabelsError::EmptyLabel => "empty label",
+            FromLabelsError::LongLabel => "long label",
+            FromLabelsError::LongName => "long domain name",
+            FromLabelsError::Short => "buffer size exceeded",
+            FromLabelsError::Memory => "out of memory",
         })
     }
 }
 
-impl From<AllocError> for LabelsError {
-    ghost use Rattle.octseq_dns_name.specs.declared.error.LabelsError.TheVariants.{Memory};
+impl From<AllocError> for FromLabelsError {
+    ghost use Rattle.octseq_dns_name.specs.declared.error.FromLabelsError.TheVariants.{Memory};
 
     ghost from_gives = { λ _ made. made ≡ Memory };
 
-    fn from(_e: AllocError) -> LabelsError {
-        LabelsError::Memory
+    fn from(_e: AllocError) -> FromLabelsError {
+        FromLabelsError::Memory
     }
 }

@@ -1,12 +1,12 @@
-//! Domain names: where they stand in a message, as values that own their octets, and as text.
+//! Domain names: where they are in a message, as values that own their octets, and as text.
 //!
-//! A name of a message is the place where it stands there, with its compression pointers. Nothing is copied but into a
+//! A name of a message is its place there, with its compression pointers. Nothing is copied but into a
 //! name that owns its octets.
 #![tactic(auto)]
 
 pub mod error;
 pub mod name;
 
-pub use error::{LabelsError, Malformed, NameError};
+pub use error::{FromLabelsError, FromTextError, Malformed};
 pub use name::text::write_digits;
-pub use name::{DomainName, Name, ParsedName};
+pub use name::{DomainName, NAME_MAX, Name, POINTER_MAX, ParsedName};

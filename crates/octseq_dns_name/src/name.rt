@@ -27,12 +27,12 @@ pub use crate::name::owned::Name;
 pub use crate::name::text::{a_name_has_labels, a_name_is_spelled_by_its_text, one_name_of_a_text};
 
 /// How many octets a name may have in wire form: RFC 1035, 2.3.4.
-const NAME_MOST: usize = 255;
+pub const NAME_MAX: usize = 255;
 
-/// How many pointers a name may have.
-const POINTERS_MOST: usize = 127;
+/// How many pointers a name may have. No RFC has a limit; a name without pointers has at most 127 labels.
+pub const POINTER_MAX: usize = 127;
 
-/// At most one name stands at a place, with one end.
+/// At most one name is at a place, with one end.
 ///
 /// It does nothing. A caller that calls it has the law in its proof.
 pub fn one_name_at_a_place()
@@ -40,7 +40,7 @@ pub fn one_name_at_a_place()
         → (labels ≡ others) × (end ≡ last) }
 {}
 
-/// A name in a message: the place where it stands, as a parser of the message. It copies no octet.
+/// A name in a message: the place where it is, as a parser of the message. It copies no octet.
 #[derive(Debug)]
 pub struct ParsedName<R: AsOctets> {
     parser: Parser<R>,
@@ -70,7 +70,7 @@ impl<R: AsOctets + Copy> ParsedName<R> {
     ghost use Rattle.octseq_dns_name.specs.NextLabel.{ahead_of};
     ghost use Rattle.octseq_dns_name.specs.Read.{place_of, labels_of, labels_left};
 
-    /// Takes the next name of a message. The parser is then behind it: behind its first pointer, if it has one.
+    /// Takes the next name of a message. The parser is then after it: after its first pointer, if it has one.
     ///
     /// # Errors
     ///
@@ -129,13 +129,13 @@ impl<R: AsOctets + Copy> ParsedName<R> {
                 Step::Root => break,
                 Step::Label(label) => {
                     len += 1 + label.remaining();
-                    if len > NAME_MOST {
+                    if len > NAME_MAX {
                         return Err(Malformed);
                     }
                 }
                 Step::Pointer(to) => {
                     pointers += 1;
-                    if pointers > POINTERS_MOST {
+                    if pointers > POINTER_MAX {
                         return Err(Malformed);
                     }
                     behind = Some(behind.unwrap_or(ahead.pos()));
@@ -174,7 +174,7 @@ impl<R: AsOctets + Copy> ParsedName<R> {
         self.labels().count()
     }
 
-    /// How many octets it has in wire form: each label behind its length, and one octet for the root.
+    /// How many octets it has in wire form: each label after its length, and one octet for the root.
     pub fn len(&self) -> usize
         ensures len { result ≡ wire_length (labels_of self.now) }
         ensures most { result ≤ 255 }

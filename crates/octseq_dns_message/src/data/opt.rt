@@ -89,7 +89,7 @@ impl<R: AsOctets + Copy> Opt<R> {
     ///
     /// # Errors
     ///
-    /// `Malformed` where the record is of another type, or where its data isn't options one behind another up to its
+    /// `Malformed` where the record is of another type, or where its data isn't options one after another up to its
     /// end.
     pub fn from_record(entry: &Record<R>) -> Result<Opt<R>, Malformed>
         ensures opt { IfOk result (λ opt. IsOpt (record_of entry.now) (opt_of opt)) }

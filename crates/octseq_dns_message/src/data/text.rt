@@ -4,10 +4,10 @@ ghost use Rattle.std.specs.Fmt.{WritesOnOk};
 ghost use Rattle.std.specs.List.{flat_map};
 ghost use Rattle.std.specs.Net.Text.{ipv4_text};
 ghost use Rattle.octseq_dns_message.specs.DataText.{is_compatible, aaaa_text, is_string_quoted, string_octet_text};
-ghost use Rattle.octseq_dns_message.specs.DataText.{string_text, strings_text, hex_text, opaque_text};
-ghost use Rattle.octseq_dns_message.specs.DataText.{mx_text, soa_text, srv_text, form_text};
+ghost use Rattle.octseq_dns_message.specs.DataText.{string_text, strings_text, hex_text, unknown_text};
+ghost use Rattle.octseq_dns_message.specs.DataText.{mx_text, soa_text, srv_text, rdata_text};
 ghost use Rattle.octseq_dns_message.specs.Txt.{strings_of, string_octets};
-ghost use Rattle.octseq_dns_message.specs.Typed.{mx_of, soa_of, srv_of, form_of};
+ghost use Rattle.octseq_dns_message.specs.Typed.{mx_of, soa_of, srv_of, rdata_of};
 
 use crate::data::{CharStr, Data, Mx, Soa, Srv, Txt};
 use octseq::AsOctets;
@@ -64,7 +64,7 @@ impl<R: AsOctets + Copy> fmt::Display for Srv<R> {
     }
 }
 
-/// Prints the octets of the string between `"`: `"` and `\` behind a backslash, each other one of 20 to 7E
+/// Prints the octets of the string between `"`: `"` and `\` after a backslash, each other one of 20 to 7E
 /// (hexadecimal) as itself, and any other as a backslash and three decimal digits.
 impl<R: AsOctets> fmt::Display for CharStr<R> {
     ghost output = { λ string. Some (string_text (string_octets string)) };
@@ -97,7 +97,7 @@ impl<R: AsOctets + Copy> fmt::Display for Txt<R> {
 
 /// Prints what the data says: an address as RFC 5952 has it, and octets of no known form as RFC 3597, 5, does.
 impl<R: AsOctets + Copy> fmt::Display for Data<R> {
-    ghost output = { λ found. Some (form_text (form_of found)) };
+    ghost output = { λ found. Some (rdata_text (rdata_of found)) };
 
     fn fmt<W: fmt::Write>(&self, f: &mut fmt::Formatter<W>) -> fmt::Result {
         match self {
@@ -110,7 +110,7 @@ impl<R: AsOctets + Copy> fmt::Display for Data<R> {
             Data::Soa(soa) => write!(f, "{soa}"),
             Data::Txt(txt) => write!(f, "{txt}"),
             Data::Srv(srv) => write!(f, "{srv}"),
-            Data::Opaque(parser) => write_opaque(f, parser.peek_all()),
+            Data::Unknown(_, parser) => write_unknown(f, parser.peek_all()),
         }
     }
 }
@@ -136,7 +136,7 @@ fn write_ipv6<W: fmt::Write>(f: &mut fmt::Formatter<W>, octets: [u8; 16]) -> fmt
     write!(f, "{address}")
 }
 
-/// Whether an IPv6 address shows its last four octets as an IPv4 address behind `::`.
+/// Whether an IPv6 address shows its last four octets as an IPv4 address after `::`.
 fn is_compatible(octets: [u8; 16]) -> bool
     ensures { result ≡ is_compatible octets }
 {
@@ -158,7 +158,7 @@ fn write_string_octet<W: fmt::Write>(f: &mut fmt::Formatter<W>, octet: u8) -> fm
     write_digits(f, octet)
 }
 
-/// Whether an octet of a string is written behind a backslash.
+/// Whether an octet of a string is written after a backslash.
 fn needs_backslash(octet: u8) -> bool
     ensures { result ≡ is_string_quoted octet }
 {
@@ -166,8 +166,8 @@ fn needs_backslash(octet: u8) -> bool
 }
 
 /// Writes how many octets there are, and they themselves if there are any.
-fn write_opaque<W: fmt::Write>(f: &mut fmt::Formatter<W>, octets: &[u8]) -> fmt::Result
-    ensures { WritesOnOk W.write_str_gives f.old result (opaque_text octets.now) f.new }
+fn write_unknown<W: fmt::Write>(f: &mut fmt::Formatter<W>, octets: &[u8]) -> fmt::Result
+    ensures { WritesOnOk W.write_str_gives f.old result (unknown_text octets.now) f.new }
 {
     let len = octets.len();
     write!(f, "\\# {len}")?;

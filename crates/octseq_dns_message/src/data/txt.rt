@@ -13,7 +13,7 @@ use octseq_dns_name::Malformed;
 use octseq_format::{Format, Repeated, are_octets};
 use std::alloc::AllocError;
 
-/// A string of text: at most 255 octets of a message, where they stand.
+/// A string of text: at most 255 octets of a message, where they are.
 #[derive(Debug)]
 pub struct CharStr<R: AsOctets> {
     parser: Parser<R>,
@@ -58,7 +58,7 @@ impl<R: AsOctets> CharStr<R> {
         self.len() == 0
     }
 
-    /// The place of its first octet, behind its length, counted from the first octet of the message.
+    /// The place of its first octet, after its length, counted from the first octet of the message.
     pub fn pos(&self) -> usize
         ensures { result ≡ (string_place self.now).position }
     {
@@ -66,7 +66,7 @@ impl<R: AsOctets> CharStr<R> {
     }
 }
 
-/// Strings of text, at least one, one behind another up to the end of the data.
+/// Strings of text, at least one, one after another up to the end of the data.
 #[derive(Debug)]
 pub struct Txt<R: AsOctets> {
     parser: Parser<R>,
@@ -139,7 +139,7 @@ impl<R: AsOctets + Copy> Txt<R> {
         Ok(Txt { parser: first, end })
     }
 
-    /// Its octets as they stand in the message: each string behind its length, which has one octet.
+    /// Its octets as they are in the message: each string after its length, which has one octet.
     pub fn as_slice(&self) -> &[u8]
         ensures octets { result.now ≡ spelling (strings_of self.now) }
         ensures some { 1 ≤ length (strings_of self.now) }

@@ -18,7 +18,7 @@ use std::alloc::AllocError;
 type AfterOwner = (U16Be, U16Be, U32Be, Counted<u16, Rest, 0>);
 
 /// A record of a message: the name that it is of, its type, its class, for how many seconds it may be kept, and where
-/// its data stands. [`data`](Self::data) tells what the data says.
+/// its data is. [`data`](Self::data) tells what the data says.
 #[derive(Debug)]
 pub struct Record<R: AsOctets> {
     owner: ParsedName<R>,
@@ -50,7 +50,7 @@ impl<R: AsOctets + Copy> Record<R> {
     ghost use Rattle.octseq_dns_name.specs.NameTurns.{CountsName};
     ghost use Rattle.octseq_dns_name.specs.Read.{name_of};
     ghost use Rattle.octseq_dns_message.specs.Said.{record_of};
-    ghost use Rattle.octseq_dns_message.specs.Typed.{form_of, IsAt};
+    ghost use Rattle.octseq_dns_message.specs.Typed.{rdata_of, IsAt};
 
     /// Takes the next record of a message.
     ///
@@ -137,10 +137,10 @@ impl<R: AsOctets + Copy> Record<R> {
     }
 
     /// What its data says, by its type and class. Names in it are read in the message, with their pointers, and the
-    /// data ends exactly where its form does. Data that isn't of its type's form is opaque, and so is the data of a
+    /// data ends exactly where its form does. Data that isn't of its type's form is unknown, and so is the data of a
     /// type that has no form here.
     pub fn data(&self) -> Data<R>
-        ensures form { IsDataOf (record_of self.now) (form_of result) }
+        ensures rdata { IsDataOf (record_of self.now) (rdata_of result) }
         ensures place { IsAt (at (record_of self.now).rdata.position (record_of self.now).owner.place) result }
     {
         self.data_counted(&mut Turns::new())
@@ -149,7 +149,7 @@ impl<R: AsOctets + Copy> Record<R> {
     /// What its data says, as [`data`](Self::data), and counts the turns that names in it take: the root, each label
     /// and each pointer. There are at most two names.
     pub fn data_counted(&self, turns: &mut Turns) -> Data<R>
-        ensures form { IsDataOf (record_of self.now) (form_of result) }
+        ensures rdata { IsDataOf (record_of self.now) (rdata_of result) }
         ensures place { IsAt (at (record_of self.now).rdata.position (record_of self.now).owner.place) result }
         ensures turns { turns.new ≤ turns.old + 510 }
     {
@@ -163,7 +163,7 @@ impl<R: AsOctets + Copy> Record<R> {
             turns,
         ) {
             Ok(found) => found,
-            Err(_) => Data::Opaque(self.rdata),
+            Err(_) => Data::Unknown(self.rtype(), self.rdata),
         }
     }
 }

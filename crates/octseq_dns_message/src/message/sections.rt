@@ -13,7 +13,7 @@ use octseq::utf8::Turns;
 use octseq::{AsOctets, Parser};
 use octseq_dns_name::Malformed;
 
-/// Takes so many questions.
+/// Takes as many questions as `count` says.
 #[inline(always)]
 pub(crate) fn pass_questions<R: AsOctets + Copy>(
     parser: &mut Parser<R>,
@@ -38,7 +38,7 @@ pub(crate) fn pass_questions<R: AsOctets + Copy>(
     Ok(())
 }
 
-/// Takes so many records.
+/// Takes as many records as `count` says.
 #[inline(always)]
 pub(crate) fn pass_records<R: AsOctets + Copy>(
     parser: &mut Parser<R>,

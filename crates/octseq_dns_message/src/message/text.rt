@@ -5,7 +5,7 @@ ghost use Rattle.octseq.specs.Limit.{IsPast};
 ghost use Rattle.octseq.specs.Refusal.{IsShort, IsMemory};
 ghost use Rattle.octseq.specs.Display.{display_error};
 ghost use Rattle.octseq.specs.Parts.{IsFront};
-ghost use Rattle.octseq_dns_message.specs.Data.{Form, IsDataOf};
+ghost use Rattle.octseq_dns_message.specs.Data.{ParsedRdata, IsDataOf};
 ghost use Rattle.octseq_dns_message.specs.Entry as said;
 ghost use Rattle.octseq_dns_message.specs.HeaderText.{header_text, question_text};
 ghost use Rattle.octseq_dns_message.specs.MessageText.{record_text, line, header_line, questions_text};
@@ -13,7 +13,7 @@ ghost use Rattle.octseq_dns_message.specs.MessageText.{IsRecordsText, IsMessageT
 ghost use Rattle.octseq_dns_message.specs.Parsed.{header_of, questions_of, answers_of, authorities_of, additionals_of};
 ghost use Rattle.octseq_dns_message.specs.Said.{question_of, record_of};
 ghost use Rattle.octseq_dns_message.specs.TextFront.{BeginsAtLine};
-ghost use Rattle.octseq_dns_message.specs.Typed.{form_of};
+ghost use Rattle.octseq_dns_message.specs.Typed.{rdata_of};
 ghost use Rattle.octseq_dns_message.specs.Walk.{questions_left, records_left};
 
 use crate::data::Data;
@@ -63,7 +63,7 @@ impl<R: AsOctets + Copy> fmt::Display for QuestionLine<R> {
     }
 }
 
-/// The line of a record, behind the word of its section.
+/// The line of a record, after the word of its section.
 #[derive(Drop)]
 struct RecordLine<'a, R: AsOctets> {
     word: &'a str,
@@ -72,7 +72,7 @@ struct RecordLine<'a, R: AsOctets> {
 }
 
 impl<'a, R: AsOctets + Copy> fmt::Display for RecordLine<'a, R> {
-    ghost output = { λ shown. Some (line shown.word.now (record_text (record_of shown.entry) (form_of shown.rdata))) };
+    ghost output = { λ shown. Some (line shown.word.now (record_text (record_of shown.entry) (rdata_of shown.rdata))) };
 
     fn fmt<W: fmt::Write>(&self, f: &mut fmt::Formatter<W>) -> fmt::Result {
         let word = self.word;
@@ -88,8 +88,8 @@ impl<R: AsOctets + Copy> fmt::Display for Record<R> {
     ghost output = { λ _. None };
 
     fn fmt<W: fmt::Write>(&self, f: &mut fmt::Formatter<W>) -> fmt::Result
-        ensures shown { (form : Form) → IsDataOf (record_of self.now) form
-            → WritesOnOk W.write_str_gives f.old result (record_text (record_of self.now) form) f.new }
+        ensures shown { (rdata : ParsedRdata) → IsDataOf (record_of self.now) rdata
+            → WritesOnOk W.write_str_gives f.old result (record_text (record_of self.now) rdata) f.new }
     {
         let rdata = self.data();
         write_record(f, self, &rdata)
@@ -103,7 +103,7 @@ fn write_record<W: fmt::Write, R: AsOctets + Copy>(
     rdata: &Data<R>,
 ) -> fmt::Result
     ensures { WritesOnOk W.write_str_gives f.old result
-        (record_text (record_of entry.now) (form_of rdata.now)) f.new }
+        (record_text (record_of entry.now) (rdata_of rdata.now)) f.new }
 {
     let (owner, ttl) = (entry.owner(), entry.ttl());
     let (class, rtype) = (entry.class(), entry.rtype());
@@ -144,7 +144,7 @@ fn write_questions<W: fmt::Write, R: AsOctets + Copy>(
     Ok(())
 }
 
-/// Writes a line for each record, behind the word of its section.
+/// Writes a line for each record, after the word of its section.
 fn write_records<W: fmt::Write, R: AsOctets + Copy>(
     f: &mut fmt::Formatter<W>,
     word: &str,
@@ -167,7 +167,7 @@ impl<R: AsOctets + Copy> Message<R> {
 
     /// Appends the text of the message, or nothing: a line for its header, as
     /// `id 4660 opcode 0 rcode 0 flags QR AA RD`; one for each question, as `question example.com. IN A`; and one for
-    /// each record behind the word of its section, as `answer example.com. 300 IN A 1.2.3.4`. Each ends with a line
+    /// each record after the word of its section, as `answer example.com. 300 IN A 1.2.3.4`. Each ends with a line
     /// feed.
     ///
     /// # Errors
@@ -227,7 +227,7 @@ fn append_whole<B: OctetsBuilder + Truncate, R: AsOctets + Copy>(
     answer
 }
 
-/// Whether the text of a message that follows so many octets passes the limit. It doesn't where it can't be shown.
+/// Whether the text of a message that follows `len` octets passes the limit. It doesn't where it can't be shown.
 fn passes<B: OctetsLimit, R: AsOctets + Copy>(len: usize, message: &Message<R>) -> bool
     ensures { result ≡ true → (lines : List ℕ) → IsMessageText (header_of message.now) (questions_of message.now)
         (answers_of message.now) (authorities_of message.now) (additionals_of message.now) lines
@@ -242,7 +242,7 @@ fn passes<B: OctetsLimit, R: AsOctets + Copy>(len: usize, message: &Message<R>) 
     }
 }
 
-/// Appends the text of a message. A refusal leaves a front of it behind.
+/// Appends the text of a message. A refusal leaves a front of it.
 fn append_lines<B: OctetsBuilder + Truncate, R: AsOctets + Copy>(
     text: &mut StrBuilder<B>,
     message: &Message<R>,
@@ -263,7 +263,7 @@ fn append_lines<B: OctetsBuilder + Truncate, R: AsOctets + Copy>(
     append_records(text, "additional", message.additionals())
 }
 
-/// Appends a line for each question. A refusal leaves some behind.
+/// Appends a line for each question. A refusal leaves some.
 fn append_questions<B: OctetsBuilder + Truncate, R: AsOctets + Copy>(
     text: &mut StrBuilder<B>,
     questions: Questions<R>,
@@ -281,7 +281,7 @@ fn append_questions<B: OctetsBuilder + Truncate, R: AsOctets + Copy>(
     Ok(())
 }
 
-/// Appends a line for each record, behind the word of its section. A refusal leaves some behind.
+/// Appends a line for each record, after the word of its section. A refusal leaves some.
 fn append_records<B: OctetsBuilder + Truncate, R: AsOctets + Copy>(
     text: &mut StrBuilder<B>,
     word: &str,

@@ -33,7 +33,7 @@ impl<R: AsOctets + Copy> Clone for Questions<R> {
 impl<R: AsOctets + Copy> Questions<R> {
     ghost use Rattle.octseq_dns_message.specs.Walk.{questions_left};
 
-    /// So many that stand at the position of a parser.
+    /// As many as `left` says, which are at the position of a parser.
     pub(crate) fn at(parser: Parser<R>, left: u16) -> Questions<R>
         requires { Holds IsQuestion (window parser) left }
         ensures { (held : Holds IsQuestion (window parser) left) → questions_left result ≡ held.0 }
@@ -93,7 +93,7 @@ impl<R: AsOctets + Copy> Clone for Records<R> {
 impl<R: AsOctets + Copy> Records<R> {
     ghost use Rattle.octseq_dns_message.specs.Walk.{records_left};
 
-    /// So many that stand at the position of a parser.
+    /// As many as `left` says, which are at the position of a parser.
     pub(crate) fn at(parser: Parser<R>, left: u16) -> Records<R>
         requires { Holds IsRecord (window parser) left }
         ensures { (held : Holds IsRecord (window parser) left) → records_left result ≡ held.0 }

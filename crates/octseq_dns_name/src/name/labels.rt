@@ -9,7 +9,7 @@ use crate::name::step::next_label;
 use octseq::{AsOctets, Parser};
 use std::alloc::AllocError;
 
-/// A label of a name: 1 to 63 octets of a message, where they stand.
+/// A label of a name: 1 to 63 octets of a message, where they are.
 #[derive(Debug)]
 pub struct Label<R: AsOctets> {
     parser: Parser<R>,
@@ -83,7 +83,7 @@ impl<R: AsOctets + Copy> Labels<R> {
     ghost use Rattle.octseq_dns_name.specs.NextLabel.{ahead_of};
     ghost use Rattle.octseq_dns_name.specs.Read.{labels_left};
 
-    /// The labels of the name that stands at the position of a parser.
+    /// The labels of the name that is at the position of a parser.
     pub(crate) fn at(parser: Parser<R>) -> Labels<R>
         requires { Named (window parser) }
         ensures labels { (named : Named (window parser)) → labels_left result ≡ named.0 }

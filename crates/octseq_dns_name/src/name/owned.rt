@@ -45,7 +45,7 @@ impl<B: AsOctets> Name<B> {
         self.parsed().labels()
     }
 
-    /// Its octets in plain wire form: each label behind its length, and the root.
+    /// Its octets in plain wire form: each label after its length, and the root.
     pub fn as_slice(&self) -> &[u8]
         ensures { result.now ≡ wire (owned_labels self.now) }
     {

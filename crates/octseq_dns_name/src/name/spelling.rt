@@ -7,14 +7,14 @@ ghost use Rattle.octseq_dns_name.specs.Spelling.{SpellsOctet, SpellsName};
 ghost use Rattle.octseq_dns_name.specs.Wire.{wire, AreLabels};
 ghost use Rattle.octseq_dns_name.specs.Text.{three_digits};
 
-use crate::error::NameError;
+use crate::error::FromTextError;
 use crate::name::text::needs_backslash;
-use crate::name::wire::{LABEL_MOST, append_label, has_room, with_root};
+use crate::name::wire::{LABEL_MAX, append_label, has_room, with_root};
 use octseq::builder::infallible;
 use octseq::{Array, AsOctets, OctetsBuilder};
 
 /// The plain wire form of the name that a text spells.
-pub(crate) fn wire_of(text: &[u8]) -> Result<Array<255>, NameError>
+pub(crate) fn wire_of(text: &[u8]) -> Result<Array<255>, FromTextError>
     ensures ok { IfOk result (λ octets. (labels : List (List ℕ)) × (octets.content ≡ wire labels)
         × AreLabels labels × (wire_length labels ≤ 255) × SpellsName labels text.now) }
     ensures refused { IfErr result (λ fault. IsRefused fault text.now) }
@@ -24,14 +24,14 @@ pub(crate) fn wire_of(text: &[u8]) -> Result<Array<255>, NameError>
         return Ok(with_root(octets));
     }
     if text.is_empty() {
-        return Err(NameError::UnexpectedEnd);
+        return Err(FromTextError::UnexpectedEnd);
     }
     let mut ahead = text;
     'labels: while !ahead.is_empty() {
         let (label, rest) = next_label(ahead)?;
         let slice = label.as_slice();
         if !has_room(&octets, slice) {
-            return Err(NameError::LongName);
+            return Err(FromTextError::LongName);
         }
         append_label(&mut octets, slice);
         ahead = rest;
@@ -39,8 +39,8 @@ pub(crate) fn wire_of(text: &[u8]) -> Result<Array<255>, NameError>
     Ok(with_root(octets))
 }
 
-/// Takes a label and the full stop behind it from the front of a text.
-pub(crate) fn next_label(text: &[u8]) -> Result<(Array<63>, &[u8]), NameError>
+/// Takes a label and the full stop after it from the front of a text.
+pub(crate) fn next_label(text: &[u8]) -> Result<(Array<63>, &[u8]), FromTextError>
     requires { 1 ≤ length text.now }
     ensures ok { IfOk result (λ taken. Reads text.now taken.0.content (46 ∷ taken.1.now)) }
     ensures some { IfOk result (λ taken. 1 ≤ length taken.0.content) }
@@ -50,17 +50,17 @@ pub(crate) fn next_label(text: &[u8]) -> Result<(Array<63>, &[u8]), NameError>
     let mut ahead = text;
     'octets: loop {
         let Some((first, rest)) = ahead.split_first() else {
-            return Err(NameError::UnexpectedEnd);
+            return Err(FromTextError::UnexpectedEnd);
         };
         if *first == b'.' {
             if label.is_empty() {
-                return Err(NameError::EmptyLabel);
+                return Err(FromTextError::EmptyLabel);
             }
             return Ok((label, rest));
         }
         let (octet, rest) = next_octet(ahead)?;
-        if label.len() >= LABEL_MOST {
-            return Err(NameError::LongLabel);
+        if label.len() >= LABEL_MAX {
+            return Err(FromTextError::LongLabel);
         }
         infallible(label.append_slice(&[octet]));
         ahead = rest;
@@ -68,25 +68,25 @@ pub(crate) fn next_label(text: &[u8]) -> Result<(Array<63>, &[u8]), NameError>
 }
 
 /// Takes an octet of a label from the front of a text.
-fn next_octet(text: &[u8]) -> Result<(u8, &[u8]), NameError>
+fn next_octet(text: &[u8]) -> Result<(u8, &[u8]), FromTextError>
     ensures ok { IfOk result (λ taken. (first : List ℕ) × (text.now ≡ first ++ taken.1.now)
         × SpellsOctet taken.0 first) }
     ensures none { OnErr result (SpellsNone text.now) }
     ensures begins { IfErr result (λ fault. BeginsWith fault text.now) }
 {
     let Some((first, rest)) = text.split_first() else {
-        return Err(NameError::UnexpectedEnd);
+        return Err(FromTextError::UnexpectedEnd);
     };
     if *first == b'\\' {
-        return next_escaped(rest).ok_or(NameError::IllegalEscape);
+        return next_escaped(rest).ok_or(FromTextError::IllegalEscape);
     }
     if needs_backslash(*first) || !first.is_ascii_graphic() {
-        return Err(NameError::IllegalOctet);
+        return Err(FromTextError::IllegalOctet);
     }
     Ok((*first, rest))
 }
 
-/// Takes what is behind the backslash of an octet from the front of a text.
+/// Takes what is after the backslash of an octet from the front of a text.
 fn next_escaped(text: &[u8]) -> Option<(u8, &[u8])>
     ensures some { IfSome result (λ taken. (first : List ℕ) × (text.now ≡ first ++ taken.1.now)
         × SpellsOctet taken.0 (92 ∷ first)) }

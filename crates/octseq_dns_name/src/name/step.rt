@@ -10,7 +10,7 @@ use crate::error::Malformed;
 use octseq::builder::infallible;
 use octseq::{AsOctets, Parser};
 
-/// What stands at a place of a name.
+/// What is at a place of a name.
 #[derive(Drop)]
 pub(crate) enum Step<R: AsOctets> {
     /// The root.

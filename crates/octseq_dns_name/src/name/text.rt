@@ -28,7 +28,7 @@ pub fn a_name_is_spelled_by_its_text()
 
 /// The labels of a name have 1 to 63 octets each, so the text that is printed of it reads back as that name.
 ///
-/// It does nothing but look where the name stands. A caller that calls it has the law in its proof.
+/// It does nothing but look where the name is. A caller that calls it has the law in its proof.
 pub fn a_name_has_labels<R: AsOctets + Copy>(name: &ParsedName<R>)
     ensures labels { AreLabels (labels_of name.now) }
     ensures octets { AreOctetLabels (labels_of name.now) }
@@ -37,7 +37,7 @@ pub fn a_name_has_labels<R: AsOctets + Copy>(name: &ParsedName<R>)
     are_octets(sequence.as_ref());
 }
 
-/// Prints the octets of the label: each of `"().;\@$` behind a backslash, each other one of 21 to 7E (hexadecimal) as
+/// Prints the octets of the label: each of `"().;\@$` after a backslash, each other one of 21 to 7E (hexadecimal) as
 /// itself, and any other as a backslash and three decimal digits.
 impl<R: AsOctets> fmt::Display for Label<R> {
     ghost output = { λ label. Some (label_text (label_octets label)) };
@@ -50,7 +50,7 @@ impl<R: AsOctets> fmt::Display for Label<R> {
     }
 }
 
-/// Prints each label with a full stop behind it, and the root as `.` alone.
+/// Prints each label with a full stop after it, and the root as `.` alone.
 impl<R: AsOctets + Copy> fmt::Display for ParsedName<R> {
     ghost output = { λ name. Some (name_text (labels_of name)) };
 
@@ -80,7 +80,7 @@ fn write_octet<W: fmt::Write>(f: &mut fmt::Formatter<W>, octet: u8) -> fmt::Resu
     write_digits(f, octet)
 }
 
-/// Whether an octet that is visible is written behind a backslash.
+/// Whether an octet that is visible is written after a backslash.
 pub(crate) fn needs_backslash(octet: u8) -> bool
     ensures { result ≡ is_quoted octet }
 {
@@ -90,7 +90,7 @@ pub(crate) fn needs_backslash(octet: u8) -> bool
     )
 }
 
-/// Writes a number in three decimal digits, as they stand behind the backslash of an escape.
+/// Writes a number in three decimal digits, as they are after the backslash of an escape.
 pub fn write_digits<W: fmt::Write>(f: &mut fmt::Formatter<W>, number: u8) -> fmt::Result
     ensures { WritesOnOk W.write_str_gives f.old result (three_digits number) f.new }
 {

@@ -7,14 +7,14 @@ ghost use Rattle.octseq_dns_name.specs.Read.{labels_left};
 ghost use Rattle.octseq_dns_name.specs.Unfit.{HasWrong};
 ghost use Rattle.octseq_dns_name.specs.Wire.{wire, AreLabels};
 
-use crate::error::LabelsError;
-use crate::name::{Labels, NAME_MOST};
+use crate::error::FromLabelsError;
+use crate::name::{Labels, NAME_MAX};
 use octseq::builder::infallible;
 use octseq::{AppendError, Array, AsOctets, OctetsBuilder};
 use std::alloc::AllocError;
 
 /// How many octets a label may have: RFC 1035, 2.3.4.
-pub(crate) const LABEL_MOST: usize = 63;
+pub(crate) const LABEL_MAX: usize = 63;
 
 /// Appends labels in plain wire form to a builder that has room for them.
 pub(crate) fn append_labels<B: OctetsBuilder, R: AsOctets + Copy>(
@@ -48,7 +48,7 @@ pub(crate) fn append<B: OctetsBuilder>(octets: &mut B, slice: &[u8]) -> Result<(
 }
 
 /// The plain wire form of the name that has these labels.
-pub(crate) fn wire_of_labels(labels: &[&[u8]]) -> Result<Array<255>, LabelsError>
+pub(crate) fn wire_of_labels(labels: &[&[u8]]) -> Result<Array<255>, FromLabelsError>
     ensures ok { IfOk result (λ octets. (octets.content ≡ wire (map (λ label. label.now) labels.now))
         × AreLabels (map (λ label. label.now) labels.now)
         × (wire_length (map (λ label. label.now) labels.now) ≤ 255)) }
@@ -57,13 +57,13 @@ pub(crate) fn wire_of_labels(labels: &[&[u8]]) -> Result<Array<255>, LabelsError
     let mut octets = Array::<255>::new();
     for label in labels {
         if label.is_empty() {
-            return Err(LabelsError::EmptyLabel);
+            return Err(FromLabelsError::EmptyLabel);
         }
-        if label.len() > LABEL_MOST {
-            return Err(LabelsError::LongLabel);
+        if label.len() > LABEL_MAX {
+            return Err(FromLabelsError::LongLabel);
         }
         if !has_room(&octets, label) {
-            return Err(LabelsError::LongName);
+            return Err(FromLabelsError::LongName);
         }
         append_label(&mut octets, label);
     }
@@ -75,10 +75,10 @@ pub(crate) fn has_room(octets: &Array<255>, label: &[u8]) -> bool
     requires { length label.now ≤ 63 }
     ensures { IsTrue result ↔ (length octets.now.content + 1 + length label.now + 1 ≤ 255) }
 {
-    octets.len() + 1 + label.len() + 1 <= NAME_MOST
+    octets.len() + 1 + label.len() + 1 <= NAME_MAX
 }
 
-/// Appends a label behind its length.
+/// Appends a label after its length.
 pub(crate) fn append_label(octets: &mut Array<255>, label: &[u8])
     requires short { length label.now ≤ 63 }
     requires room { length octets.old.content + 1 + length label.now + 1 ≤ 255 }
@@ -88,7 +88,7 @@ pub(crate) fn append_label(octets: &mut Array<255>, label: &[u8])
     infallible(octets.append_slice(label));
 }
 
-/// The octets with the root behind them.
+/// The octets with the root after them.
 pub(crate) fn with_root(octets: Array<255>) -> Array<255>
     requires { length octets.content + 1 ≤ 255 }
     ensures { result.content ≡ octets.content ++ 0 ∷ [] }

@@ -91,7 +91,7 @@ fn push_data<R: Octets + Copy>(text: &mut Vec<u8>, found: &Data<R>) -> Result<()
         Data::Soa(soa) => push_soa(text, soa),
         Data::Txt(txt) => push_txt(text, txt),
         Data::Srv(srv) => push_srv(text, srv),
-        Data::Opaque(octets) => push_octets(text, b"opaque ", octets.peek_all()),
+        Data::Unknown(_, octets) => push_octets(text, b"unknown ", octets.peek_all()),
     }
 }
 
@@ -100,7 +100,11 @@ fn said<R: Octets + Copy>(alloc: Global, octets: R) -> Result<Vec<u8>, Fail> {
     let message = Message::parse(octets)?;
     let mut text = Vec::new(alloc);
     for answer in message.answers() {
-        push_data(&mut text, &answer.data())?;
+        let found = answer.data();
+        if found.rtype() != answer.rtype() {
+            return Err("another type".into());
+        }
+        push_data(&mut text, &found)?;
     }
     Ok(text)
 }
@@ -118,15 +122,15 @@ fn data_has_the_form_of_its_type_and_class(rt: HostRuntime) -> Result<(), Fail> 
             1,
             1,
             b"\x01\x02\x03\x04\x05",
-            b"opaque \x01\x02\x03\x04\x05",
+            b"unknown \x01\x02\x03\x04\x05",
         ),
-        (1, 1, b"\x01\x02\x03", b"opaque \x01\x02\x03"),
-        (1, 3, b"\x01\x02\x03\x04", b"opaque \x01\x02\x03\x04"),
+        (1, 1, b"\x01\x02\x03", b"unknown \x01\x02\x03"),
+        (1, 3, b"\x01\x02\x03\x04", b"unknown \x01\x02\x03\x04"),
         (28, 1, b"0123456789abcdef", b"aaaa 0123456789abcdef"),
-        (28, 4, b"0123456789abcdef", b"opaque 0123456789abcdef"),
+        (28, 4, b"0123456789abcdef", b"unknown 0123456789abcdef"),
         (2, 1, b"\x01a\x00", b"ns a."),
-        (2, 1, b"\x01a", b"opaque \x01a"),
-        (2, 1, b"\x01a\x00\x00", b"opaque \x01a\x00\x00"),
+        (2, 1, b"\x01a", b"unknown \x01a"),
+        (2, 1, b"\x01a\x00\x00", b"unknown \x01a\x00\x00"),
         (5, 3, b"\x03www\xC0\x0C", b"cname www.example.com."),
         (12, 1, b"\xC0\x14", b"ptr com."),
         (
@@ -135,9 +139,9 @@ fn data_has_the_form_of_its_type_and_class(rt: HostRuntime) -> Result<(), Fail> 
             b"\x00\x0A\x04mail\xC0\x0C",
             b"mx \x00\x0Amail.example.com.",
         ),
-        (16, 1, b"", b"opaque "),
+        (16, 1, b"", b"unknown "),
         (16, 1, b"\x00", b"txt |"),
-        (16, 1, b"\x02a", b"opaque \x02a"),
+        (16, 1, b"\x02a", b"unknown \x02a"),
         (16, 1, b"\x03a\"\\\x03\x00\xFF ", b"txt a\"\\|\x00\xFF |"),
         (
             33,
@@ -149,9 +153,9 @@ fn data_has_the_form_of_its_type_and_class(rt: HostRuntime) -> Result<(), Fail> 
             33,
             3,
             b"\x00\x01\x00\x02\x01\xBB\x00",
-            b"opaque \x00\x01\x00\x02\x01\xBB\x00",
+            b"unknown \x00\x01\x00\x02\x01\xBB\x00",
         ),
-        (99, 1, b"\x00", b"opaque \x00"),
+        (99, 1, b"\x00", b"unknown \x00"),
     ] {
         let octets = answer(rt.alloc(), rtype, class, rdata)?;
         let text = said(rt.alloc(), octets.as_slice())?;
@@ -186,7 +190,7 @@ fn a_zone_begins_with_two_names_and_five_numbers(rt: HostRuntime) -> Result<(), 
     assert_equal!(
         &rt,
         text.as_slice(),
-        b"opaque \x00\x00\x00\x00\x00\x01\x00\x00\x00\x02"
+        b"unknown \x00\x00\x00\x00\x00\x01\x00\x00\x00\x02"
     );
     Ok(())
 }
@@ -199,7 +203,7 @@ fn a_name_ends_where_its_data_does(rt: HostRuntime) -> Result<(), Fail> {
 \x00\x00\x10\x00\x01\x00\x00\x00\x00\x00\x02\x01b"
         .as_slice();
     let text = said(rt.alloc(), octets)?;
-    assert_equal!(&rt, text.as_slice(), b"opaque \x01atxt b|".as_slice());
+    assert_equal!(&rt, text.as_slice(), b"unknown \x01atxt b|".as_slice());
     Ok(())
 }
 

@@ -155,17 +155,17 @@ fn has_address<R: Octets + Copy>(
 
 /// In lists the message has one question, two addresses as answers, and nothing else.
 fn lists_entries<R: Octets + Copy>(rt: &(impl Abort + AllocGlobal), octets: R) -> Result<(), Fail> {
-    let lists = Message::parse(octets)?.try_to_lists(rt.alloc())?;
-    match lists.answers.as_slice() {
+    let sections = Message::parse(octets)?.collect(rt.alloc())?;
+    match sections.answers.as_slice() {
         [first, second] => {
             has_address(rt, first, &[b"example", b"com"], [1, 2, 3, 4]);
             has_address(rt, second, &[b"www", b"example", b"com"], [5, 6, 7, 8]);
         }
         _ => return Err("not two".into()),
     }
-    assert_equal!(rt, lists.questions.len(), 1);
-    assert_equal!(rt, lists.authorities.len(), 0);
-    assert_equal!(rt, lists.additionals.len(), 0);
+    assert_equal!(rt, sections.questions.len(), 1);
+    assert_equal!(rt, sections.authorities.len(), 0);
+    assert_equal!(rt, sections.additionals.len(), 0);
     Ok(())
 }
 

@@ -1,7 +1,7 @@
 //! Names of DNS as text, and how they compare.
 use octseq::{AppendError, Array, AsOctets, EmptyBuilder, Octets, Parser, ShortBuf};
 use octseq_asserts::{Case, assert_equal, over_each};
-use octseq_dns::error::{LabelsError, NameError};
+use octseq_dns::error::{FromLabelsError, FromTextError};
 use octseq_dns::{Name, ParsedName};
 use std::alloc::{AllocGlobal, Global};
 use std::cmp::Ordering;
@@ -226,7 +226,7 @@ fn a_name_is_copied_with_its_octets(rt: HostRuntime) -> Result<(), Fail> {
 }
 
 /// The plain wire form of the name that a text spells, or why it spells none.
-fn wire_of(alloc: Global, text: &str) -> Result<Result<Vec<u8>, NameError>, Fail> {
+fn wire_of(alloc: Global, text: &str) -> Result<Result<Vec<u8>, FromTextError>, Fail> {
     match Name::from_text(text) {
         Ok(name) => Ok(Ok(name.as_slice().to_vec(alloc)?)),
         Err(refusal) => Ok(Err(refusal)),
@@ -253,24 +253,24 @@ fn a_name_is_read_from_its_text(rt: HostRuntime) -> Result<(), Fail> {
 #[test]
 fn a_text_that_spells_no_name_is_refused_by_reason(rt: HostRuntime) -> Result<(), Fail> {
     for (text, reason) in [
-        ("", NameError::UnexpectedEnd),
-        ("a", NameError::UnexpectedEnd),
-        ("a.b", NameError::UnexpectedEnd),
-        ("\\.", NameError::UnexpectedEnd),
-        ("..", NameError::EmptyLabel),
-        (".a.", NameError::EmptyLabel),
-        ("a..", NameError::EmptyLabel),
-        ("a..\"", NameError::EmptyLabel),
-        ("\\", NameError::IllegalEscape),
-        ("\\1.", NameError::IllegalEscape),
-        ("\\12.", NameError::IllegalEscape),
-        ("\\1a2.", NameError::IllegalEscape),
-        ("a\\256.", NameError::IllegalEscape),
-        ("\\999..", NameError::IllegalEscape),
-        ("a b.", NameError::IllegalOctet),
-        ("a\".", NameError::IllegalOctet),
-        ("a@b.\\", NameError::IllegalOctet),
-        ("é.", NameError::IllegalOctet),
+        ("", FromTextError::UnexpectedEnd),
+        ("a", FromTextError::UnexpectedEnd),
+        ("a.b", FromTextError::UnexpectedEnd),
+        ("\\.", FromTextError::UnexpectedEnd),
+        ("..", FromTextError::EmptyLabel),
+        (".a.", FromTextError::EmptyLabel),
+        ("a..", FromTextError::EmptyLabel),
+        ("a..\"", FromTextError::EmptyLabel),
+        ("\\", FromTextError::IllegalEscape),
+        ("\\1.", FromTextError::IllegalEscape),
+        ("\\12.", FromTextError::IllegalEscape),
+        ("\\1a2.", FromTextError::IllegalEscape),
+        ("a\\256.", FromTextError::IllegalEscape),
+        ("\\999..", FromTextError::IllegalEscape),
+        ("a b.", FromTextError::IllegalOctet),
+        ("a\".", FromTextError::IllegalOctet),
+        ("a@b.\\", FromTextError::IllegalOctet),
+        ("é.", FromTextError::IllegalOctet),
     ] {
         assert_equal!(&rt, wire_of(rt.alloc(), text)?.err(), Some(reason));
     }
@@ -281,21 +281,21 @@ fn a_text_that_spells_no_name_is_refused_by_reason(rt: HostRuntime) -> Result<()
 fn the_refusals_of_names_are_shown(rt: HostRuntime) -> Result<(), Fail> {
     let alloc = rt.alloc();
     for (reason, text) in [
-        (NameError::UnexpectedEnd, "unexpected end of input"),
-        (NameError::EmptyLabel, "empty label"),
-        (NameError::LongLabel, "long label"),
-        (NameError::LongName, "long domain name"),
-        (NameError::IllegalEscape, "illegal escape sequence"),
-        (NameError::IllegalOctet, "illegal octet"),
+        (FromTextError::UnexpectedEnd, "unexpected end of input"),
+        (FromTextError::EmptyLabel, "empty label"),
+        (FromTextError::LongLabel, "long label"),
+        (FromTextError::LongName, "long domain name"),
+        (FromTextError::IllegalEscape, "illegal escape sequence"),
+        (FromTextError::IllegalOctet, "illegal octet"),
     ] {
         assert_equal!(&rt, format!(in alloc; "{reason}")?.as_str(), text);
     }
     for (reason, text) in [
-        (LabelsError::EmptyLabel, "empty label"),
-        (LabelsError::LongLabel, "long label"),
-        (LabelsError::LongName, "long domain name"),
-        (LabelsError::Short, "buffer size exceeded"),
-        (LabelsError::Memory, "out of memory"),
+        (FromLabelsError::EmptyLabel, "empty label"),
+        (FromLabelsError::LongLabel, "long label"),
+        (FromLabelsError::LongName, "long domain name"),
+        (FromLabelsError::Short, "buffer size exceeded"),
+        (FromLabelsError::Memory, "out of memory"),
     ] {
         assert_equal!(&rt, format!(in alloc; "{reason}")?.as_str(), text);
     }
@@ -307,10 +307,10 @@ fn the_text_of_a_name_has_its_limits(rt: HostRuntime) -> Result<(), Fail> {
     let alloc = rt.alloc();
     for (first, last, reason) in [
         (63, 61, None),
-        (63, 62, Some(NameError::LongName)),
-        (64, 1, Some(NameError::LongLabel)),
-        (1, 64, Some(NameError::LongLabel)),
-        (63, 64, Some(NameError::LongLabel)),
+        (63, 62, Some(FromTextError::LongName)),
+        (64, 1, Some(FromTextError::LongLabel)),
+        (1, 64, Some(FromTextError::LongLabel)),
+        (63, 64, Some(FromTextError::LongLabel)),
     ] {
         let mut text = String::new(alloc);
         for len in [63, 63, first, last] {
@@ -344,7 +344,7 @@ fn a_name_is_made_of_labels(rt: HostRuntime) -> Result<(), Fail> {
 }
 
 /// Why labels make no name in a builder of this type.
-fn refusal_of<B: EmptyBuilder>(alloc: Global, labels: &[&[u8]]) -> Option<LabelsError> {
+fn refusal_of<B: EmptyBuilder>(alloc: Global, labels: &[&[u8]]) -> Option<FromLabelsError> {
     Name::<B>::from_labels(alloc, labels).err()
 }
 
@@ -361,15 +361,15 @@ fn labels_that_make_no_name_are_refused_by_reason(rt: HostRuntime) -> Result<(),
         &long[..63],
     );
     let refusal = refusal_of::<Vec<u8>>(alloc, &[one, none, long]);
-    assert_equal!(&rt, refusal, Some(LabelsError::EmptyLabel));
+    assert_equal!(&rt, refusal, Some(FromLabelsError::EmptyLabel));
     let refusal = refusal_of::<Vec<u8>>(alloc, &[one, long, none]);
-    assert_equal!(&rt, refusal, Some(LabelsError::LongLabel));
+    assert_equal!(&rt, refusal, Some(FromLabelsError::LongLabel));
     let refusal = refusal_of::<Vec<u8>>(alloc, &[most, most, most, past, none]);
-    assert_equal!(&rt, refusal, Some(LabelsError::LongName));
+    assert_equal!(&rt, refusal, Some(FromLabelsError::LongName));
     let refusal = refusal_of::<Vec<u8>>(alloc, &[most, most, most, last]);
     assert_equal!(&rt, refusal, None);
     let refusal = refusal_of::<Array<4>>(alloc, &[b"www"]);
-    assert_equal!(&rt, refusal, Some(LabelsError::Short));
+    assert_equal!(&rt, refusal, Some(FromLabelsError::Short));
     let refusal = refusal_of::<Array<5>>(alloc, &[b"www"]);
     assert_equal!(&rt, refusal, None);
     Ok(())

@@ -15,7 +15,7 @@ use std::cmp::Ordering;
 use std::fmt;
 use std::hash::{Hash, Hasher};
 
-/// Prints each label with a full stop behind it, and the root as `.` alone.
+/// Prints each label with a full stop after it, and the root as `.` alone.
 impl<B: AsOctets> fmt::Display for Name<B> {
     ghost output = { λ name. Some (name_text (owned_labels name)) };
 

@@ -9,7 +9,7 @@ ghost use Rattle.octseq_dns_name.specs.Spelling.{SpellsName};
 ghost use Rattle.octseq_dns_name.specs.Unfit.{AreUnfit};
 ghost use Rattle.octseq_dns_name.specs.Wire.{wire, AreLabels};
 
-use crate::error::{LabelsError, NameError};
+use crate::error::{FromLabelsError, FromTextError};
 use crate::name::owned::Name;
 use crate::name::spelling::wire_of;
 use crate::name::wire::{append, wire_of_labels};
@@ -17,8 +17,8 @@ use octseq::{Array, AsOctets, EmptyBuilder};
 use std::alloc::{AllocError, Global};
 
 impl Name<Array<255>> {
-    /// Reads the text of a name, with a full stop behind each label: RFC 1035, 5.1. An octet of a label stands there
-    /// as itself where it is visible ASCII and none of `"().;\@$`, behind a backslash where it is no digit, or as a
+    /// Reads the text of a name, with a full stop after each label: RFC 1035, 5.1. An octet of a label is there
+    /// as itself where it is visible ASCII and none of `"().;\@$`, after a backslash where it is no digit, or as a
     /// backslash and its number in three decimal digits. It requests no memory.
     ///
     /// # Errors
@@ -38,11 +38,11 @@ impl Name<Array<255>> {
     /// let mut questions = message.question();
     /// questions.push_question(&name.parsed(), Rtype::A, Class::IN)?;
     /// ```
-    pub fn from_text(text: &str) -> Result<Self, NameError>
+    pub fn from_text(text: &str) -> Result<Self, FromTextError>
         ensures ok { IfOk result (λ name. SpellsName (owned_labels name) text.now) }
         ensures malformed { IsErr result → (labels : List (List ℕ)) → AreLabels labels → wire_length labels ≤ 255
             → ¬ SpellsName labels text.now }
-        ensures refused { (fault : NameError) → IsErrOf result fault ↔ IsRefused fault text.now }
+        ensures refused { (fault : FromTextError) → IsErrOf result fault ↔ IsRefused fault text.now }
     {
         let octets = wire_of(text.as_bytes())?;
         Ok(Name { octets })
@@ -58,15 +58,15 @@ impl<B: EmptyBuilder> Name<B> {
     /// The labels are read from the left, and the first one that is wrong decides: `EmptyLabel`, `LongLabel` where it
     /// has more than 63 octets, `LongName` where the name has more than 255 with it. Where none is wrong, `Short` where
     /// the wire form passes the limit of the builder's type, and else `Memory` where a request for memory was refused.
-    pub fn from_labels(alloc: Global, labels: &[&[u8]]) -> Result<Self, LabelsError>
+    pub fn from_labels(alloc: Global, labels: &[&[u8]]) -> Result<Self, FromLabelsError>
         ensures ok { IfOk result (λ name. owned_labels name ≡ map (λ label. label.now) labels.now) }
-        ensures refused { (fault : LabelsError) → fault ≢ LabelsError.Memory
+        ensures refused { (fault : FromLabelsError) → fault ≢ FromLabelsError.Memory
             → IsErrOf result fault ↔ AreUnfit B.limit fault (map (λ label. label.now) labels.now) }
-        ensures memory { IsErrOf result LabelsError.Memory → B.asks ≡ true }
+        ensures memory { IsErrOf result FromLabelsError.Memory → B.asks ≡ true }
     {
         let wire = wire_of_labels(labels)?;
         match B::limit() {
-            Some(limit) if limit < wire.len() => Err(LabelsError::Short),
+            Some(limit) if limit < wire.len() => Err(FromLabelsError::Short),
             _ => Ok(Name::held(alloc, wire.as_slice())?),
         }
     }

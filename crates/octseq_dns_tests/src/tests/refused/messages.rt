@@ -2,7 +2,7 @@
 use octseq::octets::Octets;
 use octseq_asserts::assert_equal;
 use octseq_dns::Message;
-use octseq_dns::message::Lists;
+use octseq_dns::message::Sections;
 use std::alloc::{AllocError, AllocGlobal};
 use std::process::Abort;
 use std::test::Fail;
@@ -15,12 +15,12 @@ const ENTRIES: &[u8] =
 /// Lists the entries. A refused list leaves the message as it is.
 fn lists<R: Octets + Copy>(rt: &(impl Abort + AllocGlobal), octets: R) -> Result<(), Fail> {
     let message = Message::parse(octets)?;
-    let lists: Result<Lists<R>, AllocError> = message.try_to_lists(rt.alloc());
+    let sections: Result<Sections<R>, AllocError> = message.collect(rt.alloc());
     assert_equal!(rt, message.questions().count(), 2);
     assert_equal!(rt, message.additionals().count(), 1);
-    let lists = lists?;
-    assert_equal!(rt, lists.questions.len(), 2);
-    assert_equal!(rt, lists.additionals.len(), 1);
+    let sections = sections?;
+    assert_equal!(rt, sections.questions.len(), 2);
+    assert_equal!(rt, sections.additionals.len(), 1);
     Ok(())
 }
 

@@ -1,7 +1,7 @@
 //! Names of labels.
 use octseq_asserts::assert_equal;
 use octseq_dns::Name;
-use octseq_dns::error::LabelsError;
+use octseq_dns::error::FromLabelsError;
 use std::test::Fail;
 
 #[test]
@@ -14,7 +14,7 @@ fn a_name_is_made_or_memory_was_refused(rt: HostRuntime) -> Result<(), Fail> {
             Ok(())
         }
         Err(error) => {
-            assert_equal!(&rt, error, LabelsError::Memory);
+            assert_equal!(&rt, error, FromLabelsError::Memory);
             Err(Fail::from(error))
         }
     }

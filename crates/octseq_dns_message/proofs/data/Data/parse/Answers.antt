@@ -1,7 +1,7 @@
 use Rattle.std.proofs.Common.{arith, rules}
 use Rattle.octseq.specs.Parser.{window}
-use Rattle.octseq_dns_message.specs.Typed.{form_of}
-use Rattle.octseq_dns_message.proofs.Forms.{none_ends}
+use Rattle.octseq_dns_message.specs.Typed.{rdata_of}
+use Rattle.octseq_dns_message.proofs.Rdata.{none_ends}
 use Rattle.octseq_dns_message.proofs.data.Data.parse.Goals as goal
 
 pub returns-then-pos-end-clause-malformed : goal.returns-then-pos-end-clause-malformed
@@ -9,5 +9,5 @@ returns-then-pos-end-clause-malformed g c = λ _ other v is.
     let place = c.pos.ensures.position in
     let elsewhere = c.if-pos-end.true in
     none_ends c.args.rtype c.args.class (window c.args.parser.now) (window c.take.new.parser) v
-    (form_of c.in_ok-found.found) other c.args.end (search rules)
-    c.in_ok-found.ensures.form (λ same. omega (arith, place, elsewhere, same)) is
+    (rdata_of c.in_ok-found.found) other c.args.end (search rules)
+    c.in_ok-found.ensures.rdata (λ same. omega (arith, place, elsewhere, same)) is

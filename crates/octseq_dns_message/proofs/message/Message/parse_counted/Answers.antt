@@ -6,41 +6,43 @@ use Rattle.octseq_dns_message.specs.Header.{IsHeader}
 use Rattle.octseq_dns_message.specs.Parsed.{fields_of}
 use Rattle.octseq_dns_message.specs.OneEntry.{one_question, one_record, question_code, record_code}
 use Rattle.octseq_dns_message.proofs.Messages.{no_header, no_questions, no_answers, no_authorities, no_additionals}
-use Rattle.octseq_dns_message.proofs.Messages.{some_behind}
-use Rattle.octseq_format.specs.Laws.{NoneAt}
+use Rattle.octseq_dns_message.proofs.Messages.{some_after, NoHeader}
 use Rattle.octseq_format.specs.Row.{Many}
 use Rattle.octseq_format.proofs.RowSteps.{held_as}
 use Rattle.octseq_dns_message.proofs.message.Message.parse_counted.Goals as goal
 
 pub returns-in_err-header-clause-malformed : goal.returns-in_err-header-clause-malformed
 returns-in_err-header-clause-malformed g c = λ _.
-    no_header (g.R.AsOctets.content c.args.octets) (subst (λ w. NoneAt IsHeader w) c.from_ref-parser.ensures.window
+    no_header (g.R.AsOctets.content c.args.octets) (subst NoHeader c.from_ref-parser.ensures.window
     (c.in_err-header.ensures.malformed refl))
 
 pub returns-in_err-pass_questions-clause-malformed : goal.returns-in_err-pass_questions-clause-malformed
 returns-in_err-pass_questions-clause-malformed g c = λ _.
     let v = window c.parse.new.parser in
     let h = fields_of c.in_ok-header.header in
-    let is = subst (λ w. IsHeader w h v) c.from_ref-parser.ensures.window c.in_ok-header.ensures.header in
-    no_questions (g.R.AsOctets.content c.args.octets) h v is (c.in_err-pass_questions.ensures.malformed refl)
+    let counts = c.in_ok-header.header.counts in
+    let is = subst (λ w. IsHeader w h counts v) c.from_ref-parser.ensures.window c.in_ok-header.ensures.header in
+    no_questions (g.R.AsOctets.content c.args.octets) h counts v is (c.in_err-pass_questions.ensures.malformed refl)
 
 pub returns-in_err-pass_records-clause-malformed : goal.returns-in_err-pass_records-clause-malformed
 returns-in_err-pass_records-clause-malformed g c = λ _.
     let v = window c.parse.new.parser in
     let h = fields_of c.in_ok-header.header in
-    let is = subst (λ w. IsHeader w h v) c.from_ref-parser.ensures.window c.in_ok-header.ensures.header in
+    let counts = c.in_ok-header.header.counts in
+    let is = subst (λ w. IsHeader w h counts v) c.from_ref-parser.ensures.window c.in_ok-header.ensures.header in
     let asked = c.in_ok-pass_questions.ensures.all in
-    no_answers (g.R.AsOctets.content c.args.octets) h v is asked.0 (window c.pass_questions.new.parser) asked.1
+    no_answers (g.R.AsOctets.content c.args.octets) h counts v is asked.0 (window c.pass_questions.new.parser) asked.1
     (c.in_err-pass_records.ensures.malformed refl)
 
 pub returns-in_err-pass_records-2-clause-malformed : goal.returns-in_err-pass_records-2-clause-malformed
 returns-in_err-pass_records-2-clause-malformed g c = λ _.
     let v = window c.parse.new.parser in
     let h = fields_of c.in_ok-header.header in
-    let is = subst (λ w. IsHeader w h v) c.from_ref-parser.ensures.window c.in_ok-header.ensures.header in
+    let counts = c.in_ok-header.header.counts in
+    let is = subst (λ w. IsHeader w h counts v) c.from_ref-parser.ensures.window c.in_ok-header.ensures.header in
     let asked = c.in_ok-pass_questions.ensures.all in
     let answered = c.in_ok-pass_records.ensures.all in
-    no_authorities (g.R.AsOctets.content c.args.octets) h v is asked.0 (window c.pass_questions.new.parser) asked.1
+    no_authorities (g.R.AsOctets.content c.args.octets) h counts v is asked.0 (window c.pass_questions.new.parser) asked.1
     answered.0 (window c.pass_records.new.parser) answered.1
     (c.in_err-pass_records-2.ensures.malformed refl)
 
@@ -48,11 +50,12 @@ pub returns-in_err-pass_records-3-clause-malformed : goal.returns-in_err-pass_re
 returns-in_err-pass_records-3-clause-malformed g c = λ _.
     let v = window c.parse.new.parser in
     let h = fields_of c.in_ok-header.header in
-    let is = subst (λ w. IsHeader w h v) c.from_ref-parser.ensures.window c.in_ok-header.ensures.header in
+    let counts = c.in_ok-header.header.counts in
+    let is = subst (λ w. IsHeader w h counts v) c.from_ref-parser.ensures.window c.in_ok-header.ensures.header in
     let asked = c.in_ok-pass_questions.ensures.all in
     let answered = c.in_ok-pass_records.ensures.all in
     let authorized = c.in_ok-pass_records-2.ensures.all in
-    no_additionals (g.R.AsOctets.content c.args.octets) h v is asked.0 (window c.pass_questions.new.parser) asked.1
+    no_additionals (g.R.AsOctets.content c.args.octets) h counts v is asked.0 (window c.pass_questions.new.parser) asked.1
     answered.0 (window c.pass_records.new.parser) answered.1
     authorized.0 (window c.pass_records-2.new.parser) authorized.1 (c.in_err-pass_records-3.ensures.malformed refl)
 
@@ -60,14 +63,15 @@ pub returns-then-remaining-gt0-clause-malformed : goal.returns-then-remaining-gt
 returns-then-remaining-gt0-clause-malformed g c = λ _.
     let v = window c.parse.new.parser in
     let h = fields_of c.in_ok-header.header in
-    let is = subst (λ w. IsHeader w h v) c.from_ref-parser.ensures.window c.in_ok-header.ensures.header in
+    let counts = c.in_ok-header.header.counts in
+    let is = subst (λ w. IsHeader w h counts v) c.from_ref-parser.ensures.window c.in_ok-header.ensures.header in
     let asked = c.in_ok-pass_questions.ensures.all in
     let answered = c.in_ok-pass_records.ensures.all in
     let authorized = c.in_ok-pass_records-2.ensures.all in
     let added = c.in_ok-pass_records-3.ensures.all in
     let rest = c.remaining-2.ensures.left in
     let more = c.if-remaining-gt0.true in
-    some_behind (g.R.AsOctets.content c.args.octets) h v (window c.pass_records-3.new.parser) (
+    some_after (g.R.AsOctets.content c.args.octets) h counts v (window c.pass_records-3.new.parser) (
       asked.0,
       (answered.0, (authorized.0, added.0)),
     ) is (
@@ -102,31 +106,33 @@ returns-clause-message g c =
     let z = window c.pass_records-2.new.parser in
     let end = window c.pass_records-3.new.parser in
     let h = fields_of c.in_ok-header.header in
+    let counts = c.in_ok-header.header.counts in
     let kept = c.result-1.given in
     let asked = c.in_ok-pass_questions.ensures.all in
     let answered = c.in_ok-pass_records.ensures.all in
     let authorized = c.in_ok-pass_records-2.ensures.all in
     let added = c.in_ok-pass_records-3.ensures.all in
-    let q = subst (λ row. Many h.qdcount IsQuestion w row x) (held_as question_code IsQuestion one_question w x
-    h.qdcount asked.0 kept.0 asked.1) asked.1 in
-    let a = subst (λ row. Many h.ancount IsRecord x row y) (held_as record_code IsRecord one_record x y h.ancount
+    let q = subst (λ row. Many counts.qdcount IsQuestion w row x) (held_as question_code IsQuestion one_question w x
+    counts.qdcount asked.0 kept.0 asked.1) asked.1 in
+    let a = subst (λ row. Many counts.ancount IsRecord x row y) (held_as record_code IsRecord one_record x y counts.ancount
     answered.0 kept.1.0 answered.1) answered.1 in
-    let b = subst (λ row. Many h.nscount IsRecord y row z) (held_as record_code IsRecord one_record y z h.nscount
+    let b = subst (λ row. Many counts.nscount IsRecord y row z) (held_as record_code IsRecord one_record y z counts.nscount
     authorized.0 kept.1.1.0 authorized.1) authorized.1 in
-    let d = subst (λ row. Many h.arcount IsRecord z row end) (held_as record_code IsRecord one_record z end h.arcount
+    let d = subst (λ row. Many counts.arcount IsRecord z row end) (held_as record_code IsRecord one_record z end counts.arcount
     added.0 kept.1.1.1.0 added.1) added.1 in
     let rest = c.remaining-2.ensures.left in
     let none = c.if-remaining-gt0.false in
     let all = ap left c.from_ref-parser.ensures.window in
     let size = c.remaining.ensures.left in
-    let small = c.if-remaining-gt-MESSAGE_MOST.false in
+    let small = c.if-remaining-gt-MESSAGE_MAX.false in
     record {
       size = omega (arith, all, size, small);
+      counts = counts;
       past_header = w;
-      header_is = subst (λ u. IsHeader u h w) c.from_ref-parser.ensures.window c.in_ok-header.ensures.header;
+      header_is = subst (λ u. IsHeader u h counts w) c.from_ref-parser.ensures.window c.in_ok-header.ensures.header;
       past_sections = end;
       sections_are = (x, q, (y, a, (z, b, d)));
-      nothing_behind = omega (arith, rest, none);
+      nothing_after = omega (arith, rest, none);
     }
 
 pub returns-clause-least : goal.returns-clause-least

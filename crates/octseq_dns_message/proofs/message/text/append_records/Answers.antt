@@ -1,7 +1,7 @@
 use Rattle.std.proofs.Common.{[], ◌++◌, refl, ap, sym, ◌∙◌, subst, append_assoc, append-nil}
 use Rattle.octseq_dns_message.specs.MessageText.{record_text, line, IsRecordsText}
 use Rattle.octseq_dns_message.specs.Said.{record_of}
-use Rattle.octseq_dns_message.specs.Typed.{form_of}
+use Rattle.octseq_dns_message.specs.Typed.{rdata_of}
 use Rattle.octseq_dns_message.specs.Walk.{records_left}
 use Rattle.octseq_dns_message.proofs.MessageTexts.{then_more}
 use Rattle.octseq_dns_message.proofs.message.text.append_records.Goals as goal
@@ -19,7 +19,7 @@ pub loop-entry-preserved : goal.loop-entry-preserved
 loop-entry-preserved g c =
     let so_far = c.loop-entry.invariant in
     let word = c.args.word.now in
-    let shown = line word (record_text (record_of c.in-Some.entry) (form_of c.data-rdata.result)) in
+    let shown = line word (record_text (record_of c.in-Some.entry) (rdata_of c.data-rdata.result)) in
     record {
       done = so_far.done ++ shown;
       appended = then_more (g.B.AsOctets.content c.args.text.now) _ _ so_far.done shown so_far.appended
@@ -27,7 +27,7 @@ loop-entry-preserved g c =
       borrows = c.in_ok-try_push_display.ensures.borrows ∙ so_far.borrows;
       whole = λ more text.
           let ahead = subst (λ records. IsRecordsText word records (shown ++ more)) (sym c.in-Some.ensures.steps)
-          (form_of c.data-rdata.result, more, c.data-rdata.ensures.form, text, refl) in
+          (rdata_of c.data-rdata.result, more, c.data-rdata.ensures.rdata, text, refl) in
           subst (IsRecordsText word (records_left c.args.records)) (sym (append_assoc so_far.done shown more))
           (so_far.whole (shown ++ more) ahead);
     }

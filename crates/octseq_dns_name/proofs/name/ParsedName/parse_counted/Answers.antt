@@ -29,8 +29,8 @@ returns-in_err-next_step-clause-malformed g c = λ _.
     (kept_at w c.pieces.behind) c.pieces.invariant.read.0
     (c.in_err-next_step.ensures.malformed refl)
 
-pub returns-then-len-gt-NAME_MOST-clause-malformed : goal.returns-then-len-gt-NAME_MOST-clause-malformed
-returns-then-len-gt-NAME_MOST-clause-malformed g c = λ _.
+pub returns-then-len-gt-NAME_MAX-clause-malformed : goal.returns-then-len-gt-NAME_MAX-clause-malformed
+returns-then-len-gt-NAME_MAX-clause-malformed g c = λ _.
     let w = window c.args.parser.now in
     let l = rest (window c.in-Label.label) in
     let made = c.pieces.len + (1 + c.remaining.result) in
@@ -40,10 +40,10 @@ returns-then-len-gt-NAME_MOST-clause-malformed g c = λ _.
     (kept_at w c.pieces.behind) l c.pieces.invariant.read.0 has
     (ap (λ n. c.pieces.len + (1 + n)) c.remaining.ensures.rest) in
     too_long w c.pieces.start (window c.next_step.new.parser) made c.pieces.pointers
-    (kept_at w c.pieces.behind) read c.if-len-gt-NAME_MOST.true
+    (kept_at w c.pieces.behind) read c.if-len-gt-NAME_MAX.true
 
-pub pieces-preserved-else-len-gt-NAME_MOST : goal.pieces-preserved-else-len-gt-NAME_MOST
-pieces-preserved-else-len-gt-NAME_MOST g c =
+pub pieces-preserved-else-len-gt-NAME_MAX : goal.pieces-preserved-else-len-gt-NAME_MAX
+pieces-preserved-else-len-gt-NAME_MAX g c =
     let w = window c.args.parser.now in
     let l = rest (window c.in-Label.label) in
     let made = c.pieces.len + (1 + c.remaining.result) in
@@ -59,7 +59,7 @@ pieces-preserved-else-len-gt-NAME_MOST g c =
           omega (arith, moved, before);
       turns = let turns = so_far.turns in let tick = c.tick.ensures in let some = short.0 in
           let is = c.remaining.ensures.left in omega (arith, turns, tick, some, is);
-      short = c.if-len-gt-NAME_MOST.false;
+      short = c.if-len-gt-NAME_MAX.false;
       few = so_far.few;
       of = let u = window c.pieces.ahead in
           at_of w u (window c.next_step.new.parser) ((u.position + 1) + octet u) so_far.of has.behind;
@@ -93,7 +93,7 @@ pieces-preserved g c =
       ordered = let place = ap (λ w. w.position) moved in omega (arith, place);
       turns = let turns = so_far.turns in let tick = c.tick.ensures in omega (arith, turns, tick);
       short = so_far.short;
-      few = c.if-pointers-gt-POINTERS_MOST.false;
+      few = c.if-pointers-gt-POINTER_MAX.false;
       of = at_of start w (window c.seek.new.self) to so_far.of moved;
       kept = subst (λ place. place ≤ start.end) (sym kept)
           (kept_within start u c.pieces.behind so_far.kept (let within = c.pos.ensures.ordered in

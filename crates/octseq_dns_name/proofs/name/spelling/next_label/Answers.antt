@@ -26,8 +26,8 @@ returns-in_err-octet-clause-refused c =
     c.octets.invariant.reads c.octets.invariant.short here other c.in_err-octet.ensures.none
     c.in_err-octet.ensures.begins
 
-pub returns-then-len-ge-LABEL_MOST-clause-refused : goal.returns-then-len-ge-LABEL_MOST-clause-refused
-returns-then-len-ge-LABEL_MOST-clause-refused c = λ labels.
+pub returns-then-len-ge-LABEL_MAX-clause-refused : goal.returns-then-len-ge-LABEL_MAX-clause-refused
+returns-then-len-ge-LABEL_MAX-clause-refused c = λ labels.
     let octet = c.in_ok-octet.octet in
     let done = c.octets.label.content in
     let taken = c.in_ok-octet.ensures.ok in

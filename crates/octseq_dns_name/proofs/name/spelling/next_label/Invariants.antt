@@ -1,4 +1,4 @@
--- The octets so far are read, and what is ahead is behind them.
+-- The octets so far are read, and what is ahead is after them.
 use Rattle.std.proofs.Common.{◌≤◌, length}
 use Rattle.octseq_dns_name.specs.Refused.{Reads}
 use Rattle.octseq_dns_name.proofs.name.spelling.next_label.Given as goal

@@ -3,7 +3,7 @@ use Rattle.std.proofs.Common.{refl, ap, ◌∙◌, arith, rules}
 use Rattle.std.proofs.lemmas.List.{flat_map_more, length-append}
 use Rattle.octseq_dns_name.specs.Name.{wire_length}
 use Rattle.octseq_dns_name.specs.Refused.{IsFault}
-use Rattle.octseq_dns_name.specs.declared.error.NameError.{NameError}
+use Rattle.octseq_dns_name.specs.declared.error.FromTextError.{FromTextError}
 use Rattle.octseq_dns_name.proofs.Names.{wire_append}
 use Rattle.octseq_dns_name.proofs.SpellingSteps.{none_left, read_no_label, read_label}
 use Rattle.octseq_dns_name.specs.NameFormat.{bodies}
@@ -15,7 +15,7 @@ returns-then-is_empty-clause-refused c =
     let text = c.args.text.now in
     let other : ¬ (text ≡ 46 ∷ []) = search rules in
     let end = none_left text (let over : length text ≡ 0 = search rules in over) in
-    let here : IsFault NameError.UnexpectedEnd [] text = ([], ([], end, refl), omega arith, inl refl) in
+    let here : IsFault FromTextError.UnexpectedEnd [] text = ([], ([], end, refl), omega arith, inl refl) in
     (other, [], text, read_no_label text, here)
 
 pub returns-then-not-has_room-clause-refused : goal.returns-then-not-has_room-clause-refused
@@ -35,7 +35,7 @@ returns-then-not-has_room-clause-refused c =
     let long : 255 < length octets + 1 + length slice + 1 = search rules in
     let past : 255 < wire_length (so_far.done ++ label ∷ []) = omega (arith, long, size, all, is, both) in
     let other : ¬ (text ≡ 46 ∷ []) = search rules in
-    let here : IsFault NameError.LongName so_far.done ahead =
+    let here : IsFault FromTextError.LongName so_far.done ahead =
     (label, c.in_ok-label.rest.now, c.in_ok-label.ensures.ok, some, omega (arith, most, size), past) in
     (other, so_far.done, ahead, so_far.reads, here)
 

@@ -1,4 +1,4 @@
-use Rattle.std.proofs.Common.{rules, subst}
+use Rattle.std.proofs.Common.{rules}
 use Rattle.octseq.specs.Parser.{window}
 use Rattle.octseq_dns_name.proofs.LabelLaws.{named_labels, named_octets}
 use Rattle.octseq_dns_name.proofs.name.text.a_name_has_labels.Goals as goal

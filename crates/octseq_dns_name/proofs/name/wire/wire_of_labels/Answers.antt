@@ -29,8 +29,8 @@ returns-then-is_empty-clause-wrong c =
       empty,
     )
 
-pub returns-then-len-gt-LABEL_MOST-clause-wrong : goal.returns-then-len-gt-LABEL_MOST-clause-wrong
-returns-then-len-gt-LABEL_MOST-clause-wrong c =
+pub returns-then-len-gt-LABEL_MAX-clause-wrong : goal.returns-then-len-gt-LABEL_MAX-clause-wrong
+returns-then-len-gt-LABEL_MAX-clause-wrong c =
     let default : Bor (List ℕ) = record { ref_ptr = (0, 0); now = [] } in
     let labels = c.args.labels.now in
     let i = c.loop-label.label-index in

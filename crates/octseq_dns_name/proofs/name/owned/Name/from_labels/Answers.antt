@@ -1,7 +1,7 @@
 use Rattle.std.proofs.Common.{◌≡◌, Err, map, length, refl, sym, ap, ◌∙◌, subst, rules}
 use Rattle.octseq.specs.Limit.{IsPast}
 use Rattle.octseq_dns_name.specs.Name.{wire_length}
-use Rattle.octseq_dns_name.specs.declared.error.LabelsError.{LabelsError}
+use Rattle.octseq_dns_name.specs.declared.error.FromLabelsError.{FromLabelsError}
 use Rattle.octseq_dns_name.proofs.Refusals.{error_or, ok_no_err}
 use Rattle.octseq_dns_name.proofs.Unfits.{wrong_told, short_told, fit_told}
 use Rattle.octseq_dns_name.proofs.Wires.{wire_has}
@@ -20,9 +20,9 @@ returns-in_err-held-in_default-clause-refused g c =
     let size : length c.as_slice.result.now ≡ wire_length labels =
     ap length c.as_slice.ensures.content ∙ ap length made.0 ∙ wire_has labels in
     let within : ¬ IsPast g.B.AsOctets.limit (length c.as_slice.result.now) = search rules in
-    let told : c.from_residual-in_err-held-in_default.result ≡ Err LabelsError.Memory = search rules in
+    let told : c.from_residual-in_err-held-in_default.result ≡ Err FromLabelsError.Memory = search rules in
     fit_told c.from_residual-in_err-held-in_default.result g.B.AsOctets.limit labels
-    (λ other is. ap (λ r. error_or r LabelsError.Memory) (sym is ∙ told)) made.1 made.2
+    (λ other is. ap (λ r. error_or r FromLabelsError.Memory) (sym is ∙ told)) made.1 made.2
     (subst (λ n. ¬ IsPast g.B.AsOctets.limit n) size within)
 
 pub returns-in-Some-clause-refused : goal.returns-in-Some-clause-refused

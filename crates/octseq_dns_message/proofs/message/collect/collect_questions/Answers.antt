@@ -2,7 +2,7 @@ use Rattle.std.specs.Prelude.{refl}
 use Rattle.std.proofs.lemmas.Iterator.Consumers.{map_from_collect, YieldsList-from_first}
 use Rattle.octseq_dns_message.specs.Said.{question_of}
 use Rattle.octseq_dns_message.specs.Walk.{questions_left}
-use Rattle.octseq_dns_message.proofs.message.lists.list_questions.Goals as goal
+use Rattle.octseq_dns_message.proofs.message.collect.collect_questions.Goals as goal
 
 pub returns : goal.returns
 returns g c =

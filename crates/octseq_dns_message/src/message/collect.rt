@@ -9,7 +9,7 @@ use std::alloc::{AllocError, Global};
 
 /// The entries of a message, a list for each section.
 #[derive(Debug, Drop)]
-pub struct Lists<R: AsOctets> {
+pub struct Sections<R: AsOctets> {
     /// The questions, from the first one on.
     pub questions: Vec<Question<R>>,
     /// The answers.
@@ -28,17 +28,17 @@ impl<R: AsOctets + Copy> Message<R> {
     /// # Errors
     ///
     /// `AllocError` where a request for memory was refused.
-    pub fn try_to_lists(&self, alloc: Global) -> Result<Lists<R>, AllocError>
-        ensures questions { IfOk result (λ lists. map question_of lists.questions.items ≡ questions_of self.now) }
-        ensures answers { IfOk result (λ lists. map record_of lists.answers.items ≡ answers_of self.now) }
-        ensures authorities { IfOk result (λ lists. map record_of lists.authorities.items ≡ authorities_of self.now) }
-        ensures additionals { IfOk result (λ lists. map record_of lists.additionals.items ≡ additionals_of self.now) }
+    pub fn collect(&self, alloc: Global) -> Result<Sections<R>, AllocError>
+        ensures questions { IfOk result (λ sections. map question_of sections.questions.items ≡ questions_of self.now) }
+        ensures answers { IfOk result (λ sections. map record_of sections.answers.items ≡ answers_of self.now) }
+        ensures authorities { IfOk result (λ sections. map record_of sections.authorities.items ≡ authorities_of self.now) }
+        ensures additionals { IfOk result (λ sections. map record_of sections.additionals.items ≡ additionals_of self.now) }
     {
-        let questions = list_questions(alloc, self.questions())?;
-        let answers = list_records(alloc, self.answers())?;
-        let authorities = list_records(alloc, self.authorities())?;
-        let additionals = list_records(alloc, self.additionals())?;
-        Ok(Lists {
+        let questions = collect_questions(alloc, self.questions())?;
+        let answers = collect_records(alloc, self.answers())?;
+        let authorities = collect_records(alloc, self.authorities())?;
+        let additionals = collect_records(alloc, self.additionals())?;
+        Ok(Sections {
             questions,
             answers,
             authorities,
@@ -48,7 +48,7 @@ impl<R: AsOctets + Copy> Message<R> {
 }
 
 /// The questions that a walk has left.
-fn list_questions<R: AsOctets + Copy>(
+fn collect_questions<R: AsOctets + Copy>(
     alloc: Global,
     questions: Questions<R>,
 ) -> Result<Vec<Question<R>>, AllocError>
@@ -58,7 +58,7 @@ fn list_questions<R: AsOctets + Copy>(
 }
 
 /// The records that a walk has left.
-fn list_records<R: AsOctets + Copy>(
+fn collect_records<R: AsOctets + Copy>(
     alloc: Global,
     records: Records<R>,
 ) -> Result<Vec<Record<R>>, AllocError>
