@@ -1,5 +1,5 @@
 -- How a message is read: a header, four sections, and nothing after them.
-use Rattle.std.proofs.Common.{◌≡◌, ℕ, ◌<◌, List, length, ap, subst, arith}
+use Rattle.std.proofs.Common.{◌≡◌, ℕ, ◌<◌, List, ap, subst, arith}
 use Rattle.octseq.specs.Window.{Window, left, whole}
 use Rattle.octseq_dns_message.specs.Entry.{Question, Record, IsQuestion, IsRecord}
 use Rattle.octseq_dns_message.specs.Header.{IsHeader}
@@ -8,7 +8,7 @@ use Rattle.octseq_dns_message.specs.OneEntry.{one_question, one_record}
 use Rattle.octseq_dns_message.specs.declared.header.Header.{Header}
 use Rattle.octseq_dns_message.specs.declared.header.HeaderCounts.{HeaderCounts}
 use Rattle.octseq_dns_message.proofs.Headers.{one_header}
-use Rattle.octseq_format.specs.Laws.{IsOne, NoneAt}
+use Rattle.octseq_format.specs.Laws.{Relation, IsOne, NoneAt}
 use Rattle.octseq_format.specs.Pair.{◌then◌, ◌one_then◌}
 use Rattle.octseq_format.specs.Row.{Many, one_many}
 use Rattle.octseq_format.proofs.Nones.{none_first, none_second}
@@ -53,39 +53,43 @@ no_sections : (octets : List ℕ) (h : Header) (counts : HeaderCounts) (v : Wind
 no_sections octets h counts v is none k q a b d m = none (q, (a, (b, d))) m.past_sections
     (same_sections octets h k counts q a b d v is m)
 
+-- the sections after the questions, and after the answers
+abbrev AreRecords : HeaderCounts → Relation (List Record × (List Record × List Record))
+AreRecords counts = Many counts.ancount IsRecord then Many counts.nscount IsRecord then Many counts.arcount IsRecord
+
+abbrev AreLater : HeaderCounts → Relation (List Record × List Record)
+AreLater counts = Many counts.nscount IsRecord then Many counts.arcount IsRecord
+
 module _ (octets : List ℕ) (h : Header) (counts : HeaderCounts) (v : Window) (is : IsHeader (whole octets) h counts v)
   where
     pub no_questions : NoneAt (Many counts.qdcount IsQuestion) v → Refuses octets
     no_questions none = no_sections octets h counts v is
-        (none_first (Many counts.qdcount IsQuestion)
-        (Many counts.ancount IsRecord then Many counts.nscount IsRecord then Many counts.arcount IsRecord) v none)
+        (none_first (Many counts.qdcount IsQuestion) (AreRecords counts) v none)
 
     module _ (q : List Question) (x : Window) (asked : Many counts.qdcount IsQuestion v q x) where
-      none_after_questions : NoneAt (Many counts.ancount IsRecord then Many counts.nscount IsRecord then Many counts.arcount IsRecord) x
-          → Refuses octets
+      none_after_questions : NoneAt (AreRecords counts) x → Refuses octets
       none_after_questions none = no_sections octets h counts v is
-          (none_second (Many counts.qdcount IsQuestion)
-          (Many counts.ancount IsRecord then Many counts.nscount IsRecord then Many counts.arcount IsRecord) v x q
+          (none_second (Many counts.qdcount IsQuestion) (AreRecords counts) v x q
           (one_many counts.qdcount IsQuestion one_question) asked none)
 
       pub no_answers : NoneAt (Many counts.ancount IsRecord) x → Refuses octets
-      no_answers none = none_after_questions (none_first (Many counts.ancount IsRecord)
-          (Many counts.nscount IsRecord then Many counts.arcount IsRecord) x none)
+      no_answers none = none_after_questions (none_first (Many counts.ancount IsRecord) (AreLater counts) x none)
 
       module _ (a : List Record) (y : Window) (answered : Many counts.ancount IsRecord x a y) where
-        none_after_answers : NoneAt (Many counts.nscount IsRecord then Many counts.arcount IsRecord) y → Refuses octets
+        none_after_answers : NoneAt (AreLater counts) y → Refuses octets
         none_after_answers none = none_after_questions
-            (none_second (Many counts.ancount IsRecord) (Many counts.nscount IsRecord then Many counts.arcount IsRecord) x y a
-            (one_records counts.ancount) answered none)
+            (none_second (Many counts.ancount IsRecord) (AreLater counts) x y a (one_records counts.ancount) answered
+            none)
 
         pub no_authorities : NoneAt (Many counts.nscount IsRecord) y → Refuses octets
-        no_authorities none = none_after_answers (none_first (Many counts.nscount IsRecord) (Many counts.arcount IsRecord) y none)
+        no_authorities none = none_after_answers
+            (none_first (Many counts.nscount IsRecord) (Many counts.arcount IsRecord) y none)
 
         pub no_additionals : (b : List Record) (z : Window) → Many counts.nscount IsRecord y b z
             → NoneAt (Many counts.arcount IsRecord) z → Refuses octets
         no_additionals b z authorized none = none_after_answers
-            (none_second (Many counts.nscount IsRecord) (Many counts.arcount IsRecord) y z b (one_records counts.nscount) authorized
-            none)
+            (none_second (Many counts.nscount IsRecord) (Many counts.arcount IsRecord) y z b
+            (one_records counts.nscount) authorized none)
 
 -- octets after the sections
 pub some_after : (octets : List ℕ) (h : Header) (counts : HeaderCounts) (v end : Window) (s : Entries)

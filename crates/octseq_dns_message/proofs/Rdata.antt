@@ -199,7 +199,8 @@ one_said r rdata other (inr a) (inl b) = absurd (a.1 other b)
 one_said r rdata other (inr a) (inr b) = a.0 ∙ sym b.0
 
 -- a form that is there is of the type
-typed_rtype : (rtype class : ℕ) (w v : Window) (rdata : ParsedRdata) → HasRdata rtype class w rdata v → rtype_of rdata ≡ rtype
+typed_rtype : (rtype class : ℕ) (w v : Window) (rdata : ParsedRdata) → HasRdata rtype class w rdata v
+    → rtype_of rdata ≡ rtype
 typed_rtype rtype class w v (ParsedRdata.a x) is = sym is.0
 typed_rtype rtype class w v (ParsedRdata.aaaa x) is = sym is.0
 typed_rtype rtype class w v (ParsedRdata.ns x) is = sym is.0
@@ -218,7 +219,8 @@ said_rtype r rdata (inl is) =
 said_rtype r rdata (inr is) = ap rtype_of is.0
 
 -- data of a type but TXT ends at one place
-pub one_end : (rtype class : ℕ) (w u v : Window) (rdata other : ParsedRdata) → (rtype ≡ 16 → ⊥) → HasRdata rtype class w rdata u
+pub one_end : (rtype class : ℕ) (w u v : Window) (rdata other : ParsedRdata) → (rtype ≡ 16 → ⊥)
+    → HasRdata rtype class w rdata u
     → HasRdata rtype class w other v → u ≡ v
 one_end rtype class w u v rdata other untold a b =
     let found = shape_of rtype class w u rdata a in

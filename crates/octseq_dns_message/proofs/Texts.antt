@@ -5,11 +5,10 @@ use Rattle.std.proofs.Common.{sym, ap, subst, arith}
 use Rattle.std.proofs.lemmas.Bool.{leb-true, leb-false}
 use Rattle.std.proofs.lemmas.Bool.Decides.{Decides-eqb}
 use Rattle.std.proofs.lemmas.Slice.Eq.{bytes_eq-Decides}
-use Rattle.std.specs.List.{flat_map}
 use Rattle.std.specs.Net.Addr.{IsIpv4Mapped, segments_of}
 use Rattle.std.specs.Net.Text.{groups_text, hex_groups_text, ipv6_text, longest_zero_run, zero_run}
-use Rattle.octseq_dns_message.specs.DataText.{AreZero, IsFirstLongest, IsGroupsText, aaaa_text, hex_text}
-use Rattle.octseq_dns_message.specs.DataText.{is_compatible, octets_behind}
+use Rattle.octseq_dns_message.specs.DataText.{AreZero, IsFirstLongest, IsGroupsText, aaaa_text}
+use Rattle.octseq_dns_message.specs.DataText.{is_compatible}
 
 -- ---- the first longest run of zero groups
 

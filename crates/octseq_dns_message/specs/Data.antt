@@ -105,4 +105,5 @@ pub record IsTyped (r : Record) (rdata : ParsedRdata) : Type 0 where
 
 -- What a record's data says: it has the form, or it has none and is unknown, of the record's own type.
 abbrev pub IsDataOf : Record → ParsedRdata → Type 0
-IsDataOf r rdata = IsTyped r rdata ⊎ (rdata ≡ ParsedRdata.unknown r.rtype r.rdata) × ((other : ParsedRdata) → ¬ IsTyped r other)
+IsDataOf r rdata = IsTyped r rdata
+    ⊎ (rdata ≡ ParsedRdata.unknown r.rtype r.rdata) × ((other : ParsedRdata) → ¬ IsTyped r other)

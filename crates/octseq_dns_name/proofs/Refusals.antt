@@ -281,7 +281,8 @@ ended FromTextError.IllegalEscape labels is = absurd (no_octet 92 is.1 is.2.0 is
 ended FromTextError.IllegalOctet labels is = absurd (no_octet is.0 is.2 is.3.0 is.3.1)
 
 -- a text that is refused for a reason spells no name
-pub no_name : (fault : FromTextError) (text : List ℕ) → IsRefused fault text → (labels : List (List ℕ)) → AreLabels labels
+pub no_name : (fault : FromTextError) (text : List ℕ) → IsRefused fault text → (labels : List (List ℕ))
+    → AreLabels labels
     → wire_length labels ≤ 255 → ¬ SpellsName labels text
 no_name fault text is labels are short spells =
     let here = is.3 in
@@ -315,7 +316,8 @@ pub refused_by : {T E : Type 0} (result : Result T E) (fault : E) → result ≡
 refused_by result fault is P holds = subst (λ r. IfErr r P) (sym is) holds
 
 -- a call that was refused for a reason was refused for no other one
-pub told_of : {T : Type 0} (result : Result T FromTextError) (fault : FromTextError) (text : List ℕ) → result ≡ Err fault
+pub told_of : {T : Type 0} (result : Result T FromTextError) (fault : FromTextError) (text : List ℕ)
+    → result ≡ Err fault
     → IsRefused fault text → (other : FromTextError) → IsErrOf result other ↔ IsRefused other text
 told_of result fault text is refused other = (
   λ told. subst (λ f. IsRefused f text) (ap (λ r. error_or r fault) (sym is ∙ told)) refused,

@@ -70,15 +70,18 @@ unended labels text label ahead so_far end some short =
     let read = subst (Reads text label) end so_far in (label, read, short, inr (some_read text label read some))
 
 -- no octet comes next
-pub octet_fault : (fault : FromTextError) (labels : List (List ℕ)) (text label ahead : List ℕ) (octet : ℕ) (rest : List ℕ)
+pub octet_fault : (fault : FromTextError) (labels : List (List ℕ)) (text label ahead : List ℕ) (octet : ℕ)
+    (rest : List ℕ)
     → Reads text label ahead → length label ≤ 63 → ahead ≡ octet ∷ rest → ¬ (octet ≡ 46) → SpellsNone ahead
     → BeginsWith fault ahead → IsFault fault labels text
 octet_fault FromTextError.UnexpectedEnd labels text label ahead octet rest so_far short here no_stop none begins =
     let e = ap length (sym here ∙ begins) in absurd (omega (arith, e))
 octet_fault FromTextError.EmptyLabel labels text label ahead octet rest so_far short here no_stop none begins =
     absurd begins
-octet_fault FromTextError.LongLabel labels text label ahead octet rest so_far short here no_stop none begins = absurd begins
-octet_fault FromTextError.LongName labels text label ahead octet rest so_far short here no_stop none begins = absurd begins
+octet_fault FromTextError.LongLabel labels text label ahead octet rest so_far short here no_stop none begins =
+    absurd begins
+octet_fault FromTextError.LongName labels text label ahead octet rest so_far short here no_stop none begins =
+    absurd begins
 octet_fault FromTextError.IllegalEscape labels text label ahead octet rest so_far short here no_stop none begins =
     (label, begins.0, subst (Reads text label) begins.1 so_far, short, subst SpellsNone begins.1 none)
 octet_fault FromTextError.IllegalOctet labels text label ahead octet rest so_far short here no_stop none begins = (

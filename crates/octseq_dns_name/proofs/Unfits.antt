@@ -158,7 +158,8 @@ wrong_told result limit fault labels is wrong other no_memory = (
 
 -- the name passed the limit
 pub short_told : {T : Type 0} (result : Result T FromLabelsError) (limit : Option ℕ) (labels : List (List ℕ))
-    → result ≡ Err FromLabelsError.Short → AreLabels labels → wire_length labels ≤ 255 → IsPast limit (wire_length labels)
+    → result ≡ Err FromLabelsError.Short → AreLabels labels → wire_length labels ≤ 255
+    → IsPast limit (wire_length labels)
     → (other : FromLabelsError) → other ≢ FromLabelsError.Memory → IsErrOf result other ↔ AreUnfit limit other labels
 short_told result limit labels is are short past other no_memory = (
   λ told. subst (λ f. AreUnfit limit f labels) (ap (λ r. error_or r FromLabelsError.Short) (sym is ∙ told))

@@ -29,10 +29,14 @@ impl<R: AsOctets + Copy> Message<R> {
     ///
     /// `AllocError` where a request for memory was refused.
     pub fn collect(&self, alloc: Global) -> Result<Sections<R>, AllocError>
-        ensures questions { IfOk result (λ sections. map question_of sections.questions.items ≡ questions_of self.now) }
-        ensures answers { IfOk result (λ sections. map record_of sections.answers.items ≡ answers_of self.now) }
-        ensures authorities { IfOk result (λ sections. map record_of sections.authorities.items ≡ authorities_of self.now) }
-        ensures additionals { IfOk result (λ sections. map record_of sections.additionals.items ≡ additionals_of self.now) }
+        ensures questions { IfOk result (λ sections.
+            map question_of sections.questions.items ≡ questions_of self.now) }
+        ensures answers { IfOk result (λ sections.
+            map record_of sections.answers.items ≡ answers_of self.now) }
+        ensures authorities { IfOk result (λ sections.
+            map record_of sections.authorities.items ≡ authorities_of self.now) }
+        ensures additionals { IfOk result (λ sections.
+            map record_of sections.additionals.items ≡ additionals_of self.now) }
     {
         let questions = collect_questions(alloc, self.questions())?;
         let answers = collect_records(alloc, self.answers())?;

@@ -42,8 +42,8 @@ returns-in_err-pass_records-2-clause-malformed g c = λ _.
     let is = subst (λ w. IsHeader w h counts v) c.from_ref-parser.ensures.window c.in_ok-header.ensures.header in
     let asked = c.in_ok-pass_questions.ensures.all in
     let answered = c.in_ok-pass_records.ensures.all in
-    no_authorities (g.R.AsOctets.content c.args.octets) h counts v is asked.0 (window c.pass_questions.new.parser) asked.1
-    answered.0 (window c.pass_records.new.parser) answered.1
+    no_authorities (g.R.AsOctets.content c.args.octets) h counts v is asked.0
+    (window c.pass_questions.new.parser) asked.1 answered.0 (window c.pass_records.new.parser) answered.1
     (c.in_err-pass_records-2.ensures.malformed refl)
 
 pub returns-in_err-pass_records-3-clause-malformed : goal.returns-in_err-pass_records-3-clause-malformed
@@ -55,8 +55,8 @@ returns-in_err-pass_records-3-clause-malformed g c = λ _.
     let asked = c.in_ok-pass_questions.ensures.all in
     let answered = c.in_ok-pass_records.ensures.all in
     let authorized = c.in_ok-pass_records-2.ensures.all in
-    no_additionals (g.R.AsOctets.content c.args.octets) h counts v is asked.0 (window c.pass_questions.new.parser) asked.1
-    answered.0 (window c.pass_records.new.parser) answered.1
+    no_additionals (g.R.AsOctets.content c.args.octets) h counts v is asked.0
+    (window c.pass_questions.new.parser) asked.1 answered.0 (window c.pass_records.new.parser) answered.1
     authorized.0 (window c.pass_records-2.new.parser) authorized.1 (c.in_err-pass_records-3.ensures.malformed refl)
 
 pub returns-then-remaining-gt0-clause-malformed : goal.returns-then-remaining-gt0-clause-malformed
@@ -114,12 +114,12 @@ returns-clause-message g c =
     let added = c.in_ok-pass_records-3.ensures.all in
     let q = subst (λ row. Many counts.qdcount IsQuestion w row x) (held_as question_code IsQuestion one_question w x
     counts.qdcount asked.0 kept.0 asked.1) asked.1 in
-    let a = subst (λ row. Many counts.ancount IsRecord x row y) (held_as record_code IsRecord one_record x y counts.ancount
-    answered.0 kept.1.0 answered.1) answered.1 in
-    let b = subst (λ row. Many counts.nscount IsRecord y row z) (held_as record_code IsRecord one_record y z counts.nscount
-    authorized.0 kept.1.1.0 authorized.1) authorized.1 in
-    let d = subst (λ row. Many counts.arcount IsRecord z row end) (held_as record_code IsRecord one_record z end counts.arcount
-    added.0 kept.1.1.1.0 added.1) added.1 in
+    let a = subst (λ row. Many counts.ancount IsRecord x row y) (held_as record_code IsRecord one_record x y
+    counts.ancount answered.0 kept.1.0 answered.1) answered.1 in
+    let b = subst (λ row. Many counts.nscount IsRecord y row z) (held_as record_code IsRecord one_record y z
+    counts.nscount authorized.0 kept.1.1.0 authorized.1) authorized.1 in
+    let d = subst (λ row. Many counts.arcount IsRecord z row end) (held_as record_code IsRecord one_record z end
+    counts.arcount added.0 kept.1.1.1.0 added.1) added.1 in
     let rest = c.remaining-2.ensures.left in
     let none = c.if-remaining-gt0.false in
     let all = ap left c.from_ref-parser.ensures.window in
