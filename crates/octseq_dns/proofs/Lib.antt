@@ -7,6 +7,7 @@ pub mod Fronts
 pub mod HeaderOctets
 pub mod ListPushes
 pub mod Made
+pub mod Moving
 pub mod OneEncoding
 pub mod Pushes
 pub mod Pushing

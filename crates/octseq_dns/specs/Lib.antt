@@ -1,5 +1,6 @@
 pub mod Composed
 pub mod Encoded
+pub mod Moved
 pub mod Place
 pub mod Pushed
 pub mod ReadBack

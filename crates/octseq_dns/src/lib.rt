@@ -12,6 +12,7 @@
 pub mod builder;
 pub mod compose;
 mod encode;
+pub mod moved;
 pub mod place;
 
 pub use builder::{
