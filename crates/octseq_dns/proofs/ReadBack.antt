@@ -1,97 +1,156 @@
--- A message that was written is a message, of what was pushed.
-use Rattle.std.proofs.Common.{◌≡◌, ℕ, suc, ◌+◌, List, [], ◌∷◌, ◌++◌, length, map, refl, sym, ap, ◌∙◌, subst, arith}
-use Rattle.std.proofs.Math.Logic.{∥∥₁_prop, ∥∥₁_elim}
-use Rattle.std.proofs.lemmas.List.{length-append, append-nil}
-use Rattle.octseq.specs.Window.{Window, at, whole}
-use Rattle.octseq_dns_message.specs.Entry.{Question, Record, IsQuestion, IsRecord}
-use Rattle.octseq_dns_message.specs.declared.header.Header.{Header}
-use Rattle.octseq_dns.specs.ReadBack.{bare, IsAsTold, AreAsTold, ReadsBack}
-use Rattle.octseq_dns.specs.Told.{Told, IsTold}
-use Rattle.octseq_dns.specs.Written.{Asked, IsAsked, IsWritten, Writes, header_octets}
-use Rattle.octseq_dns.proofs.HeaderOctets.{header_length, header_stands}
-use Rattle.octseq_format.specs.Row.{Row}
+-- A message that was written is read back.
+use Rattle.std.proofs.Common.{◌≡◌, ℕ, ◌≤◌, List, [], ◌∷◌, ◌++◌, length, map, drop, refl, sym, ap, ◌∙◌, subst, arith}
+use Rattle.std.proofs.Common.{append-nil}
+use Rattle.std.proofs.lemmas.List.{drop_at, map-append}
+use Rattle.std.specs.List.{AllZip, AllByRecursion}
+use Rattle.octseq.specs.Window.{at, whole}
+use Rattle.octseq_dns_compress.specs.Standing.{IsWellNamed}
+use Rattle.octseq_dns_compress.specs.State.{State, Entry, with_entries}
+use Rattle.octseq_dns_compress.proofs.FieldSizes.{entries_never_longer}
+use Rattle.octseq_dns_compress.proofs.Fields.{entries_grow, entries_more, grows_on}
+use Rattle.octseq_dns_compress.proofs.Standing.{all_of, all_grown, none_named}
+use Rattle.octseq_dns_compress.proofs.Steps.{Grows, grown_length}
+use Rattle.octseq_format.specs.Laws.{Relation}
+use Rattle.octseq_dns.specs.Contents.{Message, Fits, counts_of, header_octets, headed}
+use Rattle.octseq_dns.specs.Contents.{question_entry, record_entry, entries_of, composed, octets_of}
+use Rattle.octseq_dns.specs.ReadBack.{ReadsBack, bare}
+use Rattle.octseq_dns.proofs.EntriesRead.{IsRead, AreRead, question_is_read, record_is_read, rows_named}
+use Rattle.octseq_dns.proofs.EntriesRead.{rows_are_read}
+use Rattle.octseq_dns.proofs.HeaderRead.{header_length, header_is_read}
 
--- questions that stand in a row
-asked_row : (w v : Window) (asked : List Asked) → Row IsAsked w asked v
-    → (row : List Question) × Row IsQuestion w row v × (map bare row ≡ asked) × (length row ≡ length asked)
-asked_row w v [] are = ([], are, refl, refl)
-asked_row w v (one ∷ asked) are =
-    let more = asked_row are.0 v asked are.2 in
-    let q : Question = record {
-      qname = record { place = w; labels = one.labels };
-      qtype = one.qtype;
-      qclass = one.qclass;
-    } in
-    (q ∷ more.0, (are.0, are.1, more.1), ap (λ rest. one ∷ rest) more.2, ap suc more.3)
+-- a message takes no more octets than where no name is compressed
+pub never_longer : (most : ℕ) (m : Message) → length (octets_of most m) ≤ length (octets_of 0 m)
+never_longer most m = entries_never_longer most (headed m.header (counts_of m)) (entries_of m)
 
--- records that stand in a row
-told_row : (w v : Window) (told : List Told) → Row IsTold w told v
-    → (row : List Record) × Row IsRecord w row v × AreAsTold row told × (length row ≡ length told)
-told_row w v [] are = ([], are, tt, refl)
-told_row w v (one ∷ told) are =
-    let more = told_row are.0 v told are.2 in
-    let here = are.1 in
-    let r : Record = record {
-      owner = record { place = w; labels = one.labels };
-      rtype = one.rtype;
-      class = one.class;
-      ttl = one.ttl;
-      rdata = here.0;
-    } in
-    let is : IsAsTold r one = record { labels = refl; rtype = refl; class = refl; ttl = refl; says = here.1.1 } in
-    (r ∷ more.0, (are.0, here.1.0, more.1), (is, more.2), ap suc more.3)
+-- what is so of each of one list and of the other is what it is mapped to
+zip_mapped : {A B : Type 0} (f : A → B) (them : List A) (row : List B) → AllZip (λ a b. f a ≡ b) them row
+    → map f them ≡ row
+zip_mapped f [] [] zip = refl
+zip_mapped f [] (b ∷ row) zip = absurd zip
+zip_mapped f (a ∷ them) [] zip = absurd zip
+zip_mapped f (a ∷ them) (b ∷ row) zip = λ i. zip.0 i ∷ zip_mapped f them row zip.1 i
 
--- the octets are a message of those rows
-pub reads_back : (octets : List ℕ) (h : Header) (asked : List Asked) (answers authorities additionals : List Told)
-    → Writes octets h asked answers authorities additionals
-    → ReadsBack octets h asked answers authorities additionals
-reads_back octets h asked answers authorities additionals writes =
-    let body = writes.body in
-    let first = header_octets h in
-    let all : first ++ (body ++ []) ≡ octets = ap (λ behind. first ++ behind) (append-nil body)
-    ∙ sym writes.octets_are in
-    let are = writes.pushed first [] (header_length h) in
-    let end = at (12 + length body) (whole (first ++ (body ++ []))) in
-    let q = asked_row _ are.0 asked are.1 in
-    let x = told_row are.0 are.2.0 answers are.2.1 in
-    let y = told_row are.2.0 are.2.2.0 authorities are.2.2.1 in
-    let z = told_row are.2.2.0 end additionals are.2.2.2 in
-    let Read : List ℕ → Type 0 = λ octets. ReadsBack octets h asked answers authorities additionals in
-    let size = writes.size in
-    let long = ap length all in
-    let both = length-append first (body ++ []) in
-    let begins = header_length h in
-    let nil = ap length (append-nil body) in
-    subst Read all (record {
-      questions = q.0;
-      answered = x.0;
-      authorized = y.0;
-      added = z.0;
+-- a section is read where others come after it
+section_is_read : {A B : Type 0} {Is : Relation A} {IsAs : A → B → Type 0} {to_entry : B → Entry}
+    {FitsOne : B → Type 0} → IsRead Is IsAs to_entry FitsOne → (most : ℕ) (s : State) (row : List B)
+    → AllByRecursion FitsOne row → IsWellNamed s → (header last : List ℕ) → length header ≡ 12
+    → Grows (with_entries most s (map to_entry row)).octets last → length last ≤ 65535
+    → let all = whole (all_of header last []) in
+    AreRead Is IsAs (at (length s.octets) all) row (at (length (with_entries most s (map to_entry row)).octets) all)
+section_is_read {Is = Is} {IsAs = IsAs} {to_entry = to_entry} reads most s row fit named header last twelve grows few =
+    let octets = (with_entries most s (map to_entry row)).octets in
+    let less = grown_length octets last grows in
+    let late = (rows_named reads most s row fit named).headed in
+    let same = all_grown header octets last [] grows late in
+    subst (λ all. AreRead Is IsAs (at (length s.octets) (whole all)) row (at (length octets) (whole all))) same
+    (rows_are_read reads most s row fit named header (grows.0 ++ []) twelve (omega (arith, less, few)))
+
+-- ---- a message up to each of its sections
+
+abbrev with_questions : ℕ → Message → State
+with_questions most m = with_entries most (headed m.header (counts_of m)) (map question_entry m.questions)
+
+abbrev with_answers : ℕ → Message → State
+with_answers most m = with_entries most (with_questions most m) (map record_entry m.answers)
+
+abbrev with_authorities : ℕ → Message → State
+with_authorities most m = with_entries most (with_answers most m) (map record_entry m.authorities)
+
+abbrev with_additionals : ℕ → Message → State
+with_additionals most m = with_entries most (with_authorities most m) (map record_entry m.additionals)
+
+composed_is : (most : ℕ) (m : Message) → composed most m ≡ with_additionals most m
+composed_is most m =
+    let later = m.authorities ++ m.additionals in
+    entries_more most (headed m.header (counts_of m)) (map question_entry m.questions)
+    (map record_entry (m.answers ++ later))
+    ∙ ap (with_entries most (with_questions most m)) (map-append record_entry m.answers later)
+    ∙ entries_more most (with_questions most m) (map record_entry m.answers) (map record_entry later)
+    ∙ ap (with_entries most (with_answers most m)) (map-append record_entry m.authorities m.additionals)
+    ∙ entries_more most (with_answers most m) (map record_entry m.authorities) (map record_entry m.additionals)
+
+-- all of the octets, as those with the header
+all_is : (most : ℕ) (m : Message)
+    → all_of (header_octets m.header (counts_of m)) (with_additionals most m).octets [] ≡ octets_of most m
+all_is most m =
+    let header = header_octets m.header (counts_of m) in
+    let grows = entries_grow most (headed m.header (counts_of m)) (entries_of m) in
+    let twelve = header_length m.header (counts_of m) in
+    ap (λ (s : State). all_of header s.octets []) (sym (composed_is most m))
+    ∙ ap (λ rest. header ++ rest) (append-nil (drop 12 (octets_of most m)) ∙ ap (drop 12) grows.1
+    ∙ drop_at header grows.0 12 twelve)
+    ∙ sym grows.1
+
+-- ---- it is read
+
+read_all : (most : ℕ) (m : Message) → Fits m → length (with_additionals most m).octets ≤ 65535
+    → length (octets_of most m) ≤ 65535
+    → ReadsBack (all_of (header_octets m.header (counts_of m)) (with_additionals most m).octets []) m
+read_all most m fits few all_few =
+    let counts = counts_of m in
+    let header = header_octets m.header counts in
+    let twelve = header_length m.header counts in
+    let s0 = headed m.header counts in
+    let s1 = with_questions most m in
+    let s2 = with_answers most m in
+    let s3 = with_authorities most m in
+    let last = (with_additionals most m).octets in
+    let n0 : IsWellNamed s0 = record { headed = omega (arith, twelve); named = none_named header } in
+    let n1 = rows_named question_is_read most s0 m.questions fits.questions n0 in
+    let n2 = rows_named record_is_read most s1 m.answers fits.answers n1 in
+    let n3 = rows_named record_is_read most s2 m.authorities fits.authorities n2 in
+    let g3 = entries_grow most s3 (map record_entry m.additionals) in
+    let g2 = grows_on s2.octets s3.octets last (entries_grow most s2 (map record_entry m.authorities)) g3 in
+    let g1 = grows_on s1.octets s2.octets last (entries_grow most s1 (map record_entry m.answers)) g2 in
+    let g4 : Grows last last = ([], sym (append-nil last)) in
+    let first = section_is_read question_is_read most s0 m.questions fits.questions n0 header last twelve g1 few in
+    let second = section_is_read record_is_read most s1 m.answers fits.answers n1 header last twelve g2 few in
+    let third = section_is_read record_is_read most s2 m.authorities fits.authorities n2 header last twelve g3 few in
+    let fourth = section_is_read record_is_read most s3 m.additionals fits.additionals n3 header last twelve g4 few in
+    let all = all_of header last [] in
+    let w = whole all in
+    let same = ap length (all_is most m) in
+    let qdcount = fits.qdcount in
+    let ancount = fits.ancount in
+    let nscount = fits.nscount in
+    let arcount = fits.arcount in
+    record {
+      questions = first.them;
+      answers = second.them;
+      authorities = third.them;
+      additionals = fourth.them;
       message = record {
-        size = omega (arith, size, long);
-        past_header = at 12 (whole (first ++ (body ++ [])));
-        header_is = header_stands h (body ++ []) writes.fits;
-        past_sections = end;
+        size = omega (arith, same, all_few);
+        counts = counts;
+        past_header = at (length header) w;
+        header_is = header_is_read m.header counts (drop 12 last ++ []) fits.header (record {
+          qdcount = omega (arith, qdcount);
+          ancount = omega (arith, ancount);
+          nscount = omega (arith, nscount);
+          arcount = omega (arith, arcount);
+        });
+        past_sections = at (length last) w;
         sections_are = (
-          are.0,
-          (q.3 ∙ sym writes.qdcount, q.1),
+          at (length s1.octets) w,
+          (first.many, first.are),
           (
-            are.2.0,
-            (x.3 ∙ sym writes.ancount, x.1),
-            (are.2.2.0, (y.3 ∙ sym writes.nscount, y.1), (z.3 ∙ sym writes.arcount, z.1)),
+            at (length s2.octets) w,
+            (second.many, second.are),
+            (at (length s3.octets) w, (third.many, third.are), (fourth.many, fourth.are)),
           ),
         );
-        nothing_behind = omega (arith, both, begins, nil);
+        nothing_after = let ends = ap (λ (s : State). length s.octets) (composed_is most m) in
+            omega (arith, same, ends);
       };
-      asked_are = q.2;
-      answers_are = x.2;
-      authorities_are = y.2;
-      additionals_are = z.2;
-    })
+      questions_are = zip_mapped bare first.them m.questions first.as_said;
+      answers_are = second.as_said;
+      authorities_are = third.as_said;
+      additionals_are = fourth.as_said;
+    }
 
--- in whatever way they were written
-pub read_back : (octets : List ℕ) (h : Header) (asked : List Asked) (answers authorities additionals : List Told)
-    → IsWritten octets h asked answers authorities additionals
-    → ∥ ReadsBack octets h asked answers authorities additionals ∥₁
-read_back octets h asked answers authorities additionals written =
-    ∥∥₁_elim written ∥∥₁_prop (λ writes. ∣ reads_back octets h asked answers authorities additionals writes ∣₁)
+-- What was written is read back.
+pub is_read_back : (most : ℕ) (m : Message) → Fits m → length (octets_of most m) ≤ 65535
+    → ReadsBack (octets_of most m) m
+is_read_back most m fits few =
+    let ends = ap (λ (s : State). length s.octets) (composed_is most m) in
+    subst (λ octets. ReadsBack octets m) (all_is most m) (read_all most m fits (omega (arith, ends, few)) few)

@@ -1,39 +1,41 @@
 -- What is read of a message that was written.
-use Rattle.std.specs.Prelude.{◌≡◌, ℕ, List, [], ◌∷◌, map}
-use Rattle.octseq_dns_message.specs.Entry.{Question, Record}
+use Rattle.std.specs.Prelude.{◌≡◌, ℕ, List, map}
+use Rattle.std.specs.List.{AllZip}
+use Rattle.octseq.specs.Window.{Window, at}
+use Rattle.octseq_dns_compress.specs.Fields.{AreFields}
+use Rattle.octseq_dns_compress.specs.State.{Field}
+use Rattle.octseq_dns_message.specs.Entry as entry
 use Rattle.octseq_dns_message.specs.Message.{IsMessage}
-use Rattle.octseq_dns_message.specs.declared.header.Header.{Header}
-use Rattle.octseq_dns.specs.Told.{Told, Says}
-use Rattle.octseq_dns.specs.Written.{Asked}
+use Rattle.octseq_dns.specs.Contents.{Question, Record, Message}
 
 -- a question without its place
-abbrev pub bare : Question → Asked
+abbrev pub bare : entry.Question → Question
 bare q = record { labels = q.qname.labels; qtype = q.qtype; qclass = q.qclass }
 
--- A record is the one that was pushed.
-pub record IsAsTold (r : Record) (told : Told) : Type 0 where
-  pub labels : r.owner.labels ≡ told.labels
-  pub rtype : r.rtype ≡ told.rtype
-  pub class : r.class ≡ told.class
-  pub ttl : r.ttl ≡ told.ttl
-  pub says : Says r told.said
+-- The data of a record has these fields, and nothing else. They are in the message that its owner is in, so that names
+-- may have pointers.
+pub record HasFields (r : entry.Record) (fields : List Field) : Type 0 where
+  pub in_message : r.rdata.octets ≡ r.owner.place.octets
+  pub end : Window
+  pub fields_are : AreFields (at r.rdata.position r.owner.place) fields end
+  pub ends : end.position ≡ r.rdata.end
 
--- so are as many in their order
-abbrev pub AreAsTold : List Record → List Told → Type 0
-AreAsTold [] [] = Unit {0}
-AreAsTold [] (told ∷ more) = ⊥
-AreAsTold (r ∷ records) [] = ⊥
-AreAsTold (r ∷ records) (told ∷ more) = IsAsTold r told × AreAsTold records more
+-- A record is one that was written.
+pub record IsAsWritten (r : entry.Record) (written : Record) : Type 0 where
+  pub labels : r.owner.labels ≡ written.labels
+  pub rtype : r.rtype ≡ written.rtype
+  pub class : r.class ≡ written.class
+  pub ttl : r.ttl ≡ written.ttl
+  pub data_is : HasFields r written.fields
 
--- Octets are a message with this header, and its questions and records are those that were pushed.
-pub record ReadsBack (octets : List ℕ) (h : Header) (asked : List Asked)
-    (answers authorities additionals : List Told) : Type 0 where
-  pub questions : List Question
-  pub answered : List Record
-  pub authorized : List Record
-  pub added : List Record
-  pub message : IsMessage octets h questions answered authorized added
-  pub asked_are : map bare questions ≡ asked
-  pub answers_are : AreAsTold answered answers
-  pub authorities_are : AreAsTold authorized authorities
-  pub additionals_are : AreAsTold added additionals
+-- Octets are a message with this header, and its questions and records are those that were written, in their order.
+pub record ReadsBack (octets : List ℕ) (m : Message) : Type 0 where
+  pub questions : List entry.Question
+  pub answers : List entry.Record
+  pub authorities : List entry.Record
+  pub additionals : List entry.Record
+  pub message : IsMessage octets m.header questions answers authorities additionals
+  pub questions_are : map bare questions ≡ m.questions
+  pub answers_are : AllZip IsAsWritten answers m.answers
+  pub authorities_are : AllZip IsAsWritten authorities m.authorities
+  pub additionals_are : AllZip IsAsWritten additionals m.additionals

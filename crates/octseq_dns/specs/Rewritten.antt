@@ -1,19 +1,42 @@
--- What is read of a message that was written anew.
-use Rattle.std.specs.Prelude.{ℕ, List, map}
-use Rattle.octseq_dns_message.specs.Entry.{Question, Record}
+-- A message that was read, as one that is written.
+use Rattle.std.specs.Prelude.{◌≡◌, List, map}
+use Rattle.std.specs.List.{AllZip}
+use Rattle.octseq_dns_message.specs.Data.{ParsedRdata, IsDataOf}
+use Rattle.octseq_dns_message.specs.Entry as entry
 use Rattle.octseq_dns_message.specs.declared.header.Header.{Header}
-use Rattle.octseq_dns.specs.ReadBack.{ReadsBack, bare}
-use Rattle.octseq_dns.specs.Rewriting.{AreToldOf}
-use Rattle.octseq_dns.specs.Told.{Told}
+use Rattle.octseq.specs.Refusal.{Refusal}
+use Rattle.octseq_dns.specs.declared.rewrite.RewriteError.{RewriteError}
+use Rattle.octseq_dns.specs.Contents.{Record, Message}
+use Rattle.octseq_dns.specs.Rdata.{bare_rdata, rdata_fields}
+use Rattle.octseq_dns.specs.ReadBack.{bare}
 
--- Octets are a message with this header, and its questions and records say what those of another message do, in their
--- order.
-pub record ReadsAgain (octets : List ℕ) (h : Header) (questions : List Question)
-    (answers authorities additionals : List Record) : Type 0 where
-  pub answered : List Told
-  pub authorized : List Told
-  pub added : List Told
-  pub answers_are : AreToldOf answers answered
-  pub authorities_are : AreToldOf authorities authorized
-  pub additionals_are : AreToldOf additionals added
-  pub back : ReadsBack octets h (map bare questions) answered authorized added
+-- a record that was read, whose data says this
+abbrev pub record_of_parsed : entry.Record → ParsedRdata → Record
+record_of_parsed r parsed = record {
+  labels = r.owner.labels;
+  rtype = r.rtype;
+  class = r.class;
+  ttl = r.ttl;
+  fields = rdata_fields (bare_rdata parsed);
+}
+
+-- A record is written of one that was read, by what its data says.
+pub record IsRecordOf (r : entry.Record) (written : Record) : Type 0 where
+  pub parsed : ParsedRdata
+  pub data_is : IsDataOf r parsed
+  pub is : written ≡ record_of_parsed r parsed
+
+-- A message has the header, the questions and the records of one that was read.
+pub record IsMessageOf (header : Header) (questions : List entry.Question)
+    (answers authorities additionals : List entry.Record) (m : Message) : Type 0 where
+  pub header_is : m.header ≡ header
+  pub questions_are : m.questions ≡ map bare questions
+  pub answers_are : AllZip IsRecordOf answers m.answers
+  pub authorities_are : AllZip IsRecordOf authorities m.authorities
+  pub additionals_are : AllZip IsRecordOf additionals m.additionals
+
+-- why a message was not written anew
+abbrev pub rewrite_error : RewriteError → Refusal
+rewrite_error RewriteError.Immovable = Refusal.malformed
+rewrite_error (RewriteError.Short e) = Refusal.short
+rewrite_error RewriteError.Memory = Refusal.memory

@@ -1,67 +1,60 @@
 //! Messages that are written: RFC 1035, 4.1.
 //!
-//! A message begins with a header, and its sections follow one behind another: questions, answers, records of
-//! authorities, additional records. Each has a type of builder of its own, which the one before it turns into, so that
-//! nothing is pushed behind a later section. What is pushed is pushed whole or not at all, and the octets are a message
-//! at all times.
-ghost use Rattle.std.specs.Prelude.{◌≡◌, ◌++◌, ℕ, List, drop};
+//! A message begins with a header, followed by its sections: questions, answers, records of authorities, additional
+//! records. Each has a type of builder of its own, which the one before it turns into, so that nothing is pushed after
+//! a later section. What is pushed is pushed whole or not at all, and the octets are a message at all times.
+ghost use Rattle.std.specs.Prelude.{◌≡◌, ◌≤◌, ℕ, length};
+ghost use Rattle.octseq_dns.specs.Contents.{Fits, Message, header_octets, octets_of};
 ghost use Rattle.octseq_dns.specs.ReadBack.{ReadsBack};
-ghost use Rattle.octseq_dns.specs.Told.{Told};
-ghost use Rattle.octseq_dns.specs.Written.{Asked, Lists, AreWritten, IsWritten, header_octets};
-ghost use Rattle.octseq_dns_message.specs.declared.header.Header.{Header as Fields};
+ghost use Rattle.octseq_dns.specs.Writes.{Writes};
+ghost use Rattle.octseq_dns_compress.specs.State.{with_header};
 
-use crate::builder::header::put_header;
+use crate::builder::header::octets_of;
 use crate::builder::section::{Additionals, Answers, Authorities, NoSection, Questions, Section};
-use crate::place::Places;
 use octseq::builder::AsOctetsMut;
 use octseq::{AsOctets, OctetsBuilder, Truncate};
-use octseq_dns_message::Header;
+use octseq_dns_compress::{Composer, Compressor};
+use octseq_dns_message::{Header, HeaderCounts};
 use std::marker::{Model, PhantomData};
 
-mod draft;
+mod entry;
 mod header;
-mod law;
-mod made;
 mod message;
-mod question;
 mod questions;
-mod record;
 mod records;
 pub mod section;
 
-pub use crate::builder::law::data_is_read_as_pushed;
-
-/// What was written is read back: the octets are a message, with that header, those questions and those records in
-/// their order, names octet for octet.
-///
-/// It does nothing. A caller that calls it has the law in its proof.
-pub fn a_written_message_is_read()
-    ensures { (octets : List ℕ) (header : Fields) (asked : List Asked) (answers authorities additionals : List Told)
-        → IsWritten octets header asked answers authorities additionals
-        → ∥ ReadsBack octets header asked answers authorities additionals ∥₁ }
-{}
-
-/// A message that is written up to a section: octets in a builder, and the places of names in a table. Contracts see
-/// both, and the header.
+/// A message that is written up to a section: its octets, and a table of the names in them. Contracts see both, the
+/// header, and how many entries each section has.
 #[derive(Drop)]
-pub struct SectionBuilder<B: AsOctets, T: Places, S: Section> {
-    octets: B,
-    places: T,
+pub struct SectionBuilder<B: AsOctets, T: Compressor, S: Section> {
+    message: Composer<B, T>,
     header: Header,
+    counts: HeaderCounts,
     section: PhantomData<S>,
 }
 
-impl<B: AsOctets, T: Places, S: Section> Model for SectionBuilder<B, T, S> {
-    ghost use Rattle.octseq_dns.specs.Section.{Building, IsBuilt};
+impl<B: AsOctets, T: Compressor, S: Section> Model for SectionBuilder<B, T, S> {
+    ghost use Rattle.std.specs.Coded.{codes};
+    ghost use Rattle.octseq_dns.specs.Writes.{Building, IsBuilt};
+    ghost use Rattle.octseq_dns_compress.specs.State.{state_code};
 
     ghost Value = { Building B T };
 
-    ghost view = { λ m. record { octets = m.octets; places = m.places; header = m.header } };
+    ghost coded = { Prim.hlevel (codes, state_code) };
 
-    ghost invariant = { λ m. IsBuilt (B.content m.octets) (T.held m.places) m.header S.reaches };
+    ghost view = { λ m. record {
+      octets = m.message.octets;
+      table = m.message.table;
+      state = m.message.state;
+      header = m.header;
+      counts = m.counts;
+    } };
+
+    ghost invariant = { λ m. IsBuilt T.most m.message.state m.header m.counts S.reaches };
 }
 
-/// A message in which nothing stands but its header.
+/// A message that has its header alone.
 pub type MessageBuilder<B, T> = SectionBuilder<B, T, NoSection>;
 
 /// A message to which questions are pushed.
@@ -76,7 +69,7 @@ pub type AuthorityBuilder<B, T> = SectionBuilder<B, T, Authorities>;
 /// A message to which additional records are pushed.
 pub type AdditionalBuilder<B, T> = SectionBuilder<B, T, Additionals>;
 
-impl<B: OctetsBuilder + Truncate + AsOctetsMut, T: Places, S: Section> SectionBuilder<B, T, S> {
+impl<B: OctetsBuilder + Truncate + AsOctetsMut, T: Compressor, S: Section> SectionBuilder<B, T, S> {
     /// Its header.
     pub fn header(&self) -> Header
         ensures { result ≡ self.now.header }
@@ -84,40 +77,42 @@ impl<B: OctetsBuilder + Truncate + AsOctetsMut, T: Places, S: Section> SectionBu
         self.header
     }
 
-    /// Sets the id, the flags, the opcode and the response code of the header. The counts of a message stay.
+    /// How many entries each section has.
+    pub fn header_counts(&self) -> HeaderCounts
+        ensures { result ≡ self.now.counts }
+    {
+        self.counts
+    }
+
+    /// Sets the header. The counts of the message stay.
     pub fn set_header(&mut self, header: Header)
-        ensures header { self.new.header ≡ record self.old.header
-            { id = header.id; flags = header.flags; opcode = header.opcode; rcode = header.rcode } }
-        ensures written { (lists : Lists) → AreWritten (B.content self.old.octets) self.old.header lists
-            → AreWritten (B.content self.new.octets) self.new.header lists }
-        ensures octets { B.content self.new.octets
-            ≡ header_octets self.new.header ++ drop 12 (B.content self.old.octets) }
-        ensures places { T.held self.new.places ≡ T.held self.old.places }
+        ensures header { self.new.header ≡ header }
+        ensures counts { self.new.counts ≡ self.old.counts }
+        ensures state { self.new.state ≡ with_header self.old.state (header_octets header self.old.counts) }
+        ensures written { (m : Message) → Writes T.most m self.old.state self.old.header self.old.counts
+            → Writes T.most (record m { header = header }) self.new.state self.new.header self.new.counts }
         ensures borrows { B.borrows self.new.octets ≡ B.borrows self.old.octets }
     {
-        self.header.id = header.id;
-        self.header.flags = header.flags;
-        self.header.opcode = header.opcode;
-        self.header.rcode = header.rcode;
-        put_header(&mut self.octets, &self.header);
+        self.header = header;
+        self.message.put_header(&octets_of(&self.header, &self.counts));
     }
 
     /// The message so far.
     pub fn as_slice(&self) -> &[u8]
-        ensures { result.now ≡ B.content self.now.octets }
+        ensures { result.now ≡ self.now.state.octets }
     {
-        self.octets.as_ref()
+        self.message.as_slice()
     }
 
     /// Goes on with a later section.
-    fn go_on<N: Section>(self) -> SectionBuilder<B, T, N>
-        requires { (lists : Lists) → S.reaches lists → N.reaches lists }
+    fn next_section<N: Section>(self) -> SectionBuilder<B, T, N>
+        requires { S.reaches self.counts → N.reaches self.counts }
         ensures { result ≡ self }
     {
         SectionBuilder {
-            octets: self.octets,
-            places: self.places,
+            message: self.message,
             header: self.header,
+            counts: self.counts,
             section: PhantomData,
         }
     }

@@ -1,31 +1,33 @@
 //! Domain names and DNS messages: read from one buffer with nothing copied, and written.
 //!
 //! A message is octets that anyone may have sent. [`Message::parse`] takes every message of RFC 1035 and no other
-//! octets, requests no memory, and answers a value that says where everything stands: its header, and walks over its
-//! sections that can't fail any more. A name is the place where it stands in the message, with its compression
-//! pointers.
+//! octets, requests no memory, and answers a value that says where everything is: its header, and walks over its
+//! sections that can't fail any more. A name is the place where it is in the message, with its compression pointers.
 //!
 //! A message is written by [`MessageBuilder`], section by section, into a builder of octets. Names are compressed by a
-//! table of the places where names stand. What was written is read back, as that message.
+//! table of the names that are in the message. What was written is read back, as that message.
 #![tactic(auto)]
 
 pub mod builder;
-pub mod compose;
-mod encode;
+pub mod laws;
 pub mod moved;
-pub mod place;
+pub mod rdata;
+pub mod rewrite;
 
 pub use builder::{
     AdditionalBuilder, AnswerBuilder, AuthorityBuilder, MessageBuilder, QuestionBuilder,
     SectionBuilder,
 };
+pub use moved::can_move;
+pub use octseq_dns_compress::{Compose, Composer, Compressor, Target};
 pub use octseq_dns_message::data::Data;
-pub use octseq_dns_message::header::{Flags, Header};
+pub use octseq_dns_message::header::{Flags, Header, HeaderCounts};
 pub use octseq_dns_message::iana::{Class, Opcode, Rcode, Rtype};
 pub use octseq_dns_message::message::{Message, Question, Record};
 pub use octseq_dns_message::ttl::Ttl;
 pub use octseq_dns_message::{data, header, iana, message, ttl};
-pub use octseq_dns_name::error::{LabelsError, Malformed, NameError};
+pub use octseq_dns_name::error::{FromLabelsError, FromTextError, Malformed};
 pub use octseq_dns_name::name::{DomainName, Name, ParsedName};
 pub use octseq_dns_name::{error, name};
-pub use place::{FixedPlaces, NoCompression, Place, Places};
+pub use rdata::{ComposeRecordData, UnknownRecordData};
+pub use rewrite::{RewriteError, rewrite};

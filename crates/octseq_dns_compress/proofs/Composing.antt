@@ -1,11 +1,10 @@
 -- A name appended to a message, whose targets are those of names.
-use Rattle.std.specs.Prelude.{not, slice_index_or, nat_lt, cond, if◌then◌else◌, ◌/◌, ◌%◌}
+use Rattle.std.specs.Prelude.{slice_index_or, nat_lt, cond, if◌then◌else◌, ◌/◌, ◌%◌}
 use Rattle.std.proofs.Common.{◌≡◌, Bool, true, ℕ, suc, ◌+◌, ◌<◌, ◌≤◌, Option, Some, None, List, [], ◌∷◌, ◌++◌, length, take}
-use Rattle.std.proofs.Common.{drop, refl, sym, ap, ◌∙◌, subst, arith, is_some}
+use Rattle.std.proofs.Common.{Ok, Err, drop, refl, sym, ap, ◌∙◌, subst, arith, is_some}
 use Rattle.std.proofs.Math.Bool.{true≢false}
-use Rattle.std.proofs.lemmas.Bool.{ne_eqb, lt-ltb, lt-leb}
+use Rattle.std.proofs.lemmas.Bool.{ne_eqb, lt-leb}
 use Rattle.std.proofs.Math.Logic.{∥∥₁_map, ∥∥₁_elim}
-use Rattle.std.proofs.lemmas.List.Filters.{length-filter_both}
 use Rattle.std.proofs.Math.Seq.{take-append_seam}
 use Rattle.std.specs.Cmp.Lexicographic.{slice_cmp}
 use Rattle.std.specs.Coded.{Coded-set, coded_list, coded_ℕ, coded_bool, le_prop}
@@ -21,7 +20,13 @@ use Rattle.octseq_dns_compress.specs.Names.{Names, Place, labels_cmp, unrooted, 
 use Rattle.octseq_dns_compress.specs.Written.{IsWritten}
 use Rattle.octseq_dns_compress.specs.declared.search.Ending.{Ending}
 use Rattle.octseq_dns_compress.specs.declared.table.Target.{Target}
+use Rattle.octseq.specs.Appends.{Appends}
+use Rattle.octseq.specs.Limit.{IsPast, IsWithin}
+use Rattle.octseq.specs.declared.AppendError.{AppendError}
+use Rattle.octseq_dns_compress.specs.Composed.{before}
+use Rattle.octseq_dns_compress.specs.Named.{AppendsName}
 use Rattle.octseq_dns_compress.proofs.Grown.{agrees_grown, key_stays}
+use Rattle.octseq_dns_compress.proofs.Marked.{before_all, known_same, same_names}
 use Rattle.octseq_dns_compress.proofs.Keys.{less_told}
 use Rattle.octseq_dns_compress.proofs.Steps.{Grows}
 
@@ -123,23 +128,7 @@ is_written octets targets names agrees labels written start back begin header = 
       let less = after_names octets targets names agrees others place found in omega (arith, less, begin);
 }
 
--- ---- undone
-
-filtered : (test : Target → Bool) (targets : List Target)
-    → ((i : ℕ) (d : Target) → i < length targets → test (slice_index_or targets i d) ≡ true)
-    → filter test targets ≡ targets
-filtered test [] each = refl
-filtered test (target ∷ targets) each =
-    ap (λ b. cond b (target ∷ filter test targets) (filter test targets)) (each 0 target (omega arith))
-    ∙ ap (λ more. target ∷ more) (filtered test targets (λ i d less. each (suc i) d (omega (arith, less))))
-
--- every target is before the end of the octets
-all_before : (octets : List ℕ) (targets : List Target) (names : Names) → Agrees octets targets names
-    → filter (λ t. nat_lt t.at (length octets)) targets ≡ targets
-all_before octets targets names agrees =
-    filtered (λ t. nat_lt t.at (length octets)) targets (λ i d less.
-    let whole = agrees.targets_are.whole i d less in
-    lt-ltb (slice_index_or targets i d).at (length octets) (omega (arith, whole)))
+-- ---- the append of a name
 
 -- what is looked for is where it is
 pub ending_of : (octets content : List ℕ) (targets held : List Target) (labels : List (List ℕ)) (end : Ending)
@@ -151,33 +140,16 @@ ending_of octets content targets held labels end same alike is =
     (subst (λ t. (names : Names) → Agrees octets t names → IsEnding octets t names labels end) alike is)
 
 -- what was written and kept is taken back
-module _ (octets : List ℕ) (targets : List Target) (known : Known octets targets) (new : List ℕ)
+module _ (octets : List ℕ) (targets : List Target) (are : AreTargets octets targets) (new : List ℕ)
     (held kept : List Target) (start : ℕ) (undone : List ℕ) (begin : start ≡ length octets) (grows : Grows octets new)
-    (before : filter (λ t. nat_lt t.at start) held ≡ filter (λ t. nat_lt t.at start) targets)
-    (kept_are : kept ≡ filter (λ t. nat_lt t.at start) held) (undone_is : undone ≡ take start new) where
+    (same : before start held ≡ before start targets) (kept_are : kept ≡ before start held)
+    (undone_is : undone ≡ take start new) where
   pub octets_back : undone ≡ octets
   octets_back =
       undone_is ∙ ap (λ n. take n new) begin ∙ ap (take (length octets)) grows.1 ∙ take-append_seam octets grows.0
 
-  pub known_back : Known undone kept
-  known_back = (known.0, ∥∥₁_map known.1 to) where
-    to : Agrees octets targets known.0 → Agrees undone kept known.0
-    to agrees =
-        subst (λ o. Agrees o kept known.0) (sym octets_back)
-        (subst (λ t. Agrees octets t known.0)
-        (sym (kept_are ∙ before ∙ ap (λ n. filter (λ t. nat_lt t.at n) targets) begin
-        ∙ all_before octets targets known.0 agrees)) agrees)
-
-  pub names_back : (now : Known undone kept) → now.0 ≡ known.0
-  unfolding known_back
-  names_back now = ap (λ known. known.0) (known_once undone kept now known_back)
-
-  -- no more than before
-  pub fewer_back : (most : ℕ) → length held ≤ most → length kept ≤ most
-  fewer_back most few =
-      let same = ap length kept_are in
-      let less = length-filter_both (λ t. nat_lt t.at start) (λ t. not (nat_lt t.at start)) (λ t. refl) held in
-      omega (arith, few, same, less)
+  pub held_back : kept ≡ targets
+  held_back = kept_are ∙ same ∙ ap (λ n. before n targets) begin ∙ before_all octets targets are
 
 -- what was written is kept
 module _ (octets : List ℕ) (targets : List Target) (known : Known octets targets) (labels : List (List ℕ))
@@ -202,6 +174,51 @@ module _ (octets : List ℕ) (targets : List Target) (known : Known octets targe
   pub names_more : (now : Known new held) → now.0 ≡ names_with most known.0 start labels
   unfolding known_more
   names_more now = ap (λ known. known.0) (known_once new held now known_more)
+
+-- what the append of a name does, by what it answers
+module _ (limit : Option ℕ) (asks : Bool) (most : ℕ) (labels : List (List ℕ)) (octets new name : List ℕ)
+    (targets : List Target) (known : Known octets targets) (name_is : name ≡ name_octets known.0 labels) where
+  fits : length octets + length name ≡ length octets + length (name_octets known.0 labels)
+  fits = ap (λ o. length octets + length o) name_is
+
+  pub name_refused : (e : AppendError) → Appends limit asks (Err e) name octets new
+      → AppendsName limit most (Err e) labels octets new targets targets known
+  name_refused e appends =
+      let now = known_same octets new targets targets appends.err refl known in
+      record {
+        now = now;
+        ok = tt;
+        err = (appends.err, same_names octets new targets targets appends.err refl known now);
+        within = tt;
+        short = λ short. subst (IsPast limit) fits (appends.short.0 short);
+        past = λ past. appends.short.1 (subst (IsPast limit) (sym fits) past);
+      }
+
+  pub name_appended : (held : List Target) (u : Unit {0}) → Appends limit asks (Ok u) name octets new
+      → IsWithin limit (length new) → (now : Known new held) → now.0 ≡ names_with most known.0 (length octets) labels
+      → AppendsName limit most (Ok u) labels octets new targets held known
+  name_appended held u appends within now names = record {
+    now = now;
+    ok = (appends.ok ∙ ap (λ o. octets ++ o) name_is, names);
+    err = tt;
+    within = within;
+    short = λ short. absurd short;
+    past = λ past. absurd (appends.short.1 (subst (IsPast limit) (sym fits) past));
+  }
+
+  pub name_taken_back : (u : Unit {0}) (undone : List ℕ) (kept : List Target) → Appends limit asks (Ok u) name octets new
+      → undone ≡ octets → kept ≡ targets
+      → AppendsName limit most (Err AppendError.Memory) labels octets undone targets kept known
+  name_taken_back u undone kept appends back same =
+      let now = known_same octets undone targets kept back same known in
+      record {
+        now = now;
+        ok = tt;
+        err = (back, same_names octets undone targets kept back same known now);
+        within = tt;
+        short = λ short. absurd short;
+        past = λ past. absurd (appends.short.1 (subst (IsPast limit) (sym fits) past));
+      }
 
 -- ---- nothing yet
 

@@ -1,55 +1,47 @@
--- Targets in a message that grows.
+-- Targets in a message that changes elsewhere: their labels stay.
 use Rattle.std.specs.Prelude.{slice_index_or}
-use Rattle.std.proofs.Common.{◌≡◌, ℕ, ◌+◌, ◌<◌, List, ◌∷◌, ◌++◌, length, take, drop, ap, ◌∙◌, arith}
+use Rattle.std.proofs.Common.{◌≡◌, ℕ, ◌+◌, ◌<◌, ◌≤◌, List, ◌∷◌, ◌++◌, length, take, drop, ap, ◌∙◌, sym, subst, arith}
 use Rattle.std.proofs.Common.{length-append, length-drop}
 use Rattle.std.proofs.Math.ListN.{get_or-append}
+use Rattle.std.proofs.Math.Logic.{∥∥₁_map}
 use Rattle.std.proofs.lemmas.List.{drop-append-le, take-append-le}
 use Rattle.std.specs.Cmp.Lexicographic.{slice_cmp}
 use Rattle.std.specs.Ordering.{nat_cmp}
 use Rattle.octseq_dns_compress.specs.Agrees.{Agrees}
 use Rattle.octseq_dns_compress.specs.Key.{label_at, key_of, IsWhole, AreTargets}
+use Rattle.octseq_dns_compress.specs.Known.{Known, known_once}
 use Rattle.octseq_dns_compress.specs.Names.{Names}
 use Rattle.octseq_dns_compress.specs.declared.table.Target.{Target}
 
-module _ (octets more : List ℕ) where
-  octet_stays : (at : ℕ) → at < length octets → slice_index_or (octets ++ more) at 0 ≡ slice_index_or octets at 0
-  octet_stays at within = get_or-append octets more 0 at within
+-- two messages have one label at a place
+abbrev pub IsAlike : List ℕ → List ℕ → ℕ → Type 0
+IsAlike old new at = (slice_index_or new at 0 ≡ slice_index_or old at 0) × (label_at new at ≡ label_at old at)
 
-  whole_stays : (at : ℕ) → IsWhole octets at → IsWhole (octets ++ more) at
-  whole_stays at whole =
-      let same = octet_stays at (omega (arith, whole)) in
-      let long = length-append octets more in
-      omega (arith, whole, same, long)
+module _ (old new : List ℕ) (targets : List Target) (long : length old ≤ length new)
+    (alike : (i : ℕ) (d : Target) → i < length targets → IsAlike old new (slice_index_or targets i d).at) where
+  whole_alike : (at : ℕ) → IsAlike old new at → IsWhole old at → IsWhole new at
+  whole_alike at same whole = let first = same.0 in omega (arith, first, long, whole)
 
-  pub label_stays : (at : ℕ) → IsWhole octets at → label_at (octets ++ more) at ≡ label_at octets at
-  unfolding label_at
-  label_stays at whole =
-      let n = 1 + slice_index_or octets at 0 in
-      let left = length-drop at octets in
-      ap (λ o. take (1 + o) (drop at (octets ++ more))) (octet_stays at (omega (arith, whole)))
-      ∙ ap (take n) (drop-append-le at octets more (omega (arith, whole)))
-      ∙ take-append-le n (drop at octets) more (omega (arith, whole, left))
+  key_alike : (i : ℕ) (d : Target) → i < length targets
+      → key_of new (slice_index_or targets i d) ≡ key_of old (slice_index_or targets i d)
+  key_alike i d within = ap (λ label. (slice_index_or targets i d).next ∷ label) (alike i d within).1
 
-  pub key_stays : (target : Target) → IsWhole octets target.at → key_of (octets ++ more) target ≡ key_of octets target
-  key_stays target whole = ap (λ label. target.next ∷ label) (label_stays target.at whole)
-
-  targets_stay : (targets : List Target) → AreTargets octets targets → AreTargets (octets ++ more) targets
-  targets_stay targets are = record {
-    whole = λ i d within. whole_stays (slice_index_or targets i d).at (are.whole i d within);
+  targets_alike : AreTargets old targets → AreTargets new targets
+  targets_alike are = record {
+    whole = λ i d within. whole_alike (slice_index_or targets i d).at (alike i d within) (are.whole i d within);
     near = are.near;
     few = are.few;
     less = λ i j d before within.
-        let one = key_stays (slice_index_or targets i d) (are.whole i d (omega (arith, before, within))) in
-        let other = key_stays (slice_index_or targets j d) (are.whole j d within) in
-        ap (λ key. slice_cmp nat_cmp key (key_of (octets ++ more) (slice_index_or targets j d))) one
-        ∙ ap (slice_cmp nat_cmp (key_of octets (slice_index_or targets i d))) other ∙ are.less i j d before within;
+        ap (λ key. slice_cmp nat_cmp key (key_of new (slice_index_or targets j d)))
+        (key_alike i d (omega (arith, before, within)))
+        ∙ ap (slice_cmp nat_cmp (key_of old (slice_index_or targets i d))) (key_alike j d within)
+        ∙ are.less i j d before within;
   }
 
   -- they are those of the same names
-  pub agrees_grown : (targets : List Target) (names : Names) → Agrees octets targets names
-      → Agrees (octets ++ more) targets names
-  agrees_grown targets names agrees = record {
-    targets_are = targets_stay targets agrees.targets_are;
+  agrees_alike : (names : Names) → Agrees old targets names → Agrees new targets names
+  agrees_alike names agrees = record {
+    targets_are = targets_alike agrees.targets_are;
     count = agrees.count;
     root = agrees.root;
     held = λ index d within.
@@ -63,9 +55,12 @@ module _ (octets more : List ℕ) where
         };
     all = λ label rest place is.
         let has = agrees.all label rest place is in
+        let d : Target = record { at = 0; next = 0; pointers = 0 } in
+        let same : IsAlike old new place.at =
+        subst (IsAlike old new) (ap (λ t. t.at) (has.target_is d)) (alike has.index d has.within) in
         record {
-          label_is = label_stays place.at has.whole ∙ has.label_is;
-          whole = whole_stays place.at has.whole;
+          label_is = same.1 ∙ has.label_is;
+          whole = whole_alike place.at same has.whole;
           after_header = has.after_header;
           more = has.more;
           index = has.index;
@@ -74,3 +69,38 @@ module _ (octets more : List ℕ) where
         };
     once = agrees.once;
   }
+
+  pub known_alike : Known old targets → Known new targets
+  known_alike known = (known.0, ∥∥₁_map known.1 (agrees_alike known.0))
+
+  pub alike_names : (before : Known old targets) (after : Known new targets) → after.0 ≡ before.0
+  unfolding known_alike
+  alike_names before after = ap (λ known. known.0) (known_once new targets after (known_alike before))
+
+-- ---- octets come after others
+
+module _ (octets more : List ℕ) where
+  pub octet_stays : (at : ℕ) → at < length octets → slice_index_or (octets ++ more) at 0 ≡ slice_index_or octets at 0
+  octet_stays at within = get_or-append octets more 0 at within
+
+  pub label_stays : (at : ℕ) → IsWhole octets at → label_at (octets ++ more) at ≡ label_at octets at
+  unfolding label_at
+  label_stays at whole =
+      let n = 1 + slice_index_or octets at 0 in
+      let left = length-drop at octets in
+      ap (λ o. take (1 + o) (drop at (octets ++ more))) (octet_stays at (omega (arith, whole)))
+      ∙ ap (take n) (drop-append-le at octets more (omega (arith, whole)))
+      ∙ take-append-le n (drop at octets) more (omega (arith, whole, left))
+
+  pub key_stays : (target : Target) → IsWhole octets target.at → key_of (octets ++ more) target ≡ key_of octets target
+  key_stays target whole = ap (λ label. target.next ∷ label) (label_stays target.at whole)
+
+  alike_stays : (at : ℕ) → IsWhole octets at → IsAlike octets (octets ++ more) at
+  alike_stays at whole = (octet_stays at (omega (arith, whole)), label_stays at whole)
+
+  pub agrees_grown : (targets : List Target) (names : Names) → Agrees octets targets names
+      → Agrees (octets ++ more) targets names
+  agrees_grown targets names agrees =
+      let long = length-append octets more in
+      agrees_alike octets (octets ++ more) targets (omega (arith, long))
+      (λ i d within. alike_stays (slice_index_or targets i d).at (agrees.targets_are.whole i d within)) names agrees

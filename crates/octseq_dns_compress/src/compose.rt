@@ -1,40 +1,74 @@
 //! Messages that are composed of octets and of names, which are compressed.
-ghost use Rattle.std.specs.Prelude.{◌≡◌, ◌≤◌, ◌+◌, length, OnOk};
-ghost use Rattle.octseq.specs.Appends.{Appends};
-ghost use Rattle.octseq.specs.Limit.{IsWithin};
-ghost use Rattle.octseq_dns_compress.specs.Composed.{message_limit};
+ghost use Rattle.std.specs.Prelude.{◌≡◌, ◌≤◌, ◌+◌, ◌*◌, ◌⊎◌, length, take, true, OnErr};
+ghost use Rattle.octseq.specs.Limit.{IsPast, IsWithin};
+ghost use Rattle.octseq.specs.Refusal.{IsShort, append_error};
+ghost use Rattle.octseq_dns_compress.specs.Apart.{AreApart, apart_once};
+ghost use Rattle.octseq_dns_compress.specs.Composed.{message_limit, before, Composes};
 ghost use Rattle.octseq_dns_compress.specs.Known.{Known, known_once};
 
-use crate::encode::encode;
-use crate::keep::keep;
-use crate::plain::PlainName;
-use crate::search::search;
+use crate::append::{append, append_name, write_over};
 use crate::table::Compressor;
+use octseq::builder::AsOctetsMut;
 use octseq::utf8::Turns;
-use octseq::{AppendError, AsOctets, OctetsBuilder, ShortBuf, Truncate};
+use octseq::{AppendError, AsOctets, OctetsBuilder, Truncate};
 use octseq_dns_name::ParsedName;
-use std::alloc::AllocError;
 use std::marker::Model;
 
-/// How many octets a message may have: RFC 1035, 4.2.2.
-const MESSAGE_MAX: usize = 65535;
-
-/// How many octets a header has.
+/// How many octets a header has: RFC 1035, 4.1.1.
 const HEADER_LEN: usize = 12;
+
+/// How many octets have the number of those of data: RFC 1035, 4.1.3.
+const COUNT_LEN: usize = 2;
+
+/// What composes itself into a message: a row of fields, each of which is a name, which may be compressed, or octets.
+pub trait Compose {
+    ghost use Rattle.std.specs.Prelude.{List};
+    ghost use Rattle.std.specs.List.{AllByRecursion};
+    ghost use Rattle.std.specs.Prelude.{OnOk};
+    ghost use Rattle.octseq_dns_compress.specs.Fits.{FitsField};
+    ghost use Rattle.octseq_dns_compress.specs.State.{Field, label_count, with_fields};
+
+    // Its fields.
+    ghost fields: { Self → List Field };
+
+    /// Appends its fields to a message, one after another.
+    ///
+    /// # Errors
+    ///
+    /// `Short` where the message would pass the limit of the builder's type or 65,535 octets, and `Memory` where a
+    /// request for memory was refused. Some of its octets may then be there.
+    fn compose<B: OctetsBuilder + Truncate + AsOctetsMut, T: Compressor>(
+        &self,
+        message: &mut Composer<B, T>,
+        turns: &mut Turns,
+    ) -> Result<(), AppendError>
+        ensures composed { Composes (message_limit B.limit) ((B.asks ≡ true) ⊎ (T.asks ≡ true)) result
+            (with_fields T.most message.old.state (fields self.now)) message.old message.new }
+        ensures fits { OnOk result (AllByRecursion FitsField (fields self.now)) }
+        ensures borrows { B.borrows message.new.octets ≡ B.borrows message.old.octets }
+        ensures turns { turns.new ≤ turns.old + 17 * label_count (fields self.now) };
+}
 
 /// Octets of a message, and the targets of the names in them.
 #[derive(Drop)]
 pub struct Composer<B: AsOctets, T: Compressor> {
     octets: B,
     table: T,
+    entry_start: usize,
+    data_start: usize,
     ghost known: { Known (B.content octets) (T.held table) } by { known_once (B.content octets) (T.held table) },
+    ghost begun: { Known (take entry_start (B.content octets)) (before entry_start (T.held table)) } by { known_once (take entry_start (B.content octets)) (before entry_start (T.held table)) },
     ghost few: { length (T.held table) ≤ T.most },
-    ghost header: { 12 ≤ length (B.content octets) },
     ghost short: { length (B.content octets) ≤ 65535 },
+    ghost header: { 12 ≤ entry_start },
+    ghost within: { entry_start ≤ length (B.content octets) },
+    ghost data_within: { data_start ≤ length (B.content octets) },
+    ghost apart: { AreApart (B.content octets) data_start (T.held table) } by { apart_once (B.content octets) data_start (T.held table) },
 }
 
 impl<B: AsOctets, T: Compressor> Model for Composer<B, T> {
     ghost use Rattle.std.specs.Coded.{codes};
+    ghost use Rattle.std.specs.Prelude.{take};
     ghost use Rattle.octseq_dns_compress.specs.Composed.{Composed};
     ghost use Rattle.octseq_dns_compress.specs.Known.{names_code};
 
@@ -42,13 +76,21 @@ impl<B: AsOctets, T: Compressor> Model for Composer<B, T> {
 
     ghost coded = { Prim.hlevel (codes, names_code) };
 
-    ghost view = { λ c. record { octets = c.octets; table = c.table; names = c.known.0 } };
+    ghost view = { λ c. record {
+      octets = c.octets;
+      table = c.table;
+      state = record { octets = B.content c.octets; names = c.known.0 };
+      begun = record { octets = take c.entry_start (B.content c.octets); names = c.begun.0 };
+      data_start = c.data_start;
+    } };
 }
 
 impl<B: OctetsBuilder, T: Compressor> Composer<B, T> {
+    ghost use Rattle.octseq_dns_compress.specs.State.{with_octets};
+
     /// The octets so far.
     pub fn as_slice(&self) -> &[u8]
-        ensures { result.now ≡ B.content self.now.octets }
+        ensures { result.now ≡ self.now.state.octets }
     {
         self.octets.as_ref()
     }
@@ -57,6 +99,7 @@ impl<B: OctetsBuilder, T: Compressor> Composer<B, T> {
     pub fn finish(self) -> (B, T)
         ensures octets { result.0 ≡ self.octets }
         ensures table { result.1 ≡ self.table }
+        ensures content { B.content result.0 ≡ self.state.octets }
     {
         (self.octets, self.table)
     }
@@ -68,11 +111,11 @@ impl<B: OctetsBuilder, T: Compressor> Composer<B, T> {
     /// `Short` exactly where the message would pass the limit of the builder's type or 65,535 octets, and `Memory` where
     /// a request for memory was refused. The octets are then as they were.
     pub fn append_slice(&mut self, slice: &[u8]) -> Result<(), AppendError>
-        ensures appended { Appends (message_limit B.limit) B.asks result slice.now (B.content self.old.octets)
-            (B.content self.new.octets) }
-        ensures within { OnOk result (IsWithin (message_limit B.limit) (length (B.content self.new.octets))) }
-        ensures names { self.new.names ≡ self.old.names }
-        ensures table { T.held self.new.table ≡ T.held self.old.table }
+        ensures composed { Composes (message_limit B.limit) (B.asks ≡ true) result
+            (with_octets self.old.state slice.now) self.old self.new }
+        ensures err { OnErr result (self.new.state ≡ self.old.state) }
+        ensures past { IsPast (message_limit B.limit) (length self.old.state.octets + length slice.now)
+            → IsShort append_error result }
         ensures borrows { B.borrows self.new.octets ≡ B.borrows self.old.octets }
     {
         append(&mut self.octets, slice)
@@ -80,11 +123,11 @@ impl<B: OctetsBuilder, T: Compressor> Composer<B, T> {
 }
 
 impl<B: OctetsBuilder + Truncate, T: Compressor> Composer<B, T> {
-    ghost use Rattle.std.specs.Prelude.{◌++◌, ◌*◌, ◌⊎◌, [], true, OnErr, IfOk, replicate};
+    ghost use Rattle.std.specs.Prelude.{◌↔◌, IfOk, replicate};
     ghost use Rattle.std.specs.FinMap.{empty};
-    ghost use Rattle.octseq.specs.Limit.{IsPast};
-    ghost use Rattle.octseq.specs.Refusal.{IsShort, IsMemory, append_error};
-    ghost use Rattle.octseq_dns_compress.specs.Names.{name_octets, names_with};
+    ghost use Rattle.octseq.specs.Refusal.{IsMemory};
+    ghost use Rattle.octseq_dns_compress.specs.Fits.{FitsName};
+    ghost use Rattle.octseq_dns_compress.specs.State.{with_name};
     ghost use Rattle.octseq_dns_name.specs.Read.{labels_of};
 
     /// A message that has a header of zeros and nothing else, in place of what the builder and the table have.
@@ -94,10 +137,8 @@ impl<B: OctetsBuilder + Truncate, T: Compressor> Composer<B, T> {
     /// `Short` exactly where the builder's type has a limit below 12 octets, and `Memory` where a request for memory was
     /// refused. The builder and the table are then dropped.
     pub fn from_builder(octets: B, table: T) -> Result<Composer<B, T>, AppendError>
-        ensures octets { IfOk result (λ c. B.content c.octets ≡ replicate 12 0) }
-        ensures names { IfOk result (λ c. c.names ≡ empty) }
-        ensures short { IsShort append_error result → IsPast B.limit 12 }
-        ensures past { IsPast B.limit 12 → IsShort append_error result }
+        ensures state { IfOk result (λ c. c.state ≡ record { octets = replicate 12 0; names = empty }) }
+        ensures short { IsShort append_error result ↔ IsPast B.limit 12 }
         ensures memory { IsMemory append_error result → B.asks ≡ true }
         ensures borrows { IfOk result (λ c. B.borrows c.octets ≡ B.borrows octets) }
     {
@@ -106,7 +147,12 @@ impl<B: OctetsBuilder + Truncate, T: Compressor> Composer<B, T> {
         octets.truncate(0);
         octets.append_slice(&[0; HEADER_LEN])?;
         table.keep_before(0);
-        Ok(Composer { octets, table })
+        Ok(Composer {
+            octets,
+            table,
+            entry_start: HEADER_LEN,
+            data_start: 0,
+        })
     }
 
     /// Appends a name. Where the most of its last labels are in the message already, a pointer to the place of them comes
@@ -121,50 +167,122 @@ impl<B: OctetsBuilder + Truncate, T: Compressor> Composer<B, T> {
         name: &ParsedName<R>,
         turns: &mut Turns,
     ) -> Result<(), AppendError>
-        ensures ok { OnOk result (B.content self.new.octets
-            ≡ B.content self.old.octets ++ name_octets self.old.names (labels_of name.now)) }
-        ensures names { OnOk result (self.new.names
-            ≡ names_with T.most self.old.names (length (B.content self.old.octets)) (labels_of name.now)) }
-        ensures err { OnErr result (B.content self.new.octets ≡ B.content self.old.octets) }
-        ensures err_names { OnErr result (self.new.names ≡ self.old.names) }
-        ensures short { IsShort append_error result → IsPast (message_limit B.limit)
-            (length (B.content self.old.octets) + length (name_octets self.old.names (labels_of name.now))) }
+        ensures composed { Composes (message_limit B.limit) ((B.asks ≡ true) ⊎ (T.asks ≡ true)) result
+            (with_name T.most self.old.state (labels_of name.now)) self.old self.new }
+        ensures err { OnErr result (self.new.state ≡ self.old.state) }
         ensures past { IsPast (message_limit B.limit)
-            (length (B.content self.old.octets) + length (name_octets self.old.names (labels_of name.now)))
-            → IsShort append_error result }
-        ensures memory { IsMemory append_error result → (B.asks ≡ true) ⊎ (T.asks ≡ true) }
+            (length (with_name T.most self.old.state (labels_of name.now)).octets) → IsShort append_error result }
+        ensures fits { FitsName (labels_of name.now) }
         ensures borrows { B.borrows self.new.octets ≡ B.borrows self.old.octets }
         ensures turns { turns.new ≤ turns.old + 17 * length (labels_of name.now) }
     {
-        let plain = PlainName::new(name.labels());
-        let ending = search(self.octets.as_ref(), self.table.as_slice(), &plain, turns);
-        let start = self.octets.len();
-        let encoded = encode(&plain, ending);
-        if let Err(error) = append(&mut self.octets, encoded.as_ref()) {
-            return Err(error);
-        }
-        match keep(&mut self.table, &plain, ending, start, turns) {
-            Ok(()) => Ok(()),
-            Err(AllocError) => {
-                self.octets.truncate(start);
-                self.table.keep_before(start);
-                Err(AppendError::Memory)
-            }
-        }
+        append_name(&mut self.octets, &mut self.table, name, turns)
+    }
+
+    /// Begins an entry: what is appended from now on can be taken back.
+    pub fn begin_entry(&mut self)
+        ensures state { self.new.state ≡ self.old.state }
+        ensures begun { self.new.begun ≡ self.old.state }
+        ensures data_start { self.new.data_start ≡ 0 }
+        ensures borrows { B.borrows self.new.octets ≡ B.borrows self.old.octets }
+    {
+        self.entry_start = self.octets.len();
+        self.data_start = 0;
+    }
+
+    /// Takes back what was appended since the last entry began.
+    pub fn take_back(&mut self)
+        ensures state { self.new.state ≡ self.old.begun }
+        ensures begun { self.new.begun ≡ self.old.begun }
+        ensures borrows { B.borrows self.new.octets ≡ B.borrows self.old.octets }
+    {
+        self.octets.truncate(self.entry_start);
+        self.table.keep_before(self.entry_start);
+        self.data_start = 0;
     }
 }
 
-/// Appends a slice to a message, which stays within its limit.
-fn append<B: OctetsBuilder>(octets: &mut B, slice: &[u8]) -> Result<(), AppendError>
-    requires { length (B.content octets.old) ≤ 65535 }
-    ensures appended { Appends (message_limit B.limit) B.asks result slice.now
-        (B.content octets.old) (B.content octets.new) }
-    ensures most { length (B.content octets.new) ≤ 65535 }
-    ensures within { OnOk result (IsWithin (message_limit B.limit) (length (B.content octets.new))) }
-    ensures borrows { B.borrows octets.new ≡ B.borrows octets.old }
-{
-    if slice.len() > MESSAGE_MAX - octets.len() {
-        return Err(AppendError::Short(ShortBuf));
+impl<B: OctetsBuilder + Truncate + AsOctetsMut, T: Compressor> Composer<B, T> {
+    ghost use Rattle.std.specs.Prelude.{◌-◌, ◌++◌, drop, OnOk, [], ◌∷◌};
+    ghost use Rattle.octseq.specs.Integer.{octets_be};
+    ghost use Rattle.octseq.specs.Refusal.{IsMemory};
+    ghost use Rattle.std.specs.List.{AllByRecursion};
+    ghost use Rattle.octseq_dns_compress.specs.Fits.{FitsField};
+    ghost use Rattle.octseq_dns_compress.specs.State.{with_octets, with_counted, with_header, label_count};
+
+    /// Writes a header over that of the message.
+    pub fn put_header(&mut self, header: &[u8; 12])
+        ensures state { self.new.state ≡ with_header self.old.state header.now }
+        ensures begun { self.new.begun ≡ with_header self.old.begun header.now }
+        ensures borrows { B.borrows self.new.octets ≡ B.borrows self.old.octets }
+    {
+        write_over(&mut self.octets, 0, header);
     }
-    octets.append_slice(slice)
+
+    /// Appends what composes itself, after the number of its octets, which has two octets.
+    ///
+    /// # Errors
+    ///
+    /// `Short` where the message would pass the limit of the builder's type or 65,535 octets, and `Memory` where a
+    /// request for memory was refused. Some of its octets may then be there.
+    pub fn append_counted<D: Compose>(
+        &mut self,
+        rdata: &D,
+        turns: &mut Turns,
+    ) -> Result<(), AppendError>
+        ensures ok { OnOk result (self.new.state ≡ with_counted T.most self.old.state (D.fields rdata.now)) }
+        ensures within { OnOk result (IsWithin (message_limit B.limit)
+            (length (with_counted T.most self.old.state (D.fields rdata.now)).octets)) }
+        ensures short { IsShort append_error result → IsPast (message_limit B.limit)
+            (length (with_counted T.most self.old.state (D.fields rdata.now)).octets) }
+        ensures memory { IsMemory append_error result → (B.asks ≡ true) ⊎ (T.asks ≡ true) }
+        ensures begun { self.new.begun ≡ self.old.begun }
+        ensures fits { OnOk result (AllByRecursion FitsField (D.fields rdata.now)) }
+        ensures borrows { B.borrows self.new.octets ≡ B.borrows self.old.octets }
+        ensures turns { turns.new ≤ turns.old + 17 * label_count (D.fields rdata.now) }
+    {
+        if let Err(error) = self.begin_data() {
+            return Err(error);
+        }
+        if let Err(error) = rdata.compose(self, turns) {
+            return Err(error);
+        }
+        self.end_data();
+        Ok(())
+    }
+
+    /// Appends two octets for the number of those that come after them.
+    fn begin_data(&mut self) -> Result<(), AppendError>
+        ensures ok { OnOk result (self.new.state ≡ with_octets self.old.state (0 ∷ 0 ∷ [])) }
+        ensures data_start { OnOk result (self.new.data_start ≡ length self.new.state.octets) }
+        ensures short { IsShort append_error result
+            → IsPast (message_limit B.limit) (length self.old.state.octets + 2) }
+        ensures memory { IsMemory append_error result → B.asks ≡ true }
+        ensures begun { self.new.begun ≡ self.old.begun }
+        ensures before { length self.old.begun.octets ≤ length self.old.state.octets }
+        ensures borrows { B.borrows self.new.octets ≡ B.borrows self.old.octets }
+    {
+        if let Err(error) = append(&mut self.octets, &[0; COUNT_LEN]) {
+            return Err(error);
+        }
+        self.data_start = self.octets.len();
+        Ok(())
+    }
+
+    /// Writes how many octets came after the two that are for their number.
+    fn end_data(&mut self)
+        requires { length self.old.begun.octets + 2 ≤ self.old.data_start }
+        ensures octets { self.new.state.octets ≡ take (self.old.data_start - 2) self.old.state.octets
+            ++ (octets_be 2 (length self.old.state.octets - self.old.data_start)
+            ++ drop self.old.data_start self.old.state.octets) }
+        ensures names { self.new.state.names ≡ self.old.state.names }
+        ensures begun { self.new.begun ≡ self.old.begun }
+        ensures short { length self.old.state.octets ≤ 65535 }
+        ensures borrows { B.borrows self.new.octets ≡ B.borrows self.old.octets }
+    {
+        let len = self.octets.len() - self.data_start;
+        let count = (len as u16).to_be_bytes();
+        write_over(&mut self.octets, self.data_start - COUNT_LEN, &count);
+        self.data_start = 0;
+    }
 }

@@ -5,12 +5,15 @@
 //! name takes at most a constant of work for each of its labels, whatever names came before it.
 #![tactic(auto)]
 
+mod append;
 pub mod compose;
 mod encode;
 mod keep;
+pub mod laws;
 mod plain;
 mod search;
 pub mod table;
 
-pub use compose::Composer;
+pub use compose::{Compose, Composer};
+pub use laws::{a_compressed_name_is_read, never_longer_than_plain};
 pub use table::{Compressor, Target};

@@ -1,63 +1,88 @@
 //! The section of questions.
-ghost use Rattle.std.specs.Prelude.{◌≡◌, ◌+◌, ◌⊎◌, true, OnOk, OnErr};
-ghost use Rattle.octseq_dns.specs.Pushed.{IsQuestionEntry, IsQuestionLeast, Pushes};
-ghost use Rattle.octseq_dns.specs.Section.{more_asked};
-ghost use Rattle.octseq_dns.specs.Written.{Lists, AreWritten, asked_of};
+ghost use Rattle.std.specs.Prelude.{◌≡◌, ◌≤◌, ◌+◌, ◌*◌, ◌⊎◌, length, true, OnOk, OnErr};
+ghost use Rattle.octseq_dns_compress.specs.Composed.{message_limit};
+ghost use Rattle.octseq_dns_compress.specs.State.{with_entry};
+ghost use Rattle.octseq_dns_name.specs.Read.{labels_of};
+ghost use Rattle.octseq_dns.specs.Contents.{Message, header_octets, question_entry};
+ghost use Rattle.octseq_dns.specs.Pushed.{asked};
+ghost use Rattle.octseq_dns.specs.Writes.{Pushes, UpToQuestions, Writes, more_questions};
 
-use crate::builder::header::put_header;
-use crate::builder::question::add_question;
+use crate::builder::entry::append_question;
+use crate::builder::header::octets_of;
 use crate::builder::{AnswerBuilder, QuestionBuilder};
-use crate::place::Places;
 use octseq::builder::AsOctetsMut;
+use octseq::utf8::Turns;
 use octseq::{AppendError, AsOctets, OctetsBuilder, ShortBuf, Truncate};
+use octseq_dns_compress::Compressor;
 use octseq_dns_message::{Class, Rtype};
 use octseq_dns_name::ParsedName;
 
-impl<B: OctetsBuilder + Truncate + AsOctetsMut, T: Places> QuestionBuilder<B, T> {
+impl<B: OctetsBuilder + Truncate + AsOctetsMut, T: Compressor> QuestionBuilder<B, T> {
     /// Pushes a question, whole or not at all. Its name is compressed.
     ///
     /// # Errors
     ///
     /// `Short` where the message would pass the limit of the builder's type or 65,535 octets, or has 65,535 questions,
     /// and `Memory` where a request for memory was refused. The message is then as it was.
-    ///
-    /// # Examples
-    ///
-    /// ```
-    /// // crates/octseq_dns_tests/src/tests/dns_writing.rt
-    /// let mut questions = MessageBuilder::from_builder(octets, places)?.question();
-    /// for text in names {
-    ///     let name = Name::from_text(text)?;
-    ///     questions.push_question(&name.parsed(), Rtype::A, Class::IN)?;
-    /// }
-    /// Ok(questions.answer().authority().additional().finish())
-    /// ```
     pub fn push_question<R: AsOctets + Copy>(
         &mut self,
         qname: &ParsedName<R>,
         qtype: Rtype,
         qclass: Class,
     ) -> Result<(), AppendError>
-        ensures pushed { let asked = asked_of qname.now qtype qclass in
-            Pushes B.limit ((B.asks ≡ true) ⊎ (T.asks ≡ true)) result
-            (IsQuestionEntry T.most (B.content self.old.octets) (T.held self.old.places) asked)
-            (IsQuestionLeast T.most (B.content self.old.octets) (T.held self.old.places) asked)
-            self.old.header.qdcount (B.content self.old.octets) (T.held self.old.places)
-            self.new.header (B.content self.new.octets) (T.held self.new.places) }
-        ensures written { OnOk result ((lists : Lists) → AreWritten (B.content self.old.octets) self.old.header lists
-            → AreWritten (B.content self.new.octets) self.new.header
-            (more_asked lists (asked_of qname.now qtype qclass))) }
-        ensures header { OnOk result (self.new.header
-            ≡ record self.old.header { qdcount = self.old.header.qdcount + 1 }) }
-        ensures kept { OnErr result (self.new.header ≡ self.old.header) }
+        ensures pushed { Pushes (message_limit B.limit) ((B.asks ≡ true) ⊎ (T.asks ≡ true)) result
+            (with_entry T.most self.old.state (question_entry (asked qname.now qtype qclass)))
+            (header_octets self.new.header self.new.counts) self.old.counts.qdcount self.old.state self.new.state }
+        ensures written { OnOk result ((m : Message)
+            → Writes T.most m self.old.state self.old.header self.old.counts
+            → Writes T.most (more_questions m (asked qname.now qtype qclass))
+            self.new.state self.new.header self.new.counts) }
+        ensures header { self.new.header ≡ self.old.header }
+        ensures counts { OnOk result (self.new.counts
+            ≡ record self.old.counts { qdcount = self.old.counts.qdcount + 1 }) }
+        ensures kept { OnErr result (self.new.counts ≡ self.old.counts) }
+        ensures reaches { UpToQuestions self.old.counts }
         ensures borrows { B.borrows self.new.octets ≡ B.borrows self.old.octets }
     {
-        let Some(count) = self.header.qdcount.checked_add(1) else {
+        self.push_question_counted(qname, qtype, qclass, &mut Turns::new())
+    }
+
+    /// Pushes a question as [`push_question`](Self::push_question), and counts the turns that this takes: 17 at most for
+    /// each label of its name, whatever names came before it.
+    ///
+    /// # Errors
+    ///
+    /// As `push_question`.
+    pub fn push_question_counted<R: AsOctets + Copy>(
+        &mut self,
+        qname: &ParsedName<R>,
+        qtype: Rtype,
+        qclass: Class,
+        turns: &mut Turns,
+    ) -> Result<(), AppendError>
+        ensures pushed { Pushes (message_limit B.limit) ((B.asks ≡ true) ⊎ (T.asks ≡ true)) result
+            (with_entry T.most self.old.state (question_entry (asked qname.now qtype qclass)))
+            (header_octets self.new.header self.new.counts) self.old.counts.qdcount self.old.state self.new.state }
+        ensures written { OnOk result ((m : Message)
+            → Writes T.most m self.old.state self.old.header self.old.counts
+            → Writes T.most (more_questions m (asked qname.now qtype qclass))
+            self.new.state self.new.header self.new.counts) }
+        ensures header { self.new.header ≡ self.old.header }
+        ensures counts { OnOk result (self.new.counts
+            ≡ record self.old.counts { qdcount = self.old.counts.qdcount + 1 }) }
+        ensures kept { OnErr result (self.new.counts ≡ self.old.counts) }
+        ensures reaches { UpToQuestions self.old.counts }
+        ensures borrows { B.borrows self.new.octets ≡ B.borrows self.old.octets }
+        ensures turns { turns.new ≤ turns.old + 17 * length (labels_of qname.now) }
+    {
+        let Some(qdcount) = self.counts.qdcount.checked_add(1) else {
             return Err(AppendError::Short(ShortBuf));
         };
-        add_question(&mut self.octets, &mut self.places, qname, qtype, qclass)?;
-        self.header.qdcount = count;
-        put_header(&mut self.octets, &self.header);
+        if let Err(error) = append_question(&mut self.message, qname, qtype, qclass, turns) {
+            return Err(error);
+        }
+        self.counts.qdcount = qdcount;
+        self.message.put_header(&octets_of(&self.header, &self.counts));
         Ok(())
     }
 
@@ -65,6 +90,6 @@ impl<B: OctetsBuilder + Truncate + AsOctetsMut, T: Places> QuestionBuilder<B, T>
     pub fn answer(self) -> AnswerBuilder<B, T>
         ensures { result ≡ self }
     {
-        self.go_on()
+        self.next_section()
     }
 }

@@ -1,47 +1,46 @@
 //! The sections of a message, by which the type of its builder says what may be pushed next: RFC 1035, 4.1.
 ghost use Rattle.std.specs.Prelude.{◌≡◌, ◌+◌, ◌<◌, ◌≤◌, IfSome, IsNone};
 
-use octseq_dns_message::Header;
+use octseq_dns_message::HeaderCounts;
 
 /// A section to which a message is written so far.
 pub trait Section {
-    ghost use Rattle.octseq_dns.specs.Written.{Lists};
+    ghost use Rattle.octseq_dns_message.specs.declared.header.HeaderCounts.{HeaderCounts};
 
-    // Of the lists that were pushed: none reaches behind the section.
-    ghost reaches: { Lists → Type 0 };
+    // Of the counts of a message: it has nothing after the section.
+    ghost reaches: { HeaderCounts → Type 0 };
 }
 
-/// A section of records, and the count of them that a header has.
+/// A section of records.
 pub trait RecordSection: Section {
     ghost use Rattle.std.specs.Prelude.{ℕ};
-    ghost use Rattle.octseq_dns.specs.Section.{TakesRecords};
-    ghost use Rattle.octseq_dns.specs.Told.{Told};
-    ghost use Rattle.octseq_dns.specs.Written.{Lists};
-    ghost use Rattle.octseq_dns_message.specs.declared.header.Header.{Header};
+    ghost use Rattle.octseq_dns.specs.Contents.{Message, Record};
+    ghost use Rattle.octseq_dns.specs.Writes.{TakesRecords};
+    ghost use Rattle.octseq_dns_message.specs.declared.header.HeaderCounts.{HeaderCounts};
 
-    // How many records of the section a header counts.
-    ghost count: { Header → ℕ };
+    // How many records the section has.
+    ghost count: { HeaderCounts → ℕ };
 
-    // The header that counts so many, and is else the same.
-    ghost counted: { Header → ℕ → Header };
+    // The counts with another number for the section.
+    ghost counted: { HeaderCounts → ℕ → HeaderCounts };
 
-    // The lists with a record more in the section's own.
-    ghost more: { Lists → Told → Lists };
+    // The message with a record more in the section.
+    ghost more: { Message → Record → Message };
 
-    /// The header that counts one record more, or none where it counts 65,535.
-    fn count_one_more(header: Header) -> Option<Header>
-        ensures some { IfSome result (λ h. (h ≡ counted header (count header + 1)) × (count header < 65535)) }
-        ensures none { IsNone result → 65535 ≤ count header };
+    /// The counts with one record more, or none where there are 65,535.
+    fn count_one_more(counts: HeaderCounts) -> Option<HeaderCounts>
+        ensures some { IfSome result (λ c. (c ≡ counted counts (count counts + 1)) × (count counts < 65535)) }
+        ensures none { IsNone result → 65535 ≤ count counts };
 
     ghost takes_records: { TakesRecords Self.reaches count counted more };
 }
 
-/// No section yet: nothing stands in the message but its header.
+/// No section yet: the message has its header alone.
 #[derive(Clone, Copy)]
 pub enum NoSection {}
 
 impl Section for NoSection {
-    ghost use Rattle.octseq_dns.specs.Section.{NothingYet};
+    ghost use Rattle.octseq_dns.specs.Writes.{NothingYet};
 
     ghost reaches = { NothingYet };
 }
@@ -51,7 +50,7 @@ impl Section for NoSection {
 pub enum Questions {}
 
 impl Section for Questions {
-    ghost use Rattle.octseq_dns.specs.Section.{UpToQuestions};
+    ghost use Rattle.octseq_dns.specs.Writes.{UpToQuestions};
 
     ghost reaches = { UpToQuestions };
 }
@@ -61,24 +60,24 @@ impl Section for Questions {
 pub enum Answers {}
 
 impl Section for Answers {
-    ghost use Rattle.octseq_dns.specs.Section.{UpToAnswers};
+    ghost use Rattle.octseq_dns.specs.Writes.{UpToAnswers};
 
     ghost reaches = { UpToAnswers };
 }
 
 impl RecordSection for Answers {
-    ghost use Rattle.octseq_dns.specs.Section.{more_answers};
-    ghost use Rattle.octseq_dns.specs.SectionLaws.{takes_answers};
+    ghost use Rattle.octseq_dns.specs.Writes.{more_answers};
+    ghost use Rattle.octseq_dns.specs.Sections.{takes_answers};
 
-    ghost count = { λ h. h.ancount };
+    ghost count = { λ counts. counts.ancount };
 
-    ghost counted = { λ h n. record h { ancount = n } };
+    ghost counted = { λ counts n. record counts { ancount = n } };
 
     ghost more = { more_answers };
 
-    fn count_one_more(header: Header) -> Option<Header> {
-        let ancount = header.ancount.checked_add(1)?;
-        Some(Header { ancount, ..header })
+    fn count_one_more(counts: HeaderCounts) -> Option<HeaderCounts> {
+        let ancount = counts.ancount.checked_add(1)?;
+        Some(HeaderCounts { ancount, ..counts })
     }
 
     ghost takes_records = { takes_answers };
@@ -89,24 +88,24 @@ impl RecordSection for Answers {
 pub enum Authorities {}
 
 impl Section for Authorities {
-    ghost use Rattle.octseq_dns.specs.Section.{UpToAuthorities};
+    ghost use Rattle.octseq_dns.specs.Writes.{UpToAuthorities};
 
     ghost reaches = { UpToAuthorities };
 }
 
 impl RecordSection for Authorities {
-    ghost use Rattle.octseq_dns.specs.Section.{more_authorities};
-    ghost use Rattle.octseq_dns.specs.SectionLaws.{takes_authorities};
+    ghost use Rattle.octseq_dns.specs.Writes.{more_authorities};
+    ghost use Rattle.octseq_dns.specs.Sections.{takes_authorities};
 
-    ghost count = { λ h. h.nscount };
+    ghost count = { λ counts. counts.nscount };
 
-    ghost counted = { λ h n. record h { nscount = n } };
+    ghost counted = { λ counts n. record counts { nscount = n } };
 
     ghost more = { more_authorities };
 
-    fn count_one_more(header: Header) -> Option<Header> {
-        let nscount = header.nscount.checked_add(1)?;
-        Some(Header { nscount, ..header })
+    fn count_one_more(counts: HeaderCounts) -> Option<HeaderCounts> {
+        let nscount = counts.nscount.checked_add(1)?;
+        Some(HeaderCounts { nscount, ..counts })
     }
 
     ghost takes_records = { takes_authorities };
@@ -117,24 +116,24 @@ impl RecordSection for Authorities {
 pub enum Additionals {}
 
 impl Section for Additionals {
-    ghost use Rattle.octseq_dns.specs.Section.{UpToAdditionals};
+    ghost use Rattle.octseq_dns.specs.Writes.{UpToAdditionals};
 
     ghost reaches = { UpToAdditionals };
 }
 
 impl RecordSection for Additionals {
-    ghost use Rattle.octseq_dns.specs.Section.{more_additionals};
-    ghost use Rattle.octseq_dns.specs.SectionLaws.{takes_additionals};
+    ghost use Rattle.octseq_dns.specs.Writes.{more_additionals};
+    ghost use Rattle.octseq_dns.specs.Sections.{takes_additionals};
 
-    ghost count = { λ h. h.arcount };
+    ghost count = { λ counts. counts.arcount };
 
-    ghost counted = { λ h n. record h { arcount = n } };
+    ghost counted = { λ counts n. record counts { arcount = n } };
 
     ghost more = { more_additionals };
 
-    fn count_one_more(header: Header) -> Option<Header> {
-        let arcount = header.arcount.checked_add(1)?;
-        Some(Header { arcount, ..header })
+    fn count_one_more(counts: HeaderCounts) -> Option<HeaderCounts> {
+        let arcount = counts.arcount.checked_add(1)?;
+        Some(HeaderCounts { arcount, ..counts })
     }
 
     ghost takes_records = { takes_additionals };

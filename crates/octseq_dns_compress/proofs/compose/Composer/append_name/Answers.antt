@@ -1,187 +1,79 @@
-use Rattle.std.proofs.Common.{◌≡◌, ◌+◌, ◌++◌, take, ap, ◌∙◌, sym, subst, length, length-append, arith}
-use Rattle.octseq.specs.Limit.{IsPast}
+use Rattle.std.proofs.Common.{◌≡◌, take, ap, ◌∙◌, sym, subst, refl, length, arith}
 use Rattle.octseq_dns_name.specs.Read.{labels_of}
-use Rattle.octseq_dns_compress.specs.Composed.{message_limit}
-use Rattle.octseq_dns_compress.specs.Key.{AreTargets}
-use Rattle.octseq_dns_compress.specs.Ended.{ended}
-use Rattle.octseq_dns_compress.specs.Names.{name_octets, names_with, unrooted}
-use Rattle.octseq_dns_compress.specs.PlainNames.{plain_labels}
-use Rattle.octseq_dns_compress.proofs.Steps.{appended_grows, grown_length, known_grown, grown_names}
-use Rattle.octseq_dns_compress.proofs.Composing.{known_targets, octets_known, octets_back, fewer_back, known_back, names_back, known_more, names_more, ending_of}
+use Rattle.octseq_dns_compress.specs.Composed.{message_limit, before}
+use Rattle.octseq_dns_compress.specs.Known.{known_once}
+use Rattle.octseq_dns_compress.proofs.Composes.{begun_stays, composes_name, name_kept, name_past, named_grows}
+use Rattle.octseq_dns_compress.proofs.Marked.{before_kept, known_same, kept_apart, take_grown}
 use Rattle.octseq_dns_compress.proofs.compose.Composer.append_name.Goals as goal
-
-pub search-ending-requires-clause-targets : goal.search-ending-requires-clause-targets
-search-ending-requires-clause-targets g c =
-    let octets = g.B.AsOctets.content c.self.inside.octets in
-    subst (λ o. AreTargets o c.as_slice.result.now) (sym c.as_ref.ensures.value)
-    (subst (AreTargets octets) (sym c.as_slice.ensures)
-    (known_targets octets (g.T.Compressor.held c.self.inside.table) c.self.inside.known))
 
 pub invariant_of-self-inside : goal.invariant_of-self-inside
 invariant_of-self-inside g c =
-    let octets = g.B.AsOctets.content c.self.inside.octets in
-    let new = g.B.AsOctets.content c.append.new.octets in
-    let targets = g.T.Compressor.held c.self.inside.table in
-    let grows = appended_grows c.append.result c.append.ensures.appended in
-    let long = grown_length octets new grows in
-    let header = c.self.inside.header in
-    let most = c.append.ensures.most in (
-      known_grown octets new targets grows c.self.inside.known,
-      (c.self.inside.few, (omega (arith, long, header), omega (arith, most))),
+    let in' = c.self.inside in
+    let octets = g.B.AsOctets.content in'.octets in
+    let new = g.B.AsOctets.content c.append_name.new.octets in
+    let held = g.T.Compressor.held in'.table in
+    let kept = g.T.Compressor.held c.append_name.new.table in
+    let start = in'.entry_start in
+    let named = c.append_name.ensures.named in'.known in
+    let grows = named_grows c.append_name.result named in
+    let same = c.append_name.ensures.before in
+    let long = c.append_name.ensures.longer in
+    let within = in'.within in
+    let data_within = in'.data_within in (
+      named.now,
+      (
+        known_same (take start octets) (take start new) (before start held) (before start kept)
+            (take_grown octets new start grows within) (before_kept start (length octets) held kept within same)
+            in'.begun,
+        (
+          c.append_name.ensures.few,
+          (
+            c.append_name.ensures.size,
+            (
+              in'.header,
+              (
+                omega (arith, within, long),
+                (
+                  omega (arith, data_within, long),
+                  (kept_apart octets new in'.data_start grows data_within held kept same in'.apart, tt),
+                ),
+              ),
+            ),
+          ),
+        ),
+      ),
     )
 
-pub returns-in-Err-clause-err_names : goal.returns-in-Err-clause-err_names
-returns-in-Err-clause-err_names g c =
-    grown_names (g.B.AsOctets.content c.self.inside.octets) (g.B.AsOctets.content c.append.new.octets)
-    (g.T.Compressor.held c.self.inside.table) (appended_grows c.append.result c.append.ensures.appended)
-    c.self.inside.known c.in-Err.self-1-own.given.0
-    ∙ ap (λ c. c.names) c.self.view_is
+pub returns-clause-composed : goal.returns-clause-composed
+returns-clause-composed g c =
+    let in' = c.self.inside in
+    let octets = g.B.AsOctets.content in'.octets in
+    let new = g.B.AsOctets.content c.append_name.new.octets in
+    let held = g.T.Compressor.held in'.table in
+    let kept = g.T.Compressor.held c.append_name.new.table in
+    let start = in'.entry_start in
+    let named = c.append_name.ensures.named in'.known in
+    let grows = named_grows c.append_name.result named in
+    let within = in'.within in
+    composes_name (message_limit g.B.AsOctets.limit) g.T.Compressor.most c.append_name.result
+    (labels_of c.args.name.now) octets new held kept in'.known c.self-1.given.0.0 c.args.self.now _ named
+    (ap (λ v. v.state) c.self.view_is) refl
+    (ap (λ k. k.0) (known_once new kept c.self-1.given.0 named.now)) c.append_name.ensures.memory
+    (begun_stays octets new held kept start (take_grown octets new start grows within)
+    (before_kept start (length octets) held kept within c.append_name.ensures.before) in'.begun c.self-1.given.1.0
+    ∙ ap (λ v. v.begun) c.self.view_is)
+    (ap (λ v. v.data_start) c.self.view_is)
 
-pub returns-in-Err-clause-short : goal.returns-in-Err-clause-short
-returns-in-Err-clause-short g c =
-    let octets = g.B.AsOctets.content c.self.inside.octets in
-    let targets = g.T.Compressor.held c.self.inside.table in
-    let end = c.search-ending.result in
-    let labels = plain_labels c.new-plain.result in
-    let is = ending_of c.as_ref.result.now octets c.as_slice.result.now targets labels end c.as_ref.ensures.value
-    c.as_slice.ensures c.search-ending.ensures.ending in
-    let fits = ap (λ o. length octets + length o) (c.as_ref-2.ensures.value ∙ c.encode-encoded.ensures
-    ∙ octets_known octets targets c.self.inside.known labels end is
-    ∙ ap (name_octets c.self.inside.known.0) (c.new-plain.ensures ∙ c.labels.ensures.labels))
-    ∙ ap (λ v. length (g.B.AsOctets.content v.octets) + length (name_octets v.names (labels_of c.args.name.now)))
-    c.self.view_is in
-    λ short. subst (IsPast (message_limit g.B.AsOctets.limit)) fits (c.in-Err.ensures.appended.short.0 short)
+pub returns-clause-err : goal.returns-clause-err
+returns-clause-err g c =
+    let in' = c.self.inside in
+    let new = g.B.AsOctets.content c.append_name.new.octets in
+    let kept = g.T.Compressor.held c.append_name.new.table in
+    let named = c.append_name.ensures.named in'.known in
+    name_kept c.append_name.result c.self-1.given.0.0 c.args.self.now.state named (ap (λ v. v.state) c.self.view_is)
+    (ap (λ k. k.0) (known_once new kept c.self-1.given.0 named.now))
 
-pub returns-in-Err-clause-past : goal.returns-in-Err-clause-past
-returns-in-Err-clause-past g c =
-    let octets = g.B.AsOctets.content c.self.inside.octets in
-    let targets = g.T.Compressor.held c.self.inside.table in
-    let end = c.search-ending.result in
-    let labels = plain_labels c.new-plain.result in
-    let is = ending_of c.as_ref.result.now octets c.as_slice.result.now targets labels end c.as_ref.ensures.value
-    c.as_slice.ensures c.search-ending.ensures.ending in
-    let fits = ap (λ o. length octets + length o) (c.as_ref-2.ensures.value ∙ c.encode-encoded.ensures
-    ∙ octets_known octets targets c.self.inside.known labels end is
-    ∙ ap (name_octets c.self.inside.known.0) (c.new-plain.ensures ∙ c.labels.ensures.labels))
-    ∙ ap (λ v. length (g.B.AsOctets.content v.octets) + length (name_octets v.names (labels_of c.args.name.now)))
-    c.self.view_is in
-    λ past. c.in-Err.ensures.appended.short.1 (subst (IsPast (message_limit g.B.AsOctets.limit)) (sym fits) past)
-
-pub invariant_of-self-inside-in-Ok : goal.invariant_of-self-inside-in-Ok
-invariant_of-self-inside-in-Ok g c =
-    let octets = g.B.AsOctets.content c.self.inside.octets in
-    let targets = g.T.Compressor.held c.self.inside.table in
-    let new = g.B.AsOctets.content c.append.new.octets in
-    let end = c.search-ending.result in
-    let labels = plain_labels c.new-plain.result in
-    let is = ending_of c.as_ref.result.now octets c.as_slice.result.now targets labels end c.as_ref.ensures.value
-    c.as_slice.ensures c.search-ending.ensures.ending in
-    let appended : new ≡ octets ++ (unrooted (take end.written labels) ++ ended end.next) =
-    c.in_default.ensures.appended.ok ∙ ap (λ o. octets ++ o) (c.as_ref-2.ensures.value ∙ c.encode-encoded.ensures) in
-    let known = known_more octets targets c.self.inside.known labels end is new
-    (g.T.Compressor.held c.keep.new.table) c.len-start.result g.T.Compressor.most appended c.len-start.ensures.content
-    c.self.inside.header c.in-Ok.ensures.kept in
-    let header = c.self.inside.header in
-    let long = ap length appended ∙ length-append octets (unrooted (take end.written labels) ++ ended end.next) in
-    let most = c.append.ensures.most in
-    (known, (c.keep.ensures.few, (omega (arith, long, header), omega (arith, most))))
-
-pub invariant_of-self-inside-in-Err-keep : goal.invariant_of-self-inside-in-Err-keep
-invariant_of-self-inside-in-Err-keep g c =
-    let octets = g.B.AsOctets.content c.self.inside.octets in
-    let targets = g.T.Compressor.held c.self.inside.table in
-    let new = g.B.AsOctets.content c.append.new.octets in
-    let held = g.T.Compressor.held c.keep.new.table in
-    let kept = g.T.Compressor.held c.keep_before.new.self in
-    let undone = g.B.AsOctets.content c.truncate.new.self in
-    let grows = appended_grows c.append.result c.append.ensures.appended in
-    let same = ap length (octets_back octets targets c.self.inside.known new held kept c.len-start.result undone
-    c.len-start.ensures.content grows c.keep.ensures.before c.keep_before.ensures c.truncate.ensures.content) in
-    let few = fewer_back octets targets c.self.inside.known new held kept c.len-start.result undone
-    c.len-start.ensures.content grows c.keep.ensures.before c.keep_before.ensures c.truncate.ensures.content
-    g.T.Compressor.most c.keep.ensures.few in
-    let header = c.self.inside.header in
-    let short = c.self.inside.short in (
-      known_back octets targets c.self.inside.known new held kept c.len-start.result undone
-          c.len-start.ensures.content grows c.keep.ensures.before c.keep_before.ensures c.truncate.ensures.content,
-      (omega (arith, few), (omega (arith, same, header), omega (arith, same, short))),
-    )
-
-pub returns-in-Ok-clause-ok : goal.returns-in-Ok-clause-ok
-returns-in-Ok-clause-ok g c =
-    let octets = g.B.AsOctets.content c.self.inside.octets in
-    let targets = g.T.Compressor.held c.self.inside.table in
-    let end = c.search-ending.result in
-    let labels = plain_labels c.new-plain.result in
-    let is = ending_of c.as_ref.result.now octets c.as_slice.result.now targets labels end c.as_ref.ensures.value
-    c.as_slice.ensures c.search-ending.ensures.ending in
-    c.in_default.ensures.appended.ok
-    ∙ ap (λ o. octets ++ o) (c.as_ref-2.ensures.value ∙ c.encode-encoded.ensures
-    ∙ octets_known octets targets c.self.inside.known labels end is
-    ∙ ap (name_octets c.self.inside.known.0) (c.new-plain.ensures ∙ c.labels.ensures.labels))
-    ∙ ap (λ v. g.B.AsOctets.content v.octets ++ name_octets v.names (labels_of c.args.name.now)) c.self.view_is
-
-pub returns-in-Ok-clause-names : goal.returns-in-Ok-clause-names
-returns-in-Ok-clause-names g c =
-    let octets = g.B.AsOctets.content c.self.inside.octets in
-    let targets = g.T.Compressor.held c.self.inside.table in
-    let new = g.B.AsOctets.content c.append.new.octets in
-    let end = c.search-ending.result in
-    let labels = plain_labels c.new-plain.result in
-    let is = ending_of c.as_ref.result.now octets c.as_slice.result.now targets labels end c.as_ref.ensures.value
-    c.as_slice.ensures c.search-ending.ensures.ending in
-    let appended : new ≡ octets ++ (unrooted (take end.written labels) ++ ended end.next) =
-    c.in_default.ensures.appended.ok ∙ ap (λ o. octets ++ o) (c.as_ref-2.ensures.value ∙ c.encode-encoded.ensures) in
-    names_more octets targets c.self.inside.known labels end is new
-    (g.T.Compressor.held c.keep.new.table) c.len-start.result g.T.Compressor.most appended c.len-start.ensures.content
-    c.self.inside.header c.in-Ok.ensures.kept c.self-in-Ok-1.given.0
-    ∙ ap (names_with g.T.Compressor.most c.self.inside.known.0 c.len-start.result)
-    (c.new-plain.ensures ∙ c.labels.ensures.labels)
-    ∙ ap (λ n. names_with g.T.Compressor.most c.self.inside.known.0 n (labels_of c.args.name.now))
-    c.len-start.ensures.content
-    ∙ ap (λ v. names_with g.T.Compressor.most v.names (length (g.B.AsOctets.content v.octets))
-    (labels_of c.args.name.now)) c.self.view_is
-
-pub returns-in-Ok-clause-past : goal.returns-in-Ok-clause-past
-returns-in-Ok-clause-past g c =
-    let octets = g.B.AsOctets.content c.self.inside.octets in
-    let targets = g.T.Compressor.held c.self.inside.table in
-    let end = c.search-ending.result in
-    let labels = plain_labels c.new-plain.result in
-    let is = ending_of c.as_ref.result.now octets c.as_slice.result.now targets labels end c.as_ref.ensures.value
-    c.as_slice.ensures c.search-ending.ensures.ending in
-    let fits = ap (λ o. length octets + length o) (c.as_ref-2.ensures.value ∙ c.encode-encoded.ensures
-    ∙ octets_known octets targets c.self.inside.known labels end is
-    ∙ ap (name_octets c.self.inside.known.0) (c.new-plain.ensures ∙ c.labels.ensures.labels))
-    ∙ ap (λ v. length (g.B.AsOctets.content v.octets) + length (name_octets v.names (labels_of c.args.name.now)))
-    c.self.view_is in
-    λ past. c.in_default.ensures.appended.short.1 (subst (IsPast (message_limit g.B.AsOctets.limit)) (sym fits) past)
-
-pub returns-in-Err-keep-clause-err_names : goal.returns-in-Err-keep-clause-err_names
-returns-in-Err-keep-clause-err_names g c =
-    let octets = g.B.AsOctets.content c.self.inside.octets in
-    let targets = g.T.Compressor.held c.self.inside.table in
-    let new = g.B.AsOctets.content c.append.new.octets in
-    let held = g.T.Compressor.held c.keep.new.table in
-    let kept = g.T.Compressor.held c.keep_before.new.self in
-    let undone = g.B.AsOctets.content c.truncate.new.self in
-    let grows = appended_grows c.append.result c.append.ensures.appended in
-    names_back octets targets c.self.inside.known new held kept c.len-start.result undone
-    c.len-start.ensures.content grows c.keep.ensures.before c.keep_before.ensures c.truncate.ensures.content
-    c.self-in-Err-keep-1.given.0
-    ∙ ap (λ c. c.names) c.self.view_is
-
-pub returns-in-Err-keep-clause-past : goal.returns-in-Err-keep-clause-past
-returns-in-Err-keep-clause-past g c =
-    let octets = g.B.AsOctets.content c.self.inside.octets in
-    let targets = g.T.Compressor.held c.self.inside.table in
-    let end = c.search-ending.result in
-    let labels = plain_labels c.new-plain.result in
-    let is = ending_of c.as_ref.result.now octets c.as_slice.result.now targets labels end c.as_ref.ensures.value
-    c.as_slice.ensures c.search-ending.ensures.ending in
-    let fits = ap (λ o. length octets + length o) (c.as_ref-2.ensures.value ∙ c.encode-encoded.ensures
-    ∙ octets_known octets targets c.self.inside.known labels end is
-    ∙ ap (name_octets c.self.inside.known.0) (c.new-plain.ensures ∙ c.labels.ensures.labels))
-    ∙ ap (λ v. length (g.B.AsOctets.content v.octets) + length (name_octets v.names (labels_of c.args.name.now)))
-    c.self.view_is in
-    λ past. absurd (c.in_default.ensures.appended.short.1 (subst (IsPast (message_limit g.B.AsOctets.limit)) (sym fits) past))
+pub returns-clause-past : goal.returns-clause-past
+returns-clause-past g c =
+    name_past c.append_name.result c.args.self.now.state (c.append_name.ensures.named c.self.inside.known)
+    (ap (λ v. v.state) c.self.view_is)

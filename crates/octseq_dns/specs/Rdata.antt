@@ -1,0 +1,96 @@
+-- What data says without the places where its names are, and the fields by which it is written.
+use Rattle.std.specs.Prelude.{◌≡◌, ℕ, ◌<◌, ◌≤◌, List, [], ◌∷◌, ◌++◌, length}
+use Rattle.std.specs.List.{All, flat_map}
+use Rattle.octseq.specs.Integer.{octets_be}
+use Rattle.octseq.specs.Part.{part_of}
+use Rattle.octseq.specs.Window.{rest}
+use Rattle.octseq_dns_compress.specs.Fits.{FitsName}
+use Rattle.octseq_dns_compress.specs.State.{Field}
+use Rattle.octseq_dns_message.specs.Data.{ParsedRdata, IsTyped}
+use Rattle.octseq_dns_message.specs.Entry.{Record}
+use Rattle.octseq_dns_name.specs.Wire.{wire}
+
+-- Of a mail exchange the preference and the labels, of the start of a zone the labels of both names and the five
+-- numbers, of a service the three numbers and the labels; of a type that isn't known here its number and the octets.
+pub data Rdata : Type 0 where
+  a : List ℕ → Rdata
+  aaaa : List ℕ → Rdata
+  ns : List (List ℕ) → Rdata
+  cname : List (List ℕ) → Rdata
+  ptr : List (List ℕ) → Rdata
+  mx : ℕ → List (List ℕ) → Rdata
+  soa : List (List ℕ) → List (List ℕ) → ℕ → ℕ → ℕ → ℕ → ℕ → Rdata
+  txt : List (List ℕ) → Rdata
+  srv : ℕ → ℕ → ℕ → List (List ℕ) → Rdata
+  unknown : ℕ → List ℕ → Rdata
+
+-- what data that was read says
+abbrev pub bare_rdata : ParsedRdata → Rdata
+bare_rdata (ParsedRdata.a octets) = Rdata.a octets
+bare_rdata (ParsedRdata.aaaa octets) = Rdata.aaaa octets
+bare_rdata (ParsedRdata.ns name) = Rdata.ns name.labels
+bare_rdata (ParsedRdata.cname name) = Rdata.cname name.labels
+bare_rdata (ParsedRdata.ptr name) = Rdata.ptr name.labels
+bare_rdata (ParsedRdata.mx it) = Rdata.mx it.preference it.exchange.labels
+bare_rdata (ParsedRdata.soa it) =
+    Rdata.soa it.mname.labels it.rname.labels it.serial it.refresh it.retry it.expire it.minimum
+bare_rdata (ParsedRdata.txt strings) = Rdata.txt strings
+bare_rdata (ParsedRdata.srv it) = Rdata.srv it.priority it.weight it.port it.target.labels
+bare_rdata (ParsedRdata.unknown rtype octets) = Rdata.unknown rtype (rest octets)
+
+-- the type that it is of
+abbrev pub rtype_of : Rdata → ℕ
+rtype_of (Rdata.a _) = 1
+rtype_of (Rdata.aaaa _) = 28
+rtype_of (Rdata.ns _) = 2
+rtype_of (Rdata.cname _) = 5
+rtype_of (Rdata.ptr _) = 12
+rtype_of (Rdata.mx _ _) = 15
+rtype_of (Rdata.soa _ _ _ _ _ _ _) = 6
+rtype_of (Rdata.txt _) = 16
+rtype_of (Rdata.srv _ _ _ _) = 33
+rtype_of (Rdata.unknown rtype _) = rtype
+
+-- Its fields. Names are compressed in the types of RFC 1035 alone: RFC 3597, 4.
+abbrev pub rdata_fields : Rdata → List Field
+rdata_fields (Rdata.a address) = Field.octets address ∷ []
+rdata_fields (Rdata.aaaa address) = Field.octets address ∷ []
+rdata_fields (Rdata.ns labels) = Field.name labels ∷ []
+rdata_fields (Rdata.cname labels) = Field.name labels ∷ []
+rdata_fields (Rdata.ptr labels) = Field.name labels ∷ []
+rdata_fields (Rdata.mx preference labels) = Field.octets (octets_be 2 preference) ∷ Field.name labels ∷ []
+rdata_fields (Rdata.soa mname rname serial refresh retry expire minimum) =
+    Field.name mname ∷ Field.name rname ∷ Field.octets (octets_be 4 serial ++ (octets_be 4 refresh
+    ++ (octets_be 4 retry ++ (octets_be 4 expire ++ octets_be 4 minimum)))) ∷ []
+rdata_fields (Rdata.txt strings) = Field.octets (flat_map (part_of 1) strings) ∷ []
+rdata_fields (Rdata.srv priority weight port labels) =
+    Field.octets (octets_be 2 priority ++ (octets_be 2 weight ++ octets_be 2 port)) ∷ Field.octets (wire labels) ∷ []
+rdata_fields (Rdata.unknown rtype octets) = Field.octets octets ∷ []
+
+-- its numbers, names and strings fit their octets
+abbrev pub FitsRdata : Rdata → Type 0
+FitsRdata (Rdata.a address) = length address ≡ 4
+FitsRdata (Rdata.aaaa address) = length address ≡ 16
+FitsRdata (Rdata.ns labels) = FitsName labels
+FitsRdata (Rdata.cname labels) = FitsName labels
+FitsRdata (Rdata.ptr labels) = FitsName labels
+FitsRdata (Rdata.mx preference labels) = (preference < 65536) × FitsName labels
+FitsRdata (Rdata.soa mname rname serial refresh retry expire minimum) = FitsName mname × FitsName rname
+    × (serial < 4294967296) × (refresh < 4294967296) × (retry < 4294967296) × (expire < 4294967296)
+    × (minimum < 4294967296)
+FitsRdata (Rdata.txt strings) = (1 ≤ length strings) × All (λ string. length string ≤ 255) strings
+FitsRdata (Rdata.srv priority weight port labels) =
+    (priority < 65536) × (weight < 65536) × (port < 65536) × FitsName labels
+FitsRdata (Rdata.unknown rtype octets) = rtype < 65536
+
+-- addresses and places of services are of the class IN alone
+abbrev pub IsOfClass : ℕ → Rdata → Type 0
+IsOfClass class (Rdata.a _) = class ≡ 1
+IsOfClass class (Rdata.aaaa _) = class ≡ 1
+IsOfClass class (Rdata.srv _ _ _ _) = class ≡ 1
+IsOfClass class _ = Unit {0}
+
+-- A record's type and class are those that the data is of; where its type isn't known, the record's data has no form.
+abbrev pub IsOfType : Record → Rdata → Type 0
+IsOfType r (Rdata.unknown rtype octets) = (r.rtype ≡ rtype) × ((parsed : ParsedRdata) → ¬ IsTyped r parsed)
+IsOfType r said = (r.rtype ≡ rtype_of said) × IsOfClass r.class said

@@ -1,0 +1,115 @@
+-- What a message is while it is written, and what a push does to it.
+use Rattle.std.specs.Prelude.{◌≡◌, ℕ, ◌+◌, ◌<◌, ◌≤◌, ◌⊎◌, Option, List, [], ◌∷◌, ◌++◌, length, Result, OnOk, OnErr}
+use Rattle.octseq.specs.Limit.{IsPast, IsWithin}
+use Rattle.octseq.specs.Refusal.{IsShort, IsMemory, append_error}
+use Rattle.octseq.specs.declared.AppendError.{AppendError}
+use Rattle.octseq_dns_compress.specs.State.{State, Entry, with_header}
+use Rattle.octseq_dns_message.specs.declared.header.Header.{Header}
+use Rattle.octseq_dns_message.specs.declared.header.HeaderCounts.{HeaderCounts}
+use Rattle.octseq_dns.specs.Contents.{Question, Record, Message, FitsQuestion, FitsRecord, Fits, composed, counts_of}
+use Rattle.octseq_dns.specs.Contents.{entries_of, question_entry, record_entry}
+
+-- A message that is being written: the builder of its octets, the table, its octets with the names in them, its header,
+-- and how many entries each section has.
+pub record Building (B T : Type 0) : Type 0 where
+  pub octets : B
+  pub table : T
+  pub state : State
+  pub header : Header
+  pub counts : HeaderCounts
+
+-- It is this message, composed with at most so many names.
+pub record Writes (most : ℕ) (m : Message) (state : State) (header : Header) (counts : HeaderCounts) : Type 0 where
+  pub state_is : state ≡ composed most m
+  pub header_is : header ≡ m.header
+  pub counts_are : counts ≡ counts_of m
+  pub fits : Fits m
+
+-- it is one, which reaches no further than its section
+abbrev pub IsBuilt : ℕ → State → Header → HeaderCounts → (HeaderCounts → Type 0) → Type 0
+IsBuilt most state header counts Reaches =
+    ∥ ((m : Message) × Writes most m state header counts) ∥₁ × Reaches counts
+
+-- ---- how far it reaches
+
+-- it has its header alone
+abbrev pub NothingYet : HeaderCounts → Type 0
+NothingYet counts = (counts.qdcount ≡ 0) × (counts.ancount ≡ 0) × (counts.nscount ≡ 0) × (counts.arcount ≡ 0)
+
+-- questions and nothing after them
+abbrev pub UpToQuestions : HeaderCounts → Type 0
+UpToQuestions counts = (counts.ancount ≡ 0) × (counts.nscount ≡ 0) × (counts.arcount ≡ 0)
+
+-- nothing after its answers
+abbrev pub UpToAnswers : HeaderCounts → Type 0
+UpToAnswers counts = (counts.nscount ≡ 0) × (counts.arcount ≡ 0)
+
+-- nothing after its records of authorities
+abbrev pub UpToAuthorities : HeaderCounts → Type 0
+UpToAuthorities counts = counts.arcount ≡ 0
+
+-- or anything
+abbrev pub UpToAdditionals : HeaderCounts → Type 0
+UpToAdditionals counts = Unit {0}
+
+-- ---- one more
+
+-- with a question more
+abbrev pub more_questions : Message → Question → Message
+more_questions m one = record m { questions = m.questions ++ one ∷ [] }
+
+-- with an answer more
+abbrev pub more_answers : Message → Record → Message
+more_answers m one = record m { answers = m.answers ++ one ∷ [] }
+
+-- with a record of an authority more
+abbrev pub more_authorities : Message → Record → Message
+more_authorities m one = record m { authorities = m.authorities ++ one ∷ [] }
+
+-- with an additional record more
+abbrev pub more_additionals : Message → Record → Message
+more_additionals m one = record m { additionals = m.additionals ++ one ∷ [] }
+
+-- with as many things more
+abbrev pub all_more : {A : Type 0} → (Message → A → Message) → Message → List A → Message
+all_more more m [] = m
+all_more more m (one ∷ rest) = all_more more (more m one) rest
+
+-- A section takes things, as entries, and a header has a count of them. Where a message reaches no further than the
+-- section, one thing more is its last entry, and it still reaches no further.
+pub record Takes (A : Type 0) (entry : A → Entry) (FitsOne : A → Type 0) (Reaches : HeaderCounts → Type 0)
+    (count : HeaderCounts → ℕ) (counted : HeaderCounts → ℕ → HeaderCounts) (more : Message → A → Message)
+    : Type 0 where
+  pub header : (m : Message) (one : A) → (more m one).header ≡ m.header
+  pub counts : (m : Message) (one : A) → counts_of (more m one) ≡ counted (counts_of m) (count (counts_of m) + 1)
+  pub entries : (m : Message) (one : A) → Reaches (counts_of m)
+      → entries_of (more m one) ≡ entries_of m ++ entry one ∷ []
+  pub reaches : (counts : HeaderCounts) (n : ℕ) → Reaches counts → Reaches (counted counts n)
+  pub fits : (m : Message) (one : A) → Fits m → FitsOne one → count (counts_of m) < 65535 → Fits (more m one)
+
+-- a section takes records
+abbrev pub TakesRecords : (HeaderCounts → Type 0) → (HeaderCounts → ℕ) → (HeaderCounts → ℕ → HeaderCounts)
+    → (Message → Record → Message) → Type 0
+TakesRecords Reaches count counted more = Takes Record record_entry FitsRecord Reaches count counted more
+
+-- ---- what a push does
+
+-- A call makes a message what is wanted, or leaves it as it is. It is refused as short only where the octets that are
+-- wanted pass the limit, and for memory only where a request for memory may be refused.
+pub record Appends (limit : Option ℕ) (Asks : Type 0) (result : Result (Unit {0}) AppendError)
+    (wanted old new : State) : Type 0 where
+  pub ok : OnOk result (new ≡ wanted)
+  pub within : OnOk result (IsWithin limit (length wanted.octets))
+  pub err : OnErr result (new ≡ old)
+  pub short : IsShort append_error result → IsPast limit (length wanted.octets)
+  pub memory : IsMemory append_error result → Asks
+
+-- A call pushes an entry, with which a message is what is wanted under a header, or leaves the message as it is. It is
+-- refused as short only where the octets with the entry pass the limit, or the section has 65,535 entries.
+pub record Pushes (limit : Option ℕ) (Asks : Type 0) (result : Result (Unit {0}) AppendError) (wanted : State)
+    (header : List ℕ) (count : ℕ) (old new : State) : Type 0 where
+  pub ok : OnOk result (new ≡ with_header wanted header)
+  pub fits : OnOk result (IsWithin limit (length wanted.octets) × (count < 65535))
+  pub err : OnErr result (new ≡ old)
+  pub short : IsShort append_error result → IsPast limit (length wanted.octets) ⊎ (65535 ≤ count)
+  pub memory : IsMemory append_error result → Asks

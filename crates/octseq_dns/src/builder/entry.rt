@@ -1,0 +1,163 @@
+//! Entries appended to a message: RFC 1035, 4.1.2 and 4.1.3.
+ghost use Rattle.std.specs.Prelude.{◌≡◌, ◌<◌, ◌≤◌, ◌+◌, ◌*◌, ◌⊎◌, ◌++◌, length, true, OnOk};
+ghost use Rattle.octseq.specs.Integer.{octets_be};
+ghost use Rattle.octseq.specs.Limit.{IsPast, IsWithin};
+ghost use Rattle.octseq.specs.Refusal.{IsShort, IsMemory, append_error};
+ghost use Rattle.octseq_dns_compress.specs.Composed.{message_limit, Composes};
+ghost use Rattle.octseq_dns_compress.specs.State.{with_entry, label_count};
+ghost use Rattle.octseq_dns_name.specs.Read.{labels_of};
+ghost use Rattle.octseq_dns.specs.Contents.{FitsQuestion, FitsRecord, question_entry, record_entry};
+ghost use Rattle.octseq_dns.specs.Pushed.{asked, told};
+ghost use Rattle.octseq_dns.specs.Writes.{Appends};
+
+use crate::rdata::ComposeRecordData;
+use octseq::builder::AsOctetsMut;
+use octseq::utf8::Turns;
+use octseq::{AppendError, AsOctets, OctetsBuilder, Truncate};
+use octseq_dns_compress::{Composer, Compressor};
+use octseq_dns_message::{Class, Rtype, Ttl};
+use octseq_dns_name::ParsedName;
+
+/// The type and the class of a question.
+#[tactic(auto, using(octseq::proofs::Written::written_2))]
+fn question_end(qtype: Rtype, qclass: Class) -> [u8; 4]
+    ensures octets { result ≡ octets_be 2 qtype ++ octets_be 2 qclass }
+    ensures qtype { qtype < 65536 }
+    ensures qclass { qclass < 65536 }
+{
+    let qtype = qtype.to_int().to_be_bytes();
+    let qclass = qclass.to_int().to_be_bytes();
+    [qtype[0], qtype[1], qclass[0], qclass[1]]
+}
+
+/// The type, the class and the TTL of a record.
+#[tactic(auto, using(octseq::proofs::Written::written_2, octseq::proofs::Written::written_4))]
+fn record_middle(rtype: Rtype, class: Class, ttl: Ttl) -> [u8; 8]
+    ensures octets { result ≡ octets_be 2 rtype ++ (octets_be 2 class ++ octets_be 4 ttl) }
+    ensures rtype { rtype < 65536 }
+    ensures class { class < 65536 }
+    ensures ttl { ttl < 4294967296 }
+{
+    let rtype = rtype.to_int().to_be_bytes();
+    let class = class.to_int().to_be_bytes();
+    let ttl = ttl.as_secs().to_be_bytes();
+    [
+        rtype[0], rtype[1], class[0], class[1], ttl[0], ttl[1], ttl[2], ttl[3],
+    ]
+}
+
+/// Appends the parts of a question.
+fn compose_question<B: OctetsBuilder + Truncate + AsOctetsMut, T: Compressor, R: AsOctets + Copy>(
+    message: &mut Composer<B, T>,
+    qname: &ParsedName<R>,
+    qtype: Rtype,
+    qclass: Class,
+    turns: &mut Turns,
+) -> Result<(), AppendError>
+    ensures composed { Composes (message_limit B.limit) ((B.asks ≡ true) ⊎ (T.asks ≡ true)) result
+        (with_entry T.most message.old.state (question_entry (asked qname.now qtype qclass)))
+        message.old message.new }
+    ensures fits { OnOk result (FitsQuestion (asked qname.now qtype qclass)) }
+    ensures borrows { B.borrows message.new.octets ≡ B.borrows message.old.octets }
+    ensures turns { turns.new ≤ turns.old + 17 * length (labels_of qname.now) }
+{
+    let end = question_end(qtype, qclass);
+    if let Err(error) = message.append_name(qname, turns) {
+        return Err(error);
+    }
+    message.append_slice(&end)
+}
+
+/// Appends the parts of a record.
+fn compose_record<
+    B: OctetsBuilder + Truncate + AsOctetsMut,
+    T: Compressor,
+    R: AsOctets + Copy,
+    D: ComposeRecordData,
+>(
+    message: &mut Composer<B, T>,
+    owner: &ParsedName<R>,
+    class: Class,
+    ttl: Ttl,
+    rdata: &D,
+    turns: &mut Turns,
+) -> Result<(), AppendError>
+    ensures ok { OnOk result (message.new.state ≡ with_entry T.most message.old.state
+        (record_entry (told owner.now (D.rtype_of rdata.now) class ttl (D.fields rdata.now)))) }
+    ensures within { OnOk result (IsWithin (message_limit B.limit) (length (with_entry T.most message.old.state
+        (record_entry (told owner.now (D.rtype_of rdata.now) class ttl (D.fields rdata.now)))).octets)) }
+    ensures short { IsShort append_error result → IsPast (message_limit B.limit)
+        (length (with_entry T.most message.old.state
+        (record_entry (told owner.now (D.rtype_of rdata.now) class ttl (D.fields rdata.now)))).octets) }
+    ensures memory { IsMemory append_error result → (B.asks ≡ true) ⊎ (T.asks ≡ true) }
+    ensures fits { OnOk result (FitsRecord (told owner.now (D.rtype_of rdata.now) class ttl (D.fields rdata.now))) }
+    ensures borrows { B.borrows message.new.octets ≡ B.borrows message.old.octets }
+    ensures turns { turns.new ≤ turns.old + 17 * (length (labels_of owner.now) + label_count (D.fields rdata.now)) }
+    ensures begun { message.new.begun ≡ message.old.begun }
+{
+    let middle = record_middle(rdata.rtype(), class, ttl);
+    if let Err(error) = message.append_name(owner, turns) {
+        return Err(error);
+    }
+    if let Err(error) = message.append_slice(&middle) {
+        return Err(error);
+    }
+    message.append_counted(rdata, turns)
+}
+
+/// Appends a question, or leaves the message as it is.
+pub(super) fn append_question<
+    B: OctetsBuilder + Truncate + AsOctetsMut,
+    T: Compressor,
+    R: AsOctets + Copy,
+>(
+    message: &mut Composer<B, T>,
+    qname: &ParsedName<R>,
+    qtype: Rtype,
+    qclass: Class,
+    turns: &mut Turns,
+) -> Result<(), AppendError>
+    ensures appended { Appends (message_limit B.limit) ((B.asks ≡ true) ⊎ (T.asks ≡ true)) result
+        (with_entry T.most message.old.state (question_entry (asked qname.now qtype qclass)))
+        message.old.state message.new.state }
+    ensures fits { OnOk result (FitsQuestion (asked qname.now qtype qclass)) }
+    ensures borrows { B.borrows message.new.octets ≡ B.borrows message.old.octets }
+    ensures turns { turns.new ≤ turns.old + 17 * length (labels_of qname.now) }
+{
+    message.begin_entry();
+    let composed = compose_question(message, qname, qtype, qclass, turns);
+    if composed.is_err() {
+        message.take_back();
+    }
+    composed
+}
+
+/// Appends a record, or leaves the message as it is.
+pub(super) fn append_record<
+    B: OctetsBuilder + Truncate + AsOctetsMut,
+    T: Compressor,
+    R: AsOctets + Copy,
+    D: ComposeRecordData,
+>(
+    message: &mut Composer<B, T>,
+    owner: &ParsedName<R>,
+    class: Class,
+    ttl: Ttl,
+    rdata: &D,
+    turns: &mut Turns,
+) -> Result<(), AppendError>
+    ensures appended { Appends (message_limit B.limit) ((B.asks ≡ true) ⊎ (T.asks ≡ true)) result
+        (with_entry T.most message.old.state
+        (record_entry (told owner.now (D.rtype_of rdata.now) class ttl (D.fields rdata.now))))
+        message.old.state message.new.state }
+    ensures fits { OnOk result (FitsRecord (told owner.now (D.rtype_of rdata.now) class ttl (D.fields rdata.now))) }
+    ensures borrows { B.borrows message.new.octets ≡ B.borrows message.old.octets }
+    ensures turns { turns.new ≤ turns.old + 17 * (length (labels_of owner.now) + label_count (D.fields rdata.now)) }
+{
+    message.begin_entry();
+    let composed = compose_record(message, owner, class, ttl, rdata, turns);
+    if composed.is_err() {
+        message.take_back();
+    }
+    composed
+}

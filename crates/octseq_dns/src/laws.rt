@@ -1,0 +1,26 @@
+//! What is read of messages that were written. Each law is the contract of a function that does nothing.
+ghost use Rattle.std.specs.Prelude.{◌≡◌, ◌≤◌, ℕ, length};
+ghost use Rattle.octseq_dns_message.specs.Data.{ParsedRdata, IsDataOf};
+ghost use Rattle.octseq_dns_message.specs.Entry.{Record as Entry};
+ghost use Rattle.octseq_dns.specs.Contents.{Message, Fits, octets_of};
+ghost use Rattle.octseq_dns.specs.Rdata.{Rdata, FitsRdata, IsOfType, bare_rdata, rdata_fields};
+ghost use Rattle.octseq_dns.specs.ReadBack.{HasFields, ReadsBack};
+
+/// What was written is read back: the octets are a message, with that header, those questions and those records in
+/// their order, names octet for octet.
+pub fn a_written_message_is_read()
+    ensures { (most : ℕ) (m : Message) → Fits m → length (octets_of most m) ≤ 65535 → ReadsBack (octets_of most m) m }
+{}
+
+/// A message takes no more octets than where no name is compressed.
+pub fn never_longer_than_uncompressed()
+    ensures { (most : ℕ) (m : Message) → length (octets_of most m) ≤ length (octets_of 0 m) }
+{}
+
+/// Data that was written is read as that data, where the type and the class of its record are those that it is of:
+/// [`Record::data`](crate::Record::data) answers what says the same. Data of a type that isn't known is
+/// read as those octets.
+pub fn data_is_read_as_written()
+    ensures { (r : Entry) (said : Rdata) → HasFields r (rdata_fields said) → FitsRdata said → IsOfType r said
+        → (parsed : ParsedRdata) × (bare_rdata parsed ≡ said) × IsDataOf r parsed }
+{}

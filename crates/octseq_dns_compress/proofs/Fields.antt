@@ -1,0 +1,204 @@
+-- What fields and entries add to a message: octets come after those that it has, and another header leaves them.
+use Rattle.std.proofs.Common.{◌≡◌, ℕ, ◌+◌, ◌-◌, ◌≤◌, Option, Some, None, List, [], ◌∷◌, ◌++◌, length, take, drop, refl, sym, ap, ◌∙◌}
+use Rattle.std.proofs.Common.{subst, arith, append_assoc, append-nil, length-append, length-drop}
+use Rattle.std.proofs.Math.Seq.{take-append_seam}
+use Rattle.std.proofs.lemmas.List.{drop-append-le}
+use Rattle.std.proofs.lemmas.Slice.{drop-append-drop}
+use Rattle.octseq.specs.Limit.{IsPast, IsWithin}
+use Rattle.octseq.specs.Integer.{octets_be}
+use Rattle.octseq.specs.Part.{part_of}
+use Rattle.octseq.proofs.Written.{length_be}
+use Rattle.octseq_dns_compress.specs.Names.{Names, name_octets, names_with}
+use Rattle.octseq_dns_compress.specs.State.{State, Field, Entry, with_octets, with_name, with_field, with_fields, count_put}
+use Rattle.octseq_dns_compress.specs.State.{with_counted, with_data, with_entry, with_entries, with_header}
+use Rattle.octseq_dns_compress.proofs.Steps.{Grows, grown_length}
+
+-- ---- octets come after others
+
+grows_none : (octets : List ℕ) → Grows octets octets
+grows_none octets = ([], sym (append-nil octets))
+
+pub grows_on : (a b c : List ℕ) → Grows a b → Grows b c → Grows a c
+grows_on a b c first then =
+    (first.0 ++ then.0, then.1 ∙ ap (λ o. o ++ then.0) first.1 ∙ append_assoc a first.0 then.0)
+
+pub field_grows : (most : ℕ) (s : State) (field : Field) → Grows s.octets (with_field most s field).octets
+field_grows most s (Field.name labels) = (name_octets s.names labels, refl)
+field_grows most s (Field.octets more) = (more, refl)
+
+pub fields_grow : (most : ℕ) (s : State) (fields : List Field) → Grows s.octets (with_fields most s fields).octets
+fields_grow most s [] = grows_none s.octets
+fields_grow most s (field ∷ fields) =
+    let then = with_field most s field in
+    grows_on s.octets then.octets (with_fields most then fields).octets (field_grows most s field)
+    (fields_grow most then fields)
+
+pub counted_grows : (most : ℕ) (s : State) (fields : List Field) → Grows s.octets (with_counted most s fields).octets
+counted_grows most s fields =
+    let after = with_fields most (with_octets s (0 ∷ 0 ∷ [])) fields in
+    (part_of 2 (drop (length s.octets + 2) after.octets), refl)
+
+pub data_grows : (most : ℕ) (s : State) (fields : Option (List Field)) → Grows s.octets (with_data most s fields).octets
+data_grows most s None = grows_none s.octets
+data_grows most s (Some fields) = counted_grows most s fields
+
+pub entry_grows : (most : ℕ) (s : State) (entry : Entry) → Grows s.octets (with_entry most s entry).octets
+entry_grows most s entry =
+    let then = with_fields most s entry.head in
+    grows_on s.octets then.octets (with_entry most s entry).octets (fields_grow most s entry.head)
+    (data_grows most then entry.data_fields)
+
+pub entries_grow : (most : ℕ) (s : State) (entries : List Entry)
+    → Grows s.octets (with_entries most s entries).octets
+entries_grow most s [] = grows_none s.octets
+entries_grow most s (entry ∷ entries) =
+    let then = with_entry most s entry in
+    grows_on s.octets then.octets (with_entries most then entries).octets (entry_grows most s entry)
+    (entries_grow most then entries)
+
+-- as many octets as data say, and the two of their number
+pub counted_length : (most : ℕ) (s : State) (fields : List Field)
+    → length (with_counted most s fields).octets
+    ≡ length (with_fields most (with_octets s (0 ∷ 0 ∷ [])) fields).octets
+counted_length most s fields =
+    let from = with_octets s (0 ∷ 0 ∷ []) in
+    let after = with_fields most from fields in
+    let data_octets = drop (length s.octets + 2) after.octets in
+    let outer = length-append s.octets (part_of 2 data_octets) in
+    let left = length-drop (length s.octets + 2) after.octets in
+    let first = length-append s.octets (0 ∷ 0 ∷ []) in
+    let less = grown_length from.octets after.octets (fields_grow most from fields) in
+    let inner = length-append (octets_be 2 (length data_octets)) data_octets in
+    let two = length_be 2 (length data_octets) in
+    omega (arith, outer, left, first, less, inner, two)
+
+-- what passes a limit passes it with more
+pub past_longer : (limit : Option ℕ) (n m : ℕ) → n ≤ m → IsPast limit n → IsPast limit m
+past_longer (Some limit) n m less past = omega (arith, less, past)
+past_longer None n m less past = past
+
+-- states of the same octets and names are the same
+pub one_state : {octets others : List ℕ} {names more : Names} → octets ≡ others → names ≡ more
+    → ◌≡◌ {A = State} (record { octets = octets; names = names }) (record { octets = others; names = more })
+one_state octets names = λ i. record { octets = octets i; names = names i }
+
+-- ---- another header
+
+module _ (header : List ℕ) (twelve : length header ≡ 12) where
+  another : State → State
+  another s = with_header s header
+
+  headed_length : (s : State) → 12 ≤ length s.octets → length (with_header s header).octets ≡ length s.octets
+  headed_length s late =
+      let all = length-append header (drop 12 s.octets) in
+      let left = length-drop 12 s.octets in
+      omega (arith, all, left, twelve, late)
+
+  headed_more : (s : State) (more : List ℕ) → 12 ≤ length s.octets
+      → (header ++ drop 12 s.octets) ++ more ≡ header ++ drop 12 (s.octets ++ more)
+  headed_more s more late =
+      append_assoc header (drop 12 s.octets) more
+      ∙ ap (λ o. header ++ o) (sym (drop-append-le 12 s.octets more late))
+
+  pub headed_field : (most : ℕ) (s : State) (field : Field) → 12 ≤ length s.octets
+      → with_field most (with_header s header) field ≡ with_header (with_field most s field) header
+  headed_field most s (Field.name labels) late =
+      let octets = headed_more s (name_octets s.names labels) late in
+      let names = ap (λ n. names_with most s.names n labels) (headed_length s late) in
+      one_state octets names
+  headed_field most s (Field.octets more) late = one_state (headed_more s more late) refl
+
+  pub headed_fields : (most : ℕ) (s : State) (fields : List Field) → 12 ≤ length s.octets
+      → with_fields most (with_header s header) fields ≡ with_header (with_fields most s fields) header
+  headed_fields most s [] late = refl
+  headed_fields most s (field ∷ fields) late =
+      let then = with_field most s field in
+      let longer = grown_length s.octets then.octets (field_grows most s field) in
+      ap (λ s. with_fields most s fields) (headed_field most s field late)
+      ∙ headed_fields most then fields (omega (arith, late, longer))
+
+  headed_count : (s after : State) → 12 ≤ length s.octets
+      → count_put (with_header s header) (with_header after header) ≡ with_header (count_put s after) header
+  headed_count s after late =
+      let n = length s.octets + 2 in
+      let same = ap (λ n. drop (n + 2) (header ++ drop 12 after.octets)) (headed_length s late)
+      ∙ drop-append-drop 12 after.octets header n (omega (arith, late)) twelve in
+      let octets = ap (λ o. (header ++ drop 12 s.octets) ++ part_of 2 o) same
+      ∙ headed_more s (part_of 2 (drop n after.octets)) late in
+      one_state octets refl
+
+  pub headed_counted : (most : ℕ) (s : State) (fields : List Field) → 12 ≤ length s.octets
+      → with_counted most (with_header s header) fields ≡ with_header (with_counted most s fields) header
+  headed_counted most s fields late =
+      let from = with_octets s (0 ∷ 0 ∷ []) in
+      let longer = length-append s.octets (0 ∷ 0 ∷ []) in
+      let same = ap (λ s. with_fields most s fields) (headed_field most s (Field.octets (0 ∷ 0 ∷ [])) late)
+      ∙ headed_fields most from fields (omega (arith, late, longer)) in
+      ap (count_put (with_header s header)) same ∙ headed_count s (with_fields most from fields) late
+
+  headed_data : (most : ℕ) (s : State) (fields : Option (List Field)) → 12 ≤ length s.octets
+      → with_data most (with_header s header) fields ≡ with_header (with_data most s fields) header
+  headed_data most s None late = refl
+  headed_data most s (Some fields) late = headed_counted most s fields late
+
+  pub headed_entry : (most : ℕ) (s : State) (entry : Entry) → 12 ≤ length s.octets
+      → with_entry most (with_header s header) entry ≡ with_header (with_entry most s entry) header
+  headed_entry most s entry late =
+      let then = with_fields most s entry.head in
+      let longer = grown_length s.octets then.octets (fields_grow most s entry.head) in
+      ap (λ s. with_data most s entry.data_fields) (headed_fields most s entry.head late)
+      ∙ headed_data most then entry.data_fields (omega (arith, late, longer))
+
+  pub headed_entries : (most : ℕ) (s : State) (entries : List Entry) → 12 ≤ length s.octets
+      → with_entries most (with_header s header) entries ≡ with_header (with_entries most s entries) header
+  headed_entries most s [] late = refl
+  headed_entries most s (entry ∷ entries) late =
+      let then = with_entry most s entry in
+      let longer = grown_length s.octets then.octets (entry_grows most s entry) in
+      ap (λ s. with_entries most s entries) (headed_entry most s entry late)
+      ∙ headed_entries most then entries (omega (arith, late, longer))
+
+-- an entry after others
+pub entries_more : (most : ℕ) (s : State) (entries others : List Entry)
+    → with_entries most s (entries ++ others) ≡ with_entries most (with_entries most s entries) others
+entries_more most s [] others = refl
+entries_more most s (entry ∷ entries) others = entries_more most (with_entry most s entry) entries others
+
+-- fields after others
+pub fields_more : (most : ℕ) (s : State) (fields others : List Field)
+    → with_fields most s (fields ++ others) ≡ with_fields most (with_fields most s fields) others
+fields_more most s [] others = refl
+fields_more most s (field ∷ fields) others = fields_more most (with_field most s field) fields others
+
+-- data that were composed after two octets for their number, once that is put in their place
+module _ (most : ℕ) (s : State) (fields : List Field) where
+  from : State
+  from = with_octets s (0 ∷ 0 ∷ [])
+
+  pub counted_longer : length s.octets + 2 ≤ length (with_counted most s fields).octets
+  unfolding from
+  counted_longer =
+      let same = counted_length most s fields in
+      let first = length-append s.octets (0 ∷ 0 ∷ []) in
+      let less = grown_length from.octets (with_fields most from fields).octets (fields_grow most from fields) in
+      omega (arith, same, first, less)
+
+  pub count_is_put : (after : State) (place : ℕ) (octets : List ℕ) (names : Names)
+      → after ≡ with_fields most (with_octets s (0 ∷ 0 ∷ [])) fields → place ≡ length s.octets + 2
+      → octets ≡ take (place - 2) after.octets ++ (octets_be 2 (length after.octets - place) ++ drop place after.octets)
+      → names ≡ after.names
+      → ◌≡◌ {A = State} (record { octets = octets; names = names }) (with_counted most s fields)
+  unfolding from
+  count_is_put after place octets names after_is place_is is names_are =
+      let end = length s.octets + 2 in
+      let all = (with_fields most from fields).octets in
+      let grows = grows_on s.octets from.octets all (0 ∷ 0 ∷ [], refl) (fields_grow most from fields) in
+      let front : take (end - 2) all ≡ s.octets =
+      let same : end - 2 ≡ length s.octets = omega arith in
+      ap (λ n. take n all) same ∙ ap (take (length s.octets)) grows.1 ∙ take-append_seam s.octets grows.0 in
+      one_state
+      (is ∙ ap (λ a. take (place - 2) a.octets ++ (octets_be 2 (length a.octets - place) ++ drop place a.octets)) after_is
+      ∙ ap (λ n. take (n - 2) all ++ (octets_be 2 (length all - n) ++ drop n all)) place_is
+      ∙ ap (λ o. o ++ (octets_be 2 (length all - end) ++ drop end all)) front
+      ∙ ap (λ n. s.octets ++ (octets_be 2 n ++ drop end all)) (sym (length-drop end all)))
+      (names_are ∙ ap (λ a. a.names) after_is)

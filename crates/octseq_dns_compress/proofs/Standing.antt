@@ -1,0 +1,290 @@
+-- Names that were written are read as them, and so are those that pointers may then lead to.
+use Rattle.std.specs.Prelude.{nat_le, nat_lt, ◌&&◌, if◌then◌else◌, IsTrue}
+use Rattle.std.proofs.Common.{◌≡◌, ◌⊎◌, inl, inr, Bool, true, false, ℕ, ◌+◌, ◌-◌, ◌<◌, ◌≤◌, Option, Some, None, List}
+use Rattle.std.proofs.Common.{[], ◌∷◌, ◌++◌, length, drop, replicate, is_some, refl, sym, ap, ◌∙◌, subst, arith}
+use Rattle.std.proofs.Common.{append_assoc, length-append, length-drop}
+use Rattle.std.proofs.Math.Bool.{true≢false}
+use Rattle.std.proofs.Math.Seq.{drop-append_seam}
+use Rattle.std.proofs.lemmas.Bool.{leb-true}
+use Rattle.std.proofs.lemmas.List.{drop_at, drop-append-le, drop-drop, length-replicate, take_all}
+use Rattle.std.proofs.lemmas.Slice.{drop-append-drop}
+use Rattle.std.specs.FinMap.{get, len, empty, insert, get-empty}
+use Rattle.std.specs.Option.{option_or}
+use Rattle.octseq.specs.Window.{Window, rest, at, whole}
+use Rattle.octseq_dns_compress.specs.Fits.{FitsName}
+use Rattle.octseq_dns_compress.specs.FoundNames.{get_new, get_other, one_place, same_or_other, some_or_none}
+use Rattle.octseq_dns_compress.specs.Names.{Names, Place, labels_cmp, last_place, name_octets, pointers_from}
+use Rattle.octseq_dns_compress.specs.Names.{is_there, is_kept, with_labels, names_with}
+use Rattle.octseq_dns_compress.specs.Standing.{AreAt, AreNamed}
+use Rattle.octseq_dns_compress.proofs.Pieces.{octets_by, octets_new, name_next}
+use Rattle.octseq_dns_compress.proofs.Steps.{Grows}
+use Rattle.octseq_dns_name.specs.Name.{Stands, IsName}
+use Rattle.octseq_dns_name.specs.NameFormat.{stands_takes}
+use Rattle.octseq_dns_name.specs.Wire.{AreLabels}
+
+-- a message under another header, with more after it
+abbrev pub all_of : List ℕ → List ℕ → List ℕ → List ℕ
+all_of header octets more = header ++ (drop 12 octets ++ more)
+
+-- ---- none
+
+-- nothing is found of no names
+pub none_named : (octets : List ℕ) → AreNamed octets empty
+none_named octets = record {
+  there = λ labels place found. absurd (never labels place found);
+  near = λ labels place found. absurd (never labels place found);
+  few = λ labels place found. absurd (never labels place found);
+} where
+  never : (labels : List (List ℕ)) (place : Place) → ¬ (get {R = labels_cmp} empty labels ≡ Some place)
+  never labels place found = some_or_none (get empty labels) place found (get-empty labels_cmp labels)
+
+-- ---- as the message changes
+
+-- names are at their places in another message where labels stay at theirs
+named_by : (octets new : List ℕ) (names : Names)
+    → ((place : ℕ) (labels : List (List ℕ)) (pointers : ℕ) → AreAt octets place labels pointers
+    → AreAt new place labels pointers)
+    → AreNamed octets names → AreNamed new names
+named_by octets new names stay named = record {
+  there = λ labels place found. stay place.at labels place.pointers (named.there labels place found);
+  near = named.near;
+  few = named.few;
+}
+
+-- a message that grows, with more after it
+all_grows : (header octets more after : List ℕ) → 12 ≤ length octets
+    → all_of header octets (more ++ after) ≡ all_of header (octets ++ more) after
+all_grows header octets more after headed =
+    ap (λ rest. header ++ rest) (sym (append_assoc (drop 12 octets) more after))
+    ∙ ap (λ rest. header ++ (rest ++ after)) (sym (drop-append-le 12 octets more headed))
+
+pub all_grown : (header octets new after : List ℕ) (grows : Grows octets new) → 12 ≤ length octets
+    → all_of header octets (grows.0 ++ after) ≡ all_of header new after
+all_grown header octets new after grows headed =
+    all_grows header octets grows.0 after headed ∙ ap (λ octets. all_of header octets after) (sym grows.1)
+
+-- labels stay as it grows
+at_grows : (octets more : List ℕ) (place : ℕ) (labels : List (List ℕ)) (pointers : ℕ) → 12 ≤ length octets
+    → AreAt octets place labels pointers → AreAt (octets ++ more) place labels pointers
+at_grows octets more place labels pointers headed are = (
+  are.0,
+  λ header after long. subst (λ all. (v : Window) × Stands place (at place (whole all)) labels pointers v)
+      (all_grows header octets more after headed) (are.1 header (more ++ after) long),
+)
+
+-- and as its header changes
+at_headed : (octets header : List ℕ) (place : ℕ) (labels : List (List ℕ)) (pointers : ℕ) → length header ≡ 12
+    → AreAt octets place labels pointers → AreAt (header ++ drop 12 octets) place labels pointers
+at_headed octets header place labels pointers headed are = (
+  are.0,
+  λ other after long.
+      subst (λ rest. (v : Window) × Stands place (at place (whole (other ++ (rest ++ after)))) labels pointers v)
+      (sym (drop_at header (drop 12 octets) 12 headed)) (are.1 other after long),
+)
+
+-- so do names
+pub named_grows : (octets more : List ℕ) (names : Names) → 12 ≤ length octets → AreNamed octets names
+    → AreNamed (octets ++ more) names
+named_grows octets more names headed =
+    named_by octets (octets ++ more) names
+    (λ place labels pointers. at_grows octets more place labels pointers headed)
+
+pub named_headed : (octets header : List ℕ) (names : Names) → length header ≡ 12 → AreNamed octets names
+    → AreNamed (header ++ drop 12 octets) names
+named_headed octets header names headed =
+    named_by octets (header ++ drop 12 octets) names
+    (λ place labels pointers. at_headed octets header place labels pointers headed)
+
+-- ---- a name that is read
+
+-- names are before the end of the message
+named_before : (octets : List ℕ) (names : Names) → 12 ≤ length octets → AreNamed octets names
+    → (labels : List (List ℕ)) (place : Place) → get names labels ≡ Some place → place.at < length octets
+named_before octets names headed named labels place found =
+    let header : List ℕ = replicate 12 0 in
+    let twelve = length-replicate {A = ℕ} 12 0 in
+    let all = all_of header octets [] in
+    let here = (named.there labels place found).1 header [] twelve in
+    let room = stands_takes place.at (at place.at (whole all)) here.0 labels place.pointers here.1 in
+    let long = length-append header (drop 12 octets ++ []) in
+    let more = length-append (drop 12 octets) [] in
+    let fewer = length-drop 12 octets in
+    omega (arith, room, long, more, fewer, headed, twelve)
+
+-- what is left at a place after the header, whatever comes after the message
+pub rest_at : (header octets more : List ℕ) (place : ℕ) → length header ≡ 12 → 12 ≤ place → place ≤ length octets
+    → rest (at place (whole (all_of header octets more))) ≡ drop place octets ++ more
+rest_at header octets more place headed late within =
+    let all = all_of header octets more in
+    let fewer = length-drop place all in
+    let long = length-append header (drop 12 octets) in
+    let left = length-drop 12 octets in
+    let inside : place ≤ length (header ++ drop 12 octets) = omega (arith, long, left, headed, late, within) in
+    take_all (length all - place) (drop place all) (omega (arith, fewer))
+    ∙ ap (drop place) (sym (append_assoc header (drop 12 octets) more))
+    ∙ drop-append-le place (header ++ drop 12 octets) more inside
+    ∙ ap (λ rest. rest ++ more) (drop-append-drop 12 octets header place late headed)
+
+-- the octets of a name are at a place, which is after those of the names
+record IsWrittenAt (octets : List ℕ) (names : Names) (place : ℕ) (labels : List (List ℕ)) : Type 0 where
+  pub each : AreLabels labels
+  pub late : 12 ≤ place
+  pub within : place ≤ length octets
+  pub before : (others : List (List ℕ)) (other : Place) → get names others ≡ Some other → other.at < place
+  pub octets_are : drop place octets ≡ name_octets names labels
+
+-- so its labels are there
+labels_at : (octets : List ℕ) (names : Names) (place : ℕ) (labels : List (List ℕ)) → AreNamed octets names
+    → IsWrittenAt octets names place labels → (header more : List ℕ) → length header ≡ 12
+    → Stands place (at place (whole (all_of header octets more))) labels (pointers_from (last_place names labels))
+    (at (place + length (name_octets names labels)) (whole (all_of header octets more)))
+labels_at octets names place labels named written header more headed =
+    name_next names place (at place (whole (all_of header octets more))) labels more
+    (record {
+      before = written.before;
+      there = λ others other found. (named.there others other found).1 header more headed;
+    })
+    written.each
+    (rest_at header octets more place headed written.late written.within
+    ∙ ap (λ front. front ++ more) written.octets_are)
+
+-- so it is where a name is written after a message
+written_at : (octets : List ℕ) (names : Names) (labels : List (List ℕ)) → 12 ≤ length octets → AreNamed octets names
+    → AreLabels labels → IsWrittenAt (octets ++ name_octets names labels) names (length octets) labels
+written_at octets names labels headed named each = record {
+  each = each;
+  late = headed;
+  within = let long = length-append octets (name_octets names labels) in omega (arith, long);
+  before = named_before octets names headed named;
+  octets_are = drop-append_seam octets (name_octets names labels);
+}
+
+-- as many pointers are followed as a name may have
+few_from : (octets : List ℕ) (names : Names) → AreNamed octets names → (labels : List (List ℕ))
+    → pointers_from (last_place names labels) ≤ 127
+few_from octets names named [] = omega arith
+few_from octets names named (label ∷ labels) =
+    by_found (get names (label ∷ labels)) refl (few_from octets names named labels) where
+      by_found : (found : Option Place) → get names (label ∷ labels) ≡ found
+          → pointers_from (last_place names labels) ≤ 127
+          → pointers_from (option_or found (last_place names labels)) ≤ 127
+      by_found (Some place) found others = let few = named.few (label ∷ labels) place found in omega (arith, few)
+      by_found None found others = others
+
+-- A name that is written after a message is read as that name, whatever its header says and whatever comes after it.
+pub name_is_read : (octets : List ℕ) (names : Names) (labels : List (List ℕ)) → 12 ≤ length octets
+    → AreNamed octets names → FitsName labels → (header more : List ℕ) → length header ≡ 12
+    → let all = header ++ (drop 12 (octets ++ name_octets names labels) ++ more) in
+    IsName (at (length octets) (whole all)) labels
+    (at (length octets + length (name_octets names labels)) (whole all))
+name_is_read octets names labels headed named fits header more long = record {
+  pointers = pointers_from (last_place names labels);
+  stands = labels_at (octets ++ name_octets names labels) names (length octets) labels
+      (named_grows octets (name_octets names labels) names headed named)
+      (written_at octets names labels headed named fits.each) header more long;
+  short = fits.short;
+  few = few_from octets names named labels;
+}
+
+-- ---- the names once it is written
+
+-- one name more
+named_put : (octets : List ℕ) (names : Names) (labels : List (List ℕ)) (place : Place) → AreNamed octets names
+    → AreAt octets place.at labels place.pointers → place.at ≤ 16383 → place.pointers ≤ 126
+    → AreNamed octets (insert names labels place)
+named_put octets names labels place named are near few = record {
+  there = each (λ others other. AreAt octets other.at others other.pointers) are named.there;
+  near = each (λ others other. other.at ≤ 16383) near named.near;
+  few = each (λ others other. other.pointers ≤ 126) few named.few;
+} where
+  -- what is so of it and of the others is so of all
+  each : (P : List (List ℕ) → Place → Type 0) → P labels place
+      → ((others : List (List ℕ)) (other : Place) → get names others ≡ Some other → P others other)
+      → (others : List (List ℕ)) (other : Place) → get (insert names labels place) others ≡ Some other → P others other
+  each P new old others other found = by_name (same_or_other others labels) where
+    by_name : (others ≡ labels) ⊎ ¬ (others ≡ labels) → P others other
+    by_name (inl same) =
+        let one = one_place place other
+        (sym (get_new names labels place) ∙ ap (get (insert names labels place)) (sym same) ∙ found) in
+        subst (λ p. P others p) one (subst (λ l. P l place) (sym same) new)
+    by_name (inr apart) = old others other (sym (get_other names labels others place apart) ∙ found)
+
+-- what is kept has a near place, from where few pointers are followed
+kept_near : (most : ℕ) (names : Names) (labels : List (List ℕ)) (place : Place)
+    → IsTrue (is_kept most names labels place) → (place.at ≤ 16383) × (place.pointers ≤ 126)
+kept_near most names labels place kept = by (nat_le place.at 16383) (nat_le place.pointers 126) refl refl kept where
+  by : (near few : Bool) → nat_le place.at 16383 ≡ near → nat_le place.pointers 126 ≡ few
+      → IsTrue (near && (few && (nat_lt (len names) most && is_there names labels)))
+      → (place.at ≤ 16383) × (place.pointers ≤ 126)
+  by true true near few told = (leb-true place.at 16383 near, leb-true place.pointers 126 few)
+  by true false near few told = absurd (true≢false (sym told))
+  by false few near is told = absurd (true≢false (sym told))
+
+named_kept : (octets : List ℕ) (most : ℕ) (names : Names) (label : List ℕ) (labels : List (List ℕ)) (place : Place)
+    (kept : Bool) → is_kept most names labels place ≡ kept → AreNamed octets names
+    → AreAt octets place.at (label ∷ labels) place.pointers
+    → AreNamed octets (if kept then insert names (label ∷ labels) place else names)
+named_kept octets most names label labels place true is named are =
+    let near = kept_near most names labels place is in
+    named_put octets names (label ∷ labels) place named are near.0 near.1
+named_kept octets most names label labels place false is named are = named
+
+-- the labels that follow a new one are written after it
+written_more : (octets : List ℕ) (names : Names) (place : ℕ) (label : List ℕ) (labels : List (List ℕ))
+    → IsWrittenAt octets names place (label ∷ labels) → get names (label ∷ labels) ≡ None
+    → IsWrittenAt octets names (place + (1 + length label)) labels
+written_more octets names place label labels written none =
+    let new : drop place octets ≡ length label ∷ (label ++ name_octets names labels) =
+    written.octets_are ∙ ap (octets_by names label labels) none ∙ octets_new names label labels in
+    let size = ap length new in
+    let left = length-drop place octets in
+    let both = length-append label (name_octets names labels) in
+    let one : length (length label ∷ label) ≡ 1 + length label = omega arith in
+    let late = written.late in
+    record {
+      each = written.each.2;
+      late = omega (arith, late);
+      within = omega (arith, size, left, both);
+      before = λ others other found. let less = written.before others other found in omega (arith, less);
+      octets_are = sym (drop-drop (1 + length label) place octets) ∙ ap (drop (1 + length label)) new
+          ∙ drop_at (length label ∷ label) (name_octets names labels) (1 + length label) one;
+    }
+
+labels_named : (octets : List ℕ) (most : ℕ) (names : Names) (start : ℕ) (labels : List (List ℕ)) → AreNamed octets names
+    → IsWrittenAt octets names start labels
+    → AreNamed octets (with_labels most (pointers_from (last_place names labels)) names start labels)
+labels_named octets most names start [] named written = named
+labels_named octets most names start (label ∷ labels) named written =
+    by_found (get names (label ∷ labels)) refl (
+      written.late,
+      λ header more headed. (
+        at (start + length (name_octets names (label ∷ labels))) (whole (all_of header octets more)),
+        labels_at octets names start (label ∷ labels) named written header more headed,
+      ),
+    )
+    (λ none. labels_named octets most names (start + (1 + length label)) labels named
+    (written_more octets names start label labels written none)) where
+      by_found : (found : Option Place) → get names (label ∷ labels) ≡ found
+          → AreAt octets start (label ∷ labels) (pointers_from (option_or found (last_place names labels)))
+          → (get names (label ∷ labels) ≡ None → AreNamed octets
+          (with_labels most (pointers_from (last_place names labels)) names (start + (1 + length label)) labels))
+          → AreNamed octets (if is_some found then names
+          else (let pointers = pointers_from (option_or found (last_place names labels)) in
+          let more = with_labels most pointers names (start + (1 + length label)) labels in
+          let place : Place = record { at = start; pointers = pointers } in
+          if is_kept most more labels place then insert more (label ∷ labels) place else more))
+      by_found (Some place) found are others = named
+      by_found None found are others =
+          let pointers = pointers_from (last_place names labels) in
+          let more = with_labels most pointers names (start + (1 + length label)) labels in
+          let place : Place = record { at = start; pointers = pointers } in
+          named_kept octets most more label labels place (is_kept most more labels place) refl (others found) are
+
+-- The names once a name is written after a message are at their places.
+pub named_with : (most : ℕ) (octets : List ℕ) (names : Names) (labels : List (List ℕ)) → 12 ≤ length octets
+    → AreNamed octets names → FitsName labels
+    → AreNamed (octets ++ name_octets names labels) (names_with most names (length octets) labels)
+named_with most octets names labels headed named fits =
+    labels_named (octets ++ name_octets names labels) most names (length octets) labels
+    (named_grows octets (name_octets names labels) names headed named)
+    (written_at octets names labels headed named fits.each)

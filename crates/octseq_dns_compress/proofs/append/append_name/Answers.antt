@@ -1,0 +1,117 @@
+use Rattle.std.proofs.Common.{◌≡◌, ◌+◌, ◌++◌, take, ap, ◌∙◌, sym, subst, length, length-append, arith}
+use Rattle.octseq_dns_name.specs.Read.{labels_of}
+use Rattle.octseq_dns_compress.specs.Composed.{message_limit, before}
+use Rattle.octseq_dns_compress.specs.Key.{AreTargets}
+use Rattle.octseq_dns_compress.specs.Ended.{ended}
+use Rattle.octseq_dns_compress.specs.Names.{name_octets, names_with, unrooted}
+use Rattle.octseq_dns_compress.specs.PlainNames.{plain_labels}
+use Rattle.octseq_dns_compress.proofs.Steps.{appended_grows, grown_length}
+use Rattle.octseq_dns_compress.proofs.Composing.{known_targets, octets_known, octets_back, held_back, known_more, names_more}
+use Rattle.octseq_dns_compress.proofs.Composing.{ending_of, name_refused, name_appended, name_taken_back}
+use Rattle.octseq_dns_compress.proofs.Marked.{before_all, before_fewer}
+use Rattle.octseq_dns_compress.proofs.append.append_name.Goals as goal
+
+pub search-ending-requires-clause-targets : goal.search-ending-requires-clause-targets
+search-ending-requires-clause-targets g c =
+    let octets = g.B.AsOctets.content c.args.octets.now in
+    subst (λ o. AreTargets o c.as_slice.result.now) (sym c.as_ref.ensures.value)
+    (subst (AreTargets octets) (sym c.as_slice.ensures)
+    (known_targets octets (g.T.Compressor.held c.args.table.now) c.requires.known))
+
+pub returns-in-Err-clause-named : goal.returns-in-Err-clause-named
+returns-in-Err-clause-named g c known =
+    let octets = g.B.AsOctets.content c.args.octets.now in
+    let targets = g.T.Compressor.held c.args.table.now in
+    let end = c.search-ending.result in
+    let labels = plain_labels c.new-plain.result in
+    let is = ending_of c.as_ref.result.now octets c.as_slice.result.now targets labels end c.as_ref.ensures.value
+    c.as_slice.ensures c.search-ending.ensures.ending in
+    name_refused (message_limit g.B.AsOctets.limit) g.B.AsOctets.asks g.T.Compressor.most (labels_of c.args.name.now)
+    octets (g.B.AsOctets.content c.append.new.octets) c.as_ref-2.result.now targets known
+    (c.as_ref-2.ensures.value ∙ c.encode-encoded.ensures ∙ octets_known octets targets known labels end is
+    ∙ ap (name_octets known.0) (c.new-plain.ensures ∙ c.labels.ensures.labels))
+    c.in-Err.error c.in-Err.ensures.appended
+
+pub returns-in-Err-clause-before : goal.returns-in-Err-clause-before
+returns-in-Err-clause-before g c =
+    let octets = g.B.AsOctets.content c.args.octets.now in
+    let targets = g.T.Compressor.held c.args.table.now in
+    before_all octets targets (known_targets octets targets c.requires.known)
+
+pub returns-in-Err-keep-clause-named : goal.returns-in-Err-keep-clause-named
+returns-in-Err-keep-clause-named g c known =
+    let octets = g.B.AsOctets.content c.args.octets.now in
+    let targets = g.T.Compressor.held c.args.table.now in
+    let new = g.B.AsOctets.content c.append.new.octets in
+    let held = g.T.Compressor.held c.keep.new.table in
+    let kept = g.T.Compressor.held c.keep_before.new.self in
+    let undone = g.B.AsOctets.content c.truncate.new.self in
+    let end = c.search-ending.result in
+    let labels = plain_labels c.new-plain.result in
+    let is = ending_of c.as_ref.result.now octets c.as_slice.result.now targets labels end c.as_ref.ensures.value
+    c.as_slice.ensures c.search-ending.ensures.ending in
+    let are = known_targets octets targets known in
+    let grows = appended_grows c.append.result c.append.ensures.appended in
+    name_taken_back (message_limit g.B.AsOctets.limit) g.B.AsOctets.asks g.T.Compressor.most
+    (labels_of c.args.name.now) octets new c.as_ref-2.result.now targets known
+    (c.as_ref-2.ensures.value ∙ c.encode-encoded.ensures ∙ octets_known octets targets known labels end is
+    ∙ ap (name_octets known.0) (c.new-plain.ensures ∙ c.labels.ensures.labels))
+    c.in_default.field-0 undone kept c.in_default.ensures.appended
+    (octets_back octets targets are new held kept c.len-start.result undone c.len-start.ensures.content grows
+    c.keep.ensures.before c.keep_before.ensures c.truncate.ensures.content)
+    (held_back octets targets are new held kept c.len-start.result undone c.len-start.ensures.content grows
+    c.keep.ensures.before c.keep_before.ensures c.truncate.ensures.content)
+
+pub returns-in-Err-keep-clause-before : goal.returns-in-Err-keep-clause-before
+returns-in-Err-keep-clause-before g c =
+    let octets = g.B.AsOctets.content c.args.octets.now in
+    let targets = g.T.Compressor.held c.args.table.now in
+    let are = known_targets octets targets c.requires.known in
+    ap (before (length octets)) (held_back octets targets are (g.B.AsOctets.content c.append.new.octets)
+    (g.T.Compressor.held c.keep.new.table) (g.T.Compressor.held c.keep_before.new.self) c.len-start.result
+    (g.B.AsOctets.content c.truncate.new.self) c.len-start.ensures.content
+    (appended_grows c.append.result c.append.ensures.appended) c.keep.ensures.before c.keep_before.ensures
+    c.truncate.ensures.content)
+    ∙ before_all octets targets are
+
+pub returns-in-Err-keep-clause-few : goal.returns-in-Err-keep-clause-few
+returns-in-Err-keep-clause-few g c =
+    let fewer = before_fewer c.len-start.result (g.T.Compressor.held c.keep.new.table) in
+    let many = ap length c.keep_before.ensures in
+    let few = c.keep.ensures.few in
+    omega (arith, fewer, many, few)
+
+pub returns-clause-named : goal.returns-clause-named
+returns-clause-named g c known =
+    let octets = g.B.AsOctets.content c.args.octets.now in
+    let targets = g.T.Compressor.held c.args.table.now in
+    let new = g.B.AsOctets.content c.append.new.octets in
+    let held = g.T.Compressor.held c.keep.new.table in
+    let end = c.search-ending.result in
+    let labels = plain_labels c.new-plain.result in
+    let is = ending_of c.as_ref.result.now octets c.as_slice.result.now targets labels end c.as_ref.ensures.value
+    c.as_slice.ensures c.search-ending.ensures.ending in
+    let same = c.new-plain.ensures ∙ c.labels.ensures.labels in
+    let most = g.T.Compressor.most in
+    let appended : new ≡ octets ++ (unrooted (take end.written labels) ++ ended end.next) =
+    c.in_default.ensures.appended.ok ∙ ap (λ o. octets ++ o) (c.as_ref-2.ensures.value ∙ c.encode-encoded.ensures) in
+    let now = known_more octets targets known labels end is new held c.len-start.result most appended
+    c.len-start.ensures.content c.requires.header c.in_default-keep.ensures.kept in
+    name_appended (message_limit g.B.AsOctets.limit) g.B.AsOctets.asks most (labels_of c.args.name.now) octets new
+    c.as_ref-2.result.now targets known
+    (c.as_ref-2.ensures.value ∙ c.encode-encoded.ensures ∙ octets_known octets targets known labels end is
+    ∙ ap (name_octets known.0) same)
+    held c.in_default.field-0 c.in_default.ensures.appended c.in_default.ensures.within now
+    (names_more octets targets known labels end is new held c.len-start.result most appended
+    c.len-start.ensures.content c.requires.header c.in_default-keep.ensures.kept now
+    ∙ ap (names_with most known.0 c.len-start.result) same
+    ∙ ap (λ n. names_with most known.0 n (labels_of c.args.name.now)) c.len-start.ensures.content)
+
+pub returns-clause-before : goal.returns-clause-before
+returns-clause-before g c =
+    let octets = g.B.AsOctets.content c.args.octets.now in
+    let targets = g.T.Compressor.held c.args.table.now in
+    let held = g.T.Compressor.held c.keep.new.table in
+    ap (λ n. before n held) (sym c.len-start.ensures.content) ∙ c.keep.ensures.before
+    ∙ ap (λ n. before n targets) c.len-start.ensures.content
+    ∙ before_all octets targets (known_targets octets targets c.requires.known)

@@ -1,0 +1,25 @@
+-- Names that are at their places in a message, whatever comes after it.
+use Rattle.std.specs.Prelude.{◌≡◌, ℕ, ◌≤◌, Some, List, ◌++◌, length, drop}
+use Rattle.std.specs.FinMap.{get}
+use Rattle.octseq.specs.Window.{Window, at, whole}
+use Rattle.octseq_dns_compress.specs.Names.{Names, Place}
+use Rattle.octseq_dns_compress.specs.State.{State}
+use Rattle.octseq_dns_name.specs.Name.{Stands}
+
+-- Labels are at a place after the header of a message, through as many pointers, whatever the header says and whatever
+-- comes after the message.
+abbrev pub AreAt : List ℕ → ℕ → List (List ℕ) → ℕ → Type 0
+AreAt octets place labels pointers = (12 ≤ place) × ((header more : List ℕ) → length header ≡ 12
+    → (v : Window) × Stands place (at place (whole (header ++ (drop 12 octets ++ more)))) labels pointers v)
+
+-- Each of the names is at its place, which a pointer can say and from where no more than 126 pointers are followed.
+pub record AreNamed (octets : List ℕ) (names : Names) : Type 0 where
+  pub there : (labels : List (List ℕ)) (place : Place) → get names labels ≡ Some place
+      → AreAt octets place.at labels place.pointers
+  pub near : (labels : List (List ℕ)) (place : Place) → get names labels ≡ Some place → place.at ≤ 16383
+  pub few : (labels : List (List ℕ)) (place : Place) → get names labels ≡ Some place → place.pointers ≤ 126
+
+-- A message has a header, and its names are at their places.
+pub record IsWellNamed (s : State) : Type 0 where
+  pub headed : 12 ≤ length s.octets
+  pub named : AreNamed s.octets s.names

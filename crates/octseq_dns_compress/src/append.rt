@@ -1,0 +1,91 @@
+//! Octets and names appended to a message, or written over octets that it has.
+ghost use Rattle.std.specs.Prelude.{◌≡◌, ◌≤◌, ◌+◌, ◌*◌, ◌++◌, ◌⊎◌, length, take, drop, true, nat_lt, OnOk, OnErr};
+ghost use Rattle.std.specs.List.{filter};
+ghost use Rattle.octseq.specs.Appends.{Appends};
+ghost use Rattle.octseq.specs.Limit.{IsWithin};
+ghost use Rattle.octseq.specs.Refusal.{IsMemory, append_error};
+ghost use Rattle.octseq_dns_compress.specs.Composed.{message_limit};
+ghost use Rattle.octseq_dns_compress.specs.Fits.{FitsName};
+ghost use Rattle.octseq_dns_compress.specs.Known.{Known};
+ghost use Rattle.octseq_dns_compress.specs.Named.{AppendsName};
+ghost use Rattle.octseq_dns_name.specs.Read.{labels_of};
+
+use crate::encode::encode;
+use crate::keep::keep;
+use crate::plain::PlainName;
+use crate::search::search;
+use crate::table::Compressor;
+use octseq::builder::AsOctetsMut;
+use octseq::utf8::Turns;
+use octseq::{AppendError, AsOctets, OctetsBuilder, ShortBuf, Truncate};
+use octseq_dns_name::ParsedName;
+use octseq_dns_name::name::a_name_has_labels;
+use std::alloc::AllocError;
+
+/// How many octets a message may have: RFC 1035, 4.2.2.
+const MESSAGE_MAX: usize = 65535;
+
+/// Appends a slice to a message, which stays within its limit.
+pub(crate) fn append<B: OctetsBuilder>(octets: &mut B, slice: &[u8]) -> Result<(), AppendError>
+    requires { length (B.content octets.old) ≤ 65535 }
+    ensures appended { Appends (message_limit B.limit) B.asks result slice.now
+        (B.content octets.old) (B.content octets.new) }
+    ensures most { length (B.content octets.new) ≤ 65535 }
+    ensures within { OnOk result (IsWithin (message_limit B.limit) (length (B.content octets.new))) }
+    ensures borrows { B.borrows octets.new ≡ B.borrows octets.old }
+{
+    if slice.len() > MESSAGE_MAX - octets.len() {
+        return Err(AppendError::Short(ShortBuf));
+    }
+    octets.append_slice(slice)
+}
+
+/// Writes a slice over as many octets from a place on.
+pub(crate) fn write_over<B: AsOctetsMut>(octets: &mut B, at: usize, slice: &[u8])
+    requires { at + length slice.now ≤ length (B.content octets.old) }
+    ensures content { B.content octets.new ≡ take at (B.content octets.old)
+        ++ (slice.now ++ drop (at + length slice.now) (B.content octets.old)) }
+    ensures borrows { B.borrows octets.new ≡ B.borrows octets.old }
+{
+    octets.as_mut()[at..at + slice.len()].copy_from_slice(slice);
+}
+
+/// Appends a name to a message, and keeps its labels in the table, or leaves both as they are.
+pub(crate) fn append_name<B: OctetsBuilder + Truncate, T: Compressor, R: AsOctets + Copy>(
+    octets: &mut B,
+    table: &mut T,
+    name: &ParsedName<R>,
+    turns: &mut Turns,
+) -> Result<(), AppendError>
+    requires known { Known (B.content octets.old) (T.held table.old) }
+    requires few { length (T.held table.old) ≤ T.most }
+    requires header { 12 ≤ length (B.content octets.old) }
+    requires short { length (B.content octets.old) ≤ 65535 }
+    ensures named { (known : Known (B.content octets.old) (T.held table.old))
+        → AppendsName (message_limit B.limit) T.most result (labels_of name.now)
+        (B.content octets.old) (B.content octets.new) (T.held table.old) (T.held table.new) known }
+    ensures before { filter (λ t. nat_lt t.at (length (B.content octets.old))) (T.held table.new)
+        ≡ T.held table.old }
+    ensures fits { FitsName (labels_of name.now) }
+    ensures few { length (T.held table.new) ≤ T.most }
+    ensures longer { length (B.content octets.old) ≤ length (B.content octets.new) }
+    ensures size { length (B.content octets.new) ≤ 65535 }
+    ensures memory { IsMemory append_error result → (B.asks ≡ true) ⊎ (T.asks ≡ true) }
+    ensures borrows { B.borrows octets.new ≡ B.borrows octets.old }
+    ensures turns { turns.new ≤ turns.old + 17 * length (labels_of name.now) }
+{
+    a_name_has_labels(name);
+    let plain = PlainName::new(name.labels());
+    let ending = search(octets.as_ref(), table.as_slice(), &plain, turns);
+    let start = octets.len();
+    let encoded = encode(&plain, ending);
+    if let Err(error) = append(octets, encoded.as_ref()) {
+        return Err(error);
+    }
+    if let Err(AllocError) = keep(table, &plain, ending, start, turns) {
+        octets.truncate(start);
+        table.keep_before(start);
+        return Err(AppendError::Memory);
+    }
+    Ok(())
+}
