@@ -64,13 +64,9 @@ fn answered<B: OctetsBuilder + Truncate + AsOctetsMut, T: Compressor>(
     let mut questions = message.question();
     questions.push_question(&name.parsed(), Rtype::A, Class::IN)?;
     let mut answers = questions.answer();
-    let ttl = Ttl::from_secs(300);
-    answers.push_record(
-        &name.parsed(),
-        Class::IN,
-        ttl,
-        &UnknownRecordData::new(Rtype::A, &[1, 2, 3, 4]),
-    )?;
+    let (ttl, address) = (Ttl::from_secs(300), [1, 2, 3, 4]);
+    let rdata = UnknownRecordData::new(Rtype::A, &address);
+    answers.push_record(&name.parsed(), Class::IN, ttl, &rdata)?;
     Ok(answers.authority().additional().finish())
 }
 
@@ -327,13 +323,9 @@ fn in_two_sections(alloc: Global) -> Result<AnswerBuilder<Vec<u8>, ArrayVec<Targ
     let mut questions = message.question();
     questions.push_question(&name.parsed(), Rtype::ANY, Class::IN)?;
     let mut answers = questions.answer();
-    let ttl = Ttl::from_secs(300);
-    answers.push_record(
-        &name.parsed(),
-        Class::IN,
-        ttl,
-        &UnknownRecordData::new(Rtype::A, &[1, 2, 3, 4]),
-    )?;
+    let (ttl, address) = (Ttl::from_secs(300), [1, 2, 3, 4]);
+    let rdata = UnknownRecordData::new(Rtype::A, &address);
+    answers.push_record(&name.parsed(), Class::IN, ttl, &rdata)?;
     Ok(answers)
 }
 
