@@ -3,17 +3,17 @@ use Rattle.std.proofs.Common.{◌≡◌, ℕ, ◌+◌, ◌<◌, ◌≤◌, List,
 use Rattle.std.proofs.Common.{append-nil, length-append}
 use Rattle.std.proofs.lemmas.List.{drop_all}
 use Rattle.std.specs.FinMap.{empty}
+use Rattle.std.specs.Prelude.{replicate}
 use Rattle.octseq.specs.Integer.{octets_be}
 use Rattle.octseq_dns_compress.specs.State.{State, Entry, with_header, with_entry, with_entries}
-use Rattle.octseq_dns_compress.proofs.Fields.{headed_entry, headed_entries, entries_more, entries_grow, grown_longer}
+use Rattle.octseq_dns_compress.proofs.Fields.{headed_entry, headed_entries, entries_more, entries_grow}
+use Rattle.octseq_dns_compress.proofs.Steps.{grown_length}
 use Rattle.octseq_dns_message.specs.declared.header.Header.{Header}
 use Rattle.octseq_dns_message.specs.declared.header.HeaderCounts.{HeaderCounts}
-use Rattle.octseq_dns.specs.Contents.{Message, Fits, composed, octets_of, counts_of, entries_of, headed, header_octets}
+use Rattle.octseq_dns.proofs.HeaderRead.{header_length}
+use Rattle.octseq_dns.specs.Blank.{blank_header, blank_message}
+use Rattle.octseq_dns.specs.Contents.{Message, Fits, FitsHeader, composed, octets_of, counts_of, entries_of, headed, header_octets}
 use Rattle.octseq_dns.specs.Writes.{Takes, Writes, all_more}
-
-pub header_length : (h : Header) (counts : HeaderCounts) → length (header_octets h counts) ≡ 12
-unfolding octets_be
-header_length h counts = refl
 
 -- a header in the place of another
 pub headed_anew : (h k : Header) (counts others : HeaderCounts)
@@ -28,7 +28,7 @@ headed_anew h k counts others =
 pub twelve_first : (most : ℕ) (m : Message) → 12 ≤ length (octets_of most m)
 twelve_first most m =
     let first = headed m.header (counts_of m) in
-    let longer = grown_longer (entries_grow most first (entries_of m)) in
+    let longer = grown_length first.octets (octets_of most m) (entries_grow most first (entries_of m)) in
     let long = header_length m.header (counts_of m) in
     omega (arith, longer, long)
 
@@ -64,22 +64,72 @@ module _ {A : Type 0} {entry : A → Entry} {FitsOne : A → Type 0} {Reaches : 
       ∙ headed_entry put long most (composed most m) (entry one) late
 
   -- an entry more
-  pub pushed : (most : ℕ) (m : Message) (state : State) (header : Header) (counts now : HeaderCounts) (one : A)
-      → Writes most m state header counts → Reaches counts → FitsOne one → count counts < 65535
-      → now ≡ counted counts (count counts + 1)
-      → Writes most (more m one) (with_header (with_entry most state (entry one)) (header_octets header now)) header now
-  pushed most m state header counts now one is reaches fits less now_is =
+  pub pushed : (most : ℕ) (m : Message) (one : A) (state then new : State) (header : Header) (counts now : HeaderCounts)
+      (put : List ℕ) → Writes most m state header counts → Reaches counts → FitsOne one → count counts < 65535
+      → now ≡ counted counts (count counts + 1) → then ≡ with_entry most state (entry one)
+      → put ≡ header_octets header now → new ≡ with_header then put → Writes most (more m one) new header now
+  pushed most m one state then new header counts now put is reaches fits less now_is then_is put_is new_is =
       let there : counts_of (more m one) ≡ now =
       takes.counts m one ∙ ap (λ c. counted c (count c + 1)) (sym is.counts_are) ∙ sym now_is in
       let before : Reaches (counts_of m) = subst Reaches is.counts_are reaches in
+      let wanted : State → Header → HeaderCounts → State =
+      λ s h c. with_header (with_entry most s (entry one)) (header_octets h c) in
       record {
-        state_is = sym (composed_more most m one before
-            ∙ ap (λ s. with_header (with_entry most s (entry one)) (header_octets m.header (counts_of (more m one))))
-            (sym is.state_is)
-            ∙ ap (λ h. with_header (with_entry most state (entry one)) (header_octets h (counts_of (more m one))))
-            (sym is.header_is)
-            ∙ ap (λ c. with_header (with_entry most state (entry one)) (header_octets header c)) there);
+        state_is = new_is ∙ ap (λ s. with_header s put) then_is
+            ∙ ap (λ o. with_header (with_entry most state (entry one)) o) put_is
+            ∙ ap (λ c. wanted state header c) (sym there)
+            ∙ ap (λ h. wanted state h (counts_of (more m one))) is.header_is
+            ∙ ap (λ s. wanted s m.header (counts_of (more m one))) is.state_is
+            ∙ sym (composed_more most m one before);
         header_is = is.header_is ∙ sym (takes.header m one);
         counts_are = sym there;
         fits = takes.fits m one is.fits fits (subst (λ c. count c < 65535) is.counts_are less);
       }
+
+-- another header
+pub header_written : (most : ℕ) (m : Message) (state new : State) (header other : Header) (counts : HeaderCounts)
+    (put : List ℕ) → Writes most m state header counts → FitsHeader other → put ≡ header_octets other counts
+    → new ≡ with_header state put → Writes most (record m { header = other }) new other counts
+header_written most m state new header other counts put is fits put_is new_is =
+    let m_fits = is.fits in
+    record {
+      state_is = new_is ∙ ap (λ o. with_header state o) put_is
+          ∙ ap (λ c. with_header state (header_octets other c)) is.counts_are
+          ∙ ap (λ s. with_header s (header_octets other (counts_of m))) is.state_is
+          ∙ sym (header_set most m other);
+      header_is = refl;
+      counts_are = is.counts_are;
+      fits = record {
+        header = fits;
+        questions = m_fits.questions;
+        answers = m_fits.answers;
+        authorities = m_fits.authorities;
+        additionals = m_fits.additionals;
+        qdcount = m_fits.qdcount;
+        ancount = m_fits.ancount;
+        nscount = m_fits.nscount;
+        arcount = m_fits.arcount;
+      };
+    }
+
+-- the message that begins
+pub blank_written : (most : ℕ) (state : State) (header : Header)
+    → state ≡ record { octets = replicate 12 0; names = empty } → header ≡ blank_header
+    → Writes most blank_message state header (record { qdcount = 0; ancount = 0; nscount = 0; arcount = 0 })
+unfolding octets_be
+blank_written most state header is header_is = record {
+  state_is = is;
+  header_is = header_is;
+  counts_are = refl;
+  fits = record {
+    header = record { id = omega arith; opcode = omega arith; rcode = omega arith };
+    questions = tt;
+    answers = tt;
+    authorities = tt;
+    additionals = tt;
+    qdcount = omega arith;
+    ancount = omega arith;
+    nscount = omega arith;
+    arcount = omega arith;
+  };
+}

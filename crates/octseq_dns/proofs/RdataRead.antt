@@ -7,7 +7,7 @@ use Rattle.octseq.specs.Integer.{octets_be}
 use Rattle.octseq.specs.Part.{part_of}
 use Rattle.octseq.specs.Window.{Window, left, next, rest, past, at}
 use Rattle.octseq_dns_compress.specs.Fields.{AreFields}
-use Rattle.octseq_dns_compress.specs.Fits.{FitsName}
+use Rattle.octseq_dns_compress.specs.Fits.{NameFits}
 use Rattle.octseq_dns_compress.specs.State.{Field}
 use Rattle.octseq_dns_message.specs.Data.{ParsedRdata, HasRdata, HasOctets, HasString, HasSoa, IsDataOf}
 use Rattle.octseq_dns_message.specs.Entry.{Record}
@@ -36,7 +36,7 @@ name_last : (labels : List (List ℕ)) (w v : Window) → AreFields w (Field.nam
 name_last labels w v are = (refl, subst (IsName w labels) (sym are.2) are.1)
 
 -- a name that isn't compressed
-plain_last : (labels : List (List ℕ)) (w v : Window) → FitsName labels → AreFields w (Field.octets (wire labels) ∷ []) v
+plain_last : (labels : List (List ℕ)) (w v : Window) → NameFits labels → AreFields w (Field.octets (wire labels) ∷ []) v
     → HasName w (named w labels) v
 plain_last labels w v fits are =
     let u = past (length (wire labels)) w in

@@ -3,7 +3,7 @@ use Rattle.std.specs.Prelude.{ℕ, ◌<◌, ◌≤◌, Some, None, List, [], ◌
 use Rattle.std.specs.FinMap.{empty}
 use Rattle.std.specs.List.{AllByRecursion}
 use Rattle.octseq.specs.Integer.{octets_be}
-use Rattle.octseq_dns_compress.specs.Fits.{FitsName, FitsField}
+use Rattle.octseq_dns_compress.specs.Fits.{NameFits, FitsField}
 use Rattle.octseq_dns_compress.specs.State.{State, Field, Entry, with_entries}
 use Rattle.octseq_dns_message.specs.Header.{flag_bits}
 use Rattle.octseq_dns_message.specs.declared.header.Header.{Header}
@@ -83,13 +83,13 @@ octets_of most m = (composed most m).octets
 
 -- The name and the numbers of a question fit their octets.
 pub record FitsQuestion (q : Question) : Type 0 where
-  pub name : FitsName q.labels
+  pub name : NameFits q.labels
   pub qtype : q.qtype < 65536
   pub qclass : q.qclass < 65536
 
 -- So do those of a record, and the names in its data.
 pub record FitsRecord (r : Record) : Type 0 where
-  pub name : FitsName r.labels
+  pub name : NameFits r.labels
   pub rtype : r.rtype < 65536
   pub class : r.class < 65536
   pub ttl : r.ttl < 4294967296

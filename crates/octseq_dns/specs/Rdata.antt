@@ -4,7 +4,7 @@ use Rattle.std.specs.List.{All, flat_map}
 use Rattle.octseq.specs.Integer.{octets_be}
 use Rattle.octseq.specs.Part.{part_of}
 use Rattle.octseq.specs.Window.{rest}
-use Rattle.octseq_dns_compress.specs.Fits.{FitsName}
+use Rattle.octseq_dns_compress.specs.Fits.{NameFits}
 use Rattle.octseq_dns_compress.specs.State.{Field}
 use Rattle.octseq_dns_message.specs.Data.{ParsedRdata, IsTyped}
 use Rattle.octseq_dns_message.specs.Entry.{Record}
@@ -71,16 +71,16 @@ rdata_fields (Rdata.unknown rtype octets) = Field.octets octets ∷ []
 abbrev pub FitsRdata : Rdata → Type 0
 FitsRdata (Rdata.a address) = length address ≡ 4
 FitsRdata (Rdata.aaaa address) = length address ≡ 16
-FitsRdata (Rdata.ns labels) = FitsName labels
-FitsRdata (Rdata.cname labels) = FitsName labels
-FitsRdata (Rdata.ptr labels) = FitsName labels
-FitsRdata (Rdata.mx preference labels) = (preference < 65536) × FitsName labels
-FitsRdata (Rdata.soa mname rname serial refresh retry expire minimum) = FitsName mname × FitsName rname
+FitsRdata (Rdata.ns labels) = NameFits labels
+FitsRdata (Rdata.cname labels) = NameFits labels
+FitsRdata (Rdata.ptr labels) = NameFits labels
+FitsRdata (Rdata.mx preference labels) = (preference < 65536) × NameFits labels
+FitsRdata (Rdata.soa mname rname serial refresh retry expire minimum) = NameFits mname × NameFits rname
     × (serial < 4294967296) × (refresh < 4294967296) × (retry < 4294967296) × (expire < 4294967296)
     × (minimum < 4294967296)
 FitsRdata (Rdata.txt strings) = (1 ≤ length strings) × All (λ string. length string ≤ 255) strings
 FitsRdata (Rdata.srv priority weight port labels) =
-    (priority < 65536) × (weight < 65536) × (port < 65536) × FitsName labels
+    (priority < 65536) × (weight < 65536) × (port < 65536) × NameFits labels
 FitsRdata (Rdata.unknown rtype octets) = rtype < 65536
 
 -- addresses and places of services are of the class IN alone

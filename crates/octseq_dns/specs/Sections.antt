@@ -47,9 +47,16 @@ takes_questions = record {
       ∙ ap (λ es. es ++ question_entry one ∷ []) (sym (append-nil (map question_entry m.questions)))
       ∙ ap (λ more. (map question_entry m.questions ++ map record_entry more) ++ question_entry one ∷ []) (sym nothing);
   reaches = λ counts n none. none;
-  fits = λ m one fits is less. record fits {
+  fits = λ m one fits is less. record {
+    header = fits.header;
     questions = one_fits FitsQuestion m.questions one fits.questions is;
+    answers = fits.answers;
+    authorities = fits.authorities;
+    additionals = fits.additionals;
     qdcount = one_counted m.questions one less;
+    ancount = fits.ancount;
+    nscount = fits.nscount;
+    arcount = fits.arcount;
   };
 }
 
@@ -78,9 +85,16 @@ takes_answers = record {
       ∙ ap (λ r. r ++ one ∷ []) (sym (append-nil m.answers))
       ∙ ap (λ more. (m.answers ++ more) ++ one ∷ []) (sym nothing));
   reaches = λ counts n none. none;
-  fits = λ m one fits is less. record fits {
+  fits = λ m one fits is less. record {
+    header = fits.header;
+    questions = fits.questions;
     answers = one_fits FitsRecord m.answers one fits.answers is;
+    authorities = fits.authorities;
+    additionals = fits.additionals;
+    qdcount = fits.qdcount;
     ancount = one_counted m.answers one less;
+    nscount = fits.nscount;
+    arcount = fits.arcount;
   };
 }
 
@@ -99,9 +113,16 @@ takes_authorities = record {
       ∙ sym (append_assoc m.answers (m.authorities ++ []) (one ∷ []))
       ∙ ap (λ more. (m.answers ++ (m.authorities ++ more)) ++ one ∷ []) (sym nothing));
   reaches = λ counts n none. none;
-  fits = λ m one fits is less. record fits {
+  fits = λ m one fits is less. record {
+    header = fits.header;
+    questions = fits.questions;
+    answers = fits.answers;
     authorities = one_fits FitsRecord m.authorities one fits.authorities is;
+    additionals = fits.additionals;
+    qdcount = fits.qdcount;
+    ancount = fits.ancount;
     nscount = one_counted m.authorities one less;
+    arcount = fits.arcount;
   };
 }
 
@@ -116,8 +137,15 @@ takes_additionals = record {
       (ap (λ r. m.answers ++ r) (sym (append_assoc m.authorities m.additionals (one ∷ [])))
       ∙ sym (append_assoc m.answers (m.authorities ++ m.additionals) (one ∷ [])));
   reaches = λ counts n any. tt;
-  fits = λ m one fits is less. record fits {
+  fits = λ m one fits is less. record {
+    header = fits.header;
+    questions = fits.questions;
+    answers = fits.answers;
+    authorities = fits.authorities;
     additionals = one_fits FitsRecord m.additionals one fits.additionals is;
+    qdcount = fits.qdcount;
+    ancount = fits.ancount;
+    nscount = fits.nscount;
     arcount = one_counted m.additionals one less;
   };
 }

@@ -94,7 +94,8 @@ impl<B: OctetsBuilder + Truncate + AsOctetsMut, T: Compressor, S: Section> Secti
         ensures borrows { B.borrows self.new.octets ≡ B.borrows self.old.octets }
     {
         self.header = header;
-        self.message.put_header(&octets_of(&self.header, &self.counts));
+        self.message
+            .put_header(&octets_of(&self.header, &self.counts));
     }
 
     /// The message so far.

@@ -10,16 +10,13 @@
 
 pub mod builder;
 pub mod laws;
-pub mod moved;
 pub mod rdata;
-pub mod rewrite;
 
 pub use builder::{
     AdditionalBuilder, AnswerBuilder, AuthorityBuilder, MessageBuilder, QuestionBuilder,
     SectionBuilder,
 };
-pub use moved::can_move;
-pub use octseq_dns_compress::{Compose, Composer, Compressor, Target};
+pub use octseq_dns_compress::{Composer, Compressor, Target};
 pub use octseq_dns_message::data::Data;
 pub use octseq_dns_message::header::{Flags, Header, HeaderCounts};
 pub use octseq_dns_message::iana::{Class, Opcode, Rcode, Rtype};
@@ -30,4 +27,3 @@ pub use octseq_dns_name::error::{FromLabelsError, FromTextError, Malformed};
 pub use octseq_dns_name::name::{DomainName, Name, ParsedName};
 pub use octseq_dns_name::{error, name};
 pub use rdata::{ComposeRecordData, UnknownRecordData};
-pub use rewrite::{RewriteError, rewrite};

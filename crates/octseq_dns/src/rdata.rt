@@ -1,26 +1,55 @@
 //! Data of records as it is written: RFC 1035, 3.3, and RFC 3597.
-ghost use Rattle.std.specs.Prelude.{◌≡◌, [], ◌∷◌};
+ghost use Rattle.std.specs.Prelude.{◌≡◌, ◌≤◌, ◌+◌, ◌*◌, ◌⊎◌, ◌++◌, [], ◌∷◌, true, OnOk};
+ghost use Rattle.std.specs.List.{AllByRecursion};
+ghost use Rattle.octseq.specs.Integer.{octets_be};
+ghost use Rattle.octseq_dns_compress.specs.Composed.{Composes, message_limit};
+ghost use Rattle.octseq_dns_compress.specs.Fits.{FitsField};
+ghost use Rattle.octseq_dns_compress.specs.State.{Field, label_count, with_fields};
 ghost use Rattle.octseq_dns.specs.Rdata.{bare_rdata, rdata_fields, rtype_of};
-ghost use Rattle.octseq_dns_compress.specs.State.{Field};
-ghost use Rattle.octseq_dns_message.specs.Typed.{rdata_of};
+ghost use Rattle.octseq_dns_message.specs.Data.{ParsedRdata};
+ghost use Rattle.octseq_dns_message.specs.Typed.{rdata_of, mx_of, soa_of, srv_of};
 
-use octseq::builder::AsOctetsMut;
+use octseq::builder::{AsOctetsMut, infallible};
 use octseq::utf8::Turns;
-use octseq::{AppendError, AsOctets, OctetsBuilder, Truncate};
-use octseq_dns_compress::{Compose, Composer, Compressor};
+use octseq::{AppendError, Array, AsOctets, OctetsBuilder, Truncate};
+use octseq_dns_compress::{Composer, Compressor};
 use octseq_dns_message::data::{Mx, Soa, Srv};
 use octseq_dns_message::{Data, Rtype};
+use octseq_dns_name::DomainName;
+use octseq_dns_name::name::a_name_has_labels;
+use octseq_format::Format;
 
-/// Data of a record: it has a type, and composes itself into a message.
-pub trait ComposeRecordData: Compose {
-    ghost use Rattle.std.specs.Prelude.{ℕ};
+/// Data of a record that can be written: its type, and its fields, each of which is a name that may be compressed, or
+/// octets.
+pub trait ComposeRecordData {
+    ghost use Rattle.std.specs.Prelude.{ℕ, List};
 
     // The number of its type.
     ghost rtype_of: { Self → ℕ };
 
+    // Its fields.
+    ghost fields: { Self → List Field };
+
     /// Its type.
     fn rtype(&self) -> Rtype
         ensures { result ≡ rtype_of self.now };
+
+    /// Appends its fields to a message, one after another.
+    ///
+    /// # Errors
+    ///
+    /// `Short` where the message would pass the limit of the builder's type or 65,535 octets, and `Memory` where a
+    /// request for memory was refused. Some of its octets may then be there.
+    fn compose<B: OctetsBuilder + Truncate + AsOctetsMut, T: Compressor>(
+        &self,
+        message: &mut Composer<B, T>,
+        turns: &mut Turns,
+    ) -> Result<(), AppendError>
+        ensures composed { Composes (message_limit B.limit) ((B.asks ≡ true) ⊎ (T.asks ≡ true)) result
+            (with_fields T.most message.old.state (fields self.now)) message.old message.new }
+        ensures fits { OnOk result (AllByRecursion FitsField (fields self.now)) }
+        ensures borrows { B.borrows message.new.octets ≡ B.borrows message.old.octets }
+        ensures turns { turns.new ≤ turns.old + 17 * label_count (fields self.now) };
 }
 
 /// Data of a type by its number, as octets that mean nothing here: RFC 3597.
@@ -40,8 +69,14 @@ impl<'a> UnknownRecordData<'a> {
     }
 }
 
-impl<'a> Compose for UnknownRecordData<'a> {
-    ghost fields = { λ data. Field.octets data.octets.now ∷ [] };
+impl<'a> ComposeRecordData for UnknownRecordData<'a> {
+    ghost rtype_of = { λ unknown. unknown.rtype };
+
+    ghost fields = { λ unknown. Field.octets unknown.octets.now ∷ [] };
+
+    fn rtype(&self) -> Rtype {
+        self.rtype
+    }
 
     fn compose<B: OctetsBuilder + Truncate + AsOctetsMut, T: Compressor>(
         &self,
@@ -52,16 +87,14 @@ impl<'a> Compose for UnknownRecordData<'a> {
     }
 }
 
-impl<'a> ComposeRecordData for UnknownRecordData<'a> {
-    ghost rtype_of = { λ data. data.rtype };
+impl<R: AsOctets + Copy> ComposeRecordData for Data<R> {
+    ghost rtype_of = { λ rdata. rtype_of (bare_rdata (rdata_of rdata)) };
+
+    ghost fields = { λ rdata. rdata_fields (bare_rdata (rdata_of rdata)) };
 
     fn rtype(&self) -> Rtype {
-        self.rtype
+        Data::rtype(self)
     }
-}
-
-impl<R: AsOctets + Copy> Compose for Data<R> {
-    ghost fields = { λ data. rdata_fields (bare_rdata (rdata_of data)) };
 
     fn compose<B: OctetsBuilder + Truncate + AsOctetsMut, T: Compressor>(
         &self,
@@ -83,10 +116,101 @@ impl<R: AsOctets + Copy> Compose for Data<R> {
     }
 }
 
-impl<R: AsOctets + Copy> ComposeRecordData for Data<R> {
-    ghost rtype_of = { λ data. rtype_of (bare_rdata (rdata_of data)) };
-
-    fn rtype(&self) -> Rtype {
-        Data::rtype(self)
+/// Appends the parts of a mail exchange: RFC 1035, 3.3.9.
+fn compose_mx<B: OctetsBuilder + Truncate + AsOctetsMut, T: Compressor, R: AsOctets + Copy>(
+    message: &mut Composer<B, T>,
+    mx: &Mx<R>,
+    turns: &mut Turns,
+) -> Result<(), AppendError>
+    ensures composed { Composes (message_limit B.limit) ((B.asks ≡ true) ⊎ (T.asks ≡ true)) result
+        (with_fields T.most message.old.state (rdata_fields (bare_rdata (ParsedRdata.mx (mx_of mx.now)))))
+        message.old message.new }
+    ensures fits { OnOk result (AllByRecursion FitsField (rdata_fields (bare_rdata (ParsedRdata.mx (mx_of mx.now))))) }
+    ensures borrows { B.borrows message.new.octets ≡ B.borrows message.old.octets }
+    ensures turns { turns.new ≤ turns.old
+        + 17 * label_count (rdata_fields (bare_rdata (ParsedRdata.mx (mx_of mx.now)))) }
+{
+    if let Err(error) = message.append_slice(&mx.preference.to_be_bytes()) {
+        return Err(error);
     }
+    message.append_name(&mx.exchange, turns)
+}
+
+/// The five numbers of the start of a zone.
+#[tactic(auto, using(octseq::proofs::Written::written_4))]
+fn soa_numbers<R: AsOctets>(soa: &Soa<R>) -> [u8; 20]
+    ensures { result ≡ octets_be 4 soa.now.serial ++ (octets_be 4 soa.now.refresh ++ (octets_be 4 soa.now.retry
+        ++ (octets_be 4 soa.now.expire ++ octets_be 4 soa.now.minimum))) }
+{
+    let serial = soa.serial.to_be_bytes();
+    let refresh = soa.refresh.to_be_bytes();
+    let retry = soa.retry.to_be_bytes();
+    let expire = soa.expire.to_be_bytes();
+    let minimum = soa.minimum.to_be_bytes();
+    [
+        serial[0], serial[1], serial[2], serial[3], refresh[0], refresh[1], refresh[2], refresh[3],
+        retry[0], retry[1], retry[2], retry[3], expire[0], expire[1], expire[2], expire[3],
+        minimum[0], minimum[1], minimum[2], minimum[3],
+    ]
+}
+
+/// Appends the parts of the start of a zone: RFC 1035, 3.3.13.
+fn compose_soa<B: OctetsBuilder + Truncate + AsOctetsMut, T: Compressor, R: AsOctets + Copy>(
+    message: &mut Composer<B, T>,
+    soa: &Soa<R>,
+    turns: &mut Turns,
+) -> Result<(), AppendError>
+    ensures composed { Composes (message_limit B.limit) ((B.asks ≡ true) ⊎ (T.asks ≡ true)) result
+        (with_fields T.most message.old.state (rdata_fields (bare_rdata (ParsedRdata.soa (soa_of soa.now)))))
+        message.old message.new }
+    ensures fits { OnOk result (AllByRecursion FitsField (rdata_fields (bare_rdata (ParsedRdata.soa (soa_of soa.now))))) }
+    ensures borrows { B.borrows message.new.octets ≡ B.borrows message.old.octets }
+    ensures turns { turns.new ≤ turns.old
+        + 17 * label_count (rdata_fields (bare_rdata (ParsedRdata.soa (soa_of soa.now)))) }
+{
+    if let Err(error) = message.append_name(&soa.mname, turns) {
+        return Err(error);
+    }
+    if let Err(error) = message.append_name(&soa.rname, turns) {
+        return Err(error);
+    }
+    message.append_slice(&soa_numbers(soa))
+}
+
+/// The three numbers of the place of a service.
+#[tactic(auto, using(octseq::proofs::Written::written_2))]
+fn srv_numbers<R: AsOctets>(srv: &Srv<R>) -> [u8; 6]
+    ensures { result ≡ octets_be 2 srv.now.priority ++ (octets_be 2 srv.now.weight ++ octets_be 2 srv.now.port) }
+{
+    let priority = srv.priority.to_be_bytes();
+    let weight = srv.weight.to_be_bytes();
+    let port = srv.port.to_be_bytes();
+    [
+        priority[0],
+        priority[1],
+        weight[0],
+        weight[1],
+        port[0],
+        port[1],
+    ]
+}
+
+/// Appends the parts of the place of a service. Its name is never compressed: RFC 2782.
+fn compose_srv<B: OctetsBuilder + Truncate + AsOctetsMut, T: Compressor, R: AsOctets + Copy>(
+    message: &mut Composer<B, T>,
+    srv: &Srv<R>,
+) -> Result<(), AppendError>
+    ensures composed { Composes (message_limit B.limit) ((B.asks ≡ true) ⊎ (T.asks ≡ true)) result
+        (with_fields T.most message.old.state (rdata_fields (bare_rdata (ParsedRdata.srv (srv_of srv.now)))))
+        message.old message.new }
+    ensures borrows { B.borrows message.new.octets ≡ B.borrows message.old.octets }
+{
+    if let Err(error) = message.append_slice(&srv_numbers(srv)) {
+        return Err(error);
+    }
+    a_name_has_labels(&srv.target);
+    let _len = srv.target.len();
+    let mut target = Array::<255>::new();
+    infallible(DomainName::put(&mut target, &srv.target));
+    message.append_slice(target.as_slice())
 }

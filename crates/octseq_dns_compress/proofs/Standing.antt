@@ -11,7 +11,7 @@ use Rattle.std.proofs.lemmas.Slice.{drop-append-drop}
 use Rattle.std.specs.FinMap.{get, len, empty, insert, get-empty}
 use Rattle.std.specs.Option.{option_or}
 use Rattle.octseq.specs.Window.{Window, rest, at, whole}
-use Rattle.octseq_dns_compress.specs.Fits.{FitsName}
+use Rattle.octseq_dns_compress.specs.Fits.{NameFits}
 use Rattle.octseq_dns_compress.specs.FoundNames.{get_new, get_other, one_place, same_or_other, some_or_none}
 use Rattle.octseq_dns_compress.specs.Names.{Names, Place, labels_cmp, last_place, name_octets, pointers_from}
 use Rattle.octseq_dns_compress.specs.Names.{is_there, is_kept, with_labels, names_with}
@@ -173,7 +173,7 @@ few_from octets names named (label ∷ labels) =
 
 -- A name that is written after a message is read as that name, whatever its header says and whatever comes after it.
 pub name_is_read : (octets : List ℕ) (names : Names) (labels : List (List ℕ)) → 12 ≤ length octets
-    → AreNamed octets names → FitsName labels → (header more : List ℕ) → length header ≡ 12
+    → AreNamed octets names → NameFits labels → (header more : List ℕ) → length header ≡ 12
     → let all = header ++ (drop 12 (octets ++ name_octets names labels) ++ more) in
     IsName (at (length octets) (whole all)) labels
     (at (length octets + length (name_octets names labels)) (whole all))
@@ -282,7 +282,7 @@ labels_named octets most names start (label ∷ labels) named written =
 
 -- The names once a name is written after a message are at their places.
 pub named_with : (most : ℕ) (octets : List ℕ) (names : Names) (labels : List (List ℕ)) → 12 ≤ length octets
-    → AreNamed octets names → FitsName labels
+    → AreNamed octets names → NameFits labels
     → AreNamed (octets ++ name_octets names labels) (names_with most names (length octets) labels)
 named_with most octets names labels headed named fits =
     labels_named (octets ++ name_octets names labels) most names (length octets) labels

@@ -5,7 +5,7 @@ ghost use Rattle.octseq.specs.Appends.{Appends};
 ghost use Rattle.octseq.specs.Limit.{IsWithin};
 ghost use Rattle.octseq.specs.Refusal.{IsMemory, append_error};
 ghost use Rattle.octseq_dns_compress.specs.Composed.{message_limit};
-ghost use Rattle.octseq_dns_compress.specs.Fits.{FitsName};
+ghost use Rattle.octseq_dns_compress.specs.Fits.{NameFits};
 ghost use Rattle.octseq_dns_compress.specs.Known.{Known};
 ghost use Rattle.octseq_dns_compress.specs.Named.{AppendsName};
 ghost use Rattle.octseq_dns_name.specs.Read.{labels_of};
@@ -66,7 +66,7 @@ pub(crate) fn append_name<B: OctetsBuilder + Truncate, T: Compressor, R: AsOctet
         (B.content octets.old) (B.content octets.new) (T.held table.old) (T.held table.new) known }
     ensures before { filter (λ t. nat_lt t.at (length (B.content octets.old))) (T.held table.new)
         ≡ T.held table.old }
-    ensures fits { FitsName (labels_of name.now) }
+    ensures fits { NameFits (labels_of name.now) }
     ensures few { length (T.held table.new) ≤ T.most }
     ensures longer { length (B.content octets.old) ≤ length (B.content octets.new) }
     ensures size { length (B.content octets.new) ≤ 65535 }

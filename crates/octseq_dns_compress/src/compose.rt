@@ -20,35 +20,6 @@ const HEADER_LEN: usize = 12;
 /// How many octets have the number of those of data: RFC 1035, 4.1.3.
 const COUNT_LEN: usize = 2;
 
-/// What composes itself into a message: a row of fields, each of which is a name, which may be compressed, or octets.
-pub trait Compose {
-    ghost use Rattle.std.specs.Prelude.{List};
-    ghost use Rattle.std.specs.List.{AllByRecursion};
-    ghost use Rattle.std.specs.Prelude.{OnOk};
-    ghost use Rattle.octseq_dns_compress.specs.Fits.{FitsField};
-    ghost use Rattle.octseq_dns_compress.specs.State.{Field, label_count, with_fields};
-
-    // Its fields.
-    ghost fields: { Self → List Field };
-
-    /// Appends its fields to a message, one after another.
-    ///
-    /// # Errors
-    ///
-    /// `Short` where the message would pass the limit of the builder's type or 65,535 octets, and `Memory` where a
-    /// request for memory was refused. Some of its octets may then be there.
-    fn compose<B: OctetsBuilder + Truncate + AsOctetsMut, T: Compressor>(
-        &self,
-        message: &mut Composer<B, T>,
-        turns: &mut Turns,
-    ) -> Result<(), AppendError>
-        ensures composed { Composes (message_limit B.limit) ((B.asks ≡ true) ⊎ (T.asks ≡ true)) result
-            (with_fields T.most message.old.state (fields self.now)) message.old message.new }
-        ensures fits { OnOk result (AllByRecursion FitsField (fields self.now)) }
-        ensures borrows { B.borrows message.new.octets ≡ B.borrows message.old.octets }
-        ensures turns { turns.new ≤ turns.old + 17 * label_count (fields self.now) };
-}
-
 /// Octets of a message, and the targets of the names in them.
 #[derive(Drop)]
 pub struct Composer<B: AsOctets, T: Compressor> {
@@ -126,7 +97,7 @@ impl<B: OctetsBuilder + Truncate, T: Compressor> Composer<B, T> {
     ghost use Rattle.std.specs.Prelude.{◌↔◌, IfOk, replicate};
     ghost use Rattle.std.specs.FinMap.{empty};
     ghost use Rattle.octseq.specs.Refusal.{IsMemory};
-    ghost use Rattle.octseq_dns_compress.specs.Fits.{FitsName};
+    ghost use Rattle.octseq_dns_compress.specs.Fits.{NameFits};
     ghost use Rattle.octseq_dns_compress.specs.State.{with_name};
     ghost use Rattle.octseq_dns_name.specs.Read.{labels_of};
 
@@ -172,7 +143,7 @@ impl<B: OctetsBuilder + Truncate, T: Compressor> Composer<B, T> {
         ensures err { OnErr result (self.new.state ≡ self.old.state) }
         ensures past { IsPast (message_limit B.limit)
             (length (with_name T.most self.old.state (labels_of name.now)).octets) → IsShort append_error result }
-        ensures fits { FitsName (labels_of name.now) }
+        ensures fits { NameFits (labels_of name.now) }
         ensures borrows { B.borrows self.new.octets ≡ B.borrows self.old.octets }
         ensures turns { turns.new ≤ turns.old + 17 * length (labels_of name.now) }
     {
@@ -219,42 +190,16 @@ impl<B: OctetsBuilder + Truncate + AsOctetsMut, T: Compressor> Composer<B, T> {
         write_over(&mut self.octets, 0, header);
     }
 
-    /// Appends what composes itself, after the number of its octets, which has two octets.
+    /// Begins data: appends two octets for the number of those that come after them, up to [`end_data`](Self::end_data).
     ///
     /// # Errors
     ///
     /// `Short` where the message would pass the limit of the builder's type or 65,535 octets, and `Memory` where a
-    /// request for memory was refused. Some of its octets may then be there.
-    pub fn append_counted<D: Compose>(
-        &mut self,
-        rdata: &D,
-        turns: &mut Turns,
-    ) -> Result<(), AppendError>
-        ensures ok { OnOk result (self.new.state ≡ with_counted T.most self.old.state (D.fields rdata.now)) }
-        ensures within { OnOk result (IsWithin (message_limit B.limit)
-            (length (with_counted T.most self.old.state (D.fields rdata.now)).octets)) }
-        ensures short { IsShort append_error result → IsPast (message_limit B.limit)
-            (length (with_counted T.most self.old.state (D.fields rdata.now)).octets) }
-        ensures memory { IsMemory append_error result → (B.asks ≡ true) ⊎ (T.asks ≡ true) }
-        ensures begun { self.new.begun ≡ self.old.begun }
-        ensures fits { OnOk result (AllByRecursion FitsField (D.fields rdata.now)) }
-        ensures borrows { B.borrows self.new.octets ≡ B.borrows self.old.octets }
-        ensures turns { turns.new ≤ turns.old + 17 * label_count (D.fields rdata.now) }
-    {
-        if let Err(error) = self.begin_data() {
-            return Err(error);
-        }
-        if let Err(error) = rdata.compose(self, turns) {
-            return Err(error);
-        }
-        self.end_data();
-        Ok(())
-    }
-
-    /// Appends two octets for the number of those that come after them.
-    fn begin_data(&mut self) -> Result<(), AppendError>
+    /// request for memory was refused. The octets are then as they were.
+    pub fn begin_data(&mut self) -> Result<(), AppendError>
         ensures ok { OnOk result (self.new.state ≡ with_octets self.old.state (0 ∷ 0 ∷ [])) }
         ensures data_start { OnOk result (self.new.data_start ≡ length self.new.state.octets) }
+        ensures err { OnErr result (self.new.state ≡ self.old.state) }
         ensures short { IsShort append_error result
             → IsPast (message_limit B.limit) (length self.old.state.octets + 2) }
         ensures memory { IsMemory append_error result → B.asks ≡ true }
@@ -269,8 +214,8 @@ impl<B: OctetsBuilder + Truncate + AsOctetsMut, T: Compressor> Composer<B, T> {
         Ok(())
     }
 
-    /// Writes how many octets came after the two that are for their number.
-    fn end_data(&mut self)
+    /// Ends data: writes how many octets came after the two that are for their number.
+    pub fn end_data(&mut self)
         requires { length self.old.begun.octets + 2 ≤ self.old.data_start }
         ensures octets { self.new.state.octets ≡ take (self.old.data_start - 2) self.old.state.octets
             ++ (octets_be 2 (length self.old.state.octets - self.old.data_start)

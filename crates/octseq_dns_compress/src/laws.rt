@@ -2,7 +2,7 @@
 //! calls it has the law in its proof.
 ghost use Rattle.std.specs.Prelude.{◌≡◌, ◌+◌, ◌≤◌, ℕ, List, ◌++◌, length, drop};
 ghost use Rattle.octseq.specs.Window.{at, whole};
-ghost use Rattle.octseq_dns_compress.specs.Fits.{FitsName};
+ghost use Rattle.octseq_dns_compress.specs.Fits.{NameFits};
 ghost use Rattle.octseq_dns_compress.specs.Names.{Names, name_octets};
 ghost use Rattle.octseq_dns_compress.specs.Standing.{AreNamed};
 ghost use Rattle.octseq_dns_name.specs.Name.{IsName, wire_length};
@@ -11,7 +11,7 @@ ghost use Rattle.octseq_dns_name.specs.Name.{IsName, wire_length};
 /// comes after it, where each of the names that pointers may lead to is at its place.
 pub fn a_compressed_name_is_read()
     ensures { (octets : List ℕ) (names : Names) (labels : List (List ℕ)) → 12 ≤ length octets
-        → AreNamed octets names → FitsName labels → (header more : List ℕ) → length header ≡ 12
+        → AreNamed octets names → NameFits labels → (header more : List ℕ) → length header ≡ 12
         → let all = header ++ (drop 12 (octets ++ name_octets names labels) ++ more) in
         IsName (at (length octets) (whole all)) labels
         (at (length octets + length (name_octets names labels)) (whole all)) }

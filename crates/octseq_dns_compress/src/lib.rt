@@ -14,6 +14,6 @@ mod plain;
 mod search;
 pub mod table;
 
-pub use compose::{Compose, Composer};
+pub use compose::Composer;
 pub use laws::{a_compressed_name_is_read, never_longer_than_plain};
 pub use table::{Compressor, Target};

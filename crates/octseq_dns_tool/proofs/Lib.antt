@@ -1,4 +1,3 @@
-pub mod Moving
 pub mod OneAnswer
 pub mod OneRewriting
 pub mod Rewritings

@@ -10,7 +10,7 @@ use Rattle.octseq_dns.specs.Rewriting.{IsRewriting}
 use Rattle.octseq_dns.specs.declared.header.Header.{Header}
 use Rattle.octseq_dns_tool.proofs.Rewritings.{octets_set}
 use Rattle.octseq_dns_tool.proofs.Streams.{one_reading}
-use Rattle.octseq_dns_tool.specs.Moved.{CanMove}
+use Rattle.octseq_dns.specs.Moved.{CanMove}
 use Rattle.octseq_dns_tool.specs.Rewritten.{IsAnew, IsLeftOut, AreAnew, IsRewritten}
 use Rattle.octseq_dns_tool.specs.Stream.{FitsStream, stream_of}
 

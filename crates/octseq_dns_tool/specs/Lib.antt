@@ -1,4 +1,3 @@
-pub mod Moved
 pub mod Out
 pub mod Rewritten
 pub mod Shown

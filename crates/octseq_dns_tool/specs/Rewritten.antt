@@ -6,7 +6,7 @@ use Rattle.octseq_dns.specs.Entry.{Question, Record}
 use Rattle.octseq_dns.specs.Message.{IsMessage}
 use Rattle.octseq_dns.specs.declared.header.Header.{Header}
 use Rattle.octseq_dns.specs.Rewriting.{IsRewriting}
-use Rattle.octseq_dns_tool.specs.Moved.{CanMove}
+use Rattle.octseq_dns.specs.Moved.{CanMove}
 use Rattle.octseq_dns_tool.specs.Shown.{IsMalformed}
 use Rattle.octseq_dns_tool.specs.Stream.{FitsStream, stream_of}
 

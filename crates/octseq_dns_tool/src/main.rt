@@ -10,7 +10,6 @@ use octseq_program::start;
 use std::process::ExitCode;
 
 mod engine;
-mod moved;
 
 fn main(rt: HostRuntime) -> ExitCode {
     start::<Command>(&rt)

@@ -4,7 +4,9 @@ ghost use Rattle.octseq.specs.Integer.{octets_be};
 ghost use Rattle.octseq.specs.Limit.{IsPast, IsWithin};
 ghost use Rattle.octseq.specs.Refusal.{IsShort, IsMemory, append_error};
 ghost use Rattle.octseq_dns_compress.specs.Composed.{message_limit, Composes};
-ghost use Rattle.octseq_dns_compress.specs.State.{with_entry, label_count};
+ghost use Rattle.octseq_dns_compress.specs.State.{with_counted, with_entry, label_count};
+ghost use Rattle.std.specs.List.{AllByRecursion};
+ghost use Rattle.octseq_dns_compress.specs.Fits.{FitsField};
 ghost use Rattle.octseq_dns_name.specs.Read.{labels_of};
 ghost use Rattle.octseq_dns.specs.Contents.{FitsQuestion, FitsRecord, question_entry, record_entry};
 ghost use Rattle.octseq_dns.specs.Pushed.{asked, told};
@@ -68,6 +70,33 @@ fn compose_question<B: OctetsBuilder + Truncate + AsOctetsMut, T: Compressor, R:
     message.append_slice(&end)
 }
 
+/// Appends data, after the number of its octets.
+fn append_data<B: OctetsBuilder + Truncate + AsOctetsMut, T: Compressor, D: ComposeRecordData>(
+    message: &mut Composer<B, T>,
+    rdata: &D,
+    turns: &mut Turns,
+) -> Result<(), AppendError>
+    ensures ok { OnOk result (message.new.state ≡ with_counted T.most message.old.state (D.fields rdata.now)) }
+    ensures within { OnOk result (IsWithin (message_limit B.limit)
+        (length (with_counted T.most message.old.state (D.fields rdata.now)).octets)) }
+    ensures short { IsShort append_error result → IsPast (message_limit B.limit)
+        (length (with_counted T.most message.old.state (D.fields rdata.now)).octets) }
+    ensures memory { IsMemory append_error result → (B.asks ≡ true) ⊎ (T.asks ≡ true) }
+    ensures begun { message.new.begun ≡ message.old.begun }
+    ensures fits { OnOk result (AllByRecursion FitsField (D.fields rdata.now)) }
+    ensures borrows { B.borrows message.new.octets ≡ B.borrows message.old.octets }
+    ensures turns { turns.new ≤ turns.old + 17 * label_count (D.fields rdata.now) }
+{
+    if let Err(error) = message.begin_data() {
+        return Err(error);
+    }
+    if let Err(error) = rdata.compose(message, turns) {
+        return Err(error);
+    }
+    message.end_data();
+    Ok(())
+}
+
 /// Appends the parts of a record.
 fn compose_record<
     B: OctetsBuilder + Truncate + AsOctetsMut,
@@ -102,7 +131,7 @@ fn compose_record<
     if let Err(error) = message.append_slice(&middle) {
         return Err(error);
     }
-    message.append_counted(rdata, turns)
+    append_data(message, rdata, turns)
 }
 
 /// Appends a question, or leaves the message as it is.

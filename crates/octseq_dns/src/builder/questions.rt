@@ -82,7 +82,8 @@ impl<B: OctetsBuilder + Truncate + AsOctetsMut, T: Compressor> QuestionBuilder<B
             return Err(error);
         }
         self.counts.qdcount = qdcount;
-        self.message.put_header(&octets_of(&self.header, &self.counts));
+        self.message
+            .put_header(&octets_of(&self.header, &self.counts));
         Ok(())
     }
 

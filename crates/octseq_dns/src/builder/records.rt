@@ -94,7 +94,8 @@ impl<B: OctetsBuilder + Truncate + AsOctetsMut, T: Compressor, S: RecordSection>
             return Err(error);
         }
         self.counts = counts;
-        self.message.put_header(&octets_of(&self.header, &self.counts));
+        self.message
+            .put_header(&octets_of(&self.header, &self.counts));
         Ok(())
     }
 }

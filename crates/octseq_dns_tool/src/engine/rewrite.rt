@@ -8,11 +8,11 @@ ghost use Rattle.octseq_dns_tool.specs.declared.engine.Command.TheVariants.{Rewr
 ghost use Rattle.octseq_program.specs.declared.status.Status.TheVariants.{Refused};
 
 use crate::engine::stream::next_message;
-use crate::moved::can_move;
 use octseq::compose::append_part_u16_be;
 use octseq::{AppendError, Parser};
 use octseq_dns::Message;
 use octseq_dns::compose::rewrite;
+use octseq_dns::moved::can_move;
 use octseq_dns::place::Place;
 use octseq_program::{Answer, Status};
 use std::alloc::{AllocError, Global};

@@ -53,6 +53,16 @@ returns-in-Err-clause-begun g c =
     c.in-Err.self-1-own.given.1.0
     ∙ ap (λ v. v.begun) c.self.view_is
 
+pub returns-in-Err-clause-err : goal.returns-in-Err-clause-err
+returns-in-Err-clause-err g c =
+    let in' = c.self.inside in
+    let octets = g.B.AsOctets.content in'.octets in
+    let held = g.T.Compressor.held in'.table in
+    let grows = appended_grows c.append.result c.append.ensures.appended in
+    one_state c.in-Err.ensures.appended.err
+    (grown_names octets (g.B.AsOctets.content c.append.new.octets) held grows in'.known c.in-Err.self-1-own.given.0)
+    ∙ ap (λ v. v.state) c.self.view_is
+
 pub invariant_of-self-inside-2 : goal.invariant_of-self-inside-2
 invariant_of-self-inside-2 g c =
     let in' = c.self.inside in

@@ -4,20 +4,20 @@ use Rattle.octseq.specs.Limit.{IsPast, IsWithin}
 use Rattle.octseq_dns_compress.specs.Composed.{message_limit}
 use Rattle.octseq_dns_compress.specs.State.{with_counted, with_fields, with_octets}
 use Rattle.octseq_dns_compress.proofs.Fields.{count_is_put, counted_length, counted_longer, past_longer}
-use Rattle.octseq_dns_compress.proofs.compose.Composer.append_counted.Goals as goal
+use Rattle.octseq_dns.proofs.builder.entry.append_data.Goals as goal
 
 pub returns-in-Err-clause-short : goal.returns-in-Err-clause-short
 returns-in-Err-clause-short g c =
-    let s = c.args.self.now.state in
-    let fields = g.D.Compose.fields c.args.rdata.now in
+    let s = c.args.message.now.state in
+    let fields = g.D.ComposeRecordData.fields c.args.rdata.now in
     let most = g.T.Compressor.most in
     λ short. past_longer (message_limit g.B.AsOctets.limit) (length s.octets + 2)
     (length (with_counted most s fields).octets) (counted_longer most s fields) (c.in-Err.ensures.short short)
 
 pub returns-in-Err-compose-clause-short : goal.returns-in-Err-compose-clause-short
 returns-in-Err-compose-clause-short g c =
-    let s = c.args.self.now.state in
-    let fields = g.D.Compose.fields c.args.rdata.now in
+    let s = c.args.message.now.state in
+    let fields = g.D.ComposeRecordData.fields c.args.rdata.now in
     let most = g.T.Compressor.most in
     λ short. subst (IsPast (message_limit g.B.AsOctets.limit))
     (ap (λ from. length (with_fields most from fields).octets) c.in_default.ensures.ok
@@ -25,8 +25,8 @@ returns-in-Err-compose-clause-short g c =
 
 pub returns-clause-ok : goal.returns-clause-ok
 returns-clause-ok g c =
-    let s = c.args.self.now.state in
-    let fields = g.D.Compose.fields c.args.rdata.now in
+    let s = c.args.message.now.state in
+    let fields = g.D.ComposeRecordData.fields c.args.rdata.now in
     let most = g.T.Compressor.most in
     let after = c.compose.new.message in
     let begun = c.in_default.ensures.ok in
@@ -39,8 +39,8 @@ returns-clause-ok g c =
 
 pub returns-clause-within : goal.returns-clause-within
 returns-clause-within g c =
-    let s = c.args.self.now.state in
-    let fields = g.D.Compose.fields c.args.rdata.now in
+    let s = c.args.message.now.state in
+    let fields = g.D.ComposeRecordData.fields c.args.rdata.now in
     let most = g.T.Compressor.most in
     subst (λ n. IsWithin (message_limit g.B.AsOctets.limit) n)
     (ap (λ from. length (with_fields most from fields).octets) c.in_default.ensures.ok

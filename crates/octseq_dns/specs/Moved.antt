@@ -3,8 +3,8 @@
 use Rattle.std.specs.List.{AllByRecursion, list_any}
 use Rattle.std.specs.Prelude.{ℕ, ◌<◌, Bool, ◌||◌, ◌&&◌, nat_eq, List, [], ◌∷◌, IsTrue}
 use Rattle.octseq.specs.Window.{left}
-use Rattle.octseq_dns.specs.Data.{Form, IsTyped}
-use Rattle.octseq_dns.specs.Entry.{Record}
+use Rattle.octseq_dns_message.specs.Data.{ParsedRdata, IsTyped}
+use Rattle.octseq_dns_message.specs.Entry.{Record}
 
 -- The types whose data has names, in any class: NS, MD, MF, CNAME, SOA, MB, MG, MR, PTR, MINFO and MX (RFC 1035, 3.3),
 -- RP, AFSDB and RT (RFC 1183), SIG (RFC 2535, 4.1), PX (RFC 2163, 4), NXT (RFC 2535, 5.2) and NAPTR (RFC 3403, 4.1).
@@ -16,13 +16,13 @@ types_with_names =
 abbrev pub may_have_names : ℕ → ℕ → Bool
 may_have_names rtype class = list_any (λ t. nat_eq t rtype) types_with_names || (nat_eq rtype 33 && nat_eq class 1)
 
--- a record's data has no form that is known here
-abbrev pub IsOpaque : Record → Type 0
-IsOpaque r = (form : Form) → ¬ IsTyped r form
+-- a record's data isn't of its type's form, or its type has no form that is known here
+abbrev pub IsUnknown : Record → Type 0
+IsUnknown r = (rdata : ParsedRdata) → ¬ IsTyped r rdata
 
--- a record can be moved: where its data is opaque, the data has no octet, or is of a type without names
+-- a record can be moved: where its data is unknown, the data has no octet, or is of a type without names
 abbrev pub CanMoveRecord : Record → Type 0
-CanMoveRecord r = IsOpaque r → 0 < left r.rdata → ¬ IsTrue (may_have_names r.rtype r.class)
+CanMoveRecord r = IsUnknown r → 0 < left r.rdata → ¬ IsTrue (may_have_names r.rtype r.class)
 
 -- all records of a message can be moved
 abbrev pub CanMove : List Record → List Record → List Record → Type 0

@@ -1,14 +1,14 @@
 //! Whether a message can be written anew in other octets.
 ghost use Rattle.std.specs.List.{AllByRecursion};
 ghost use Rattle.std.specs.Prelude.{◌≡◌, ◌↔◌, IsTrue};
-ghost use Rattle.octseq_dns.specs.Parsed.{answers_of, authorities_of, additionals_of};
-ghost use Rattle.octseq_dns.specs.Said.{record_of};
-ghost use Rattle.octseq_dns.specs.Walk.{records_left};
-ghost use Rattle.octseq_dns_tool.specs.Moved.{may_have_names, CanMoveRecord, CanMove};
+ghost use Rattle.octseq_dns.specs.Moved.{may_have_names, CanMoveRecord, CanMove};
+ghost use Rattle.octseq_dns_message.specs.Parsed.{answers_of, authorities_of, additionals_of};
+ghost use Rattle.octseq_dns_message.specs.Said.{record_of};
+ghost use Rattle.octseq_dns_message.specs.Walk.{records_left};
 
 use octseq::AsOctets;
-use octseq_dns::message::{Message, Record, Records};
-use octseq_dns::{Class, Data, Rtype};
+use octseq_dns_message::message::{Message, Record, Records};
+use octseq_dns_message::{Class, Data, Rtype};
 
 /// The numbers of the types whose data has names, in any class: RFC 1035, 3.3, RFC 1183, RFC 2163, RFC 2535 and
 /// RFC 3403.
@@ -25,12 +25,12 @@ fn data_may_have_names(rtype: Rtype, class: Class) -> bool
 
 /// Whether a record can be moved to another message: data that isn't read as its type's may have pointers, which would
 /// point elsewhere there.
-fn can_move_record<R: AsOctets + Copy>(entry: &Record<R>) -> bool
+pub fn can_move_record<R: AsOctets + Copy>(entry: &Record<R>) -> bool
     ensures { IsTrue result ↔ CanMoveRecord (record_of entry.now) }
 {
     match entry.data() {
-        Data::Opaque(octets) => {
-            octets.remaining() == 0 || !data_may_have_names(entry.rtype(), entry.class())
+        Data::Unknown(rtype, octets) => {
+            octets.remaining() == 0 || !data_may_have_names(rtype, entry.class())
         }
         _ => true,
     }
@@ -49,7 +49,7 @@ fn can_move_all<R: AsOctets + Copy>(records: Records<R>) -> bool
 }
 
 /// Whether a message can be written anew in other octets: whether all of its records can be moved.
-pub(crate) fn can_move<R: AsOctets + Copy>(message: &Message<R>) -> bool
+pub fn can_move<R: AsOctets + Copy>(message: &Message<R>) -> bool
     ensures { IsTrue result
         ↔ CanMove (answers_of message.now) (authorities_of message.now) (additionals_of message.now) }
 {

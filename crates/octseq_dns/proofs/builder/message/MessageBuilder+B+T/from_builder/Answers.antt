@@ -1,0 +1,19 @@
+use Rattle.std.proofs.Common.{refl}
+use Rattle.octseq_dns.specs.Blank.{blank_message}
+use Rattle.octseq_dns.proofs.Pushed.{blank_written}
+use Rattle.octseq_dns.proofs.builder.message.MessageBuilder+B+T.from_builder.Goals as goal
+
+pub invariant_of-result : goal.invariant_of-result
+invariant_of-result g c = (
+  ∣ (
+    blank_message,
+    blank_written g.T.Compressor.most c.in-Ok.message.state c.blank_header.result c.in-Ok.ensures.state
+        c.blank_header.ensures,
+  ) ∣₁,
+  (refl, refl, refl, refl),
+)
+
+pub returns-clause-written : goal.returns-clause-written
+returns-clause-written g c =
+    blank_written g.T.Compressor.most c.in-Ok.message.state c.blank_header.result c.in-Ok.ensures.state
+    c.blank_header.ensures

@@ -1,0 +1,21 @@
+use Rattle.std.proofs.Common.{◌≤◌, ◌<◌, ◌^◌, ◌+◌, length, ap, ◌∙◌, arith}
+use Rattle.octseq_dns_name.specs.Read.{labels_of}
+use Rattle.octseq_dns_name.specs.Wire.{wire}
+use Rattle.octseq_dns_name.proofs.Wires.{wire_has}
+use Rattle.octseq_dns.proofs.rdata.compose_srv.Goals as goal
+
+pub put-requires-clause-fit : goal.put-requires-clause-fit
+put-requires-clause-fit g c =
+    let labels = labels_of c.args.srv.now.target in
+    let same = wire_has labels in
+    let long = c.len-len.ensures in
+    record {
+      fits = record { each = c.a_name_has_labels.ensures.labels; short = omega (arith, long.len, long.most) };
+      few = omega (arith, same, long.len, long.most);
+    }
+
+pub put-requires-clause-within : goal.put-requires-clause-within
+put-requires-clause-within g c =
+    let same = wire_has (labels_of c.args.srv.now.target) in
+    let long = c.len-len.ensures in
+    ?
