@@ -1,3 +1,4 @@
+pub mod Anew
 pub mod EntriesRead
 pub mod FieldParts
 pub mod HeaderRead

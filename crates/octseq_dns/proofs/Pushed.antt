@@ -1,19 +1,25 @@
 -- A message with an entry more, as one that is written.
 use Rattle.std.proofs.Common.{◌≡◌, ℕ, ◌+◌, ◌<◌, ◌≤◌, List, [], ◌∷◌, ◌++◌, length, take, drop, refl, sym, ap, ◌∙◌, subst, arith}
 use Rattle.std.proofs.Common.{append-nil, length-append}
+use Rattle.std.proofs.Common.{Bool, true, false, Option, Some, None, min}
+use Rattle.std.proofs.Math.Logic.{∥∥₁_elim}
+use Rattle.std.proofs.lemmas.Bool.{ltb-true, ltb-false}
 use Rattle.std.proofs.lemmas.List.{drop_all}
+use Rattle.std.specs.Coded.{le_prop}
+use Rattle.octseq.specs.Limit.{IsPast, IsWithin}
+use Rattle.octseq_dns_compress.specs.Composed.{message_limit}
 use Rattle.std.specs.FinMap.{empty}
-use Rattle.std.specs.Prelude.{replicate}
+use Rattle.std.specs.Prelude.{replicate, nat_lt}
 use Rattle.octseq.specs.Integer.{octets_be}
 use Rattle.octseq_dns_compress.specs.State.{State, Entry, with_header, with_entry, with_entries}
-use Rattle.octseq_dns_compress.proofs.Fields.{headed_entry, headed_entries, entries_more, entries_grow}
+use Rattle.octseq_dns_compress.proofs.Fields.{headed_entry, headed_entries, entries_more, entries_grow, entry_grows, headed_length}
 use Rattle.octseq_dns_compress.proofs.Steps.{grown_length}
 use Rattle.octseq_dns_message.specs.declared.header.Header.{Header}
 use Rattle.octseq_dns_message.specs.declared.header.HeaderCounts.{HeaderCounts}
 use Rattle.octseq_dns.proofs.HeaderRead.{header_length}
 use Rattle.octseq_dns.specs.Blank.{blank_header, blank_message}
 use Rattle.octseq_dns.specs.Contents.{Message, Fits, FitsHeader, composed, octets_of, counts_of, entries_of, headed, header_octets}
-use Rattle.octseq_dns.specs.Writes.{Takes, Writes, all_more}
+use Rattle.octseq_dns.specs.Writes.{IsBuilt, Takes, Writes}
 
 -- a header in the place of another
 pub headed_anew : (h k : Header) (counts others : HeaderCounts)
@@ -133,3 +139,45 @@ blank_written most state header is header_is = record {
     arcount = omega arith;
   };
 }
+
+-- what is built begins with its header
+pub twelve_built : (most : ℕ) (state : State) (header : Header) (counts : HeaderCounts) (Reaches : HeaderCounts → Type 0)
+    → IsBuilt most state header counts Reaches → 12 ≤ length state.octets
+twelve_built most state header counts Reaches built =
+    ∥∥₁_elim built.0 le_prop (λ w.
+    let first = twelve_first most w.0 in
+    let same = ap (λ s. length s.octets) w.1.state_is in
+    omega (arith, first, same))
+
+-- so its length is the same with another header
+pub headed_long : (most : ℕ) (state new : State) (header other : Header) (counts now : HeaderCounts)
+    (Reaches : HeaderCounts → Type 0) (put : List ℕ) → IsBuilt most state header counts Reaches
+    → put ≡ header_octets other now → new ≡ with_header state put → length new.octets ≡ length state.octets
+headed_long most state new header other counts now Reaches put built put_is new_is =
+    ap (λ s. length s.octets) new_is
+    ∙ headed_length put (ap length put_is ∙ header_length other now) state
+    (twelve_built most state header counts Reaches built)
+
+-- and what fits with an entry fits with its count
+pub pushed_within : (limit : Option ℕ) (most : ℕ) (state then new : State) (header : Header)
+    (counts now : HeaderCounts) (Reaches : HeaderCounts → Type 0) (put : List ℕ) (entry : Entry)
+    → IsBuilt most state header counts Reaches → IsWithin limit (length (with_entry most state entry).octets)
+    → then ≡ with_entry most state entry → put ≡ header_octets header now → new ≡ with_header then put
+    → IsWithin limit (length new.octets)
+pushed_within limit most state then new header counts now Reaches put entry built within then_is put_is new_is =
+    let wanted = with_entry most state entry in
+    let late = twelve_built most state header counts Reaches built in
+    let longer = grown_length state.octets wanted.octets (entry_grows most state entry) in
+    let same = ap (λ s. length (with_header s put).octets) then_is in
+    subst (IsWithin limit) (sym (ap (λ s. length s.octets) new_is ∙ same
+    ∙ headed_length put (ap length put_is ∙ header_length header now) wanted (omega (arith, late, longer)))) within
+
+-- a header fits where a builder takes it
+pub begun_within : (limit : Option ℕ) (octets : List ℕ) → ¬ IsPast limit 12 → length octets ≡ 12
+    → IsWithin (message_limit limit) (length octets)
+begun_within None octets fits long = omega (arith, long)
+begun_within (Some limit) octets fits long =
+    by_test (nat_lt limit 12) refl where
+      by_test : (told : Bool) → nat_lt limit 12 ≡ told → length octets ≤ min limit 65535
+      by_test true is = absurd (fits (ltb-true limit 12 is))
+      by_test false is = let late = ltb-false limit 12 is in omega (arith, late, long)

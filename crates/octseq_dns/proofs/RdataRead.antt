@@ -9,14 +9,14 @@ use Rattle.octseq.specs.Window.{Window, left, next, rest, past, at}
 use Rattle.octseq_dns_compress.specs.Fields.{AreFields}
 use Rattle.octseq_dns_compress.specs.Fits.{NameFits}
 use Rattle.octseq_dns_compress.specs.State.{Field}
-use Rattle.octseq_dns_message.specs.Data.{ParsedRdata, HasRdata, HasOctets, HasString, HasSoa, IsDataOf}
+use Rattle.octseq_dns_message.specs.Data.{ParsedRdata, HasRdata, HasOctets, HasString, HasSoa, IsDataOf, rtype_of as parsed_rtype}
 use Rattle.octseq_dns_message.specs.Entry.{Record}
 use Rattle.octseq_dns_message.specs.Format.{IsNumber}
 use Rattle.octseq_dns_name.specs.Name.{Name, HasName, IsName}
 use Rattle.octseq_dns_name.specs.NameFormat.{wire_stands}
 use Rattle.octseq_dns_name.specs.Wire.{wire}
 use Rattle.octseq_format.specs.Row.{Row}
-use Rattle.octseq_dns.specs.Rdata.{Rdata, bare_rdata, rdata_fields, FitsRdata, IsOfType}
+use Rattle.octseq_dns.specs.Rdata.{Rdata, bare_rdata, rdata_fields, rtype_of, FitsRdata, IsOfType}
 use Rattle.octseq_dns.specs.ReadBack.{HasFields}
 use Rattle.octseq_dns.proofs.FieldParts.{octets_first, octets_apart, number_first, number_last, name_first}
 
@@ -187,3 +187,16 @@ data_is_read r (Rdata.unknown rtype octets) has fits of =
       ap (λ n. Rdata.unknown n (rest r.rdata)) of.0 ∙ ap (Rdata.unknown rtype) same,
       inr (refl, of.1),
     )
+
+-- data is of the type that it was read as
+pub bare_rtype : (parsed : ParsedRdata) → rtype_of (bare_rdata parsed) ≡ parsed_rtype parsed
+bare_rtype (ParsedRdata.a _) = refl
+bare_rtype (ParsedRdata.aaaa _) = refl
+bare_rtype (ParsedRdata.ns _) = refl
+bare_rtype (ParsedRdata.cname _) = refl
+bare_rtype (ParsedRdata.ptr _) = refl
+bare_rtype (ParsedRdata.mx _) = refl
+bare_rtype (ParsedRdata.soa _) = refl
+bare_rtype (ParsedRdata.txt _) = refl
+bare_rtype (ParsedRdata.srv _) = refl
+bare_rtype (ParsedRdata.unknown _ _) = refl

@@ -1,8 +1,12 @@
 pub mod Blank
 pub mod Contents
+pub mod Labels
+pub mod Moved
 pub mod Pushed
 pub mod Rdata
 pub mod ReadBack
+pub mod RewriteShown
+pub mod Rewritten
 pub mod Sections
 pub mod Writes
 pub use Rattle.octseq_dns_message.specs.Data

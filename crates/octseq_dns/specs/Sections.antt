@@ -46,6 +46,7 @@ takes_questions = record {
       ∙ map-append question_entry m.questions (one ∷ [])
       ∙ ap (λ es. es ++ question_entry one ∷ []) (sym (append-nil (map question_entry m.questions)))
       ∙ ap (λ more. (map question_entry m.questions ++ map record_entry more) ++ question_entry one ∷ []) (sym nothing);
+  count_is = λ counts n. refl;
   reaches = λ counts n none. none;
   fits = λ m one fits is less. record {
     header = fits.header;
@@ -84,6 +85,7 @@ takes_answers = record {
       (ap (λ more. (m.answers ++ one ∷ []) ++ more) nothing ∙ append-nil (m.answers ++ one ∷ [])
       ∙ ap (λ r. r ++ one ∷ []) (sym (append-nil m.answers))
       ∙ ap (λ more. (m.answers ++ more) ++ one ∷ []) (sym nothing));
+  count_is = λ counts n. refl;
   reaches = λ counts n none. none;
   fits = λ m one fits is less. record {
     header = fits.header;
@@ -112,6 +114,7 @@ takes_authorities = record {
       ∙ ap (λ r. r ++ one ∷ []) (sym (append-nil m.authorities)))
       ∙ sym (append_assoc m.answers (m.authorities ++ []) (one ∷ []))
       ∙ ap (λ more. (m.answers ++ (m.authorities ++ more)) ++ one ∷ []) (sym nothing));
+  count_is = λ counts n. refl;
   reaches = λ counts n none. none;
   fits = λ m one fits is less. record {
     header = fits.header;
@@ -136,6 +139,7 @@ takes_additionals = record {
       one_more m (m.answers ++ (m.authorities ++ (m.additionals ++ one ∷ []))) one
       (ap (λ r. m.answers ++ r) (sym (append_assoc m.authorities m.additionals (one ∷ [])))
       ∙ sym (append_assoc m.answers (m.authorities ++ m.additionals) (one ∷ [])));
+  count_is = λ counts n. refl;
   reaches = λ counts n any. tt;
   fits = λ m one fits is less. record {
     header = fits.header;

@@ -84,6 +84,7 @@ pub record Takes (A : Type 0) (entry : A → Entry) (FitsOne : A → Type 0) (Re
   pub counts : (m : Message) (one : A) → counts_of (more m one) ≡ counted (counts_of m) (count (counts_of m) + 1)
   pub entries : (m : Message) (one : A) → Reaches (counts_of m)
       → entries_of (more m one) ≡ entries_of m ++ entry one ∷ []
+  pub count_is : (counts : HeaderCounts) (n : ℕ) → count (counted counts n) ≡ n
   pub reaches : (counts : HeaderCounts) (n : ℕ) → Reaches counts → Reaches (counted counts n)
   pub fits : (m : Message) (one : A) → Fits m → FitsOne one → count (counts_of m) < 65535 → Fits (more m one)
 

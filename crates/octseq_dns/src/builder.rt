@@ -89,6 +89,7 @@ impl<B: OctetsBuilder + Truncate + AsOctetsMut, T: Compressor, S: Section> Secti
         ensures header { self.new.header ≡ header }
         ensures counts { self.new.counts ≡ self.old.counts }
         ensures state { self.new.state ≡ with_header self.old.state (header_octets header self.old.counts) }
+        ensures len { length self.new.state.octets ≡ length self.old.state.octets }
         ensures written { (m : Message) → Writes T.most m self.old.state self.old.header self.old.counts
             → Writes T.most (record m { header = header }) self.new.state self.new.header self.new.counts }
         ensures borrows { B.borrows self.new.octets ≡ B.borrows self.old.octets }

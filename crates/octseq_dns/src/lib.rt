@@ -10,12 +10,15 @@
 
 pub mod builder;
 pub mod laws;
+pub mod moved;
 pub mod rdata;
+mod rewriting;
 
 pub use builder::{
     AdditionalBuilder, AnswerBuilder, AuthorityBuilder, MessageBuilder, QuestionBuilder,
     SectionBuilder,
 };
+pub use moved::can_move;
 pub use octseq_dns_compress::{Composer, Compressor, Target};
 pub use octseq_dns_message::data::Data;
 pub use octseq_dns_message::header::{Flags, Header, HeaderCounts};
@@ -27,3 +30,4 @@ pub use octseq_dns_name::error::{FromLabelsError, FromTextError, Malformed};
 pub use octseq_dns_name::name::{DomainName, Name, ParsedName};
 pub use octseq_dns_name::{error, name};
 pub use rdata::{ComposeRecordData, UnknownRecordData};
+pub use rewriting::{RewriteError, rewrite, rewrite_counted};

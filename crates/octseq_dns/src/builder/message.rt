@@ -1,7 +1,8 @@
 //! A message begins.
-ghost use Rattle.std.specs.Prelude.{◌≡◌, true, IfOk, ◌↔◌};
-ghost use Rattle.octseq.specs.Limit.{IsPast};
+ghost use Rattle.std.specs.Prelude.{◌≡◌, true, IfOk, ◌↔◌, length};
+ghost use Rattle.octseq.specs.Limit.{IsPast, IsWithin};
 ghost use Rattle.octseq.specs.Refusal.{IsShort, IsMemory, append_error};
+ghost use Rattle.octseq_dns_compress.specs.Composed.{message_limit};
 ghost use Rattle.octseq_dns.specs.Blank.{blank_header, blank_message};
 ghost use Rattle.octseq_dns.specs.Writes.{Writes};
 
@@ -22,6 +23,7 @@ impl<B: OctetsBuilder + Truncate + AsOctetsMut, T: Compressor> MessageBuilder<B,
     /// request for memory was refused. The builder and the table are then dropped.
     pub fn from_builder(octets: B, table: T) -> Result<Self, AppendError>
         ensures written { IfOk result (λ m. Writes T.most blank_message m.state m.header m.counts) }
+        ensures within { IfOk result (λ m. IsWithin (message_limit B.limit) (length m.state.octets)) }
         ensures short { IsShort append_error result ↔ IsPast B.limit 12 }
         ensures memory { IsMemory append_error result → B.asks ≡ true }
         ensures borrows { IfOk result (λ m. B.borrows m.octets ≡ B.borrows octets) }

@@ -1,5 +1,6 @@
 //! The section of questions.
 ghost use Rattle.std.specs.Prelude.{◌≡◌, ◌≤◌, ◌+◌, ◌*◌, ◌⊎◌, length, true, OnOk, OnErr};
+ghost use Rattle.octseq.specs.Limit.{IsWithin};
 ghost use Rattle.octseq_dns_compress.specs.Composed.{message_limit};
 ghost use Rattle.octseq_dns_compress.specs.State.{with_entry};
 ghost use Rattle.octseq_dns_name.specs.Read.{labels_of};
@@ -37,6 +38,7 @@ impl<B: OctetsBuilder + Truncate + AsOctetsMut, T: Compressor> QuestionBuilder<B
             → Writes T.most m self.old.state self.old.header self.old.counts
             → Writes T.most (more_questions m (asked qname.now qtype qclass))
             self.new.state self.new.header self.new.counts) }
+        ensures within { OnOk result (IsWithin (message_limit B.limit) (length self.new.state.octets)) }
         ensures header { self.new.header ≡ self.old.header }
         ensures counts { OnOk result (self.new.counts
             ≡ record self.old.counts { qdcount = self.old.counts.qdcount + 1 }) }
@@ -67,6 +69,7 @@ impl<B: OctetsBuilder + Truncate + AsOctetsMut, T: Compressor> QuestionBuilder<B
             → Writes T.most m self.old.state self.old.header self.old.counts
             → Writes T.most (more_questions m (asked qname.now qtype qclass))
             self.new.state self.new.header self.new.counts) }
+        ensures within { OnOk result (IsWithin (message_limit B.limit) (length self.new.state.octets)) }
         ensures header { self.new.header ≡ self.old.header }
         ensures counts { OnOk result (self.new.counts
             ≡ record self.old.counts { qdcount = self.old.counts.qdcount + 1 }) }

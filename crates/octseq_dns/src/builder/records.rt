@@ -1,5 +1,6 @@
 //! The sections of records.
 ghost use Rattle.std.specs.Prelude.{◌≡◌, ◌≤◌, ◌+◌, ◌*◌, ◌⊎◌, length, true, OnOk, OnErr};
+ghost use Rattle.octseq.specs.Limit.{IsWithin};
 ghost use Rattle.octseq_dns_compress.specs.Composed.{message_limit};
 ghost use Rattle.octseq_dns_compress.specs.State.{label_count, with_entry};
 ghost use Rattle.octseq_dns_name.specs.Read.{labels_of};
@@ -47,6 +48,7 @@ impl<B: OctetsBuilder + Truncate + AsOctetsMut, T: Compressor, S: RecordSection>
             → Writes T.most m self.old.state self.old.header self.old.counts
             → Writes T.most (S.more m (told owner.now (D.rtype_of rdata.now) class ttl (D.fields rdata.now)))
             self.new.state self.new.header self.new.counts) }
+        ensures within { OnOk result (IsWithin (message_limit B.limit) (length self.new.state.octets)) }
         ensures header { self.new.header ≡ self.old.header }
         ensures counts { OnOk result (self.new.counts ≡ S.counted self.old.counts (S.count self.old.counts + 1)) }
         ensures kept { OnErr result (self.new.counts ≡ self.old.counts) }
@@ -79,6 +81,7 @@ impl<B: OctetsBuilder + Truncate + AsOctetsMut, T: Compressor, S: RecordSection>
             → Writes T.most m self.old.state self.old.header self.old.counts
             → Writes T.most (S.more m (told owner.now (D.rtype_of rdata.now) class ttl (D.fields rdata.now)))
             self.new.state self.new.header self.new.counts) }
+        ensures within { OnOk result (IsWithin (message_limit B.limit) (length self.new.state.octets)) }
         ensures header { self.new.header ≡ self.old.header }
         ensures counts { OnOk result (self.new.counts ≡ S.counted self.old.counts (S.count self.old.counts + 1)) }
         ensures kept { OnErr result (self.new.counts ≡ self.old.counts) }

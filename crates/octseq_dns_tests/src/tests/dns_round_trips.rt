@@ -1,16 +1,18 @@
 //! Messages with data of every type, read and written anew: with compression pointers and without.
+use arrayvec::ArrayVec;
 use octseq::builder::AsOctetsMut;
 use octseq::octets::Octets;
 use octseq::{AppendError, Array, OctetsBuilder, ShortBuf, Truncate};
-use octseq_asserts::assert_equal;
-use octseq_dns::compose::rewrite;
-use octseq_dns::{FixedPlaces, Malformed, Message, MessageBuilder, NoCompression, Places, Record};
+use octseq_asserts::{assert_equal, assert_true};
+use octseq_dns::{
+    Compressor, Malformed, Message, MessageBuilder, Record, RewriteError, Target, can_move, rewrite,
+};
 use std::alloc::AllocGlobal;
 use std::process::Abort;
 use std::test::Fail;
 
 /// A question for `example.com.` and ten answers, with no pointer: A, NS, MX, CNAME, PTR, SOA, TXT, SRV, AAAA, and
-/// data of type 99, which is opaque. The octets are laid out by hand: RFC 1035, 4.1.
+/// data of type 99, which is unknown. The octets are laid out by hand: RFC 1035, 4.1.
 pub(super) const PLAIN: &[u8] = b"\x12\x34\x84\0\0\x01\0\x0A\0\0\0\0\
 \x07example\x03com\0\0\xFF\0\x01\
 \x07example\x03com\0\0\x01\0\x01\0\0\x01\x2C\0\x04\x01\x02\x03\x04\
@@ -25,8 +27,8 @@ pub(super) const PLAIN: &[u8] = b"\x12\x34\x84\0\0\x01\0\x0A\0\0\0\0\
 \x07example\x03com\0\0\x1C\0\x01\0\0\x01\x2C\0\x10\x20\x01\x0D\xB8\0\0\0\0\0\0\0\0\0\0\0\x01\
 \x07example\x03com\0\0\x63\0\x01\0\0\x01\x2C\0\x03\xC0\x0C\x01";
 
-/// The same with pointers: `example.com.` stands at 12, `ns` at 57, in the data of NS, and `www` at 83. The name in the
-/// data of SRV is plain (RFC 2782), and opaque data stays.
+/// The same with pointers: `example.com.` is at 12, `ns` at 57, in the data of NS, and `www` at 83. The name in the
+/// data of SRV is plain (RFC 2782), and unknown data stays.
 pub(super) const COMPRESSED: &[u8] = b"\x12\x34\x84\0\0\x01\0\x0A\0\0\0\0\
 \x07example\x03com\0\0\xFF\0\x01\
 \xC0\x0C\0\x01\0\x01\0\0\x01\x2C\0\x04\x01\x02\x03\x04\
@@ -42,15 +44,15 @@ pub(super) const COMPRESSED: &[u8] = b"\x12\x34\x84\0\0\x01\0\x0A\0\0\0\0\
 \xC0\x0C\0\x63\0\x01\0\0\x01\x2C\0\x03\xC0\x0C\x01";
 
 /// A message is written anew as these octets.
-fn is_rewritten<R: Octets + Copy, B: OctetsBuilder + Truncate + AsOctetsMut, T: Places>(
+fn is_rewritten<R: Octets + Copy, B: OctetsBuilder + Truncate + AsOctetsMut, T: Compressor>(
     rt: &impl Abort,
     octets: R,
     builder: B,
-    places: T,
+    table: T,
     wanted: &[u8],
 ) -> Result<(), Fail> {
     let message = Message::parse(octets)?;
-    let (written, _) = rewrite(&message, builder, places)?.finish();
+    let (written, _) = rewrite(&message, builder, table)?.finish();
     assert_equal!(rt, written.as_ref(), wanted);
     Ok(())
 }
@@ -62,7 +64,7 @@ fn names_are_compressed_anew(rt: HostRuntime) -> Result<(), Fail> {
         &rt,
         PLAIN,
         Array::<252>::new(),
-        FixedPlaces::<6>::new(),
+        ArrayVec::<Target, 6>::new(),
         COMPRESSED,
     )?;
     is_rewritten(&rt, PLAIN, Vec::new(alloc), Vec::new(alloc), COMPRESSED)?;
@@ -70,7 +72,7 @@ fn names_are_compressed_anew(rt: HostRuntime) -> Result<(), Fail> {
         &rt,
         COMPRESSED,
         Vec::new(alloc),
-        FixedPlaces::<32>::new(),
+        ArrayVec::<Target, 32>::new(),
         COMPRESSED,
     )
 }
@@ -78,27 +80,66 @@ fn names_are_compressed_anew(rt: HostRuntime) -> Result<(), Fail> {
 #[test]
 fn names_are_written_plain_anew(rt: HostRuntime) -> Result<(), Fail> {
     let alloc = rt.alloc();
-    is_rewritten(&rt, COMPRESSED, Array::<512>::new(), NoCompression, PLAIN)?;
-    is_rewritten(&rt, PLAIN, Vec::new(alloc), NoCompression, PLAIN)
+    is_rewritten(
+        &rt,
+        COMPRESSED,
+        Array::<512>::new(),
+        ArrayVec::<Target, 0>::new(),
+        PLAIN,
+    )?;
+    is_rewritten(
+        &rt,
+        PLAIN,
+        Vec::new(alloc),
+        ArrayVec::<Target, 0>::new(),
+        PLAIN,
+    )
 }
 
 /// What a message is refused as that is written anew.
 fn refusal<R: Octets + Copy, B: OctetsBuilder + Truncate + AsOctetsMut>(
     octets: R,
     builder: B,
-) -> Result<Option<AppendError>, Malformed> {
+) -> Result<Option<RewriteError>, Malformed> {
     let message = Message::parse(octets)?;
-    Ok(rewrite(&message, builder, FixedPlaces::<6>::new()).err())
+    Ok(rewrite(&message, builder, ArrayVec::<Target, 6>::new()).err())
 }
 
 #[test]
 fn a_message_that_passes_the_limit_is_refused(rt: HostRuntime) -> Result<(), Fail> {
-    let short = Some(AppendError::Short(ShortBuf));
+    let short = Some(RewriteError::Short(ShortBuf));
     assert_equal!(&rt, refusal(PLAIN, Array::<11>::new())?, short);
     assert_equal!(&rt, refusal(PLAIN, Array::<28>::new())?, short);
     assert_equal!(&rt, refusal(PLAIN, Array::<251>::new())?, short);
     assert_equal!(&rt, refusal(PLAIN, Array::<252>::new())?, None);
     Ok(())
+}
+
+/// An answer of the root, of type NS, whose data is a front of a pointer. It can't be moved.
+const IMMOVABLE: &[u8] = b"\0\0\0\0\0\0\0\x01\0\0\0\0\0\0\x02\0\x01\0\0\0\x3C\0\x01\xC0";
+
+/// The same answer with no octet of data, which can be moved.
+const EMPTY: &[u8] = b"\0\0\0\0\0\0\0\x01\0\0\0\0\0\0\x02\0\x01\0\0\0\x3C\0\0";
+
+/// Whether a message can be moved.
+fn moves<R: Octets + Copy>(octets: R) -> Result<bool, Malformed> {
+    let message = Message::parse(octets)?;
+    Ok(can_move(&message))
+}
+
+#[test]
+fn a_message_that_cant_be_moved_is_refused(rt: HostRuntime) -> Result<(), Fail> {
+    assert_true!(&rt, !moves(IMMOVABLE)?);
+    let refused = refusal(IMMOVABLE, Array::<512>::new())?;
+    assert_equal!(&rt, refused, Some(RewriteError::Immovable));
+    assert_true!(&rt, moves(EMPTY)?);
+    is_rewritten(
+        &rt,
+        EMPTY,
+        Array::<512>::new(),
+        ArrayVec::<Target, 0>::new(),
+        EMPTY,
+    )
 }
 
 /// Pushes a record that was read to each section of records of a new message in turn, and answers its octets.
@@ -107,18 +148,18 @@ fn in_each_section<R: Octets + Copy, B: OctetsBuilder + Truncate + AsOctetsMut>(
     entry: &Record<R>,
 ) -> Result<B, AppendError> {
     let (owner, data) = (entry.owner(), entry.data());
-    let (rtype, class, ttl) = (entry.rtype(), entry.class(), entry.ttl());
-    let message = MessageBuilder::from_builder(builder, FixedPlaces::<8>::new())?;
+    let (class, ttl) = (entry.class(), entry.ttl());
+    let message = MessageBuilder::from_builder(builder, ArrayVec::<Target, 8>::new())?;
     let mut answers = message.question().answer();
-    answers.push_record(&owner, rtype, class, ttl, &data)?;
+    answers.push_record(&owner, class, ttl, &data)?;
     let mut authorities = answers.authority();
-    authorities.push_record(&owner, rtype, class, ttl, &data)?;
+    authorities.push_record(&owner, class, ttl, &data)?;
     let mut additionals = authorities.additional();
-    additionals.push_record(&owner, rtype, class, ttl, &data)?;
+    additionals.push_record(&owner, class, ttl, &data)?;
     Ok(additionals.finish().0)
 }
 
-/// An MX of `example.com.` in each section. The name of its exchange stands in data, and is pointed to from there on.
+/// An MX of `example.com.` in each section. The name of its exchange is in data, and is pointed to from there on.
 const EXCHANGES: &[u8] = b"\0\0\0\0\0\0\0\x01\0\x01\0\x01\
 \x07example\x03com\0\0\x0F\0\x01\0\0\x01\x2C\0\x09\0\x0A\x04mail\xC0\x0C\
 \xC0\x0C\0\x0F\0\x01\0\0\x01\x2C\0\x04\0\x0A\xC0\x25\

@@ -5,12 +5,12 @@ use octseq::builder::AsOctetsMut;
 use octseq::compose::append_part_u8;
 use octseq::octets::Octets;
 use octseq::{AppendError, Array, EmptyBuilder, OctetsBuilder, ShortBuf, Truncate};
-use octseq_asserts::assert_equal;
+use octseq_asserts::{assert_equal, assert_true};
 use octseq_dns::data::Txt;
 use octseq_dns::header::Flags;
 use octseq_dns::{
-    AnswerBuilder, Class, Data, FixedPlaces, Header, Malformed, Message, MessageBuilder, Name,
-    NoCompression, Opcode, ParsedName, Place, Places, Rcode, Record, Rtype, Ttl,
+    AnswerBuilder, Class, Compressor, Data, Header, Malformed, Message, MessageBuilder, Name,
+    Opcode, ParsedName, Rcode, Record, Rtype, Target, Ttl, UnknownRecordData,
 };
 use smallvec::SmallVec;
 use std::alloc::{AllocError, Global};
@@ -20,7 +20,10 @@ use std::test::Fail;
 /// The refusal of what passes a limit.
 const SHORT: Result<(), AppendError> = Err(AppendError::Short(ShortBuf));
 
-/// The header of an answer, with counts that are those of no message here.
+/// A table that holds nothing, so that names are written plain.
+type Uncompressed = ArrayVec<Target, 0>;
+
+/// The header of an answer.
 fn header() -> Header {
     Header {
         id: 0x1234,
@@ -33,10 +36,6 @@ fn header() -> Header {
         },
         opcode: Opcode::QUERY,
         rcode: Rcode::NOERROR,
-        qdcount: 7,
-        ancount: 7,
-        nscount: 7,
-        arcount: 7,
     }
 }
 
@@ -55,92 +54,100 @@ const PLAIN: &[u8] = b"\x12\x34\x85\x80\0\x01\0\x01\0\0\0\0\x07example\x03com\0\
 \x07example\x03com\0\0\x01\0\x01\0\0\x01\x2C\0\x04\x01\x02\x03\x04";
 
 /// Writes the header, the question and the answer.
-fn answered<B: OctetsBuilder + Truncate + AsOctetsMut, T: Places>(
+fn answered<B: OctetsBuilder + Truncate + AsOctetsMut, T: Compressor>(
     octets: B,
-    places: T,
+    table: T,
 ) -> Result<(B, T), Fail> {
     let name = Name::from_text("example.com.")?;
-    let mut message = MessageBuilder::from_builder(octets, places)?;
+    let mut message = MessageBuilder::from_builder(octets, table)?;
     message.set_header(header());
     let mut questions = message.question();
     questions.push_question(&name.parsed(), Rtype::A, Class::IN)?;
     let mut answers = questions.answer();
-    let ttl = Ttl::from_secs(300);
-    answers.push_opaque(&name.parsed(), Rtype::A, Class::IN, ttl, &[1, 2, 3, 4])?;
+    let (ttl, address) = (Ttl::from_secs(300), [1, 2, 3, 4]);
+    let rdata = UnknownRecordData::new(Rtype::A, &address);
+    answers.push_record(&name.parsed(), Class::IN, ttl, &rdata)?;
     Ok(answers.authority().additional().finish())
 }
 
+/// A table holds targets at these places, from which as many pointers are followed, and no others.
+pub(super) fn has_targets<T: Compressor>(rt: &impl Abort, table: &T, wanted: &[(u16, u8)]) {
+    let targets = table.as_slice();
+    assert_equal!(rt, targets.len(), wanted.len());
+    for (at, pointers) in wanted {
+        let is_wanted = |target: &Target| target.at == *at && target.pointers == *pointers;
+        assert_true!(rt, targets.iter().any(is_wanted));
+    }
+}
+
 /// They are written with a pointer, and the places of the question's labels are known.
-fn is_answered<B: OctetsBuilder + Truncate + AsOctetsMut, T: Places>(
+fn is_answered<B: OctetsBuilder + Truncate + AsOctetsMut, T: Compressor>(
     rt: &impl Abort,
     octets: B,
-    places: T,
+    table: T,
 ) -> Result<(), Fail> {
-    let (octets, places) = answered(octets, places)?;
+    let (octets, table) = answered(octets, table)?;
     assert_equal!(rt, octets.as_ref(), ANSWERED);
-    let wanted = [
-        Place {
-            at: 12,
-            pointers: 0,
-        },
-        Place {
-            at: 20,
-            pointers: 0,
-        },
-    ];
-    assert_equal!(rt, places.as_slice(), wanted.as_slice());
+    has_targets(rt, &table, &[(12, 0), (20, 0)]);
     Ok(())
 }
 
 #[test]
 fn an_answer_points_to_its_question(rt: HostRuntime) -> Result<(), Fail> {
     let alloc = rt.alloc();
-    is_answered(&rt, Array::<512>::new(), FixedPlaces::<8>::new())?;
+    is_answered(&rt, Array::<512>::new(), ArrayVec::<Target, 8>::new())?;
     is_answered(&rt, Array::<512>::new(), Vec::new(alloc))?;
-    is_answered(&rt, Vec::new(alloc), FixedPlaces::<8>::new())?;
+    is_answered(&rt, Vec::new(alloc), ArrayVec::<Target, 8>::new())?;
     is_answered(&rt, Vec::new(alloc), Vec::new(alloc))
 }
 
 #[test]
 fn other_builders_are_written(rt: HostRuntime) -> Result<(), Fail> {
     let alloc = rt.alloc();
-    is_answered(&rt, BytesMut::empty(alloc)?, FixedPlaces::<2>::new())?;
+    is_answered(&rt, BytesMut::empty(alloc)?, ArrayVec::<Target, 2>::new())?;
     is_answered(
         &rt,
         SmallVec::<u8, 8>::empty(alloc)?,
-        FixedPlaces::<2>::new(),
+        ArrayVec::<Target, 2>::new(),
     )?;
-    is_answered(&rt, ArrayVec::<u8, 45>::new(), FixedPlaces::<2>::new())?;
+    is_answered(&rt, ArrayVec::<u8, 45>::new(), ArrayVec::<Target, 2>::new())?;
     let mut octets = Array::<45>::new();
-    is_answered(&rt, &mut octets, FixedPlaces::<2>::new())?;
+    is_answered(&rt, &mut octets, ArrayVec::<Target, 2>::new())?;
     assert_equal!(&rt, octets.as_slice(), ANSWERED);
     Ok(())
 }
 
 #[test]
 fn without_compression_names_are_plain(rt: HostRuntime) -> Result<(), Fail> {
-    let (octets, NoCompression) = answered(Array::<512>::new(), NoCompression)?;
+    let (octets, _) = answered(Array::<512>::new(), Uncompressed::new())?;
     assert_equal!(&rt, octets.as_slice(), PLAIN);
-    let (octets, NoCompression) = answered(Vec::new(rt.alloc()), NoCompression)?;
+    let (octets, _) = answered(Vec::new(rt.alloc()), Uncompressed::new())?;
     assert_equal!(&rt, octets.as_slice(), PLAIN);
     Ok(())
 }
 
 #[test]
-fn what_stood_before_is_gone(rt: HostRuntime) -> Result<(), Fail> {
+fn what_was_there_before_is_gone(rt: HostRuntime) -> Result<(), Fail> {
     let alloc = rt.alloc();
-    let mut places = Vec::new(alloc);
-    places.push(Place { at: 0, pointers: 0 })?;
-    is_answered(&rt, ASKED.to_vec(alloc)?, places)
+    let mut table = Vec::new(alloc);
+    table.push(Target::default())?;
+    is_answered(&rt, ASKED.to_vec(alloc)?, table)
+}
+
+#[test]
+fn a_table_serves_for_another_message(rt: HostRuntime) -> Result<(), Fail> {
+    let names = ["FOO.F.ISI.ARPA.", "example.com."];
+    let (octets, table) = asked(Vec::new(rt.alloc()), Vec::new(rt.alloc()), &names)?;
+    is_answered(&rt, octets, table)
 }
 
 /// Writes questions for these names.
-fn asked<B: OctetsBuilder + Truncate + AsOctetsMut, T: Places>(
+fn asked<B: OctetsBuilder + Truncate + AsOctetsMut, T: Compressor>(
     octets: B,
-    places: T,
+    table: T,
     names: &[&str],
 ) -> Result<(B, T), Fail> {
-    let mut questions = MessageBuilder::from_builder(octets, places)?.question();
+    let mut questions = MessageBuilder::from_builder(octets, table)?.question();
     for text in names {
         let name = Name::from_text(text)?;
         questions.push_question(&name.parsed(), Rtype::A, Class::IN)?;
@@ -151,7 +158,7 @@ fn asked<B: OctetsBuilder + Truncate + AsOctetsMut, T: Places>(
 #[test]
 fn the_names_of_the_standard_are_compressed(rt: HostRuntime) -> Result<(), Fail> {
     let names = ["F.ISI.ARPA.", "FOO.F.ISI.ARPA.", "ARPA.", "."];
-    let (octets, places) = asked(Array::<512>::new(), FixedPlaces::<8>::new(), &names)?;
+    let (octets, table) = asked(Array::<512>::new(), ArrayVec::<Target, 8>::new(), &names)?;
     assert_equal!(
         &rt,
         octets.as_slice(),
@@ -159,8 +166,7 @@ fn the_names_of_the_standard_are_compressed(rt: HostRuntime) -> Result<(), Fail>
 \x03FOO\xC0\x0C\0\x01\0\x01\xC0\x12\0\x01\0\x01\0\0\x01\0\x01"
             .as_slice()
     );
-    let wanted = [(12, 0), (14, 0), (18, 0), (28, 1)].map(|(at, pointers)| Place { at, pointers });
-    assert_equal!(&rt, places.as_slice(), wanted.as_slice());
+    has_targets(&rt, &table, &[(12, 0), (14, 0), (18, 0), (28, 1)]);
     Ok(())
 }
 
@@ -172,7 +178,7 @@ fn names_are_compressed_octet_for_octet(rt: HostRuntime) -> Result<(), Fail> {
         "example.COM.",
         "EXAMPLE.com.",
     ];
-    let (octets, places) = asked(Array::<512>::new(), Vec::new(rt.alloc()), &names)?;
+    let (octets, table) = asked(Array::<512>::new(), Vec::new(rt.alloc()), &names)?;
     assert_equal!(
         &rt,
         octets.as_slice(),
@@ -180,9 +186,7 @@ fn names_are_compressed_octet_for_octet(rt: HostRuntime) -> Result<(), Fail> {
 \x07EXAMPLE\xC0\x14\0\x01\0\x01\x07example\x03COM\0\0\x01\0\x01\xC0\x1D\0\x01\0\x01"
             .as_slice()
     );
-    let wanted = [(12, 0), (20, 0), (29, 1), (43, 0), (51, 0)];
-    let wanted = wanted.map(|(at, pointers)| Place { at, pointers });
-    assert_equal!(&rt, places.as_slice(), wanted.as_slice());
+    has_targets(&rt, &table, &[(12, 0), (20, 0), (29, 1), (43, 0), (51, 0)]);
     Ok(())
 }
 
@@ -194,19 +198,15 @@ fn a_full_table_compresses_less(rt: HostRuntime) -> Result<(), Fail> {
         "com.",
         "www.example.com.",
     ];
-    let (octets, places) = asked(Array::<512>::new(), FixedPlaces::<1>::new(), &names)?;
+    let (octets, table) = asked(Array::<512>::new(), ArrayVec::<Target, 1>::new(), &names)?;
     assert_equal!(
         &rt,
         octets.as_slice(),
         b"\0\0\0\0\0\x04\0\0\0\0\0\0\x07example\x03com\0\0\x01\0\x01\
-\x03www\xC0\x0C\0\x01\0\x01\x03com\0\0\x01\0\x01\x03www\xC0\x0C\0\x01\0\x01"
+\x03www\x07example\xC0\x14\0\x01\0\x01\xC0\x14\0\x01\0\x01\x03www\x07example\xC0\x14\0\x01\0\x01"
             .as_slice()
     );
-    let wanted = [Place {
-        at: 12,
-        pointers: 0,
-    }];
-    assert_equal!(&rt, places.as_slice(), wanted.as_slice());
+    has_targets(&rt, &table, &[(20, 0)]);
     Ok(())
 }
 
@@ -226,7 +226,7 @@ fn pushed(fits: bool) -> Result<(), AppendError> {
     if fits { Ok(()) } else { SHORT }
 }
 
-/// A question and its answer are pushed to a message that has room for so many of both. A refused one leaves the
+/// A question and its answer are pushed to a message that has room for `entries` of both. A refused one leaves the
 /// message as it was, and it is read.
 fn has_room<B: OctetsBuilder + Truncate + AsOctetsMut>(
     rt: &impl Abort,
@@ -234,7 +234,7 @@ fn has_room<B: OctetsBuilder + Truncate + AsOctetsMut>(
     entries: usize,
 ) -> Result<(), Fail> {
     let name = Name::from_text("example.com.")?;
-    let mut message = MessageBuilder::from_builder(octets, FixedPlaces::<8>::new())?;
+    let mut message = MessageBuilder::from_builder(octets, ArrayVec::<Target, 8>::new())?;
     message.set_header(header());
     assert_equal!(rt, message.as_slice(), NOTHING);
     let mut questions = message.question();
@@ -249,12 +249,17 @@ fn has_room<B: OctetsBuilder + Truncate + AsOctetsMut>(
 /// The answer is pushed where the message has room for both.
 fn has_room_for_an_answer<B: OctetsBuilder + Truncate + AsOctetsMut>(
     rt: &impl Abort,
-    mut answers: AnswerBuilder<B, FixedPlaces<8>>,
+    mut answers: AnswerBuilder<B, ArrayVec<Target, 8>>,
     name: &ParsedName<&[u8]>,
     entries: usize,
 ) {
     let ttl = Ttl::from_secs(300);
-    let answer = answers.push_opaque(name, Rtype::A, Class::IN, ttl, &[1, 2, 3, 4]);
+    let answer = answers.push_record(
+        name,
+        Class::IN,
+        ttl,
+        &UnknownRecordData::new(Rtype::A, &[1, 2, 3, 4]),
+    );
     assert_equal!(rt, answer, pushed(entries >= 2));
     let wanted = match entries {
         0 => NOTHING,
@@ -262,13 +267,16 @@ fn has_room_for_an_answer<B: OctetsBuilder + Truncate + AsOctetsMut>(
         _ => ANSWERED,
     };
     assert_equal!(rt, answers.as_slice(), wanted);
+    let found = answers.header_counts();
+    let written = (usize::from(found.qdcount), usize::from(found.ancount));
     let counts = (entries.min(1), entries.saturating_sub(1), 0, 0);
+    assert_equal!(rt, written, (counts.0, counts.1));
     assert_equal!(rt, counts_of(answers.as_slice()), Ok(counts));
 }
 
 #[test]
 fn what_passes_the_limit_is_refused(rt: HostRuntime) -> Result<(), Fail> {
-    let refused = MessageBuilder::from_builder(Array::<11>::new(), NoCompression).err();
+    let refused = MessageBuilder::from_builder(Array::<11>::new(), Uncompressed::new()).err();
     assert_equal!(&rt, refused, SHORT.err());
     has_room(&rt, Array::<12>::new(), 0)?;
     has_room(&rt, Array::<28>::new(), 0)?;
@@ -278,24 +286,25 @@ fn what_passes_the_limit_is_refused(rt: HostRuntime) -> Result<(), Fail> {
 }
 
 /// Pushes an answer of a name that is given as text, of type A and with a TTL of zero.
-fn push_answer<B: OctetsBuilder + Truncate + AsOctetsMut, T: Places>(
+fn push_answer<B: OctetsBuilder + Truncate + AsOctetsMut, T: Compressor>(
     answers: &mut AnswerBuilder<B, T>,
     owner: &str,
     rdata: &[u8],
 ) -> Result<Result<(), AppendError>, Fail> {
     let name = Name::from_text(owner)?;
     let ttl = Ttl::from_secs(0);
-    Ok(answers.push_opaque(&name.parsed(), Rtype::A, Class::IN, ttl, rdata))
+    let rdata = UnknownRecordData::new(Rtype::A, rdata);
+    Ok(answers.push_record(&name.parsed(), Class::IN, ttl, &rdata))
 }
 
 #[test]
-fn a_refused_record_leaves_no_place(rt: HostRuntime) -> Result<(), Fail> {
-    let message = MessageBuilder::from_builder(Array::<64>::new(), FixedPlaces::<8>::new())?;
+fn a_refused_record_leaves_no_target(rt: HostRuntime) -> Result<(), Fail> {
+    let message = MessageBuilder::from_builder(Array::<64>::new(), ArrayVec::<Target, 8>::new())?;
     let mut answers = message.question().answer();
     push_answer(&mut answers, "a.b.", &[1, 2, 3, 4])??;
     assert_equal!(&rt, push_answer(&mut answers, "c.d.", &[0; 30])?, SHORT);
     push_answer(&mut answers, "c.d.", &[5, 6, 7, 8])??;
-    let (octets, places) = answers.authority().additional().finish();
+    let (octets, table) = answers.authority().additional().finish();
     assert_equal!(
         &rt,
         octets.as_slice(),
@@ -303,20 +312,20 @@ fn a_refused_record_leaves_no_place(rt: HostRuntime) -> Result<(), Fail> {
 \x01c\x01d\0\0\x01\0\x01\0\0\0\0\0\x04\x05\x06\x07\x08"
             .as_slice()
     );
-    let wanted = [12, 14, 31, 33].map(|at| Place { at, pointers: 0 });
-    assert_equal!(&rt, places.as_slice(), wanted.as_slice());
+    has_targets(&rt, &table, &[(12, 0), (14, 0), (31, 0), (33, 0)]);
     Ok(())
 }
 
 /// A question and an answer of one name.
-fn in_two_sections(alloc: Global) -> Result<AnswerBuilder<Vec<u8>, FixedPlaces<8>>, Fail> {
+fn in_two_sections(alloc: Global) -> Result<AnswerBuilder<Vec<u8>, ArrayVec<Target, 8>>, Fail> {
     let name = Name::from_text("example.com.")?;
-    let message = MessageBuilder::from_builder(Vec::new(alloc), FixedPlaces::<8>::new())?;
+    let message = MessageBuilder::from_builder(Vec::new(alloc), ArrayVec::<Target, 8>::new())?;
     let mut questions = message.question();
     questions.push_question(&name.parsed(), Rtype::ANY, Class::IN)?;
     let mut answers = questions.answer();
-    let ttl = Ttl::from_secs(300);
-    answers.push_opaque(&name.parsed(), Rtype::A, Class::IN, ttl, &[1, 2, 3, 4])?;
+    let (ttl, address) = (Ttl::from_secs(300), [1, 2, 3, 4]);
+    let rdata = UnknownRecordData::new(Rtype::A, &address);
+    answers.push_record(&name.parsed(), Class::IN, ttl, &rdata)?;
     Ok(answers)
 }
 
@@ -325,10 +334,20 @@ fn in_each_section(alloc: Global) -> Result<Vec<u8>, Fail> {
     let (root, end) = (Name::from_text(".")?, Name::from_text("com.")?);
     let mut authorities = in_two_sections(alloc)?.authority();
     let ttl = Ttl::from_secs(4_294_967_295);
-    authorities.push_opaque(&end.parsed(), Rtype::TXT, Class::CH, ttl, b"\x02hi")?;
+    authorities.push_record(
+        &end.parsed(),
+        Class::CH,
+        ttl,
+        &UnknownRecordData::new(Rtype::TXT, b"\x02hi"),
+    )?;
     let mut additionals = authorities.additional();
     let (class, ttl) = (Class::from_int(4096), Ttl::from_secs(0));
-    additionals.push_opaque(&root.parsed(), Rtype::OPT, class, ttl, b"")?;
+    additionals.push_record(
+        &root.parsed(),
+        class,
+        ttl,
+        &UnknownRecordData::new(Rtype::OPT, b""),
+    )?;
     Ok(additionals.finish().0)
 }
 
@@ -387,13 +406,18 @@ fn entries_of_each_section_are_read(rt: HostRuntime) -> Result<(), Fail> {
 }
 
 /// Questions and answers of the root, one and two of them.
-fn one_and_two(root: &ParsedName<&[u8]>) -> Result<AnswerBuilder<Array<128>, NoCompression>, Fail> {
-    let message = MessageBuilder::from_builder(Array::<128>::new(), NoCompression)?;
+fn one_and_two(root: &ParsedName<&[u8]>) -> Result<AnswerBuilder<Array<128>, Uncompressed>, Fail> {
+    let message = MessageBuilder::from_builder(Array::<128>::new(), Uncompressed::new())?;
     let mut questions = message.question();
     questions.push_question(root, Rtype::NS, Class::IN)?;
     let mut answers = questions.answer();
     for _ in 0..2 {
-        answers.push_opaque(root, Rtype::NS, Class::IN, Ttl::from_secs(1), b"\0")?;
+        answers.push_record(
+            root,
+            Class::IN,
+            Ttl::from_secs(1),
+            &UnknownRecordData::new(Rtype::NS, b"\0"),
+        )?;
     }
     Ok(answers)
 }
@@ -403,11 +427,21 @@ fn each_section_has_its_count(rt: HostRuntime) -> Result<(), Fail> {
     let (root, ttl) = (Name::from_text(".")?, Ttl::from_secs(1));
     let mut authorities = one_and_two(&root.parsed())?.authority();
     for _ in 0..3 {
-        authorities.push_opaque(&root.parsed(), Rtype::NS, Class::IN, ttl, b"\0")?;
+        authorities.push_record(
+            &root.parsed(),
+            Class::IN,
+            ttl,
+            &UnknownRecordData::new(Rtype::NS, b"\0"),
+        )?;
     }
     let mut additionals = authorities.additional();
     for _ in 0..4 {
-        additionals.push_opaque(&root.parsed(), Rtype::NS, Class::IN, ttl, b"\0")?;
+        additionals.push_record(
+            &root.parsed(),
+            Class::IN,
+            ttl,
+            &UnknownRecordData::new(Rtype::NS, b"\0"),
+        )?;
     }
     let octets = additionals.finish().0;
     let wanted = b"\0\0\0\0\0\x01\0\x02\0\x03\0\x04".as_slice();
@@ -416,13 +450,11 @@ fn each_section_has_its_count(rt: HostRuntime) -> Result<(), Fail> {
     Ok(())
 }
 
-/// The header of an answer was sent with this id, and there are no entries.
+/// The header of an answer was sent with this id.
 fn is_sent(rt: &impl Abort, octets: &[u8], found: Header, id: u8) {
     let wanted = [0, id, 0x85, 0x80, 0, 0, 0, 0, 0, 0, 0, 0];
     assert_equal!(rt, octets, wanted.as_slice());
     assert_equal!(rt, (found.id, found.flags), (u16::from(id), header().flags));
-    let counts = (found.qdcount, found.ancount, found.nscount, found.arcount);
-    assert_equal!(rt, counts, (0, 0, 0, 0));
 }
 
 /// The header of an answer with this id.
@@ -431,7 +463,7 @@ fn sent(id: u16) -> Header {
 }
 
 /// The builders of records set the header.
-fn is_set_in_records(rt: &impl Abort, mut answers: AnswerBuilder<Array<12>, NoCompression>) {
+fn is_set_in_records(rt: &impl Abort, mut answers: AnswerBuilder<Array<12>, Uncompressed>) {
     answers.set_header(sent(3));
     is_sent(rt, answers.as_slice(), answers.header(), 3);
     let mut authorities = answers.authority();
@@ -444,7 +476,7 @@ fn is_set_in_records(rt: &impl Abort, mut answers: AnswerBuilder<Array<12>, NoCo
 
 #[test]
 fn each_builder_sets_the_header(rt: HostRuntime) -> Result<(), Fail> {
-    let mut message = MessageBuilder::from_builder(Array::<12>::new(), NoCompression)?;
+    let mut message = MessageBuilder::from_builder(Array::<12>::new(), Uncompressed::new())?;
     assert_equal!(&rt, message.as_slice(), [0u8; 12].as_slice());
     message.set_header(sent(1));
     is_sent(&rt, message.as_slice(), message.header(), 1);
@@ -458,7 +490,7 @@ fn each_builder_sets_the_header(rt: HostRuntime) -> Result<(), Fail> {
 #[test]
 fn each_flag_is_written(rt: HostRuntime) -> Result<(), Fail> {
     let none = Flags::default();
-    let mut message = MessageBuilder::from_builder(Array::<12>::new(), NoCompression)?;
+    let mut message = MessageBuilder::from_builder(Array::<12>::new(), Uncompressed::new())?;
     for (flags, wanted) in [
         (none, [0, 0]),
         (Flags { qr: true, ..none }, [0x80, 0]),
@@ -478,7 +510,7 @@ fn each_flag_is_written(rt: HostRuntime) -> Result<(), Fail> {
 
 #[test]
 fn codes_of_a_header_are_written(rt: HostRuntime) -> Result<(), Fail> {
-    let mut message = MessageBuilder::from_builder(Array::<12>::new(), NoCompression)?;
+    let mut message = MessageBuilder::from_builder(Array::<12>::new(), Uncompressed::new())?;
     for (opcode, rcode, wanted) in [
         (Opcode::UPDATE, Rcode::NOERROR, [0x28, 0]),
         (Opcode::STATUS, Rcode::NXDOMAIN, [0x10, 0x03]),
@@ -495,8 +527,8 @@ fn codes_of_a_header_are_written(rt: HostRuntime) -> Result<(), Fail> {
     Ok(())
 }
 
-/// An answer of the root with this data is pushed, or refused, and the message has so many octets behind it.
-fn is_pushed<B: OctetsBuilder + Truncate + AsOctetsMut, T: Places>(
+/// An answer of the root with this data is pushed, or refused, and the message has as many octets as `len` says.
+fn is_pushed<B: OctetsBuilder + Truncate + AsOctetsMut, T: Compressor>(
     rt: &impl Abort,
     answers: &mut AnswerBuilder<B, T>,
     rdata: &[u8],
@@ -512,7 +544,7 @@ fn is_pushed<B: OctetsBuilder + Truncate + AsOctetsMut, T: Places>(
 fn a_written_message_has_65535_octets_at_most(rt: HostRuntime) -> Result<(), Fail> {
     let mut rdata = Vec::new(rt.alloc());
     rdata.resize(65536, 0xAA)?;
-    let message = MessageBuilder::from_builder(Vec::new(rt.alloc()), NoCompression)?;
+    let message = MessageBuilder::from_builder(Vec::new(rt.alloc()), Uncompressed::new())?;
     let mut answers = message.question().answer();
     is_pushed(&rt, &mut answers, &rdata, false, 12)?;
     rdata.truncate(65513);
@@ -526,7 +558,7 @@ fn a_written_message_has_65535_octets_at_most(rt: HostRuntime) -> Result<(), Fai
 }
 
 /// Pushes a record of the root with this data, and two records of one name.
-fn push_three<B: OctetsBuilder + Truncate + AsOctetsMut, T: Places>(
+fn push_three<B: OctetsBuilder + Truncate + AsOctetsMut, T: Compressor>(
     answers: &mut AnswerBuilder<B, T>,
     rdata: &[u8],
 ) -> Result<(), Fail> {
@@ -535,14 +567,14 @@ fn push_three<B: OctetsBuilder + Truncate + AsOctetsMut, T: Places>(
     Ok(push_answer(answers, "com.", b"")??)
 }
 
-/// What is written behind a record of the root with so many octets of data: two records of one name.
-fn written_behind(alloc: Global, len: usize) -> Result<Vec<u8>, Fail> {
+/// What is written after a record of the root with as many octets of data as `len` says: two records of one name.
+fn written_after(alloc: Global, len: usize) -> Result<Vec<u8>, Fail> {
     let rdata = Vec::from_elem(alloc, 0, len)?;
     let message = MessageBuilder::from_builder(Vec::new(alloc), Vec::new(alloc))?;
     let mut answers = message.question().answer();
     push_three(&mut answers, &rdata)?;
-    let behind = answers.as_slice().get(len.saturating_add(23)..);
-    Ok(behind.ok_or("too short")?.to_vec(alloc)?)
+    let after = answers.as_slice().get(len.saturating_add(23)..);
+    Ok(after.ok_or("too short")?.to_vec(alloc)?)
 }
 
 #[test]
@@ -550,91 +582,49 @@ fn a_pointer_says_a_place_up_to_16383(rt: HostRuntime) -> Result<(), Fail> {
     let plain = b"\x03com\0\0\x01\0\x01\0\0\0\0\0\0\x03com\0\0\x01\0\x01\0\0\0\0\0\0".as_slice();
     let pointed = b"\x03com\0\0\x01\0\x01\0\0\0\0\0\0\xFF\xFF\0\x01\0\x01\0\0\0\0\0\0".as_slice();
     for (len, wanted) in [(16360, pointed), (16361, plain), (16400, plain)] {
-        let octets = written_behind(rt.alloc(), len)?;
+        let octets = written_after(rt.alloc(), len)?;
         assert_equal!(&rt, octets.as_slice(), wanted);
     }
     Ok(())
 }
 
-/// Places in messages.
-const PLACES: [Place; 3] = [
-    Place {
-        at: 12,
-        pointers: 0,
-    },
-    Place {
-        at: 14,
-        pointers: 1,
-    },
-    Place {
-        at: 16383,
-        pointers: 126,
-    },
-];
-
-/// An empty table keeps the places that are added up to so many of them.
-fn adds<T: Places>(rt: &impl Abort, table: &mut T, most: usize) -> Result<(), AllocError> {
-    assert_equal!(rt, table.as_slice(), [].as_slice());
-    for (count, place) in PLACES.iter().enumerate() {
-        table.add(*place)?;
-        let held = count.saturating_add(1).min(most);
-        assert_equal!(rt, Some(table.as_slice()), PLACES.get(..held));
+/// An empty table takes targets until it is full, and then keeps those before a place.
+fn keeps<T: Compressor>(rt: &impl Abort, mut table: T, most: usize) -> Result<(), AllocError> {
+    for at in [12, 14, 16] {
+        if !table.is_full() {
+            table.insert(
+                0,
+                Target {
+                    at,
+                    ..Target::default()
+                },
+            )?;
+        }
     }
-    Ok(())
-}
-
-/// A table that is cut off has so many places.
-fn is_cut<T: Places>(rt: &impl Abort, table: &mut T, len: usize, held: usize) {
-    table.truncate(len);
-    assert_equal!(rt, Some(table.as_slice()), PLACES.get(..held));
-}
-
-/// An empty table keeps the places that are added up to so many of them, and fewer once it is cut off.
-fn keeps<T: Places>(rt: &impl Abort, mut table: T, most: usize) -> Result<(), AllocError> {
-    adds(rt, &mut table, most)?;
-    is_cut(rt, &mut table, 4, most.min(3));
-    is_cut(rt, &mut table, 1, most.min(1));
-    table.truncate(0);
-    table.add(PLACES[1])?;
-    let wanted = PLACES.get(1..most.min(1).saturating_add(1));
-    assert_equal!(rt, Some(table.as_slice()), wanted);
+    assert_equal!(rt, table.as_slice().len(), most);
+    table.keep_before(14);
+    assert_equal!(rt, table.as_slice().len(), most.min(1));
     Ok(())
 }
 
 #[test]
-fn tables_keep_places(rt: HostRuntime) -> Result<(), Fail> {
-    keeps(&rt, NoCompression, 0)?;
-    keeps(&rt, FixedPlaces::<0>::new(), 0)?;
-    keeps(&rt, FixedPlaces::<1>::default(), 1)?;
-    keeps(&rt, FixedPlaces::<2>::new(), 2)?;
-    keeps(&rt, FixedPlaces::<4>::new(), 3)?;
+fn tables_keep_targets(rt: HostRuntime) -> Result<(), Fail> {
+    keeps(&rt, Uncompressed::new(), 0)?;
+    keeps(&rt, ArrayVec::<Target, 1>::new(), 1)?;
+    keeps(&rt, ArrayVec::<Target, 2>::new(), 2)?;
+    keeps(&rt, ArrayVec::<Target, 4>::new(), 3)?;
     keeps(&rt, Vec::new(rt.alloc()), 3)?;
-    Ok(())
-}
-
-#[test]
-fn a_table_shows_its_places(rt: HostRuntime) -> Result<(), Fail> {
-    let mut table = FixedPlaces::<4>::new();
-    table.add(Place {
-        at: 12,
-        pointers: 1,
-    })?;
-    assert_equal!(
-        &rt,
-        format!(in rt.alloc(); "{table:?}")?.as_str(),
-        "FixedPlaces([Place { at: 12, pointers: 1 }])"
-    );
     Ok(())
 }
 
 /// A message with one answer, which is of the root and of this text.
 fn with_text<R: Octets + Copy>(txt: Txt<R>) -> Result<Array<64>, Fail> {
     let root = Name::from_text(".")?;
-    let message = MessageBuilder::from_builder(Array::<64>::new(), NoCompression)?;
+    let message = MessageBuilder::from_builder(Array::<64>::new(), Uncompressed::new())?;
     let mut answers = message.question().answer();
     let found = Data::Txt(txt);
     let ttl = Ttl::from_secs(300);
-    answers.push_record(&root.parsed(), Rtype::TXT, Class::IN, ttl, &found)?;
+    answers.push_record(&root.parsed(), Class::IN, ttl, &found)?;
     Ok(answers.authority().additional().finish().0)
 }
 

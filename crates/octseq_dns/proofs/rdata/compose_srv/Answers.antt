@@ -1,4 +1,4 @@
-use Rattle.std.proofs.Common.{◌≤◌, ◌<◌, ◌^◌, ◌+◌, length, ap, ◌∙◌, arith}
+use Rattle.std.proofs.Common.{◌≡◌, ◌≤◌, ◌+◌, length, arith, rules}
 use Rattle.octseq_dns_name.specs.Read.{labels_of}
 use Rattle.octseq_dns_name.specs.Wire.{wire}
 use Rattle.octseq_dns_name.proofs.Wires.{wire_has}
@@ -18,4 +18,7 @@ pub put-requires-clause-within : goal.put-requires-clause-within
 put-requires-clause-within g c =
     let same = wire_has (labels_of c.args.srv.now.target) in
     let long = c.len-len.ensures in
-    ?
+    let none : length c.new-target.result.content ≡ 0 = search rules in
+    let fits : length c.new-target.result.content + length (wire (labels_of c.args.srv.now.target)) ≤ 255 =
+    omega (arith, same, long.len, long.most, none) in
+    fits

@@ -33,7 +33,7 @@ impl Name<Array<255>> {
     /// ```
     /// // crates/octseq_dns_tests/src/tests/dns_writing.rt
     /// let name = Name::from_text("example.com.")?;
-    /// let mut message = MessageBuilder::from_builder(octets, places)?;
+    /// let mut message = MessageBuilder::from_builder(octets, table)?;
     /// message.set_header(header());
     /// let mut questions = message.question();
     /// questions.push_question(&name.parsed(), Rtype::A, Class::IN)?;

@@ -2,8 +2,7 @@
 use super::super::dns_round_trips::{COMPRESSED, PLAIN};
 use octseq::octets::Octets;
 use octseq_asserts::assert_equal;
-use octseq_dns::compose::rewrite;
-use octseq_dns::{Message, Place};
+use octseq_dns::{Message, Target, rewrite};
 use std::alloc::AllocGlobal;
 use std::process::Abort;
 use std::test::Fail;
@@ -15,7 +14,7 @@ fn is_written_anew<R: Octets + Copy>(
 ) -> Result<(), Fail> {
     let alloc = rt.alloc();
     let message = Message::parse(octets)?;
-    let written = rewrite(&message, Vec::new(alloc), Vec::<Place>::new(alloc));
+    let written = rewrite(&message, Vec::new(alloc), Vec::<Target>::new(alloc));
     assert_equal!(rt, message.answers().count(), 10);
     let (written, _) = written?.finish();
     assert_equal!(rt, written.as_slice(), COMPRESSED);

@@ -1,12 +1,14 @@
 //! Messages that are written. A push that is refused leaves the message and the table as they were, so that the same
-//! push behind it writes what it would have written before.
+//! push after it writes what it would have written before.
+use super::super::dns_writing::has_targets;
+use arrayvec::ArrayVec;
 use bytes::BytesMut;
 use octseq::builder::AsOctetsMut;
 use octseq::{AppendError, Array, EmptyBuilder, OctetsBuilder, Truncate};
 use octseq_asserts::assert_equal;
 use octseq_dns::{
-    AdditionalBuilder, Class, FixedPlaces, MessageBuilder, Name, Place, Places, QuestionBuilder,
-    Rtype, Ttl,
+    AdditionalBuilder, Class, Compressor, MessageBuilder, Name, QuestionBuilder, Rtype, Target,
+    Ttl, UnknownRecordData,
 };
 use smallvec::SmallVec;
 use std::process::Abort;
@@ -17,7 +19,7 @@ const ASKED: &[u8] = b"\0\0\0\0\0\x03\0\0\0\0\0\0\x01F\x03ISI\x04ARPA\0\0\x01\0\
 \x01a\x01b\x01c\x01d\x01e\x01f\x01g\xC0\x0C\0\x01\0\x01\x03FOO\xC0\x24\0\x01\0\x01";
 
 /// Pushes a question to a message of these octets. If it is refused, it is pushed again.
-fn ask<B: OctetsBuilder + Truncate + AsOctetsMut, T: Places>(
+fn ask<B: OctetsBuilder + Truncate + AsOctetsMut, T: Compressor>(
     rt: &impl Abort,
     questions: &mut QuestionBuilder<B, T>,
     text: &str,
@@ -36,16 +38,16 @@ fn ask<B: OctetsBuilder + Truncate + AsOctetsMut, T: Places>(
 }
 
 /// Writes the questions, one of which at most is refused at first.
-fn asks<B: OctetsBuilder + Truncate + AsOctetsMut, T: Places>(
+fn asks<B: OctetsBuilder + Truncate + AsOctetsMut, T: Compressor>(
     rt: &impl Abort,
     octets: B,
-    places: T,
+    table: T,
 ) -> Result<(), Fail> {
-    let mut questions = MessageBuilder::from_builder(octets, places)?.question();
+    let mut questions = MessageBuilder::from_builder(octets, table)?.question();
     let first = ask(rt, &mut questions, "F.ISI.ARPA.", 12)?;
     let second = ask(rt, &mut questions, "a.b.c.d.e.f.g.F.ISI.ARPA.", 28)?;
     let third = ask(rt, &mut questions, "FOO.e.f.g.F.ISI.ARPA.", 48)?;
-    let (octets, places) = questions.answer().authority().additional().finish();
+    let (octets, table) = questions.answer().authority().additional().finish();
     assert_equal!(rt, octets.as_ref(), ASKED);
     let wanted = [
         (12, 0),
@@ -60,8 +62,7 @@ fn asks<B: OctetsBuilder + Truncate + AsOctetsMut, T: Places>(
         (40, 1),
         (48, 2),
     ];
-    let wanted = wanted.map(|(at, pointers)| Place { at, pointers });
-    assert_equal!(rt, places.as_slice(), wanted.as_slice());
+    has_targets(rt, &table, &wanted);
     Ok(first.and(second).and(third)?)
 }
 
@@ -69,7 +70,7 @@ fn asks<B: OctetsBuilder + Truncate + AsOctetsMut, T: Places>(
 fn questions_are_pushed_or_not_at_all(rt: HostRuntime) -> Result<(), Fail> {
     let alloc = rt.alloc();
     asks(&rt, Vec::new(alloc), Vec::new(alloc))?;
-    asks(&rt, Vec::new(alloc), FixedPlaces::<11>::new())?;
+    asks(&rt, Vec::new(alloc), ArrayVec::<Target, 11>::new())?;
     asks(&rt, Array::<58>::new(), Vec::new(alloc))
 }
 
@@ -86,7 +87,7 @@ const ADDED: &[u8] = b"\0\0\0\0\0\0\0\0\0\0\0\x02\
 \x01g\xC0\x0E\0\x10\0\x01\0\0\0\x3C\0\x15\x140123456789abcdefghij";
 
 /// Pushes a record to a message of these octets. If it is refused, it is pushed again.
-fn add<B: OctetsBuilder + Truncate + AsOctetsMut, T: Places>(
+fn add<B: OctetsBuilder + Truncate + AsOctetsMut, T: Compressor>(
     rt: &impl Abort,
     additionals: &mut AdditionalBuilder<B, T>,
     owner: &str,
@@ -95,12 +96,13 @@ fn add<B: OctetsBuilder + Truncate + AsOctetsMut, T: Places>(
 ) -> Result<Result<(), AppendError>, Fail> {
     let (name, ttl) = (Name::from_text(owner)?, Ttl::from_secs(60));
     let header = additionals.header();
-    let pushed = additionals.push_opaque(&name.parsed(), Rtype::TXT, Class::IN, ttl, rdata);
+    let rdata = UnknownRecordData::new(Rtype::TXT, rdata);
+    let pushed = additionals.push_record(&name.parsed(), Class::IN, ttl, &rdata);
     if pushed.is_err() {
         assert_equal!(rt, pushed, Err(AppendError::Memory));
         assert_equal!(rt, additionals.as_slice().get(12..), ADDED.get(12..len));
         assert_equal!(rt, additionals.header(), header);
-        additionals.push_opaque(&name.parsed(), Rtype::TXT, Class::IN, ttl, rdata)?;
+        additionals.push_record(&name.parsed(), Class::IN, ttl, &rdata)?;
     }
     Ok(pushed)
 }
@@ -108,12 +110,12 @@ fn add<B: OctetsBuilder + Truncate + AsOctetsMut, T: Places>(
 #[test]
 fn records_are_pushed_or_not_at_all(rt: HostRuntime) -> Result<(), Fail> {
     let alloc = rt.alloc();
-    let message = MessageBuilder::from_builder(Vec::new(alloc), Vec::<Place>::new(alloc))?;
+    let message = MessageBuilder::from_builder(Vec::new(alloc), Vec::<Target>::new(alloc))?;
     let mut additionals = message.question().answer().authority().additional();
     let first = add(&rt, &mut additionals, "a.b.c.d.e.f.", b"\x0A0123456789", 12)?;
     let rdata = b"\x140123456789abcdefghij";
     let second = add(&rt, &mut additionals, "g.b.c.d.e.f.", rdata, 46)?;
-    let (octets, places) = additionals.finish();
+    let (octets, table) = additionals.finish();
     assert_equal!(&rt, octets.as_slice(), ADDED);
     let wanted = [
         (12, 0),
@@ -124,23 +126,34 @@ fn records_are_pushed_or_not_at_all(rt: HostRuntime) -> Result<(), Fail> {
         (22, 0),
         (46, 1),
     ];
-    let wanted = wanted.map(|(at, pointers)| Place { at, pointers });
-    assert_equal!(&rt, places.as_slice(), wanted.as_slice());
+    has_targets(&rt, &table, &wanted);
     Ok(first.and(second)?)
 }
 
 #[test]
-fn a_place_is_added_or_the_table_stays(rt: HostRuntime) -> Result<(), Fail> {
+fn a_target_is_added_or_the_table_stays(rt: HostRuntime) -> Result<(), Fail> {
     let mut table = Vec::new(rt.alloc());
-    let places = [12, 14, 16, 18, 20, 22, 24, 26, 28].map(|at| Place { at, pointers: 3 });
-    for (count, place) in places.iter().enumerate() {
-        let added = Places::add(&mut table, *place);
-        let held = if added.is_ok() {
-            count.saturating_add(1)
-        } else {
-            count
+    for at in [12, 14, 16, 18, 20, 22, 24, 26, 28] {
+        let target = Target {
+            at,
+            next: 0,
+            pointers: 3,
         };
-        assert_equal!(&rt, Some(table.as_slice()), places.get(..held));
+        let before = table.len();
+        if Compressor::is_full(&table) {
+            return Err("full".into());
+        }
+        let added = Compressor::insert(&mut table, 0, target);
+        let first = table.first().copied();
+        if added.is_ok() {
+            assert_equal!(
+                &rt,
+                (table.len(), first),
+                (before.saturating_add(1), Some(target))
+            );
+        } else {
+            assert_equal!(&rt, table.len(), before);
+        }
         added?;
     }
     Ok(())

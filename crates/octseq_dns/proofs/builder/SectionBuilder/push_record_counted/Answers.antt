@@ -1,8 +1,10 @@
 use Rattle.std.proofs.Common.{◌≡◌, ◌+◌, ◌<◌, ap, refl, sym, subst, arith}
 use Rattle.std.proofs.Math.Logic.{∥∥₁_map}
+use Rattle.octseq_dns_compress.specs.Composed.{message_limit}
+use Rattle.octseq_dns.specs.Contents.{record_entry}
 use Rattle.octseq_dns.specs.Pushed.{told}
 use Rattle.octseq_dns.specs.Writes.{IsBuilt, Writes}
-use Rattle.octseq_dns.proofs.Pushed.{pushed}
+use Rattle.octseq_dns.proofs.Pushed.{pushed, pushed_within}
 use Rattle.octseq_dns.proofs.builder.SectionBuilder.push_record_counted.Goals as goal
 
 pub invariant_of-self : goal.invariant_of-self
@@ -36,3 +38,12 @@ returns-clause-written g c m is =
     (subst (λ v. Writes g.T.Compressor.most m v.state v.header v.counts) (sym c.self.view_is) is) c.self.invariant.1
     c.in_default-append_record.ensures.fits c.in-Some.ensures.some.1 c.in-Some.ensures.some.0 c.in_default-append_record.ensures.appended.ok
     c.octets_of.ensures.octets c.put_header.ensures.state
+
+pub returns-clause-within : goal.returns-clause-within
+returns-clause-within g c =
+    let in' = c.self.inside in
+    let one = told c.args.owner.now (g.D.ComposeRecordData.rtype_of c.args.rdata.now) c.args.class c.args.ttl (g.D.ComposeRecordData.fields c.args.rdata.now) in
+    pushed_within (message_limit g.B.AsOctets.limit) g.T.Compressor.most in'.message.state
+    c.append_record.new.message.state c.put_header.new.self.state in'.header in'.counts (c.in-Some.counts)
+    g.S.Section.reaches c.octets_of.result (record_entry one) c.self.invariant c.in_default-append_record.ensures.appended.within
+    c.in_default-append_record.ensures.appended.ok c.octets_of.ensures.octets c.put_header.ensures.state

@@ -1,7 +1,7 @@
-use Rattle.std.proofs.Common.{ap, sym, subst}
+use Rattle.std.proofs.Common.{◌∙◌, ap, length, sym, subst}
 use Rattle.std.proofs.Math.Logic.{∥∥₁_map}
 use Rattle.octseq_dns.specs.Writes.{Writes}
-use Rattle.octseq_dns.proofs.Pushed.{header_written}
+use Rattle.octseq_dns.proofs.Pushed.{header_written, headed_long}
 use Rattle.octseq_dns.proofs.builder.SectionBuilder.set_header.Goals as goal
 
 pub invariant_of-self : goal.invariant_of-self
@@ -23,3 +23,11 @@ returns-clause-written g c m is =
     in'.counts c.octets_of.result
     (subst (λ v. Writes g.T.Compressor.most m v.state v.header v.counts) (sym c.self.view_is) is)
     c.octets_of.ensures.fits c.octets_of.ensures.octets c.put_header.ensures.state
+
+pub returns-clause-len : goal.returns-clause-len
+returns-clause-len g c =
+    let in' = c.self.inside in
+    headed_long g.T.Compressor.most in'.message.state c.put_header.new.self.state in'.header c.args.header in'.counts
+    in'.counts g.S.Section.reaches c.octets_of.result c.self.invariant c.octets_of.ensures.octets
+    c.put_header.ensures.state
+    ∙ ap (λ v. length v.state.octets) c.self.view_is

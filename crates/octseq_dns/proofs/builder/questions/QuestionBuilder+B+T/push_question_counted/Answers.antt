@@ -1,9 +1,11 @@
 use Rattle.std.proofs.Common.{◌≡◌, ◌+◌, ◌<◌, ap, sym, subst, rules}
 use Rattle.std.proofs.Math.Logic.{∥∥₁_map}
+use Rattle.octseq_dns_compress.specs.Composed.{message_limit}
+use Rattle.octseq_dns.specs.Contents.{question_entry}
 use Rattle.octseq_dns.specs.Pushed.{asked}
 use Rattle.octseq_dns.specs.Sections.{takes_questions}
 use Rattle.octseq_dns.specs.Writes.{IsBuilt, UpToQuestions, Writes, more_questions}
-use Rattle.octseq_dns.proofs.Pushed.{pushed}
+use Rattle.octseq_dns.proofs.Pushed.{pushed, pushed_within}
 use Rattle.octseq_dns.proofs.builder.questions.QuestionBuilder+B+T.push_question_counted.Goals as goal
 
 pub invariant_of-self : goal.invariant_of-self
@@ -41,3 +43,12 @@ returns-clause-written g c m is =
     (subst (λ v. Writes g.T.Compressor.most m v.state v.header v.counts) (sym c.self.view_is) is) c.self.invariant.1
     c.in_default-append_question.ensures.fits less now_is c.in_default-append_question.ensures.appended.ok
     c.octets_of.ensures.octets c.put_header.ensures.state
+
+pub returns-clause-within : goal.returns-clause-within
+returns-clause-within g c =
+    let in' = c.self.inside in
+    let one = asked c.args.qname.now c.args.qtype c.args.qclass in
+    pushed_within (message_limit g.B.AsOctets.limit) g.T.Compressor.most in'.message.state
+    c.append_question.new.message.state c.put_header.new.self.state in'.header in'.counts (record in'.counts { qdcount = c.in-Some.qdcount })
+    UpToQuestions c.octets_of.result (question_entry one) c.self.invariant c.in_default-append_question.ensures.appended.within
+    c.in_default-append_question.ensures.appended.ok c.octets_of.ensures.octets c.put_header.ensures.state

@@ -1,0 +1,146 @@
+-- Lists of things that are pushed to a message, one after another, each of one that was read.
+use Rattle.std.proofs.Common.{◌≡◌, ℕ, ◌+◌, ◌*◌, ◌≤◌, ◌<◌, Option, List, [], ◌∷◌, length, refl, sym, ap, ◌∙◌, subst, arith}
+use Rattle.std.proofs.lemmas.List.Sums.{sum_by-cons}
+use Rattle.std.specs.List.{AllZip, sum_by}
+use Rattle.octseq.specs.Limit.{IsPast}
+use Rattle.octseq_dns_compress.specs.State.{State, Entry, with_entry, with_header}
+use Rattle.octseq_dns_compress.proofs.Fields.{entry_grows, headed_length, past_longer}
+use Rattle.octseq_dns_compress.proofs.Steps.{grown_length}
+use Rattle.octseq_dns_message.specs.declared.header.Header.{Header}
+use Rattle.octseq_dns_message.specs.declared.header.HeaderCounts.{HeaderCounts}
+use Rattle.octseq_dns.specs.Contents.{Message, composed, octets_of, counts_of, header_octets}
+use Rattle.octseq_dns.specs.Writes.{Takes, Writes, all_more}
+use Rattle.octseq_dns.proofs.HeaderRead.{header_length}
+use Rattle.octseq_dns.proofs.Pushed.{composed_more, twelve_first}
+
+-- What is pushed of things that were read, where some of them are left: a message so far, which becomes the whole by
+-- what is written of those that are left. So many turns were taken of those that the whole may take.
+pub record Ahead {A I : Type 0} (Of : I → A → Type 0) (labels : A → ℕ) (more : Message → A → Message) (most : ℕ)
+    (m : Message) (written : List A) (left : List I) (state : State) (header : Header) (counts : HeaderCounts)
+    (turns from : ℕ) : Type 0 where
+  pub now : Message
+  pub rest : List A
+  pub writes : Writes most now state header counts
+  pub are : AllZip Of left rest
+  pub same : all_more more m written ≡ all_more more now rest
+  pub turned : turns + 17 * sum_by labels rest ≤ from + 17 * sum_by labels written
+
+module _ {A : Type 0} {entry : A → Entry} {FitsOne : A → Type 0} {Reaches : HeaderCounts → Type 0}
+    {count : HeaderCounts → ℕ} {counted : HeaderCounts → ℕ → HeaderCounts} {more : Message → A → Message} (most : ℕ)
+    (takes : Takes A entry FitsOne Reaches count counted more) where
+  -- a message with a thing more has its octets, and those of its entry
+  pushed_length : (m : Message) (one : A) → Reaches (counts_of m)
+      → length (octets_of most (more m one)) ≡ length (with_entry most (composed most m) (entry one)).octets
+  pushed_length m one reaches =
+      let s = composed most m in
+      let then = with_entry most s (entry one) in
+      let late = twelve_first most m in
+      let longer = grown_length s.octets then.octets (entry_grows most s (entry one)) in
+      let counts = counts_of (more m one) in
+      ap (λ s. length s.octets) (composed_more takes most m one reaches)
+      ∙ headed_length (header_octets m.header counts) (header_length m.header counts) then (omega (arith, late, longer))
+
+  -- so it has no fewer with more
+  all_longer : (m : Message) (rest : List A) → Reaches (counts_of m)
+      → length (octets_of most m) ≤ length (octets_of most (all_more more m rest))
+  all_longer m [] reaches = omega arith
+  all_longer m (one ∷ rest) reaches =
+      let s = composed most m in
+      let here = pushed_length m one reaches in
+      let longer = grown_length s.octets (with_entry most s (entry one)).octets (entry_grows most s (entry one)) in
+      let there = subst Reaches (sym (takes.counts m one))
+      (takes.reaches (counts_of m) (count (counts_of m) + 1) reaches) in
+      let more_long = all_longer (more m one) rest there in
+      omega (arith, here, longer, more_long)
+
+module _ {A I : Type 0} {Of : I → A → Type 0} {labels : A → ℕ} {more : Message → A → Message} (most : ℕ) where
+  -- at first all are left
+  pub ahead_first : (m : Message) (written : List A) (left : List I) (state : State) (header : Header)
+      (counts : HeaderCounts) (from : ℕ) → Writes most m state header counts → AllZip Of left written
+      → Ahead Of labels more most m written left state header counts from from
+  ahead_first m written left state header counts from is are = record {
+    now = m;
+    rest = written;
+    writes = is;
+    are = are;
+    same = refl;
+    turned = omega arith;
+  }
+
+  -- at last none is
+  pub ahead_none : (m : Message) (written : List A) (state : State) (header : Header) (counts : HeaderCounts)
+      (turns from : ℕ) → Ahead {I = I} Of labels more most m written [] state header counts turns from
+      → Writes most (all_more more m written) state header counts × (turns ≤ from + 17 * sum_by labels written)
+  ahead_none m written state header counts turns from ahead = by_rest ahead.rest ahead.are ahead.same ahead.turned where
+    by_rest : (rest : List A) → AllZip Of [] rest → all_more more m written ≡ all_more more ahead.now rest
+        → turns + 17 * sum_by labels rest ≤ from + 17 * sum_by labels written
+        → Writes most (all_more more m written) state header counts × (turns ≤ from + 17 * sum_by labels written)
+    by_rest [] are same turned =
+        (subst (λ m. Writes most m state header counts) (sym same) ahead.writes, omega (arith, turned))
+    by_rest (one ∷ rest) are same turned = absurd are
+
+  module _ (m : Message) (written : List A) (i : I) (left : List I) (state : State) (header : Header)
+      (counts : HeaderCounts) (turns from : ℕ)
+      (ahead : Ahead Of labels more most m written (i ∷ left) state header counts turns from) (one : A)
+      (only : (other : A) → Of i other → other ≡ one) where
+    -- one of them is pushed
+    pub ahead_next : (next : State) (another : Header) (now : HeaderCounts) (took : ℕ)
+        → ((m : Message) → Writes most m state header counts → Writes most (more m one) next another now)
+        → took ≤ turns + 17 * labels one
+        → Ahead Of labels more most m written left next another now took from
+    ahead_next next another now took pushed few = by_rest ahead.rest ahead.are ahead.same ahead.turned where
+      by_rest : (rest : List A) → AllZip Of (i ∷ left) rest → all_more more m written ≡ all_more more ahead.now rest
+          → turns + 17 * sum_by labels rest ≤ from + 17 * sum_by labels written
+          → Ahead Of labels more most m written left next another now took from
+      by_rest [] are same turned = absurd are
+      by_rest (other ∷ rest) are same turned =
+          let is = only other are.0 in
+          let labels_are = ap labels is in
+          let sum_is = sum_by-cons labels other rest in
+          record {
+            now = more ahead.now one;
+            rest = rest;
+            writes = pushed ahead.now ahead.writes;
+            are = are.1;
+            same = same ∙ ap (λ one. all_more more (more ahead.now one) rest) is;
+            turned = omega (arith, turned, few, labels_are, sum_is);
+          }
+
+    -- or it is refused, after some turns
+    pub ahead_turns : (took : ℕ) → took ≤ turns + 17 * labels one → took ≤ from + 17 * sum_by labels written
+    ahead_turns took few = by_rest ahead.rest ahead.are ahead.turned where
+      by_rest : (rest : List A) → AllZip Of (i ∷ left) rest
+          → turns + 17 * sum_by labels rest ≤ from + 17 * sum_by labels written
+          → took ≤ from + 17 * sum_by labels written
+      by_rest [] are turned = absurd are
+      by_rest (other ∷ rest) are turned =
+          let labels_are = ap labels (only other are.0) in
+          let sum_is = sum_by-cons labels other rest in
+          omega (arith, turned, few, labels_are, sum_is)
+
+    -- as the whole passes a limit where the message with it does
+    pub ahead_past : {entry : A → Entry} {FitsOne : A → Type 0} {Reaches : HeaderCounts → Type 0}
+        {count : HeaderCounts → ℕ} {counted : HeaderCounts → ℕ → HeaderCounts} (limit : Option ℕ)
+        → Takes A entry FitsOne Reaches count counted more → Reaches counts
+        → IsPast limit (length (with_entry most state (entry one)).octets)
+        → IsPast limit (length (octets_of most (all_more more m written)))
+    ahead_past {entry = entry} {Reaches = Reaches} {count = count} {counted = counted} limit takes reaches past =
+        by_rest ahead.rest ahead.are ahead.same where
+          by_rest : (rest : List A) → AllZip Of (i ∷ left) rest
+              → all_more more m written ≡ all_more more ahead.now rest
+              → IsPast limit (length (octets_of most (all_more more m written)))
+          by_rest [] are same = absurd are
+          by_rest (other ∷ rest) are same =
+              let now = ahead.now in
+              let here : Reaches (counts_of now) = subst Reaches ahead.writes.counts_are reaches in
+              let one_longer = pushed_length most takes now one here in
+              let state_is = ap (λ s. length (with_entry most s (entry one)).octets) ahead.writes.state_is in
+              let there : Reaches (counts_of (more now one)) =
+              subst Reaches (sym (takes.counts now one)) (takes.reaches (counts_of now) (count (counts_of now) + 1) here)
+              in
+              let longer = all_longer most takes (more now one) rest there in
+              let whole = ap (λ m. length (octets_of most m))
+              (same ∙ ap (λ one. all_more more (more now one) rest) (only other are.0)) in
+              past_longer limit (length (with_entry most state (entry one)).octets)
+              (length (octets_of most (all_more more m written))) (omega (arith, one_longer, state_is, longer, whole))
+              past

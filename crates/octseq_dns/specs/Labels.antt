@@ -1,0 +1,16 @@
+-- How many labels the names of a message have, by which the work of writing them is bounded.
+use Rattle.std.specs.Prelude.{ℕ, ◌+◌, length}
+use Rattle.std.specs.List.{sum_by}
+use Rattle.octseq_dns_compress.specs.State.{label_count}
+use Rattle.octseq_dns.specs.Contents.{Question, Record, Message}
+
+abbrev pub question_labels : Question → ℕ
+question_labels q = length q.labels
+
+-- those of the name that it is of, and of the names in its data that may be compressed
+abbrev pub record_labels : Record → ℕ
+record_labels r = length r.labels + label_count r.fields
+
+abbrev pub labels_in : Message → ℕ
+labels_in m = sum_by question_labels m.questions + (sum_by record_labels m.answers
+    + (sum_by record_labels m.authorities + sum_by record_labels m.additionals))

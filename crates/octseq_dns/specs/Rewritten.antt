@@ -1,0 +1,46 @@
+-- A message that was read, as one that is written.
+use Rattle.std.specs.Prelude.{◌≡◌, List, map}
+use Rattle.std.specs.List.{AllZip}
+use Rattle.octseq_dns_message.specs.Data.{ParsedRdata, IsDataOf}
+use Rattle.octseq_dns_message.specs.Entry as entry
+use Rattle.octseq_dns_message.specs.declared.header.Header.{Header}
+use Rattle.octseq.specs.Refusal.{Refusal}
+use Rattle.octseq_dns.specs.declared.rewriting.RewriteError.{RewriteError}
+use Rattle.octseq_dns.specs.Contents.{Question, Record, Message}
+use Rattle.octseq_dns.specs.Rdata.{bare_rdata, rdata_fields}
+use Rattle.octseq_dns.specs.ReadBack.{bare}
+
+-- a record that was read, whose data says this
+abbrev pub record_of_parsed : entry.Record → ParsedRdata → Record
+record_of_parsed r parsed = record {
+  labels = r.owner.labels;
+  rtype = r.rtype;
+  class = r.class;
+  ttl = r.ttl;
+  fields = rdata_fields (bare_rdata parsed);
+}
+
+-- a question is written of one that was read
+abbrev pub IsQuestionOf : entry.Question → Question → Type 0
+IsQuestionOf q written = written ≡ bare q
+
+-- A record is written of one that was read, by what its data says.
+pub record IsRecordOf (r : entry.Record) (written : Record) : Type 0 where
+  pub parsed : ParsedRdata
+  pub data_is : IsDataOf r parsed
+  pub is : written ≡ record_of_parsed r parsed
+
+-- A message has the header, the questions and the records of one that was read.
+pub record IsMessageOf (header : Header) (questions : List entry.Question)
+    (answers authorities additionals : List entry.Record) (m : Message) : Type 0 where
+  pub header_is : m.header ≡ header
+  pub questions_are : m.questions ≡ map bare questions
+  pub answers_are : AllZip IsRecordOf answers m.answers
+  pub authorities_are : AllZip IsRecordOf authorities m.authorities
+  pub additionals_are : AllZip IsRecordOf additionals m.additionals
+
+-- why a message was not written anew
+abbrev pub rewrite_error : RewriteError → Refusal
+rewrite_error RewriteError.Immovable = Refusal.malformed
+rewrite_error (RewriteError.Short e) = Refusal.short
+rewrite_error RewriteError.Memory = Refusal.memory
