@@ -1,9 +1,10 @@
 -- Lists of things that are pushed to a message, one after another, each of one that was read.
-use Rattle.std.proofs.Common.{◌≡◌, ℕ, ◌+◌, ◌*◌, ◌≤◌, ◌<◌, Option, List, [], ◌∷◌, length, refl, sym, ap, ◌∙◌, subst, arith}
+use Rattle.std.proofs.Common.{◌≡◌, ℕ, ◌+◌, ◌*◌, ◌≤◌, Option, List, [], ◌∷◌, length, refl, sym, ap, ◌∙◌, subst}
+use Rattle.std.proofs.Common.{arith}
 use Rattle.std.proofs.lemmas.List.Sums.{sum_by-cons}
 use Rattle.std.specs.List.{AllZip, sum_by}
 use Rattle.octseq.specs.Limit.{IsPast}
-use Rattle.octseq_dns_compress.specs.State.{State, Entry, with_entry, with_header}
+use Rattle.octseq_dns_compress.specs.State.{State, Entry, with_entry}
 use Rattle.octseq_dns_compress.proofs.Fields.{entry_grows, headed_length, past_longer}
 use Rattle.octseq_dns_compress.proofs.Steps.{grown_length}
 use Rattle.octseq_dns_message.specs.declared.header.Header.{Header}
@@ -136,7 +137,8 @@ module _ {A I : Type 0} {Of : I → A → Type 0} {labels : A → ℕ} {more : M
               let one_longer = pushed_length most takes now one here in
               let state_is = ap (λ s. length (with_entry most s (entry one)).octets) ahead.writes.state_is in
               let there : Reaches (counts_of (more now one)) =
-              subst Reaches (sym (takes.counts now one)) (takes.reaches (counts_of now) (count (counts_of now) + 1) here)
+              subst Reaches (sym (takes.counts now one)) (takes.reaches (counts_of now) (count (counts_of now) + 1)
+              here)
               in
               let longer = all_longer most takes (more now one) rest there in
               let whole = ap (λ m. length (octets_of most m))

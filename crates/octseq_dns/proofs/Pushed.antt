@@ -1,6 +1,7 @@
 -- A message with an entry more, as one that is written.
-use Rattle.std.proofs.Common.{◌≡◌, ℕ, ◌+◌, ◌<◌, ◌≤◌, List, [], ◌∷◌, ◌++◌, length, take, drop, refl, sym, ap, ◌∙◌, subst, arith}
-use Rattle.std.proofs.Common.{append-nil, length-append}
+use Rattle.std.proofs.Common.{◌≡◌, ℕ, ◌+◌, ◌<◌, ◌≤◌, List, [], ◌∷◌, ◌++◌, length, drop, refl, sym, ap, ◌∙◌}
+use Rattle.std.proofs.Common.{subst, arith}
+use Rattle.std.proofs.Common.{append-nil}
 use Rattle.std.proofs.Common.{Bool, true, false, Option, Some, None, min}
 use Rattle.std.proofs.Math.Logic.{∥∥₁_elim}
 use Rattle.std.proofs.lemmas.Bool.{ltb-true, ltb-false}
@@ -12,13 +13,15 @@ use Rattle.std.specs.FinMap.{empty}
 use Rattle.std.specs.Prelude.{replicate, nat_lt}
 use Rattle.octseq.specs.Integer.{octets_be}
 use Rattle.octseq_dns_compress.specs.State.{State, Entry, with_header, with_entry, with_entries}
-use Rattle.octseq_dns_compress.proofs.Fields.{headed_entry, headed_entries, entries_more, entries_grow, entry_grows, headed_length}
+use Rattle.octseq_dns_compress.proofs.Fields.{headed_entry, headed_entries, entries_more, entries_grow}
+use Rattle.octseq_dns_compress.proofs.Fields.{entry_grows, headed_length}
 use Rattle.octseq_dns_compress.proofs.Steps.{grown_length}
 use Rattle.octseq_dns_message.specs.declared.header.Header.{Header}
 use Rattle.octseq_dns_message.specs.declared.header.HeaderCounts.{HeaderCounts}
 use Rattle.octseq_dns.proofs.HeaderRead.{header_length}
 use Rattle.octseq_dns.specs.Blank.{blank_header, blank_message}
-use Rattle.octseq_dns.specs.Contents.{Message, Fits, FitsHeader, composed, octets_of, counts_of, entries_of, headed, header_octets}
+use Rattle.octseq_dns.specs.Contents.{Message, FitsHeader, composed, octets_of, counts_of, entries_of}
+use Rattle.octseq_dns.specs.Contents.{headed, header_octets}
 use Rattle.octseq_dns.specs.Writes.{IsBuilt, Takes, Writes}
 
 -- a header in the place of another
@@ -141,7 +144,8 @@ blank_written most state header is header_is = record {
 }
 
 -- what is built begins with its header
-pub twelve_built : (most : ℕ) (state : State) (header : Header) (counts : HeaderCounts) (Reaches : HeaderCounts → Type 0)
+pub twelve_built : (most : ℕ) (state : State) (header : Header) (counts : HeaderCounts) (Reaches : HeaderCounts → Type
+    0)
     → IsBuilt most state header counts Reaches → 12 ≤ length state.octets
 twelve_built most state header counts Reaches built =
     ∥∥₁_elim built.0 le_prop (λ w.

@@ -9,7 +9,8 @@ use Rattle.octseq.specs.Window.{Window, left, next, rest, past, at}
 use Rattle.octseq_dns_compress.specs.Fields.{AreFields}
 use Rattle.octseq_dns_compress.specs.Fits.{NameFits}
 use Rattle.octseq_dns_compress.specs.State.{Field}
-use Rattle.octseq_dns_message.specs.Data.{ParsedRdata, HasRdata, HasOctets, HasString, HasSoa, IsDataOf, rtype_of as parsed_rtype}
+use Rattle.octseq_dns_message.specs.Data.{ParsedRdata, HasRdata, HasOctets, HasString, HasSoa, IsDataOf}
+use Rattle.octseq_dns_message.specs.Data.{rtype_of as parsed_rtype}
 use Rattle.octseq_dns_message.specs.Entry.{Record}
 use Rattle.octseq_dns_message.specs.Format.{IsNumber}
 use Rattle.octseq_dns_name.specs.Name.{Name, HasName, IsName}

@@ -1,7 +1,8 @@
 -- A message section by section, and that a message that was read is written in one way.
-use Rattle.std.proofs.Common.{◌≡◌, ℕ, ◌+◌, ◌*◌, ◌≤◌, Option, Some, None, min, List, [], ◌∷◌, ◌++◌, length, map, refl, sym, ap}
+use Rattle.std.proofs.Common.{◌≡◌, ℕ, Option, Some, None, List, [], ◌∷◌, ◌++◌, length, map}
+use Rattle.std.proofs.Common.{refl, sym, ap}
 use Rattle.std.proofs.Common.{◌∙◌, subst, arith, append_assoc, append-nil}
-use Rattle.std.specs.List.{AllZip, sum_by}
+use Rattle.std.specs.List.{AllZip}
 use Rattle.octseq.specs.Limit.{IsPast}
 use Rattle.octseq_dns_compress.specs.Composed.{message_limit}
 use Rattle.octseq_dns_compress.proofs.Fields.{past_longer}
@@ -68,7 +69,8 @@ module _ (limit : Option ℕ) (most : ℕ) (m : Message) where
       let less = all_longer most takes_additionals authorized m.additionals tt in
       let same = ap (λ m. length (octets_of most m))
       (all_additionals m.header m.questions m.answers m.authorities [] m.additionals) in
-      past_longer limit (length (octets_of most authorized)) (length (octets_of most m)) (omega (arith, less, same)) past
+      past_longer limit (length (octets_of most authorized)) (length (octets_of most m)) (omega (arith, less, same))
+      past
 
   pub past_answered : IsPast limit (length (octets_of most answered)) → IsPast limit (length (octets_of most m))
   past_answered past =

@@ -9,6 +9,11 @@ pub mod RewriteShown
 pub mod Rewritten
 pub mod Sections
 pub mod Writes
+pub use Rattle.octseq_dns_compress.specs.Composed
+pub use Rattle.octseq_dns_compress.specs.Fields
+pub use Rattle.octseq_dns_compress.specs.Fits
+pub use Rattle.octseq_dns_compress.specs.Names
+pub use Rattle.octseq_dns_compress.specs.State
 pub use Rattle.octseq_dns_message.specs.Data
 pub use Rattle.octseq_dns_message.specs.DataText
 pub use Rattle.octseq_dns_message.specs.Edns

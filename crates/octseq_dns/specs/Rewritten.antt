@@ -3,8 +3,11 @@ use Rattle.std.specs.Prelude.{◌≡◌, List, map}
 use Rattle.std.specs.List.{AllZip}
 use Rattle.octseq_dns_message.specs.Data.{ParsedRdata, IsDataOf}
 use Rattle.octseq_dns_message.specs.Entry as entry
+use Rattle.octseq_dns_message.specs.Parsed.{header_of, questions_of, answers_of, authorities_of, additionals_of}
+use Rattle.octseq_dns_message.specs.declared.message.Message.{Message as Parsed}
 use Rattle.octseq_dns_message.specs.declared.header.Header.{Header}
 use Rattle.octseq.specs.Refusal.{Refusal}
+use Rattle.octseq.specs.declared.AsOctets.{Ghosts}
 use Rattle.octseq_dns.specs.declared.rewriting.RewriteError.{RewriteError}
 use Rattle.octseq_dns.specs.Contents.{Question, Record, Message}
 use Rattle.octseq_dns.specs.Rdata.{bare_rdata, rdata_fields}
@@ -38,6 +41,11 @@ pub record IsMessageOf (header : Header) (questions : List entry.Question)
   pub answers_are : AllZip IsRecordOf answers m.answers
   pub authorities_are : AllZip IsRecordOf authorities m.authorities
   pub additionals_are : AllZip IsRecordOf additionals m.additionals
+
+-- so it is of a message that was read, as contracts see that
+abbrev pub IsContentsOf : {R : Type 0} {g : Ghosts R} → Parsed R g → Message → Type 0
+IsContentsOf parsed m = IsMessageOf (header_of parsed) (questions_of parsed) (answers_of parsed)
+    (authorities_of parsed) (additionals_of parsed) m
 
 -- why a message was not written anew
 abbrev pub rewrite_error : RewriteError → Refusal

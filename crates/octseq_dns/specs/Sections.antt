@@ -1,11 +1,9 @@
 -- Each section takes its things.
-use Rattle.std.specs.Prelude.{◌≡◌, ℕ, ◌+◌, ◌<◌, ◌≤◌, List, [], ◌∷◌, ◌++◌, length, map, refl}
+use Rattle.std.specs.Prelude.{◌≡◌, ◌+◌, ◌<◌, ◌≤◌, List, [], ◌∷◌, ◌++◌, length, map, refl}
 use Rattle.std.specs.List.{AllByRecursion}
 use Rattle.std.proofs.Common.{sym, ap, ◌∙◌, arith, append_assoc, append-nil}
 use Rattle.std.proofs.lemmas.List.{length-append, map-append}
-use Rattle.octseq_dns_compress.specs.State.{Entry}
-use Rattle.octseq_dns_message.specs.declared.header.HeaderCounts.{HeaderCounts}
-use Rattle.octseq_dns.specs.Contents.{Question, Record, Message, FitsQuestion, FitsRecord, Fits, counts_of, entries_of}
+use Rattle.octseq_dns.specs.Contents.{Question, Record, Message, FitsQuestion, FitsRecord, counts_of, entries_of}
 use Rattle.octseq_dns.specs.Contents.{question_entry, record_entry}
 use Rattle.octseq_dns.specs.Writes.{Takes, TakesRecords, UpToQuestions, UpToAnswers, UpToAuthorities, UpToAdditionals}
 use Rattle.octseq_dns.specs.Writes.{more_questions, more_answers, more_authorities, more_additionals}

@@ -6,8 +6,8 @@ use Rattle.octseq.specs.declared.AppendError.{AppendError}
 use Rattle.octseq_dns_compress.specs.State.{State, Entry, with_header}
 use Rattle.octseq_dns_message.specs.declared.header.Header.{Header}
 use Rattle.octseq_dns_message.specs.declared.header.HeaderCounts.{HeaderCounts}
-use Rattle.octseq_dns.specs.Contents.{Question, Record, Message, FitsQuestion, FitsRecord, Fits, composed, counts_of}
-use Rattle.octseq_dns.specs.Contents.{entries_of, question_entry, record_entry}
+use Rattle.octseq_dns.specs.Contents.{Question, Record, Message, FitsRecord, Fits, composed, counts_of}
+use Rattle.octseq_dns.specs.Contents.{entries_of, record_entry}
 
 -- A message that is being written: the builder of its octets, the table, its octets with the names in them, its header,
 -- and how many entries each section has.

@@ -19,7 +19,7 @@ pub use builder::{
     SectionBuilder,
 };
 pub use moved::can_move;
-pub use octseq_dns_compress::{Composer, Compressor, Target};
+pub use octseq_dns_compress::{Composer, Compressor, StaticCompressor, Target, Uncompressed};
 pub use octseq_dns_message::data::Data;
 pub use octseq_dns_message::header::{Flags, Header, HeaderCounts};
 pub use octseq_dns_message::iana::{Class, Opcode, Rcode, Rtype};

@@ -163,7 +163,8 @@ fn compose_soa<B: OctetsBuilder + Truncate + AsOctetsMut, T: Compressor, R: AsOc
     ensures composed { Composes (message_limit B.limit) ((B.asks ≡ true) ⊎ (T.asks ≡ true)) result
         (with_fields T.most message.old.state (rdata_fields (bare_rdata (ParsedRdata.soa (soa_of soa.now)))))
         message.old message.new }
-    ensures fits { OnOk result (AllByRecursion FitsField (rdata_fields (bare_rdata (ParsedRdata.soa (soa_of soa.now))))) }
+    ensures fits { OnOk result (AllByRecursion FitsField (rdata_fields (bare_rdata (ParsedRdata.soa (soa_of
+        soa.now))))) }
     ensures borrows { B.borrows message.new.octets ≡ B.borrows message.old.octets }
     ensures turns { turns.new ≤ turns.old
         + 17 * label_count (rdata_fields (bare_rdata (ParsedRdata.soa (soa_of soa.now)))) }

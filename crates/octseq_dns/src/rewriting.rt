@@ -4,12 +4,12 @@ ghost use Rattle.std.specs.List.{AllZip, sum_by};
 ghost use Rattle.octseq.specs.Limit.{IsPast, IsWithin};
 ghost use Rattle.octseq.specs.Refusal.{IsShort, IsMemory, IsMalformed, append_error};
 ghost use Rattle.octseq_dns_compress.specs.Composed.{message_limit};
-ghost use Rattle.octseq_dns_message.specs.Parsed.{header_of, questions_of, answers_of, authorities_of, additionals_of};
+ghost use Rattle.octseq_dns_message.specs.Parsed.{answers_of, authorities_of, additionals_of};
 ghost use Rattle.octseq_dns_message.specs.Walk.{questions_left, records_left};
 ghost use Rattle.octseq_dns.specs.Contents.{Message as Contents, Question as Asked, Record as Written, octets_of};
 ghost use Rattle.octseq_dns.specs.Labels.{labels_in, question_labels, record_labels};
 ghost use Rattle.octseq_dns.specs.Moved.{CanMove};
-ghost use Rattle.octseq_dns.specs.Rewritten.{IsMessageOf, IsQuestionOf, IsRecordOf, rewrite_error};
+ghost use Rattle.octseq_dns.specs.Rewritten.{IsContentsOf, IsQuestionOf, IsRecordOf, rewrite_error};
 ghost use Rattle.octseq_dns.specs.Writes.{Writes, all_more, more_questions};
 
 use crate::builder::section::RecordSection;
@@ -62,23 +62,35 @@ impl fmt::Display for RewriteError {
 /// `Immovable` exactly where the message can't be moved: [`can_move`]. Else `Short` where the message so written would
 /// pass the limit of the builder's type or 65,535 octets, and `Memory` where a request for memory was refused. The
 /// builder and the table are then dropped.
+///
+/// # Examples
+///
+/// ```
+/// // crates/octseq_dns_tool/src/engine/rewrite.rt
+/// match rewrite(message, octets, table) {
+///     Ok(written) => {
+///         let (octets, table) = written.finish();
+///         self.octets = octets;
+///         self.table = table;
+///         Ok(true)
+///     }
+///     Err(RewriteError::Immovable | RewriteError::Short(_)) => Ok(false),
+///     Err(RewriteError::Memory) => Err(AllocError),
+/// }
+/// ```
 pub fn rewrite<B: OctetsBuilder + Truncate + AsOctetsMut, T: Compressor, R: AsOctets + Copy>(
     message: &Message<R>,
     octets: B,
     table: T,
 ) -> Result<AdditionalBuilder<B, T>, RewriteError>
-    ensures written { IfOk result (λ b. (m : Contents) → IsMessageOf (header_of message.now)
-        (questions_of message.now) (answers_of message.now) (authorities_of message.now)
-        (additionals_of message.now) m → Writes T.most m b.state b.header b.counts) }
-    ensures contents { IfOk result (λ _. (m : Contents) × IsMessageOf (header_of message.now)
-        (questions_of message.now) (answers_of message.now) (authorities_of message.now)
-        (additionals_of message.now) m) }
+    ensures written { IfOk result (λ b. (m : Contents) → IsContentsOf message.now m
+        → Writes T.most m b.state b.header b.counts) }
+    ensures contents { IfOk result (λ _. (m : Contents) × IsContentsOf message.now m) }
     ensures fits { IfOk result (λ b. IsWithin (message_limit B.limit) (length b.state.octets)) }
     ensures immovable { IsMalformed rewrite_error result
         ↔ ¬ CanMove (answers_of message.now) (authorities_of message.now) (additionals_of message.now) }
-    ensures short { IsShort rewrite_error result → (m : Contents) → IsMessageOf (header_of message.now)
-        (questions_of message.now) (answers_of message.now) (authorities_of message.now)
-        (additionals_of message.now) m → IsPast (message_limit B.limit) (length (octets_of T.most m)) }
+    ensures short { IsShort rewrite_error result → (m : Contents) → IsContentsOf message.now m
+        → IsPast (message_limit B.limit) (length (octets_of T.most m)) }
     ensures memory { IsMemory rewrite_error result → (B.asks ≡ true) ⊎ (T.asks ≡ true) }
     ensures borrows { IfOk result (λ b. B.borrows b.octets ≡ B.borrows octets) }
 {
@@ -101,23 +113,17 @@ pub fn rewrite_counted<
     table: T,
     turns: &mut Turns,
 ) -> Result<AdditionalBuilder<B, T>, RewriteError>
-    ensures written { IfOk result (λ b. (m : Contents) → IsMessageOf (header_of message.now)
-        (questions_of message.now) (answers_of message.now) (authorities_of message.now)
-        (additionals_of message.now) m → Writes T.most m b.state b.header b.counts) }
-    ensures contents { IfOk result (λ _. (m : Contents) × IsMessageOf (header_of message.now)
-        (questions_of message.now) (answers_of message.now) (authorities_of message.now)
-        (additionals_of message.now) m) }
+    ensures written { IfOk result (λ b. (m : Contents) → IsContentsOf message.now m
+        → Writes T.most m b.state b.header b.counts) }
+    ensures contents { IfOk result (λ _. (m : Contents) × IsContentsOf message.now m) }
     ensures fits { IfOk result (λ b. IsWithin (message_limit B.limit) (length b.state.octets)) }
     ensures immovable { IsMalformed rewrite_error result
         ↔ ¬ CanMove (answers_of message.now) (authorities_of message.now) (additionals_of message.now) }
-    ensures short { IsShort rewrite_error result → (m : Contents) → IsMessageOf (header_of message.now)
-        (questions_of message.now) (answers_of message.now) (authorities_of message.now)
-        (additionals_of message.now) m → IsPast (message_limit B.limit) (length (octets_of T.most m)) }
+    ensures short { IsShort rewrite_error result → (m : Contents) → IsContentsOf message.now m
+        → IsPast (message_limit B.limit) (length (octets_of T.most m)) }
     ensures memory { IsMemory rewrite_error result → (B.asks ≡ true) ⊎ (T.asks ≡ true) }
     ensures borrows { IfOk result (λ b. B.borrows b.octets ≡ B.borrows octets) }
-    ensures turns { (m : Contents) → IsMessageOf (header_of message.now)
-        (questions_of message.now) (answers_of message.now) (authorities_of message.now)
-        (additionals_of message.now) m → turns.new ≤ turns.old + 17 * labels_in m }
+    ensures turns { (m : Contents) → IsContentsOf message.now m → turns.new ≤ turns.old + 17 * labels_in m }
 {
     if !can_move(message) {
         return Err(RewriteError::Immovable);
@@ -136,21 +142,15 @@ fn compose_anew<B: OctetsBuilder + Truncate + AsOctetsMut, T: Compressor, R: AsO
     table: T,
     turns: &mut Turns,
 ) -> Result<AdditionalBuilder<B, T>, AppendError>
-    ensures written { IfOk result (λ b. (m : Contents) → IsMessageOf (header_of message.now)
-        (questions_of message.now) (answers_of message.now) (authorities_of message.now)
-        (additionals_of message.now) m → Writes T.most m b.state b.header b.counts) }
-    ensures contents { IfOk result (λ _. (m : Contents) × IsMessageOf (header_of message.now)
-        (questions_of message.now) (answers_of message.now) (authorities_of message.now)
-        (additionals_of message.now) m) }
+    ensures written { IfOk result (λ b. (m : Contents) → IsContentsOf message.now m
+        → Writes T.most m b.state b.header b.counts) }
+    ensures contents { IfOk result (λ _. (m : Contents) × IsContentsOf message.now m) }
     ensures fits { IfOk result (λ b. IsWithin (message_limit B.limit) (length b.state.octets)) }
-    ensures short { IsShort append_error result → (m : Contents) → IsMessageOf (header_of message.now)
-        (questions_of message.now) (answers_of message.now) (authorities_of message.now)
-        (additionals_of message.now) m → IsPast (message_limit B.limit) (length (octets_of T.most m)) }
+    ensures short { IsShort append_error result → (m : Contents) → IsContentsOf message.now m
+        → IsPast (message_limit B.limit) (length (octets_of T.most m)) }
     ensures memory { IsMemory append_error result → (B.asks ≡ true) ⊎ (T.asks ≡ true) }
     ensures borrows { IfOk result (λ b. B.borrows b.octets ≡ B.borrows octets) }
-    ensures turns { (m : Contents) → IsMessageOf (header_of message.now)
-        (questions_of message.now) (answers_of message.now) (authorities_of message.now)
-        (additionals_of message.now) m → turns.new ≤ turns.old + 17 * labels_in m }
+    ensures turns { (m : Contents) → IsContentsOf message.now m → turns.new ≤ turns.old + 17 * labels_in m }
 {
     let _counts = message.header_counts();
     let mut begun = match MessageBuilder::from_builder(octets, table) {

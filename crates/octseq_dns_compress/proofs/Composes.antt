@@ -1,8 +1,8 @@
 -- What calls do to a message that is composed, by what they answer.
-use Rattle.std.proofs.Common.{◌≡◌, Bool, true, ℕ, ◌+◌, ◌≤◌, Option, Some, None, Ok, Err, List, [], ◌∷◌, ◌++◌, length, take}
-use Rattle.std.proofs.Common.{refl, sym, ap, ◌∙◌, subst, arith, append-nil, length-append, Result}
+use Rattle.std.proofs.Common.{◌≡◌, Bool, true, ℕ, Option, Ok, Err, List, []}
+use Rattle.std.proofs.Common.{length, take}
+use Rattle.std.proofs.Common.{sym, ap, ◌∙◌, subst, append-nil, length-append, Result}
 use Rattle.std.specs.Prelude.{OnOk, OnErr}
-use Rattle.std.proofs.Common.{◌⊎◌, inl, inr}
 use Rattle.octseq.specs.Appends.{Appends}
 use Rattle.octseq.specs.Limit.{IsPast, IsWithin}
 use Rattle.octseq.specs.Refusal.{IsShort, IsMemory, append_error}
@@ -11,7 +11,7 @@ use Rattle.octseq_dns_compress.specs.Composed.{Composed, Composes, before}
 use Rattle.octseq_dns_compress.specs.Known.{Known}
 use Rattle.octseq_dns_compress.specs.Named.{AppendsName}
 use Rattle.octseq_dns_compress.specs.Names.{Names, name_octets}
-use Rattle.octseq_dns_compress.specs.State.{State, Field, with_octets, with_name, with_field, with_fields}
+use Rattle.octseq_dns_compress.specs.State.{State, Field, with_octets, with_name, with_fields}
 use Rattle.octseq_dns_compress.specs.declared.table.Target.{Target}
 use Rattle.octseq_dns_compress.proofs.Fields.{fields_grow, one_state, past_longer}
 use Rattle.octseq_dns_compress.proofs.Steps.{Grows, grown_length}
@@ -93,7 +93,8 @@ module _ {B T : Type 0} (limit : Option ℕ) where
 
   -- a name is appended
   pub composes_name : {Asks : Type 0} (most : ℕ) (result : Result (Unit {0}) AppendError) (labels : List (List ℕ))
-      (octets more : List ℕ) (held kept : List Target) (known : Known octets held) (now : Names) (old new : Composed B T)
+      (octets more : List ℕ) (held kept : List Target) (known : Known octets held) (now : Names) (old new : Composed B
+      T)
       → (named : AppendsName limit most result labels octets more held kept known)
       → ◌≡◌ {A = State} (record { octets = octets; names = known.0 }) old.state
       → ◌≡◌ {A = State} (record { octets = more; names = now }) new.state → now ≡ named.now.0
@@ -109,7 +110,8 @@ module _ {B T : Type 0} (limit : Option ℕ) where
         begun = begun;
         data_start = data_start;
       }
-  composes_name most (Err e) labels octets more held kept known now old new named was is now_is memory begun data_start =
+  composes_name most (Err e) labels octets more held kept known now old new named was is now_is memory begun
+      data_start =
       record {
         ok = tt;
         within = tt;
@@ -121,7 +123,8 @@ module _ {B T : Type 0} (limit : Option ℕ) where
       }
 
   -- with more that may be refused for memory
-  pub composes_or : {Asks More : Type 0} (result : Result (Unit {0}) AppendError) (wanted : State) (old new : Composed B T)
+  pub composes_or : {Asks More : Type 0} (result : Result (Unit {0}) AppendError) (wanted : State) (old new : Composed
+      B T)
       → (Asks → More) → Composes limit Asks result wanted old new → Composes limit More result wanted old new
   composes_or result wanted old new wider composes = record {
     ok = composes.ok;
@@ -148,7 +151,8 @@ module _ {B T : Type 0} (limit : Option ℕ) where
   }
 
   -- a call that was answered, and others
-  pub composes_then : {Asks : Type 0} (most : ℕ) (u : Unit {0}) (result : Result (Unit {0}) AppendError) (wanted : State)
+  pub composes_then : {Asks : Type 0} (most : ℕ) (u : Unit {0}) (result : Result (Unit {0}) AppendError) (wanted :
+      State)
       (fields : List Field) (old then new : Composed B T) → Composes limit Asks (Ok u) wanted old then
       → Composes limit Asks result (with_fields most then.state fields) then new
       → Composes limit Asks result (with_fields most wanted fields) old new

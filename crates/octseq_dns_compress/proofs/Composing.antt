@@ -1,6 +1,7 @@
 -- A name appended to a message, whose targets are those of names.
 use Rattle.std.specs.Prelude.{slice_index_or, nat_lt, cond, if◌then◌else◌, ◌/◌, ◌%◌}
-use Rattle.std.proofs.Common.{◌≡◌, Bool, true, ℕ, suc, ◌+◌, ◌<◌, ◌≤◌, Option, Some, None, List, [], ◌∷◌, ◌++◌, length, take}
+use Rattle.std.proofs.Common.{◌≡◌, Bool, true, ℕ, suc, ◌+◌, ◌<◌, ◌≤◌, Option, Some, None, List, [], ◌∷◌, ◌++◌}
+use Rattle.std.proofs.Common.{length, take}
 use Rattle.std.proofs.Common.{Ok, Err, drop, refl, sym, ap, ◌∙◌, subst, arith, is_some}
 use Rattle.std.proofs.Math.Bool.{true≢false}
 use Rattle.std.proofs.lemmas.Bool.{ne_eqb, lt-leb}
@@ -16,7 +17,8 @@ use Rattle.octseq_dns_compress.specs.Ended.{ended}
 use Rattle.octseq_dns_compress.specs.Ending.{IsEnding}
 use Rattle.octseq_dns_compress.specs.Key.{key_of, IsWhole, key_cmp, AreTargets, IsPosition}
 use Rattle.octseq_dns_compress.specs.Known.{Known, known_once}
-use Rattle.octseq_dns_compress.specs.Names.{Names, Place, labels_cmp, unrooted, ending, name_octets, first_labels, last_place, names_with}
+use Rattle.octseq_dns_compress.specs.Names.{Names, Place, labels_cmp, unrooted, ending, name_octets, first_labels}
+use Rattle.octseq_dns_compress.specs.Names.{last_place, names_with}
 use Rattle.octseq_dns_compress.specs.Written.{IsWritten}
 use Rattle.octseq_dns_compress.specs.declared.search.Ending.{Ending}
 use Rattle.octseq_dns_compress.specs.declared.table.Target.{Target}
@@ -206,7 +208,8 @@ module _ (limit : Option ℕ) (asks : Bool) (most : ℕ) (labels : List (List �
     past = λ past. absurd (appends.short.1 (subst (IsPast limit) (sym fits) past));
   }
 
-  pub name_taken_back : (u : Unit {0}) (undone : List ℕ) (kept : List Target) → Appends limit asks (Ok u) name octets new
+  pub name_taken_back : (u : Unit {0}) (undone : List ℕ) (kept : List Target) → Appends limit asks (Ok u) name octets
+      new
       → undone ≡ octets → kept ≡ targets
       → AppendsName limit most (Err AppendError.Memory) labels octets undone targets kept known
   name_taken_back u undone kept appends back same =

@@ -1,15 +1,17 @@
 -- What fields and entries add to a message: octets come after those that it has, and another header leaves them.
-use Rattle.std.proofs.Common.{◌≡◌, ℕ, ◌+◌, ◌-◌, ◌≤◌, Option, Some, None, List, [], ◌∷◌, ◌++◌, length, take, drop, refl, sym, ap, ◌∙◌}
-use Rattle.std.proofs.Common.{subst, arith, append_assoc, append-nil, length-append, length-drop}
+use Rattle.std.proofs.Common.{◌≡◌, ℕ, ◌+◌, ◌-◌, ◌≤◌, Option, Some, None, List, [], ◌∷◌, ◌++◌, length, take, drop}
+use Rattle.std.proofs.Common.{refl, sym, ap, ◌∙◌}
+use Rattle.std.proofs.Common.{arith, append_assoc, append-nil, length-append, length-drop}
 use Rattle.std.proofs.Math.Seq.{take-append_seam}
 use Rattle.std.proofs.lemmas.List.{drop-append-le}
 use Rattle.std.proofs.lemmas.Slice.{drop-append-drop}
-use Rattle.octseq.specs.Limit.{IsPast, IsWithin}
+use Rattle.octseq.specs.Limit.{IsPast}
 use Rattle.octseq.specs.Integer.{octets_be}
 use Rattle.octseq.specs.Part.{part_of}
 use Rattle.octseq.proofs.Written.{length_be}
 use Rattle.octseq_dns_compress.specs.Names.{Names, name_octets, names_with}
-use Rattle.octseq_dns_compress.specs.State.{State, Field, Entry, with_octets, with_name, with_field, with_fields, count_put}
+use Rattle.octseq_dns_compress.specs.State.{State, Field, Entry, with_octets, with_field, with_fields}
+use Rattle.octseq_dns_compress.specs.State.{count_put}
 use Rattle.octseq_dns_compress.specs.State.{with_counted, with_data, with_entry, with_entries, with_header}
 use Rattle.octseq_dns_compress.proofs.Steps.{Grows, grown_length}
 
@@ -197,7 +199,8 @@ module _ (most : ℕ) (s : State) (fields : List Field) where
       let same : end - 2 ≡ length s.octets = omega arith in
       ap (λ n. take n all) same ∙ ap (take (length s.octets)) grows.1 ∙ take-append_seam s.octets grows.0 in
       one_state
-      (is ∙ ap (λ a. take (place - 2) a.octets ++ (octets_be 2 (length a.octets - place) ++ drop place a.octets)) after_is
+      (is ∙ ap (λ a. take (place - 2) a.octets ++ (octets_be 2 (length a.octets - place) ++ drop place a.octets))
+      after_is
       ∙ ap (λ n. take (n - 2) all ++ (octets_be 2 (length all - n) ++ drop n all)) place_is
       ∙ ap (λ o. o ++ (octets_be 2 (length all - end) ++ drop end all)) front
       ∙ ap (λ n. s.octets ++ (octets_be 2 n ++ drop end all)) (sym (length-drop end all)))

@@ -15,7 +15,8 @@ use Rattle.octseq_dns_compress.specs.Names.{with_labels, names_with}
 use Rattle.octseq_dns_compress.specs.Written.{IsWritten}
 use Rattle.octseq_dns_compress.specs.declared.search.Ending.{Ending}
 use Rattle.octseq_dns_compress.specs.declared.table.Target.{Target}
-use Rattle.octseq_dns_compress.proofs.KeptNames.{with_other, with_known, with_kept, with_unkept, with_many, with_stopped}
+use Rattle.octseq_dns_compress.proofs.KeptNames.{with_other, with_known, with_kept, with_unkept, with_many}
+use Rattle.octseq_dns_compress.proofs.KeptNames.{with_stopped}
 use Rattle.octseq_dns_compress.proofs.KeptNames.{unkept_far, unkept_full}
 use Rattle.octseq_dns_compress.proofs.KeptSoFar.{KeptSoFar, place_after, further, so_far_kept, whole_here, label_here}
 
@@ -142,7 +143,8 @@ module _ (most : ℕ) (octets : List ℕ) (held : List Target) (names : Names) (
         let far = further start labels (left - 1) label rest here in
         let same : suc (left - 1) ≡ left = omega (arith, some) in
         ap (λ n. with_labels most ending.pointers names n rest) (sym far)
-        ∙ ap (λ n. with_labels most ending.pointers names (place_after start labels n) (drop (left - 1 + 1) labels)) same
+        ∙ ap (λ n. with_labels most ending.pointers names (place_after start labels n) (drop (left - 1 + 1) labels))
+        same
         ∙ ap (λ n. with_labels most ending.pointers names (place_after start labels left) (drop n labels)) next_one
 
     -- the label before those that are kept is new
@@ -189,7 +191,11 @@ module _ (most : ℕ) (octets : List ℕ) (held : List Target) (names : Names) (
         → KeptSoFar octets new (now (left - 1)) labels start older (left - 1) at (older + 1)
     kept_at at new same is near few room =
         subst (λ held. KeptSoFar octets held (now (left - 1)) labels start older (left - 1) at (older + 1)) (sym is)
-        (subst (λ n. KeptSoFar octets (insert after position (record { at = n; next = next; pointers = ending.pointers }))
+        (subst (λ n. KeptSoFar octets (insert after position (record {
+          at = n;
+          next = next;
+          pointers = ending.pointers;
+        }))
         (now (left - 1)) labels start older (left - 1) n (older + 1)) (sym same)
         (kept_more (omega (arith, near, same)) few room))
 
@@ -208,7 +214,8 @@ module _ (most : ℕ) (octets : List ℕ) (held : List Target) (names : Names) (
         (ap (is_there (now left)) here ∙ ap is_some still_new)
         (λ k less. first_new names labels ending.written k ends.first within (omega (arith, less, some, few_left))))
 
-    pub kept_far : 16383 < place_after start labels (left - 1) → Agrees octets after (names_with most names start labels)
+    pub kept_far : 16383 < place_after start labels (left - 1)
+        → Agrees octets after (names_with most names start labels)
     kept_far far =
         kept_stopped (unkept_far most (now left) rest (record {
           at = place_after start labels (left - 1);

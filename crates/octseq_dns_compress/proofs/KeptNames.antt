@@ -159,6 +159,7 @@ module _ (most pointers : ℕ) (names : Names) where
             let fewer = length-drop (suc u) labels in
             absent more labels some
             (ap (λ m. get m labels) (sym here)
-            ∙ with_other (start + (1 + length label) + length (unrooted (take (suc u) labels))) (drop (suc u) labels) labels
+            ∙ with_other (start + (1 + length label) + length (unrooted (take (suc u) labels))) (drop (suc u) labels)
+            labels
             (omega (arith, fewer, some))
             ∙ none (omega arith))

@@ -1,6 +1,7 @@
 -- The names while the labels of one are kept, the last one first.
 use Rattle.std.specs.Prelude.{slice_index_or, IsTrue}
-use Rattle.std.proofs.Common.{◌≡◌, ◌⊎◌, inl, inr, ℕ, zero, suc, ◌+◌, ◌-◌, ◌<◌, ◌≤◌, Some, None, List, [], ◌∷◌, ◌++◌, length}
+use Rattle.std.proofs.Common.{◌≡◌, ◌⊎◌, inl, inr, ℕ, zero, suc, ◌+◌, ◌-◌, ◌<◌, ◌≤◌, Some, None, List, [], ◌∷◌}
+use Rattle.std.proofs.Common.{◌++◌, length}
 use Rattle.std.proofs.Common.{length-append, take, drop, refl, sym, ap, ◌∙◌, subst, arith, is_some, append_assoc}
 use Rattle.std.proofs.Math.Bool.{true≢false}
 use Rattle.std.proofs.lemmas.List.Edits.{get_or-insert_below, length-insert}
@@ -260,7 +261,8 @@ module _ (octets : List ℕ) (held : List Target) (now : Names) (labels : List (
     next_is = sym (ap at_or_zero (ap (get (put now (label ∷ rest) place)) is ∙ found));
     apart = λ others other there. by_name others other (same_or_other others (label ∷ rest)) there;
     here = λ u l r one next_is. by_next octets (insert held position target) (place_after start labels v) (older + 1)
-        (length l ∷ l) many (λ k d less. let low = low_kept k d (omega (arith, less)) (omega (arith, less, many)) in omega (arith, low))
+        (length l ∷ l) many (λ k d less. let low = low_kept k d (omega (arith, less)) (omega (arith, less, many)) in
+        omega (arith, low))
         (λ k d from inside. high_kept k d (omega (arith, from)) inside);
     low = low_kept;
     high = high_kept;
@@ -281,7 +283,8 @@ module _ (octets : List ℕ) (held : List Target) (now : Names) (labels : List (
         → get (put now (label ∷ rest) place) others ≡ Some other
         → (other.at < start) ⊎ (place_after start labels v ≤ other.at)
     by_name others other (inl same) there =
-        let one = ap (λ p. p.at) (one_place other place (sym there ∙ ap (get (put now (label ∷ rest) place)) same ∙ found)) in
+        let one = ap (λ p. p.at) (one_place other place (sym there ∙ ap (get (put now (label ∷ rest) place)) same ∙
+        found)) in
         inr (omega (arith, one))
     by_name others other (inr apart) there =
         old other (so_far.apart others other (sym (get_other now (label ∷ rest) others place apart) ∙ there))

@@ -1,23 +1,22 @@
 -- A message in which an entry begins at a place, and data at another: what is before them stays.
 use Rattle.std.specs.Prelude.{not, slice_index_or, nat_lt, cond}
-use Rattle.std.proofs.Common.{◌≡◌, Bool, true, false, ℕ, suc, ◌+◌, ◌-◌, ◌<◌, ◌≤◌, inl, inr, List, [], ◌∷◌, ◌++◌, length}
-use Rattle.std.proofs.Common.{take, drop, refl, sym, ap, ◌∙◌, subst, arith, length-append, length-drop}
+use Rattle.std.proofs.Common.{◌≡◌, Bool, true, false, ℕ, suc, ◌+◌, ◌<◌, ◌≤◌, List, [], ◌∷◌, ◌++◌, length}
+use Rattle.std.proofs.Common.{take, refl, sym, ap, ◌∙◌, subst, arith}
 use Rattle.std.proofs.Math.Logic.{∥∥₁_elim}
 use Rattle.std.proofs.lemmas.Bool.{lt-ltb, le-ltb, ltb-false}
-use Rattle.std.proofs.lemmas.List.{length-take, take-append-le, take_all}
+use Rattle.std.proofs.lemmas.List.{take-append-le}
 use Rattle.std.proofs.lemmas.List.Elements.{All-cons, All-head, All-nil, All-tail, All-weaker}
 use Rattle.std.proofs.lemmas.List.Filters.{length-filter_both}
 use Rattle.std.specs.Coded.{le_prop}
-use Rattle.std.specs.List.{All, filter}
+use Rattle.std.specs.List.{All}
 use Rattle.octseq_dns_compress.specs.Agrees.{Agrees}
 use Rattle.octseq_dns_compress.specs.Apart.{IsApart, AreApart}
 use Rattle.octseq_dns_compress.specs.Composed.{before}
 use Rattle.octseq_dns_compress.specs.Key.{AreTargets}
 use Rattle.octseq_dns_compress.specs.Known.{Known, known_once}
-use Rattle.octseq_dns_compress.specs.Names.{Names}
 use Rattle.octseq_dns_compress.specs.declared.table.Target.{Target}
 use Rattle.octseq_dns_compress.proofs.Grown.{octet_stays}
-use Rattle.octseq_dns_compress.proofs.Steps.{Grows, grown_length}
+use Rattle.octseq_dns_compress.proofs.Steps.{Grows}
 
 -- ---- targets before a place
 

@@ -126,7 +126,8 @@ module _ (octets : List ℕ) (targets : List Target) (names : Names) (agrees : A
       inside = has.within
 
       to : (index : ℕ) → index < length (insert targets position target)
-          → ((d : Target) → slice_index_or (insert targets position target) index d ≡ slice_index_or targets has.index d)
+          → ((d : Target) → slice_index_or (insert targets position target) index d ≡ slice_index_or targets has.index
+          d)
           → HasTarget octets (insert targets position target) all_names l r p
       to index less same = record {
         label_is = has.label_is;

@@ -1,6 +1,7 @@
 -- Labels in plain form, and where each begins.
 use Rattle.std.specs.Prelude.{slice_index_or}
-use Rattle.std.proofs.Common.{◌≡◌, ℕ, zero, suc, ◌+◌, ◌-◌, ◌<◌, ◌≤◌, List, [], ◌∷◌, ◌++◌, length, take, drop, refl, sym, ap}
+use Rattle.std.proofs.Common.{◌≡◌, ℕ, zero, suc, ◌+◌, ◌-◌, ◌<◌, ◌≤◌, List, [], ◌∷◌, ◌++◌, length, take, drop, refl}
+use Rattle.std.proofs.Common.{sym, ap}
 use Rattle.std.proofs.Common.{◌∙◌, arith, append_assoc, append-nil, length-append}
 use Rattle.std.proofs.lemmas.Grind.{flat_map-append}
 use Rattle.std.proofs.lemmas.List.{drop_more}
@@ -43,7 +44,8 @@ wire_of_unrooted (label ∷ labels) =
 module _ (octets front label back : List ℕ) (is : octets ≡ front ++ (length label ∷ label ++ back)) where
   -- the octet of a label's length
   pub length_there : slice_index_or octets (length front) 0 ≡ length label
-  length_there = ap (λ o. slice_index_or o (length front) 0) is ∙ get_or-append_seam front (length label) (label ++ back) 0
+  length_there = ap (λ o. slice_index_or o (length front) 0) is ∙ get_or-append_seam front (length label) (label ++
+      back) 0
 
   -- the label is whole
   pub whole_there : length front + (1 + length label) ≤ length octets

@@ -71,7 +71,8 @@ module _ {octets : List ℕ} {targets : List Target} (names : Names) (agrees : A
       )
   ending_is (label ∷ labels) (suc w) within there none =
       let new = not_there (label ∷ labels) w (omega (arith, within)) (none w refl) in
-      let rest = ending_is labels w (omega (arith, within)) there (λ v is. ap (λ n. get names (drop n (label ∷ labels))) (sym is) ∙ none w refl) in (
+      let rest = ending_is labels w (omega (arith, within)) there (λ v is. ap (λ n. get names (drop n (label ∷
+      labels))) (sym is) ∙ none w refl) in (
         ap (λ more. label ∷ more) rest.0
             ∙ ap (λ b. if b then [] else label ∷ first_labels names labels) (sym (ap is_some new)),
         rest.1 ∙ ap (λ o. option_or o (last_place names labels)) (sym new),
@@ -91,7 +92,11 @@ pub ends_at : (octets : List ℕ) (targets : List Target) (names : Names) → Ag
 ends_at octets targets names agrees labels written octets_read next pointers index d some within read has ends =
     let label = slice_index_or labels (written - 1) [] in
     let rest = drop (written - 1 + 1) labels in
-    let here : drop (written - 1) labels ≡ label ∷ rest = drop_more labels (written - 1) [] (omega (arith, some, within)) in
+    let here : drop (written - 1) labels ≡ label ∷ rest = drop_more labels (written - 1) [] (omega (
+      arith,
+      some,
+      within,
+    )) in
     let same : written - 1 + 1 ≡ written = omega (arith, some) in
     subst (λ all. Ends names all (slice_index_or targets index d).at ((slice_index_or targets index d).pointers + 1))
     (sym here)
@@ -114,5 +119,6 @@ none_at octets targets names agrees labels written v octets_read next pointers i
     let before : written - 1 ≡ v = omega (arith, is) in
     let after : written ≡ v + 1 = omega (arith, is) in
     ap (get names) here
-    ∙ none_before names agrees label rest next pointers (subst (λ n. Ends names (drop n labels) next pointers) after ends)
+    ∙ none_before names agrees label rest next pointers (subst (λ n. Ends names (drop n labels) next pointers) after
+    ends)
     (subst (λ o. HasNoKey octets targets (next ∷ o)) (read label rest (ap (λ n. drop n labels) before ∙ here)) none)

@@ -1,5 +1,6 @@
 -- What each call leaves of a message that is composed.
-use Rattle.std.proofs.Common.{◌≡◌, ℕ, ◌+◌, ◌≤◌, Bool, Option, Ok, Err, List, [], ◌++◌, length, length-append, sym, ap, ◌∙◌}
+use Rattle.std.proofs.Common.{◌≡◌, ℕ, ◌+◌, ◌≤◌, Bool, Option, Ok, Err, List, [], ◌++◌, length, length-append, sym}
+use Rattle.std.proofs.Common.{ap, ◌∙◌}
 use Rattle.std.proofs.Common.{subst, arith, append-nil, Result}
 use Rattle.std.proofs.Math.Logic.{∥∥₁_map}
 use Rattle.octseq.specs.Appends.{Appends}

@@ -1,5 +1,5 @@
 -- Labels that are apart from the two octets before a place.
-use Rattle.std.specs.Prelude.{◌≡◌, ℕ, ◌+◌, ◌<◌, ◌≤◌, List, slice_index_or}
+use Rattle.std.specs.Prelude.{ℕ, ◌+◌, ◌<◌, ◌≤◌, List, slice_index_or}
 use Rattle.std.specs.Coded.{le_prop}
 use Rattle.std.specs.List.{All}
 use Rattle.octseq_dns_compress.specs.declared.table.Target.{Target}

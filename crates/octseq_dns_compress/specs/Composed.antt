@@ -1,5 +1,5 @@
 -- What a message is while it is composed.
-use Rattle.std.specs.Prelude.{◌≡◌, ℕ, Option, Some, None, List, ◌++◌, length, min, nat_lt, Result, OnOk}
+use Rattle.std.specs.Prelude.{◌≡◌, ℕ, Option, Some, None, List, length, min, nat_lt, Result, OnOk}
 use Rattle.std.specs.List.{filter}
 use Rattle.octseq.specs.Limit.{IsPast, IsWithin}
 use Rattle.octseq.specs.Refusal.{IsShort, IsMemory, append_error}

@@ -1,5 +1,4 @@
 -- Whether names can be written: each label has 1 to 63 octets, and in wire form there are at most 255.
-use Rattle.std.specs.Prelude.{ℕ, List}
 use Rattle.octseq_dns_compress.specs.State.{Field}
 pub use Rattle.octseq_dns_name.specs.NameFormat.{NameFits}
 

@@ -28,13 +28,15 @@ pub struct Composer<B: AsOctets, T: Compressor> {
     entry_start: usize,
     data_start: usize,
     ghost known: { Known (B.content octets) (T.held table) } by { known_once (B.content octets) (T.held table) },
-    ghost begun: { Known (take entry_start (B.content octets)) (before entry_start (T.held table)) } by { known_once (take entry_start (B.content octets)) (before entry_start (T.held table)) },
+    ghost begun: { Known (take entry_start (B.content octets)) (before entry_start (T.held table)) } by { known_once
+        (take entry_start (B.content octets)) (before entry_start (T.held table)) },
     ghost few: { length (T.held table) ≤ T.most },
     ghost short: { length (B.content octets) ≤ 65535 },
     ghost header: { 12 ≤ entry_start },
     ghost within: { entry_start ≤ length (B.content octets) },
     ghost data_within: { data_start ≤ length (B.content octets) },
-    ghost apart: { AreApart (B.content octets) data_start (T.held table) } by { apart_once (B.content octets) data_start (T.held table) },
+    ghost apart: { AreApart (B.content octets) data_start (T.held table) } by { apart_once (B.content octets)
+        data_start (T.held table) },
 }
 
 impl<B: AsOctets, T: Compressor> Model for Composer<B, T> {
@@ -79,7 +81,8 @@ impl<B: OctetsBuilder, T: Compressor> Composer<B, T> {
     ///
     /// # Errors
     ///
-    /// `Short` exactly where the message would pass the limit of the builder's type or 65,535 octets, and `Memory` where
+    /// `Short` exactly where the message would pass the limit of the builder's type or 65,535 octets, and `Memory`
+    /// where
     /// a request for memory was refused. The octets are then as they were.
     pub fn append_slice(&mut self, slice: &[u8]) -> Result<(), AppendError>
         ensures composed { Composes (message_limit B.limit) (B.asks ≡ true) result
@@ -105,7 +108,8 @@ impl<B: OctetsBuilder + Truncate, T: Compressor> Composer<B, T> {
     ///
     /// # Errors
     ///
-    /// `Short` exactly where the builder's type has a limit below 12 octets, and `Memory` where a request for memory was
+    /// `Short` exactly where the builder's type has a limit below 12 octets, and `Memory` where a request for memory
+    /// was
     /// refused. The builder and the table are then dropped.
     pub fn from_builder(octets: B, table: T) -> Result<Composer<B, T>, AppendError>
         ensures state { IfOk result (λ c. c.state ≡ record { octets = replicate 12 0; names = empty }) }
@@ -126,12 +130,14 @@ impl<B: OctetsBuilder + Truncate, T: Compressor> Composer<B, T> {
         })
     }
 
-    /// Appends a name. Where the most of its last labels are in the message already, a pointer to the place of them comes
+    /// Appends a name. Where the most of its last labels are in the message already, a pointer to the place of them
+    /// comes
     /// after the others.
     ///
     /// # Errors
     ///
-    /// `Short` exactly where the message would pass the limit of the builder's type or 65,535 octets, and `Memory` where
+    /// `Short` exactly where the message would pass the limit of the builder's type or 65,535 octets, and `Memory`
+    /// where
     /// a request for memory was refused. The octets and the names are then as they were.
     pub fn append_name<R: AsOctets + Copy>(
         &mut self,
@@ -190,7 +196,8 @@ impl<B: OctetsBuilder + Truncate + AsOctetsMut, T: Compressor> Composer<B, T> {
         write_over(&mut self.octets, 0, header);
     }
 
-    /// Begins data: appends two octets for the number of those that come after them, up to [`end_data`](Self::end_data).
+    /// Begins data: appends two octets for the number of those that come after them, up to
+    /// [`end_data`](Self::end_data).
     ///
     /// # Errors
     ///

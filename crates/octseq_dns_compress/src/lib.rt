@@ -16,4 +16,4 @@ pub mod table;
 
 pub use compose::Composer;
 pub use laws::{a_compressed_name_is_read, never_longer_than_plain};
-pub use table::{Compressor, Target};
+pub use table::{Compressor, StaticCompressor, Target, Uncompressed};

@@ -7,6 +7,8 @@ use std::alloc::AllocError;
 mod fixed;
 mod vector;
 
+pub use crate::table::fixed::{StaticCompressor, Uncompressed};
+
 /// How many targets a table has use for: as many as there are places that a pointer can say.
 pub(crate) const TARGETS_MAX: usize = 16384;
 

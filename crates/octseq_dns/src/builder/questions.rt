@@ -25,6 +25,18 @@ impl<B: OctetsBuilder + Truncate + AsOctetsMut, T: Compressor> QuestionBuilder<B
     ///
     /// `Short` where the message would pass the limit of the builder's type or 65,535 octets, or has 65,535 questions,
     /// and `Memory` where a request for memory was refused. The message is then as it was.
+    ///
+    /// # Examples
+    ///
+    /// ```
+    /// // crates/octseq_dns_tests/src/tests/dns_writing.rt
+    /// let mut questions = MessageBuilder::from_builder(octets, table)?.question();
+    /// for text in names {
+    ///     let name = Name::from_text(text)?;
+    ///     questions.push_question(&name.parsed(), Rtype::A, Class::IN)?;
+    /// }
+    /// Ok(questions.answer().authority().additional().finish())
+    /// ```
     pub fn push_question<R: AsOctets + Copy>(
         &mut self,
         qname: &ParsedName<R>,
@@ -49,7 +61,8 @@ impl<B: OctetsBuilder + Truncate + AsOctetsMut, T: Compressor> QuestionBuilder<B
         self.push_question_counted(qname, qtype, qclass, &mut Turns::new())
     }
 
-    /// Pushes a question as [`push_question`](Self::push_question), and counts the turns that this takes: 17 at most for
+    /// Pushes a question as [`push_question`](Self::push_question), and counts the turns that this takes: 17 at most
+    /// for
     /// each label of its name, whatever names came before it.
     ///
     /// # Errors

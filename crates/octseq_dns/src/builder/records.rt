@@ -32,6 +32,16 @@ impl<B: OctetsBuilder + Truncate + AsOctetsMut, T: Compressor, S: RecordSection>
     ///
     /// `Short` where the message would pass the limit of the builder's type or 65,535 octets, or its section has 65,535
     /// records, and `Memory` where a request for memory was refused. The message is then as it was.
+    ///
+    /// # Examples
+    ///
+    /// ```
+    /// // crates/octseq_dns_tests/src/tests/dns_round_trips.rt
+    /// let (class, ttl) = (entry.class(), entry.ttl());
+    /// let message = MessageBuilder::from_builder(builder, ArrayVec::<Target, 8>::new())?;
+    /// let mut answers = message.question().answer();
+    /// answers.push_record(&owner, class, ttl, &data)?;
+    /// ```
     pub fn push_record<R: AsOctets + Copy, D: ComposeRecordData>(
         &mut self,
         owner: &ParsedName<R>,

@@ -6,7 +6,12 @@ use crate::table::{Compressor, TARGETS_MAX, Target};
 use arrayvec::ArrayVec;
 use std::alloc::AllocError;
 
-/// A table of at most `N` targets, in an array. Where `N` is 0 names are written plain.
+/// A table of at most `N` targets, in an array.
+pub type StaticCompressor<const N: usize> = ArrayVec<Target, N>;
+
+/// A table of no target: names are written plain.
+pub type Uncompressed = ArrayVec<Target, 0>;
+
 impl<const N: usize> Compressor for ArrayVec<Target, N> {
     ghost held = { λ v. v.items };
 

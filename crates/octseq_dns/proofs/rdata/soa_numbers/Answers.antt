@@ -1,4 +1,4 @@
-use Rattle.std.proofs.Common.{◌≡◌, ◌∷◌, [], ◌∙◌, get_or}
+use Rattle.std.proofs.Common.{◌∷◌, [], ◌∙◌, get_or}
 use Rattle.octseq.specs.Integer.{octets_be}
 use Rattle.octseq.proofs.Written.{made_be_4}
 use Rattle.octseq_dns.proofs.rdata.soa_numbers.Goals as goal

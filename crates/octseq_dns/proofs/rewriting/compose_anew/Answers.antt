@@ -1,14 +1,14 @@
-use Rattle.std.proofs.Common.{◌≡◌, ◌+◌, ◌*◌, ◌≤◌, List, [], length, map, refl, sym, ap, ◌∙◌, subst, arith}
+use Rattle.std.proofs.Common.{[], length, map, refl, sym, ap, ◌∙◌, subst, arith}
 use Rattle.std.specs.List.{AllZip}
 use Rattle.octseq.specs.Limit.{IsPast}
 use Rattle.octseq_dns_compress.specs.Composed.{message_limit}
 use Rattle.octseq_dns_message.specs.Parsed.{questions_of}
-use Rattle.octseq_dns_message.specs.Walk.{questions_left, records_left}
+use Rattle.octseq_dns_message.specs.Walk.{questions_left}
 use Rattle.octseq_dns.specs.Blank.{blank_message}
 use Rattle.octseq_dns.specs.Contents.{octets_of}
 use Rattle.octseq_dns.specs.ReadBack.{bare}
 use Rattle.octseq_dns.specs.Rewritten.{IsRecordOf}
-use Rattle.octseq_dns.specs.Writes.{Writes, all_more, more_questions, more_answers, more_authorities, more_additionals}
+use Rattle.octseq_dns.specs.Writes.{Writes, all_more, more_questions, more_answers, more_authorities}
 use Rattle.octseq_dns.proofs.Stages.{of_sections, all_questions, all_answers, all_authorities, all_additionals}
 use Rattle.octseq_dns.proofs.Stages.{past_authorized, past_answered, past_asked, past_twelve, past_message}
 use Rattle.octseq_dns.proofs.Stages.{stage_next, zip_questions}
@@ -41,7 +41,8 @@ returns-in-Err-push_questions-clause-short g c short m is =
     (ap (λ h. of_sections h [] [] [] []) (c.header.ensures ∙ sym is.header_is)) c.question.ensures in
     let zq = zip_questions (questions_left c.questions.result) (questions_of c.args.message.now) m.questions
     c.questions.ensures is.questions_are in
-    past_asked limit most m (subst (λ n. IsPast limit (length (octets_of most n))) (all_questions m.header [] m.questions [] [] [])
+    past_asked limit most m (subst (λ n. IsPast limit (length (octets_of most n))) (all_questions m.header []
+    m.questions [] [] [])
     (c.in-Err-push_questions.ensures.short short (of_sections m.header [] [] [] []) m.questions w0 zq))
 
 pub returns-in-Err-push_questions-clause-turns : goal.returns-in-Err-push_questions-clause-turns
@@ -89,7 +90,8 @@ push_records-requires-2-clause-room g c =
     (all_questions c.header.result [] asks [] [] []) c.answer.ensures in
     let za = c.in-Ok-push_records.ensures.exists.1 in
     let w2 = stage_next most c.in-Ok-push_records.answered c.authority.result
-    (all_more more_answers (of_sections c.header.result asks [] [] []) answers) (of_sections c.header.result asks answers [] [])
+    (all_more more_answers (of_sections c.header.result asks [] [] []) answers) (of_sections c.header.result asks
+    answers [] [])
     (c.in-Ok-push_records.ensures.written (of_sections c.header.result asks [] [] []) answers w1 za)
     (all_answers c.header.result asks [] answers [] []) c.authority.ensures in
     let counts = ap (λ k. k.nscount) w2.counts_are in
@@ -114,12 +116,14 @@ push_records-requires-3-clause-room g c =
     (all_questions c.header.result [] asks [] [] []) c.answer.ensures in
     let za = c.in-Ok-push_records.ensures.exists.1 in
     let w2 = stage_next most c.in-Ok-push_records.answered c.authority.result
-    (all_more more_answers (of_sections c.header.result asks [] [] []) answers) (of_sections c.header.result asks answers [] [])
+    (all_more more_answers (of_sections c.header.result asks [] [] []) answers) (of_sections c.header.result asks
+    answers [] [])
     (c.in-Ok-push_records.ensures.written (of_sections c.header.result asks [] [] []) answers w1 za)
     (all_answers c.header.result asks [] answers [] []) c.authority.ensures in
     let zn = c.in-Ok-push_records-2.ensures.exists.1 in
     let w3 = stage_next most c.in-Ok-push_records-2.authorized c.additional.result
-    (all_more more_authorities (of_sections c.header.result asks answers [] []) authorities) (of_sections c.header.result asks answers authorities [])
+    (all_more more_authorities (of_sections c.header.result asks answers [] []) authorities) (of_sections
+    c.header.result asks answers authorities [])
     (c.in-Ok-push_records-2.ensures.written (of_sections c.header.result asks answers [] []) authorities w2 zn)
     (all_authorities c.header.result asks answers [] authorities []) c.additional.ensures in
     let counts = ap (λ k. k.arcount) w3.counts_are in
@@ -141,7 +145,8 @@ returns-in-Err-push_records-clause-short g c short m is =
     (c.in-Ok-push_questions.ensures.written (of_sections m.header [] [] [] []) m.questions w0 zq)
     (all_questions m.header [] m.questions [] [] []) c.answer.ensures in
     let za = subst (λ left. AllZip IsRecordOf left m.answers) (sym c.answers.ensures) is.answers_are in
-    past_answered limit most m (subst (λ n. IsPast limit (length (octets_of most n))) (all_answers m.header m.questions [] m.answers [] [])
+    past_answered limit most m (subst (λ n. IsPast limit (length (octets_of most n))) (all_answers m.header
+    m.questions [] m.answers [] [])
     (c.in-Err-push_records.ensures.short short (of_sections m.header m.questions [] [] []) m.answers w1 za))
 
 pub returns-in-Err-push_records-clause-turns : goal.returns-in-Err-push_records-clause-turns
@@ -176,12 +181,15 @@ returns-in-Err-push_records-2-clause-short g c short m is =
     (all_questions m.header [] m.questions [] [] []) c.answer.ensures in
     let za = subst (λ left. AllZip IsRecordOf left m.answers) (sym c.answers.ensures) is.answers_are in
     let w2 = stage_next most c.in-Ok-push_records.answered c.authority.result
-    (all_more more_answers (of_sections m.header m.questions [] [] []) m.answers) (of_sections m.header m.questions m.answers [] [])
+    (all_more more_answers (of_sections m.header m.questions [] [] []) m.answers) (of_sections m.header m.questions
+    m.answers [] [])
     (c.in-Ok-push_records.ensures.written (of_sections m.header m.questions [] [] []) m.answers w1 za)
     (all_answers m.header m.questions [] m.answers [] []) c.authority.ensures in
     let zn = subst (λ left. AllZip IsRecordOf left m.authorities) (sym c.authorities.ensures) is.authorities_are in
-    past_authorized limit most m (subst (λ n. IsPast limit (length (octets_of most n))) (all_authorities m.header m.questions m.answers [] m.authorities [])
-    (c.in-Err-push_records-2.ensures.short short (of_sections m.header m.questions m.answers [] []) m.authorities w2 zn))
+    past_authorized limit most m (subst (λ n. IsPast limit (length (octets_of most n))) (all_authorities m.header
+    m.questions m.answers [] m.authorities [])
+    (c.in-Err-push_records-2.ensures.short short (of_sections m.header m.questions m.answers [] []) m.authorities w2
+    zn))
 
 pub returns-in-Err-push_records-2-clause-turns : goal.returns-in-Err-push_records-2-clause-turns
 returns-in-Err-push_records-2-clause-turns g c m is =
@@ -197,13 +205,15 @@ returns-in-Err-push_records-2-clause-turns g c m is =
     (all_questions m.header [] m.questions [] [] []) c.answer.ensures in
     let za = subst (λ left. AllZip IsRecordOf left m.answers) (sym c.answers.ensures) is.answers_are in
     let w2 = stage_next most c.in-Ok-push_records.answered c.authority.result
-    (all_more more_answers (of_sections m.header m.questions [] [] []) m.answers) (of_sections m.header m.questions m.answers [] [])
+    (all_more more_answers (of_sections m.header m.questions [] [] []) m.answers) (of_sections m.header m.questions
+    m.answers [] [])
     (c.in-Ok-push_records.ensures.written (of_sections m.header m.questions [] [] []) m.answers w1 za)
     (all_answers m.header m.questions [] m.answers [] []) c.authority.ensures in
     let zn = subst (λ left. AllZip IsRecordOf left m.authorities) (sym c.authorities.ensures) is.authorities_are in
     let first = c.in-Ok-push_questions.ensures.turns (of_sections m.header [] [] [] []) m.questions w0 zq in
     let second = c.in-Ok-push_records.ensures.turns (of_sections m.header m.questions [] [] []) m.answers w1 za in
-    let last = c.in-Err-push_records-2.ensures.turns (of_sections m.header m.questions m.answers [] []) m.authorities w2 zn in
+    let last = c.in-Err-push_records-2.ensures.turns (of_sections m.header m.questions m.answers [] []) m.authorities
+    w2 zn in
     omega (arith, first, second, last)
 
 pub returns-in-Err-push_records-3-clause-short : goal.returns-in-Err-push_records-3-clause-short
@@ -221,17 +231,21 @@ returns-in-Err-push_records-3-clause-short g c short m is =
     (all_questions m.header [] m.questions [] [] []) c.answer.ensures in
     let za = subst (λ left. AllZip IsRecordOf left m.answers) (sym c.answers.ensures) is.answers_are in
     let w2 = stage_next most c.in-Ok-push_records.answered c.authority.result
-    (all_more more_answers (of_sections m.header m.questions [] [] []) m.answers) (of_sections m.header m.questions m.answers [] [])
+    (all_more more_answers (of_sections m.header m.questions [] [] []) m.answers) (of_sections m.header m.questions
+    m.answers [] [])
     (c.in-Ok-push_records.ensures.written (of_sections m.header m.questions [] [] []) m.answers w1 za)
     (all_answers m.header m.questions [] m.answers [] []) c.authority.ensures in
     let zn = subst (λ left. AllZip IsRecordOf left m.authorities) (sym c.authorities.ensures) is.authorities_are in
     let w3 = stage_next most c.in-Ok-push_records-2.authorized c.additional.result
-    (all_more more_authorities (of_sections m.header m.questions m.answers [] []) m.authorities) (of_sections m.header m.questions m.answers m.authorities [])
+    (all_more more_authorities (of_sections m.header m.questions m.answers [] []) m.authorities) (of_sections m.header
+    m.questions m.answers m.authorities [])
     (c.in-Ok-push_records-2.ensures.written (of_sections m.header m.questions m.answers [] []) m.authorities w2 zn)
     (all_authorities m.header m.questions m.answers [] m.authorities []) c.additional.ensures in
     let zd = subst (λ left. AllZip IsRecordOf left m.additionals) (sym c.additionals.ensures) is.additionals_are in
-    (subst (λ n. IsPast limit (length (octets_of most n))) (all_additionals m.header m.questions m.answers m.authorities [] m.additionals)
-    (c.in-Err-push_records-3.ensures.short short (of_sections m.header m.questions m.answers m.authorities []) m.additionals w3 zd))
+    (subst (λ n. IsPast limit (length (octets_of most n))) (all_additionals m.header m.questions m.answers
+    m.authorities [] m.additionals)
+    (c.in-Err-push_records-3.ensures.short short (of_sections m.header m.questions m.answers m.authorities [])
+    m.additionals w3 zd))
 
 pub returns-in-Err-push_records-3-clause-turns : goal.returns-in-Err-push_records-3-clause-turns
 returns-in-Err-push_records-3-clause-turns g c m is =
@@ -247,12 +261,14 @@ returns-in-Err-push_records-3-clause-turns g c m is =
     (all_questions m.header [] m.questions [] [] []) c.answer.ensures in
     let za = subst (λ left. AllZip IsRecordOf left m.answers) (sym c.answers.ensures) is.answers_are in
     let w2 = stage_next most c.in-Ok-push_records.answered c.authority.result
-    (all_more more_answers (of_sections m.header m.questions [] [] []) m.answers) (of_sections m.header m.questions m.answers [] [])
+    (all_more more_answers (of_sections m.header m.questions [] [] []) m.answers) (of_sections m.header m.questions
+    m.answers [] [])
     (c.in-Ok-push_records.ensures.written (of_sections m.header m.questions [] [] []) m.answers w1 za)
     (all_answers m.header m.questions [] m.answers [] []) c.authority.ensures in
     let zn = subst (λ left. AllZip IsRecordOf left m.authorities) (sym c.authorities.ensures) is.authorities_are in
     let w3 = stage_next most c.in-Ok-push_records-2.authorized c.additional.result
-    (all_more more_authorities (of_sections m.header m.questions m.answers [] []) m.authorities) (of_sections m.header m.questions m.answers m.authorities [])
+    (all_more more_authorities (of_sections m.header m.questions m.answers [] []) m.authorities) (of_sections m.header
+    m.questions m.answers m.authorities [])
     (c.in-Ok-push_records-2.ensures.written (of_sections m.header m.questions m.answers [] []) m.authorities w2 zn)
     (all_authorities m.header m.questions m.answers [] m.authorities []) c.additional.ensures in
     let zd = subst (λ left. AllZip IsRecordOf left m.additionals) (sym c.additionals.ensures) is.additionals_are in
@@ -260,7 +276,8 @@ returns-in-Err-push_records-3-clause-turns g c m is =
     let second = c.in-Ok-push_records.ensures.turns (of_sections m.header m.questions [] [] []) m.answers w1 za in
     let third = c.in-Ok-push_records-2.ensures.turns (of_sections m.header m.questions m.answers [] []) m.authorities
     w2 zn in
-    let last = c.in-Err-push_records-3.ensures.turns (of_sections m.header m.questions m.answers m.authorities []) m.additionals w3 zd in
+    let last = c.in-Err-push_records-3.ensures.turns (of_sections m.header m.questions m.answers m.authorities [])
+    m.additionals w3 zd in
     omega (arith, first, second, third, last)
 
 pub returns-clause-written : goal.returns-clause-written
@@ -277,18 +294,21 @@ returns-clause-written g c m is =
     (all_questions m.header [] m.questions [] [] []) c.answer.ensures in
     let za = subst (λ left. AllZip IsRecordOf left m.answers) (sym c.answers.ensures) is.answers_are in
     let w2 = stage_next most c.in-Ok-push_records.answered c.authority.result
-    (all_more more_answers (of_sections m.header m.questions [] [] []) m.answers) (of_sections m.header m.questions m.answers [] [])
+    (all_more more_answers (of_sections m.header m.questions [] [] []) m.answers) (of_sections m.header m.questions
+    m.answers [] [])
     (c.in-Ok-push_records.ensures.written (of_sections m.header m.questions [] [] []) m.answers w1 za)
     (all_answers m.header m.questions [] m.answers [] []) c.authority.ensures in
     let zn = subst (λ left. AllZip IsRecordOf left m.authorities) (sym c.authorities.ensures) is.authorities_are in
     let w3 = stage_next most c.in-Ok-push_records-2.authorized c.additional.result
-    (all_more more_authorities (of_sections m.header m.questions m.answers [] []) m.authorities) (of_sections m.header m.questions m.answers m.authorities [])
+    (all_more more_authorities (of_sections m.header m.questions m.answers [] []) m.authorities) (of_sections m.header
+    m.questions m.answers m.authorities [])
     (c.in-Ok-push_records-2.ensures.written (of_sections m.header m.questions m.answers [] []) m.authorities w2 zn)
     (all_authorities m.header m.questions m.answers [] m.authorities []) c.additional.ensures in
     let zd = subst (λ left. AllZip IsRecordOf left m.additionals) (sym c.additionals.ensures) is.additionals_are in
     subst (λ n. Writes most n c.in-Ok-push_records-3.added.state c.in-Ok-push_records-3.added.header
     c.in-Ok-push_records-3.added.counts) (all_additionals m.header m.questions m.answers m.authorities [] m.additionals)
-    (c.in-Ok-push_records-3.ensures.written (of_sections m.header m.questions m.answers m.authorities []) m.additionals w3 zd)
+    (c.in-Ok-push_records-3.ensures.written (of_sections m.header m.questions m.answers m.authorities [])
+    m.additionals w3 zd)
 
 pub returns-clause-contents : goal.returns-clause-contents
 returns-clause-contents g c = (
@@ -320,12 +340,14 @@ returns-clause-turns g c m is =
     (all_questions m.header [] m.questions [] [] []) c.answer.ensures in
     let za = subst (λ left. AllZip IsRecordOf left m.answers) (sym c.answers.ensures) is.answers_are in
     let w2 = stage_next most c.in-Ok-push_records.answered c.authority.result
-    (all_more more_answers (of_sections m.header m.questions [] [] []) m.answers) (of_sections m.header m.questions m.answers [] [])
+    (all_more more_answers (of_sections m.header m.questions [] [] []) m.answers) (of_sections m.header m.questions
+    m.answers [] [])
     (c.in-Ok-push_records.ensures.written (of_sections m.header m.questions [] [] []) m.answers w1 za)
     (all_answers m.header m.questions [] m.answers [] []) c.authority.ensures in
     let zn = subst (λ left. AllZip IsRecordOf left m.authorities) (sym c.authorities.ensures) is.authorities_are in
     let w3 = stage_next most c.in-Ok-push_records-2.authorized c.additional.result
-    (all_more more_authorities (of_sections m.header m.questions m.answers [] []) m.authorities) (of_sections m.header m.questions m.answers m.authorities [])
+    (all_more more_authorities (of_sections m.header m.questions m.answers [] []) m.authorities) (of_sections m.header
+    m.questions m.answers m.authorities [])
     (c.in-Ok-push_records-2.ensures.written (of_sections m.header m.questions m.answers [] []) m.authorities w2 zn)
     (all_authorities m.header m.questions m.answers [] m.authorities []) c.additional.ensures in
     let zd = subst (λ left. AllZip IsRecordOf left m.additionals) (sym c.additionals.ensures) is.additionals_are in

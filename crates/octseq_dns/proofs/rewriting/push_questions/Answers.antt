@@ -1,16 +1,16 @@
-use Rattle.std.proofs.Common.{◌≡◌, ◌+◌, ◌≤◌, ◌<◌, ℕ, List, [], ◌∷◌, length, refl, sym, ap, ◌∙◌, subst, arith, inl, inr, rules}
+use Rattle.std.proofs.Common.{◌≡◌, ◌+◌, ◌≤◌, ℕ, length, refl, sym, ap, ◌∙◌, subst, arith, inl}
+use Rattle.std.proofs.Common.{inr}
 use Rattle.std.specs.List.{AllZip}
-use Rattle.octseq.specs.Limit.{IsPast}
 use Rattle.octseq_dns_compress.specs.Composed.{message_limit}
 use Rattle.octseq_dns_message.specs.Said.{question_of}
 use Rattle.octseq_dns_message.specs.Walk.{questions_left}
 use Rattle.octseq_dns_name.specs.Name.{Name}
-use Rattle.octseq_dns.specs.Contents.{Question, octets_of}
+use Rattle.octseq_dns.specs.Contents.{Question}
 use Rattle.octseq_dns.specs.Labels.{question_labels}
 use Rattle.octseq_dns.specs.Pushed.{asked}
 use Rattle.octseq_dns.specs.Rewritten.{IsQuestionOf}
 use Rattle.octseq_dns.specs.Sections.{takes_questions}
-use Rattle.octseq_dns.specs.Writes.{all_more, more_questions}
+use Rattle.octseq_dns.specs.Writes.{more_questions}
 use Rattle.octseq_dns.proofs.Anew.{Ahead, ahead_first, ahead_next, ahead_none, ahead_past, ahead_turns}
 use Rattle.octseq_dns.proofs.rewriting.push_questions.Goals as goal
 

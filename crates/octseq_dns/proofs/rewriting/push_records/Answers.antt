@@ -1,4 +1,5 @@
-use Rattle.std.proofs.Common.{◌≡◌, ◌+◌, ◌≤◌, ◌<◌, ℕ, List, [], ◌∷◌, length, refl, sym, ap, ◌∙◌, subst, arith, inl, inr, rules}
+use Rattle.std.proofs.Common.{◌≡◌, ◌+◌, ◌≤◌, ℕ, [], ◌∷◌, length, refl, sym, ap, ◌∙◌, subst, arith, inl}
+use Rattle.std.proofs.Common.{inr}
 use Rattle.std.specs.List.{AllZip}
 use Rattle.octseq_dns_compress.specs.Composed.{message_limit}
 use Rattle.octseq_dns_message.specs.Data.{ParsedRdata, IsDataOf}
@@ -13,7 +14,6 @@ use Rattle.octseq_dns.specs.Labels.{record_labels}
 use Rattle.octseq_dns.specs.Pushed.{told}
 use Rattle.octseq_dns.specs.Rdata.{bare_rdata, rdata_fields, rtype_of}
 use Rattle.octseq_dns.specs.Rewritten.{IsRecordOf, record_of_parsed}
-use Rattle.octseq_dns.specs.Writes.{all_more}
 use Rattle.octseq_dns.proofs.Anew.{Ahead, ahead_first, ahead_next, ahead_none, ahead_past, ahead_turns}
 use Rattle.octseq_dns.proofs.RdataRead.{bare_rtype}
 use Rattle.octseq_dns.proofs.rewriting.push_records.Goals as goal
@@ -102,7 +102,8 @@ returns-in-Err-clause-short g c = λ short m written is are.
     let parsed = rdata_of c.data-data.result in
     let one = told c.owner.result (rtype_of (bare_rdata parsed)) c.class-class.result c.ttl-ttl.result
     (rdata_fields (bare_rdata parsed)) in
-    let ahead = subst (λ q. Ahead IsRecordOf record_labels g.S.RecordSection.more g.T.Compressor.most m written q now.state
+    let ahead = subst (λ q. Ahead IsRecordOf record_labels g.S.RecordSection.more g.T.Compressor.most m written q
+    now.state
     now.header now.counts c.loop-entry.turns c.args.turns.now) steps (so_far.ahead m written is are) in
     let limit = message_limit g.B.AsOctets.limit in
     elim (c.in-Err.ensures.pushed.short short) [
@@ -125,7 +126,8 @@ returns-in-Err-clause-turns g c m written is are =
     let parsed = rdata_of c.data-data.result in
     let one = told c.owner.result (rtype_of (bare_rdata parsed)) c.class-class.result c.ttl-ttl.result
     (rdata_fields (bare_rdata parsed)) in
-    let ahead = subst (λ q. Ahead IsRecordOf record_labels g.S.RecordSection.more g.T.Compressor.most m written q now.state
+    let ahead = subst (λ q. Ahead IsRecordOf record_labels g.S.RecordSection.more g.T.Compressor.most m written q
+    now.state
     now.header now.counts c.loop-entry.turns c.args.turns.now) c.in-Some.ensures.steps
     (c.loop-entry.invariant.ahead m written is are) in
     ahead_turns g.T.Compressor.most m written i left now.state now.header now.counts c.loop-entry.turns
@@ -137,7 +139,8 @@ pub returns-clause-written : goal.returns-clause-written
 returns-clause-written g c m written is are =
     let now = c.loop-entry.message in
     (ahead_none g.T.Compressor.most m written now.state now.header now.counts c.loop-entry.turns c.args.turns.now
-    (subst (λ q. Ahead IsRecordOf record_labels g.S.RecordSection.more g.T.Compressor.most m written q now.state now.header
+    (subst (λ q. Ahead IsRecordOf record_labels g.S.RecordSection.more g.T.Compressor.most m written q now.state
+    now.header
     now.counts c.loop-entry.turns c.args.turns.now) c.in-None.ensures.steps.0
     (c.loop-entry.invariant.ahead m written is are))).0
 
@@ -145,7 +148,8 @@ pub returns-clause-turns : goal.returns-clause-turns
 returns-clause-turns g c m written is are =
     let now = c.loop-entry.message in
     (ahead_none g.T.Compressor.most m written now.state now.header now.counts c.loop-entry.turns c.args.turns.now
-    (subst (λ q. Ahead IsRecordOf record_labels g.S.RecordSection.more g.T.Compressor.most m written q now.state now.header
+    (subst (λ q. Ahead IsRecordOf record_labels g.S.RecordSection.more g.T.Compressor.most m written q now.state
+    now.header
     now.counts c.loop-entry.turns c.args.turns.now) c.in-None.ensures.steps.0
     (c.loop-entry.invariant.ahead m written is are))).1
 

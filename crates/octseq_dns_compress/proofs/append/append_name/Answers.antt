@@ -1,12 +1,13 @@
-use Rattle.std.proofs.Common.{◌≡◌, ◌+◌, ◌++◌, take, ap, ◌∙◌, sym, subst, length, length-append, arith}
+use Rattle.std.proofs.Common.{◌≡◌, ◌++◌, take, ap, ◌∙◌, sym, subst, length, arith}
 use Rattle.octseq_dns_name.specs.Read.{labels_of}
 use Rattle.octseq_dns_compress.specs.Composed.{message_limit, before}
 use Rattle.octseq_dns_compress.specs.Key.{AreTargets}
 use Rattle.octseq_dns_compress.specs.Ended.{ended}
 use Rattle.octseq_dns_compress.specs.Names.{name_octets, names_with, unrooted}
 use Rattle.octseq_dns_compress.specs.PlainNames.{plain_labels}
-use Rattle.octseq_dns_compress.proofs.Steps.{appended_grows, grown_length}
-use Rattle.octseq_dns_compress.proofs.Composing.{known_targets, octets_known, octets_back, held_back, known_more, names_more}
+use Rattle.octseq_dns_compress.proofs.Steps.{appended_grows}
+use Rattle.octseq_dns_compress.proofs.Composing.{known_targets, octets_known, octets_back, held_back, known_more}
+use Rattle.octseq_dns_compress.proofs.Composing.{names_more}
 use Rattle.octseq_dns_compress.proofs.Composing.{ending_of, name_refused, name_appended, name_taken_back}
 use Rattle.octseq_dns_compress.proofs.Marked.{before_all, before_fewer}
 use Rattle.octseq_dns_compress.proofs.append.append_name.Goals as goal

@@ -1,8 +1,8 @@
-use Rattle.std.proofs.Common.{◌≡◌, ◌+◌, ◌-◌, ◌∷◌, [], ◌++◌, take, drop, ap, ◌∙◌, sym, subst, refl, length, length-append, arith}
-use Rattle.octseq.specs.Integer.{octets_be}
+use Rattle.std.proofs.Common.{◌+◌, ◌∷◌, [], ap, ◌∙◌, sym, subst, length}
+use Rattle.std.proofs.Common.{length-append}
 use Rattle.octseq.specs.Limit.{IsPast, IsWithin}
 use Rattle.octseq_dns_compress.specs.Composed.{message_limit}
-use Rattle.octseq_dns_compress.specs.State.{with_counted, with_fields, with_octets}
+use Rattle.octseq_dns_compress.specs.State.{with_counted, with_fields}
 use Rattle.octseq_dns_compress.proofs.Fields.{count_is_put, counted_length, counted_longer, past_longer}
 use Rattle.octseq_dns.proofs.builder.entry.append_data.Goals as goal
 

@@ -1,4 +1,4 @@
-use Rattle.std.proofs.Common.{◌≡◌, take, ap, ◌∙◌, sym, subst, refl, length, arith}
+use Rattle.std.proofs.Common.{take, ap, ◌∙◌, refl, length, arith}
 use Rattle.octseq_dns_name.specs.Read.{labels_of}
 use Rattle.octseq_dns_compress.specs.Composed.{message_limit, before}
 use Rattle.octseq_dns_compress.specs.Known.{known_once}

@@ -1,4 +1,4 @@
-use Rattle.std.proofs.Common.{◌≡◌, take, ap, ◌∙◌, sym, subst, refl, length, arith}
+use Rattle.std.proofs.Common.{take, ap, ◌∙◌, subst, refl, arith}
 use Rattle.octseq.specs.Appends.{Appends}
 use Rattle.octseq_dns_compress.specs.Composed.{message_limit, before}
 use Rattle.octseq_dns_compress.proofs.Composes.{begun_stays, composes_slice, slice_kept}

@@ -1,4 +1,4 @@
-use Rattle.std.proofs.Common.{◌≡◌, ◌∷◌, [], ◌++◌, take, ap, ◌∙◌, sym, subst, refl, length, length-append, arith}
+use Rattle.std.proofs.Common.{◌∷◌, [], take, ap, ◌∙◌, refl, length, length-append, arith}
 use Rattle.octseq_dns_compress.specs.Composed.{before}
 use Rattle.octseq_dns_compress.specs.State.{with_octets}
 use Rattle.octseq_dns_compress.proofs.Composes.{begun_stays}

@@ -1,4 +1,4 @@
-use Rattle.std.proofs.Common.{◌≡◌, take, ap, ◌∙◌, sym, subst, refl, length, arith}
+use Rattle.std.proofs.Common.{take, ap, ◌∙◌, refl, length, arith}
 use Rattle.std.proofs.lemmas.List.{take_all}
 use Rattle.octseq_dns_compress.specs.Composed.{before}
 use Rattle.octseq_dns_compress.proofs.Composing.{known_targets}
@@ -45,6 +45,7 @@ returns-clause-begun g c =
     let end = c.len-self-inside.ensures.content in
     let all = ap (λ n. take n octets) end ∙ take_all (length octets) octets (omega arith) in
     let each = ap (λ n. before n held) end ∙ before_all octets held (known_targets octets held in'.known) in
-    one_state all (same_names octets (take c.len-self-inside.result octets) held (before c.len-self-inside.result held) all each in'.known
+    one_state all (same_names octets (take c.len-self-inside.result octets) held (before c.len-self-inside.result
+    held) all each in'.known
     c.self-1.given.1.0)
     ∙ ap (λ v. v.state) c.self.view_is

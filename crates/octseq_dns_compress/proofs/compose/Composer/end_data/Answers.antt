@@ -1,4 +1,4 @@
-use Rattle.std.proofs.Common.{◌≡◌, ◌+◌, ◌-◌, ◌≤◌, ◌++◌, take, drop, ap, ◌∙◌, sym, subst, refl, length, arith}
+use Rattle.std.proofs.Common.{◌≡◌, ◌+◌, ◌-◌, ◌≤◌, ◌++◌, take, drop, ap, ◌∙◌, refl, length, arith}
 use Rattle.std.proofs.lemmas.List.{length-take}
 use Rattle.octseq.specs.Integer.{octets_be}
 use Rattle.octseq.proofs.Written.{made_be_2}

@@ -1,7 +1,5 @@
 use Rattle.std.specs.Prelude.{replicate}
-use Rattle.std.specs.FinMap.{empty}
-use Rattle.std.proofs.Common.{◌≡◌, ◌++◌, List, [], ap, ◌∙◌, refl, length, take, arith}
-use Rattle.std.proofs.lemmas.List.{take_all}
+use Rattle.std.proofs.Common.{◌++◌, ap, ◌∙◌, length, take, arith}
 use Rattle.octseq_dns_compress.specs.Composed.{before}
 use Rattle.octseq_dns_compress.specs.Known.{known_once}
 use Rattle.octseq_dns_compress.proofs.Composing.{none_known, none_first}

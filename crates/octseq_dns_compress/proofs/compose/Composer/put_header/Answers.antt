@@ -1,4 +1,4 @@
-use Rattle.std.proofs.Common.{◌≡◌, ◌+◌, ◌≤◌, ◌++◌, take, drop, ap, ◌∙◌, sym, refl, length, arith}
+use Rattle.std.proofs.Common.{◌≡◌, ◌+◌, ◌≤◌, ◌++◌, take, drop, ap, ◌∙◌, length, arith}
 use Rattle.std.proofs.lemmas.List.{length-take}
 use Rattle.octseq_dns_compress.specs.Composed.{before}
 use Rattle.octseq_dns_compress.specs.State.{with_header}
@@ -80,7 +80,11 @@ returns-clause-begun g c =
     let within = in'.within in
     let twelve : length put ≡ 12 = omega arith in
     let first = take start octets in
-    let begun_is = ap (take start) c.write_over.ensures.content ∙ take_headed octets put start (omega (arith, late, twelve)) in
+    let begun_is = ap (take start) c.write_over.ensures.content ∙ take_headed octets put start (omega (
+      arith,
+      late,
+      twelve,
+    )) in
     let first_long = length-take start octets in
     let begun_room : 0 + length put ≤ length first = omega (arith, late, within, first_long) in
     let begun_clear = header_clear first put (before start held) twelve in'.begun in

@@ -1,4 +1,4 @@
-use Rattle.std.proofs.Common.{◌≡◌, take, ap, ◌∙◌, sym, subst, refl, length, arith}
+use Rattle.std.proofs.Common.{take, ap, ◌∙◌, length, arith}
 use Rattle.std.proofs.lemmas.List.{take-take, length-take}
 use Rattle.octseq_dns_compress.specs.Composed.{before}
 use Rattle.octseq_dns_compress.proofs.Fields.{one_state}

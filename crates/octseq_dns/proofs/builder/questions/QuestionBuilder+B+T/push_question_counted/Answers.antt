@@ -49,6 +49,10 @@ returns-clause-within g c =
     let in' = c.self.inside in
     let one = asked c.args.qname.now c.args.qtype c.args.qclass in
     pushed_within (message_limit g.B.AsOctets.limit) g.T.Compressor.most in'.message.state
-    c.append_question.new.message.state c.put_header.new.self.state in'.header in'.counts (record in'.counts { qdcount = c.in-Some.qdcount })
-    UpToQuestions c.octets_of.result (question_entry one) c.self.invariant c.in_default-append_question.ensures.appended.within
+    c.append_question.new.message.state c.put_header.new.self.state in'.header in'.counts (record in'.counts {
+      qdcount
+          = c.in-Some.qdcount;
+    })
+    UpToQuestions c.octets_of.result (question_entry one) c.self.invariant
+    c.in_default-append_question.ensures.appended.within
     c.in_default-append_question.ensures.appended.ok c.octets_of.ensures.octets c.put_header.ensures.state
