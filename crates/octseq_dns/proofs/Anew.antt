@@ -41,7 +41,7 @@ module _ {A : Type 0} {entry : A → Entry} {FitsOne : A → Type 0} {Reaches : 
       ∙ headed_length (header_octets m.header counts) (header_length m.header counts) then (omega (arith, late, longer))
 
   -- so it has no fewer with more
-  all_longer : (m : Message) (rest : List A) → Reaches (counts_of m)
+  pub all_longer : (m : Message) (rest : List A) → Reaches (counts_of m)
       → length (octets_of most m) ≤ length (octets_of most (all_more more m rest))
   all_longer m [] reaches = omega arith
   all_longer m (one ∷ rest) reaches =

@@ -6,3 +6,4 @@ pub mod Moving
 pub mod Pushed
 pub mod RdataRead
 pub mod ReadBack
+pub mod Stages

@@ -1,10 +1,12 @@
 //! What is read of messages that were written. Each law is the contract of a function that does nothing.
-ghost use Rattle.std.specs.Prelude.{◌≡◌, ◌≤◌, ℕ, length};
+ghost use Rattle.std.specs.Prelude.{◌≡◌, ◌≤◌, ℕ, List, length};
 ghost use Rattle.octseq_dns_message.specs.Data.{ParsedRdata, IsDataOf};
-ghost use Rattle.octseq_dns_message.specs.Entry.{Record as Entry};
+ghost use Rattle.octseq_dns_message.specs.Entry.{Question as Asked, Record as Entry};
+ghost use Rattle.octseq_dns_message.specs.declared.header.Header.{Header as Fields};
 ghost use Rattle.octseq_dns.specs.Contents.{Message, Fits, octets_of};
 ghost use Rattle.octseq_dns.specs.Rdata.{Rdata, FitsRdata, IsOfType, bare_rdata, rdata_fields};
 ghost use Rattle.octseq_dns.specs.ReadBack.{HasFields, ReadsBack};
+ghost use Rattle.octseq_dns.specs.Rewritten.{IsMessageOf};
 
 /// What was written is read back: the octets are a message, with that header, those questions and those records in
 /// their order, names octet for octet.
@@ -23,4 +25,11 @@ pub fn never_longer_than_uncompressed()
 pub fn data_is_read_as_written()
     ensures { (r : Entry) (said : Rdata) → HasFields r (rdata_fields said) → FitsRdata said → IsOfType r said
         → (parsed : ParsedRdata) × (bare_rdata parsed ≡ said) × IsDataOf r parsed }
+{}
+
+/// A message that was read is written as one message alone.
+pub fn one_message_of()
+    ensures { (header : Fields) (questions : List Asked) (answers authorities additionals : List Entry)
+        (m n : Message) → IsMessageOf header questions answers authorities additionals m
+        → IsMessageOf header questions answers authorities additionals n → m ≡ n }
 {}

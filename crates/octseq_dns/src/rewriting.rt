@@ -1,5 +1,5 @@
 //! Messages that are written anew: RFC 1035, 4.1.
-ghost use Rattle.std.specs.Prelude.{◌≡◌, ◌≤◌, ◌+◌, ◌*◌, ◌⊎◌, ◌↔◌, List, length, true, Some, IfOk};
+ghost use Rattle.std.specs.Prelude.{◌≡◌, ◌≤◌, ◌+◌, ◌*◌, ◌⊎◌, ◌↔◌, List, length, true, Some, IfOk, OnOk};
 ghost use Rattle.std.specs.List.{AllZip, sum_by};
 ghost use Rattle.octseq.specs.Limit.{IsPast, IsWithin};
 ghost use Rattle.octseq.specs.Refusal.{IsShort, IsMemory, IsMalformed, append_error};
@@ -70,6 +70,9 @@ pub fn rewrite<B: OctetsBuilder + Truncate + AsOctetsMut, T: Compressor, R: AsOc
     ensures written { IfOk result (λ b. (m : Contents) → IsMessageOf (header_of message.now)
         (questions_of message.now) (answers_of message.now) (authorities_of message.now)
         (additionals_of message.now) m → Writes T.most m b.state b.header b.counts) }
+    ensures contents { IfOk result (λ _. (m : Contents) × IsMessageOf (header_of message.now)
+        (questions_of message.now) (answers_of message.now) (authorities_of message.now)
+        (additionals_of message.now) m) }
     ensures fits { IfOk result (λ b. IsWithin (message_limit B.limit) (length b.state.octets)) }
     ensures immovable { IsMalformed rewrite_error result
         ↔ ¬ CanMove (answers_of message.now) (authorities_of message.now) (additionals_of message.now) }
@@ -101,6 +104,9 @@ pub fn rewrite_counted<
     ensures written { IfOk result (λ b. (m : Contents) → IsMessageOf (header_of message.now)
         (questions_of message.now) (answers_of message.now) (authorities_of message.now)
         (additionals_of message.now) m → Writes T.most m b.state b.header b.counts) }
+    ensures contents { IfOk result (λ _. (m : Contents) × IsMessageOf (header_of message.now)
+        (questions_of message.now) (answers_of message.now) (authorities_of message.now)
+        (additionals_of message.now) m) }
     ensures fits { IfOk result (λ b. IsWithin (message_limit B.limit) (length b.state.octets)) }
     ensures immovable { IsMalformed rewrite_error result
         ↔ ¬ CanMove (answers_of message.now) (authorities_of message.now) (additionals_of message.now) }
@@ -133,6 +139,9 @@ fn compose_anew<B: OctetsBuilder + Truncate + AsOctetsMut, T: Compressor, R: AsO
     ensures written { IfOk result (λ b. (m : Contents) → IsMessageOf (header_of message.now)
         (questions_of message.now) (answers_of message.now) (authorities_of message.now)
         (additionals_of message.now) m → Writes T.most m b.state b.header b.counts) }
+    ensures contents { IfOk result (λ _. (m : Contents) × IsMessageOf (header_of message.now)
+        (questions_of message.now) (answers_of message.now) (authorities_of message.now)
+        (additionals_of message.now) m) }
     ensures fits { IfOk result (λ b. IsWithin (message_limit B.limit) (length b.state.octets)) }
     ensures short { IsShort append_error result → (m : Contents) → IsMessageOf (header_of message.now)
         (questions_of message.now) (answers_of message.now) (authorities_of message.now)
@@ -143,6 +152,7 @@ fn compose_anew<B: OctetsBuilder + Truncate + AsOctetsMut, T: Compressor, R: AsO
         (questions_of message.now) (answers_of message.now) (authorities_of message.now)
         (additionals_of message.now) m → turns.new ≤ turns.old + 17 * labels_in m }
 {
+    let _counts = message.header_counts();
     let mut begun = match MessageBuilder::from_builder(octets, table) {
         Ok(begun) => begun,
         Err(error) => return Err(error),
@@ -160,7 +170,11 @@ fn compose_anew<B: OctetsBuilder + Truncate + AsOctetsMut, T: Compressor, R: AsO
         Ok(authorized) => authorized,
         Err(error) => return Err(error),
     };
-    push_records(authorized.additional(), message.additionals(), turns)
+    let added = match push_records(authorized.additional(), message.additionals(), turns) {
+        Ok(added) => added,
+        Err(error) => return Err(error),
+    };
+    Ok(added)
 }
 
 /// Pushes the questions that a message has left.
@@ -221,6 +235,7 @@ fn push_records<
         → IsPast (message_limit B.limit) (length (octets_of T.most (all_more S.more m written))) }
     ensures memory { IsMemory append_error result → (B.asks ≡ true) ⊎ (T.asks ≡ true) }
     ensures borrows { IfOk result (λ b. B.borrows b.octets ≡ B.borrows builder.octets) }
+    ensures exists { OnOk result ((written : List Written) × AllZip IsRecordOf (records_left records) written) }
     ensures turns { (m : Contents) (written : List Written)
         → Writes T.most m builder.state builder.header builder.counts
         → AllZip IsRecordOf (records_left records) written

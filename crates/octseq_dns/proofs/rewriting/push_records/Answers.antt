@@ -44,6 +44,10 @@ loop-entry-init g c = record {
   ahead = λ m written is are. ahead_first g.T.Compressor.most m written _ _ _ _ _ is
       (subst (λ walk. AllZip IsRecordOf (records_left walk) written)
       (sym c.into_iter-entry-iterator.ensures.into_iter_gives) are);
+  exists = λ rest are. (
+    rest,
+    subst (λ walk. AllZip IsRecordOf (records_left walk) rest) c.into_iter-entry-iterator.ensures.into_iter_gives are,
+  );
   fits = c.requires.fits;
   room = subst (λ walk. g.S.RecordSection.count c.args.builder.counts + length (records_left walk) ≤ 65535)
       (sym c.into_iter-entry-iterator.ensures.into_iter_gives) c.requires.room;
@@ -73,6 +77,16 @@ loop-entry-preserved g c =
           now.header now.counts c.loop-entry.turns c.args.turns.now) steps (so_far.ahead m written is are))
           one (only_told i parsed c.owner.ensures c.class-class.ensures c.ttl-ttl.ensures c.data-data.ensures.rdata)
           new.state new.header new.counts c.push_record_counted.new.turns went.written went.turns;
+      exists = λ rest are. so_far.exists (one ∷ rest) (subst (λ q. AllZip IsRecordOf q (one ∷ rest)) (sym steps) (
+        record {
+          parsed = parsed;
+          data_is = c.data-data.ensures.rdata;
+          is = sym (only_told i parsed c.owner.ensures c.class-class.ensures c.ttl-ttl.ensures
+              c.data-data.ensures.rdata (record_of_parsed i parsed)
+              (record { parsed = parsed; data_is = c.data-data.ensures.rdata; is = refl }));
+        },
+        are,
+      ));
       fits = went.within;
       room = omega (arith, room, long, counted);
       borrows = went.borrows ∙ so_far.borrows;
@@ -134,3 +148,8 @@ returns-clause-turns g c m written is are =
     (subst (λ q. Ahead IsRecordOf record_labels g.S.RecordSection.more g.T.Compressor.most m written q now.state now.header
     now.counts c.loop-entry.turns c.args.turns.now) c.in-None.ensures.steps.0
     (c.loop-entry.invariant.ahead m written is are))).1
+
+pub returns-clause-exists : goal.returns-clause-exists
+returns-clause-exists g c =
+    c.loop-entry.invariant.exists []
+    (subst (λ q. AllZip IsRecordOf q []) (sym c.in-None.ensures.steps.0) tt)

@@ -18,6 +18,8 @@ invariant-loop-entry g l = record {
       → AllZip IsRecordOf (records_left l.fn.records) written
       → Ahead IsRecordOf record_labels g.S.RecordSection.more g.T.Compressor.most m written
       (records_left l.entry-iterator) l.message.state l.message.header l.message.counts l.turns l.fn.turns;
+  exists : (rest : List Record) → AllZip IsRecordOf (records_left l.entry-iterator) rest
+      → (written : List Record) × AllZip IsRecordOf (records_left l.fn.records) written;
   fits : IsWithin (message_limit g.B.AsOctets.limit) (length l.message.state.octets);
   room : g.S.RecordSection.count l.message.counts + length (records_left l.entry-iterator) ≤ 65535;
   borrows : g.B.AsOctets.borrows l.message.octets ≡ g.B.AsOctets.borrows l.fn.builder.octets;

@@ -1,0 +1,104 @@
+//! Times messages that are meant to be slow for a writer that compresses names, beside as many octets of real traffic,
+//! and a message of 1,600 records with different owners, written.
+#[allow(dead_code)] // its reader and its writer are what compare.rs times ours beside
+mod dns;
+
+use std::hint::black_box;
+use std::time::Instant;
+
+unsafe extern "C" {
+    fn octseq_dns_checked(stream: *const u8, len: usize) -> u64;
+    fn octseq_dns_rewritten(octets: *const u8, len: usize) -> u64;
+    fn octseq_dns_pushed(names: *const u8, len: usize) -> u64;
+}
+
+type OfOctets = unsafe extern "C" fn(*const u8, usize) -> u64;
+
+/// How many times each is timed, of which the best counts.
+const ROUNDS: usize = 7;
+
+/// How many records with different owners are written.
+const RECORDS: usize = 1600;
+
+/// How many times what as many octets of traffic take a message may take.
+const RATIO_MAX: f64 = 60.0;
+
+fn call(of: OfOctets, octets: &[u8]) -> u64 {
+    unsafe { of(octets.as_ptr(), octets.len()) }
+}
+
+/// The least seconds that a call takes, of rounds of at least a millisecond each.
+fn seconds(work: impl Fn() -> u64) -> f64 {
+    let start = Instant::now();
+    black_box(work());
+    let calls = (1e-3 / start.elapsed().as_secs_f64()).ceil().clamp(1.0, 1e4) as usize;
+    let mut least = f64::MAX;
+    for _ in 0..ROUNDS {
+        let start = Instant::now();
+        for _ in 0..calls {
+            black_box(work());
+        }
+        least = least.min(start.elapsed().as_secs_f64() / calls as f64);
+    }
+    least
+}
+
+/// A message by its name, on a line of its own: the name, a tab, and the octets in hexadecimal.
+fn message_of(line: &str) -> (&str, Vec<u8>) {
+    let (name, digits) = line.split_once('\t').expect("a line has a tab");
+    let digit = |at| u8::from_str_radix(&digits[at..at + 2], 16).expect("a message is hexadecimal");
+    (name, (0..digits.len()).step_by(2).map(digit).collect())
+}
+
+/// The messages of a stream, each after its length in two octets.
+fn messages_of(mut stream: &[u8]) -> Vec<&[u8]> {
+    let mut messages = Vec::new();
+    while let Some((len, rest)) = stream.split_first_chunk::<2>() {
+        let (message, after) = rest.split_at(u16::from_be_bytes(*len).into());
+        messages.push(message);
+        stream = after;
+    }
+    messages
+}
+
+/// The owners of the records, one after another in plain form: each of three labels, of which the first differs.
+fn owners() -> Vec<u8> {
+    let owner = |index| format!("\x06h{:05}\x07example\x03com\0", index * 7919 % 100_000).into_bytes();
+    (0..RECORDS).flat_map(owner).collect()
+}
+
+/// Tells a message: its octets, those that it has anew, and its times, beside that of an octet of traffic. Answers how
+/// many times what as many octets of traffic take it takes.
+fn tell(name: &str, message: &[u8], each: f64) -> f64 {
+    let anew = call(octseq_dns_rewritten, message);
+    assert!(anew > 0, "{name}: not written anew");
+    let mut alone = (message.len() as u16).to_be_bytes().to_vec();
+    alone.extend(message);
+    let taken = seconds(|| call(octseq_dns_rewritten, message));
+    let checked = seconds(|| call(octseq_dns_checked, &alone));
+    let ratio = taken / (each * message.len() as f64);
+    println!("| {name} | {} | {anew} | {:.2} | {:.2} | {ratio:.1} |", message.len(), taken * 1e3, checked * 1e3);
+    ratio
+}
+
+fn main() {
+    let path = std::env::args().nth(1).expect("the messages are in a file");
+    let lines = std::fs::read_to_string(path).expect("the file is text");
+    let stream = dns::stream_of(include_str!("messages.hex"));
+    let traffic = messages_of(&stream);
+    let size: usize = traffic.iter().map(|message| message.len()).sum();
+    let whole = seconds(|| traffic.iter().map(|message| call(octseq_dns_rewritten, message)).sum());
+    let each = whole / size as f64;
+    let (count, all) = (traffic.len(), whole * 1e3);
+    println!("{count} messages of traffic, {size} octets: {all:.3} ms, {:.1} ms a megabyte\n", each * 1e9);
+    println!("| message | octets | octets anew | milliseconds | of which checked | times traffic |");
+    println!("|---|---|---|---|---|---|");
+    let ratios = lines.lines().map(message_of).map(|(name, message)| tell(name, &message, each));
+    let greatest = ratios.fold(0.0, f64::max);
+    println!("\nThe slowest takes {greatest:.1} times what as many octets of traffic take; {RATIO_MAX} are meant.");
+    let owners = owners();
+    let written = call(octseq_dns_pushed, &owners);
+    assert!(written > 0, "the records are not written");
+    let taken = seconds(|| call(octseq_dns_pushed, &owners));
+    println!("{RECORDS} records with different owners, pushed, {written} octets: {:.3} ms; 1 is meant.", taken * 1e3);
+}

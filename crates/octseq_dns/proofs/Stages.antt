@@ -1,0 +1,142 @@
+-- A message section by section, and that a message that was read is written in one way.
+use Rattle.std.proofs.Common.{◌≡◌, ℕ, ◌+◌, ◌*◌, ◌≤◌, Option, Some, None, min, List, [], ◌∷◌, ◌++◌, length, map, refl, sym, ap}
+use Rattle.std.proofs.Common.{◌∙◌, subst, arith, append_assoc, append-nil}
+use Rattle.std.specs.List.{AllZip, sum_by}
+use Rattle.octseq.specs.Limit.{IsPast}
+use Rattle.octseq_dns_compress.specs.Composed.{message_limit}
+use Rattle.octseq_dns_compress.proofs.Fields.{past_longer}
+use Rattle.octseq_dns_message.specs.Entry as entry
+use Rattle.octseq_dns_message.specs.declared.header.Header.{Header}
+use Rattle.octseq_dns_message.proofs.Rdata.{one_said}
+use Rattle.octseq_dns.specs.Contents.{Question, Record, Message, octets_of}
+use Rattle.octseq_dns.specs.ReadBack.{bare}
+use Rattle.octseq_dns.specs.Rewritten.{IsMessageOf, IsQuestionOf, IsRecordOf, record_of_parsed}
+use Rattle.octseq_dns.specs.Sections.{takes_answers, takes_authorities, takes_additionals}
+use Rattle.octseq_dns.specs.Writes.{Building, Writes}
+use Rattle.octseq_dns.specs.Writes.{all_more, more_questions, more_answers, more_authorities, more_additionals}
+use Rattle.octseq_dns.proofs.Anew.{all_longer}
+use Rattle.octseq_dns.proofs.Pushed.{twelve_first}
+
+-- a message of these sections
+abbrev pub of_sections : Header → List Question → List Record → List Record → List Record → Message
+of_sections h q a n d = record { header = h; questions = q; answers = a; authorities = n; additionals = d }
+
+-- ---- all of a section is pushed
+
+pub all_questions : (h : Header) (first q : List Question) (a n d : List Record)
+    → all_more more_questions (of_sections h first a n d) q ≡ of_sections h (first ++ q) a n d
+all_questions h first [] a n d = ap (λ q. of_sections h q a n d) (sym (append-nil first))
+all_questions h first (one ∷ q) a n d =
+    all_questions h (first ++ one ∷ []) q a n d
+    ∙ ap (λ q. of_sections h q a n d) (append_assoc first (one ∷ []) q)
+
+pub all_answers : (h : Header) (q : List Question) (first a n d : List Record)
+    → all_more more_answers (of_sections h q first n d) a ≡ of_sections h q (first ++ a) n d
+all_answers h q first [] n d = ap (λ a. of_sections h q a n d) (sym (append-nil first))
+all_answers h q first (one ∷ a) n d =
+    all_answers h q (first ++ one ∷ []) a n d
+    ∙ ap (λ a. of_sections h q a n d) (append_assoc first (one ∷ []) a)
+
+pub all_authorities : (h : Header) (q : List Question) (a first n d : List Record)
+    → all_more more_authorities (of_sections h q a first d) n ≡ of_sections h q a (first ++ n) d
+all_authorities h q a first [] d = ap (λ n. of_sections h q a n d) (sym (append-nil first))
+all_authorities h q a first (one ∷ n) d =
+    all_authorities h q a (first ++ one ∷ []) n d
+    ∙ ap (λ n. of_sections h q a n d) (append_assoc first (one ∷ []) n)
+
+pub all_additionals : (h : Header) (q : List Question) (a n first d : List Record)
+    → all_more more_additionals (of_sections h q a n first) d ≡ of_sections h q a n (first ++ d)
+all_additionals h q a n first [] = ap (λ d. of_sections h q a n d) (sym (append-nil first))
+all_additionals h q a n first (one ∷ d) =
+    all_additionals h q a n (first ++ one ∷ []) d
+    ∙ ap (λ d. of_sections h q a n d) (append_assoc first (one ∷ []) d)
+
+-- ---- a message is no shorter than its first sections
+
+module _ (limit : Option ℕ) (most : ℕ) (m : Message) where
+  abbrev asked : Message
+  asked = of_sections m.header m.questions [] [] []
+
+  abbrev answered : Message
+  answered = of_sections m.header m.questions m.answers [] []
+
+  abbrev authorized : Message
+  authorized = of_sections m.header m.questions m.answers m.authorities []
+
+  pub past_authorized : IsPast limit (length (octets_of most authorized)) → IsPast limit (length (octets_of most m))
+  past_authorized past =
+      let less = all_longer most takes_additionals authorized m.additionals tt in
+      let same = ap (λ m. length (octets_of most m))
+      (all_additionals m.header m.questions m.answers m.authorities [] m.additionals) in
+      past_longer limit (length (octets_of most authorized)) (length (octets_of most m)) (omega (arith, less, same)) past
+
+  pub past_answered : IsPast limit (length (octets_of most answered)) → IsPast limit (length (octets_of most m))
+  past_answered past =
+      let less = all_longer most takes_authorities answered m.authorities refl in
+      let same = ap (λ m. length (octets_of most m))
+      (all_authorities m.header m.questions m.answers [] m.authorities []) in
+      past_authorized (past_longer limit (length (octets_of most answered)) (length (octets_of most authorized))
+      (omega (arith, less, same)) past)
+
+  pub past_asked : IsPast limit (length (octets_of most asked)) → IsPast limit (length (octets_of most m))
+  past_asked past =
+      let less = all_longer most takes_answers asked m.answers (refl, refl) in
+      let same = ap (λ m. length (octets_of most m)) (all_answers m.header m.questions [] m.answers [] []) in
+      past_answered (past_longer limit (length (octets_of most asked)) (length (octets_of most answered))
+      (omega (arith, less, same)) past)
+
+  pub past_twelve : IsPast limit 12 → IsPast limit (length (octets_of most m))
+  past_twelve past = past_longer limit 12 (length (octets_of most m)) (twelve_first most m) past
+
+-- what passes a builder's limit passes that of a message
+pub past_message : (limit : Option ℕ) (n : ℕ) → IsPast limit n → IsPast (message_limit limit) n
+past_message None n past = absurd past
+past_message (Some limit) n past = omega (arith, past)
+
+-- ---- one message is written of one that was read
+
+pub zip_bare : (questions : List entry.Question) → AllZip IsQuestionOf questions (map bare questions)
+zip_bare [] = tt
+zip_bare (q ∷ questions) = (refl, zip_bare questions)
+
+pub one_row : (records : List entry.Record) (written others : List Record) → AllZip IsRecordOf records written
+    → AllZip IsRecordOf records others → written ≡ others
+one_row [] [] [] a b = refl
+one_row [] (x ∷ written) others a b = absurd a
+one_row [] [] (y ∷ others) a b = absurd b
+one_row (r ∷ records) [] others a b = absurd a
+one_row (r ∷ records) (x ∷ written) [] a b = absurd b
+one_row (r ∷ records) (x ∷ written) (y ∷ others) a b =
+    let same : x ≡ y = a.0.is ∙ ap (record_of_parsed r) (one_said r a.0.parsed b.0.parsed a.0.data_is b.0.data_is)
+    ∙ sym b.0.is in
+    let rest = one_row records written others a.1 b.1 in
+    ap (λ x. x ∷ written) same ∙ ap (λ more. y ∷ more) rest
+
+pub one_contents : (header : Header) (questions : List entry.Question)
+    (answers authorities additionals : List entry.Record) (m n : Message)
+    → IsMessageOf header questions answers authorities additionals m
+    → IsMessageOf header questions answers authorities additionals n → m ≡ n
+one_contents header questions answers authorities additionals m n a b =
+    let headers = a.header_is ∙ sym b.header_is in
+    let asks = a.questions_are ∙ sym b.questions_are in
+    let first = one_row answers m.answers n.answers a.answers_are b.answers_are in
+    let second = one_row authorities m.authorities n.authorities a.authorities_are b.authorities_are in
+    let third = one_row additionals m.additionals n.additionals a.additionals_are b.additionals_are in
+    λ i. of_sections (headers i) (asks i) (first i) (second i) (third i)
+
+-- ---- builders
+
+-- it is this message
+abbrev pub WritesIn : {B T : Type 0} → ℕ → Message → Building B T → Type 0
+WritesIn most m b = Writes most m b.state b.header b.counts
+
+pub stage_next : {B T : Type 0} (most : ℕ) (b then : Building B T) (m other : Message) → WritesIn most m b → m ≡ other
+    → then ≡ b → WritesIn most other then
+stage_next most b then m other is same next =
+    subst (λ b. WritesIn most other b) (sym next) (subst (λ m. WritesIn most m b) same is)
+
+pub zip_questions : (left questions : List entry.Question) (written : List Question) → left ≡ questions
+    → written ≡ map bare questions → AllZip IsQuestionOf left written
+zip_questions left questions written same is =
+    subst (λ left. AllZip IsQuestionOf left written) (sym same)
+    (subst (AllZip IsQuestionOf questions) (sym is) (zip_bare questions))
