@@ -16,6 +16,7 @@ fn name_of(octets: &[u8]) -> Result<ParsedName<&[u8]>, Fail> {
     Ok(ParsedName::parse(&mut parser)?)
 }
 
+mod entries;
 mod places;
 mod refused;
 mod standard;

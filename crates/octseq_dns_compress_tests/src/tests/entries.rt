@@ -1,0 +1,65 @@
+//! Entries that are taken back, data after the number of its octets, and headers.
+use crate::tests::name_of;
+use octseq::utf8::Turns;
+use octseq_asserts::assert_equal;
+use octseq_dns_compress::{Composer, Target};
+use std::test::Fail;
+
+#[test]
+fn an_entry_is_taken_back_with_its_names(rt: HostRuntime) -> Result<(), Fail> {
+    let mut turns = Turns::new();
+    let octets = Vec::<u8>::new(rt.alloc());
+    let mut composer = Composer::from_builder(octets, Vec::<Target>::new(rt.alloc()))?;
+    composer.append_name(&name_of(b"\x01a\x00")?, &mut turns)?;
+    composer.begin_entry();
+    composer.append_name(&name_of(b"\x01b\x01a\x00")?, &mut turns)?;
+    composer.append_name(&name_of(b"\x01c\x00")?, &mut turns)?;
+    composer.append_slice(b"\x07")?;
+    composer.take_back();
+    assert_equal!(&rt, composer.as_slice().len(), 15);
+    composer.append_name(&name_of(b"\x01c\x00")?, &mut turns)?;
+    composer.append_name(&name_of(b"\x01b\x01a\x00")?, &mut turns)?;
+    assert_equal!(
+        &rt,
+        composer.as_slice().get(12..).unwrap_or(b""),
+        b"\x01a\x00\x01c\x00\x01b\xC0\x0C".as_slice()
+    );
+    Ok(())
+}
+
+#[test]
+fn data_comes_after_the_number_of_its_octets(rt: HostRuntime) -> Result<(), Fail> {
+    let mut turns = Turns::new();
+    let octets = Vec::<u8>::new(rt.alloc());
+    let mut composer = Composer::from_builder(octets, Vec::<Target>::new(rt.alloc()))?;
+    composer.append_name(&name_of(b"\x01a\x00")?, &mut turns)?;
+    composer.begin_entry();
+    composer.append_slice(b"\x07")?;
+    composer.begin_data()?;
+    composer.append_slice(b"\x09")?;
+    composer.append_name(&name_of(b"\x01b\x01a\x00")?, &mut turns)?;
+    composer.end_data();
+    composer.append_name(&name_of(b"\x01b\x01a\x00")?, &mut turns)?;
+    assert_equal!(
+        &rt,
+        composer.as_slice().get(12..).unwrap_or(b""),
+        b"\x01a\x00\x07\x00\x05\x09\x01b\xC0\x0C\xC0\x13".as_slice()
+    );
+    Ok(())
+}
+
+#[test]
+fn a_header_is_written_over(rt: HostRuntime) -> Result<(), Fail> {
+    let mut turns = Turns::new();
+    let octets = Vec::<u8>::new(rt.alloc());
+    let mut composer = Composer::from_builder(octets, Vec::<Target>::new(rt.alloc()))?;
+    composer.append_name(&name_of(b"\x01a\x00")?, &mut turns)?;
+    composer.put_header(b"\x12\x34\x85\x80\x00\x01\x00\x00\x00\x00\x00\x00");
+    composer.append_name(&name_of(b"\x01a\x00")?, &mut turns)?;
+    assert_equal!(
+        &rt,
+        composer.as_slice(),
+        b"\x12\x34\x85\x80\x00\x01\x00\x00\x00\x00\x00\x00\x01a\x00\xC0\x0C".as_slice()
+    );
+    Ok(())
+}
