@@ -1,5 +1,5 @@
 //! Data of records as it is written: RFC 1035, 3.3, and RFC 3597.
-ghost use Rattle.std.specs.Prelude.{◌≡◌, ◌≤◌, ◌+◌, ◌*◌, ◌⊎◌, ◌++◌, [], ◌∷◌, true, OnOk};
+ghost use Rattle.std.specs.Prelude.{◌≡◌, ◌≤◌, ◌+◌, ◌*◌, ◌⊎◌, ◌++◌, [], ◌∷◌, length, true, OnOk};
 ghost use Rattle.std.specs.List.{AllByRecursion};
 ghost use Rattle.octseq.specs.Integer.{octets_be};
 ghost use Rattle.octseq_dns_compress.specs.Composed.{Composes, message_limit};
@@ -49,7 +49,9 @@ pub trait ComposeRecordData {
             (with_fields T.most message.old.state (fields self.now)) message.old message.new }
         ensures fits { OnOk result (AllByRecursion FitsField (fields self.now)) }
         ensures borrows { B.borrows message.new.octets ≡ B.borrows message.old.octets }
-        ensures turns { turns.new ≤ turns.old + 17 * label_count (fields self.now) };
+        ensures turns { turns.new ≤ turns.old + 17 * label_count (fields self.now) }
+        ensures least { OnOk result (turns.old + label_count (fields self.now) + length message.old.state.octets
+            ≤ turns.new + length message.new.state.octets) };
 }
 
 /// Data of a type by its number, as octets that mean nothing here: RFC 3597.
@@ -129,6 +131,8 @@ fn compose_mx<B: OctetsBuilder + Truncate + AsOctetsMut, T: Compressor, R: AsOct
     ensures borrows { B.borrows message.new.octets ≡ B.borrows message.old.octets }
     ensures turns { turns.new ≤ turns.old
         + 17 * label_count (rdata_fields (bare_rdata (ParsedRdata.mx (mx_of mx.now)))) }
+    ensures least { OnOk result (turns.old + label_count (rdata_fields (bare_rdata (ParsedRdata.mx (mx_of mx.now))))
+        + length message.old.state.octets ≤ turns.new + length message.new.state.octets) }
 {
     if let Err(error) = message.append_slice(&mx.preference.to_be_bytes()) {
         return Err(error);
@@ -168,6 +172,8 @@ fn compose_soa<B: OctetsBuilder + Truncate + AsOctetsMut, T: Compressor, R: AsOc
     ensures borrows { B.borrows message.new.octets ≡ B.borrows message.old.octets }
     ensures turns { turns.new ≤ turns.old
         + 17 * label_count (rdata_fields (bare_rdata (ParsedRdata.soa (soa_of soa.now)))) }
+    ensures least { OnOk result (turns.old + label_count (rdata_fields (bare_rdata (ParsedRdata.soa (soa_of soa.now))))
+        + length message.old.state.octets ≤ turns.new + length message.new.state.octets) }
 {
     if let Err(error) = message.append_name(&soa.mname, turns) {
         return Err(error);

@@ -5,7 +5,7 @@ use Rattle.std.proofs.lemmas.Cmp.{nat_list_cmp_total}
 use Rattle.std.proofs.lemmas.Map.Lookups.{exact_bytes}
 use Rattle.std.proofs.Math.Bool.{true≢false}
 use Rattle.std.proofs.Math.Decide.{dec_le}
-use Rattle.std.proofs.Math.Nat.{eq-or-lt_of_le, lt_of_not-le, pow-suc, pow-le-pow_right, mul_assoc, mul-le-mul_left}
+use Rattle.std.proofs.Math.Nat.{eq-or-lt_of_le, lt_of_not-le, pow-suc, pow-le-pow_right, mul_assoc, mul-le-mul_left, mul-le-mul_right}
 use Rattle.std.specs.Cmp.Lexicographic.{slice_cmp}
 use Rattle.std.specs.Ordering.{nat_cmp, is_lt, ordering_reverse}
 use Rattle.std.specs.Prelude.{slice_index_or}
@@ -132,3 +132,13 @@ nowhere octets targets key position sorted is none index has = below (lt_or_ge (
   below : (index < position) ⊎ (position ≤ index) → ⊥
   below (inl before) = not_less (key_cmp octets (slice_index_or targets index d) key) equal (is.before index d before)
   below (inr from) = past (eq-or-lt_of_le from)
+
+-- at least half of what was left is left, so as many turns leave the last of them
+pub halves_left : (ticks more left less total : ℕ) → more ≡ ticks + 1 → left + 2 ≤ 2 * (less + 2)
+    → total + 2 ≤ (left + 2) * 2 ^ ticks → total + 2 ≤ (less + 2) * 2 ^ more
+halves_left ticks more left less total next half all =
+    let power : 2 ^ more ≡ 2 ^ ticks * 2 = ap (λ n. 2 ^ n) (omega (arith, next)) ∙ pow-suc 2 ticks in
+    let longer : (left + 2) * 2 ^ ticks ≤ (2 * (less + 2)) * 2 ^ ticks = mul-le-mul_right (2 ^ ticks) half in
+    let same : (2 * (less + 2)) * 2 ^ ticks ≡ (less + 2) * (2 ^ ticks * 2) = grind arith in
+    let both : (less + 2) * 2 ^ more ≡ (less + 2) * (2 ^ ticks * 2) = ap (λ p. (less + 2) * p) power in
+    omega (arith, all, longer, same, both)

@@ -169,3 +169,11 @@ all_done all done rest are none = are ∙ ap (λ more. done ++ more) none ∙ ap
 pub labels_are : (octets : List ℕ) (has : Labeled octets) (labels : List (List ℕ)) → octets ≡ unrooted labels
     → has.0 ≡ labels
 labels_are octets has labels are = ap (λ labeled. labeled.0) (labeled_once octets has (labels, are))
+
+-- labels after their lengths have an octet each at least
+pub unrooted_longer : (labels : List (List ℕ)) → length labels ≤ length (unrooted labels)
+unrooted_longer [] = omega arith
+unrooted_longer (label ∷ labels) =
+    let more = unrooted_longer labels in
+    let both = length-append (length label ∷ label) (unrooted labels) in
+    omega (arith, more, both)

@@ -73,6 +73,8 @@ pub(crate) fn append_name<B: OctetsBuilder + Truncate, T: Compressor, R: AsOctet
     ensures memory { IsMemory append_error result → (B.asks ≡ true) ⊎ (T.asks ≡ true) }
     ensures borrows { B.borrows octets.new ≡ B.borrows octets.old }
     ensures turns { turns.new ≤ turns.old + 17 * length (labels_of name.now) }
+    ensures least { OnOk result (turns.old + length (labels_of name.now) + length (B.content octets.old)
+        ≤ turns.new + length (B.content octets.new)) }
 {
     a_name_has_labels(name);
     let plain = PlainName::new(name.labels());

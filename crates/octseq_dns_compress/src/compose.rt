@@ -97,7 +97,7 @@ impl<B: OctetsBuilder, T: Compressor> Composer<B, T> {
 }
 
 impl<B: OctetsBuilder + Truncate, T: Compressor> Composer<B, T> {
-    ghost use Rattle.std.specs.Prelude.{◌↔◌, IfOk, replicate};
+    ghost use Rattle.std.specs.Prelude.{◌↔◌, IfOk, OnOk, replicate};
     ghost use Rattle.std.specs.FinMap.{empty};
     ghost use Rattle.octseq.specs.Refusal.{IsMemory};
     ghost use Rattle.octseq_dns_compress.specs.Fits.{NameFits};
@@ -152,6 +152,8 @@ impl<B: OctetsBuilder + Truncate, T: Compressor> Composer<B, T> {
         ensures fits { NameFits (labels_of name.now) }
         ensures borrows { B.borrows self.new.octets ≡ B.borrows self.old.octets }
         ensures turns { turns.new ≤ turns.old + 17 * length (labels_of name.now) }
+        ensures least { OnOk result (turns.old + length (labels_of name.now) + length self.old.state.octets
+            ≤ turns.new + length self.new.state.octets) }
     {
         append_name(&mut self.octets, &mut self.table, name, turns)
     }

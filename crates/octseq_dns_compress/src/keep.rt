@@ -45,6 +45,8 @@ pub(crate) fn keep<T: Compressor>(
     ensures few { length (T.held table.new) ≤ T.most }
     ensures memory { OnErr result (T.asks ≡ true) }
     ensures turns { turns.new ≤ turns.old + ending.written }
+    ensures least { turns.old + length (T.held table.new) ≤ turns.new + length (T.held table.old) }
+    ensures on { turns.old ≤ turns.new }
 {
     if ending.pointers > POINTERS_MAX {
         return Ok(());

@@ -1,6 +1,6 @@
 //! Where a label is among targets, which are in the order of their keys.
 ghost use Rattle.std.specs.Prelude.{◌≡◌, ◌≤◌, ◌+◌, ◌↔◌, ◌∷◌, length, IsTrue, IsErr, IfOk, IfErr};
-ghost use Rattle.std.specs.Prelude.{◌*◌};
+ghost use Rattle.std.specs.Prelude.{◌*◌, ◌-◌, ◌^◌};
 ghost use Rattle.octseq_dns_compress.specs.Agrees.{Agrees};
 ghost use Rattle.octseq_dns_compress.specs.Ending.{IsEnding};
 ghost use Rattle.octseq_dns_compress.specs.Names.{Names};
@@ -41,6 +41,7 @@ pub(crate) fn search(
     ensures pointers { result.pointers ≤ 127 }
     ensures position { result.position ≤ length targets.now }
     ensures turns { turns.new ≤ turns.old + 16 * length (plain_labels name.now) }
+    ensures least { turns.old + length (plain_labels name.now) ≤ turns.new + result.written }
 {
     let mut ending = Ending {
         written: name.label_count(),
@@ -95,6 +96,8 @@ fn position(octets: &[u8], targets: &[Target], next: u16, label: &[u8], turns: &
     requires few { length targets.now ≤ 16384 }
     ensures position { IsPosition octets.now targets.now (next ∷ label.now) result }
     ensures turns { turns.new ≤ turns.old + 15 }
+    ensures least { length targets.now + 2 ≤ 2 * 2 ^ (turns.new - turns.old) }
+    ensures on { turns.old ≤ turns.new }
 {
     let mut from = 0;
     let mut left = targets.len();
@@ -127,6 +130,7 @@ fn find(
     ensures position { IfErr result (IsPosition octets.now targets.now (next ∷ label.now)) }
     ensures none { IsErr result → HasNoKey octets.now targets.now (next ∷ label.now) }
     ensures turns { turns.new ≤ turns.old + 16 }
+    ensures least { turns.old + 1 ≤ turns.new }
 {
     turns.tick();
     if is_at(octets, targets, hint, next, label) {

@@ -62,6 +62,8 @@ fn compose_question<B: OctetsBuilder + Truncate + AsOctetsMut, T: Compressor, R:
     ensures fits { OnOk result (FitsQuestion (asked qname.now qtype qclass)) }
     ensures borrows { B.borrows message.new.octets ≡ B.borrows message.old.octets }
     ensures turns { turns.new ≤ turns.old + 17 * length (labels_of qname.now) }
+    ensures least { OnOk result (turns.old + length (labels_of qname.now) + length message.old.state.octets
+        ≤ turns.new + length message.new.state.octets) }
 {
     let end = question_end(qtype, qclass);
     if let Err(error) = message.append_name(qname, turns) {
@@ -86,6 +88,8 @@ fn append_data<B: OctetsBuilder + Truncate + AsOctetsMut, T: Compressor, D: Comp
     ensures fits { OnOk result (AllByRecursion FitsField (D.fields rdata.now)) }
     ensures borrows { B.borrows message.new.octets ≡ B.borrows message.old.octets }
     ensures turns { turns.new ≤ turns.old + 17 * label_count (D.fields rdata.now) }
+    ensures least { OnOk result (turns.old + label_count (D.fields rdata.now) + length message.old.state.octets
+        ≤ turns.new + length message.new.state.octets) }
 {
     if let Err(error) = message.begin_data() {
         return Err(error);
@@ -122,6 +126,8 @@ fn compose_record<
     ensures fits { OnOk result (FitsRecord (told owner.now (D.rtype_of rdata.now) class ttl (D.fields rdata.now))) }
     ensures borrows { B.borrows message.new.octets ≡ B.borrows message.old.octets }
     ensures turns { turns.new ≤ turns.old + 17 * (length (labels_of owner.now) + label_count (D.fields rdata.now)) }
+    ensures least { OnOk result (turns.old + (length (labels_of owner.now) + label_count (D.fields rdata.now))
+        + length message.old.state.octets ≤ turns.new + length message.new.state.octets) }
     ensures begun { message.new.begun ≡ message.old.begun }
 {
     let middle = record_middle(rdata.rtype(), class, ttl);
@@ -152,6 +158,8 @@ pub(super) fn append_question<
     ensures fits { OnOk result (FitsQuestion (asked qname.now qtype qclass)) }
     ensures borrows { B.borrows message.new.octets ≡ B.borrows message.old.octets }
     ensures turns { turns.new ≤ turns.old + 17 * length (labels_of qname.now) }
+    ensures least { OnOk result (turns.old + length (labels_of qname.now) + length message.old.state.octets
+        ≤ turns.new + length message.new.state.octets) }
 {
     message.begin_entry();
     let composed = compose_question(message, qname, qtype, qclass, turns);
@@ -182,6 +190,8 @@ pub(super) fn append_record<
     ensures fits { OnOk result (FitsRecord (told owner.now (D.rtype_of rdata.now) class ttl (D.fields rdata.now))) }
     ensures borrows { B.borrows message.new.octets ≡ B.borrows message.old.octets }
     ensures turns { turns.new ≤ turns.old + 17 * (length (labels_of owner.now) + label_count (D.fields rdata.now)) }
+    ensures least { OnOk result (turns.old + (length (labels_of owner.now) + label_count (D.fields rdata.now))
+        + length message.old.state.octets ≤ turns.new + length message.new.state.octets) }
 {
     message.begin_entry();
     let composed = compose_record(message, owner, class, ttl, rdata, turns);

@@ -90,6 +90,8 @@ impl<B: OctetsBuilder + Truncate + AsOctetsMut, T: Compressor> QuestionBuilder<B
         ensures reaches { UpToQuestions self.old.counts }
         ensures borrows { B.borrows self.new.octets ≡ B.borrows self.old.octets }
         ensures turns { turns.new ≤ turns.old + 17 * length (labels_of qname.now) }
+        ensures least { OnOk result (turns.old + length (labels_of qname.now) + length self.old.state.octets
+            ≤ turns.new + length self.new.state.octets) }
     {
         let Some(qdcount) = self.counts.qdcount.checked_add(1) else {
             return Err(AppendError::Short(ShortBuf));

@@ -99,6 +99,8 @@ impl<B: OctetsBuilder + Truncate + AsOctetsMut, T: Compressor, S: RecordSection>
         ensures borrows { B.borrows self.new.octets ≡ B.borrows self.old.octets }
         ensures turns { turns.new ≤ turns.old
             + 17 * (length (labels_of owner.now) + label_count (D.fields rdata.now)) }
+        ensures least { OnOk result (turns.old + (length (labels_of owner.now) + label_count (D.fields rdata.now))
+            + length self.old.state.octets ≤ turns.new + length self.new.state.octets) }
     {
         let Some(counts) = S::count_one_more(self.counts) else {
             return Err(AppendError::Short(ShortBuf));

@@ -1,4 +1,7 @@
 use Rattle.std.proofs.Common.{◌≡◌, ◌++◌, take, ap, ◌∙◌, sym, subst, length, arith}
+use Rattle.std.proofs.lemmas.List.{length-take}
+use Rattle.std.proofs.Common.{length-append}
+use Rattle.octseq_dns_compress.proofs.PlainLabels.{unrooted_longer}
 use Rattle.octseq_dns_name.specs.Read.{labels_of}
 use Rattle.octseq_dns_compress.specs.Composed.{message_limit, before}
 use Rattle.octseq_dns_compress.specs.Key.{AreTargets}
@@ -116,3 +119,20 @@ returns-clause-before g c =
     ap (λ n. before n held) (sym c.len-start.ensures.content) ∙ c.keep.ensures.before
     ∙ ap (λ n. before n targets) c.len-start.ensures.content
     ∙ before_all octets targets (known_targets octets targets c.requires.known)
+
+pub returns-clause-least : goal.returns-clause-least
+returns-clause-least g c =
+    let octets = g.B.AsOctets.content c.args.octets.now in
+    let end = c.search-ending.result in
+    let labels = plain_labels c.new-plain.result in
+    let first = unrooted (take end.written labels) in
+    let is = c.in_default.ensures.appended.ok ∙ ap (λ o. octets ++ o) (c.as_ref-2.ensures.value ∙ c.encode-encoded.ensures) in
+    let long = ap length is ∙ length-append octets (first ++ ended end.next) in
+    let both = length-append first (ended end.next) in
+    let each = unrooted_longer (take end.written labels) in
+    let taken = length-take end.written labels in
+    let within = c.search-ending.ensures.written in
+    let found = c.search-ending.ensures.least in
+    let kept = c.keep.ensures.on in
+    let same = ap length (c.new-plain.ensures ∙ c.labels.ensures.labels) in
+    omega (arith, long, both, each, taken, within, found, kept, same)

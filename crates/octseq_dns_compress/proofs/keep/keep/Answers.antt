@@ -23,6 +23,8 @@ labels-init g c =
       more = omega (arith, all);
       few = c.requires.few;
       turned = omega arith;
+      least = omega arith;
+      on = omega arith;
       before = refl;
       kept = λ octets names agrees ends written. kept_yet g.T.Compressor.most octets
           (g.T.Compressor.held c.args.table.now) names (plain_labels c.args.name.now) c.args.start c.args.ending
@@ -70,6 +72,8 @@ labels-preserved g c =
       more = omega (arith, long, more);
       few = omega (arith, long, room);
       turned = omega (arith, turned, tick, c.labels-test.true);
+      least = (let least = so_far.least in omega (arith, least, long, tick));
+      on = (let on = so_far.on in omega (arith, on, tick));
       before = ap (filter (λ t. nat_lt t.at c.args.start)) inserted
           ∙ none_before c.args.start held c.labels.position _ (omega arith) ∙ so_far.before;
       kept = λ octets names agrees ends written. kept_at g.T.Compressor.most octets

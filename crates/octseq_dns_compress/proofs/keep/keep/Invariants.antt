@@ -17,6 +17,8 @@ invariant-labels g l = record {
   more : l.older ≤ length (g.T.Compressor.held l.table);
   few : length (g.T.Compressor.held l.table) ≤ g.T.Compressor.most;
   turned : l.turns + l.left ≤ l.fn.turns + l.fn.ending.written;
+  least : l.fn.turns + length (g.T.Compressor.held l.table) ≤ l.turns + length (g.T.Compressor.held l.fn.table);
+  on : l.fn.turns ≤ l.turns;
   before : filter (λ target. nat_lt target.at l.fn.start) (g.T.Compressor.held l.table)
       ≡ filter (λ target. nat_lt target.at l.fn.start) (g.T.Compressor.held l.fn.table);
   kept : (octets : List ℕ) (names : Names) → Agrees octets (g.T.Compressor.held l.fn.table) names

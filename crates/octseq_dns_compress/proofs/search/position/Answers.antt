@@ -1,5 +1,5 @@
 use Rattle.std.proofs.Common.{◌+◌, ◌-◌, ◌/◌, ◌<◌, ◌∷◌, length, arith, rules}
-use Rattle.octseq_dns_compress.proofs.Keys.{before_more, after_more, halved, few_halves}
+use Rattle.octseq_dns_compress.proofs.Keys.{before_more, after_more, halved, halves_left, few_halves}
 use Rattle.octseq_dns_compress.proofs.search.position.Goals as goal
 
 pub halves-preserved-then-is_lt : goal.halves-preserved-then-is_lt
@@ -24,6 +24,8 @@ halves-preserved-then-is_lt c =
       some = omega (arith, some, tick);
       halved = halved (c.halves.turns - c.args.turns.now) _ c.halves.left _ (length targets) (omega (arith, some, tick))
           (omega (arith, c.halves-test.true)) so_far.halved;
+      least = halves_left (c.halves.turns - c.args.turns.now) _ c.halves.left _ (length targets)
+          (omega (arith, some, tick)) (omega (arith, c.halves-test.true)) so_far.least;
       most = omega (arith, some, tick, few);
     }
 
@@ -48,5 +50,7 @@ halves-preserved c =
       some = omega (arith, some, tick);
       halved = halved (c.halves.turns - c.args.turns.now) _ c.halves.left half (length targets)
           (omega (arith, some, tick)) (omega arith) so_far.halved;
+      least = halves_left (c.halves.turns - c.args.turns.now) _ c.halves.left half (length targets)
+          (omega (arith, some, tick)) (omega arith) so_far.least;
       most = omega (arith, some, tick, few);
     }

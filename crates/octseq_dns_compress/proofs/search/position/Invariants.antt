@@ -17,6 +17,7 @@ invariant-halves l =
           → ¬ (key_cmp octets (slice_index_or targets k d) key ≡ Ordering.Less);
       some : l.fn.turns ≤ l.turns;
       halved : 2 ^ (l.turns - l.fn.turns) * l.left ≤ length targets;
+      least : length targets + 2 ≤ (l.left + 2) * 2 ^ (l.turns - l.fn.turns);
       most : l.turns ≤ l.fn.turns + 15;
     }
 

@@ -11,6 +11,8 @@ labels-preserved c =
     let labels = plain_labels c.args.name.now in
     let within = so_far.within in
     let turned = so_far.turned in
+    let least = so_far.least in
+    let one = c.in-Ok.ensures.least in
     let turns = c.in-Ok.ensures.turns in
     let found = c.in-Ok.ensures.found in
     let index = found.within in
@@ -21,6 +23,7 @@ labels-preserved c =
       near = c.requires.targets.near c.in-Ok.index d index;
       few = (let few = c.requires.targets.few c.in-Ok.index d index in omega (arith, few));
       turned = omega (arith, turned, turns, c.labels-test.true);
+      least = omega (arith, least, one, c.labels-test.true);
       ends = λ names agrees. ends_at c.args.octets.now c.args.targets.now names agrees labels c.labels.ending.written
           c.label-label.result.now c.labels.ending.next c.labels.ending.pointers c.in-Ok.index d
           (omega (arith, c.labels-test.true)) within c.label-label.ensures found (so_far.ends names agrees);

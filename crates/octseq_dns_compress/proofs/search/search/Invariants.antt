@@ -13,6 +13,7 @@ invariant-labels l = record {
   near : l.ending.next ≤ 16383;
   few : l.ending.pointers ≤ 127;
   turned : l.turns + 16 * l.ending.written ≤ l.fn.turns + 16 * length (plain_labels l.name);
+  least : l.fn.turns + length (plain_labels l.name) ≤ l.turns + l.ending.written;
   ends : (names : Names) → Agrees l.octets l.targets names
       → Ends names (drop l.ending.written (plain_labels l.name)) l.ending.next l.ending.pointers;
 }

@@ -1,4 +1,5 @@
 use Rattle.std.proofs.Common.{take, ap, ◌∙◌, refl, length, arith}
+use Rattle.std.proofs.Common.{OnOk, subst, ◌+◌, ◌≤◌}
 use Rattle.octseq_dns_name.specs.Read.{labels_of}
 use Rattle.octseq_dns_compress.specs.Composed.{message_limit, before}
 use Rattle.octseq_dns_compress.specs.Known.{known_once}
@@ -77,3 +78,9 @@ pub returns-clause-past : goal.returns-clause-past
 returns-clause-past g c =
     name_past c.append_name.result c.args.self.now.state (c.append_name.ensures.named c.self.inside.known)
     (ap (λ v. v.state) c.self.view_is)
+
+pub returns-clause-least : goal.returns-clause-least
+returns-clause-least g c =
+    subst (λ v. OnOk c.append_name.result (c.args.turns.now + length (labels_of c.args.name.now) + length v.state.octets
+    ≤ c.append_name.new.turns + length (g.B.AsOctets.content c.append_name.new.octets))) c.self.view_is
+    c.append_name.ensures.least
