@@ -22,8 +22,7 @@ abbrev pub key_cmp : List ℕ → Target → List ℕ → Ordering
 key_cmp octets target key = slice_cmp nat_cmp (key_of octets target) key
 
 -- Each target has a whole label, at a place that a pointer can say and from where no more than 126 pointers are
--- followed,
--- and comes before those after it.
+-- followed, and comes before those after it.
 pub record AreTargets (octets : List ℕ) (targets : List Target) : Type 0 where
   pub whole : (i : ℕ) (d : Target) → i < length targets → IsWhole octets (slice_index_or targets i d).at
   pub near : (i : ℕ) (d : Target) → i < length targets → (slice_index_or targets i d).at ≤ 16383

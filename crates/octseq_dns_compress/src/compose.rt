@@ -82,8 +82,7 @@ impl<B: OctetsBuilder, T: Compressor> Composer<B, T> {
     /// # Errors
     ///
     /// `Short` exactly where the message would pass the limit of the builder's type or 65,535 octets, and `Memory`
-    /// where
-    /// a request for memory was refused. The octets are then as they were.
+    /// where a request for memory was refused. The octets are then as they were.
     pub fn append_slice(&mut self, slice: &[u8]) -> Result<(), AppendError>
         ensures composed { Composes (message_limit B.limit) (B.asks ≡ true) result
             (with_octets self.old.state slice.now) self.old self.new }
@@ -109,8 +108,7 @@ impl<B: OctetsBuilder + Truncate, T: Compressor> Composer<B, T> {
     /// # Errors
     ///
     /// `Short` exactly where the builder's type has a limit below 12 octets, and `Memory` where a request for memory
-    /// was
-    /// refused. The builder and the table are then dropped.
+    /// was refused. The builder and the table are then dropped.
     pub fn from_builder(octets: B, table: T) -> Result<Composer<B, T>, AppendError>
         ensures state { IfOk result (λ c. c.state ≡ record { octets = replicate 12 0; names = empty }) }
         ensures short { IsShort append_error result ↔ IsPast B.limit 12 }
@@ -131,14 +129,12 @@ impl<B: OctetsBuilder + Truncate, T: Compressor> Composer<B, T> {
     }
 
     /// Appends a name. Where the most of its last labels are in the message already, a pointer to the place of them
-    /// comes
-    /// after the others.
+    /// comes after the others.
     ///
     /// # Errors
     ///
     /// `Short` exactly where the message would pass the limit of the builder's type or 65,535 octets, and `Memory`
-    /// where
-    /// a request for memory was refused. The octets and the names are then as they were.
+    /// where a request for memory was refused. The octets and the names are then as they were.
     pub fn append_name<R: AsOctets + Copy>(
         &mut self,
         name: &ParsedName<R>,

@@ -62,8 +62,7 @@ impl<B: OctetsBuilder + Truncate + AsOctetsMut, T: Compressor> QuestionBuilder<B
     }
 
     /// Pushes a question as [`push_question`](Self::push_question), and counts the turns that this takes: 17 at most
-    /// for
-    /// each label of its name, whatever names came before it.
+    /// for each label of its name, whatever names came before it.
     ///
     /// # Errors
     ///
