@@ -15,16 +15,18 @@ use Rattle.octseq_dns.proofs.HeaderRead.{header_length}
 use Rattle.octseq_dns.proofs.Pushed.{composed_more, twelve_first}
 
 -- What is pushed of things that were read, where some of them are left: a message so far, which becomes the whole by
--- what is written of those that are left. So many turns were taken of those that the whole may take.
+-- what is written of those that are left. So many turns were taken of those that the whole may take; and each label took
+-- one, or an octet.
 pub record Ahead {A I : Type 0} (Of : I → A → Type 0) (labels : A → ℕ) (more : Message → A → Message) (most : ℕ)
     (m : Message) (written : List A) (left : List I) (state : State) (header : Header) (counts : HeaderCounts)
-    (turns from : ℕ) : Type 0 where
+    (turns from first : ℕ) : Type 0 where
   pub now : Message
   pub rest : List A
   pub writes : Writes most now state header counts
   pub are : AllZip Of left rest
   pub same : all_more more m written ≡ all_more more now rest
   pub turned : turns + 17 * sum_by labels rest ≤ from + 17 * sum_by labels written
+  pub took : from + sum_by labels written + first ≤ turns + sum_by labels rest + length state.octets
 
 module _ {A : Type 0} {entry : A → Entry} {FitsOne : A → Type 0} {Reaches : HeaderCounts → Type 0}
     {count : HeaderCounts → ℕ} {counted : HeaderCounts → ℕ → HeaderCounts} {more : Message → A → Message} (most : ℕ)
@@ -58,7 +60,7 @@ module _ {A I : Type 0} {Of : I → A → Type 0} {labels : A → ℕ} {more : M
   -- at first all are left
   pub ahead_first : (m : Message) (written : List A) (left : List I) (state : State) (header : Header)
       (counts : HeaderCounts) (from : ℕ) → Writes most m state header counts → AllZip Of left written
-      → Ahead Of labels more most m written left state header counts from from
+      → Ahead Of labels more most m written left state header counts from from (length state.octets)
   ahead_first m written left state header counts from is are = record {
     now = m;
     rest = written;
@@ -66,46 +68,58 @@ module _ {A I : Type 0} {Of : I → A → Type 0} {labels : A → ℕ} {more : M
     are = are;
     same = refl;
     turned = omega arith;
+    took = omega arith;
   }
 
   -- at last none is
   pub ahead_none : (m : Message) (written : List A) (state : State) (header : Header) (counts : HeaderCounts)
-      (turns from : ℕ) → Ahead {I = I} Of labels more most m written [] state header counts turns from
+      (turns from first : ℕ) → Ahead {I = I} Of labels more most m written [] state header counts turns from first
       → Writes most (all_more more m written) state header counts × (turns ≤ from + 17 * sum_by labels written)
-  ahead_none m written state header counts turns from ahead = by_rest ahead.rest ahead.are ahead.same ahead.turned where
-    by_rest : (rest : List A) → AllZip Of [] rest → all_more more m written ≡ all_more more ahead.now rest
-        → turns + 17 * sum_by labels rest ≤ from + 17 * sum_by labels written
-        → Writes most (all_more more m written) state header counts × (turns ≤ from + 17 * sum_by labels written)
-    by_rest [] are same turned =
-        (subst (λ m. Writes most m state header counts) (sym same) ahead.writes, omega (arith, turned))
-    by_rest (one ∷ rest) are same turned = absurd are
+      × (from + sum_by labels written + first ≤ turns + length state.octets)
+  ahead_none m written state header counts turns from first ahead =
+      by_rest ahead.rest ahead.are ahead.same ahead.turned ahead.took where
+        by_rest : (rest : List A) → AllZip Of [] rest → all_more more m written ≡ all_more more ahead.now rest
+            → turns + 17 * sum_by labels rest ≤ from + 17 * sum_by labels written
+            → from + sum_by labels written + first ≤ turns + sum_by labels rest + length state.octets
+            → Writes most (all_more more m written) state header counts × (turns ≤ from + 17 * sum_by labels written)
+            × (from + sum_by labels written + first ≤ turns + length state.octets)
+        by_rest [] are same turned took = (
+          subst (λ m. Writes most m state header counts) (sym same) ahead.writes,
+          omega (arith, turned),
+          omega (arith, took),
+        )
+        by_rest (one ∷ rest) are same turned took = absurd are
 
   module _ (m : Message) (written : List A) (i : I) (left : List I) (state : State) (header : Header)
-      (counts : HeaderCounts) (turns from : ℕ)
-      (ahead : Ahead Of labels more most m written (i ∷ left) state header counts turns from) (one : A)
+      (counts : HeaderCounts) (turns from first : ℕ)
+      (ahead : Ahead Of labels more most m written (i ∷ left) state header counts turns from first) (one : A)
       (only : (other : A) → Of i other → other ≡ one) where
     -- one of them is pushed
     pub ahead_next : (next : State) (another : Header) (now : HeaderCounts) (took : ℕ)
         → ((m : Message) → Writes most m state header counts → Writes most (more m one) next another now)
-        → took ≤ turns + 17 * labels one
-        → Ahead Of labels more most m written left next another now took from
-    ahead_next next another now took pushed few = by_rest ahead.rest ahead.are ahead.same ahead.turned where
-      by_rest : (rest : List A) → AllZip Of (i ∷ left) rest → all_more more m written ≡ all_more more ahead.now rest
-          → turns + 17 * sum_by labels rest ≤ from + 17 * sum_by labels written
-          → Ahead Of labels more most m written left next another now took from
-      by_rest [] are same turned = absurd are
-      by_rest (other ∷ rest) are same turned =
-          let is = only other are.0 in
-          let labels_are = ap labels is in
-          let sum_is = sum_by-cons labels other rest in
-          record {
-            now = more ahead.now one;
-            rest = rest;
-            writes = pushed ahead.now ahead.writes;
-            are = are.1;
-            same = same ∙ ap (λ one. all_more more (more ahead.now one) rest) is;
-            turned = omega (arith, turned, few, labels_are, sum_is);
-          }
+        → took ≤ turns + 17 * labels one → turns + labels one + length state.octets ≤ took + length next.octets
+        → Ahead Of labels more most m written left next another now took from first
+    ahead_next next another now took pushed few many =
+        by_rest ahead.rest ahead.are ahead.same ahead.turned ahead.took where
+          by_rest : (rest : List A) → AllZip Of (i ∷ left) rest
+              → all_more more m written ≡ all_more more ahead.now rest
+              → turns + 17 * sum_by labels rest ≤ from + 17 * sum_by labels written
+              → from + sum_by labels written + first ≤ turns + sum_by labels rest + length state.octets
+              → Ahead Of labels more most m written left next another now took from first
+          by_rest [] are same turned all = absurd are
+          by_rest (other ∷ rest) are same turned all =
+              let is = only other are.0 in
+              let labels_are = ap labels is in
+              let sum_is = sum_by-cons labels other rest in
+              record {
+                now = more ahead.now one;
+                rest = rest;
+                writes = pushed ahead.now ahead.writes;
+                are = are.1;
+                same = same ∙ ap (λ one. all_more more (more ahead.now one) rest) is;
+                turned = omega (arith, turned, few, labels_are, sum_is);
+                took = omega (arith, all, many, labels_are, sum_is);
+              }
 
     -- or it is refused, after some turns
     pub ahead_turns : (took : ℕ) → took ≤ turns + 17 * labels one → took ≤ from + 17 * sum_by labels written

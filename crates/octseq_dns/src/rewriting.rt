@@ -98,7 +98,8 @@ pub fn rewrite<B: OctetsBuilder + Truncate + AsOctetsMut, T: Compressor, R: AsOc
 }
 
 /// Writes a message anew as [`rewrite`], and counts the turns that its names take: 17 at most for each label of each
-/// name, whatever names the message has.
+/// name, whatever names the message has. The turns and the octets that are written are together at least as many as the
+/// labels.
 ///
 /// # Errors
 ///
@@ -124,6 +125,8 @@ pub fn rewrite_counted<
     ensures memory { IsMemory rewrite_error result → (B.asks ≡ true) ⊎ (T.asks ≡ true) }
     ensures borrows { IfOk result (λ b. B.borrows b.octets ≡ B.borrows octets) }
     ensures turns { (m : Contents) → IsContentsOf message.now m → turns.new ≤ turns.old + 17 * labels_in m }
+    ensures least { IfOk result (λ b. (m : Contents) → IsContentsOf message.now m
+        → turns.old + labels_in m ≤ turns.new + length b.state.octets) }
 {
     if !can_move(message) {
         return Err(RewriteError::Immovable);
@@ -151,6 +154,8 @@ fn compose_anew<B: OctetsBuilder + Truncate + AsOctetsMut, T: Compressor, R: AsO
     ensures memory { IsMemory append_error result → (B.asks ≡ true) ⊎ (T.asks ≡ true) }
     ensures borrows { IfOk result (λ b. B.borrows b.octets ≡ B.borrows octets) }
     ensures turns { (m : Contents) → IsContentsOf message.now m → turns.new ≤ turns.old + 17 * labels_in m }
+    ensures least { IfOk result (λ b. (m : Contents) → IsContentsOf message.now m
+        → turns.old + labels_in m ≤ turns.new + length b.state.octets) }
 {
     let _counts = message.header_counts();
     let mut begun = match MessageBuilder::from_builder(octets, table) {
@@ -200,6 +205,10 @@ fn push_questions<B: OctetsBuilder + Truncate + AsOctetsMut, T: Compressor, R: A
         → Writes T.most m builder.state builder.header builder.counts
         → AllZip IsQuestionOf (questions_left questions) written
         → turns.new ≤ turns.old + 17 * sum_by question_labels written }
+    ensures least { IfOk result (λ b. (m : Contents) (written : List Asked)
+        → Writes T.most m builder.state builder.header builder.counts
+        → AllZip IsQuestionOf (questions_left questions) written → turns.old + sum_by question_labels written
+        + length builder.state.octets ≤ turns.new + length b.state.octets) }
 {
     let mut message = builder;
     for question in questions {
@@ -240,6 +249,10 @@ fn push_records<
         → Writes T.most m builder.state builder.header builder.counts
         → AllZip IsRecordOf (records_left records) written
         → turns.new ≤ turns.old + 17 * sum_by record_labels written }
+    ensures least { IfOk result (λ b. (m : Contents) (written : List Written)
+        → Writes T.most m builder.state builder.header builder.counts
+        → AllZip IsRecordOf (records_left records) written → turns.old + sum_by record_labels written
+        + length builder.state.octets ≤ turns.new + length b.state.octets) }
 {
     let mut message = builder;
     for entry in records {

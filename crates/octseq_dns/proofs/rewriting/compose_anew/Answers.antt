@@ -358,3 +358,39 @@ returns-clause-turns g c m is =
     let last = c.in-Ok-push_records-3.ensures.turns (of_sections m.header m.questions m.answers m.authorities [])
     m.additionals w3 zd in
     omega (arith, first, second, third, last)
+
+pub returns-clause-least : goal.returns-clause-least
+returns-clause-least g c m is =
+    let most = g.T.Compressor.most in
+    let w0 = stage_next most c.set_header.new.self c.question.result (of_sections c.header.result [] [] [] [])
+    (of_sections m.header [] [] [] []) (c.set_header.ensures.written blank_message c.in-Ok.ensures.written)
+    (ap (λ h. of_sections h [] [] [] []) (c.header.ensures ∙ sym is.header_is)) c.question.ensures in
+    let zq = zip_questions (questions_left c.questions.result) (questions_of c.args.message.now) m.questions
+    c.questions.ensures is.questions_are in
+    let w1 = stage_next most c.in-Ok-push_questions.asked c.answer.result
+    (all_more more_questions (of_sections m.header [] [] [] []) m.questions) (of_sections m.header m.questions [] [] [])
+    (c.in-Ok-push_questions.ensures.written (of_sections m.header [] [] [] []) m.questions w0 zq)
+    (all_questions m.header [] m.questions [] [] []) c.answer.ensures in
+    let za = subst (λ left. AllZip IsRecordOf left m.answers) (sym c.answers.ensures) is.answers_are in
+    let w2 = stage_next most c.in-Ok-push_records.answered c.authority.result
+    (all_more more_answers (of_sections m.header m.questions [] [] []) m.answers) (of_sections m.header m.questions
+    m.answers [] [])
+    (c.in-Ok-push_records.ensures.written (of_sections m.header m.questions [] [] []) m.answers w1 za)
+    (all_answers m.header m.questions [] m.answers [] []) c.authority.ensures in
+    let zn = subst (λ left. AllZip IsRecordOf left m.authorities) (sym c.authorities.ensures) is.authorities_are in
+    let w3 = stage_next most c.in-Ok-push_records-2.authorized c.additional.result
+    (all_more more_authorities (of_sections m.header m.questions m.answers [] []) m.authorities) (of_sections m.header
+    m.questions m.answers m.authorities [])
+    (c.in-Ok-push_records-2.ensures.written (of_sections m.header m.questions m.answers [] []) m.authorities w2 zn)
+    (all_authorities m.header m.questions m.answers [] m.authorities []) c.additional.ensures in
+    let zd = subst (λ left. AllZip IsRecordOf left m.additionals) (sym c.additionals.ensures) is.additionals_are in
+    let first = c.in-Ok-push_questions.ensures.least (of_sections m.header [] [] [] []) m.questions w0 zq in
+    let second = c.in-Ok-push_records.ensures.least (of_sections m.header m.questions [] [] []) m.answers w1 za in
+    let third = c.in-Ok-push_records-2.ensures.least (of_sections m.header m.questions m.answers [] []) m.authorities
+    w2 zn in
+    let last = c.in-Ok-push_records-3.ensures.least (of_sections m.header m.questions m.answers m.authorities [])
+    m.additionals w3 zd in
+    let asked_is = ap (λ b. length b.state.octets) c.answer.ensures in
+    let answered_is = ap (λ b. length b.state.octets) c.authority.ensures in
+    let authorized_is = ap (λ b. length b.state.octets) c.additional.ensures in
+    omega (arith, first, second, third, last, asked_is, answered_is, authorized_is)

@@ -17,7 +17,8 @@ invariant-loop-question g l = record {
       → Writes g.T.Compressor.most m l.fn.builder.state l.fn.builder.header l.fn.builder.counts
       → AllZip IsQuestionOf (questions_left l.fn.questions) written
       → Ahead IsQuestionOf question_labels more_questions g.T.Compressor.most m written
-      (questions_left l.question-iterator) l.message.state l.message.header l.message.counts l.turns l.fn.turns;
+      (questions_left l.question-iterator) l.message.state l.message.header l.message.counts l.turns l.fn.turns
+      (length l.fn.builder.state.octets);
   fits : IsWithin (message_limit g.B.AsOctets.limit) (length l.message.state.octets);
   room : l.message.counts.qdcount + length (questions_left l.question-iterator) ≤ 65535;
   borrows : g.B.AsOctets.borrows l.message.octets ≡ g.B.AsOctets.borrows l.fn.builder.octets;

@@ -17,7 +17,8 @@ invariant-loop-entry g l = record {
       → Writes g.T.Compressor.most m l.fn.builder.state l.fn.builder.header l.fn.builder.counts
       → AllZip IsRecordOf (records_left l.fn.records) written
       → Ahead IsRecordOf record_labels g.S.RecordSection.more g.T.Compressor.most m written
-      (records_left l.entry-iterator) l.message.state l.message.header l.message.counts l.turns l.fn.turns;
+      (records_left l.entry-iterator) l.message.state l.message.header l.message.counts l.turns l.fn.turns
+      (length l.fn.builder.state.octets);
   exists : (rest : List Record) → AllZip IsRecordOf (records_left l.entry-iterator) rest
       → (written : List Record) × AllZip IsRecordOf (records_left l.fn.records) written;
   fits : IsWithin (message_limit g.B.AsOctets.limit) (length l.message.state.octets);
