@@ -49,7 +49,8 @@ loop-question-preserved g c =
       ahead = λ m written is are. ahead_next g.T.Compressor.most m written i left now.state now.header now.counts
           c.loop-question.turns c.args.turns.now (length c.args.builder.state.octets)
           (subst (λ q. Ahead IsQuestionOf question_labels more_questions g.T.Compressor.most m written q now.state
-          now.header now.counts c.loop-question.turns c.args.turns.now (length c.args.builder.state.octets)) steps (so_far.ahead m written is are))
+          now.header now.counts c.loop-question.turns c.args.turns.now (length c.args.builder.state.octets)) steps
+          (so_far.ahead m written is are))
           one (λ other is. is ∙ sym (same_asked c.qname.ensures c.qtype-qtype.ensures c.qclass-qclass.ensures))
           new.state new.header new.counts c.push_question_counted.new.turns went.written went.turns went.least;
       fits = went.within;
@@ -66,7 +67,8 @@ returns-in-Err-clause-short g c = λ short m written is are.
     let steps = c.in-Some.ensures.steps in
     let one = asked c.qname.result c.qtype-qtype.result c.qclass-qclass.result in
     let ahead = subst (λ q. Ahead IsQuestionOf question_labels more_questions g.T.Compressor.most m written q now.state
-    now.header now.counts c.loop-question.turns c.args.turns.now (length c.args.builder.state.octets)) steps (so_far.ahead m written is are) in
+    now.header now.counts c.loop-question.turns c.args.turns.now (length c.args.builder.state.octets)) steps
+    (so_far.ahead m written is are) in
     let limit = message_limit g.B.AsOctets.limit in
     elim (c.in-Err.ensures.pushed.short short) [
       | inl past ↦
@@ -87,7 +89,8 @@ returns-in-Err-clause-turns g c m written is are =
     let left = questions_left c.next.new.self in
     let one = asked c.qname.result c.qtype-qtype.result c.qclass-qclass.result in
     let ahead = subst (λ q. Ahead IsQuestionOf question_labels more_questions g.T.Compressor.most m written q now.state
-    now.header now.counts c.loop-question.turns c.args.turns.now (length c.args.builder.state.octets)) c.in-Some.ensures.steps
+    now.header now.counts c.loop-question.turns c.args.turns.now (length c.args.builder.state.octets))
+    c.in-Some.ensures.steps
     (c.loop-question.invariant.ahead m written is are) in
     ahead_turns g.T.Compressor.most m written i left now.state now.header now.counts c.loop-question.turns
     c.args.turns.now (length c.args.builder.state.octets) ahead one
@@ -97,7 +100,8 @@ returns-in-Err-clause-turns g c m written is are =
 pub returns-clause-written : goal.returns-clause-written
 returns-clause-written g c m written is are =
     let now = c.loop-question.message in
-    (ahead_none g.T.Compressor.most m written now.state now.header now.counts c.loop-question.turns c.args.turns.now (length c.args.builder.state.octets)
+    (ahead_none g.T.Compressor.most m written now.state now.header now.counts c.loop-question.turns c.args.turns.now
+    (length c.args.builder.state.octets)
     (subst (λ q. Ahead IsQuestionOf question_labels more_questions g.T.Compressor.most m written q now.state now.header
     now.counts c.loop-question.turns c.args.turns.now (length c.args.builder.state.octets)) c.in-None.ensures.steps.0
     (c.loop-question.invariant.ahead m written is are))).0
@@ -105,7 +109,8 @@ returns-clause-written g c m written is are =
 pub returns-clause-turns : goal.returns-clause-turns
 returns-clause-turns g c m written is are =
     let now = c.loop-question.message in
-    (ahead_none g.T.Compressor.most m written now.state now.header now.counts c.loop-question.turns c.args.turns.now (length c.args.builder.state.octets)
+    (ahead_none g.T.Compressor.most m written now.state now.header now.counts c.loop-question.turns c.args.turns.now
+    (length c.args.builder.state.octets)
     (subst (λ q. Ahead IsQuestionOf question_labels more_questions g.T.Compressor.most m written q now.state now.header
     now.counts c.loop-question.turns c.args.turns.now (length c.args.builder.state.octets)) c.in-None.ensures.steps.0
     (c.loop-question.invariant.ahead m written is are))).1
@@ -113,7 +118,8 @@ returns-clause-turns g c m written is are =
 pub returns-clause-least : goal.returns-clause-least
 returns-clause-least g c m written is are =
     let now = c.loop-question.message in
-    (ahead_none g.T.Compressor.most m written now.state now.header now.counts c.loop-question.turns c.args.turns.now (length c.args.builder.state.octets)
+    (ahead_none g.T.Compressor.most m written now.state now.header now.counts c.loop-question.turns c.args.turns.now
+    (length c.args.builder.state.octets)
     (subst (λ q. Ahead IsQuestionOf question_labels more_questions g.T.Compressor.most m written q now.state now.header
     now.counts c.loop-question.turns c.args.turns.now (length c.args.builder.state.octets)) c.in-None.ensures.steps.0
     (c.loop-question.invariant.ahead m written is are))).2

@@ -74,7 +74,8 @@ loop-entry-preserved g c =
       ahead = λ m written is are. ahead_next g.T.Compressor.most m written i left now.state now.header now.counts
           c.loop-entry.turns c.args.turns.now (length c.args.builder.state.octets)
           (subst (λ q. Ahead IsRecordOf record_labels g.S.RecordSection.more g.T.Compressor.most m written q now.state
-          now.header now.counts c.loop-entry.turns c.args.turns.now (length c.args.builder.state.octets)) steps (so_far.ahead m written is are))
+          now.header now.counts c.loop-entry.turns c.args.turns.now (length c.args.builder.state.octets)) steps
+          (so_far.ahead m written is are))
           one (only_told i parsed c.owner.ensures c.class-class.ensures c.ttl-ttl.ensures c.data-data.ensures.rdata)
           new.state new.header new.counts c.push_record_counted.new.turns went.written went.turns went.least;
       exists = λ rest are. so_far.exists (one ∷ rest) (subst (λ q. AllZip IsRecordOf q (one ∷ rest)) (sym steps) (
@@ -104,7 +105,8 @@ returns-in-Err-clause-short g c = λ short m written is are.
     (rdata_fields (bare_rdata parsed)) in
     let ahead = subst (λ q. Ahead IsRecordOf record_labels g.S.RecordSection.more g.T.Compressor.most m written q
     now.state
-    now.header now.counts c.loop-entry.turns c.args.turns.now (length c.args.builder.state.octets)) steps (so_far.ahead m written is are) in
+    now.header now.counts c.loop-entry.turns c.args.turns.now (length c.args.builder.state.octets)) steps
+    (so_far.ahead m written is are) in
     let limit = message_limit g.B.AsOctets.limit in
     elim (c.in-Err.ensures.pushed.short short) [
       | inl past ↦
@@ -128,7 +130,8 @@ returns-in-Err-clause-turns g c m written is are =
     (rdata_fields (bare_rdata parsed)) in
     let ahead = subst (λ q. Ahead IsRecordOf record_labels g.S.RecordSection.more g.T.Compressor.most m written q
     now.state
-    now.header now.counts c.loop-entry.turns c.args.turns.now (length c.args.builder.state.octets)) c.in-Some.ensures.steps
+    now.header now.counts c.loop-entry.turns c.args.turns.now (length c.args.builder.state.octets))
+    c.in-Some.ensures.steps
     (c.loop-entry.invariant.ahead m written is are) in
     ahead_turns g.T.Compressor.most m written i left now.state now.header now.counts c.loop-entry.turns
     c.args.turns.now (length c.args.builder.state.octets) ahead one
@@ -138,7 +141,8 @@ returns-in-Err-clause-turns g c m written is are =
 pub returns-clause-written : goal.returns-clause-written
 returns-clause-written g c m written is are =
     let now = c.loop-entry.message in
-    (ahead_none g.T.Compressor.most m written now.state now.header now.counts c.loop-entry.turns c.args.turns.now (length c.args.builder.state.octets)
+    (ahead_none g.T.Compressor.most m written now.state now.header now.counts c.loop-entry.turns c.args.turns.now
+    (length c.args.builder.state.octets)
     (subst (λ q. Ahead IsRecordOf record_labels g.S.RecordSection.more g.T.Compressor.most m written q now.state
     now.header
     now.counts c.loop-entry.turns c.args.turns.now (length c.args.builder.state.octets)) c.in-None.ensures.steps.0
@@ -147,7 +151,8 @@ returns-clause-written g c m written is are =
 pub returns-clause-turns : goal.returns-clause-turns
 returns-clause-turns g c m written is are =
     let now = c.loop-entry.message in
-    (ahead_none g.T.Compressor.most m written now.state now.header now.counts c.loop-entry.turns c.args.turns.now (length c.args.builder.state.octets)
+    (ahead_none g.T.Compressor.most m written now.state now.header now.counts c.loop-entry.turns c.args.turns.now
+    (length c.args.builder.state.octets)
     (subst (λ q. Ahead IsRecordOf record_labels g.S.RecordSection.more g.T.Compressor.most m written q now.state
     now.header
     now.counts c.loop-entry.turns c.args.turns.now (length c.args.builder.state.octets)) c.in-None.ensures.steps.0
@@ -161,7 +166,8 @@ returns-clause-exists g c =
 pub returns-clause-least : goal.returns-clause-least
 returns-clause-least g c m written is are =
     let now = c.loop-entry.message in
-    (ahead_none g.T.Compressor.most m written now.state now.header now.counts c.loop-entry.turns c.args.turns.now (length c.args.builder.state.octets)
+    (ahead_none g.T.Compressor.most m written now.state now.header now.counts c.loop-entry.turns c.args.turns.now
+    (length c.args.builder.state.octets)
     (subst (λ q. Ahead IsRecordOf record_labels g.S.RecordSection.more g.T.Compressor.most m written q now.state
     now.header
     now.counts c.loop-entry.turns c.args.turns.now (length c.args.builder.state.octets)) c.in-None.ensures.steps.0
