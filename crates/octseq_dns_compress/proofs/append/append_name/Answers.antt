@@ -126,7 +126,8 @@ returns-clause-least g c =
     let end = c.search-ending.result in
     let labels = plain_labels c.new-plain.result in
     let first = unrooted (take end.written labels) in
-    let is = c.in_default.ensures.appended.ok ∙ ap (λ o. octets ++ o) (c.as_ref-2.ensures.value ∙ c.encode-encoded.ensures) in
+    let is = c.in_default.ensures.appended.ok ∙ ap (λ o. octets ++ o) (c.as_ref-2.ensures.value ∙
+    c.encode-encoded.ensures) in
     let long = ap length is ∙ length-append octets (first ++ ended end.next) in
     let both = length-append first (ended end.next) in
     let each = unrooted_longer (take end.written labels) in
