@@ -1,3 +1,4 @@
+pub mod Moves
 pub mod OneAnswer
 pub mod OneRewriting
 pub mod Rewritings

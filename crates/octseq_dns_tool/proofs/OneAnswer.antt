@@ -7,7 +7,8 @@ use Rattle.octseq.specs.Part.{part_of}
 use Rattle.octseq_dns.specs.Entry.{Question, Record}
 use Rattle.octseq_dns.specs.Message.{IsMessage}
 use Rattle.octseq_dns.specs.MessageText.{IsMessageText}
-use Rattle.octseq_dns.specs.Rewriting.{IsRewriting}
+use Rattle.octseq_dns.specs.Contents.{Message as Contents}
+use Rattle.octseq_dns.specs.Rewritten.{IsMessageOf}
 use Rattle.octseq_dns.specs.declared.header.Header.{Header}
 use Rattle.octseq_dns_tool.proofs.OneRewriting.{same_rewriting}
 use Rattle.octseq_dns_tool.proofs.Streams.{none_in_nothing, one_reading}
@@ -44,7 +45,8 @@ usage input x y Refused t p q = absurd p
 usage input x y s Fine p q = absurd q
 usage input x y s Refused p q = absurd q
 
--- by what the laws of messages say: octets are a message in one way, and a message has one text
+-- by what the laws of messages say: octets are a message in one way, and a message has one text, and is written as one
+-- message
 module _ (one_message : (octets : List ℕ) (h k : Header) (q others : List Question) (a b d x y z : List Record)
     → IsMessage octets h q a b d → IsMessage octets k others x y z
     → (h ≡ k) × (q ≡ others) × (a ≡ x) × (b ≡ y) × (d ≡ z))
@@ -52,10 +54,9 @@ module _ (one_message : (octets : List ℕ) (h k : Header) (q others : List Ques
     (text other : List ℕ)
     → IsMessageText header questions answers authorities additionals text
     → IsMessageText header questions answers authorities additionals other → text ≡ other)
-    (one_rewriting : (most : Option ℕ) (header : Header) (questions : List Question)
-    (answers authorities additionals : List Record) (octets others : List ℕ)
-    → IsRewriting most header questions answers authorities additionals octets
-    → IsRewriting most header questions answers authorities additionals others → octets ≡ others) where
+    (one_message_of : (header : Header) (questions : List Question) (answers authorities additionals : List Record)
+    (m n : Contents) → IsMessageOf header questions answers authorities additionals m
+    → IsMessageOf header questions answers authorities additionals n → m ≡ n) where
   -- octets that are a message have one text
   same_text : (octets x y : List ℕ) → HasText octets x → HasText octets y → x ≡ y
   same_text octets x y p q =
@@ -127,31 +128,31 @@ module _ (one_message : (octets : List ℕ) (h k : Header) (q others : List Ques
       → length rest ≡ 0 → ⊥
   not_cut input rest other x y all every none cut p q ended =
       let same : length rest ≡ length other =
-      ap length (same_rewriting one_message one_rewriting input rest other x y all every none cut.1 p q).1 in
+      ap length (same_rewriting one_message one_message_of input rest other x y all every none cut.1 p q).1 in
       let some : 0 < length other = cut.0 in
       omega arith
 
   rewrites : (input x y : List ℕ) (s t : Status) → Out (Some Rewrite) input x s → Out (Some Rewrite) input y t
       → Same x y s t
   rewrites input x y Fine Fine p q =
-      ((same_rewriting one_message one_rewriting input [] [] x y true true none_in_nothing none_in_nothing p q).0, refl)
+      ((same_rewriting one_message one_message_of input [] [] x y true true none_in_nothing none_in_nothing p q).0, refl)
   rewrites input x y Refused Refused (inl p) (inl q) = (
-    (same_rewriting one_message one_rewriting input [] [] x y false false none_in_nothing none_in_nothing p q).0,
+    (same_rewriting one_message one_message_of input [] [] x y false false none_in_nothing none_in_nothing p q).0,
     refl,
   )
   rewrites input x y Refused Refused (inr (rest, all, p, cut)) (inr (other, every, q, also)) =
-      ((same_rewriting one_message one_rewriting input rest other x y all every cut.1 also.1 p q).0, refl)
+      ((same_rewriting one_message one_message_of input rest other x y all every cut.1 also.1 p q).0, refl)
   rewrites input x y Refused Refused (inl p) (inr (other, every, q, also)) = absurd
       (not_cut input [] other x y false every none_in_nothing also p q refl)
   rewrites input x y Refused Refused (inr (rest, all, p, cut)) (inl q) = absurd
       (not_cut input [] rest y x false all none_in_nothing cut q p refl)
   rewrites input x y Fine Refused p (inl q) =
       let bad : true ≡ false =
-      (same_rewriting one_message one_rewriting input [] [] x y true false none_in_nothing none_in_nothing p q).2 in
+      (same_rewriting one_message one_message_of input [] [] x y true false none_in_nothing none_in_nothing p q).2 in
       absurd (cc)
   rewrites input x y Refused Fine (inl p) q =
       let bad : false ≡ true =
-      (same_rewriting one_message one_rewriting input [] [] x y false true none_in_nothing none_in_nothing p q).2 in
+      (same_rewriting one_message one_message_of input [] [] x y false true none_in_nothing none_in_nothing p q).2 in
       absurd (cc)
   rewrites input x y Fine Refused p (inr (other, every, q, also)) = absurd
       (not_cut input [] other x y true every none_in_nothing also p q refl)

@@ -1,27 +1,25 @@
 -- What is rewritten is a function of the input.
-use Rattle.std.proofs.Common.{◌≡◌, ◌<◌, ◌⊎◌, ◌∷◌, ◌∙◌}
-use Rattle.std.proofs.Common.{ℕ, inl, inr, Bool, Option, None, List, [], length, sym, ap, subst, arith}
-use Rattle.std.proofs.Math.Logic.{∥∥₁_elim}
+use Rattle.std.proofs.Common.{◌≡◌, ◌∷◌, ◌∙◌}
+use Rattle.std.proofs.Common.{ℕ, inl, inr, Bool, List, [], length, sym, ap, subst, arith}
 use Rattle.octseq.specs.Code.{HasFront}
 use Rattle.octseq.specs.Part.{part_of}
+use Rattle.octseq_dns.specs.Contents.{octets_of}
+use Rattle.octseq_dns.specs.Contents.{Message as Contents}
+use Rattle.octseq_dns.specs.Rewritten.{IsMessageOf}
 use Rattle.octseq_dns.specs.Entry.{Question, Record}
 use Rattle.octseq_dns.specs.Message.{IsMessage}
-use Rattle.octseq_dns.specs.Rewriting.{IsRewriting}
 use Rattle.octseq_dns.specs.declared.header.Header.{Header}
-use Rattle.octseq_dns_tool.proofs.Rewritings.{octets_set}
 use Rattle.octseq_dns_tool.proofs.Streams.{one_reading}
-use Rattle.octseq_dns.specs.Moved.{CanMove}
-use Rattle.octseq_dns_tool.specs.Rewritten.{IsAnew, IsLeftOut, AreAnew, IsRewritten}
+use Rattle.octseq_dns_tool.specs.Rewritten.{IsWritten, CannotBeWritten, IsAnew, IsLeftOut, AreAnew, IsRewritten}
 use Rattle.octseq_dns_tool.specs.Stream.{FitsStream, stream_of}
 
--- by what the laws of messages say: octets are a message in one way, and a message is written anew as one row of octets
+-- by what the laws of messages say: octets are a message in one way, and a message that was read is written as one
 module _ (one_message : (octets : List ℕ) (h k : Header) (q others : List Question) (a b d x y z : List Record)
     → IsMessage octets h q a b d → IsMessage octets k others x y z
     → (h ≡ k) × (q ≡ others) × (a ≡ x) × (b ≡ y) × (d ≡ z))
-    (one_rewriting : (most : Option ℕ) (header : Header) (questions : List Question)
-    (answers authorities additionals : List Record) (octets others : List ℕ)
-    → IsRewriting most header questions answers authorities additionals octets
-    → IsRewriting most header questions answers authorities additionals others → octets ≡ others) where
+    (one_message_of : (header : Header) (questions : List Question) (answers authorities additionals : List Record)
+    (m n : Contents) → IsMessageOf header questions answers authorities additionals m
+    → IsMessageOf header questions answers authorities additionals n → m ≡ n) where
   -- what holds of the header and the lists of a message holds of those of each reading of its octets
   carried : (P : Header → List Question → List Record → List Record → List Record → Type 0) (octets : List ℕ)
       (h k : Header) (q others : List Question) (a b d x y z : List Record)
@@ -35,28 +33,30 @@ module _ (one_message : (octets : List ℕ) (h k : Header) (q others : List Ques
   -- octets are written anew in one way
   one_anew : (octets x y : List ℕ) → IsAnew octets x → IsAnew octets y → x ≡ y
   one_anew octets x y p q =
-      let written =
-      carried (λ h l a b d. ∥ IsRewriting None h l a b d x ∥₁) octets p.header q.header p.questions q.questions
-      p.answers p.authorities p.additionals
-      q.answers q.authorities q.additionals p.is_message q.is_message p.written in
-      ∥∥₁_elim written (octets_set x y) (λ one. ∥∥₁_elim q.written (octets_set x y)
-      (λ other. one_rewriting None q.header q.questions q.answers q.authorities q.additionals x y one other))
+      let one =
+      carried (λ h l a b d. IsWritten h l a b d x) octets p.header q.header p.questions q.questions p.answers
+      p.authorities p.additionals q.answers q.authorities q.additionals p.is_message q.is_message p.is_written in
+      let other = q.is_written in
+      one.written ∙ ap (octets_of 16384)
+      (one_message_of q.header q.questions q.answers q.authorities q.additionals one.contents other.contents
+      one.contents_are other.contents_are) ∙ sym other.written
 
   -- octets that are written anew aren't left out
   not_left_out : (octets x : List ℕ) → IsAnew octets x → IsLeftOut octets → ⊥
   not_left_out octets x p (inl malformed) = malformed p.header p.questions p.answers p.authorities p.additionals
       p.is_message
   not_left_out octets x p (inr q) =
-      let P : Header → List Question → List Record → List Record → List Record → Type 0 =
-      λ h l a b d. ¬ CanMove a b d ⊎ ((anew : List ℕ) → IsRewriting None h l a b d anew → 65535 < length anew) in
+      let is = p.is_written in
       let stuck =
-      carried P octets q.header p.header q.questions p.questions q.answers q.authorities q.additionals p.answers
-      p.authorities p.additionals
-      q.is_message p.is_message q.stuck in
+      carried CannotBeWritten octets q.header p.header q.questions p.questions q.answers q.authorities
+      q.additionals p.answers p.authorities p.additionals q.is_message p.is_message q.stuck in
       elim stuck [
-        | inl stays ↦ stays p.moves
-        | inr long ↦ ∥∥₁_elim p.written (λ x y. absurd x)
-            (λ written. let past = long x written in let few = p.size in absurd (omega arith))
+        | inl stays ↦ stays is.moves
+        | inr long ↦
+            let past = long is.contents is.contents_are in
+            let few = is.size in
+            let same = ap length is.written in
+            omega (arith, past, few, same)
       ]
 
   same_anew : (messages : List (List ℕ)) (all every : Bool) (x y : List (List ℕ)) → AreAnew messages all x

@@ -3,18 +3,12 @@ use Rattle.std.proofs.Common.{◌≡◌, ◌∷◌, ◌++◌, ◌∙◌}
 use Rattle.std.proofs.Common.{ℕ, inl, inr, Bool, true, false, List, [], length, refl, sym, ap, subst, arith}
 use Rattle.std.proofs.lemmas.Grind.{flat_map-append}
 use Rattle.std.proofs.lemmas.List.{append-nil}
-use Rattle.std.specs.Coded.{coded_ℕ, coded_list}
-use base.Stored.{Coded-set}
 use Rattle.octseq.proofs.Codes.{part_code}
 use Rattle.octseq.proofs.Repeats.{IsReadTo, read_none, read_more}
 use Rattle.octseq.specs.Part.{part_of}
 use Rattle.octseq_dns_tool.proofs.Streams.{some_octets}
 use Rattle.octseq_dns_tool.specs.Rewritten.{IsAnew, IsLeftOut, AreAnew, IsRewritten, AddsAnew}
 use Rattle.octseq_dns_tool.specs.Stream.{FitsStream, stream_of}
-
--- octets are equal in one way
-pub octets_set : (x y : List ℕ) (p q : x ≡ y) → p ≡ q
-octets_set = Coded-set (coded_list coded_ℕ)
 
 -- a message more, written anew
 anew_more : (messages : List (List ℕ)) (all : Bool) (anew : List (List ℕ)) (octets first : List ℕ)

@@ -1,17 +1,41 @@
 -- Streams of messages, each written anew.
 use Rattle.std.specs.List.{AllByRecursion}
-use Rattle.std.specs.Prelude.{◌≡◌, ℕ, ◌<◌, ◌≤◌, ◌⊎◌, Bool, true, false, None, List, [], ◌∷◌, ◌++◌, length}
+use Rattle.std.specs.Prelude.{◌≡◌, ℕ, ◌<◌, ◌≤◌, ◌⊎◌, Bool, true, false, List, [], ◌∷◌, ◌++◌, length}
 use Rattle.octseq.specs.Part.{part_of}
+use Rattle.octseq_dns.specs.Contents.{octets_of}
+use Rattle.octseq_dns.specs.Contents.{Message as Contents}
+use Rattle.octseq_dns.specs.Moved.{CanMove}
+use Rattle.octseq_dns.specs.Rewritten.{IsMessageOf}
 use Rattle.octseq_dns.specs.Entry.{Question, Record}
 use Rattle.octseq_dns.specs.Message.{IsMessage}
 use Rattle.octseq_dns.specs.declared.header.Header.{Header}
-use Rattle.octseq_dns.specs.Rewriting.{IsRewriting}
-use Rattle.octseq_dns.specs.Moved.{CanMove}
 use Rattle.octseq_dns_tool.specs.Shown.{IsMalformed}
 use Rattle.octseq_dns_tool.specs.Stream.{FitsStream, stream_of}
 
--- Octets are a message that can be moved, and these are the octets of it written anew, with a table of all places: at
--- most 65,535.
+-- A message that was read can be moved, and these are its octets, written anew with as many names kept as there are
+-- places that a pointer can say: at most 65,535.
+pub record IsWritten (header : Header) (questions : List Question) (answers authorities additionals : List Record)
+    (anew : List ℕ) : Type 0 where
+  pub moves : CanMove answers authorities additionals
+  pub contents : Contents
+  pub contents_are : IsMessageOf header questions answers authorities additionals contents
+  pub written : anew ≡ octets_of 16384 contents
+  pub size : length anew ≤ 65535
+
+-- a message that was read can't be moved, or takes more than 65,535 octets where it is written anew
+abbrev pub CannotBeWritten : Header → List Question → List Record → List Record → List Record → Type 0
+CannotBeWritten header questions answers authorities additionals = ¬ CanMove answers authorities additionals
+    ⊎ ((m : Contents) → IsMessageOf header questions answers authorities additionals m
+    → 65535 < length (octets_of 16384 m))
+
+-- whether a message that was read is written anew, and its octets where it is
+abbrev pub IsRewriting : Header → List Question → List Record → List Record → List Record → Bool → List ℕ → Type 0
+IsRewriting header questions answers authorities additionals true anew =
+    IsWritten header questions answers authorities additionals anew
+IsRewriting header questions answers authorities additionals false anew =
+    CannotBeWritten header questions answers authorities additionals
+
+-- Octets are a message, and these are the octets of it written anew.
 pub record IsAnew (octets anew : List ℕ) : Type 0 where
   pub header : Header
   pub questions : List Question
@@ -19,11 +43,9 @@ pub record IsAnew (octets anew : List ℕ) : Type 0 where
   pub authorities : List Record
   pub additionals : List Record
   pub is_message : IsMessage octets header questions answers authorities additionals
-  pub moves : CanMove answers authorities additionals
-  pub written : ∥ IsRewriting None header questions answers authorities additionals anew ∥₁
-  pub size : length anew ≤ 65535
+  pub is_written : IsWritten header questions answers authorities additionals anew
 
--- Octets are a message that can't be moved, or that takes more than 65,535 octets where it is written anew.
+-- Octets are a message that can't be written anew.
 pub record IsStuck (octets : List ℕ) : Type 0 where
   pub header : Header
   pub questions : List Question
@@ -31,12 +53,16 @@ pub record IsStuck (octets : List ℕ) : Type 0 where
   pub authorities : List Record
   pub additionals : List Record
   pub is_message : IsMessage octets header questions answers authorities additionals
-  pub stuck : ¬ CanMove answers authorities additionals
-      ⊎ ((anew : List ℕ) → IsRewriting None header questions answers authorities additionals anew → 65535 < length anew)
+  pub stuck : CannotBeWritten header questions answers authorities additionals
 
 -- octets that are left out
 abbrev pub IsLeftOut : List ℕ → Type 0
 IsLeftOut octets = IsMalformed octets ⊎ IsStuck octets
+
+-- whether octets are written anew, and as which, or left out
+abbrev pub IsTaken : List ℕ → Bool → List ℕ → Type 0
+IsTaken octets true anew = IsAnew octets anew
+IsTaken octets false anew = IsLeftOut octets
 
 -- These are messages written anew, and whether that is all of them.
 abbrev pub AreAnew : List (List ℕ) → Bool → List (List ℕ) → Type 0
@@ -55,7 +81,7 @@ pub record IsRewritten (input rest : List ℕ) (all : Bool) (output : List ℕ) 
   pub are_anew : AreAnew messages all anew
   pub output_is : output ≡ stream_of anew
 
--- A message is written anew behind its length at the end of an output, or it is left out and the output stays; and
+-- A message is written anew after its length at the end of an output, or it is left out and the output stays; and
 -- whether all messages were written, where that was so of those before it.
 abbrev pub AddsAnew : (octets : List ℕ) (before now : Bool) (old new : List ℕ) → Type 0
 AddsAnew octets before now old new =

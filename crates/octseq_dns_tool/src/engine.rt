@@ -9,7 +9,7 @@ ghost use Rattle.octseq_program.specs.declared.status.Status.{Status};
 use crate::engine::rewrite::rewrite_stream;
 use crate::engine::stream::show_stream;
 use octseq::StrBuilder;
-use octseq_dns::compose;
+use octseq_dns::laws;
 use octseq_dns::message::{self, Message};
 use octseq_program::streams::read_all;
 use octseq_program::{Answer, Commands, ProgramFault, Status};
@@ -46,7 +46,7 @@ pub fn one_answer()
 {
     message::one_message();
     message::one_text_of_a_message();
-    compose::one_rewriting();
+    laws::one_message_of();
 }
 
 /// Appends the text of a message, or `malformed` where the octets are none, and answers whether they are one.

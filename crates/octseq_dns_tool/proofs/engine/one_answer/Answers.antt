@@ -7,4 +7,4 @@ pub returns-clause-command : goal.returns-clause-command
 returns-clause-command c = one_named name_of same_name
 
 pub returns-clause-output : goal.returns-clause-output
-returns-clause-output c = one_output c.one_message.ensures c.one_text_of_a_message.ensures c.one_rewriting.ensures
+returns-clause-output c = one_output c.one_message.ensures c.one_text_of_a_message.ensures c.one_message_of.ensures

@@ -1,0 +1,17 @@
+use Rattle.std.proofs.Common.{◌≤◌, ◌∙◌, length, ap, arith}
+use Rattle.octseq_dns_tool.proofs.Moves.{moves}
+use Rattle.octseq_dns_tool.proofs.engine.rewrite.Writer.rewrite.Goals as goal
+
+pub returns-in-Ok : goal.returns-in-Ok
+returns-in-Ok c =
+    let contents = c.in-Ok.ensures.contents in
+    let is = c.in-Ok.ensures.written contents.0 contents.1 in
+    let same = ap length c.finish-octets.ensures.content in
+    let few : length c.in-Ok.written.state.octets ≤ 65535 = c.in-Ok.ensures.fits in
+    record {
+      moves = moves _ _ _ (λ stays. c.in-Ok.ensures.immovable.1 stays);
+      contents = contents.0;
+      contents_are = contents.1;
+      written = c.finish-octets.ensures.content ∙ ap (λ state. state.octets) is.state_is;
+      size = omega (arith, same, few);
+    }
