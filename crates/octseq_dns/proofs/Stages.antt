@@ -52,40 +52,55 @@ all_additionals h q a n first (one ∷ d) =
     all_additionals h q a n (first ++ one ∷ []) d
     ∙ ap (λ d. of_sections h q a n d) (append_assoc first (one ∷ []) d)
 
--- ---- a message is no shorter than its first sections
+-- ---- the first sections of a message
+
+abbrev pub begun : Message → Message
+begun m = of_sections m.header [] [] [] []
+
+abbrev pub asked : Message → Message
+asked m = of_sections m.header m.questions [] [] []
+
+abbrev pub answered : Message → Message
+answered m = of_sections m.header m.questions m.answers [] []
+
+abbrev pub authorized : Message → Message
+authorized m = of_sections m.header m.questions m.answers m.authorities []
+
+-- ---- a message is no shorter than they are
 
 module _ (limit : Option ℕ) (most : ℕ) (m : Message) where
-  abbrev asked : Message
-  asked = of_sections m.header m.questions [] [] []
+  pub past_additionals : IsPast limit (length (octets_of most (all_more more_additionals (authorized m) m.additionals)))
+      → IsPast limit (length (octets_of most m))
+  past_additionals past = subst (λ m. IsPast limit (length (octets_of most m)))
+      (all_additionals m.header m.questions m.answers m.authorities [] m.additionals) past
 
-  abbrev answered : Message
-  answered = of_sections m.header m.questions m.answers [] []
-
-  abbrev authorized : Message
-  authorized = of_sections m.header m.questions m.answers m.authorities []
-
-  pub past_authorized : IsPast limit (length (octets_of most authorized)) → IsPast limit (length (octets_of most m))
-  past_authorized past =
-      let less = all_longer most takes_additionals authorized m.additionals tt in
-      let same = ap (λ m. length (octets_of most m))
-      (all_additionals m.header m.questions m.answers m.authorities [] m.additionals) in
-      past_longer limit (length (octets_of most authorized)) (length (octets_of most m)) (omega (arith, less, same))
-      past
-
-  pub past_answered : IsPast limit (length (octets_of most answered)) → IsPast limit (length (octets_of most m))
-  past_answered past =
-      let less = all_longer most takes_authorities answered m.authorities refl in
+  pub past_authorities : IsPast limit (length (octets_of most (all_more more_authorities (answered m) m.authorities)))
+      → IsPast limit (length (octets_of most m))
+  past_authorities past =
+      let less = all_longer most takes_additionals (authorized m) m.additionals tt in
       let same = ap (λ m. length (octets_of most m))
       (all_authorities m.header m.questions m.answers [] m.authorities []) in
-      past_authorized (past_longer limit (length (octets_of most answered)) (length (octets_of most authorized))
-      (omega (arith, less, same)) past)
+      past_additionals (past_longer limit
+      (length (octets_of most (all_more more_authorities (answered m) m.authorities)))
+      (length (octets_of most (all_more more_additionals (authorized m) m.additionals))) (omega (arith, less, same))
+      past)
 
-  pub past_asked : IsPast limit (length (octets_of most asked)) → IsPast limit (length (octets_of most m))
-  past_asked past =
-      let less = all_longer most takes_answers asked m.answers (refl, refl) in
+  pub past_answers : IsPast limit (length (octets_of most (all_more more_answers (asked m) m.answers)))
+      → IsPast limit (length (octets_of most m))
+  past_answers past =
+      let less = all_longer most takes_authorities (answered m) m.authorities refl in
       let same = ap (λ m. length (octets_of most m)) (all_answers m.header m.questions [] m.answers [] []) in
-      past_answered (past_longer limit (length (octets_of most asked)) (length (octets_of most answered))
-      (omega (arith, less, same)) past)
+      past_authorities (past_longer limit (length (octets_of most (all_more more_answers (asked m) m.answers)))
+      (length (octets_of most (all_more more_authorities (answered m) m.authorities))) (omega (arith, less, same))
+      past)
+
+  pub past_questions : IsPast limit (length (octets_of most (all_more more_questions (begun m) m.questions)))
+      → IsPast limit (length (octets_of most m))
+  past_questions past =
+      let less = all_longer most takes_answers (asked m) m.answers (refl, refl) in
+      let same = ap (λ m. length (octets_of most m)) (all_questions m.header [] m.questions [] [] []) in
+      past_answers (past_longer limit (length (octets_of most (all_more more_questions (begun m) m.questions)))
+      (length (octets_of most (all_more more_answers (asked m) m.answers))) (omega (arith, less, same)) past)
 
   pub past_twelve : IsPast limit 12 → IsPast limit (length (octets_of most m))
   past_twelve past = past_longer limit 12 (length (octets_of most m)) (twelve_first most m) past
@@ -136,6 +151,35 @@ pub stage_next : {B T : Type 0} (most : ℕ) (b then : Building B T) (m other : 
     → then ≡ b → WritesIn most other then
 stage_next most b then m other is same next =
     subst (λ b. WritesIn most other b) (sym next) (subst (λ m. WritesIn most m b) same is)
+
+module _ {B T : Type 0} (most : ℕ) (b then : Building B T) (m : Message) where
+  -- a header is set, and nothing is pushed yet
+  pub none_pushed : (h : Header) → WritesIn most (of_sections h [] [] [] []) b → h ≡ m.header → then ≡ b
+      → WritesIn most (begun m) then
+  none_pushed h is same next = stage_next most b then (of_sections h [] [] [] []) (begun m) is
+      (ap (λ h. of_sections h [] [] [] []) same) next
+
+  -- then the questions are, and so on
+  pub questions_pushed : WritesIn most (all_more more_questions (begun m) m.questions) b → then ≡ b
+      → WritesIn most (asked m) then
+  questions_pushed is next = stage_next most b then (all_more more_questions (begun m) m.questions) (asked m) is
+      (all_questions m.header [] m.questions [] [] []) next
+
+  pub answers_pushed : WritesIn most (all_more more_answers (asked m) m.answers) b → then ≡ b
+      → WritesIn most (answered m) then
+  answers_pushed is next = stage_next most b then (all_more more_answers (asked m) m.answers) (answered m) is
+      (all_answers m.header m.questions [] m.answers [] []) next
+
+  pub authorities_pushed : WritesIn most (all_more more_authorities (answered m) m.authorities) b → then ≡ b
+      → WritesIn most (authorized m) then
+  authorities_pushed is next = stage_next most b then (all_more more_authorities (answered m) m.authorities)
+      (authorized m) is (all_authorities m.header m.questions m.answers [] m.authorities []) next
+
+  -- at last the message is whole
+  pub additionals_pushed : WritesIn most (all_more more_additionals (authorized m) m.additionals) b → then ≡ b
+      → WritesIn most m then
+  additionals_pushed is next = stage_next most b then (all_more more_additionals (authorized m) m.additionals) m is
+      (all_additionals m.header m.questions m.answers m.authorities [] m.additionals) next
 
 pub zip_questions : (left questions : List entry.Question) (written : List Question) → left ≡ questions
     → written ≡ map bare questions → AllZip IsQuestionOf left written

@@ -5,9 +5,8 @@ use Rattle.std.proofs.lemmas.Cmp.{nat_list_cmp_total}
 use Rattle.std.proofs.lemmas.Map.Lookups.{exact_bytes}
 use Rattle.std.proofs.Math.Bool.{true≢false}
 use Rattle.std.proofs.Math.Decide.{dec_le}
-use Rattle.std.proofs.Math.Nat.{
-  eq-or-lt_of_le, lt_of_not-le, mul_assoc, mul-le-mul_left, mul-le-mul_right, pow-le-pow_right, pow-suc,
-}
+use Rattle.std.proofs.Math.Nat.{eq-or-lt_of_le, lt_of_not-le, mul_assoc, mul-le-mul_left, mul-le-mul_right}
+use Rattle.std.proofs.Math.Nat.{pow-le-pow_right, pow-suc}
 use Rattle.std.specs.Cmp.Lexicographic.{slice_cmp}
 use Rattle.std.specs.Ordering.{nat_cmp, is_lt, ordering_reverse}
 use Rattle.std.specs.Prelude.{slice_index_or}
