@@ -16,7 +16,7 @@ use Rattle.octseq_dns_tool.specs.Stream.{FitsStream, stream_of}
 pub length_next : (w : Window) (n : ℕ) → n ≤ left w → w.end ≤ length w.octets → length (next n w) ≡ n
 length_next w n room within = omega (arith, length-take {A = ℕ}, length-drop {A = ℕ})
 
--- a message behind its length has octets
+-- a message after its length has octets
 pub some_octets : HasOctets (part_of 2)
 some_octets message = let all = length_part 2 message in omega arith
 

@@ -15,7 +15,7 @@ name_of Message = codes "message"
 name_of Stream = codes "stream"
 name_of Rewrite = codes "rewrite"
 
--- what is shown of each message, with an empty line behind it
+-- what is shown of each message, with an empty line after it
 abbrev pub HasBlocks : List (List ℕ) → List ℕ → Type 0
 HasBlocks [] text = text ≡ []
 HasBlocks (octets ∷ messages) text = (is_message : Bool) × (shown : List ℕ) × (more : List ℕ)

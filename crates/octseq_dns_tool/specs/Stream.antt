@@ -1,4 +1,4 @@
--- Streams of messages, each behind its length in 2 octets: RFC 1035, 4.2.2.
+-- Streams of messages, each after its length in 2 octets: RFC 1035, 4.2.2.
 use Rattle.std.specs.List.{flat_map}
 use Rattle.std.specs.Prelude.{ℕ, ◌<◌, List, length}
 use Rattle.octseq.specs.Code.{HasFront}
@@ -8,7 +8,7 @@ use Rattle.octseq.specs.Part.{part_of}
 abbrev pub FitsStream : List ℕ → Type 0
 FitsStream message = length message < 65536
 
--- the octets of messages, one behind another, each behind its length
+-- the octets of messages, one after another, each after its length
 abbrev pub stream_of : List (List ℕ) → List ℕ
 stream_of messages = flat_map (part_of 2) messages
 

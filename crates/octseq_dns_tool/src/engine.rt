@@ -29,7 +29,7 @@ const USAGE: &str = "usage: octseq_dns_tool message|stream|rewrite\n";
 pub enum Command {
     /// Write the text of the input as one message.
     Message,
-    /// Write the text of each message of the input, which stands behind its length in 2 octets.
+    /// Write the text of each message of the input, which comes after its length in 2 octets.
     Stream,
     /// Write each message of such a stream anew, with its names compressed, as a stream.
     Rewrite,

@@ -1,6 +1,6 @@
 //! Reads DNS messages from standard input, and shows them as text.
 //!
-//! `octseq_dns_tool message` shows one message. `stream` shows messages that stand one behind another, each behind its
+//! `octseq_dns_tool message` shows one message. `stream` shows messages that come one after another, each after its
 //! length in two octets. `rewrite` writes the messages of such a stream anew, with their names compressed, as a stream.
 //! The command is the program's one argument, and with no argument it is `message`.
 #![tactic(auto)]

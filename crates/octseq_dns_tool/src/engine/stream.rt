@@ -41,7 +41,7 @@ fn push_block(text: &mut StrBuilder<Vec<u8>>, octets: &[u8]) -> Result<(), Alloc
     text.push_str("\n")
 }
 
-/// What is shown of each message, with an empty line behind it.
+/// What is shown of each message, with an empty line after it.
 pub(super) fn show_stream(alloc: Global, input: &[u8]) -> Result<Answer, AllocError>
     ensures { IfOk result (λ answer. Out (Some Stream) input.now answer.output.items answer.status) }
 {

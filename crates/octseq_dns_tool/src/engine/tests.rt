@@ -65,7 +65,7 @@ fn ran(alloc: Global, word: &str, octets: &[u8]) -> (Result<Status, ProgramFault
     (answer, written)
 }
 
-/// Octets one behind another.
+/// Octets one after another.
 fn joined(alloc: Global, parts: &[&[u8]]) -> Result<Vec<u8>, Fail> {
     let mut octets = Vec::new(alloc);
     for part in parts {

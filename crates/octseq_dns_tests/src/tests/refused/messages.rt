@@ -16,6 +16,8 @@ const ENTRIES: &[u8] =
 fn lists<R: Octets + Copy>(rt: &(impl Abort + AllocGlobal), octets: R) -> Result<(), Fail> {
     let message = Message::parse(octets)?;
     let sections: Result<Sections<R>, AllocError> = message.collect(rt.alloc());
+    let counts = message.header_counts();
+    assert_equal!(rt, (counts.qdcount, counts.arcount), (2, 1));
     assert_equal!(rt, message.questions().count(), 2);
     assert_equal!(rt, message.additionals().count(), 1);
     let sections = sections?;

@@ -15,6 +15,7 @@ fn is_written_anew<R: Octets + Copy>(
     let alloc = rt.alloc();
     let message = Message::parse(octets)?;
     let written = rewrite(&message, Vec::new(alloc), Vec::<Target>::new(alloc));
+    assert_equal!(rt, message.header_counts().ancount, 10);
     assert_equal!(rt, message.answers().count(), 10);
     let (written, _) = written?.finish();
     assert_equal!(rt, written.as_slice(), COMPRESSED);

@@ -7,7 +7,7 @@ use std::io::ErrorKind;
 use std::process::Abort;
 use std::test::Fail;
 
-/// A message of zeros behind its length.
+/// A message of zeros after its length.
 const BLANK: [u8; 14] = [0, 12, 0, 0, 0, 0, 0, 0, 0, 0, 0, 0, 0, 0];
 
 /// What each command writes for `BLANK`.

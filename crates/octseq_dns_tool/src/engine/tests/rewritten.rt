@@ -17,7 +17,7 @@ fn message_of(alloc: Global, rtype: u8, class: u8, rdata: &[u8]) -> Result<Vec<u
     joined(alloc, &[&header_of(1), &fields, rdata])
 }
 
-/// Messages, each behind its length.
+/// Messages, each after its length.
 fn stream_of(alloc: Global, messages: &[&[u8]]) -> Result<Vec<u8>, Fail> {
     let mut stream = Vec::new(alloc);
     for message in messages {
