@@ -85,12 +85,13 @@ fn main() {
     let path = std::env::args().nth(1).expect("the messages are in a file");
     let lines = std::fs::read_to_string(path).expect("the file is text");
     let stream = dns::stream_of(include_str!("messages.hex"));
-    let traffic = messages_of(&stream);
+    let mut traffic = messages_of(&stream);
+    traffic.retain(|message| call(octseq_dns_rewritten, message) > 0);
     let size: usize = traffic.iter().map(|message| message.len()).sum();
     let whole = seconds(|| traffic.iter().map(|message| call(octseq_dns_rewritten, message)).sum());
     let each = whole / size as f64;
-    let (count, all) = (traffic.len(), whole * 1e3);
-    println!("{count} messages of traffic, {size} octets: {all:.3} ms, {:.1} ms a megabyte\n", each * 1e9);
+    let (count, all, megabyte) = (traffic.len(), whole * 1e3, each * 1e9);
+    println!("{count} messages of traffic, {size} octets, written anew: {all:.3} ms, {megabyte:.1} ms a megabyte\n");
     println!("| message | octets | octets anew | milliseconds | of which checked | times traffic |");
     println!("|---|---|---|---|---|---|");
     let ratios = lines.lines().map(message_of).map(|(name, message)| tell(name, &message, each));
