@@ -1,0 +1,7 @@
+pub mod Bodies
+pub mod Chunks
+pub mod Families
+pub mod OneMessage
+pub mod Types
+pub mod Values
+pub mod Wholes

@@ -1,0 +1,37 @@
+//! BGP messages, read from one buffer with nothing copied: RFC 4271 and what was added to it.
+#![tactic(auto)]
+
+pub mod attribute;
+pub mod attribute_type;
+pub mod community;
+pub mod entry;
+pub mod family;
+pub mod item;
+pub mod message;
+pub mod open;
+pub mod parameter;
+pub mod path;
+pub mod prefix;
+pub mod reach;
+pub mod session;
+pub mod update;
+pub mod value;
+mod whole;
+
+pub use attribute::{Flags, PathAttribute, PathAttributes};
+pub use attribute_type::AttributeType;
+pub use community::{
+    ClusterId, ClusterIds, ExtendedCommunities, ExtendedCommunity, LargeCommunities,
+    LargeCommunity, StandardCommunities, StandardCommunity,
+};
+pub use family::{Afi, AfiSafiType};
+pub use item::{Item, Items};
+pub use message::{Message, NotificationMessage, RouteRefreshMessage, one_message};
+pub use open::OpenMessage;
+pub use parameter::{Parameter, Parameters};
+pub use path::{AsPath, Asn, Asns, Segment, SegmentType};
+pub use prefix::{Nlri, PathId, Prefixes};
+pub use reach::{MpReachNlri, MpUnreachNlri};
+pub use session::{AddPath, SessionConfig};
+pub use update::{UpdateMessage, UpdateParts};
+pub use value::{Aggregator, AttributeValue, one_value};
