@@ -1,4 +1,6 @@
 pub mod AttributeType
+pub mod Capability
+pub mod CapabilityOf
 pub mod Community
 pub mod Entry
 pub mod EntryOf

@@ -7,7 +7,7 @@ use Rattle.octseq_format.specs.Rest.{IsRest}
 use Rattle.octseq_bgp.specs.Entry.{IsNumber}
 use Rattle.octseq_bgp.specs.Fills.{Whole}
 use Rattle.octseq_bgp.specs.Open.{Open, IsOpen}
-use Rattle.octseq_bgp.specs.Update.{Update, IsUpdate}
+use Rattle.octseq_bgp.specs.Update.{Update, IsUpdate, IsUpdateParts}
 use Rattle.octseq_bgp.specs.declared.session.SessionConfig.{SessionConfig}
 
 -- What a message says: an OPEN; an UPDATE; a code, a subcode and data of a NOTIFICATION; nothing; or AFI, subtype, SAFI
@@ -55,3 +55,10 @@ pub record IsMessage (s : SessionConfig) (octets : List ℕ) (m : Message) : Typ
   pub header : IsHeader (whole octets) (length octets, (kind, body))
   pub short : IsShortEnough s kind (length octets)
   pub is : IsBody s body kind m
+
+-- The octets are an UPDATE by their header, and these are its three parts, whether its lists fill them or not.
+pub record HasUpdateParts (s : SessionConfig) (octets : List ℕ) (parts : Window × (Window × Window)) : Type 0 where
+  pub body : Window
+  pub header : IsHeader (whole octets) (length octets, (2, body))
+  pub short : IsShortEnough s 2 (length octets)
+  pub are : Whole IsUpdateParts body parts

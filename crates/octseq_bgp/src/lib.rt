@@ -3,6 +3,7 @@
 
 pub mod attribute;
 pub mod attribute_type;
+pub mod capability;
 pub mod community;
 pub mod entry;
 pub mod family;
@@ -20,6 +21,7 @@ mod whole;
 
 pub use attribute::{Flags, PathAttribute, PathAttributes};
 pub use attribute_type::AttributeType;
+pub use capability::{Capabilities, Capability, ParameterValue};
 pub use community::{
     ClusterId, ClusterIds, ExtendedCommunities, ExtendedCommunity, LargeCommunities,
     LargeCommunity, StandardCommunities, StandardCommunity,

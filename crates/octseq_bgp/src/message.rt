@@ -5,11 +5,12 @@ ghost use Rattle.octseq.specs.Window.{Window, left, whole};
 ghost use Rattle.octseq_bgp.specs.Fills.{Whole};
 ghost use Rattle.octseq_bgp.specs.Message as said;
 ghost use Rattle.octseq_bgp.specs.Message.{IsHeader, IsNotification, IsRouteRefresh, IsBody, IsMessage, IsShortEnough};
+ghost use Rattle.octseq_bgp.specs.Message.{HasUpdateParts};
 ghost use Rattle.octseq_bgp.specs.declared.session.SessionConfig.{SessionConfig as Session};
 
 use crate::open::OpenMessage;
 use crate::session::SessionConfig;
-use crate::update::UpdateMessage;
+use crate::update::{UpdateMessage, UpdateParts};
 use crate::whole::parse_all;
 use octseq::utf8::Turns;
 use octseq::{AsOctets, Malformed, Parser};
@@ -123,6 +124,50 @@ fn is_short_enough(session: &SessionConfig, kind: u8, size: usize) -> bool
     size <= 4096 || session.extended_message && kind != 1 && kind != 4
 }
 
+/// Reads a header whose length is that of the octets, and which may have so many.
+fn parse_header<R: AsOctets + Copy>(
+    octets: R,
+    session: &SessionConfig,
+) -> Result<Header<R>, Malformed>
+    ensures header { IfOk result (λ it. IsHeader (whole (R.content octets))
+        (length (R.content octets), (it.kind, window it.body))) }
+    ensures short { IfOk result (λ it. IsShortEnough session.now it.kind (length (R.content octets))) }
+    ensures malformed { IsErr result → (kind : ℕ) (body : Window)
+        → IsHeader (whole (R.content octets)) (length (R.content octets), (kind, body))
+        → ¬ IsShortEnough session.now kind (length (R.content octets)) }
+{
+    let parser = Parser::from_ref(octets);
+    let size = parser.remaining();
+    let header = Header::parse(parser)?;
+    if usize::from(header.length) != size || !is_short_enough(session, header.kind, size) {
+        return Err(Malformed);
+    }
+    Ok(header)
+}
+
+impl<R: AsOctets + Copy> UpdateParts<R> {
+    ghost use Rattle.octseq_bgp.specs.Parsed.{parts_of};
+
+    /// The places of the three parts of an UPDATE whose lengths fit, whether its prefixes and attributes fill them or
+    /// not: RFC 7606, 3.
+    ///
+    /// # Errors
+    ///
+    /// `Malformed` where the octets are no UPDATE of the session by their header, or where the lengths don't fit.
+    pub fn parse(octets: R, session: SessionConfig) -> Result<UpdateParts<R>, Malformed>
+        ensures parts { IfOk result (λ it. HasUpdateParts session (R.content octets) (parts_of it)) }
+        ensures malformed { IsErr result → (parts : Window × (Window × Window))
+            → ¬ HasUpdateParts session (R.content octets) parts }
+    {
+        let header = parse_header(octets, &session)?;
+        if header.kind != 2 {
+            return Err(Malformed);
+        }
+        let parts = UpdateParts::parse_body(header.body)?;
+        Ok(parts)
+    }
+}
+
 impl<R: AsOctets + Copy> Message<R> {
     ghost use Rattle.octseq_bgp.specs.Parsed.{message_of};
 
@@ -179,15 +224,7 @@ impl<R: AsOctets + Copy> Message<R> {
         ensures malformed { IsErr result → (m : said.Message) → ¬ IsMessage session (R.content octets) m }
         ensures turns { turns.new ≤ turns.old + length (R.content octets) }
     {
-        let parser = Parser::from_ref(octets);
-        let size = parser.remaining();
-        let header = Header::parse(parser)?;
-        if usize::from(header.length) != size {
-            return Err(Malformed);
-        }
-        if !is_short_enough(&session, header.kind, size) {
-            return Err(Malformed);
-        }
+        let header = parse_header(octets, &session)?;
         let message = Message::parse_body(header.body, header.kind, session, turns)?;
         Ok(message)
     }
