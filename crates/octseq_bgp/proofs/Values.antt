@@ -27,7 +27,7 @@ use Rattle.octseq_bgp.proofs.Types.{one_type}
 use Rattle.octseq_bgp.proofs.Wholes.{one_whole, one_fills}
 
 -- a window says one thing of a kind at most
-abbrev OneSaid : {A : Type 0} → (A → Type 0) → Type 0
+abbrev pub OneSaid : {A : Type 0} → (A → Type 0) → Type 0
 OneSaid {A} Is = (a b : A) → Is a → Is b → a ≡ b
 
 one_made : {A : Type 0} (make : A → Value) {Is : A → Type 0} → OneSaid Is → OneSaid (Made make Is)
@@ -44,7 +44,7 @@ one_reach_front = one_number 2 one_then one_number 1 one_then one_octets 1 one_t
 reach_from : AfiSafiType → Window → List Entry → Reach
 reach_from family next_hop prefixes = record { family = family; next_hop = next_hop; prefixes = prefixes }
 
-one_reach : (s : SessionConfig) (w : Window) → OneSaid (IsReach s w)
+pub one_reach : (s : SessionConfig) (w : Window) → OneSaid (IsReach s w)
 unfolding reach_from
 one_reach s w r o a b =
     let front = one_whole IsReachFront one_reach_front w _ _ a.front b.front in

@@ -6,6 +6,7 @@ pub mod Entry
 pub mod EntryOf
 pub mod Family
 pub mod Fills
+pub mod Handling
 pub mod Items
 pub mod Lists
 pub mod Message

@@ -9,6 +9,7 @@ use Rattle.octseq_bgp.specs.Update.{Update}
 use Rattle.octseq_bgp.specs.declared.message.Message.{Message}
 use Rattle.octseq_bgp.specs.declared.message.Message.TheVariants as kind
 use Rattle.octseq_bgp.specs.declared.open.OpenMessage.{OpenMessage}
+use Rattle.octseq_bgp.specs.declared.session.SessionConfig.{SessionConfig}
 use Rattle.octseq_bgp.specs.declared.update.UpdateMessage.{UpdateMessage}
 use Rattle.octseq_bgp.specs.declared.update.UpdateParts.{UpdateParts}
 
@@ -23,6 +24,10 @@ update_of u = record {
   attributes = attributes_left u.path_attributes;
   announced = prefixes_left u.announced;
 }
+
+-- the session that it was read in
+abbrev pub session_of : {R : Type 0} {g : Ghosts R} → UpdateMessage R g → SessionConfig
+session_of u = u.path_attributes.session
 
 -- an OPEN
 abbrev pub open_of : {R : Type 0} {g : Ghosts R} → OpenMessage R g → Open

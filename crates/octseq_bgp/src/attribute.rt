@@ -85,6 +85,13 @@ impl<R: AsOctets + Copy> PathAttributes<R> {
         Ok(PathAttributes { entries, session })
     }
 
+    /// The session that they were read in.
+    pub(crate) fn session(&self) -> SessionConfig
+        ensures { result ≡ self.now.session }
+    {
+        self.session
+    }
+
     /// How many attributes are left.
     pub fn len(&self) -> usize
         ensures { result ≡ length (attributes_left self.now) }

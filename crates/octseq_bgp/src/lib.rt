@@ -7,6 +7,7 @@ pub mod capability;
 pub mod community;
 pub mod entry;
 pub mod family;
+pub mod handling;
 pub mod item;
 pub mod message;
 pub mod open;
@@ -27,6 +28,7 @@ pub use community::{
     LargeCommunity, StandardCommunities, StandardCommunity,
 };
 pub use family::{Afi, AfiSafiType};
+pub use handling::Handling;
 pub use item::{Item, Items};
 pub use message::{Message, NotificationMessage, RouteRefreshMessage, one_message};
 pub use open::OpenMessage;
