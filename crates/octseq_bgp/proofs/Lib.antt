@@ -2,6 +2,7 @@ pub mod Bodies
 pub mod Chunks
 pub mod Families
 pub mod Marks
+pub mod OneCapability
 pub mod OneMessage
 pub mod Types
 pub mod Values

@@ -1,10 +1,12 @@
 pub mod AttributeType
 pub mod Capability
 pub mod CapabilityOf
+pub mod CapabilityType
 pub mod Community
 pub mod Entry
 pub mod EntryOf
 pub mod Family
+pub mod FamilyTuple
 pub mod Fills
 pub mod Handling
 pub mod Items

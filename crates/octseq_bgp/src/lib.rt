@@ -4,9 +4,12 @@
 pub mod attribute;
 pub mod attribute_type;
 pub mod capability;
+pub mod capability_type;
+pub mod capability_value;
 pub mod community;
 pub mod entry;
 pub mod family;
+pub mod family_tuple;
 pub mod handling;
 pub mod item;
 pub mod message;
@@ -23,11 +26,14 @@ mod whole;
 pub use attribute::{Flags, PathAttribute, PathAttributes};
 pub use attribute_type::AttributeType;
 pub use capability::{Capabilities, Capability, ParameterValue};
+pub use capability_type::CapabilityType;
+pub use capability_value::{CapabilityValue, GracefulRestart, one_capability_value};
 pub use community::{
     ClusterId, ClusterIds, ExtendedCommunities, ExtendedCommunity, LargeCommunities,
     LargeCommunity, StandardCommunities, StandardCommunity,
 };
 pub use family::{Afi, AfiSafiType};
+pub use family_tuple::FamilyTuple;
 pub use handling::Handling;
 pub use item::{Item, Items};
 pub use message::{Message, NotificationMessage, RouteRefreshMessage, one_message};

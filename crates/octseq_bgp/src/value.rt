@@ -131,7 +131,7 @@ fn parse_origin<R: AsOctets + Copy>(parser: Parser<R>) -> Result<u8, Malformed>
 }
 
 /// Nothing.
-fn parse_nothing<R: AsOctets + Copy>(parser: Parser<R>) -> Result<(), Malformed>
+pub(crate) fn parse_nothing<R: AsOctets + Copy>(parser: Parser<R>) -> Result<(), Malformed>
     ensures nothing { OnOk result (left (window parser) ≡ 0) }
     ensures malformed { IsErr result → ¬ (left (window parser) ≡ 0) }
 {
@@ -142,7 +142,9 @@ fn parse_nothing<R: AsOctets + Copy>(parser: Parser<R>) -> Result<(), Malformed>
 }
 
 /// Items, one at least.
-fn parse_some<R: AsOctets + Copy, T: Item>(parser: Parser<R>) -> Result<Items<R, T>, Malformed>
+pub(crate) fn parse_some<R: AsOctets + Copy, T: Item>(
+    parser: Parser<R>,
+) -> Result<Items<R, T>, Malformed>
     ensures items { IfOk result (λ items. SomeItems T.width T.reads (window parser) (items_left items)) }
     ensures malformed { IsErr result → (row : List T.Found) → ¬ SomeItems T.width T.reads (window parser) row }
 {
