@@ -4,6 +4,7 @@ pub mod Families
 pub mod Marks
 pub mod OneCapability
 pub mod OneMessage
+pub mod Spoken
 pub mod Types
 pub mod Values
 pub mod Wholes

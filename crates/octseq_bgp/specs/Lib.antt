@@ -12,6 +12,7 @@ pub mod Handling
 pub mod Items
 pub mod Lists
 pub mod Message
+pub mod Negotiated
 pub mod OneEntry
 pub mod Open
 pub mod Parsed
@@ -19,6 +20,7 @@ pub mod Path
 pub mod PathOf
 pub mod Prefix
 pub mod Session
+pub mod SpokenOf
 pub mod Update
 pub mod Value
 pub mod ValueOf

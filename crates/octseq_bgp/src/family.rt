@@ -41,6 +41,26 @@ impl AfiSafiType {
         }
     }
 
+    /// The number of its addresses.
+    pub fn afi_number(self) -> u16
+        ensures { result ≡ afi_number self }
+    {
+        match self {
+            AfiSafiType::Ipv4Unicast | AfiSafiType::Ipv4Multicast => 1,
+            AfiSafiType::Ipv6Unicast | AfiSafiType::Ipv6Multicast => 2,
+        }
+    }
+
+    /// The number of what they are for.
+    pub fn safi_number(self) -> u8
+        ensures { result ≡ safi_number self }
+    {
+        match self {
+            AfiSafiType::Ipv4Unicast | AfiSafiType::Ipv6Unicast => 1,
+            AfiSafiType::Ipv4Multicast | AfiSafiType::Ipv6Multicast => 2,
+        }
+    }
+
     /// Its addresses.
     pub fn afi(self) -> Afi
         ensures { result ≡ afi_of self }

@@ -13,6 +13,7 @@ pub mod family_tuple;
 pub mod handling;
 pub mod item;
 pub mod message;
+pub mod negotiated;
 pub mod open;
 pub mod parameter;
 pub mod path;
