@@ -61,7 +61,7 @@ one_unreach_front = one_number 2 one_then one_number 1 one_then one_rest
 unreach_from : AfiSafiType → List Entry → Unreach
 unreach_from family prefixes = record { family = family; prefixes = prefixes }
 
-one_unreach : (s : SessionConfig) (w : Window) → OneSaid (IsUnreach s w)
+pub one_unreach : (s : SessionConfig) (w : Window) → OneSaid (IsUnreach s w)
 unfolding unreach_from
 one_unreach s w r o a b =
     let front = one_whole IsUnreachFront one_unreach_front w _ _ a.front b.front in

@@ -3,6 +3,7 @@ pub mod Capability
 pub mod CapabilityOf
 pub mod CapabilityType
 pub mod Community
+pub mod EndOfRib
 pub mod Entry
 pub mod EntryOf
 pub mod Family

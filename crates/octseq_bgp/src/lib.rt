@@ -7,6 +7,7 @@ pub mod capability;
 pub mod capability_type;
 pub mod capability_value;
 pub mod community;
+pub mod end_of_rib;
 pub mod entry;
 pub mod family;
 pub mod family_tuple;
