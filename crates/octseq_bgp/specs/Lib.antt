@@ -20,8 +20,10 @@ pub mod Parsed
 pub mod Path
 pub mod PathOf
 pub mod Prefix
+pub mod PrefixValue
 pub mod Session
 pub mod SpokenOf
+pub mod Text
 pub mod Update
 pub mod Value
 pub mod ValueOf

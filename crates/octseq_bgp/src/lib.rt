@@ -21,6 +21,7 @@ pub mod path;
 pub mod prefix;
 pub mod reach;
 pub mod session;
+mod text;
 pub mod update;
 pub mod value;
 mod whole;
@@ -42,7 +43,7 @@ pub use message::{Message, NotificationMessage, RouteRefreshMessage, one_message
 pub use open::OpenMessage;
 pub use parameter::{Parameter, Parameters};
 pub use path::{AsPath, Asn, Asns, Segment, SegmentType};
-pub use prefix::{Nlri, PathId, Prefixes};
+pub use prefix::{Nlri, PathId, Prefix, Prefixes};
 pub use reach::{MpReachNlri, MpUnreachNlri};
 pub use session::{AddPath, SessionConfig};
 pub use update::{UpdateMessage, UpdateParts};

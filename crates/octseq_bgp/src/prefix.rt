@@ -1,10 +1,11 @@
 //! Prefixes: RFC 4271, 4.3, and RFC 7911, 3, for their path ids.
-ghost use Rattle.std.specs.Prelude.{◌≡◌, ◌+◌, ◌<◌, ◌≤◌, List, true, IsErr, IfOk, ⊤};
+ghost use Rattle.std.specs.Prelude.{◌≡◌, ◌+◌, ◌<◌, ◌≤◌, List, slice_index, true, IsErr, IfOk, ⊤};
 ghost use Rattle.octseq.specs.Parser.{window};
-ghost use Rattle.octseq.specs.Window.{left};
+ghost use Rattle.octseq.specs.Window.{left, rest};
 ghost use Rattle.octseq_bgp.specs.Entry.{Entry, IsEntry, number_limit};
 ghost use Rattle.octseq_bgp.specs.Fills.{Fills};
 ghost use Rattle.octseq_bgp.specs.Prefix.{is_prefix_form, path_number};
+ghost use Rattle.octseq_bgp.specs.PrefixValue.{bits_after, cleared, IsAddress};
 ghost use Rattle.octseq_bgp.specs.Session.{prefix_form};
 
 use crate::entry::{Entries, Form};
@@ -138,5 +139,86 @@ fn afi(form: Form) -> Afi {
     match form {
         Form::Ipv6 | Form::Ipv6Path => Afi::Ipv6,
         _ => Afi::Ipv4,
+    }
+}
+
+/// A prefix as a value: its family, how many bits it has, and its address, whose bits after those are 0. An IPv4 address
+/// has the first four octets.
+#[derive(Clone, Copy, Debug, PartialEq, Eq)]
+pub struct Prefix {
+    /// The family of its address.
+    pub afi: Afi,
+    /// How many bits it has.
+    pub len: u8,
+    /// Its address, and zeros after it.
+    pub address: [u8; 16],
+}
+
+/// An octet without its last bits.
+fn clear(octet: u8, bits: usize) -> u8
+    requires { bits ≤ 8 }
+    ensures { result ≡ cleared bits octet }
+{
+    match bits {
+        0 => octet,
+        1 => octet / 2 * 2,
+        2 => octet / 4 * 4,
+        3 => octet / 8 * 8,
+        4 => octet / 16 * 16,
+        5 => octet / 32 * 32,
+        6 => octet / 64 * 64,
+        7 => octet / 128 * 128,
+        _ => 0,
+    }
+}
+
+/// How many bits of the octet at an index come after so many bits.
+fn bits_after(bits: u8, index: usize) -> usize
+    requires { index < 16 }
+    ensures { result ≡ bits_after bits index }
+{
+    let end = 8 * (index + 1);
+    let begin = usize::from(bits);
+    if end <= begin {
+        return 0;
+    }
+    if end - begin < 8 { end - begin } else { 8 }
+}
+
+/// The octet of an address at an index, of octets that begin with so many bits of it.
+fn octet_of(octets: &[u8], bits: u8, index: usize) -> u8
+    requires { index < 16 }
+    ensures { result ≡ cleared (bits_after bits index) (slice_index octets.now index) }
+{
+    if index < octets.len() {
+        clear(octets[index], bits_after(bits, index))
+    } else {
+        0
+    }
+}
+
+/// The address of so many bits that octets begin with.
+fn address_of(octets: &[u8], bits: u8) -> [u8; 16]
+    ensures { IsAddress bits octets.now result }
+{
+    let mut address = [0; 16];
+    for i in 0..16 {
+        address[i] = octet_of(octets, bits, i);
+    }
+    address
+}
+
+impl<R: AsOctets + Copy> Nlri<R> {
+    /// The prefix as a value.
+    pub fn prefix(&self) -> Prefix
+        ensures afi { result.afi ≡ self.now.afi }
+        ensures len { result.len ≡ self.now.len }
+        ensures address { IsAddress self.now.len (rest (window self.now.octets)) result.address }
+    {
+        Prefix {
+            afi: self.afi,
+            len: self.len,
+            address: address_of(self.octets.peek_all(), self.len),
+        }
     }
 }
