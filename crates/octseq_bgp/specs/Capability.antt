@@ -1,6 +1,6 @@
--- Parameters and capabilities: RFC 5492, 4, RFC 4760, 8 (multiprotocol), RFC 2918, 2 (route refresh), RFC 8654, 3 (extended
--- messages), RFC 4724, 3 (graceful restart), RFC 6793, 3 (AS numbers of four octets), RFC 7911, 4 (path ids), RFC 7313, 3.1
--- (enhanced route refresh).
+-- Parameters and capabilities: RFC 5492, 4, RFC 4760, 8 (multiprotocol), RFC 2918, 2 (route refresh), RFC 8654, 3
+-- (extended messages), RFC 4724, 3 (graceful restart), RFC 6793, 3 (AS numbers of four octets), RFC 7911, 4 (path ids),
+-- RFC 7313, 3.1 (enhanced route refresh).
 use Rattle.std.specs.Prelude.{◌≡◌, ℕ, ◌≤◌, ◌⊎◌, List, [], ◌∷◌, length}
 use Rattle.octseq.specs.Window.{Window, left}
 use Rattle.octseq_format.specs.Fixed.{IsFixed}
@@ -45,8 +45,8 @@ abbrev pub ArePaths : List (ℕ × (ℕ × ℕ)) → Type 0
 ArePaths [] = Unit {0}
 ArePaths (t ∷ more) = (1 ≤ t.1.1) × (t.1.1 ≤ 3) × ArePaths more
 
--- What a capability says: AFI, an octet that has no meaning, and SAFI; nothing but that it is there; who restarts; an AS
--- number; families with path ids; or octets whose form isn't that of their code.
+-- What a capability says: AFI, an octet that has no meaning, and SAFI; nothing but that it is there; who restarts; an
+-- AS number; families with path ids; or octets whose form isn't that of their code.
 pub data CapabilityValue : Type 0 where
   multi_protocol : ℕ × (ℕ × ℕ) → CapabilityValue
   route_refresh : CapabilityValue
@@ -71,7 +71,8 @@ Bare value w v = (v ≡ value) × (left w ≡ 0)
 
 -- the window says a value of a code
 abbrev pub HasCode : CapabilityType → Window → CapabilityValue → Type 0
-HasCode code.MultiProtocol w = Said CapabilityValue.multi_protocol (Whole (IsNumber 2 then IsNumber 1 then IsNumber 1) w)
+HasCode code.MultiProtocol w =
+    Said CapabilityValue.multi_protocol (Whole (IsNumber 2 then IsNumber 1 then IsNumber 1) w)
 HasCode code.RouteRefresh w = Bare CapabilityValue.route_refresh w
 HasCode code.ExtendedMessage w = Bare CapabilityValue.extended_message w
 HasCode code.GracefulRestart w = Said CapabilityValue.graceful_restart (IsRestart w)

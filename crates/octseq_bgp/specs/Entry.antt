@@ -51,7 +51,8 @@ octets_of_bits bits = (bits + 7) / 8
 
 -- a prefix: a length in bits, up to `most`, and as many octets as the bits need
 abbrev pub IsPrefix : ℕ → Relation (ℕ × Window)
-IsPrefix most = IsWhere (IsNumber 1) (λ bits. bits) (λ bits. bits ≤ most) deciding (λ bits. IsNext (octets_of_bits bits))
+IsPrefix most = IsWhere (IsNumber 1) (λ bits. bits) (λ bits. bits ≤ most)
+    deciding (λ bits. IsNext (octets_of_bits bits))
 
 -- how many octets the length of an attribute has: 2 where its flags have the bit 16, else 1
 abbrev pub length_octets : ℕ → ℕ
@@ -71,7 +72,8 @@ IsSegmentType kind = (1 ≤ kind) × (kind ≤ 4)
 
 -- a segment: a type, a count of 1 or more, and as many AS numbers of k octets
 abbrev pub IsSegment : ℕ → Relation (ℕ × (ℕ × Window))
-IsSegment k = IsWhere (IsNumber 1) (λ kind. kind) IsSegmentType then IsWhere (IsNumber 1) (λ count. count) (λ count. 1 ≤ count)
+IsSegment k = IsWhere (IsNumber 1) (λ kind. kind) IsSegmentType
+    then IsWhere (IsNumber 1) (λ count. count) (λ count. 1 ≤ count)
     deciding (λ count. IsNext (k * count))
 
 -- the parts of an entry of a form

@@ -54,7 +54,8 @@ external_rank external _ = 0
 
 -- The octets name a family whose prefixes are read, or are too few to name one.
 abbrev pub NamesFamily : Window → Type 0
-NamesFamily w = (left w < 3) ⊎ (f : AfiSafiType) × (afi_number f ≡ be (next 2 w)) × (safi_number f ≡ be (next 1 (past 2 w)))
+NamesFamily w =
+    (left w < 3) ⊎ (f : AfiSafiType) × (afi_number f ≡ be (next 2 w)) × (safi_number f ≡ be (next 1 (past 2 w)))
 
 -- what is to be done where the octets aren't of the form of the type: RFC 7606, 7
 abbrev pub opaque_rank : Bool → Bool → AttributeType → ℕ
@@ -100,7 +101,8 @@ HasType (e ∷ more) number = (e.kind ≡ number) ⊎ HasType more number
 -- The worst of what is to be done with the attributes of a list, after those of another. Where it is empty, nothing is.
 abbrev pub IsWorst : SessionConfig → Bool → List Entry → List Entry → ℕ → Type 0
 IsWorst s external before [] n = n ≡ 0
-IsWorst s external before (e ∷ more) n = (again : Bool) × (IsTrue again ↔ HasType before e.kind) × (x : ℕ) × IsRank s external again e x
+IsWorst s external before (e ∷ more) n =
+    (again : Bool) × (IsTrue again ↔ HasType before e.kind) × (x : ℕ) × IsRank s external again e x
     × (y : ℕ) × IsWorst s external (e ∷ before) more y × (n ≡ max x y)
 
 -- the attribute is an MP_REACH_NLRI that has prefixes
@@ -116,8 +118,8 @@ ReachesSome s (e ∷ more) = Reaches s e ⊎ ReachesSome s more
 abbrev pub Announces : SessionConfig → Update → Type 0
 Announces s u = (1 ≤ length u.announced) ⊎ ReachesSome s u.attributes
 
--- An attribute is missing that has to be there: ORIGIN or AS_PATH where prefixes are announced, NEXT_HOP where the UPDATE
--- itself announces them: RFC 4271, 5, and RFC 7606, 3 (d).
+-- An attribute is missing that has to be there: ORIGIN or AS_PATH where prefixes are announced, NEXT_HOP where the
+-- UPDATE itself announces them: RFC 4271, 5, and RFC 7606, 3 (d).
 abbrev pub Misses : SessionConfig → Update → Type 0
 Misses s u = Announces s u × (¬ HasType u.attributes 1 ⊎ ¬ HasType u.attributes 2)
     ⊎ (1 ≤ length u.announced) × ¬ HasType u.attributes 3

@@ -10,6 +10,7 @@ pub mod Family
 pub mod FamilyTuple
 pub mod Fills
 pub mod Handling
+pub mod ItemRow
 pub mod Items
 pub mod Lists
 pub mod Message

@@ -1,4 +1,5 @@
--- What two OPENs agree on: RFC 6793, 4.1 (AS numbers of four octets), RFC 7911, 4 (path ids), RFC 8654, 3 (long messages).
+-- What two OPENs agree on: RFC 6793, 4.1 (AS numbers of four octets), RFC 7911, 4 (path ids), RFC 8654, 3 (long
+-- messages).
 use Rattle.std.specs.Prelude.{◌≡◌, Bool, true, false, ◌&&◌, ◌||◌, ℕ, List, [], ◌∷◌, ◌++◌, if◌then◌else◌, nat_eq}
 use Rattle.octseq_bgp.specs.Capability.{ParameterValue, IsParameterValue, CapabilityValue, IsCapabilityValue}
 use Rattle.octseq_bgp.specs.Entry.{Entry}
@@ -11,7 +12,8 @@ use Rattle.octseq_bgp.specs.declared.session.SessionConfig.{SessionConfig}
 -- each capability says this
 abbrev pub AreValues : List Entry → List CapabilityValue → Type 0
 AreValues [] values = values ≡ []
-AreValues (e ∷ more) values = (v : CapabilityValue) × IsCapabilityValue e.kind e.octets v × (rest : List CapabilityValue)
+AreValues (e ∷ more) values =
+    (v : CapabilityValue) × IsCapabilityValue e.kind e.octets v × (rest : List CapabilityValue)
     × AreValues more rest × (values ≡ v ∷ rest)
 
 -- the capabilities that a parameter says

@@ -12,8 +12,9 @@ use Rattle.octseq_format.specs.Pair.{◌then◌, ◌one_then◌, ◌onward_then�
 use Rattle.octseq_format.specs.Rest.{IsRest, one_rest, window_code}
 use Rattle.octseq_format.specs.Row.{Holds, held_once}
 use Rattle.octseq_format.specs.Where.{one_where, onward_where}
-use Rattle.octseq_bgp.specs.Entry.{Entry, IsNumber, IsCounted, IsNext, Alone, ◌deciding◌, IsPrefix, IsAttribute, IsTyped}
-use Rattle.octseq_bgp.specs.Entry.{IsSegment, IsSegmentType, HasParts, IsEntry, entry_parts, octets_of_bits, length_octets}
+use Rattle.octseq_bgp.specs.Entry.{Entry, IsNumber, IsCounted, IsNext, Alone, ◌deciding◌, IsPrefix, IsAttribute}
+use Rattle.octseq_bgp.specs.Entry.{IsTyped, IsSegment, IsSegmentType, HasParts, IsEntry, entry_parts, octets_of_bits}
+use Rattle.octseq_bgp.specs.Entry.{length_octets}
 use Rattle.octseq_bgp.specs.declared.entry.Form.{Form}
 use Rattle.octseq_bgp.specs.declared.entry.Form.TheVariants as form
 

@@ -32,7 +32,8 @@ IsLongPart = IsNumber 1 then IsNumber 1 then IsCounted 2
 -- Parameters: after their length of one octet; or, where that isn't 0 and 255 follows, in the long form. They end the
 -- message.
 pub data HasParameters (w : Window) (row : List Entry) : Type 0 where
-  short : ¬ IsLong w → (inside : Window) → Whole (IsCounted 1) w inside → Fills (IsEntry (parameter_form false)) inside row
+  short : ¬ IsLong w → (inside : Window) → Whole (IsCounted 1) w inside
+      → Fills (IsEntry (parameter_form false)) inside row
       → HasParameters w row
   long : IsLong w → (marks : ℕ × (ℕ × Window)) → Whole IsLongPart w marks
       → Fills (IsEntry (parameter_form true)) marks.1.1 row → HasParameters w row

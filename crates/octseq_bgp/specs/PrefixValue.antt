@@ -11,4 +11,5 @@ cleared z octet = octet / 2 ^ z * 2 ^ z
 
 -- each octet is that of the prefix, or 0 where it has none, without the bits after its length
 abbrev pub IsAddress : ℕ → List ℕ → List ℕ → Type 0
-IsAddress bits octets address = EachIndex address (λ i. slice_index address i ≡ cleared (bits_after bits i) (slice_index octets i))
+IsAddress bits octets address =
+    EachIndex address (λ i. slice_index address i ≡ cleared (bits_after bits i) (slice_index octets i))

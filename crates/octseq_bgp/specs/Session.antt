@@ -1,4 +1,5 @@
--- How messages of a session are read: RFC 6793 (AS numbers of four octets), RFC 7911 (path ids), RFC 8654 (long messages).
+-- How messages of a session are read: RFC 6793 (AS numbers of four octets), RFC 7911 (path ids), RFC 8654 (long
+-- messages).
 use Rattle.std.specs.Prelude.{Bool, if◌then◌else◌}
 use Rattle.octseq_bgp.specs.declared.entry.Form.{Form}
 use Rattle.octseq_bgp.specs.declared.entry.Form.TheVariants as form

@@ -9,7 +9,8 @@ use Rattle.octseq_bgp.specs.declared.item.Items.{Items}
 use Rattle.octseq_bgp.specs.declared.negotiated.Spoken.{Spoken}
 
 -- the families of a list, or none
-abbrev pub paths_of : {R : Type 0} {o : Ghosts R} {t : ItemGhosts FamilyTuple} → Option (Items R FamilyTuple o t) → List t.Found
+abbrev pub paths_of : {R : Type 0} {o : Ghosts R} {t : ItemGhosts FamilyTuple}
+    → Option (Items R FamilyTuple o t) → List t.Found
 paths_of (Some items) = items_left items
 paths_of None = []
 

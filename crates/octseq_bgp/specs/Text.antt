@@ -1,5 +1,5 @@
--- The text of numbers, communities, families and prefixes: RFC 5396, 2 (AS numbers), RFC 8092, 4 (large communities), and
--- RFC 5952 (IPv6).
+-- The text of numbers, communities, families and prefixes: RFC 5396, 2 (AS numbers), RFC 8092, 4 (large communities),
+-- and RFC 5952 (IPv6).
 use Rattle.std.specs.Prelude.{◌≡◌, ℕ, ◌/◌, ◌%◌, Bool, ◌&&◌, not, if◌then◌else◌, nat_eq, List, [], ◌∷◌, ◌++◌, take, drop}
 use Rattle.std.specs.Prelude.{replicate, codes, bytes_eq}
 use Rattle.std.specs.Fmt.{decimal}

@@ -40,7 +40,8 @@ pub struct NotificationMessage<R: AsOctets> {
 
 impl<R: AsOctets + Copy> NotificationMessage<R> {
     fn parse(parser: Parser<R>) -> Result<NotificationMessage<R>, Malformed>
-        ensures is { IfOk result (λ it. Whole IsNotification (window parser) (it.code, (it.subcode, window it.«data»))) }
+        ensures is { IfOk result (λ it. Whole IsNotification (window parser)
+            (it.code, (it.subcode, window it.«data»))) }
         ensures malformed { IsErr result → (it : ℕ × (ℕ × Window)) → ¬ Whole IsNotification (window parser) it }
     {
         let (code, subcode, data) = parse_all::<R, (U8, U8, Rest)>(parser)?;

@@ -142,8 +142,8 @@ fn afi(form: Form) -> Afi {
     }
 }
 
-/// A prefix as a value: its family, how many bits it has, and its address, whose bits after those are 0. An IPv4 address
-/// has the first four octets.
+/// A prefix as a value: its family, how many bits it has, and its address, whose bits after those are 0. An IPv4
+/// address has the first four octets.
 #[derive(Clone, Copy, Debug, PartialEq, Eq)]
 pub struct Prefix {
     /// The family of its address.

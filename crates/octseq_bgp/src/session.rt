@@ -21,7 +21,8 @@ pub struct AddPath {
 impl AddPath {
     /// Every family, or none.
     pub fn all(has: bool) -> AddPath
-        ensures { result ≡ record { ipv4_unicast = has; ipv4_multicast = has; ipv6_unicast = has; ipv6_multicast = has } }
+        ensures { result
+            ≡ record { ipv4_unicast = has; ipv4_multicast = has; ipv6_unicast = has; ipv6_multicast = has } }
     {
         AddPath {
             ipv4_unicast: has,
