@@ -1,0 +1,10 @@
+pub mod Bodies
+pub mod Chunks
+pub mod Families
+pub mod Marks
+pub mod OneCapability
+pub mod OneMessage
+pub mod Spoken
+pub mod Types
+pub mod Values
+pub mod Wholes

@@ -1,0 +1,44 @@
+-- Types that were seen are marked in a table.
+use Rattle.std.proofs.Common.{◌≡◌, ◌≢◌, ◌<◌, ◌≤◌, ℕ, List, ◌∷◌, Bool, true, false, length, get_or, set, sym, ◌∙◌, subst, arith}
+use Rattle.std.specs.Prelude.{◌↔◌}
+use Rattle.std.proofs.lemmas.List.{get_or-set_other, get_or-set_same}
+use Rattle.std.proofs.Math.Decide.{dec_le}
+use mathlib.Core.Logic.{inl, inr}
+use Rattle.octseq_bgp.specs.Entry.{Entry}
+use Rattle.octseq_bgp.specs.Handling.{HasType}
+
+-- a table marks the types of a list
+abbrev pub Marks : List Bool → List Entry → Type 0
+Marks seen before = (k : ℕ) → k < 256 → (get_or seen k false ≡ true) ↔ HasType before k
+
+apart : (seen : List Bool) (before : List Entry) (e : Entry) (code k : ℕ) → code ≡ e.kind → k ≢ code
+    → (get_or seen k false ≡ true) ↔ HasType before k
+    → (get_or (set seen code true) k false ≡ true) ↔ HasType (e ∷ before) k
+apart seen before e code k same other is =
+    let kept = get_or-set_other seen code k true false other in
+    (λ now. inr (is.0 (sym kept ∙ now)), has) where
+      has : HasType (e ∷ before) k → get_or (set seen code true) k false ≡ true
+      has (inl here) = absurd (other (sym here ∙ sym same))
+      has (inr more) = get_or-set_other seen code k true false other ∙ is.1 more
+
+mark : (seen : List Bool) (before : List Entry) (e : Entry) (code k : ℕ) → code ≡ e.kind → code < length seen
+    → (get_or seen k false ≡ true) ↔ HasType before k → Dec (k ≤ code) → Dec (code ≤ k)
+    → (get_or (set seen code true) k false ≡ true) ↔ HasType (e ∷ before) k
+mark seen before e code k same room is (yes low) (yes high) =
+    let here : code ≡ k = omega (arith, low, high) in (
+      λ _. inl (sym same ∙ here),
+      λ _. subst (λ k. get_or (set seen code true) k false ≡ true) here
+          (get_or-set_same seen code true false room),
+    )
+mark seen before e code k same room is (no high) _ =
+    let other : k ≢ code = λ at. high (omega (arith, at)) in
+    apart seen before e code k same other is
+mark seen before e code k same room is _ (no low) =
+    let other : k ≢ code = λ at. low (omega (arith, at)) in
+    apart seen before e code k same other is
+
+-- one more type is marked
+pub marked : (seen : List Bool) (before : List Entry) (e : Entry) (code : ℕ) → code ≡ e.kind → code < length seen
+    → Marks seen before → Marks (set seen code true) (e ∷ before)
+marked seen before e code same room marks k fits =
+    mark seen before e code k same room (marks k fits) (dec_le k code) (dec_le code k)

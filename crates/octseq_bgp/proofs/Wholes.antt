@@ -1,0 +1,25 @@
+-- What fills a window is one thing, and what is read of it has no more octets.
+use Rattle.std.proofs.Common.{◌≡◌, ℕ, ◌+◌, ◌≤◌, List, ap, arith}
+use Rattle.octseq.specs.Window.{Window, left}
+use Rattle.octseq_format.specs.Laws.{Relation, IsOne}
+use Rattle.octseq_format.specs.Row.{one_to}
+use Rattle.octseq_bgp.specs.Entry.{Entry, IsCounted, IsEntry}
+use Rattle.octseq_bgp.specs.Fills.{Whole, Fills}
+use Rattle.octseq_bgp.specs.OneEntry.{one_entry, entry_moves}
+use Rattle.octseq_bgp.specs.declared.entry.Form.{Form}
+
+pub one_whole : {A : Type 0} (Is : Relation A) → IsOne Is → (w : Window) (a b : A) → Whole Is w a → Whole Is w b → a ≡ b
+one_whole Is one w a b is other = (one.same w a b is.0 other.0 is.1 other.1).0
+
+pub one_fills : (f : Form) (w : Window) (row others : List Entry) → Fills (IsEntry f) w row → Fills (IsEntry f) w others
+    → row ≡ others
+one_fills f w row others a b =
+    ((one_to (IsEntry f) (one_entry f) (entry_moves f)).same w row others a.0 b.0 a.1 b.1).0
+
+-- octets after their length, and what follows them, are no more than the window has
+pub counted_left : (k : ℕ) (w inside v : Window) → IsCounted k w inside v → left inside + left v ≤ left w
+counted_left k w inside v is =
+    let here = ap left is.1.0 in
+    let there = ap left is.2 in
+    let room = is.0 in
+    omega (arith, here, there, room)

@@ -1,0 +1,23 @@
+-- The numbers of the types of attributes: RFC 4271, 4.3, and the RFCs that added others.
+use Rattle.std.specs.Prelude.{ℕ}
+use Rattle.octseq_bgp.specs.declared.attribute_type.AttributeType.{AttributeType}
+use Rattle.octseq_bgp.specs.declared.attribute_type.AttributeType.TheVariants as kind
+
+-- the number of a type
+abbrev pub type_number : AttributeType → ℕ
+type_number kind.Origin = 1
+type_number kind.AsPath = 2
+type_number kind.NextHop = 3
+type_number kind.MultiExitDisc = 4
+type_number kind.LocalPref = 5
+type_number kind.AtomicAggregate = 6
+type_number kind.Aggregator = 7
+type_number kind.Communities = 8
+type_number kind.OriginatorId = 9
+type_number kind.ClusterList = 10
+type_number kind.MpReachNlri = 14
+type_number kind.MpUnreachNlri = 15
+type_number kind.ExtendedCommunities = 16
+type_number kind.As4Path = 17
+type_number kind.As4Aggregator = 18
+type_number kind.LargeCommunities = 32

@@ -1,0 +1,90 @@
+-- Parameters and capabilities: RFC 5492, 4, RFC 4760, 8 (multiprotocol), RFC 2918, 2 (route refresh), RFC 8654, 3
+-- (extended messages), RFC 4724, 3 (graceful restart), RFC 6793, 3 (AS numbers of four octets), RFC 7911, 4 (path ids),
+-- RFC 7313, 3.1 (enhanced route refresh).
+use Rattle.std.specs.Prelude.{◌≡◌, ℕ, ◌≤◌, ◌⊎◌, List, [], ◌∷◌, length}
+use Rattle.octseq.specs.Window.{Window, left}
+use Rattle.octseq_format.specs.Fixed.{IsFixed}
+use Rattle.octseq_format.specs.Pair.{◌then◌}
+use Rattle.octseq_format.specs.Rest.{IsRest}
+use Rattle.octseq_bgp.specs.CapabilityType.{code_number}
+use Rattle.octseq_bgp.specs.Entry.{Entry, IsEntry, IsNumber}
+use Rattle.octseq_bgp.specs.FamilyTuple.{family_tuple}
+use Rattle.octseq_bgp.specs.Fills.{Whole, Fills}
+use Rattle.octseq_bgp.specs.Value.{SomeItems}
+use Rattle.octseq_bgp.specs.declared.capability_type.CapabilityType.{CapabilityType}
+use Rattle.octseq_bgp.specs.declared.capability_type.CapabilityType.TheVariants as code
+use Rattle.octseq_bgp.specs.declared.entry.Form.TheVariants as form
+
+-- What a parameter says: capabilities, or octets that say nothing that is known.
+pub data ParameterValue : Type 0 where
+  capabilities : List Entry → ParameterValue
+  opaque : Window → ParameterValue
+
+-- the octets of a parameter of type 2 are capabilities
+abbrev pub AreCapabilities : ℕ → Window → List Entry → Type 0
+AreCapabilities kind w row = (kind ≡ 2) × Fills (IsEntry form.Capability) w row
+
+-- what a parameter says
+abbrev pub IsParameterValue : ℕ → Window → ParameterValue → Type 0
+IsParameterValue kind w (ParameterValue.capabilities row) = AreCapabilities kind w row
+IsParameterValue kind w (ParameterValue.opaque octets) =
+    (octets ≡ w) × ((row : List Entry) → ¬ AreCapabilities kind w row)
+
+-- Who restarts: sixteen bits, and families with flags: RFC 4724, 3.
+pub record Restart : Type 0 where
+  pub bits : ℕ
+  pub families : List (ℕ × (ℕ × ℕ))
+
+pub record IsRestart (w : Window) (r : Restart) : Type 0 where
+  pub rest : Window
+  pub front : Whole (IsNumber 2 then IsRest) w (r.bits, rest)
+  pub families : Fills (IsFixed 4 family_tuple) rest r.families
+
+-- each family has its path ids received, sent, or both: RFC 7911, 4
+abbrev pub ArePaths : List (ℕ × (ℕ × ℕ)) → Type 0
+ArePaths [] = Unit {0}
+ArePaths (t ∷ more) = (1 ≤ t.1.1) × (t.1.1 ≤ 3) × ArePaths more
+
+-- What a capability says: AFI, an octet that has no meaning, and SAFI; nothing but that it is there; who restarts; an
+-- AS number; families with path ids; or octets whose form isn't that of their code.
+pub data CapabilityValue : Type 0 where
+  multi_protocol : ℕ × (ℕ × ℕ) → CapabilityValue
+  route_refresh : CapabilityValue
+  extended_message : CapabilityValue
+  graceful_restart : Restart → CapabilityValue
+  four_octet_asn : ℕ → CapabilityValue
+  add_path : List (ℕ × (ℕ × ℕ)) → CapabilityValue
+  enhanced_route_refresh : CapabilityValue
+  opaque : Window → CapabilityValue
+
+-- families with path ids, one at least
+abbrev pub IsAddPath : Window → List (ℕ × (ℕ × ℕ)) → Type 0
+IsAddPath w row = SomeItems 4 family_tuple w row × ArePaths row
+
+-- a value that is made of what a window says
+abbrev pub Said : {A : Type 0} → (A → CapabilityValue) → (A → Type 0) → CapabilityValue → Type 0
+Said {A} make Is v = (a : A) × (v ≡ make a) × Is a
+
+-- the window has no octets, and the value is this one
+abbrev pub Bare : CapabilityValue → Window → CapabilityValue → Type 0
+Bare value w v = (v ≡ value) × (left w ≡ 0)
+
+-- the window says a value of a code
+abbrev pub HasCode : CapabilityType → Window → CapabilityValue → Type 0
+HasCode code.MultiProtocol w =
+    Said CapabilityValue.multi_protocol (Whole (IsNumber 2 then IsNumber 1 then IsNumber 1) w)
+HasCode code.RouteRefresh w = Bare CapabilityValue.route_refresh w
+HasCode code.ExtendedMessage w = Bare CapabilityValue.extended_message w
+HasCode code.GracefulRestart w = Said CapabilityValue.graceful_restart (IsRestart w)
+HasCode code.FourOctetAsn w = Said CapabilityValue.four_octet_asn (Whole (IsNumber 4) w)
+HasCode code.AddPath w = Said CapabilityValue.add_path (IsAddPath w)
+HasCode code.EnhancedRouteRefresh w = Bare CapabilityValue.enhanced_route_refresh w
+
+-- the octets of a capability of a code have the form of that code, and say a value
+abbrev pub IsCoded : ℕ → Window → CapabilityValue → Type 0
+IsCoded number w v = (c : CapabilityType) × (number ≡ code_number c) × HasCode c w v
+
+-- they say a value, or none and are opaque
+abbrev pub IsCapabilityValue : ℕ → Window → CapabilityValue → Type 0
+IsCapabilityValue number w v =
+    IsCoded number w v ⊎ (v ≡ CapabilityValue.opaque w) × ((other : CapabilityValue) → ¬ IsCoded number w other)

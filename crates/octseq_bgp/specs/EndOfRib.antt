@@ -1,0 +1,20 @@
+-- The end of what a speaker sends at first: RFC 4724, 2.
+use Rattle.std.specs.Prelude.{◌≡◌, ◌⊎◌, List, [], ◌∷◌, length}
+use Rattle.octseq_bgp.specs.Entry.{Entry}
+use Rattle.octseq_bgp.specs.Update.{Update}
+use Rattle.octseq_bgp.specs.Value.{Unreach, IsUnreach}
+use Rattle.octseq_bgp.specs.declared.family.AfiSafiType.{AfiSafiType}
+use Rattle.octseq_bgp.specs.declared.family.AfiSafiType.TheVariants as family
+use Rattle.octseq_bgp.specs.declared.session.SessionConfig.{SessionConfig}
+
+-- the attributes are one MP_UNREACH_NLRI alone, of that family, without prefixes
+abbrev pub UnreachesNone : SessionConfig → List Entry → AfiSafiType → Type 0
+UnreachesNone s [] f = ⊥
+UnreachesNone s (e ∷ more) f = (length more ≡ 0) × (e.kind ≡ 15) × (r : Unreach) × IsUnreach s e.octets r
+    × (length r.prefixes ≡ 0) × (f ≡ r.family)
+
+-- An UPDATE without prefixes ends a family: IPv4 unicast where it has no attributes, else that of the attribute.
+pub record IsEnd (s : SessionConfig) (u : Update) (f : AfiSafiType) : Type 0 where
+  pub withdrawn : length u.withdrawn ≡ 0
+  pub announced : length u.announced ≡ 0
+  pub attributes : (length u.attributes ≡ 0) × (f ≡ family.Ipv4Unicast) ⊎ UnreachesNone s u.attributes f

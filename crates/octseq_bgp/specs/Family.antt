@@ -1,0 +1,32 @@
+-- Families of addresses: RFC 4760, 5 and 6.
+use Rattle.std.specs.Prelude.{◌≡◌, ◌⊎◌, ℕ}
+use Rattle.octseq_bgp.specs.declared.family.Afi.{Afi}
+use Rattle.octseq_bgp.specs.declared.family.Afi.TheVariants as addresses
+use Rattle.octseq_bgp.specs.declared.family.AfiSafiType.{AfiSafiType}
+use Rattle.octseq_bgp.specs.declared.family.AfiSafiType.TheVariants as family
+
+-- the number of its addresses
+abbrev pub afi_number : AfiSafiType → ℕ
+afi_number family.Ipv4Unicast = 1
+afi_number family.Ipv4Multicast = 1
+afi_number family.Ipv6Unicast = 2
+afi_number family.Ipv6Multicast = 2
+
+-- the number of what they are for
+abbrev pub safi_number : AfiSafiType → ℕ
+safi_number family.Ipv4Unicast = 1
+safi_number family.Ipv4Multicast = 2
+safi_number family.Ipv6Unicast = 1
+safi_number family.Ipv6Multicast = 2
+
+-- its addresses
+abbrev pub afi_of : AfiSafiType → Afi
+afi_of family.Ipv4Unicast = addresses.Ipv4
+afi_of family.Ipv4Multicast = addresses.Ipv4
+afi_of family.Ipv6Unicast = addresses.Ipv6
+afi_of family.Ipv6Multicast = addresses.Ipv6
+
+-- How many octets next hops of a family have: one IPv4 address, for IPv4 alone; an IPv6 address, or two (RFC 2545, 3,
+-- and RFC 8950, 3).
+abbrev pub next_hop_size : AfiSafiType → ℕ → Type 0
+next_hop_size family size = (size ≡ 16) ⊎ (size ≡ 32) ⊎ (size ≡ 4) × (afi_number family ≡ 1)

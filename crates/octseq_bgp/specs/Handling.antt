@@ -1,0 +1,133 @@
+-- What is wrong with an UPDATE, and what is to be done: RFC 7606, RFC 4271, 6.3, RFC 4456, 8, and RFC 6793, 6.
+use Rattle.std.specs.Prelude.{◌≡◌, ◌↔◌, ◌<◌, ◌≤◌, ◌/◌, ◌⊎◌, max, Bool, true, ℕ, List, [], ◌∷◌, length, IsTrue}
+use Rattle.std.specs.Prelude.{if◌then◌else◌, nat_eq, nat_le}
+use Rattle.octseq.specs.Integer.{be}
+use Rattle.octseq.specs.Window.{Window, left, next, past}
+use Rattle.octseq_bgp.specs.AttributeType.{type_number}
+use Rattle.octseq_bgp.specs.Entry.{Entry}
+use Rattle.octseq_bgp.specs.Family.{afi_number, safi_number}
+use Rattle.octseq_bgp.specs.Update.{Update}
+use Rattle.octseq_bgp.specs.Value.{Reach, IsReach, Value, HasForm}
+use Rattle.octseq_bgp.specs.declared.attribute_type.AttributeType.{AttributeType}
+use Rattle.octseq_bgp.specs.declared.attribute_type.AttributeType.TheVariants as kind
+use Rattle.octseq_bgp.specs.declared.family.AfiSafiType.{AfiSafiType}
+use Rattle.octseq_bgp.specs.declared.handling.Handling.{Handling}
+use Rattle.octseq_bgp.specs.declared.handling.Handling.TheVariants as handling
+use Rattle.octseq_bgp.specs.declared.session.SessionConfig.{SessionConfig}
+
+-- how bad a handling is
+abbrev pub rank : Handling → ℕ
+rank handling.Accept = 0
+rank handling.AttributeDiscard = 1
+rank handling.TreatAsWithdraw = 2
+rank handling.SessionReset = 3
+
+-- the two upper flags of an attribute of a type, optional and transitive: RFC 4271, 4.3
+abbrev pub type_flags : AttributeType → ℕ
+type_flags kind.Origin = 1
+type_flags kind.AsPath = 1
+type_flags kind.NextHop = 1
+type_flags kind.MultiExitDisc = 2
+type_flags kind.LocalPref = 1
+type_flags kind.AtomicAggregate = 1
+type_flags kind.Aggregator = 3
+type_flags kind.Communities = 3
+type_flags kind.OriginatorId = 2
+type_flags kind.ClusterList = 2
+type_flags kind.MpReachNlri = 2
+type_flags kind.MpUnreachNlri = 2
+type_flags kind.ExtendedCommunities = 3
+type_flags kind.As4Path = 3
+type_flags kind.As4Aggregator = 3
+type_flags kind.LargeCommunities = 3
+
+-- what is to be done where the flags are others: RFC 7606, 3 (c)
+abbrev pub flags_rank : AttributeType → ℕ → ℕ
+flags_rank t flags = if nat_eq (flags / 64) (type_flags t) then 0 else 2
+
+-- what is to be done with an attribute that an external peer sends, whatever it says: RFC 7606, 7.5, 7.9 and 7.10
+abbrev pub external_rank : Bool → AttributeType → ℕ
+external_rank external kind.LocalPref = if external then 1 else 0
+external_rank external kind.OriginatorId = if external then 1 else 0
+external_rank external kind.ClusterList = if external then 1 else 0
+external_rank external _ = 0
+
+-- The octets name a family whose prefixes are read, or are too few to name one.
+abbrev pub NamesFamily : Window → Type 0
+NamesFamily w =
+    (left w < 3) ⊎ (f : AfiSafiType) × (afi_number f ≡ be (next 2 w)) × (safi_number f ≡ be (next 1 (past 2 w)))
+
+-- what is to be done where the octets aren't of the form of the type: RFC 7606, 7
+abbrev pub opaque_rank : Bool → Bool → AttributeType → ℕ
+opaque_rank external names kind.LocalPref = if external then 1 else 2
+opaque_rank external names kind.OriginatorId = if external then 1 else 2
+opaque_rank external names kind.ClusterList = if external then 1 else 2
+opaque_rank external names kind.AtomicAggregate = 1
+opaque_rank external names kind.Aggregator = 1
+opaque_rank external names kind.As4Path = 1
+opaque_rank external names kind.As4Aggregator = 1
+opaque_rank external names kind.MpReachNlri = if names then 3 else 0
+opaque_rank external names kind.MpUnreachNlri = if names then 3 else 0
+opaque_rank external names _ = 2
+
+-- the worst of these, for the first attribute of a type
+abbrev pub type_rank : Bool → Bool → Bool → AttributeType → ℕ → ℕ
+type_rank external typed names t flags =
+    max (flags_rank t flags) (max (external_rank external t) (if typed then 0 else opaque_rank external names t))
+
+-- what is to be done with an attribute of a type that was there before: RFC 7606, 3 (g)
+abbrev pub again_rank : ℕ → ℕ
+again_rank number = if nat_eq number 14 then 3 else (if nat_eq number 15 then 3 else 1)
+
+-- what is to be done with an attribute of a type that isn't known: RFC 4271, 6.3
+abbrev pub unknown_rank : ℕ → ℕ
+unknown_rank flags = if nat_le 128 flags then 0 else 3
+
+-- What is to be done with an attribute, by whether one of its type was there before: it is of a type that is known, or
+-- of none.
+pub data IsRank (s : SessionConfig) (external again : Bool) (e : Entry) (n : ℕ) : Type 0 where
+  repeated : again ≡ true → n ≡ again_rank e.kind → IsRank s external again e n
+  known : ¬ (again ≡ true) → (t : AttributeType) → type_number t ≡ e.kind → (typed names : Bool)
+      → IsTrue typed ↔ ((v : Value) × HasForm s t e.octets v) → IsTrue names ↔ NamesFamily e.octets
+      → n ≡ type_rank external typed names t e.number → IsRank s external again e n
+  unknown : ¬ (again ≡ true) → ((t : AttributeType) → ¬ (type_number t ≡ e.kind)) → n ≡ unknown_rank e.number
+      → IsRank s external again e n
+
+-- an attribute of that type is in the list
+abbrev pub HasType : List Entry → ℕ → Type 0
+HasType [] number = ⊥
+HasType (e ∷ more) number = (e.kind ≡ number) ⊎ HasType more number
+
+-- The worst of what is to be done with the attributes of a list, after those of another. Where it is empty, nothing is.
+abbrev pub IsWorst : SessionConfig → Bool → List Entry → List Entry → ℕ → Type 0
+IsWorst s external before [] n = n ≡ 0
+IsWorst s external before (e ∷ more) n =
+    (again : Bool) × (IsTrue again ↔ HasType before e.kind) × (x : ℕ) × IsRank s external again e x
+    × (y : ℕ) × IsWorst s external (e ∷ before) more y × (n ≡ max x y)
+
+-- the attribute is an MP_REACH_NLRI that has prefixes
+abbrev pub Reaches : SessionConfig → Entry → Type 0
+Reaches s e = (e.kind ≡ 14) × (r : Reach) × IsReach s e.octets r × (1 ≤ length r.prefixes)
+
+-- one of the list is
+abbrev pub ReachesSome : SessionConfig → List Entry → Type 0
+ReachesSome s [] = ⊥
+ReachesSome s (e ∷ more) = Reaches s e ⊎ ReachesSome s more
+
+-- prefixes are announced, by the UPDATE itself or by an attribute
+abbrev pub Announces : SessionConfig → Update → Type 0
+Announces s u = (1 ≤ length u.announced) ⊎ ReachesSome s u.attributes
+
+-- An attribute is missing that has to be there: ORIGIN or AS_PATH where prefixes are announced, NEXT_HOP where the
+-- UPDATE itself announces them: RFC 4271, 5, and RFC 7606, 3 (d).
+abbrev pub Misses : SessionConfig → Update → Type 0
+Misses s u = Announces s u × (¬ HasType u.attributes 1 ⊎ ¬ HasType u.attributes 2)
+    ⊎ (1 ≤ length u.announced) × ¬ HasType u.attributes 3
+
+-- what is to be done with an UPDATE: the worst of all this
+pub record IsHandling (s : SessionConfig) (external : Bool) (u : Update) (n : ℕ) : Type 0 where
+  pub worst : ℕ
+  pub is_worst : IsWorst s external [] u.attributes worst
+  pub misses : Bool
+  pub is_missing : IsTrue misses ↔ Misses s u
+  pub is : n ≡ max worst (if misses then 2 else 0)

@@ -1,0 +1,12 @@
+-- Items of one size, as communities are.
+use Rattle.std.specs.Prelude.{ℕ, List, ◌≤◌}
+use Rattle.octseq.specs.Window.{Window}
+use Rattle.octseq.specs.declared.AsOctets.{Ghosts as OctetsGhosts}
+use Rattle.octseq_format.specs.Fixed.{IsFixed}
+use Rattle.octseq_format.specs.Laws.{Relation}
+use Rattle.octseq_bgp.specs.declared.item.Item.{Ghosts}
+use Rattle.octseq_bgp.specs.declared.item.Items.{Items}
+
+-- the items that a list has left
+abbrev pub items_left : {R T : Type 0} {o : OctetsGhosts R} {t : Ghosts T} → Items R T o t → List t.Found
+items_left items = items.ahead.0

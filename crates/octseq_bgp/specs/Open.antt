@@ -1,0 +1,48 @@
+-- An OPEN after its header: RFC 4271, 4.2, and RFC 9072, 2, for parameters of more than 255 octets.
+use Rattle.std.specs.Prelude.{◌≡◌, Bool, true, false, if◌then◌else◌, ℕ, ◌≤◌, List}
+use Rattle.octseq.specs.Integer.{be}
+use Rattle.octseq.specs.Window.{Window, left, next, past}
+use Rattle.octseq_format.specs.Laws.{Relation}
+use Rattle.octseq_format.specs.Pair.{◌then◌}
+use Rattle.octseq_format.specs.Rest.{IsRest}
+use Rattle.octseq_bgp.specs.Entry.{Entry, IsEntry, IsNumber, IsCounted}
+use Rattle.octseq_bgp.specs.Fills.{Whole, Fills}
+use Rattle.octseq_bgp.specs.declared.entry.Form.{Form}
+use Rattle.octseq_bgp.specs.declared.entry.Form.TheVariants as form
+
+-- the form of parameters, with lengths of two octets or of one
+abbrev pub parameter_form : Bool → Form
+parameter_form long = if long then form.LongParameter else form.Parameter
+
+pub record Open : Type 0 where
+  pub version : ℕ
+  pub my_asn : ℕ
+  pub holdtime : ℕ
+  pub identifier : ℕ
+  pub parameters : List Entry
+
+-- a length that isn't 0, followed by the octet 255
+abbrev pub IsLong : Window → Type 0
+IsLong w = (2 ≤ left w) × (1 ≤ be (next 1 w)) × (be (next 1 (past 1 w)) ≡ 255)
+
+-- a length that has no meaning, the octet 255, and octets after their length of two octets
+abbrev pub IsLongPart : Relation (ℕ × (ℕ × Window))
+IsLongPart = IsNumber 1 then IsNumber 1 then IsCounted 2
+
+-- Parameters: after their length of one octet; or, where that isn't 0 and 255 follows, in the long form. They end the
+-- message.
+pub data HasParameters (w : Window) (row : List Entry) : Type 0 where
+  short : ¬ IsLong w → (inside : Window) → Whole (IsCounted 1) w inside
+      → Fills (IsEntry (parameter_form false)) inside row
+      → HasParameters w row
+  long : IsLong w → (marks : ℕ × (ℕ × Window)) → Whole IsLongPart w marks
+      → Fills (IsEntry (parameter_form true)) marks.1.1 row → HasParameters w row
+
+-- version, AS number, hold time, identifier, and what follows
+abbrev pub IsOpenFront : Relation (ℕ × (ℕ × (ℕ × (ℕ × Window))))
+IsOpenFront = IsNumber 1 then IsNumber 2 then IsNumber 2 then IsNumber 4 then IsRest
+
+pub record IsOpen (w : Window) (o : Open) : Type 0 where
+  pub rest : Window
+  pub front : Whole IsOpenFront w (o.version, (o.my_asn, (o.holdtime, (o.identifier, rest))))
+  pub parameters : HasParameters rest o.parameters

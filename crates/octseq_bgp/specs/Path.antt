@@ -1,0 +1,33 @@
+-- Paths of AS numbers: RFC 4271, 4.3, RFC 5065, 3, and RFC 6793 for how many octets a number has.
+use Rattle.std.specs.Prelude.{Bool, true, false, ℕ, if◌then◌else◌}
+use Rattle.std.specs.Coded.{coded_ℕ}
+use Rattle.octseq.specs.Window.{Window}
+use Rattle.octseq_format.specs.Row.{Holds, held_once}
+use Rattle.octseq_bgp.specs.Entry.{IsNumber}
+use Rattle.octseq_bgp.specs.OneEntry.{one_number}
+use Rattle.octseq_bgp.specs.declared.entry.Form.{Form}
+use Rattle.octseq_bgp.specs.declared.entry.Form.TheVariants as form
+use Rattle.octseq_bgp.specs.declared.path.SegmentType.{SegmentType}
+use Rattle.octseq_bgp.specs.declared.path.SegmentType.TheVariants as kind
+
+-- how many octets an AS number has
+abbrev pub asn_size : Bool → ℕ
+asn_size wide = if wide then 4 else 2
+
+-- the form of segments whose AS numbers have four octets, or two
+abbrev pub path_form : Bool → Form
+path_form wide = if wide then form.Segment else form.ShortSegment
+
+-- the number of a type of segments
+abbrev pub segment_number : SegmentType → ℕ
+segment_number kind.Set = 1
+segment_number kind.Sequence = 2
+segment_number kind.ConfedSequence = 3
+segment_number kind.ConfedSet = 4
+
+-- so many AS numbers are ahead
+abbrev pub AsnsAhead : Bool → Window → ℕ → Type 0
+AsnsAhead wide w left = Holds (IsNumber (asn_size wide)) w left
+
+pub asns_once : (wide : Bool) (w : Window) (left : ℕ) → IsProp (AsnsAhead wide w left)
+asns_once wide w left = held_once coded_ℕ (IsNumber (asn_size wide)) (one_number (asn_size wide)) w left

@@ -1,0 +1,22 @@
+-- What contracts see of the segments of a path.
+use Rattle.std.specs.Prelude.{ℕ, List}
+use Rattle.octseq.specs.declared.AsOctets.{Ghosts}
+use Rattle.octseq.specs.Parser.{window}
+use Rattle.octseq_bgp.specs.Entry as said
+use Rattle.octseq_bgp.specs.EntryOf.{entries_left}
+use Rattle.octseq_bgp.specs.Path.{segment_number}
+use Rattle.octseq_bgp.specs.declared.path.AsPath.{AsPath}
+use Rattle.octseq_bgp.specs.declared.path.Asns.{Asns}
+use Rattle.octseq_bgp.specs.declared.path.Segment.{Segment}
+
+-- a segment
+abbrev pub segment_entry : {R : Type 0} {g : Ghosts R} → Segment R g → said.Entry
+segment_entry s = record { number = segment_number s.kind; kind = s.count; octets = window s.octets }
+
+-- the segments that a path has left
+abbrev pub segments_left : {R : Type 0} {g : Ghosts R} → AsPath R g → List said.Entry
+segments_left path = entries_left path.entries
+
+-- the AS numbers that a segment has left
+abbrev pub asns_left : {R : Type 0} {g : Ghosts R} → Asns R g → List ℕ
+asns_left asns = asns.ahead.0

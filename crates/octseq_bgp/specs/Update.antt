@@ -1,0 +1,29 @@
+-- An UPDATE after its header: RFC 4271, 4.3.
+use Rattle.std.specs.Prelude.{List}
+use Rattle.octseq.specs.Window.{Window}
+use Rattle.octseq_format.specs.Laws.{Relation}
+use Rattle.octseq_format.specs.Pair.{◌then◌}
+use Rattle.octseq_format.specs.Rest.{IsRest}
+use Rattle.octseq_bgp.specs.Entry.{Entry, IsEntry, IsCounted}
+use Rattle.octseq_bgp.specs.Fills.{Whole, Fills}
+use Rattle.octseq_bgp.specs.Session.{prefix_form}
+use Rattle.octseq_bgp.specs.declared.entry.Form.TheVariants as form
+use Rattle.octseq_bgp.specs.declared.family.AfiSafiType.TheVariants as family
+use Rattle.octseq_bgp.specs.declared.session.SessionConfig.{SessionConfig}
+
+pub record Update : Type 0 where
+  pub withdrawn : List Entry
+  pub attributes : List Entry
+  pub announced : List Entry
+
+-- withdrawn prefixes after the length of all of them, attributes after theirs, and prefixes up to the end
+abbrev pub IsUpdateParts : Relation (Window × (Window × Window))
+IsUpdateParts = IsCounted 2 then IsCounted 2 then IsRest
+
+-- Its prefixes are IPv4 unicast.
+pub record IsUpdate (s : SessionConfig) (w : Window) (u : Update) : Type 0 where
+  pub parts : Window × (Window × Window)
+  pub are : Whole IsUpdateParts w parts
+  pub withdrawn : Fills (IsEntry (prefix_form s family.Ipv4Unicast)) parts.0 u.withdrawn
+  pub attributes : Fills (IsEntry form.Attribute) parts.1.0 u.attributes
+  pub announced : Fills (IsEntry (prefix_form s family.Ipv4Unicast)) parts.1.1 u.announced

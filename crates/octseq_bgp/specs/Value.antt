@@ -1,0 +1,107 @@
+-- What the value of an attribute says, by its type.
+use Rattle.std.specs.Prelude.{◌≡◌, true, ℕ, ◌≤◌, ◌⊎◌, List, length}
+use Rattle.octseq.specs.Integer.{be}
+use Rattle.octseq.specs.Window.{Window, left}
+use Rattle.octseq_format.specs.Fixed.{IsFixed}
+use Rattle.octseq_format.specs.Laws.{Relation}
+use Rattle.octseq_format.specs.Pair.{◌then◌}
+use Rattle.octseq_format.specs.Rest.{IsRest}
+use Rattle.octseq_format.specs.Where.{IsWhere}
+use Rattle.octseq_bgp.specs.AttributeType.{type_number}
+use Rattle.octseq_bgp.specs.Community.{large_community}
+use Rattle.octseq_bgp.specs.Entry.{Entry, IsEntry, IsNumber, IsCounted}
+use Rattle.octseq_bgp.specs.Family.{afi_number, safi_number, next_hop_size}
+use Rattle.octseq_bgp.specs.Fills.{Whole, Fills}
+use Rattle.octseq_bgp.specs.Path.{path_form, asn_size}
+use Rattle.octseq_bgp.specs.Session.{prefix_form}
+use Rattle.octseq_bgp.specs.declared.attribute_type.AttributeType.{AttributeType}
+use Rattle.octseq_bgp.specs.declared.attribute_type.AttributeType.TheVariants as kind
+use Rattle.octseq_bgp.specs.declared.family.AfiSafiType.{AfiSafiType}
+use Rattle.octseq_bgp.specs.declared.session.SessionConfig.{SessionConfig}
+
+-- Prefixes that can be reached: a family, the window of next hops, and the prefixes.
+pub record Reach : Type 0 where
+  pub family : AfiSafiType
+  pub next_hop : Window
+  pub prefixes : List Entry
+
+-- AFI, SAFI, next hops after their length, an octet that has no meaning, and what follows: RFC 4760, 3
+abbrev pub IsReachFront : Relation (ℕ × (ℕ × (Window × (ℕ × Window))))
+IsReachFront = IsNumber 2 then IsNumber 1 then IsCounted 1 then IsNumber 1 then IsRest
+
+pub record IsReach (s : SessionConfig) (w : Window) (r : Reach) : Type 0 where
+  pub reserved : ℕ
+  pub rest : Window
+  pub front : Whole IsReachFront w (afi_number r.family, (safi_number r.family, (r.next_hop, (reserved, rest))))
+  pub size : next_hop_size r.family (left r.next_hop)
+  pub prefixes : Fills (IsEntry (prefix_form s r.family)) rest r.prefixes
+
+-- Prefixes that can't be reached any more: a family and the prefixes.
+pub record Unreach : Type 0 where
+  pub family : AfiSafiType
+  pub prefixes : List Entry
+
+-- AFI, SAFI and what follows: RFC 4760, 4
+abbrev pub IsUnreachFront : Relation (ℕ × (ℕ × Window))
+IsUnreachFront = IsNumber 2 then IsNumber 1 then IsRest
+
+pub record IsUnreach (s : SessionConfig) (w : Window) (r : Unreach) : Type 0 where
+  pub rest : Window
+  pub front : Whole IsUnreachFront w (afi_number r.family, (safi_number r.family, rest))
+  pub prefixes : Fills (IsEntry (prefix_form s r.family)) rest r.prefixes
+
+-- What a value says: a number; segments of a path; nothing; an AS number and an address; communities; prefixes; or
+-- octets whose form isn't that of their type.
+pub data Value : Type 0 where
+  origin : ℕ → Value
+  as_path : List Entry → Value
+  next_hop : ℕ → Value
+  multi_exit_disc : ℕ → Value
+  local_pref : ℕ → Value
+  atomic_aggregate : Value
+  aggregator : ℕ × ℕ → Value
+  communities : List ℕ → Value
+  originator_id : ℕ → Value
+  cluster_list : List ℕ → Value
+  reach : Reach → Value
+  unreach : Unreach → Value
+  extended_communities : List ℕ → Value
+  as4_path : List Entry → Value
+  as4_aggregator : ℕ × ℕ → Value
+  large_communities : List (ℕ × (ℕ × ℕ)) → Value
+  opaque : Window → Value
+
+-- items of k octets fill the window, one at least
+abbrev pub SomeItems : {A : Type 0} → ℕ → (List ℕ → A) → Window → List A → Type 0
+SomeItems k reads w row = Fills (IsFixed k reads) w row × (1 ≤ length row)
+
+-- a value that is made of what a window says
+abbrev pub Made : {A : Type 0} → (A → Value) → (A → Type 0) → Value → Type 0
+Made {A} make Is v = (a : A) × (v ≡ make a) × Is a
+
+-- the window says a value of a type
+abbrev pub HasForm : SessionConfig → AttributeType → Window → Value → Type 0
+HasForm s kind.Origin w = Made Value.origin (Whole (IsWhere (IsNumber 1) (λ n. n) (λ n. n ≤ 2)) w)
+HasForm s kind.AsPath w = Made Value.as_path (Fills (IsEntry (path_form s.four_octet_asn)) w)
+HasForm s kind.NextHop w = Made Value.next_hop (Whole (IsNumber 4) w)
+HasForm s kind.MultiExitDisc w = Made Value.multi_exit_disc (Whole (IsNumber 4) w)
+HasForm s kind.LocalPref w = Made Value.local_pref (Whole (IsNumber 4) w)
+HasForm s kind.AtomicAggregate w = λ v. (v ≡ Value.atomic_aggregate) × (left w ≡ 0)
+HasForm s kind.Aggregator w = Made Value.aggregator (Whole (IsNumber (asn_size s.four_octet_asn) then IsNumber 4) w)
+HasForm s kind.Communities w = Made Value.communities (SomeItems 4 be w)
+HasForm s kind.OriginatorId w = Made Value.originator_id (Whole (IsNumber 4) w)
+HasForm s kind.ClusterList w = Made Value.cluster_list (SomeItems 4 be w)
+HasForm s kind.MpReachNlri w = Made Value.reach (IsReach s w)
+HasForm s kind.MpUnreachNlri w = Made Value.unreach (IsUnreach s w)
+HasForm s kind.ExtendedCommunities w = Made Value.extended_communities (SomeItems 8 be w)
+HasForm s kind.As4Path w = Made Value.as4_path (Fills (IsEntry (path_form true)) w)
+HasForm s kind.As4Aggregator w = Made Value.as4_aggregator (Whole (IsNumber 4 then IsNumber 4) w)
+HasForm s kind.LargeCommunities w = Made Value.large_communities (SomeItems 12 large_community w)
+
+-- the octets of an attribute of a type have the form of that type, and say a value
+abbrev pub IsTyped : SessionConfig → ℕ → Window → Value → Type 0
+IsTyped s number w v = (t : AttributeType) × (number ≡ type_number t) × HasForm s t w v
+
+-- they say a value, or none and are opaque
+abbrev pub IsValue : SessionConfig → ℕ → Window → Value → Type 0
+IsValue s number w v = IsTyped s number w v ⊎ (v ≡ Value.opaque w) × ((other : Value) → ¬ IsTyped s number w other)

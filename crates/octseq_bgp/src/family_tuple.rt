@@ -1,0 +1,45 @@
+//! A family and flags, as capabilities list them.
+ghost use Rattle.std.specs.Prelude.{◌≡◌, ◌*◌, ℕ};
+ghost use Rattle.std.proofs.Common.{rules};
+ghost use Rattle.std.specs.Coded.{coded_ℕ, coded×};
+ghost use Rattle.octseq_bgp.specs.FamilyTuple.{family_tuple};
+
+use crate::item::Item;
+use octseq::{AsOctets, Parser, ShortInput};
+
+/// A family by its numbers, and an octet about it: RFC 4724, 3, and RFC 7911, 4.
+#[derive(Clone, Copy, Debug, PartialEq, Eq)]
+pub struct FamilyTuple {
+    /// The number of the addresses.
+    pub afi: u16,
+    /// The number of what they are for.
+    pub safi: u8,
+    /// Flags of a graceful restart, or what is done with path ids: 1 received, 2 sent, 3 both.
+    pub flags: u8,
+}
+
+impl Item for FamilyTuple {
+    ghost Found = { ℕ × (ℕ × ℕ) };
+
+    ghost found = { λ tuple. (tuple.afi, (tuple.safi, tuple.flags)) };
+
+    ghost found_code = { coded× coded_ℕ (coded× coded_ℕ coded_ℕ) };
+
+    ghost width = { 4 };
+
+    ghost reads = { family_tuple };
+
+    fn width() -> usize {
+        4
+    }
+
+    fn take<R: AsOctets>(parser: &mut Parser<R>) -> Result<Self, ShortInput> {
+        parser.check_len(4)?;
+        let afi = parser.parse_u16_be()?;
+        let safi = parser.parse_u8()?;
+        let flags = parser.parse_u8()?;
+        Ok(FamilyTuple { afi, safi, flags })
+    }
+
+    ghost wide = { Prim.search rules };
+}

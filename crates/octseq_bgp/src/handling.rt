@@ -1,0 +1,315 @@
+//! What is wrong with an UPDATE, and what is to be done: RFC 7606, and RFC 4271, 6.3.
+ghost use Rattle.std.specs.Prelude.{◌≡◌, ◌↔◌, ◌≤◌, ◌⊎◌, max, [], length, IsTrue, if◌then◌else◌};
+ghost use Rattle.octseq.specs.Parser.{window};
+ghost use Rattle.octseq_bgp.specs.Handling.{rank, type_rank, opaque_rank, external_rank, flags_rank, again_rank};
+ghost use Rattle.octseq_bgp.specs.Handling.{unknown_rank, NamesFamily, IsRank, HasType};
+ghost use Rattle.octseq_bgp.specs.Handling.{IsWorst, Reaches, ReachesSome, Misses, IsHandling};
+ghost use Rattle.octseq_bgp.specs.Lists.{attribute_entry, attributes_left};
+ghost use Rattle.octseq_bgp.specs.Parsed.{update_of, session_of};
+ghost use Rattle.octseq_bgp.specs.Value.{Value, HasForm};
+
+use crate::attribute::{PathAttribute, PathAttributes};
+use crate::attribute_type::AttributeType;
+use crate::family::AfiSafiType;
+use crate::reach::MpReachNlri;
+use crate::session::SessionConfig;
+use crate::update::UpdateMessage;
+use crate::value::AttributeValue;
+use octseq::utf8::Turns;
+use octseq::{AsOctets, Parser};
+
+/// What is to be done, from the mildest on.
+#[derive(Clone, Copy, Debug, PartialEq, Eq)]
+pub enum Handling {
+    /// Nothing is wrong.
+    Accept,
+    /// The attribute is to be discarded.
+    AttributeDiscard,
+    /// The routes are to be treated as withdrawn.
+    TreatAsWithdraw,
+    /// The session is to be reset.
+    SessionReset,
+}
+
+impl Handling {
+    /// How bad it is.
+    fn rank(self) -> u8
+        ensures { result ≡ rank self }
+    {
+        match self {
+            Handling::Accept => 0,
+            Handling::AttributeDiscard => 1,
+            Handling::TreatAsWithdraw => 2,
+            Handling::SessionReset => 3,
+        }
+    }
+
+    /// The worse of two.
+    pub fn worse(self, other: Handling) -> Handling
+        ensures { rank result ≡ max (rank self) (rank other) }
+    {
+        if self.rank() < other.rank() {
+            other
+        } else {
+            self
+        }
+    }
+}
+
+/// What is to be done where the upper flags of an attribute aren't those of its type.
+fn flags_handling(kind: AttributeType, flags: u8) -> Handling
+    ensures { rank result ≡ flags_rank kind flags }
+{
+    let of_type = match kind {
+        AttributeType::Origin
+        | AttributeType::AsPath
+        | AttributeType::NextHop
+        | AttributeType::LocalPref
+        | AttributeType::AtomicAggregate => 1,
+        AttributeType::MultiExitDisc
+        | AttributeType::OriginatorId
+        | AttributeType::ClusterList
+        | AttributeType::MpReachNlri
+        | AttributeType::MpUnreachNlri => 2,
+        AttributeType::Aggregator
+        | AttributeType::Communities
+        | AttributeType::ExtendedCommunities
+        | AttributeType::As4Path
+        | AttributeType::As4Aggregator
+        | AttributeType::LargeCommunities => 3,
+    };
+    if flags / 64 == of_type {
+        Handling::Accept
+    } else {
+        Handling::TreatAsWithdraw
+    }
+}
+
+/// What is to be done with an attribute that an external peer sends, whatever it says.
+fn external_handling(external: bool, kind: AttributeType) -> Handling
+    ensures { rank result ≡ external_rank external kind }
+{
+    match kind {
+        AttributeType::LocalPref | AttributeType::OriginatorId | AttributeType::ClusterList => {
+            if external {
+                Handling::AttributeDiscard
+            } else {
+                Handling::Accept
+            }
+        }
+        _ => Handling::Accept,
+    }
+}
+
+/// What is to be done where the octets aren't of the form of the type.
+fn opaque_handling(external: bool, names: bool, kind: AttributeType) -> Handling
+    ensures { rank result ≡ opaque_rank external names kind }
+{
+    match kind {
+        AttributeType::LocalPref | AttributeType::OriginatorId | AttributeType::ClusterList => {
+            if external {
+                Handling::AttributeDiscard
+            } else {
+                Handling::TreatAsWithdraw
+            }
+        }
+        AttributeType::AtomicAggregate
+        | AttributeType::Aggregator
+        | AttributeType::As4Path
+        | AttributeType::As4Aggregator => Handling::AttributeDiscard,
+        AttributeType::MpReachNlri | AttributeType::MpUnreachNlri => {
+            if names {
+                Handling::SessionReset
+            } else {
+                Handling::Accept
+            }
+        }
+        _ => Handling::TreatAsWithdraw,
+    }
+}
+
+/// The worst of these.
+fn type_handling(
+    external: bool,
+    typed: bool,
+    names: bool,
+    kind: AttributeType,
+    flags: u8,
+) -> Handling
+    ensures { rank result ≡ type_rank external typed names kind flags }
+{
+    let opaque = if typed {
+        Handling::Accept
+    } else {
+        opaque_handling(external, names, kind)
+    };
+    let always = external_handling(external, kind).worse(opaque);
+    flags_handling(kind, flags).worse(always)
+}
+
+/// What is to be done with an attribute of a type that was there before.
+fn again_handling(type_code: u8) -> Handling
+    ensures { rank result ≡ again_rank type_code }
+{
+    match type_code {
+        14 => Handling::SessionReset,
+        15 => Handling::SessionReset,
+        _ => Handling::AttributeDiscard,
+    }
+}
+
+/// What is to be done with an attribute of a type that isn't known.
+fn unknown_handling(flags: u8) -> Handling
+    ensures { rank result ≡ unknown_rank flags }
+{
+    if 128 <= flags {
+        Handling::Accept
+    } else {
+        Handling::SessionReset
+    }
+}
+
+/// Whether octets name a family whose prefixes are read, or are too few to name one.
+fn names_family<R: AsOctets + Copy>(parser: Parser<R>) -> bool
+    ensures { IsTrue result ↔ NamesFamily (window parser) }
+{
+    let mut ahead = parser;
+    match (ahead.parse_u16_be(), ahead.parse_u8()) {
+        (Ok(afi), Ok(safi)) => AfiSafiType::from_numbers(afi, safi).is_some(),
+        _ => true,
+    }
+}
+
+/// Whether octets have the form of a type.
+fn is_typed<R: AsOctets + Copy>(
+    session: &SessionConfig,
+    kind: AttributeType,
+    parser: Parser<R>,
+) -> bool
+    ensures { IsTrue result ↔ ((v : Value) × HasForm session.now kind (window parser) v) }
+{
+    match AttributeValue::parse_counted(kind, parser, session, &mut Turns::new()) {
+        Ok(_) => true,
+        Err(_) => false,
+    }
+}
+
+/// What is to be done with an attribute, by whether one of its type was there before.
+fn attribute_handling<R: AsOctets + Copy>(
+    session: &SessionConfig,
+    external: bool,
+    again: bool,
+    attribute: &PathAttribute<R>,
+) -> Handling
+    ensures { IsRank session.now external again (attribute_entry attribute.now) (rank result) }
+{
+    if again {
+        return again_handling(attribute.type_code);
+    }
+    match AttributeType::from_number(attribute.type_code) {
+        None => unknown_handling(attribute.flags.0),
+        Some(kind) => {
+            let typed = is_typed(session, kind, attribute.value);
+            let names = names_family(attribute.value);
+            type_handling(external, typed, names, kind, attribute.flags.0)
+        }
+    }
+}
+
+/// The worst of what is to be done with each attribute.
+fn worst_handling<R: AsOctets + Copy>(
+    session: &SessionConfig,
+    external: bool,
+    attributes: PathAttributes<R>,
+) -> Handling
+    ensures { IsWorst session.now external [] (attributes_left attributes) (rank result) }
+{
+    let mut seen = [false; 256];
+    let mut worst = Handling::Accept;
+    let mut ahead = attributes;
+    'attributes: while let Some(attribute) = ahead.next() {
+        let code = usize::from(attribute.type_code);
+        let again = seen[code];
+        seen[code] = true;
+        worst = worst.worse(attribute_handling(session, external, again, &attribute));
+    }
+    worst
+}
+
+/// Whether an attribute of a type is there.
+fn has_type<R: AsOctets + Copy>(attributes: PathAttributes<R>, type_code: u8) -> bool
+    ensures { IsTrue result ↔ HasType (attributes_left attributes) type_code }
+{
+    let mut ahead = attributes;
+    'attributes: while let Some(attribute) = ahead.next() {
+        if attribute.type_code == type_code {
+            return true;
+        }
+    }
+    false
+}
+
+/// Whether an attribute is an MP_REACH_NLRI that has prefixes.
+fn reaches<R: AsOctets + Copy>(session: &SessionConfig, attribute: &PathAttribute<R>) -> bool
+    ensures { IsTrue result ↔ Reaches session.now (attribute_entry attribute.now) }
+{
+    if attribute.type_code != 14 {
+        return false;
+    }
+    match MpReachNlri::parse_counted(attribute.value, session, &mut Turns::new()) {
+        Ok(reach) => {
+            if reach.prefixes.len() == 0 {
+                return false;
+            }
+            true
+        }
+        Err(_) => false,
+    }
+}
+
+/// Whether one of the attributes is.
+fn reaches_some<R: AsOctets + Copy>(session: &SessionConfig, attributes: PathAttributes<R>) -> bool
+    ensures { IsTrue result ↔ ReachesSome session.now (attributes_left attributes) }
+{
+    let mut ahead = attributes;
+    'attributes: while let Some(attribute) = ahead.next() {
+        if reaches(session, &attribute) {
+            return true;
+        }
+    }
+    false
+}
+
+/// What is to be done where an attribute is missing that has to be there.
+fn missing_handling(misses: bool) -> Handling
+    ensures { rank result ≡ (if misses then 2 else 0) }
+{
+    if misses {
+        Handling::TreatAsWithdraw
+    } else {
+        Handling::Accept
+    }
+}
+
+impl<R: AsOctets + Copy> UpdateMessage<R> {
+    /// Whether an attribute is missing that has to be there.
+    fn misses(&self, session: &SessionConfig) -> bool
+        ensures { IsTrue result ↔ Misses session.now (update_of self.now) }
+    {
+        let attributes = self.path_attributes;
+        let announces = self.announced.len() > 0;
+        let reaches = reaches_some(session, attributes);
+        let has_both = has_type(attributes, 1) && has_type(attributes, 2);
+        (announces || reaches) && !has_both || announces && !has_type(attributes, 3)
+    }
+
+    /// What is to be done with it, where it comes from an external peer or from another: the worst of what is to be
+    /// done with each attribute, and of what is where one is missing.
+    pub fn handling(&self, external: bool) -> Handling
+        ensures { IsHandling (session_of self.now) external (update_of self.now) (rank result) }
+    {
+        let session = self.path_attributes.session();
+        let worst = worst_handling(&session, external, self.path_attributes);
+        worst.worse(missing_handling(self.misses(&session)))
+    }
+}

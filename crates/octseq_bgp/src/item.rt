@@ -1,0 +1,128 @@
+//! Lists of items of one size, as communities are.
+ghost use Rattle.std.specs.Prelude.{◌≡◌, ◌+◌, ◌*◌, ◌<◌, ◌≤◌, ℕ, List, length, IsErr, IfOk, ⊤};
+ghost use Rattle.std.specs.Coded.{Coded};
+ghost use Rattle.octseq.specs.Parser.{window, Takes};
+ghost use Rattle.octseq.specs.Window.{left, next};
+ghost use Rattle.octseq_format.specs.Fixed.{IsFixed};
+ghost use Rattle.octseq_bgp.specs.Fills.{Fills};
+ghost use Rattle.octseq_bgp.specs.ItemRow.{Ahead, items_once};
+
+use octseq::{AsOctets, Malformed, Parser, ShortInput};
+use std::alloc::AllocError;
+use std::marker::PhantomData;
+
+/// An item of a number of octets that is the same for all.
+pub trait Item: Copy + Drop {
+    // What contracts see of one.
+    ghost Found: { Type 0 };
+
+    ghost found: { Self → Found };
+
+    // Two of them are equal in one way at most.
+    ghost found_code: { Coded Found };
+
+    // How many octets one has, and what they say.
+    ghost width: { ℕ };
+
+    ghost reads: { List ℕ → Found };
+
+    /// How many octets one has.
+    fn width() -> usize
+        ensures { result ≡ width };
+
+    /// Takes the next one.
+    ///
+    /// # Errors
+    ///
+    /// `ShortInput` where fewer octets are left.
+    fn take<R: AsOctets>(parser: &mut Parser<R>) -> Result<Self, ShortInput>
+        ensures taken { Takes result width parser.old parser.new }
+        ensures value { IfOk result (λ item. found item ≡ reads (next width (window parser.old))) };
+
+    ghost wide: { 0 < width };
+}
+
+/// The items that a list has left, from the first one on.
+#[derive(Debug)]
+pub struct Items<R: AsOctets, T: Item> {
+    parser: Parser<R>,
+    left: usize,
+    item: PhantomData<T>,
+    ghost ahead: { Ahead T.width T.reads (window parser) left } by { items_once T.found_code T.width T.reads _ _ },
+}
+
+impl<R: AsOctets + Copy, T: Item> Copy for Items<R, T> {}
+
+impl<R: AsOctets + Copy, T: Item> Clone for Items<R, T> {
+    ghost is_clone = { λ items copy. copy ≡ items };
+
+    ghost is_infallible = { λ _. ⊤ };
+
+    fn clone(&self) -> Result<Self, AllocError> {
+        Ok(*self)
+    }
+}
+
+impl<R: AsOctets + Copy, T: Item> Items<R, T> {
+    ghost use Rattle.octseq_bgp.specs.Items.{items_left};
+
+    /// Reads all that a parser has left as items. It goes over none of them.
+    ///
+    /// # Errors
+    ///
+    /// `Malformed` where items don't fill it.
+    pub(crate) fn parse(parser: Parser<R>) -> Result<Items<R, T>, Malformed>
+        ensures items { IfOk result (λ items. Fills (IsFixed T.width T.reads) (window parser) (items_left items)) }
+        ensures malformed { IsErr result → (row : List T.Found)
+            → ¬ Fills (IsFixed T.width T.reads) (window parser) row }
+    {
+        let width = T::width();
+        let octets = parser.remaining();
+        if octets % width != 0 {
+            return Err(Malformed);
+        }
+        Ok(Items {
+            parser,
+            left: octets / width,
+            item: PhantomData,
+        })
+    }
+
+    /// How many items are left.
+    pub fn len(&self) -> usize
+        ensures { result ≡ length (items_left self.now) }
+    {
+        self.left
+    }
+}
+
+impl<R: AsOctets + Copy, T: Item> Iterator for Items<R, T> {
+    ghost use Rattle.std.specs.Iterator.{YieldsFirstBy, item_count};
+    ghost use Rattle.octseq_bgp.specs.Items.{items_left};
+
+    type Item = T;
+
+    ghost next_gives = { YieldsFirstBy T.found items_left };
+
+    ghost remaining = { item_count items_left };
+
+    #[inline(always)]
+    fn next(&mut self) -> Option<T> {
+        if self.left == 0 {
+            return None;
+        }
+        let mut parser = self.parser;
+        match T::take(&mut parser) {
+            Ok(item) => {
+                let left = self.left - 1;
+                *self = Items {
+                    parser,
+                    left,
+                    item: PhantomData,
+                };
+                Some(item)
+            }
+            Err(_) => None,
+        }
+    }
+}

@@ -1,0 +1,50 @@
+//! BGP messages, read from one buffer with nothing copied: RFC 4271 and what was added to it.
+#![tactic(auto)]
+
+pub mod attribute;
+pub mod attribute_type;
+pub mod capability;
+pub mod capability_type;
+pub mod capability_value;
+pub mod community;
+pub mod end_of_rib;
+pub mod entry;
+pub mod family;
+pub mod family_tuple;
+pub mod handling;
+pub mod item;
+pub mod message;
+pub mod negotiated;
+pub mod open;
+pub mod parameter;
+pub mod path;
+pub mod prefix;
+pub mod reach;
+pub mod session;
+mod text;
+pub mod update;
+pub mod value;
+mod whole;
+
+pub use attribute::{Flags, PathAttribute, PathAttributes};
+pub use attribute_type::AttributeType;
+pub use capability::{Capabilities, Capability, ParameterValue};
+pub use capability_type::CapabilityType;
+pub use capability_value::{CapabilityValue, GracefulRestart, one_capability_value};
+pub use community::{
+    ClusterId, ClusterIds, ExtendedCommunities, ExtendedCommunity, LargeCommunities,
+    LargeCommunity, StandardCommunities, StandardCommunity,
+};
+pub use family::{Afi, AfiSafiType};
+pub use family_tuple::FamilyTuple;
+pub use handling::Handling;
+pub use item::{Item, Items};
+pub use message::{Message, NotificationMessage, RouteRefreshMessage, one_message};
+pub use open::OpenMessage;
+pub use parameter::{Parameter, Parameters};
+pub use path::{AsPath, Asn, Asns, Segment, SegmentType};
+pub use prefix::{Nlri, PathId, Prefix, Prefixes};
+pub use reach::{MpReachNlri, MpUnreachNlri};
+pub use session::{AddPath, SessionConfig};
+pub use update::{UpdateMessage, UpdateParts};
+pub use value::{Aggregator, AttributeValue, one_value};

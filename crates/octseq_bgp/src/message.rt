@@ -1,0 +1,232 @@
+//! Messages: RFC 4271, 4.
+ghost use Rattle.std.specs.Prelude.{◌≡◌, ◌+◌, ◌≤◌, ℕ, List, length, ◌↔◌, IsTrue, IsErr, IfOk};
+ghost use Rattle.octseq.specs.Parser.{window};
+ghost use Rattle.octseq.specs.Window.{Window, left, whole};
+ghost use Rattle.octseq_bgp.specs.Fills.{Whole};
+ghost use Rattle.octseq_bgp.specs.Message as said;
+ghost use Rattle.octseq_bgp.specs.Message.{IsHeader, IsNotification, IsRouteRefresh, IsBody, IsMessage, IsShortEnough};
+ghost use Rattle.octseq_bgp.specs.Message.{HasUpdateParts};
+ghost use Rattle.octseq_bgp.specs.declared.session.SessionConfig.{SessionConfig as Session};
+
+use crate::open::OpenMessage;
+use crate::session::SessionConfig;
+use crate::update::{UpdateMessage, UpdateParts};
+use crate::whole::parse_all;
+use octseq::utf8::Turns;
+use octseq::{AsOctets, Malformed, Parser};
+use octseq_format::{Rest, U8, U16Be, U128Be};
+
+/// Octets are a message of a session in one way at most.
+///
+/// It does nothing. A caller that calls it has the law in its proof.
+pub fn one_message()
+    ensures { (session : Session) (octets : List ℕ) (m n : said.Message)
+        → IsMessage session octets m → IsMessage session octets n → m ≡ n }
+{}
+
+/// 16 octets of 255, as a number.
+const MARKER: u128 = 340282366920938463463374607431768211455;
+
+/// A NOTIFICATION: RFC 4271, 4.5.
+#[derive(Debug, Drop)]
+pub struct NotificationMessage<R: AsOctets> {
+    /// The error code.
+    pub code: u8,
+    /// The error subcode.
+    pub subcode: u8,
+    /// The place of its data.
+    pub data: Parser<R>,
+}
+
+impl<R: AsOctets + Copy> NotificationMessage<R> {
+    fn parse(parser: Parser<R>) -> Result<NotificationMessage<R>, Malformed>
+        ensures is { IfOk result (λ it. Whole IsNotification (window parser)
+            (it.code, (it.subcode, window it.«data»))) }
+        ensures malformed { IsErr result → (it : ℕ × (ℕ × Window)) → ¬ Whole IsNotification (window parser) it }
+    {
+        let (code, subcode, data) = parse_all::<R, (U8, U8, Rest)>(parser)?;
+        Ok(NotificationMessage {
+            code,
+            subcode,
+            data,
+        })
+    }
+}
+
+/// A ROUTE-REFRESH: RFC 2918, 3.
+#[derive(Debug, Drop)]
+pub struct RouteRefreshMessage<R: AsOctets> {
+    /// The number of the family of addresses.
+    pub afi: u16,
+    /// The subtype: RFC 7313, 3.2.
+    pub subtype: u8,
+    /// The number of what the addresses are for.
+    pub safi: u8,
+    /// The place of what follows: RFC 5291, 4.
+    pub orf: Parser<R>,
+}
+
+impl<R: AsOctets + Copy> RouteRefreshMessage<R> {
+    fn parse(parser: Parser<R>) -> Result<RouteRefreshMessage<R>, Malformed>
+        ensures is { IfOk result (λ it. Whole IsRouteRefresh (window parser)
+            (it.afi, (it.subtype, (it.safi, window it.orf)))) }
+        ensures malformed { IsErr result → (it : ℕ × (ℕ × (ℕ × Window))) → ¬ Whole IsRouteRefresh (window parser) it }
+    {
+        let (afi, subtype, safi, orf) = parse_all::<R, (U16Be, U8, U8, Rest)>(parser)?;
+        Ok(RouteRefreshMessage {
+            afi,
+            subtype,
+            safi,
+            orf,
+        })
+    }
+}
+
+/// A message.
+#[derive(Debug, Drop)]
+pub enum Message<R: AsOctets> {
+    /// OPEN.
+    Open(OpenMessage<R>),
+    /// UPDATE.
+    Update(UpdateMessage<R>),
+    /// NOTIFICATION.
+    Notification(NotificationMessage<R>),
+    /// KEEPALIVE.
+    Keepalive,
+    /// ROUTE-REFRESH.
+    RouteRefresh(RouteRefreshMessage<R>),
+}
+
+/// A header, and what follows it.
+#[derive(Debug, Drop)]
+struct Header<R: AsOctets> {
+    length: u16,
+    kind: u8,
+    body: Parser<R>,
+}
+
+impl<R: AsOctets + Copy> Header<R> {
+    fn parse(parser: Parser<R>) -> Result<Header<R>, Malformed>
+        ensures header { IfOk result (λ it. IsHeader (window parser) (it.length, (it.kind, window it.body))) }
+        ensures malformed { IsErr result → (h : ℕ × (ℕ × Window)) → ¬ IsHeader (window parser) h }
+    {
+        let (marker, length, kind, body) = parse_all::<R, (U128Be, U16Be, U8, Rest)>(parser)?;
+        if marker != MARKER {
+            return Err(Malformed);
+        }
+        Ok(Header { length, kind, body })
+    }
+}
+
+/// Whether a message of this type may have so many octets.
+fn is_short_enough(session: &SessionConfig, kind: u8, size: usize) -> bool
+    ensures { IsTrue result ↔ IsShortEnough session.now kind size }
+{
+    size <= 4096 || session.extended_message && kind != 1 && kind != 4
+}
+
+/// Reads a header whose length is that of the octets, and which may have so many.
+fn parse_header<R: AsOctets + Copy>(
+    octets: R,
+    session: &SessionConfig,
+) -> Result<Header<R>, Malformed>
+    ensures header { IfOk result (λ it. IsHeader (whole (R.content octets))
+        (length (R.content octets), (it.kind, window it.body))) }
+    ensures short { IfOk result (λ it. IsShortEnough session.now it.kind (length (R.content octets))) }
+    ensures malformed { IsErr result → (kind : ℕ) (body : Window)
+        → IsHeader (whole (R.content octets)) (length (R.content octets), (kind, body))
+        → ¬ IsShortEnough session.now kind (length (R.content octets)) }
+{
+    let parser = Parser::from_ref(octets);
+    let size = parser.remaining();
+    let header = Header::parse(parser)?;
+    if usize::from(header.length) != size || !is_short_enough(session, header.kind, size) {
+        return Err(Malformed);
+    }
+    Ok(header)
+}
+
+impl<R: AsOctets + Copy> UpdateParts<R> {
+    ghost use Rattle.octseq_bgp.specs.Parsed.{parts_of};
+
+    /// The places of the three parts of an UPDATE whose lengths fit, whether its prefixes and attributes fill them or
+    /// not: RFC 7606, 3.
+    ///
+    /// # Errors
+    ///
+    /// `Malformed` where the octets are no UPDATE of the session by their header, or where the lengths don't fit.
+    pub fn parse(octets: R, session: SessionConfig) -> Result<UpdateParts<R>, Malformed>
+        ensures parts { IfOk result (λ it. HasUpdateParts session (R.content octets) (parts_of it)) }
+        ensures malformed { IsErr result → (parts : Window × (Window × Window))
+            → ¬ HasUpdateParts session (R.content octets) parts }
+    {
+        let header = parse_header(octets, &session)?;
+        if header.kind != 2 {
+            return Err(Malformed);
+        }
+        let parts = UpdateParts::parse_body(header.body)?;
+        Ok(parts)
+    }
+}
+
+impl<R: AsOctets + Copy> Message<R> {
+    ghost use Rattle.octseq_bgp.specs.Parsed.{message_of};
+
+    /// Reads what follows a header.
+    fn parse_body(
+        parser: Parser<R>,
+        kind: u8,
+        session: SessionConfig,
+        turns: &mut Turns,
+    ) -> Result<Message<R>, Malformed>
+        ensures body { IfOk result (λ it. IsBody session (window parser) kind (message_of it)) }
+        ensures malformed { IsErr result → (m : said.Message) → ¬ IsBody session (window parser) kind m }
+        ensures turns { turns.new ≤ turns.old + left (window parser) }
+    {
+        match kind {
+            1 => Ok(Message::Open(OpenMessage::parse_counted(parser, turns)?)),
+            2 => Ok(Message::Update(UpdateMessage::parse_counted(parser, session, turns)?)),
+            3 => Ok(Message::Notification(NotificationMessage::parse(parser)?)),
+            4 => {
+                if parser.remaining() > 0 {
+                    return Err(Malformed);
+                }
+                Ok(Message::Keepalive)
+            }
+            5 => Ok(Message::RouteRefresh(RouteRefreshMessage::parse(parser)?)),
+            _ => Err(Malformed),
+        }
+    }
+
+    /// Reads all of the octets as a message of the session. It requests no memory.
+    ///
+    /// # Errors
+    ///
+    /// `Malformed` where they are none.
+    pub fn parse(octets: R, session: SessionConfig) -> Result<Message<R>, Malformed>
+        ensures message { IfOk result (λ it. IsMessage session (R.content octets) (message_of it)) }
+        ensures malformed { IsErr result → (m : said.Message) → ¬ IsMessage session (R.content octets) m }
+    {
+        Message::parse_counted(octets, session, &mut Turns::new())
+    }
+
+    /// Reads as [`parse`](Self::parse), and counts the turns of loops that this takes: one for each prefix, attribute
+    /// and parameter. There are at most as many as there are octets.
+    ///
+    /// # Errors
+    ///
+    /// As `parse`.
+    pub fn parse_counted(
+        octets: R,
+        session: SessionConfig,
+        turns: &mut Turns,
+    ) -> Result<Message<R>, Malformed>
+        ensures message { IfOk result (λ it. IsMessage session (R.content octets) (message_of it)) }
+        ensures malformed { IsErr result → (m : said.Message) → ¬ IsMessage session (R.content octets) m }
+        ensures turns { turns.new ≤ turns.old + length (R.content octets) }
+    {
+        let header = parse_header(octets, &session)?;
+        let message = Message::parse_body(header.body, header.kind, session, turns)?;
+        Ok(message)
+    }
+}

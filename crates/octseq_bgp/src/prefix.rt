@@ -1,0 +1,224 @@
+//! Prefixes: RFC 4271, 4.3, and RFC 7911, 3, for their path ids.
+ghost use Rattle.std.specs.Prelude.{◌≡◌, ◌+◌, ◌<◌, ◌≤◌, List, slice_index, true, IsErr, IfOk, ⊤};
+ghost use Rattle.octseq.specs.Parser.{window};
+ghost use Rattle.octseq.specs.Window.{left, rest};
+ghost use Rattle.octseq_bgp.specs.Entry.{Entry, IsEntry, number_limit};
+ghost use Rattle.octseq_bgp.specs.Fills.{Fills};
+ghost use Rattle.octseq_bgp.specs.Prefix.{is_prefix_form, path_number};
+ghost use Rattle.octseq_bgp.specs.PrefixValue.{bits_after, cleared, IsAddress};
+ghost use Rattle.octseq_bgp.specs.Session.{prefix_form};
+
+use crate::entry::{Entries, Form};
+use crate::family::{Afi, AfiSafiType};
+use crate::session::SessionConfig;
+use octseq::utf8::Turns;
+use octseq::{AsOctets, Malformed, Parser};
+use std::alloc::AllocError;
+
+/// The id of a path: RFC 7911, 3.
+#[derive(Clone, Copy, Debug, PartialEq, Eq)]
+pub struct PathId(pub u32);
+
+/// A prefix where it was read.
+#[derive(Debug)]
+pub struct Nlri<R: AsOctets> {
+    /// The id of its path, where the session has them.
+    pub path_id: Option<PathId>,
+    /// The family of its address.
+    pub afi: Afi,
+    /// How many bits it has.
+    pub len: u8,
+    /// The place of its octets. Bits after its last one have no meaning.
+    pub octets: Parser<R>,
+}
+
+impl<R: AsOctets + Copy> Copy for Nlri<R> {}
+
+impl<R: AsOctets + Copy> Clone for Nlri<R> {
+    ghost is_clone = { λ nlri copy. copy ≡ nlri };
+
+    ghost is_infallible = { λ _. ⊤ };
+
+    fn clone(&self) -> Result<Self, AllocError> {
+        Ok(*self)
+    }
+}
+
+/// The prefixes that a list has left, from the first one on.
+#[derive(Debug)]
+pub struct Prefixes<R: AsOctets> {
+    entries: Entries<R>,
+    ghost prefixes: { is_prefix_form entries.form ≡ true },
+}
+
+impl<R: AsOctets + Copy> Copy for Prefixes<R> {}
+
+impl<R: AsOctets + Copy> Clone for Prefixes<R> {
+    ghost is_clone = { λ prefixes copy. copy ≡ prefixes };
+
+    ghost is_infallible = { λ _. ⊤ };
+
+    fn clone(&self) -> Result<Self, AllocError> {
+        Ok(*self)
+    }
+}
+
+impl<R: AsOctets + Copy> Prefixes<R> {
+    ghost use Rattle.std.specs.Prelude.{length};
+    ghost use Rattle.octseq_bgp.specs.Lists.{prefixes_left};
+
+    /// Reads all that a parser has left as prefixes of a family, and counts a turn for each.
+    ///
+    /// # Errors
+    ///
+    /// `Malformed` where prefixes don't fill it.
+    pub(crate) fn parse_counted(
+        parser: Parser<R>,
+        session: &SessionConfig,
+        family: AfiSafiType,
+        turns: &mut Turns,
+    ) -> Result<Prefixes<R>, Malformed>
+        ensures prefixes { IfOk result (λ prefixes.
+            Fills (IsEntry (prefix_form session.now family)) (window parser) (prefixes_left prefixes)) }
+        ensures malformed { IsErr result → (row : List Entry)
+            → ¬ Fills (IsEntry (prefix_form session.now family)) (window parser) row }
+        ensures turns { turns.new ≤ turns.old + left (window parser) }
+    {
+        let entries = Entries::parse_counted(parser, session.prefix_form(family), turns)?;
+        Ok(Prefixes { entries })
+    }
+
+    /// How many prefixes are left.
+    pub fn len(&self) -> usize
+        ensures { result ≡ length (prefixes_left self.now) }
+    {
+        self.entries.len()
+    }
+}
+
+impl<R: AsOctets + Copy> Iterator for Prefixes<R> {
+    ghost use Rattle.std.specs.Iterator.{YieldsFirstBy, item_count};
+    ghost use Rattle.octseq_bgp.specs.Lists.{nlri_entry, prefixes_left};
+
+    type Item = Nlri<R>;
+
+    ghost next_gives = { YieldsFirstBy nlri_entry prefixes_left };
+
+    ghost remaining = { item_count prefixes_left };
+
+    fn next(&mut self) -> Option<Nlri<R>> {
+        let mut entries = self.entries;
+        let form = entries.form();
+        let Some(entry) = entries.take_first() else {
+            return None;
+        };
+        *self = Prefixes { entries };
+        Some(Nlri {
+            path_id: path_id(form, entry.number),
+            afi: afi(form),
+            len: entry.kind,
+            octets: entry.octets,
+        })
+    }
+}
+
+/// The path id of a prefix of that form.
+fn path_id(form: Form, number: u32) -> Option<PathId>
+    requires prefix { is_prefix_form form ≡ true }
+    requires small { number < number_limit form }
+    ensures { path_number result ≡ number }
+{
+    match form {
+        Form::Ipv4Path | Form::Ipv6Path => Some(PathId(number)),
+        _ => None,
+    }
+}
+
+/// The family of the address of a prefix of that form.
+fn afi(form: Form) -> Afi {
+    match form {
+        Form::Ipv6 | Form::Ipv6Path => Afi::Ipv6,
+        _ => Afi::Ipv4,
+    }
+}
+
+/// A prefix as a value: its family, how many bits it has, and its address, whose bits after those are 0. An IPv4
+/// address has the first four octets.
+#[derive(Clone, Copy, Debug, PartialEq, Eq)]
+pub struct Prefix {
+    /// The family of its address.
+    pub afi: Afi,
+    /// How many bits it has.
+    pub len: u8,
+    /// Its address, and zeros after it.
+    pub address: [u8; 16],
+}
+
+/// An octet without its last bits.
+fn clear(octet: u8, bits: usize) -> u8
+    requires { bits ≤ 8 }
+    ensures { result ≡ cleared bits octet }
+{
+    match bits {
+        0 => octet,
+        1 => octet / 2 * 2,
+        2 => octet / 4 * 4,
+        3 => octet / 8 * 8,
+        4 => octet / 16 * 16,
+        5 => octet / 32 * 32,
+        6 => octet / 64 * 64,
+        7 => octet / 128 * 128,
+        _ => 0,
+    }
+}
+
+/// How many bits of the octet at an index come after so many bits.
+fn bits_after(bits: u8, index: usize) -> usize
+    requires { index < 16 }
+    ensures { result ≡ bits_after bits index }
+{
+    let end = 8 * (index + 1);
+    let begin = usize::from(bits);
+    if end <= begin {
+        return 0;
+    }
+    if end - begin < 8 { end - begin } else { 8 }
+}
+
+/// The octet of an address at an index, of octets that begin with so many bits of it.
+fn octet_of(octets: &[u8], bits: u8, index: usize) -> u8
+    requires { index < 16 }
+    ensures { result ≡ cleared (bits_after bits index) (slice_index octets.now index) }
+{
+    if index < octets.len() {
+        clear(octets[index], bits_after(bits, index))
+    } else {
+        0
+    }
+}
+
+/// The address of so many bits that octets begin with.
+fn address_of(octets: &[u8], bits: u8) -> [u8; 16]
+    ensures { IsAddress bits octets.now result }
+{
+    let mut address = [0; 16];
+    for i in 0..16 {
+        address[i] = octet_of(octets, bits, i);
+    }
+    address
+}
+
+impl<R: AsOctets + Copy> Nlri<R> {
+    /// The prefix as a value.
+    pub fn prefix(&self) -> Prefix
+        ensures afi { result.afi ≡ self.now.afi }
+        ensures len { result.len ≡ self.now.len }
+        ensures address { IsAddress self.now.len (rest (window self.now.octets)) result.address }
+    {
+        Prefix {
+            afi: self.afi,
+            len: self.len,
+            address: address_of(self.octets.peek_all(), self.len),
+        }
+    }
+}

@@ -1,0 +1,102 @@
+//! What two speakers agreed on: octets alone don't say how messages are to be read.
+ghost use Rattle.std.specs.Prelude.{◌≡◌, true, false};
+ghost use Rattle.octseq_bgp.specs.Session.{prefix_form, adds_path};
+
+use crate::entry::Form;
+use crate::family::AfiSafiType;
+
+/// Which families have path ids before their prefixes: RFC 7911, 4.
+#[derive(Clone, Copy, Debug, PartialEq, Eq)]
+pub struct AddPath {
+    /// IPv4 unicast.
+    pub ipv4_unicast: bool,
+    /// IPv4 multicast.
+    pub ipv4_multicast: bool,
+    /// IPv6 unicast.
+    pub ipv6_unicast: bool,
+    /// IPv6 multicast.
+    pub ipv6_multicast: bool,
+}
+
+impl AddPath {
+    /// Every family, or none.
+    pub fn all(has: bool) -> AddPath
+        ensures { result
+            ≡ record { ipv4_unicast = has; ipv4_multicast = has; ipv6_unicast = has; ipv6_multicast = has } }
+    {
+        AddPath {
+            ipv4_unicast: has,
+            ipv4_multicast: has,
+            ipv6_unicast: has,
+            ipv6_multicast: has,
+        }
+    }
+
+    /// Whether a family has path ids.
+    pub fn has(&self, family: AfiSafiType) -> bool
+        ensures { result ≡ adds_path self.now family }
+    {
+        match family {
+            AfiSafiType::Ipv4Unicast => self.ipv4_unicast,
+            AfiSafiType::Ipv4Multicast => self.ipv4_multicast,
+            AfiSafiType::Ipv6Unicast => self.ipv6_unicast,
+            AfiSafiType::Ipv6Multicast => self.ipv6_multicast,
+        }
+    }
+}
+
+/// How messages of a session are read.
+#[derive(Clone, Copy, Debug, PartialEq, Eq)]
+pub struct SessionConfig {
+    /// AS numbers have four octets: RFC 6793.
+    pub four_octet_asn: bool,
+    /// Families with path ids: RFC 7911.
+    pub add_path: AddPath,
+    /// Messages may have 65,535 octets: RFC 8654.
+    pub extended_message: bool,
+}
+
+impl SessionConfig {
+    /// AS numbers of four octets, no path ids, messages of 4,096 octets.
+    pub fn modern() -> SessionConfig
+        ensures numbers { result.four_octet_asn ≡ true }
+        ensures paths { result.add_path
+            ≡ record { ipv4_unicast = false; ipv4_multicast = false; ipv6_unicast = false; ipv6_multicast = false } }
+        ensures messages { result.extended_message ≡ false }
+    {
+        SessionConfig {
+            four_octet_asn: true,
+            add_path: AddPath::all(false),
+            extended_message: false,
+        }
+    }
+
+    /// AS numbers of two octets, no path ids, messages of 4,096 octets.
+    pub fn legacy() -> SessionConfig
+        ensures numbers { result.four_octet_asn ≡ false }
+        ensures paths { result.add_path
+            ≡ record { ipv4_unicast = false; ipv4_multicast = false; ipv6_unicast = false; ipv6_multicast = false } }
+        ensures messages { result.extended_message ≡ false }
+    {
+        SessionConfig {
+            four_octet_asn: false,
+            add_path: AddPath::all(false),
+            extended_message: false,
+        }
+    }
+
+    /// The form of the prefixes of a family.
+    pub(crate) fn prefix_form(&self, family: AfiSafiType) -> Form
+        ensures { result ≡ prefix_form self.now family }
+    {
+        let has = self.add_path.has(family);
+        match family {
+            AfiSafiType::Ipv4Unicast | AfiSafiType::Ipv4Multicast => {
+                if has { Form::Ipv4Path } else { Form::Ipv4 }
+            }
+            AfiSafiType::Ipv6Unicast | AfiSafiType::Ipv6Multicast => {
+                if has { Form::Ipv6Path } else { Form::Ipv6 }
+            }
+        }
+    }
+}

@@ -1,0 +1,86 @@
+//! UPDATE: RFC 4271, 4.3.
+ghost use Rattle.std.specs.Prelude.{◌≡◌, ◌+◌, ◌≤◌, ℕ, IsErr, IfOk};
+ghost use Rattle.octseq.specs.Parser.{window};
+ghost use Rattle.octseq.specs.Window.{Window, left};
+ghost use Rattle.octseq_bgp.specs.Fills.{Whole};
+ghost use Rattle.octseq_bgp.specs.Update as said;
+ghost use Rattle.octseq_bgp.specs.Update.{IsUpdate, IsUpdateParts};
+
+use crate::attribute::PathAttributes;
+use crate::family::AfiSafiType;
+use crate::prefix::Prefixes;
+use crate::session::SessionConfig;
+use crate::whole::parse_all;
+use octseq::utf8::Turns;
+use octseq::{AsOctets, Malformed, Parser};
+use octseq_format::{Counted, Rest};
+
+/// An UPDATE.
+#[derive(Debug, Drop)]
+pub struct UpdateMessage<R: AsOctets> {
+    /// The prefixes that are withdrawn.
+    pub withdrawn: Prefixes<R>,
+    /// The path attributes.
+    pub path_attributes: PathAttributes<R>,
+    /// The prefixes that are announced.
+    pub announced: Prefixes<R>,
+}
+
+/// The three parts of an UPDATE, whether its lists fill them or not.
+#[derive(Debug, Drop)]
+pub struct UpdateParts<R: AsOctets> {
+    /// The place of the prefixes that are withdrawn.
+    pub withdrawn: Parser<R>,
+    /// The place of the path attributes.
+    pub path_attributes: Parser<R>,
+    /// The place of the prefixes that are announced.
+    pub announced: Parser<R>,
+}
+
+/// The format of the three parts: octets after their length, twice, and the rest.
+type Parts = (Counted<u16, Rest, 0>, Counted<u16, Rest, 0>, Rest);
+
+impl<R: AsOctets + Copy> UpdateParts<R> {
+    ghost use Rattle.octseq_bgp.specs.Parsed.{parts_of};
+
+    /// Reads all that a parser has left as the three parts of an UPDATE.
+    pub(crate) fn parse_body(parser: Parser<R>) -> Result<UpdateParts<R>, Malformed>
+        ensures parts { IfOk result (λ it. Whole IsUpdateParts (window parser) (parts_of it)) }
+        ensures malformed { IsErr result → (parts : Window × (Window × Window))
+            → ¬ Whole IsUpdateParts (window parser) parts }
+    {
+        let (withdrawn, path_attributes, announced) = parse_all::<R, Parts>(parser)?;
+        Ok(UpdateParts {
+            withdrawn,
+            path_attributes,
+            announced,
+        })
+    }
+}
+
+impl<R: AsOctets + Copy> UpdateMessage<R> {
+    ghost use Rattle.octseq_bgp.specs.Parsed.{update_of};
+
+    /// Reads all that a parser has left as an UPDATE after its header, and counts a turn for each prefix and
+    /// attribute.
+    pub(crate) fn parse_counted(
+        parser: Parser<R>,
+        session: SessionConfig,
+        turns: &mut Turns,
+    ) -> Result<UpdateMessage<R>, Malformed>
+        ensures update { IfOk result (λ update. IsUpdate session (window parser) (update_of update)) }
+        ensures malformed { IsErr result → (update : said.Update) → ¬ IsUpdate session (window parser) update }
+        ensures turns { turns.new ≤ turns.old + left (window parser) }
+    {
+        let parts = UpdateParts::parse_body(parser)?;
+        let family = AfiSafiType::Ipv4Unicast;
+        let withdrawn = Prefixes::parse_counted(parts.withdrawn, &session, family, turns)?;
+        let path_attributes = PathAttributes::parse_counted(parts.path_attributes, session, turns)?;
+        let announced = Prefixes::parse_counted(parts.announced, &session, family, turns)?;
+        Ok(UpdateMessage {
+            withdrawn,
+            path_attributes,
+            announced,
+        })
+    }
+}

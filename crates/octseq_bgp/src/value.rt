@@ -1,0 +1,257 @@
+//! What the value of an attribute says, by its type.
+ghost use Rattle.std.specs.Prelude.{◌≡◌, ◌+◌, ◌≤◌, ℕ, List, length, IsErr, IfOk, OnOk, ⊤};
+ghost use Rattle.octseq.specs.Integer.{be};
+ghost use Rattle.octseq.specs.Parser.{window};
+ghost use Rattle.octseq.specs.Window.{Window, left};
+ghost use Rattle.octseq_format.specs.Pair.{◌then◌};
+ghost use Rattle.octseq_format.specs.Where.{IsWhere};
+ghost use Rattle.octseq_bgp.specs.Entry.{IsNumber};
+ghost use Rattle.octseq_bgp.specs.Fills.{Whole};
+ghost use Rattle.octseq_bgp.specs.Items.{items_left};
+ghost use Rattle.octseq_bgp.specs.Path.{asn_size};
+ghost use Rattle.octseq_bgp.specs.Value.{Value, HasForm, IsTyped, IsValue, SomeItems};
+ghost use Rattle.octseq_bgp.specs.declared.session.SessionConfig.{SessionConfig as Session};
+
+use crate::attribute::PathAttribute;
+use crate::attribute_type::AttributeType;
+use crate::community::{ClusterIds, ExtendedCommunities, LargeCommunities, StandardCommunities};
+use crate::item::{Item, Items};
+use crate::path::{AsPath, Asn};
+use crate::reach::{MpReachNlri, MpUnreachNlri};
+use crate::session::SessionConfig;
+use crate::whole::parse_all;
+use octseq::utf8::Turns;
+use octseq::{AsOctets, Malformed, Parser};
+use octseq_format::{U8, U16Be, U32Be};
+use std::alloc::AllocError;
+
+/// Octets say one value of an attribute at most.
+///
+/// It does nothing. A caller that calls it has the law in its proof.
+pub fn one_value()
+    ensures { (session : Session) (number : ℕ) (w : Window) (a b : Value)
+        → IsValue session number w a → IsValue session number w b → a ≡ b }
+{}
+
+/// Who aggregated a route.
+#[derive(Clone, Copy, Debug, PartialEq, Eq)]
+pub struct Aggregator {
+    /// Its AS number.
+    pub asn: Asn,
+    /// Its IPv4 address.
+    pub address: u32,
+}
+
+impl Aggregator {
+    /// Reads all that a parser has left, with an AS number of four octets or of two.
+    fn parse<R: AsOctets + Copy>(parser: Parser<R>, wide: bool) -> Result<Aggregator, Malformed>
+        ensures is { IfOk result (λ it.
+            Whole (IsNumber (asn_size wide) then IsNumber 4) (window parser) (it.asn.0, it.address)) }
+        ensures malformed { IsErr result → (it : ℕ × ℕ)
+            → ¬ Whole (IsNumber (asn_size wide) then IsNumber 4) (window parser) it }
+    {
+        if wide {
+            let (asn, address) = parse_all::<R, (U32Be, U32Be)>(parser)?;
+            Ok(Aggregator {
+                asn: Asn(asn),
+                address,
+            })
+        } else {
+            let (asn, address) = parse_all::<R, (U16Be, U32Be)>(parser)?;
+            Ok(Aggregator {
+                asn: Asn(u32::from(asn)),
+                address,
+            })
+        }
+    }
+}
+
+/// What the value of an attribute says.
+#[derive(Debug)]
+pub enum AttributeValue<R: AsOctets> {
+    /// ORIGIN: 0 IGP, 1 EGP, 2 INCOMPLETE.
+    Origin(u8),
+    /// AS_PATH.
+    AsPath(AsPath<R>),
+    /// NEXT_HOP, an IPv4 address.
+    NextHop(u32),
+    /// MULTI_EXIT_DISC.
+    MultiExitDisc(u32),
+    /// LOCAL_PREF.
+    LocalPref(u32),
+    /// ATOMIC_AGGREGATE.
+    AtomicAggregate,
+    /// AGGREGATOR.
+    Aggregator(Aggregator),
+    /// COMMUNITIES.
+    Communities(StandardCommunities<R>),
+    /// ORIGINATOR_ID.
+    OriginatorId(u32),
+    /// CLUSTER_LIST.
+    ClusterList(ClusterIds<R>),
+    /// MP_REACH_NLRI.
+    MpReachNlri(MpReachNlri<R>),
+    /// MP_UNREACH_NLRI.
+    MpUnreachNlri(MpUnreachNlri<R>),
+    /// EXTENDED_COMMUNITIES.
+    ExtendedCommunities(ExtendedCommunities<R>),
+    /// AS4_PATH.
+    As4Path(AsPath<R>),
+    /// AS4_AGGREGATOR.
+    As4Aggregator(Aggregator),
+    /// LARGE_COMMUNITIES.
+    LargeCommunities(LargeCommunities<R>),
+    /// Octets whose form isn't that of their type: their place.
+    Opaque(Parser<R>),
+}
+
+impl<R: AsOctets + Copy> Copy for AttributeValue<R> {}
+
+impl<R: AsOctets + Copy> Clone for AttributeValue<R> {
+    ghost is_clone = { λ value copy. copy ≡ value };
+
+    ghost is_infallible = { λ _. ⊤ };
+
+    fn clone(&self) -> Result<Self, AllocError> {
+        Ok(*self)
+    }
+}
+
+/// An octet of at most 2.
+fn parse_origin<R: AsOctets + Copy>(parser: Parser<R>) -> Result<u8, Malformed>
+    ensures origin { IfOk result (λ n. Whole (IsWhere (IsNumber 1) (λ n. n) (λ n. n ≤ 2)) (window parser) n) }
+    ensures malformed { IsErr result → (n : ℕ)
+        → ¬ Whole (IsWhere (IsNumber 1) (λ n. n) (λ n. n ≤ 2)) (window parser) n }
+{
+    let origin = parse_all::<R, U8>(parser)?;
+    if origin > 2 {
+        return Err(Malformed);
+    }
+    Ok(origin)
+}
+
+/// Nothing.
+pub(crate) fn parse_nothing<R: AsOctets + Copy>(parser: Parser<R>) -> Result<(), Malformed>
+    ensures nothing { OnOk result (left (window parser) ≡ 0) }
+    ensures malformed { IsErr result → ¬ (left (window parser) ≡ 0) }
+{
+    if parser.remaining() > 0 {
+        return Err(Malformed);
+    }
+    Ok(())
+}
+
+/// Items, one at least.
+pub(crate) fn parse_some<R: AsOctets + Copy, T: Item>(
+    parser: Parser<R>,
+) -> Result<Items<R, T>, Malformed>
+    ensures items { IfOk result (λ items. SomeItems T.width T.reads (window parser) (items_left items)) }
+    ensures malformed { IsErr result → (row : List T.Found) → ¬ SomeItems T.width T.reads (window parser) row }
+{
+    let items = Items::parse(parser)?;
+    if items.len() == 0 {
+        return Err(Malformed);
+    }
+    Ok(items)
+}
+
+impl<R: AsOctets + Copy> AttributeValue<R> {
+    ghost use Rattle.octseq_bgp.specs.ValueOf.{value_of};
+
+    /// Reads all that a parser has left as a value of a type, and counts a turn for each segment and prefix.
+    ///
+    /// # Errors
+    ///
+    /// `Malformed` where it is none.
+    pub(crate) fn parse_counted(
+        kind: AttributeType,
+        parser: Parser<R>,
+        session: &SessionConfig,
+        turns: &mut Turns,
+    ) -> Result<AttributeValue<R>, Malformed>
+        ensures value { IfOk result (λ value. HasForm session.now kind (window parser) (value_of value)) }
+        ensures malformed { IsErr result → (value : Value) → ¬ HasForm session.now kind (window parser) value }
+        ensures turns { turns.new ≤ turns.old + left (window parser) }
+    {
+        let wide = session.four_octet_asn;
+        Ok(match kind {
+            AttributeType::Origin => AttributeValue::Origin(parse_origin(parser)?),
+            AttributeType::AsPath => AttributeValue::AsPath(AsPath::parse_counted(
+                parser, wide, turns,
+            )?),
+            AttributeType::NextHop => AttributeValue::NextHop(parse_all::<R, U32Be>(parser)?),
+            AttributeType::MultiExitDisc => AttributeValue::MultiExitDisc(parse_all::<R, U32Be>(
+                parser,
+            )?),
+            AttributeType::LocalPref => AttributeValue::LocalPref(parse_all::<R, U32Be>(parser)?),
+            AttributeType::AtomicAggregate => {
+                parse_nothing(parser)?;
+                AttributeValue::AtomicAggregate
+            }
+            AttributeType::Aggregator => AttributeValue::Aggregator(Aggregator::parse(
+                parser, wide,
+            )?),
+            AttributeType::Communities => AttributeValue::Communities(parse_some(parser)?),
+            AttributeType::OriginatorId => AttributeValue::OriginatorId(parse_all::<R, U32Be>(
+                parser,
+            )?),
+            AttributeType::ClusterList => AttributeValue::ClusterList(parse_some(parser)?),
+            AttributeType::MpReachNlri => AttributeValue::MpReachNlri(MpReachNlri::parse_counted(
+                parser, session, turns,
+            )?),
+            AttributeType::MpUnreachNlri => AttributeValue::MpUnreachNlri(
+                MpUnreachNlri::parse_counted(parser, session, turns)?,
+            ),
+            AttributeType::ExtendedCommunities => AttributeValue::ExtendedCommunities(parse_some(
+                parser,
+            )?),
+            AttributeType::As4Path => AttributeValue::As4Path(AsPath::parse_counted(
+                parser, true, turns,
+            )?),
+            AttributeType::As4Aggregator => AttributeValue::As4Aggregator(Aggregator::parse(
+                parser, true,
+            )?),
+            AttributeType::LargeCommunities => AttributeValue::LargeCommunities(parse_some(
+                parser,
+            )?),
+        })
+    }
+}
+
+impl<R: AsOctets + Copy> PathAttribute<R> {
+    ghost use Rattle.octseq_bgp.specs.ValueOf.{value_of};
+
+    /// Reads its octets as a value of its type.
+    fn typed(&self, turns: &mut Turns) -> Result<AttributeValue<R>, Malformed>
+        ensures value { IfOk result (λ value.
+            IsTyped self.now.session self.now.type_code (window self.now.value) (value_of value)) }
+        ensures malformed { IsErr result → (value : Value)
+            → ¬ IsTyped self.now.session self.now.type_code (window self.now.value) value }
+        ensures turns { turns.new ≤ turns.old + left (window self.now.value) }
+    {
+        let Some(kind) = AttributeType::from_number(self.type_code) else {
+            return Err(Malformed);
+        };
+        let value = AttributeValue::parse_counted(kind, self.value, &self.session, turns)?;
+        Ok(value)
+    }
+
+    /// What its octets say: a value of its type, or nothing that is known here, and then they are opaque.
+    pub fn value(&self) -> AttributeValue<R>
+        ensures { IsValue self.now.session self.now.type_code (window self.now.value) (value_of result) }
+    {
+        self.value_counted(&mut Turns::new())
+    }
+
+    /// The same, and counts the turns of loops that this takes: one for each segment and prefix. There are at most as
+    /// many as it has octets.
+    pub fn value_counted(&self, turns: &mut Turns) -> AttributeValue<R>
+        ensures value { IsValue self.now.session self.now.type_code (window self.now.value) (value_of result) }
+        ensures turns { turns.new ≤ turns.old + left (window self.now.value) }
+    {
+        match self.typed(turns) {
+            Ok(value) => value,
+            Err(_) => AttributeValue::Opaque(self.value),
+        }
+    }
+}

@@ -1,0 +1,5 @@
+//! Tests of messages of BGP: rows of octets and what they say, from outside.
+#![tactic(auto)]
+
+#[cfg(test)]
+mod tests;

@@ -1,0 +1,114 @@
+//! What two OPENs agree on, and what is to be done with an UPDATE.
+use crate::tests::octets::message;
+use octseq::{AsOctets, Malformed};
+use octseq_asserts::assert_equal;
+use octseq_bgp::{AfiSafiType, Handling, Message, SessionConfig};
+use std::alloc::AllocGlobal;
+use std::process::Abort;
+use std::test::Fail;
+
+/// What two messages agree on, if both are OPENs.
+fn agreed<R: AsOctets + Copy>(ours: R, theirs: R) -> Result<SessionConfig, Malformed> {
+    let modern = SessionConfig::modern();
+    match (
+        Message::parse(ours, modern)?,
+        Message::parse(theirs, modern)?,
+    ) {
+        (Message::Open(ours), Message::Open(theirs)) => Ok(SessionConfig::negotiated(
+            &ours, &theirs,
+        )),
+        _ => Err(Malformed),
+    }
+}
+
+#[test]
+fn path_ids_are_agreed_on(rt: HostRuntime) -> Result<(), Fail> {
+    let alloc = rt.alloc();
+    let ours = message(
+        alloc,
+        "0031 01 04 fdfc 005a 0a000001 14 0212 41040000fdfc 4508 00010101 00020103 0600",
+    )?;
+    let theirs = message(
+        alloc,
+        "002b 01 04 fdfc 005a 0a000002 0e 020c 41040000fdfc 4504 00010102",
+    )?;
+    let session = agreed(&ours, &theirs)?;
+    assert_equal!(&rt, session.four_octet_asn, true);
+    assert_equal!(&rt, session.extended_message, false);
+    assert_equal!(&rt, session.add_path.has(AfiSafiType::Ipv4Unicast), true);
+    assert_equal!(&rt, session.add_path.has(AfiSafiType::Ipv6Unicast), false);
+    Ok(())
+}
+
+/// What is to be done with a message, if it is an UPDATE.
+fn handling<R: AsOctets + Copy>(octets: R, external: bool) -> Result<Handling, Malformed> {
+    match Message::parse(octets, SessionConfig::modern())? {
+        Message::Update(update) => Ok(update.handling(external)),
+        _ => Err(Malformed),
+    }
+}
+
+/// An UPDATE is to be handled so.
+fn is_handled(
+    rt: &(impl AllocGlobal + Abort),
+    octets: &str,
+    external: bool,
+    wanted: Handling,
+) -> Result<(), Fail> {
+    let all = message(rt.alloc(), octets)?;
+    assert_equal!(rt, handling(&all, external)?, wanted);
+    Ok(())
+}
+
+#[test]
+fn updates_are_handled(rt: HostRuntime) -> Result<(), Fail> {
+    is_handled(&rt, "0017 02 0000 0000", true, Handling::Accept)?;
+    is_handled(
+        &rt,
+        "001b 02 0000 0000 18090909",
+        true,
+        Handling::TreatAsWithdraw,
+    )?;
+    is_handled(
+        &rt,
+        "001b 02 0000 0004 40010103",
+        true,
+        Handling::TreatAsWithdraw,
+    )?;
+    is_handled(
+        &rt,
+        "001a 02 0000 0003 c00700",
+        true,
+        Handling::AttributeDiscard,
+    )?;
+    is_handled(
+        &rt,
+        "001f 02 0000 0008 40010100 40010100",
+        true,
+        Handling::AttributeDiscard,
+    )?;
+    is_handled(
+        &rt,
+        "001a 02 0000 0003 800e00",
+        true,
+        Handling::SessionReset,
+    )?;
+    is_handled(
+        &rt,
+        "001a 02 0000 0003 406300",
+        true,
+        Handling::SessionReset,
+    )?;
+    is_handled(
+        &rt,
+        "001e 02 0000 0007 40050400000064",
+        true,
+        Handling::AttributeDiscard,
+    )?;
+    is_handled(
+        &rt,
+        "001e 02 0000 0007 40050400000064",
+        false,
+        Handling::Accept,
+    )
+}
