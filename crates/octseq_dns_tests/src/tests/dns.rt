@@ -125,6 +125,8 @@ impl<H: Abort + AllocGlobal> Case<H> for IsRead {
         let header = message.header();
         assert_equal!(rt, (header.id, header.flags.qr), (4660, true));
         let copy = message.clone()?;
+        // (the header's counts bound those of the walks)
+        let _counts = copy.header_counts();
         let counts = (
             copy.questions().count(),
             copy.answers().count(),

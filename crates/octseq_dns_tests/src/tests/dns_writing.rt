@@ -213,6 +213,8 @@ fn a_full_table_compresses_less(rt: HostRuntime) -> Result<(), Fail> {
 /// How many entries each section of a message has.
 fn counts_of<R: Octets + Copy>(octets: R) -> Result<(usize, usize, usize, usize), Malformed> {
     let message = Message::parse(octets)?;
+    // (the header's counts bound those of the walks)
+    let _counts = message.header_counts();
     Ok((
         message.questions().count(),
         message.answers().count(),
