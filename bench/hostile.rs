@@ -2,9 +2,9 @@
 //! and a message of 1,600 records with different owners, written.
 #[allow(dead_code)] // its reader and its writer are what compare.rs times ours beside
 mod dns;
+mod timing;
 
-use std::hint::black_box;
-use std::time::Instant;
+use timing::seconds;
 
 unsafe extern "C" {
     fn octseq_dns_checked(stream: *const u8, len: usize) -> u64;
@@ -14,9 +14,6 @@ unsafe extern "C" {
 
 type OfOctets = unsafe extern "C" fn(*const u8, usize) -> u64;
 
-/// How many times each is timed, of which the best counts.
-const ROUNDS: usize = 7;
-
 /// How many records with different owners are written.
 const RECORDS: usize = 1600;
 
@@ -25,22 +22,6 @@ const RATIO_MAX: f64 = 60.0;
 
 fn call(of: OfOctets, octets: &[u8]) -> u64 {
     unsafe { of(octets.as_ptr(), octets.len()) }
-}
-
-/// The least seconds that a call takes, of rounds of at least a millisecond each.
-fn seconds(work: impl Fn() -> u64) -> f64 {
-    let start = Instant::now();
-    black_box(work());
-    let calls = (1e-3 / start.elapsed().as_secs_f64()).ceil().clamp(1.0, 1e4) as usize;
-    let mut least = f64::MAX;
-    for _ in 0..ROUNDS {
-        let start = Instant::now();
-        for _ in 0..calls {
-            black_box(work());
-        }
-        least = least.min(start.elapsed().as_secs_f64() / calls as f64);
-    }
-    least
 }
 
 /// A message by its name, on a line of its own: the name, a tab, and the octets in hexadecimal.

@@ -16,7 +16,7 @@ use Rattle.octseq_dns_compress.proofs.Standing.{all_of, all_grown}
 use Rattle.octseq_dns_compress.proofs.Steps.{grown_length}
 use Rattle.octseq_dns_message.specs.Entry as entry
 use Rattle.octseq_dns_message.specs.Entry.{IsQuestion, IsRecord}
-use Rattle.octseq_dns_message.specs.Format.{IsNumber}
+use Rattle.octseq_dns_data.specs.Format.{IsNumber}
 use Rattle.octseq_format.specs.Laws.{Relation}
 use Rattle.octseq_format.specs.Row.{Row}
 use Rattle.octseq_dns.specs.Contents.{Question, Record, FitsQuestion, FitsRecord, question_entry, record_entry}

@@ -8,7 +8,7 @@ use Rattle.octseq.proofs.Windows.{next_and_rest}
 use Rattle.octseq.proofs.Written.{length_be, value_be}
 use Rattle.octseq_dns_compress.specs.Fields.{AreFields}
 use Rattle.octseq_dns_compress.specs.State.{Field}
-use Rattle.octseq_dns_message.specs.Format.{IsNumber}
+use Rattle.octseq_dns_data.specs.Format.{IsNumber}
 use Rattle.octseq_dns_name.specs.Name.{HasName, IsName}
 use Rattle.octseq_dns_name.specs.NameFormat.{name_of_window}
 

@@ -8,7 +8,7 @@ use Rattle.octseq.proofs.Codes.{rest_whole}
 use Rattle.octseq_dns_compress.specs.Fields.{AreFields}
 use Rattle.octseq_dns_compress.specs.State.{Field}
 use Rattle.octseq_dns_message.specs.Flag.{flag}
-use Rattle.octseq_dns_message.specs.Format.{IsNumber}
+use Rattle.octseq_dns_data.specs.Format.{IsNumber}
 use Rattle.octseq_dns_message.specs.Header.{IsHeader, flag_bits, header_numbers}
 use Rattle.octseq_dns_message.specs.declared.header.Header.{Header}
 use Rattle.octseq_dns_message.specs.declared.header.HeaderCounts.{HeaderCounts}

@@ -1,9 +1,14 @@
 pub mod Anew
+pub mod Blank
 pub mod EntriesRead
 pub mod FieldParts
+pub mod Framing
 pub mod HeaderRead
+pub mod Limited
 pub mod Moving
+pub mod OptRead
 pub mod Pushed
 pub mod RdataRead
 pub mod ReadBack
+pub mod Spelled
 pub mod Stages

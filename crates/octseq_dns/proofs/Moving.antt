@@ -3,11 +3,11 @@ use Rattle.std.proofs.Common.{◌≡◌, ℕ, inl, inr, refl}
 use Rattle.octseq.specs.declared.AsOctets.{Ghosts}
 use Rattle.octseq.specs.declared.parse.Parser.{Parser}
 use Rattle.octseq_dns.specs.Moved.{CanMoveRecord}
-use Rattle.octseq_dns_message.specs.Data.{IsTyped, IsDataOf}
+use Rattle.octseq_dns_message.specs.RecordData.{IsTyped, IsDataOf}
 use Rattle.octseq_dns_message.specs.Entry.{Record}
-use Rattle.octseq_dns_message.specs.Typed.{rdata_of}
-use Rattle.octseq_dns_message.specs.declared.data.Data.{Data}
-use Rattle.octseq_dns_message.specs.declared.data.Data.TheVariants as kind
+use Rattle.octseq_dns_data.specs.Typed.{rdata_of}
+use Rattle.octseq_dns_data.specs.declared.data.Data.{Data}
+use Rattle.octseq_dns_data.specs.declared.data.Data.TheVariants as kind
 
 -- data that isn't told as unknown has its form
 typed_by : {R : Type 0} {g : Ghosts R} (r : Record) (found : Data R g)

@@ -9,10 +9,14 @@ use Rattle.octseq.specs.Window.{Window, left, next, rest, past, at}
 use Rattle.octseq_dns_compress.specs.Fields.{AreFields}
 use Rattle.octseq_dns_compress.specs.Fits.{NameFits}
 use Rattle.octseq_dns_compress.specs.State.{Field}
-use Rattle.octseq_dns_message.specs.Data.{ParsedRdata, HasRdata, HasOctets, HasString, HasSoa, IsDataOf}
-use Rattle.octseq_dns_message.specs.Data.{rtype_of as parsed_rtype}
+use Rattle.octseq_dns_data.specs.Data.{ParsedRdata, HasRdata, HasOctets, HasString, HasSoa}
+use Rattle.octseq_dns_message.specs.RecordData.{IsDataOf}
+use Rattle.octseq_dns_data.specs.Data.{naptr_form}
+use Rattle.octseq_dns_data.specs.Data.{rtype_of as parsed_rtype}
+use Rattle.octseq_dns_data.specs.Local.{LocalType, IsOfClass, form, local_number}
+use Rattle.octseq_dns_data.proofs.Rdata.{in_message, naptr_from}
 use Rattle.octseq_dns_message.specs.Entry.{Record}
-use Rattle.octseq_dns_message.specs.Format.{IsNumber}
+use Rattle.octseq_dns_data.specs.Format.{IsNumber}
 use Rattle.octseq_dns_name.specs.Name.{Name, HasName, IsName}
 use Rattle.octseq_dns_name.specs.NameFormat.{wire_stands}
 use Rattle.octseq_dns_name.specs.Wire.{wire}
@@ -113,7 +117,55 @@ IsReadAs r said = (parsed : ParsedRdata) × (bare_rdata parsed ≡ said) × IsDa
 typed : (r : Record) (said : Rdata) (has : HasFields r (rdata_fields said)) (parsed : ParsedRdata)
     → bare_rdata parsed ≡ said → HasRdata r.rtype r.class (at r.rdata.position r.owner.place) parsed has.end
     → IsReadAs r said
-typed r said has parsed same is = (parsed, same, inl (record { end = has.end; rdata_is = is; ends = has.ends }))
+typed r said has parsed same is = (
+  parsed,
+  same,
+  inl (in_message r.rtype r.class (at r.rdata.position r.owner.place) r.rdata parsed
+      (record { end = has.end; rdata_is = is; ends = has.ends })),
+)
+
+-- octets that take the data whole are the data
+octets_whole : (r : Record) (octets : List ℕ) → HasFields r (Field.octets octets ∷ [])
+    → (rest r.rdata ≡ octets) × (r.rdata.position + length octets ≡ r.rdata.end)
+octets_whole r octets has =
+    let is = has.fields_are in
+    let ends : r.rdata.position + length octets ≡ r.rdata.end = sym (ap (λ (v : Window). v.position) is.2) ∙ has.ends in (
+      ap (λ all. rest (record { octets = all; position = r.rdata.position; end = r.rdata.end })) has.in_message
+          ∙ ap (λ end. rest (record { octets = r.owner.place.octets; position = r.rdata.position; end = end })) (sym ends)
+          ∙ is.1,
+      ends,
+    )
+
+-- data that takes its window whole is read by itself
+local_read : (r : Record) (k : LocalType) (octets : List ℕ) → HasFields r (Field.octets octets ∷ [])
+    → FitsRdata (Rdata.local k octets) → r.rtype ≡ local_number k → IsOfClass k r.class
+    → IsReadAs r (Rdata.local k octets)
+local_read r k octets has fits rtype class =
+    let whole = octets_whole r octets has in
+    let said = fits.0 in
+    let o = (form k).octets said in
+    let ends = whole.1 in
+    let many : length octets ≡ length o = ap length fits.2 in
+    let taken = (form k).back.back r.rdata said fits.1 (whole.0 ∙ fits.2) (omega (arith, ends, many)) in (
+      ParsedRdata.local k taken.it,
+      ap (Rdata.local k) (ap (form k).octets taken.tells ∙ sym fits.2),
+      inl (record {
+        rtype_is = rtype;
+        class_is = class;
+        whole = subst (λ n. (form k).Is r.rdata taken.it (past n r.rdata)) (omega (arith, ends, many)) taken.is;
+      }),
+    )
+
+-- a naming authority pointer
+naptr_read : (r : Record) (said : naptr_form.Said) → HasFields r (Field.octets (naptr_form.octets said) ∷ [])
+    → naptr_form.Fits said → r.rtype ≡ 35 → r.class ≡ 1 → IsReadAs r (Rdata.naptr said)
+naptr_read r said has fits rtype class =
+    let w = at r.rdata.position r.owner.place in
+    let o = naptr_form.octets said in
+    let are = has.fields_are in
+    let taken = naptr_form.next.next w said (rest (past (length o) w)) fits (octets_first w o are.0 are.1) in
+    typed r (Rdata.naptr said) has (ParsedRdata.naptr (naptr_from taken.it)) (ap Rdata.naptr taken.tells)
+    (rtype, class, subst (λ v. naptr_form.Is w taken.it v) (sym are.2) taken.is)
 
 -- Data that was written is read as that data, where the record's type and class are those that it is of.
 pub data_is_read : (r : Record) (said : Rdata) → HasFields r (rdata_fields said) → FitsRdata said → IsOfType r said
@@ -176,18 +228,13 @@ data_is_read r (Rdata.srv priority weight port labels) has fits of =
     typed r (Rdata.srv priority weight port labels) has
     (ParsedRdata.srv (record { priority = priority; weight = weight; port = port; target = named u3 labels })) refl
     (of.0, of.1, (u1, one.0, (u2, two.0, (u3, three.0, plain_last labels u3 has.end fits.3 three.1))))
-data_is_read r (Rdata.unknown rtype octets) has fits of =
-    let w = at r.rdata.position r.owner.place in
-    let is = has.fields_are in
-    let ends : r.rdata.position + length octets ≡ r.rdata.end = sym (ap (λ (v : Window). v.position) is.2) ∙ has.ends in
-    let same : rest r.rdata ≡ octets =
-    ap (λ all. rest (record { octets = all; position = r.rdata.position; end = r.rdata.end })) has.in_message
-    ∙ ap (λ end. rest (record { octets = r.owner.place.octets; position = r.rdata.position; end = end })) (sym ends)
-    ∙ is.1 in (
-      ParsedRdata.unknown r.rtype r.rdata,
-      ap (λ n. Rdata.unknown n (rest r.rdata)) of.0 ∙ ap (Rdata.unknown rtype) same,
-      inr (refl, of.1),
-    )
+data_is_read r (Rdata.naptr said) has fits of = naptr_read r said has fits of.0 of.1
+data_is_read r (Rdata.local k octets) has fits of = local_read r k octets has fits of.0 of.1
+data_is_read r (Rdata.unknown rtype octets) has fits of = (
+  ParsedRdata.unknown r.rtype r.rdata,
+  ap (λ n. Rdata.unknown n (rest r.rdata)) of.0 ∙ ap (Rdata.unknown rtype) (octets_whole r octets has).0,
+  inr (refl, of.1),
+)
 
 -- data is of the type that it was read as
 pub bare_rtype : (parsed : ParsedRdata) → rtype_of (bare_rdata parsed) ≡ parsed_rtype parsed
@@ -200,4 +247,6 @@ bare_rtype (ParsedRdata.mx _) = refl
 bare_rtype (ParsedRdata.soa _) = refl
 bare_rtype (ParsedRdata.txt _) = refl
 bare_rtype (ParsedRdata.srv _) = refl
+bare_rtype (ParsedRdata.naptr _) = refl
+bare_rtype (ParsedRdata.local _ _) = refl
 bare_rtype (ParsedRdata.unknown _ _) = refl

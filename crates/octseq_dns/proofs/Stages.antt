@@ -8,7 +8,7 @@ use Rattle.octseq_dns_compress.specs.Composed.{message_limit}
 use Rattle.octseq_dns_compress.proofs.Fields.{past_longer}
 use Rattle.octseq_dns_message.specs.Entry as entry
 use Rattle.octseq_dns_message.specs.declared.header.Header.{Header}
-use Rattle.octseq_dns_message.proofs.Rdata.{one_said}
+use Rattle.octseq_dns_message.proofs.RecordData.{one_said}
 use Rattle.octseq_dns.specs.Contents.{Question, Record, Message, octets_of}
 use Rattle.octseq_dns.specs.ReadBack.{bare}
 use Rattle.octseq_dns.specs.Rewritten.{IsMessageOf, IsQuestionOf, IsRecordOf, record_of_parsed}

@@ -6,12 +6,16 @@ use Rattle.octseq.specs.Part.{part_of}
 use Rattle.octseq.specs.Window.{rest}
 use Rattle.octseq_dns_compress.specs.Fits.{NameFits}
 use Rattle.octseq_dns_compress.specs.State.{Field}
-use Rattle.octseq_dns_message.specs.Data.{ParsedRdata, IsTyped}
+use Rattle.octseq_dns_data.specs.Data.{ParsedRdata, naptr_form, naptr_parts}
+use Rattle.octseq_dns_data.specs.Local.{LocalType, form, local_number}
+use Rattle.octseq_dns_data.specs.Local.{IsOfClass as IsLocalClass}
+use Rattle.octseq_dns_message.specs.RecordData.{IsTyped}
 use Rattle.octseq_dns_message.specs.Entry.{Record}
 use Rattle.octseq_dns_name.specs.Wire.{wire}
 
 -- Of a mail exchange the preference and the labels, of the start of a zone the labels of both names and the five
--- numbers, of a service the three numbers and the labels; of a type that isn't known here its number and the octets.
+-- numbers, of a service the three numbers and the labels, of a naming authority pointer its parts; of data that is read
+-- by itself the octets; of a type that isn't known here its number and the octets.
 pub data Rdata : Type 0 where
   a : List ℕ → Rdata
   aaaa : List ℕ → Rdata
@@ -22,6 +26,8 @@ pub data Rdata : Type 0 where
   soa : List (List ℕ) → List (List ℕ) → ℕ → ℕ → ℕ → ℕ → ℕ → Rdata
   txt : List (List ℕ) → Rdata
   srv : ℕ → ℕ → ℕ → List (List ℕ) → Rdata
+  naptr : naptr_form.Said → Rdata
+  local : LocalType → List ℕ → Rdata
   unknown : ℕ → List ℕ → Rdata
 
 -- what data that was read says
@@ -36,6 +42,8 @@ bare_rdata (ParsedRdata.soa it) =
     Rdata.soa it.mname.labels it.rname.labels it.serial it.refresh it.retry it.expire it.minimum
 bare_rdata (ParsedRdata.txt strings) = Rdata.txt strings
 bare_rdata (ParsedRdata.srv it) = Rdata.srv it.priority it.weight it.port it.target.labels
+bare_rdata (ParsedRdata.naptr it) = Rdata.naptr (naptr_form.says (naptr_parts it))
+bare_rdata (ParsedRdata.local k found) = Rdata.local k ((form k).octets ((form k).says found))
 bare_rdata (ParsedRdata.unknown rtype octets) = Rdata.unknown rtype (rest octets)
 
 -- the type that it is of
@@ -49,6 +57,8 @@ rtype_of (Rdata.mx _ _) = 15
 rtype_of (Rdata.soa _ _ _ _ _ _ _) = 6
 rtype_of (Rdata.txt _) = 16
 rtype_of (Rdata.srv _ _ _ _) = 33
+rtype_of (Rdata.naptr _) = 35
+rtype_of (Rdata.local k _) = local_number k
 rtype_of (Rdata.unknown rtype _) = rtype
 
 -- Its fields. Names are compressed in the types of RFC 1035 alone: RFC 3597, 4.
@@ -65,6 +75,8 @@ rdata_fields (Rdata.soa mname rname serial refresh retry expire minimum) =
 rdata_fields (Rdata.txt strings) = Field.octets (flat_map (part_of 1) strings) ∷ []
 rdata_fields (Rdata.srv priority weight port labels) =
     Field.octets (octets_be 2 priority ++ (octets_be 2 weight ++ octets_be 2 port)) ∷ Field.octets (wire labels) ∷ []
+rdata_fields (Rdata.naptr said) = Field.octets (naptr_form.octets said) ∷ []
+rdata_fields (Rdata.local k octets) = Field.octets octets ∷ []
 rdata_fields (Rdata.unknown rtype octets) = Field.octets octets ∷ []
 
 -- its numbers, names and strings fit their octets
@@ -81,13 +93,17 @@ FitsRdata (Rdata.soa mname rname serial refresh retry expire minimum) = NameFits
 FitsRdata (Rdata.txt strings) = (1 ≤ length strings) × All (λ string. length string ≤ 255) strings
 FitsRdata (Rdata.srv priority weight port labels) =
     (priority < 65536) × (weight < 65536) × (port < 65536) × NameFits labels
+FitsRdata (Rdata.naptr said) = naptr_form.Fits said
+FitsRdata (Rdata.local k octets) = (said : (form k).Said) × (form k).Fits said × (octets ≡ (form k).octets said)
 FitsRdata (Rdata.unknown rtype octets) = rtype < 65536
 
--- addresses and places of services are of the class IN alone
+-- addresses, places of services and naming authority pointers are of the class IN alone
 abbrev pub IsOfClass : ℕ → Rdata → Type 0
 IsOfClass class (Rdata.a _) = class ≡ 1
 IsOfClass class (Rdata.aaaa _) = class ≡ 1
 IsOfClass class (Rdata.srv _ _ _ _) = class ≡ 1
+IsOfClass class (Rdata.naptr _) = class ≡ 1
+IsOfClass class (Rdata.local k _) = IsLocalClass k class
 IsOfClass class _ = Unit {0}
 
 -- A record's type and class are those that the data is of; where its type isn't known, the record's data has no form.

@@ -1,7 +1,8 @@
 -- A message that was read, as one that is written.
 use Rattle.std.specs.Prelude.{◌≡◌, List, map}
 use Rattle.std.specs.List.{AllZip}
-use Rattle.octseq_dns_message.specs.Data.{ParsedRdata, IsDataOf}
+use Rattle.octseq_dns_data.specs.Data.{ParsedRdata}
+use Rattle.octseq_dns_message.specs.RecordData.{IsDataOf}
 use Rattle.octseq_dns_message.specs.Entry as entry
 use Rattle.octseq_dns_message.specs.Parsed.{header_of, questions_of, answers_of, authorities_of, additionals_of}
 use Rattle.octseq_dns_message.specs.declared.message.Message.{Message as Parsed}

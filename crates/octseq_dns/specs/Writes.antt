@@ -1,7 +1,8 @@
 -- What a message is while it is written, and what a push does to it.
-use Rattle.std.specs.Prelude.{◌≡◌, ℕ, ◌+◌, ◌<◌, ◌≤◌, ◌⊎◌, Option, List, [], ◌∷◌, ◌++◌, length, Result, OnOk, OnErr}
+use Rattle.std.specs.Prelude.{◌≡◌, ℕ, ◌+◌, ◌<◌, ◌≤◌, ◌⊎◌, Bool, Option, Some, None, List, [], ◌∷◌, ◌++◌, length}
+use Rattle.std.specs.Prelude.{min, Result, OnOk, OnErr}
 use Rattle.octseq.specs.Limit.{IsPast, IsWithin}
-use Rattle.octseq.specs.Refusal.{IsShort, IsMemory, append_error}
+use Rattle.octseq.specs.Refusal.{Refusal, IsShort, IsMemory, append_error}
 use Rattle.octseq.specs.declared.AppendError.{AppendError}
 use Rattle.octseq_dns_compress.specs.State.{State, Entry, with_header}
 use Rattle.octseq_dns_message.specs.declared.header.Header.{Header}
@@ -10,13 +11,16 @@ use Rattle.octseq_dns.specs.Contents.{Question, Record, Message, FitsRecord, Fit
 use Rattle.octseq_dns.specs.Contents.{entries_of, record_entry}
 
 -- A message that is being written: the builder of its octets, the table, its octets with the names in them, its header,
--- and how many entries each section has.
+-- how many entries each section has, the limit that is set for pushes, if one is, and whether a record of type OPT was
+-- pushed.
 pub record Building (B T : Type 0) : Type 0 where
   pub octets : B
   pub table : T
   pub state : State
   pub header : Header
   pub counts : HeaderCounts
+  pub push_limit : Option ℕ
+  pub has_opt : Bool
 
 -- It is this message, composed with at most so many names.
 pub record Writes (most : ℕ) (m : Message) (state : State) (header : Header) (counts : HeaderCounts) : Type 0 where
@@ -95,6 +99,12 @@ TakesRecords Reaches count counted more = Takes Record record_entry FitsRecord R
 
 -- ---- what a push does
 
+-- the least of a limit and of another, where that is set
+abbrev pub least_limit : Option ℕ → Option ℕ → Option ℕ
+least_limit None limit = limit
+least_limit (Some most) None = Some most
+least_limit (Some most) (Some limit) = Some (min most limit)
+
 -- A call makes a message what is wanted, or leaves it as it is. It is refused as short only where the octets that are
 -- wanted pass the limit, and for memory only where a request for memory may be refused.
 pub record Appends (limit : Option ℕ) (Asks : Type 0) (result : Result (Unit {0}) AppendError)
@@ -107,10 +117,14 @@ pub record Appends (limit : Option ℕ) (Asks : Type 0) (result : Result (Unit {
 
 -- A call pushes an entry, with which a message is what is wanted under a header, or leaves the message as it is. It is
 -- refused as short only where the octets with the entry pass the limit, or the section has 65,535 entries.
-pub record Pushes (limit : Option ℕ) (Asks : Type 0) (result : Result (Unit {0}) AppendError) (wanted : State)
-    (header : List ℕ) (count : ℕ) (old new : State) : Type 0 where
+pub record PushesAs {E : Type 0} (refusal : E → Refusal) (limit : Option ℕ) (Asks : Type 0)
+    (result : Result (Unit {0}) E) (wanted : State) (header : List ℕ) (count : ℕ) (old new : State) : Type 0 where
   pub ok : OnOk result (new ≡ with_header wanted header)
   pub fits : OnOk result (IsWithin limit (length wanted.octets) × (count < 65535))
   pub err : OnErr result (new ≡ old)
-  pub short : IsShort append_error result → IsPast limit (length wanted.octets) ⊎ (65535 ≤ count)
-  pub memory : IsMemory append_error result → Asks
+  pub short : IsShort refusal result → IsPast limit (length wanted.octets) ⊎ (65535 ≤ count)
+  pub memory : IsMemory refusal result → Asks
+
+-- a call that is refused as an append is
+abbrev pub Pushes : Option ℕ → Type 0 → Result (Unit {0}) AppendError → State → List ℕ → ℕ → State → State → Type 0
+Pushes = PushesAs append_error

@@ -6,7 +6,7 @@
 ghost use Rattle.std.specs.Prelude.{◌≡◌, ◌≤◌, ℕ, length};
 ghost use Rattle.octseq_dns.specs.Contents.{Fits, Message, header_octets, octets_of};
 ghost use Rattle.octseq_dns.specs.ReadBack.{ReadsBack};
-ghost use Rattle.octseq_dns.specs.Writes.{Writes};
+ghost use Rattle.octseq_dns.specs.Writes.{IsBuilt, Writes};
 ghost use Rattle.octseq_dns_compress.specs.State.{with_header};
 
 use crate::builder::header::octets_of;
@@ -17,6 +17,7 @@ use octseq_dns_compress::{Composer, Compressor};
 use octseq_dns_message::{Header, HeaderCounts};
 use std::marker::{Model, PhantomData};
 
+mod answering;
 mod entry;
 mod header;
 mod message;
@@ -25,12 +26,14 @@ mod records;
 pub mod section;
 
 /// A message that is written up to a section: its octets, and a table of the names in them. Contracts see both, the
-/// header, and how many entries each section has.
+/// header, how many entries each section has, the limit of pushes, and whether a record of type OPT was pushed.
 #[derive(Drop)]
 pub struct SectionBuilder<B: AsOctets, T: Compressor, S: Section> {
     message: Composer<B, T>,
     header: Header,
     counts: HeaderCounts,
+    push_limit: Option<usize>,
+    has_opt: bool,
     section: PhantomData<S>,
 }
 
@@ -49,6 +52,8 @@ impl<B: AsOctets, T: Compressor, S: Section> Model for SectionBuilder<B, T, S> {
       state = m.message.state;
       header = m.header;
       counts = m.counts;
+      push_limit = m.push_limit;
+      has_opt = m.has_opt;
     } };
 
     ghost invariant = { λ m. IsBuilt T.most m.message.state m.header m.counts S.reaches };
@@ -92,6 +97,8 @@ impl<B: OctetsBuilder + Truncate + AsOctetsMut, T: Compressor, S: Section> Secti
         ensures len { length self.new.state.octets ≡ length self.old.state.octets }
         ensures written { (m : Message) → Writes T.most m self.old.state self.old.header self.old.counts
             → Writes T.most (record m { header = header }) self.new.state self.new.header self.new.counts }
+        ensures push_limit { self.new.push_limit ≡ self.old.push_limit }
+        ensures has_opt { self.new.has_opt ≡ self.old.has_opt }
         ensures borrows { B.borrows self.new.octets ≡ B.borrows self.old.octets }
     {
         self.header = header;
@@ -99,11 +106,55 @@ impl<B: OctetsBuilder + Truncate + AsOctetsMut, T: Compressor, S: Section> Secti
             .put_header(&octets_of(&self.header, &self.counts));
     }
 
+    /// Limits pushes from now on: one that would make the message longer than so many octets is refused as short. What
+    /// is there already stays, also where it is longer. The limit holds for later sections too.
+    ///
+    /// # Examples
+    ///
+    /// ```
+    /// // crates/octseq_dns_tests/src/tests/dns_answers.rt
+    /// answers.set_push_limit(20);
+    /// assert_equal!(&rt, push_answer(&mut answers, &[5, 6, 7, 8])?, SHORT);
+    /// ```
+    pub fn set_push_limit(&mut self, limit: usize)
+        ensures { self.new ≡ record self.old { push_limit = Some limit } }
+    {
+        self.push_limit = Some(limit);
+    }
+
+    /// Takes the limit of pushes away: they are limited by the builder's type and by 65,535 octets alone.
+    pub fn clear_push_limit(&mut self)
+        ensures { self.new ≡ record self.old { push_limit = None } }
+    {
+        self.push_limit = None;
+    }
+
+    /// The limit that is set for pushes, if one is.
+    pub fn push_limit(&self) -> Option<usize>
+        ensures { result ≡ self.now.push_limit }
+    {
+        self.push_limit
+    }
+
+    /// Whether a record of type OPT was pushed.
+    pub fn has_opt(&self) -> bool
+        ensures { result ≡ self.now.has_opt }
+    {
+        self.has_opt
+    }
+
     /// The message so far.
     pub fn as_slice(&self) -> &[u8]
         ensures { result.now ≡ self.now.state.octets }
     {
         self.message.as_slice()
+    }
+
+    /// It is a message that reaches no further than its section. The call does nothing.
+    fn is_built(&self)
+        ensures { IsBuilt T.most self.now.state self.now.header self.now.counts S.reaches }
+    {
+        let _header = self.header;
     }
 
     /// Goes on with a later section.
@@ -115,6 +166,8 @@ impl<B: OctetsBuilder + Truncate + AsOctetsMut, T: Compressor, S: Section> Secti
             message: self.message,
             header: self.header,
             counts: self.counts,
+            push_limit: self.push_limit,
+            has_opt: self.has_opt,
             section: PhantomData,
         }
     }

@@ -1,6 +1,7 @@
 //! What is read of messages that were written. Each law is the contract of a function that does nothing.
 ghost use Rattle.std.specs.Prelude.{◌≡◌, ◌≤◌, ℕ, List, length};
-ghost use Rattle.octseq_dns_message.specs.Data.{ParsedRdata, IsDataOf};
+ghost use Rattle.octseq_dns_data.specs.Data.{ParsedRdata};
+ghost use Rattle.octseq_dns_message.specs.RecordData.{IsDataOf};
 ghost use Rattle.octseq_dns_message.specs.Entry.{Question as Asked, Record as Entry};
 ghost use Rattle.octseq_dns_message.specs.declared.header.Header.{Header as Fields};
 ghost use Rattle.octseq_dns.specs.Contents.{Message, Fits, octets_of};

@@ -9,25 +9,32 @@
 #![tactic(auto)]
 
 pub mod builder;
+pub mod edns;
+pub mod frames;
 pub mod laws;
 pub mod moved;
 pub mod rdata;
 mod rewriting;
+pub mod txt;
 
 pub use builder::{
     AdditionalBuilder, AnswerBuilder, AuthorityBuilder, MessageBuilder, QuestionBuilder,
     SectionBuilder,
 };
+pub use edns::{OptData, PushOptError, UnknownOptData};
+pub use frames::{FrameError, FrameReader, WriteFrameError, next_frame, read_frame, write_frame};
 pub use moved::can_move;
 pub use octseq_dns_compress::{Composer, Compressor, StaticCompressor, Target, Uncompressed};
-pub use octseq_dns_message::data::Data;
+pub use octseq_dns_data::{
+    Class, Data, Opcode, Rcode, Rtype, RtypeBitmap, SvcParams, base_text, data, iana, rtype_bitmap,
+    svc_params, tag,
+};
 pub use octseq_dns_message::header::{Flags, Header, HeaderCounts};
-pub use octseq_dns_message::iana::{Class, Opcode, Rcode, Rtype};
 pub use octseq_dns_message::message::{Message, Question, Record};
 pub use octseq_dns_message::ttl::Ttl;
-pub use octseq_dns_message::{data, header, iana, message, ttl};
+pub use octseq_dns_message::{header, message, opt, ttl};
 pub use octseq_dns_name::error::{FromLabelsError, FromTextError, Malformed};
-pub use octseq_dns_name::name::{DomainName, Name, ParsedName};
+pub use octseq_dns_name::name::{DomainName, Name, ParsedName, Suffixes};
 pub use octseq_dns_name::{error, name};
 pub use rdata::{ComposeRecordData, UnknownRecordData};
 pub use rewriting::{RewriteError, rewrite, rewrite_counted};

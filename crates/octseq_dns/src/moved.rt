@@ -7,20 +7,24 @@ ghost use Rattle.octseq_dns_message.specs.Said.{record_of};
 ghost use Rattle.octseq_dns_message.specs.Walk.{records_left};
 
 use octseq::AsOctets;
+use octseq_dns_data::{Class, Data, Rtype};
 use octseq_dns_message::message::{Message, Record, Records};
-use octseq_dns_message::{Class, Data, Rtype};
 
-/// The numbers of the types whose data has names, in any class: RFC 1035, 3.3, RFC 1183, RFC 2163, RFC 2535 and
-/// RFC 3403.
-const TYPES_WITH_NAMES: [u16; 18] = [
-    2, 3, 4, 5, 6, 7, 8, 9, 12, 14, 15, 17, 18, 21, 24, 26, 30, 35,
+/// The numbers of the types whose data has names, in any class: RFC 1035, 3.3, RFC 1183, RFC 2163, RFC 2535, RFC 3403,
+/// RFC 4034 and RFC 6672.
+const TYPES_WITH_NAMES: [u16; 21] = [
+    2, 3, 4, 5, 6, 7, 8, 9, 12, 14, 15, 17, 18, 21, 24, 26, 30, 35, 39, 46, 47,
 ];
+
+/// Those whose data has names in class IN: RFC 2782 and RFC 9460.
+const TYPES_WITH_NAMES_IN: [u16; 3] = [33, 64, 65];
 
 /// Whether data of a type and a class may have names, and so pointers.
 fn data_may_have_names(rtype: Rtype, class: Class) -> bool
     ensures { result ≡ may_have_names rtype class }
 {
-    TYPES_WITH_NAMES.contains(&rtype.to_int()) || (rtype == Rtype::SRV && class == Class::IN)
+    TYPES_WITH_NAMES.contains(&rtype.to_int())
+        || (TYPES_WITH_NAMES_IN.contains(&rtype.to_int()) && class == Class::IN)
 }
 
 /// Whether a record can be moved to another message: data that isn't read as its type's may have pointers, which would

@@ -6,18 +6,21 @@ ghost use Rattle.octseq_dns_compress.specs.Composed.{Composes, message_limit};
 ghost use Rattle.octseq_dns_compress.specs.Fits.{FitsField};
 ghost use Rattle.octseq_dns_compress.specs.State.{Field, label_count, with_fields};
 ghost use Rattle.octseq_dns.specs.Rdata.{bare_rdata, rdata_fields, rtype_of};
-ghost use Rattle.octseq_dns_message.specs.Data.{ParsedRdata};
-ghost use Rattle.octseq_dns_message.specs.Typed.{rdata_of, mx_of, soa_of, srv_of};
+ghost use Rattle.octseq_dns_data.specs.Data.{ParsedRdata};
+ghost use Rattle.octseq_dns_data.specs.Typed.{rdata_of, mx_of, soa_of, srv_of};
 
 use octseq::builder::{AsOctetsMut, infallible};
 use octseq::utf8::Turns;
 use octseq::{AppendError, Array, AsOctets, OctetsBuilder, Truncate};
 use octseq_dns_compress::{Composer, Compressor};
-use octseq_dns_message::data::{Mx, Soa, Srv};
-use octseq_dns_message::{Data, Rtype};
+use octseq_dns_data::data::{
+    Caa, Dnskey, Ds, Hinfo, Mx, Naptr, Nsec, Nsec3, Nsec3param, PlainName, Rrsig, Soa, Srv, Sshfp,
+    Svcb, Tlsa, Uri,
+};
+use octseq_dns_data::{Data, Rtype};
 use octseq_dns_name::DomainName;
 use octseq_dns_name::name::a_name_has_labels;
-use octseq_format::Format;
+use octseq_format::{Format, Of};
 
 /// Data of a record that can be written: its type, and its fields, each of which is a name that may be compressed, or
 /// octets.
@@ -103,6 +106,7 @@ impl<R: AsOctets + Copy> ComposeRecordData for Data<R> {
         message: &mut Composer<B, T>,
         turns: &mut Turns,
     ) -> Result<(), AppendError> {
+        self.has_octets();
         match self {
             Data::A(address) => message.append_slice(address),
             Data::Aaaa(address) => message.append_slice(address),
@@ -113,6 +117,24 @@ impl<R: AsOctets + Copy> ComposeRecordData for Data<R> {
             Data::Soa(soa) => compose_soa(message, soa, turns),
             Data::Txt(txt) => message.append_slice(txt.as_slice()),
             Data::Srv(srv) => compose_srv(message, srv),
+            Data::Naptr(naptr) => message.append_value::<R, Of<Naptr<R>>>(naptr),
+            Data::Hinfo(hinfo) => message.append_value::<R, Of<Hinfo<R>>>(hinfo),
+            Data::Dname(name) => message.append_value::<R, PlainName>(name),
+            Data::Ds(ds) => message.append_value::<R, Of<Ds<R>>>(ds),
+            Data::Sshfp(sshfp) => message.append_value::<R, Of<Sshfp<R>>>(sshfp),
+            Data::Rrsig(sig) => message.append_value::<R, Of<Rrsig<R>>>(sig),
+            Data::Nsec(nsec) => message.append_value::<R, Of<Nsec<R>>>(nsec),
+            Data::Dnskey(key) => message.append_value::<R, Of<Dnskey<R>>>(key),
+            Data::Nsec3(nsec) => message.append_value::<R, Of<Nsec3<R>>>(nsec),
+            Data::Nsec3param(param) => message.append_value::<R, Of<Nsec3param<R>>>(param),
+            Data::Tlsa(tlsa) => message.append_value::<R, Of<Tlsa<R>>>(tlsa),
+            Data::Smimea(tlsa) => message.append_value::<R, Of<Tlsa<R>>>(tlsa),
+            Data::Cds(ds) => message.append_value::<R, Of<Ds<R>>>(ds),
+            Data::Cdnskey(key) => message.append_value::<R, Of<Dnskey<R>>>(key),
+            Data::Caa(caa) => message.append_value::<R, Of<Caa<R>>>(caa),
+            Data::Svcb(svcb) => message.append_value::<R, Of<Svcb<R>>>(svcb),
+            Data::Https(svcb) => message.append_value::<R, Of<Svcb<R>>>(svcb),
+            Data::Uri(uri) => message.append_value::<R, Of<Uri<R>>>(uri),
             Data::Unknown(_, octets) => message.append_slice(octets.peek_all()),
         }
     }

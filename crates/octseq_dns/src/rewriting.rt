@@ -10,7 +10,7 @@ ghost use Rattle.octseq_dns.specs.Contents.{Message as Contents, Question as Ask
 ghost use Rattle.octseq_dns.specs.Labels.{labels_in, question_labels, record_labels};
 ghost use Rattle.octseq_dns.specs.Moved.{CanMove};
 ghost use Rattle.octseq_dns.specs.Rewritten.{IsContentsOf, IsQuestionOf, IsRecordOf, rewrite_error};
-ghost use Rattle.octseq_dns.specs.Writes.{Writes, all_more, more_questions};
+ghost use Rattle.octseq_dns.specs.Writes.{Writes, all_more, least_limit, more_questions};
 
 use crate::builder::section::RecordSection;
 use crate::builder::{AdditionalBuilder, MessageBuilder, QuestionBuilder, SectionBuilder};
@@ -55,7 +55,8 @@ impl fmt::Display for RewriteError {
 /// their order, each with what its data says.
 ///
 /// Names are compressed with the table alone, so that a message without pointers comes out with them, and one of
-/// `Uncompressed` without. Data of a type that isn't known is written as the octets that it has.
+/// `Uncompressed` without. Data of a type that isn't known is written as the octets that it has. No limit is set for
+/// pushes.
 ///
 /// # Errors
 ///
@@ -92,6 +93,7 @@ pub fn rewrite<B: OctetsBuilder + Truncate + AsOctetsMut, T: Compressor, R: AsOc
     ensures short { IsShort rewrite_error result → (m : Contents) → IsContentsOf message.now m
         → IsPast (message_limit B.limit) (length (octets_of T.most m)) }
     ensures memory { IsMemory rewrite_error result → (B.asks ≡ true) ⊎ (T.asks ≡ true) }
+    ensures push_limit { IfOk result (λ b. b.push_limit ≡ None) }
     ensures borrows { IfOk result (λ b. B.borrows b.octets ≡ B.borrows octets) }
 {
     rewrite_counted(message, octets, table, &mut Turns::new())
@@ -123,6 +125,7 @@ pub fn rewrite_counted<
     ensures short { IsShort rewrite_error result → (m : Contents) → IsContentsOf message.now m
         → IsPast (message_limit B.limit) (length (octets_of T.most m)) }
     ensures memory { IsMemory rewrite_error result → (B.asks ≡ true) ⊎ (T.asks ≡ true) }
+    ensures push_limit { IfOk result (λ b. b.push_limit ≡ None) }
     ensures borrows { IfOk result (λ b. B.borrows b.octets ≡ B.borrows octets) }
     ensures turns { (m : Contents) → IsContentsOf message.now m → turns.new ≤ turns.old + 17 * labels_in m }
     ensures least { IfOk result (λ b. (m : Contents) → IsContentsOf message.now m
@@ -152,6 +155,7 @@ fn compose_anew<B: OctetsBuilder + Truncate + AsOctetsMut, T: Compressor, R: AsO
     ensures short { IsShort append_error result → (m : Contents) → IsContentsOf message.now m
         → IsPast (message_limit B.limit) (length (octets_of T.most m)) }
     ensures memory { IsMemory append_error result → (B.asks ≡ true) ⊎ (T.asks ≡ true) }
+    ensures push_limit { IfOk result (λ b. b.push_limit ≡ None) }
     ensures borrows { IfOk result (λ b. B.borrows b.octets ≡ B.borrows octets) }
     ensures turns { (m : Contents) → IsContentsOf message.now m → turns.new ≤ turns.old + 17 * labels_in m }
     ensures least { IfOk result (λ b. (m : Contents) → IsContentsOf message.now m
@@ -183,23 +187,30 @@ fn compose_anew<B: OctetsBuilder + Truncate + AsOctetsMut, T: Compressor, R: AsO
 }
 
 /// Pushes the questions that a message has left.
-fn push_questions<B: OctetsBuilder + Truncate + AsOctetsMut, T: Compressor, R: AsOctets + Copy>(
+pub(crate) fn push_questions<
+    B: OctetsBuilder + Truncate + AsOctetsMut,
+    T: Compressor,
+    R: AsOctets + Copy,
+>(
     builder: QuestionBuilder<B, T>,
     questions: Questions<R>,
     turns: &mut Turns,
 ) -> Result<QuestionBuilder<B, T>, AppendError>
-    requires fits { IsWithin (message_limit B.limit) (length builder.state.octets) }
-    requires room { builder.counts.qdcount + length (questions_left questions) ≤ 65535 }
+    requires { builder.counts.qdcount + length (questions_left questions) ≤ 65535 }
     ensures written { IfOk result (λ b. (m : Contents) (written : List Asked)
         → Writes T.most m builder.state builder.header builder.counts
         → AllZip IsQuestionOf (questions_left questions) written
         → Writes T.most (all_more more_questions m written) b.state b.header b.counts) }
-    ensures fits { IfOk result (λ b. IsWithin (message_limit B.limit) (length b.state.octets)) }
+    ensures fits { let limit = least_limit builder.push_limit (message_limit B.limit) in
+        IfOk result (λ b. IsWithin limit (length builder.state.octets) → IsWithin limit (length b.state.octets)) }
     ensures short { IsShort append_error result → (m : Contents) (written : List Asked)
         → Writes T.most m builder.state builder.header builder.counts
         → AllZip IsQuestionOf (questions_left questions) written
-        → IsPast (message_limit B.limit) (length (octets_of T.most (all_more more_questions m written))) }
+        → IsPast (least_limit builder.push_limit (message_limit B.limit))
+        (length (octets_of T.most (all_more more_questions m written))) }
     ensures memory { IsMemory append_error result → (B.asks ≡ true) ⊎ (T.asks ≡ true) }
+    ensures push_limit { IfOk result (λ b. b.push_limit ≡ builder.push_limit) }
+    ensures has_opt { IfOk result (λ b. b.has_opt ≡ builder.has_opt) }
     ensures borrows { IfOk result (λ b. B.borrows b.octets ≡ B.borrows builder.octets) }
     ensures turns { (m : Contents) (written : List Asked)
         → Writes T.most m builder.state builder.header builder.counts
@@ -232,6 +243,7 @@ fn push_records<
     turns: &mut Turns,
 ) -> Result<SectionBuilder<B, T, S>, AppendError>
     requires fits { IsWithin (message_limit B.limit) (length builder.state.octets) }
+    requires unlimited { builder.push_limit ≡ None }
     requires room { S.count builder.counts + length (records_left records) ≤ 65535 }
     ensures written { IfOk result (λ b. (m : Contents) (written : List Written)
         → Writes T.most m builder.state builder.header builder.counts
@@ -243,6 +255,7 @@ fn push_records<
         → AllZip IsRecordOf (records_left records) written
         → IsPast (message_limit B.limit) (length (octets_of T.most (all_more S.more m written))) }
     ensures memory { IsMemory append_error result → (B.asks ≡ true) ⊎ (T.asks ≡ true) }
+    ensures unlimited { IfOk result (λ b. b.push_limit ≡ None) }
     ensures borrows { IfOk result (λ b. B.borrows b.octets ≡ B.borrows builder.octets) }
     ensures exists { OnOk result ((written : List Written) × AllZip IsRecordOf (records_left records) written) }
     ensures turns { (m : Contents) (written : List Written)

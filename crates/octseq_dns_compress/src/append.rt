@@ -20,6 +20,7 @@ use octseq::utf8::Turns;
 use octseq::{AppendError, AsOctets, OctetsBuilder, ShortBuf, Truncate};
 use octseq_dns_name::ParsedName;
 use octseq_dns_name::name::a_name_has_labels;
+use octseq_format::Format;
 use std::alloc::AllocError;
 
 /// How many octets a message may have: RFC 1035, 4.2.2.
@@ -38,6 +39,37 @@ pub(crate) fn append<B: OctetsBuilder>(octets: &mut B, slice: &[u8]) -> Result<(
         return Err(AppendError::Short(ShortBuf));
     }
     octets.append_slice(slice)
+}
+
+/// Appends the octets of a value, as a format says it, to a message, which stays within its limit.
+pub(crate) fn append_value<B: OctetsBuilder + Truncate, R: AsOctets + Copy, F: Format<R>>(
+    octets: &mut B,
+    value: &F::Value,
+) -> Result<(), AppendError>
+    requires fits { F.fits (F.says (F.found value.now)) }
+    requires short { length (B.content octets.old) ≤ 65535 }
+    ensures appended { Appends (message_limit B.limit) B.asks result (F.octets (F.says (F.found value.now)))
+        (B.content octets.old) (B.content octets.new) }
+    ensures most { length (B.content octets.new) ≤ 65535 }
+    ensures within { OnOk result (IsWithin (message_limit B.limit) (length (B.content octets.new))) }
+    ensures borrows { B.borrows octets.new ≡ B.borrows octets.old }
+{
+    let Some(len) = F::compose_len(value) else {
+        return Err(AppendError::Short(ShortBuf));
+    };
+    let before = octets.len();
+    if len > MESSAGE_MAX - before {
+        return Err(AppendError::Short(ShortBuf));
+    }
+    if let Some(limit) = B::limit() {
+        if before + len > limit {
+            return Err(AppendError::Short(ShortBuf));
+        }
+    }
+    match F::put(octets, value) {
+        Ok(()) => Ok(()),
+        Err(AllocError) => Err(AppendError::Memory),
+    }
 }
 
 /// Writes a slice over as many octets from a place on.

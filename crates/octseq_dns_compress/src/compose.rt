@@ -6,12 +6,13 @@ ghost use Rattle.octseq_dns_compress.specs.Apart.{AreApart, apart_once};
 ghost use Rattle.octseq_dns_compress.specs.Composed.{message_limit, before, Composes};
 ghost use Rattle.octseq_dns_compress.specs.Known.{Known, known_once};
 
-use crate::append::{append, append_name, write_over};
+use crate::append::{append, append_name, append_value, write_over};
 use crate::table::Compressor;
 use octseq::builder::AsOctetsMut;
 use octseq::utf8::Turns;
 use octseq::{AppendError, AsOctets, OctetsBuilder, Truncate};
 use octseq_dns_name::ParsedName;
+use octseq_format::Format;
 use std::marker::Model;
 
 /// How many octets a header has: RFC 1035, 4.1.1.
@@ -100,8 +101,30 @@ impl<B: OctetsBuilder + Truncate, T: Compressor> Composer<B, T> {
     ghost use Rattle.std.specs.FinMap.{empty};
     ghost use Rattle.octseq.specs.Refusal.{IsMemory};
     ghost use Rattle.octseq_dns_compress.specs.Fits.{NameFits};
-    ghost use Rattle.octseq_dns_compress.specs.State.{with_name};
+    ghost use Rattle.octseq_dns_compress.specs.State.{with_name, with_octets};
     ghost use Rattle.octseq_dns_name.specs.Read.{labels_of};
+
+    /// Appends the octets of a value, as a format says it.
+    ///
+    /// # Errors
+    ///
+    /// `Short` exactly where the message would pass the limit of the builder's type or 65,535 octets, and `Memory`
+    /// where a request for memory was refused. The octets are then as they were.
+    pub fn append_value<R: AsOctets + Copy, F: Format<R>>(
+        &mut self,
+        value: &F::Value,
+    ) -> Result<(), AppendError>
+        requires fits { F.fits (F.says (F.found value.now)) }
+        ensures composed { Composes (message_limit B.limit) (B.asks ≡ true) result
+            (with_octets self.old.state (F.octets (F.says (F.found value.now)))) self.old self.new }
+        ensures err { OnErr result (self.new.state ≡ self.old.state) }
+        ensures past { IsPast (message_limit B.limit)
+            (length self.old.state.octets + length (F.octets (F.says (F.found value.now))))
+            → IsShort append_error result }
+        ensures borrows { B.borrows self.new.octets ≡ B.borrows self.old.octets }
+    {
+        append_value::<B, R, F>(&mut self.octets, value)
+    }
 
     /// A message that has a header of zeros and nothing else, in place of what the builder and the table have.
     ///

@@ -1,8 +1,12 @@
 -- A record of EDNS says one thing.
-use Rattle.std.proofs.Common.{◌≡◌, ℕ, ◌+◌, ◌*◌, ◌<◌, Bool, true, false, List, refl, sym, ap, ◌∙◌, arith}
+use Rattle.std.proofs.Common.{◌≡◌, ℕ, ◌+◌, ◌*◌, ◌<◌, Bool, true, false, List, [], ◌∷◌, Option, Some, None, refl, sym}
+use Rattle.std.proofs.Common.{ap, ◌∙◌, subst, arith}
 use Rattle.octseq_dns_message.specs.Entry.{Record}
 use Rattle.octseq_dns_message.specs.Flag.{flag}
-use Rattle.octseq_dns_message.specs.OneRow.{one_row_at, option_item}
+use Rattle.octseq_dns_data.specs.OneRow.{one_row_at}
+use Rattle.octseq_dns_message.specs.MessageOpt.{HaveOpt}
+use Rattle.octseq_dns_message.specs.OfType.{of_type}
+use Rattle.octseq_dns_message.specs.OneOption.{option_item}
 use Rattle.octseq_dns_message.specs.Opt.{EdnsOption, Opt, HasOption, IsOpt}
 
 -- a TTL with a response code, a version and a bit
@@ -38,3 +42,17 @@ one_opt r opt other a b =
     ∙ ap (λ n. opt_from other.udp_payload_size other.extended_rcode n opt.dnssec_ok opt.options) parts.1
     ∙ ap (λ n. opt_from other.udp_payload_size other.extended_rcode other.version n opt.options) parts.2
     ∙ ap (λ n. opt_from other.udp_payload_size other.extended_rcode other.version other.dnssec_ok n) options
+
+-- ---- the record of EDNS of a message
+
+first_record : Record → List Record → Record
+first_record other [] = other
+first_record other (r ∷ records) = r
+
+-- where the first record of type OPT says nothing as one of EDNS, neither do the records
+pub no_opt : (additionals more : List Record) (r : Record) → of_type 41 additionals ≡ r ∷ more
+    → ((opt : Opt) → IsOpt r opt → ⊥) → (found : Option Opt) → HaveOpt additionals found → ⊥
+unfolding first_record
+no_opt additionals more r first none None have = let both = sym first ∙ have in cc
+no_opt additionals more r first none (Some opt) have =
+    none opt (subst (λ r. IsOpt r opt) (ap (first_record r) (sym have.1 ∙ first)) have.3)

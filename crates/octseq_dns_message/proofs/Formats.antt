@@ -3,7 +3,7 @@ use Rattle.std.proofs.Common.{ℕ, ◌+◌, ◌≤◌, List, refl}
 use Rattle.octseq.specs.Integer.{be}
 use Rattle.octseq.specs.Window.{Window, left}
 use Rattle.octseq_dns_message.specs.Entry.{Question, Record, IsQuestion, IsRecord}
-use Rattle.octseq_dns_message.specs.Format.{IsNumber, IsData}
+use Rattle.octseq_dns_data.specs.Format.{IsNumber, IsData}
 use Rattle.octseq_dns_name.specs.Name.{HasName, IsName}
 use Rattle.octseq_dns_name.specs.NameFormat.{one_named, onward_name}
 use Rattle.octseq_format.specs.Counted.{Counted}

@@ -2,9 +2,9 @@
 use Rattle.std.proofs.Common.{◌≡◌, ℕ, ◌+◌, ◌*◌, ◌<◌, Bool, true, false, List, ◌∷◌, refl, sym, ap, ◌∙◌, arith}
 use Rattle.octseq.specs.Window.{Window}
 use Rattle.octseq_dns_message.specs.Flag.{flag}
-use Rattle.octseq_dns_message.specs.Format.{IsNumber}
+use Rattle.octseq_dns_data.specs.Format.{IsNumber}
 use Rattle.octseq_dns_message.specs.Header.{IsHeader, flag_bits, header_numbers}
-use Rattle.octseq_dns_message.specs.OneEntry.{one_number}
+use Rattle.octseq_dns_data.specs.Format.{one_number}
 use Rattle.octseq_dns_message.specs.declared.header.Header.{Header}
 use Rattle.octseq_dns_message.specs.declared.header.HeaderCounts.{HeaderCounts}
 use Rattle.octseq_format.specs.Row.{one_row}

@@ -1,11 +1,12 @@
+pub mod Aliases
+pub mod Asked
 pub mod Edns
 pub mod Formats
-pub mod Rdata
 pub mod Headers
+pub mod Limits
 pub mod MessageTexts
 pub mod Messages
+pub mod OptionData
 pub mod Options
 pub mod Places
-pub mod Rows
-pub mod Strings
-pub mod Texts
+pub mod RecordData

@@ -11,7 +11,7 @@ use Rattle.octseq_dns_message.specs.MessageText.{record_text, line, header_line,
 use Rattle.octseq_dns_message.specs.MessageText.{IsMessageText}
 use Rattle.octseq_dns_message.specs.TextFront.{BeginsAtLine}
 use Rattle.octseq_dns_message.specs.declared.header.Header.{Header}
-use Rattle.octseq_dns_message.proofs.Rdata.{one_said}
+use Rattle.octseq_dns_message.proofs.RecordData.{one_said}
 
 -- one more after what was added
 pub then_more : (old t u x y : List ℕ) → t ≡ old ++ x → u ≡ t ++ y → u ≡ old ++ (x ++ y)

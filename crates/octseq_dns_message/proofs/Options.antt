@@ -1,8 +1,9 @@
 -- Options, as a format finds them: a number, and octets after their length.
 use Rattle.std.proofs.Common.{◌≡◌, ℕ, ◌≤◌, List, map, arith}
 use Rattle.octseq.specs.Window.{Window}
-use Rattle.octseq_dns_message.specs.Format.{IsNumber}
-use Rattle.octseq_dns_message.specs.OneRow.{option_from, option_item, option_parts, row_end}
+use Rattle.octseq_dns_data.specs.Format.{IsNumber}
+use Rattle.octseq_dns_data.specs.OneRow.{row_end}
+use Rattle.octseq_dns_message.specs.OneOption.{option_from, option_item, option_parts}
 use Rattle.octseq_dns_message.specs.Opt.{EdnsOption, HasOption}
 use Rattle.octseq_format.specs.Counted.{Counted}
 use Rattle.octseq_format.specs.Laws.{Relation, NoneAt}

@@ -3,9 +3,9 @@ use Rattle.std.specs.Prelude.{List}
 use Rattle.octseq.specs.declared.AsOctets.{Ghosts}
 use Rattle.octseq.specs.Parser.{window}
 use Rattle.octseq_dns_message.specs.Opt as said
-use Rattle.octseq_dns_message.specs.declared.data.opt.EdnsOption.{EdnsOption}
-use Rattle.octseq_dns_message.specs.declared.data.opt.Opt.{Opt}
-use Rattle.octseq_dns_message.specs.declared.data.opt.Options.{Options}
+use Rattle.octseq_dns_message.specs.declared.opt.EdnsOption.{EdnsOption}
+use Rattle.octseq_dns_message.specs.declared.opt.Opt.{Opt}
+use Rattle.octseq_dns_message.specs.declared.opt.Options.{Options}
 
 -- the option that was read
 abbrev pub option_of : {R : Type 0} {g : Ghosts R} → EdnsOption R g → said.EdnsOption

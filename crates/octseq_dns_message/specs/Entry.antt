@@ -1,7 +1,7 @@
 -- The entries of a message: questions (RFC 1035, 4.1.2) and records (RFC 1035, 4.1.3). A TTL is unsigned: RFC 2181, 8.
 use Rattle.std.specs.Prelude.{ℕ}
 use Rattle.octseq.specs.Window.{Window}
-use Rattle.octseq_dns_message.specs.Format.{IsNumber, IsData}
+use Rattle.octseq_dns_data.specs.Format.{IsNumber, IsData}
 use Rattle.octseq_dns_name.specs.Name.{Name, HasName}
 use Rattle.octseq_format.specs.Pair.{◌then◌}
 

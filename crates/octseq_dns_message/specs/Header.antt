@@ -2,7 +2,7 @@
 use Rattle.std.specs.Prelude.{ℕ, ◌+◌, ◌*◌, ◌<◌, List, [], ◌∷◌}
 use Rattle.octseq.specs.Window.{Window}
 use Rattle.octseq_dns_message.specs.Flag.{flag}
-use Rattle.octseq_dns_message.specs.Format.{IsNumber}
+use Rattle.octseq_dns_data.specs.Format.{IsNumber}
 use Rattle.octseq_dns_message.specs.declared.header.Header.{Header}
 use Rattle.octseq_dns_message.specs.declared.header.HeaderCounts.{HeaderCounts}
 use Rattle.octseq_format.specs.Row.{Row}

@@ -2,7 +2,7 @@
 use Rattle.std.specs.Prelude.{ℕ, Bool, true, false, List, [], ◌∷◌, ◌++◌, codes}
 use Rattle.std.specs.Fmt.{decimal}
 use Rattle.octseq_dns_message.specs.Entry.{Question}
-use Rattle.octseq_dns_message.specs.Mnemonic.{class_text, rtype_text}
+use Rattle.octseq_dns_data.specs.Mnemonic.{class_text, rtype_text}
 use Rattle.octseq_dns_name.specs.Text.{name_text}
 use Rattle.octseq_dns_message.specs.declared.header.Flags.{Flags}
 use Rattle.octseq_dns_message.specs.declared.header.Header.{Header}

@@ -2,11 +2,12 @@
 use Rattle.std.specs.Prelude.{◌≡◌, ℕ, List, [], ◌∷◌, ◌++◌, codes}
 use Rattle.std.specs.Fmt.{decimal}
 use Rattle.std.specs.List.{flat_map}
-use Rattle.octseq_dns_message.specs.Data.{ParsedRdata, IsDataOf}
-use Rattle.octseq_dns_message.specs.DataText.{rdata_text}
+use Rattle.octseq_dns_data.specs.Data.{ParsedRdata}
+use Rattle.octseq_dns_message.specs.RecordData.{IsDataOf}
+use Rattle.octseq_dns_data.specs.RdataText.{rdata_text}
 use Rattle.octseq_dns_message.specs.Entry.{Question, Record}
 use Rattle.octseq_dns_message.specs.HeaderText.{header_text, question_text}
-use Rattle.octseq_dns_message.specs.Mnemonic.{class_text, rtype_text}
+use Rattle.octseq_dns_data.specs.Mnemonic.{class_text, rtype_text}
 use Rattle.octseq_dns_name.specs.Text.{name_text}
 use Rattle.octseq_dns_message.specs.declared.header.Header.{Header}
 

@@ -1,24 +1,15 @@
 -- At most one entry is at a place, with one end, so a row of them is a fact.
 use Rattle.std.specs.Prelude.{ℕ, refl}
 use Rattle.std.specs.Coded.{Coded, code_by, coded×, coded_ℕ}
-use Rattle.octseq.specs.Integer.{be}
 use Rattle.octseq.specs.Window.{Window}
 use Rattle.octseq_dns_message.specs.Entry.{IsQuestion, IsRecord, Question, Record}
-use Rattle.octseq_dns_message.specs.Format.{IsNumber, IsData}
+use Rattle.octseq_dns_data.specs.Format.{one_number, one_data}
 use Rattle.octseq_dns_name.specs.Name.{Name}
 use Rattle.octseq_dns_name.specs.NameFormat.{one_named, name_code}
-use Rattle.octseq_format.specs.Fixed.{one_fixed}
 use Rattle.octseq_format.specs.Laws.{IsOne, one_by}
 use Rattle.octseq_format.specs.Pair.{◌one_then◌}
-use Rattle.octseq_format.specs.Part.{one_part}
 use Rattle.octseq_format.specs.Rest.{window_code}
 use Rattle.octseq_format.specs.Row.{Holds, held_once}
-
-pub one_number : (k : ℕ) → IsOne (IsNumber k)
-one_number k = one_fixed k be
-
-pub one_data : IsOne IsData
-one_data = one_part 2
 
 -- what a question and a record have, one after another
 abbrev question_parts : Question → Name × (ℕ × ℕ)

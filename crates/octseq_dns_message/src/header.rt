@@ -4,8 +4,8 @@ ghost use Rattle.octseq.specs.Parser.{sequence, window};
 ghost use Rattle.octseq.specs.Window.{Window};
 ghost use Rattle.octseq_dns_message.specs.Flag.{flag};
 
-use crate::iana::{Opcode, Rcode};
 use octseq::{AsOctets, Parser};
+use octseq_dns_data::{Opcode, Rcode};
 use octseq_dns_name::Malformed;
 
 /// The bits of a header that have names of their own.

@@ -2,15 +2,12 @@
 //! text of all of it.
 #![tactic(auto)]
 
-pub mod data;
 pub mod header;
-pub mod iana;
 pub mod message;
+pub mod opt;
 mod text;
 pub mod ttl;
 
-pub use data::Data;
 pub use header::{Flags, Header, HeaderCounts};
-pub use iana::{Class, Opcode, Rcode, Rtype};
 pub use message::{Message, Question, Record};
 pub use ttl::Ttl;

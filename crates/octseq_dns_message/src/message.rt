@@ -10,21 +10,28 @@ ghost use Rattle.octseq_dns_message.specs.declared.header.HeaderCounts.{HeaderCo
 ghost use Rattle.octseq_format.specs.Row.{Holds};
 
 use crate::header::{Flags, Header, HeaderCounts};
-use crate::iana::{Opcode, Rcode};
 use crate::message::sections::{pass_questions, pass_records};
 use octseq::utf8::Turns;
 use octseq::{AsOctets, Parser};
+use octseq_dns_data::{Opcode, Rcode};
 use octseq_dns_name::Malformed;
 use std::alloc::AllocError;
 
+mod asked;
+mod canonical;
 mod collect;
+mod edns;
+mod limited;
 mod question;
 mod record;
 mod sections;
 mod text;
 mod walk;
 
+pub use crate::message::asked::NotOneQuestion;
+pub use crate::message::canonical::{ALIAS_MAX, one_canonical_name};
 pub use crate::message::collect::Sections;
+pub use crate::message::limited::RecordsOfType;
 pub use crate::message::question::Question;
 pub use crate::message::record::Record;
 pub use crate::message::text::one_text_of_a_message;

@@ -1,75 +1,14 @@
-//! The text of numbers with names, of headers and of questions.
+//! The text of TTLs, of headers and of questions.
 ghost use Rattle.std.specs.Prelude.{Some, ◌++◌, codes};
 ghost use Rattle.std.specs.Fmt.{WritesOnOk, decimal};
 ghost use Rattle.octseq_dns_message.specs.HeaderText.{flag_text, flags_text, header_text, question_text};
-ghost use Rattle.octseq_dns_message.specs.Mnemonic.{class_text, rtype_text};
 ghost use Rattle.octseq_dns_message.specs.Said.{question_of};
 
 use crate::header::{Flags, Header};
-use crate::iana::{Class, Opcode, Rcode, Rtype};
 use crate::message::Question;
 use crate::ttl::Ttl;
 use octseq::AsOctets;
 use std::fmt;
-
-/// Prints the mnemonic of the class, or `CLASS` and its number.
-impl fmt::Display for Class {
-    ghost output = { λ class. Some (class_text class) };
-
-    fn fmt<W: fmt::Write>(&self, f: &mut fmt::Formatter<W>) -> fmt::Result {
-        match self.to_int() {
-            1 => f.write_str("IN"),
-            3 => f.write_str("CH"),
-            4 => f.write_str("HS"),
-            254 => f.write_str("NONE"),
-            255 => f.write_str("ANY"),
-            number => write!(f, "CLASS{number}"),
-        }
-    }
-}
-
-/// Prints the mnemonic of the type, or `TYPE` and its number.
-impl fmt::Display for Rtype {
-    ghost output = { λ rtype. Some (rtype_text rtype) };
-
-    fn fmt<W: fmt::Write>(&self, f: &mut fmt::Formatter<W>) -> fmt::Result {
-        match self.to_int() {
-            1 => f.write_str("A"),
-            2 => f.write_str("NS"),
-            5 => f.write_str("CNAME"),
-            6 => f.write_str("SOA"),
-            12 => f.write_str("PTR"),
-            15 => f.write_str("MX"),
-            16 => f.write_str("TXT"),
-            28 => f.write_str("AAAA"),
-            33 => f.write_str("SRV"),
-            41 => f.write_str("OPT"),
-            252 => f.write_str("AXFR"),
-            255 => f.write_str("ANY"),
-            number => write!(f, "TYPE{number}"),
-        }
-    }
-}
-
-/// Prints the number.
-impl fmt::Display for Opcode {
-    ghost output = { λ opcode. Some (decimal opcode) };
-
-    fn fmt<W: fmt::Write>(&self, f: &mut fmt::Formatter<W>) -> fmt::Result {
-        let number = self.to_int();
-        write!(f, "{number}")
-    }
-}
-
-/// Prints the number.
-impl fmt::Display for Rcode {
-    ghost output = { λ rcode. Some (decimal rcode) };
-
-    fn fmt<W: fmt::Write>(&self, f: &mut fmt::Formatter<W>) -> fmt::Result {
-        let number = self.to_int();
-        write!(f, "{number}")
-    }
-}
 
 /// Prints the number of seconds.
 impl fmt::Display for Ttl {

@@ -9,7 +9,7 @@ use std::fmt;
 const CHANGES: [u8; 6] = [0x00, 0x3F, 0x40, 0xBF, 0xC0, 0xFF];
 
 /// What octets were read as: how often, how many of them were malformed, and the digest FNV-1a of 64 bits of all that
-/// they showed as, one behind another.
+/// they showed as, one after another.
 #[derive(Drop)]
 pub(crate) struct Shown {
     count: u64,
@@ -48,7 +48,7 @@ impl Shown {
         }
     }
 
-    /// Reads octets and shows them in a text of no use behind it.
+    /// Reads octets and shows them in a text of no use after it.
     fn read(&mut self, text: &mut StrBuilder<Vec<u8>>, octets: &[u8]) -> Result<(), DisplayError> {
         text.clear();
         let is_message = append_message(text, octets)?;

@@ -1,7 +1,10 @@
 pub mod Comparisons
+pub mod Fronts
 pub mod LabelItems
 pub mod LabelLaws
 pub mod Names
+pub mod Origins
+pub mod Parents
 pub mod Refusals
 pub mod SpellingSteps
 pub mod Spellings

@@ -241,7 +241,8 @@ none_go_on fault xs ys ahead is are short on =
 
 -- ---- the laws
 
-one_reason : (fault other : FromTextError) (text : List ℕ) → IsRefused fault text → IsRefused other text → fault ≡ other
+pub one_reason : (fault other : FromTextError) (text : List ℕ) → IsRefused fault text → IsRefused other text
+    → fault ≡ other
 one_reason fault other text one two =
     let here = one.3 in
     let there = two.3 in

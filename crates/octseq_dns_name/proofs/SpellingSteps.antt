@@ -58,7 +58,7 @@ read_octet text label ahead s rest octet so_far here one = (
 )
 
 -- from a text that isn't empty octets were read where nothing is ahead
-some_read : (text label : List ℕ) → Reads text label [] → 1 ≤ length text → 1 ≤ length label
+pub some_read : (text label : List ℕ) → Reads text label [] → 1 ≤ length text → 1 ≤ length label
 some_read text [] so_far some =
     let none = ap length (so_far.1 ∙ ap (λ l. l ++ []) so_far.2) in absurd (omega (arith, none, some))
 some_read text (octet ∷ label) so_far some = omega arith
@@ -95,13 +95,19 @@ octet_fault FromTextError.IllegalOctet labels text label ahead octet rest so_far
   subst SpellsNone begins.2 none,
 )
 
+-- where the text goes on it doesn't end too soon
+pub octet_within : (fault : FromTextError) (ahead : List ℕ) (octet : ℕ) (rest : List ℕ) → ahead ≡ octet ∷ rest
+    → BeginsWith fault ahead → ¬ (fault ≡ FromTextError.UnexpectedEnd)
+octet_within fault ahead octet rest here begins ended =
+    let none = ap length (sym here ∙ subst (λ f. BeginsWith f ahead) ended begins) in absurd (omega (arith, none))
+
 -- ---- labels
 
 -- none was read yet
 pub read_no_label : (text : List ℕ) → ReadsLabels text [] text
 read_no_label text = ([], refl, refl, tt, omega arith)
 
-labels_more : (labels : List (List ℕ)) (first label s : List ℕ) → SpellsLabels labels first → SpellsLabel label s
+pub labels_more : (labels : List (List ℕ)) (first label s : List ℕ) → SpellsLabels labels first → SpellsLabel label s
     → SpellsLabels (labels ++ label ∷ []) (first ++ (s ++ 46 ∷ []))
 labels_more [] first label s so_far one = (s, [], ap (λ l. l ++ (s ++ 46 ∷ [])) so_far, one, refl)
 labels_more (x ∷ labels) first label s so_far one = (

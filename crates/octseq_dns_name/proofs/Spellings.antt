@@ -80,7 +80,7 @@ pub no_end : (s ys : List ℕ) → ¬ (s ++ 46 ∷ ys ≡ [])
 no_end [] ys same = let e = ap length same in absurd (omega (arith, e))
 no_end (x ∷ s) ys same = let e = ap length same in absurd (omega (arith, e))
 
-labels_once : (labels others : List (List ℕ)) (text : List ℕ) → SpellsLabels labels text → SpellsLabels others text
+pub labels_once : (labels others : List (List ℕ)) (text : List ℕ) → SpellsLabels labels text → SpellsLabels others text
     → labels ≡ others
 labels_once [] [] text one two = refl
 labels_once [] (other ∷ others) text one two = absurd (no_end two.0 two.1 (sym two.2 ∙ one))

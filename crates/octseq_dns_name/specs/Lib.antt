@@ -5,12 +5,15 @@ pub mod NextLabel
 pub mod OneName
 pub mod Order
 pub mod OrderLaws
+pub mod Origin
 pub mod Owned
 pub mod Piece
 pub mod Read
 pub mod Refused
+pub mod Relatives
 pub mod Shown
 pub mod Spelling
+pub mod Suffixes
 pub mod Text
 pub mod Unfit
 pub mod Wire

@@ -9,4 +9,4 @@ pub mod name;
 
 pub use error::{FromLabelsError, FromTextError, Malformed};
 pub use name::text::write_digits;
-pub use name::{DomainName, NAME_MAX, Name, POINTER_MAX, ParsedName};
+pub use name::{DomainName, NAME_MAX, Name, POINTER_MAX, ParsedName, Suffixes};

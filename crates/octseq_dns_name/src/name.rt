@@ -16,6 +16,7 @@ mod compare;
 mod format;
 mod labels;
 mod owned;
+mod relatives;
 mod spelling;
 mod step;
 pub(crate) mod text;
@@ -24,7 +25,11 @@ mod wire;
 pub use crate::name::format::DomainName;
 pub use crate::name::labels::{Label, Labels};
 pub use crate::name::owned::Name;
-pub use crate::name::text::{a_name_has_labels, a_name_is_spelled_by_its_text, one_name_of_a_text};
+pub use crate::name::relatives::Suffixes;
+pub use crate::name::text::{
+    a_name_has_labels, a_name_is_spelled_by_its_text, one_name_of_a_text,
+    one_name_of_a_text_with_origin,
+};
 
 /// How many octets a name may have in wire form: RFC 1035, 2.3.4.
 pub const NAME_MAX: usize = 255;

@@ -7,11 +7,15 @@ fn equal<T: PartialEq + Debug + Drop>(rt: &impl Abort, what: &str, left: T, righ
 }
 
 mod dns;
+mod dns_answers;
 mod dns_data;
+mod dns_expected;
 mod dns_formats;
+mod dns_frames;
 mod dns_message;
+mod dns_queries;
 mod dns_round_trips;
 mod dns_text;
+mod dns_types;
 mod dns_writing;
-mod names;
 mod refused;

@@ -1,5 +1,6 @@
+pub mod Broken
 pub mod Moves
 pub mod OneAnswer
-pub mod OneRewriting
-pub mod Rewritings
-pub mod Streams
+pub mod OnePiece
+pub mod Pieces
+pub mod Stops

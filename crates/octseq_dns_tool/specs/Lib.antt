@@ -1,4 +1,5 @@
 pub mod Out
 pub mod Rewritten
 pub mod Shown
-pub mod Stream
+pub mod Stop
+pub mod Taken

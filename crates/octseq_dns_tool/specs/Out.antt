@@ -1,9 +1,8 @@
 -- What the program writes for a command and its input, and how it ends.
-use Rattle.std.specs.List.{AllByRecursion}
-use Rattle.std.specs.Prelude.{◌≡◌, ◌⊎◌, ℕ, List, [], ◌∷◌, ◌++◌, codes, Bool, true, false, Option, Some, None}
-use Rattle.octseq_dns_tool.specs.Rewritten.{IsRewritten}
-use Rattle.octseq_dns_tool.specs.Shown.{IsShown}
-use Rattle.octseq_dns_tool.specs.Stream.{FitsStream, stream_of, IsCut}
+use Rattle.std.specs.Prelude.{◌≡◌, ◌⊎◌, ℕ, List, [], ◌++◌, codes, Bool, true, false}
+use Rattle.octseq_dns.specs.Frames.{IsCut}
+use Rattle.octseq_dns_tool.specs.Shown.{IsNote, IsShown}
+use Rattle.octseq_dns_tool.specs.Taken.{IsTaken}
 use Rattle.octseq_dns_tool.specs.declared.engine.Command.{Command}
 use Rattle.octseq_dns_tool.specs.declared.engine.Command.TheVariants.{Message, Rewrite, Stream}
 use Rattle.octseq_program.specs.declared.status.Status.{Status}
@@ -15,28 +14,28 @@ name_of Message = codes "message"
 name_of Stream = codes "stream"
 name_of Rewrite = codes "rewrite"
 
--- what is shown of each message, with an empty line after it
-abbrev pub HasBlocks : List (List ℕ) → List ℕ → Type 0
-HasBlocks [] text = text ≡ []
-HasBlocks (octets ∷ messages) text = (is_message : Bool) × (shown : List ℕ) × (more : List ℕ)
-    × IsShown octets is_message shown × HasBlocks messages more × (text ≡ shown ++ codes "\n" ++ more)
+-- what is written where a stream ends inside a message
+abbrev pub ending_of : Command → List ℕ
+ending_of Stream = codes "unexpected end of input\n"
+ending_of _ = []
 
--- A stream was read as far as a rest, and this is shown of its messages.
-pub record HasStreamText (input rest text : List ℕ) : Type 0 where
-  pub messages : List (List ℕ)
-  pub fit : AllByRecursion FitsStream messages
-  pub whole : input ≡ stream_of messages ++ rest
-  pub blocks : HasBlocks messages text
+-- A stream ends inside a message: what a command makes of the messages before that, followed by its ending.
+abbrev pub IsEnded : Command → List ℕ → List ℕ → List ℕ → Type 0
+IsEnded command input output errors = (rest : List ℕ) × (all : Bool) × (text : List ℕ)
+    × IsTaken command input rest all text errors × IsCut rest × (output ≡ text ++ ending_of command)
 
--- what is written for a command, or for a word that names none, and an input, and how the program ends
-abbrev pub Out : Option Command → List ℕ → List ℕ → Status → Type 0
-Out (Some Message) input output Fine = IsShown input true output
-Out (Some Message) input output Refused = IsShown input false output
-Out (Some Stream) input output Fine = HasStreamText input [] output
-Out (Some Stream) input output Refused = (rest : List ℕ) × (text : List ℕ) × HasStreamText input rest text × IsCut rest
-    × (output ≡ text ++ codes "unexpected end of input\n")
-Out (Some Rewrite) input output Fine = IsRewritten input [] true output
-Out (Some Rewrite) input output Refused = IsRewritten input [] false output
-    ⊎ ((rest : List ℕ) × (all : Bool) × IsRewritten input rest all output × IsCut rest)
-Out None input output Usage = output ≡ codes "usage: octseq_dns_tool message|stream|rewrite\n"
-Out _ input output _ = ⊥
+-- What is written for a command that takes a stream, on standard output and on standard error, and how the program
+-- ends: 1 where a message isn't as it is to be, or the stream ends inside one.
+abbrev pub StreamOut : Command → List ℕ → List ℕ → List ℕ → Status → Type 0
+StreamOut command input output errors Fine = IsTaken command input [] true output errors
+StreamOut command input output errors Refused =
+    IsTaken command input [] false output errors ⊎ IsEnded command input output errors
+StreamOut command input output errors Usage = ⊥
+
+-- what is written for a command and an input, on standard output and on standard error, and how the program ends
+abbrev pub Out : Command → List ℕ → List ℕ → List ℕ → Status → Type 0
+Out Message input output errors Fine = IsShown input true output × IsNote 1 input true errors
+Out Message input output errors Refused = IsShown input false output × IsNote 1 input false errors
+Out Message input output errors Usage = ⊥
+Out Stream input output errors status = StreamOut Stream input output errors status
+Out Rewrite input output errors status = StreamOut Rewrite input output errors status

@@ -1,7 +1,5 @@
--- Streams of messages, each written anew.
-use Rattle.std.specs.List.{AllByRecursion}
-use Rattle.std.specs.Prelude.{◌≡◌, ℕ, ◌<◌, ◌≤◌, ◌⊎◌, Bool, true, false, List, [], ◌∷◌, ◌++◌, length}
-use Rattle.octseq.specs.Part.{part_of}
+-- Messages that are written anew.
+use Rattle.std.specs.Prelude.{◌≡◌, ℕ, ◌<◌, ◌≤◌, ◌⊎◌, Bool, true, false, List, length}
 use Rattle.octseq_dns.specs.Contents.{octets_of}
 use Rattle.octseq_dns.specs.Contents.{Message as Contents}
 use Rattle.octseq_dns.specs.Moved.{CanMove}
@@ -9,8 +7,6 @@ use Rattle.octseq_dns.specs.Rewritten.{IsMessageOf}
 use Rattle.octseq_dns.specs.Entry.{Question, Record}
 use Rattle.octseq_dns.specs.Message.{IsMessage}
 use Rattle.octseq_dns.specs.declared.header.Header.{Header}
-use Rattle.octseq_dns_tool.specs.Shown.{IsMalformed}
-use Rattle.octseq_dns_tool.specs.Stream.{FitsStream, stream_of}
 
 -- A message that was read can be moved, and these are its octets, written anew with as many names kept as there are
 -- places that a pointer can say: at most 65,535.
@@ -54,36 +50,3 @@ pub record IsStuck (octets : List ℕ) : Type 0 where
   pub additionals : List Record
   pub is_message : IsMessage octets header questions answers authorities additionals
   pub stuck : CannotBeWritten header questions answers authorities additionals
-
--- octets that are left out
-abbrev pub IsLeftOut : List ℕ → Type 0
-IsLeftOut octets = IsMalformed octets ⊎ IsStuck octets
-
--- whether octets are written anew, and as which, or left out
-abbrev pub IsTaken : List ℕ → Bool → List ℕ → Type 0
-IsTaken octets true anew = IsAnew octets anew
-IsTaken octets false anew = IsLeftOut octets
-
--- These are messages written anew, and whether that is all of them.
-abbrev pub AreAnew : List (List ℕ) → Bool → List (List ℕ) → Type 0
-AreAnew [] all anew = (all ≡ true) × (anew ≡ [])
-AreAnew (octets ∷ messages) all anew =
-    ((first : List ℕ) × (more : List (List ℕ)) × IsAnew octets first × AreAnew messages all more ×
-    (anew ≡ first ∷ more))
-    ⊎ ((others : Bool) × IsLeftOut octets × AreAnew messages others anew × (all ≡ false))
-
--- A stream was read as far as a rest, and the output is a stream of its messages, written anew: of all of them or not.
-pub record IsRewritten (input rest : List ℕ) (all : Bool) (output : List ℕ) : Type 0 where
-  pub messages : List (List ℕ)
-  pub fit : AllByRecursion FitsStream messages
-  pub whole : input ≡ stream_of messages ++ rest
-  pub anew : List (List ℕ)
-  pub are_anew : AreAnew messages all anew
-  pub output_is : output ≡ stream_of anew
-
--- A message is written anew after its length at the end of an output, or it is left out and the output stays; and
--- whether all messages were written, where that was so of those before it.
-abbrev pub AddsAnew : (octets : List ℕ) (before now : Bool) (old new : List ℕ) → Type 0
-AddsAnew octets before now old new =
-    ((anew : List ℕ) × IsAnew octets anew × (now ≡ before) × (new ≡ old ++ part_of 2 anew))
-    ⊎ (IsLeftOut octets × (now ≡ false) × (new ≡ old))

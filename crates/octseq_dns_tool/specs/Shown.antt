@@ -1,9 +1,10 @@
 -- What the program shows of octets that may be a message.
-use Rattle.std.specs.Prelude.{◌≡◌, ℕ, List, Bool, true, false, codes}
+use Rattle.std.specs.Prelude.{◌≡◌, ℕ, List, [], Bool, true, false, codes}
 use Rattle.octseq_dns.specs.Entry.{Question, Record}
 use Rattle.octseq_dns.specs.Message.{IsMessage}
 use Rattle.octseq_dns.specs.MessageText.{IsMessageText}
 use Rattle.octseq_dns.specs.declared.header.Header.{Header}
+use Rattle.octseq_dns_tool.specs.Stop.{IsStop, stop_line}
 
 -- Octets are a message, and this is its text.
 pub record HasText (octets text : List ℕ) : Type 0 where
@@ -24,3 +25,9 @@ IsMalformed octets = (header : Header) (questions : List Question) (answers auth
 abbrev pub IsShown : List ℕ → Bool → List ℕ → Type 0
 IsShown octets true shown = HasText octets shown
 IsShown octets false shown = IsMalformed octets × (shown ≡ codes "malformed\n")
+
+-- what is told of octets on standard error: where they are no message, the number of the message and the place where
+-- reading stopped
+abbrev pub IsNote : ℕ → List ℕ → Bool → List ℕ → Type 0
+IsNote number octets true note = note ≡ []
+IsNote number octets false note = (place : ℕ) × IsStop octets place × (note ≡ stop_line number place)

@@ -1,11 +1,127 @@
--- Answers to a command.
-use Rattle.std.proofs.Common.{◌≡◌, ℕ, List, Option}
-use Rattle.std.specs.Prelude.{IfSome}
-use Rattle.octseq_program.specs.Run.{Answers}
+-- Runs to their end, and runs that broke off.
+use Rattle.std.proofs.Common.{◌≡◌, ℕ, List, [], ◌++◌, true, false, Option, Some, None, Result, Ok, Err, ◌∙◌, refl}
+use Rattle.std.proofs.Common.{sym, ap, subst}
+use Rattle.std.proofs.lemmas.List.{append-nil}
+use Rattle.std.specs.Io.KnownBytes.{Appends, Consumes, IsAtEnd}
+use Rattle.std.specs.Prelude.{IfSome, OnErr, unwrap_or}
+use Rattle.octseq.specs.Parts.{IsFront}
+use Rattle.octseq_program.specs.Run.{Answers, BreaksOff, Writes}
+use Rattle.octseq_program.specs.declared.request.Asked.TheVariants.{Help, Unknown}
 use Rattle.octseq_program.specs.declared.status.Status.{Status}
+use Rattle.octseq_program.specs.declared.status.Status.TheVariants.{Fine, Usage}
 
--- an answer to a command, by what it says of the whole input
-pub answers : {out : List ℕ → List ℕ → Status → Type 0} {given : Option (List ℕ)} {output : List ℕ} {status : Status}
-    (input : List ℕ)
-    → out input output status → IfSome given (λ octets. input ≡ octets) → Answers out given output status
-answers input answered whole = record { input = input; whole = whole; answered = answered }
+-- octets that stand in the place of others where those are known
+known : {A : Type 0} (given : Option (List A)) → IfSome given (λ octets. unwrap_or given [] ≡ octets)
+known (Some octets) = refl
+known None = tt
+
+-- nothing was written
+pub appends_none : (held : Option (List ℕ)) → Appends held held []
+appends_none (Some octets) = sym (append-nil octets)
+appends_none None = tt
+
+-- nothing was read
+pub consumes_none : (left : Option (List ℕ)) → Consumes left left []
+consumes_none (Some octets) = refl
+consumes_none None = tt
+
+-- what holds whatever the result is holds where it is a refusal
+pub on_err : {T E P : Type 0} (result : Result T E) → P → OnErr result P
+on_err (Ok value) p = tt
+on_err (Err e) p = p
+
+-- nothing is a front of all octets
+pub front_nil : (octets : List ℕ) → IsFront [] octets
+front_nil octets = (octets, refl)
+
+module _ {C : Type 0} (out : C → List ℕ → List ℕ → List ℕ → Status → Type 0) (help : List ℕ)
+    (given before after noted : Option (List ℕ)) where
+  -- the help was told
+  pub told_help : Appends before after help → Answers (Writes out help Help) given before after noted noted Fine
+  told_help written = record {
+    input = unwrap_or given [];
+    whole = known given;
+    output = help;
+    errors = [];
+    answered = (refl, refl, refl);
+    written = written;
+    noted = appends_none noted;
+  }
+
+  -- the help was told on standard error
+  pub told_usage : Appends before after help → Answers (Writes out help Unknown) given noted noted before after Usage
+  told_usage written = record {
+    input = unwrap_or given [];
+    whole = known given;
+    output = [];
+    errors = help;
+    answered = (refl, refl, refl);
+    written = appends_none noted;
+    noted = written;
+  }
+
+  -- a front of the help went out
+  pub broke_help : (front : List ℕ) → IsFront front help → Appends before after front
+      → BreaksOff (Writes out help Help) given given before after noted noted
+  broke_help front is written = record {
+    read = [];
+    consumed = consumes_none given;
+    is_end = false;
+    ended = λ end. absurd (cc);
+    output = front;
+    errors = [];
+    written = written;
+    noted = appends_none noted;
+    fronts = λ more all notes status nothing is_out. (subst (IsFront front) (sym is_out.0) is, front_nil notes);
+  }
+
+  -- so on standard error
+  pub broke_usage : (front : List ℕ) → IsFront front help → Appends before after front
+      → BreaksOff (Writes out help Unknown) given given noted noted before after
+  broke_usage front is written = record {
+    read = [];
+    consumed = consumes_none given;
+    is_end = false;
+    ended = λ end. absurd (cc);
+    output = [];
+    errors = front;
+    written = appends_none noted;
+    noted = written;
+    fronts = λ more all notes status nothing is_out. (front_nil all, subst (IsFront front) (sym is_out.1) is);
+  }
+
+-- what is to be written, of which nothing went out so far
+module _ (out : List ℕ → List ℕ → List ℕ → Status → Type 0) (given left before after noted : Option (List ℕ)) where
+  -- reading failed before anything was written
+  pub broke_reading : ((read : List ℕ) × Consumes given left read) → BreaksOff out given left before before noted noted
+  broke_reading lost = record {
+    read = lost.0;
+    consumed = lost.1;
+    is_end = false;
+    ended = λ end. absurd (cc);
+    output = [];
+    errors = [];
+    written = appends_none before;
+    noted = appends_none noted;
+    fronts = λ more all notes status nothing is_out. (front_nil all, front_nil notes);
+  }
+
+  -- writing failed once all was read
+  pub broke_writing : (input output : List ℕ) → Consumes given left input → IsAtEnd left
+      → ((front : List ℕ) × IsFront front output × Appends before after front)
+      → ((all notes : List ℕ) (status : Status) → out input all notes status → all ≡ output)
+      → BreaksOff out given left before after noted noted
+  broke_writing input output consumed end (front, is, written) only = record {
+    read = input;
+    consumed = consumed;
+    is_end = true;
+    ended = λ _. end;
+    output = front;
+    errors = [];
+    written = written;
+    noted = appends_none noted;
+    fronts = λ more all notes status nothing is_out.
+        let whole : input ++ more ≡ input = ap (λ more. input ++ more) (nothing refl) ∙ append-nil input in
+        let same : all ≡ output = only all notes status (subst (λ octets. out octets all notes status) whole is_out) in
+        (subst (IsFront front) (sym same) is, front_nil notes);
+  }

@@ -1,8 +1,11 @@
--- A run of a program: which command a word names, what it makes of the whole input, and what is written of that.
-use Rattle.std.specs.Prelude.{◌≡◌, ℕ, List, Option, Some, None, IfSome}
-use Rattle.std.specs.Io.KnownBytes.{Appends}
+-- A run of a program: what a word asks for, what is made of the whole input, and what is written of that.
+use Rattle.std.specs.Prelude.{◌≡◌, ℕ, List, [], ◌++◌, codes, Bool, IsTrue, Option, Some, None, IfSome}
+use Rattle.std.specs.Io.KnownBytes.{Appends, Consumes, IsAtEnd}
 use Rattle.octseq.specs.Parts.{IsFront}
+use Rattle.octseq_program.specs.declared.request.Asked.{Asked}
+use Rattle.octseq_program.specs.declared.request.Asked.TheVariants.{Command, Help, Unknown}
 use Rattle.octseq_program.specs.declared.status.Status.{Status}
+use Rattle.octseq_program.specs.declared.status.Status.TheVariants.{Fine, Usage}
 
 -- the word names a command
 abbrev pub IsCommand : {C : Type 0} → (C → List ℕ) → List ℕ → Type 0
@@ -13,35 +16,59 @@ abbrev pub IsNamed : {C : Type 0} → (C → List ℕ) → List ℕ → Option C
 IsNamed name_of word (Some command) = word ≡ name_of command
 IsNamed name_of word None = ¬ IsCommand name_of word
 
--- An answer to a command, made of all that a reader had left: the reader's known octets are the whole input.
-pub record Answers (out : List ℕ → List ℕ → Status → Type 0) (given : Option (List ℕ)) (output : List ℕ)
-    (status : Status) : Type 0 where
-  pub input : List ℕ
-  pub whole : IfSome given (λ octets. input ≡ octets)
-  pub answered : out input output status
+-- what the word asks for: a command, or the help, or nothing that the program knows
+abbrev pub IsAsked : {C : Type 0} → (C → List ℕ) → List ℕ → Asked C → Type 0
+IsAsked name_of word (Command command) = word ≡ name_of command
+IsAsked name_of word Help = ¬ IsCommand name_of word × (word ≡ codes "--help")
+IsAsked name_of word Unknown = ¬ IsCommand name_of word × ¬ (word ≡ codes "--help")
 
--- A run to its end: the word it was given, what the reader had left, and what the writer held before and after. The
--- known octets of the reader are the whole input.
-pub record Ran {C : Type 0} (name_of : C → List ℕ) (out : Option C → List ℕ → List ℕ → Status → Type 0)
-    (word : List ℕ) (given before after : Option (List ℕ)) (status : Status) : Type 0 where
-  pub command : Option C
+-- what is written for it, on standard output and on standard error, and how the program ends: `out` of a command and
+-- its input, or the help, on standard error where nothing was asked for that the program knows
+abbrev pub Writes : {C : Type 0} → (C → List ℕ → List ℕ → List ℕ → Status → Type 0) → List ℕ → Asked C
+    → List ℕ → List ℕ → List ℕ → Status → Type 0
+Writes out help (Command command) input output errors status = out command input output errors status
+Writes out help Help input output errors status = (output ≡ help) × (errors ≡ []) × (status ≡ Fine)
+Writes out help Unknown input output errors status = (output ≡ []) × (errors ≡ help) × (status ≡ Usage)
+
+-- A run to its end: what the reader had left, and what the two writers held before and after. The known octets of the
+-- reader are the whole input.
+pub record Answers (out : List ℕ → List ℕ → List ℕ → Status → Type 0)
+    (given before after noted_before noted_after : Option (List ℕ)) (status : Status) : Type 0 where
   pub input : List ℕ
-  pub output : List ℕ
-  pub named : IsNamed name_of word command
   pub whole : IfSome given (λ octets. input ≡ octets)
-  pub answered : out command input output status
+  pub output : List ℕ
+  pub errors : List ℕ
+  pub answered : out input output errors status
   pub written : Appends before after output
+  pub noted : Appends noted_before noted_after errors
 
--- A run that ended with a failed write: what went out is a front of what the whole run writes.
-pub record Broke {C : Type 0} (name_of : C → List ℕ) (out : Option C → List ℕ → List ℕ → Status → Type 0)
-    (word : List ℕ) (given before after : Option (List ℕ)) : Type 0 where
-  pub command : Option C
-  pub input : List ℕ
+-- A run that broke off: what the reader lost, and whether it told its end, and what the two writers took. For every
+-- input that begins with what was read, or is it where the end was told, they took fronts of what is to be written.
+pub record BreaksOff (out : List ℕ → List ℕ → List ℕ → Status → Type 0)
+    (given left before after noted_before noted_after : Option (List ℕ)) : Type 0 where
+  pub read : List ℕ
+  pub consumed : Consumes given left read
+  pub is_end : Bool
+  pub ended : IsTrue is_end → IsAtEnd left
   pub output : List ℕ
-  pub status : Status
-  pub front : List ℕ
-  pub named : IsNamed name_of word command
-  pub whole : IfSome given (λ octets. input ≡ octets)
-  pub answered : out command input output status
-  pub begins : IsFront front output
-  pub written : Appends before after front
+  pub errors : List ℕ
+  pub written : Appends before after output
+  pub noted : Appends noted_before noted_after errors
+  pub fronts : (more all notes : List ℕ) (status : Status) → (IsTrue is_end → more ≡ [])
+      → out (read ++ more) all notes status → IsFront output all × IsFront errors notes
+
+-- A run to its end, of the word that it was given.
+pub record Ran {C : Type 0} (name_of : C → List ℕ) (help : List ℕ)
+    (out : C → List ℕ → List ℕ → List ℕ → Status → Type 0) (word : List ℕ)
+    (given before after noted_before noted_after : Option (List ℕ)) (status : Status) : Type 0 where
+  pub asked : Asked C
+  pub is_asked : IsAsked name_of word asked
+  pub answers : Answers (Writes out help asked) given before after noted_before noted_after status
+
+-- A run of the word that it was given, which broke off.
+pub record Broke {C : Type 0} (name_of : C → List ℕ) (help : List ℕ)
+    (out : C → List ℕ → List ℕ → List ℕ → Status → Type 0) (word : List ℕ)
+    (given left before after noted_before noted_after : Option (List ℕ)) : Type 0 where
+  pub asked : Asked C
+  pub is_asked : IsAsked name_of word asked
+  pub breaks_off : BreaksOff (Writes out help asked) given left before after noted_before noted_after

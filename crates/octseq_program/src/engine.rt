@@ -1,16 +1,18 @@
-//! A program over any reader and any writer.
-ghost use Rattle.std.specs.Prelude.{◌≡◌, ◌≢◌, ◌++◌, ℕ, List, codes, Some, None, Option, Err, IfOk, IfErr, OnOk};
-ghost use Rattle.std.specs.Io.KnownBytes.{IsAtEnd};
-ghost use Rattle.octseq_program.specs.Run.{IsCommand, IsNamed, Answers, Ran, Broke};
+//! A program over any reader and any writers.
+ghost use Rattle.std.specs.Prelude.{◌≡◌, ◌++◌, ℕ, List, [], codes, Option, IfOk, IfErr, OnOk, OnErr};
+ghost use Rattle.std.specs.Io.KnownBytes.{Appends, IsAtEnd};
+ghost use Rattle.octseq.specs.Parts.{IsFront};
+ghost use Rattle.octseq_program.specs.Run.{IsCommand, IsNamed, Answers, BreaksOff, Ran, Broke};
 ghost use Rattle.octseq_program.specs.declared.status.Status.{Status};
 
+use crate::request::{Asked, asked_for};
 use crate::status::{ProgramFault, Status};
 use crate::streams::write_all;
 use octseq::{ShortInput, StrBuilder};
 use std::alloc::{AllocError, Global};
 use std::io::{Read, Write};
 
-/// What is written, and how the program ends.
+/// What is written of an input that was read whole, and how the program ends.
 #[derive(Drop)]
 pub struct Answer {
     /// All that is written.
@@ -19,7 +21,8 @@ pub struct Answer {
     pub status: Status,
 }
 
-/// The refusal of an input that ends too early: the line that says so, behind what was made of the input before that.
+/// The refusal of an input that ends too early: what was made of the input before that, followed by the line that says
+/// so.
 ///
 /// # Errors
 ///
@@ -40,14 +43,16 @@ pub fn cut_off(text: StrBuilder<Vec<u8>>, short: ShortInput) -> Result<Answer, A
 }
 
 /// The commands of a program. `name_of` is the word that names one, `default_word` the word of a program without
-/// arguments, and `out` what is written for a command, or for a word that names none, and an input, and how the program
-/// ends.
+/// arguments, `help` what the program tells of itself, and `out` what is written for a command and an input, on
+/// standard output and on standard error, and how the program ends.
 pub trait Commands: Copy {
     ghost name_of: { Self → List ℕ };
 
     ghost default_word: { List ℕ };
 
-    ghost out: { Option Self → List ℕ → List ℕ → Status → Type 0 };
+    ghost help: { List ℕ };
+
+    ghost out: { Self → List ℕ → List ℕ → List ℕ → Status → Type 0 };
 
     /// The command of this name.
     fn named(word: &str) -> Option<Self>
@@ -57,55 +62,66 @@ pub trait Commands: Copy {
     fn default_word() -> &'static str
         ensures { result.now ≡ default_word };
 
-    /// The line for a word that names no command.
-    fn usage() -> &'static str
-        ensures { (input : List ℕ) → out None input result.now Status.Usage };
+    /// What the program does, its commands, an example of each, and the statuses.
+    fn help() -> &'static str
+        ensures { result.now ≡ help };
 
-    /// What a command makes of all that the reader has left.
+    /// Writes what a command makes of all that the reader has left. It may write as it reads: where it breaks off, what
+    /// went out is a front of what it writes for every input that begins with what it read.
     ///
     /// # Errors
     ///
-    /// `Memory` where a request for memory was refused, `Read` where a read failed.
-    fn carry_out<R: Read>(self, alloc: Global, reader: &mut R) -> Result<Answer, ProgramFault>
-        ensures ok { IfOk result (λ answer.
-            Answers (out (Some self)) (R.remaining reader.old) answer.output.items answer.status) }
+    /// `Memory` where a request for memory was refused, `Read` where a read failed, `Write` where a write failed.
+    fn carry_out<R: Read, W: Write, E: Write>(
+        self,
+        alloc: Global,
+        reader: &mut R,
+        writer: &mut W,
+        errors: &mut E,
+    ) -> Result<Status, ProgramFault>
+        ensures ok { IfOk result (Answers (out self) (R.remaining reader.old) (W.contents writer.old)
+            (W.contents writer.new) (E.contents errors.old) (E.contents errors.new)) }
         ensures end { OnOk result (IsAtEnd (R.remaining reader.new)) }
-        ensures err { IfErr result (λ fault. fault ≢ ProgramFault.Write) };
+        ensures broke { OnErr result (BreaksOff (out self) (R.remaining reader.old) (R.remaining reader.new)
+            (W.contents writer.old) (W.contents writer.new) (E.contents errors.old) (E.contents errors.new)) };
 }
 
-/// Reads the whole input, does what the command says, and writes the answer to it.
+/// Does what the word asks for: carries out a command on all that the reader has left, or tells what the program does,
+/// on standard error where the word asks for nothing that it knows.
 ///
 /// # Errors
 ///
 /// `Memory` where a request for memory was refused, `Read` where a read failed, `Write` where a write failed.
-pub fn engine<C: Commands, R: Read, W: Write>(
+pub fn engine<C: Commands, R: Read, W: Write, E: Write>(
     alloc: Global,
     word: &str,
     reader: &mut R,
     writer: &mut W,
+    errors: &mut E,
 ) -> Result<Status, ProgramFault>
-    // What was written, and how the program ended, are what the command makes of the whole input.
-    ensures ran { IfOk result
-        (Ran C.name_of C.out word.now (R.remaining reader.old) (W.contents writer.old) (W.contents writer.new)) }
+    // What was written, and how the program ended, are what the word asks for makes of the whole input.
+    ensures ran { IfOk result (Ran C.name_of C.help C.out word.now (R.remaining reader.old)
+        (W.contents writer.old) (W.contents writer.new) (E.contents errors.old) (E.contents errors.new)) }
     ensures end { OnOk result (IsCommand C.name_of word.now → IsAtEnd (R.remaining reader.new)) }
 
-    // A word that names no command reads nothing, whatever the answer.
-    ensures usage { ¬ IsCommand C.name_of word.now → reader.new ≡ reader.old }
-    ensures never { ¬ IsCommand C.name_of word.now → IfErr result (λ fault. fault ≡ ProgramFault.Write) }
+    // After a failure, what went out is a front of that.
+    ensures broke { OnErr result (Broke C.name_of C.help C.out word.now (R.remaining reader.old)
+        (R.remaining reader.new) (W.contents writer.old) (W.contents writer.new)
+        (E.contents errors.old) (E.contents errors.new)) }
 
-    // All of the input is read, and all of the output made, before the first write.
-    ensures write { result ≡ Err ProgramFault.Write → IsCommand C.name_of word.now
-        → IsAtEnd (R.remaining reader.new) }
-    ensures front { result ≡ Err ProgramFault.Write → Broke C.name_of C.out word.now (R.remaining reader.old)
-        (W.contents writer.old) (W.contents writer.new) }
-    ensures read { result ≡ Err ProgramFault.Read → writer.new ≡ writer.old }
-    ensures memory { result ≡ Err ProgramFault.Memory → writer.new ≡ writer.old }
+    // A word that names no command reads nothing, whatever the answer.
+    ensures unread { ¬ IsCommand C.name_of word.now → reader.new ≡ reader.old }
+    ensures never { ¬ IsCommand C.name_of word.now → IfErr result (λ fault. fault ≡ ProgramFault.Write) }
 {
-    let Some(command) = C::named(word) else {
-        write_all(writer, C::usage().as_bytes())?;
-        return Ok(Status::Usage);
-    };
-    let answer = command.carry_out(alloc, reader)?;
-    write_all(writer, answer.output.as_slice())?;
-    Ok(answer.status)
+    match asked_for::<C>(word) {
+        Asked::Command(command) => command.carry_out(alloc, reader, writer, errors),
+        Asked::Help => {
+            write_all(writer, C::help().as_bytes())?;
+            Ok(Status::Fine)
+        }
+        Asked::Unknown => {
+            write_all(errors, C::help().as_bytes())?;
+            Ok(Status::Usage)
+        }
+    }
 }

@@ -1,6 +1,6 @@
 //! All of an input, and all of an output.
 ghost use Rattle.std.specs.Prelude.{◌≡◌, ◌≢◌, ◌≤◌, [], length, take, List, ℕ, IfOk, IfErr, IfSome, OnOk, OnErr};
-ghost use Rattle.std.specs.Io.KnownBytes.{Appends, IsAtEnd};
+ghost use Rattle.std.specs.Io.KnownBytes.{Appends, Consumes, IsAtEnd};
 ghost use Rattle.std.specs.IoError.{error_kind};
 ghost use Rattle.octseq.specs.Parts.{IsFront};
 
@@ -29,6 +29,9 @@ pub fn read_all<R: Read>(alloc: Global, reader: &mut R) -> Result<Vec<u8>, Progr
     ensures whole { IfOk result (λ input. IfSome (R.remaining reader.old) (λ octets. input.items ≡ octets)) }
     ensures end { OnOk result (IsAtEnd (R.remaining reader.new)) }
     ensures err { IfErr result (λ fault. fault ≢ ProgramFault.Write) }
+    ensures lost { IfOk result (λ input. Consumes (R.remaining reader.old) (R.remaining reader.new) input.items) }
+    ensures some_lost { OnErr result ((read : List ℕ)
+        × Consumes (R.remaining reader.old) (R.remaining reader.new) read) }
 {
     let mut input = Vec::new(alloc);
     match reader.read_to_end(&mut input) {

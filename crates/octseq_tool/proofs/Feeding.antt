@@ -1,9 +1,11 @@
 -- A reader's octets are fed until its end.
 use Rattle.std.proofs.Common.{◌≡◌, ℕ, List, [], ◌++◌, Option, Some, None, refl, sym, ap, ◌∙◌, append_assoc}
 use Rattle.std.proofs.lemmas.List.{append-nil}
-use Rattle.std.specs.Io.KnownBytes.{Consumes, Keeps, IsAtEnd}
-use Rattle.std.specs.Prelude.{IfSome}
+use Rattle.std.specs.Io.KnownBytes.{Consumes, Keeps}
 use Rattle.octseq.specs.Pieces.{Held, StandsFor}
+use Rattle.octseq_program.specs.declared.status.Status.{Status}
+use Rattle.octseq_tool.specs.Out.{Made, Makes}
+use Rattle.octseq_tool.specs.declared.engine.Command.{Command}
 
 consumes_none : (known : Option (List ℕ)) → Consumes known known []
 consumes_none None = tt
@@ -43,14 +45,18 @@ fed_more given left now held after octets so_far consumed stands = record {
   stands = stands so_far.octets so_far.stands;
 }
 
-all_consumed : (given left : Option (List ℕ)) (octets : List ℕ) → Consumes given left octets → IsAtEnd left
-    → IfSome given (λ known. octets ≡ known)
-all_consumed None left octets consumed ended = tt
-all_consumed (Some known) None octets consumed ended = absurd consumed
-all_consumed (Some known) (Some rest) octets consumed ended =
-    sym (consumed ∙ ap (λ r. octets ++ r) ended ∙ append-nil octets)
+-- the reading stands for what the reader lost
+pub fed_all : (given left : Option (List ℕ)) (held : Held) → IsFed given left held
+    → (input : List ℕ) × StandsFor held input × Consumes given left input
+fed_all given left held fed = (fed.octets, fed.stands, fed.consumed)
 
--- at the reader's end, the reading stands for the whole input: all octets of the reader, where they are known
-pub fed_all : (given left : Option (List ℕ)) (held : Held) → IsFed given left held → IsAtEnd left
-    → (input : List ℕ) × StandsFor held input × IfSome given (λ octets. input ≡ octets)
-fed_all given left held fed ended = (fed.octets, fed.stands, all_consumed given left fed.octets fed.consumed ended)
+-- a read more was lost
+pub lost_more : (given left now : Option (List ℕ)) (held : Held) → IsFed given left held
+    → ((read : List ℕ) × Consumes left now read) → (read : List ℕ) × Consumes given now read
+lost_more given left now held fed (read, consumed) =
+    (fed.octets ++ read, consumes_more given left now fed.octets read fed.consumed consumed)
+
+-- what a command makes, by what it says of the input
+pub makes : {command : Command} {given left : Option (List ℕ)} {output : List ℕ} {status : Status} (input : List ℕ)
+    → Made command input output status → Consumes given left input → Makes command given left output status
+makes input made consumed = record { input = input; consumed = consumed; made = made }

@@ -1,14 +1,13 @@
 -- What is written is a function of the word and the input.
 use Rattle.std.proofs.Common.{◌≡◌, ◌∙◌, ◌∷◌, ◌++◌}
-use Rattle.std.proofs.Common.{inl, inr, refl, sym, ap, subst, arith, List, [], length, codes, ℕ, Option, Some}
-use Rattle.std.proofs.Common.{None}
+use Rattle.std.proofs.Common.{inl, inr, refl, sym, ap, subst, arith, List, [], length, codes, ℕ}
 use Rattle.std.proofs.lemmas.List.{append-nil}
 use Rattle.octseq_tool.proofs.Records.{IsRest, one_reading}
 use Rattle.octseq.specs.Fault.{Fault, IsFault, fault_text}
 use Rattle.octseq.specs.Parts.{Part, Splits, text}
 use Rattle.octseq.specs.Text.{IsWellFormed}
 use Rattle.octseq_program.proofs.Naming.{other_first, other_length}
-use Rattle.octseq_tool.specs.Out.{name_of, HasText, records_of, IsCut, HasLines, Out}
+use Rattle.octseq_tool.specs.Out.{name_of, HasText, records_of, IsCut, HasLines, Made, Out}
 use Rattle.octseq_tool.specs.declared.engine.Command.{Command}
 use Rattle.octseq_tool.specs.declared.engine.Command.TheVariants.{Check, Lossy, Lossy64, Records}
 use Rattle.octseq_program.specs.declared.status.Status.{Status}
@@ -37,13 +36,6 @@ same_name Lossy64 Lossy e = other_length _ _ (omega arith) e
 abbrev Same : List ℕ → List ℕ → Status → Status → Type 0
 Same x y s t = (x ≡ y) × (s ≡ t)
 
-usage : (input x y : List ℕ) (s t : Status) → Out None input x s → Out None input y t → Same x y s t
-usage input x y Usage Usage p q = (p ∙ sym q, refl)
-usage input x y Fine t p q = absurd p
-usage input x y Refused t p q = absurd p
-usage input x y s Fine p q = absurd q
-usage input x y s Refused p q = absurd q
-
 -- by what the laws of octets say: they have one fault, those that have one aren't well formed, and they split in one
 -- way
 module _
@@ -51,7 +43,7 @@ module _
     (refutes : (octets : List ℕ) (fault : Fault) → IsFault octets fault → ¬ IsWellFormed octets)
     (one_splitting : (octets : List ℕ) (parts others : List Part) → Splits octets parts → Splits octets others
     → parts ≡ others) where
-  checks : (input x y : List ℕ) (s t : Status) → Out (Some Check) input x s → Out (Some Check) input y t → Same x y s t
+  checks : (input x y : List ℕ) (s t : Status) → Made Check input x s → Made Check input y t → Same x y s t
   checks input x y Fine Fine p q = (p.1 ∙ sym q.1, refl)
   checks input x y Refused Refused (fault, f, e) (other, g, k) =
       (e ∙ ap (λ f. fault_text f ++ codes "\n") (one_fault input fault other f g) ∙ sym k, refl)
@@ -63,14 +55,14 @@ module _
   one_text : (input x y : List ℕ) → HasText input x → HasText input y → x ≡ y
   one_text input x y (parts, s, e) (others, t, f) = e ∙ ap text (one_splitting input parts others s t) ∙ sym f
 
-  lossies : (input x y : List ℕ) (s t : Status) → Out (Some Lossy) input x s → Out (Some Lossy) input y t → Same x y s t
+  lossies : (input x y : List ℕ) (s t : Status) → Made Lossy input x s → Made Lossy input y t → Same x y s t
   lossies input x y Fine Fine p q = (one_text input x y p q, refl)
   lossies input x y Refused t p q = absurd p
   lossies input x y Usage t p q = absurd p
   lossies input x y s Refused p q = absurd q
   lossies input x y s Usage p q = absurd q
 
-  limited : (input x y : List ℕ) (s t : Status) → Out (Some Lossy64) input x s → Out (Some Lossy64) input y t
+  limited : (input x y : List ℕ) (s t : Status) → Made Lossy64 input x s → Made Lossy64 input y t
       → Same x y s t
   limited input x y Fine Fine p q = (one_text input x y p.0 q.0, refl)
   limited input x y Refused Refused p q = (p.3 ∙ sym q.3, refl)
@@ -96,7 +88,7 @@ module _
       let L : List (List ℕ) → Type 0 = λ ps. HasLines ps x in
       (one_lines others x y (subst L same.0 hs) ks, same.1)
 
-  lines : (input x y : List ℕ) (s t : Status) → Out (Some Records) input x s → Out (Some Records) input y t
+  lines : (input x y : List ℕ) (s t : Status) → Made Records input x s → Made Records input y t
       → Same x y s t
   lines input x y Fine Fine (parts, e, h) (others, f, k) = (
     (same_lines input [] [] x y parts others (e ∙ sym (append-nil _)) (f ∙ sym (append-nil _)) (inl refl) (inl refl)
@@ -117,10 +109,14 @@ module _
   lines input x y Usage t p q = absurd p
   lines input x y s Usage p q = absurd q
 
-  pub one_output : (c : Option Command) (input x y : List ℕ) (s t : Status) → Out c input x s → Out c input y t
-      → Same x y s t
-  one_output (Some Check) = checks
-  one_output (Some Lossy) = lossies
-  one_output (Some Lossy64) = limited
-  one_output (Some Records) = lines
-  one_output None = usage
+  one_made : (c : Command) (input x y : List ℕ) (s t : Status) → Made c input x s → Made c input y t → Same x y s t
+  one_made Check = checks
+  one_made Lossy = lossies
+  one_made Lossy64 = limited
+  one_made Records = lines
+
+  pub one_output : (c : Command) (input x y e f : List ℕ) (s t : Status) → Out c input x e s → Out c input y f t
+      → (x ≡ y) × (e ≡ f) × (s ≡ t)
+  one_output c input x y e f s t (p, none) (q, also) =
+      let same = one_made c input x y s t p q in
+      (same.0, none ∙ sym also, same.1)

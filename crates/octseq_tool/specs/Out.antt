@@ -1,6 +1,7 @@
 -- What the program writes for a command and its input, and how it ends.
-use Rattle.std.specs.Prelude.{◌≡◌, ℕ, ◌<◌, ◌≤◌, List, [], ◌∷◌, ◌++◌, length, codes, Option, Some, None}
+use Rattle.std.specs.Prelude.{◌≡◌, ℕ, ◌<◌, ◌≤◌, List, [], ◌∷◌, ◌++◌, length, codes, Option}
 use Rattle.std.specs.Fmt.{decimal}
+use Rattle.std.specs.Io.KnownBytes.{Consumes}
 use Rattle.std.specs.List.{flat_map}
 use Rattle.octseq.specs.Fault.{Fault, IsFault, fault_text}
 use Rattle.octseq.specs.Parts.{Part, Splits, text}
@@ -8,7 +9,7 @@ use Rattle.octseq.specs.Text.{IsWellFormed}
 use Rattle.octseq_tool.specs.declared.engine.Command.{Command}
 use Rattle.octseq_tool.specs.declared.engine.Command.TheVariants.{Check, Lossy, Lossy64, Records}
 use Rattle.octseq_program.specs.declared.status.Status.{Status}
-use Rattle.octseq_program.specs.declared.status.Status.TheVariants.{Fine, Refused, Usage}
+use Rattle.octseq_program.specs.declared.status.Status.TheVariants.{Fine, Refused}
 
 -- the word that names a command
 abbrev pub name_of : Command → List ℕ
@@ -36,19 +37,29 @@ HasLines [] lines = lines ≡ []
 HasLines (part ∷ parts) lines =
     (line : List ℕ) × (more : List ℕ) × HasText part line × HasLines parts more × (lines ≡ line ++ codes "\n" ++ more)
 
--- what is written for a command, or for a word that names none, and an input, and how the program ends
-abbrev pub Out : Option Command → List ℕ → List ℕ → Status → Type 0
-Out (Some Check) input output Fine =
+-- what a command makes of an input, and how the program ends
+abbrev pub Made : Command → List ℕ → List ℕ → Status → Type 0
+Made Check input output Fine =
     IsWellFormed input × (output ≡ codes "well formed: " ++ decimal (length input) ++ codes " octets\n")
-Out (Some Check) input output Refused =
+Made Check input output Refused =
     (fault : Fault) × IsFault input fault × (output ≡ fault_text fault ++ codes "\n")
-Out (Some Lossy) input output Fine = HasText input output
-Out (Some Lossy64) input output Fine = HasText input output × (length output ≤ 64)
-Out (Some Lossy64) input output Refused =
+Made Lossy input output Fine = HasText input output
+Made Lossy64 input output Fine = HasText input output × (length output ≤ 64)
+Made Lossy64 input output Refused =
     (lossy : List ℕ) × HasText input lossy × (64 < length lossy) × (output ≡ codes "buffer size exceeded\n")
-Out (Some Records) input output Fine = (parts : List (List ℕ)) × (input ≡ records_of parts) × HasLines parts output
-Out (Some Records) input output Refused = (parts : List (List ℕ)) × (rest : List ℕ) × (lines : List ℕ)
+Made Records input output Fine = (parts : List (List ℕ)) × (input ≡ records_of parts) × HasLines parts output
+Made Records input output Refused = (parts : List (List ℕ)) × (rest : List ℕ) × (lines : List ℕ)
     × (input ≡ records_of parts ++ rest) × IsCut rest × HasLines parts lines ×
     (output ≡ lines ++ codes "unexpected end of input\n")
-Out None input output Usage = output ≡ codes "usage: octseq_tool check|lossy|lossy64|records\n"
-Out _ input output _ = ⊥
+Made _ input output _ = ⊥
+
+-- what is written for a command and an input, on standard output and on standard error, and how the program ends:
+-- what it makes of the input, and nothing on standard error
+abbrev pub Out : Command → List ℕ → List ℕ → List ℕ → Status → Type 0
+Out command input output errors status = Made command input output status × (errors ≡ [])
+
+-- A command made this of all that a reader had left, and left it at this.
+pub record Makes (command : Command) (given left : Option (List ℕ)) (output : List ℕ) (status : Status) : Type 0 where
+  pub input : List ℕ
+  pub consumed : Consumes given left input
+  pub made : Made command input output status

@@ -1,15 +1,15 @@
 //! The commands of the program, over any reader.
 ghost use Rattle.std.specs.Prelude.{◌≡◌, ◌≢◌, ◌<◌, ◌∷◌, ◌++◌};
 ghost use Rattle.std.specs.Prelude.{ℕ, [], length, codes, Some, List, Option};
-ghost use Rattle.std.specs.Prelude.{IsFalse, IfOk, IfErr, IfSome, OnOk, OnErr};
+ghost use Rattle.std.specs.Prelude.{IsFalse, IfOk, IfErr, IfSome, OnOk, OnErr, ◌-◌};
 ghost use Rattle.std.specs.Io.KnownBytes.{Consumes, IsAtEnd};
 ghost use Rattle.octseq.specs.Parser.{window};
 ghost use Rattle.octseq.specs.Window.{left, rest};
 ghost use Rattle.octseq.specs.Pieces.{StandsFor};
-ghost use Rattle.octseq_program.specs.Run.{IsNamed, Answers};
+ghost use Rattle.octseq_program.specs.Run.{IsNamed};
 ghost use Rattle.octseq_program.specs.declared.status.Status.{Status};
 ghost use Rattle.octseq_program.specs.declared.status.Status.TheVariants.{Refused};
-ghost use Rattle.octseq_tool.specs.Out.{name_of, HasText, IsCut, Out};
+ghost use Rattle.octseq_tool.specs.Out.{name_of, HasText, IsCut, Made, Makes, Out};
 ghost use Rattle.octseq_tool.specs.declared.engine.Command.{Command};
 ghost use Rattle.octseq_tool.specs.declared.engine.Command.TheVariants.{Check, Lossy, Lossy64, Records};
 
@@ -19,10 +19,10 @@ use octseq::parse::{self, Parser, ShortInput};
 use octseq::str::{LossyPieces, StrBuilder};
 use octseq::utf8;
 use octseq_program::engine::cut_off;
-use octseq_program::streams::{failed_read, read_all};
+use octseq_program::streams::{failed_read, read_all, write_all};
 use octseq_program::{Answer, Commands, ProgramFault, Status};
 use std::alloc::{AllocError, Global};
-use std::io::{ErrorKind, Read};
+use std::io::{ErrorKind, Read, Write};
 
 #[cfg(test)]
 mod tests;
@@ -30,8 +30,32 @@ mod tests;
 /// How many octets a read asks for where a text is made of pieces.
 const PIECE: usize = 64 * 1024;
 
-/// The line for a word that names no command.
-const USAGE: &str = "usage: octseq_tool check|lossy|lossy64|records\n";
+/// What the program tells of itself.
+const HELP: &str = "\
+octseq_tool reads octets, and tells of them as text.
+
+usage: octseq_tool [COMMAND [FILE]]
+
+It reads the file, or standard input where none is named.
+
+commands, the first where none is named:
+  check    tells whether the octets are well-formed UTF-8, or where they stop being so
+           printf 'abc' | octseq_tool check
+  lossy    writes their text, with a replacement character for each ill-formed part
+           octseq_tool lossy FILE
+  lossy64  writes that text where it has at most 64 octets
+           octseq_tool lossy64 FILE
+  records  reads records, a length in one octet and that many octets each, and writes the lossy text of each on a line
+           printf '\\003abc\\001d' | octseq_tool records
+  --help   writes this
+
+status:
+  0  all went well
+  1  the octets are refused, as the output says
+  2  the words name no command
+  3  there was not enough memory
+  4  a read or a write failed
+";
 
 /// What the program can do.
 #[derive(Clone, Copy, Debug, PartialEq, Eq)]
@@ -53,8 +77,8 @@ pub enum Command {
 pub fn one_answer()
     ensures command { (word : List ℕ) (c d : Option Command)
         → IsNamed name_of word c → IsNamed name_of word d → c ≡ d }
-    ensures output { (c : Option Command) (input x y : List ℕ) (s t : Status)
-        → Out c input x s → Out c input y t → (x ≡ y) × (s ≡ t) }
+    ensures output { (c : Command) (input x y e f : List ℕ) (s t : Status)
+        → Out c input x e s → Out c input y f t → (x ≡ y) × (e ≡ f) × (s ≡ t) }
 {
     utf8::one_fault();
     utf8::one_splitting();
@@ -62,7 +86,7 @@ pub fn one_answer()
 
 /// Whether the octets are well-formed UTF-8, and where they stop being so.
 fn check(alloc: Global, input: Vec<u8>) -> Result<Answer, AllocError>
-    ensures { IfOk result (λ answer. Out (Some Check) input.items answer.output.items answer.status) }
+    ensures { IfOk result (λ answer. Made Check input.items answer.output.items answer.status) }
 {
     match StrBuilder::from_utf8(input) {
         Ok(text) => {
@@ -82,10 +106,10 @@ fn check(alloc: Global, input: Vec<u8>) -> Result<Answer, AllocError>
 /// The lossy text of all that the reader has left. It is made as the octets are read, so that they stand in memory
 /// as text alone.
 fn lossy<R: Read>(alloc: Global, reader: &mut R) -> Result<Answer, ProgramFault>
-    ensures ok { IfOk result (λ answer.
-        Answers (Out (Some Lossy)) (R.remaining reader.old) answer.output.items answer.status) }
+    ensures ok { IfOk result (λ answer. Makes Lossy (R.remaining reader.old) (R.remaining reader.new)
+        answer.output.items answer.status) }
     ensures end { OnOk result (IsAtEnd (R.remaining reader.new)) }
-    ensures err { IfErr result (λ fault. fault ≢ ProgramFault.Write) }
+    ensures err { OnErr result ((read : List ℕ) × Consumes (R.remaining reader.old) (R.remaining reader.new) read) }
 {
     let mut pieces = LossyPieces::new(alloc)?;
     feed_all(alloc, reader, &mut pieces)?;
@@ -107,9 +131,9 @@ fn feed_all<R: Read>(
 ) -> Result<(), ProgramFault>
     requires { StandsFor pieces.old [] }
     ensures ok { OnOk result ((input : List ℕ) × StandsFor pieces.new input
-        × IfSome (R.remaining reader.old) (λ octets. input ≡ octets)) }
+        × Consumes (R.remaining reader.old) (R.remaining reader.new) input) }
     ensures end { OnOk result (IsAtEnd (R.remaining reader.new)) }
-    ensures err { IfErr result (λ fault. fault ≢ ProgramFault.Write) }
+    ensures err { OnErr result ((read : List ℕ) × Consumes (R.remaining reader.old) (R.remaining reader.new) read) }
 {
     let mut piece = Vec::from_elem(alloc, 0, PIECE)?;
     for _ in 0..u64::MAX {
@@ -132,7 +156,7 @@ fn feed_next<R: Read>(
         × Consumes (R.remaining reader.old) (R.remaining reader.new) octets
         × ((before : List ℕ) → StandsFor pieces.old before → StandsFor pieces.new (before ++ octets))) }
     ensures end { IfOk result (λ is_more. IsFalse is_more → IsAtEnd (R.remaining reader.new)) }
-    ensures err { IfErr result (λ fault. fault ≢ ProgramFault.Write) }
+    ensures err { OnErr result ((read : List ℕ) × Consumes (R.remaining reader.old) (R.remaining reader.new) read) }
 {
     match reader.read(room) {
         Ok(count) => match pieces.feed(&room[..count]) {
@@ -147,7 +171,7 @@ fn feed_next<R: Read>(
 
 /// The lossy text of the octets, where an array of 64 octets can hold it.
 fn lossy64(alloc: Global, input: &[u8]) -> Result<Answer, AllocError>
-    ensures { IfOk result (λ answer. Out (Some Lossy64) input.now answer.output.items answer.status) }
+    ensures { IfOk result (λ answer. Made Lossy64 input.now answer.output.items answer.status) }
 {
     match StrBuilder::<Array<64>>::try_copy_lossy(alloc, input) {
         Ok(text) => Ok(Answer {
@@ -196,7 +220,7 @@ fn push_line(output: &mut StrBuilder<Vec<u8>>, octets: &[u8]) -> Result<(), Allo
 /// The lossy text of each record on a line. A line is at least as long as its record, so there is room for all of
 /// them at once where no part is ill-formed.
 fn records(alloc: Global, input: &[u8]) -> Result<Answer, AllocError>
-    ensures { IfOk result (λ answer. Out (Some Records) input.now answer.output.items answer.status) }
+    ensures { IfOk result (λ answer. Made Records input.now answer.output.items answer.status) }
 {
     let mut parser = Parser::from_static(input);
     let mut output = StrBuilder::<Vec<u8>>::with_capacity(alloc, input.len())?;
@@ -212,10 +236,33 @@ fn records(alloc: Global, input: &[u8]) -> Result<Answer, AllocError>
     })
 }
 
+impl Command {
+    /// What a command makes of all that the reader has left.
+    #[tactic(auto, using(crate::proofs::Feeding::makes))]
+    fn answer<R: Read>(self, alloc: Global, reader: &mut R) -> Result<Answer, ProgramFault>
+        ensures ok { IfOk result (λ answer. Makes self (R.remaining reader.old) (R.remaining reader.new)
+            answer.output.items answer.status) }
+        ensures end { OnOk result (IsAtEnd (R.remaining reader.new)) }
+        ensures err { OnErr result ((read : List ℕ)
+            × Consumes (R.remaining reader.old) (R.remaining reader.new) read) }
+    {
+        match self {
+            Command::Check => Ok(check(alloc, read_all(alloc, reader)?)?),
+            Command::Lossy => lossy(alloc, reader),
+            Command::Lossy64 => Ok(lossy64(alloc, read_all(alloc, reader)?.as_slice())?),
+            Command::Records => Ok(records(alloc, read_all(alloc, reader)?.as_slice())?),
+        }
+    }
+}
+
 impl Commands for Command {
+    ghost use Rattle.octseq_tool.specs.declared.engine.TheConstants.{HELP};
+
     ghost name_of = { name_of };
 
     ghost default_word = { codes "check" };
+
+    ghost help = { HELP.now };
 
     ghost out = { Out };
 
@@ -233,17 +280,20 @@ impl Commands for Command {
         "check"
     }
 
-    fn usage() -> &'static str {
-        USAGE
+    fn help() -> &'static str {
+        HELP
     }
 
-    #[tactic(auto, using(octseq_program::proofs::Answering::answers))]
-    fn carry_out<R: Read>(self, alloc: Global, reader: &mut R) -> Result<Answer, ProgramFault> {
-        match self {
-            Command::Check => Ok(check(alloc, read_all(alloc, reader)?)?),
-            Command::Lossy => lossy(alloc, reader),
-            Command::Lossy64 => Ok(lossy64(alloc, read_all(alloc, reader)?.as_slice())?),
-            Command::Records => Ok(records(alloc, read_all(alloc, reader)?.as_slice())?),
-        }
+    fn carry_out<R: Read, W: Write, E: Write>(
+        self,
+        alloc: Global,
+        reader: &mut R,
+        writer: &mut W,
+        _errors: &mut E,
+    ) -> Result<Status, ProgramFault> {
+        one_answer();
+        let answer = self.answer(alloc, reader)?;
+        write_all(writer, answer.output.as_slice())?;
+        Ok(answer.status)
     }
 }

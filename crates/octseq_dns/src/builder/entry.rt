@@ -1,5 +1,5 @@
 //! Entries appended to a message: RFC 1035, 4.1.2 and 4.1.3.
-ghost use Rattle.std.specs.Prelude.{◌≡◌, ◌<◌, ◌≤◌, ◌+◌, ◌*◌, ◌⊎◌, ◌++◌, length, true, OnOk};
+ghost use Rattle.std.specs.Prelude.{◌≡◌, ◌<◌, ◌≤◌, ◌+◌, ◌*◌, ◌⊎◌, ◌++◌, length, true, IsTrue, OnOk};
 ghost use Rattle.octseq.specs.Integer.{octets_be};
 ghost use Rattle.octseq.specs.Limit.{IsPast, IsWithin};
 ghost use Rattle.octseq.specs.Refusal.{IsShort, IsMemory, append_error};
@@ -10,14 +10,15 @@ ghost use Rattle.octseq_dns_compress.specs.Fits.{FitsField};
 ghost use Rattle.octseq_dns_name.specs.Read.{labels_of};
 ghost use Rattle.octseq_dns.specs.Contents.{FitsQuestion, FitsRecord, question_entry, record_entry};
 ghost use Rattle.octseq_dns.specs.Pushed.{asked, told};
-ghost use Rattle.octseq_dns.specs.Writes.{Appends};
+ghost use Rattle.octseq_dns.specs.Writes.{Appends, least_limit};
 
 use crate::rdata::ComposeRecordData;
 use octseq::builder::AsOctetsMut;
 use octseq::utf8::Turns;
-use octseq::{AppendError, AsOctets, OctetsBuilder, Truncate};
+use octseq::{AppendError, AsOctets, OctetsBuilder, ShortBuf, Truncate};
 use octseq_dns_compress::{Composer, Compressor};
-use octseq_dns_message::{Class, Rtype, Ttl};
+use octseq_dns_data::{Class, Rtype};
+use octseq_dns_message::Ttl;
 use octseq_dns_name::ParsedName;
 
 /// The type and the class of a question.
@@ -140,6 +141,17 @@ fn compose_record<
     append_data(message, rdata, turns)
 }
 
+/// Whether so many octets pass a limit, where one is set.
+fn is_past(limit: Option<usize>, len: usize) -> bool
+    ensures past { IsTrue result → IsPast limit len }
+    ensures within { ¬ IsTrue result → IsWithin limit len }
+{
+    match limit {
+        Some(most) => len > most,
+        None => false,
+    }
+}
+
 /// Appends a question, or leaves the message as it is.
 pub(super) fn append_question<
     B: OctetsBuilder + Truncate + AsOctetsMut,
@@ -147,12 +159,14 @@ pub(super) fn append_question<
     R: AsOctets + Copy,
 >(
     message: &mut Composer<B, T>,
+    push_limit: Option<usize>,
     qname: &ParsedName<R>,
     qtype: Rtype,
     qclass: Class,
     turns: &mut Turns,
 ) -> Result<(), AppendError>
-    ensures appended { Appends (message_limit B.limit) ((B.asks ≡ true) ⊎ (T.asks ≡ true)) result
+    ensures appended { Appends (least_limit push_limit (message_limit B.limit))
+        ((B.asks ≡ true) ⊎ (T.asks ≡ true)) result
         (with_entry T.most message.old.state (question_entry (asked qname.now qtype qclass)))
         message.old.state message.new.state }
     ensures fits { OnOk result (FitsQuestion (asked qname.now qtype qclass)) }
@@ -162,11 +176,15 @@ pub(super) fn append_question<
         ≤ turns.new + length message.new.state.octets) }
 {
     message.begin_entry();
-    let composed = compose_question(message, qname, qtype, qclass, turns);
-    if composed.is_err() {
+    if let Err(error) = compose_question(message, qname, qtype, qclass, turns) {
         message.take_back();
+        return Err(error);
     }
-    composed
+    if is_past(push_limit, message.as_slice().len()) {
+        message.take_back();
+        return Err(AppendError::Short(ShortBuf));
+    }
+    Ok(())
 }
 
 /// Appends a record, or leaves the message as it is.
@@ -177,13 +195,15 @@ pub(super) fn append_record<
     D: ComposeRecordData,
 >(
     message: &mut Composer<B, T>,
+    push_limit: Option<usize>,
     owner: &ParsedName<R>,
     class: Class,
     ttl: Ttl,
     rdata: &D,
     turns: &mut Turns,
 ) -> Result<(), AppendError>
-    ensures appended { Appends (message_limit B.limit) ((B.asks ≡ true) ⊎ (T.asks ≡ true)) result
+    ensures appended { Appends (least_limit push_limit (message_limit B.limit))
+        ((B.asks ≡ true) ⊎ (T.asks ≡ true)) result
         (with_entry T.most message.old.state
         (record_entry (told owner.now (D.rtype_of rdata.now) class ttl (D.fields rdata.now))))
         message.old.state message.new.state }
@@ -194,9 +214,13 @@ pub(super) fn append_record<
         + length message.old.state.octets ≤ turns.new + length message.new.state.octets) }
 {
     message.begin_entry();
-    let composed = compose_record(message, owner, class, ttl, rdata, turns);
-    if composed.is_err() {
+    if let Err(error) = compose_record(message, owner, class, ttl, rdata, turns) {
         message.take_back();
+        return Err(error);
     }
-    composed
+    if is_past(push_limit, message.as_slice().len()) {
+        message.take_back();
+        return Err(AppendError::Short(ShortBuf));
+    }
+    Ok(())
 }

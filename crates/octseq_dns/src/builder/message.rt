@@ -1,5 +1,5 @@
 //! A message begins.
-ghost use Rattle.std.specs.Prelude.{◌≡◌, true, IfOk, ◌↔◌, length};
+ghost use Rattle.std.specs.Prelude.{◌≡◌, true, false, IfOk, ◌↔◌, length};
 ghost use Rattle.octseq.specs.Limit.{IsPast, IsWithin};
 ghost use Rattle.octseq.specs.Refusal.{IsShort, IsMemory, append_error};
 ghost use Rattle.octseq_dns_compress.specs.Composed.{message_limit};
@@ -10,12 +10,13 @@ use crate::builder::{MessageBuilder, QuestionBuilder, SectionBuilder};
 use octseq::builder::AsOctetsMut;
 use octseq::{AppendError, OctetsBuilder, Truncate};
 use octseq_dns_compress::{Composer, Compressor};
-use octseq_dns_message::{Flags, Header, HeaderCounts, Opcode, Rcode};
+use octseq_dns_data::{Opcode, Rcode};
+use octseq_dns_message::{Flags, Header, HeaderCounts};
 use std::marker::PhantomData;
 
 impl<B: OctetsBuilder + Truncate + AsOctetsMut, T: Compressor> MessageBuilder<B, T> {
     /// A message with a header of zeros, in place of what the builder and the table have. A table that served for
-    /// another message is cleared and keeps its room.
+    /// another message is cleared and keeps its room. No limit is set for pushes.
     ///
     /// # Errors
     ///
@@ -40,6 +41,8 @@ impl<B: OctetsBuilder + Truncate + AsOctetsMut, T: Compressor> MessageBuilder<B,
     pub fn from_builder(octets: B, table: T) -> Result<Self, AppendError>
         ensures written { IfOk result (λ m. Writes T.most blank_message m.state m.header m.counts) }
         ensures within { IfOk result (λ m. IsWithin (message_limit B.limit) (length m.state.octets)) }
+        ensures push_limit { IfOk result (λ m. m.push_limit ≡ None) }
+        ensures has_opt { IfOk result (λ m. m.has_opt ≡ false) }
         ensures short { IsShort append_error result ↔ IsPast B.limit 12 }
         ensures memory { IsMemory append_error result → B.asks ≡ true }
         ensures borrows { IfOk result (λ m. B.borrows m.octets ≡ B.borrows octets) }
@@ -57,6 +60,8 @@ impl<B: OctetsBuilder + Truncate + AsOctetsMut, T: Compressor> MessageBuilder<B,
                 nscount: 0,
                 arcount: 0,
             },
+            push_limit: None,
+            has_opt: false,
             section: PhantomData,
         })
     }

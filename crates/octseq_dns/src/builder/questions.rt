@@ -6,7 +6,7 @@ ghost use Rattle.octseq_dns_compress.specs.State.{with_entry};
 ghost use Rattle.octseq_dns_name.specs.Read.{labels_of};
 ghost use Rattle.octseq_dns.specs.Contents.{Message, header_octets, question_entry};
 ghost use Rattle.octseq_dns.specs.Pushed.{asked};
-ghost use Rattle.octseq_dns.specs.Writes.{Pushes, UpToQuestions, Writes, more_questions};
+ghost use Rattle.octseq_dns.specs.Writes.{Pushes, UpToQuestions, Writes, least_limit, more_questions};
 
 use crate::builder::entry::append_question;
 use crate::builder::header::octets_of;
@@ -15,7 +15,7 @@ use octseq::builder::AsOctetsMut;
 use octseq::utf8::Turns;
 use octseq::{AppendError, AsOctets, OctetsBuilder, ShortBuf, Truncate};
 use octseq_dns_compress::Compressor;
-use octseq_dns_message::{Class, Rtype};
+use octseq_dns_data::{Class, Rtype};
 use octseq_dns_name::ParsedName;
 
 impl<B: OctetsBuilder + Truncate + AsOctetsMut, T: Compressor> QuestionBuilder<B, T> {
@@ -23,8 +23,8 @@ impl<B: OctetsBuilder + Truncate + AsOctetsMut, T: Compressor> QuestionBuilder<B
     ///
     /// # Errors
     ///
-    /// `Short` where the message would pass the limit of the builder's type or 65,535 octets, or has 65,535 questions,
-    /// and `Memory` where a request for memory was refused. The message is then as it was.
+    /// `Short` where the message would pass the limit of pushes, that of the builder's type or 65,535 octets, or has
+    /// 65,535 questions, and `Memory` where a request for memory was refused. The message is then as it was.
     ///
     /// # Examples
     ///
@@ -43,18 +43,22 @@ impl<B: OctetsBuilder + Truncate + AsOctetsMut, T: Compressor> QuestionBuilder<B
         qtype: Rtype,
         qclass: Class,
     ) -> Result<(), AppendError>
-        ensures pushed { Pushes (message_limit B.limit) ((B.asks ≡ true) ⊎ (T.asks ≡ true)) result
+        ensures pushed { Pushes (least_limit self.old.push_limit (message_limit B.limit))
+            ((B.asks ≡ true) ⊎ (T.asks ≡ true)) result
             (with_entry T.most self.old.state (question_entry (asked qname.now qtype qclass)))
             (header_octets self.new.header self.new.counts) self.old.counts.qdcount self.old.state self.new.state }
         ensures written { OnOk result ((m : Message)
             → Writes T.most m self.old.state self.old.header self.old.counts
             → Writes T.most (more_questions m (asked qname.now qtype qclass))
             self.new.state self.new.header self.new.counts) }
-        ensures within { OnOk result (IsWithin (message_limit B.limit) (length self.new.state.octets)) }
+        ensures within { OnOk result (IsWithin (least_limit self.old.push_limit (message_limit B.limit))
+            (length self.new.state.octets)) }
         ensures header { self.new.header ≡ self.old.header }
         ensures counts { OnOk result (self.new.counts
             ≡ record self.old.counts { qdcount = self.old.counts.qdcount + 1 }) }
         ensures kept { OnErr result (self.new.counts ≡ self.old.counts) }
+        ensures push_limit { self.new.push_limit ≡ self.old.push_limit }
+        ensures has_opt { self.new.has_opt ≡ self.old.has_opt }
         ensures reaches { UpToQuestions self.old.counts }
         ensures borrows { B.borrows self.new.octets ≡ B.borrows self.old.octets }
     {
@@ -74,18 +78,22 @@ impl<B: OctetsBuilder + Truncate + AsOctetsMut, T: Compressor> QuestionBuilder<B
         qclass: Class,
         turns: &mut Turns,
     ) -> Result<(), AppendError>
-        ensures pushed { Pushes (message_limit B.limit) ((B.asks ≡ true) ⊎ (T.asks ≡ true)) result
+        ensures pushed { Pushes (least_limit self.old.push_limit (message_limit B.limit))
+            ((B.asks ≡ true) ⊎ (T.asks ≡ true)) result
             (with_entry T.most self.old.state (question_entry (asked qname.now qtype qclass)))
             (header_octets self.new.header self.new.counts) self.old.counts.qdcount self.old.state self.new.state }
         ensures written { OnOk result ((m : Message)
             → Writes T.most m self.old.state self.old.header self.old.counts
             → Writes T.most (more_questions m (asked qname.now qtype qclass))
             self.new.state self.new.header self.new.counts) }
-        ensures within { OnOk result (IsWithin (message_limit B.limit) (length self.new.state.octets)) }
+        ensures within { OnOk result (IsWithin (least_limit self.old.push_limit (message_limit B.limit))
+            (length self.new.state.octets)) }
         ensures header { self.new.header ≡ self.old.header }
         ensures counts { OnOk result (self.new.counts
             ≡ record self.old.counts { qdcount = self.old.counts.qdcount + 1 }) }
         ensures kept { OnErr result (self.new.counts ≡ self.old.counts) }
+        ensures push_limit { self.new.push_limit ≡ self.old.push_limit }
+        ensures has_opt { self.new.has_opt ≡ self.old.has_opt }
         ensures reaches { UpToQuestions self.old.counts }
         ensures borrows { B.borrows self.new.octets ≡ B.borrows self.old.octets }
         ensures turns { turns.new ≤ turns.old + 17 * length (labels_of qname.now) }
@@ -95,7 +103,8 @@ impl<B: OctetsBuilder + Truncate + AsOctetsMut, T: Compressor> QuestionBuilder<B
         let Some(qdcount) = self.counts.qdcount.checked_add(1) else {
             return Err(AppendError::Short(ShortBuf));
         };
-        if let Err(error) = append_question(&mut self.message, qname, qtype, qclass, turns) {
+        let limit = self.push_limit;
+        if let Err(error) = append_question(&mut self.message, limit, qname, qtype, qclass, turns) {
             return Err(error);
         }
         self.counts.qdcount = qdcount;

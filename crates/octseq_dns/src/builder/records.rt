@@ -1,12 +1,12 @@
 //! The sections of records.
-ghost use Rattle.std.specs.Prelude.{◌≡◌, ◌≤◌, ◌+◌, ◌*◌, ◌⊎◌, length, true, OnOk, OnErr};
+ghost use Rattle.std.specs.Prelude.{◌≡◌, ◌≤◌, ◌+◌, ◌*◌, ◌⊎◌, ◌||◌, length, true, nat_eq, OnOk, OnErr};
 ghost use Rattle.octseq.specs.Limit.{IsWithin};
 ghost use Rattle.octseq_dns_compress.specs.Composed.{message_limit};
 ghost use Rattle.octseq_dns_compress.specs.State.{label_count, with_entry};
 ghost use Rattle.octseq_dns_name.specs.Read.{labels_of};
 ghost use Rattle.octseq_dns.specs.Contents.{Message, header_octets, record_entry};
 ghost use Rattle.octseq_dns.specs.Pushed.{told};
-ghost use Rattle.octseq_dns.specs.Writes.{IsBuilt, Pushes, UpToAdditionals, Writes};
+ghost use Rattle.octseq_dns.specs.Writes.{IsBuilt, Pushes, UpToAdditionals, Writes, least_limit};
 
 use crate::builder::entry::append_record;
 use crate::builder::header::octets_of;
@@ -17,7 +17,8 @@ use octseq::builder::AsOctetsMut;
 use octseq::utf8::Turns;
 use octseq::{AppendError, AsOctets, OctetsBuilder, ShortBuf, Truncate};
 use octseq_dns_compress::Compressor;
-use octseq_dns_message::{Class, Ttl};
+use octseq_dns_data::{Class, Rtype};
+use octseq_dns_message::Ttl;
 use octseq_dns_name::ParsedName;
 
 impl<B: OctetsBuilder + Truncate + AsOctetsMut, T: Compressor, S: RecordSection> SectionBuilder<
@@ -30,8 +31,8 @@ impl<B: OctetsBuilder + Truncate + AsOctetsMut, T: Compressor, S: RecordSection>
     ///
     /// # Errors
     ///
-    /// `Short` where the message would pass the limit of the builder's type or 65,535 octets, or its section has 65,535
-    /// records, and `Memory` where a request for memory was refused. The message is then as it was.
+    /// `Short` where the message would pass the limit of pushes, that of the builder's type or 65,535 octets, or its
+    /// section has 65,535 records, and `Memory` where a request for memory was refused. The message is then as it was.
     ///
     /// # Examples
     ///
@@ -49,7 +50,8 @@ impl<B: OctetsBuilder + Truncate + AsOctetsMut, T: Compressor, S: RecordSection>
         ttl: Ttl,
         rdata: &D,
     ) -> Result<(), AppendError>
-        ensures pushed { Pushes (message_limit B.limit) ((B.asks ≡ true) ⊎ (T.asks ≡ true)) result
+        ensures pushed { Pushes (least_limit self.old.push_limit (message_limit B.limit))
+            ((B.asks ≡ true) ⊎ (T.asks ≡ true)) result
             (with_entry T.most self.old.state
             (record_entry (told owner.now (D.rtype_of rdata.now) class ttl (D.fields rdata.now))))
             (header_octets self.new.header self.new.counts) (S.count self.old.counts)
@@ -58,10 +60,15 @@ impl<B: OctetsBuilder + Truncate + AsOctetsMut, T: Compressor, S: RecordSection>
             → Writes T.most m self.old.state self.old.header self.old.counts
             → Writes T.most (S.more m (told owner.now (D.rtype_of rdata.now) class ttl (D.fields rdata.now)))
             self.new.state self.new.header self.new.counts) }
-        ensures within { OnOk result (IsWithin (message_limit B.limit) (length self.new.state.octets)) }
+        ensures within { OnOk result (IsWithin (least_limit self.old.push_limit (message_limit B.limit))
+            (length self.new.state.octets)) }
         ensures header { self.new.header ≡ self.old.header }
         ensures counts { OnOk result (self.new.counts ≡ S.counted self.old.counts (S.count self.old.counts + 1)) }
         ensures kept { OnErr result (self.new.counts ≡ self.old.counts) }
+        ensures push_limit { self.new.push_limit ≡ self.old.push_limit }
+        ensures has_opt { OnOk result (self.new.has_opt
+            ≡ (self.old.has_opt || nat_eq (D.rtype_of rdata.now) 41)) }
+        ensures kept_opt { OnErr result (self.new.has_opt ≡ self.old.has_opt) }
         ensures reaches { S.reaches self.old.counts }
         ensures borrows { B.borrows self.new.octets ≡ B.borrows self.old.octets }
     {
@@ -82,7 +89,8 @@ impl<B: OctetsBuilder + Truncate + AsOctetsMut, T: Compressor, S: RecordSection>
         rdata: &D,
         turns: &mut Turns,
     ) -> Result<(), AppendError>
-        ensures pushed { Pushes (message_limit B.limit) ((B.asks ≡ true) ⊎ (T.asks ≡ true)) result
+        ensures pushed { Pushes (least_limit self.old.push_limit (message_limit B.limit))
+            ((B.asks ≡ true) ⊎ (T.asks ≡ true)) result
             (with_entry T.most self.old.state
             (record_entry (told owner.now (D.rtype_of rdata.now) class ttl (D.fields rdata.now))))
             (header_octets self.new.header self.new.counts) (S.count self.old.counts)
@@ -91,10 +99,15 @@ impl<B: OctetsBuilder + Truncate + AsOctetsMut, T: Compressor, S: RecordSection>
             → Writes T.most m self.old.state self.old.header self.old.counts
             → Writes T.most (S.more m (told owner.now (D.rtype_of rdata.now) class ttl (D.fields rdata.now)))
             self.new.state self.new.header self.new.counts) }
-        ensures within { OnOk result (IsWithin (message_limit B.limit) (length self.new.state.octets)) }
+        ensures within { OnOk result (IsWithin (least_limit self.old.push_limit (message_limit B.limit))
+            (length self.new.state.octets)) }
         ensures header { self.new.header ≡ self.old.header }
         ensures counts { OnOk result (self.new.counts ≡ S.counted self.old.counts (S.count self.old.counts + 1)) }
         ensures kept { OnErr result (self.new.counts ≡ self.old.counts) }
+        ensures push_limit { self.new.push_limit ≡ self.old.push_limit }
+        ensures has_opt { OnOk result (self.new.has_opt
+            ≡ (self.old.has_opt || nat_eq (D.rtype_of rdata.now) 41)) }
+        ensures kept_opt { OnErr result (self.new.has_opt ≡ self.old.has_opt) }
         ensures reaches { S.reaches self.old.counts }
         ensures borrows { B.borrows self.new.octets ≡ B.borrows self.old.octets }
         ensures turns { turns.new ≤ turns.old
@@ -105,10 +118,20 @@ impl<B: OctetsBuilder + Truncate + AsOctetsMut, T: Compressor, S: RecordSection>
         let Some(counts) = S::count_one_more(self.counts) else {
             return Err(AppendError::Short(ShortBuf));
         };
-        if let Err(error) = append_record(&mut self.message, owner, class, ttl, rdata, turns) {
+        let limit = self.push_limit;
+        if let Err(error) = append_record(
+            &mut self.message,
+            limit,
+            owner,
+            class,
+            ttl,
+            rdata,
+            turns,
+        ) {
             return Err(error);
         }
         self.counts = counts;
+        self.has_opt = self.has_opt || rdata.rtype() == Rtype::OPT;
         self.message
             .put_header(&octets_of(&self.header, &self.counts));
         Ok(())

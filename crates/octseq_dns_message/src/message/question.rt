@@ -3,9 +3,9 @@ ghost use Rattle.std.specs.Prelude.{◌≡◌, ◌+◌, ◌≤◌, IsErr, IfOk, 
 ghost use Rattle.octseq.specs.Parser.{sequence, window};
 ghost use Rattle.octseq.specs.Window.{Window};
 
-use crate::iana::{Class, Rtype};
 use octseq::utf8::Turns;
 use octseq::{AsOctets, Parser};
+use octseq_dns_data::{Class, Rtype};
 use octseq_dns_name::{Malformed, ParsedName};
 use octseq_format::{Format, U16Be};
 use std::alloc::AllocError;

@@ -4,12 +4,11 @@ ghost use Rattle.octseq.specs.Parser.{sequence, window};
 ghost use Rattle.octseq.specs.Window.{Window};
 ghost use Rattle.octseq_dns_name.specs.Read.{place_of};
 
-use crate::data::Data;
-use crate::iana::{Class, Rtype};
 use crate::ttl::Ttl;
 use octseq::builder::infallible;
 use octseq::utf8::Turns;
 use octseq::{AsOctets, Parser};
+use octseq_dns_data::{Class, Data, Rtype};
 use octseq_dns_name::{Malformed, ParsedName};
 use octseq_format::{Counted, Format, Rest, U16Be, U32Be};
 use std::alloc::AllocError;
@@ -43,14 +42,16 @@ impl<R: AsOctets + Copy> Clone for Record<R> {
 }
 
 impl<R: AsOctets + Copy> Record<R> {
-    ghost use Rattle.octseq.specs.Window.{at};
+    ghost use Rattle.std.specs.Prelude.{true};
+    ghost use Rattle.octseq.specs.Window.{at, left};
+    ghost use Rattle.octseq_dns_data.specs.Data.{is_in_message};
     ghost use Rattle.octseq_dns_message.specs.Entry as said;
     ghost use Rattle.octseq_dns_message.specs.Entry.{IsRecord};
-    ghost use Rattle.octseq_dns_message.specs.Data.{IsDataOf};
+    ghost use Rattle.octseq_dns_message.specs.RecordData.{IsDataOf};
     ghost use Rattle.octseq_dns_name.specs.NameTurns.{CountsName};
     ghost use Rattle.octseq_dns_name.specs.Read.{name_of};
     ghost use Rattle.octseq_dns_message.specs.Said.{record_of};
-    ghost use Rattle.octseq_dns_message.specs.Typed.{rdata_of, IsAt};
+    ghost use Rattle.octseq_dns_data.specs.Typed.{rdata_of, IsAt};
 
     /// Takes the next record of a message.
     ///
@@ -146,24 +147,20 @@ impl<R: AsOctets + Copy> Record<R> {
         self.data_counted(&mut Turns::new())
     }
 
-    /// What its data says, as [`data`](Self::data), and counts the turns that names in it take: the root, each label
-    /// and each pointer. There are at most two names.
+    /// What its data says, as [`data`](Self::data), and counts the turns that this takes: for each of two names at most
+    /// the root, each label and each pointer, and for a set of types or parameters at most one for each octet.
     pub fn data_counted(&self, turns: &mut Turns) -> Data<R>
         ensures rdata { IsDataOf (record_of self.now) (rdata_of result) }
         ensures place { IsAt (at (record_of self.now).rdata.position (record_of self.now).owner.place) result }
-        ensures turns { turns.new ≤ turns.old + 510 }
+        ensures turns { turns.new ≤ turns.old + 510 + left (record_of self.now).rdata }
+        ensures names { is_in_message (record_of self.now).rtype ≡ true → turns.new ≤ turns.old + 510 }
     {
-        let mut parser = self.owner.parser();
-        infallible(parser.seek(self.rdata.pos()));
-        match Data::parse(
-            &mut parser,
-            self.rtype(),
-            self.class(),
-            self.rdata.len(),
-            turns,
-        ) {
+        let mut message = self.owner.parser();
+        infallible(message.seek(self.rdata.pos()));
+        let (rtype, class) = (self.rtype(), self.class());
+        match Data::parse(message, self.rdata, rtype, class, turns) {
             Ok(found) => found,
-            Err(_) => Data::Unknown(self.rtype(), self.rdata),
+            Err(_) => Data::Unknown(rtype, self.rdata),
         }
     }
 }

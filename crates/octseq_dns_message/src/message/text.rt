@@ -5,7 +5,8 @@ ghost use Rattle.octseq.specs.Limit.{IsPast};
 ghost use Rattle.octseq.specs.Refusal.{IsShort, IsMemory};
 ghost use Rattle.octseq.specs.Display.{display_error};
 ghost use Rattle.octseq.specs.Parts.{IsFront};
-ghost use Rattle.octseq_dns_message.specs.Data.{ParsedRdata, IsDataOf};
+ghost use Rattle.octseq_dns_data.specs.Data.{ParsedRdata};
+ghost use Rattle.octseq_dns_message.specs.RecordData.{IsDataOf};
 ghost use Rattle.octseq_dns_message.specs.Entry as said;
 ghost use Rattle.octseq_dns_message.specs.HeaderText.{header_text, question_text};
 ghost use Rattle.octseq_dns_message.specs.MessageText.{record_text, line, header_line, questions_text};
@@ -13,15 +14,15 @@ ghost use Rattle.octseq_dns_message.specs.MessageText.{IsRecordsText, IsMessageT
 ghost use Rattle.octseq_dns_message.specs.Parsed.{header_of, questions_of, answers_of, authorities_of, additionals_of};
 ghost use Rattle.octseq_dns_message.specs.Said.{question_of, record_of};
 ghost use Rattle.octseq_dns_message.specs.TextFront.{BeginsAtLine};
-ghost use Rattle.octseq_dns_message.specs.Typed.{rdata_of};
+ghost use Rattle.octseq_dns_data.specs.Typed.{rdata_of};
 ghost use Rattle.octseq_dns_message.specs.Walk.{questions_left, records_left};
 
-use crate::data::Data;
 use crate::header::Header;
 use crate::message::{Message, Question, Questions, Record, Records};
 use octseq::builder::OctetsLimit;
 use octseq::str::{Counter, DisplayError};
 use octseq::{AsOctets, OctetsBuilder, StrBuilder, Truncate};
+use octseq_dns_data::Data;
 use std::fmt;
 
 /// A message has one text at most.

@@ -118,7 +118,10 @@ impl<R: AsOctets + Copy> ParsedName<R> {
 }
 
 /// Whether labels equal others.
-fn labels_eq<R: AsOctets + Copy, S: AsOctets + Copy>(labels: Labels<R>, others: Labels<S>) -> bool
+pub(crate) fn labels_eq<R: AsOctets + Copy, S: AsOctets + Copy>(
+    labels: Labels<R>,
+    others: Labels<S>,
+) -> bool
     ensures { IsTrue result ↔ (lower_labels (labels_left labels) ≡ lower_labels (labels_left others)) }
 {
     let mut ahead = others;
@@ -136,7 +139,7 @@ fn labels_eq<R: AsOctets + Copy, S: AsOctets + Copy>(labels: Labels<R>, others: 
 }
 
 /// Labels without the first ones of them.
-fn passed<R: AsOctets + Copy>(labels: Labels<R>, count: usize) -> Labels<R>
+pub(crate) fn passed<R: AsOctets + Copy>(labels: Labels<R>, count: usize) -> Labels<R>
     ensures { labels_left result ≡ drop count (labels_left labels) }
 {
     let mut ahead = labels;

@@ -14,6 +14,7 @@ use std::alloc::{AllocError, Global};
 
 mod compare;
 mod read;
+mod relatives;
 
 /// A name that owns its octets: its plain wire form, with no pointers, in a builder.
 #[derive(Debug, Drop)]

@@ -1,15 +1,20 @@
 //! The spelling of names in text: RFC 1035, 5.1.
 ghost use Rattle.std.specs.Prelude.{◌≡◌, ℕ, ◌+◌, ◌<◌, ◌≤◌, List, [], ◌∷◌, ◌++◌, length};
-ghost use Rattle.std.specs.Prelude.{IsNone, IfSome, IfOk, IfErr, OnErr};
+ghost use Rattle.std.specs.Prelude.{IsNone, IfSome, IfOk, IfErr, OnErr, MatchOption};
 ghost use Rattle.octseq_dns_name.specs.Name.{wire_length};
+ghost use Rattle.octseq_dns_name.specs.Origin.{SpellsWithOrigin, IsRefusedWithOrigin};
+ghost use Rattle.octseq_dns_name.specs.Read.{labels_of};
 ghost use Rattle.octseq_dns_name.specs.Refused.{Reads, SpellsNone, BeginsWith, IsFault, IsRefused};
 ghost use Rattle.octseq_dns_name.specs.Spelling.{SpellsOctet, SpellsName};
 ghost use Rattle.octseq_dns_name.specs.Wire.{wire, AreLabels};
 ghost use Rattle.octseq_dns_name.specs.Text.{three_digits};
 
 use crate::error::FromTextError;
+use crate::name::ParsedName;
 use crate::name::text::needs_backslash;
-use crate::name::wire::{LABEL_MAX, append_label, has_room, with_root};
+use crate::name::wire::{
+    LABEL_MAX, append_label, has_room, with_label_and_name, with_name, with_root,
+};
 use octseq::builder::infallible;
 use octseq::{Array, AsOctets, OctetsBuilder};
 
@@ -39,6 +44,41 @@ pub(crate) fn wire_of(text: &[u8]) -> Result<Array<255>, FromTextError>
     Ok(with_root(octets))
 }
 
+/// The plain wire form of the name that a text spells with an origin.
+pub(crate) fn wire_with_origin<R: AsOctets + Copy>(
+    text: &[u8],
+    origin: &ParsedName<R>,
+) -> Result<Array<255>, FromTextError>
+    ensures ok { IfOk result (λ octets. (labels : List (List ℕ)) × (octets.content ≡ wire labels)
+        × AreLabels labels × (wire_length labels ≤ 255) × SpellsWithOrigin (labels_of origin.now) labels text.now) }
+    ensures refused { IfErr result (λ fault. IsRefusedWithOrigin (labels_of origin.now) fault text.now) }
+{
+    let mut octets = Array::<255>::new();
+    if text == b".".as_slice() {
+        return Ok(with_root(octets));
+    }
+    if text == b"@".as_slice() {
+        return Ok(with_name(octets, origin));
+    }
+    if text.is_empty() {
+        return Err(FromTextError::UnexpectedEnd);
+    }
+    let mut ahead = text;
+    'labels: while !ahead.is_empty() {
+        let (label, rest) = next_part(ahead)?;
+        let slice = label.as_slice();
+        let Some(rest) = rest else {
+            return with_label_and_name(octets, slice, origin).ok_or(FromTextError::LongName);
+        };
+        if !has_room(&octets, slice) {
+            return Err(FromTextError::LongName);
+        }
+        append_label(&mut octets, slice);
+        ahead = rest;
+    }
+    Ok(with_root(octets))
+}
+
 /// Takes a label and the full stop after it from the front of a text.
 pub(crate) fn next_label(text: &[u8]) -> Result<(Array<63>, &[u8]), FromTextError>
     requires { 1 ≤ length text.now }
@@ -46,17 +86,34 @@ pub(crate) fn next_label(text: &[u8]) -> Result<(Array<63>, &[u8]), FromTextErro
     ensures some { IfOk result (λ taken. 1 ≤ length taken.0.content) }
     ensures refused { IfErr result (λ fault. (labels : List (List ℕ)) → IsFault fault labels text.now) }
 {
+    match next_part(text)? {
+        (label, Some(rest)) => Ok((label, rest)),
+        (_, None) => Err(FromTextError::UnexpectedEnd),
+    }
+}
+
+/// Takes a label from the front of a text, and the full stop after it, with what is after that; or with nothing where
+/// the text ends with the label.
+fn next_part(text: &[u8]) -> Result<(Array<63>, Option<&[u8]>), FromTextError>
+    requires { 1 ≤ length text.now }
+    ensures ok { IfOk result (λ taken. MatchOption taken.1 (Reads text.now taken.0.content [])
+        (λ rest. Reads text.now taken.0.content (46 ∷ rest.now))) }
+    ensures some { IfOk result (λ taken. 1 ≤ length taken.0.content) }
+    ensures short { IfOk result (λ taken. length taken.0.content ≤ 63) }
+    ensures refused { IfErr result (λ fault. (labels : List (List ℕ)) → IsFault fault labels text.now) }
+    ensures within { IfErr result (λ fault. ¬ (fault ≡ FromTextError.UnexpectedEnd)) }
+{
     let mut label = Array::<63>::new();
     let mut ahead = text;
     'octets: loop {
         let Some((first, rest)) = ahead.split_first() else {
-            return Err(FromTextError::UnexpectedEnd);
+            return Ok((label, None));
         };
         if *first == b'.' {
             if label.is_empty() {
                 return Err(FromTextError::EmptyLabel);
             }
-            return Ok((label, rest));
+            return Ok((label, Some(rest)));
         }
         let (octet, rest) = next_octet(ahead)?;
         if label.len() >= LABEL_MAX {

@@ -1,6 +1,8 @@
 //! The text of names.
-ghost use Rattle.std.specs.Prelude.{◌≡◌, ℕ, ◌<◌, ◌+◌, List, [], ◌∷◌, Some};
+ghost use Rattle.std.specs.Prelude.{◌≡◌, ℕ, ◌<◌, ◌≤◌, ◌+◌, List, [], ◌∷◌, Some};
 ghost use Rattle.std.specs.Fmt.{WritesOnOk};
+ghost use Rattle.octseq_dns_name.specs.Name.{wire_length};
+ghost use Rattle.octseq_dns_name.specs.Origin.{SpellsWithOrigin};
 ghost use Rattle.octseq_dns_name.specs.Read.{labels_of, label_octets};
 ghost use Rattle.octseq_dns_name.specs.Spelling.{AreOctetLabels, SpellsName};
 ghost use Rattle.octseq_dns_name.specs.Wire.{AreLabels};
@@ -17,6 +19,15 @@ use std::fmt;
 pub fn one_name_of_a_text()
     ensures { (labels others : List (List ℕ)) (text : List ℕ) → AreLabels labels → AreLabels others
         → SpellsName labels text → SpellsName others text → labels ≡ others }
+{}
+
+/// A text spells one name at most with an origin.
+///
+/// It does nothing. A caller that calls it has the law in its proof.
+pub fn one_name_of_a_text_with_origin()
+    ensures { (origin labels others : List (List ℕ)) (text : List ℕ) → AreLabels labels → wire_length labels ≤ 255
+        → AreLabels others → wire_length others ≤ 255 → SpellsWithOrigin origin labels text
+        → SpellsWithOrigin origin others text → labels ≡ others }
 {}
 
 /// The text that is printed spells its name, so that it is read back as that name.

@@ -1,14 +1,14 @@
 //! The plain wire form of labels.
-ghost use Rattle.std.specs.Prelude.{◌≡◌, ◌↔◌, ◌+◌, ◌≤◌, true, ℕ, List, [], ◌∷◌, ◌++◌, length, map};
-ghost use Rattle.std.specs.Prelude.{IsTrue, IfOk, IfErr, OnOk, OnErr};
+ghost use Rattle.std.specs.Prelude.{◌≡◌, ◌↔◌, ◌+◌, ◌<◌, ◌≤◌, true, ℕ, List, [], ◌∷◌, ◌++◌, length, map};
+ghost use Rattle.std.specs.Prelude.{IsTrue, IfOk, IfErr, OnOk, OnErr, IsNone, IfSome};
 ghost use Rattle.octseq.specs.Limit.{IsPast};
 ghost use Rattle.octseq_dns_name.specs.Name.{wire_length};
-ghost use Rattle.octseq_dns_name.specs.Read.{labels_left};
+ghost use Rattle.octseq_dns_name.specs.Read.{labels_left, labels_of};
 ghost use Rattle.octseq_dns_name.specs.Unfit.{HasWrong};
 ghost use Rattle.octseq_dns_name.specs.Wire.{wire, AreLabels};
 
 use crate::error::FromLabelsError;
-use crate::name::{Labels, NAME_MAX};
+use crate::name::{Labels, NAME_MAX, ParsedName};
 use octseq::builder::infallible;
 use octseq::{AppendError, Array, AsOctets, OctetsBuilder};
 use std::alloc::AllocError;
@@ -96,4 +96,36 @@ pub(crate) fn with_root(octets: Array<255>) -> Array<255>
     let mut all = octets;
     infallible(all.append_slice(&[0]));
     all
+}
+
+/// The octets with a name after them.
+pub(crate) fn with_name<R: AsOctets + Copy>(octets: Array<255>, name: &ParsedName<R>) -> Array<255>
+    requires { length octets.content + wire_length (labels_of name.now) ≤ 255 }
+    ensures content { result.content ≡ octets.content ++ wire (labels_of name.now) }
+    ensures labels { AreLabels (labels_of name.now) }
+{
+    let mut all = octets;
+    infallible(append_labels(&mut all, name.labels()));
+    all
+}
+
+/// The octets with a label and a name after them, if there is room.
+pub(crate) fn with_label_and_name<R: AsOctets + Copy>(
+    octets: Array<255>,
+    label: &[u8],
+    name: &ParsedName<R>,
+) -> Option<Array<255>>
+    requires { length label.now ≤ 63 }
+    ensures some { IfSome result (λ all. (all.content ≡ octets.content ++ length label.now ∷ label.now
+        ++ wire (labels_of name.now)) × AreLabels (labels_of name.now)
+        × (length octets.content + 1 + length label.now + wire_length (labels_of name.now) ≤ 255)) }
+    ensures none { IsNone result → 255 < length octets.content + 1 + length label.now
+        + wire_length (labels_of name.now) }
+{
+    if octets.len() + 1 + label.len() + name.len() > NAME_MAX {
+        return None;
+    }
+    let mut all = octets;
+    append_label(&mut all, label);
+    Some(with_name(all, name))
 }

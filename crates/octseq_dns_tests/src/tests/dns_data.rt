@@ -2,7 +2,8 @@
 use octseq::octets::Octets;
 use octseq::utf8::Turns;
 use octseq_asserts::{Case, assert_equal, assert_true, over_each};
-use octseq_dns::data::{Opt, Soa, Srv, Txt};
+use octseq_dns::data::{Soa, Srv, Txt};
+use octseq_dns::opt::Opt;
 use octseq_dns::{Data, Malformed, Message, ParsedName};
 use std::alloc::{AllocError, AllocGlobal, Global};
 use std::process::Abort;
@@ -92,6 +93,7 @@ fn push_data<R: Octets + Copy>(text: &mut Vec<u8>, found: &Data<R>) -> Result<()
         Data::Txt(txt) => push_txt(text, txt),
         Data::Srv(srv) => push_srv(text, srv),
         Data::Unknown(_, octets) => push_octets(text, b"unknown ", octets.peek_all()),
+        _ => push_octets(text, b"another ", &[]),
     }
 }
 

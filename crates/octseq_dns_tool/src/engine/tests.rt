@@ -3,7 +3,7 @@ use octseq_program::hostile::Drip;
 use octseq_program::{ProgramFault, Status};
 use std::alloc::Global;
 use std::fmt::Debug;
-use std::io::{Read, Write};
+use std::io::{self, Read, Write};
 use std::process::Abort;
 use std::test::Fail;
 
@@ -43,14 +43,14 @@ const REPLY_TEXT: &str = "id 4660 opcode 0 rcode 0 flags QR AA RD RA\n\
 /// The text of a header of zeros.
 const BLANK_TEXT: &str = "id 0 opcode 0 rcode 0 flags\n";
 
-/// Runs the program over a reader and a writer.
+/// Runs the program over a reader and a writer. What is told on standard error is dropped.
 fn engine<R: Read, W: Write>(
     alloc: Global,
     word: &str,
     reader: &mut R,
     writer: &mut W,
 ) -> Result<Status, ProgramFault> {
-    octseq_program::engine::engine::<Command, R, W>(alloc, word, reader, writer)
+    octseq_program::engine::engine::<Command, _, _, _>(alloc, word, reader, writer, &mut io::sink())
 }
 
 /// What a command answers and writes for octets that come one a read.
@@ -90,24 +90,121 @@ fn message_is_shown(rt: HostRuntime) {
     }
 }
 
+/// What a word writes for octets, on standard output and on standard error, with so many reads.
+fn told(
+    alloc: Global,
+    word: &str,
+    octets: &[u8],
+    reads: usize,
+) -> (Result<Status, ProgramFault>, Vec<u8>, Vec<u8>) {
+    let mut reader = Drip {
+        rest: octets,
+        at_once: usize::MAX,
+        reads,
+    };
+    let (mut written, mut errors) = (Vec::new(alloc), Vec::new(alloc));
+    let answer = octseq_program::engine::engine::<Command, _, _, _>(
+        alloc,
+        word,
+        &mut reader,
+        &mut written,
+        &mut errors,
+    );
+    (answer, written, errors)
+}
+
 #[test]
-fn another_word_reads_nothing(rt: HostRuntime) {
-    for word in ["", "mesage", "Stream"] {
-        let mut reader = Drip {
-            rest: b"a",
-            at_once: 1,
-            reads: 0,
-        };
-        let mut written = Vec::new(rt.alloc());
-        let answer = engine(rt.alloc(), word, &mut reader, &mut written);
+fn help_tells_commands_and_statuses(rt: HostRuntime) -> Result<(), Fail> {
+    let (answer, written, errors) = told(rt.alloc(), "--help", b"a", 0);
+    assert_equal!(&rt, answer, Ok(Status::Fine));
+    assert_true!(&rt, errors.is_empty());
+    let text = str::from_utf8(&written)?;
+    for part in [
+        "  message  ",
+        "  stream   ",
+        "  rewrite  ",
+        "  --help   ",
+        "\nstatus:\n  0  ",
+        "\n  1  ",
+        "\n  2  ",
+        "\n  3  ",
+        "\n  4  ",
+    ] {
+        assert_eq!(rt; text.contains(part), true, "{part}");
+    }
+    Ok(())
+}
+
+#[test]
+fn another_word_is_told_on_standard_error(rt: HostRuntime) {
+    let (_, help, _) = told(rt.alloc(), "--help", b"a", 0);
+    for word in ["", "mesage", "Stream", "-help"] {
+        let (answer, written, errors) = told(rt.alloc(), word, b"a", 0);
         assert_equal!(&rt, answer, Ok(Status::Usage));
-        let usage = "usage: octseq_dns_tool message|stream|rewrite\n";
-        assert_equal!(&rt, written.as_slice(), usage.as_bytes());
+        assert_true!(&rt, written.is_empty());
+        assert_equal!(&rt, errors.as_slice(), help.as_slice());
     }
 }
 
 #[test]
-fn stream_goes_on_behind_a_malformed_message(rt: HostRuntime) -> Result<(), Fail> {
+fn malformed_messages_are_told_by_number_and_place(rt: HostRuntime) -> Result<(), Fail> {
+    let alloc = rt.alloc();
+    // (a header that isn't there, a message, one with a question too few, one with an octet too many, and an answer
+    // that isn't one after a question)
+    let stream = joined(
+        alloc,
+        &[
+            &[0, 11],
+            &[0; 11],
+            &[0, 12],
+            &[0; 12],
+            &[0, 12],
+            &[0, 0, 0, 0, 0, 1, 0, 0, 0, 0, 0, 0],
+            &[0, 13],
+            &[0; 13],
+            &[0, 44],
+            &REPLY[..44],
+        ],
+    )?;
+    let lines = "message 1: malformed at octet 0\n\
+        message 3: malformed at octet 12\n\
+        message 4: malformed at octet 12\n\
+        message 5: malformed at octet 29\n";
+    for (command, status) in [("stream", Status::Fine), ("rewrite", Status::Refused)] {
+        let (answer, _, errors) = told(alloc, command, stream.as_slice(), usize::MAX);
+        assert_equal!(&rt, answer, Ok(status));
+        assert_equal!(&rt, errors.as_slice(), lines.as_bytes());
+    }
+    let (answer, written, errors) = told(alloc, "message", &REPLY[..44], usize::MAX);
+    assert_equal!(&rt, answer, Ok(Status::Refused));
+    assert_equal!(&rt, written.as_slice(), b"malformed\n".as_slice());
+    let line = "message 1: malformed at octet 29\n";
+    assert_equal!(&rt, errors.as_slice(), line.as_bytes());
+    let (_, _, errors) = told(alloc, "message", &REPLY, usize::MAX);
+    assert_true!(&rt, errors.is_empty());
+    Ok(())
+}
+
+#[test]
+fn a_live_source_shows_at_once(rt: HostRuntime) -> Result<(), Fail> {
+    let alloc = rt.alloc();
+    let first = joined(alloc, &[&[0, 12], &[0; 12]])?;
+    let stream = joined(alloc, &[first.as_slice(), &[0, 45], &REPLY])?;
+    // (two reads give the first message, and the third fails)
+    for (command, output) in [
+        ("stream", "id 0 opcode 0 rcode 0 flags\n\n".as_bytes()),
+        ("rewrite", first.as_slice()),
+    ] {
+        let (answer, written, errors) = told(alloc, command, stream.as_slice(), 2);
+        assert_equal!(&rt, answer, Err(ProgramFault::Read));
+        assert_equal!(&rt, written.as_slice(), output);
+        assert_true!(&rt, errors.is_empty());
+    }
+    Ok(())
+}
+
+#[test]
+fn stream_goes_on_after_a_malformed_message(rt: HostRuntime) -> Result<(), Fail> {
     let alloc = rt.alloc();
     let stream = joined(
         alloc,

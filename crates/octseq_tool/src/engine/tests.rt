@@ -1,9 +1,9 @@
 use super::Command;
 use octseq_program::hostile::Drip;
-use octseq_program::{ProgramFault, Status, command_word};
+use octseq_program::{ProgramFault, Status, command_word, input_path};
 use std::alloc::Global;
 use std::fmt::Debug;
-use std::io::{Read, Write};
+use std::io::{self, Read, Write};
 use std::process::Abort;
 use std::test::Fail;
 
@@ -28,14 +28,14 @@ fn equal<T: PartialEq + Debug + Drop>(rt: &impl Abort, what: &str, left: T, righ
 mod hostile;
 mod refused;
 
-/// Runs the program over a reader and a writer.
+/// Runs the program over a reader and a writer. What is told on standard error is dropped.
 fn engine<R: Read, W: Write>(
     alloc: Global,
     word: &str,
     reader: &mut R,
     writer: &mut W,
 ) -> Result<Status, ProgramFault> {
-    octseq_program::engine::engine::<Command, R, W>(alloc, word, reader, writer)
+    octseq_program::engine::engine::<Command, _, _, _>(alloc, word, reader, writer, &mut io::sink())
 }
 
 /// What a command answers and writes for octets that come one a read.
@@ -79,7 +79,9 @@ fn one_argument_is_the_command(rt: HostRuntime) -> Result<(), Fail> {
         ([].as_slice(), "check"),
         (&["octseq_tool"], "check"),
         (&["octseq_tool", "lossy"], "lossy"),
-        (&["octseq_tool", "lossy", "check"], ""),
+        (&["octseq_tool", "--help"], "--help"),
+        (&["octseq_tool", "lossy", "check"], "lossy"),
+        (&["octseq_tool", "--help", "check"], ""),
         (&["octseq_tool", "check", "check", "check"], ""),
     ];
     for (words, wanted) in cases {
@@ -88,22 +90,66 @@ fn one_argument_is_the_command(rt: HostRuntime) -> Result<(), Fail> {
             args.push(String::from_str(alloc, word)?)?;
         }
         assert_equal!(&rt, command_word::<Command>(&args), wanted);
+        let path = if words.len() == 3 {
+            Some("check")
+        } else {
+            None
+        };
+        assert_equal!(&rt, input_path(&args), path);
     }
     Ok(())
 }
 
-#[test]
-fn another_word_reads_nothing(rt: HostRuntime) {
+/// What a word that names no command writes, on standard output and on standard error, without a read.
+fn told(alloc: Global, word: &str) -> (Result<Status, ProgramFault>, Vec<u8>, Vec<u8>) {
     let mut reader = Drip {
         rest: b"a",
         at_once: 1,
         reads: 0,
     };
-    let mut written = Vec::new(rt.alloc());
-    let answer = engine(rt.alloc(), "chek", &mut reader, &mut written);
-    assert_equal!(&rt, answer, Ok(Status::Usage));
-    let usage = "usage: octseq_tool check|lossy|lossy64|records\n";
-    assert_equal!(&rt, written.as_slice(), usage.as_bytes());
+    let (mut written, mut errors) = (Vec::new(alloc), Vec::new(alloc));
+    let answer = octseq_program::engine::engine::<Command, _, _, _>(
+        alloc,
+        word,
+        &mut reader,
+        &mut written,
+        &mut errors,
+    );
+    (answer, written, errors)
+}
+
+#[test]
+fn help_tells_commands_and_statuses(rt: HostRuntime) -> Result<(), Fail> {
+    let (answer, written, errors) = told(rt.alloc(), "--help");
+    assert_equal!(&rt, answer, Ok(Status::Fine));
+    assert_true!(&rt, errors.is_empty());
+    let text = str::from_utf8(&written)?;
+    for part in [
+        "  check    ",
+        "  lossy    ",
+        "  lossy64  ",
+        "  records  ",
+        "  --help   ",
+        "\nstatus:\n  0  ",
+        "\n  1  ",
+        "\n  2  ",
+        "\n  3  ",
+        "\n  4  ",
+    ] {
+        assert_eq!(rt; text.contains(part), true, "{part}");
+    }
+    Ok(())
+}
+
+#[test]
+fn another_word_is_told_on_standard_error(rt: HostRuntime) {
+    let (_, help, _) = told(rt.alloc(), "--help");
+    for word in ["", "chek", "-help", "Check"] {
+        let (answer, written, errors) = told(rt.alloc(), word);
+        assert_equal!(&rt, answer, Ok(Status::Usage));
+        assert_true!(&rt, written.is_empty());
+        assert_equal!(&rt, errors.as_slice(), help.as_slice());
+    }
 }
 
 /// Octets, each as many times.

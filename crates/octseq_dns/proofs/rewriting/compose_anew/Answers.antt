@@ -1,11 +1,14 @@
 use Rattle.std.proofs.Common.{[], length, map, refl, sym, ap, ◌∙◌, subst, arith}
 use Rattle.std.specs.List.{AllZip}
+use Rattle.octseq.specs.Limit.{IsPast}
 use Rattle.octseq_dns_compress.specs.Composed.{message_limit}
 use Rattle.octseq_dns_message.specs.Parsed.{questions_of}
 use Rattle.octseq_dns_message.specs.Walk.{questions_left}
 use Rattle.octseq_dns.specs.Blank.{blank_message}
+use Rattle.octseq_dns.specs.Contents.{octets_of}
 use Rattle.octseq_dns.specs.ReadBack.{bare}
 use Rattle.octseq_dns.specs.Rewritten.{IsRecordOf}
+use Rattle.octseq_dns.specs.Writes.{all_more, least_limit, more_questions}
 use Rattle.octseq_dns.proofs.Stages.{of_sections, begun, asked, answered, authorized, zip_questions}
 use Rattle.octseq_dns.proofs.Stages.{past_twelve, past_message, past_questions, past_answers, past_authorities}
 use Rattle.octseq_dns.proofs.Stages.{past_additionals, none_pushed, questions_pushed, answers_pushed}
@@ -18,8 +21,8 @@ returns-in-Err-clause-short g c short m is =
     let limit = message_limit g.B.AsOctets.limit in
     past_twelve limit most m (past_message g.B.AsOctets.limit 12 (c.in-Err.ensures.short.0 short))
 
-pub push_questions-requires-clause-room : goal.push_questions-requires-clause-room
-push_questions-requires-clause-room g c =
+pub push_questions-requires : goal.push_questions-requires
+push_questions-requires g c =
     let most = g.T.Compressor.most in
     let asks = map bare (questions_of c.args.message.now) in
     let m = of_sections c.header.result asks [] [] [] in
@@ -39,8 +42,11 @@ returns-in-Err-push_questions-clause-short g c short m is =
     c.question.ensures in
     let zq = zip_questions (questions_left c.questions.result) (questions_of c.args.message.now) m.questions
     c.questions.ensures is.questions_are in
+    let unlimited = ap (λ b. b.push_limit) c.question.ensures ∙ c.set_header.ensures.push_limit
+    ∙ c.in-Ok.ensures.push_limit in
     past_questions limit most m
-    (c.in-Err-push_questions.ensures.short short (begun m) m.questions w0 zq)
+    (subst (λ p. IsPast (least_limit p limit) (length (octets_of most (all_more more_questions (begun m) m.questions))))
+    unlimited (c.in-Err-push_questions.ensures.short short (begun m) m.questions w0 zq))
 
 pub returns-in-Err-push_questions-clause-turns : goal.returns-in-Err-push_questions-clause-turns
 returns-in-Err-push_questions-clause-turns g c m is =

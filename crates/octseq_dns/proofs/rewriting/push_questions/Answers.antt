@@ -1,16 +1,18 @@
 use Rattle.std.proofs.Common.{◌≡◌, ◌+◌, ◌≤◌, ℕ, length, refl, sym, ap, ◌∙◌, subst, arith, inl}
 use Rattle.std.proofs.Common.{inr}
 use Rattle.std.specs.List.{AllZip}
+use Rattle.octseq.specs.Limit.{IsPast, IsWithin}
 use Rattle.octseq_dns_compress.specs.Composed.{message_limit}
+use Rattle.octseq_dns_compress.specs.State.{with_entry}
 use Rattle.octseq_dns_message.specs.Said.{question_of}
 use Rattle.octseq_dns_message.specs.Walk.{questions_left}
 use Rattle.octseq_dns_name.specs.Name.{Name}
-use Rattle.octseq_dns.specs.Contents.{Question}
+use Rattle.octseq_dns.specs.Contents.{Question, question_entry}
 use Rattle.octseq_dns.specs.Labels.{question_labels}
 use Rattle.octseq_dns.specs.Pushed.{asked}
 use Rattle.octseq_dns.specs.Rewritten.{IsQuestionOf}
 use Rattle.octseq_dns.specs.Sections.{takes_questions}
-use Rattle.octseq_dns.specs.Writes.{more_questions}
+use Rattle.octseq_dns.specs.Writes.{least_limit, more_questions}
 use Rattle.octseq_dns.proofs.Anew.{Ahead, ahead_first, ahead_next, ahead_none, ahead_past, ahead_turns}
 use Rattle.octseq_dns.proofs.rewriting.push_questions.Goals as goal
 
@@ -26,9 +28,11 @@ loop-question-init g c = record {
   ahead = λ m written is are. ahead_first g.T.Compressor.most m written _ _ _ _ _ is
       (subst (λ walk. AllZip IsQuestionOf (questions_left walk) written)
       (sym c.into_iter-question-iterator.ensures.into_iter_gives) are);
-  fits = c.requires.fits;
+  fits = λ fits. fits;
+  push_limit = refl;
+  has_opt = refl;
   room = subst (λ walk. c.args.builder.counts.qdcount + length (questions_left walk) ≤ 65535)
-      (sym c.into_iter-question-iterator.ensures.into_iter_gives) c.requires.room;
+      (sym c.into_iter-question-iterator.ensures.into_iter_gives) c.requires;
   borrows = refl;
 }
 
@@ -53,7 +57,10 @@ loop-question-preserved g c =
           (so_far.ahead m written is are))
           one (λ other is. is ∙ sym (same_asked c.qname.ensures c.qtype-qtype.ensures c.qclass-qclass.ensures))
           new.state new.header new.counts c.push_question_counted.new.turns went.written went.turns went.least;
-      fits = went.within;
+      fits = λ fits. subst (λ p. IsWithin (least_limit p (message_limit g.B.AsOctets.limit)) (length new.state.octets))
+          so_far.push_limit went.within;
+      push_limit = went.push_limit ∙ so_far.push_limit;
+      has_opt = went.has_opt ∙ so_far.has_opt;
       room = omega (arith, room, long, counted);
       borrows = went.borrows ∙ so_far.borrows;
     }
@@ -69,13 +76,15 @@ returns-in-Err-clause-short g c = λ short m written is are.
     let ahead = subst (λ q. Ahead IsQuestionOf question_labels more_questions g.T.Compressor.most m written q now.state
     now.header now.counts c.loop-question.turns c.args.turns.now (length c.args.builder.state.octets)) steps
     (so_far.ahead m written is are) in
-    let limit = message_limit g.B.AsOctets.limit in
+    let limit = least_limit c.args.builder.push_limit (message_limit g.B.AsOctets.limit) in
     elim (c.in-Err.ensures.pushed.short short) [
       | inl past ↦
           ahead_past g.T.Compressor.most m written i left now.state now.header now.counts c.loop-question.turns
           c.args.turns.now (length c.args.builder.state.octets) ahead one
           (λ other is. is ∙ sym (same_asked c.qname.ensures c.qtype-qtype.ensures c.qclass-qclass.ensures))
-          limit takes_questions c.in-Err.ensures.reaches past
+          limit takes_questions c.in-Err.ensures.reaches (subst (λ p. IsPast (least_limit p (message_limit
+          g.B.AsOctets.limit)) (length (with_entry g.T.Compressor.most now.state (question_entry one)).octets))
+          so_far.push_limit past)
       | inr full ↦
           let room = so_far.room in
           let long = ap length steps in

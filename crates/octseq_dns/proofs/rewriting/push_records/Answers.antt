@@ -1,19 +1,23 @@
 use Rattle.std.proofs.Common.{◌≡◌, ◌+◌, ◌≤◌, ℕ, [], ◌∷◌, length, refl, sym, ap, ◌∙◌, subst, arith, inl}
 use Rattle.std.proofs.Common.{inr}
 use Rattle.std.specs.List.{AllZip}
+use Rattle.octseq.specs.Limit.{IsPast, IsWithin}
 use Rattle.octseq_dns_compress.specs.Composed.{message_limit}
-use Rattle.octseq_dns_message.specs.Data.{ParsedRdata, IsDataOf}
+use Rattle.octseq_dns_compress.specs.State.{with_entry}
+use Rattle.octseq_dns_data.specs.Data.{ParsedRdata}
+use Rattle.octseq_dns_message.specs.RecordData.{IsDataOf}
 use Rattle.octseq_dns_message.specs.Entry as entry
 use Rattle.octseq_dns_message.specs.Said.{record_of}
-use Rattle.octseq_dns_message.specs.Typed.{rdata_of}
+use Rattle.octseq_dns_data.specs.Typed.{rdata_of}
 use Rattle.octseq_dns_message.specs.Walk.{records_left}
-use Rattle.octseq_dns_message.proofs.Rdata.{one_said, said_rtype}
+use Rattle.octseq_dns_message.proofs.RecordData.{one_said, said_rtype}
 use Rattle.octseq_dns_name.specs.Name.{Name}
-use Rattle.octseq_dns.specs.Contents.{Record}
+use Rattle.octseq_dns.specs.Contents.{Record, record_entry}
 use Rattle.octseq_dns.specs.Labels.{record_labels}
 use Rattle.octseq_dns.specs.Pushed.{told}
 use Rattle.octseq_dns.specs.Rdata.{bare_rdata, rdata_fields, rtype_of}
 use Rattle.octseq_dns.specs.Rewritten.{IsRecordOf, record_of_parsed}
+use Rattle.octseq_dns.specs.Writes.{least_limit}
 use Rattle.octseq_dns.proofs.Anew.{Ahead, ahead_first, ahead_next, ahead_none, ahead_past, ahead_turns}
 use Rattle.octseq_dns.proofs.RdataRead.{bare_rtype}
 use Rattle.octseq_dns.proofs.rewriting.push_records.Goals as goal
@@ -49,6 +53,7 @@ loop-entry-init g c = record {
     subst (λ walk. AllZip IsRecordOf (records_left walk) rest) c.into_iter-entry-iterator.ensures.into_iter_gives are,
   );
   fits = c.requires.fits;
+  unlimited = c.requires.unlimited;
   room = subst (λ walk. g.S.RecordSection.count c.args.builder.counts + length (records_left walk) ≤ 65535)
       (sym c.into_iter-entry-iterator.ensures.into_iter_gives) c.requires.room;
   borrows = refl;
@@ -88,7 +93,9 @@ loop-entry-preserved g c =
         },
         are,
       ));
-      fits = went.within;
+      fits = subst (λ p. IsWithin (least_limit p (message_limit g.B.AsOctets.limit)) (length new.state.octets))
+          so_far.unlimited went.within;
+      unlimited = went.push_limit ∙ so_far.unlimited;
       room = omega (arith, room, long, counted);
       borrows = went.borrows ∙ so_far.borrows;
     }
@@ -113,7 +120,8 @@ returns-in-Err-clause-short g c = λ short m written is are.
           ahead_past g.T.Compressor.most m written i left now.state now.header now.counts c.loop-entry.turns
           c.args.turns.now (length c.args.builder.state.octets) ahead one
           (only_told i parsed c.owner.ensures c.class-class.ensures c.ttl-ttl.ensures c.data-data.ensures.rdata)
-          limit g.met.S.RecordSection.takes_records c.in-Err.ensures.reaches past
+          limit g.met.S.RecordSection.takes_records c.in-Err.ensures.reaches (subst (λ p. IsPast (least_limit p limit)
+          (length (with_entry g.T.Compressor.most now.state (record_entry one)).octets)) so_far.unlimited past)
       | inr full ↦
           let room = so_far.room in
           let long = ap length steps in

@@ -1,5 +1,5 @@
 -- Whatever is written of the records, a message so far becomes it by what is written of those that are left.
-use Rattle.std.proofs.Common.{◌≡◌, ◌+◌, ◌≤◌, List, length}
+use Rattle.std.proofs.Common.{◌≡◌, ◌+◌, ◌≤◌, List, None, length}
 use Rattle.std.specs.List.{AllZip}
 use Rattle.octseq.specs.Limit.{IsWithin}
 use Rattle.octseq_dns_compress.specs.Composed.{message_limit}
@@ -22,6 +22,7 @@ invariant-loop-entry g l = record {
   exists : (rest : List Record) → AllZip IsRecordOf (records_left l.entry-iterator) rest
       → (written : List Record) × AllZip IsRecordOf (records_left l.fn.records) written;
   fits : IsWithin (message_limit g.B.AsOctets.limit) (length l.message.state.octets);
+  unlimited : l.message.push_limit ≡ None;
   room : g.S.RecordSection.count l.message.counts + length (records_left l.entry-iterator) ≤ 65535;
   borrows : g.B.AsOctets.borrows l.message.octets ≡ g.B.AsOctets.borrows l.fn.builder.octets;
 }

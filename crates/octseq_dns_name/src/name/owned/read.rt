@@ -3,15 +3,18 @@ ghost use Rattle.std.specs.Prelude.{◌≡◌, ◌≢◌, ◌≤◌, ◌↔◌, 
 ghost use Rattle.std.specs.Prelude.{IsErr, IsErrOf, IfOk, OnErr};
 ghost use Rattle.octseq.specs.Limit.{IsPast};
 ghost use Rattle.octseq_dns_name.specs.Name.{wire_length};
+ghost use Rattle.octseq_dns_name.specs.Origin.{SpellsWithOrigin, IsRefusedWithOrigin};
 ghost use Rattle.octseq_dns_name.specs.Owned.{owned_labels};
+ghost use Rattle.octseq_dns_name.specs.Read.{labels_of};
 ghost use Rattle.octseq_dns_name.specs.Refused.{IsRefused};
 ghost use Rattle.octseq_dns_name.specs.Spelling.{SpellsName};
 ghost use Rattle.octseq_dns_name.specs.Unfit.{AreUnfit};
 ghost use Rattle.octseq_dns_name.specs.Wire.{wire, AreLabels};
 
 use crate::error::{FromLabelsError, FromTextError};
+use crate::name::ParsedName;
 use crate::name::owned::Name;
-use crate::name::spelling::wire_of;
+use crate::name::spelling::{wire_of, wire_with_origin};
 use crate::name::wire::{append, wire_of_labels};
 use octseq::{Array, AsOctets, EmptyBuilder};
 use std::alloc::{AllocError, Global};
@@ -45,6 +48,28 @@ impl Name<Array<255>> {
         ensures refused { (fault : FromTextError) → IsErrOf result fault ↔ IsRefused fault text.now }
     {
         let octets = wire_of(text.as_bytes())?;
+        Ok(Name { octets })
+    }
+
+    /// Reads the text of a name that may be relative to an origin: RFC 1035, 5.1. It is read as by
+    /// [`from_text`](Self::from_text), but text without a full stop at its end has the origin's labels after its own,
+    /// and `@` alone is the origin. It requests no memory.
+    ///
+    /// # Errors
+    ///
+    /// As `from_text`, but `UnexpectedEnd` only where the text is empty; and `LongName` also at the end of a relative
+    /// name that has more than 255 octets with the origin.
+    pub fn from_text_with_origin<R: AsOctets + Copy>(
+        text: &str,
+        origin: &ParsedName<R>,
+    ) -> Result<Self, FromTextError>
+        ensures ok { IfOk result (λ name. SpellsWithOrigin (labels_of origin.now) (owned_labels name) text.now) }
+        ensures malformed { IsErr result → (labels : List (List ℕ)) → AreLabels labels → wire_length labels ≤ 255
+            → ¬ SpellsWithOrigin (labels_of origin.now) labels text.now }
+        ensures refused { (fault : FromTextError) → IsErrOf result fault
+            ↔ IsRefusedWithOrigin (labels_of origin.now) fault text.now }
+    {
+        let octets = wire_with_origin(text.as_bytes(), origin)?;
         Ok(Name { octets })
     }
 }

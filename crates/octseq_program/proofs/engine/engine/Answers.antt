@@ -1,50 +1,48 @@
-use Rattle.std.proofs.Common.{◌≡◌, List, Option, Some, None, [], refl}
-use Rattle.std.specs.Prelude.{IfSome, unwrap_or}
-use Rattle.octseq_program.specs.declared.status.Status.TheVariants.{Usage}
+use Rattle.std.proofs.Common.{◌≡◌, ◌∙◌}
+use Rattle.octseq_program.proofs.Answering.{on_err, told_help, told_usage, broke_help, broke_usage}
+use Rattle.octseq_program.specs.declared.request.Asked.TheVariants.{Help, Unknown}
 use Rattle.octseq_program.proofs.engine.engine.Goals as goal
 
--- octets that stand in the place of others where those are known
-known : {A : Type 0} (given : Option (List A)) → IfSome given (λ octets. unwrap_or given [] ≡ octets)
-known (Some octets) = refl
-known None = tt
-
--- A word that names no command reads nothing, so any input will do.
-pub returns-in_default-clause-ran : goal.returns-in_default-clause-ran
-returns-in_default-clause-ran g c =
-    let input = unwrap_or (g.R.Read.remaining c.args.reader.now) [] in
-    record {
-      command = None;
-      input = input;
-      output = c.as_bytes.result.now;
-      named = c.in_default.ensures;
-      whole = known (g.R.Read.remaining c.args.reader.now);
-      answered = rw c.as_bytes.ensures.value (c.usage.ensures input);
-      written = c.in_ok-write_all.ensures.ok;
+pub returns-in_err-write_all-in-Help-clause-broke : goal.returns-in_err-write_all-in-Help-clause-broke
+returns-in_err-write_all-in-Help-clause-broke g c =
+    let is : c.as_bytes.result.now ≡ g.C.Commands.help = c.as_bytes.ensures.value ∙ c.help.ensures in
+    let told = rw is at c.write_all.ensures.front in
+    on_err c.from_residual.result record {
+      asked = Help;
+      is_asked = c.in-Help.ensures;
+      breaks_off = broke_help g.C.Commands.out g.C.Commands.help (g.R.Read.remaining c.args.reader.now) _ _
+          (g.E.Write.contents c.args.errors.now) told.0 told.1 told.2;
     }
 
-pub returns-in_err-write_all-clause-front : goal.returns-in_err-write_all-clause-front
-returns-in_err-write_all-clause-front g c = λ _.
-    let input = unwrap_or (g.R.Read.remaining c.args.reader.now) [] in
+pub returns-in_ok-write_all-in-Help-clause-ran : goal.returns-in_ok-write_all-in-Help-clause-ran
+returns-in_ok-write_all-in-Help-clause-ran g c =
+    let is : c.as_bytes.result.now ≡ g.C.Commands.help = c.as_bytes.ensures.value ∙ c.help.ensures in
     record {
-      command = None;
-      input = input;
-      output = c.as_bytes.result.now;
-      status = Usage;
-      front = c.write_all.ensures.front.0;
-      named = c.in_default.ensures;
-      whole = known (g.R.Read.remaining c.args.reader.now);
-      answered = rw c.as_bytes.ensures.value (c.usage.ensures input);
-      begins = c.write_all.ensures.front.1;
-      written = c.write_all.ensures.front.2;
+      asked = Help;
+      is_asked = c.in-Help.ensures;
+      answers = told_help g.C.Commands.out g.C.Commands.help (g.R.Read.remaining c.args.reader.now) _ _
+          (g.E.Write.contents c.args.errors.now) (rw is at c.in_ok-write_all-in-Help.ensures.ok);
     }
 
-pub returns-clause-ran : goal.returns-clause-ran
-returns-clause-ran g c = record {
-  command = Some c.in-Some.command;
-  input = c.in_ok-answer.ensures.ok.input;
-  output = c.as_slice.result.now;
-  named = c.in-Some.ensures;
-  whole = c.in_ok-answer.ensures.ok.whole;
-  answered = rw c.as_slice.ensures.value c.in_ok-answer.ensures.ok.answered;
-  written = c.in_ok-write_all-2.ensures.ok;
-}
+pub returns-in_err-write_all-in-Unknown-clause-broke : goal.returns-in_err-write_all-in-Unknown-clause-broke
+returns-in_err-write_all-in-Unknown-clause-broke g c =
+    let is : c.as_bytes-in-Unknown.result.now ≡ g.C.Commands.help =
+    c.as_bytes-in-Unknown.ensures.value ∙ c.help-in-Unknown.ensures in
+    let told = rw is at c.write_all-in-Unknown.ensures.front in
+    on_err c.from_residual-in_err-write_all-in-Unknown.result record {
+      asked = Unknown;
+      is_asked = c.in-Unknown.ensures;
+      breaks_off = broke_usage g.C.Commands.out g.C.Commands.help (g.R.Read.remaining c.args.reader.now) _ _
+          (g.W.Write.contents c.args.writer.now) told.0 told.1 told.2;
+    }
+
+pub returns-in_ok-write_all-in-Unknown-clause-ran : goal.returns-in_ok-write_all-in-Unknown-clause-ran
+returns-in_ok-write_all-in-Unknown-clause-ran g c =
+    let is : c.as_bytes-in-Unknown.result.now ≡ g.C.Commands.help =
+    c.as_bytes-in-Unknown.ensures.value ∙ c.help-in-Unknown.ensures in
+    record {
+      asked = Unknown;
+      is_asked = c.in-Unknown.ensures;
+      answers = told_usage g.C.Commands.out g.C.Commands.help (g.R.Read.remaining c.args.reader.now) _ _
+          (g.W.Write.contents c.args.writer.now) (rw is at c.in_ok-write_all-in-Unknown.ensures.ok);
+    }

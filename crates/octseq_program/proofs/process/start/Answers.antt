@@ -4,4 +4,4 @@ use Rattle.octseq_program.proofs.process.start.Goals as goal
 
 -- memory refused for the arguments is that of a run of any word
 pub returns-in-Err : goal.returns-in-Err
-returns-in-Err g c = ([], Err Memory, c.exit_code.ensures, tt)
+returns-in-Err g c = ([], Err Memory, c.give_up.ensures, tt)

@@ -1,5 +1,6 @@
 use Rattle.std.proofs.Common.{arith}
-use Rattle.octseq_tool.proofs.Feeding.{fed_nothing, fed_more, fed_all}
+use Rattle.octseq_program.proofs.Answering.{on_err}
+use Rattle.octseq_tool.proofs.Feeding.{fed_nothing, fed_more, fed_all, lost_more}
 use Rattle.octseq_tool.proofs.engine.feed_all.Goals as goal
 
 pub loop-init : goal.loop-init
@@ -17,7 +18,7 @@ returns-then-not-branch-clause-ok g c =
     fed_all given (g.R.Read.remaining c.feed_next.new.reader) c.feed_next.new.pieces
     (fed_more given (g.R.Read.remaining c.loop.reader) (g.R.Read.remaining c.feed_next.new.reader) c.loop.pieces
     c.feed_next.new.pieces
-    said.fed.0 c.loop.invariant.0 said.fed.1 said.fed.2) (said.end c.if-not-branch.true)
+    said.fed.0 c.loop.invariant.0 said.fed.1 said.fed.2)
 
 pub loop-preserved : goal.loop-preserved
 loop-preserved g c =
@@ -28,3 +29,9 @@ loop-preserved g c =
           c.feed_next.new.pieces said.fed.0 c.loop.invariant.0 said.fed.1 said.fed.2,
       before,
     )
+
+pub returns-in_err-feed_next-clause-err : goal.returns-in_err-feed_next-clause-err
+returns-in_err-feed_next-clause-err g c =
+    on_err c.from_residual-in_err-feed_next.result
+    (lost_more (g.R.Read.remaining c.args.reader.now) (g.R.Read.remaining c.loop.reader)
+    (g.R.Read.remaining c.feed_next.new.reader) c.loop.pieces c.loop.invariant.0 c.in_err-feed_next.ensures.err)

@@ -7,8 +7,8 @@ returns-clause-ok g c =
     let parts = c.finish.ensures.splitting fed.0 in
     record {
       input = fed.0;
-      whole = fed.2;
-      answered = (
+      consumed = fed.2;
+      made = (
         parts.0,
         parts.1,
         ap (λ made. made.items) c.into_octets_builder.ensures.same

@@ -3,10 +3,12 @@
 //! `.ci/refused` runs these tests with their n-th request refused, for each n up to the last of them. A refusal
 //! ends a test by the error that it was answered with, once the test has seen that nothing was written.
 use super::engine;
+use crate::engine::Command;
 use octseq::array::Array;
 use octseq_program::hostile::Fixed;
 use octseq_program::{ProgramFault, Status};
 use std::alloc::{AllocError, Global};
+use std::io;
 use std::process::Abort;
 use std::test::Fail;
 
@@ -59,9 +61,17 @@ fn records_tells_all_or_nothing(rt: HostRuntime) -> Result<(), Fail> {
 }
 
 #[test]
-fn another_word_requests_nothing(rt: HostRuntime) -> Result<(), Fail> {
-    let usage = "usage: octseq_tool check|lossy|lossy64|records\n".as_bytes();
-    let status = is_told(&rt, rt.alloc(), "chek", b"a", usage)?;
-    assert_equal!(&rt, status, Status::Usage);
-    Ok(())
+fn another_word_requests_nothing(rt: HostRuntime) {
+    let mut errors = Fixed::<2048> {
+        taken: Array::new(),
+    };
+    let answer = octseq_program::engine::engine::<Command, _, _, _>(
+        rt.alloc(),
+        "chek",
+        &mut b"a".as_slice(),
+        &mut io::sink(),
+        &mut errors,
+    );
+    assert_equal!(&rt, answer, Ok(Status::Usage));
+    assert_true!(&rt, errors.taken.as_slice().len() > 0);
 }

@@ -1,9 +1,10 @@
-use Rattle.std.proofs.Common.{◌+◌, sym, subst}
+use Rattle.std.proofs.Common.{◌+◌, length, sym, subst}
 use Rattle.std.proofs.Math.Logic.{∥∥₁_map}
+use Rattle.octseq.specs.Limit.{IsWithin}
 use Rattle.octseq_dns_compress.specs.Composed.{message_limit}
 use Rattle.octseq_dns.specs.Contents.{record_entry}
 use Rattle.octseq_dns.specs.Pushed.{told}
-use Rattle.octseq_dns.specs.Writes.{IsBuilt, Writes}
+use Rattle.octseq_dns.specs.Writes.{IsBuilt, Writes, least_limit}
 use Rattle.octseq_dns.proofs.Pushed.{pushed, pushed_within}
 use Rattle.octseq_dns.proofs.builder.SectionBuilder.push_record_counted.Goals as goal
 
@@ -50,8 +51,10 @@ returns-clause-within g c =
     let in' = c.self.inside in
     let one = told c.args.owner.now (g.D.ComposeRecordData.rtype_of c.args.rdata.now) c.args.class c.args.ttl
     (g.D.ComposeRecordData.fields c.args.rdata.now) in
-    pushed_within (message_limit g.B.AsOctets.limit) g.T.Compressor.most in'.message.state
+    let limit = message_limit g.B.AsOctets.limit in
+    subst (λ v. IsWithin (least_limit v.push_limit limit) (length c.put_header.new.self.state.octets)) c.self.view_is
+    (pushed_within (least_limit in'.push_limit limit) g.T.Compressor.most in'.message.state
     c.append_record.new.message.state c.put_header.new.self.state in'.header in'.counts (c.in-Some.counts)
     g.S.Section.reaches c.octets_of.result (record_entry one) c.self.invariant
     c.in_default-append_record.ensures.appended.within
-    c.in_default-append_record.ensures.appended.ok c.octets_of.ensures.octets c.put_header.ensures.state
+    c.in_default-append_record.ensures.appended.ok c.octets_of.ensures.octets c.put_header.ensures.state)

@@ -1,4 +1,4 @@
-use Rattle.octseq_dns_message.proofs.Rows.{held_count}
+use Rattle.octseq_dns_data.proofs.Rows.{held_count}
 use Rattle.octseq_dns_message.proofs.message.Message.header_counts.Goals as goal
 
 pub returns-clause-qdcount : goal.returns-clause-qdcount

@@ -1,7 +1,7 @@
 use Rattle.std.proofs.Common.{[], ◌++◌, refl, ap, sym, ◌∙◌, subst, append_assoc, append-nil}
 use Rattle.octseq_dns_message.specs.MessageText.{record_text, line, IsRecordsText}
 use Rattle.octseq_dns_message.specs.Said.{record_of}
-use Rattle.octseq_dns_message.specs.Typed.{rdata_of}
+use Rattle.octseq_dns_data.specs.Typed.{rdata_of}
 use Rattle.octseq_dns_message.specs.Walk.{records_left}
 use Rattle.octseq_dns_message.proofs.MessageTexts.{then_more}
 use Rattle.octseq_dns_message.proofs.message.text.append_records.Goals as goal

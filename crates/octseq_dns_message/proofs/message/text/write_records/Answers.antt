@@ -2,7 +2,7 @@ use Rattle.std.proofs.Common.{rules, [], ◌++◌, refl, sym, subst, append_asso
 use Rattle.std.proofs.Output.{has_written_append, has_written_of_eq}
 use Rattle.octseq_dns_message.specs.MessageText.{record_text, line, IsRecordsText}
 use Rattle.octseq_dns_message.specs.Said.{record_of}
-use Rattle.octseq_dns_message.specs.Typed.{rdata_of}
+use Rattle.octseq_dns_data.specs.Typed.{rdata_of}
 use Rattle.octseq_dns_message.specs.Walk.{records_left}
 use Rattle.octseq_dns_message.proofs.message.text.write_records.Goals as goal
 

@@ -1,10 +1,11 @@
-use Rattle.std.proofs.Common.{◌≡◌, ◌+◌, ◌<◌, ap, sym, subst, rules}
+use Rattle.std.proofs.Common.{◌≡◌, ◌+◌, ◌<◌, ap, length, sym, subst, rules}
 use Rattle.std.proofs.Math.Logic.{∥∥₁_map}
+use Rattle.octseq.specs.Limit.{IsWithin}
 use Rattle.octseq_dns_compress.specs.Composed.{message_limit}
 use Rattle.octseq_dns.specs.Contents.{question_entry}
 use Rattle.octseq_dns.specs.Pushed.{asked}
 use Rattle.octseq_dns.specs.Sections.{takes_questions}
-use Rattle.octseq_dns.specs.Writes.{IsBuilt, UpToQuestions, Writes, more_questions}
+use Rattle.octseq_dns.specs.Writes.{IsBuilt, UpToQuestions, Writes, least_limit, more_questions}
 use Rattle.octseq_dns.proofs.Pushed.{pushed, pushed_within}
 use Rattle.octseq_dns.proofs.builder.questions.QuestionBuilder+B+T.push_question_counted.Goals as goal
 
@@ -48,11 +49,13 @@ pub returns-clause-within : goal.returns-clause-within
 returns-clause-within g c =
     let in' = c.self.inside in
     let one = asked c.args.qname.now c.args.qtype c.args.qclass in
-    pushed_within (message_limit g.B.AsOctets.limit) g.T.Compressor.most in'.message.state
+    let limit = message_limit g.B.AsOctets.limit in
+    subst (λ v. IsWithin (least_limit v.push_limit limit) (length c.put_header.new.self.state.octets)) c.self.view_is
+    (pushed_within (least_limit in'.push_limit limit) g.T.Compressor.most in'.message.state
     c.append_question.new.message.state c.put_header.new.self.state in'.header in'.counts (record in'.counts {
       qdcount
           = c.in-Some.qdcount;
     })
     UpToQuestions c.octets_of.result (question_entry one) c.self.invariant
     c.in_default-append_question.ensures.appended.within
-    c.in_default-append_question.ensures.appended.ok c.octets_of.ensures.octets c.put_header.ensures.state
+    c.in_default-append_question.ensures.appended.ok c.octets_of.ensures.octets c.put_header.ensures.state)

@@ -2,8 +2,8 @@ use Rattle.std.proofs.Common.{subst}
 use Rattle.std.specs.Fmt.{WritesOnOk}
 use Rattle.octseq_dns_message.specs.MessageText.{record_text}
 use Rattle.octseq_dns_message.specs.Said.{record_of}
-use Rattle.octseq_dns_message.specs.Typed.{rdata_of}
-use Rattle.octseq_dns_message.proofs.Rdata.{one_said}
+use Rattle.octseq_dns_data.specs.Typed.{rdata_of}
+use Rattle.octseq_dns_message.proofs.RecordData.{one_said}
 use Rattle.octseq_dns_message.proofs.message.text.RecordDisplay.fmt.Goals as goal
 
 pub returns : goal.returns

@@ -1,0 +1,8 @@
+use Rattle.std.proofs.Common.{subst}
+use Rattle.octseq_dns_data.specs.Data.{FitsForm}
+use Rattle.octseq_dns_data.specs.Typed.{rdata_of}
+use Rattle.octseq_dns.proofs.rdata.DataComposeRecordData.compose.Goals as goal
+
+pub append_value-requires-in-Rrsig : goal.append_value-requires-in-Rrsig
+append_value-requires-in-Rrsig g c =
+    record { fits = subst (λ found. FitsForm (rdata_of found)) c.in-Rrsig.is c.has_octets.ensures }

@@ -1,0 +1,86 @@
+//! Answers to messages that were read: RFC 1035, 4.1.1.
+ghost use Rattle.std.specs.Prelude.{◌≡◌, ◌⊎◌, length, true, IfOk};
+ghost use Rattle.octseq.specs.Limit.{IsPast, IsWithin};
+ghost use Rattle.octseq.specs.Refusal.{IsShort, IsMemory, append_error};
+ghost use Rattle.octseq_dns_compress.specs.Composed.{message_limit};
+ghost use Rattle.octseq_dns.specs.Answering.{answer_header, answer_to};
+ghost use Rattle.octseq_dns.specs.Contents.{octets_of};
+ghost use Rattle.octseq_dns.specs.Writes.{Writes, least_limit};
+
+use crate::builder::{AnswerBuilder, MessageBuilder};
+use crate::rewriting::push_questions;
+use octseq::builder::AsOctetsMut;
+use octseq::utf8::Turns;
+use octseq::{AppendError, AsOctets, OctetsBuilder, Truncate};
+use octseq_dns_compress::Compressor;
+use octseq_dns_data::Rcode;
+use octseq_dns_message::{Flags, Header, Message};
+
+impl<B: OctetsBuilder + Truncate + AsOctetsMut, T: Compressor> MessageBuilder<B, T> {
+    /// Begins an answer to a message, and goes on with its answers. The header has the message's number, its opcode and
+    /// its flag RD, the flag QR, the response code and no other flag: RFC 1035, 4.1.1. The questions are those of the
+    /// message, with their names octet for octet.
+    ///
+    /// # Errors
+    ///
+    /// `Short` where the message with its questions would pass the limit of pushes, that of the builder's type or
+    /// 65,535 octets, and `Memory` where a request for memory was refused. The builder is then dropped.
+    ///
+    /// # Examples
+    ///
+    /// ```
+    /// // crates/octseq_dns_tests/src/tests/dns_answers.rt
+    /// let request = Message::parse(request)?;
+    /// let message = MessageBuilder::from_builder(Array::<64>::new(), Table::new())?;
+    /// let answers = message.start_answer(&request, rcode)?;
+    /// Ok(answers.authority().additional().finish().0)
+    /// ```
+    pub fn start_answer<R: AsOctets + Copy>(
+        self,
+        message: &Message<R>,
+        rcode: Rcode,
+    ) -> Result<AnswerBuilder<B, T>, AppendError>
+        ensures written { IfOk result (λ b.
+            Writes T.most (answer_to message.now rcode) b.state b.header b.counts) }
+        ensures fits { let limit = least_limit self.push_limit (message_limit B.limit) in
+            IfOk result (λ b. IsWithin limit (length self.state.octets) → IsWithin limit (length b.state.octets)) }
+        ensures push_limit { IfOk result (λ b. b.push_limit ≡ self.push_limit) }
+        ensures has_opt { IfOk result (λ b. b.has_opt ≡ self.has_opt) }
+        ensures short { IsShort append_error result → IsPast (least_limit self.push_limit (message_limit B.limit))
+            (length (octets_of T.most (answer_to message.now rcode))) }
+        ensures memory { IsMemory append_error result → (B.asks ≡ true) ⊎ (T.asks ≡ true) }
+        ensures borrows { IfOk result (λ b. B.borrows b.octets ≡ B.borrows self.octets) }
+    {
+        let _counts = message.header_counts();
+        self.is_built();
+        let mut builder = self;
+        builder.set_header(answer_header(&message.header(), rcode));
+        let mut turns = Turns::new();
+        let asked = match push_questions(builder.question(), message.questions(), &mut turns) {
+            Ok(asked) => asked,
+            Err(error) => return Err(error),
+        };
+        Ok(asked.answer())
+    }
+}
+
+/// The header of an answer.
+fn answer_header(asked: &Header, rcode: Rcode) -> Header
+    ensures { result ≡ answer_header asked.now rcode }
+{
+    Header {
+        id: asked.id,
+        flags: Flags {
+            qr: true,
+            aa: false,
+            tc: false,
+            rd: asked.flags.rd,
+            ra: false,
+            z: false,
+            ad: false,
+            cd: false,
+        },
+        opcode: asked.opcode,
+        rcode,
+    }
+}

@@ -1,0 +1,175 @@
+//! Data of type TXT that is made of strings, or of one text: RFC 1035, 3.3 and 3.3.14.
+ghost use Rattle.std.specs.Prelude.{◌≡◌, ◌↔◌, ℕ, ◌+◌, ◌++◌, ◌≤◌, true, List, length, map, IsTrue, OnOk, OnErr};
+ghost use Rattle.octseq.specs.Appends.{Appends};
+ghost use Rattle.octseq.specs.Limit.{IsPast};
+ghost use Rattle.octseq.specs.Part.{part_of};
+ghost use Rattle.octseq.specs.Refusal.{IsMalformed, IsMemory, IsShort, append_error, write_error};
+ghost use Rattle.octseq.specs.Window.{Window, whole};
+ghost use Rattle.octseq_dns_data.specs.Data.{HasStrings};
+ghost use Rattle.octseq_dns_data.specs.Strings.{spelling};
+ghost use Rattle.octseq_dns.specs.TxtWritten.{AreStrings, strings_of_text};
+
+use octseq::compose::{ComposeError, append_part_u8};
+use octseq::error::WriteError;
+use octseq::{AppendError, OctetsBuilder, ShortBuf, Truncate};
+
+/// How many octets a string may have: RFC 1035, 3.3.
+const STRING_MAX: usize = 255;
+
+/// Appends data of type TXT that is these strings, whole or not at all: each after its length, which has one octet.
+/// [`Txt::from_octets`](octseq_dns_data::data::Txt::from_octets) reads them.
+///
+/// # Errors
+///
+/// `Malformed` exactly where there is no string, or one has more than 255 octets. Else `Short` where the content would
+/// pass the limit of its type, and `Memory` where a request for memory was refused. The content is then as it was.
+///
+/// # Examples
+///
+/// ```
+/// // crates/octseq_dns_tests/src/tests/dns_answers.rt
+/// let mut octets = Array::<6>::new();
+/// append_strings(&mut octets, &[b"a".as_slice(), b"", b"bc"])?;
+/// assert_equal!(&rt, octets.as_slice(), b"\x01a\0\x02bc".as_slice());
+/// let txt = Txt::from_octets(octets.as_slice())?;
+/// ```
+pub fn append_strings<B: OctetsBuilder + Truncate>(
+    octets: &mut B,
+    strings: &[&[u8]],
+) -> Result<(), WriteError>
+    ensures ok { OnOk result (B.content octets.new
+        ≡ B.content octets.old ++ spelling (map (λ string. string.now) strings.now)) }
+    ensures err { OnErr result (B.content octets.new ≡ B.content octets.old) }
+    ensures fits { OnOk result (¬ IsPast B.limit
+        (length (B.content octets.old) + length (spelling (map (λ string. string.now) strings.now)))) }
+    ensures malformed { IsMalformed write_error result ↔ ¬ AreStrings (map (λ string. string.now) strings.now) }
+    ensures short { IsShort write_error result → IsPast B.limit
+        (length (B.content octets.old) + length (spelling (map (λ string. string.now) strings.now))) }
+    ensures memory { IsMemory write_error result → B.asks ≡ true }
+    ensures borrows { B.borrows octets.new ≡ B.borrows octets.old }
+{
+    if !are_strings(strings) {
+        return Err(WriteError::Malformed);
+    }
+    match append_each(octets, strings) {
+        Ok(()) => Ok(()),
+        Err(AppendError::Short(_)) => Err(WriteError::Short),
+        Err(AppendError::Memory) => Err(WriteError::Memory),
+    }
+}
+
+/// Appends data of type TXT that is a text: strings of 255 octets, and one of what is left. A text of no octet is an
+/// empty string. [`Txt::from_octets`](octseq_dns_data::data::Txt::from_octets) reads them.
+///
+/// # Errors
+///
+/// `Short` where the content would pass the limit of its type, and `Memory` where a request for memory was refused. The
+/// content is then as it was.
+///
+/// # Examples
+///
+/// ```
+/// // crates/octseq_dns_tests/src/tests/dns_answers.rt
+/// let mut octets = Array::<700>::new();
+/// append_text(&mut octets, text)?;
+/// assert_equal!(rt, octets.len(), len + wanted.len());
+/// let txt = Txt::from_octets(octets.as_slice())?;
+/// ```
+pub fn append_text<B: OctetsBuilder + Truncate>(
+    octets: &mut B,
+    text: &[u8],
+) -> Result<(), AppendError>
+    ensures ok { OnOk result (B.content octets.new
+        ≡ B.content octets.old ++ spelling (strings_of_text text.now)) }
+    ensures err { OnErr result (B.content octets.new ≡ B.content octets.old) }
+    ensures fits { OnOk result (¬ IsPast B.limit
+        (length (B.content octets.old) + length (spelling (strings_of_text text.now)))) }
+    ensures strings { AreStrings (strings_of_text text.now) }
+    ensures short { IsShort append_error result → IsPast B.limit
+        (length (B.content octets.old) + length (spelling (strings_of_text text.now))) }
+    ensures memory { IsMemory append_error result → B.asks ≡ true }
+    ensures borrows { B.borrows octets.new ≡ B.borrows octets.old }
+{
+    let start = octets.len();
+    let mut left = text;
+    while left.len() > STRING_MAX {
+        let (string, rest) = left.split_at(STRING_MAX);
+        if let Err(error) = append_string(octets, string) {
+            octets.truncate(start);
+            return Err(error);
+        }
+        left = rest;
+    }
+    if let Err(error) = append_string(octets, left) {
+        octets.truncate(start);
+        return Err(error);
+    }
+    Ok(())
+}
+
+/// Strings that were written are read as those strings: `Txt::from_octets` answers them.
+///
+/// It does nothing. A caller that calls it has the law in its proof.
+pub fn strings_are_read_as_written()
+    ensures { (strings : List (List ℕ)) → AreStrings strings → (end : Window)
+        × HasStrings (whole (spelling strings)) strings end × (end.position ≡ length (spelling strings)) }
+{}
+
+/// Whether strings are data of type TXT.
+fn are_strings(strings: &[&[u8]]) -> bool
+    ensures { IsTrue result ↔ AreStrings (map (λ string. string.now) strings.now) }
+{
+    if strings.is_empty() {
+        return false;
+    }
+    for string in strings {
+        if string.len() > STRING_MAX {
+            return false;
+        }
+    }
+    true
+}
+
+/// Appends strings that are data of type TXT, whole or not at all.
+fn append_each<B: OctetsBuilder + Truncate>(
+    octets: &mut B,
+    strings: &[&[u8]],
+) -> Result<(), AppendError>
+    requires { AreStrings (map (λ string. string.now) strings.now) }
+    ensures ok { OnOk result (B.content octets.new
+        ≡ B.content octets.old ++ spelling (map (λ string. string.now) strings.now)) }
+    ensures err { OnErr result (B.content octets.new ≡ B.content octets.old) }
+    ensures fits { OnOk result (¬ IsPast B.limit
+        (length (B.content octets.old) + length (spelling (map (λ string. string.now) strings.now)))) }
+    ensures short { IsShort append_error result → IsPast B.limit
+        (length (B.content octets.old) + length (spelling (map (λ string. string.now) strings.now))) }
+    ensures memory { IsMemory append_error result → B.asks ≡ true }
+    ensures borrows { B.borrows octets.new ≡ B.borrows octets.old }
+{
+    let start = octets.len();
+    for string in strings {
+        if let Err(error) = append_string(octets, string) {
+            octets.truncate(start);
+            return Err(error);
+        }
+    }
+    Ok(())
+}
+
+/// Appends a string after its length.
+fn append_string<B: OctetsBuilder + Truncate>(
+    octets: &mut B,
+    string: &[u8],
+) -> Result<(), AppendError>
+    requires { length string.now ≤ 255 }
+    ensures appended { Appends B.limit B.asks result (part_of 1 string.now)
+        (B.content octets.old) (B.content octets.new) }
+    ensures borrows { B.borrows octets.new ≡ B.borrows octets.old }
+{
+    match append_part_u8(octets, string) {
+        Ok(()) => Ok(()),
+        Err(ComposeError::Short) => Err(AppendError::Short(ShortBuf)),
+        Err(ComposeError::Memory) => Err(AppendError::Memory),
+        Err(ComposeError::TooLong) => unreachable!(),
+    }
+}

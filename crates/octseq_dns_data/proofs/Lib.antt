@@ -1,0 +1,16 @@
+pub mod BaseLaws
+pub mod BaseTexts
+pub mod Members
+pub mod Mnemonics
+pub mod Params
+pub mod Pieces
+pub mod PlainNames
+pub mod Rdata
+pub mod Rows
+pub mod RtypeBitmaps
+pub mod RtypeBitmapsMade
+pub mod RtypeOrder
+pub mod Strings
+pub mod SvcParamsTexts
+pub mod Texts
+pub mod Windows

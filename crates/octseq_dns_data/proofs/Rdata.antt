@@ -1,0 +1,463 @@
+-- The form of data follows from its type: what is there by each type, and where no form is.
+use Rattle.std.proofs.Common.{◌≡◌, ◌⊎◌, ℕ, true, false, if◌then◌else◌, nat_eq, refl, sym, ap, ◌∙◌, subst, arith}
+use Rattle.std.proofs.Math.Bool.{true≢false}
+use mathlib.Core.Logic.{inl, inr}
+use Rattle.octseq.specs.Window.{Window}
+use Rattle.octseq_dns_data.specs.Data.{ParsedRdata, Mx, Soa, Srv, Naptr, HasRdata, HasOctets, HasString, HasStrings}
+use Rattle.octseq_dns_data.specs.Data.{HasMx, HasSoa, HasSrv, HasNaptr, IsInMessage, IsTypedData, SaysData}
+use Rattle.octseq_dns_data.specs.Data.{is_in_message, naptr_form, naptr_parts, rtype_of}
+use Rattle.octseq_dns_data.specs.Local.{LocalType, IsLocal, IsOfClass, IsWhole, form, local_number}
+use Rattle.octseq_dns_data.specs.Format.{IsNumber}
+use Rattle.octseq_dns_name.specs.Name.{Name, HasName}
+use Rattle.octseq_dns_name.specs.NameFormat.{one_named}
+use Rattle.octseq_dns_data.specs.Format.{one_number}
+use Rattle.octseq_dns_data.specs.OneRow.{one_row_at, string_item}
+use Rattle.octseq_format.specs.Fixed.{one_fixed}
+use Rattle.octseq_format.specs.Laws.{Relation, IsOne, NoneAt, one_by}
+use Rattle.octseq_format.specs.Pair.{◌then◌, ◌one_then◌}
+
+-- ---- each form is of one type
+
+-- the types that have a form here
+pub data Kind : Type 0 where
+  of_a : Kind
+  of_aaaa : Kind
+  of_ns : Kind
+  of_cname : Kind
+  of_ptr : Kind
+  of_mx : Kind
+  of_soa : Kind
+  of_txt : Kind
+  of_srv : Kind
+  of_naptr : Kind
+
+abbrev pub number : Kind → ℕ
+number Kind.of_a = 1
+number Kind.of_aaaa = 28
+number Kind.of_ns = 2
+number Kind.of_cname = 5
+number Kind.of_ptr = 12
+number Kind.of_mx = 15
+number Kind.of_soa = 6
+number Kind.of_txt = 16
+number Kind.of_srv = 33
+number Kind.of_naptr = 35
+
+-- their numbers differ
+abbrev kind_of : ℕ → Kind
+kind_of n = if nat_eq n 1 then Kind.of_a else if nat_eq n 28 then Kind.of_aaaa
+    else if nat_eq n 2 then Kind.of_ns else if nat_eq n 5 then Kind.of_cname
+    else if nat_eq n 12 then Kind.of_ptr else if nat_eq n 15 then Kind.of_mx
+    else if nat_eq n 6 then Kind.of_soa else if nat_eq n 16 then Kind.of_txt
+    else if nat_eq n 33 then Kind.of_srv else Kind.of_naptr
+
+kind_again : (k : Kind) → kind_of (number k) ≡ k
+kind_again Kind.of_a = refl
+kind_again Kind.of_aaaa = refl
+kind_again Kind.of_ns = refl
+kind_again Kind.of_cname = refl
+kind_again Kind.of_ptr = refl
+kind_again Kind.of_mx = refl
+kind_again Kind.of_soa = refl
+kind_again Kind.of_txt = refl
+kind_again Kind.of_srv = refl
+kind_again Kind.of_naptr = refl
+
+one_kind : (k l : Kind) → number k ≡ number l → k ≡ l
+one_kind k l same = sym (kind_again k) ∙ ap kind_of same ∙ kind_again l
+
+-- a form that is made of what is there
+abbrev pub Made : {A : Type 0} → (A → ParsedRdata) → Relation A → Relation ParsedRdata
+Made {A} make Has w rdata v = (one : A) × (rdata ≡ make one) × Has w one v
+
+-- the form of each type
+abbrev pub Shape : Kind → Relation ParsedRdata
+Shape Kind.of_a = Made ParsedRdata.a (HasOctets 4)
+Shape Kind.of_aaaa = Made ParsedRdata.aaaa (HasOctets 16)
+Shape Kind.of_ns = Made ParsedRdata.ns HasName
+Shape Kind.of_cname = Made ParsedRdata.cname HasName
+Shape Kind.of_ptr = Made ParsedRdata.ptr HasName
+Shape Kind.of_mx = Made ParsedRdata.mx HasMx
+Shape Kind.of_soa = Made ParsedRdata.soa HasSoa
+Shape Kind.of_txt = Made ParsedRdata.txt HasStrings
+Shape Kind.of_srv = Made ParsedRdata.srv HasSrv
+Shape Kind.of_naptr = Made ParsedRdata.naptr HasNaptr
+
+shape_of : (rtype class : ℕ) (w v : Window) (rdata : ParsedRdata) → HasRdata rtype class w rdata v → (k : Kind)
+    × (rtype ≡ number k) × Shape k w rdata v
+shape_of rtype class w v (ParsedRdata.a x) is = (Kind.of_a, is.0, (x, refl, is.2))
+shape_of rtype class w v (ParsedRdata.aaaa x) is = (Kind.of_aaaa, is.0, (x, refl, is.2))
+shape_of rtype class w v (ParsedRdata.ns x) is = (Kind.of_ns, is.0, (x, refl, is.1))
+shape_of rtype class w v (ParsedRdata.cname x) is = (Kind.of_cname, is.0, (x, refl, is.1))
+shape_of rtype class w v (ParsedRdata.ptr x) is = (Kind.of_ptr, is.0, (x, refl, is.1))
+shape_of rtype class w v (ParsedRdata.mx x) is = (Kind.of_mx, is.0, (x, refl, is.1))
+shape_of rtype class w v (ParsedRdata.soa x) is = (Kind.of_soa, is.0, (x, refl, is.1))
+shape_of rtype class w v (ParsedRdata.txt x) is = (Kind.of_txt, is.0, (x, refl, is.1))
+shape_of rtype class w v (ParsedRdata.srv x) is = (Kind.of_srv, is.0, (x, refl, is.2))
+shape_of rtype class w v (ParsedRdata.naptr x) is = (Kind.of_naptr, is.0, (x, refl, is.2))
+shape_of rtype class w v (ParsedRdata.local k x) is = absurd is
+shape_of rtype class w v (ParsedRdata.unknown other x) is = absurd is
+
+-- data of a type has that type's form
+pub shape_by : (k : Kind) (rtype class : ℕ) (w v : Window) (rdata : ParsedRdata) → rtype ≡ number k
+    → HasRdata rtype class w rdata v → Shape k w rdata v
+shape_by k rtype class w v rdata of is =
+    let found = shape_of rtype class w v rdata is in
+    subst (λ l. Shape l w rdata v) (one_kind found.0 k (sym found.1 ∙ of)) found.2
+
+-- ---- where no form is
+
+-- no mail exchange is where a number of 2 octets and a name after it aren't
+pub no_mx : (w : Window) → NoneAt (IsNumber 2 then HasName) w → NoneAt HasMx w
+no_mx w none mx v is = none (mx.preference, mx.exchange) v is
+
+-- no place of a service is where three numbers of 2 octets and a name after them aren't
+pub no_srv : (w : Window) → NoneAt (IsNumber 2 then IsNumber 2 then IsNumber 2 then HasName) w → NoneAt HasSrv w
+no_srv w none srv v is = none (srv.priority, (srv.weight, (srv.port, srv.target))) v is
+
+-- no naming authority pointer is where its parts aren't
+pub no_naptr : (w : Window) → NoneAt naptr_form.Is w → NoneAt HasNaptr w
+no_naptr w none naptr v is = none (naptr_parts naptr) v is
+
+-- no start of a zone of authority is where two names and five numbers of 4 octets after them aren't
+pub no_soa : (w : Window)
+    → NoneAt (HasName then HasName then IsNumber 4 then IsNumber 4 then IsNumber 4 then IsNumber 4 then IsNumber 4) w
+    → NoneAt HasSoa w
+no_soa w none soa v is =
+    none (soa.mname, (soa.rname, (soa.serial, (soa.refresh, (soa.retry, (soa.expire, soa.minimum)))))) v is
+
+-- none of a type, where its form isn't
+pub none_by : (k : Kind) (rtype class : ℕ) (w : Window) → rtype ≡ number k → NoneAt (Shape k) w
+    → NoneAt (HasRdata rtype class) w
+none_by k rtype class w of none rdata v is = none rdata v (shape_by k rtype class w v rdata of is)
+
+-- no form that is made of a thing is where no such thing is
+pub none_made : {A : Type 0} (make : A → ParsedRdata) (Has : Relation A) (w : Window) → NoneAt Has w
+    → NoneAt (Made make Has) w
+none_made make Has w none rdata v is = none is.0 v is.2
+
+-- ---- at most one is at a place
+
+one_mx : IsOne HasMx
+one_mx = one_by (λ (mx : Mx). (mx.preference, mx.exchange)) (λ c. record { preference = c.0; exchange = c.1 })
+    (λ _. refl) (one_number 2 one_then one_named)
+
+one_srv : IsOne HasSrv
+one_srv = one_by (λ (srv : Srv). (srv.priority, (srv.weight, (srv.port, srv.target))))
+    (λ c. record { priority = c.0; weight = c.1.0; port = c.1.1.0; target = c.1.1.1 }) (λ _. refl)
+    (one_number 2 one_then one_number 2 one_then one_number 2 one_then one_named)
+
+abbrev pub naptr_from : ℕ × (ℕ × (Window × (Window × (Window × Name)))) → Naptr
+naptr_from naptr = record {
+  order = naptr.0;
+  preference = naptr.1.0;
+  flags = naptr.1.1.0;
+  services = naptr.1.1.1.0;
+  regexp = naptr.1.1.1.1.0;
+  replacement = naptr.1.1.1.1.1;
+}
+
+one_naptr : IsOne HasNaptr
+one_naptr = one_by naptr_parts naptr_from (λ _. refl) naptr_form.one
+
+abbrev soa_from : Name × (Name × (ℕ × (ℕ × (ℕ × (ℕ × ℕ))))) → Soa
+soa_from soa = record {
+  mname = soa.0;
+  rname = soa.1.0;
+  serial = soa.1.1.0;
+  refresh = soa.1.1.1.0;
+  retry = soa.1.1.1.1.0;
+  expire = soa.1.1.1.1.1.0;
+  minimum = soa.1.1.1.1.1.1;
+}
+
+one_times : IsOne (IsNumber 4 then IsNumber 4 then IsNumber 4 then IsNumber 4 then IsNumber 4)
+one_times = one_number 4 one_then one_number 4 one_then one_number 4 one_then one_number 4 one_then one_number 4
+
+one_soa : IsOne HasSoa
+one_soa = one_by
+    (λ (soa : Soa). (soa.mname, (soa.rname, (soa.serial, (soa.refresh, (soa.retry, (soa.expire, soa.minimum)))))))
+    soa_from (λ _. refl) (one_named one_then one_named one_then one_times)
+
+one_made : {A : Type 0} (make : A → ParsedRdata) (Has : Relation A) → IsOne Has → IsOne (Made make Has)
+one_made make Has one = record {
+  same = λ w rdata other u v a b.
+      let it = one.same w a.0 b.0 u v a.2 b.2 in
+      (a.1 ∙ ap make it.0 ∙ sym b.1, it.1);
+}
+
+-- of any type but TXT
+one_shape : (k : Kind) → (number k ≡ 16 → ⊥) → IsOne (Shape k)
+one_shape Kind.of_a other_type = one_made ParsedRdata.a (HasOctets 4) (one_fixed 4 (λ octets. octets))
+one_shape Kind.of_aaaa other_type = one_made ParsedRdata.aaaa (HasOctets 16) (one_fixed 16 (λ octets. octets))
+one_shape Kind.of_ns other_type = one_made ParsedRdata.ns HasName one_named
+one_shape Kind.of_cname other_type = one_made ParsedRdata.cname HasName one_named
+one_shape Kind.of_ptr other_type = one_made ParsedRdata.ptr HasName one_named
+one_shape Kind.of_mx other_type = one_made ParsedRdata.mx HasMx one_mx
+one_shape Kind.of_soa other_type = one_made ParsedRdata.soa HasSoa one_soa
+one_shape Kind.of_txt other_type = absurd (other_type refl)
+one_shape Kind.of_srv other_type = one_made ParsedRdata.srv HasSrv one_srv
+one_shape Kind.of_naptr other_type = one_made ParsedRdata.naptr HasNaptr one_naptr
+
+-- of TXT, where they end at one place
+one_text : (w u v : Window) (rdata other : ParsedRdata) → u.position ≡ v.position → Shape Kind.of_txt w rdata u
+    → Shape Kind.of_txt w other v → rdata ≡ other
+one_text w u v rdata other same a b =
+    a.1 ∙ ap ParsedRdata.txt (one_row_at HasString string_item w u v a.0 b.0 same a.2.1 b.2.1) ∙ sym b.1
+
+one_ending : (k : Kind) (w u v : Window) (rdata other : ParsedRdata) → u.position ≡ v.position → Shape k w rdata u
+    → Shape k w other v → rdata ≡ other
+one_ending Kind.of_txt w u v rdata other same a b = one_text w u v rdata other same a b
+one_ending k w u v rdata other same a b = ((one_shape k (λ is. omega (arith, is))).same w rdata other u v a b).0
+
+-- so data in a message has one form at most
+one_in_message : (rtype class : ℕ) (w inside : Window) (rdata other : ParsedRdata)
+    → IsInMessage rtype class w inside rdata → IsInMessage rtype class w inside other → rdata ≡ other
+one_in_message rtype class w inside rdata other a b =
+    let found = shape_of rtype class w a.end rdata a.rdata_is in
+    one_ending found.0 w a.end b.end rdata other (a.ends ∙ sym b.ends) found.2
+    (shape_by found.0 rtype class w b.end other found.1 b.rdata_is)
+
+-- a form that is there is of the type
+typed_rtype : (rtype class : ℕ) (w v : Window) (rdata : ParsedRdata) → HasRdata rtype class w rdata v
+    → rtype_of rdata ≡ rtype
+typed_rtype rtype class w v (ParsedRdata.a x) is = sym is.0
+typed_rtype rtype class w v (ParsedRdata.aaaa x) is = sym is.0
+typed_rtype rtype class w v (ParsedRdata.ns x) is = sym is.0
+typed_rtype rtype class w v (ParsedRdata.cname x) is = sym is.0
+typed_rtype rtype class w v (ParsedRdata.ptr x) is = sym is.0
+typed_rtype rtype class w v (ParsedRdata.mx x) is = sym is.0
+typed_rtype rtype class w v (ParsedRdata.soa x) is = sym is.0
+typed_rtype rtype class w v (ParsedRdata.txt x) is = sym is.0
+typed_rtype rtype class w v (ParsedRdata.srv x) is = sym is.0
+typed_rtype rtype class w v (ParsedRdata.naptr x) is = sym is.0
+typed_rtype rtype class w v (ParsedRdata.local k x) is = absurd is
+typed_rtype rtype class w v (ParsedRdata.unknown other x) is = absurd is
+
+-- ---- data by itself
+
+-- the numbers of these types differ
+abbrev local_of : ℕ → LocalType
+local_of n = if nat_eq n 13 then LocalType.hinfo else if nat_eq n 39 then LocalType.dname else
+    if nat_eq n 43 then LocalType.ds else if nat_eq n 44 then LocalType.sshfp else
+    if nat_eq n 46 then LocalType.rrsig else if nat_eq n 47 then LocalType.nsec else
+    if nat_eq n 48 then LocalType.dnskey else if nat_eq n 50 then LocalType.nsec3 else
+    if nat_eq n 51 then LocalType.nsec3param else if nat_eq n 52 then LocalType.tlsa else
+    if nat_eq n 53 then LocalType.smimea else if nat_eq n 59 then LocalType.cds else
+    if nat_eq n 60 then LocalType.cdnskey else if nat_eq n 257 then LocalType.caa else
+    if nat_eq n 64 then LocalType.svcb else if nat_eq n 65 then LocalType.https else LocalType.uri
+
+local_again : (k : LocalType) → local_of (local_number k) ≡ k
+local_again LocalType.hinfo = refl
+local_again LocalType.dname = refl
+local_again LocalType.ds = refl
+local_again LocalType.sshfp = refl
+local_again LocalType.rrsig = refl
+local_again LocalType.nsec = refl
+local_again LocalType.dnskey = refl
+local_again LocalType.nsec3 = refl
+local_again LocalType.nsec3param = refl
+local_again LocalType.tlsa = refl
+local_again LocalType.smimea = refl
+local_again LocalType.cds = refl
+local_again LocalType.cdnskey = refl
+local_again LocalType.caa = refl
+local_again LocalType.svcb = refl
+local_again LocalType.https = refl
+local_again LocalType.uri = refl
+
+one_local_type : (k l : LocalType) → local_number k ≡ local_number l → k ≡ l
+one_local_type k l same = sym (local_again k) ∙ ap local_of same ∙ local_again l
+
+-- none of them is read in the message
+not_in_message : (k : LocalType) → is_in_message (local_number k) ≡ false
+not_in_message LocalType.hinfo = refl
+not_in_message LocalType.dname = refl
+not_in_message LocalType.ds = refl
+not_in_message LocalType.sshfp = refl
+not_in_message LocalType.rrsig = refl
+not_in_message LocalType.nsec = refl
+not_in_message LocalType.dnskey = refl
+not_in_message LocalType.nsec3 = refl
+not_in_message LocalType.nsec3param = refl
+not_in_message LocalType.tlsa = refl
+not_in_message LocalType.smimea = refl
+not_in_message LocalType.cds = refl
+not_in_message LocalType.cdnskey = refl
+not_in_message LocalType.caa = refl
+not_in_message LocalType.svcb = refl
+not_in_message LocalType.https = refl
+not_in_message LocalType.uri = refl
+
+-- the others are
+kind_in_message : (k : Kind) → is_in_message (number k) ≡ true
+kind_in_message Kind.of_a = refl
+kind_in_message Kind.of_aaaa = refl
+kind_in_message Kind.of_ns = refl
+kind_in_message Kind.of_cname = refl
+kind_in_message Kind.of_ptr = refl
+kind_in_message Kind.of_mx = refl
+kind_in_message Kind.of_soa = refl
+kind_in_message Kind.of_txt = refl
+kind_in_message Kind.of_srv = refl
+kind_in_message Kind.of_naptr = refl
+
+-- one thing of a form takes a window whole
+one_whole : (k l : LocalType) (a : (form k).Found) (b : (form l).Found) (w : Window) → k ≡ l
+    → IsWhole (form k).Is w a → IsWhole (form l).Is w b → ParsedRdata.local k a ≡ ParsedRdata.local l b
+one_whole k l a b w same here there =
+    subst (λ (l : LocalType). (b : (form l).Found) → IsWhole (form l).Is w b
+    → ParsedRdata.local k a ≡ ParsedRdata.local l b) same
+    (λ b there. ap (ParsedRdata.local k) ((form k).one.same w a b _ _ here there).0) b there
+
+one_local : (rtype class : ℕ) (w : Window) (k l : LocalType) (a : (form k).Found) (b : (form l).Found)
+    → IsLocal rtype class w k a → IsLocal rtype class w l b → ParsedRdata.local k a ≡ ParsedRdata.local l b
+one_local rtype class w k l a b here there =
+    one_whole k l a b w (one_local_type k l (sym here.rtype_is ∙ there.rtype_is)) here.whole there.whole
+
+-- data of one of these types isn't read in the message
+pub apart : (rtype class : ℕ) (w inside : Window) (rdata : ParsedRdata) (k : LocalType) → rtype ≡ local_number k
+    → IsInMessage rtype class w inside rdata → ⊥
+apart rtype class w inside rdata k is there =
+    let found = shape_of rtype class w there.end rdata there.rdata_is in
+    true≢false (sym (kind_in_message found.0) ∙ ap is_in_message (sym found.1 ∙ is) ∙ not_in_message k)
+
+-- nor by itself where it is read in the message
+pub none_by_itself : (rtype class : ℕ) (inside : Window) → is_in_message rtype ≡ true → (k : LocalType)
+    (found : (form k).Found) → IsLocal rtype class inside k found → ⊥
+none_by_itself rtype class inside told k found is =
+    true≢false (sym told ∙ ap is_in_message is.rtype_is ∙ not_in_message k)
+
+pub none_in_message : (rtype class : ℕ) (w inside : Window) → is_in_message rtype ≡ false → (rdata : ParsedRdata)
+    → IsInMessage rtype class w inside rdata → ⊥
+none_in_message rtype class w inside told rdata is =
+    let found = shape_of rtype class w is.end rdata is.rdata_is in
+    true≢false (sym (kind_in_message found.0) ∙ ap is_in_message (sym found.1) ∙ told)
+
+-- none of another type is where one of a type isn't
+pub none_local : (k : LocalType) (rtype class : ℕ) (inside : Window) → rtype ≡ local_number k
+    → ((found : (form k).Found) → IsWhole (form k).Is inside found → ⊥) → (l : LocalType) (found : (form l).Found)
+    → IsLocal rtype class inside l found → ⊥
+none_local k rtype class inside of none l found is =
+    subst (λ (l : LocalType). (found : (form l).Found) → IsWhole (form l).Is inside found → ⊥)
+    (one_local_type k l (sym of ∙ is.rtype_is)) none found is.whole
+
+-- nor where one isn't that is of some classes alone
+pub none_local_of : (k : LocalType) (rtype class : ℕ) (inside : Window) → rtype ≡ local_number k
+    → ((found : (form k).Found) → IsOfClass k class → IsWhole (form k).Is inside found → ⊥) → (l : LocalType)
+    (found : (form l).Found) → IsLocal rtype class inside l found → ⊥
+none_local_of k rtype class inside of none l found is =
+    subst (λ (l : LocalType). (found : (form l).Found) → IsOfClass l class → IsWhole (form l).Is inside found → ⊥)
+    (one_local_type k l (sym of ∙ is.rtype_is)) none found is.class_is is.whole
+
+-- ---- data
+
+-- it is in the message or by itself
+abbrev pub IsEither : (rtype class : ℕ) (w inside : Window) → ParsedRdata → Type 0
+IsEither rtype class w inside rdata = IsInMessage rtype class w inside rdata
+    ⊎ ((k : LocalType) × (found : (form k).Found) × (rdata ≡ ParsedRdata.local k found)
+    × IsLocal rtype class inside k found)
+
+pub either : (rtype class : ℕ) (w inside : Window) (rdata : ParsedRdata) → IsTypedData rtype class w inside rdata
+    → IsEither rtype class w inside rdata
+either rtype class w inside (ParsedRdata.a x) is = inl is
+either rtype class w inside (ParsedRdata.aaaa x) is = inl is
+either rtype class w inside (ParsedRdata.ns x) is = inl is
+either rtype class w inside (ParsedRdata.cname x) is = inl is
+either rtype class w inside (ParsedRdata.ptr x) is = inl is
+either rtype class w inside (ParsedRdata.mx x) is = inl is
+either rtype class w inside (ParsedRdata.soa x) is = inl is
+either rtype class w inside (ParsedRdata.txt x) is = inl is
+either rtype class w inside (ParsedRdata.srv x) is = inl is
+either rtype class w inside (ParsedRdata.naptr x) is = inl is
+either rtype class w inside (ParsedRdata.local k found) is = inr (k, found, refl, is)
+either rtype class w inside (ParsedRdata.unknown other x) is = inl is
+
+-- what is in the message is typed
+pub in_message : (rtype class : ℕ) (w inside : Window) (rdata : ParsedRdata) → IsInMessage rtype class w inside rdata
+    → IsTypedData rtype class w inside rdata
+in_message rtype class w inside (ParsedRdata.a x) is = is
+in_message rtype class w inside (ParsedRdata.aaaa x) is = is
+in_message rtype class w inside (ParsedRdata.ns x) is = is
+in_message rtype class w inside (ParsedRdata.cname x) is = is
+in_message rtype class w inside (ParsedRdata.ptr x) is = is
+in_message rtype class w inside (ParsedRdata.mx x) is = is
+in_message rtype class w inside (ParsedRdata.soa x) is = is
+in_message rtype class w inside (ParsedRdata.txt x) is = is
+in_message rtype class w inside (ParsedRdata.srv x) is = is
+in_message rtype class w inside (ParsedRdata.naptr x) is = is
+in_message rtype class w inside (ParsedRdata.local k found) is = absurd is.rdata_is
+in_message rtype class w inside (ParsedRdata.unknown other x) is = is
+
+-- of a type that is read in the message there is none where none ends with the data
+pub none_typed : (rtype class : ℕ) (w inside : Window) (end : ℕ) → is_in_message rtype ≡ true → end ≡ inside.end
+    → ((rdata : ParsedRdata) (v : Window) → HasRdata rtype class w rdata v → v.position ≡ end → ⊥)
+    → (rdata : ParsedRdata) → IsTypedData rtype class w inside rdata → ⊥
+none_typed rtype class w inside end told same none rdata is = apart_from (either rtype class w inside rdata is)
+  where
+    apart_from : IsEither rtype class w inside rdata → ⊥
+    apart_from (inl a) = none rdata a.end a.rdata_is (a.ends ∙ sym same)
+    apart_from (inr b) = none_by_itself rtype class inside told b.0 b.1 b.3
+
+-- and of any other where there is none by itself
+pub none_typed_local : (rtype class : ℕ) (w inside : Window) → is_in_message rtype ≡ false
+    → ((k : LocalType) (found : (form k).Found) → IsLocal rtype class inside k found → ⊥)
+    → (rdata : ParsedRdata) → IsTypedData rtype class w inside rdata → ⊥
+none_typed_local rtype class w inside told none rdata is = apart_from (either rtype class w inside rdata is)
+  where
+    apart_from : IsEither rtype class w inside rdata → ⊥
+    apart_from (inl a) = none_in_message rtype class w inside told rdata a
+    apart_from (inr b) = none b.0 b.1 b.3
+
+-- data has one form at most
+one_either : (rtype class : ℕ) (w inside : Window) (rdata other : ParsedRdata) → IsEither rtype class w inside rdata
+    → IsEither rtype class w inside other → rdata ≡ other
+one_either rtype class w inside rdata other (inl a) (inl b) = one_in_message rtype class w inside rdata other a b
+one_either rtype class w inside rdata other (inl a) (inr b) =
+    absurd (apart rtype class w inside rdata b.0 b.3.rtype_is a)
+one_either rtype class w inside rdata other (inr a) (inl b) =
+    absurd (apart rtype class w inside other a.0 a.3.rtype_is b)
+one_either rtype class w inside rdata other (inr a) (inr b) =
+    a.2 ∙ one_local rtype class inside a.0 b.0 a.1 b.1 a.3 b.3 ∙ sym b.2
+
+one_typed : (rtype class : ℕ) (w inside : Window) (rdata other : ParsedRdata) → IsTypedData rtype class w inside rdata
+    → IsTypedData rtype class w inside other → rdata ≡ other
+one_typed rtype class w inside rdata other a b =
+    one_either rtype class w inside rdata other (either rtype class w inside rdata a)
+    (either rtype class w inside other b)
+
+-- and says one thing
+pub one_said : (rtype class : ℕ) (w inside : Window) (rdata other : ParsedRdata) → SaysData rtype class w inside rdata
+    → SaysData rtype class w inside other → rdata ≡ other
+one_said rtype class w inside rdata other (inl a) (inl b) = one_typed rtype class w inside rdata other a b
+one_said rtype class w inside rdata other (inl a) (inr b) = absurd (b.1 rdata a)
+one_said rtype class w inside rdata other (inr a) (inl b) = absurd (a.1 other b)
+one_said rtype class w inside rdata other (inr a) (inr b) = a.0 ∙ sym b.0
+
+either_rtype : (rtype class : ℕ) (w inside : Window) (rdata : ParsedRdata) → IsEither rtype class w inside rdata
+    → rtype_of rdata ≡ rtype
+either_rtype rtype class w inside rdata (inl is) = typed_rtype rtype class w is.end rdata is.rdata_is
+either_rtype rtype class w inside rdata (inr is) = ap rtype_of is.2 ∙ sym is.3.rtype_is
+
+-- what data says is of its type
+pub said_rtype : (rtype class : ℕ) (w inside : Window) (rdata : ParsedRdata) → SaysData rtype class w inside rdata
+    → rtype_of rdata ≡ rtype
+said_rtype rtype class w inside rdata (inl is) =
+    either_rtype rtype class w inside rdata (either rtype class w inside rdata is)
+said_rtype rtype class w inside rdata (inr is) = ap rtype_of is.0
+
+-- data of a type but TXT ends at one place
+pub one_end : (rtype class : ℕ) (w u v : Window) (rdata other : ParsedRdata) → (rtype ≡ 16 → ⊥)
+    → HasRdata rtype class w rdata u
+    → HasRdata rtype class w other v → u ≡ v
+one_end rtype class w u v rdata other untold a b =
+    let found = shape_of rtype class w u rdata a in
+    ((one_shape found.0 (λ is. untold (found.1 ∙ is))).same w rdata other u v found.2
+    (shape_by found.0 rtype class w v other found.1 b)).1
+
+-- none ends at the place where the one that is there doesn't
+pub none_ends : (rtype class : ℕ) (w u v : Window) (rdata other : ParsedRdata) (end : ℕ) → (rtype ≡ 16 → ⊥)
+    → HasRdata rtype class w rdata u → (u.position ≡ end → ⊥)
+    → HasRdata rtype class w other v → v.position ≡ end → ⊥
+none_ends rtype class w u v rdata other end untold a elsewhere b ends =
+    elsewhere (ap (λ v. v.position) (one_end rtype class w u v rdata other untold a b) ∙ ends)

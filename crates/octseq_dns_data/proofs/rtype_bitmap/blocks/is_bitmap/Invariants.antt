@@ -1,0 +1,15 @@
+-- The octets are a set of types exactly where those that are left go on with window blocks.
+use Rattle.std.proofs.Common.{◌+◌, ◌*◌, ◌≤◌, length}
+use Rattle.octseq_dns_data.specs.RtypeBitmap.{HasBlocksFrom, IsRtypeBitmap}
+use Rattle.octseq_dns_data.proofs.rtype_bitmap.blocks.is_bitmap.Given as goal
+
+abbrev pub invariant-loop-block : goal.invariant-loop-block
+invariant-loop-block l = record {
+  whole : HasBlocksFrom l.least l.rest → IsRtypeBitmap l.octets;
+  only : IsRtypeBitmap l.octets → HasBlocksFrom l.least l.rest;
+  turns : 3 * l.turns + length l.rest ≤ 3 * l.initial.turns + length l.octets;
+  counted : l.initial.turns ≤ l.turns;
+}
+
+abbrev pub decreases-loop-block : goal.decreases-loop-block
+decreases-loop-block l = length l.rest

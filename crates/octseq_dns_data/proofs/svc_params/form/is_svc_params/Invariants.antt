@@ -1,0 +1,18 @@
+-- What is ahead passes exactly where all does, and a turn was taken for an octet at most.
+use Rattle.std.proofs.Common.{◌+◌, ◌≤◌, length}
+use Rattle.octseq.proofs.WrittenBack.{AreOctets}
+use Rattle.octseq.specs.Parser.{window}
+use Rattle.octseq.specs.Window.{rest}
+use Rattle.octseq_dns_data.proofs.Params.{ParamsFrom, Same}
+use Rattle.octseq_dns_data.proofs.svc_params.form.is_svc_params.Given as goal
+
+abbrev pub invariant-params : goal.invariant-params
+invariant-params l = record {
+  same : Same (ParamsFrom l.least (rest (window l.ahead))) (ParamsFrom 0 l.fn.octets);
+  each : AreOctets (rest (window l.ahead));
+  some : l.fn.turns ≤ l.turns;
+  turns : l.turns + length (rest (window l.ahead)) ≤ l.fn.turns + length l.fn.octets;
+}
+
+abbrev pub decreases-params : goal.decreases-params
+decreases-params l = length (rest (window l.ahead))

@@ -1,0 +1,5 @@
+use Rattle.octseq_dns_data.proofs.Params.{one_ids}
+use Rattle.octseq_dns_data.proofs.svc_params.one_reading_of_ids.Goals as goal
+
+pub returns : goal.returns
+returns c = one_ids

@@ -1,0 +1,11 @@
+-- What is written is the text of the octets so far.
+use Rattle.std.proofs.Common.{take}
+use Rattle.std.specs.Fmt.{HasWritten, IsPlainFormatter}
+use Rattle.std.specs.List.{flat_map}
+use Rattle.octseq_dns_data.specs.DataText.{string_octet_text}
+use Rattle.octseq_dns_data.specs.SvcParamsText.{listed_octet}
+use Rattle.octseq_dns_data.proofs.svc_params.text.write_id.Given as goal
+
+abbrev pub invariant-loop-octet : goal.invariant-loop-octet
+invariant-loop-octet g l = IsPlainFormatter l.fn.f → HasWritten g.W.Write.write_str_gives l.fn.f
+    (flat_map string_octet_text (flat_map listed_octet (take l.octet-index l.fn.octets))) l.f

@@ -1,0 +1,157 @@
+-- Forms of data: parts, one after another, of which the last may take all that is left. What is written is read back.
+use Rattle.std.specs.Prelude.{ℕ, ◌<◌, ◌^◌, List}
+use Rattle.octseq.specs.Integer.{be, octets_be}
+use Rattle.octseq.specs.Window.{Window, rest}
+use Rattle.octseq_dns_data.specs.Formed.{IsFormed, FormedFits, one_formed, formed_read_back}
+use Rattle.octseq_dns_data.specs.PlainName.{HasPlainName, one_plain, delimited_plain}
+use Rattle.octseq_dns_name.specs.Name.{Name, HasName}
+use Rattle.octseq_dns_name.specs.NameFormat.{NameFits, name_labels, one_named, delimited_name}
+use Rattle.octseq_dns_name.specs.Wire.{wire}
+use Rattle.octseq_format.specs.Counted.{Counted, CountFits, counted_octets, one_counted, delimited_counted}
+use Rattle.octseq_format.specs.Fixed.{IsFixed, one_fixed, delimited_fixed}
+use Rattle.octseq_format.specs.Integers.{are_be}
+use Rattle.octseq_format.specs.Laws.{Relation, IsOne, IsReadBack, IsDelimited, back_of}
+use Rattle.octseq_format.specs.Pair.{◌then◌, ◌and◌, ◌before◌, ◌also◌, ◌one_then◌, ◌back_then◌, ◌delimited_then◌}
+use Rattle.octseq_format.specs.Rest.{IsRest, one_rest, rest_read_back}
+
+-- A part that tells its own end: what is found, what that says wherever it is, the octets that say it, and which have
+-- any.
+pub record Part : Type 1 where
+  pub Found : Type 0
+  pub Said : Type 0
+  pub Is : Relation Found
+  pub says : Found → Said
+  pub octets : Said → List ℕ
+  pub Fits : Said → Type 0
+  pub one : IsOne Is
+  pub next : IsDelimited Is says octets Fits
+
+-- A form, which takes the window whole.
+pub record Form : Type 1 where
+  pub Found : Type 0
+  pub Said : Type 0
+  pub Is : Relation Found
+  pub says : Found → Said
+  pub octets : Said → List ℕ
+  pub Fits : Said → Type 0
+  pub one : IsOne Is
+  pub back : IsReadBack Is says octets Fits
+
+-- a part, followed by a form
+infixr 5 ◌followed_by◌
+abbrev pub ◌followed_by◌ : Part → Form → Form
+first followed_by second = record {
+  Found = first.Found × second.Found;
+  Said = first.Said × second.Said;
+  Is = first.Is then second.Is;
+  says = first.says and second.says;
+  octets = first.octets before second.octets;
+  Fits = first.Fits also second.Fits;
+  one = first.one one_then second.one;
+  back = first.next back_then second.back;
+}
+
+-- a part, followed by another
+infixr 5 ◌and_then◌
+abbrev pub ◌and_then◌ : Part → Part → Part
+first and_then second = record {
+  Found = first.Found × second.Found;
+  Said = first.Said × second.Said;
+  Is = first.Is then second.Is;
+  says = first.says and second.says;
+  octets = first.octets before second.octets;
+  Fits = first.Fits also second.Fits;
+  one = first.one one_then second.one;
+  next = first.next delimited_then second.next;
+}
+
+-- a part alone
+abbrev pub alone : Part → Form
+alone part = record {
+  Found = part.Found;
+  Said = part.Said;
+  Is = part.Is;
+  says = part.says;
+  octets = part.octets;
+  Fits = part.Fits;
+  one = part.one;
+  back = back_of part.next;
+}
+
+-- a number of k octets, big-endian
+abbrev pub number : ℕ → Part
+number k = record {
+  Found = ℕ;
+  Said = ℕ;
+  Is = IsFixed k be;
+  says = λ n. n;
+  octets = octets_be k;
+  Fits = λ n. n < 256 ^ k;
+  one = one_fixed k be;
+  next = delimited_fixed (are_be k);
+}
+
+-- a name, which may have pointers where it is read, and has none where it is written
+abbrev pub domain_name : Part
+domain_name = record {
+  Found = Name;
+  Said = List (List ℕ);
+  Is = HasName;
+  says = name_labels;
+  octets = wire;
+  Fits = NameFits;
+  one = one_named;
+  next = delimited_name;
+}
+
+-- a name without pointers
+abbrev pub plain_name : Part
+plain_name = record {
+  Found = Name;
+  Said = List (List ℕ);
+  Is = HasPlainName;
+  says = name_labels;
+  octets = wire;
+  Fits = NameFits;
+  one = one_plain;
+  next = delimited_plain;
+}
+
+-- octets of a form after their length, which has one octet
+abbrev pub string : (List ℕ → Type 0) → Part
+string HasForm = record {
+  Found = Window;
+  Said = List ℕ;
+  Is = Counted 1 0 (IsFormed HasForm);
+  says = rest;
+  octets = counted_octets 1 0 (λ octets. octets);
+  Fits = CountFits 1 0 (λ octets. octets) (FormedFits HasForm);
+  one = one_counted (one_formed HasForm);
+  next = delimited_counted (formed_read_back HasForm);
+}
+
+-- all octets up to the end, of a form
+abbrev pub octets_of : (List ℕ → Type 0) → Form
+octets_of HasForm = record {
+  Found = Window;
+  Said = List ℕ;
+  Is = IsFormed HasForm;
+  says = rest;
+  octets = λ octets. octets;
+  Fits = FormedFits HasForm;
+  one = one_formed HasForm;
+  back = formed_read_back HasForm;
+}
+
+-- all octets up to the end, whatever they are
+abbrev pub all_octets : Form
+all_octets = record {
+  Found = Window;
+  Said = List ℕ;
+  Is = IsRest;
+  says = rest;
+  octets = λ octets. octets;
+  Fits = λ _. Unit {0};
+  one = one_rest;
+  back = rest_read_back;
+}

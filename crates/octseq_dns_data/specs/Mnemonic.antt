@@ -1,0 +1,78 @@
+-- How numbers with names are shown and read: by the mnemonics of the registry of DNS parameters, and else by a word
+-- and the number (RFC 3597, 5).
+use Rattle.std.specs.Prelude.{◌≡◌, ℕ, ◌<◌, ◌⊎◌, nat_eq, if◌then◌else◌, List, [], ◌∷◌, ◌++◌, map, codes}
+use Rattle.std.specs.Prelude.{Option, None, Some, unwrap_or}
+use Rattle.std.specs.Char.{to_ascii_lowercase}
+use Rattle.std.specs.Fmt.{decimal}
+use Rattle.std.specs.List.{IsAmong}
+use Rattle.std.specs.Str.{str_eq_ignore_ascii_case}
+use Rattle.std.specs.Str.Parse.{IsNumeral, digits_value}
+
+-- numbers, each with its name
+abbrev pub Names : Type 0
+Names = List (ℕ × List ℕ)
+
+-- the name of a number
+abbrev pub name_in : Names → ℕ → Option (List ℕ)
+name_in [] number = None
+name_in (named ∷ more) number = if nat_eq named.0 number then Some named.1 else name_in more number
+
+-- the name of a number, or else the word and the number
+abbrev pub name_or : List ℕ → Names → ℕ → List ℕ
+name_or word names number = unwrap_or (name_in names number) (word ++ decimal number)
+
+-- the number whose name a text is, in letters of either case: the first one
+abbrev pub number_in : Names → List ℕ → Option ℕ
+number_in [] text = None
+number_in (named ∷ more) text = if str_eq_ignore_ascii_case text named.1 then Some named.0 else number_in more text
+
+-- text has the letters of a word, each in either case
+abbrev pub Spells : List ℕ → List ℕ → Type 0
+Spells text word = map to_ascii_lowercase text ≡ map to_ascii_lowercase word
+
+-- text is the name of a number
+pub record IsNameOf (names : Names) (text : List ℕ) (number : ℕ) : Type 0 where
+  pub name : List ℕ
+  pub named : IsAmong names (number, name)
+  pub spelled : Spells text name
+
+-- text is a word and one or more decimal digits, of a number of 16 bits
+pub record IsWordAndNumber (word text : List ℕ) (number : ℕ) : Type 0 where
+  pub letters : List ℕ
+  pub digits : List ℕ
+  pub parts : text ≡ letters ++ digits
+  pub spelled : Spells letters word
+  pub numeral : IsNumeral 10 digits
+  pub value : digits_value 10 digits ≡ number
+  pub bits : number < 65536
+
+-- text is the name of a number, or else the word and the number
+abbrev pub Reads : List ℕ → Names → List ℕ → ℕ → Type 0
+Reads word names text number = IsNameOf names text number ⊎ IsWordAndNumber word text number
+
+abbrev pub class_names : Names
+class_names = (1, codes "IN") ∷ (3, codes "CH") ∷ (4, codes "HS") ∷ (254, codes "NONE") ∷ (255, codes "ANY") ∷ []
+
+abbrev pub rtype_names : Names
+rtype_names = (1, codes "A") ∷ (2, codes "NS") ∷ (5, codes "CNAME") ∷ (6, codes "SOA") ∷ (12, codes "PTR")
+    ∷ (13, codes "HINFO") ∷ (15, codes "MX") ∷ (16, codes "TXT") ∷ (17, codes "RP") ∷ (28, codes "AAAA")
+    ∷ (29, codes "LOC") ∷ (33, codes "SRV") ∷ (35, codes "NAPTR") ∷ (39, codes "DNAME") ∷ (41, codes "OPT")
+    ∷ (43, codes "DS") ∷ (44, codes "SSHFP") ∷ (46, codes "RRSIG") ∷ (47, codes "NSEC") ∷ (48, codes "DNSKEY")
+    ∷ (50, codes "NSEC3") ∷ (51, codes "NSEC3PARAM") ∷ (52, codes "TLSA") ∷ (53, codes "SMIMEA") ∷ (59, codes "CDS")
+    ∷ (60, codes "CDNSKEY") ∷ (61, codes "OPENPGPKEY") ∷ (63, codes "ZONEMD") ∷ (64, codes "SVCB")
+    ∷ (65, codes "HTTPS") ∷ (99, codes "SPF") ∷ (249, codes "TKEY") ∷ (250, codes "TSIG") ∷ (251, codes "IXFR")
+    ∷ (252, codes "AXFR") ∷ (255, codes "ANY") ∷ (256, codes "URI") ∷ (257, codes "CAA") ∷ []
+
+-- the text of a class, and of a type
+unfoldable pub class_text : ℕ → List ℕ
+class_text = name_or (codes "CLASS") class_names
+
+unfoldable pub rtype_text : ℕ → List ℕ
+rtype_text = name_or (codes "TYPE") rtype_names
+
+-- text is that of a class, or of a type, in letters of either case
+unfoldable pub ReadsClass : List ℕ → ℕ → Type 0
+ReadsClass = Reads (codes "CLASS") class_names
+
+unfoldable pub ReadsRtype : List ℕ → ℕ → Type 0
+ReadsRtype = Reads (codes "TYPE") rtype_names

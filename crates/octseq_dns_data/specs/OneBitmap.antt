@@ -1,0 +1,53 @@
+-- Octets are window blocks in one way at most: so a value may keep as a fact that they are a set of types.
+use Rattle.std.specs.Prelude.{◌≡◌, ℕ, ◌+◌, List, [], ◌∷◌, ◌++◌, length, take}
+use Rattle.std.proofs.Common.{sym, ap, ◌∙◌, arith, refl}
+use Rattle.std.proofs.lemmas.List.{append_cancel_left}
+use Rattle.std.proofs.Math.Bridge.{le_prop}
+use Rattle.std.proofs.Math.Seq.{take-append_seam}
+use Rattle.std.specs.Coded.{Coded-set, coded_list, coded_ℕ}
+use Rattle.std.specs.List.{flat_map}
+use mathlib.Core.HLevel.{Σ_prop_path}
+use Rattle.octseq_dns_data.specs.RtypeBitmap.{WindowBlock, AscendFrom, IsRtypeBitmap}
+use Rattle.octseq_dns_data.specs.RtypeBitmap.{block_octets}
+
+-- two fronts of one length are one front
+same_front : (xs us ys vs : List ℕ) → length xs ≡ length us → xs ++ ys ≡ us ++ vs → (xs ≡ us) × (ys ≡ vs)
+same_front xs us ys vs same is =
+    let front = sym (take-append_seam xs ys) ∙ ap (take (length xs)) is ∙ ap (λ n. take n (us ++ vs)) same
+    ∙ take-append_seam us vs in
+    (front, append_cancel_left us ys vs (ap (λ front. front ++ ys) (sym front) ∙ is))
+
+abbrev made : ℕ → List ℕ → WindowBlock
+made number bitmap = record { number = number; bitmap = bitmap }
+
+-- octets begin with one window block at most
+pub one_block : (block other : WindowBlock) (rest more : List ℕ)
+    → block_octets block ++ rest ≡ block_octets other ++ more
+    → (block ≡ other) × (rest ≡ more)
+one_block block other rest more is =
+    let number : block.number ≡ other.number = cc in
+    let size : length block.bitmap ≡ length other.bitmap = cc in
+    let octets : block.bitmap ++ rest ≡ other.bitmap ++ more = cc in
+    let both = same_front block.bitmap other.bitmap rest more size octets in
+    (ap (λ number. made number block.bitmap) number ∙ ap (made other.number) both.0, both.1)
+
+-- so they are one list of blocks
+pub same_blocks : (blocks others : List WindowBlock)
+    → flat_map block_octets blocks ≡ flat_map block_octets others → blocks ≡ others
+same_blocks [] [] is = refl
+same_blocks [] (other ∷ others) is = let long = ap length is in absurd (omega (arith, long))
+same_blocks (block ∷ blocks) [] is = let long = ap length is in absurd (omega (arith, long))
+same_blocks (block ∷ blocks) (other ∷ others) is =
+    let both = one_block block other (flat_map block_octets blocks) (flat_map block_octets others) is in
+    ap (λ block. block ∷ blocks) both.0 ∙ ap (λ blocks. other ∷ blocks) (same_blocks blocks others both.1)
+
+ascend_once : (least : ℕ) (blocks : List WindowBlock) → IsProp (AscendFrom least blocks)
+ascend_once least [] = hlevel le_prop
+ascend_once least (block ∷ blocks) = hlevel (le_prop, ascend_once (block.number + 1) blocks)
+
+-- it is a fact
+pub one_bitmap : (octets : List ℕ) → IsProp (IsRtypeBitmap octets)
+one_bitmap octets a b =
+    let set = Coded-set (coded_list coded_ℕ) octets in
+    Σ_prop_path (λ blocks. hlevel (set (flat_map block_octets blocks), ascend_once 0 blocks))
+    (same_blocks a.0 b.0 (sym a.1.0 ∙ b.1.0))

@@ -1,0 +1,42 @@
+-- Names without pointers, as data of the types that came after RFC 1035 has them: RFC 3597, 4.
+use Rattle.std.specs.Prelude.{◌≡◌, ℕ, ◌≤◌, List, refl}
+use Rattle.std.proofs.Common.{arith}
+use Rattle.octseq.specs.Window.{Window}
+use Rattle.octseq_dns_name.specs.Name.{Name, HasName, Stands, wire_length}
+use Rattle.octseq_dns_name.specs.NameFormat.{NameFits, name_labels, one_named, onward_name, wire_stands}
+use Rattle.octseq_dns_name.specs.Wire.{wire}
+use Rattle.octseq_format.specs.Laws.{Relation, IsOne, IsOnward, IsReadBack, IsDelimited, back_of}
+
+-- A name is at a window's position, through no pointer: its labels, of at most 255 octets in wire form; and the window
+-- after it.
+pub record IsPlainName (w : Window) (labels : List (List ℕ)) (v : Window) : Type 0 where
+  pub stands : Stands w.position w labels 0 v
+  pub short : wire_length labels ≤ 255
+
+abbrev pub HasPlainName : Relation Name
+HasPlainName w name v = (name.place ≡ w) × IsPlainName w name.labels v
+
+-- it is a name
+pub named : (w v : Window) (name : Name) → HasPlainName w name v → HasName w name v
+named w v name is = (is.0, record { pointers = 0; stands = is.1.stands; short = is.1.short; few = omega arith })
+
+pub one_plain : IsOne HasPlainName
+one_plain = record { same = λ w a b u v is other. one_named.same w a b u v (named w u a is) (named w v b other) }
+
+pub onward_plain : IsOnward 1 HasPlainName
+onward_plain = record {
+  on = λ w a v ordered is. onward_name.on w a v ordered (named w v a is);
+  less = λ w a v is. onward_name.less w a v (named w v a is);
+}
+
+pub delimited_plain : IsDelimited HasPlainName name_labels wire NameFits
+delimited_plain = record {
+  next = λ w labels more fits is. record {
+    it = record { place = w; labels = labels };
+    tells = refl;
+    is = (refl, record { stands = wire_stands w.position w labels more fits.each is; short = fits.short });
+  };
+}
+
+pub plain_read_back : IsReadBack HasPlainName name_labels wire NameFits
+plain_read_back = back_of delimited_plain

@@ -1,0 +1,413 @@
+//! What the data of a record says, by the record's type and class: RFC 1035, 3.3 and 3.4.
+ghost use Rattle.std.specs.Prelude.{◌≡◌, ◌≢◌, ℕ, ◌+◌, ◌≤◌, List, true, IsTrue, IsErr, IfOk, OnOk, ⊤};
+ghost use Rattle.std.specs.Net.Addr.{IsIpv4Mapped, segments_of};
+ghost use Rattle.octseq.specs.Parser.{window};
+ghost use Rattle.octseq.specs.Window.{Window, left};
+ghost use Rattle.octseq_dns_data.specs.Data.{ParsedRdata, FitsForm, HasRdata, IsTypedData, SaysData, is_in_message};
+ghost use Rattle.octseq_dns_data.specs.Data.{rtype_of};
+ghost use Rattle.octseq_dns_data.specs.Local.{LocalType, IsLocal, IsWhole, form, service_form};
+ghost use Rattle.octseq_dns_data.specs.Typed.{svcb_of};
+ghost use Rattle.octseq_format.specs.Turns.{TakesTurns};
+ghost use Rattle.octseq_dns_data.specs.DataText.{IsGroupsText, is_compatible, aaaa_text};
+
+use crate::iana::{Class, Rtype};
+use octseq::utf8::Turns;
+use octseq::{AsOctets, Parser};
+use octseq_dns_name::name::a_name_has_labels;
+use octseq_dns_name::{DomainName, Malformed, ParsedName};
+use octseq_format::{Format, Octets, Of};
+use std::alloc::AllocError;
+
+mod addresses;
+mod caa;
+mod denial;
+mod dnssec;
+mod fits;
+mod formed;
+mod hinfo;
+mod keys;
+mod mx;
+mod naptr;
+mod plain_name;
+mod soa;
+mod some_octets;
+mod srv;
+mod string;
+mod svcb;
+pub(crate) mod text;
+mod txt;
+mod uri;
+
+pub use crate::data::caa::Caa;
+pub use crate::data::denial::{Nsec, Nsec3, Nsec3param};
+pub use crate::data::dnssec::{Dnskey, Ds, Rrsig};
+pub use crate::data::formed::{Formed, FormedOctets};
+pub use crate::data::hinfo::Hinfo;
+pub use crate::data::keys::{Sshfp, Tlsa};
+pub use crate::data::mx::Mx;
+pub use crate::data::naptr::Naptr;
+pub use crate::data::plain_name::PlainName;
+pub use crate::data::soa::Soa;
+pub use crate::data::some_octets::{CaaTag, OwnerHash, SomeOctets};
+pub use crate::data::srv::Srv;
+pub use crate::data::svcb::Svcb;
+pub use crate::data::text::{write_hex, write_string};
+pub use crate::data::txt::{CharStr, Strings, Txt};
+pub use crate::data::uri::Uri;
+
+/// Data says one thing at most.
+///
+/// It does nothing. A caller that calls it has the law in its proof.
+pub fn one_reading_of_data()
+    ensures { (rtype class : ℕ) (w inside : Window) (rdata other : ParsedRdata) → SaysData rtype class w inside rdata
+        → SaysData rtype class w inside other → rdata ≡ other }
+{}
+
+/// What data says is of the record's type.
+///
+/// It does nothing. A caller that calls it has the law in its proof.
+pub fn data_has_the_records_type()
+    ensures { (rtype class : ℕ) (w inside : Window) (rdata : ParsedRdata) → SaysData rtype class w inside rdata
+        → rtype_of rdata ≡ rtype }
+{}
+
+/// An IPv6 address that doesn't end in an IPv4 address shows its eight groups, with `::` in the place of the first of
+/// the longest runs of two or more zero groups: RFC 5952, 4.2.
+///
+/// It does nothing. A caller that calls it has the law in its proof.
+pub fn zero_groups_are_shortened()
+    ensures { (octets : List ℕ) → ¬ IsTrue (is_compatible octets) → ¬ IsIpv4Mapped (segments_of octets)
+        → IsGroupsText (segments_of octets) (aaaa_text octets) }
+{}
+
+/// What the data of a record says. Names in it are in the message, and no octet of them is copied.
+#[derive(Debug)]
+pub enum Data<R: AsOctets> {
+    /// An IPv4 address, in class IN: RFC 1035, 3.4.1.
+    A([u8; 4]),
+    /// An IPv6 address, in class IN: RFC 3596, 2.2.
+    Aaaa([u8; 16]),
+    /// A name server: RFC 1035, 3.3.11.
+    Ns(ParsedName<R>),
+    /// The canonical name of an alias: RFC 1035, 3.3.1.
+    Cname(ParsedName<R>),
+    /// A pointer to another name: RFC 1035, 3.3.12.
+    Ptr(ParsedName<R>),
+    /// A mail exchange: RFC 1035, 3.3.9.
+    Mx(Mx<R>),
+    /// The start of a zone of authority: RFC 1035, 3.3.13.
+    Soa(Soa<R>),
+    /// Strings of text: RFC 1035, 3.3.14.
+    Txt(Txt<R>),
+    /// The place of a service, in class IN: RFC 2782.
+    Srv(Srv<R>),
+    /// A naming authority pointer, in class IN: RFC 3403.
+    Naptr(Naptr<R>),
+    /// What a host is: RFC 1035, 3.3.2.
+    Hinfo(Hinfo<R>),
+    /// A name that all names below the owner are moved to: RFC 6672.
+    Dname(ParsedName<R>),
+    /// The digest of a key of a child zone: RFC 4034, 5.
+    Ds(Ds<R>),
+    /// The fingerprint of a host's key: RFC 4255.
+    Sshfp(Sshfp<R>),
+    /// A signature of records: RFC 4034, 3.
+    Rrsig(Rrsig<R>),
+    /// The next name of a zone, and which types a name has: RFC 4034, 4.
+    Nsec(Nsec<R>),
+    /// A key of a zone: RFC 4034, 2.
+    Dnskey(Dnskey<R>),
+    /// The next hash of a name of a zone, and which types the name has: RFC 5155, 3.
+    Nsec3(Nsec3<R>),
+    /// How names of a zone are hashed: RFC 5155, 4.
+    Nsec3param(Nsec3param<R>),
+    /// What a certificate is to be: RFC 6698.
+    Tlsa(Tlsa<R>),
+    /// What a certificate of a mailbox is to be: RFC 8162.
+    Smimea(Tlsa<R>),
+    /// The digest of a key that a child zone wants in its parent: RFC 7344.
+    Cds(Ds<R>),
+    /// The key of which a child zone wants the digest in its parent: RFC 7344.
+    Cdnskey(Dnskey<R>),
+    /// Who may issue certificates: RFC 8659.
+    Caa(Caa<R>),
+    /// How a service is reached, in class IN: RFC 9460.
+    Svcb(Svcb<R>),
+    /// How a web server is reached, in class IN: RFC 9460.
+    Https(Svcb<R>),
+    /// Where a service is, as a URI: RFC 7553.
+    Uri(Uri<R>),
+    /// Anything else, as RFC 3597 has it: the record's type, and a parser of the message that begins and ends with the
+    /// data.
+    Unknown(Rtype, Parser<R>),
+}
+
+impl<R: AsOctets + Copy> Copy for Data<R> {}
+
+impl<R: AsOctets + Copy> Clone for Data<R> {
+    ghost is_clone = { λ found copy. copy ≡ found };
+
+    ghost is_infallible = { λ _. ⊤ };
+
+    fn clone(&self) -> Result<Self, AllocError> {
+        Ok(*self)
+    }
+}
+
+impl<R: AsOctets + Copy> Data<R> {
+    ghost use Rattle.octseq_dns_data.specs.Typed.{rdata_of, IsAt};
+
+    /// The type of which it is: the record's.
+    pub fn rtype(&self) -> Rtype
+        ensures { result ≡ rtype_of (rdata_of self.now) }
+    {
+        match self {
+            Data::A(_) => Rtype::A,
+            Data::Aaaa(_) => Rtype::AAAA,
+            Data::Ns(_) => Rtype::NS,
+            Data::Cname(_) => Rtype::CNAME,
+            Data::Ptr(_) => Rtype::PTR,
+            Data::Mx(_) => Rtype::MX,
+            Data::Soa(_) => Rtype::SOA,
+            Data::Txt(_) => Rtype::TXT,
+            Data::Srv(_) => Rtype::SRV,
+            Data::Naptr(_) => Rtype::NAPTR,
+            Data::Hinfo(_) => Rtype::HINFO,
+            Data::Dname(_) => Rtype::DNAME,
+            Data::Ds(_) => Rtype::DS,
+            Data::Sshfp(_) => Rtype::SSHFP,
+            Data::Rrsig(_) => Rtype::RRSIG,
+            Data::Nsec(_) => Rtype::NSEC,
+            Data::Dnskey(_) => Rtype::DNSKEY,
+            Data::Nsec3(_) => Rtype::NSEC3,
+            Data::Nsec3param(_) => Rtype::NSEC3PARAM,
+            Data::Tlsa(_) => Rtype::TLSA,
+            Data::Smimea(_) => Rtype::SMIMEA,
+            Data::Cds(_) => Rtype::CDS,
+            Data::Cdnskey(_) => Rtype::CDNSKEY,
+            Data::Caa(_) => Rtype::CAA,
+            Data::Svcb(_) => Rtype::SVCB,
+            Data::Https(_) => Rtype::HTTPS,
+            Data::Uri(_) => Rtype::URI,
+            Data::Unknown(rtype, _) => *rtype,
+        }
+    }
+
+    /// Data that is written by its form, and not by fields of which some are compressed, has octets: its parts fit.
+    ///
+    /// It does nothing. A caller that calls it has the law in its proof.
+    pub fn has_octets(&self)
+        ensures { FitsForm (rdata_of self.now) }
+    {
+        match self {
+            Data::Naptr(naptr) => fits::naptr_fits(naptr),
+            Data::Hinfo(hinfo) => fits::hinfo_fits(hinfo),
+            Data::Ds(ds) => fits::ds_fits(ds),
+            Data::Sshfp(sshfp) => fits::sshfp_fits(sshfp),
+            Data::Rrsig(rrsig) => fits::rrsig_fits(rrsig),
+            Data::Nsec(nsec) => fits::nsec_fits(nsec),
+            Data::Dnskey(dnskey) => fits::dnskey_fits(dnskey),
+            Data::Nsec3(nsec3) => fits::nsec3_fits(nsec3),
+            Data::Nsec3param(nsec3param) => fits::nsec3param_fits(nsec3param),
+            Data::Tlsa(tlsa) => fits::tlsa_fits(tlsa),
+            Data::Smimea(tlsa) => fits::tlsa_fits(tlsa),
+            Data::Cds(ds) => fits::ds_fits(ds),
+            Data::Cdnskey(dnskey) => fits::dnskey_fits(dnskey),
+            Data::Caa(caa) => fits::caa_fits(caa),
+            Data::Svcb(svcb) => fits::svcb_fits(svcb),
+            Data::Https(svcb) => fits::svcb_fits(svcb),
+            Data::Uri(uri) => fits::uri_fits(uri),
+            Data::Dname(name) => {
+                let _len = name.len();
+                a_name_has_labels(name);
+            }
+            _ => {}
+        }
+    }
+
+    /// What data of a type and a class says: where it is in a message, and in its own window. It counts the turns that
+    /// names, windows and parameters in it take.
+    ///
+    /// # Errors
+    ///
+    /// `Malformed` where it doesn't have the form of its type.
+    pub fn parse(
+        message: Parser<R>,
+        inside: Parser<R>,
+        rtype: Rtype,
+        class: Class,
+        turns: &mut Turns,
+    ) -> Result<Data<R>, Malformed>
+        ensures rdata { IfOk result (λ found.
+            IsTypedData rtype class (window message) (window inside) (rdata_of found)) }
+        ensures place { IfOk result (IsAt (window message)) }
+        ensures malformed { IsErr result → (rdata : ParsedRdata)
+            → ¬ IsTypedData rtype class (window message) (window inside) rdata }
+        ensures turns { turns.new ≤ turns.old + 510 + left (window inside) }
+        ensures names { is_in_message rtype ≡ true → turns.new ≤ turns.old + 510 }
+    {
+        if is_in_message(rtype) {
+            let mut parser = message;
+            let end = inside.len();
+            let found = Data::parse_in_message(&mut parser, rtype, class, end, turns)?;
+            return Ok(found);
+        }
+        let found = Data::parse_local(inside, rtype, class, turns)?;
+        Ok(found)
+    }
+
+    /// Takes the data of a type and a class, which ends at a place of the message. It counts the turns that names in
+    /// it take.
+    fn parse_in_message(
+        parser: &mut Parser<R>,
+        rtype: Rtype,
+        class: Class,
+        end: usize,
+        turns: &mut Turns,
+    ) -> Result<Data<R>, Malformed>
+        ensures rdata { IfOk result (λ found.
+            HasRdata rtype class (window parser.old) (rdata_of found) (window parser.new)) }
+        ensures place { IfOk result (IsAt (window parser.old)) }
+        ensures ends { OnOk result ((window parser.new).position ≡ end) }
+        ensures malformed { IsErr result → (rdata : ParsedRdata) (v : Window)
+            → HasRdata rtype class (window parser.old) rdata v → ¬ (v.position ≡ end) }
+        ensures turns { turns.new ≤ turns.old + 510 }
+    {
+        if rtype == Rtype::TXT {
+            return Ok(Data::Txt(Txt::parse(parser, end)?));
+        }
+        let found = Data::take(parser, rtype, class, turns)?;
+        if parser.pos() != end {
+            return Err(Malformed);
+        }
+        Ok(found)
+    }
+
+    /// Takes the data of a type and a class, where it tells its own end: of any type but TXT.
+    fn take(
+        parser: &mut Parser<R>,
+        rtype: Rtype,
+        class: Class,
+        turns: &mut Turns,
+    ) -> Result<Data<R>, Malformed>
+        ensures rdata { IfOk result (λ found.
+            HasRdata rtype class (window parser.old) (rdata_of found) (window parser.new)) }
+        ensures place { IfOk result (IsAt (window parser.old)) }
+        ensures malformed { IsErr result → rtype ≢ 16 → (rdata : ParsedRdata) (v : Window)
+            → ¬ HasRdata rtype class (window parser.old) rdata v }
+        ensures turns { turns.new ≤ turns.old + 510 }
+    {
+        if rtype == Rtype::NS {
+            return Ok(Data::Ns(DomainName::parse_counted(parser, turns)?));
+        }
+        if rtype == Rtype::CNAME {
+            return Ok(Data::Cname(DomainName::parse_counted(parser, turns)?));
+        }
+        if rtype == Rtype::PTR {
+            return Ok(Data::Ptr(DomainName::parse_counted(parser, turns)?));
+        }
+        if rtype == Rtype::MX {
+            return Ok(Data::Mx(Of::<Mx<R>>::parse_counted(parser, turns)?));
+        }
+        if rtype == Rtype::SOA {
+            return Ok(Data::Soa(Of::<Soa<R>>::parse_counted(parser, turns)?));
+        }
+        if class != Class::IN {
+            return Err(Malformed);
+        }
+        if rtype == Rtype::A {
+            return Ok(Data::A(Octets::<4>::parse(parser)?));
+        }
+        if rtype == Rtype::AAAA {
+            return Ok(Data::Aaaa(Octets::<16>::parse(parser)?));
+        }
+        if rtype == Rtype::SRV {
+            return Ok(Data::Srv(Of::<Srv<R>>::parse_counted(parser, turns)?));
+        }
+        if rtype == Rtype::NAPTR {
+            return Ok(Data::Naptr(Of::<Naptr<R>>::parse_counted(parser, turns)?));
+        }
+        Err(Malformed)
+    }
+
+    /// What data of a type and a class says by itself.
+    fn parse_local(
+        inside: Parser<R>,
+        rtype: Rtype,
+        class: Class,
+        turns: &mut Turns,
+    ) -> Result<Data<R>, Malformed>
+        ensures rdata { IfOk result (λ found. (w : Window)
+            → IsTypedData rtype class w (window inside) (rdata_of found)) }
+        ensures place { IfOk result (λ found. (w : Window) → IsAt w found) }
+        ensures malformed { IsErr result → (k : LocalType) (found : (form k).Found)
+            → ¬ IsLocal rtype class (window inside) k found }
+        ensures turns { turns.new ≤ turns.old + 510 + left (window inside) }
+    {
+        match rtype {
+            Rtype::HINFO => Ok(Data::Hinfo(whole::<R, Of<Hinfo<R>>>(inside, turns)?)),
+            Rtype::DNAME => Ok(Data::Dname(whole::<R, PlainName>(inside, turns)?)),
+            Rtype::DS => Ok(Data::Ds(whole::<R, Of<Ds<R>>>(inside, turns)?)),
+            Rtype::SSHFP => Ok(Data::Sshfp(whole::<R, Of<Sshfp<R>>>(inside, turns)?)),
+            Rtype::RRSIG => Ok(Data::Rrsig(whole::<R, Of<Rrsig<R>>>(inside, turns)?)),
+            Rtype::NSEC => Ok(Data::Nsec(whole::<R, Of<Nsec<R>>>(inside, turns)?)),
+            Rtype::DNSKEY => Ok(Data::Dnskey(whole::<R, Of<Dnskey<R>>>(inside, turns)?)),
+            Rtype::NSEC3 => Ok(Data::Nsec3(whole::<R, Of<Nsec3<R>>>(inside, turns)?)),
+            Rtype::NSEC3PARAM => Ok(Data::Nsec3param(whole::<R, Of<Nsec3param<R>>>(
+                inside, turns,
+            )?)),
+            Rtype::TLSA => Ok(Data::Tlsa(whole::<R, Of<Tlsa<R>>>(inside, turns)?)),
+            Rtype::SMIMEA => Ok(Data::Smimea(whole::<R, Of<Tlsa<R>>>(inside, turns)?)),
+            Rtype::CDS => Ok(Data::Cds(whole::<R, Of<Ds<R>>>(inside, turns)?)),
+            Rtype::CDNSKEY => Ok(Data::Cdnskey(whole::<R, Of<Dnskey<R>>>(inside, turns)?)),
+            Rtype::CAA => Ok(Data::Caa(whole::<R, Of<Caa<R>>>(inside, turns)?)),
+            Rtype::SVCB => Ok(Data::Svcb(parse_service(inside, class, turns)?)),
+            Rtype::HTTPS => Ok(Data::Https(parse_service(inside, class, turns)?)),
+            Rtype::URI => Ok(Data::Uri(whole::<R, Of<Uri<R>>>(inside, turns)?)),
+            _ => Err(Malformed),
+        }
+    }
+}
+
+/// What data of a service says, which is of the class IN alone.
+fn parse_service<R: AsOctets + Copy>(
+    inside: Parser<R>,
+    class: Class,
+    turns: &mut Turns,
+) -> Result<Svcb<R>, Malformed>
+    ensures class { OnOk result (class ≡ 1) }
+    ensures value { IfOk result (λ svcb. IsWhole service_form.Is (window inside) (svcb_of svcb)) }
+    ensures malformed { IsErr result → (found : service_form.Found) → class ≡ 1
+        → ¬ IsWhole service_form.Is (window inside) found }
+    ensures turns { TakesTurns 256 1 (left (window inside)) turns.old turns.new }
+{
+    if class != Class::IN {
+        return Err(Malformed);
+    }
+    let svcb = whole::<R, Of<Svcb<R>>>(inside, turns)?;
+    Ok(svcb)
+}
+
+/// What a window says that a format takes whole.
+fn whole<R: AsOctets + Copy, F: Format<R>>(
+    inside: Parser<R>,
+    turns: &mut Turns,
+) -> Result<F::Value, Malformed>
+    ensures value { IfOk result (λ value. IsWhole F.is_at (window inside) (F.found value)) }
+    ensures malformed { IsErr result → (other : F.Found) → ¬ IsWhole F.is_at (window inside) other }
+    ensures turns { TakesTurns F.base F.rate (left (window inside)) turns.old turns.new }
+{
+    let mut ahead = inside;
+    let value = F::parse_counted(&mut ahead, turns)?;
+    if ahead.remaining() > 0 {
+        return Err(Malformed);
+    }
+    Ok(value)
+}
+
+/// Whether data of a type is read in the message, where its names may have pointers, or where it always was.
+fn is_in_message(rtype: Rtype) -> bool
+    ensures { result ≡ is_in_message rtype }
+{
+    matches!(rtype.to_int(), 1 | 2 | 5 | 6 | 12 | 15 | 16 | 28 | 33 | 35)
+}

@@ -1,0 +1,46 @@
+//! Who may issue certificates: RFC 8659, 4.1.
+ghost use Rattle.std.specs.Prelude.{◌≡◌, ⊤};
+
+use crate::data::formed::Formed;
+use crate::data::some_octets::CaaTag;
+use octseq::{AsOctets, Parser};
+use octseq_format::{Counted, Fields, Format, Rest, U8};
+use std::alloc::AllocError;
+
+/// Who may issue certificates for a name.
+#[derive(Debug)]
+pub struct Caa<R: AsOctets> {
+    /// Flags: whether it is to be understood.
+    pub flags: u8,
+    /// What it is about.
+    pub tag: CaaTag<R>,
+    /// What it says of that: a parser of the message that begins and ends with it.
+    pub value: Parser<R>,
+}
+
+impl<R: AsOctets + Copy> Copy for Caa<R> {}
+
+impl<R: AsOctets + Copy> Clone for Caa<R> {
+    ghost is_clone = { λ caa copy. copy ≡ caa };
+
+    ghost is_infallible = { λ _. ⊤ };
+
+    fn clone(&self) -> Result<Self, AllocError> {
+        Ok(*self)
+    }
+}
+
+impl<R: AsOctets + Copy> Fields<R> for Caa<R> {
+    type Format = (U8, Counted<u8, Formed<CaaTag<R>>, 0>, Rest);
+
+    ghost fields = { λ caa. (caa.flags, caa.tag, caa.value) };
+
+    fn from_fields(parts: <Self::Format as Format<R>>::Value) -> Self {
+        let (flags, tag, value) = parts;
+        Caa { flags, tag, value }
+    }
+
+    fn to_fields(&self) -> <Self::Format as Format<R>>::Value {
+        (self.flags, self.tag, self.value)
+    }
+}

@@ -1,0 +1,165 @@
+//! Which names and types don't exist: RFC 4034, 4 (NSEC) and RFC 5155 (NSEC3).
+ghost use Rattle.std.specs.Prelude.{◌≡◌, ⊤};
+
+use crate::data::formed::Formed;
+use crate::data::plain_name::PlainName;
+use crate::data::some_octets::OwnerHash;
+use crate::data::txt::CharStr;
+use crate::rtype_bitmap::RtypeBitmap;
+use octseq::AsOctets;
+use octseq_dns_name::ParsedName;
+use octseq_format::{Counted, Fields, Format, U8, U16Be};
+use std::alloc::AllocError;
+
+/// The next name of a zone, and which types a name has: RFC 4034, 4.1.
+#[derive(Debug)]
+pub struct Nsec<R: AsOctets> {
+    /// The next name.
+    pub next_name: ParsedName<R>,
+    /// The types that the owner has.
+    pub types: RtypeBitmap<R>,
+}
+
+impl<R: AsOctets + Copy> Copy for Nsec<R> {}
+
+impl<R: AsOctets + Copy> Clone for Nsec<R> {
+    ghost is_clone = { λ nsec copy. copy ≡ nsec };
+
+    ghost is_infallible = { λ _. ⊤ };
+
+    fn clone(&self) -> Result<Self, AllocError> {
+        Ok(*self)
+    }
+}
+
+impl<R: AsOctets + Copy> Fields<R> for Nsec<R> {
+    type Format = (PlainName, Formed<RtypeBitmap<R>>);
+
+    ghost fields = { λ nsec. (nsec.next_name, nsec.types) };
+
+    fn from_fields(parts: <Self::Format as Format<R>>::Value) -> Self {
+        let (next_name, types) = parts;
+        Nsec { next_name, types }
+    }
+
+    fn to_fields(&self) -> <Self::Format as Format<R>>::Value {
+        (self.next_name, self.types)
+    }
+}
+
+/// The next hash of a name, and which types a name has: RFC 5155, 3.2.
+#[derive(Debug)]
+pub struct Nsec3<R: AsOctets> {
+    /// The algorithm of the hash.
+    pub hash_algorithm: u8,
+    /// Flags: whether names without signatures are left out.
+    pub flags: u8,
+    /// How often it is hashed again.
+    pub iterations: u16,
+    /// What is hashed with the name.
+    pub salt: CharStr<R>,
+    /// The next hash.
+    pub next_owner: OwnerHash<R>,
+    /// The types that the name has.
+    pub types: RtypeBitmap<R>,
+}
+
+impl<R: AsOctets + Copy> Copy for Nsec3<R> {}
+
+impl<R: AsOctets + Copy> Clone for Nsec3<R> {
+    ghost is_clone = { λ nsec copy. copy ≡ nsec };
+
+    ghost is_infallible = { λ _. ⊤ };
+
+    fn clone(&self) -> Result<Self, AllocError> {
+        Ok(*self)
+    }
+}
+
+impl<R: AsOctets + Copy> Fields<R> for Nsec3<R> {
+    type Format = (
+        U8,
+        U8,
+        U16Be,
+        Counted<u8, Formed<CharStr<R>>, 0>,
+        Counted<u8, Formed<OwnerHash<R>>, 0>,
+        Formed<RtypeBitmap<R>>,
+    );
+
+    ghost fields = { λ nsec. (
+      nsec.hash_algorithm,
+      nsec.flags,
+      nsec.iterations,
+      nsec.salt,
+      nsec.next_owner,
+      nsec.types,
+    ) };
+
+    fn from_fields(parts: <Self::Format as Format<R>>::Value) -> Self {
+        let (hash_algorithm, flags, iterations, salt, next_owner, types) = parts;
+        Nsec3 {
+            hash_algorithm,
+            flags,
+            iterations,
+            salt,
+            next_owner,
+            types,
+        }
+    }
+
+    fn to_fields(&self) -> <Self::Format as Format<R>>::Value {
+        (
+            self.hash_algorithm,
+            self.flags,
+            self.iterations,
+            self.salt,
+            self.next_owner,
+            self.types,
+        )
+    }
+}
+
+/// How names of a zone are hashed: RFC 5155, 4.2.
+#[derive(Debug)]
+pub struct Nsec3param<R: AsOctets> {
+    /// The algorithm of the hash.
+    pub hash_algorithm: u8,
+    /// Flags, which are 0.
+    pub flags: u8,
+    /// How often it is hashed again.
+    pub iterations: u16,
+    /// What is hashed with the name.
+    pub salt: CharStr<R>,
+}
+
+impl<R: AsOctets + Copy> Copy for Nsec3param<R> {}
+
+impl<R: AsOctets + Copy> Clone for Nsec3param<R> {
+    ghost is_clone = { λ param copy. copy ≡ param };
+
+    ghost is_infallible = { λ _. ⊤ };
+
+    fn clone(&self) -> Result<Self, AllocError> {
+        Ok(*self)
+    }
+}
+
+impl<R: AsOctets + Copy> Fields<R> for Nsec3param<R> {
+    type Format = (U8, U8, U16Be, Counted<u8, Formed<CharStr<R>>, 0>);
+
+    ghost fields = { λ param. (param.hash_algorithm, param.flags, param.iterations, param.salt) };
+
+    fn from_fields(parts: <Self::Format as Format<R>>::Value) -> Self {
+        let (hash_algorithm, flags, iterations, salt) = parts;
+        Nsec3param {
+            hash_algorithm,
+            flags,
+            iterations,
+            salt,
+        }
+    }
+
+    fn to_fields(&self) -> <Self::Format as Format<R>>::Value {
+        (self.hash_algorithm, self.flags, self.iterations, self.salt)
+    }
+}

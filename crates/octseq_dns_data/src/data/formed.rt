@@ -1,0 +1,115 @@
+//! Octets that have a form, as a part of data.
+ghost use Rattle.std.specs.Prelude.{◌≡◌, ℕ, List, IsErr, IfOk, false};
+ghost use Rattle.octseq.specs.Parser.{window};
+ghost use Rattle.octseq.specs.Window.{Window, left, rest};
+ghost use Rattle.octseq_dns_data.specs.Formed.{IsFormed, FormedFits, one_formed, onward_formed, formed_read_back};
+ghost use Rattle.octseq_format.specs.Canonical.{not_one_way};
+ghost use Rattle.octseq_format.specs.Rest.{window_code};
+ghost use Rattle.octseq_format.specs.Turns.{TakesTurns};
+
+use octseq::utf8::Turns;
+use octseq::{AsOctets, Malformed, OctetsBuilder, Parser, Truncate};
+use octseq_format::Format;
+use std::alloc::AllocError;
+use std::marker::PhantomData;
+
+/// Octets that have a form: where they are, and that they have it.
+pub trait FormedOctets<R: AsOctets + Copy>: Copy + Drop {
+    // The form.
+    ghost has_form: { List ℕ → Type 0 };
+
+    // Where they are.
+    ghost place: { Self → Window };
+
+    // How many turns of loops the test of it takes at most for each octet, and besides.
+    ghost rate: { ℕ };
+
+    /// All octets that a parser has left, and the turns of loops that the test takes.
+    ///
+    /// # Errors
+    ///
+    /// `Malformed` where they don't have the form.
+    fn from_parser(parser: &Parser<R>, turns: &mut Turns) -> Result<Self, Malformed>
+        ensures value { IfOk result (λ formed. place formed ≡ window parser.now) }
+        ensures malformed { IsErr result → ¬ has_form (rest (window parser.now)) }
+        ensures turns { TakesTurns rate rate (left (window parser.now)) turns.old turns.new };
+
+    /// A parser of the octets alone.
+    fn parser(&self) -> Parser<R>
+        ensures parser { window result ≡ place self.now }
+        ensures form { has_form (rest (place self.now)) };
+}
+
+/// All octets up to the end of the window, where they have the form of `V`.
+#[derive(Debug)]
+pub struct Formed<V> {
+    form: PhantomData<V>,
+}
+
+impl<R: AsOctets + Copy, V: FormedOctets<R>> Format<R> for Formed<V> {
+    type Value = V;
+
+    ghost Found = { Window };
+
+    ghost found = { V.place };
+
+    ghost is_at = { IsFormed V.has_form };
+
+    ghost Said = { List ℕ };
+
+    ghost says = { rest };
+
+    ghost octets = { λ octets. octets };
+
+    ghost fits = { FormedFits V.has_form };
+
+    ghost one = { one_formed V.has_form };
+
+    ghost found_code = { window_code };
+
+    ghost least = { 0 };
+
+    ghost turns_of = { λ _. 0 };
+
+    ghost base = { V.rate };
+
+    ghost rate = { V.rate };
+
+    #[inline(always)]
+    fn parse_counted(parser: &mut Parser<R>, turns: &mut Turns) -> Result<V, Malformed> {
+        let formed = V::from_parser(parser, turns)?;
+        let _inside = formed.parser();
+        parser.advance_to_end();
+        Ok(formed)
+    }
+
+    #[inline(always)]
+    fn least_len() -> usize {
+        0
+    }
+
+    #[inline(always)]
+    fn is_canonical() -> bool {
+        false
+    }
+
+    #[inline(always)]
+    fn compose_len(value: &V) -> Option<usize> {
+        Some(value.parser().remaining())
+    }
+
+    #[inline(always)]
+    fn put<B: OctetsBuilder + Truncate>(builder: &mut B, value: &V) -> Result<(), AllocError> {
+        builder
+            .append_slice(value.parser().peek_all())
+            .map_err(|_| AllocError)
+    }
+
+    ghost one_way = { false };
+
+    ghost canonical = { not_one_way };
+
+    ghost onward = { onward_formed V.has_form };
+
+    ghost read_back = { formed_read_back V.has_form };
+}

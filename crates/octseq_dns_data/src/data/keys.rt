@@ -1,0 +1,100 @@
+//! Certificates and keys of other protocols: RFC 6698 (TLSA), RFC 8162 (SMIMEA), RFC 4255 (SSHFP).
+ghost use Rattle.std.specs.Prelude.{◌≡◌, ⊤};
+
+use crate::data::formed::Formed;
+use crate::data::some_octets::SomeOctets;
+use octseq::AsOctets;
+use octseq_format::{Fields, Format, U8};
+use std::alloc::AllocError;
+
+/// What a certificate is to be, in TLSA (RFC 6698, 2.1) and SMIMEA (RFC 8162, 2).
+#[derive(Debug)]
+pub struct Tlsa<R: AsOctets> {
+    /// How it is used.
+    pub cert_usage: u8,
+    /// Which part of it is meant.
+    pub selector: u8,
+    /// By which hash, if any.
+    pub matching_type: u8,
+    /// That part, or its hash.
+    pub cert_assoc_data: SomeOctets<R>,
+}
+
+impl<R: AsOctets + Copy> Copy for Tlsa<R> {}
+
+impl<R: AsOctets + Copy> Clone for Tlsa<R> {
+    ghost is_clone = { λ tlsa copy. copy ≡ tlsa };
+
+    ghost is_infallible = { λ _. ⊤ };
+
+    fn clone(&self) -> Result<Self, AllocError> {
+        Ok(*self)
+    }
+}
+
+impl<R: AsOctets + Copy> Fields<R> for Tlsa<R> {
+    type Format = (U8, U8, U8, Formed<SomeOctets<R>>);
+
+    ghost fields = { λ tlsa. (tlsa.cert_usage, tlsa.selector, tlsa.matching_type, tlsa.cert_assoc_data) };
+
+    fn from_fields(parts: <Self::Format as Format<R>>::Value) -> Self {
+        let (cert_usage, selector, matching_type, cert_assoc_data) = parts;
+        Tlsa {
+            cert_usage,
+            selector,
+            matching_type,
+            cert_assoc_data,
+        }
+    }
+
+    fn to_fields(&self) -> <Self::Format as Format<R>>::Value {
+        (
+            self.cert_usage,
+            self.selector,
+            self.matching_type,
+            self.cert_assoc_data,
+        )
+    }
+}
+
+/// The fingerprint of a host's key: RFC 4255, 3.1.
+#[derive(Debug)]
+pub struct Sshfp<R: AsOctets> {
+    /// The algorithm of the key.
+    pub algorithm: u8,
+    /// The algorithm of the fingerprint.
+    pub fingerprint_type: u8,
+    /// The fingerprint.
+    pub fingerprint: SomeOctets<R>,
+}
+
+impl<R: AsOctets + Copy> Copy for Sshfp<R> {}
+
+impl<R: AsOctets + Copy> Clone for Sshfp<R> {
+    ghost is_clone = { λ sshfp copy. copy ≡ sshfp };
+
+    ghost is_infallible = { λ _. ⊤ };
+
+    fn clone(&self) -> Result<Self, AllocError> {
+        Ok(*self)
+    }
+}
+
+impl<R: AsOctets + Copy> Fields<R> for Sshfp<R> {
+    type Format = (U8, U8, Formed<SomeOctets<R>>);
+
+    ghost fields = { λ sshfp. (sshfp.algorithm, sshfp.fingerprint_type, sshfp.fingerprint) };
+
+    fn from_fields(parts: <Self::Format as Format<R>>::Value) -> Self {
+        let (algorithm, fingerprint_type, fingerprint) = parts;
+        Sshfp {
+            algorithm,
+            fingerprint_type,
+            fingerprint,
+        }
+    }
+
+    fn to_fields(&self) -> <Self::Format as Format<R>>::Value {
+        (self.algorithm, self.fingerprint_type, self.fingerprint)
+    }
+}

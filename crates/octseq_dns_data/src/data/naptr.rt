@@ -1,0 +1,81 @@
+//! Naming authority pointers: RFC 3403, 4.1.
+ghost use Rattle.std.specs.Prelude.{◌≡◌, ⊤};
+
+use crate::data::formed::Formed;
+use crate::data::txt::CharStr;
+use octseq::AsOctets;
+use octseq_dns_name::{DomainName, ParsedName};
+use octseq_format::{Counted, Fields, Format, U16Be};
+use std::alloc::AllocError;
+
+/// A naming authority pointer.
+#[derive(Debug)]
+pub struct Naptr<R: AsOctets> {
+    /// In which order such records are read: the lower, the sooner.
+    pub order: u16,
+    /// In which order those of one order are tried: the lower, the sooner.
+    pub preference: u16,
+    /// Flags, which say how the next step goes on.
+    pub flags: CharStr<R>,
+    /// Which services are found along this way.
+    pub services: CharStr<R>,
+    /// An expression by which the next name is made.
+    pub regexp: CharStr<R>,
+    /// The next name, where no expression makes it.
+    pub replacement: ParsedName<R>,
+}
+
+impl<R: AsOctets + Copy> Copy for Naptr<R> {}
+
+impl<R: AsOctets + Copy> Clone for Naptr<R> {
+    ghost is_clone = { λ naptr copy. copy ≡ naptr };
+
+    ghost is_infallible = { λ _. ⊤ };
+
+    fn clone(&self) -> Result<Self, AllocError> {
+        Ok(*self)
+    }
+}
+
+impl<R: AsOctets + Copy> Fields<R> for Naptr<R> {
+    type Format = (
+        U16Be,
+        U16Be,
+        Counted<u8, Formed<CharStr<R>>, 0>,
+        Counted<u8, Formed<CharStr<R>>, 0>,
+        Counted<u8, Formed<CharStr<R>>, 0>,
+        DomainName,
+    );
+
+    ghost fields = { λ naptr. (
+      naptr.order,
+      naptr.preference,
+      naptr.flags,
+      naptr.services,
+      naptr.regexp,
+      naptr.replacement,
+    ) };
+
+    fn from_fields(parts: <Self::Format as Format<R>>::Value) -> Self {
+        let (order, preference, flags, services, regexp, replacement) = parts;
+        Naptr {
+            order,
+            preference,
+            flags,
+            services,
+            regexp,
+            replacement,
+        }
+    }
+
+    fn to_fields(&self) -> <Self::Format as Format<R>>::Value {
+        (
+            self.order,
+            self.preference,
+            self.flags,
+            self.services,
+            self.regexp,
+            self.replacement,
+        )
+    }
+}

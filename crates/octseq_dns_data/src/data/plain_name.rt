@@ -1,0 +1,109 @@
+//! Names without pointers.
+ghost use Rattle.std.specs.Prelude.{◌≡◌, ℕ, List, false};
+ghost use Rattle.std.proofs.Common.{rules};
+ghost use Rattle.octseq_dns_data.specs.PlainName.{HasPlainName, one_plain, onward_plain, delimited_plain};
+ghost use Rattle.octseq_dns_data.specs.PlainName.{plain_read_back};
+ghost use Rattle.octseq_dns_name.specs.Name.{Name as Named};
+ghost use Rattle.octseq_dns_name.specs.NameFormat.{NameFits, least_turns, name_code, name_labels};
+ghost use Rattle.octseq_dns_name.specs.Read.{name_of};
+ghost use Rattle.octseq_dns_name.specs.Wire.{wire};
+ghost use Rattle.octseq_format.specs.Canonical.{not_one_way};
+
+use octseq::utf8::Turns;
+use octseq::{AsOctets, Malformed, OctetsBuilder, Parser, Truncate};
+use octseq_dns_name::name::a_name_has_labels;
+use octseq_dns_name::{DomainName, ParsedName};
+use octseq_format::{Delimited, Format, Moving, are_octets};
+use std::alloc::AllocError;
+
+/// A domain name without compression pointers: one with a pointer is refused. Data of the types that came after
+/// RFC 1035 has them: RFC 3597, 4.
+#[derive(Debug)]
+pub struct PlainName;
+
+impl<R: AsOctets + Copy> Format<R> for PlainName {
+    type Value = ParsedName<R>;
+
+    ghost Found = { Named };
+
+    ghost found = { λ name. name_of name };
+
+    ghost is_at = { HasPlainName };
+
+    ghost Said = { List (List ℕ) };
+
+    ghost says = { name_labels };
+
+    ghost octets = { wire };
+
+    ghost fits = { NameFits };
+
+    ghost one = { one_plain };
+
+    ghost found_code = { name_code };
+
+    ghost least = { 1 };
+
+    ghost turns_of = { least_turns };
+
+    ghost base = { 255 };
+
+    ghost rate = { 0 };
+
+    // (a name whose octets are as many as its wire form has no pointer: a pointer takes two, and no name has two in
+    // wire form)
+    fn parse_counted(
+        parser: &mut Parser<R>,
+        turns: &mut Turns,
+    ) -> Result<ParsedName<R>, Malformed> {
+        let mut ahead = *parser;
+        let sequence = ahead.octets_ref();
+        are_octets(sequence.as_ref());
+        let name = DomainName::parse_counted(&mut ahead, turns)?;
+        a_name_has_labels(&name);
+        if ahead.pos() - parser.pos() != name.len() {
+            return Err(Malformed);
+        }
+        *parser = ahead;
+        Ok(name)
+    }
+
+    #[inline(always)]
+    fn least_len() -> usize {
+        1
+    }
+
+    #[inline(always)]
+    fn is_canonical() -> bool {
+        false
+    }
+
+    #[inline(always)]
+    fn compose_len(value: &ParsedName<R>) -> Option<usize> {
+        <DomainName as Format<R>>::compose_len(value)
+    }
+
+    #[inline(always)]
+    fn put<B: OctetsBuilder + Truncate>(
+        builder: &mut B,
+        value: &ParsedName<R>,
+    ) -> Result<(), AllocError> {
+        <DomainName as Format<R>>::put(builder, value)
+    }
+
+    ghost one_way = { false };
+
+    ghost canonical = { not_one_way };
+
+    ghost onward = { onward_plain };
+
+    ghost read_back = { plain_read_back };
+}
+
+impl<R: AsOctets + Copy> Delimited<R> for PlainName {
+    ghost delimited = { delimited_plain };
+}
+
+impl<R: AsOctets + Copy> Moving<R> for PlainName {
+    ghost moving = { Prim.search rules };
+}

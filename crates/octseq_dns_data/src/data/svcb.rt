@@ -1,0 +1,52 @@
+//! How a service is reached: RFC 9460, 2.2.
+ghost use Rattle.std.specs.Prelude.{◌≡◌, ⊤};
+
+use crate::data::formed::Formed;
+use crate::data::plain_name::PlainName;
+use crate::svc_params::SvcParams;
+use octseq::AsOctets;
+use octseq_dns_name::ParsedName;
+use octseq_format::{Fields, Format, U16Be};
+use std::alloc::AllocError;
+
+/// How a service is reached, in SVCB and HTTPS.
+#[derive(Debug)]
+pub struct Svcb<R: AsOctets> {
+    /// The lower, the sooner it is tried. 0 makes the owner an alias.
+    pub priority: u16,
+    /// The name of the host.
+    pub target: ParsedName<R>,
+    /// The parameters.
+    pub params: SvcParams<R>,
+}
+
+impl<R: AsOctets + Copy> Copy for Svcb<R> {}
+
+impl<R: AsOctets + Copy> Clone for Svcb<R> {
+    ghost is_clone = { λ svcb copy. copy ≡ svcb };
+
+    ghost is_infallible = { λ _. ⊤ };
+
+    fn clone(&self) -> Result<Self, AllocError> {
+        Ok(*self)
+    }
+}
+
+impl<R: AsOctets + Copy> Fields<R> for Svcb<R> {
+    type Format = (U16Be, PlainName, Formed<SvcParams<R>>);
+
+    ghost fields = { λ svcb. (svcb.priority, svcb.target, svcb.params) };
+
+    fn from_fields(parts: <Self::Format as Format<R>>::Value) -> Self {
+        let (priority, target, params) = parts;
+        Svcb {
+            priority,
+            target,
+            params,
+        }
+    }
+
+    fn to_fields(&self) -> <Self::Format as Format<R>>::Value {
+        (self.priority, self.target, self.params)
+    }
+}

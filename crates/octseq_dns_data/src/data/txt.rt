@@ -1,0 +1,253 @@
+//! Strings of text: RFC 1035, 3.3 and 3.3.14.
+ghost use Rattle.std.specs.Prelude.{◌≡◌, ◌≤◌, ⊤, length, slice_range};
+ghost use Rattle.std.specs.List.{All};
+ghost use Rattle.octseq.specs.Parser.{window};
+ghost use Rattle.octseq.specs.Window.{left};
+ghost use Rattle.octseq_dns_data.specs.Data.{HasString};
+ghost use Rattle.octseq_dns_data.specs.OneRow.{Reaches, strings_once};
+ghost use Rattle.octseq_dns_data.specs.Strings.{spelling};
+
+use crate::data::formed::FormedOctets;
+use crate::data::string::{CharacterString, take_string};
+use octseq::utf8::Turns;
+use octseq::{AsOctets, Parser};
+use octseq_dns_name::Malformed;
+use octseq_format::{Format, Repeated, are_octets};
+use std::alloc::AllocError;
+
+/// A string of text: at most 255 octets of a message, where they are.
+#[derive(Debug)]
+pub struct CharStr<R: AsOctets> {
+    parser: Parser<R>,
+    ghost short: { left (window parser) ≤ 255 },
+}
+
+impl<R: AsOctets + Copy> Copy for CharStr<R> {}
+
+impl<R: AsOctets + Copy> Clone for CharStr<R> {
+    ghost is_clone = { λ string copy. copy ≡ string };
+
+    ghost is_infallible = { λ _. ⊤ };
+
+    fn clone(&self) -> Result<Self, AllocError> {
+        Ok(*self)
+    }
+}
+
+impl<R: AsOctets> CharStr<R> {
+    ghost use Rattle.std.specs.Prelude.{[], IsTrue, ◌↔◌};
+    ghost use Rattle.octseq_dns_data.specs.Txt.{string_place, string_octets};
+
+    /// Its octets.
+    pub fn as_slice(&self) -> &[u8]
+        ensures octets { result.now ≡ string_octets self.now }
+        ensures most { length result.now ≤ 255 }
+    {
+        self.parser.peek_all()
+    }
+
+    /// How many octets it has.
+    pub fn len(&self) -> usize
+        ensures { result ≡ length (string_octets self.now) }
+    {
+        self.parser.remaining()
+    }
+
+    /// Whether it has no octet.
+    pub fn is_empty(&self) -> bool
+        ensures { IsTrue result ↔ (length (string_octets self.now) ≡ 0) }
+    {
+        self.len() == 0
+    }
+
+    /// The place of its first octet, after its length, counted from the first octet of the message.
+    pub fn pos(&self) -> usize
+        ensures { result ≡ (string_place self.now).position }
+    {
+        self.parser.pos()
+    }
+}
+
+impl<R: AsOctets + Copy> CharStr<R> {
+    ghost use Rattle.octseq.specs.Window.{whole, rest};
+    ghost use Rattle.std.specs.Prelude.{IsErr, IfOk};
+    ghost use Rattle.octseq_dns_data.specs.Formed.{IsString};
+    ghost use Rattle.octseq_dns_data.specs.Txt.{string_place};
+
+    /// All of the octets, as a string.
+    ///
+    /// # Errors
+    ///
+    /// `Malformed` where there are more than 255.
+    pub fn from_octets(octets: R) -> Result<CharStr<R>, Malformed>
+        ensures place { IfOk result (λ string. string_place string ≡ whole (R.content octets)) }
+        ensures malformed { IsErr result → ¬ IsString (R.content octets) }
+    {
+        CharStr::from_parser(&Parser::from_ref(octets), &mut Turns::new())
+    }
+}
+
+impl<R: AsOctets + Copy> FormedOctets<R> for CharStr<R> {
+    ghost use Rattle.octseq_dns_data.specs.Formed.{IsString};
+    ghost use Rattle.octseq_dns_data.specs.Txt.{string_place};
+
+    ghost has_form = { IsString };
+
+    ghost place = { string_place };
+
+    ghost rate = { 0 };
+
+    #[inline(always)]
+    fn from_parser(parser: &Parser<R>, _turns: &mut Turns) -> Result<CharStr<R>, Malformed> {
+        if parser.peek_all().len() > 255 {
+            return Err(Malformed);
+        }
+        Ok(CharStr { parser: *parser })
+    }
+
+    #[inline(always)]
+    fn parser(&self) -> Parser<R> {
+        self.parser
+    }
+}
+
+/// Strings of text, at least one, one after another up to the end of the data.
+#[derive(Debug)]
+pub struct Txt<R: AsOctets> {
+    parser: Parser<R>,
+    end: usize,
+    ghost strings: { Reaches HasString (window parser) end } by { strings_once (window parser) end },
+    ghost some: { 1 ≤ length strings.0 },
+    ghost begins: { (window parser).position ≤ end },
+    ghost within: { end ≤ (window parser).end },
+    ghost spelled: { slice_range (window parser).octets (window parser).position end ≡ spelling strings.0 },
+    ghost short: { All (λ string. length string ≤ 255) strings.0 },
+}
+
+impl<R: AsOctets + Copy> Copy for Txt<R> {}
+
+impl<R: AsOctets + Copy> Clone for Txt<R> {
+    ghost is_clone = { λ txt copy. copy ≡ txt };
+
+    ghost is_infallible = { λ _. ⊤ };
+
+    fn clone(&self) -> Result<Self, AllocError> {
+        Ok(*self)
+    }
+}
+
+impl<R: AsOctets + Copy> Txt<R> {
+    ghost use Rattle.std.specs.Prelude.{ℕ, List, IsErr, IfOk, OnOk};
+    ghost use Rattle.octseq.specs.Window.{Window};
+    ghost use Rattle.octseq_dns_data.specs.Data.{HasStrings};
+    ghost use Rattle.octseq.specs.Window.{whole};
+    ghost use Rattle.octseq_dns_data.specs.Txt.{strings_of, strings_left, txt_place, strings_ahead};
+
+    /// Reads all of the octets as strings: at least one, each after its length, which has one octet, as
+    /// `append_part_u8` writes them. So text that was never in a message is data that can be pushed.
+    ///
+    /// # Errors
+    ///
+    /// `Malformed` where the octets are no such strings.
+    pub fn from_octets(octets: R) -> Result<Txt<R>, Malformed>
+        ensures txt { IfOk result (λ txt. (end : Window) × HasStrings (whole (R.content octets)) (strings_of txt) end
+            × (end.position ≡ length (R.content octets))) }
+        ensures malformed { IsErr result → (strings : List (List ℕ)) (end : Window)
+            → HasStrings (whole (R.content octets)) strings end → ¬ (end.position ≡ length (R.content octets)) }
+        ensures place { IfOk result (λ txt. txt_place txt ≡ whole (R.content octets)) }
+    {
+        let mut parser = Parser::from_ref(octets);
+        let end = parser.len();
+        Txt::parse(&mut parser, end)
+    }
+
+    /// Takes the strings of a message up to a place.
+    pub(crate) fn parse(parser: &mut Parser<R>, end: usize) -> Result<Txt<R>, Malformed>
+        ensures txt { IfOk result (λ txt. HasStrings (window parser.old) (strings_of txt) (window parser.new)) }
+        ensures place { IfOk result (λ txt. txt_place txt ≡ window parser.old) }
+        ensures ends { OnOk result ((window parser.new).position ≡ end) }
+        ensures malformed { IsErr result → (strings : List (List ℕ)) (v : Window)
+            → HasStrings (window parser.old) strings v → ¬ (v.position ≡ end) }
+    {
+        let first = *parser;
+        let place = first.pos();
+        if place > end {
+            return Err(Malformed);
+        }
+        let mut octets = parser.parse_parser(end - place)?;
+        let strings = Repeated::<CharacterString>::parse(&mut octets)?;
+        if strings.is_empty() {
+            return Err(Malformed);
+        }
+        let sequence = first.octets_ref();
+        are_octets(sequence.as_ref());
+        Ok(Txt { parser: first, end })
+    }
+
+    /// Its octets as they are in the message: each string after its length, which has one octet.
+    pub fn as_slice(&self) -> &[u8]
+        ensures octets { result.now ≡ spelling (strings_of self.now) }
+        ensures some { 1 ≤ length (strings_of self.now) }
+        ensures short { All (λ string. length string ≤ 255) (strings_of self.now) }
+    {
+        &self.parser.as_slice()[self.parser.pos()..self.end]
+    }
+
+    /// The strings, from the first one on.
+    pub fn strings(&self) -> Strings<R>
+        ensures strings { strings_left result ≡ strings_of self.now }
+        ensures ahead { strings_ahead result ≡ txt_place self.now }
+        ensures some { 1 ≤ length (strings_left result) }
+    {
+        Strings {
+            parser: self.parser,
+            end: self.end,
+        }
+    }
+}
+
+/// The strings of text that are left, from the first one on.
+#[derive(Debug)]
+pub struct Strings<R: AsOctets> {
+    parser: Parser<R>,
+    end: usize,
+    ghost ahead: { Reaches HasString (window parser) end } by { strings_once (window parser) end },
+}
+
+impl<R: AsOctets + Copy> Copy for Strings<R> {}
+
+impl<R: AsOctets + Copy> Clone for Strings<R> {
+    ghost is_clone = { λ strings copy. copy ≡ strings };
+
+    ghost is_infallible = { λ _. ⊤ };
+
+    fn clone(&self) -> Result<Self, AllocError> {
+        Ok(*self)
+    }
+}
+
+impl<R: AsOctets + Copy> Iterator for Strings<R> {
+    ghost use Rattle.std.specs.Iterator.{item_count};
+    ghost use Rattle.octseq_dns_data.specs.Txt.{strings_left, YieldsNextString};
+
+    type Item = CharStr<R>;
+
+    ghost next_gives = { YieldsNextString };
+
+    ghost remaining = { item_count strings_left };
+
+    fn next(&mut self) -> Option<CharStr<R>> {
+        let mut ahead = self.parser;
+        if ahead.pos() == self.end {
+            return None;
+        }
+        match take_string(&mut ahead) {
+            Ok(parser) => {
+                let end = self.end;
+                *self = Strings { parser: ahead, end };
+                Some(CharStr { parser })
+            }
+            Err(_) => None,
+        }
+    }
+}

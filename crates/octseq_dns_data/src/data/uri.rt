@@ -1,0 +1,50 @@
+//! Where a service is, as a URI: RFC 7553.
+ghost use Rattle.std.specs.Prelude.{◌≡◌, ⊤};
+
+use crate::data::formed::Formed;
+use crate::data::some_octets::SomeOctets;
+use octseq::AsOctets;
+use octseq_format::{Fields, Format, U16Be};
+use std::alloc::AllocError;
+
+/// Where a service is, as a URI.
+#[derive(Debug)]
+pub struct Uri<R: AsOctets> {
+    /// The lower, the sooner it is tried.
+    pub priority: u16,
+    /// How often it is chosen among those of one priority.
+    pub weight: u16,
+    /// The URI.
+    pub target: SomeOctets<R>,
+}
+
+impl<R: AsOctets + Copy> Copy for Uri<R> {}
+
+impl<R: AsOctets + Copy> Clone for Uri<R> {
+    ghost is_clone = { λ uri copy. copy ≡ uri };
+
+    ghost is_infallible = { λ _. ⊤ };
+
+    fn clone(&self) -> Result<Self, AllocError> {
+        Ok(*self)
+    }
+}
+
+impl<R: AsOctets + Copy> Fields<R> for Uri<R> {
+    type Format = (U16Be, U16Be, Formed<SomeOctets<R>>);
+
+    ghost fields = { λ uri. (uri.priority, uri.weight, uri.target) };
+
+    fn from_fields(parts: <Self::Format as Format<R>>::Value) -> Self {
+        let (priority, weight, target) = parts;
+        Uri {
+            priority,
+            weight,
+            target,
+        }
+    }
+
+    fn to_fields(&self) -> <Self::Format as Format<R>>::Value {
+        (self.priority, self.weight, self.target)
+    }
+}

@@ -1,0 +1,344 @@
+//! Numbers with names: types, classes, opcodes and response codes.
+//!
+//! A number without a name here is as good as any other: nothing is refused for its number. Contracts see the number.
+ghost use Rattle.std.specs.Prelude.{◌≡◌, ℕ, ◌<◌, List};
+ghost use Rattle.octseq_dns_data.specs.Mnemonic.{class_text, rtype_text, ReadsClass, ReadsRtype};
+
+use std::marker::Model;
+
+/// The text of a type is read as that type, and a text is read as one type at most.
+///
+/// It does nothing. A caller that calls it has the law in its proof.
+pub fn types_are_read_from_their_text()
+    ensures shown { (number : ℕ) → number < 65536 → ReadsRtype (rtype_text number) number }
+    ensures one { (text : List ℕ) (a b : ℕ) → ReadsRtype text a → ReadsRtype text b → a ≡ b }
+{}
+
+/// The text of a class is read as that class, and a text is read as one class at most.
+///
+/// It does nothing. A caller that calls it has the law in its proof.
+pub fn classes_are_read_from_their_text()
+    ensures shown { (number : ℕ) → number < 65536 → ReadsClass (class_text number) number }
+    ensures one { (text : List ℕ) (a b : ℕ) → ReadsClass text a → ReadsClass text b → a ≡ b }
+{}
+
+/// A text is no type's, or no class's: neither a mnemonic nor a word and a number of 16 bits.
+#[derive(Clone, Copy, Debug, PartialEq, Eq)]
+pub struct FromStrError;
+
+/// The type of a record, or of the records that a question asks for: RFC 1035, 3.2.2 and 3.2.3.
+#[derive(Clone, Copy, Debug, PartialEq, Eq, PartialOrd, Ord, Hash)]
+pub struct Rtype {
+    number: u16,
+}
+
+impl Model for Rtype {
+    ghost use Rattle.std.specs.Prelude.{ℕ};
+
+    ghost Value = { ℕ };
+
+    ghost view = { λ rtype. rtype.number };
+
+    ghost inverse = { λ n. record { number = n } };
+}
+
+impl Rtype {
+    /// An IPv4 address.
+    pub const A: Self = Rtype { number: 1 };
+    /// A name server.
+    pub const NS: Self = Rtype { number: 2 };
+    /// The canonical name of an alias.
+    pub const CNAME: Self = Rtype { number: 5 };
+    /// The start of a zone of authority.
+    pub const SOA: Self = Rtype { number: 6 };
+    /// A pointer to another name.
+    pub const PTR: Self = Rtype { number: 12 };
+    /// A host's kind of machine and its system.
+    pub const HINFO: Self = Rtype { number: 13 };
+    /// A mail exchange.
+    pub const MX: Self = Rtype { number: 15 };
+    /// Strings of text.
+    pub const TXT: Self = Rtype { number: 16 };
+    /// Who answers for a name: RFC 1183, 2.2.
+    pub const RP: Self = Rtype { number: 17 };
+    /// An IPv6 address: RFC 3596.
+    pub const AAAA: Self = Rtype { number: 28 };
+    /// A place on earth: RFC 1876.
+    pub const LOC: Self = Rtype { number: 29 };
+    /// The place of a service: RFC 2782.
+    pub const SRV: Self = Rtype { number: 33 };
+    /// A rule that rewrites a name: RFC 3403.
+    pub const NAPTR: Self = Rtype { number: 35 };
+    /// Another name for all names under one: RFC 6672.
+    pub const DNAME: Self = Rtype { number: 39 };
+    /// The options of EDNS: RFC 6891.
+    pub const OPT: Self = Rtype { number: 41 };
+    /// The digest of a key of the zone below: RFC 4034, 5.
+    pub const DS: Self = Rtype { number: 43 };
+    /// The fingerprint of a key of SSH: RFC 4255.
+    pub const SSHFP: Self = Rtype { number: 44 };
+    /// A signature of records: RFC 4034, 3.
+    pub const RRSIG: Self = Rtype { number: 46 };
+    /// The next name, and the types that a name has: RFC 4034, 4.
+    pub const NSEC: Self = Rtype { number: 47 };
+    /// A key of a zone: RFC 4034, 2.
+    pub const DNSKEY: Self = Rtype { number: 48 };
+    /// The next hash of a name, and the types that a name has: RFC 5155, 3.
+    pub const NSEC3: Self = Rtype { number: 50 };
+    /// How names of a zone are hashed: RFC 5155, 4.
+    pub const NSEC3PARAM: Self = Rtype { number: 51 };
+    /// A certificate or key of a TLS server: RFC 6698.
+    pub const TLSA: Self = Rtype { number: 52 };
+    /// A certificate or key for S/MIME: RFC 8162.
+    pub const SMIMEA: Self = Rtype { number: 53 };
+    /// The DS that a zone wants above it: RFC 7344.
+    pub const CDS: Self = Rtype { number: 59 };
+    /// The DNSKEY whose DS a zone wants above it: RFC 7344.
+    pub const CDNSKEY: Self = Rtype { number: 60 };
+    /// A key of OpenPGP: RFC 7929.
+    pub const OPENPGPKEY: Self = Rtype { number: 61 };
+    /// The digest of a zone: RFC 8976.
+    pub const ZONEMD: Self = Rtype { number: 63 };
+    /// The ends of a service and their parameters: RFC 9460.
+    pub const SVCB: Self = Rtype { number: 64 };
+    /// The same of HTTPS: RFC 9460, 9.
+    pub const HTTPS: Self = Rtype { number: 65 };
+    /// Who may send mail, in a type that TXT replaced: RFC 7208, 3.1.
+    pub const SPF: Self = Rtype { number: 99 };
+    /// An exchange of keys: RFC 2930.
+    pub const TKEY: Self = Rtype { number: 249 };
+    /// A signature of a message: RFC 8945.
+    pub const TSIG: Self = Rtype { number: 250 };
+    /// A question for what changed in a zone: RFC 1995.
+    pub const IXFR: Self = Rtype { number: 251 };
+    /// A question for a whole zone.
+    pub const AXFR: Self = Rtype { number: 252 };
+    /// A question for all records.
+    pub const ANY: Self = Rtype { number: 255 };
+    /// An address on the web: RFC 7553.
+    pub const URI: Self = Rtype { number: 256 };
+    /// Who may issue certificates: RFC 8659.
+    pub const CAA: Self = Rtype { number: 257 };
+
+    /// The type of a number.
+    pub fn from_int(number: u16) -> Self
+        ensures { result ≡ number }
+    {
+        Rtype { number }
+    }
+
+    /// Its number.
+    pub fn to_int(self) -> u16
+        ensures { result ≡ self }
+    {
+        self.number
+    }
+}
+
+/// The class of a record or a question: RFC 1035, 3.2.4 and 3.2.5.
+#[derive(Clone, Copy, Debug, PartialEq, Eq, PartialOrd, Ord, Hash)]
+pub struct Class {
+    number: u16,
+}
+
+impl Model for Class {
+    ghost use Rattle.std.specs.Prelude.{ℕ};
+
+    ghost Value = { ℕ };
+
+    ghost view = { λ class. class.number };
+
+    ghost inverse = { λ n. record { number = n } };
+}
+
+impl Class {
+    /// The Internet.
+    pub const IN: Self = Class { number: 1 };
+    /// Chaosnet.
+    pub const CH: Self = Class { number: 3 };
+    /// Hesiod.
+    pub const HS: Self = Class { number: 4 };
+    /// No class, in updates: RFC 2136, 1.3.
+    pub const NONE: Self = Class { number: 254 };
+    /// A question for any class.
+    pub const ANY: Self = Class { number: 255 };
+
+    /// The class of a number.
+    pub fn from_int(number: u16) -> Self
+        ensures { result ≡ number }
+    {
+        Class { number }
+    }
+
+    /// Its number.
+    pub fn to_int(self) -> u16
+        ensures { result ≡ self }
+    {
+        self.number
+    }
+}
+
+/// What kind of question a message is: RFC 1035, 4.1.1. It has four bits.
+#[derive(Clone, Copy, Debug, PartialEq, Eq, PartialOrd, Ord, Hash)]
+pub struct Opcode {
+    number: u8,
+}
+
+impl Model for Opcode {
+    ghost use Rattle.std.specs.Prelude.{ℕ, ◌<◌};
+
+    ghost Value = { ℕ };
+
+    ghost view = { λ opcode. opcode.number };
+
+    ghost inverse = { λ n. record { number = n } };
+
+    ghost invariant = { λ opcode. opcode.number < 16 };
+}
+
+impl Opcode {
+    /// A standard query.
+    pub const QUERY: Self = Opcode { number: 0 };
+    /// An inverse query.
+    pub const IQUERY: Self = Opcode { number: 1 };
+    /// A request for the state of a server.
+    pub const STATUS: Self = Opcode { number: 2 };
+    /// A notice that a zone changed: RFC 1996.
+    pub const NOTIFY: Self = Opcode { number: 4 };
+    /// An update of a zone: RFC 2136.
+    pub const UPDATE: Self = Opcode { number: 5 };
+
+    /// The opcode of a number, which is below 16.
+    pub fn from_int(number: u8) -> Self
+        requires { number < 16 }
+        ensures { result ≡ number }
+    {
+        Opcode { number }
+    }
+
+    /// Its number, which is below 16.
+    pub fn to_int(self) -> u8
+        ensures number { result ≡ self }
+        ensures most { result < 16 }
+    {
+        self.number
+    }
+}
+
+/// What a response tells of its success: RFC 1035, 4.1.1. It has four bits.
+#[derive(Clone, Copy, Debug, PartialEq, Eq, PartialOrd, Ord, Hash)]
+pub struct Rcode {
+    number: u8,
+}
+
+impl Model for Rcode {
+    ghost use Rattle.std.specs.Prelude.{ℕ, ◌<◌};
+
+    ghost Value = { ℕ };
+
+    ghost view = { λ rcode. rcode.number };
+
+    ghost inverse = { λ n. record { number = n } };
+
+    ghost invariant = { λ rcode. rcode.number < 16 };
+}
+
+impl Rcode {
+    /// No error.
+    pub const NOERROR: Self = Rcode { number: 0 };
+    /// The server could not read the question.
+    pub const FORMERR: Self = Rcode { number: 1 };
+    /// The server failed.
+    pub const SERVFAIL: Self = Rcode { number: 2 };
+    /// There is no such name.
+    pub const NXDOMAIN: Self = Rcode { number: 3 };
+    /// The server has no such kind of question.
+    pub const NOTIMP: Self = Rcode { number: 4 };
+    /// The server refuses.
+    pub const REFUSED: Self = Rcode { number: 5 };
+
+    /// The response code of a number, which is below 16.
+    pub fn from_int(number: u8) -> Self
+        requires { number < 16 }
+        ensures { result ≡ number }
+    {
+        Rcode { number }
+    }
+
+    /// Its number, which is below 16.
+    pub fn to_int(self) -> u8
+        ensures number { result ≡ self }
+        ensures most { result < 16 }
+    {
+        self.number
+    }
+}
+
+/// Types by name.
+pub(crate) static RTYPE_NAMES: [(u16, &str); 38] = [
+    (Rtype::A.number, "A"),
+    (Rtype::NS.number, "NS"),
+    (Rtype::CNAME.number, "CNAME"),
+    (Rtype::SOA.number, "SOA"),
+    (Rtype::PTR.number, "PTR"),
+    (Rtype::HINFO.number, "HINFO"),
+    (Rtype::MX.number, "MX"),
+    (Rtype::TXT.number, "TXT"),
+    (Rtype::RP.number, "RP"),
+    (Rtype::AAAA.number, "AAAA"),
+    (Rtype::LOC.number, "LOC"),
+    (Rtype::SRV.number, "SRV"),
+    (Rtype::NAPTR.number, "NAPTR"),
+    (Rtype::DNAME.number, "DNAME"),
+    (Rtype::OPT.number, "OPT"),
+    (Rtype::DS.number, "DS"),
+    (Rtype::SSHFP.number, "SSHFP"),
+    (Rtype::RRSIG.number, "RRSIG"),
+    (Rtype::NSEC.number, "NSEC"),
+    (Rtype::DNSKEY.number, "DNSKEY"),
+    (Rtype::NSEC3.number, "NSEC3"),
+    (Rtype::NSEC3PARAM.number, "NSEC3PARAM"),
+    (Rtype::TLSA.number, "TLSA"),
+    (Rtype::SMIMEA.number, "SMIMEA"),
+    (Rtype::CDS.number, "CDS"),
+    (Rtype::CDNSKEY.number, "CDNSKEY"),
+    (Rtype::OPENPGPKEY.number, "OPENPGPKEY"),
+    (Rtype::ZONEMD.number, "ZONEMD"),
+    (Rtype::SVCB.number, "SVCB"),
+    (Rtype::HTTPS.number, "HTTPS"),
+    (Rtype::SPF.number, "SPF"),
+    (Rtype::TKEY.number, "TKEY"),
+    (Rtype::TSIG.number, "TSIG"),
+    (Rtype::IXFR.number, "IXFR"),
+    (Rtype::AXFR.number, "AXFR"),
+    (Rtype::ANY.number, "ANY"),
+    (Rtype::URI.number, "URI"),
+    (Rtype::CAA.number, "CAA"),
+];
+
+/// Classes by name.
+pub(crate) static CLASS_NAMES: [(u16, &str); 5] = [
+    (Class::IN.number, "IN"),
+    (Class::CH.number, "CH"),
+    (Class::HS.number, "HS"),
+    (Class::NONE.number, "NONE"),
+    (Class::ANY.number, "ANY"),
+];
+
+// The numbers that IANA assigned to these names. A constant with another number isn't compiled.
+const _: () = prove!(
+    Opcode::QUERY.number == 0
+        && Opcode::IQUERY.number == 1
+        && Opcode::STATUS.number == 2
+        && Opcode::NOTIFY.number == 4
+        && Opcode::UPDATE.number == 5
+);
+
+const _: () = prove!(
+    Rcode::NOERROR.number == 0
+        && Rcode::FORMERR.number == 1
+        && Rcode::SERVFAIL.number == 2
+        && Rcode::NXDOMAIN.number == 3
+        && Rcode::NOTIMP.number == 4
+        && Rcode::REFUSED.number == 5
+);

@@ -1,0 +1,19 @@
+//! Data of DNS records, read from one buffer with nothing copied: what it says by the record's type and class, and its
+//! text; types, classes and the other numbers with names.
+#![tactic(auto)]
+
+pub mod base_text;
+pub mod data;
+pub mod iana;
+mod mnemonic;
+pub mod rtype_bitmap;
+pub mod svc_params;
+pub mod tag;
+mod text;
+
+pub use base_text::{write_base32hex, write_base64};
+pub use data::Data;
+pub use iana::{Class, FromStrError, Opcode, Rcode, Rtype};
+pub use rtype_bitmap::{RtypeBitmap, RtypeBitmapIter};
+pub use svc_params::{AlpnIds, SvcParam, SvcParamIter, SvcParams};
+pub use tag::{is_tag, write_tag};

@@ -1,0 +1,198 @@
+//! Parameters of SVCB and HTTPS: RFC 9460.
+use octseq::octets::Octets;
+use octseq_asserts::{Case, assert_equal, assert_true, over_each};
+use octseq_dns_data::svc_params::key::{ALPN, ECH, PORT};
+use octseq_dns_data::{SvcParam, SvcParams};
+use std::alloc::{AllocGlobal, Global};
+use std::fmt::{Display, Write};
+use std::process::Abort;
+use std::test::Fail;
+
+/// A parameter of each key with a name but that of no default protocol, and two of other keys.
+const MANY: &[u8] =
+    b"\x00\x00\x00\x04\x00\x01\x00\x03\x00\x01\x00\x06\x02h2\x02h3\x00\x03\x00\x02\x01\xBB\
+\x00\x04\x00\x08\x01\x02\x03\x04\x05\x06\x07\x08\x00\x05\x00\x01\x00\
+\x00\x06\x00\x10\x20\x01\x0D\xB8\0\0\0\0\0\0\0\0\0\0\0\x01\x00\x07\x00\x00\x02\x9B\x00\x02\"\x00";
+
+/// Six of those, without the addresses.
+const SIX: &[u8] =
+    b"\x00\x00\x00\x04\x00\x01\x00\x03\x00\x01\x00\x06\x02h2\x02h3\x00\x03\x00\x02\x01\xBB\
+\x00\x05\x00\x01\x00\x00\x07\x00\x00\x02\x9B\x00\x02\"\x00";
+
+/// What a value shows.
+fn shown<T: Display>(alloc: Global, value: &T) -> Result<String, Fail> {
+    let mut text = String::new(alloc);
+    write!(text, "{value}")?;
+    Ok(text)
+}
+
+#[test]
+fn each_parameter_shows_after_a_space(rt: HostRuntime) -> Result<(), Fail> {
+    let cases: [(&[u8], &str); 14] = [
+        (b"", ""),
+        (b"\x00\x02\x00\x00", " no-default-alpn"),
+        (b"\x00\x00\x00\x02\x00\x03", r#" mandatory="port""#),
+        (b"\x00\x05\x00\x00", " ech"),
+        (
+            b"\x00\x01\x00\x08\x07a\\b,c\"\x00",
+            r#" alpn="a\\\\b\\,c\"\000""#,
+        ),
+        (b"\x00\x01\x00\x07\x03a,b\x02h2", r#" alpn="a\\,b,h2""#),
+        (
+            MANY,
+            " mandatory=\"alpn,port\" alpn=\"h2,h3\" port=\"443\" ipv4hint=\"1.2.3.4,5.6.7.8\" ech=\"AA==\" \
+ipv6hint=\"2001:db8::1\" key7 key667=\"\\\"\\000\"",
+        ),
+        (b"\xFF\xFF\x00\x00", " key65535"),
+        (b"\x00\x03\x00\x02\x00\x35", r#" port="53""#),
+        (b"\x02\x9B\x00\x05hello", r#" key667="hello""#),
+        (b"\x02\x9B\x00\x09hello\xD2qoo", r#" key667="hello\210qoo""#),
+        (
+            b"\x00\x06\x00\x20\x20\x01\x0D\xB8\0\0\0\0\0\0\0\0\0\0\0\x01\x20\x01\x0D\xB8\0\0\0\0\0\0\0\0\0\x53\0\x01",
+            r#" ipv6hint="2001:db8::1,2001:db8::53:1""#,
+        ),
+        (
+            b"\x00\x00\x00\x04\x00\x01\x00\x04\x00\x01\x00\x09\x02h2\x05h3-19\x00\x04\x00\x04\xC0\x00\x02\x01",
+            r#" mandatory="alpn,ipv4hint" alpn="h2,h3-19" ipv4hint="192.0.2.1""#,
+        ),
+        (
+            b"\x00\x01\x00\x0C\x08f\\oo,bar\x02h2",
+            r#" alpn="f\\\\oo\\,bar,h2""#,
+        ),
+    ];
+    for (octets, wanted) in cases {
+        let params = SvcParams::from_octets(octets)?;
+        assert_equal!(&rt, params.as_slice(), octets);
+        let text = shown(rt.alloc(), &params)?;
+        assert_equal!(&rt, text.as_str(), wanted);
+    }
+    Ok(())
+}
+
+#[test]
+fn what_has_no_form_is_malformed(rt: HostRuntime) -> Result<(), Fail> {
+    let cases: [&[u8]; 33] = [
+        // a key, a length or a value that is cut off
+        b"\x00",
+        b"\x00\x03",
+        b"\x00\x03\x00",
+        b"\x00\x03\x00\x02",
+        b"\x00\x03\x00\x02\x00",
+        b"\x00\x07\x00\x02\x00",
+        // keys that don't ascend
+        b"\x00\x03\x00\x02\x00\x35\x00\x01\x00\x03\x02h2",
+        b"\x00\x03\x00\x02\x00\x35\x00\x03\x00\x02\x00\x35",
+        b"\xFF\xFF\x00\x00\x00\x00\x00\x02\x00\x01",
+        // mandatory: none, half a key, 0, twice the same, descending
+        b"\x00\x00\x00\x00",
+        b"\x00\x00\x00\x01\x01",
+        b"\x00\x00\x00\x03\x00\x01\x00",
+        b"\x00\x00\x00\x02\x00\x00",
+        b"\x00\x00\x00\x04\x00\x03\x00\x03",
+        b"\x00\x00\x00\x04\x00\x04\x00\x03",
+        // alpn: none, an empty id first and last, an id that is cut off
+        b"\x00\x01\x00\x00",
+        b"\x00\x01\x00\x01\x00",
+        b"\x00\x01\x00\x04\x00\x02h2",
+        b"\x00\x01\x00\x04\x02h2\x00",
+        b"\x00\x01\x00\x03\x03h2",
+        // no-default-alpn: an octet
+        b"\x00\x02\x00\x01\x00",
+        // port: none, one octet, three
+        b"\x00\x03\x00\x00",
+        b"\x00\x03\x00\x01\x35",
+        b"\x00\x03\x00\x03\x00\x35\x00",
+        // ipv4hint: none, three octets, five
+        b"\x00\x04\x00\x00",
+        b"\x00\x04\x00\x03\x01\x02\x03",
+        b"\x00\x04\x00\x05\x01\x02\x03\x04\x05",
+        // ipv6hint: none, four octets, fifteen, seventeen
+        b"\x00\x06\x00\x00",
+        b"\x00\x06\x00\x04\x01\x02\x03\x04",
+        b"\x00\x06\x00\x0F0123456789abcde",
+        b"\x00\x06\x00\x110123456789abcdefg",
+        // a form that is broken after one that isn't
+        b"\x00\x01\x00\x03\x02h2\x00\x02\x00\x01\x00",
+        b"\x00\x05\x00\x01\x00\x06\x00\x00",
+    ];
+    for octets in cases {
+        assert_true!(&rt, SvcParams::from_octets(octets).is_err());
+    }
+    Ok(())
+}
+
+#[test]
+fn parameters_end_where_one_of_them_does(rt: HostRuntime) -> Result<(), Fail> {
+    let ends = [0, 8, 18, 24, 36, 41, 61, 65, 71];
+    assert_equal!(&rt, MANY.len(), 71);
+    for len in 0..=MANY.len() {
+        let Some(front) = MANY.get(..len) else {
+            return Err("no such front".into());
+        };
+        assert_equal!(
+            &rt,
+            SvcParams::from_octets(front).is_ok(),
+            ends.contains(&len)
+        );
+    }
+    Ok(())
+}
+
+/// The parameters of `SIX`, in their order.
+#[derive(Drop)]
+struct AreSix;
+
+impl<H: Abort + AllocGlobal> Case<H> for AreSix {
+    fn holds<R: Octets + Copy>(&self, rt: &H, octets: R) -> Result<(), Fail> {
+        let params = SvcParams::from_octets(octets)?.clone()?;
+        let mut keys = [0_u16; 6];
+        let mut sizes = [0_usize; 6];
+        let mut count = 0_usize;
+        for param in params.iter().clone()? {
+            assert_true!(rt, count < 6);
+            if count < 6 {
+                keys[count] = param.key;
+                sizes[count] = param.octets.remaining();
+                count += 1;
+            }
+        }
+        assert_equal!(rt, count, 6);
+        assert_equal!(rt, keys, [0, 1, 3, 5, 7, 667]);
+        assert_equal!(rt, sizes, [4, 6, 2, 1, 0, 2]);
+        assert_true!(rt, params.get(2).is_none());
+        let Some(port) = params.get(PORT) else {
+            return Err("no port".into());
+        };
+        assert_equal!(rt, port.octets.peek_all(), b"\x01\xBB".as_slice());
+        assert_true!(rt, port.alpn_ids().is_none());
+        let Some(ech) = params.get(ECH) else {
+            return Err("no ech".into());
+        };
+        let text = shown(rt.alloc(), &ech)?;
+        assert_equal!(rt, text.as_str(), r#"ech="AA==""#);
+        let Some(alpn) = params.get(ALPN) else {
+            return Err("no alpn".into());
+        };
+        has_two_ids(rt, &alpn)
+    }
+}
+
+/// The ids `h2` and `h3`.
+fn has_two_ids<R: Octets + Copy>(rt: &impl Abort, alpn: &SvcParam<R>) -> Result<(), Fail> {
+    let Some(ids) = alpn.clone()?.alpn_ids() else {
+        return Err("no ids".into());
+    };
+    let mut left = ids.clone()?;
+    let (Some(first), Some(second)) = (left.next(), left.next()) else {
+        return Err("fewer ids".into());
+    };
+    assert_equal!(rt, first.peek_all(), b"h2".as_slice());
+    assert_equal!(rt, second.peek_all(), b"h3".as_slice());
+    assert_true!(rt, left.next().is_none());
+    Ok(())
+}
+
+#[test]
+fn parameters_are_read_from_each_kind_of_octets(rt: HostRuntime) -> Result<(), Fail> {
+    over_each(&rt, &AreSix, SIX)
+}

@@ -1,0 +1,103 @@
+-- Aliases, and the chains of them.
+use Rattle.std.proofs.Common.{◌≡◌, ℕ, zero, suc, ◌+◌, ◌*◌, ◌≤◌, inl, inr, List, [], ◌∷◌, Some, None, refl, sym, ap, ◌∙◌}
+use Rattle.std.proofs.Common.{subst, arith}
+use Rattle.std.proofs.lemmas.Option.{none-some, same_Some}
+use Rattle.std.specs.Prelude.{slice_get}
+use Rattle.octseq.specs.declared.AsOctets.{Ghosts}
+use Rattle.octseq_dns_data.specs.Data.{ParsedRdata}
+use Rattle.octseq_dns_data.specs.Typed.{rdata_of}
+use Rattle.octseq_dns_data.specs.declared.data.Data.{Data}
+use Rattle.octseq_dns_data.specs.declared.data.Data.TheVariants as kind
+use Rattle.octseq_dns_message.specs.Canonical.{IsAlias, LeadsTo, Chain, IsCanonical}
+use Rattle.octseq_dns_message.specs.Entry.{Question, Record}
+use Rattle.octseq_dns_message.proofs.RecordData.{one_said}
+use Rattle.octseq_dns_name.specs.Name.{Name}
+use Rattle.octseq_dns_name.specs.declared.name.ParsedName.{ParsedName}
+
+cname_in : Name → ParsedRdata → Name
+cname_in none (ParsedRdata.cname name) = name
+cname_in none _ = none
+
+-- a record has one target at most
+pub one_alias : (class : ℕ) (name : Name) (r : Record) (a b : Name) → IsAlias class name r a → IsAlias class name r b
+    → a ≡ b
+unfolding cname_in
+one_alias class name r a b x y =
+    ap (cname_in a) (one_said r (ParsedRdata.cname a) (ParsedRdata.cname b) (inl x.data_is) (inl y.data_is))
+
+-- and so have records
+pub one_target : (class : ℕ) (records : List Record) (name a b : Name) → LeadsTo class records name a
+    → LeadsTo class records name b → a ≡ b
+one_target class [] name a b x y = absurd x
+one_target class (r ∷ records) name a b (inl x) (inl y) = one_alias class name r a b x y
+one_target class (r ∷ records) name a b (inl x) (inr y) = absurd (y.0 a x)
+one_target class (r ∷ records) name a b (inr x) (inl y) = absurd (x.0 b y)
+one_target class (r ∷ records) name a b (inr x) (inr y) = one_target class records name a b x.1 y.1
+
+-- a chain from a name with a target is one more than the chain from the target
+pub chain_more : (class : ℕ) (records : List Record) (n : ℕ) (name target last : Name)
+    → LeadsTo class records name target → Chain class records n name last
+    → (m : ℕ) × (n ≡ m + 1) × Chain class records m target last
+chain_more class records zero name target last leads is = absurd (is.1 target leads)
+chain_more class records (suc n) name target last leads is = (
+  n,
+  omega arith,
+  subst (λ x. Chain class records n x last) (one_target class records name is.0 target is.1 leads) is.2,
+)
+
+-- a chain has one end, and one length
+pub one_chain : (class : ℕ) (records : List Record) (n m : ℕ) (name a b : Name)
+    → Chain class records n name a → Chain class records m name b → a ≡ b
+one_chain class records zero zero name a b x y = x.0 ∙ sym y.0
+one_chain class records zero (suc m) name a b x y = absurd (x.1 y.0 y.1)
+one_chain class records (suc n) zero name a b x y = absurd (y.1 x.0 x.1)
+one_chain class records (suc n) (suc m) name a b x y =
+    one_chain class records n m y.0 a b
+    (subst (λ t. Chain class records n t a) (one_target class records name x.0 y.0 x.1 y.1) x.2) y.2
+
+pub one_canonical : (questions : List Question) (answers : List Record) (a b : Name)
+    → IsCanonical questions answers a → IsCanonical questions answers b → a ≡ b
+one_canonical [] answers a b x y = absurd x
+one_canonical (q ∷ questions) answers a b x y = one_chain q.qclass answers x.0 y.0 q.qname a b x.2 y.2
+
+-- what leads from a name after a record that makes it no alias
+pub passed_over : (class : ℕ) (r : Record) (records : List Record) (name target : Name)
+    → ((other : Name) → IsAlias class name r other → ⊥) → LeadsTo class (r ∷ records) name target
+    → LeadsTo class records name target
+passed_over class r records name target none (inl x) = absurd (none target x)
+passed_over class r records name target none (inr x) = x.1
+
+-- data that is read as the data of a CNAME is that
+pub cname_named : {R : Type 0} {g : Ghosts R} (found : Data R g) (target : Name)
+    → rdata_of found ≡ ParsedRdata.cname target → (name : ParsedName R g) × (found ≡ kind.Cname name)
+cname_named (kind.Cname name) target same = (name, refl)
+cname_named found target same = absurd cc
+
+-- a message with a first question has the canonical name that its chain ends with
+pub canonical_of : (questions : List Question) (answers : List Record) (q : Question) (n : ℕ) (last : Name)
+    → Some q ≡ slice_get questions 0 → n ≤ 15 → Chain q.qclass answers n q.qname last
+    → IsCanonical questions answers last
+canonical_of [] answers q n last first few is = absurd (none-some q (sym first))
+canonical_of (x ∷ questions) answers q n last first few is =
+    (n, few, subst (λ q. Chain q.qclass answers n q.qname last) (same_Some q x first) is)
+
+-- and no other
+pub chain_of : (questions : List Question) (answers : List Record) (q : Question) (last : Name)
+    → Some q ≡ slice_get questions 0 → IsCanonical questions answers last
+    → (n : ℕ) × (n ≤ 15) × Chain q.qclass answers n q.qname last
+chain_of [] answers q last first is = absurd is
+chain_of (x ∷ questions) answers q last first is =
+    (is.0, is.1, subst (λ q. Chain q.qclass answers is.0 q.qname last) (sym (same_Some q x first)) is.2)
+
+-- a message without a question has none
+pub no_canonical : (questions : List Question) (answers : List Record) (last : Name)
+    → None ≡ slice_get questions 0 → IsCanonical questions answers last → ⊥
+no_canonical [] answers last first is = is
+no_canonical (x ∷ questions) answers last first is = none-some x first
+
+-- the turns of one alias more
+pub more_turns : (followed each start before after : ℕ) → before ≤ start + followed * each → after ≤ before + each
+    → after ≤ start + (followed + 1) * each
+more_turns followed each start before after most more =
+    let one : (followed + 1) * each ≡ followed * each + each = grind arith in
+    omega (arith, one, most, more)

@@ -1,5 +1,0 @@
-use Rattle.octseq_dns_message.proofs.Rdata.{one_said}
-use Rattle.octseq_dns_message.proofs.data.one_reading_of_data.Goals as goal
-
-pub returns : goal.returns
-returns c = one_said

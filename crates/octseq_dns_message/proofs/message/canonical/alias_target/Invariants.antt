@@ -1,0 +1,19 @@
+-- What was passed makes the name no alias.
+use Rattle.std.proofs.Common.{◌+◌, ◌*◌, ◌≤◌, length}
+use Rattle.octseq_dns_message.specs.Canonical.{LeadsTo}
+use Rattle.octseq_dns_message.specs.Walk.{records_left}
+use Rattle.octseq_dns_name.specs.Name.{Name}
+use Rattle.octseq_dns_name.specs.Read.{name_of}
+use Rattle.octseq_dns_message.proofs.message.canonical.alias_target.Given as goal
+
+abbrev pub invariant-loop-entry : goal.invariant-loop-entry
+invariant-loop-entry g l = record {
+  ready : (goal.iterator-loop-entry g).can_next l.entry-iterator;
+  finite : (goal.iterator-loop-entry g).is_finite l.entry-iterator;
+  on : (target : Name) → LeadsTo l.class (records_left l.entry-iterator) (name_of l.name) target
+      → LeadsTo l.class (records_left l.fn.records) (name_of l.name) target;
+  back : (target : Name) → LeadsTo l.class (records_left l.fn.records) (name_of l.name) target
+      → LeadsTo l.class (records_left l.entry-iterator) (name_of l.name) target;
+  turns : l.turns + 511 * length (records_left l.entry-iterator)
+      ≤ l.fn.turns + 511 * length (records_left l.fn.records);
+}

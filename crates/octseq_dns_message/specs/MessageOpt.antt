@@ -1,0 +1,12 @@
+-- The record of EDNS of a message: RFC 6891, 6.1.1.
+use Rattle.std.specs.Prelude.{◌≡◌, List, [], ◌∷◌, Option, Some, None}
+use Rattle.octseq_dns_message.specs.Entry.{Record}
+use Rattle.octseq_dns_message.specs.OfType.{of_type}
+use Rattle.octseq_dns_message.specs.Opt.{Opt, IsOpt}
+
+-- What the additional records of a message say as EDNS: nothing, where none is of type OPT; or what the one of them
+-- says that is, which is of the root.
+abbrev pub HaveOpt : List Record → Option Opt → Type 0
+HaveOpt additionals None = of_type 41 additionals ≡ []
+HaveOpt additionals (Some opt) =
+    (r : Record) × (of_type 41 additionals ≡ r ∷ []) × (r.owner.labels ≡ []) × IsOpt r opt

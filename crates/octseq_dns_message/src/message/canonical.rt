@@ -1,0 +1,108 @@
+//! The canonical name of the name in the question of a message: RFC 1034, 3.6.2.
+ghost use Rattle.std.specs.Prelude.{◌≡◌, ◌+◌, ◌*◌, ◌≤◌, List, length, IsSome, IsNone, IfSome};
+ghost use Rattle.octseq_dns_message.specs.Canonical.{IsAlias, LeadsTo, IsCanonical};
+ghost use Rattle.octseq_dns_message.specs.Entry as said;
+ghost use Rattle.octseq_dns_message.specs.Said.{record_of};
+ghost use Rattle.octseq_dns_message.specs.Walk.{records_left};
+ghost use Rattle.octseq_dns_name.specs.Name as named;
+ghost use Rattle.octseq_dns_name.specs.Read.{name_of};
+
+use crate::message::{Message, Record, Records};
+use octseq::AsOctets;
+use octseq::utf8::Turns;
+use octseq_dns_data::{Class, Data, Rtype};
+use octseq_dns_name::ParsedName;
+
+/// How many aliases are followed at most from the name of a question.
+pub const ALIAS_MAX: usize = 15;
+
+/// A message has one canonical name at most.
+///
+/// It does nothing. A caller that calls it has the law in its proof.
+pub fn one_canonical_name()
+    ensures { (questions : List said.Question) (answers : List said.Record) (name other : named.Name)
+        → IsCanonical questions answers name → IsCanonical questions answers other → name ≡ other }
+{}
+
+impl<R: AsOctets + Copy> Message<R> {
+    ghost use Rattle.octseq_dns_message.specs.Parsed.{questions_of, answers_of};
+
+    /// The name of its first question, or where the answers make that an alias, the name that the aliases lead to.
+    ///
+    /// While an answer of type CNAME, of the question's class, has the name, the name in the data of the first such
+    /// answer takes its place; an answer whose data isn't a name isn't counted. There is none where the message has no
+    /// question, nor where more than 15 aliases follow one another, as in a loop of them.
+    pub fn canonical_name(&self) -> Option<ParsedName<R>>
+        ensures canonical { IfSome result (λ name.
+            IsCanonical (questions_of self.now) (answers_of self.now) (name_of name)) }
+        ensures none { IsNone result → (name : named.Name)
+            → ¬ IsCanonical (questions_of self.now) (answers_of self.now) name }
+    {
+        self.canonical_name_counted(&mut Turns::new())
+    }
+
+    /// The same as [`canonical_name`](Self::canonical_name). It counts a turn for each answer that it looks at, and the
+    /// turns that the names in data take.
+    pub fn canonical_name_counted(&self, turns: &mut Turns) -> Option<ParsedName<R>>
+        ensures canonical { IfSome result (λ name.
+            IsCanonical (questions_of self.now) (answers_of self.now) (name_of name)) }
+        ensures none { IsNone result → (name : named.Name)
+            → ¬ IsCanonical (questions_of self.now) (answers_of self.now) name }
+        ensures turns { turns.new ≤ turns.old + 16 * (511 * length (answers_of self.now)) }
+    {
+        let question = self.first_question()?;
+        let class = question.qclass();
+        let mut name = question.qname();
+        for followed in 0..ALIAS_MAX + 1 {
+            match alias_target(self.answers(), class, &name, turns) {
+                Some(target) => name = target,
+                None => return Some(name),
+            }
+        }
+        None
+    }
+}
+
+/// The target of the first of the records that make a name an alias.
+fn alias_target<R: AsOctets + Copy>(
+    records: Records<R>,
+    class: Class,
+    name: &ParsedName<R>,
+    turns: &mut Turns,
+) -> Option<ParsedName<R>>
+    ensures target { IfSome result (λ target.
+        LeadsTo class (records_left records) (name_of name.now) (name_of target)) }
+    ensures none { IsNone result → (target : named.Name)
+        → ¬ LeadsTo class (records_left records) (name_of name.now) target }
+    ensures turns { turns.new ≤ turns.old + 511 * length (records_left records) }
+{
+    for entry in records {
+        turns.tick();
+        if let Some(target) = target_in(&entry, class, name, turns) {
+            return Some(target);
+        }
+    }
+    None
+}
+
+/// The target of a record, where it makes a name an alias.
+fn target_in<R: AsOctets + Copy>(
+    entry: &Record<R>,
+    class: Class,
+    name: &ParsedName<R>,
+    turns: &mut Turns,
+) -> Option<ParsedName<R>>
+    ensures alias { IfSome result (λ target.
+        IsAlias class (name_of name.now) (record_of entry.now) (name_of target)) }
+    ensures none { IsNone result → (target : named.Name)
+        → ¬ IsAlias class (name_of name.now) (record_of entry.now) target }
+    ensures turns { turns.new ≤ turns.old + 510 }
+{
+    if entry.rtype() != Rtype::CNAME || entry.class() != class || !entry.owner().name_eq(name) {
+        return None;
+    }
+    match entry.data_counted(turns) {
+        Data::Cname(target) => Some(target),
+        _ => None,
+    }
+}

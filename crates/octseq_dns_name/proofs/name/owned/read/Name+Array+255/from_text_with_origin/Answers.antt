@@ -1,0 +1,51 @@
+use Rattle.std.proofs.Common.{refl, ap, subst, rules}
+use Rattle.octseq.specs.Window.{whole}
+use Rattle.octseq_dns_name.specs.OneName.{Named, named_once}
+use Rattle.octseq_dns_name.specs.Origin.{IsRefusedWithOrigin, SpellsWithOrigin}
+use Rattle.octseq_dns_name.specs.Read.{labels_of}
+use Rattle.octseq_dns_name.proofs.Origins.{no_name_with_origin, told_with_origin}
+use Rattle.octseq_dns_name.proofs.Refusals.{ok_no_err}
+use Rattle.octseq_dns_name.proofs.Wires.{wire_named}
+use Rattle.octseq_dns_name.proofs.name.owned.read.Name+Array+255.from_text_with_origin.Goals as goal
+
+pub returns-in_err-octets-clause-malformed : goal.returns-in_err-octets-clause-malformed
+returns-in_err-octets-clause-malformed g c = λ _.
+    let origin = labels_of c.args.origin.now in
+    let is = subst (IsRefusedWithOrigin origin c.in_err-octets.field-0.0) c.as_bytes.ensures.value
+    c.in_err-octets.ensures.refused in
+    no_name_with_origin origin c.in_err-octets.field-0.0 c.args.text.now is
+
+pub returns-in_err-octets-clause-refused : goal.returns-in_err-octets-clause-refused
+returns-in_err-octets-clause-refused g c =
+    let origin = labels_of c.args.origin.now in
+    let is = subst (IsRefusedWithOrigin origin c.in_err-octets.field-0.0) c.as_bytes.ensures.value
+    c.in_err-octets.ensures.refused in
+    told_with_origin origin c.from_residual.result c.in_err-octets.field-0.0 c.args.text.now (search rules) is
+
+pub invariant_of-result : goal.invariant_of-result
+invariant_of-result g c =
+    let octets = c.in_ok-octets.octets.content in
+    let made = c.in_ok-octets.ensures.ok in
+    record {
+      named = (made.0, wire_named octets made.0 made.1 made.2 made.3);
+      plain = made.1;
+    }
+
+pub returns-clause-ok : goal.returns-clause-ok
+returns-clause-ok g c =
+    let origin = labels_of c.args.origin.now in
+    let octets = c.in_ok-octets.octets.content in
+    let made = c.in_ok-octets.ensures.ok in
+    let here : Named (whole octets) = (made.0, wire_named octets made.0 made.1 made.2 made.3) in
+    let same = ap (λ named. named.0) (named_once (whole octets) here c.result-1.given.0) in
+    subst (λ labels. SpellsWithOrigin origin labels c.args.text.now) same
+    (subst (SpellsWithOrigin origin made.0) c.as_bytes.ensures.value made.4)
+
+pub returns-clause-refused : goal.returns-clause-refused
+returns-clause-refused g c = λ fault.
+    let origin = labels_of c.args.origin.now in
+    let made = c.in_ok-octets.ensures.ok in (
+      λ told. absurd (ok_no_err _ _ fault refl told),
+      λ is. absurd (no_name_with_origin origin fault c.args.text.now is made.0 made.2 made.3
+          (subst (SpellsWithOrigin origin made.0) c.as_bytes.ensures.value made.4)),
+    )

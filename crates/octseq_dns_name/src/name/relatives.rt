@@ -1,0 +1,110 @@
+//! Names beside others: the parent of a name, the names that it ends with, and those that it begins with.
+ghost use Rattle.std.specs.Prelude.{◌≡◌, ◌≤◌, ◌↔◌, ⊤, [], length, drop, IsTrue, IsNone, IfSome};
+ghost use Rattle.octseq_dns_name.specs.Read.{labels_of, labels_left, place_of};
+ghost use Rattle.octseq_dns_name.specs.Relatives.{EndsWith, StartsWith, FirstEndsAt, suffixes};
+
+use crate::name::compare::{labels_eq, passed};
+use crate::name::step::next_label;
+use crate::name::{Labels, ParsedName, a_name_has_labels};
+use octseq::AsOctets;
+use std::alloc::AllocError;
+
+impl<R: AsOctets + Copy> ParsedName<R> {
+    ghost use Rattle.octseq_dns_name.specs.Suffixes.{suffixes_left};
+
+    /// The name without its first label, or `None` of the root. It is in the same octets: where the first label ends.
+    pub fn parent(&self) -> Option<ParsedName<R>>
+        ensures root { IsNone result ↔ (labels_of self.now ≡ []) }
+        ensures labels { IfSome result (λ parent. labels_of parent ≡ drop 1 (labels_of self.now)) }
+        ensures place { IfSome result (λ parent. FirstEndsAt (place_of self.now) (place_of parent)) }
+    {
+        let mut parser = self.parser;
+        let mut start = parser.pos();
+        let label = next_label(&mut parser, &mut start)?;
+        let len = self.len - (1 + label.remaining());
+        Some(ParsedName { parser, len })
+    }
+
+    /// The name, its parent, and so on to the root: at most 128 names.
+    pub fn iter_suffixes(&self) -> Suffixes<R>
+        ensures suffixes { suffixes_left result ≡ suffixes (labels_of self.now) }
+        ensures most { length (suffixes_left result) ≤ 128 }
+    {
+        a_name_has_labels(self);
+        Suffixes { name: Some(*self) }
+    }
+
+    /// Whether its last labels are those of another name, as those of the root always are.
+    pub fn ends_with<S: AsOctets + Copy>(&self, base: &ParsedName<S>) -> bool
+        ensures { IsTrue result ↔ EndsWith (labels_of self.now) (labels_of base.now) }
+    {
+        let (count, others) = (self.label_count(), base.label_count());
+        if count < others {
+            return false;
+        }
+        labels_eq(passed(self.labels(), count - others), base.labels())
+    }
+
+    /// Whether its first labels are those of another name. The root of the other, which is no label, is left aside.
+    pub fn starts_with<S: AsOctets + Copy>(&self, base: &ParsedName<S>) -> bool
+        ensures { IsTrue result ↔ StartsWith (labels_of self.now) (labels_of base.now) }
+    {
+        labels_start_with(self.labels(), base.labels())
+    }
+}
+
+/// Whether the first labels are others.
+fn labels_start_with<R: AsOctets + Copy, S: AsOctets + Copy>(
+    labels: Labels<R>,
+    others: Labels<S>,
+) -> bool
+    ensures { IsTrue result ↔ StartsWith (labels_left labels) (labels_left others) }
+{
+    let mut ahead = labels;
+    for other in others {
+        match ahead.next() {
+            Some(label) => {
+                if !label.label_eq(&other) {
+                    return false;
+                }
+            }
+            None => return false,
+        }
+    }
+    true
+}
+
+/// A name, its parent, and so on to the root, one at a time.
+#[derive(Debug)]
+pub struct Suffixes<R: AsOctets> {
+    name: Option<ParsedName<R>>,
+}
+
+impl<R: AsOctets + Copy> Copy for Suffixes<R> {}
+
+impl<R: AsOctets + Copy> Clone for Suffixes<R> {
+    ghost is_clone = { λ suffixes copy. copy ≡ suffixes };
+
+    ghost is_infallible = { λ _. ⊤ };
+
+    fn clone(&self) -> Result<Self, AllocError> {
+        Ok(*self)
+    }
+}
+
+impl<R: AsOctets + Copy> Iterator for Suffixes<R> {
+    ghost use Rattle.std.specs.Iterator.{YieldsFirstBy, item_count};
+    ghost use Rattle.octseq_dns_name.specs.Suffixes.{suffixes_left};
+
+    type Item = ParsedName<R>;
+
+    ghost next_gives = { YieldsFirstBy labels_of suffixes_left };
+
+    ghost remaining = { item_count suffixes_left };
+
+    fn next(&mut self) -> Option<ParsedName<R>> {
+        let name = self.name?;
+        self.name = name.parent();
+        Some(name)
+    }
+}

@@ -1,0 +1,364 @@
+//! Names of DNS beside others: parents, suffixes, first and last labels, and texts with an origin.
+use octseq::{Array, Octets, Parser};
+use octseq_asserts::{Case, assert_equal, over_each};
+use octseq_dns_name::error::FromTextError;
+use octseq_dns_name::{Name, ParsedName};
+use std::alloc::{AllocGlobal, Global};
+use std::process::Abort;
+use std::test::Fail;
+
+/// The name at a place of a message.
+fn name_at<R: Octets + Copy>(octets: R, place: usize) -> Result<ParsedName<R>, Fail> {
+    let mut parser = Parser::from_ref(octets);
+    parser.seek(place)?;
+    Ok(ParsedName::parse(&mut parser)?)
+}
+
+/// `WWW.example.COM.` at 16, by pointers; `example.COM.` at 6, `COM.` at 1, the root at 0, and pointers alone at 22 and
+/// 24.
+const MESSAGE: &[u8] = b"\x00\x03COM\x00\x07example\xC0\x01\x03WWW\xC0\x06\xC0\x10\xC0\x00";
+
+/// A name has a parent of this text, or none.
+fn has_parent<R: Octets + Copy>(
+    rt: &(impl Abort + AllocGlobal),
+    name: &ParsedName<R>,
+    text: Option<&str>,
+) -> Result<(), Fail> {
+    match name.parent() {
+        Some(parent) => {
+            let shown = format!(in rt.alloc(); "{parent}")?;
+            assert_equal!(rt, Some(shown.as_str()), text);
+            assert_equal!(rt, parent.len() < name.len(), true);
+        }
+        None => assert_equal!(rt, None, text),
+    }
+    Ok(())
+}
+
+/// The place of the parent of the name at a place.
+fn parent_place<R: Octets + Copy>(octets: R, place: usize) -> Result<Option<usize>, Fail> {
+    match name_at(octets, place)?.parent() {
+        Some(parent) => Ok(Some(parent.parser().pos())),
+        None => Ok(None),
+    }
+}
+
+/// A name has suffixes of these texts.
+fn has_suffixes<R: Octets + Copy>(
+    rt: &(impl Abort + AllocGlobal),
+    name: &ParsedName<R>,
+    texts: &[&str],
+) -> Result<(), Fail> {
+    assert_equal!(rt, name.iter_suffixes().count(), texts.len());
+    for (suffix, text) in name.iter_suffixes().zip(texts) {
+        let shown = format!(in rt.alloc(); "{suffix}")?;
+        assert_equal!(rt, shown.as_str(), *text);
+    }
+    Ok(())
+}
+
+#[derive(Drop)]
+struct HasParents;
+
+impl<H: Abort + AllocGlobal> Case<H> for HasParents {
+    fn holds<R: Octets + Copy>(&self, rt: &H, octets: R) -> Result<(), Fail> {
+        has_parent(rt, &name_at(octets, 16)?, Some("example.COM."))?;
+        has_parent(rt, &name_at(octets, 22)?, Some("example.COM."))?;
+        has_parent(rt, &name_at(octets, 6)?, Some("COM."))?;
+        has_parent(rt, &name_at(octets, 1)?, Some("."))?;
+        has_parent(rt, &name_at(octets, 0)?, None)?;
+        has_parent(rt, &name_at(octets, 24)?, None)
+    }
+}
+
+#[test]
+fn a_parent_is_without_the_first_label(rt: HostRuntime) -> Result<(), Fail> {
+    over_each(&rt, &HasParents, MESSAGE)
+}
+
+#[test]
+fn a_parent_is_where_the_first_label_ends(rt: HostRuntime) -> Result<(), Fail> {
+    for (place, wanted) in [
+        (0, None),
+        (1, Some(5)),
+        (6, Some(14)),
+        (16, Some(20)),
+        (22, Some(20)),
+        (24, None),
+    ] {
+        assert_equal!(&rt, parent_place(MESSAGE, place)?, wanted);
+    }
+    Ok(())
+}
+
+#[test]
+fn a_parent_is_after_127_pointers_at_most(rt: HostRuntime) -> Result<(), Fail> {
+    let mut octets = b"\x01a\x00\xC0\x00".to_vec(rt.alloc())?;
+    for count in 0..126u16 {
+        for octet in (0xC003 + 2 * count).to_be_bytes() {
+            octets.push(octet)?;
+        }
+    }
+    let octets = octets.as_slice();
+    assert_equal!(&rt, octets.len(), 257);
+    assert_equal!(&rt, parent_place(octets, 255)?, Some(2));
+    assert_equal!(&rt, name_at(octets, 255)?.iter_suffixes().count(), 2);
+    Ok(())
+}
+
+#[derive(Drop)]
+struct HasSuffixes;
+
+impl<H: Abort + AllocGlobal> Case<H> for HasSuffixes {
+    fn holds<R: Octets + Copy>(&self, rt: &H, octets: R) -> Result<(), Fail> {
+        let all: &[&str] = &["WWW.example.COM.", "example.COM.", "COM.", "."];
+        has_suffixes(rt, &name_at(octets, 16)?, all)?;
+        has_suffixes(rt, &name_at(octets, 22)?, all)?;
+        has_suffixes(rt, &name_at(octets, 24)?, &["."])
+    }
+}
+
+#[test]
+fn suffixes_go_on_to_the_root(rt: HostRuntime) -> Result<(), Fail> {
+    over_each(&rt, &HasSuffixes, MESSAGE)
+}
+
+/// Whether a name ends and begins with the one that a text spells.
+fn relation_of<R: Octets + Copy>(name: &ParsedName<R>, text: &str) -> Result<(bool, bool), Fail> {
+    let base = Name::from_text(text)?;
+    let (ends, starts) = (
+        name.ends_with(&base.parsed()),
+        name.starts_with(&base.parsed()),
+    );
+    Ok((ends, starts))
+}
+
+#[derive(Drop)]
+struct IsRelated;
+
+impl<H: Abort + AllocGlobal> Case<H> for IsRelated {
+    fn holds<R: Octets + Copy>(&self, rt: &H, octets: R) -> Result<(), Fail> {
+        let name = name_at(octets, 22)?;
+        for (text, wanted) in [
+            (".", (true, true)),
+            ("com.", (true, false)),
+            ("EXAMPLE.com.", (true, false)),
+            ("www.Example.Com.", (true, true)),
+            ("www.", (false, true)),
+            ("wWw.eXample.", (false, true)),
+            ("example.", (false, false)),
+            ("ww.", (false, false)),
+            ("om.", (false, false)),
+            ("wwww.example.com.", (false, false)),
+            ("www.www.example.com.", (false, false)),
+            ("www.example.com.com.", (false, false)),
+        ] {
+            assert_equal!(rt, relation_of(&name, text)?, wanted);
+        }
+        assert_equal!(rt, relation_of(&name_at(octets, 0)?, ".")?, (true, true));
+        assert_equal!(
+            rt,
+            relation_of(&name_at(octets, 0)?, "com.")?,
+            (false, false)
+        );
+        Ok(())
+    }
+}
+
+#[test]
+fn names_end_and_begin_with_others(rt: HostRuntime) -> Result<(), Fail> {
+    over_each(&rt, &IsRelated, MESSAGE)
+}
+
+#[test]
+fn a_name_of_its_own_has_relatives_too(rt: HostRuntime) -> Result<(), Fail> {
+    let name = Name::from_text("www.example.com.")?;
+    let text = format!(in rt.alloc(); "{}", name.parent().ok_or("no parent")?)?;
+    assert_equal!(&rt, text.as_str(), "example.com.");
+    assert_equal!(&rt, Name::from_text(".")?.parent().is_none(), true);
+    assert_equal!(&rt, name.iter_suffixes().count(), 4);
+    let (message, first) = (name_at(MESSAGE, 6)?, name_at(MESSAGE, 16)?);
+    assert_equal!(
+        &rt,
+        (name.ends_with(&message), name.starts_with(&message)),
+        (true, false)
+    );
+    assert_equal!(
+        &rt,
+        (name.ends_with(&first), name.starts_with(&first)),
+        (true, true)
+    );
+    let copy = message.try_to_name::<Vec<u8>>(rt.alloc())?;
+    assert_equal!(
+        &rt,
+        (copy.ends_with(&message), copy.starts_with(&first)),
+        (true, false)
+    );
+    assert_equal!(
+        &rt,
+        (copy.parent().is_some(), copy.iter_suffixes().count()),
+        (true, 3)
+    );
+    Ok(())
+}
+
+/// The text of labels of these lengths, each with a full stop after it.
+fn text_of(alloc: Global, lengths: &[usize]) -> Result<String, Fail> {
+    let mut text = String::new(alloc);
+    for len in lengths {
+        for _ in 0..*len {
+            text.push('a')?;
+        }
+        text.push('.')?;
+    }
+    Ok(text)
+}
+
+#[test]
+fn a_name_has_127_parents_at_most(rt: HostRuntime) -> Result<(), Fail> {
+    let name = Name::from_text(text_of(rt.alloc(), &[1; 127])?.as_str())?;
+    assert_equal!(&rt, (name.len(), name.label_count()), (255, 127));
+    assert_equal!(&rt, name.iter_suffixes().count(), 128);
+    for (suffix, count) in name.iter_suffixes().zip((0..128).rev()) {
+        assert_equal!(&rt, suffix.label_count(), count);
+        assert_equal!(&rt, name.ends_with(&suffix), true);
+    }
+    Ok(())
+}
+
+#[test]
+fn a_name_of_255_octets_has_relatives(rt: HostRuntime) -> Result<(), Fail> {
+    let alloc = rt.alloc();
+    let name = Name::from_text(text_of(alloc, &[63, 63, 63, 61])?.as_str())?;
+    let parent = name.parent().ok_or("no parent")?;
+    assert_equal!(&rt, (name.len(), parent.len()), (255, 191));
+    assert_equal!(
+        &rt,
+        (name.ends_with(&parent), name.starts_with(&parent)),
+        (true, false)
+    );
+    let front = Name::from_text(text_of(alloc, &[63, 63, 63])?.as_str())?;
+    assert_equal!(
+        &rt,
+        (
+            name.ends_with(&front.parsed()),
+            name.starts_with(&front.parsed())
+        ),
+        (false, true)
+    );
+    Ok(())
+}
+
+/// The text of the name that a text spells with an origin, or why it spells none.
+fn with_origin<R: Octets + Copy>(
+    alloc: Global,
+    text: &str,
+    origin: &ParsedName<R>,
+) -> Result<Result<String, FromTextError>, Fail> {
+    match Name::from_text_with_origin(text, origin) {
+        Ok(name) => Ok(Ok(format!(in alloc; "{name}")?)),
+        Err(refusal) => Ok(Err(refusal)),
+    }
+}
+
+#[derive(Drop)]
+struct IsOrigin;
+
+impl<H: Abort + AllocGlobal> Case<H> for IsOrigin {
+    fn holds<R: Octets + Copy>(&self, rt: &H, octets: R) -> Result<(), Fail> {
+        let origin = name_at(octets, 11)?;
+        for (text, wanted) in [
+            ("@", "ISI.EDU."),
+            ("VENERA", "VENERA.ISI.EDU."),
+            ("Action\\.domains", "Action\\.domains.ISI.EDU."),
+            ("A.ISI.EDU.", "A.ISI.EDU."),
+            ("VAXA.ISI", "VAXA.ISI.ISI.EDU."),
+            (".", "."),
+            ("\\@", "\\@.ISI.EDU."),
+            ("a\\.", "a\\..ISI.EDU."),
+            ("a\\046.", "a\\.."),
+        ] {
+            let spelled = with_origin(rt.alloc(), text, &origin)?;
+            assert_equal!(rt, spelled?.as_str(), wanted);
+        }
+        Ok(())
+    }
+}
+
+#[test]
+fn a_relative_name_has_the_labels_of_the_origin(rt: HostRuntime) -> Result<(), Fail> {
+    over_each(&rt, &IsOrigin, b"\x03EDU\x00\x03ISI\xC0\x00\xC0\x05")
+}
+
+#[test]
+fn the_root_may_be_the_origin(rt: HostRuntime) -> Result<(), Fail> {
+    let root = name_at(MESSAGE, 24)?;
+    for (text, wanted) in [("@", "."), ("a", "a."), ("a.b", "a.b."), ("a.", "a.")] {
+        let spelled = with_origin(rt.alloc(), text, &root)?;
+        assert_equal!(&rt, spelled?.as_str(), wanted);
+    }
+    Ok(())
+}
+
+#[test]
+fn a_text_with_an_origin_is_refused_by_reason(rt: HostRuntime) -> Result<(), Fail> {
+    let origin = name_at(MESSAGE, 16)?;
+    for (text, reason) in [
+        ("", FromTextError::UnexpectedEnd),
+        ("..", FromTextError::EmptyLabel),
+        (".a", FromTextError::EmptyLabel),
+        ("a..b", FromTextError::EmptyLabel),
+        ("@.", FromTextError::IllegalOctet),
+        ("@@", FromTextError::IllegalOctet),
+        ("a.@", FromTextError::IllegalOctet),
+        ("a b", FromTextError::IllegalOctet),
+        ("\\", FromTextError::IllegalEscape),
+        ("a\\256", FromTextError::IllegalEscape),
+    ] {
+        assert_equal!(
+            &rt,
+            with_origin(rt.alloc(), text, &origin)?.err(),
+            Some(reason)
+        );
+    }
+    Ok(())
+}
+
+/// Why labels of these lengths spell no name with an origin of 17 octets, where the last one has no full stop after it.
+fn relative_refusal(alloc: Global, lengths: &[usize]) -> Result<Option<FromTextError>, Fail> {
+    let origin = name_at(MESSAGE, 16)?;
+    let mut text = text_of(alloc, lengths)?;
+    text.pop();
+    Ok(Name::from_text_with_origin(text.as_str(), &origin).err())
+}
+
+#[test]
+fn a_relative_name_has_255_octets_at_most(rt: HostRuntime) -> Result<(), Fail> {
+    let alloc = rt.alloc();
+    for (last, reason) in [
+        (45, None),
+        (46, Some(FromTextError::LongName)),
+        (63, Some(FromTextError::LongName)),
+        (64, Some(FromTextError::LongLabel)),
+    ] {
+        assert_equal!(&rt, relative_refusal(alloc, &[63, 63, 63, last])?, reason);
+    }
+    assert_equal!(
+        &rt,
+        relative_refusal(alloc, &[64])?,
+        Some(FromTextError::LongLabel)
+    );
+    assert_equal!(
+        &rt,
+        relative_refusal(alloc, &[63, 63, 63, 63, 1])?,
+        Some(FromTextError::LongName)
+    );
+    let whole = text_of(alloc, &[63, 63, 63, 61])?;
+    let origin = name_at(MESSAGE, 16)?;
+    assert_equal!(
+        &rt,
+        Name::from_text_with_origin(whole.as_str(), &origin)?.len(),
+        255
+    );
+    Ok(())
+}

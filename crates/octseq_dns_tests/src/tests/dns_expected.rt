@@ -1,0 +1,480 @@
+//! What users of a DNS library expect of a message that was read: its question, the records of one type, its canonical
+//! name, its record of EDNS, and what the options of that say.
+use octseq::octets::Octets;
+use octseq::utf8::Turns;
+use octseq_asserts::{Case, assert_equal, assert_true, over_each};
+use octseq_dns::message::NotOneQuestion;
+use octseq_dns::opt::{EdnsOption, OptionData};
+use octseq_dns::{Malformed, Message, ParsedName, Rtype};
+use std::alloc::{AllocError, AllocGlobal, Global};
+use std::process::Abort;
+use std::test::Fail;
+
+/// A question for `example.com.` of class IN, at place 12.
+const QUESTION: &[u8] = b"\x07example\x03com\x00\x00\x01\x00\x01";
+
+/// A header with counts.
+fn header(octets: &mut Vec<u8>, counts: [u8; 4]) -> Result<(), AllocError> {
+    octets.extend_from_slice(b"\x12\x34\x81\x87")?;
+    for count in counts {
+        octets.extend_from_slice(&[0, count])?;
+    }
+    Ok(())
+}
+
+/// Appends each label of a name with a full stop after it.
+fn push_name<R: Octets + Copy>(text: &mut Vec<u8>, name: &ParsedName<R>) -> Result<(), AllocError> {
+    for label in name.labels() {
+        text.extend_from_slice(label.as_slice())?;
+        text.push(b'.')?;
+    }
+    Ok(())
+}
+
+/// A message with as many questions as a number says, each for `example.com.`.
+fn asked(alloc: Global, count: u8) -> Result<Vec<u8>, Fail> {
+    let mut octets = Vec::new(alloc);
+    header(&mut octets, [count, 0, 0, 0])?;
+    for _question in 0..count {
+        octets.extend_from_slice(QUESTION)?;
+    }
+    Ok(octets)
+}
+
+/// Where the first question of a message is, and the only one.
+fn places<R: Octets + Copy>(octets: R) -> Result<(Option<usize>, Option<usize>), Malformed> {
+    let message = Message::parse(octets)?;
+    let first = message
+        .first_question()
+        .map(|found| found.qname().parser().pos());
+    let sole = match message.sole_question() {
+        Ok(found) => Some(found.qname().parser().pos()),
+        Err(NotOneQuestion) => None,
+    };
+    Ok((first, sole))
+}
+
+struct AMessageHasAQuestion(Option<usize>, Option<usize>);
+
+impl<H: Abort> Case<H> for AMessageHasAQuestion {
+    fn holds<R: Octets + Copy>(&self, rt: &H, octets: R) -> Result<(), Fail> {
+        assert_equal!(rt, places(octets)?, (self.0, self.1));
+        Ok(())
+    }
+}
+
+#[test]
+fn a_message_has_a_first_question_and_a_sole_one(rt: HostRuntime) -> Result<(), Fail> {
+    for (count, first, sole) in [
+        (0u8, None, None),
+        (1, Some(12), Some(12)),
+        (2, Some(12), None),
+    ] {
+        let octets = asked(rt.alloc(), count)?;
+        assert_equal!(&rt, places(octets.as_slice())?, (first, sole));
+    }
+    let octets = asked(rt.alloc(), 1)?;
+    over_each(
+        &rt,
+        &AMessageHasAQuestion(Some(12), Some(12)),
+        octets.as_slice(),
+    )
+}
+
+/// The times to live of the answers of a type.
+fn times(alloc: Global, octets: &[u8], rtype: Rtype) -> Result<Vec<u32>, Fail> {
+    let mut found = Vec::new(alloc);
+    for entry in Message::parse(octets)?.answers().limit_to(rtype) {
+        found.push(entry.ttl().as_secs())?;
+    }
+    Ok(found)
+}
+
+#[test]
+fn a_section_is_limited_to_a_type(rt: HostRuntime) -> Result<(), Fail> {
+    let mut octets = Vec::new(rt.alloc());
+    header(&mut octets, [0, 5, 0, 0])?;
+    for (rtype, time) in [(1u8, 10u8), (5, 11), (1, 12), (16, 13), (5, 14)] {
+        octets.extend_from_slice(&[0, 0, rtype, 0, 1, 0, 0, 0, time, 0, 0])?;
+    }
+    for (rtype, wanted) in [
+        (Rtype::A, [10u32, 12].as_slice()),
+        (Rtype::CNAME, &[11, 14]),
+        (Rtype::TXT, &[13]),
+        (Rtype::NS, &[]),
+    ] {
+        let found = times(rt.alloc(), octets.as_slice(), rtype)?;
+        assert_equal!(&rt, found.as_slice(), wanted);
+    }
+    Ok(())
+}
+
+/// Appends an alias of class IN: its owner, its type and its target.
+fn push_alias(octets: &mut Vec<u8>, owner: &[u8], target: &[u8]) -> Result<(), Fail> {
+    octets.extend_from_slice(owner)?;
+    octets.extend_from_slice(b"\x00\x05\x00\x01\x00\x00\x00\x00\x00")?;
+    octets.push(u8::try_from(target.len())?)?;
+    octets.extend_from_slice(target)?;
+    Ok(())
+}
+
+/// A message that asks for `a.`, and has a chain of aliases as long as a number says: from `a.` to `b.`, and so on. Its
+/// answers are from the last alias to the first.
+fn chain(alloc: Global, length: u8) -> Result<Vec<u8>, Fail> {
+    let mut octets = Vec::new(alloc);
+    header(&mut octets, [1, length, 0, 0])?;
+    octets.extend_from_slice(b"\x01a\x00\x00\x01\x00\x01")?;
+    for back in 0..length {
+        let last = b'a'.saturating_add(length.saturating_sub(back));
+        let owner = [1, last.saturating_sub(1), 0];
+        push_alias(&mut octets, &owner, &[1, last, 0])?;
+    }
+    Ok(octets)
+}
+
+/// The canonical name of a message, if it has one.
+fn canonical<R: Octets + Copy>(alloc: Global, octets: R) -> Result<Option<Vec<u8>>, Fail> {
+    let message = Message::parse(octets)?;
+    let mut text = Vec::new(alloc);
+    match message.canonical_name() {
+        Some(name) => {
+            push_name(&mut text, &name)?;
+            Ok(Some(text))
+        }
+        None => Ok(None),
+    }
+}
+
+#[test]
+fn fifteen_aliases_are_followed_and_no_more(rt: HostRuntime) -> Result<(), Fail> {
+    for (length, wanted) in [
+        (0u8, Some(b"a.".as_slice())),
+        (1, Some(b"b.")),
+        (15, Some(b"p.")),
+        (16, None),
+        (17, None),
+    ] {
+        let octets = chain(rt.alloc(), length)?;
+        let found = canonical(rt.alloc(), octets.as_slice())?;
+        assert_equal!(&rt, found.as_ref().map(|name| name.as_slice()), wanted);
+    }
+    Ok(())
+}
+
+/// A message that asks for `a.`, and its answers.
+fn answered(alloc: Global, count: u8, answers: &[u8]) -> Result<Vec<u8>, Fail> {
+    let mut octets = Vec::new(alloc);
+    header(&mut octets, [1, count, 0, 0])?;
+    octets.extend_from_slice(b"\x01a\x00\x00\x01\x00\x01")?;
+    octets.extend_from_slice(answers)?;
+    Ok(octets)
+}
+
+#[test]
+fn the_first_alias_of_a_name_is_followed(rt: HostRuntime) -> Result<(), Fail> {
+    for (count, answers, wanted) in [
+        // the first of two, and letters of either case as one
+        (
+            2u8,
+            b"\x01A\x00\x00\x05\x00\x01\x00\x00\x00\x00\x00\x03\x01b\x00\
+\x01a\x00\x00\x05\x00\x01\x00\x00\x00\x00\x00\x03\x01c\x00"
+                .as_slice(),
+            Some(b"b.".as_slice()),
+        ),
+        // another class, and then data that is no name
+        (
+            1,
+            b"\x01a\x00\x00\x05\x00\x03\x00\x00\x00\x00\x00\x03\x01b\x00",
+            Some(b"a."),
+        ),
+        (
+            2,
+            b"\x01a\x00\x00\x05\x00\x01\x00\x00\x00\x00\x00\x02\x01b\
+\x01a\x00\x00\x05\x00\x01\x00\x00\x00\x00\x00\x03\x01c\x00",
+            Some(b"c."),
+        ),
+        // another type, and another name
+        (
+            2,
+            b"\x01a\x00\x00\x02\x00\x01\x00\x00\x00\x00\x00\x03\x01b\x00\
+\x01d\x00\x00\x05\x00\x01\x00\x00\x00\x00\x00\x03\x01c\x00",
+            Some(b"a."),
+        ),
+        // a loop of one, and of two by a pointer to the question
+        (
+            1,
+            b"\xC0\x0C\x00\x05\x00\x01\x00\x00\x00\x00\x00\x02\xC0\x0C",
+            None,
+        ),
+        (
+            2,
+            b"\xC0\x0C\x00\x05\x00\x01\x00\x00\x00\x00\x00\x03\x01b\x00\
+\x01b\x00\x00\x05\x00\x01\x00\x00\x00\x00\x00\x02\xC0\x0C",
+            None,
+        ),
+    ] {
+        let octets = answered(rt.alloc(), count, answers)?;
+        let found = canonical(rt.alloc(), octets.as_slice())?;
+        assert_equal!(&rt, found.as_ref().map(|name| name.as_slice()), wanted);
+    }
+    let found = canonical(rt.alloc(), b"\0\0\0\0\0\0\0\0\0\0\0\0".as_slice())?;
+    assert_true!(&rt, found.is_none());
+    Ok(())
+}
+
+#[test]
+fn a_chain_that_is_too_long_is_counted_too(rt: HostRuntime) -> Result<(), Fail> {
+    let octets = chain(rt.alloc(), 16)?;
+    let message = Message::parse(octets.as_slice())?;
+    let mut turns = Turns::new();
+    assert_true!(&rt, message.canonical_name_counted(&mut turns).is_none());
+    Ok(())
+}
+
+/// What a message says of EDNS: its size, its response code, its version, the bit DO and how many options it has; or
+/// nothing; or a refusal.
+type Edns = Result<Option<(u16, u16, u8, bool, usize)>, Malformed>;
+
+fn edns<R: Octets + Copy>(octets: R) -> Result<Edns, Malformed> {
+    let message = Message::parse(octets)?;
+    match message.opt() {
+        Ok(Some(opt)) => {
+            let rcode = opt.rcode(message.header());
+            let mut count = 0usize;
+            for _option in opt.options() {
+                count = count.saturating_add(1);
+            }
+            Ok(Ok(Some((
+                opt.udp_payload_size(),
+                rcode,
+                opt.version(),
+                opt.dnssec_ok(),
+                count,
+            ))))
+        }
+        Ok(None) => Ok(Ok(None)),
+        Err(Malformed) => Ok(Err(Malformed)),
+    }
+}
+
+/// An additional record of type OPT and one of type A, both of the root.
+const OPT: &[u8] = b"\x00\x00\x29\x10\x00\x01\x00\x80\x00\x00\x04\x00\x0C\x00\x00";
+
+const ADDRESS: &[u8] = b"\x00\x00\x01\x00\x01\x00\x00\x00\x00\x00\x00";
+
+#[test]
+fn a_message_has_one_record_of_edns(rt: HostRuntime) -> Result<(), Fail> {
+    let some = Ok(Some((4096, 23, 0, true, 1)));
+    for (parts, wanted) in [
+        ([b"".as_slice(), b"", b""].as_slice(), Ok(None)),
+        (&[ADDRESS], Ok(None)),
+        (&[OPT], some),
+        (&[ADDRESS, OPT, ADDRESS], some),
+        (&[OPT, OPT], Err(Malformed)),
+        (&[OPT, ADDRESS, OPT], Err(Malformed)),
+        // of another name than the root
+        (
+            &[b"\x01a\x00\x00\x29\x10\x00\x00\x00\x00\x00\x00\x00"],
+            Err(Malformed),
+        ),
+        // data that isn't options
+        (
+            &[b"\x00\x00\x29\x10\x00\x00\x00\x00\x00\x00\x01\x00"],
+            Err(Malformed),
+        ),
+    ] {
+        let mut octets = Vec::new(rt.alloc());
+        let mut count = 0u8;
+        let mut body = Vec::new(rt.alloc());
+        for part in parts {
+            if !part.is_empty() {
+                count = count.saturating_add(1);
+                body.extend_from_slice(part)?;
+            }
+        }
+        header(&mut octets, [0, 0, 0, count])?;
+        octets.extend_from_slice(body.as_slice())?;
+        assert_equal!(&rt, edns(octets.as_slice())?, wanted);
+    }
+    Ok(())
+}
+
+/// A real message that tells of a bad cookie.
+const BAD_COOKIE: &[u8] = b"\xF6\xAB\x81\x87\x00\x01\x00\x00\x00\x00\x00\x01\x00\x00\x06\x00\x01\
+\x00\x00\x29\x10\x00\x01\x00\x00\x00\x00\x1C\x00\x0A\x00\x18\
+\x36\xBF\x11\x1F\xEF\x2E\x01\x09\x7D\x8F\xFE\x06\x5C\x63\x6F\xFB\x14\x2D\x76\x74\x94\x40\x7A\x73";
+
+struct ACookieIsBad;
+
+impl<H: Abort> Case<H> for ACookieIsBad {
+    fn holds<R: Octets + Copy>(&self, rt: &H, octets: R) -> Result<(), Fail> {
+        let Ok(found) = edns(octets)? else {
+            return Err("no record of EDNS".into());
+        };
+        assert_equal!(rt, found, Some((4096, 23, 0, false, 1)));
+        let message = Message::parse(octets)?;
+        let Ok(Some(opt)) = message.opt() else {
+            return Err("no record of EDNS".into());
+        };
+        for option in opt.options() {
+            let OptionData::Cookie(cookie) = option.data() else {
+                return Err("no cookie".into());
+            };
+            assert_equal!(rt, cookie.client, *b"\x36\xBF\x11\x1F\xEF\x2E\x01\x09");
+            let server = b"\x7D\x8F\xFE\x06\x5C\x63\x6F\xFB\x14\x2D\x76\x74\x94\x40\x7A\x73";
+            assert_equal!(rt, cookie.server.peek_all(), server.as_slice());
+        }
+        Ok(())
+    }
+}
+
+#[test]
+fn a_real_message_tells_of_a_bad_cookie(rt: HostRuntime) -> Result<(), Fail> {
+    over_each(&rt, &ACookieIsBad, BAD_COOKIE)
+}
+
+/// Appends what an option says: a word for its form, and its parts.
+fn push_option<R: Octets + Copy>(
+    text: &mut Vec<u8>,
+    option: &EdnsOption<R>,
+) -> Result<(), AllocError> {
+    match option.data() {
+        OptionData::Nsid(octets) => {
+            text.extend_from_slice(b"nsid ")?;
+            text.extend_from_slice(octets.peek_all())
+        }
+        OptionData::ClientSubnet(subnet) => {
+            text.extend_from_slice(b"subnet ")?;
+            text.extend_from_slice(&subnet.family.to_be_bytes())?;
+            text.extend_from_slice(&[subnet.source_prefix_len, subnet.scope_prefix_len])?;
+            text.extend_from_slice(subnet.address.peek_all())
+        }
+        OptionData::Cookie(cookie) => {
+            text.extend_from_slice(b"cookie ")?;
+            text.extend_from_slice(&cookie.client)?;
+            text.push(b'|')?;
+            text.extend_from_slice(cookie.server.peek_all())
+        }
+        OptionData::Padding(octets) => {
+            text.extend_from_slice(b"padding ")?;
+            text.extend_from_slice(octets.peek_all())
+        }
+        OptionData::ExtendedError(found) => {
+            text.extend_from_slice(b"error ")?;
+            text.extend_from_slice(&found.code().to_be_bytes())?;
+            text.extend_from_slice(found.text().as_bytes())
+        }
+        OptionData::Unknown(code, octets) => {
+            text.extend_from_slice(b"unknown ")?;
+            text.extend_from_slice(&code.to_be_bytes())?;
+            text.extend_from_slice(octets.peek_all())
+        }
+    }
+}
+
+/// What the one option of a message with a code and octets says.
+fn said(alloc: Global, code: u8, octets: &[u8]) -> Result<Vec<u8>, Fail> {
+    let mut message = Vec::new(alloc);
+    header(&mut message, [0, 0, 0, 1])?;
+    let length = u8::try_from(octets.len())?;
+    message.extend_from_slice(b"\x00\x00\x29\x10\x00\x00\x00\x00\x00\x00")?;
+    message.extend_from_slice(&[length.saturating_add(4), 0, code, 0, length])?;
+    message.extend_from_slice(octets)?;
+    let mut text = Vec::new(alloc);
+    let Ok(Some(opt)) = Message::parse(message.as_slice())?.opt() else {
+        return Err("no record of EDNS".into());
+    };
+    for option in opt.options() {
+        push_option(&mut text, &option)?;
+    }
+    Ok(text)
+}
+
+#[test]
+fn cookies_have_eight_octets_and_none_or_eight_to_thirty_two(rt: HostRuntime) -> Result<(), Fail> {
+    let octets = b"01234567890123456789012345678901234567890";
+    for (length, is_cookie) in [
+        (7usize, false),
+        (8, true),
+        (9, false),
+        (15, false),
+        (16, true),
+        (40, true),
+        (41, false),
+    ] {
+        let Some(octets) = octets.get(..length) else {
+            return Err("too few octets".into());
+        };
+        let text = said(rt.alloc(), 10, octets)?;
+        assert_equal!(&rt, text.starts_with(b"cookie 01234567|"), is_cookie);
+        assert_equal!(&rt, text.starts_with(b"unknown \x00\x0A"), !is_cookie);
+    }
+    Ok(())
+}
+
+#[test]
+fn options_are_typed_where_they_have_the_form(rt: HostRuntime) -> Result<(), Fail> {
+    for (code, octets, wanted) in [
+        (3u8, b"any\x00".as_slice(), b"nsid any\x00".as_slice()),
+        (3, b"", b"nsid "),
+        (12, b"\x00\x01", b"padding \x00\x01"),
+        (12, b"", b"padding "),
+        (4, b"any", b"unknown \x00\x04any"),
+        // client subnets of each family, and of no bits
+        (
+            8,
+            b"\x00\x01\x18\x00\xC0\x00\x02",
+            b"subnet \x00\x01\x18\x00\xC0\x00\x02",
+        ),
+        (
+            8,
+            b"\x00\x02\x21\x20\x20\x01\x0D\xB8\x80",
+            b"subnet \x00\x02\x21\x20\x20\x01\x0D\xB8\x80",
+        ),
+        (8, b"\x00\x01\x00\x00", b"subnet \x00\x01\x00\x00"),
+        (
+            8,
+            b"\x00\x01\x20\x20\x01\x02\x03\x04",
+            b"subnet \x00\x01\x20\x20\x01\x02\x03\x04",
+        ),
+        // a bit after those that are given, an octet too many, one too few
+        (
+            8,
+            b"\x00\x01\x17\x00\xC0\x00\x01",
+            b"unknown \x00\x08\x00\x01\x17\x00\xC0\x00\x01",
+        ),
+        (
+            8,
+            b"\x00\x01\x18\x00\xC0\x00\x02\x00",
+            b"unknown \x00\x08\x00\x01\x18\x00\xC0\x00\x02\x00",
+        ),
+        (
+            8,
+            b"\x00\x01\x19\x00\xC0\x00\x02",
+            b"unknown \x00\x08\x00\x01\x19\x00\xC0\x00\x02",
+        ),
+        // more bits than the address has, another family, and too short
+        (
+            8,
+            b"\x00\x01\x21\x00\x01\x02\x03\x04\x00",
+            b"unknown \x00\x08\x00\x01\x21\x00\x01\x02\x03\x04\x00",
+        ),
+        (8, b"\x00\x01\x00\x21", b"unknown \x00\x08\x00\x01\x00\x21"),
+        (8, b"\x00\x03\x00\x00", b"unknown \x00\x08\x00\x03\x00\x00"),
+        (8, b"\x00\x01\x00", b"unknown \x00\x08\x00\x01\x00"),
+        // extended errors without a text, with one, with one 0 and with two, and text that isn't well formed
+        (15, b"\x00\x12", b"error \x00\x12"),
+        (15, b"\x00\x12no", b"error \x00\x12no"),
+        (15, b"\x00\x12no\x00", b"error \x00\x12no"),
+        (15, b"\x00\x12no\x00\x00", b"error \x00\x12no\x00"),
+        (15, b"\x00\x12\x00", b"error \x00\x12"),
+        (15, b"\x00\x12\xC3\xA9", b"error \x00\x12\xC3\xA9"),
+        (15, b"\x00\x12\xC3", b"unknown \x00\x0F\x00\x12\xC3"),
+        (15, b"\x00\x12\xC3\x00", b"unknown \x00\x0F\x00\x12\xC3\x00"),
+        (15, b"\x00", b"unknown \x00\x0F\x00"),
+    ] {
+        let text = said(rt.alloc(), code, octets)?;
+        assert_equal!(&rt, text.as_slice(), wanted);
+    }
+    Ok(())
+}

@@ -1,0 +1,124 @@
+//! Streams of messages, each after its length in two octets: RFC 1035, 4.2.2.
+use octseq::Parser;
+use octseq_asserts::{assert_equal, assert_true};
+use octseq_dns::{FrameError, FrameReader, WriteFrameError, next_frame, write_frame};
+use std::alloc::AllocGlobal;
+use std::io::{self, Error, ErrorKind, Read};
+use std::process::Abort;
+use std::test::Fail;
+
+/// Three messages: of two octets, of none, of one.
+const STREAM: &[u8] = b"\0\x02ab\0\0\0\x01c";
+
+/// A source that gives one octet at a time, stalls before each, and fails at its end where it is to.
+#[derive(Drop)]
+struct Slow<'a> {
+    rest: &'a [u8],
+    is_ready: bool,
+    fails: bool,
+}
+
+impl Read for Slow<'_> {
+    fn read(&mut self, buf: &mut [u8]) -> io::Result<usize> {
+        self.is_ready = !self.is_ready;
+        if self.is_ready {
+            return Err(Error::from(ErrorKind::Interrupted));
+        }
+        if self.fails && self.rest.is_empty() {
+            return Err(Error::from(ErrorKind::ConnectionReset));
+        }
+        let count = buf.len().min(1);
+        self.rest.read(&mut buf[..count])
+    }
+}
+
+#[test]
+fn frames_that_were_written_are_read_back(rt: HostRuntime) -> Result<(), Fail> {
+    let mut stream = Vec::new(rt.alloc());
+    write_frame(&mut stream, b"ab")?;
+    write_frame(&mut stream, b"")?;
+    write_frame(&mut stream, b"c")?;
+    assert_equal!(&rt, stream.as_slice(), STREAM);
+    let mut reader = FrameReader::new(rt.alloc(), stream.as_slice());
+    assert_true!(&rt, reader.read_next()?);
+    assert_equal!(&rt, reader.frame(), b"ab");
+    assert_true!(&rt, reader.read_next()?);
+    assert_equal!(&rt, reader.frame(), b"");
+    assert_true!(&rt, reader.read_next()?);
+    assert_equal!(&rt, reader.frame(), b"c");
+    assert_true!(&rt, !reader.read_next()?);
+    Ok(())
+}
+
+#[test]
+fn a_source_that_stalls_is_read(rt: HostRuntime) -> Result<(), Fail> {
+    let source = Slow {
+        rest: &STREAM[..5],
+        is_ready: false,
+        fails: true,
+    };
+    let mut reader = FrameReader::new(rt.alloc(), source);
+    assert_true!(&rt, reader.read_next()?);
+    assert_equal!(&rt, reader.frame(), b"ab");
+    assert_true!(&rt, matches!(reader.read_next(), Err(FrameError::Read(_))));
+    assert_true!(&rt, !reader.read_next()?);
+    Ok(())
+}
+
+/// How a reading of a stream ends after as many messages as a number says.
+fn ends_short(rt: &(impl Abort + AllocGlobal), stream: &[u8], messages: usize) -> Result<(), Fail> {
+    let mut reader = FrameReader::new(rt.alloc(), stream);
+    for _ in 0..messages {
+        assert_true!(rt, reader.read_next()?);
+    }
+    assert_true!(rt, matches!(reader.read_next(), Err(FrameError::Short)));
+    assert_true!(rt, !reader.read_next()?);
+    Ok(())
+}
+
+#[test]
+fn a_stream_that_is_cut_off_is_told(rt: HostRuntime) -> Result<(), Fail> {
+    ends_short(&rt, &STREAM[..1], 0)?;
+    ends_short(&rt, &STREAM[..2], 0)?;
+    ends_short(&rt, &STREAM[..3], 0)?;
+    ends_short(&rt, &STREAM[..5], 1)?;
+    ends_short(&rt, &STREAM[..7], 2)?;
+    ends_short(&rt, &STREAM[..8], 2)
+}
+
+#[test]
+fn frames_of_octets_are_their_places(rt: HostRuntime) -> Result<(), Fail> {
+    let mut parser = Parser::from_ref(STREAM);
+    let mut places = Vec::new(rt.alloc());
+    for _ in 0..3 {
+        match next_frame(&mut parser)? {
+            Some(frame) => places.push((frame.pos(), frame.len()))?,
+            None => return Err("too few messages".into()),
+        }
+    }
+    assert_true!(&rt, next_frame(&mut parser)?.is_none());
+    assert_equal!(&rt, places.as_slice(), &[(2, 4), (6, 6), (8, 9)]);
+    Ok(())
+}
+
+#[test]
+fn a_message_of_65535_octets_is_a_frame(rt: HostRuntime) -> Result<(), Fail> {
+    let mut message = Vec::new(rt.alloc());
+    message.resize(65535, 0_u8)?;
+    let mut stream = Vec::new(rt.alloc());
+    write_frame(&mut stream, message.as_slice())?;
+    assert_equal!(&rt, stream.len(), 65537);
+    assert_true!(&rt, stream.starts_with(b"\xFF\xFF"));
+    Ok(())
+}
+
+#[test]
+fn a_message_of_65536_octets_is_none(rt: HostRuntime) -> Result<(), Fail> {
+    let mut message = Vec::new(rt.alloc());
+    message.resize(65536, 0_u8)?;
+    let mut stream = Vec::new(rt.alloc());
+    let refused = write_frame(&mut stream, message.as_slice());
+    assert_true!(&rt, matches!(refused, Err(WriteFrameError::TooLong)));
+    assert_true!(&rt, stream.is_empty());
+    Ok(())
+}

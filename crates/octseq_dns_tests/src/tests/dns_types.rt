@@ -1,0 +1,184 @@
+//! Data of the types that came after RFC 1035, of class IN: what it says, and that it is written as it was read.
+use octseq::str::StrBuilder;
+use octseq_asserts::assert_equal;
+use octseq_dns::{Message, Target, rewrite};
+use std::alloc::{AllocGlobal, Global};
+use std::process::Abort;
+use std::test::Fail;
+
+/// A question for `example.com.`, at place 12, and the owner of an answer, which points to it.
+const FRONT: &[u8] =
+    b"\x12\x34\x85\x80\x00\x01\x00\x01\x00\x00\x00\x00\x07example\x03com\x00\x00\x01\x00\x01\xC0\x0C";
+
+/// Data of a type, the data that is written of it, and its text.
+struct Row {
+    rtype: u16,
+    read: &'static [u8],
+    written: &'static [u8],
+    text: &'static str,
+}
+
+/// One of each type. Only the name of NAPTR may have a pointer where it is read, and none has one where it is written.
+static ROWS: [Row; 18] = [
+    Row {
+        rtype: 13,
+        read: b"\x01A\0",
+        written: b"\x01A\0",
+        text: "\"A\" \"\"",
+    },
+    Row {
+        rtype: 35,
+        read: b"\0d\0\x0A\x01s\0\x03!\\\"\xC0\x0C",
+        written: b"\0d\0\x0A\x01s\0\x03!\\\"\x07example\x03com\0",
+        text: "100 10 \"s\" \"\" \"!\\\\\\\"\" example.com.",
+    },
+    Row {
+        rtype: 39,
+        read: b"\x01a\0",
+        written: b"\x01a\0",
+        text: "a.",
+    },
+    Row {
+        rtype: 43,
+        read: b"\0\x01\x05\x01\xFF",
+        written: b"\0\x01\x05\x01\xFF",
+        text: "1 5 1 ff",
+    },
+    Row {
+        rtype: 44,
+        read: b"\x04\x02\x7F",
+        written: b"\x04\x02\x7F",
+        text: "4 2 7f",
+    },
+    Row {
+        rtype: 46,
+        read: b"\0\x01\x05\x02\0\0\x01,\xFF\xFF\xFF\xFF\0\0\0\0\0\x07\x03foo\0\x01",
+        written: b"\0\x01\x05\x02\0\0\x01,\xFF\xFF\xFF\xFF\0\0\0\0\0\x07\x03foo\0\x01",
+        text: "A 5 2 300 4294967295 0 7 foo. AQ==",
+    },
+    Row {
+        rtype: 47,
+        read: b"\0\0\x06@\x01\0\0\0\x03\x01\x01@",
+        written: b"\0\0\x06@\x01\0\0\0\x03\x01\x01@",
+        text: ". A MX RRSIG NSEC CAA",
+    },
+    Row {
+        rtype: 48,
+        read: b"\x01\x01\x03\x0D\xFB\xFF",
+        written: b"\x01\x01\x03\x0D\xFB\xFF",
+        text: "257 3 13 +/8=",
+    },
+    Row {
+        rtype: 50,
+        read: b"\x01\0\0\x0A\0\x02\0B\0\x01@",
+        written: b"\x01\0\0\x0A\0\x02\0B\0\x01@",
+        text: "1 0 10 - 0110 A",
+    },
+    Row {
+        rtype: 51,
+        read: b"\x01\0\0\x0A\x02\xAB\xCD",
+        written: b"\x01\0\0\x0A\x02\xAB\xCD",
+        text: "1 0 10 abcd",
+    },
+    Row {
+        rtype: 52,
+        read: b"\x03\x01\x01\x0A\xFF",
+        written: b"\x03\x01\x01\x0A\xFF",
+        text: "3 1 1 0aff",
+    },
+    Row {
+        rtype: 53,
+        read: b"\0\0\0\0",
+        written: b"\0\0\0\0",
+        text: "0 0 0 00",
+    },
+    Row {
+        rtype: 59,
+        read: b"\0\0\0\0\0",
+        written: b"\0\0\0\0\0",
+        text: "0 0 0 00",
+    },
+    Row {
+        rtype: 60,
+        read: b"\0\0\x03\0\0",
+        written: b"\0\0\x03\0\0",
+        text: "0 3 0 AA==",
+    },
+    Row {
+        rtype: 64,
+        read: b"\0\x01\0\0\x01\0\x08\x07a\\b,c\"\0",
+        written: b"\0\x01\0\0\x01\0\x08\x07a\\b,c\"\0",
+        text: "1 . alpn=\"a\\\\\\\\b\\\\,c\\\"\\000\"",
+    },
+    Row {
+        rtype: 65,
+        read: b"\0\x01\x03foo\0\0\0\0\x04\0\x01\0\x03\0\x01\0\x06\x02h2\x02h3\0\x03\0\x02\x01\xBB\0\x04\0\x08\x01\x02\x03\x04\x05\x06\x07\x08\0\x05\0\x01\0\0\x06\0\x10 \x01\x0D\xB8\0\0\0\0\0\0\0\0\0\0\0\x01\0\x07\0\0\x02\x9B\0\x02\"\0",
+        written: b"\0\x01\x03foo\0\0\0\0\x04\0\x01\0\x03\0\x01\0\x06\x02h2\x02h3\0\x03\0\x02\x01\xBB\0\x04\0\x08\x01\x02\x03\x04\x05\x06\x07\x08\0\x05\0\x01\0\0\x06\0\x10 \x01\x0D\xB8\0\0\0\0\0\0\0\0\0\0\0\x01\0\x07\0\0\x02\x9B\0\x02\"\0",
+        text: "1 foo. mandatory=\"alpn,port\" alpn=\"h2,h3\" port=\"443\" ipv4hint=\"1.2.3.4,5.6.7.8\" ech=\"AA==\" ipv6hint=\"2001:db8::1\" key7 key667=\"\\\"\\000\"",
+    },
+    Row {
+        rtype: 256,
+        read: b"\0\x0A\0\x01a\"\\\xFF",
+        written: b"\0\x0A\0\x01a\"\\\xFF",
+        text: "10 1 \"a\\\"\\\\\\255\"",
+    },
+    Row {
+        rtype: 257,
+        read: b"\0\x05issue\0\xFF\"",
+        written: b"\0\x05issue\0\xFF\"",
+        text: "0 issue \"\\000\\255\\\"\"",
+    },
+];
+
+/// A message with one answer of a type and data.
+fn answer(alloc: Global, rtype: u16, rdata: &[u8]) -> Result<Vec<u8>, Fail> {
+    let mut octets = Vec::new(alloc);
+    octets.extend_from_slice(FRONT)?;
+    octets.extend_from_slice(&rtype.to_be_bytes())?;
+    octets.extend_from_slice(&[0, 1, 0, 0, 1, 0x2C])?;
+    octets.extend_from_slice(&u16::try_from(rdata.len())?.to_be_bytes())?;
+    octets.extend_from_slice(rdata)?;
+    Ok(octets)
+}
+
+/// The answer of a message shows so, and is of the type.
+fn shows(rt: &(impl Abort + AllocGlobal), octets: &[u8], row: &Row) -> Result<(), Fail> {
+    let message = Message::parse(octets)?;
+    for answer in message.answers() {
+        let mut text = StrBuilder::<Vec<u8>>::new(rt.alloc())?;
+        let found = answer.data();
+        text.try_push_display(&found)?;
+        assert_equal!(rt, text.as_str(), row.text);
+        assert_equal!(rt, found.rtype().to_int(), row.rtype);
+    }
+    Ok(())
+}
+
+#[test]
+fn data_of_each_type_shows(rt: HostRuntime) -> Result<(), Fail> {
+    for row in &ROWS {
+        let octets = answer(rt.alloc(), row.rtype, row.read)?;
+        shows(&rt, octets.as_slice(), row)?;
+    }
+    Ok(())
+}
+
+/// A message is written anew as these octets.
+fn is_rewritten(rt: &(impl Abort + AllocGlobal), octets: &[u8], wanted: &[u8]) -> Result<(), Fail> {
+    let alloc = rt.alloc();
+    let message = Message::parse(octets)?;
+    let table: Vec<Target> = Vec::new(alloc);
+    let (written, _) = rewrite(&message, Vec::new(alloc), table)?.finish();
+    assert_equal!(rt, written.as_slice(), wanted);
+    Ok(())
+}
+
+#[test]
+fn data_of_each_type_is_written(rt: HostRuntime) -> Result<(), Fail> {
+    for row in &ROWS {
+        let octets = answer(rt.alloc(), row.rtype, row.read)?;
+        let wanted = answer(rt.alloc(), row.rtype, row.written)?;
+        is_rewritten(&rt, octets.as_slice(), wanted.as_slice())?;
+    }
+    Ok(())
+}

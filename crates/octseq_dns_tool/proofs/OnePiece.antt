@@ -1,0 +1,136 @@
+-- What is made of a message is a function of it.
+use Rattle.std.proofs.Common.{◌≡◌, ◌++◌, ◌∙◌}
+use Rattle.std.proofs.Common.{ℕ, inl, inr, Bool, true, false, List, length, codes, refl, sym, ap, subst, arith}
+use Rattle.octseq.specs.Part.{part_of}
+use Rattle.octseq_dns.specs.Contents.{octets_of}
+use Rattle.octseq_dns.specs.Contents.{Message as Contents}
+use Rattle.octseq_dns.specs.Entry.{Question, Record}
+use Rattle.octseq_dns.specs.Message.{IsMessage}
+use Rattle.octseq_dns.specs.MessageText.{IsMessageText}
+use Rattle.octseq_dns.specs.Rewritten.{IsMessageOf}
+use Rattle.octseq_dns.specs.declared.header.Header.{Header}
+use Rattle.octseq_dns_tool.proofs.Stops.{one_stop}
+use Rattle.octseq_dns_tool.specs.Rewritten.{IsWritten, CannotBeWritten, IsAnew, IsStuck}
+use Rattle.octseq_dns_tool.specs.Shown.{HasText, IsMalformed, IsNote, IsShown}
+use Rattle.octseq_dns_tool.specs.Stop.{stop_line}
+use Rattle.octseq_dns_tool.specs.Taken.{IsBlock, IsMoved, IsPiece}
+use Rattle.octseq_dns_tool.specs.declared.engine.Command.{Command}
+use Rattle.octseq_dns_tool.specs.declared.engine.Command.TheVariants.{Message, Rewrite, Stream}
+
+-- of octets that are no message one thing is told
+pub one_note : (number : ℕ) (octets x y : List ℕ) (b : Bool) → IsNote number octets b x → IsNote number octets b y → x ≡ y
+one_note number octets x y true p q = p ∙ sym q
+one_note number octets x y false (here, is, e) (there, it, f) =
+    e ∙ ap (stop_line number) (one_stop octets here there is it) ∙ sym f
+
+-- by what the laws of messages say: octets are a message in one way, and a message has one text, and is written as one
+-- message
+module _ (one_message : (octets : List ℕ) (h k : Header) (q others : List Question) (a b d x y z : List Record)
+    → IsMessage octets h q a b d → IsMessage octets k others x y z
+    → (h ≡ k) × (q ≡ others) × (a ≡ x) × (b ≡ y) × (d ≡ z))
+    (one_text : (header : Header) (questions : List Question) (answers authorities additionals : List Record)
+    (text other : List ℕ)
+    → IsMessageText header questions answers authorities additionals text
+    → IsMessageText header questions answers authorities additionals other → text ≡ other)
+    (one_message_of : (header : Header) (questions : List Question) (answers authorities additionals : List Record)
+    (m n : Contents) → IsMessageOf header questions answers authorities additionals m
+    → IsMessageOf header questions answers authorities additionals n → m ≡ n) where
+  -- octets that are a message have one text
+  same_text : (octets x y : List ℕ) → HasText octets x → HasText octets y → x ≡ y
+  same_text octets x y p q =
+      let same =
+      one_message octets p.header q.header p.questions q.questions p.answers p.authorities p.additionals q.answers
+      q.authorities q.additionals p.is_message q.is_message in
+      let a = subst (λ h. IsMessageText h p.questions p.answers p.authorities p.additionals x) same.0 p.is_text in
+      let b = subst (λ l. IsMessageText q.header l p.answers p.authorities p.additionals x) same.1 a in
+      let c = subst (λ l. IsMessageText q.header q.questions l p.authorities p.additionals x) same.2 b in
+      let d = subst (λ l. IsMessageText q.header q.questions q.answers l p.additionals x) same.3 c in
+      let e = subst (λ l. IsMessageText q.header q.questions q.answers q.authorities l x) same.4 d in
+      one_text q.header q.questions q.answers q.authorities q.additionals x y e q.is_text
+
+  -- of octets one thing is shown
+  pub one_shown : (octets x y : List ℕ) (b c : Bool) → IsShown octets b x → IsShown octets c y → (x ≡ y) × (b ≡ c)
+  one_shown octets x y true true p q = (same_text octets x y p q, refl)
+  one_shown octets x y false false p q = (p.1 ∙ sym q.1, refl)
+  one_shown octets x y true false p q =
+      absurd (q.0 p.header p.questions p.answers p.authorities p.additionals p.is_message)
+  one_shown octets x y false true p q =
+      absurd (p.0 q.header q.questions q.answers q.authorities q.additionals q.is_message)
+
+  -- what holds of the header and the lists of a message holds of those of each reading of its octets
+  carried : (P : Header → List Question → List Record → List Record → List Record → Type 0) (octets : List ℕ)
+      (h k : Header) (q others : List Question) (a b d x y z : List Record)
+      → IsMessage octets h q a b d → IsMessage octets k others x y z → P h q a b d → P k others x y z
+  carried P octets h k q others a b d x y z one other p =
+      let same = one_message octets h k q others a b d x y z one other in
+      subst (λ l. P k others x y l) same.4
+      (subst (λ l. P k others x l d) same.3
+      (subst (λ l. P k others l b d) same.2 (subst (λ l. P k l a b d) same.1 (subst (λ h. P h q a b d) same.0 p))))
+
+  -- octets are written anew in one way
+  one_anew : (octets x y : List ℕ) → IsAnew octets x → IsAnew octets y → x ≡ y
+  one_anew octets x y p q =
+      let one =
+      carried (λ h l a b d. IsWritten h l a b d x) octets p.header q.header p.questions q.questions p.answers
+      p.authorities p.additionals q.answers q.authorities q.additionals p.is_message q.is_message p.is_written in
+      let other = q.is_written in
+      one.written ∙ ap (octets_of 16384)
+      (one_message_of q.header q.questions q.answers q.authorities q.additionals one.contents other.contents
+      one.contents_are other.contents_are) ∙ sym other.written
+
+  -- octets that are a message aren't malformed
+  anew_is_message : (octets x : List ℕ) → IsAnew octets x → IsMalformed octets → ⊥
+  anew_is_message octets x p malformed =
+      malformed p.header p.questions p.answers p.authorities p.additionals p.is_message
+
+  stuck_is_message : (octets : List ℕ) → IsStuck octets → IsMalformed octets → ⊥
+  stuck_is_message octets p malformed =
+      malformed p.header p.questions p.answers p.authorities p.additionals p.is_message
+
+  -- octets that are written anew can be written
+  not_stuck : (octets x : List ℕ) → IsAnew octets x → IsStuck octets → ⊥
+  not_stuck octets x p q =
+      let is = p.is_written in
+      let stuck =
+      carried CannotBeWritten octets q.header p.header q.questions p.questions q.answers q.authorities
+      q.additionals p.answers p.authorities p.additionals q.is_message p.is_message q.stuck in
+      elim stuck [
+        | inl stays ↦ stays is.moves
+        | inr long ↦
+            let past = long is.contents is.contents_are in
+            let few = is.size in
+            let same = ap length is.written in
+            omega (arith, past, few, same)
+      ]
+
+  one_block : (number : ℕ) (octets x y e f : List ℕ) (a b : Bool) → IsBlock number octets a x e
+      → IsBlock number octets b y f → (a ≡ b) × (x ≡ y) × (e ≡ f)
+  one_block number octets x y e f a b (is_message, shown, p, n, fine, w) (is_other, other, q, m, also, v) =
+      let same = one_shown octets shown other is_message is_other p q in (
+        fine ∙ sym also,
+        w ∙ ap (λ l. l ++ codes "\n") same.0 ∙ sym v,
+        one_note number octets e f is_other (subst (λ b. IsNote number octets b e) same.1 n) m,
+      )
+
+  one_moved : (number : ℕ) (octets x y e f : List ℕ) (a b : Bool) → IsMoved number octets a x e
+      → IsMoved number octets b y f → (a ≡ b) × (x ≡ y) × (e ≡ f)
+  one_moved number octets x y e f true true (anew, p, w, n) (other, q, v, m) =
+      (refl, w ∙ ap (part_of 2) (one_anew octets anew other p q) ∙ sym v, n ∙ sym m)
+  one_moved number octets x y e f true false (anew, p, w, n) (inl (bad, m), v) = absurd (anew_is_message octets anew p bad)
+  one_moved number octets x y e f true false (anew, p, w, n) (inr (stuck, m), v) = absurd (not_stuck octets anew p stuck)
+  one_moved number octets x y e f false true (inl (bad, m), v) (anew, p, w, n) = absurd (anew_is_message octets anew p bad)
+  one_moved number octets x y e f false true (inr (stuck, m), v) (anew, p, w, n) = absurd (not_stuck octets anew p stuck)
+  one_moved number octets x y e f false false (inl (bad, n), w) (inl (also, m), v) =
+      (refl, w ∙ sym v, one_note number octets e f false n m)
+  one_moved number octets x y e f false false (inl (bad, n), w) (inr (stuck, m), v) = absurd
+      (stuck_is_message octets stuck bad)
+  one_moved number octets x y e f false false (inr (stuck, m), v) (inl (bad, n), w) = absurd
+      (stuck_is_message octets stuck bad)
+  one_moved number octets x y e f false false (inr (stuck, n), w) (inr (also, m), v) = (refl, w ∙ sym v, n ∙ sym m)
+
+  -- a command makes one thing of a message
+  pub one_piece : (c : Command) (number : ℕ) (octets x y e f : List ℕ) (a b : Bool)
+      → IsPiece c number octets a x e → IsPiece c number octets b y f → (a ≡ b) × (x ≡ y) × (e ≡ f)
+  one_piece Stream = one_block
+  one_piece Rewrite = one_moved
+  one_piece Message = λ number octets x y e f a b p q. absurd p

@@ -1,0 +1,83 @@
+-- Reading stops at one place.
+use Rattle.std.proofs.Common.{◌≡◌, ◌∙◌, ◌+◌, ℕ, zero, suc, List, ◌∷◌, inl, inr, refl, sym, ap, subst, arith}
+use Rattle.octseq.specs.Window.{Window, whole}
+use Rattle.octseq_dns.specs.Entry.{Question, Record, IsQuestion, IsRecord}
+use Rattle.octseq_dns.specs.Format.{IsNumber, one_number}
+use Rattle.octseq_dns.specs.Header.{IsHeader, header_numbers}
+use Rattle.octseq_dns.specs.OneEntry.{one_question, one_record}
+use Rattle.octseq_dns.specs.Row.{one_row}
+use Rattle.octseq_dns.specs.declared.header.Header.{Header}
+use Rattle.octseq_dns.specs.declared.header.HeaderCounts.{HeaderCounts}
+use Rattle.octseq_dns_tool.specs.Stop.{IsStop, QuestionsStop, RecordsStop}
+
+-- a record more was passed
+pub record_step : (left count place : ℕ) (w v : Window) (r : Record) → left ≡ suc count → IsRecord w r v
+    → RecordsStop count v place → RecordsStop left w place
+record_step left count place w v r e is stop = subst (λ n. RecordsStop n w place) (sym e) (inl (r, v, is, stop))
+
+-- no record is there
+pub record_stop : (left count : ℕ) (w : Window) → left ≡ suc count → ((r : Record) (v : Window) → ¬ IsRecord w r v)
+    → RecordsStop left w w.position
+record_stop left count w e none = subst (λ n. RecordsStop n w w.position) (sym e) (inr (none, refl))
+
+-- a question more was passed
+pub question_step : (left count records place : ℕ) (w v : Window) (q : Question) → left ≡ suc count → IsQuestion w q v
+    → QuestionsStop count records v place → QuestionsStop left records w place
+question_step left count records place w v q e is stop =
+    subst (λ n. QuestionsStop n records w place) (sym e) (inl (q, v, is, stop))
+
+-- no question is there
+pub question_stop : (left count records : ℕ) (w : Window) → left ≡ suc count
+    → ((q : Question) (v : Window) → ¬ IsQuestion w q v) → QuestionsStop left records w w.position
+question_stop left count records w e none =
+    subst (λ n. QuestionsStop n records w w.position) (sym e) (inr (none, refl))
+
+one_records : (count : ℕ) (w : Window) (x y : ℕ) → RecordsStop count w x → RecordsStop count w y → x ≡ y
+one_records zero w x y p q = p ∙ sym q
+one_records (suc count) w x y (inl (r, v, is, p)) (inl (s, u, it, q)) =
+    let same = one_record.same w r s v u is it in
+    one_records count u x y (subst (λ v. RecordsStop count v x) same.1 p) q
+one_records (suc count) w x y (inl (r, v, is, p)) (inr (none, e)) = absurd (none r v is)
+one_records (suc count) w x y (inr (none, e)) (inl (r, v, is, p)) = absurd (none r v is)
+one_records (suc count) w x y (inr (none, e)) (inr (also, f)) = e ∙ sym f
+
+one_questions : (count records : ℕ) (w : Window) (x y : ℕ) → QuestionsStop count records w x
+    → QuestionsStop count records w y → x ≡ y
+one_questions zero records w x y p q = one_records records w x y p q
+one_questions (suc count) records w x y (inl (r, v, is, p)) (inl (s, u, it, q)) =
+    let same = one_question.same w r s v u is it in
+    one_questions count records u x y (subst (λ v. QuestionsStop count records v x) same.1 p) q
+one_questions (suc count) records w x y (inl (r, v, is, p)) (inr (none, e)) = absurd (none r v is)
+one_questions (suc count) records w x y (inr (none, e)) (inl (r, v, is, p)) = absurd (none r v is)
+one_questions (suc count) records w x y (inr (none, e)) (inr (also, f)) = e ∙ sym f
+
+-- how many questions and records a list of six numbers counts
+counted : List ℕ → ℕ × ℕ
+counted (a ∷ b ∷ c ∷ d ∷ e ∷ f ∷ more) = (c, d + e + f)
+counted _ = (0, 0)
+
+-- a header counts so many questions and records, and ends, in one way
+one_counts : (w u v : Window) (h k : Header) (c d : HeaderCounts) → IsHeader w h c u → IsHeader w k d v
+    → (c.qdcount ≡ d.qdcount) × (c.ancount + c.nscount + c.arcount ≡ d.ancount + d.nscount + d.arcount) × (u ≡ v)
+unfolding counted
+one_counts w u v h k c d a b =
+    let same = one_row (IsNumber 2) (one_number 2) w u v (header_numbers h c) (header_numbers k d) refl a.numbers b.numbers in
+    let counts = ap counted same.0 in
+    (ap (λ n. n.0) counts, ap (λ n. n.1) counts, same.1)
+
+-- reading stops at one place
+pub one_stop : (octets : List ℕ) (x y : ℕ) → IsStop octets x → IsStop octets y → x ≡ y
+one_stop octets x y (inl (long, e)) (inl (also, f)) = e ∙ sym f
+one_stop octets x y (inl (long, e)) (inr (inl (few, none, f))) = absurd (omega arith)
+one_stop octets x y (inl (long, e)) (inr (inr (few, h, c, v, is, p))) = absurd (omega arith)
+one_stop octets x y (inr (inl (few, none, e))) (inl (long, f)) = absurd (omega arith)
+one_stop octets x y (inr (inl (few, none, e))) (inr (inl (also, others, f))) = e ∙ sym f
+one_stop octets x y (inr (inl (few, none, e))) (inr (inr (also, h, c, v, is, p))) = absurd (none h c v is)
+one_stop octets x y (inr (inr (few, h, c, v, is, p))) (inl (long, f)) = absurd (omega arith)
+one_stop octets x y (inr (inr (few, h, c, v, is, p))) (inr (inl (also, none, f))) = absurd (none h c v is)
+one_stop octets x y (inr (inr (few, h, c, v, is, p))) (inr (inr (also, k, d, u, it, q))) =
+    let same = one_counts (whole octets) v u h k c d is it in
+    let moved = subst (λ v. QuestionsStop c.qdcount (c.ancount + c.nscount + c.arcount) v x) same.2 p in
+    let records = subst (λ n. QuestionsStop c.qdcount n u x) same.1 moved in
+    let questions = subst (λ n. QuestionsStop n (d.ancount + d.nscount + d.arcount) u x) same.0 records in
+    one_questions d.qdcount (d.ancount + d.nscount + d.arcount) u x y questions q

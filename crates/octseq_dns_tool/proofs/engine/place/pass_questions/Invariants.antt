@@ -1,0 +1,12 @@
+-- What stops the questions that are left stops all of them.
+use Rattle.std.proofs.Common.{ℕ}
+use Rattle.octseq.specs.Parser.{window}
+use Rattle.octseq_dns_tool.specs.Stop.{QuestionsStop}
+use Rattle.octseq_dns_tool.proofs.engine.place.pass_questions.Given as goal
+
+abbrev pub invariant-loop-left : goal.invariant-loop-left
+invariant-loop-left l = (records place : ℕ) → QuestionsStop l.left records (window l.parser) place
+    → QuestionsStop l.count records (window l.fn.parser) place
+
+abbrev pub decreases-loop-left : goal.decreases-loop-left
+decreases-loop-left l = l.left

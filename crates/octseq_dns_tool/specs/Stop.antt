@@ -1,0 +1,37 @@
+-- Where reading stops in octets that are no message: at the first thing that isn't there.
+use Rattle.std.specs.Fmt.{decimal}
+use Rattle.std.specs.Prelude.{◌≡◌, ℕ, zero, suc, ◌+◌, ◌<◌, ◌≤◌, ◌⊎◌, List, ◌++◌, length, codes}
+use Rattle.octseq.specs.Window.{Window, whole}
+use Rattle.octseq_dns.specs.Entry.{Question, Record, IsQuestion, IsRecord}
+use Rattle.octseq_dns.specs.Header.{IsHeader}
+use Rattle.octseq_dns.specs.declared.header.Header.{Header}
+use Rattle.octseq_dns.specs.declared.header.HeaderCounts.{HeaderCounts}
+
+-- Of so many records from a window on, this is the place of the first that isn't one, or what follows the last.
+abbrev pub RecordsStop : ℕ → Window → ℕ → Type 0
+RecordsStop zero w place = place ≡ w.position
+RecordsStop (suc count) w place =
+    ((record_is : Record) × (v : Window) × IsRecord w record_is v × RecordsStop count v place)
+    ⊎ (((record_is : Record) (v : Window) → ¬ IsRecord w record_is v) × (place ≡ w.position))
+
+-- so of so many questions, followed by so many records
+abbrev pub QuestionsStop : ℕ → ℕ → Window → ℕ → Type 0
+QuestionsStop zero records w place = RecordsStop records w place
+QuestionsStop (suc count) records w place =
+    ((question : Question) × (v : Window) × IsQuestion w question v × QuestionsStop count records v place)
+    ⊎ (((question : Question) (v : Window) → ¬ IsQuestion w question v) × (place ≡ w.position))
+
+-- The place where reading stops: what follows the 65,535 octets that a message may have; or the header, where there is
+-- none; or the first question or record that the header counts and that isn't one; or what follows the last.
+abbrev pub IsStop : List ℕ → ℕ → Type 0
+IsStop octets place = ((65535 < length octets) × (place ≡ 65535))
+    ⊎ (((length octets ≤ 65535) × ((header : Header) (counts : HeaderCounts) (v : Window)
+    → ¬ IsHeader (whole octets) header counts v) × (place ≡ 0))
+    ⊎ ((length octets ≤ 65535) × (header : Header) × (counts : HeaderCounts) × (v : Window)
+    × IsHeader (whole octets) header counts v
+    × QuestionsStop counts.qdcount (counts.ancount + counts.nscount + counts.arcount) v place))
+
+-- the line that tells it, of a message by its number
+abbrev pub stop_line : ℕ → ℕ → List ℕ
+stop_line number place =
+    codes "message " ++ decimal number ++ codes ": malformed at octet " ++ decimal place ++ codes "\n"
