@@ -37,9 +37,12 @@ pub front_of_length : (message front : List ℕ) → IsFront front (octets_be 2 
 front_of_length message front (rest, e) =
     (rest ++ message, ap (λ h. h ++ message) e ∙ append_assoc front rest message)
 
--- so is its length with a front of the message
-pub front_of_message : (message front : List ℕ) → IsFront front message
-    → IsFront (octets_be 2 (length message) ++ front) (part_of 2 message)
-front_of_message message front (rest, e) =
+-- the length of a message went out, and then a front of the message
+pub front_of_message : (before mid after : Option (List ℕ)) (message : List ℕ)
+    → Appends before mid (octets_be 2 (length message))
+    → ((front : List ℕ) × IsFront front message × Appends mid after front)
+    → (front : List ℕ) × IsFront front (part_of 2 message) × Appends before after front
+front_of_message before mid after message first (front, (rest, e), second) =
     let head = octets_be 2 (length message) in
-    (rest, ap (λ m. head ++ m) e ∙ sym (append_assoc head front rest))
+    let whole = ap (λ m. head ++ m) e ∙ sym (append_assoc head front rest) in
+    (head ++ front, (rest, whole), Appends-trans before mid after head front first second)

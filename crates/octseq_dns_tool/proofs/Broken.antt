@@ -43,15 +43,15 @@ to_stream Message input output errors status (inr bad) out = absurd (cc)
 -- Of what the reader lost, these messages were taken, and what was made of them was written.
 pub record IsTakenSo (c : Command) (given left before now noted told : Option (List ℕ)) (count : ℕ) (all : Bool)
     : Type 0 where
-    pub messages : List (List ℕ)
-    pub fit : AllByRecursion FitsStream messages
-    pub many : length messages ≡ count
-    pub consumed : Consumes given left (stream_of messages)
-    pub output : List ℕ
-    pub errors : List ℕ
-    pub pieces : HasPieces c 1 messages all output errors
-    pub written : Appends before now output
-    pub lines : Appends noted told errors
+  pub messages : List (List ℕ)
+  pub fit : AllByRecursion FitsStream messages
+  pub many : length messages ≡ count
+  pub consumed : Consumes given left (stream_of messages)
+  pub output : List ℕ
+  pub errors : List ℕ
+  pub pieces : HasPieces c 1 messages all output errors
+  pub written : Appends before now output
+  pub lines : Appends noted told errors
 
 -- nothing was read
 pub taken_none : (c : Command) (given before noted : Option (List ℕ))
@@ -153,8 +153,14 @@ taken_cut c given left rest before now after noted told count all status takes s
       errors = so_far.errors;
       answered = to_stream c input output so_far.errors status takes
           (subst (StreamOut c input output so_far.errors) (sym e)
-          (inr (read, all, so_far.output, taken_to c given left before now noted told count all read so_far,
-          cut, refl)));
+          (inr (
+            read,
+            all,
+            so_far.output,
+            taken_to c given left before now noted told count all read so_far,
+            cut,
+            refl,
+          )));
       written = Appends-trans before now after so_far.output (ending_of c) so_far.written more;
       noted = so_far.lines;
     }
