@@ -15,8 +15,8 @@ use Rattle.octseq_dns.proofs.HeaderRead.{header_length}
 use Rattle.octseq_dns.proofs.Pushed.{composed_more, twelve_first}
 
 -- What is pushed of things that were read, where some of them are left: a message so far, which becomes the whole by
--- what is written of those that are left. So many turns were taken of those that the whole may take, and each label took
--- a turn or an octet.
+-- what is written of those that are left. `turns` were taken of those that the whole may take, and each label took a
+-- turn or an octet.
 pub record Ahead {A I : Type 0} (Of : I → A → Type 0) (labels : A → ℕ) (more : Message → A → Message) (most : ℕ)
     (m : Message) (written : List A) (left : List I) (state : State) (header : Header) (counts : HeaderCounts)
     (turns from first : ℕ) : Type 0 where

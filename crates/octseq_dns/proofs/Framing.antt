@@ -141,7 +141,8 @@ pub no_octets : (given mid left : Option (List ℕ)) (len : ℕ) → len < 65536
     → ((read : List ℕ) × (length read < len) × Consumes mid left read)
     → (read : List ℕ) × ¬ HasFront FitsStream (part_of 2) read × Consumes given left read
 no_octets given mid left len fits first (read, few, second) =
-    (octets_be 2 len ++ read, no_whole len read fits few, Consumes-trans given mid left (octets_be 2 len) read first second)
+    let all = Consumes-trans given mid left (octets_be 2 len) read first second in
+    (octets_be 2 len ++ read, no_whole len read fits few, all)
 
 -- the input ended inside a message
 pub cut_octets : (given mid left : Option (List ℕ)) (len : ℕ) → len < 65536 → Consumes given mid (octets_be 2 len)

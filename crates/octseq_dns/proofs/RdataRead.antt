@@ -129,9 +129,10 @@ octets_whole : (r : Record) (octets : List ℕ) → HasFields r (Field.octets oc
     → (rest r.rdata ≡ octets) × (r.rdata.position + length octets ≡ r.rdata.end)
 octets_whole r octets has =
     let is = has.fields_are in
-    let ends : r.rdata.position + length octets ≡ r.rdata.end = sym (ap (λ (v : Window). v.position) is.2) ∙ has.ends in (
-      ap (λ all. rest (record { octets = all; position = r.rdata.position; end = r.rdata.end })) has.in_message
-          ∙ ap (λ end. rest (record { octets = r.owner.place.octets; position = r.rdata.position; end = end })) (sym ends)
+    let place = r.rdata.position in
+    let ends : place + length octets ≡ r.rdata.end = sym (ap (λ (v : Window). v.position) is.2) ∙ has.ends in (
+      ap (λ all. rest (record { octets = all; position = place; end = r.rdata.end })) has.in_message
+          ∙ ap (λ end. rest (record { octets = r.owner.place.octets; position = place; end = end })) (sym ends)
           ∙ is.1,
       ends,
     )

@@ -2,7 +2,7 @@
 ghost use Rattle.std.specs.Prelude.{◌≡◌, ◌+◌, ◌<◌, ◌≤◌, ◌++◌, ℕ, true, false, Some, None, List, [], length, take, drop};
 ghost use Rattle.std.specs.Prelude.{IfSome, IfNone, IfOk, OnOk, OnErr, Ok, Err};
 ghost use Rattle.std.specs.Io.{ReadsAtMost};
-ghost use Rattle.std.specs.Io.KnownBytes.{Appends, Consumes, IsAtEnd};
+ghost use Rattle.std.specs.Io.KnownBytes.{Consumes, IsAtEnd};
 ghost use Rattle.std.specs.IoError.{error_kind};
 ghost use Rattle.std.specs.List.{AllByRecursion};
 ghost use Rattle.octseq.specs.Code.{HasFront};
@@ -16,11 +16,13 @@ use octseq::{AsOctets, Parser, ShortInput};
 use std::alloc::AllocError;
 use std::error::Error;
 use std::fmt;
-use std::io::{self, ErrorKind, Read, Write};
+use std::io::{self, ErrorKind, Read};
 
 mod reader;
+mod writer;
 
 pub use crate::frames::reader::FrameReader;
+pub use crate::frames::writer::{WriteFrameError, write_frame};
 
 /// Octets are those of one list of messages, and of one rest that begins with none: what was written as a stream is
 /// read back as those messages.
@@ -224,54 +226,4 @@ fn read_once<R: Read>(reader: &mut R, room: &mut [u8]) -> io::Result<usize>
         }
     }
     Err(io::Error::from(ErrorKind::TimedOut))
-}
-
-/// Why no frame was written.
-#[derive(Debug, Drop)]
-pub enum WriteFrameError {
-    /// The message has more than 65,535 octets.
-    TooLong,
-    /// A write failed.
-    Write(io::Error),
-}
-
-impl Error for WriteFrameError {}
-
-impl fmt::Display for WriteFrameError {
-    fn fmt<W: fmt::Write>(&self, f: &mut fmt::Formatter<W>) -> fmt::Result {
-        match self {
-            WriteFrameError::TooLong => f.write_str("message too long for a frame"),
-            WriteFrameError::Write(error) => write!(f, "{error}"),
-        }
-    }
-}
-
-impl From<io::Error> for WriteFrameError {
-    ghost use Rattle.octseq_dns.specs.declared.frames.WriteFrameError.TheVariants as why;
-
-    ghost from_gives = { λ error made. made ≡ why.Write error };
-
-    fn from(error: io::Error) -> WriteFrameError {
-        WriteFrameError::Write(error)
-    }
-}
-
-/// Writes a message after its length in 2 octets.
-///
-/// # Errors
-///
-/// `TooLong` where the message has more than 65,535 octets: nothing is then written. Else `Write` where a write failed.
-#[tactic(auto, using(octseq::proofs::Written::written_2))]
-pub fn write_frame<W: Write>(writer: &mut W, message: &[u8]) -> Result<(), WriteFrameError>
-    ensures ok { OnOk result (Appends (W.contents writer.old) (W.contents writer.new) (part_of 2 message.now)) }
-    ensures fits { OnOk result (FitsStream message.now) }
-    ensures long { result ≡ Err WriteFrameError.TooLong → 65535 < length message.now }
-    ensures refused { 65535 < length message.now → (result ≡ Err WriteFrameError.TooLong) × (writer.new ≡ writer.old) }
-{
-    let Ok(len) = u16::try_from(message.len()) else {
-        return Err(WriteFrameError::TooLong);
-    };
-    writer.write_all(&len.to_be_bytes())?;
-    writer.write_all(message)?;
-    Ok(())
 }

@@ -7,7 +7,8 @@ use Rattle.octseq_format.specs.Canonical.{IsSound, many_next, sound_past}
 
 -- a label has as many octets as its length says
 label_long : (w v : Window) (l : List ℕ) → IsSound w → HasLabel w l v → length l ≡ octet w
-label_long w v l sound has = ap length has.octets ∙ many_next (octet w) (past 1 w) (sound_past 1 w sound has.room) has.whole
+label_long w v l sound has =
+    ap length has.octets ∙ many_next (octet w) (past 1 w) (sound_past 1 w sound has.room) has.whole
 
 after_label : (w v : Window) (l : List ℕ) → IsSound w → HasLabel w l v → IsSound (past (octet w) (past 1 w))
 after_label w v l sound has = sound_past (octet w) (past 1 w) (sound_past 1 w sound has.room) has.whole

@@ -4,6 +4,7 @@ use Rattle.std.proofs.Common.{refl, sym, ap, ◌∙◌, subst, arith}
 use Rattle.std.proofs.lemmas.List.{append-nil}
 use Rattle.std.proofs.lemmas.List.Concat.{flat_map-cons}
 use Rattle.std.proofs.lemmas.List.Elements.{All-cons, All-nil}
+use Rattle.std.proofs.lemmas.List.Sums.{sum_by-cons}
 use Rattle.std.specs.List.{All, AllByRecursion}
 use Rattle.std.specs.Prelude.{slice_range}
 use Rattle.octseq.specs.Integer.{be, octets_be}
@@ -18,7 +19,7 @@ use Rattle.octseq_format.specs.Counted.{Counted, CountFits, counted_octets, onwa
 use Rattle.octseq_format.specs.Laws.{Relation, NoneAt}
 use Rattle.octseq_format.specs.Rest.{IsRest, canonical_rest}
 use Rattle.octseq_format.specs.Row.{Row, RowTo, Moved, row_octets, row_written, onward_row, onward_moved}
-use Rattle.octseq_format.specs.Row.{canonical_moved, sound_row}
+use Rattle.octseq_format.specs.Row.{canonical_moved, sound_row, row_turns}
 use Rattle.octseq_format.proofs.Parts.{part_of_counted, counted_of_part}
 use Rattle.octseq_format.proofs.RowSteps.{row_by}
 
@@ -173,3 +174,11 @@ short_string w inside v sound is =
     let few = subst (λ n. be (next 1 w) < 256 ^ n) (many_next 1 w sound is.0.0) small in
     let same = ap left is.1.0 in
     omega (arith, few, same)
+
+-- a turn is counted for each of a row
+pub turns_each : {A : Type 0} (row : List A) → row_turns (λ _. 0) row ≡ length row
+turns_each [] = refl
+turns_each (one ∷ row) =
+    let first : row_turns (λ _. 0) (one ∷ row) ≡ 1 + row_turns (λ _. 0) row = sum_by-cons (λ _. 1 + 0) one row in
+    let more = turns_each row in
+    omega (arith, first, more)

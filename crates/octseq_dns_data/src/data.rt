@@ -1,5 +1,5 @@
 //! What the data of a record says, by the record's type and class: RFC 1035, 3.3 and 3.4.
-ghost use Rattle.std.specs.Prelude.{◌≡◌, ◌≢◌, ℕ, ◌+◌, ◌≤◌, List, true, IsTrue, IsErr, IfOk, OnOk, ⊤};
+ghost use Rattle.std.specs.Prelude.{◌≡◌, ◌≢◌, ℕ, ◌+◌, ◌-◌, ◌≤◌, List, true, IsTrue, IsErr, IfOk, OnOk, ⊤};
 ghost use Rattle.std.specs.Net.Addr.{IsIpv4Mapped, segments_of};
 ghost use Rattle.octseq.specs.Parser.{window};
 ghost use Rattle.octseq.specs.Window.{Window, left};
@@ -226,7 +226,7 @@ impl<R: AsOctets + Copy> Data<R> {
     }
 
     /// What data of a type and a class says: where it is in a message, and in its own window. It counts the turns that
-    /// names, windows and parameters in it take.
+    /// names, strings, windows and parameters in it take.
     ///
     /// # Errors
     ///
@@ -243,8 +243,9 @@ impl<R: AsOctets + Copy> Data<R> {
         ensures place { IfOk result (IsAt (window message)) }
         ensures malformed { IsErr result → (rdata : ParsedRdata)
             → ¬ IsTypedData rtype class (window message) (window inside) rdata }
-        ensures turns { turns.new ≤ turns.old + 510 + left (window inside) }
-        ensures names { is_in_message rtype ≡ true → turns.new ≤ turns.old + 510 }
+        ensures turns { (window message).position ≡ (window inside).position
+            → turns.new ≤ turns.old + 510 + left (window inside) }
+        ensures names { is_in_message rtype ≡ true → rtype ≢ 16 → turns.new ≤ turns.old + 510 }
     {
         if is_in_message(rtype) {
             let mut parser = message;
@@ -256,8 +257,8 @@ impl<R: AsOctets + Copy> Data<R> {
         Ok(found)
     }
 
-    /// Takes the data of a type and a class, which ends at a place of the message. It counts the turns that names in
-    /// it take.
+    /// Takes the data of a type and a class, which ends at a place of the message. It counts the turns that names and
+    /// strings in it take.
     fn parse_in_message(
         parser: &mut Parser<R>,
         rtype: Rtype,
@@ -271,10 +272,11 @@ impl<R: AsOctets + Copy> Data<R> {
         ensures ends { OnOk result ((window parser.new).position ≡ end) }
         ensures malformed { IsErr result → (rdata : ParsedRdata) (v : Window)
             → HasRdata rtype class (window parser.old) rdata v → ¬ (v.position ≡ end) }
-        ensures turns { turns.new ≤ turns.old + 510 }
+        ensures turns { turns.new ≤ turns.old + 510 + (end - (window parser.old).position) }
+        ensures names { rtype ≢ 16 → turns.new ≤ turns.old + 510 }
     {
         if rtype == Rtype::TXT {
-            return Ok(Data::Txt(Txt::parse(parser, end)?));
+            return Ok(Data::Txt(Txt::parse(parser, end, turns)?));
         }
         let found = Data::take(parser, rtype, class, turns)?;
         if parser.pos() != end {

@@ -41,17 +41,17 @@ to_stream Message input output errors status (inl bad) out = absurd (cc)
 to_stream Message input output errors status (inr bad) out = absurd (cc)
 
 -- Of what the reader lost, these messages were taken, and what was made of them was written.
-pub record IsTakenSo (c : Command) (given left before now noted told : Option (List ℕ)) (count : ℕ) (all : Bool) : Type 0
-  where
-    pub messages : List (List ℕ)
-    pub fit : AllByRecursion FitsStream messages
-    pub many : length messages ≡ count
-    pub consumed : Consumes given left (stream_of messages)
-    pub output : List ℕ
-    pub errors : List ℕ
-    pub pieces : HasPieces c 1 messages all output errors
-    pub written : Appends before now output
-    pub lines : Appends noted told errors
+pub record IsTakenSo (c : Command) (given left before now noted told : Option (List ℕ)) (count : ℕ) (all : Bool)
+    : Type 0 where
+  pub messages : List (List ℕ)
+  pub fit : AllByRecursion FitsStream messages
+  pub many : length messages ≡ count
+  pub consumed : Consumes given left (stream_of messages)
+  pub output : List ℕ
+  pub errors : List ℕ
+  pub pieces : HasPieces c 1 messages all output errors
+  pub written : Appends before now output
+  pub lines : Appends noted told errors
 
 -- nothing was read
 pub taken_none : (c : Command) (given before noted : Option (List ℕ))
@@ -75,8 +75,8 @@ pub taken_more : (c : Command) (given left rest before now after noted told line
     → Consumes left rest (part_of 2 octets) → IsPiece c (count + 1) octets is_fine written note
     → Appends now after written → Appends told line note
     → IsTakenSo c given rest before after noted line (count + 1) (all && is_fine)
-taken_more c given left rest before now after noted told line count all is_fine octets written note so_far fits read piece
-    more lines =
+taken_more c given left rest before now after noted told line count all is_fine octets written note so_far fits
+    read piece more lines =
     let number : count + 1 ≡ 1 + length so_far.messages = let many = so_far.many in omega arith in
     record {
       messages = so_far.messages ++ octets ∷ [];
@@ -153,7 +153,14 @@ taken_cut c given left rest before now after noted told count all status takes s
       errors = so_far.errors;
       answered = to_stream c input output so_far.errors status takes
           (subst (StreamOut c input output so_far.errors) (sym e)
-          (inr (read, all, so_far.output, taken_to c given left before now noted told count all read so_far, cut, refl)));
+          (inr (
+            read,
+            all,
+            so_far.output,
+            taken_to c given left before now noted told count all read so_far,
+            cut,
+            refl,
+          )));
       written = Appends-trans before now after so_far.output (ending_of c) so_far.written more;
       noted = so_far.lines;
     }
@@ -301,7 +308,8 @@ module _ (one_piece : (c : Command) (number : ℕ) (octets x y e f : List ℕ) (
             let same =
             one_output input output whole notes so_far.errors status Refused
             (subst (λ input. Out c input output notes status) none is_out) known in
-            (front_more front so_far.output output (ending_of c) same.0 is, ([], same.1 ∙ sym (append-nil so_far.errors)));
+            let errors_end = same.1 ∙ sym (append-nil so_far.errors) in
+            (front_more front so_far.output output (ending_of c) same.0 is, ([], errors_end));
       }
 
 -- Of an input that was read whole, fronts of what is to be written went out.
@@ -312,7 +320,8 @@ pub broke_whole : (out : List ℕ → List ℕ → List ℕ → Status → Type 
     → ((front : List ℕ) × (line : List ℕ) × IsFront front output × IsFront line errors × Appends before after front
     × Appends noted told line)
     → BreaksOff out given left before after noted told
-broke_whole out given left before after noted told input output errors consumed end only (front, line, is, it, more, lines) =
+broke_whole out given left before after noted told input output errors consumed end only
+    (front, line, is, it, more, lines) =
     record {
       read = input;
       consumed = consumed;

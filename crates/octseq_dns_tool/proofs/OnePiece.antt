@@ -18,7 +18,8 @@ use Rattle.octseq_dns_tool.specs.declared.engine.Command.{Command}
 use Rattle.octseq_dns_tool.specs.declared.engine.Command.TheVariants.{Message, Rewrite, Stream}
 
 -- of octets that are no message one thing is told
-pub one_note : (number : ℕ) (octets x y : List ℕ) (b : Bool) → IsNote number octets b x → IsNote number octets b y → x ≡ y
+pub one_note : (number : ℕ) (octets x y : List ℕ) (b : Bool) → IsNote number octets b x → IsNote number octets b y
+    → x ≡ y
 one_note number octets x y true p q = p ∙ sym q
 one_note number octets x y false (here, is, e) (there, it, f) =
     e ∙ ap (stop_line number) (one_stop octets here there is it) ∙ sym f
@@ -116,10 +117,14 @@ module _ (one_message : (octets : List ℕ) (h k : Header) (q others : List Ques
       → IsMoved number octets b y f → (a ≡ b) × (x ≡ y) × (e ≡ f)
   one_moved number octets x y e f true true (anew, p, w, n) (other, q, v, m) =
       (refl, w ∙ ap (part_of 2) (one_anew octets anew other p q) ∙ sym v, n ∙ sym m)
-  one_moved number octets x y e f true false (anew, p, w, n) (inl (bad, m), v) = absurd (anew_is_message octets anew p bad)
-  one_moved number octets x y e f true false (anew, p, w, n) (inr (stuck, m), v) = absurd (not_stuck octets anew p stuck)
-  one_moved number octets x y e f false true (inl (bad, m), v) (anew, p, w, n) = absurd (anew_is_message octets anew p bad)
-  one_moved number octets x y e f false true (inr (stuck, m), v) (anew, p, w, n) = absurd (not_stuck octets anew p stuck)
+  one_moved number octets x y e f true false (anew, p, w, n) (inl (bad, m), v) =
+      absurd (anew_is_message octets anew p bad)
+  one_moved number octets x y e f true false (anew, p, w, n) (inr (stuck, m), v) =
+      absurd (not_stuck octets anew p stuck)
+  one_moved number octets x y e f false true (inl (bad, m), v) (anew, p, w, n) =
+      absurd (anew_is_message octets anew p bad)
+  one_moved number octets x y e f false true (inr (stuck, m), v) (anew, p, w, n) =
+      absurd (not_stuck octets anew p stuck)
   one_moved number octets x y e f false false (inl (bad, n), w) (inl (also, m), v) =
       (refl, w ∙ sym v, one_note number octets e f false n m)
   one_moved number octets x y e f false false (inl (bad, n), w) (inr (stuck, m), v) = absurd

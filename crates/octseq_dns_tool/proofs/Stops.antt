@@ -61,7 +61,8 @@ one_counts : (w u v : Window) (h k : Header) (c d : HeaderCounts) → IsHeader w
     → (c.qdcount ≡ d.qdcount) × (c.ancount + c.nscount + c.arcount ≡ d.ancount + d.nscount + d.arcount) × (u ≡ v)
 unfolding counted
 one_counts w u v h k c d a b =
-    let same = one_row (IsNumber 2) (one_number 2) w u v (header_numbers h c) (header_numbers k d) refl a.numbers b.numbers in
+    let same =
+    one_row (IsNumber 2) (one_number 2) w u v (header_numbers h c) (header_numbers k d) refl a.numbers b.numbers in
     let counts = ap counted same.0 in
     (ap (λ n. n.0) counts, ap (λ n. n.1) counts, same.1)
 

@@ -1,5 +1,5 @@
 //! Strings of text: RFC 1035, 3.3 and 3.3.14.
-ghost use Rattle.std.specs.Prelude.{◌≡◌, ◌≤◌, ⊤, length, slice_range};
+ghost use Rattle.std.specs.Prelude.{◌≡◌, ◌≤◌, ◌+◌, ◌-◌, ⊤, length, slice_range};
 ghost use Rattle.std.specs.List.{All};
 ghost use Rattle.octseq.specs.Parser.{window};
 ghost use Rattle.octseq.specs.Window.{left};
@@ -158,16 +158,22 @@ impl<R: AsOctets + Copy> Txt<R> {
     {
         let mut parser = Parser::from_ref(octets);
         let end = parser.len();
-        Txt::parse(&mut parser, end)
+        Txt::parse(&mut parser, end, &mut Turns::new())
     }
 
-    /// Takes the strings of a message up to a place.
-    pub(crate) fn parse(parser: &mut Parser<R>, end: usize) -> Result<Txt<R>, Malformed>
+    /// Takes the strings of a message up to a place. It counts a turn for each string.
+    pub(crate) fn parse(
+        parser: &mut Parser<R>,
+        end: usize,
+        turns: &mut Turns,
+    ) -> Result<Txt<R>, Malformed>
         ensures txt { IfOk result (λ txt. HasStrings (window parser.old) (strings_of txt) (window parser.new)) }
         ensures place { IfOk result (λ txt. txt_place txt ≡ window parser.old) }
         ensures ends { OnOk result ((window parser.new).position ≡ end) }
         ensures malformed { IsErr result → (strings : List (List ℕ)) (v : Window)
             → HasStrings (window parser.old) strings v → ¬ (v.position ≡ end) }
+        ensures turns { turns.new ≤ turns.old + 1 + (end - (window parser.old).position) }
+        ensures least { IfOk result (λ txt. turns.old + length (strings_of txt) ≤ turns.new) }
     {
         let first = *parser;
         let place = first.pos();
@@ -175,7 +181,7 @@ impl<R: AsOctets + Copy> Txt<R> {
             return Err(Malformed);
         }
         let mut octets = parser.parse_parser(end - place)?;
-        let strings = Repeated::<CharacterString>::parse(&mut octets)?;
+        let strings = Repeated::<CharacterString>::parse_counted(&mut octets, turns)?;
         if strings.is_empty() {
             return Err(Malformed);
         }

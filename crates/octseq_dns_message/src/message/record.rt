@@ -42,7 +42,7 @@ impl<R: AsOctets + Copy> Clone for Record<R> {
 }
 
 impl<R: AsOctets + Copy> Record<R> {
-    ghost use Rattle.std.specs.Prelude.{true};
+    ghost use Rattle.std.specs.Prelude.{◌≢◌, true};
     ghost use Rattle.octseq.specs.Window.{at, left};
     ghost use Rattle.octseq_dns_data.specs.Data.{is_in_message};
     ghost use Rattle.octseq_dns_message.specs.Entry as said;
@@ -148,12 +148,13 @@ impl<R: AsOctets + Copy> Record<R> {
     }
 
     /// What its data says, as [`data`](Self::data), and counts the turns that this takes: for each of two names at most
-    /// the root, each label and each pointer, and for a set of types or parameters at most one for each octet.
+    /// the root, each label and each pointer, and for strings, a set of types or parameters at most one for each octet.
     pub fn data_counted(&self, turns: &mut Turns) -> Data<R>
         ensures rdata { IsDataOf (record_of self.now) (rdata_of result) }
         ensures place { IsAt (at (record_of self.now).rdata.position (record_of self.now).owner.place) result }
         ensures turns { turns.new ≤ turns.old + 510 + left (record_of self.now).rdata }
-        ensures names { is_in_message (record_of self.now).rtype ≡ true → turns.new ≤ turns.old + 510 }
+        ensures names { is_in_message (record_of self.now).rtype ≡ true → (record_of self.now).rtype ≢ 16
+            → turns.new ≤ turns.old + 510 }
     {
         let mut message = self.owner.parser();
         infallible(message.seek(self.rdata.pos()));

@@ -3,7 +3,7 @@ use octseq::Parser;
 use octseq_asserts::{assert_equal, assert_true};
 use octseq_dns::{FrameError, FrameReader, WriteFrameError, next_frame, write_frame};
 use std::alloc::AllocGlobal;
-use std::io::{self, Error, ErrorKind, Read};
+use std::io::{self, Error, ErrorKind, Read, Write};
 use std::process::Abort;
 use std::test::Fail;
 
@@ -30,6 +30,42 @@ impl Read for Slow<'_> {
         let count = buf.len().min(1);
         self.rest.read(&mut buf[..count])
     }
+}
+
+/// A sink that takes one octet at a time, and none past the number that it has room for.
+#[derive(Drop)]
+struct Narrow {
+    taken: Vec<u8>,
+    room: usize,
+}
+
+impl Write for Narrow {
+    fn write(&mut self, buf: &[u8]) -> io::Result<usize> {
+        if self.taken.len() >= self.room {
+            return Err(Error::from(ErrorKind::BrokenPipe));
+        }
+        self.taken.write(&buf[..buf.len().min(1)])
+    }
+
+    fn flush(&mut self) -> io::Result<()> {
+        Ok(())
+    }
+}
+
+#[test]
+fn a_failed_write_leaves_a_front(rt: HostRuntime) -> Result<(), Fail> {
+    for room in 0..4 {
+        let taken = Vec::new(rt.alloc());
+        let mut sink = Narrow { taken, room };
+        let failed = write_frame(&mut sink, b"ab");
+        assert_true!(&rt, matches!(failed, Err(WriteFrameError::Write(_))));
+        assert_equal!(&rt, sink.taken.as_slice(), &STREAM[..room]);
+    }
+    let taken = Vec::new(rt.alloc());
+    let mut sink = Narrow { taken, room: 4 };
+    write_frame(&mut sink, b"ab")?;
+    assert_equal!(&rt, sink.taken.as_slice(), &STREAM[..4]);
+    Ok(())
 }
 
 #[test]

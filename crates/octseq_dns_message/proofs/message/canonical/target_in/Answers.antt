@@ -1,4 +1,4 @@
-use Rattle.std.proofs.Common.{◌≡◌, inl, sym, ap, rules}
+use Rattle.std.proofs.Common.{◌≡◌, inl, sym, ap, arith, rules}
 use Rattle.octseq_dns_data.specs.Data.{ParsedRdata, is_in_message}
 use Rattle.octseq_dns_data.specs.Typed.{rdata_of}
 use Rattle.octseq_dns_message.specs.Said.{record_of}
@@ -16,5 +16,5 @@ returns-in_default g c = record {
       c.in_default.not-Cname named.0 named.1;
   turns =
       let cname : (record_of c.args.entry.now).rtype ≡ 5 = search rules in
-      c.data_counted.ensures.names (ap is_in_message cname);
+      c.data_counted.ensures.names (ap is_in_message cname) (λ txt. omega (arith, cname, txt));
 }

@@ -12,8 +12,8 @@ returns-in-Err-clause-stopped c = λ _ records.
     let one : left ≡ suc (left - 1) = omega arith in
     let stop : QuestionsStop left records w w.position =
     question_stop left (left - 1) records w one (c.in-Err.ensures.malformed refl) in
-    subst (QuestionsStop c.args.count records (window c.args.parser.now)) (sym (ap (λ w. w.position) c.in-Err.ensures.kept))
-    (c.loop-left.invariant records w.position stop)
+    subst (QuestionsStop c.args.count records (window c.args.parser.now))
+    (sym (ap (λ w. w.position) c.in-Err.ensures.kept)) (c.loop-left.invariant records w.position stop)
 
 pub loop-left-preserved : goal.loop-left-preserved
 loop-left-preserved c = λ records place stop.

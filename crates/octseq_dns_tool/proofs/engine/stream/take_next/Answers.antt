@@ -21,8 +21,8 @@ returns-in_err-write_piece-clause-front g c =
       went.0,
       went.1,
       λ is_fine written note piece.
-          let same = c.one_answer.ensures.piece c.args.command c.args.number c.args.octets.now _ written _ note _ is_fine is
-          piece in
+          let same =
+          c.one_answer.ensures.piece c.args.command c.args.number c.args.octets.now _ written _ note _ is_fine is piece in
           (subst (IsFront went.0) same.1 went.2, subst (IsFront went.1) same.2 went.3),
       went.4,
       went.5,

@@ -1,4 +1,5 @@
 use Rattle.std.proofs.Common.{◌≡◌, length, map, refl, sym, ap, ◌∙◌, subst, arith, rules}
+use Rattle.std.proofs.lemmas.List.{length-map}
 use Rattle.std.proofs.Math.Bool.{true≢false}
 use Rattle.octseq.specs.Parser.{window}
 use Rattle.octseq.specs.Window.{at, left, rest}
@@ -6,7 +7,7 @@ use Rattle.octseq_dns_data.specs.Data.{HasString, HasStrings}
 use Rattle.octseq_dns_data.specs.OneRow.{row_on, string_code, string_item}
 use Rattle.octseq_dns_data.proofs.Rows.{none_of, reached_as}
 use Rattle.octseq_dns_data.proofs.Strings.{IsFound, Taken, same_up_to, taken, no_strings, none_found, some_found}
-use Rattle.octseq_dns_data.proofs.Strings.{strings_within}
+use Rattle.octseq_dns_data.proofs.Strings.{strings_within, turns_each}
 use Rattle.octseq_format.specs.Laws.{NoneAt}
 use Rattle.octseq_format.specs.Row.{RowTo}
 use Rattle.octseq_format.specs.Walk.{items_left}
@@ -42,7 +43,7 @@ returns-then-is_empty-clause-malformed g c = λ _ strings v has ends.
     let place = c.pos-place.ensures.position in
     let before = c.if-place-end.false in
     let found = items_left c.in_ok-strings.strings in
-    let none = none_found (window c.in_ok-octets.octets) (window c.parse.new.parser) found (search rules)
+    let none = none_found (window c.in_ok-octets.octets) (window c.parse_counted.new.parser) found (search rules)
     c.in_ok-strings.ensures.value in
     let same = ap left c.in_ok-octets.ensures.window in
     let here = none_of HasString string_item w v strings (omega (arith, place, before, none, same, ends)) has.1 in
@@ -56,7 +57,7 @@ read : (g : _) (c : goal.After-are_octets g) → Taken (window c.args.parser.now
 read g c =
     let w = window c.args.parser.now in
     let found = items_left c.in_ok-strings.strings in
-    let v = window c.parse.new.parser in
+    let v = window c.parse_counted.new.parser in
     let place = c.pos-place.ensures.position in
     let before = c.if-place-end.false in
     let few = c.in_ok-octets.ensures.taken.variant.0 refl in
@@ -99,3 +100,17 @@ returns-clause-txt g c =
     subst (λ v. HasStrings w c.result-1.given.0.0 v) same (subst (λ strings. HasStrings w strings (at c.args.end w))
     (reached_as string_code HasString string_item w (at c.args.end w) c.args.end said c.result-1.given.0 refl all.row)
     (some_found found (search rules), all.row))
+
+pub returns-clause-least : goal.returns-clause-least
+returns-clause-least g c =
+    let w = window c.args.parser.now in
+    let all = read g c.before in
+    let found = items_left c.in_ok-strings.strings in
+    let said = map rest found in
+    let same : said ≡ _ =
+    reached_as string_code HasString string_item w (at c.args.end w) c.args.end said c.result-1.given.0 refl all.row in
+    let long = ap length same in
+    let kept = length-map found rest in
+    let each = turns_each found in
+    let counted = c.in_ok-strings.ensures.counted in
+    omega (arith, long, kept, each, counted)
