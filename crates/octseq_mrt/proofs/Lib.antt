@@ -1,0 +1,5 @@
+pub mod Events
+pub mod Filled
+pub mod OneKind
+pub mod OneRecord
+pub mod Steps

@@ -1,0 +1,18 @@
+-- Files of records, one after another: RFC 6396, 2.
+use Rattle.std.specs.Prelude.{ℕ, ◌<◌, List, length}
+use Rattle.octseq.specs.Code.{HasFront}
+use Rattle.octseq.specs.Window.{Window}
+use Rattle.octseq_mrt.specs.Record.{AreRecord}
+use Rattle.octseq_mrt.specs.declared.header.CommonHeader.{CommonHeader}
+
+-- the octets are those of one record
+abbrev pub IsRecordOctets : List ℕ → Type 0
+IsRecordOctets octets = (r : CommonHeader × Window) × AreRecord octets r
+
+-- a record is at the front of the octets
+abbrev pub BeginsWithRecord : List ℕ → Type 0
+BeginsWithRecord octets = HasFront IsRecordOctets (λ octets. octets) octets
+
+-- octets at the end of a file that are no whole record: at least one, and no record is at their front
+abbrev pub IsCut : List ℕ → Type 0
+IsCut octets = (0 < length octets) × ¬ BeginsWithRecord octets
