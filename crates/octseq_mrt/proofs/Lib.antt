@@ -2,4 +2,5 @@ pub mod Events
 pub mod Filled
 pub mod OneKind
 pub mod OneRecord
+pub mod Reading
 pub mod Steps

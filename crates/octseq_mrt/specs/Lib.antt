@@ -8,5 +8,6 @@ pub mod OneListed
 pub mod Parsed
 pub mod Peer
 pub mod Record
+pub mod RecordReader
 pub mod Records
 pub mod Rib

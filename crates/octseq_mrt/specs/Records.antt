@@ -1,9 +1,14 @@
 -- Files of records, one after another: RFC 6396, 2.
-use Rattle.std.specs.Prelude.{ℕ, ◌<◌, List, length}
+use Rattle.std.specs.Prelude.{ℕ, ◌<◌, List, length, slice_range}
 use Rattle.octseq.specs.Code.{HasFront}
+use Rattle.octseq.specs.Integer.{be}
 use Rattle.octseq.specs.Window.{Window}
 use Rattle.octseq_mrt.specs.Record.{AreRecord}
 use Rattle.octseq_mrt.specs.declared.header.CommonHeader.{CommonHeader}
+
+-- how many octets follow the header that octets begin with
+abbrev pub record_length : List ℕ → ℕ
+record_length octets = be (slice_range octets 8 12)
 
 -- the octets are those of one record
 abbrev pub IsRecordOctets : List ℕ → Type 0
