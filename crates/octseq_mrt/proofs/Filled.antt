@@ -14,7 +14,8 @@ use Rattle.octseq_bgp.specs.declared.entry.Form.TheVariants as form
 use Rattle.octseq_bgp.proofs.Wholes.{counted_left}
 use Rattle.octseq_mrt.specs.Ahead.{AllAhead, ahead_once, one_filling}
 use Rattle.octseq_mrt.specs.Listed.{AttributesAhead, attributes_once, EntriesAhead, entries_once}
-use Rattle.octseq_mrt.specs.OneListed.{one_entry_parts, onward_optional, entry_parts, rib_entry_code, one_rib_entry, rib_entry_moves}
+use Rattle.octseq_mrt.specs.OneListed.{one_entry_parts, onward_optional, entry_parts}
+use Rattle.octseq_mrt.specs.OneListed.{rib_entry_code, one_rib_entry, rib_entry_moves}
 use Rattle.octseq_mrt.specs.Rib.{RibEntry, HasEntryParts, IsRibEntry}
 
 row_none : {A : Type 0} (Is : Relation A) → IsMoving Is → (w v : Window) (row : List A) → left w ≡ 0 → Row Is w row v
@@ -69,7 +70,8 @@ module _ {A : Type 0} (code : Coded A) (Is : Relation A) (one : IsOne Is) (movin
       (λ f. one_filling Is one moving w row ahead.0 fills f)
 
 -- so many things with nothing left after them fill the window
-pub filled : {A : Type 0} (Is : Relation A) (w v : Window) (count : ℕ) (row : List A) → Many count Is w row v → left v ≡ 0
+pub filled : {A : Type 0} (Is : Relation A) (w v : Window) (count : ℕ) (row : List A) → Many count Is w row v → left
+    v ≡ 0
     → Fills Is w row
 filled Is w v count row many ends = (v, (many.1, ends))
 

@@ -3,7 +3,8 @@ use Rattle.std.proofs.Common.{◌≡◌, ◌+◌, ◌<◌, ◌≤◌, ◌++◌, 
 use Rattle.std.proofs.Common.{sym, ap, subst, take-append-drop, arith}
 use Rattle.std.proofs.KnownBytes.{Consumes-trans}
 use Rattle.std.proofs.Math.Seq.{take-take}
-use Rattle.std.proofs.lemmas.List.{length-append, length-take, length-drop, drop-take, take_all, take-append-le, drop-append-le}
+use Rattle.std.proofs.lemmas.List.{length-append, length-take, length-drop}
+use Rattle.std.proofs.lemmas.List.{drop-take, take_all, take-append-le, drop-append-le}
 use Rattle.std.specs.Io.KnownBytes.{Consumes, IsAtEnd}
 use Rattle.std.specs.Prelude.{OnErr}
 use Rattle.octseq.specs.Integer.{be}
@@ -128,7 +129,8 @@ pub after_header : (given mid left : Option (List ℕ)) (header read : List ℕ)
     → len ≡ record_length header → Consumes given mid header → length read < len → Consumes mid left read
     → (octets : List ℕ) × ¬ BeginsWithRecord octets × Consumes given left octets
 after_header given mid left header read len long says first few second =
-    (header ++ read, no_whole header read long (omega (arith, few, says)), Consumes-trans given mid left header read first second)
+    (header ++ read, no_whole header read long (omega (arith, few, says)), Consumes-trans given mid left header read
+    first second)
 
 -- the input ended after a header
 pub cut_after_header : (given mid left : Option (List ℕ)) (header read : List ℕ) (len : ℕ) → length header ≡ 12

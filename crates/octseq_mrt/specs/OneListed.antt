@@ -13,7 +13,8 @@ use Rattle.octseq_format.specs.Pair.{◌then◌, ◌one_then◌, ◌onward_then�
 use Rattle.octseq_format.specs.Rest.{IsRest}
 use Rattle.octseq_bgp.specs.Entry.{Entry, IsEntry, IsNumber}
 use Rattle.octseq_bgp.specs.Fills.{Fills}
-use Rattle.octseq_bgp.specs.OneEntry.{one_number, one_octets, one_deciding, onward_deciding, one_entry, entry_moves, entry_code}
+use Rattle.octseq_bgp.specs.OneEntry.{one_number, one_octets, one_deciding}
+use Rattle.octseq_bgp.specs.OneEntry.{onward_deciding, one_entry, entry_moves, entry_code}
 use Rattle.octseq_bgp.specs.Path.{asn_size}
 use Rattle.octseq_bgp.specs.declared.entry.Form.TheVariants as form
 use Rattle.octseq_bgp.specs.declared.family.Afi.{Afi}

@@ -155,8 +155,8 @@ fn append_step<R: Read>(
     Ok(count)
 }
 
-/// Reads into what follows the first octets, until that is full or the input is at its end, and gives how many octets it
-/// read.
+/// Reads into what follows the first octets, until that is full or the input is at its end, and gives how many octets
+/// it read.
 fn fill_after<R: Read>(reader: &mut R, octets: &mut [u8], before: usize) -> io::Result<usize>
     requires { before ≤ length octets.old }
     ensures front { take before octets.new ≡ take before octets.old }

@@ -12,7 +12,8 @@ returns-in_err-append_octets-2-clause-err g c =
     let read = c.in_err-append_octets-2.ensures.err in
     on_err c.from_residual-in_err-append_octets-2.result
     (after_header (g.R.Read.remaining c.args.reader.now) (g.R.Read.remaining c.append_octets.new.reader)
-    (g.R.Read.remaining c.append_octets-2.new.reader) head.0 read.0 c.length_of-len.result head.1 says head.3 read.1 read.2)
+    (g.R.Read.remaining c.append_octets-2.new.reader) head.0 read.0 c.length_of-len.result head.1 says head.3 read.1
+    read.2)
 
 pub returns-then-not-branch-2-clause-err : goal.returns-then-not-branch-2-clause-err
 returns-then-not-branch-2-clause-err g c =
@@ -23,7 +24,8 @@ returns-then-not-branch-2-clause-err g c =
     let says = c.length_of-len.ensures ∙ ap record_length (c.as_slice.ensures.value ∙ items) in
     let read = c.in_ok-append_octets-2.ensures.end (ap Ok no) in
     after_header (g.R.Read.remaining c.args.reader.now) (g.R.Read.remaining c.append_octets.new.reader)
-    (g.R.Read.remaining c.append_octets-2.new.reader) head.0 read.0 c.length_of-len.result head.1 says head.3 read.1 read.3
+    (g.R.Read.remaining c.append_octets-2.new.reader) head.0 read.0 c.length_of-len.result head.1 says head.3 read.1
+    read.3
 
 pub returns-then-not-branch-2-clause-short : goal.returns-then-not-branch-2-clause-short
 returns-then-not-branch-2-clause-short g c = λ _.

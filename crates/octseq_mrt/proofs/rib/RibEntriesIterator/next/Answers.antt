@@ -48,7 +48,8 @@ invariant_of-self g c =
       attributes = attributes.0;
     } in
     record {
-      ahead = entries_more self.paths (window self.parser) (window c.parse.new.parser) (window parts.octets) e self.ahead
+      ahead = entries_more self.paths (window self.parser) (window c.parse.new.parser) (window parts.octets) e
+          self.ahead
           c.in-Ok.ensures.parts
           (subst (λ w. ∥ Fills (IsEntry form.Attribute) w attributes.0 ∥₁) c.at-attributes.ensures attributes.1);
     }
@@ -64,7 +65,8 @@ returns-in-Ok-clause-steps g c =
       path_id = parts.path_id;
       attributes = attributes.0;
     } in
-    let then = entries_then self.paths (window self.parser) (window c.parse.new.parser) (window parts.octets) e self.ahead
+    let then = entries_then self.paths (window self.parser) (window c.parse.new.parser) (window parts.octets) e
+    self.ahead
     c.self-1.given.0 c.in-Ok.ensures.parts
     (subst (λ w. ∥ Fills (IsEntry form.Attribute) w attributes.0 ∥₁) c.at-attributes.ensures attributes.1) in
     subst (λ p. self.ahead.0 ≡ record e { path_id = p } ∷ c.self-1.given.0.0) (sym c.path_id.ensures) then
