@@ -69,12 +69,6 @@ module _ {A : Type 0} (code : Coded A) (Is : Relation A) (one : IsOne Is) (movin
   ahead_as w row ahead fills = ∥∥₁_elim ahead.1 (Coded-set (coded_list code) row ahead.0)
       (λ f. one_filling Is one moving w row ahead.0 fills f)
 
--- so many things with nothing left after them fill the window
-pub filled : {A : Type 0} (Is : Relation A) (w v : Window) (count : ℕ) (row : List A) → Many count Is w row v → left
-    v ≡ 0
-    → Fills Is w row
-filled Is w v count row many ends = (v, (many.1, ends))
-
 -- ---- entries of a RIB
 
 -- where the parts of no entry are, no entry is

@@ -1,3 +1,4 @@
+pub mod Apart
 pub mod Events
 pub mod Filled
 pub mod OneKind

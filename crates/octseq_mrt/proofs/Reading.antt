@@ -128,9 +128,11 @@ no_whole header read long few (a, more, fits, e) =
 pub after_header : (given mid left : Option (List ℕ)) (header read : List ℕ) (len : ℕ) → length header ≡ 12
     → len ≡ record_length header → Consumes given mid header → length read < len → Consumes mid left read
     → (octets : List ℕ) × ¬ BeginsWithRecord octets × Consumes given left octets
-after_header given mid left header read len long says first few second =
-    (header ++ read, no_whole header read long (omega (arith, few, says)), Consumes-trans given mid left header read
-    first second)
+after_header given mid left header read len long says first few second = (
+  header ++ read,
+  no_whole header read long (omega (arith, few, says)),
+  Consumes-trans given mid left header read first second,
+)
 
 -- the input ended after a header
 pub cut_after_header : (given mid left : Option (List ℕ)) (header read : List ℕ) (len : ℕ) → length header ≡ 12

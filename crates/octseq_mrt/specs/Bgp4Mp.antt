@@ -15,8 +15,7 @@ use Rattle.octseq_mrt.specs.Kind.{is_state_change, has_wide_asns, has_path_ids}
 use Rattle.octseq_mrt.specs.declared.kind.Bgp4MpSubtype.{Bgp4MpSubtype}
 
 -- What happened: an old state and a new one; or a message, by the session that it is to be read in and the window of
--- its
--- octets.
+-- its octets.
 pub data Event : Type 0 where
   state_change : ℕ × ℕ → Event
   message : SessionConfig → Window → Event

@@ -11,3 +11,4 @@ pub mod Record
 pub mod RecordReader
 pub mod Records
 pub mod Rib
+pub mod Text

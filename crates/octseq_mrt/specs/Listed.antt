@@ -19,8 +19,8 @@ abbrev pub AttributesAhead : Window → Type 0
 AttributesAhead w = AllAhead (IsEntry form.Attribute) w
 
 pub attributes_once : (w : Window) → IsProp (AttributesAhead w)
-attributes_once w = ahead_once entry_code (IsEntry form.Attribute) (one_entry form.Attribute) (entry_moves
-    form.Attribute) w
+attributes_once w =
+    ahead_once entry_code (IsEntry form.Attribute) (one_entry form.Attribute) (entry_moves form.Attribute) w
 
 abbrev pub EntriesAhead : Bool → Window → Type 0
 EntriesAhead paths w = AllAhead (IsRibEntry paths) w

@@ -10,6 +10,7 @@ pub mod reader;
 pub mod record;
 pub mod rib;
 pub mod rib_attribute;
+mod text;
 mod whole;
 
 pub use bgp4mp::{Bgp4Mp, Event, MessageOctets};
@@ -19,4 +20,4 @@ pub use peer::{PeerEntry, PeerIndexTable, Peers};
 pub use reader::{RecordError, RecordReader, read_record};
 pub use record::{Record, RecordValue, next_record, one_record, one_record_value};
 pub use rib::{Rib, RibEntries, RibEntry};
-pub use rib_attribute::{RibAttribute, RibAttributes, RibValue};
+pub use rib_attribute::{RibAttribute, RibAttributes, RibValue, next_hops_are_apart};

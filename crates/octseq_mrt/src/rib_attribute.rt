@@ -140,6 +140,17 @@ pub(crate) fn pass_attributes<R: AsOctets + Copy>(
     Ok(())
 }
 
+/// Octets that are next hops alone are no MP_REACH_NLRI of a message, so it doesn't matter which is looked for first.
+///
+/// It does nothing. A caller that calls it has the law in its proof.
+pub fn next_hops_are_apart()
+    ensures { (session : Session) (w : Window) (reach : Reach) → IsReach session w reach → (inside : Window)
+        → ¬ IsNextHopAlone 14 w inside }
+{}
+
+ghost use Rattle.octseq_bgp.specs.Value.{Reach, IsReach};
+ghost use Rattle.octseq_bgp.specs.declared.session.SessionConfig.{SessionConfig as Session};
+
 /// What an attribute of an entry says.
 #[derive(Debug)]
 pub enum RibValue<R: AsOctets> {

@@ -10,8 +10,7 @@ pub returns-in_err-_peer-clause-malformed : goal.returns-in_err-_peer-clause-mal
 returns-in_err-_peer-clause-malformed g c = λ _.
     let all = c.loop-taken.invariant.all in
     many_ends IsPeer one_peer (window c.args.parser.now) (window c.loop-taken.parser) c.loop-taken.taken c.args.count
-        all.0
-    (c.in_err-_peer.ensures.malformed refl) (omega arith) all.1
+    all.0 (c.in_err-_peer.ensures.malformed refl) (omega arith) all.1
 
 pub loop-taken-preserved : goal.loop-taken-preserved
 loop-taken-preserved g c =

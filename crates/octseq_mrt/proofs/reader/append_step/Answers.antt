@@ -22,7 +22,7 @@ returns-clause-read g c =
       omega (arith, fits, grown, value, kept),
       c.truncate.ensures.items ∙ ap (take (before + count)) (written_back ys _ c.resize.new.self.len whole)
           ∙ appended old (replicate (before + c.args.step - vec_len c.args.octets.now) 0) c.as_mut_slice.result.now
-              ys before count
+          ys before count
           c.args.step all (c.as_mut_slice.ensures.value ∙ c.in_ok-resize.ensures.items) read.front,
       read.ok,
     )

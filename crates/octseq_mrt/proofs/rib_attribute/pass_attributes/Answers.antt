@@ -31,8 +31,11 @@ attributes-preserved g c =
 pub returns-in_err-_attribute-clause-malformed : goal.returns-in_err-_attribute-clause-malformed
 returns-in_err-_attribute-clause-malformed g c = λ _ row fills.
     let all = c.attributes.invariant.all in
-    let some : 0 < left (window c.attributes.parser) = omega (arith, c.attributes.invariant.ahead,
-    c.attributes-test.true) in
+    let some : 0 < left (window c.attributes.parser) = omega (
+      arith,
+      c.attributes.invariant.ahead,
+      c.attributes-test.true,
+    ) in
     to_ends (IsEntry form.Attribute) (one_entry form.Attribute) (entry_moves form.Attribute) (window c.args.parser.now)
     (window c.attributes.parser) fills.0 all.0 row (c.in_err-_attribute.ensures.malformed refl) some all.1 fills.1.0
     fills.1.1

@@ -39,6 +39,6 @@ returns-in-Ok-clause-steps g c =
 
 pub returns-in-Ok-clause-goes : goal.returns-in-Ok-clause-goes
 returns-in-Ok-clause-goes g c =
-    let less = fewer (peer_of c.in-Ok.peer) c.args.self.now.ahead.0 c.self-1.given.0.0 (returns-in-Ok-clause-steps g
-    c) in
+    let less = fewer (peer_of c.in-Ok.peer) c.args.self.now.ahead.0 c.self-1.given.0.0
+    (returns-in-Ok-clause-steps g c) in
     record { on = λ finite. (tt, finite, less); keeps = tt; rests = λ _. tt }

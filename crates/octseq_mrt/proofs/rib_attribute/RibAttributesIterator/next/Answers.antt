@@ -14,8 +14,7 @@ returns-then-remaining-eq0-clause-steps g c =
     let here = c.remaining.ensures.left in
     let zero = c.if-remaining-eq0.true in
     let none = ahead_none entry_code (IsEntry form.Attribute) (entry_moves form.Attribute) (window self.parser)
-    self.ahead
-    (omega (arith, here, zero)) in
+    self.ahead (omega (arith, here, zero)) in
     (none, none)
 
 pub returns-in-Err-clause-steps : goal.returns-in-Err-clause-steps
@@ -31,16 +30,16 @@ invariant_of-self g c =
     let self = c.args.self.now in
     record {
       ahead = ahead_more entry_code (IsEntry form.Attribute) (one_entry form.Attribute) (entry_moves form.Attribute)
-          (window self.parser) (window c.parse.new.parser)
-          (attribute_of c.in-Ok.attribute) self.ahead c.in-Ok.ensures.attribute;
+          (window self.parser) (window c.parse.new.parser) (attribute_of c.in-Ok.attribute) self.ahead
+          c.in-Ok.ensures.attribute;
     }
 
 pub returns-in-Ok-clause-steps : goal.returns-in-Ok-clause-steps
 returns-in-Ok-clause-steps g c =
     let self = c.args.self.now in
-    ahead_then entry_code (IsEntry form.Attribute) (one_entry form.Attribute) (entry_moves form.Attribute) (window
-    self.parser) (window c.parse.new.parser)
-    (attribute_of c.in-Ok.attribute) self.ahead c.self-1.given.0 c.in-Ok.ensures.attribute
+    ahead_then entry_code (IsEntry form.Attribute) (one_entry form.Attribute) (entry_moves form.Attribute)
+    (window self.parser) (window c.parse.new.parser) (attribute_of c.in-Ok.attribute) self.ahead
+    c.self-1.given.0 c.in-Ok.ensures.attribute
 
 pub returns-in-Ok-clause-goes : goal.returns-in-Ok-clause-goes
 returns-in-Ok-clause-goes g c =
