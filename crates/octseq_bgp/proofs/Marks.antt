@@ -5,11 +5,8 @@ use Rattle.std.proofs.lemmas.List.{get_or-set_other, get_or-set_same}
 use Rattle.std.proofs.Math.Decide.{dec_le}
 use mathlib.Core.Logic.{inl, inr}
 use Rattle.octseq_bgp.specs.Entry.{Entry}
+use Rattle.octseq_bgp.specs.Fault.{Marks}
 use Rattle.octseq_bgp.specs.Handling.{HasType}
-
--- a table marks the types of a list
-abbrev pub Marks : List Bool → List Entry → Type 0
-Marks seen before = (k : ℕ) → k < 256 → (get_or seen k false ≡ true) ↔ HasType before k
 
 apart : (seen : List Bool) (before : List Entry) (e : Entry) (code k : ℕ) → code ≡ e.kind → k ≢ code
     → (get_or seen k false ≡ true) ↔ HasType before k

@@ -6,7 +6,7 @@ use Rattle.octseq_format.specs.Fixed.{IsFixed}
 use Rattle.octseq_format.specs.Laws.{IsOne}
 use Rattle.octseq_format.specs.Pair.{◌then◌, ◌one_then◌}
 use Rattle.octseq_format.specs.Rest.{IsRest, one_rest}
-use Rattle.octseq_bgp.specs.Capability.{CapabilityValue, Restart, IsRestart, IsAddPath, Said, HasCode, IsCoded, IsCapabilityValue}
+use Rattle.octseq_bgp.specs.Capability.{CapabilityValue, Restart, IsRestart, Said, HasCode, IsCoded, IsCapabilityValue}
 use Rattle.octseq_bgp.specs.CapabilityType.{code_number}
 use Rattle.octseq_bgp.specs.Entry.{IsNumber}
 use Rattle.octseq_bgp.specs.FamilyTuple.{family_tuple}

@@ -1,5 +1,5 @@
 -- Octets are a message in one way at most.
-use Rattle.std.proofs.Common.{◌≡◌, ℕ, List, length, true, false, refl, sym, ap, ◌∙◌, subst}
+use Rattle.std.proofs.Common.{◌≡◌, ℕ, List, length, true, false, sym, ap, ◌∙◌, subst}
 use Rattle.octseq.specs.Window.{Window, whole}
 use Rattle.octseq_format.specs.Laws.{IsOne}
 use Rattle.octseq_format.specs.Pair.{◌then◌, ◌one_then◌}
@@ -9,36 +9,40 @@ use Rattle.octseq_bgp.specs.Fills.{Whole, Fills}
 use Rattle.octseq_bgp.specs.Message.{Message, IsHeader, IsBody, IsMessage, IsNotification, IsRouteRefresh}
 use Rattle.octseq_bgp.specs.OneEntry.{one_number, one_octets}
 use Rattle.octseq_bgp.specs.Open.{Open, IsOpen, IsOpenFront, IsLong, IsLongPart, HasParameters, parameter_form}
+use Rattle.octseq_bgp.specs.Prefix.{Nlri, AreNlri}
 use Rattle.octseq_bgp.specs.Session.{prefix_form}
 use Rattle.octseq_bgp.specs.Update.{Update, IsUpdate, IsUpdateParts}
 use Rattle.octseq_bgp.specs.declared.entry.Form.TheVariants as form
 use Rattle.octseq_bgp.specs.declared.family.AfiSafiType.TheVariants as family
 use Rattle.octseq_bgp.specs.declared.session.SessionConfig.{SessionConfig}
 use Rattle.octseq_bgp.proofs.Bodies.{as_open, as_update, as_notification, as_keepalive, as_route_refresh}
-use Rattle.octseq_bgp.proofs.Wholes.{one_whole, one_fills}
+use Rattle.octseq_bgp.proofs.Wholes.{one_whole, one_fills, one_nlri}
 
 -- ---- UPDATE
 
 pub one_parts : IsOne IsUpdateParts
 one_parts = one_octets 2 one_then one_octets 2 one_then one_rest
 
-update_from : List Entry → List Entry → List Entry → Update
-update_from withdrawn attributes announced =
-    record { withdrawn = withdrawn; attributes = attributes; announced = announced }
+update_from : SessionConfig → List Nlri → List Entry → List Nlri → Update
+update_from session withdrawn attributes announced =
+    record { session = session; withdrawn = withdrawn; attributes = attributes; announced = announced }
 
 pub one_update : (s : SessionConfig) (w : Window) (u o : Update) → IsUpdate s w u → IsUpdate s w o → u ≡ o
 unfolding update_from
 one_update s w u o a b =
-    let prefixes = IsEntry (prefix_form s family.Ipv4Unicast) in
+    let f = prefix_form s family.Ipv4Unicast in
+    let session = a.of_session ∙ sym b.of_session in
     let same = one_whole IsUpdateParts one_parts w a.parts b.parts a.are b.are in
-    let one = one_fills (prefix_form s family.Ipv4Unicast) b.parts.0 u.withdrawn o.withdrawn
-    (subst (λ p. Fills prefixes p.0 u.withdrawn) same a.withdrawn) b.withdrawn in
+    let one = one_nlri f b.parts.0 u.withdrawn o.withdrawn
+    (subst (λ p. AreNlri f p.0 u.withdrawn) same a.withdrawn) b.withdrawn in
     let two = one_fills form.Attribute b.parts.1.0 u.attributes o.attributes
     (subst (λ p. Fills (IsEntry form.Attribute) p.1.0 u.attributes) same a.attributes) b.attributes in
-    let three = one_fills (prefix_form s family.Ipv4Unicast) b.parts.1.1 u.announced o.announced
-    (subst (λ p. Fills prefixes p.1.1 u.announced) same a.announced) b.announced in
-    ap (λ x. update_from x u.attributes u.announced) one ∙ ap (λ x. update_from o.withdrawn x u.announced) two
-    ∙ ap (λ x. update_from o.withdrawn o.attributes x) three
+    let three = one_nlri f b.parts.1.1 u.announced o.announced
+    (subst (λ p. AreNlri f p.1.1 u.announced) same a.announced) b.announced in
+    ap (λ x. update_from x u.withdrawn u.attributes u.announced) session
+    ∙ ap (λ x. update_from o.session x u.attributes u.announced) one
+    ∙ ap (λ x. update_from o.session o.withdrawn x u.announced) two
+    ∙ ap (λ x. update_from o.session o.withdrawn o.attributes x) three
 
 -- ---- OPEN
 

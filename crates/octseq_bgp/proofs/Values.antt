@@ -1,30 +1,33 @@
 -- Octets say one value at most.
-use Rattle.std.proofs.Common.{◌≡◌, ℕ, ◌<◌, ◌≤◌, Bool, true, List, arith, refl, sym, ap, ◌∙◌, subst}
+use Rattle.std.proofs.Common.{◌≡◌, ℕ, ◌<◌, ◌≤◌, Bool, true, List, arith, sym, ap, ◌∙◌, subst}
 use mathlib.Core.Logic.{inl, inr}
 use Rattle.octseq.specs.Integer.{be}
-use Rattle.octseq.specs.Window.{Window, left}
+use Rattle.octseq.specs.Window.{Window}
 use Rattle.octseq_format.specs.Laws.{IsOne}
 use Rattle.octseq_format.specs.Pair.{◌then◌, ◌one_then◌}
 use Rattle.octseq_format.specs.Rest.{one_rest}
 use Rattle.octseq_format.specs.Where.{IsWhere, one_where}
 use Rattle.octseq_bgp.specs.AttributeType.{type_number}
 use Rattle.octseq_bgp.specs.Community.{large_community}
-use Rattle.octseq_bgp.specs.Entry.{Entry, IsEntry, IsNumber, IsCounted}
-use Rattle.octseq_bgp.specs.Family.{afi_number, safi_number}
-use Rattle.octseq_bgp.specs.Fills.{Whole, Fills}
-use Rattle.octseq_bgp.specs.OneEntry.{one_number, one_octets}
+use Rattle.octseq_bgp.specs.Entry.{IsNumber}
+use Rattle.octseq_bgp.specs.Fills.{Whole}
+use Rattle.octseq_bgp.specs.OneEntry.{same_pair, one_number, one_octets}
 use Rattle.octseq_bgp.specs.Path.{path_form, asn_size}
+use Rattle.octseq_bgp.specs.NextHop.{IsNextHop}
+use Rattle.octseq_bgp.specs.Prefix.{Nlri, ArePrefixes}
 use Rattle.octseq_bgp.specs.Session.{prefix_form}
 use Rattle.octseq_bgp.specs.Value.{Reach, Unreach, IsReachFront, IsReach, IsUnreachFront, IsUnreach, Value, SomeItems}
-use Rattle.octseq_bgp.specs.Value.{Made, HasForm, IsTyped, IsValue}
+use Rattle.octseq_bgp.specs.Value.{IsPath, Made, HasForm, IsTyped, IsValue}
 use Rattle.octseq_bgp.specs.declared.attribute_type.AttributeType.{AttributeType}
 use Rattle.octseq_bgp.specs.declared.attribute_type.AttributeType.TheVariants as kind
 use Rattle.octseq_bgp.specs.declared.family.AfiSafiType.{AfiSafiType}
+use Rattle.octseq_bgp.specs.declared.next_hop.NextHop.{NextHop}
 use Rattle.octseq_bgp.specs.declared.session.SessionConfig.{SessionConfig}
 use Rattle.octseq_bgp.proofs.Chunks.{one_filling}
 use Rattle.octseq_bgp.proofs.Families.{one_family}
+use Rattle.octseq_bgp.proofs.NextHops.{one_next_hop}
 use Rattle.octseq_bgp.proofs.Types.{one_type}
-use Rattle.octseq_bgp.proofs.Wholes.{one_whole, one_fills}
+use Rattle.octseq_bgp.proofs.Wholes.{one_whole, one_fills, one_nlri}
 
 -- a window says one thing of a kind at most
 abbrev pub OneSaid : {A : Type 0} → (A → Type 0) → Type 0
@@ -41,7 +44,7 @@ one_items k reads w some row others a b = one_filling k reads some w row others 
 pub one_reach_front : IsOne IsReachFront
 one_reach_front = one_number 2 one_then one_number 1 one_then one_octets 1 one_then one_number 1 one_then one_rest
 
-reach_from : AfiSafiType → Window → List Entry → Reach
+reach_from : AfiSafiType → NextHop → List Nlri → Reach
 reach_from family next_hop prefixes = record { family = family; next_hop = next_hop; prefixes = prefixes }
 
 pub one_reach : (s : SessionConfig) (w : Window) → OneSaid (IsReach s w)
@@ -49,16 +52,19 @@ unfolding reach_from
 one_reach s w r o a b =
     let front = one_whole IsReachFront one_reach_front w _ _ a.front b.front in
     let family = one_family r.family o.family (ap (λ f. f.0) front) (ap (λ f. f.1.0) front) in
-    let moved = subst (λ f. Fills (IsEntry (prefix_form s f)) a.rest r.prefixes) family a.prefixes in
-    let row = one_fills (prefix_form s o.family) b.rest r.prefixes o.prefixes
-    (subst (λ f. Fills (IsEntry (prefix_form s o.family)) f.1.1.1.1 r.prefixes) front moved) b.prefixes in
-    ap (λ f. reach_from f r.next_hop r.prefixes) family ∙ ap (λ f. reach_from o.family f.1.1.0 r.prefixes) front
+    let moved = subst (λ f. ArePrefixes s f a.rest r.prefixes) family a.prefixes in
+    let row = one_nlri (prefix_form s o.family) b.rest r.prefixes o.prefixes
+    (subst (λ f. ArePrefixes s o.family f.1.1.1.1 r.prefixes) front moved) b.prefixes in
+    let hops = subst (λ f. IsNextHop f a.next_hops r.next_hop) family a.next_hop in
+    let hop = one_next_hop o.family b.next_hops r.next_hop o.next_hop
+    (subst (λ f. IsNextHop o.family f.1.1.0 r.next_hop) front hops) b.next_hop in
+    ap (λ f. reach_from f r.next_hop r.prefixes) family ∙ ap (λ h. reach_from o.family h r.prefixes) hop
     ∙ ap (reach_from o.family o.next_hop) row
 
 pub one_unreach_front : IsOne IsUnreachFront
 one_unreach_front = one_number 2 one_then one_number 1 one_then one_rest
 
-unreach_from : AfiSafiType → List Entry → Unreach
+unreach_from : AfiSafiType → List Nlri → Unreach
 unreach_from family prefixes = record { family = family; prefixes = prefixes }
 
 pub one_unreach : (s : SessionConfig) (w : Window) → OneSaid (IsUnreach s w)
@@ -66,9 +72,9 @@ unfolding unreach_from
 one_unreach s w r o a b =
     let front = one_whole IsUnreachFront one_unreach_front w _ _ a.front b.front in
     let family = one_family r.family o.family (ap (λ f. f.0) front) (ap (λ f. f.1.0) front) in
-    let moved = subst (λ f. Fills (IsEntry (prefix_form s f)) a.rest r.prefixes) family a.prefixes in
-    let row = one_fills (prefix_form s o.family) b.rest r.prefixes o.prefixes
-    (subst (λ f. Fills (IsEntry (prefix_form s o.family)) f.1.1 r.prefixes) front moved) b.prefixes in
+    let moved = subst (λ f. ArePrefixes s f a.rest r.prefixes) family a.prefixes in
+    let row = one_nlri (prefix_form s o.family) b.rest r.prefixes o.prefixes
+    (subst (λ f. ArePrefixes s o.family f.1.1 r.prefixes) front moved) b.prefixes in
     ap (λ f. unreach_from f r.prefixes) family ∙ ap (unreach_from o.family) row
 
 -- ---- values
@@ -79,8 +85,8 @@ four w = one_whole (IsNumber 4) (one_number 4) w
 pair : (k : ℕ) (w : Window) → OneSaid (Whole (IsNumber k then IsNumber 4) w)
 pair k w = one_whole (IsNumber k then IsNumber 4) (one_number k one_then one_number 4) w
 
-path : (wide : Bool) (w : Window) → OneSaid (Fills (IsEntry (path_form wide)) w)
-path wide w = one_fills (path_form wide) w
+path : (wide : Bool) (w : Window) → OneSaid (IsPath wide w)
+path wide w p q a b = same_pair (a.0 ∙ sym b.0) (one_fills (path_form wide) w p.1 q.1 a.1 b.1)
 
 pub one_form : (s : SessionConfig) (t : AttributeType) (w : Window) → OneSaid (HasForm s t w)
 one_form s kind.Origin w = one_made Value.origin (one_whole (IsWhere (IsNumber 1) (λ n. n) (λ n. n ≤ 2))

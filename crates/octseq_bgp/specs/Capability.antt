@@ -1,7 +1,7 @@
 -- Parameters and capabilities: RFC 5492, 4, RFC 4760, 8 (multiprotocol), RFC 2918, 2 (route refresh), RFC 8654, 3
 -- (extended messages), RFC 4724, 3 (graceful restart), RFC 6793, 3 (AS numbers of four octets), RFC 7911, 4 (path ids),
 -- RFC 7313, 3.1 (enhanced route refresh).
-use Rattle.std.specs.Prelude.{◌≡◌, ℕ, ◌≤◌, ◌⊎◌, List, [], ◌∷◌, length}
+use Rattle.std.specs.Prelude.{◌≡◌, ℕ, ◌/◌, ◌%◌, ◌≤◌, Bool, nat_eq, ◌⊎◌, List, [], ◌∷◌}
 use Rattle.octseq.specs.Window.{Window, left}
 use Rattle.octseq_format.specs.Fixed.{IsFixed}
 use Rattle.octseq_format.specs.Pair.{◌then◌}
@@ -34,6 +34,16 @@ IsParameterValue kind w (ParameterValue.opaque octets) =
 pub record Restart : Type 0 where
   pub bits : ℕ
   pub families : List (ℕ × (ℕ × ℕ))
+
+-- the first bit, the second, and the last twelve: RFC 4724, 3, and RFC 8538, 2
+abbrev pub has_restarted : ℕ → Bool
+has_restarted bits = nat_eq (bits / 32768) 1
+
+abbrev pub takes_notifications : ℕ → Bool
+takes_notifications bits = nat_eq (bits / 16384 % 2) 1
+
+abbrev pub restart_time : ℕ → ℕ
+restart_time bits = bits % 4096
 
 pub record IsRestart (w : Window) (r : Restart) : Type 0 where
   pub rest : Window

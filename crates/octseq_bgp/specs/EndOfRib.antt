@@ -14,7 +14,7 @@ UnreachesNone s (e ∷ more) f = (length more ≡ 0) × (e.kind ≡ 15) × (r : 
     × (length r.prefixes ≡ 0) × (f ≡ r.family)
 
 -- An UPDATE without prefixes ends a family: IPv4 unicast where it has no attributes, else that of the attribute.
-pub record IsEnd (s : SessionConfig) (u : Update) (f : AfiSafiType) : Type 0 where
+pub record IsEnd (u : Update) (f : AfiSafiType) : Type 0 where
   pub withdrawn : length u.withdrawn ≡ 0
   pub announced : length u.announced ≡ 0
-  pub attributes : (length u.attributes ≡ 0) × (f ≡ family.Ipv4Unicast) ⊎ UnreachesNone s u.attributes f
+  pub attributes : (length u.attributes ≡ 0) × (f ≡ family.Ipv4Unicast) ⊎ UnreachesNone u.session u.attributes f

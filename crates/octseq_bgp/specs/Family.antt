@@ -1,5 +1,5 @@
 -- Families of addresses: RFC 4760, 5 and 6.
-use Rattle.std.specs.Prelude.{◌≡◌, ◌⊎◌, ℕ}
+use Rattle.std.specs.Prelude.{ℕ}
 use Rattle.octseq_bgp.specs.declared.family.Afi.{Afi}
 use Rattle.octseq_bgp.specs.declared.family.Afi.TheVariants as addresses
 use Rattle.octseq_bgp.specs.declared.family.AfiSafiType.{AfiSafiType}
@@ -25,8 +25,3 @@ afi_of family.Ipv4Unicast = addresses.Ipv4
 afi_of family.Ipv4Multicast = addresses.Ipv4
 afi_of family.Ipv6Unicast = addresses.Ipv6
 afi_of family.Ipv6Multicast = addresses.Ipv6
-
--- How many octets next hops of a family have: one IPv4 address, for IPv4 alone; an IPv6 address, or two (RFC 2545, 3,
--- and RFC 8950, 3).
-abbrev pub next_hop_size : AfiSafiType → ℕ → Type 0
-next_hop_size family size = (size ≡ 16) ⊎ (size ≡ 32) ⊎ (size ≡ 4) × (afi_number family ≡ 1)

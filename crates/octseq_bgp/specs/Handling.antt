@@ -125,9 +125,9 @@ Misses s u = Announces s u × (¬ HasType u.attributes 1 ⊎ ¬ HasType u.attrib
     ⊎ (1 ≤ length u.announced) × ¬ HasType u.attributes 3
 
 -- what is to be done with an UPDATE: the worst of all this
-pub record IsHandling (s : SessionConfig) (external : Bool) (u : Update) (n : ℕ) : Type 0 where
+pub record IsHandling (external : Bool) (u : Update) (n : ℕ) : Type 0 where
   pub worst : ℕ
-  pub is_worst : IsWorst s external [] u.attributes worst
+  pub is_worst : IsWorst u.session external [] u.attributes worst
   pub misses : Bool
-  pub is_missing : IsTrue misses ↔ Misses s u
+  pub is_missing : IsTrue misses ↔ Misses u.session u
   pub is : n ≡ max worst (if misses then 2 else 0)

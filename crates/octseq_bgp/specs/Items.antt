@@ -1,9 +1,6 @@
 -- Items of one size, as communities are.
-use Rattle.std.specs.Prelude.{ℕ, List, ◌≤◌}
-use Rattle.octseq.specs.Window.{Window}
+use Rattle.std.specs.Prelude.{List}
 use Rattle.octseq.specs.declared.AsOctets.{Ghosts as OctetsGhosts}
-use Rattle.octseq_format.specs.Fixed.{IsFixed}
-use Rattle.octseq_format.specs.Laws.{Relation}
 use Rattle.octseq_bgp.specs.declared.item.Item.{Ghosts}
 use Rattle.octseq_bgp.specs.declared.item.Items.{Items}
 

@@ -1,10 +1,10 @@
 -- At most one entry of a form is at a place, with one end, and it takes an octet at least: so entries up to the end of
 -- a window are a fact.
-use Rattle.std.specs.Prelude.{◌≡◌, ℕ, ◌+◌, ◌*◌, ◌≤◌, List, refl}
+use Rattle.std.specs.Prelude.{◌≡◌, ℕ, ◌*◌, ◌≤◌, refl}
 use Rattle.std.proofs.Common.{sym, ap, ◌∙◌, subst, arith}
 use Rattle.std.specs.Coded.{Coded, code_by, coded×, coded_ℕ}
 use Rattle.octseq.specs.Integer.{be}
-use Rattle.octseq.specs.Window.{Window, left, past, nested}
+use Rattle.octseq.specs.Window.{Window, left}
 use Rattle.octseq_format.specs.Counted.{one_counted, onward_counted}
 use Rattle.octseq_format.specs.Fixed.{one_fixed, onward_fixed}
 use Rattle.octseq_format.specs.Laws.{Relation, IsOne, IsOnward, IsMoving, one_by, moving_of}
@@ -20,7 +20,7 @@ use Rattle.octseq_bgp.specs.declared.entry.Form.TheVariants as form
 
 -- ---- one at most
 
-same_pair : {A B : Type 0} {a c : A} {b d : B} → a ≡ c → b ≡ d → Path (A × B) (a, b) (c, d)
+pub same_pair : {A B : Type 0} {a c : A} {b d : B} → a ≡ c → b ≡ d → Path (A × B) (a, b) (c, d)
 same_pair {c = c} {b = b} first second = ap (λ a. (a, b)) first ∙ ap (λ b. (c, b)) second
 
 pub one_number : (k : ℕ) → IsOne (IsNumber k)

@@ -2,14 +2,13 @@
 use Rattle.octseq.specs.declared.AsOctets.{Ghosts}
 use Rattle.octseq.specs.Parser.{window}
 use Rattle.octseq.specs.Window.{Window}
-use Rattle.octseq_bgp.specs.Lists.{attributes_left, parameters_left, prefixes_left}
+use Rattle.octseq_bgp.specs.Lists.{attributes_left, attributes_session, parameters_left, prefixes_left}
 use Rattle.octseq_bgp.specs.Message as said
 use Rattle.octseq_bgp.specs.Open.{Open}
 use Rattle.octseq_bgp.specs.Update.{Update}
 use Rattle.octseq_bgp.specs.declared.message.Message.{Message}
 use Rattle.octseq_bgp.specs.declared.message.Message.TheVariants as kind
 use Rattle.octseq_bgp.specs.declared.open.OpenMessage.{OpenMessage}
-use Rattle.octseq_bgp.specs.declared.session.SessionConfig.{SessionConfig}
 use Rattle.octseq_bgp.specs.declared.update.UpdateMessage.{UpdateMessage}
 use Rattle.octseq_bgp.specs.declared.update.UpdateParts.{UpdateParts}
 
@@ -20,14 +19,11 @@ parts_of p = (window p.withdrawn, (window p.path_attributes, window p.announced)
 -- an UPDATE
 abbrev pub update_of : {R : Type 0} {g : Ghosts R} → UpdateMessage R g → Update
 update_of u = record {
+  session = attributes_session u.path_attributes;
   withdrawn = prefixes_left u.withdrawn;
   attributes = attributes_left u.path_attributes;
   announced = prefixes_left u.announced;
 }
-
--- the session that it was read in
-abbrev pub session_of : {R : Type 0} {g : Ghosts R} → UpdateMessage R g → SessionConfig
-session_of u = u.path_attributes.session
 
 -- an OPEN
 abbrev pub open_of : {R : Type 0} {g : Ghosts R} → OpenMessage R g → Open

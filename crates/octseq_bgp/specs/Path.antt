@@ -1,5 +1,5 @@
 -- Paths of AS numbers: RFC 4271, 4.3, RFC 5065, 3, and RFC 6793 for how many octets a number has.
-use Rattle.std.specs.Prelude.{Bool, true, false, ℕ, if◌then◌else◌}
+use Rattle.std.specs.Prelude.{Bool, ℕ, if◌then◌else◌}
 use Rattle.std.specs.Coded.{coded_ℕ}
 use Rattle.octseq.specs.Window.{Window}
 use Rattle.octseq_format.specs.Row.{Holds, held_once}

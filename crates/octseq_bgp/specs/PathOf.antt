@@ -1,5 +1,5 @@
 -- What contracts see of the segments of a path.
-use Rattle.std.specs.Prelude.{ℕ, List}
+use Rattle.std.specs.Prelude.{ℕ, Bool, List}
 use Rattle.octseq.specs.declared.AsOctets.{Ghosts}
 use Rattle.octseq.specs.Parser.{window}
 use Rattle.octseq_bgp.specs.Entry as said
@@ -16,6 +16,14 @@ segment_entry s = record { number = segment_number s.kind; kind = s.count; octet
 -- the segments that a path has left
 abbrev pub segments_left : {R : Type 0} {g : Ghosts R} → AsPath R g → List said.Entry
 segments_left path = entries_left path.entries
+
+-- whether its AS numbers have four octets
+abbrev pub path_wide : {R : Type 0} {g : Ghosts R} → AsPath R g → Bool
+path_wide path = path.wide
+
+-- a path: this, and its segments
+abbrev pub path_of : {R : Type 0} {g : Ghosts R} → AsPath R g → Bool × List said.Entry
+path_of path = (path_wide path, segments_left path)
 
 -- the AS numbers that a segment has left
 abbrev pub asns_left : {R : Type 0} {g : Ghosts R} → Asns R g → List ℕ

@@ -1,5 +1,5 @@
 -- The address of a prefix: bits after its length have no meaning, and are 0 (RFC 4271, 4.3).
-use Rattle.std.specs.Prelude.{◌≡◌, ◌+◌, ◌-◌, ◌*◌, ◌/◌, ◌^◌, min, ℕ, List, slice_index, EachIndex}
+use Rattle.std.specs.Prelude.{ℕ, zero, suc, ◌+◌, ◌-◌, ◌*◌, ◌/◌, ◌^◌, min, List, [], ◌∷◌, slice_index}
 
 -- how many bits of the octet at an index come after so many bits
 abbrev pub bits_after : ℕ → ℕ → ℕ
@@ -9,7 +9,13 @@ bits_after bits i = min 8 (8 * (i + 1) - bits)
 abbrev pub cleared : ℕ → ℕ → ℕ
 cleared z octet = octet / 2 ^ z * 2 ^ z
 
--- each octet is that of the prefix, or 0 where it has none, without the bits after its length
-abbrev pub IsAddress : ℕ → List ℕ → List ℕ → Type 0
-IsAddress bits octets address =
-    EachIndex address (λ i. slice_index address i ≡ cleared (bits_after bits i) (slice_index octets i))
+-- n octets of an address from an index on: each is that of the prefix, or 0 where it has none, without the bits after
+-- its length
+abbrev pub address_from : ℕ → ℕ → ℕ → List ℕ → List ℕ
+address_from zero i bits octets = []
+address_from (suc n) i bits octets =
+    cleared (bits_after bits i) (slice_index octets i) ∷ address_from n (i + 1) bits octets
+
+-- the address of a prefix, in sixteen octets
+abbrev pub address_of : ℕ → List ℕ → List ℕ
+address_of = address_from 16 0

@@ -1,5 +1,5 @@
 -- What contracts see of what capabilities say together.
-use Rattle.std.specs.Prelude.{ℕ, Option, Some, None, List, []}
+use Rattle.std.specs.Prelude.{Option, Some, None, List, []}
 use Rattle.octseq.specs.declared.AsOctets.{Ghosts}
 use Rattle.octseq_bgp.specs.Items.{items_left}
 use Rattle.octseq_bgp.specs.Negotiated as said

@@ -1,6 +1,6 @@
 -- The text of numbers, communities, families and prefixes: RFC 5396, 2 (AS numbers), RFC 8092, 4 (large communities),
 -- and RFC 5952 (IPv6).
-use Rattle.std.specs.Prelude.{◌≡◌, ℕ, ◌/◌, ◌%◌, Bool, ◌&&◌, not, if◌then◌else◌, nat_eq, List, [], ◌∷◌, ◌++◌, take, drop}
+use Rattle.std.specs.Prelude.{ℕ, ◌/◌, ◌%◌, Bool, ◌&&◌, not, if◌then◌else◌, List, [], ◌∷◌, ◌++◌, take, drop}
 use Rattle.std.specs.Prelude.{replicate, codes, bytes_eq}
 use Rattle.std.specs.Fmt.{decimal}
 use Rattle.std.specs.Net.Addr.{segments_of}
@@ -61,7 +61,7 @@ ends_in_ipv4 octets =
     bytes_eq (take 12 octets) (replicate 12 0) && not (bytes_eq (take 2 (drop 12 octets)) (0 ∷ 0 ∷ []))
 
 -- an address: of IPv4 its first four octets; of IPv6 `::` and the IPv4 address in which it ends, or else what std has
-abbrev pub address_text : Afi → List ℕ → List ℕ
+unfoldable pub address_text : Afi → List ℕ → List ℕ
 address_text addresses.Ipv4 octets = ipv4_text (take 4 octets)
 address_text addresses.Ipv6 octets =
     if ends_in_ipv4 octets then codes "::" ++ ipv4_text (drop 12 octets) else ipv6_text (segments_of octets)

@@ -1,5 +1,5 @@
 -- What the value of an attribute says, by its type.
-use Rattle.std.specs.Prelude.{◌≡◌, true, ℕ, ◌≤◌, ◌⊎◌, List, length}
+use Rattle.std.specs.Prelude.{◌≡◌, Bool, true, ℕ, ◌≤◌, ◌⊎◌, List, length}
 use Rattle.octseq.specs.Integer.{be}
 use Rattle.octseq.specs.Window.{Window, left}
 use Rattle.octseq_format.specs.Fixed.{IsFixed}
@@ -10,36 +10,39 @@ use Rattle.octseq_format.specs.Where.{IsWhere}
 use Rattle.octseq_bgp.specs.AttributeType.{type_number}
 use Rattle.octseq_bgp.specs.Community.{large_community}
 use Rattle.octseq_bgp.specs.Entry.{Entry, IsEntry, IsNumber, IsCounted}
-use Rattle.octseq_bgp.specs.Family.{afi_number, safi_number, next_hop_size}
+use Rattle.octseq_bgp.specs.Family.{afi_number, safi_number}
 use Rattle.octseq_bgp.specs.Fills.{Whole, Fills}
+use Rattle.octseq_bgp.specs.NextHop.{IsNextHop}
 use Rattle.octseq_bgp.specs.Path.{path_form, asn_size}
-use Rattle.octseq_bgp.specs.Session.{prefix_form}
+use Rattle.octseq_bgp.specs.Prefix.{Nlri, ArePrefixes}
 use Rattle.octseq_bgp.specs.declared.attribute_type.AttributeType.{AttributeType}
 use Rattle.octseq_bgp.specs.declared.attribute_type.AttributeType.TheVariants as kind
 use Rattle.octseq_bgp.specs.declared.family.AfiSafiType.{AfiSafiType}
+use Rattle.octseq_bgp.specs.declared.next_hop.NextHop.{NextHop}
 use Rattle.octseq_bgp.specs.declared.session.SessionConfig.{SessionConfig}
 
--- Prefixes that can be reached: a family, the window of next hops, and the prefixes.
+-- Prefixes that can be reached: a family, next hops, and the prefixes.
 pub record Reach : Type 0 where
   pub family : AfiSafiType
-  pub next_hop : Window
-  pub prefixes : List Entry
+  pub next_hop : NextHop
+  pub prefixes : List Nlri
 
 -- AFI, SAFI, next hops after their length, an octet that has no meaning, and what follows: RFC 4760, 3
 abbrev pub IsReachFront : Relation (ℕ × (ℕ × (Window × (ℕ × Window))))
 IsReachFront = IsNumber 2 then IsNumber 1 then IsCounted 1 then IsNumber 1 then IsRest
 
 pub record IsReach (s : SessionConfig) (w : Window) (r : Reach) : Type 0 where
+  pub next_hops : Window
   pub reserved : ℕ
   pub rest : Window
-  pub front : Whole IsReachFront w (afi_number r.family, (safi_number r.family, (r.next_hop, (reserved, rest))))
-  pub size : next_hop_size r.family (left r.next_hop)
-  pub prefixes : Fills (IsEntry (prefix_form s r.family)) rest r.prefixes
+  pub front : Whole IsReachFront w (afi_number r.family, (safi_number r.family, (next_hops, (reserved, rest))))
+  pub next_hop : IsNextHop r.family next_hops r.next_hop
+  pub prefixes : ArePrefixes s r.family rest r.prefixes
 
 -- Prefixes that can't be reached any more: a family and the prefixes.
 pub record Unreach : Type 0 where
   pub family : AfiSafiType
-  pub prefixes : List Entry
+  pub prefixes : List Nlri
 
 -- AFI, SAFI and what follows: RFC 4760, 4
 abbrev pub IsUnreachFront : Relation (ℕ × (ℕ × Window))
@@ -48,13 +51,13 @@ IsUnreachFront = IsNumber 2 then IsNumber 1 then IsRest
 pub record IsUnreach (s : SessionConfig) (w : Window) (r : Unreach) : Type 0 where
   pub rest : Window
   pub front : Whole IsUnreachFront w (afi_number r.family, (safi_number r.family, rest))
-  pub prefixes : Fills (IsEntry (prefix_form s r.family)) rest r.prefixes
+  pub prefixes : ArePrefixes s r.family rest r.prefixes
 
--- What a value says: a number; segments of a path; nothing; an AS number and an address; communities; prefixes; or
--- octets whose form isn't that of their type.
+-- What a value says: a number; segments of a path, and whether its AS numbers have four octets; nothing; an AS number
+-- and an address; communities; prefixes; or octets whose form isn't that of their type.
 pub data Value : Type 0 where
   origin : ℕ → Value
-  as_path : List Entry → Value
+  as_path : Bool × List Entry → Value
   next_hop : ℕ → Value
   multi_exit_disc : ℕ → Value
   local_pref : ℕ → Value
@@ -66,7 +69,7 @@ pub data Value : Type 0 where
   reach : Reach → Value
   unreach : Unreach → Value
   extended_communities : List ℕ → Value
-  as4_path : List Entry → Value
+  as4_path : Bool × List Entry → Value
   as4_aggregator : ℕ × ℕ → Value
   large_communities : List (ℕ × (ℕ × ℕ)) → Value
   opaque : Window → Value
@@ -75,6 +78,10 @@ pub data Value : Type 0 where
 abbrev pub SomeItems : {A : Type 0} → ℕ → (List ℕ → A) → Window → List A → Type 0
 SomeItems k reads w row = Fills (IsFixed k reads) w row × (1 ≤ length row)
 
+-- segments fill the window, whose AS numbers have four octets or two
+abbrev pub IsPath : Bool → Window → Bool × List Entry → Type 0
+IsPath wide w path = (path.0 ≡ wide) × Fills (IsEntry (path_form wide)) w path.1
+
 -- a value that is made of what a window says
 abbrev pub Made : {A : Type 0} → (A → Value) → (A → Type 0) → Value → Type 0
 Made {A} make Is v = (a : A) × (v ≡ make a) × Is a
@@ -82,7 +89,7 @@ Made {A} make Is v = (a : A) × (v ≡ make a) × Is a
 -- the window says a value of a type
 abbrev pub HasForm : SessionConfig → AttributeType → Window → Value → Type 0
 HasForm s kind.Origin w = Made Value.origin (Whole (IsWhere (IsNumber 1) (λ n. n) (λ n. n ≤ 2)) w)
-HasForm s kind.AsPath w = Made Value.as_path (Fills (IsEntry (path_form s.four_octet_asn)) w)
+HasForm s kind.AsPath w = Made Value.as_path (IsPath s.four_octet_asn w)
 HasForm s kind.NextHop w = Made Value.next_hop (Whole (IsNumber 4) w)
 HasForm s kind.MultiExitDisc w = Made Value.multi_exit_disc (Whole (IsNumber 4) w)
 HasForm s kind.LocalPref w = Made Value.local_pref (Whole (IsNumber 4) w)
@@ -94,7 +101,7 @@ HasForm s kind.ClusterList w = Made Value.cluster_list (SomeItems 4 be w)
 HasForm s kind.MpReachNlri w = Made Value.reach (IsReach s w)
 HasForm s kind.MpUnreachNlri w = Made Value.unreach (IsUnreach s w)
 HasForm s kind.ExtendedCommunities w = Made Value.extended_communities (SomeItems 8 be w)
-HasForm s kind.As4Path w = Made Value.as4_path (Fills (IsEntry (path_form true)) w)
+HasForm s kind.As4Path w = Made Value.as4_path (IsPath true w)
 HasForm s kind.As4Aggregator w = Made Value.as4_aggregator (Whole (IsNumber 4 then IsNumber 4) w)
 HasForm s kind.LargeCommunities w = Made Value.large_communities (SomeItems 12 large_community w)
 

@@ -1,5 +1,5 @@
 //! Path attributes: RFC 4271, 4.3.
-ghost use Rattle.std.specs.Prelude.{◌≡◌, ◌+◌, ◌≤◌, List, IsErr, IfOk, ⊤};
+ghost use Rattle.std.specs.Prelude.{◌≡◌, ◌+◌, ◌≤◌, List, IsErr, IfOk, IfSome, ⊤};
 ghost use Rattle.octseq.specs.Parser.{window};
 ghost use Rattle.octseq.specs.Window.{left};
 ghost use Rattle.octseq_bgp.specs.Entry.{Entry, IsEntry};
@@ -63,7 +63,7 @@ impl<R: AsOctets + Copy> Clone for PathAttributes<R> {
 
 impl<R: AsOctets + Copy> PathAttributes<R> {
     ghost use Rattle.std.specs.Prelude.{length};
-    ghost use Rattle.octseq_bgp.specs.Lists.{attributes_left};
+    ghost use Rattle.octseq_bgp.specs.Lists.{attributes_left, attributes_session};
 
     /// Reads all that a parser has left as path attributes, and counts a turn for each.
     ///
@@ -77,7 +77,7 @@ impl<R: AsOctets + Copy> PathAttributes<R> {
     ) -> Result<PathAttributes<R>, Malformed>
         ensures attributes { IfOk result (λ attributes.
             Fills (IsEntry form.Attribute) (window parser) (attributes_left attributes)) }
-        ensures session { IfOk result (λ attributes. attributes.session ≡ session) }
+        ensures session { IfOk result (λ attributes. attributes_session attributes ≡ session) }
         ensures malformed { IsErr result → (row : List Entry) → ¬ Fills (IsEntry form.Attribute) (window parser) row }
         ensures turns { turns.new ≤ turns.old + left (window parser) }
     {
@@ -87,7 +87,7 @@ impl<R: AsOctets + Copy> PathAttributes<R> {
 
     /// The session that they were read in.
     pub(crate) fn session(&self) -> SessionConfig
-        ensures { result ≡ self.now.session }
+        ensures { result ≡ attributes_session self.now }
     {
         self.session
     }
@@ -102,11 +102,13 @@ impl<R: AsOctets + Copy> PathAttributes<R> {
 
 impl<R: AsOctets + Copy> Iterator for PathAttributes<R> {
     ghost use Rattle.std.specs.Iterator.{YieldsFirstBy, item_count};
-    ghost use Rattle.octseq_bgp.specs.Lists.{attribute_entry, attributes_left};
+    ghost use Rattle.octseq_bgp.specs.Lists.{attribute_entry, attributes_left, attributes_session};
 
     type Item = PathAttribute<R>;
 
-    ghost next_gives = { YieldsFirstBy attribute_entry attributes_left };
+    ghost next_gives = { λ old result new. YieldsFirstBy attribute_entry attributes_left old result new
+        × (attributes_session new ≡ attributes_session old)
+        × IfSome result (λ attribute. attribute.session ≡ attributes_session old) };
 
     ghost remaining = { item_count attributes_left };
 

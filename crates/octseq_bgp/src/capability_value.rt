@@ -4,6 +4,7 @@ ghost use Rattle.octseq.specs.Parser.{window};
 ghost use Rattle.octseq.specs.Window.{Window, left};
 ghost use Rattle.octseq_bgp.specs.Capability as said;
 ghost use Rattle.octseq_bgp.specs.Capability.{IsRestart, ArePaths, IsAddPath, HasCode, IsCoded, IsCapabilityValue};
+ghost use Rattle.octseq_bgp.specs.Capability.{has_restarted, takes_notifications, restart_time};
 ghost use Rattle.octseq_bgp.specs.CapabilityOf.{restart_of, capability_value_of};
 ghost use Rattle.octseq_bgp.specs.Items.{items_left};
 
@@ -30,7 +31,7 @@ pub fn one_capability_value()
 /// Who restarts: RFC 4724, 3.
 #[derive(Debug)]
 pub struct GracefulRestart<R: AsOctets> {
-    /// Sixteen bits: who restarted, who takes notifications, two that have no meaning, and twelve of seconds.
+    /// Sixteen bits: `restarted`, `takes_notifications`, two that have no meaning, and twelve of seconds.
     pub bits: u16,
     /// Families, with flags.
     pub families: Items<R, FamilyTuple>,
@@ -57,6 +58,27 @@ impl<R: AsOctets + Copy> GracefulRestart<R> {
         let (bits, rest) = parse_all::<R, (U16Be, Rest)>(parser)?;
         let families = Items::parse(rest)?;
         Ok(GracefulRestart { bits, families })
+    }
+
+    /// Whether it has just restarted: the first bit.
+    pub fn restarted(&self) -> bool
+        ensures { result ≡ has_restarted self.now.bits }
+    {
+        self.bits / 32768 == 1
+    }
+
+    /// Whether a NOTIFICATION doesn't end its routes: the second bit (RFC 8538, 2).
+    pub fn takes_notifications(&self) -> bool
+        ensures { result ≡ takes_notifications self.now.bits }
+    {
+        self.bits / 16384 % 2 == 1
+    }
+
+    /// How many seconds a restart may take: the last twelve bits.
+    pub fn restart_time(&self) -> u16
+        ensures { result ≡ restart_time self.now.bits }
+    {
+        self.bits % 4096
     }
 }
 

@@ -2,7 +2,7 @@
 ghost use Rattle.std.specs.Prelude.{◌≡◌, IfSome, IsNone};
 ghost use Rattle.octseq_bgp.specs.EndOfRib.{IsEnd, UnreachesNone};
 ghost use Rattle.octseq_bgp.specs.Lists.{attributes_left};
-ghost use Rattle.octseq_bgp.specs.Parsed.{update_of, session_of};
+ghost use Rattle.octseq_bgp.specs.Parsed.{update_of};
 ghost use Rattle.octseq_bgp.specs.declared.family.AfiSafiType.{AfiSafiType as Family};
 
 use crate::attribute::PathAttributes;
@@ -41,8 +41,8 @@ fn unreaches_none<R: AsOctets + Copy>(
 impl<R: AsOctets + Copy> UpdateMessage<R> {
     /// The family whose end it is, if it is one.
     pub fn is_eor(&self) -> Option<AfiSafiType>
-        ensures some { IfSome result (IsEnd (session_of self.now) (update_of self.now)) }
-        ensures none { IsNone result → (family : Family) → ¬ IsEnd (session_of self.now) (update_of self.now) family }
+        ensures some { IfSome result (IsEnd (update_of self.now)) }
+        ensures none { IsNone result → (family : Family) → ¬ IsEnd (update_of self.now) family }
     {
         if self.withdrawn.len() > 0 || self.announced.len() > 0 {
             return None;

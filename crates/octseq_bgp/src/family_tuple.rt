@@ -2,7 +2,7 @@
 ghost use Rattle.std.specs.Prelude.{◌≡◌, ◌*◌, ℕ};
 ghost use Rattle.std.proofs.Common.{rules};
 ghost use Rattle.std.specs.Coded.{coded_ℕ, coded×};
-ghost use Rattle.octseq_bgp.specs.FamilyTuple.{family_tuple};
+ghost use Rattle.octseq_bgp.specs.FamilyTuple.{family_tuple, forwards};
 
 use crate::item::Item;
 use octseq::{AsOctets, Parser, ShortInput};
@@ -16,6 +16,15 @@ pub struct FamilyTuple {
     pub safi: u8,
     /// Flags of a graceful restart, or what is done with path ids: 1 received, 2 sent, 3 both.
     pub flags: u8,
+}
+
+impl FamilyTuple {
+    /// Whether routes of the family were kept over a restart: the first bit of the flags (RFC 4724, 3).
+    pub fn forwards(&self) -> bool
+        ensures { result ≡ forwards self.now.flags }
+    {
+        self.flags >= 128
+    }
 }
 
 impl Item for FamilyTuple {

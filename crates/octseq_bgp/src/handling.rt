@@ -5,7 +5,7 @@ ghost use Rattle.octseq_bgp.specs.Handling.{rank, type_rank, opaque_rank, extern
 ghost use Rattle.octseq_bgp.specs.Handling.{unknown_rank, NamesFamily, IsRank, HasType};
 ghost use Rattle.octseq_bgp.specs.Handling.{IsWorst, Reaches, ReachesSome, Misses, IsHandling};
 ghost use Rattle.octseq_bgp.specs.Lists.{attribute_entry, attributes_left};
-ghost use Rattle.octseq_bgp.specs.Parsed.{update_of, session_of};
+ghost use Rattle.octseq_bgp.specs.Parsed.{update_of};
 ghost use Rattle.octseq_bgp.specs.Value.{Value, HasForm};
 
 use crate::attribute::{PathAttribute, PathAttributes};
@@ -33,7 +33,7 @@ pub enum Handling {
 
 impl Handling {
     /// How bad it is.
-    fn rank(self) -> u8
+    pub(crate) fn rank(self) -> u8
         ensures { result ≡ rank self }
     {
         match self {
@@ -195,7 +195,7 @@ fn is_typed<R: AsOctets + Copy>(
 }
 
 /// What is to be done with an attribute, by whether one of its type was there before.
-fn attribute_handling<R: AsOctets + Copy>(
+pub(crate) fn attribute_handling<R: AsOctets + Copy>(
     session: &SessionConfig,
     external: bool,
     again: bool,
@@ -281,7 +281,7 @@ fn reaches_some<R: AsOctets + Copy>(session: &SessionConfig, attributes: PathAtt
 }
 
 /// What is to be done where an attribute is missing that has to be there.
-fn missing_handling(misses: bool) -> Handling
+pub(crate) fn missing_handling(misses: bool) -> Handling
     ensures { rank result ≡ (if misses then 2 else 0) }
 {
     if misses {
@@ -293,7 +293,7 @@ fn missing_handling(misses: bool) -> Handling
 
 impl<R: AsOctets + Copy> UpdateMessage<R> {
     /// Whether an attribute is missing that has to be there.
-    fn misses(&self, session: &SessionConfig) -> bool
+    pub(crate) fn misses(&self, session: &SessionConfig) -> bool
         ensures { IsTrue result ↔ Misses session.now (update_of self.now) }
     {
         let attributes = self.path_attributes;
@@ -306,7 +306,7 @@ impl<R: AsOctets + Copy> UpdateMessage<R> {
     /// What is to be done with it, where it comes from an external peer or from another: the worst of what is to be
     /// done with each attribute, and of what is where one is missing.
     pub fn handling(&self, external: bool) -> Handling
-        ensures { IsHandling (session_of self.now) external (update_of self.now) (rank result) }
+        ensures { IsHandling external (update_of self.now) (rank result) }
     {
         let session = self.path_attributes.session();
         let worst = worst_handling(&session, external, self.path_attributes);

@@ -4,10 +4,11 @@ ghost use Rattle.octseq.specs.Parser.{window};
 ghost use Rattle.octseq.specs.Window.{Window, left, whole};
 ghost use Rattle.octseq_bgp.specs.Fills.{Whole};
 ghost use Rattle.octseq_bgp.specs.Message as said;
-ghost use Rattle.octseq_bgp.specs.Message.{IsHeader, IsNotification, IsRouteRefresh, IsBody, IsMessage, IsShortEnough};
+ghost use Rattle.octseq_bgp.specs.Message.{IsHeader, IsRouteRefresh, IsBody, IsMessage, IsShortEnough};
 ghost use Rattle.octseq_bgp.specs.Message.{HasUpdateParts};
 ghost use Rattle.octseq_bgp.specs.declared.session.SessionConfig.{SessionConfig as Session};
 
+use crate::notification::NotificationMessage;
 use crate::open::OpenMessage;
 use crate::session::SessionConfig;
 use crate::update::{UpdateMessage, UpdateParts};
@@ -26,32 +27,6 @@ pub fn one_message()
 
 /// 16 octets of 255, as a number.
 const MARKER: u128 = 340282366920938463463374607431768211455;
-
-/// A NOTIFICATION: RFC 4271, 4.5.
-#[derive(Debug, Drop)]
-pub struct NotificationMessage<R: AsOctets> {
-    /// The error code.
-    pub code: u8,
-    /// The error subcode.
-    pub subcode: u8,
-    /// The place of its data.
-    pub data: Parser<R>,
-}
-
-impl<R: AsOctets + Copy> NotificationMessage<R> {
-    fn parse(parser: Parser<R>) -> Result<NotificationMessage<R>, Malformed>
-        ensures is { IfOk result (λ it. Whole IsNotification (window parser)
-            (it.code, (it.subcode, window it.«data»))) }
-        ensures malformed { IsErr result → (it : ℕ × (ℕ × Window)) → ¬ Whole IsNotification (window parser) it }
-    {
-        let (code, subcode, data) = parse_all::<R, (U8, U8, Rest)>(parser)?;
-        Ok(NotificationMessage {
-            code,
-            subcode,
-            data,
-        })
-    }
-}
 
 /// A ROUTE-REFRESH: RFC 2918, 3.
 #[derive(Debug, Drop)]

@@ -1,8 +1,8 @@
 //! Paths of AS numbers: RFC 4271, 4.3, and RFC 5065, 3.
-ghost use Rattle.std.specs.Prelude.{◌≡◌, ◌+◌, ◌*◌, ◌≤◌, ℕ, List, IsErr, IfOk, ⊤};
+ghost use Rattle.std.specs.Prelude.{◌≡◌, ◌+◌, ◌*◌, ◌≤◌, ℕ, Bool, List, IsErr, IfOk, IfSome, ⊤};
 ghost use Rattle.octseq.specs.Parser.{window};
 ghost use Rattle.octseq.specs.Window.{left};
-ghost use Rattle.octseq_bgp.specs.Entry.{Entry, IsEntry, IsNumber};
+ghost use Rattle.octseq_bgp.specs.Entry.{Entry, IsNumber};
 ghost use Rattle.octseq_bgp.specs.Fills.{Fills};
 ghost use Rattle.octseq_bgp.specs.Path.{path_form, asn_size, AsnsAhead, asns_once, segment_number};
 
@@ -179,7 +179,8 @@ fn path_form(wide: bool) -> Form
 }
 
 impl<R: AsOctets + Copy> AsPath<R> {
-    ghost use Rattle.octseq_bgp.specs.PathOf.{segments_left};
+    ghost use Rattle.octseq_bgp.specs.PathOf.{path_of};
+    ghost use Rattle.octseq_bgp.specs.Value.{IsPath};
 
     /// Reads all that a parser has left as segments, whose AS numbers have four octets or two, and counts a turn for
     /// each.
@@ -192,8 +193,8 @@ impl<R: AsOctets + Copy> AsPath<R> {
         wide: bool,
         turns: &mut Turns,
     ) -> Result<AsPath<R>, Malformed>
-        ensures segments { IfOk result (λ path. Fills (IsEntry (path_form wide)) (window parser) (segments_left path)) }
-        ensures malformed { IsErr result → (row : List Entry) → ¬ Fills (IsEntry (path_form wide)) (window parser) row }
+        ensures path { IfOk result (λ path. IsPath wide (window parser) (path_of path)) }
+        ensures malformed { IsErr result → (path : Bool × List Entry) → ¬ IsPath wide (window parser) path }
         ensures turns { turns.new ≤ turns.old + left (window parser) }
     {
         let entries = Entries::parse_counted(parser, path_form(wide), turns)?;
@@ -203,11 +204,12 @@ impl<R: AsOctets + Copy> AsPath<R> {
 
 impl<R: AsOctets + Copy> Iterator for AsPath<R> {
     ghost use Rattle.std.specs.Iterator.{YieldsFirstBy, item_count};
-    ghost use Rattle.octseq_bgp.specs.PathOf.{segment_entry, segments_left};
+    ghost use Rattle.octseq_bgp.specs.PathOf.{segment_entry, segments_left, path_wide};
 
     type Item = Segment<R>;
 
-    ghost next_gives = { YieldsFirstBy segment_entry segments_left };
+    ghost next_gives = { λ old result new. YieldsFirstBy segment_entry segments_left old result new
+        × (path_wide new ≡ path_wide old) × IfSome result (λ segment. segment.wide ≡ path_wide old) };
 
     ghost remaining = { item_count segments_left };
 

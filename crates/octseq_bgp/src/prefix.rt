@@ -2,11 +2,9 @@
 ghost use Rattle.std.specs.Prelude.{◌≡◌, ◌+◌, ◌<◌, ◌≤◌, List, slice_index, true, IsErr, IfOk, ⊤};
 ghost use Rattle.octseq.specs.Parser.{window};
 ghost use Rattle.octseq.specs.Window.{left, rest};
-ghost use Rattle.octseq_bgp.specs.Entry.{Entry, IsEntry, number_limit};
-ghost use Rattle.octseq_bgp.specs.Fills.{Fills};
-ghost use Rattle.octseq_bgp.specs.Prefix.{is_prefix_form, path_number};
-ghost use Rattle.octseq_bgp.specs.PrefixValue.{bits_after, cleared, IsAddress};
-ghost use Rattle.octseq_bgp.specs.Session.{prefix_form};
+ghost use Rattle.octseq_bgp.specs.Prefix as said;
+ghost use Rattle.octseq_bgp.specs.Prefix.{is_prefix_form, path_id_in, afi_in, ArePrefixes};
+ghost use Rattle.octseq_bgp.specs.PrefixValue.{bits_after, cleared, address_of};
 
 use crate::entry::{Entries, Form};
 use crate::family::{Afi, AfiSafiType};
@@ -79,9 +77,9 @@ impl<R: AsOctets + Copy> Prefixes<R> {
         turns: &mut Turns,
     ) -> Result<Prefixes<R>, Malformed>
         ensures prefixes { IfOk result (λ prefixes.
-            Fills (IsEntry (prefix_form session.now family)) (window parser) (prefixes_left prefixes)) }
-        ensures malformed { IsErr result → (row : List Entry)
-            → ¬ Fills (IsEntry (prefix_form session.now family)) (window parser) row }
+            ArePrefixes session.now family (window parser) (prefixes_left prefixes)) }
+        ensures malformed { IsErr result → (row : List said.Nlri)
+            → ¬ ArePrefixes session.now family (window parser) row }
         ensures turns { turns.new ≤ turns.old + left (window parser) }
     {
         let entries = Entries::parse_counted(parser, session.prefix_form(family), turns)?;
@@ -98,11 +96,11 @@ impl<R: AsOctets + Copy> Prefixes<R> {
 
 impl<R: AsOctets + Copy> Iterator for Prefixes<R> {
     ghost use Rattle.std.specs.Iterator.{YieldsFirstBy, item_count};
-    ghost use Rattle.octseq_bgp.specs.Lists.{nlri_entry, prefixes_left};
+    ghost use Rattle.octseq_bgp.specs.Lists.{nlri_of, prefixes_left};
 
     type Item = Nlri<R>;
 
-    ghost next_gives = { YieldsFirstBy nlri_entry prefixes_left };
+    ghost next_gives = { YieldsFirstBy nlri_of prefixes_left };
 
     ghost remaining = { item_count prefixes_left };
 
@@ -124,9 +122,7 @@ impl<R: AsOctets + Copy> Iterator for Prefixes<R> {
 
 /// The path id of a prefix of that form.
 fn path_id(form: Form, number: u32) -> Option<PathId>
-    requires prefix { is_prefix_form form ≡ true }
-    requires small { number < number_limit form }
-    ensures { path_number result ≡ number }
+    ensures { result ≡ path_id_in form number }
 {
     match form {
         Form::Ipv4Path | Form::Ipv6Path => Some(PathId(number)),
@@ -135,7 +131,9 @@ fn path_id(form: Form, number: u32) -> Option<PathId>
 }
 
 /// The family of the address of a prefix of that form.
-fn afi(form: Form) -> Afi {
+fn afi(form: Form) -> Afi
+    ensures { result ≡ afi_in form }
+{
     match form {
         Form::Ipv6 | Form::Ipv6Path => Afi::Ipv6,
         _ => Afi::Ipv4,
@@ -199,7 +197,7 @@ fn octet_of(octets: &[u8], bits: u8, index: usize) -> u8
 
 /// The address of so many bits that octets begin with.
 fn address_of(octets: &[u8], bits: u8) -> [u8; 16]
-    ensures { IsAddress bits octets.now result }
+    ensures { result ≡ address_of bits octets.now }
 {
     let mut address = [0; 16];
     for i in 0..16 {
@@ -213,7 +211,7 @@ impl<R: AsOctets + Copy> Nlri<R> {
     pub fn prefix(&self) -> Prefix
         ensures afi { result.afi ≡ self.now.afi }
         ensures len { result.len ≡ self.now.len }
-        ensures address { IsAddress self.now.len (rest (window self.now.octets)) result.address }
+        ensures address { result.address ≡ address_of self.now.len (rest (window self.now.octets)) }
     {
         Prefix {
             afi: self.afi,

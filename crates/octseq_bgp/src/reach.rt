@@ -1,11 +1,11 @@
 //! Prefixes of any family: RFC 4760, 3 and 4.
-ghost use Rattle.std.specs.Prelude.{◌≡◌, ◌+◌, ◌≤◌, ◌↔◌, IsTrue, IsErr, IfOk, ⊤};
+ghost use Rattle.std.specs.Prelude.{◌≡◌, ◌+◌, ◌≤◌, IsErr, IfOk, ⊤};
 ghost use Rattle.octseq.specs.Parser.{window};
 ghost use Rattle.octseq.specs.Window.{left};
-ghost use Rattle.octseq_bgp.specs.Family.{next_hop_size};
 ghost use Rattle.octseq_bgp.specs.Value.{Reach, Unreach, IsReach, IsUnreach};
 
-use crate::family::{Afi, AfiSafiType};
+use crate::family::AfiSafiType;
+use crate::next_hop::NextHop;
 use crate::prefix::Prefixes;
 use crate::session::SessionConfig;
 use crate::whole::parse_all;
@@ -19,8 +19,8 @@ use std::alloc::AllocError;
 pub struct MpReachNlri<R: AsOctets> {
     /// Their family.
     pub family: AfiSafiType,
-    /// The place of the next hops: an address of 4 octets or of 16, or two of 16.
-    pub next_hop: Parser<R>,
+    /// The next hops.
+    pub next_hop: NextHop,
     /// The prefixes.
     pub prefixes: Prefixes<R>,
 }
@@ -40,13 +40,6 @@ impl<R: AsOctets + Copy> Clone for MpReachNlri<R> {
 /// AFI, SAFI, next hops after their length, an octet that has no meaning, and what follows.
 type ReachFront = (U16Be, U8, Counted<u8, Rest, 0>, U8, Rest);
 
-/// Whether next hops of a family may have so many octets.
-fn is_next_hop_size(family: AfiSafiType, size: usize) -> bool
-    ensures { IsTrue result ↔ next_hop_size family size }
-{
-    size == 16 || size == 32 || size == 4 && family.afi() == Afi::Ipv4
-}
-
 impl<R: AsOctets + Copy> MpReachNlri<R> {
     ghost use Rattle.octseq_bgp.specs.ValueOf.{reach_of};
 
@@ -60,13 +53,11 @@ impl<R: AsOctets + Copy> MpReachNlri<R> {
         ensures malformed { IsErr result → (it : Reach) → ¬ IsReach session.now (window parser) it }
         ensures turns { turns.new ≤ turns.old + left (window parser) }
     {
-        let (afi, safi, next_hop, _reserved, rest) = parse_all::<R, ReachFront>(parser)?;
+        let (afi, safi, next_hops, _reserved, rest) = parse_all::<R, ReachFront>(parser)?;
         let Some(family) = AfiSafiType::from_numbers(afi, safi) else {
             return Err(Malformed);
         };
-        if !is_next_hop_size(family, next_hop.remaining()) {
-            return Err(Malformed);
-        }
+        let next_hop = NextHop::parse(next_hops, family)?;
         let prefixes = Prefixes::parse_counted(rest, session, family, turns)?;
         Ok(MpReachNlri {
             family,

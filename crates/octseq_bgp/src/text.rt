@@ -1,17 +1,23 @@
 //! The text of numbers, communities, families and prefixes.
-ghost use Rattle.std.specs.Prelude.{◌≡◌, Some};
-ghost use Rattle.std.specs.Fmt.{WritesOnOk, decimal};
-ghost use Rattle.octseq_bgp.specs.Text.{community_text, large_text, family_text, segment_text, type_text, ends_in_ipv4};
-ghost use Rattle.octseq_bgp.specs.Text.{address_text, prefix_text};
-ghost use Rattle.octseq_bgp.specs.declared.family.Afi.TheVariants as addresses;
+ghost use Rattle.std.specs.Prelude.{Some};
+ghost use Rattle.std.specs.Fmt.{decimal};
+ghost use Rattle.octseq_bgp.specs.OctetsText.{number_dotted};
+ghost use Rattle.octseq_bgp.specs.Text.{community_text, large_text, family_text, segment_text, type_text, prefix_text};
+
+mod append;
+mod capability;
+mod lines;
+mod octets;
+mod value;
 
 use crate::attribute_type::AttributeType;
-use crate::community::{LargeCommunity, StandardCommunity};
-use crate::family::{Afi, AfiSafiType};
+use crate::community::{ClusterId, LargeCommunity, StandardCommunity};
+use crate::family::AfiSafiType;
 use crate::path::{Asn, SegmentType};
 use crate::prefix::{PathId, Prefix};
+use crate::text::octets::{write_address, write_dotted};
+pub use lines::one_text;
 use std::fmt;
-use std::net::{Ipv4Addr, Ipv6Addr};
 
 /// Prints the number.
 impl fmt::Display for Asn {
@@ -41,6 +47,15 @@ impl fmt::Display for StandardCommunity {
         let upper = self.0 / 65536;
         let lower = self.0 % 65536;
         write!(f, "{upper}:{lower}")
+    }
+}
+
+/// Prints the number as an IPv4 address.
+impl fmt::Display for ClusterId {
+    ghost output = { λ id. Some (number_dotted id.0) };
+
+    fn fmt<W: fmt::Write>(&self, f: &mut fmt::Formatter<W>) -> fmt::Result {
+        write_dotted(f, self.0)
     }
 }
 
@@ -121,42 +136,4 @@ impl fmt::Display for Prefix {
         write_address(f, self.afi, self.address)?;
         write!(f, "/{len}")
     }
-}
-
-/// Writes an address of a family.
-fn write_address<W: fmt::Write>(
-    f: &mut fmt::Formatter<W>,
-    afi: Afi,
-    octets: [u8; 16],
-) -> fmt::Result
-    ensures { WritesOnOk W.write_str_gives f.old result (address_text afi octets) f.new }
-{
-    match afi {
-        Afi::Ipv4 => {
-            let [a, b, c, d, ..] = octets;
-            let address = Ipv4Addr::new(a, b, c, d);
-            write!(f, "{address}")
-        }
-        Afi::Ipv6 => write_ipv6(f, octets),
-    }
-}
-
-/// Writes sixteen octets as an IPv6 address.
-fn write_ipv6<W: fmt::Write>(f: &mut fmt::Formatter<W>, octets: [u8; 16]) -> fmt::Result
-    ensures { WritesOnOk W.write_str_gives f.old result (address_text addresses.Ipv6 octets) f.new }
-{
-    if ends_in_ipv4(octets) {
-        let [.., a, b, c, d] = octets;
-        let tail = Ipv4Addr::new(a, b, c, d);
-        return write!(f, "::{tail}");
-    }
-    let address = Ipv6Addr::from_octets(octets);
-    write!(f, "{address}")
-}
-
-/// Whether an IPv6 address shows its last four octets as an IPv4 address after `::`.
-fn ends_in_ipv4(octets: [u8; 16]) -> bool
-    ensures { result ≡ ends_in_ipv4 octets }
-{
-    octets[..12] == [0; 12] && octets[12..14] != [0; 2]
 }

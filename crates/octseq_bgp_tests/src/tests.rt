@@ -8,7 +8,12 @@ fn equal<T: PartialEq + Debug + Drop>(rt: &impl Abort, what: &str, left: T, righ
 }
 
 mod attributes;
+mod collected;
+mod faults;
+mod limits;
 mod messages;
 mod octets;
+mod refused;
 mod sessions;
 mod text;
+mod values;

@@ -1,20 +1,14 @@
 //! Attributes alone, and the text that another's reader prints of each.
 use crate::tests::octets::octets;
-use crate::tests::text::text_of;
+use crate::tests::text::{lines_of, text_of};
 use octseq_asserts::assert_equal;
 use octseq_bgp::SessionConfig;
-use std::alloc::AllocGlobal;
+use std::alloc::{AllocGlobal, Global};
 use std::process::Abort;
 use std::test::Fail;
 
-/// The attributes of an UPDATE read as the text.
-fn reads(
-    rt: &(impl AllocGlobal + Abort),
-    session: SessionConfig,
-    attributes: &str,
-    wanted: &str,
-) -> Result<(), Fail> {
-    let alloc = rt.alloc();
+/// An UPDATE with these attributes alone.
+fn with_attributes(alloc: Global, attributes: &str) -> Result<Vec<u8>, Fail> {
     let attributes = octets(alloc, attributes)?;
     let many = attributes.len();
     if many > 200 {
@@ -27,9 +21,30 @@ fn reads(
     let length = (23 + many) as u8;
     all.extend_from_slice(&[0, length, 2, 0, 0, 0, many as u8])?;
     all.extend_from_slice(&attributes)?;
+    Ok(all)
+}
+
+/// The attributes of an UPDATE read as the text.
+fn reads(
+    rt: &(impl AllocGlobal + Abort),
+    session: SessionConfig,
+    attributes: &str,
+    wanted: &str,
+) -> Result<(), Fail> {
+    let alloc = rt.alloc();
+    let all = with_attributes(alloc, attributes)?;
     let text = text_of(alloc, &all, session)?;
     let wanted = format!(in alloc; "update;{wanted}")?;
-    assert_equal!(rt, text.as_str(), wanted.as_str());
+    let lines = lines_of(alloc, &wanted)?;
+    assert_equal!(rt, text.as_str(), lines.as_str());
+    Ok(())
+}
+
+/// An UPDATE with these attributes is malformed.
+fn is_malformed(rt: &(impl AllocGlobal + Abort), attributes: &str) -> Result<(), Fail> {
+    let all = with_attributes(rt.alloc(), attributes)?;
+    let text = text_of(rt.alloc(), &all, SessionConfig::modern())?;
+    assert_equal!(rt, text.as_str(), "malformed\n");
     Ok(())
 }
 
@@ -39,7 +54,8 @@ fn origins(rt: HostRuntime) -> Result<(), Fail> {
     reads(&rt, modern, "40010103", "attribute T ORIGIN \\# 1 03")?;
     reads(&rt, modern, "5001000100", "attribute T ORIGIN IGP")?;
     reads(&rt, modern, "6f010100", "attribute TP ORIGIN IGP")?;
-    reads(&rt, modern, "00010100", "attribute - ORIGIN IGP")
+    reads(&rt, modern, "00010100", "attribute - ORIGIN IGP")?;
+    is_malformed(&rt, "400101")
 }
 
 #[test]
@@ -111,8 +127,8 @@ fn prefixes_of_families(rt: HostRuntime) -> Result<(), Fail> {
     reads(
         &rt,
         modern,
-        "800e0e 0002 01 04 0a000001 00 2820010db8",
-        "attribute O MP_REACH_NLRI \\# 14 000201040a000001002820010db8",
+        "800e0e 0002 01 04 0a000001 00 3020010db8",
+        "attribute O MP_REACH_NLRI \\# 14 000201040a000001003020010db8",
     )?;
     reads(
         &rt,

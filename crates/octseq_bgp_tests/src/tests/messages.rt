@@ -1,6 +1,6 @@
 //! Messages, and the text that another's reader prints of each.
-use crate::tests::octets::message;
-use crate::tests::text::text_of;
+use crate::tests::octets::{message, octets};
+use crate::tests::text::{lines_of, text_of};
 use octseq_asserts::assert_equal;
 use octseq_bgp::{AddPath, SessionConfig};
 use std::alloc::AllocGlobal;
@@ -20,12 +20,13 @@ fn with_paths() -> SessionConfig {
 fn reads(
     rt: &(impl AllocGlobal + Abort),
     session: SessionConfig,
-    octets: &str,
+    text: &str,
     wanted: &str,
 ) -> Result<(), Fail> {
-    let all = message(rt.alloc(), octets)?;
-    let text = text_of(rt.alloc(), &all, session)?;
-    assert_equal!(rt, text.as_str(), wanted);
+    let all = message(rt.alloc(), text)?;
+    let shown = text_of(rt.alloc(), &all, session)?;
+    let lines = lines_of(rt.alloc(), wanted)?;
+    assert_equal!(rt, shown.as_str(), lines.as_str());
     Ok(())
 }
 
@@ -36,6 +37,9 @@ fn headers(rt: HostRuntime) -> Result<(), Fail> {
     reads(&rt, modern, "0014 04 00", "malformed")?;
     reads(&rt, modern, "0013 06", "malformed")?;
     reads(&rt, modern, "0012 04", "malformed")?;
+    let other = octets(rt.alloc(), "ffffffff ffffffff ffffffff fffffffe 0013 04")?;
+    let text = text_of(rt.alloc(), &other, modern)?;
+    assert_equal!(&rt, text.as_str(), "malformed\n");
     reads(&rt, modern, "0014 04", "malformed")
 }
 
@@ -103,9 +107,40 @@ fn prefixes(rt: HostRuntime) -> Result<(), Fail> {
 }
 
 #[test]
+fn updates(rt: HostRuntime) -> Result<(), Fail> {
+    let update = "002f 02 0000 0014 40010100 40020602010000fdfc 4003040a000001 18090909";
+    reads(
+        &rt,
+        SessionConfig::modern(),
+        update,
+        "update;attribute T ORIGIN IGP;attribute T AS_PATH sequence 65020;\
+         attribute T NEXT_HOP 10.0.0.1;announced 9.9.9.0/24",
+    )?;
+    reads(
+        &rt,
+        SessionConfig::legacy(),
+        update,
+        "update;attribute T ORIGIN IGP;attribute T AS_PATH \\# 6 02010000fdfc;\
+         attribute T NEXT_HOP 10.0.0.1;announced 9.9.9.0/24",
+    )?;
+    reads(
+        &rt,
+        SessionConfig::modern(),
+        "001b 02 0004 18090909 0000",
+        "update;withdrawn 9.9.9.0/24",
+    )
+}
+
+#[test]
 fn notifications_and_refreshes(rt: HostRuntime) -> Result<(), Fail> {
     let modern = SessionConfig::modern();
     reads(&rt, modern, "0015 03 04 00", "notification 4 0 \\# 0")?;
+    reads(
+        &rt,
+        modern,
+        "0019 03 06 02 03 627965",
+        "notification 6 2 \"bye\"",
+    )?;
     reads(
         &rt,
         modern,

@@ -1,4 +1,4 @@
-use Rattle.std.proofs.Common.{refl, subst, arith}
+use Rattle.std.proofs.Common.{subst, arith}
 use Rattle.octseq.specs.Parser.{window}
 use Rattle.octseq_bgp.specs.Capability.{ArePaths}
 use Rattle.octseq_bgp.specs.FamilyTuple.{family_tuple}

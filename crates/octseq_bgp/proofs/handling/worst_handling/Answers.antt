@@ -1,4 +1,4 @@
-use Rattle.std.proofs.Common.{◌≡◌, ◌<◌, ℕ, List, [], ◌∷◌, Bool, true, false, length, get_or, refl, sym, ◌∙◌, subst, arith}
+use Rattle.std.proofs.Common.{◌≡◌, ◌<◌, [], ◌∷◌, true, false, length, get_or, refl, sym, ◌∙◌, subst, arith}
 use Rattle.std.specs.Prelude.{max}
 use Rattle.std.proofs.lemmas.List.{get_or-replicate, length-replicate, length-set}
 use Rattle.octseq_bgp.specs.Handling.{rank, HasType, IsWorst}
@@ -19,7 +19,7 @@ pub attributes-preserved : goal.attributes-preserved
 attributes-preserved g c =
     let so_far = c.attributes.invariant in
     let e = attribute_entry c.in-Some.attribute in
-    let steps = c.in-Some.ensures.steps in
+    let steps = c.in-Some.ensures.steps.0 in
     let x = rank c.attribute_handling.result in
     let code = c.from-code.ensures in
     let again = c.attribute_handling.ensures in
@@ -49,7 +49,7 @@ attributes-preserved g c =
 pub returns : goal.returns
 returns g c =
     let so_far = c.attributes.invariant in
-    let none = c.in_default.ensures.steps.0 in
+    let none = c.in_default.ensures.steps.0.0 in
     let s = c.args.session.now in
     let row = attributes_left c.args.attributes in
     let all = so_far.2 0 (subst (λ more. IsWorst s c.args.external so_far.0 more 0) (sym none) refl) in

@@ -1,6 +1,5 @@
-use Rattle.std.proofs.Common.{◌≡◌, ℕ, length, refl, sym, ap, subst, arith}
-use Rattle.octseq.specs.Parser.{window}
-use Rattle.octseq.specs.Window.{Window, left, whole}
+use Rattle.std.proofs.Common.{ℕ, length, refl, sym, subst}
+use Rattle.octseq.specs.Window.{Window}
 use Rattle.octseq_bgp.specs.Message.{IsHeader}
 use Rattle.octseq_bgp.proofs.message.parse_header.Goals as goal
 

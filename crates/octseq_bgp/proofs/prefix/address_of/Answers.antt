@@ -1,5 +1,6 @@
 use Rattle.std.proofs.Common.{◌<◌, ◌≢◌, length, ◌∙◌, arith, below_more}
 use Rattle.std.proofs.lemmas.List.{get_or-set_other, get_or-set_same, length-set}
+use Rattle.octseq_bgp.proofs.Addresses.{address_is}
 use Rattle.octseq_bgp.proofs.prefix.address_of.Goals as goal
 
 pub loop-i-preserved : goal.loop-i-preserved
@@ -17,7 +18,7 @@ loop-i-preserved c =
     }
 
 pub returns : goal.returns
-returns c = λ k h.
-    let long = c.loop-i.invariant.long in
+returns c =
     let test = c.loop-i-test.false in
-    c.loop-i.invariant.done k (omega (arith, h, long, test))
+    address_is c.args.bits c.args.octets.now c.loop-i.address c.loop-i.invariant.long
+    (λ k fits. c.loop-i.invariant.done k (omega (arith, fits, test)))

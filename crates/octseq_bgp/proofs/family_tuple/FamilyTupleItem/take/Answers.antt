@@ -1,7 +1,7 @@
 use Rattle.std.proofs.Common.{◌≡◌, ℕ, ◌+◌, sym, ap, ◌∙◌, arith}
 use Rattle.octseq.specs.Integer.{be}
 use Rattle.octseq.specs.Parser.{window}
-use Rattle.octseq.specs.Window.{Window, next, past}
+use Rattle.octseq.specs.Window.{next, past}
 use Rattle.octseq_bgp.proofs.Chunks.{cut}
 use Rattle.octseq_bgp.proofs.family_tuple.FamilyTupleItem.take.Goals as goal
 

@@ -1,8 +1,7 @@
-use Rattle.std.proofs.Common.{◌≡◌, ℕ, ◌*◌, ◌≤◌, ap, subst, arith}
+use Rattle.std.proofs.Common.{◌*◌, ap, subst, arith}
 use Rattle.std.specs.Coded.{coded_ℕ}
 use Rattle.octseq.specs.Integer.{be}
 use Rattle.octseq.specs.Parser.{window}
-use Rattle.octseq.specs.Window.{left}
 use Rattle.octseq_format.specs.Row.{Row}
 use Rattle.octseq_format.proofs.RowSteps.{held_as}
 use Rattle.octseq_bgp.specs.Entry.{IsNumber}

@@ -1,10 +1,7 @@
-use Rattle.std.proofs.Common.{ℕ, refl, sym, ap, ◌∙◌, subst}
+use Rattle.std.proofs.Common.{refl, sym, ap, ◌∙◌, subst}
 use Rattle.octseq.specs.Parser.{window}
-use Rattle.octseq.specs.Window.{Window}
-use Rattle.octseq_bgp.specs.Entry.{IsEntry}
-use Rattle.octseq_bgp.specs.Family.{afi_number, safi_number, next_hop_size}
-use Rattle.octseq_bgp.specs.Fills.{Whole, Fills}
-use Rattle.octseq_bgp.specs.Session.{prefix_form}
+use Rattle.octseq_bgp.specs.Family.{afi_number, safi_number}
+use Rattle.octseq_bgp.specs.Prefix.{ArePrefixes}
 use Rattle.octseq_bgp.specs.Value.{IsUnreachFront}
 use Rattle.octseq_bgp.proofs.Families.{one_family}
 use Rattle.octseq_bgp.proofs.Values.{one_unreach_front}
@@ -22,6 +19,6 @@ returns-in_err-prefixes-clause-malformed g c = λ _ it is.
     let numbers = c.in-Some.ensures.some in
     let family = one_family it.family c.in-Some.family (ap (λ f. f.0) front ∙ sym numbers.0)
     (ap (λ f. f.1.0) front ∙ sym numbers.1) in
-    let moved = subst (λ f. Fills (IsEntry (prefix_form s f)) is.rest it.prefixes) family is.prefixes in
+    let moved = subst (λ f. ArePrefixes s f is.rest it.prefixes) family is.prefixes in
     c.in_err-prefixes.ensures.malformed refl it.prefixes
-    (subst (λ f. Fills (IsEntry (prefix_form s c.in-Some.family)) f.1.1 it.prefixes) front moved)
+    (subst (λ f. ArePrefixes s c.in-Some.family f.1.1 it.prefixes) front moved)

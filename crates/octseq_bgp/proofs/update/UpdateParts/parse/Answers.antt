@@ -1,6 +1,6 @@
-use Rattle.std.proofs.Common.{◌≡◌, ℕ, length, refl, subst, arith}
+use Rattle.std.proofs.Common.{◌≡◌, length, refl, subst, arith}
 use Rattle.octseq.specs.Parser.{window}
-use Rattle.octseq.specs.Window.{Window, whole}
+use Rattle.octseq.specs.Window.{whole}
 use Rattle.octseq_bgp.specs.Fills.{Whole}
 use Rattle.octseq_bgp.specs.Message.{IsHeader, IsShortEnough}
 use Rattle.octseq_bgp.specs.Update.{IsUpdateParts}

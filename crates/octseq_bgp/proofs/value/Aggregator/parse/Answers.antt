@@ -1,4 +1,4 @@
-use Rattle.std.proofs.Common.{ℕ, Bool, true, false, refl, sym, subst}
+use Rattle.std.proofs.Common.{ℕ, Bool, refl, sym, subst}
 use Rattle.octseq.specs.Parser.{window}
 use Rattle.octseq.specs.Window.{Window}
 use Rattle.octseq_format.specs.Pair.{◌then◌}

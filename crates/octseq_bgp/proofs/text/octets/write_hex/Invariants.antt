@@ -1,0 +1,10 @@
+-- What is written is the text of the octets so far.
+use Rattle.std.proofs.Common.{take}
+use Rattle.std.specs.Fmt.{HasWritten, IsPlainFormatter}
+use Rattle.std.specs.List.{flat_map}
+use Rattle.octseq_bgp.specs.OctetsText.{hex_text}
+use Rattle.octseq_bgp.proofs.text.octets.write_hex.Given as goal
+
+abbrev pub invariant-loop-octet : goal.invariant-loop-octet
+invariant-loop-octet g l = IsPlainFormatter l.initial.f → HasWritten g.W.Write.write_str_gives l.initial.f
+    (flat_map hex_text (take l.octet-index l.fn.octets)) l.f

@@ -1,0 +1,10 @@
+-- What is written is the mark, and the text of the octets so far.
+use Rattle.std.proofs.Common.{◌∷◌, take}
+use Rattle.std.specs.Fmt.{HasWritten, IsPlainFormatter}
+use Rattle.std.specs.List.{flat_map}
+use Rattle.octseq_bgp.specs.OctetsText.{string_octet_text}
+use Rattle.octseq_bgp.proofs.text.octets.write_string.Given as goal
+
+abbrev pub invariant-loop-octet : goal.invariant-loop-octet
+invariant-loop-octet g l = IsPlainFormatter l.fn.f → HasWritten g.W.Write.write_str_gives l.fn.f
+    (34 ∷ flat_map string_octet_text (take l.octet-index l.fn.octets)) l.f

@@ -1,0 +1,12 @@
+-- What is written, and the text of what is ahead, are the text of all.
+use Rattle.std.proofs.Common.{◌≡◌, ◌++◌, ℕ, List}
+use Rattle.std.specs.Fmt.{HasWritten, IsPlainFormatter}
+use Rattle.std.specs.List.{flat_map}
+use Rattle.octseq_bgp.specs.Items.{items_left}
+use Rattle.octseq_bgp.specs.OctetsText.{number_dotted, spaced}
+use Rattle.octseq_bgp.proofs.text.value.write_cluster_ids.Given as goal
+
+abbrev pub invariant-loop-item : goal.invariant-loop-item
+invariant-loop-item g l =
+    IsPlainFormatter l.initial.f → (done : List ℕ) × HasWritten g.W.Write.write_str_gives l.initial.f done l.f
+    × (done ++ flat_map (λ n. spaced (number_dotted n)) (items_left l.item-iterator) ≡ flat_map (λ n. spaced (number_dotted n)) (items_left l.fn.items))

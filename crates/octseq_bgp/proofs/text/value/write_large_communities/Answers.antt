@@ -1,0 +1,18 @@
+use Rattle.std.proofs.Common.{rules, ℕ, List, ◌++◌, ap, sym, ◌∙◌, append_assoc}
+use Rattle.std.proofs.Output.{has_written_append}
+use Rattle.std.specs.List.{flat_map}
+use Rattle.octseq_bgp.specs.Items.{items_left}
+use Rattle.octseq_bgp.specs.OctetsText.{spaced}
+use Rattle.octseq_bgp.specs.Text.{large_text}
+use Rattle.octseq_bgp.proofs.text.value.write_large_communities.Goals as goal
+
+pub loop-item-preserved : goal.loop-item-preserved
+loop-item-preserved g c = λ plain.
+    let so_far = c.loop-item.invariant plain in
+    let more = items_left c.next.new.self in
+    let text : List ℕ = let it = c.in-Some.item in spaced (large_text it.global it.data1 it.data2) in (
+      so_far.0 ++ text,
+      has_written_append _ _ _ _ _ _ so_far.1 (search rules),
+      append_assoc so_far.0 text (flat_map (λ it. spaced (large_text it.0 it.1.0 it.1.1)) more)
+          ∙ ap (λ row. so_far.0 ++ flat_map (λ it. spaced (large_text it.0 it.1.0 it.1.1)) row) (sym c.in-Some.ensures.steps) ∙ so_far.2,
+    )

@@ -1,0 +1,28 @@
+-- What contracts see of faults.
+use Rattle.std.specs.Prelude.{ℕ, ◌+◌, List, Option, Some, None, length}
+use Rattle.octseq.specs.declared.AsOctets.{Ghosts}
+use Rattle.octseq_bgp.specs.Entry.{Entry}
+use Rattle.octseq_bgp.specs.Fault as said
+use Rattle.octseq_bgp.specs.Fault.{AreFaults, Marks}
+use Rattle.octseq_bgp.specs.Handling.{rank}
+use Rattle.octseq_bgp.specs.Lists.{attribute_entry, attributes_left, attributes_session}
+use Rattle.octseq_bgp.specs.declared.attribute.PathAttribute.{PathAttribute}
+use Rattle.octseq_bgp.specs.declared.fault.Fault.{Fault}
+use Rattle.octseq_bgp.specs.declared.fault.Faults.{Faults}
+
+abbrev pub place_of : {R : Type 0} {g : Ghosts R} → Option (PathAttribute R g) → Option Entry
+place_of (Some attribute) = Some (attribute_entry attribute)
+place_of None = None
+
+-- a fault
+abbrev pub fault_of : {R : Type 0} {g : Ghosts R} → Fault R g → said.Fault
+fault_of f = record { place = place_of f.attribute; rank = rank f.handling }
+
+-- These are the faults that are left, after those of any attributes whose types were seen.
+abbrev pub AreLeft : {R : Type 0} {g : Ghosts R} → Faults R g → List said.Fault → Type 0
+AreLeft q row = (before : List Entry) → Marks q.seen before
+    → AreFaults (attributes_session q.attributes) q.external before (attributes_left q.attributes) (rank q.missing) row
+
+-- no more faults are left than this
+abbrev pub faults_most : {R : Type 0} {g : Ghosts R} → Faults R g → ℕ
+faults_most q = length (attributes_left q.attributes) + rank q.missing

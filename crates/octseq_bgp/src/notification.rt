@@ -1,0 +1,86 @@
+//! NOTIFICATION: RFC 4271, 4.5, and RFC 9003 for the text of a shutdown.
+ghost use Rattle.std.specs.Prelude.{◌≡◌, ℕ, IsErr, IfOk, ⊤};
+ghost use Rattle.octseq.specs.Parser.{window};
+ghost use Rattle.octseq.specs.Window.{Window};
+ghost use Rattle.octseq_bgp.specs.Fills.{Whole};
+ghost use Rattle.octseq_bgp.specs.Message.{IsNotification};
+ghost use Rattle.octseq_bgp.specs.Notification.{IsCommunication, IsNotificationData};
+
+use crate::whole::parse_all;
+use octseq::{AsOctets, Malformed, Parser};
+use octseq_format::{Counted, Rest, Text, U8};
+use std::alloc::AllocError;
+
+/// What the data of a NOTIFICATION says.
+#[derive(Debug)]
+pub enum NotificationData<R: AsOctets> {
+    /// Why the session is ended: the place of well-formed UTF-8, of code 6 and subcode 2 or 4 (RFC 9003, 2).
+    ShutdownCommunication(Parser<R>),
+    /// Octets of another code, or of another form: their place.
+    Opaque(Parser<R>),
+}
+
+impl<R: AsOctets + Copy> Copy for NotificationData<R> {}
+
+impl<R: AsOctets + Copy> Clone for NotificationData<R> {
+    ghost is_clone = { λ value copy. copy ≡ value };
+
+    ghost is_infallible = { λ _. ⊤ };
+
+    fn clone(&self) -> Result<Self, AllocError> {
+        Ok(*self)
+    }
+}
+
+/// A NOTIFICATION: RFC 4271, 4.5.
+#[derive(Debug, Drop)]
+pub struct NotificationMessage<R: AsOctets> {
+    /// The error code.
+    pub code: u8,
+    /// The error subcode.
+    pub subcode: u8,
+    /// The place of its data.
+    pub data: Parser<R>,
+}
+
+impl<R: AsOctets + Copy> NotificationMessage<R> {
+    ghost use Rattle.octseq_bgp.specs.NotificationOf.{notification_data_of};
+
+    pub(crate) fn parse(parser: Parser<R>) -> Result<NotificationMessage<R>, Malformed>
+        ensures is { IfOk result (λ it. Whole IsNotification (window parser)
+            (it.code, (it.subcode, window it.«data»))) }
+        ensures malformed { IsErr result → (it : ℕ × (ℕ × Window)) → ¬ Whole IsNotification (window parser) it }
+    {
+        let (code, subcode, data) = parse_all::<R, (U8, U8, Rest)>(parser)?;
+        Ok(NotificationMessage {
+            code,
+            subcode,
+            data,
+        })
+    }
+
+    /// Reads its data as a shutdown communication.
+    fn communication(&self) -> Result<Parser<R>, Malformed>
+        ensures text { IfOk result (λ text.
+            IsCommunication self.now.code self.now.subcode (window self.now.«data») (window text)) }
+        ensures malformed { IsErr result → (text : Window)
+            → ¬ IsCommunication self.now.code self.now.subcode (window self.now.«data») text }
+    {
+        if self.code != 6 || self.subcode != 2 && self.subcode != 4 {
+            return Err(Malformed);
+        }
+        let text = parse_all::<R, Counted<u8, Text, 0>>(self.data)?;
+        Ok(text)
+    }
+
+    /// What its data says.
+    pub fn said(&self) -> NotificationData<R>
+        ensures { IsNotificationData self.now.code self.now.subcode (window self.now.«data»)
+            (notification_data_of result) }
+    {
+        match self.communication() {
+            Ok(text) => NotificationData::ShutdownCommunication(text),
+            Err(_) => NotificationData::Opaque(self.data),
+        }
+    }
+}

@@ -1,0 +1,179 @@
+//! The text of a message at the end of another text.
+ghost use Rattle.std.specs.Prelude.{◌≡◌, ◌≢◌, ◌+◌, ◌++◌, ℕ, List, [], None, true, false, take, drop, length};
+ghost use Rattle.std.specs.Prelude.{IsErr, OnOk, OnErr};
+ghost use Rattle.std.specs.Borrow.{GName};
+ghost use Rattle.octseq.specs.Display.{display_error};
+ghost use Rattle.octseq.specs.Limit.{IsPast};
+ghost use Rattle.octseq.specs.Refusal.{Refusal, Is, IsShort, IsMemory};
+ghost use Rattle.octseq.specs.Text.{begins_within};
+ghost use Rattle.octseq_bgp.specs.MessageText.{IsMessageText};
+
+use crate::message::Message;
+use octseq::builder::OctetsLimit;
+use octseq::str::{Counter, DisplayError};
+use octseq::{AsOctets, OctetsBuilder, StrBuilder, Truncate};
+use std::fmt::{self, Display};
+use std::marker::{Brand, PhantomData};
+
+/// What a text was before a message was appended, and whose it is.
+trait Begun {
+    ghost before: { List ℕ };
+
+    ghost lender: { GName };
+
+    ghost borrows: { List GName };
+}
+
+impl Begun for Brand {
+    ghost before = { [] };
+
+    ghost lender = { 0 };
+
+    ghost borrows = { [] };
+}
+
+/// A text that a message is written to. What it was stays at its front.
+#[derive(Drop)]
+struct Appending<'a, K: Begun, B: AsOctets> {
+    text: &'a mut StrBuilder<B>,
+    refusal: DisplayError,
+    of: PhantomData<K>,
+    ghost front: { take (length K.before) (B.content text.now) ≡ K.before },
+    ghost edge: { begins_within (drop (length K.before) (B.content text.now)) ≡ false },
+    ghost same: { text.ghost_name ≡ K.lender },
+    ghost borrows: { B.borrows text.now ≡ K.borrows },
+    ghost short: { Is Refusal.short (display_error refusal) → B.limit ≢ None },
+    ghost memory: { Is Refusal.memory (display_error refusal) → B.asks ≡ true },
+}
+
+impl<'a, K: Begun, B: OctetsBuilder> fmt::Write for Appending<'a, K, B> {
+    ghost write_str_gives = { λ before octets after.
+        B.content after.text.now ≡ B.content before.text.now ++ octets };
+
+    fn write_str(&mut self, s: &str) -> fmt::Result {
+        match self.text.try_push_str(s) {
+            Ok(()) => Ok(()),
+            Err(e) => {
+                self.refusal = e.into();
+                Err(fmt::Error)
+            }
+        }
+    }
+}
+
+/// A text, and what an append to it answered.
+#[derive(Drop)]
+struct Appended<'a, B: AsOctets> {
+    text: &'a mut StrBuilder<B>,
+    answer: Result<(), DisplayError>,
+}
+
+impl<R: AsOctets + Copy> Message<R> {
+    ghost use Rattle.octseq_bgp.specs.Parsed.{message_of};
+
+    /// Appends the text of the message, or nothing: a line for each of its parts, as `update`,
+    /// `attribute T ORIGIN IGP` and `announced 10.2.0.0/16`. Each ends with a line feed.
+    ///
+    /// # Errors
+    ///
+    /// `Short` where the text would pass the limit of its type, `Memory` where a request for memory was refused. The
+    /// text is then as it was. (`Display` is never answered, though no contract says so: by std's, a `fmt` may always
+    /// fail.)
+    pub fn append_text<B: OctetsBuilder + Truncate>(
+        &self,
+        text: &mut StrBuilder<B>,
+    ) -> Result<(), DisplayError>
+        ensures text { OnOk result ((lines : List ℕ) × IsMessageText (message_of self.now) lines
+            × (B.content text.new ≡ B.content text.old ++ lines)) }
+        ensures err { OnErr result (B.content text.new ≡ B.content text.old) }
+        ensures past { (lines : List ℕ) → IsMessageText (message_of self.now) lines
+            → IsPast B.limit (length (B.content text.old) + length lines) → IsErr result }
+        ensures short { IsShort display_error result → (lines : List ℕ) → IsMessageText (message_of self.now) lines
+            → IsPast B.limit (length (B.content text.old) + length lines) }
+        ensures limited { IsShort display_error result → B.limit ≢ None }
+        ensures memory { IsMemory display_error result → B.asks ≡ true }
+        ensures borrows { B.borrows text.new ≡ B.borrows text.old }
+    {
+        append_from::<Brand, B, R>(text, self).answer
+    }
+}
+
+ghost use Rattle.octseq_bgp.specs.Parsed.{message_of};
+
+/// Appends the text of a message, or cuts the text where it ended before.
+fn append_from<'a, K: Begun, B: OctetsBuilder + Truncate, R: AsOctets + Copy>(
+    text: &'a mut StrBuilder<B>,
+    message: &Message<R>,
+) -> Appended<'a, B>
+    requires begun { K.before ≡ B.content text.old }
+    requires lender { K.lender ≡ text.ghost_name }
+    requires borrows { K.borrows ≡ B.borrows text.old }
+    ensures same { result.text.ghost_name ≡ text.entry.ghost_name }
+    ensures ok { OnOk result.answer ((lines : List ℕ) × IsMessageText (message_of message.now) lines
+        × (B.content result.text.now ≡ B.content text.old ++ lines)) }
+    ensures err { OnErr result.answer (B.content result.text.now ≡ B.content text.old) }
+    ensures short { IsShort display_error result.answer → (lines : List ℕ)
+        → IsMessageText (message_of message.now) lines
+        → IsPast B.limit (length (B.content text.old) + length lines) }
+    ensures limited { IsShort display_error result.answer → B.limit ≢ None }
+    ensures past { (lines : List ℕ) → IsMessageText (message_of message.now) lines
+        → IsPast B.limit (length (B.content text.old) + length lines) → IsErr result.answer }
+    ensures memory { IsMemory display_error result.answer → B.asks ≡ true }
+    ensures borrows { B.borrows result.text.now ≡ B.borrows text.old }
+{
+    let len = text.len();
+    let mut f = fmt::Formatter::new(Appending {
+        text,
+        refusal: DisplayError::Display,
+        of: PhantomData::<K>,
+    });
+    let written = Display::fmt(message, &mut f);
+    let Appending { text, refusal, .. } = f.into_inner();
+    // What is lent is well formed, as the cut asks, and within the limit.
+    let _lent = text.as_slice();
+    match written {
+        Ok(()) => Appended {
+            text,
+            answer: Ok(()),
+        },
+        Err(_) => {
+            text.truncate(len);
+            let answer = Err(reason::<B, R>(refusal, len, message));
+            Appended { text, answer }
+        }
+    }
+}
+
+/// Why a message wasn't appended at the end of so many octets, where an append of a part of it was refused: `Short` is
+/// said only where all of it passes the limit.
+fn reason<B: OctetsLimit, R: AsOctets + Copy>(
+    refusal: DisplayError,
+    len: usize,
+    message: &Message<R>,
+) -> DisplayError
+    requires limited { Is Refusal.short (display_error refusal) → B.limit ≢ None }
+    requires memory { Is Refusal.memory (display_error refusal) → B.asks ≡ true }
+    ensures short { Is Refusal.short (display_error result) → (lines : List ℕ)
+        → IsMessageText (message_of message.now) lines → IsPast B.limit (len + length lines) }
+    ensures limited { Is Refusal.short (display_error result) → B.limit ≢ None }
+    ensures memory { Is Refusal.memory (display_error result) → B.asks ≡ true }
+{
+    match refusal {
+        DisplayError::Short if !passes::<B, R>(len, message) => DisplayError::Display,
+        refusal => refusal,
+    }
+}
+
+/// Whether the text of a message that follows so many octets passes the limit. It doesn't where it can't be shown.
+fn passes<B: OctetsLimit, R: AsOctets + Copy>(len: usize, message: &Message<R>) -> bool
+    ensures { result ≡ true → (lines : List ℕ) → IsMessageText (message_of message.now) lines
+        → IsPast B.limit (len + length lines) }
+{
+    let mut f = fmt::Formatter::new(Counter { count: len });
+    let shown = Display::fmt(message, &mut f);
+    let counter = f.into_inner();
+    match (B::limit(), shown) {
+        (Some(limit), Ok(())) if limit < counter.count => true,
+        _ => false,
+    }
+}

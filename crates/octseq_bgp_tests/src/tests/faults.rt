@@ -1,0 +1,118 @@
+//! What is wrong with an UPDATE: each fault with its attribute, and the worst of them.
+use crate::tests::octets::message;
+use octseq::{AsOctets, Malformed};
+use octseq_asserts::assert_equal;
+use octseq_bgp::{Handling, Message, SessionConfig, UpdateMessage};
+use std::alloc::{AllocGlobal, Global};
+use std::process::Abort;
+use std::test::Fail;
+
+/// The type of each attribute that is wrong, or 0 where one is missing, and what is to be done.
+fn faults<R: AsOctets + Copy>(
+    alloc: Global,
+    update: &UpdateMessage<R>,
+    external: bool,
+) -> Result<Vec<(u8, Handling)>, Fail> {
+    let mut all = Vec::new(alloc);
+    for fault in update.faults(external) {
+        let place = fault.attribute.map_or(0, |attribute| attribute.type_code);
+        all.push((place, fault.handling))?;
+    }
+    Ok(all)
+}
+
+/// The same of octets, and the worst of it.
+fn judged<R: AsOctets + Copy>(
+    alloc: Global,
+    octets: R,
+    external: bool,
+) -> Result<(Vec<(u8, Handling)>, Handling), Fail> {
+    match Message::parse(octets, SessionConfig::modern())? {
+        Message::Update(update) => Ok((
+            faults(alloc, &update, external)?,
+            update.handling(external),
+        )),
+        _ => Err(Fail::from(Malformed)),
+    }
+}
+
+/// An UPDATE has these faults and this worst one.
+fn has_faults(
+    rt: &(impl AllocGlobal + Abort),
+    text: &str,
+    external: bool,
+    wanted: &[(u8, Handling)],
+    worst: Handling,
+) -> Result<(), Fail> {
+    let octets = message(rt.alloc(), text)?;
+    let (found, handling) = judged(rt.alloc(), &octets, external)?;
+    assert_equal!(rt, found.as_slice(), wanted);
+    assert_equal!(rt, handling, worst);
+    Ok(())
+}
+
+#[test]
+fn an_update_may_have_no_fault(rt: HostRuntime) -> Result<(), Fail> {
+    let whole = "002f 02 0000 0014 40010100 40020602010000fdfc 4003040a000001 18090909";
+    has_faults(&rt, whole, true, &[], Handling::Accept)
+}
+
+#[test]
+fn each_fault_has_its_attribute(rt: HostRuntime) -> Result<(), Fail> {
+    // An AGGREGATOR of no octets, an ORIGIN of 3, a second ORIGIN, and no AS_PATH nor NEXT_HOP.
+    has_faults(
+        &rt,
+        "0026 02 0000 000b c00700 40010103 40010100 18090909",
+        true,
+        &[
+            (7, Handling::AttributeDiscard),
+            (1, Handling::TreatAsWithdraw),
+            (1, Handling::AttributeDiscard),
+            (0, Handling::TreatAsWithdraw),
+        ],
+        Handling::TreatAsWithdraw,
+    )
+}
+
+#[test]
+fn the_worst_may_come_last_or_first(rt: HostRuntime) -> Result<(), Fail> {
+    has_faults(
+        &rt,
+        "001d 02 0000 0006 c00700 800e00",
+        true,
+        &[
+            (7, Handling::AttributeDiscard),
+            (14, Handling::SessionReset),
+        ],
+        Handling::SessionReset,
+    )?;
+    has_faults(
+        &rt,
+        "001d 02 0000 0006 800e00 c00700",
+        true,
+        &[
+            (14, Handling::SessionReset),
+            (7, Handling::AttributeDiscard),
+        ],
+        Handling::SessionReset,
+    )
+}
+
+#[test]
+fn an_external_peer_is_judged_otherwise(rt: HostRuntime) -> Result<(), Fail> {
+    let preference = "001d 02 0000 0006 400503 000064";
+    has_faults(
+        &rt,
+        preference,
+        true,
+        &[(5, Handling::AttributeDiscard)],
+        Handling::AttributeDiscard,
+    )?;
+    has_faults(
+        &rt,
+        preference,
+        false,
+        &[(5, Handling::TreatAsWithdraw)],
+        Handling::TreatAsWithdraw,
+    )
+}

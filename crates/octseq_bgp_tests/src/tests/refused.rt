@@ -1,0 +1,38 @@
+//! Refused requests for memory.
+//!
+//! `.ci/refused` runs these tests with their n-th request refused, for each n up to the last of them. A refusal
+//! ends a test by the error that it was answered with, once the test has looked at what stands.
+use crate::tests::octets::message;
+use octseq::str::DisplayError;
+use octseq::{AsOctets, StrBuilder};
+use octseq_asserts::assert_equal;
+use octseq_bgp::{Message, SessionConfig};
+use std::test::Fail;
+
+/// Appends the text of a message.
+fn append<R: AsOctets + Copy>(
+    text: &mut StrBuilder<Vec<u8>>,
+    octets: R,
+) -> Result<(), DisplayError> {
+    match Message::parse(octets, SessionConfig::modern()) {
+        Ok(message) => message.append_text(text),
+        Err(_) => Err(DisplayError::Display),
+    }
+}
+
+#[test]
+fn a_refused_text_stays(rt: HostRuntime) -> Result<(), Fail> {
+    let octets = message(
+        rt.alloc(),
+        "002f 02 0000 0014 40010100 40020602010000fdfc 4003040a000001 18090909",
+    )?;
+    let mut text = StrBuilder::new(rt.alloc())?;
+    text.push_str("before ")?;
+    let appended = append(&mut text, &octets);
+    if appended.is_err() {
+        assert_equal!(&rt, text.as_str(), "before ");
+    }
+    appended?;
+    assert_equal!(&rt, text.len(), 123);
+    Ok(())
+}
