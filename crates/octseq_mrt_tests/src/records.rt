@@ -1,5 +1,5 @@
 //! The text of records.
-use crate::messages::{write_message, write_name, write_rest};
+use crate::messages::{write_attribute, write_message};
 use crate::octets::{write_ipv4, write_next_hop, write_opaque};
 use octseq::{AsOctets, Parser};
 use octseq_mrt::{
@@ -79,17 +79,18 @@ fn write_table<W: fmt::Write, R: AsOctets + Copy>(
 }
 
 /// An attribute of an entry of a RIB.
-fn write_attribute<W: fmt::Write, R: AsOctets + Copy>(
+fn write_rib_attribute<W: fmt::Write, R: AsOctets + Copy>(
     f: &mut fmt::Formatter<W>,
     attribute: RibAttribute<R>,
 ) -> fmt::Result {
-    write_name(f, attribute.flags, attribute.type_code)?;
     match attribute.value() {
         RibValue::NextHop(octets) => {
+            let flags = attribute.flags;
+            write!(f, "attribute {flags} MP_REACH_NLRI")?;
             write_next_hop(f, octets)?;
             f.write_str("\n")
         }
-        RibValue::Value(value) => write_rest(f, value),
+        RibValue::Value(_) => write_attribute(f, attribute.path_attribute()),
     }
 }
 
@@ -100,7 +101,7 @@ fn write_entry<W: fmt::Write, R: AsOctets + Copy>(
 ) -> fmt::Result {
     write!(f, "{entry}\n")?;
     for attribute in entry.attributes {
-        write_attribute(f, attribute)?;
+        write_rib_attribute(f, attribute)?;
     }
     Ok(())
 }
