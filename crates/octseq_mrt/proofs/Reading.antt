@@ -1,0 +1,159 @@
+-- Records are read from the front of what a reader has.
+use Rattle.std.proofs.Common.{◌≡◌, ◌+◌, ◌<◌, ◌≤◌, ◌++◌, ◌∙◌, ℕ, List, length, take, drop, Option, Result, Ok, Err, refl}
+use Rattle.std.proofs.Common.{sym, ap, subst, take-append-drop, arith}
+use Rattle.std.proofs.KnownBytes.{Consumes-trans}
+use Rattle.std.proofs.Math.Seq.{take-take}
+use Rattle.std.proofs.lemmas.List.{length-append, length-take, length-drop}
+use Rattle.std.proofs.lemmas.List.{drop-take, take_all, take-append-le, drop-append-le}
+use Rattle.std.specs.Io.KnownBytes.{Consumes, IsAtEnd}
+use Rattle.std.specs.Prelude.{OnErr}
+use Rattle.octseq.specs.Integer.{be}
+use Rattle.octseq.specs.Window.{Window, left, next, past, nested, whole}
+use Rattle.octseq_mrt.specs.Records.{record_length, IsRecordOctets, BeginsWithRecord, IsCut}
+use Rattle.octseq_mrt.specs.declared.header.CommonHeader.{CommonHeader}
+
+-- what holds whatever the result is holds where it is a refusal
+pub on_err : {T E P : Type 0} (result : Result T E) → P → OnErr result P
+on_err (Ok value) p = tt
+on_err (Err e) p = p
+
+-- a front of the octets grows by those that follow it
+take_more : (xs ys : List ℕ) (f n : ℕ) → take f ys ≡ take f xs → take (f + n) ys ≡ take f xs ++ take n (drop f ys)
+take_more xs ys f n same =
+    sym (take-append-drop f (take (f + n) ys))
+    ∙ ap (λ l. l ++ drop f (take (f + n) ys)) (take-take f (f + n) ys (omega arith) ∙ same)
+    ∙ ap (λ l. take f xs ++ l) (drop-take f n ys)
+
+-- what was read in two steps
+pub consumed_more : (a b c : Option (List ℕ)) (xs ys : List ℕ) (f n : ℕ) → take f ys ≡ take f xs
+    → Consumes a b (take f xs) → Consumes b c (take n (drop f ys)) → Consumes a c (take (f + n) ys)
+consumed_more a b c xs ys f n same first second =
+    subst (Consumes a c) (sym (take_more xs ys f n same)) (Consumes-trans a b c _ _ first second)
+
+-- octets read into the room after others follow those
+pub appended : (old room xs ys : List ℕ) (f n m : ℕ) → f ≡ length old → xs ≡ take (f + m) old ++ room
+    → take f ys ≡ take f xs → take (f + n) ys ≡ old ++ take n (drop f ys)
+appended old room xs ys f n m all grown same =
+    let kept : take f xs ≡ old =
+    ap (take f) (grown ∙ ap (λ l. l ++ room) (take_all (f + m) old (omega (arith, all))))
+    ∙ take-append-le f old room (omega (arith, all)) ∙ take_all f old (omega (arith, all)) in
+    take_more xs ys f n same ∙ ap (λ l. l ++ take n (drop f ys)) kept
+
+-- what was written over all of a vector is what it holds
+pub written_back : (ys more : List ℕ) (len : ℕ) → len ≡ length ys → take len (ys ++ more) ≡ ys
+written_back ys more len all =
+    take-append-le len ys more (omega (arith, all)) ∙ take_all len ys (omega (arith, all))
+
+-- as many octets as were asked for
+pub length_part : (ys : List ℕ) (f n : ℕ) → f + n ≤ length ys → length (take n (drop f ys)) ≡ n
+length_part ys f n fits = omega (arith, length-take {A = ℕ} n (drop f ys), length-drop {A = ℕ} f ys, fits)
+
+-- ---- the octets of a record
+
+-- those of a header and as many as it says
+pub record_octets : (octets : List ℕ) → length octets ≡ 12 + record_length octets → IsRecordOctets octets
+record_octets octets all =
+    let w = whole octets in
+    let h : CommonHeader = record {
+      timestamp = be (next 4 w);
+      type_code = be (next 2 (past 4 w));
+      subtype = be (next 2 (past 6 w));
+      length = record_length octets;
+    } in (
+      (h, nested h.length (past 12 w)),
+      (
+        past h.length (past 12 w),
+        (
+          past 12 w,
+          (
+            past 4 w,
+            (omega (arith, all), refl, refl),
+            (
+              past 6 w,
+              (omega (arith, all), refl, refl),
+              (past 8 w, (omega (arith, all), refl, refl), (omega (arith, all), refl, refl)),
+            ),
+          ),
+          (omega (arith, all), refl, refl),
+        ),
+        omega (arith, all),
+      ),
+    )
+
+-- and no others
+pub record_long : (octets : List ℕ) → IsRecordOctets octets → length octets ≡ 12 + record_length octets
+record_long octets is =
+    let header = is.1.1.1 in
+    let a = header.1.2 in
+    let b = header.2.1.2 ∙ ap (past 2) a in
+    let c = header.2.2.1.2 ∙ ap (past 2) b in
+    let d = header.2.2.2.2 ∙ ap (past 4) c in
+    let long = header.2.2.2.1 ∙ ap (λ u. be (next 4 u)) c in
+    let room = header.2.2.2.0 in
+    let here = ap left c in
+    let there = ap left d in
+    let fits = is.1.1.2.0 in
+    let end = ap left is.1.1.2.2 in
+    let position = ap (λ (u : Window). u.position) d in
+    let limit = ap (λ (u : Window). u.end) d in
+    let none = is.1.2 in
+    omega (arith, long, room, here, there, fits, end, position, limit, none)
+
+-- the length in a header, whatever follows it
+pub length_in_front : (x y : List ℕ) → 12 ≤ length x → record_length (x ++ y) ≡ record_length x
+length_in_front x y long =
+    let rest : 4 ≤ length (drop 8 x) = omega (arith, length-drop {A = ℕ} 8 x, long) in
+    ap be (ap (take 4) (drop-append-le 8 x y (omega (arith, long))) ∙ take-append-le 4 (drop 8 x) y rest)
+
+-- fewer octets than a header has begin with no record
+pub no_header : (octets : List ℕ) → length octets < 12 → ¬ BeginsWithRecord octets
+no_header octets few (a, more, fits, e) =
+    let long = record_long a fits in
+    let all : length octets ≡ length a + length more = ap length e ∙ length-append a more in
+    omega (arith, few, long, all)
+
+-- neither do a header and fewer octets than it says
+pub no_whole : (header read : List ℕ) → length header ≡ 12 → length read < record_length header
+    → ¬ BeginsWithRecord (header ++ read)
+no_whole header read long few (a, more, fits, e) =
+    let record_all = record_long a fits in
+    let both : length header + length read ≡ length a + length more =
+    sym (length-append header read) ∙ ap length e ∙ length-append a more in
+    let says : record_length header ≡ record_length a =
+    sym (length_in_front header read (omega (arith, long))) ∙ ap record_length e
+    ∙ length_in_front a more (omega (arith, record_all)) in
+    omega (arith, few, long, record_all, both, says)
+
+-- reading stopped after a header
+pub after_header : (given mid left : Option (List ℕ)) (header read : List ℕ) (len : ℕ) → length header ≡ 12
+    → len ≡ record_length header → Consumes given mid header → length read < len → Consumes mid left read
+    → (octets : List ℕ) × ¬ BeginsWithRecord octets × Consumes given left octets
+after_header given mid left header read len long says first few second = (
+  header ++ read,
+  no_whole header read long (omega (arith, few, says)),
+  Consumes-trans given mid left header read first second,
+)
+
+-- the input ended after a header
+pub cut_after_header : (given mid left : Option (List ℕ)) (header read : List ℕ) (len : ℕ) → length header ≡ 12
+    → len ≡ record_length header → Consumes given mid header → length read < len → Consumes mid left read → IsAtEnd left
+    → (octets : List ℕ) × IsCut octets × Consumes given left octets × IsAtEnd left
+cut_after_header given mid left header read len long says first few second end =
+    let all = length-append header read in (
+      header ++ read,
+      (omega (arith, long, all), no_whole header read long (omega (arith, few, says))),
+      Consumes-trans given mid left header read first second,
+      end,
+    )
+
+-- a header and what it says were read
+pub whole_record : (given mid left : Option (List ℕ)) (header read octets : List ℕ) (len : ℕ) → length header ≡ 12
+    → len ≡ record_length header → Consumes given mid header → length read ≡ len → octets ≡ header ++ read
+    → Consumes mid left read → IsRecordOctets octets × Consumes given left octets
+whole_record given mid left header read octets len long says first all same second =
+    let both = length-append header read in
+    let front = length_in_front header read (omega (arith, long)) in
+    let whole = record_octets (header ++ read) (omega (arith, long, says, all, both, front)) in (
+      subst IsRecordOctets (sym same) whole,
+      subst (Consumes given left) (sym same) (Consumes-trans given mid left header read first second),
+    )

@@ -1,0 +1,30 @@
+use Rattle.std.proofs.Common.{◌++◌, [], ◌∷◌, refl, arith}
+use Rattle.octseq.specs.Parser.{window}
+use Rattle.octseq_format.proofs.RowSteps.{many_ends, many_more}
+use Rattle.octseq_mrt.specs.OneListed.{one_rib_entry}
+use Rattle.octseq_mrt.specs.Rib.{IsRibEntry}
+use Rattle.octseq_mrt.proofs.rib.pass_entries.Goals as goal
+
+pub returns-in_err-pass_entry-clause-malformed : goal.returns-in_err-pass_entry-clause-malformed
+returns-in_err-pass_entry-clause-malformed g c = λ _.
+    let all = c.loop-taken.invariant.all in
+    let paths = c.args.paths in
+    many_ends (IsRibEntry paths) (one_rib_entry paths) (window c.args.parser.now) (window c.loop-taken.parser)
+    c.loop-taken.taken c.args.count all.0 (c.in_err-pass_entry.ensures.malformed refl) (omega arith) all.1
+
+pub loop-taken-preserved : goal.loop-taken-preserved
+loop-taken-preserved g c =
+    let so_far = c.loop-taken.invariant in
+    let u = window c.loop-taken.parser in
+    let v = window c.pass_entry.new.parser in
+    let one = c.in_ok-pass_entry.ensures.entry in
+    let took = c.in_ok-pass_entry.ensures.took in
+    let tick = c.tick.ensures in
+    record {
+      all = (
+        so_far.all.0 ++ one.0 ∷ [],
+        many_more (IsRibEntry c.args.paths) (window c.args.parser.now) u v c.loop-taken.taken so_far.all.0 one.0
+            so_far.all.1 one.1,
+      );
+      turns = let before = so_far.turns in omega (arith, before, tick, took);
+    }

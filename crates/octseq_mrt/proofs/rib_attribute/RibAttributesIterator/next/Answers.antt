@@ -1,0 +1,48 @@
+use Rattle.std.proofs.Common.{refl, arith}
+use Rattle.octseq.specs.Parser.{window}
+use Rattle.octseq_format.proofs.RowSteps.{fewer}
+use Rattle.octseq_bgp.specs.Entry.{IsEntry}
+use Rattle.octseq_bgp.specs.OneEntry.{entry_code, one_entry, entry_moves}
+use Rattle.octseq_bgp.specs.declared.entry.Form.TheVariants as form
+use Rattle.octseq_mrt.specs.Parsed.{attribute_of}
+use Rattle.octseq_mrt.proofs.Filled.{ahead_none, ahead_not, ahead_more, ahead_then}
+use Rattle.octseq_mrt.proofs.rib_attribute.RibAttributesIterator.next.Goals as goal
+
+pub returns-then-remaining-eq0-clause-steps : goal.returns-then-remaining-eq0-clause-steps
+returns-then-remaining-eq0-clause-steps g c =
+    let self = c.args.self.now in
+    let here = c.remaining.ensures.left in
+    let zero = c.if-remaining-eq0.true in
+    let none = ahead_none entry_code (IsEntry form.Attribute) (entry_moves form.Attribute) (window self.parser)
+    self.ahead (omega (arith, here, zero)) in
+    (none, none)
+
+pub returns-in-Err-clause-steps : goal.returns-in-Err-clause-steps
+returns-in-Err-clause-steps g c =
+    let self = c.args.self.now in
+    let here = c.remaining.ensures.left in
+    let some = c.if-remaining-eq0.false in
+    absurd (ahead_not (IsEntry form.Attribute) (window self.parser) self.ahead (omega (arith, here, some))
+    (c.in-Err.ensures.malformed refl))
+
+pub invariant_of-self : goal.invariant_of-self
+invariant_of-self g c =
+    let self = c.args.self.now in
+    record {
+      ahead = ahead_more entry_code (IsEntry form.Attribute) (one_entry form.Attribute) (entry_moves form.Attribute)
+          (window self.parser) (window c.parse.new.parser) (attribute_of c.in-Ok.attribute) self.ahead
+          c.in-Ok.ensures.attribute;
+    }
+
+pub returns-in-Ok-clause-steps : goal.returns-in-Ok-clause-steps
+returns-in-Ok-clause-steps g c =
+    let self = c.args.self.now in
+    ahead_then entry_code (IsEntry form.Attribute) (one_entry form.Attribute) (entry_moves form.Attribute)
+    (window self.parser) (window c.parse.new.parser) (attribute_of c.in-Ok.attribute) self.ahead
+    c.self-1.given.0 c.in-Ok.ensures.attribute
+
+pub returns-in-Ok-clause-goes : goal.returns-in-Ok-clause-goes
+returns-in-Ok-clause-goes g c =
+    let less = fewer (attribute_of c.in-Ok.attribute) c.args.self.now.ahead.0 c.self-1.given.0.0
+    (returns-in-Ok-clause-steps g c) in
+    record { on = λ finite. (tt, finite, less); keeps = tt; rests = λ _. tt }

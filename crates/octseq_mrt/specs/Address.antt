@@ -1,0 +1,46 @@
+-- Addresses, and numbers that may be absent.
+use Rattle.std.specs.Prelude.{◌≡◌, Bool, true, false, ℕ, Option, Some, None, List}
+use Rattle.std.specs.Net.Addr.{ipv4_octets, ipv6_segments, segments_of}
+use Rattle.std.specs.declared.net.ip_addr.IpAddr.{IpAddr}
+use Rattle.std.specs.declared.net.ip_addr.IpAddr.TheVariants.{V4, V6}
+use Rattle.octseq_format.specs.Fixed.{IsFixed}
+use Rattle.octseq_format.specs.Laws.{Relation}
+use Rattle.octseq_bgp.specs.Entry.{IsNumber}
+use Rattle.octseq_bgp.specs.declared.family.Afi.{Afi}
+use Rattle.octseq_bgp.specs.declared.family.Afi.TheVariants as addresses
+
+-- An address: the four octets of IPv4, or the eight segments of IPv6, of two octets each.
+pub data Address : Type 0 where
+  ipv4 : List ℕ → Address
+  ipv6 : List ℕ → Address
+
+-- an address of std's
+abbrev pub address_of : IpAddr → Address
+address_of (V4 ip) = Address.ipv4 (ipv4_octets ip)
+address_of (V6 ip) = Address.ipv6 (ipv6_segments ip)
+
+-- the number of a family of addresses
+abbrev pub family_number : Afi → ℕ
+family_number addresses.Ipv4 = 1
+family_number addresses.Ipv6 = 2
+
+-- how many bits an address of a family has
+abbrev pub address_bits : Afi → ℕ
+address_bits addresses.Ipv4 = 32
+address_bits addresses.Ipv6 = 128
+
+-- the next address of a family
+abbrev pub IsAddress : Afi → Relation Address
+IsAddress addresses.Ipv4 = IsFixed 4 Address.ipv4
+IsAddress addresses.Ipv6 = IsFixed 16 (λ octets. Address.ipv6 (segments_of octets))
+
+-- the next number of a family
+abbrev pub IsFamily : Relation Afi
+IsFamily w afi v = IsNumber 2 w (family_number afi) v
+
+-- a number of four octets where there is one, or else nothing
+abbrev pub IsOptional : Bool → Relation (Option ℕ)
+IsOptional true w (Some n) v = IsNumber 4 w n v
+IsOptional true w None v = ⊥
+IsOptional false w (Some n) v = ⊥
+IsOptional false w None v = v ≡ w

@@ -1,0 +1,14 @@
+pub mod Address
+pub mod Ahead
+pub mod Bgp4Mp
+pub mod Header
+pub mod Kind
+pub mod Listed
+pub mod OneListed
+pub mod Parsed
+pub mod Peer
+pub mod Record
+pub mod RecordReader
+pub mod Records
+pub mod Rib
+pub mod Text

@@ -1,0 +1,74 @@
+//! Addresses, AS numbers, and numbers that may be absent.
+ghost use Rattle.std.specs.Prelude.{IsErr, IfOk};
+ghost use Rattle.octseq.specs.Parser.{window};
+ghost use Rattle.octseq_format.specs.Laws.{NoneAt};
+ghost use Rattle.octseq_bgp.specs.Entry.{IsNumber};
+ghost use Rattle.octseq_bgp.specs.Path.{asn_size};
+ghost use Rattle.octseq_mrt.specs.Address.{address_of, IsAddress, IsFamily, IsOptional};
+
+use octseq::{AsOctets, Malformed, Parser};
+use octseq_bgp::{Afi, Asn};
+use octseq_format::{Format, Octets, U16Be, U32Be};
+use std::net::{IpAddr, Ipv4Addr, Ipv6Addr};
+
+/// Takes the next address of a family.
+pub(crate) fn parse_address<R: AsOctets + Copy>(
+    parser: &mut Parser<R>,
+    afi: Afi,
+) -> Result<IpAddr, Malformed>
+    ensures address { IfOk result (λ it. IsAddress afi (window parser.old) (address_of it) (window parser.new)) }
+    ensures malformed { IsErr result → NoneAt (IsAddress afi) (window parser.old) }
+{
+    match afi {
+        Afi::Ipv4 => {
+            let octets = <Octets<4> as Format<R>>::parse(parser)?;
+            Ok(IpAddr::V4(Ipv4Addr::from_octets(octets)))
+        }
+        Afi::Ipv6 => {
+            let octets = <Octets<16> as Format<R>>::parse(parser)?;
+            Ok(IpAddr::V6(Ipv6Addr::from_octets(octets)))
+        }
+    }
+}
+
+/// Takes the next number of a family.
+pub(crate) fn parse_family<R: AsOctets + Copy>(parser: &mut Parser<R>) -> Result<Afi, Malformed>
+    ensures family { IfOk result (λ afi. IsFamily (window parser.old) afi (window parser.new)) }
+    ensures malformed { IsErr result → NoneAt IsFamily (window parser.old) }
+{
+    let number = U16Be::parse(parser)?;
+    match number {
+        1 => Ok(Afi::Ipv4),
+        2 => Ok(Afi::Ipv6),
+        _ => Err(Malformed),
+    }
+}
+
+/// Takes the next AS number, of four octets or of two.
+pub(crate) fn parse_asn<R: AsOctets + Copy>(
+    parser: &mut Parser<R>,
+    wide: bool,
+) -> Result<Asn, Malformed>
+    ensures asn { IfOk result (λ asn. IsNumber (asn_size wide) (window parser.old) asn.0 (window parser.new)) }
+    ensures malformed { IsErr result → NoneAt (IsNumber (asn_size wide)) (window parser.old) }
+{
+    if wide {
+        Ok(Asn(U32Be::parse(parser)?))
+    } else {
+        Ok(Asn(u32::from(U16Be::parse(parser)?)))
+    }
+}
+
+/// Takes the next four octets as a number where there is one, or else nothing.
+pub(crate) fn parse_optional<R: AsOctets + Copy>(
+    parser: &mut Parser<R>,
+    has: bool,
+) -> Result<Option<u32>, Malformed>
+    ensures number { IfOk result (λ number. IsOptional has (window parser.old) number (window parser.new)) }
+    ensures malformed { IsErr result → NoneAt (IsOptional has) (window parser.old) }
+{
+    if !has {
+        return Ok(None);
+    }
+    Ok(Some(U32Be::parse(parser)?))
+}

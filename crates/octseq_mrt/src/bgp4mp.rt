@@ -1,0 +1,196 @@
+//! Messages and changes of state: RFC 6396, 4.4 and 4.5, and RFC 8050, 3.
+ghost use Rattle.std.specs.Prelude.{◌≡◌, ℕ, IsErr, IfOk, ⊤};
+ghost use Rattle.octseq.specs.Parser.{window};
+ghost use Rattle.octseq.specs.Window.{Window, rest};
+ghost use Rattle.octseq_format.specs.Laws.{NoneAt};
+ghost use Rattle.octseq_bgp.specs.Message as bgp;
+ghost use Rattle.octseq_bgp.specs.Message.{IsMessage};
+ghost use Rattle.octseq_bgp.specs.Parsed.{message_of};
+ghost use Rattle.octseq_mrt.specs.Address.{address_of};
+ghost use Rattle.octseq_mrt.specs.Bgp4Mp as said;
+ghost use Rattle.octseq_mrt.specs.Bgp4Mp.{ArePeers, IsBgp4Mp, IsEvent, message_session};
+
+use crate::address::{parse_address, parse_asn, parse_family, parse_optional};
+use crate::kind::Bgp4MpSubtype;
+use crate::whole::parse_all;
+use octseq::{AsOctets, Malformed, Parser};
+use octseq_bgp::{AddPath, Afi, Asn, Message, SessionConfig};
+use octseq_format::{Format, U16Be};
+use std::alloc::AllocError;
+use std::net::IpAddr;
+
+/// The octets of a message of a record.
+#[derive(Debug)]
+pub struct MessageOctets<R: AsOctets> {
+    /// How the message is to be read.
+    pub session: SessionConfig,
+    /// The place of its octets. They may be no message.
+    pub octets: Parser<R>,
+}
+
+impl<R: AsOctets + Copy> Copy for MessageOctets<R> {}
+
+impl<R: AsOctets + Copy> Clone for MessageOctets<R> {
+    ghost is_clone = { λ message copy. copy ≡ message };
+
+    ghost is_infallible = { λ _. ⊤ };
+
+    fn clone(&self) -> Result<Self, AllocError> {
+        Ok(*self)
+    }
+}
+
+/// What happened to a session.
+#[derive(Debug)]
+pub enum Event<R: AsOctets> {
+    /// Its state changed, from the first to the second: RFC 4271, 8.2.2.
+    StateChange(u16, u16),
+    /// A message went over it.
+    Message(MessageOctets<R>),
+}
+
+impl<R: AsOctets + Copy> Copy for Event<R> {}
+
+impl<R: AsOctets + Copy> Clone for Event<R> {
+    ghost is_clone = { λ event copy. copy ≡ event };
+
+    ghost is_infallible = { λ _. ⊤ };
+
+    fn clone(&self) -> Result<Self, AllocError> {
+        Ok(*self)
+    }
+}
+
+impl Bgp4MpSubtype {
+    /// How a message of the subtype is to be read: with AS numbers of its width, with path ids for all families where
+    /// it has them, and of up to 65,535 octets.
+    pub fn session(self) -> SessionConfig
+        ensures { result ≡ message_session self }
+    {
+        SessionConfig {
+            four_octet_asn: self.has_wide_asns(),
+            add_path: AddPath::all(self.has_path_ids()),
+            extended_message: true,
+        }
+    }
+}
+
+impl<R: AsOctets + Copy> Event<R> {
+    ghost use Rattle.octseq_mrt.specs.Parsed.{event_of};
+
+    /// Reads all that a parser has left as what happened, by a subtype.
+    fn parse(parser: Parser<R>, subtype: Bgp4MpSubtype) -> Result<Event<R>, Malformed>
+        ensures event { IfOk result (λ event. IsEvent subtype (window parser) (event_of event)) }
+        ensures malformed { IsErr result → (event : said.Event) → ¬ IsEvent subtype (window parser) event }
+    {
+        if subtype.is_state_change() {
+            let (old, new) = parse_all::<R, (U16Be, U16Be)>(parser)?;
+            return Ok(Event::StateChange(old, new));
+        }
+        Ok(Event::Message(MessageOctets {
+            session: subtype.session(),
+            octets: parser,
+        }))
+    }
+}
+
+/// The family and the addresses of two speakers.
+#[derive(Clone, Copy, Debug)]
+struct Addresses {
+    afi: Afi,
+    peer: IpAddr,
+    local: IpAddr,
+}
+
+impl Addresses {
+    /// Takes the next ones.
+    fn parse<R: AsOctets + Copy>(parser: &mut Parser<R>) -> Result<Addresses, Malformed>
+        ensures peers { IfOk result (λ it. ArePeers (window parser.old)
+            (it.afi, (address_of it.peer, address_of it.local)) (window parser.new)) }
+        ensures malformed { IsErr result → NoneAt ArePeers (window parser.old) }
+    {
+        let afi = parse_family(parser)?;
+        let peer = parse_address(parser, afi)?;
+        let local = parse_address(parser, afi)?;
+        Ok(Addresses { afi, peer, local })
+    }
+}
+
+/// A message or a change of state, with the speakers of its session.
+#[derive(Debug)]
+pub struct Bgp4Mp<R: AsOctets> {
+    /// The microseconds after the second of the header, where the type has them.
+    pub microseconds: Option<u32>,
+    /// The AS number of the peer.
+    pub peer_asn: Asn,
+    /// The AS number of the collector.
+    pub local_asn: Asn,
+    /// The index of the interface, or 0.
+    pub interface: u16,
+    /// The address of the peer.
+    pub peer_addr: IpAddr,
+    /// The address of the collector.
+    pub local_addr: IpAddr,
+    /// What happened.
+    pub event: Event<R>,
+}
+
+impl<R: AsOctets + Copy> Copy for Bgp4Mp<R> {}
+
+impl<R: AsOctets + Copy> Clone for Bgp4Mp<R> {
+    ghost is_clone = { λ it copy. copy ≡ it };
+
+    ghost is_infallible = { λ _. ⊤ };
+
+    fn clone(&self) -> Result<Self, AllocError> {
+        Ok(*self)
+    }
+}
+
+impl<R: AsOctets + Copy> Bgp4Mp<R> {
+    ghost use Rattle.octseq_mrt.specs.Parsed.{bgp4mp_of};
+
+    /// Reads all that a parser has left, with microseconds or without, by a subtype.
+    pub(crate) fn parse(
+        parser: Parser<R>,
+        extended: bool,
+        subtype: Bgp4MpSubtype,
+    ) -> Result<Bgp4Mp<R>, Malformed>
+        ensures bgp4mp { IfOk result (λ it. IsBgp4Mp extended subtype (window parser) (bgp4mp_of it)) }
+        ensures malformed { IsErr result → (it : said.Bgp4Mp) → ¬ IsBgp4Mp extended subtype (window parser) it }
+    {
+        let wide = subtype.has_wide_asns();
+        let mut ahead = parser;
+        let microseconds = parse_optional(&mut ahead, extended)?;
+        let peer_asn = parse_asn(&mut ahead, wide)?;
+        let local_asn = parse_asn(&mut ahead, wide)?;
+        let interface = U16Be::parse(&mut ahead)?;
+        let addresses = Addresses::parse(&mut ahead)?;
+        let event = Event::parse(ahead, subtype)?;
+        Ok(Bgp4Mp {
+            microseconds,
+            peer_asn,
+            local_asn,
+            interface,
+            peer_addr: addresses.peer,
+            local_addr: addresses.local,
+            event,
+        })
+    }
+}
+
+impl<R: AsOctets + Copy> MessageOctets<R> {
+    /// Reads the octets as a message.
+    ///
+    /// # Errors
+    ///
+    /// `Malformed` where they are none.
+    pub fn message(&self) -> Result<Message<&[u8]>, Malformed>
+        ensures message { IfOk result (λ it.
+            IsMessage self.now.session (rest (window self.now.octets)) (message_of it)) }
+        ensures malformed { IsErr result → (m : bgp.Message)
+            → ¬ IsMessage self.now.session (rest (window self.now.octets)) m }
+    {
+        Message::parse(self.octets.peek_all(), self.session)
+    }
+}

@@ -1,0 +1,23 @@
+//! Records of MRT, read from one buffer with nothing copied: RFC 6396 and RFC 8050.
+#![tactic(auto)]
+
+pub mod address;
+pub mod bgp4mp;
+pub mod header;
+pub mod kind;
+pub mod peer;
+pub mod reader;
+pub mod record;
+pub mod rib;
+pub mod rib_attribute;
+mod text;
+mod whole;
+
+pub use bgp4mp::{Bgp4Mp, Event, MessageOctets};
+pub use header::CommonHeader;
+pub use kind::{Bgp4MpSubtype, RecordKind};
+pub use peer::{PeerEntry, PeerIndexTable, Peers};
+pub use reader::{RecordError, RecordReader, read_record};
+pub use record::{Record, RecordValue, next_record, one_record, one_record_value};
+pub use rib::{Rib, RibEntries, RibEntry};
+pub use rib_attribute::{RibAttribute, RibAttributes, RibValue, next_hops_are_apart};

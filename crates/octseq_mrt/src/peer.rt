@@ -1,0 +1,176 @@
+//! The table of peers: RFC 6396, 4.3.1.
+ghost use Rattle.std.specs.Prelude.{◌≡◌, ◌+◌, ◌≤◌, ℕ, List, IsErr, IfOk, OnOk, ⊤};
+ghost use Rattle.octseq.specs.Parser.{window};
+ghost use Rattle.octseq.specs.Window.{left};
+ghost use Rattle.octseq_format.specs.Laws.{NoneAt};
+ghost use Rattle.octseq_format.specs.Row.{Many};
+ghost use Rattle.octseq_mrt.specs.Listed.{PeersAhead, peers_once};
+ghost use Rattle.octseq_mrt.specs.Peer as said;
+ghost use Rattle.octseq_mrt.specs.Peer.{IsPeer, IsPeerIndexTable, peer_family};
+
+use crate::address::{parse_address, parse_asn};
+use octseq::utf8::Turns;
+use octseq::{AsOctets, Malformed, Parser};
+use octseq_bgp::{Afi, Asn};
+use octseq_format::{Counted, Format, Rest, U8, U16Be, U32Be};
+use std::alloc::AllocError;
+use std::net::IpAddr;
+
+/// A peer of a collector.
+#[derive(Clone, Copy, Debug, PartialEq, Eq)]
+pub struct PeerEntry {
+    /// Its type: 1 where its address is IPv6, and 2 where its AS number has four octets. Other bits have no meaning.
+    pub peer_type: u8,
+    /// Its BGP identifier.
+    pub bgp_id: u32,
+    /// Its address.
+    pub addr: IpAddr,
+    /// Its AS number.
+    pub asn: Asn,
+}
+
+/// The family of a peer's address.
+fn peer_family(peer_type: u8) -> Afi
+    ensures { result ≡ peer_family peer_type }
+{
+    if peer_type % 2 == 1 {
+        Afi::Ipv6
+    } else {
+        Afi::Ipv4
+    }
+}
+
+impl PeerEntry {
+    ghost use Rattle.octseq_mrt.specs.Parsed.{peer_of};
+
+    /// Takes the next peer.
+    fn parse<R: AsOctets + Copy>(parser: &mut Parser<R>) -> Result<PeerEntry, Malformed>
+        ensures peer { IfOk result (λ peer. IsPeer (window parser.old) (peer_of peer) (window parser.new)) }
+        ensures malformed { IsErr result → NoneAt IsPeer (window parser.old) }
+    {
+        let peer_type = U8::parse(parser)?;
+        let bgp_id = U32Be::parse(parser)?;
+        let addr = parse_address(parser, peer_family(peer_type))?;
+        let asn = parse_asn(parser, peer_type / 2 % 2 == 1)?;
+        Ok(PeerEntry {
+            peer_type,
+            bgp_id,
+            addr,
+            asn,
+        })
+    }
+}
+
+/// The peers that a table has left, from the first one on.
+#[derive(Debug)]
+pub struct Peers<R: AsOctets> {
+    parser: Parser<R>,
+    ghost ahead: { PeersAhead (window parser) } by { peers_once (window parser) },
+}
+
+impl<R: AsOctets + Copy> Copy for Peers<R> {}
+
+impl<R: AsOctets + Copy> Clone for Peers<R> {
+    ghost is_clone = { λ peers copy. copy ≡ peers };
+
+    ghost is_infallible = { λ _. ⊤ };
+
+    fn clone(&self) -> Result<Self, AllocError> {
+        Ok(*self)
+    }
+}
+
+impl<R: AsOctets + Copy> Iterator for Peers<R> {
+    ghost use Rattle.std.specs.Iterator.{YieldsFirstBy, item_count};
+    ghost use Rattle.octseq_mrt.specs.Parsed.{peer_of, peers_left};
+
+    type Item = PeerEntry;
+
+    ghost next_gives = { YieldsFirstBy peer_of peers_left };
+
+    ghost remaining = { item_count peers_left };
+
+    fn next(&mut self) -> Option<PeerEntry> {
+        if self.parser.remaining() == 0 {
+            return None;
+        }
+        let mut parser = self.parser;
+        match PeerEntry::parse(&mut parser) {
+            Ok(peer) => {
+                *self = Peers { parser };
+                Some(peer)
+            }
+            Err(_) => None,
+        }
+    }
+}
+
+/// Takes so many peers, and counts a turn for each.
+fn pass_peers<R: AsOctets + Copy>(
+    parser: &mut Parser<R>,
+    count: u16,
+    turns: &mut Turns,
+) -> Result<(), Malformed>
+    ensures peers { OnOk result ((row : List said.Peer)
+        × Many count IsPeer (window parser.old) row (window parser.new)) }
+    ensures malformed { IsErr result → NoneAt (Many count IsPeer) (window parser.old) }
+    ensures turns { turns.new ≤ turns.old + left (window parser.old) }
+{
+    for taken in 0..count {
+        let _peer = PeerEntry::parse(parser)?;
+        turns.tick();
+    }
+    Ok(())
+}
+
+/// The table of peers.
+#[derive(Debug)]
+pub struct PeerIndexTable<R: AsOctets> {
+    /// The BGP identifier of the collector.
+    pub collector_bgp_id: u32,
+    /// The place of the view's name.
+    pub view_name: Parser<R>,
+    /// The peers. Entries of RIBs number them from 0.
+    pub peers: Peers<R>,
+}
+
+impl<R: AsOctets + Copy> Copy for PeerIndexTable<R> {}
+
+impl<R: AsOctets + Copy> Clone for PeerIndexTable<R> {
+    ghost is_clone = { λ table copy. copy ≡ table };
+
+    ghost is_infallible = { λ _. ⊤ };
+
+    fn clone(&self) -> Result<Self, AllocError> {
+        Ok(*self)
+    }
+}
+
+impl<R: AsOctets + Copy> PeerIndexTable<R> {
+    ghost use Rattle.octseq_mrt.specs.Parsed.{table_of};
+
+    /// Reads all that a parser has left as a table, and counts a turn for each peer.
+    pub(crate) fn parse_counted(
+        parser: Parser<R>,
+        turns: &mut Turns,
+    ) -> Result<PeerIndexTable<R>, Malformed>
+        ensures table { IfOk result (λ table. IsPeerIndexTable (window parser) (table_of table)) }
+        ensures malformed { IsErr result → (table : said.PeerIndexTable) → ¬ IsPeerIndexTable (window parser) table }
+        ensures turns { turns.new ≤ turns.old + left (window parser) }
+    {
+        let mut ahead = parser;
+        let collector_bgp_id = U32Be::parse(&mut ahead)?;
+        let view_name = <Counted<u16, Rest, 0> as Format<R>>::parse(&mut ahead)?;
+        let count = U16Be::parse(&mut ahead)?;
+        let first = ahead;
+        pass_peers(&mut ahead, count, turns)?;
+        if ahead.remaining() > 0 {
+            return Err(Malformed);
+        }
+        Ok(PeerIndexTable {
+            collector_bgp_id,
+            view_name,
+            peers: Peers { parser: first },
+        })
+    }
+}

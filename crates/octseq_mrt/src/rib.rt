@@ -1,0 +1,280 @@
+//! RIBs: RFC 6396, 4.3.2 and 4.3.4, and RFC 8050, 4.
+ghost use Rattle.std.specs.Prelude.{◌≡◌, ◌+◌, ◌<◌, ◌≤◌, ℕ, Option, None, List, IsErr, IfOk, OnOk, ⊤};
+ghost use Rattle.octseq.specs.Parser.{window};
+ghost use Rattle.octseq.specs.Window.{Window, left};
+ghost use Rattle.octseq_format.specs.Laws.{NoneAt};
+ghost use Rattle.octseq_format.specs.Row.{Many};
+ghost use Rattle.octseq_bgp.specs.Entry.{IsPrefix};
+ghost use Rattle.octseq_bgp.specs.Family.{afi_of};
+ghost use Rattle.octseq_mrt.specs.Address.{address_bits};
+ghost use Rattle.octseq_mrt.specs.Listed.{EntriesAhead, entries_once};
+ghost use Rattle.octseq_mrt.specs.Rib as said;
+ghost use Rattle.octseq_mrt.specs.Rib.{path_of, HasEntryParts, IsRibEntry, IsRib};
+
+use crate::address::parse_optional;
+use crate::rib_attribute::{RibAttributes, pass_attributes};
+use octseq::utf8::Turns;
+use octseq::{AsOctets, Malformed, Parser};
+use octseq_bgp::{Afi, AfiSafiType, Nlri, PathId};
+use octseq_format::{Counted, Format, Rest, U16Be, U32Be};
+use std::alloc::AllocError;
+
+/// An entry of a RIB.
+#[derive(Debug)]
+pub struct RibEntry<R: AsOctets> {
+    /// The number of the peer, counted from 0 in the table of peers. It may be one that isn't there.
+    pub peer_index: u16,
+    /// When the route was heard, in seconds since 1970.
+    pub originated_time: u32,
+    /// The id of the path, where the RIB has them.
+    pub path_id: Option<PathId>,
+    /// The path attributes.
+    pub attributes: RibAttributes<R>,
+}
+
+impl<R: AsOctets + Copy> Copy for RibEntry<R> {}
+
+impl<R: AsOctets + Copy> Clone for RibEntry<R> {
+    ghost is_clone = { λ entry copy. copy ≡ entry };
+
+    ghost is_infallible = { λ _. ⊤ };
+
+    fn clone(&self) -> Result<Self, AllocError> {
+        Ok(*self)
+    }
+}
+
+/// An entry whose attributes aren't looked at.
+#[derive(Debug, Drop)]
+struct EntryParts<R: AsOctets> {
+    peer_index: u16,
+    originated_time: u32,
+    path_id: Option<u32>,
+    octets: Parser<R>,
+}
+
+impl<R: AsOctets + Copy> EntryParts<R> {
+    /// Takes the next one, with a path id or without.
+    fn parse(parser: &mut Parser<R>, paths: bool) -> Result<EntryParts<R>, Malformed>
+        ensures parts { IfOk result (λ it. HasEntryParts paths (window parser.old)
+            (it.peer_index, (it.originated_time, (it.path_id, window it.octets))) (window parser.new)) }
+        ensures malformed { IsErr result → NoneAt (HasEntryParts paths) (window parser.old) }
+    {
+        let peer_index = U16Be::parse(parser)?;
+        let originated_time = U32Be::parse(parser)?;
+        let path_id = parse_optional(parser, paths)?;
+        let octets = <Counted<u16, Rest, 0> as Format<R>>::parse(parser)?;
+        Ok(EntryParts {
+            peer_index,
+            originated_time,
+            path_id,
+            octets,
+        })
+    }
+}
+
+/// Takes an entry, and counts a turn for each of its attributes.
+fn pass_entry<R: AsOctets + Copy>(
+    parser: &mut Parser<R>,
+    paths: bool,
+    turns: &mut Turns,
+) -> Result<(), Malformed>
+    ensures entry { OnOk result ((entry : said.RibEntry)
+        × IsRibEntry paths (window parser.old) entry (window parser.new)) }
+    ensures malformed { IsErr result → NoneAt (IsRibEntry paths) (window parser.old) }
+    ensures turns { turns.new ≤ turns.old + left (window parser.old) }
+    ensures took { OnOk result (turns.new + left (window parser.new) < turns.old + left (window parser.old)) }
+{
+    let parts = EntryParts::parse(parser, paths)?;
+    let mut octets = parts.octets;
+    pass_attributes(&mut octets, turns)?;
+    Ok(())
+}
+
+/// The entries that a RIB has left, from the first one on.
+#[derive(Debug)]
+pub struct RibEntries<R: AsOctets> {
+    parser: Parser<R>,
+    paths: bool,
+    ghost ahead: { EntriesAhead paths (window parser) } by { entries_once paths (window parser) },
+}
+
+impl<R: AsOctets + Copy> Copy for RibEntries<R> {}
+
+impl<R: AsOctets + Copy> Clone for RibEntries<R> {
+    ghost is_clone = { λ entries copy. copy ≡ entries };
+
+    ghost is_infallible = { λ _. ⊤ };
+
+    fn clone(&self) -> Result<Self, AllocError> {
+        Ok(*self)
+    }
+}
+
+/// The path id of a number.
+fn path_id(number: Option<u32>) -> Option<PathId>
+    ensures { path_of result ≡ number }
+{
+    match number {
+        Some(number) => Some(PathId(number)),
+        None => None,
+    }
+}
+
+impl<R: AsOctets + Copy> Iterator for RibEntries<R> {
+    ghost use Rattle.std.specs.Iterator.{YieldsFirstBy, item_count};
+    ghost use Rattle.octseq_mrt.specs.Parsed.{entry_of, entries_left};
+
+    type Item = RibEntry<R>;
+
+    ghost next_gives = { YieldsFirstBy entry_of entries_left };
+
+    ghost remaining = { item_count entries_left };
+
+    fn next(&mut self) -> Option<RibEntry<R>> {
+        if self.parser.remaining() == 0 {
+            return None;
+        }
+        let paths = self.paths;
+        let mut parser = self.parser;
+        match EntryParts::parse(&mut parser, paths) {
+            Ok(parts) => {
+                let attributes = RibAttributes::at(parts.octets);
+                *self = RibEntries { parser, paths };
+                Some(RibEntry {
+                    peer_index: parts.peer_index,
+                    originated_time: parts.originated_time,
+                    path_id: path_id(parts.path_id),
+                    attributes,
+                })
+            }
+            Err(_) => None,
+        }
+    }
+}
+
+/// Takes so many entries, and counts a turn for each and for each of its attributes.
+fn pass_entries<R: AsOctets + Copy>(
+    parser: &mut Parser<R>,
+    paths: bool,
+    count: u16,
+    turns: &mut Turns,
+) -> Result<(), Malformed>
+    ensures entries { OnOk result ((row : List said.RibEntry)
+        × Many count (IsRibEntry paths) (window parser.old) row (window parser.new)) }
+    ensures malformed { IsErr result → NoneAt (Many count (IsRibEntry paths)) (window parser.old) }
+    ensures turns { turns.new ≤ turns.old + left (window parser.old) }
+{
+    for taken in 0..count {
+        pass_entry(parser, paths, turns)?;
+        turns.tick();
+    }
+    Ok(())
+}
+
+/// The routes to a prefix.
+#[derive(Debug)]
+pub struct Rib<R: AsOctets> {
+    /// The family of the prefix.
+    pub family: AfiSafiType,
+    /// The sequence number.
+    pub sequence: u32,
+    /// The length of the prefix in bits.
+    pub len: u8,
+    /// The place of the octets of the prefix. Bits after its last one have no meaning.
+    pub octets: Parser<R>,
+    /// The entries.
+    pub entries: RibEntries<R>,
+}
+
+impl<R: AsOctets + Copy> Copy for Rib<R> {}
+
+impl<R: AsOctets + Copy> Clone for Rib<R> {
+    ghost is_clone = { λ rib copy. copy ≡ rib };
+
+    ghost is_infallible = { λ _. ⊤ };
+
+    fn clone(&self) -> Result<Self, AllocError> {
+        Ok(*self)
+    }
+}
+
+/// How many bits an address of a family has.
+fn address_bits(afi: Afi) -> u8
+    ensures { result ≡ address_bits afi }
+{
+    match afi {
+        Afi::Ipv4 => 32,
+        Afi::Ipv6 => 128,
+    }
+}
+
+/// Takes the next prefix of at most so many bits: its length, and the place of its octets.
+fn parse_prefix<R: AsOctets + Copy>(
+    parser: &mut Parser<R>,
+    most: u8,
+) -> Result<(u8, Parser<R>), Malformed>
+    ensures prefix { IfOk result (λ it. IsPrefix most (window parser.old) (it.0, window it.1) (window parser.new)) }
+    ensures malformed { IsErr result → NoneAt (IsPrefix most) (window parser.old) }
+{
+    let len = parser.parse_u8()?;
+    if len > most {
+        return Err(Malformed);
+    }
+    let octets = parser.parse_parser((usize::from(len) + 7) / 8)?;
+    Ok((len, octets))
+}
+
+impl<R: AsOctets + Copy> Rib<R> {
+    ghost use Rattle.octseq_mrt.specs.Parsed.{rib_of};
+
+    /// Reads all that a parser has left as a RIB of a family, and counts a turn for each entry and for each of its
+    /// attributes.
+    pub(crate) fn parse_counted(
+        parser: Parser<R>,
+        family: AfiSafiType,
+        paths: bool,
+        turns: &mut Turns,
+    ) -> Result<Rib<R>, Malformed>
+        ensures rib { IfOk result (λ rib. IsRib family paths (window parser) (rib_of rib)) }
+        ensures malformed { IsErr result → (rib : said.Rib) → ¬ IsRib family paths (window parser) rib }
+        ensures turns { turns.new ≤ turns.old + left (window parser) }
+    {
+        let mut ahead = parser;
+        let sequence = U32Be::parse(&mut ahead)?;
+        let (len, octets) = parse_prefix(&mut ahead, address_bits(family.afi()))?;
+        let count = U16Be::parse(&mut ahead)?;
+        let first = ahead;
+        pass_entries(&mut ahead, paths, count, turns)?;
+        if ahead.remaining() > 0 {
+            return Err(Malformed);
+        }
+        Ok(Rib {
+            family,
+            sequence,
+            len,
+            octets,
+            entries: RibEntries {
+                parser: first,
+                paths,
+            },
+        })
+    }
+
+    /// The prefix where it was read.
+    pub fn prefix(&self) -> Nlri<R>
+        ensures { result ≡ record {
+          path_id = None;
+          afi = afi_of self.now.family;
+          len = self.now.len;
+          octets = self.now.octets;
+        } }
+    {
+        Nlri {
+            path_id: None,
+            afi: self.family.afi(),
+            len: self.len,
+            octets: self.octets,
+        }
+    }
+}

@@ -1,0 +1,241 @@
+//! The path attributes of an entry of a RIB: RFC 6396, 4.3.4.
+ghost use Rattle.std.specs.Prelude.{◌≡◌, ◌+◌, ◌≤◌, ◌↔◌, List, IsTrue, IsErr, IfOk, IfSome, IsNone, OnOk, ⊤};
+ghost use Rattle.octseq.specs.Parser.{window};
+ghost use Rattle.octseq.specs.Window.{Window, left};
+ghost use Rattle.octseq_format.specs.Laws.{NoneAt};
+ghost use Rattle.octseq_bgp.specs.Entry.{Entry, IsEntry};
+ghost use Rattle.octseq_bgp.specs.Fills.{Fills};
+ghost use Rattle.octseq_bgp.specs.declared.entry.Form.TheVariants as form;
+ghost use Rattle.octseq_mrt.specs.Listed.{AttributesAhead, attributes_once};
+ghost use Rattle.octseq_mrt.specs.Rib.{rib_session, is_next_hop_size, IsNextHopAlone, IsRibValue};
+
+use crate::whole::parse_all;
+use octseq::utf8::Turns;
+use octseq::{AsOctets, Malformed, Parser};
+use octseq_bgp::{AttributeValue, Flags, PathAttribute, SessionConfig};
+use octseq_format::{Counted, Format, Rest, U8};
+use std::alloc::AllocError;
+
+/// A type, and octets after their length of one octet.
+type Short = (U8, Counted<u8, Rest, 0>);
+
+/// A type, and octets after their length of two octets.
+type Long = (U8, Counted<u16, Rest, 0>);
+
+/// A path attribute of an entry, where it was read.
+#[derive(Debug)]
+pub struct RibAttribute<R: AsOctets> {
+    /// Its flags.
+    pub flags: Flags,
+    /// Its type.
+    pub type_code: u8,
+    /// The place of its octets.
+    pub value: Parser<R>,
+}
+
+impl<R: AsOctets + Copy> Copy for RibAttribute<R> {}
+
+impl<R: AsOctets + Copy> Clone for RibAttribute<R> {
+    ghost is_clone = { λ attribute copy. copy ≡ attribute };
+
+    ghost is_infallible = { λ _. ⊤ };
+
+    fn clone(&self) -> Result<Self, AllocError> {
+        Ok(*self)
+    }
+}
+
+impl<R: AsOctets + Copy> RibAttribute<R> {
+    ghost use Rattle.octseq_mrt.specs.Parsed.{attribute_of};
+
+    /// Takes the next one.
+    fn parse(parser: &mut Parser<R>) -> Result<RibAttribute<R>, Malformed>
+        ensures attribute { IfOk result (λ it.
+            IsEntry form.Attribute (window parser.old) (attribute_of it) (window parser.new)) }
+        ensures malformed { IsErr result → NoneAt (IsEntry form.Attribute) (window parser.old) }
+    {
+        let flags = U8::parse(parser)?;
+        let (type_code, value) = if flags / 16 % 2 == 1 {
+            <Long as Format<R>>::parse(parser)?
+        } else {
+            <Short as Format<R>>::parse(parser)?
+        };
+        Ok(RibAttribute {
+            flags: Flags(flags),
+            type_code,
+            value,
+        })
+    }
+}
+
+/// The path attributes that an entry has left, from the first one on.
+#[derive(Debug)]
+pub struct RibAttributes<R: AsOctets> {
+    parser: Parser<R>,
+    ghost ahead: { AttributesAhead (window parser) } by { attributes_once (window parser) },
+}
+
+impl<R: AsOctets + Copy> Copy for RibAttributes<R> {}
+
+impl<R: AsOctets + Copy> Clone for RibAttributes<R> {
+    ghost is_clone = { λ attributes copy. copy ≡ attributes };
+
+    ghost is_infallible = { λ _. ⊤ };
+
+    fn clone(&self) -> Result<Self, AllocError> {
+        Ok(*self)
+    }
+}
+
+impl<R: AsOctets + Copy> RibAttributes<R> {
+    /// The attributes that fill what a parser has left.
+    pub(crate) fn at(parser: Parser<R>) -> RibAttributes<R>
+        requires { AttributesAhead (window parser) }
+        ensures { window result.parser ≡ window parser }
+    {
+        RibAttributes { parser }
+    }
+}
+
+impl<R: AsOctets + Copy> Iterator for RibAttributes<R> {
+    ghost use Rattle.std.specs.Iterator.{YieldsFirstBy, item_count};
+    ghost use Rattle.octseq_mrt.specs.Parsed.{attribute_of, attributes_left};
+
+    type Item = RibAttribute<R>;
+
+    ghost next_gives = { YieldsFirstBy attribute_of attributes_left };
+
+    ghost remaining = { item_count attributes_left };
+
+    fn next(&mut self) -> Option<RibAttribute<R>> {
+        if self.parser.remaining() == 0 {
+            return None;
+        }
+        let mut parser = self.parser;
+        match RibAttribute::parse(&mut parser) {
+            Ok(attribute) => {
+                *self = RibAttributes { parser };
+                Some(attribute)
+            }
+            Err(_) => None,
+        }
+    }
+}
+
+/// Takes all that a parser has left as path attributes, and counts a turn for each.
+pub(crate) fn pass_attributes<R: AsOctets + Copy>(
+    parser: &mut Parser<R>,
+    turns: &mut Turns,
+) -> Result<(), Malformed>
+    ensures attributes { OnOk result ((row : List Entry) × Fills (IsEntry form.Attribute) (window parser.old) row) }
+    ensures malformed { IsErr result → (row : List Entry) → ¬ Fills (IsEntry form.Attribute) (window parser.old) row }
+    ensures turns { turns.new ≤ turns.old + left (window parser.old) }
+{
+    let mut left = parser.remaining();
+    'attributes: while left > 0 {
+        turns.tick();
+        let _attribute = RibAttribute::parse(parser)?;
+        left = parser.remaining();
+    }
+    Ok(())
+}
+
+/// Octets that are next hops alone are no MP_REACH_NLRI of a message, so it doesn't matter which is looked for first.
+///
+/// It does nothing. A caller that calls it has the law in its proof.
+pub fn next_hops_are_apart()
+    ensures { (session : Session) (w : Window) (reach : Reach) → IsReach session w reach → (inside : Window)
+        → ¬ IsNextHopAlone 14 w inside }
+{}
+
+ghost use Rattle.octseq_bgp.specs.Value.{Reach, IsReach};
+ghost use Rattle.octseq_bgp.specs.declared.session.SessionConfig.{SessionConfig as Session};
+
+/// What an attribute of an entry says.
+#[derive(Debug)]
+pub enum RibValue<R: AsOctets> {
+    /// MP_REACH_NLRI that has next hops alone: their place. They are of the RIB's family.
+    NextHop(Parser<R>),
+    /// What an attribute of a message says.
+    Value(AttributeValue<R>),
+}
+
+impl<R: AsOctets + Copy> Copy for RibValue<R> {}
+
+impl<R: AsOctets + Copy> Clone for RibValue<R> {
+    ghost is_clone = { λ value copy. copy ≡ value };
+
+    ghost is_infallible = { λ _. ⊤ };
+
+    fn clone(&self) -> Result<Self, AllocError> {
+        Ok(*self)
+    }
+}
+
+/// Whether next hops alone may have so many octets.
+fn is_next_hop_size(size: usize) -> bool
+    ensures { IsTrue result ↔ is_next_hop_size size }
+{
+    size == 4 || size == 16 || size == 32
+}
+
+impl<R: AsOctets + Copy> RibAttribute<R> {
+    ghost use Rattle.octseq_mrt.specs.Parsed.{rib_value_of};
+
+    /// The place of the next hops, where it has them alone.
+    fn next_hop_alone(&self) -> Option<Parser<R>>
+        ensures some { IfSome result (λ it. IsNextHopAlone self.now.type_code (window self.now.value) (window it)) }
+        ensures none { IsNone result → (inside : Window)
+            → ¬ IsNextHopAlone self.now.type_code (window self.now.value) inside }
+    {
+        if self.type_code != 14 {
+            return None;
+        }
+        match parse_all::<R, Counted<u8, Rest, 0>>(self.value) {
+            Ok(inside) => {
+                if is_next_hop_size(inside.remaining()) {
+                    Some(inside)
+                } else {
+                    None
+                }
+            }
+            Err(_) => None,
+        }
+    }
+
+    /// The same attribute as one of a message whose AS numbers have four octets.
+    pub fn path_attribute(&self) -> PathAttribute<R>
+        ensures { result ≡ record {
+          flags = self.now.flags;
+          type_code = self.now.type_code;
+          value = self.now.value;
+          session = rib_session;
+        } }
+    {
+        PathAttribute {
+            flags: self.flags,
+            type_code: self.type_code,
+            value: self.value,
+            session: SessionConfig::modern(),
+        }
+    }
+
+    /// What it says: next hops alone, or what an attribute of a message says.
+    pub fn value(&self) -> RibValue<R>
+        ensures { IsRibValue self.now.type_code (window self.now.value) (rib_value_of result) }
+    {
+        self.value_counted(&mut Turns::new())
+    }
+
+    /// The same, and counts the turns of loops that this takes: one for each segment and prefix. There are at most as
+    /// many as it has octets.
+    pub fn value_counted(&self, turns: &mut Turns) -> RibValue<R>
+        ensures value { IsRibValue self.now.type_code (window self.now.value) (rib_value_of result) }
+        ensures turns { turns.new ≤ turns.old + left (window self.now.value) }
+    {
+        match self.next_hop_alone() {
+            Some(inside) => RibValue::NextHop(inside),
+            None => RibValue::Value(self.path_attribute().value_counted(turns)),
+        }
+    }
+}

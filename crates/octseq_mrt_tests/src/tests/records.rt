@@ -1,0 +1,149 @@
+//! Records by their octets: where they end, and how many turns their reading takes.
+use octseq::utf8::Turns;
+use octseq::{AsOctets, Parser};
+use octseq_asserts::{assert_equal, assert_true};
+use octseq_bgp::{Afi, SessionConfig};
+use octseq_mrt::{
+    CommonHeader, Event, Record, RecordValue, RibAttribute, RibValue, next_record, one_record,
+    one_record_value,
+};
+use std::alloc::AllocGlobal;
+use std::process::Abort;
+use std::test::Fail;
+
+/// A header of 12 octets and 2 more: RFC 6396, 2.
+pub const OTHER: &[u8] = b"\x65\x53\xF1\x00\0\x0C\0\x01\0\0\0\x02\x01\x02";
+
+/// A table with four peers, of each type that counts: RFC 6396, 4.3.1.
+const PEERS: &[u8] = b"\x65\x53\xF1\x00\0\x0D\0\x01\0\0\0\x54\x0A\0\0\x09\0\x04view\0\x04\
+\0\x0A\0\0\x01\x0A\0\0\x01\xFD\xE9\
+\x01\x0A\0\0\x02\x20\x01\x0D\xB8\0\0\0\0\0\0\0\0\0\0\0\x01\xFD\xEA\
+\x02\x0A\0\0\x03\x0A\0\0\x03\xFA\x56\xEA\x01\
+\xFF\x0A\0\0\x04\x20\x01\x0D\xB8\0\0\0\0\0\0\0\0\0\0\0\x02\xFA\x56\xEA\x02";
+
+/// A RIB of IPv4 unicast with a path id, and an entry of two attributes: RFC 8050, 4.
+const RIB: &[u8] = b"\x65\x53\xF1\x00\0\x0D\0\x08\0\0\0\x22\0\0\0\x01\x18\x09\x09\x09\0\x01\
+\0\x01\x65\x53\xF1\x00\0\0\0\x07\0\x0C\x40\x01\x01\0\x80\x0E\x05\x04\x0A\0\0\x01";
+
+/// A KEEPALIVE with microseconds: RFC 6396, 3 and 4.4.3.
+const KEEPALIVE: &[u8] = b"\x65\x53\xF1\x00\0\x11\0\x04\0\0\0\x2B\0\0\0\x7B\
+\xFA\x56\xEA\x01\0\0\xFD\xEA\0\x03\0\x01\x0A\0\0\x01\x0A\0\0\x02\
+\xFF\xFF\xFF\xFF\xFF\xFF\xFF\xFF\xFF\xFF\xFF\xFF\xFF\xFF\xFF\xFF\0\x13\x04";
+
+/// Fewer octets than a record has are none, and neither are more.
+fn is_whole(rt: &(impl Abort + AllocGlobal), octets: &[u8]) -> Result<(), Fail> {
+    for len in 0..octets.len() {
+        assert_true!(rt, Record::parse(&octets[..len]).is_err());
+        let mut parser = Parser::from_ref(&octets[..len]);
+        assert_equal!(rt, next_record(&mut parser).is_err(), len > 0);
+        assert_equal!(rt, parser.pos(), 0);
+    }
+    assert_true!(rt, Record::parse(octets).is_ok());
+    let mut more = octets.to_vec(rt.alloc())?;
+    more.push(0)?;
+    assert_true!(rt, Record::parse(more.as_slice()).is_err());
+    Ok(())
+}
+
+#[test]
+fn records_end_where_their_headers_say(rt: HostRuntime) -> Result<(), Fail> {
+    one_record();
+    one_record_value();
+    is_whole(&rt, OTHER)?;
+    is_whole(&rt, PEERS)?;
+    is_whole(&rt, RIB)?;
+    is_whole(&rt, KEEPALIVE)
+}
+
+#[test]
+fn records_follow_one_another(rt: HostRuntime) -> Result<(), Fail> {
+    let mut octets = OTHER.to_vec(rt.alloc())?;
+    octets.extend_from_slice(RIB)?;
+    let mut parser = Parser::from_ref(octets.as_slice());
+    let mut ends = Vec::new(rt.alloc());
+    for _ in 0..3 {
+        if let Some(record) = next_record(&mut parser)? {
+            ends.push((record.header.subtype, record.octets.pos()))?;
+        }
+    }
+    assert_equal!(&rt, ends.as_slice(), &[(1, 12), (8, 26)]);
+    Ok(())
+}
+
+#[test]
+fn headers_are_read(rt: HostRuntime) -> Result<(), Fail> {
+    let header = CommonHeader::parse(&mut Parser::from_ref(OTHER))?;
+    let wanted = CommonHeader {
+        timestamp: 1_700_000_000,
+        type_code: 12,
+        subtype: 1,
+        length: 2,
+    };
+    assert_equal!(&rt, header, wanted);
+    Ok(())
+}
+
+/// Whether a record has the form of its type, by the reading that counts turns.
+fn is_typed<R: AsOctets + Copy>(octets: R) -> Result<bool, Fail> {
+    let value = Record::parse(octets)?.value_counted(&mut Turns::new());
+    Ok(!matches!(value, RecordValue::Opaque(_)))
+}
+
+#[test]
+fn readings_are_counted(rt: HostRuntime) -> Result<(), Fail> {
+    assert_true!(&rt, is_typed(PEERS)?);
+    assert_true!(&rt, is_typed(RIB)?);
+    assert_true!(&rt, is_typed(KEEPALIVE)?);
+    assert_true!(&rt, !is_typed(OTHER)?);
+    Ok(())
+}
+
+/// The parts of a RIB of IPv4.
+fn has_parts<R: AsOctets + Copy>(rt: &impl Abort, octets: R) -> Result<(), Fail> {
+    let RecordValue::Rib(rib) = Record::parse(octets)?.value() else {
+        return Err(Fail::from("no RIB"));
+    };
+    let prefix = rib.prefix().prefix();
+    assert_equal!(rt, (prefix.afi, prefix.len), (Afi::Ipv4, 24));
+    for entry in rib.entries {
+        assert_equal!(rt, entry.peer_index, 1);
+        for attribute in entry.attributes {
+            is_next_hop(rt, &attribute);
+        }
+    }
+    Ok(())
+}
+
+/// An attribute is next hops alone where it is an MP_REACH_NLRI.
+fn is_next_hop<R: AsOctets + Copy>(rt: &impl Abort, attribute: &RibAttribute<R>) {
+    let same = attribute.path_attribute();
+    assert_equal!(rt, same.session, SessionConfig::modern());
+    let value = attribute.value_counted(&mut Turns::new());
+    let is_alone = matches!(value, RibValue::NextHop(_));
+    assert_equal!(rt, is_alone, attribute.type_code == 14);
+}
+
+#[test]
+fn a_rib_has_its_parts(rt: HostRuntime) -> Result<(), Fail> {
+    has_parts(&rt, RIB)
+}
+
+/// The message of a record, and how it is to be read.
+fn has_message<R: AsOctets + Copy>(rt: &impl Abort, octets: R) -> Result<(), Fail> {
+    let RecordValue::Bgp4Mp(it) = Record::parse(octets)?.value() else {
+        return Err(Fail::from("no BGP4MP"));
+    };
+    assert_equal!(rt, it.microseconds, Some(123));
+    let Event::Message(message) = it.event else {
+        return Err(Fail::from("no message"));
+    };
+    assert_equal!(rt, message.session.four_octet_asn, true);
+    assert_equal!(rt, message.session.extended_message, true);
+    assert_true!(rt, message.message().is_ok());
+    Ok(())
+}
+
+#[test]
+fn a_message_has_its_session(rt: HostRuntime) -> Result<(), Fail> {
+    has_message(&rt, KEEPALIVE)
+}
