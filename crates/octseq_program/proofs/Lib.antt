@@ -1,3 +1,6 @@
 pub mod Answering
+pub mod Framing
 pub mod Naming
+pub mod Pieces
+pub mod Taken
 pub mod Writing

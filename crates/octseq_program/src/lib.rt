@@ -7,6 +7,7 @@
 #![tactic(auto)]
 
 pub mod engine;
+pub mod frames;
 pub mod hostile;
 pub mod process;
 pub mod request;
@@ -14,6 +15,7 @@ pub mod status;
 pub mod streams;
 
 pub use engine::{Answer, Commands};
+pub use frames::{Ending, FrameCommand, Next, Piece, StreamCommand, take_stream, take_whole};
 pub use process::{arguments, exit_code, run, start};
 pub use request::{Asked, asked_for, command_word, input_path};
 pub use status::{ProgramFault, Status};

@@ -1,0 +1,50 @@
+-- What a command makes of a stream: of its frames, one after another, and of its end.
+use Rattle.std.specs.List.{AllByRecursion, flat_map}
+use Rattle.std.specs.Prelude.{◌≡◌, ℕ, ◌+◌, List, [], ◌∷◌, ◌++◌, Bool, true, false, ◌&&◌, length}
+use Rattle.octseq_program.specs.declared.status.Status.{Status}
+use Rattle.octseq_program.specs.declared.status.Status.TheVariants.{Fine, Refused}
+
+-- What is made of octets, by their number in the stream: whether they are as they are to be, what is written of them,
+-- and what is told of them on standard error. `IsPiece` is a relation of that kind here.
+
+-- so of each of these frames, the first of which has this number
+abbrev pub HavePieces : (ℕ → List ℕ → Bool → List ℕ → List ℕ → Type 0) → ℕ → List (List ℕ) → Bool → List ℕ → List ℕ
+    → Type 0
+HavePieces IsPiece number [] all output errors = (all ≡ true) × (output ≡ []) × (errors ≡ [])
+HavePieces IsPiece number (octets ∷ frames) all output errors = (is_fine : Bool) × (written : List ℕ)
+    × (note : List ℕ) × (others : Bool) × (more : List ℕ) × (notes : List ℕ)
+    × IsPiece number octets is_fine written note × HavePieces IsPiece (number + 1) frames others more notes
+    × (all ≡ (is_fine && others)) × (output ≡ written ++ more) × (errors ≡ note ++ notes)
+
+-- how a command ends, by whether all is as it is to be
+abbrev pub ends_as : Bool → Status
+ends_as true = Fine
+ends_as false = Refused
+
+-- What is made of an input as one thing.
+pub record IsWholeOut (IsPiece : List ℕ → Bool → List ℕ → List ℕ → Type 0) (input output errors : List ℕ)
+    (status : Status) : Type 0 where
+  pub is_fine : Bool
+  pub piece : IsPiece input is_fine output errors
+  pub status_is : status ≡ ends_as is_fine
+
+-- A stream is frames that fit, each written by a code, and a rest; this is made of the frames, counted from 1, and of
+-- the rest, which has the number after theirs. That no frame begins the rest is what `IsEnd` says of it.
+pub record IsStreamOut (Fits : List ℕ → Type 0) (code : List ℕ → List ℕ)
+    (IsPiece IsEnd : ℕ → List ℕ → Bool → List ℕ → List ℕ → Type 0) (input output errors : List ℕ) (status : Status)
+    : Type 0 where
+  pub frames : List (List ℕ)
+  pub rest : List ℕ
+  pub fit : AllByRecursion Fits frames
+  pub whole : input ≡ flat_map code frames ++ rest
+  pub all : Bool
+  pub text : List ℕ
+  pub notes : List ℕ
+  pub pieces : HavePieces IsPiece 1 frames all text notes
+  pub is_fine : Bool
+  pub ending : List ℕ
+  pub note : List ℕ
+  pub ends : IsEnd (1 + length frames) rest is_fine ending note
+  pub written : output ≡ text ++ ending
+  pub noted : errors ≡ notes ++ note
+  pub status_is : status ≡ ends_as (all && is_fine)

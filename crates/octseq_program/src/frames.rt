@@ -1,0 +1,239 @@
+//! Commands that take a stream, one frame at a time: what is made of one is written before the next is read, so that a
+//! live source shows at once, and an input of any length runs in the memory of one frame.
+ghost use Rattle.std.specs.Prelude.{◌≡◌, ◌≢◌, ◌&&◌, ℕ, List, Bool, IfOk, OnErr, OnOk, Ok};
+ghost use Rattle.std.specs.Io.KnownBytes.{Appends, Consumes, IsAtEnd};
+ghost use Rattle.octseq.specs.Code.{HasFront, IsCode};
+ghost use Rattle.octseq.specs.Parts.{IsFront};
+ghost use Rattle.octseq_program.specs.Run.{Answers, BreaksOff};
+ghost use Rattle.octseq_program.specs.Frames.{IsStreamOut, IsWholeOut, ends_as};
+
+use crate::status::{ProgramFault, Status};
+use crate::streams::{read_all, write_all};
+use std::alloc::{AllocError, Global};
+use std::io::{Read, Write};
+
+/// What is written of a frame, what is told of it on standard error, and whether it is as it is to be.
+#[derive(Drop)]
+pub struct Piece {
+    /// What is written.
+    pub output: Vec<u8>,
+    /// What is told on standard error.
+    pub note: Vec<u8>,
+    /// Whether the frame is as the command wants it.
+    pub is_fine: bool,
+}
+
+/// How a stream ends.
+#[derive(Clone, Copy, Debug, PartialEq, Eq)]
+pub enum Ending {
+    /// After its last frame.
+    Whole,
+    /// Inside a frame.
+    Cut,
+    /// At octets with which no frame begins, and the input is read to its end.
+    Misframed,
+}
+
+/// What comes next in a stream.
+#[derive(Clone, Copy, Debug, PartialEq, Eq)]
+pub enum Next {
+    /// A frame.
+    Frame,
+    /// The end.
+    End(Ending),
+}
+
+/// A command that makes something of octets: a piece, by their number.
+pub trait FrameCommand: Copy {
+    /// What serves for one frame after another.
+    type Tools: Drop;
+
+    // the octets that it takes
+    ghost fits: { Self → List ℕ → Type 0 };
+
+    // what it makes of octets by their number: whether they are fine, what is written, and what is told of them
+    ghost is_piece: { Self → ℕ → List ℕ → Bool → List ℕ → List ℕ → Type 0 };
+
+    /// One thing is made of octets.
+    ///
+    /// It does nothing. A caller that calls it has the law in its proof.
+    fn one_piece(self)
+        ensures { (number : ℕ) (octets x y e f : List ℕ) (a b : Bool) → is_piece self number octets a x e
+            → is_piece self number octets b y f → (a ≡ b) × (x ≡ y) × (e ≡ f) };
+
+    /// Tools that have no room yet.
+    fn tools(self, alloc: Global) -> Self::Tools;
+
+    /// What is made of the octets of this number.
+    ///
+    /// # Errors
+    ///
+    /// `AllocError` where a request for memory was refused.
+    fn take(
+        self,
+        alloc: Global,
+        tools: &mut Self::Tools,
+        number: u64,
+        octets: &[u8],
+    ) -> Result<Piece, AllocError>
+        requires { fits self octets.now }
+        ensures { IfOk result (λ piece.
+            is_piece self number octets.now piece.is_fine piece.output.items piece.note.items) };
+}
+
+/// A command that takes a stream of frames, each of octets that fit, and makes a piece of each and of the rest after the
+/// last one.
+pub trait StreamCommand: FrameCommand {
+    ghost use Rattle.octseq_program.specs.declared.frames.Ending.{Ending};
+
+    // the octets of a frame in the stream
+    ghost code: { Self → List ℕ → List ℕ };
+
+    // the rest that a stream has after its last frame, by how it ends
+    ghost is_rest: { Self → Ending → List ℕ → Type 0 };
+
+    // what is made of a rest, by the number after that of the last frame
+    ghost is_end: { Self → ℕ → List ℕ → Bool → List ℕ → List ℕ → Type 0 };
+
+    /// A stream is frames in one way, no frame begins the rest, and one thing is made of that.
+    ///
+    /// It does nothing. A caller that calls it has the laws in its proof.
+    fn one_end(self)
+        ensures apart { IsCode (Self.fits self) (code self) }
+        ensures rest { (number : ℕ) (octets written note : List ℕ) (is_fine : Bool)
+            → is_end self number octets is_fine written note → ¬ HasFront (Self.fits self) (code self) octets }
+        ensures one { (number : ℕ) (octets x y e f : List ℕ) (a b : Bool) → is_end self number octets a x e
+            → is_end self number octets b y f → (a ≡ b) × (x ≡ y) × (e ≡ f) };
+
+    /// Reads the next frame in place of the last one, or up to the end of the input where no frame comes.
+    ///
+    /// # Errors
+    ///
+    /// `Memory` where a request for memory was refused, `Read` where a read failed.
+    fn read_next<R: Read>(self, reader: &mut R, octets: &mut Vec<u8>) -> Result<Next, ProgramFault>
+        ensures frame { result ≡ Ok Next.Frame → Self.fits self octets.new.items
+            × Consumes (R.remaining reader.old) (R.remaining reader.new) (code self octets.new.items) }
+        ensures end { (ending : Ending) → result ≡ Ok (Next.End ending) → (rest : List ℕ) × is_rest self ending rest
+            × Consumes (R.remaining reader.old) (R.remaining reader.new) rest × IsAtEnd (R.remaining reader.new) }
+        ensures err { OnErr result ((read : List ℕ)
+            × Consumes (R.remaining reader.old) (R.remaining reader.new) read) };
+
+    /// What is made of the rest of a stream that ends so.
+    ///
+    /// # Errors
+    ///
+    /// `AllocError` where a request for memory was refused.
+    fn take_end(self, alloc: Global, number: u64, ending: Ending) -> Result<Piece, AllocError>
+        ensures { IfOk result (λ piece. (rest : List ℕ) → is_rest self ending rest
+            → is_end self number rest piece.is_fine piece.output.items piece.note.items) };
+}
+
+/// Takes all that the reader has left as one thing, of the number 1.
+///
+/// # Errors
+///
+/// `Memory` where a request for memory was refused, `Read` where a read failed, `Write` where a write failed.
+pub fn take_whole<C: FrameCommand, R: Read, W: Write, E: Write>(
+    command: C,
+    alloc: Global,
+    reader: &mut R,
+    writer: &mut W,
+    errors: &mut E,
+) -> Result<Status, ProgramFault>
+    requires { (octets : List ℕ) → C.fits command octets }
+    ensures ok { IfOk result (Answers (IsWholeOut (C.is_piece command 1)) (R.remaining reader.old)
+        (W.contents writer.old) (W.contents writer.new) (E.contents errors.old) (E.contents errors.new)) }
+    ensures end { OnOk result (IsAtEnd (R.remaining reader.new)) }
+    ensures broke { OnErr result (BreaksOff (IsWholeOut (C.is_piece command 1)) (R.remaining reader.old)
+        (R.remaining reader.new) (W.contents writer.old) (W.contents writer.new) (E.contents errors.old)
+        (E.contents errors.new)) }
+{
+    command.one_piece();
+    let input = read_all(alloc, reader)?;
+    let mut tools = command.tools(alloc);
+    let piece = command.take(alloc, &mut tools, 1, input.as_slice())?;
+    write_piece(writer, errors, &piece)?;
+    Ok(status_of(piece.is_fine))
+}
+
+/// Takes a stream, one frame at a time.
+///
+/// # Errors
+///
+/// `Memory` where a request for memory was refused, `Read` where a read failed, `Write` where a write failed.
+pub fn take_stream<C: StreamCommand, R: Read, W: Write, E: Write>(
+    command: C,
+    alloc: Global,
+    reader: &mut R,
+    writer: &mut W,
+    errors: &mut E,
+) -> Result<Status, ProgramFault>
+    ensures ok { IfOk result (Answers
+        (IsStreamOut (C.fits command) (C.code command) (C.is_piece command) (C.is_end command))
+        (R.remaining reader.old) (W.contents writer.old) (W.contents writer.new) (E.contents errors.old)
+        (E.contents errors.new)) }
+    ensures end { OnOk result (IsAtEnd (R.remaining reader.new)) }
+    ensures broke { OnErr result (BreaksOff
+        (IsStreamOut (C.fits command) (C.code command) (C.is_piece command) (C.is_end command))
+        (R.remaining reader.old) (R.remaining reader.new) (W.contents writer.old) (W.contents writer.new)
+        (E.contents errors.old) (E.contents errors.new)) }
+{
+    command.one_piece();
+    command.one_end();
+    let mut octets = Vec::new(alloc);
+    let mut tools = command.tools(alloc);
+    let mut is_all = true;
+    for index in 0..u64::MAX {
+        match command.read_next(reader, &mut octets)? {
+            Next::Frame => {
+                let piece = command.take(alloc, &mut tools, index + 1, octets.as_slice())?;
+                write_piece(writer, errors, &piece)?;
+                is_all = both(is_all, piece.is_fine);
+            }
+            Next::End(ending) => {
+                let piece = command.take_end(alloc, index + 1, ending)?;
+                write_piece(writer, errors, &piece)?;
+                return Ok(status_of(both(is_all, piece.is_fine)));
+            }
+        }
+    }
+    Err(ProgramFault::Read)
+}
+
+/// Whether both hold.
+fn both(first: bool, second: bool) -> bool
+    ensures { result ≡ (first && second) }
+{
+    first && second
+}
+
+/// How the program ends, by whether all is as it is to be.
+fn status_of(is_all: bool) -> Status
+    ensures { result ≡ ends_as is_all }
+{
+    if is_all {
+        Status::Fine
+    } else {
+        Status::Refused
+    }
+}
+
+/// Writes what is made of a frame, and then what is told of it on standard error.
+///
+/// # Errors
+///
+/// `Write` where a write failed.
+pub fn write_piece<W: Write, E: Write>(
+    writer: &mut W,
+    errors: &mut E,
+    piece: &Piece,
+) -> Result<(), ProgramFault>
+    ensures ok { OnOk result (Appends (W.contents writer.old) (W.contents writer.new) piece.now.output.items
+        × Appends (E.contents errors.old) (E.contents errors.new) piece.now.note.items) }
+    ensures front { (front : List ℕ) × (line : List ℕ) × IsFront front piece.now.output.items
+        × IsFront line piece.now.note.items × Appends (W.contents writer.old) (W.contents writer.new) front
+        × Appends (E.contents errors.old) (E.contents errors.new) line }
+{
+    write_all(writer, piece.output.as_slice())?;
+    write_all(errors, piece.note.as_slice())
+}
