@@ -1,6 +1,7 @@
 -- What a command makes of a stream: of its frames, one after another, and of its end.
 use Rattle.std.specs.List.{AllByRecursion, flat_map}
-use Rattle.std.specs.Prelude.{◌≡◌, ℕ, ◌+◌, List, [], ◌∷◌, ◌++◌, Bool, true, false, ◌&&◌, length}
+use Rattle.std.specs.Fmt.{decimal}
+use Rattle.std.specs.Prelude.{◌≡◌, codes, ℕ, ◌+◌, List, [], ◌∷◌, ◌++◌, Bool, true, false, ◌&&◌, length}
 use Rattle.octseq_program.specs.declared.status.Status.{Status}
 use Rattle.octseq_program.specs.declared.status.Status.TheVariants.{Fine, Refused}
 
@@ -48,3 +49,14 @@ pub record IsStreamOut (Fits : List ℕ → Type 0) (code : List ℕ → List �
   pub written : output ≡ text ++ ending
   pub noted : errors ≡ notes ++ note
   pub status_is : status ≡ ends_as (all && is_fine)
+
+-- What is made of a rest where nothing is told of it: all is well where there is none, and else it is a part of a frame,
+-- and this text is written.
+abbrev pub IsPlainEnd : (List ℕ → Type 0) → List ℕ → List ℕ → Bool → List ℕ → List ℕ → Type 0
+IsPlainEnd IsCut text rest true ending note = (rest ≡ []) × (ending ≡ []) × (note ≡ [])
+IsPlainEnd IsCut text rest false ending note = IsCut rest × (ending ≡ text) × (note ≡ [])
+
+-- the line that tells where reading stopped, of a thing by its number
+abbrev pub stop_line : List ℕ → ℕ → ℕ → List ℕ
+stop_line what number place =
+    what ++ codes " " ++ decimal number ++ codes ": malformed at octet " ++ decimal place ++ codes "\n"

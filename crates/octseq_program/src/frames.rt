@@ -1,11 +1,11 @@
 //! Commands that take a stream, one frame at a time: what is made of one is written before the next is read, so that a
 //! live source shows at once, and an input of any length runs in the memory of one frame.
-ghost use Rattle.std.specs.Prelude.{◌≡◌, ◌≢◌, ◌&&◌, ℕ, List, Bool, IfOk, OnErr, OnOk, Ok};
+ghost use Rattle.std.specs.Prelude.{◌≡◌, ◌&&◌, ℕ, List, [], Bool, IfOk, OnErr, OnOk, Ok};
 ghost use Rattle.std.specs.Io.KnownBytes.{Appends, Consumes, IsAtEnd};
 ghost use Rattle.octseq.specs.Code.{HasFront, IsCode};
 ghost use Rattle.octseq.specs.Parts.{IsFront};
 ghost use Rattle.octseq_program.specs.Run.{Answers, BreaksOff};
-ghost use Rattle.octseq_program.specs.Frames.{IsStreamOut, IsWholeOut, ends_as};
+ghost use Rattle.octseq_program.specs.Frames.{IsStreamOut, IsWholeOut, ends_as, stop_line};
 
 use crate::status::{ProgramFault, Status};
 use crate::streams::{read_all, write_all};
@@ -21,6 +21,43 @@ pub struct Piece {
     pub note: Vec<u8>,
     /// Whether the frame is as the command wants it.
     pub is_fine: bool,
+}
+
+impl Piece {
+    /// A text of which nothing is told.
+    ///
+    /// # Errors
+    ///
+    /// `AllocError` where a request for memory was refused.
+    pub fn plain(alloc: Global, text: &str, is_fine: bool) -> Result<Piece, AllocError>
+        ensures { IfOk result (λ piece. (piece.output.items ≡ text.now) × (piece.note.items ≡ [])
+            × (piece.is_fine ≡ is_fine)) }
+    {
+        let mut output = Vec::new(alloc);
+        output.extend_from_slice(text.as_bytes())?;
+        Ok(Piece {
+            output,
+            note: Vec::new(alloc),
+            is_fine,
+        })
+    }
+}
+
+/// The line that tells where reading stopped, of a thing by its number.
+///
+/// # Errors
+///
+/// `AllocError` where a request for memory was refused.
+pub fn stop_line(
+    alloc: Global,
+    what: &str,
+    number: u64,
+    place: usize,
+) -> Result<Vec<u8>, AllocError>
+    ensures { IfOk result (λ line. line.items ≡ stop_line what.now number place) }
+{
+    let line = format!(in alloc; "{what} {number}: malformed at octet {place}\n")?;
+    Ok(line.into_bytes())
 }
 
 /// How a stream ends.

@@ -15,7 +15,9 @@ pub mod status;
 pub mod streams;
 
 pub use engine::{Answer, Commands};
-pub use frames::{Ending, FrameCommand, Next, Piece, StreamCommand, take_stream, take_whole};
+pub use frames::{
+    Ending, FrameCommand, Next, Piece, StreamCommand, stop_line, take_stream, take_whole,
+};
 pub use process::{arguments, exit_code, run, start};
 pub use request::{Asked, asked_for, command_word, input_path};
 pub use status::{ProgramFault, Status};

@@ -1,0 +1,5 @@
+pub mod Out
+pub mod Records
+pub mod Shown
+pub mod Streams
+pub mod Words

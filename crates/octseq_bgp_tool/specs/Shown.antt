@@ -1,0 +1,33 @@
+-- What the program shows of octets that may be a message, and what it tells of them.
+use Rattle.std.specs.Prelude.{◌≡◌, ℕ, List, [], Bool, true, false, codes}
+use Rattle.octseq_bgp.specs.Message.{Message, IsMessage}
+use Rattle.octseq_bgp.specs.MessageText.{IsMessageText}
+use Rattle.octseq_bgp.specs.Stop.{IsStop}
+use Rattle.octseq_bgp.specs.declared.session.SessionConfig.{SessionConfig}
+use Rattle.octseq_program.specs.Frames.{stop_line}
+
+-- Octets are a message of the session, and this is its text.
+pub record HasText (s : SessionConfig) (octets text : List ℕ) : Type 0 where
+  pub message : Message
+  pub is_message : IsMessage s octets message
+  pub is_text : IsMessageText message text
+
+-- octets are no message of the session
+abbrev pub IsMalformed : SessionConfig → List ℕ → Type 0
+IsMalformed s octets = (m : Message) → ¬ IsMessage s octets m
+
+-- what is shown of octets: the text of the message, where they are one, and else `malformed`
+abbrev pub IsShown : SessionConfig → List ℕ → Bool → List ℕ → Type 0
+IsShown s octets true shown = HasText s octets shown
+IsShown s octets false shown = IsMalformed s octets × (shown ≡ codes "malformed\n")
+
+-- what is told of octets on standard error, by the number of what they are: where they are no message, the place where
+-- reading stopped
+abbrev pub IsNote : List ℕ → SessionConfig → ℕ → List ℕ → Bool → List ℕ → Type 0
+IsNote what s number octets true note = note ≡ []
+IsNote what s number octets false note = (place : ℕ) × IsStop s octets place × (note ≡ stop_line what number place)
+
+-- what is made of an input as one message
+abbrev pub IsMessagePiece : SessionConfig → ℕ → List ℕ → Bool → List ℕ → List ℕ → Type 0
+IsMessagePiece s number octets is_fine written note =
+    IsShown s octets is_fine written × IsNote (codes "message") s number octets is_fine note

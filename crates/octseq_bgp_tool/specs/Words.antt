@@ -1,0 +1,32 @@
+-- The words that name commands, and how messages are read by them.
+use Rattle.std.specs.Prelude.{◌≡◌, Bool, not, if◌then◌else◌, ℕ, List, [], ◌++◌, codes}
+use Rattle.octseq_bgp.specs.declared.session.SessionConfig.{SessionConfig}
+use Rattle.octseq_bgp_tool.specs.declared.engine.Command.{Command}
+use Rattle.octseq_bgp_tool.specs.declared.engine.Command.TheVariants.{Message, Stream, Mrt, Messages}
+use Rattle.octseq_bgp_tool.specs.declared.options.Options.{Options}
+use Rattle.octseq_mrt.specs.Bgp4Mp.{all_paths}
+
+-- a word where there is an option
+abbrev pub option_word : Bool → List ℕ → List ℕ
+option_word has word = if has then word else []
+
+-- the options, each after a comma
+abbrev pub words_of : Options → List ℕ
+words_of o = option_word o.two_octet (codes ",two-octet") ++ option_word o.add_path (codes ",add-path")
+    ++ option_word o.extended (codes ",extended")
+
+-- the word that names a command
+abbrev pub name_of : Command → List ℕ
+name_of (Message o) = codes "message" ++ words_of o
+name_of (Stream o) = codes "stream" ++ words_of o
+name_of Mrt = codes "mrt"
+name_of Messages = codes "messages"
+
+-- how messages are read by the options: with AS numbers of two octets, with path ids for all families, of up to 65,535
+-- octets
+abbrev pub session_of : Options → SessionConfig
+session_of o = record {
+  four_octet_asn = not o.two_octet;
+  add_path = all_paths o.add_path;
+  extended_message = o.extended;
+}

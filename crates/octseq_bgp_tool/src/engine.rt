@@ -1,0 +1,142 @@
+//! The commands of the program.
+ghost use Rattle.std.specs.Prelude.{◌≡◌, ◌≢◌, ◌++◌, ℕ, List, Option, codes, IfSome, IsNone};
+ghost use Rattle.octseq_bgp_tool.specs.Out.{Out};
+ghost use Rattle.octseq_bgp_tool.specs.Words.{name_of};
+ghost use Rattle.octseq_bgp_tool.specs.declared.engine.Command.{Command};
+ghost use Rattle.octseq_program.specs.Run.{IsNamed};
+ghost use Rattle.octseq_program.specs.declared.status.Status.{Status};
+
+use crate::engine::messages::Messages;
+use crate::engine::records::Records;
+use crate::engine::shown::OneMessage;
+use crate::options::Options;
+use octseq_program::{Commands, FrameCommand, ProgramFault, Status, StreamCommand, take_stream, take_whole};
+use std::alloc::Global;
+use std::io::{Read, Write};
+
+mod messages;
+mod records;
+mod shown;
+#[cfg(test)]
+mod tests;
+
+/// What the program tells of itself.
+const HELP: &str = "\
+octseq_bgp_tool reads BGP messages and MRT records, and shows them as text.
+
+usage: octseq_bgp_tool [COMMAND [FILE]]
+
+It reads the file, or standard input where none is named.
+
+commands, the first where none is named:
+  message   shows one BGP message
+            octseq_bgp_tool message FILE
+  stream    shows BGP messages, one after another, with an empty line after each
+            octseq_bgp_tool stream,two-octet < FILE
+  mrt       shows MRT records, with an empty line after each
+            octseq_bgp_tool mrt FILE
+  messages  writes the messages of the MRT records that have one, as a stream; it leaves out what is no message
+            octseq_bgp_tool messages FILE > OUTPUT
+  --help    writes this
+
+message and stream may be followed by these words, in this order, each after a comma:
+  two-octet  AS numbers have two octets
+  add-path   prefixes of all families have path ids
+  extended   messages may have 65,535 octets
+
+Of what is malformed, standard error has a line with the number of the message or record and the place in the message
+where reading stopped.
+
+status:
+  0  all went well
+  1  the message is malformed, what follows the last message is none, or the input ends inside a message or a record
+  2  the words name no command
+  3  there was not enough memory
+  4  a read or a write failed
+";
+
+/// What the program can do.
+#[derive(Clone, Copy, Debug, PartialEq, Eq)]
+pub enum Command {
+    /// Write the text of the input as one message.
+    Message(Options),
+    /// Write the text of each message of the input.
+    Stream(Options),
+    /// Write the text of each record of the input.
+    Mrt,
+    /// Write the messages that the records of the input have.
+    Messages,
+}
+
+/// A word names one command at most, and a command has one output, on standard output and on standard error, and one
+/// status for an input: what the program writes is a function of both. The law is on a function that does nothing, so
+/// that a check asks for its proof.
+pub fn one_answer()
+    ensures command { (word : List ℕ) (c d : Option Command)
+        → IsNamed name_of word c → IsNamed name_of word d → c ≡ d }
+    ensures output { (c : Command) (input x y e f : List ℕ) (s t : Status)
+        → Out c input x e s → Out c input y f t → (x ≡ y) × (e ≡ f) × (s ≡ t) }
+{
+    shown::one_message_piece();
+    messages::one_stream_piece();
+    records::one_record_piece();
+}
+
+/// What follows a front of a word, where it begins with that.
+fn after<'a>(word: &'a str, front: &str) -> Option<&'a str>
+    ensures some { IfSome result (λ rest. word.now ≡ front.now ++ rest.now) }
+    ensures none { IsNone result → (rest : List ℕ) → word.now ≢ front.now ++ rest }
+{
+    word.strip_prefix(front)
+}
+
+impl Commands for Command {
+    ghost use Rattle.octseq_bgp_tool.specs.declared.engine.TheConstants.{HELP};
+
+    ghost name_of = { name_of };
+
+    ghost default_word = { codes "message" };
+
+    ghost help = { HELP.now };
+
+    ghost out = { Out };
+
+    fn named(word: &str) -> Option<Command> {
+        match word {
+            "mrt" => Some(Command::Mrt),
+            "messages" => Some(Command::Messages),
+            _ => match (after(word, "message"), after(word, "stream")) {
+                (Some(words), _) => Options::named(words).map(Command::Message),
+                (_, Some(words)) => Options::named(words).map(Command::Stream),
+                _ => None,
+            },
+        }
+    }
+
+    fn default_word() -> &'static str {
+        "message"
+    }
+
+    fn help() -> &'static str {
+        HELP
+    }
+
+    fn carry_out<R: Read, W: Write, E: Write>(
+        self,
+        alloc: Global,
+        reader: &mut R,
+        writer: &mut W,
+        errors: &mut E,
+    ) -> Result<Status, ProgramFault> {
+        match self {
+            Command::Message(options) => {
+                take_whole(OneMessage(options.session()), alloc, reader, writer, errors)
+            }
+            Command::Stream(options) => {
+                take_stream(Messages(options.session()), alloc, reader, writer, errors)
+            }
+            Command::Mrt => take_stream(Records::Shown, alloc, reader, writer, errors),
+            Command::Messages => take_stream(Records::Taken, alloc, reader, writer, errors),
+        }
+    }
+}

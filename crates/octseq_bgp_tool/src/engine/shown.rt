@@ -1,0 +1,102 @@
+//! What is shown of a message, and what is told of it.
+ghost use Rattle.std.specs.Prelude.{◌≡◌, ◌++◌, ℕ, List, Bool, IfOk, codes, ⊤};
+ghost use Rattle.octseq_bgp.specs.declared.session.SessionConfig.{SessionConfig as Session};
+ghost use Rattle.octseq_bgp_tool.specs.Shown.{IsMessagePiece, IsNote, IsShown};
+
+use octseq::StrBuilder;
+use octseq_bgp::place::{one_stop, place_of_fault};
+use octseq_bgp::{Message, SessionConfig, one_message, one_text};
+use octseq_program::{FrameCommand, Piece, stop_line};
+use std::alloc::{AllocError, Global};
+
+/// One thing is shown and told of octets.
+///
+/// It does nothing. A caller that calls it has the law in its proof.
+pub(super) fn one_message_piece()
+    ensures shown { (session : Session) (octets x y : List ℕ) (b c : Bool)
+        → IsShown session octets b x → IsShown session octets c y → (x ≡ y) × (b ≡ c) }
+    ensures note { (what : List ℕ) (session : Session) (number : ℕ) (octets x y : List ℕ) (b : Bool)
+        → IsNote what session number octets b x → IsNote what session number octets b y → x ≡ y }
+    ensures piece { (session : Session) (number : ℕ) (octets x y e f : List ℕ) (a b : Bool)
+        → IsMessagePiece session number octets a x e → IsMessagePiece session number octets b y f
+        → (a ≡ b) × (x ≡ y) × (e ≡ f) }
+{
+    one_message();
+    one_text();
+    one_stop();
+}
+
+/// Appends the text of a message, or `malformed` where the octets are none, and answers whether they are one.
+pub(super) fn push_shown(
+    text: &mut StrBuilder<Vec<u8>>,
+    octets: &[u8],
+    session: SessionConfig,
+) -> Result<bool, AllocError>
+    ensures { IfOk result (λ is_message. (shown : List ℕ) × IsShown session octets.now is_message shown
+        × (text.new.items ≡ text.old.items ++ shown)) }
+{
+    match Message::parse(octets, session) {
+        // (a vector has no limit, so all that it refuses is for want of memory)
+        Ok(message) => match message.append_text(text) {
+            Ok(()) => Ok(true),
+            Err(_) => Err(AllocError),
+        },
+        Err(_) => {
+            text.push_str("malformed\n")?;
+            Ok(false)
+        }
+    }
+}
+
+/// What is told of octets on standard error, by what they are and its number: nothing, or the line with the place where
+/// reading stopped.
+pub(super) fn note_on(
+    alloc: Global,
+    what: &str,
+    number: u64,
+    octets: &[u8],
+    session: SessionConfig,
+    is_message: bool,
+) -> Result<Vec<u8>, AllocError>
+    ensures { IfOk result (λ note. IsNote what.now session number octets.now is_message note.items) }
+{
+    if is_message {
+        return Ok(Vec::new(alloc));
+    }
+    stop_line(alloc, what, number, place_of_fault(octets, session))
+}
+
+/// The whole input as one message of a session.
+#[derive(Clone, Copy)]
+pub(super) struct OneMessage(pub(super) SessionConfig);
+
+impl FrameCommand for OneMessage {
+    type Tools = ();
+
+    ghost fits = { λ _ _. ⊤ };
+
+    ghost is_piece = { λ command. IsMessagePiece command.0 };
+
+    fn one_piece(self) {
+        one_message_piece();
+    }
+
+    fn tools(self, _alloc: Global) {}
+
+    fn take(
+        self,
+        alloc: Global,
+        _tools: &mut (),
+        number: u64,
+        octets: &[u8],
+    ) -> Result<Piece, AllocError> {
+        let mut text = StrBuilder::<Vec<u8>>::new(alloc)?;
+        let is_fine = push_shown(&mut text, octets, self.0)?;
+        let note = note_on(alloc, "message", number, octets, self.0, is_fine)?;
+        Ok(Piece {
+            output: text.into_octets_builder(),
+            note,
+            is_fine,
+        })
+    }
+}

@@ -1,0 +1,53 @@
+//! How messages are to be read, as the words of a command tell.
+ghost use Rattle.std.specs.Prelude.{◌≡◌};
+ghost use Rattle.octseq_bgp_tool.specs.Words.{session_of, words_of};
+ghost use Rattle.octseq_program.specs.Run.{IsNamed};
+
+use octseq_bgp::{AddPath, SessionConfig};
+
+/// What a session has, as the words after a command tell. With none of them it has AS numbers of four octets, no path
+/// ids, and messages of at most 4,096 octets.
+#[derive(Clone, Copy, Debug, PartialEq, Eq)]
+pub struct Options {
+    /// AS numbers of two octets: `two-octet`.
+    pub two_octet: bool,
+    /// Path ids for all families: `add-path`.
+    pub add_path: bool,
+    /// Messages of up to 65,535 octets: `extended`.
+    pub extended: bool,
+}
+
+impl Options {
+    /// The options that these words are: in the order of the fields, each after a comma.
+    pub fn named(words: &str) -> Option<Options>
+        ensures { IsNamed words_of words.now result }
+    {
+        let (two_octet, add_path, extended) = match words {
+            "" => (false, false, false),
+            ",two-octet" => (true, false, false),
+            ",add-path" => (false, true, false),
+            ",extended" => (false, false, true),
+            ",two-octet,add-path" => (true, true, false),
+            ",two-octet,extended" => (true, false, true),
+            ",add-path,extended" => (false, true, true),
+            ",two-octet,add-path,extended" => (true, true, true),
+            _ => return None,
+        };
+        Some(Options {
+            two_octet,
+            add_path,
+            extended,
+        })
+    }
+
+    /// How messages are read by them.
+    pub fn session(self) -> SessionConfig
+        ensures { result ≡ session_of self }
+    {
+        SessionConfig {
+            four_octet_asn: !self.two_octet,
+            add_path: AddPath::all(self.add_path),
+            extended_message: self.extended,
+        }
+    }
+}
