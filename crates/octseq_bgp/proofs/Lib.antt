@@ -10,6 +10,7 @@ pub mod NextHops
 pub mod Numbers
 pub mod OneCapability
 pub mod OneMessage
+pub mod Reads
 pub mod Shown
 pub mod Spoken
 pub mod Texts

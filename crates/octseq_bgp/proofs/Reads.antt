@@ -1,0 +1,44 @@
+-- Octets that are read follow those of a vector.
+use Rattle.std.proofs.Common.{◌≡◌, ◌+◌, ◌≤◌, ◌++◌, ◌∙◌, ℕ, List, length, take, drop, Option, Result, Ok, Err}
+use Rattle.std.proofs.Common.{sym, ap, subst, take-append-drop, arith}
+use Rattle.std.proofs.KnownBytes.{Consumes-trans}
+use Rattle.std.proofs.Math.Seq.{take-take}
+use Rattle.std.proofs.lemmas.List.{length-take, length-drop, drop-take, take_all, take-append-le}
+use Rattle.std.specs.Io.KnownBytes.{Consumes}
+use Rattle.std.specs.Prelude.{OnErr}
+
+-- what holds whatever the result is holds where it is a refusal
+pub on_err : {T E P : Type 0} (result : Result T E) → P → OnErr result P
+on_err (Ok value) p = tt
+on_err (Err e) p = p
+
+-- a front of the octets grows by those that follow it
+take_more : (xs ys : List ℕ) (f n : ℕ) → take f ys ≡ take f xs → take (f + n) ys ≡ take f xs ++ take n (drop f ys)
+take_more xs ys f n same =
+    sym (take-append-drop f (take (f + n) ys))
+    ∙ ap (λ l. l ++ drop f (take (f + n) ys)) (take-take f (f + n) ys (omega arith) ∙ same)
+    ∙ ap (λ l. take f xs ++ l) (drop-take f n ys)
+
+-- what was read in two steps
+pub consumed_more : (a b c : Option (List ℕ)) (xs ys : List ℕ) (f n : ℕ) → take f ys ≡ take f xs
+    → Consumes a b (take f xs) → Consumes b c (take n (drop f ys)) → Consumes a c (take (f + n) ys)
+consumed_more a b c xs ys f n same first second =
+    subst (Consumes a c) (sym (take_more xs ys f n same)) (Consumes-trans a b c _ _ first second)
+
+-- octets read into the room after others follow those
+pub appended : (old room xs ys : List ℕ) (f n m : ℕ) → f ≡ length old → xs ≡ take (f + m) old ++ room
+    → take f ys ≡ take f xs → take (f + n) ys ≡ old ++ take n (drop f ys)
+appended old room xs ys f n m all grown same =
+    let kept : take f xs ≡ old =
+    ap (take f) (grown ∙ ap (λ l. l ++ room) (take_all (f + m) old (omega (arith, all))))
+    ∙ take-append-le f old room (omega (arith, all)) ∙ take_all f old (omega (arith, all)) in
+    take_more xs ys f n same ∙ ap (λ l. l ++ take n (drop f ys)) kept
+
+-- what was written over all of a vector is what it holds
+pub written_back : (ys more : List ℕ) (len : ℕ) → len ≡ length ys → take len (ys ++ more) ≡ ys
+written_back ys more len all =
+    take-append-le len ys more (omega (arith, all)) ∙ take_all len ys (omega (arith, all))
+
+-- as many octets as were asked for
+pub length_part : (ys : List ℕ) (f n : ℕ) → f + n ≤ length ys → length (take n (drop f ys)) ≡ n
+length_part ys f n fits = omega (arith, length-take {A = ℕ} n (drop f ys), length-drop {A = ℕ} f ys, fits)
