@@ -1,11 +1,12 @@
 -- Records are read from the front of what a reader has.
-use Rattle.std.proofs.Common.{◌≡◌, ◌+◌, ◌<◌, ◌≤◌, ◌++◌, ◌∙◌, ℕ, List, length, take, drop, Option, refl}
+use Rattle.std.proofs.Common.{◌≡◌, ◌+◌, ◌<◌, ◌≤◌, ◌++◌, ◌∙◌, ℕ, List, length, Option, refl}
 use Rattle.std.proofs.Common.{sym, ap, subst, arith}
 use Rattle.std.proofs.KnownBytes.{Consumes-trans}
-use Rattle.std.proofs.lemmas.List.{length-append, length-drop, take_all, take-append-le, drop-append-le}
+use Rattle.std.proofs.lemmas.List.{length-append}
 use Rattle.std.specs.Io.KnownBytes.{Consumes, IsAtEnd}
 use Rattle.octseq.specs.Integer.{be}
 use Rattle.octseq.specs.Window.{Window, left, next, past, nested, whole}
+use Rattle.octseq_bgp.proofs.ReadOctets.{range_in_front, apart_by}
 use Rattle.octseq_mrt.specs.Records.{record_length, IsRecordOctets, BeginsWithRecord, IsCut}
 use Rattle.octseq_mrt.specs.declared.header.CommonHeader.{CommonHeader}
 
@@ -62,13 +63,7 @@ record_long octets is =
 
 -- the length in a header, whatever follows it
 pub length_in_front : (x y : List ℕ) → 12 ≤ length x → record_length (x ++ y) ≡ record_length x
-length_in_front x y long =
-    let rest : 4 ≤ length (drop 8 x) = omega (arith, length-drop {A = ℕ} 8 x, long) in
-    ap be (ap (take 4) (drop-append-le 8 x y (omega (arith, long))) ∙ take-append-le 4 (drop 8 x) y rest)
-
--- as many octets as a list has are its own, whatever follows it
-take_front : (a x : List ℕ) (n : ℕ) → n ≡ length a → take n (a ++ x) ≡ a
-take_front a x n all = take-append-le n a x (omega (arith, all)) ∙ take_all n a (omega (arith, all))
+length_in_front x y long = ap be (range_in_front x y 8 12 (omega arith) long)
 
 -- fewer octets than a header has begin with no record
 pub no_header : (octets : List ℕ) → length octets < 12 → ¬ BeginsWithRecord octets
@@ -128,8 +123,6 @@ pub apart : (a b x y : List ℕ) → IsRecordOctets a → IsRecordOctets b → a
 apart a b x y first second same =
     let long = record_long a first in
     let other = record_long b second in
-    let says : record_length a ≡ record_length b =
-    sym (length_in_front a x (omega (arith, long))) ∙ ap record_length same
-    ∙ length_in_front b y (omega (arith, other)) in
-    let size : length a ≡ length b = omega (arith, long, other, says) in
-    sym (take_front a x (length a) refl) ∙ ap (take (length a)) same ∙ take_front b y (length a) size
+    let kept = length_in_front a x (omega (arith, long)) in
+    let also = length_in_front b y (omega (arith, other)) in
+    apart_by (λ o. 12 + record_length o) a b x y long other (ap (λ n. 12 + n) kept) (ap (λ n. 12 + n) also) same

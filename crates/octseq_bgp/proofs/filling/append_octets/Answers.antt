@@ -1,6 +1,6 @@
 use Rattle.std.proofs.Common.{◌≤◌, ◌++◌, length-append, arith}
 use Rattle.std.proofs.KnownBytes.{Consumes-trans}
-use Rattle.octseq_bgp.proofs.Reads.{on_err}
+use Rattle.octseq_bgp.proofs.ReadOctets.{on_err}
 use Rattle.octseq_bgp.proofs.filling.append_octets.Goals as goal
 use Rattle.octseq_bgp.proofs.filling.append_octets.Goals.{then-left-lt-STEP, else-left-lt-STEP}
 

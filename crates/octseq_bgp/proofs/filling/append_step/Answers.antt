@@ -1,5 +1,5 @@
 use Rattle.std.proofs.Common.{◌≡◌, ◌+◌, ◌-◌, ◌∙◌, length, take, drop, replicate, vec_len, ap, arith}
-use Rattle.octseq_bgp.proofs.Reads.{appended, written_back, length_part}
+use Rattle.octseq_bgp.proofs.ReadOctets.{appended, written_back, length_part}
 use Rattle.octseq_bgp.proofs.filling.append_step.Goals as goal
 
 pub returns-clause-read : goal.returns-clause-read

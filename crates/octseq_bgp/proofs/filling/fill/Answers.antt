@@ -1,5 +1,5 @@
 use Rattle.std.proofs.Common.{◌<◌, length, arith}
-use Rattle.octseq_bgp.proofs.Reads.{consumed_more}
+use Rattle.octseq_bgp.proofs.ReadOctets.{consumed_more}
 use Rattle.octseq_bgp.proofs.filling.fill.Goals as goal
 
 pub loop-preserved : goal.loop-preserved

@@ -1,11 +1,11 @@
--- Octets that are read follow those of a vector.
-use Rattle.std.proofs.Common.{◌≡◌, ◌+◌, ◌≤◌, ◌++◌, ◌∙◌, ℕ, List, length, take, drop, Option, Result, Ok, Err}
-use Rattle.std.proofs.Common.{sym, ap, subst, take-append-drop, arith}
+-- Octets that are read follow those of a vector, and say how many they are.
+use Rattle.std.proofs.Common.{◌≡◌, ◌+◌, ◌-◌, ◌≤◌, ◌++◌, ◌∙◌, ℕ, List, length, take, drop, Option, Result, Ok, Err}
+use Rattle.std.proofs.Common.{refl, sym, ap, subst, take-append-drop, arith}
 use Rattle.std.proofs.KnownBytes.{Consumes-trans}
 use Rattle.std.proofs.Math.Seq.{take-take}
-use Rattle.std.proofs.lemmas.List.{length-take, length-drop, drop-take, take_all, take-append-le}
+use Rattle.std.proofs.lemmas.List.{length-take, length-drop, drop-take, take_all, take-append-le, drop-append-le}
 use Rattle.std.specs.Io.KnownBytes.{Consumes}
-use Rattle.std.specs.Prelude.{OnErr}
+use Rattle.std.specs.Prelude.{OnErr, slice_range}
 
 -- what holds whatever the result is holds where it is a refusal
 pub on_err : {T E P : Type 0} (result : Result T E) → P → OnErr result P
@@ -42,3 +42,24 @@ written_back ys more len all =
 -- as many octets as were asked for
 pub length_part : (ys : List ℕ) (f n : ℕ) → f + n ≤ length ys → length (take n (drop f ys)) ≡ n
 length_part ys f n fits = omega (arith, length-take {A = ℕ} n (drop f ys), length-drop {A = ℕ} f ys, fits)
+
+-- ---- octets that say how many they are
+
+-- octets inside a list are there, whatever follows it
+pub range_in_front : (x y : List ℕ) (i j : ℕ) → i ≤ j → j ≤ length x → slice_range (x ++ y) i j ≡ slice_range x i j
+range_in_front x y i j ordered fits =
+    let rest = length-drop {A = ℕ} i x in
+    ap (take (j - i)) (drop-append-le i x y (omega (arith, ordered, fits)))
+    ∙ take-append-le (j - i) (drop i x) y (omega (arith, ordered, fits, rest))
+
+-- as many octets as a list has are its own, whatever follows it
+take_front : (a x : List ℕ) (n : ℕ) → n ≡ length a → take n (a ++ x) ≡ a
+take_front a x n all = take-append-le n a x (omega (arith, all)) ∙ take_all n a (omega (arith, all))
+
+-- octets that say how many they are, whatever follows them, are at the front of others in one way
+pub apart_by : (size : List ℕ → ℕ) (a b x y : List ℕ) → length a ≡ size a → length b ≡ size b
+    → size (a ++ x) ≡ size a → size (b ++ y) ≡ size b → a ++ x ≡ b ++ y → a ≡ b
+apart_by size a b x y first second kept also same =
+    let says = ap size same in
+    let long : length a ≡ length b = omega (arith, first, second, kept, also, says) in
+    sym (take_front a x (length a) refl) ∙ ap (take (length a)) same ∙ take_front b y (length a) long
