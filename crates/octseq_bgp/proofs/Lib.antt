@@ -10,8 +10,10 @@ pub mod NextHops
 pub mod Numbers
 pub mod OneCapability
 pub mod OneMessage
+pub mod ReadOctets
 pub mod Shown
 pub mod Spoken
+pub mod Streams
 pub mod Texts
 pub mod Types
 pub mod Values

@@ -18,6 +18,7 @@ pub mod ItemRow
 pub mod Items
 pub mod Lists
 pub mod Message
+pub mod MessageReader
 pub mod MessageText
 pub mod Negotiated
 pub mod NextHop
@@ -33,6 +34,8 @@ pub mod Prefix
 pub mod PrefixValue
 pub mod Session
 pub mod SpokenOf
+pub mod Stop
+pub mod Stream
 pub mod Text
 pub mod Update
 pub mod Value

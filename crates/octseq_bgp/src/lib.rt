@@ -12,6 +12,7 @@ pub mod entry;
 pub mod family;
 pub mod family_tuple;
 pub mod fault;
+pub mod filling;
 pub mod handling;
 pub mod item;
 pub mod message;
@@ -21,8 +22,10 @@ pub mod notification;
 pub mod open;
 pub mod parameter;
 pub mod path;
+pub mod place;
 pub mod prefix;
 pub mod reach;
+pub mod reader;
 pub mod session;
 mod text;
 pub mod update;
@@ -49,8 +52,13 @@ pub use notification::{NotificationData, NotificationMessage};
 pub use open::OpenMessage;
 pub use parameter::{Parameter, Parameters};
 pub use path::{AsPath, Asn, Asns, Segment, SegmentType};
+pub use place::{messages_stop_at_their_end, one_stop, place_of_fault};
 pub use prefix::{Nlri, PathId, Prefix, Prefixes};
 pub use reach::{MpReachNlri, MpUnreachNlri};
+pub use reader::{
+    MessageReader, ReadMessageError, framed_messages_are_apart, messages_are_framed,
+    misframed_begins_none, read_message,
+};
 pub use session::{AddPath, SessionConfig};
 pub use text::one_text;
 pub use update::{UpdateMessage, UpdateParts};

@@ -74,10 +74,10 @@ pub enum Message<R: AsOctets> {
 
 /// A header, and what follows it.
 #[derive(Debug, Drop)]
-struct Header<R: AsOctets> {
+pub(crate) struct Header<R: AsOctets> {
     length: u16,
-    kind: u8,
-    body: Parser<R>,
+    pub(crate) kind: u8,
+    pub(crate) body: Parser<R>,
 }
 
 impl<R: AsOctets + Copy> Header<R> {
@@ -101,7 +101,7 @@ fn is_short_enough(session: &SessionConfig, kind: u8, size: usize) -> bool
 }
 
 /// Reads a header whose length is that of the octets, and which may have so many.
-fn parse_header<R: AsOctets + Copy>(
+pub(crate) fn parse_header<R: AsOctets + Copy>(
     octets: R,
     session: &SessionConfig,
 ) -> Result<Header<R>, Malformed>

@@ -34,7 +34,7 @@ type Front = (U8, U16Be, U16Be, U32Be, Rest);
 type LongPart = (U8, U8, Counted<u16, Rest, 0>);
 
 /// Whether a length that isn't 0 comes next, followed by the octet 255.
-fn is_long<R: AsOctets + Copy>(parser: &Parser<R>) -> bool
+pub(crate) fn is_long<R: AsOctets + Copy>(parser: &Parser<R>) -> bool
     ensures { IsTrue result ↔ IsLong (window parser.now) }
 {
     let mut ahead = *parser;

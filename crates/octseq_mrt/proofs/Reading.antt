@@ -1,52 +1,14 @@
 -- Records are read from the front of what a reader has.
-use Rattle.std.proofs.Common.{◌≡◌, ◌+◌, ◌<◌, ◌≤◌, ◌++◌, ◌∙◌, ℕ, List, length, take, drop, Option, Result, Ok, Err, refl}
-use Rattle.std.proofs.Common.{sym, ap, subst, take-append-drop, arith}
+use Rattle.std.proofs.Common.{◌≡◌, ◌+◌, ◌<◌, ◌≤◌, ◌++◌, ◌∙◌, ℕ, List, length, Option, refl}
+use Rattle.std.proofs.Common.{sym, ap, subst, arith}
 use Rattle.std.proofs.KnownBytes.{Consumes-trans}
-use Rattle.std.proofs.Math.Seq.{take-take}
-use Rattle.std.proofs.lemmas.List.{length-append, length-take, length-drop}
-use Rattle.std.proofs.lemmas.List.{drop-take, take_all, take-append-le, drop-append-le}
+use Rattle.std.proofs.lemmas.List.{length-append}
 use Rattle.std.specs.Io.KnownBytes.{Consumes, IsAtEnd}
-use Rattle.std.specs.Prelude.{OnErr}
 use Rattle.octseq.specs.Integer.{be}
 use Rattle.octseq.specs.Window.{Window, left, next, past, nested, whole}
+use Rattle.octseq_bgp.proofs.ReadOctets.{range_in_front, apart_by}
 use Rattle.octseq_mrt.specs.Records.{record_length, IsRecordOctets, BeginsWithRecord, IsCut}
 use Rattle.octseq_mrt.specs.declared.header.CommonHeader.{CommonHeader}
-
--- what holds whatever the result is holds where it is a refusal
-pub on_err : {T E P : Type 0} (result : Result T E) → P → OnErr result P
-on_err (Ok value) p = tt
-on_err (Err e) p = p
-
--- a front of the octets grows by those that follow it
-take_more : (xs ys : List ℕ) (f n : ℕ) → take f ys ≡ take f xs → take (f + n) ys ≡ take f xs ++ take n (drop f ys)
-take_more xs ys f n same =
-    sym (take-append-drop f (take (f + n) ys))
-    ∙ ap (λ l. l ++ drop f (take (f + n) ys)) (take-take f (f + n) ys (omega arith) ∙ same)
-    ∙ ap (λ l. take f xs ++ l) (drop-take f n ys)
-
--- what was read in two steps
-pub consumed_more : (a b c : Option (List ℕ)) (xs ys : List ℕ) (f n : ℕ) → take f ys ≡ take f xs
-    → Consumes a b (take f xs) → Consumes b c (take n (drop f ys)) → Consumes a c (take (f + n) ys)
-consumed_more a b c xs ys f n same first second =
-    subst (Consumes a c) (sym (take_more xs ys f n same)) (Consumes-trans a b c _ _ first second)
-
--- octets read into the room after others follow those
-pub appended : (old room xs ys : List ℕ) (f n m : ℕ) → f ≡ length old → xs ≡ take (f + m) old ++ room
-    → take f ys ≡ take f xs → take (f + n) ys ≡ old ++ take n (drop f ys)
-appended old room xs ys f n m all grown same =
-    let kept : take f xs ≡ old =
-    ap (take f) (grown ∙ ap (λ l. l ++ room) (take_all (f + m) old (omega (arith, all))))
-    ∙ take-append-le f old room (omega (arith, all)) ∙ take_all f old (omega (arith, all)) in
-    take_more xs ys f n same ∙ ap (λ l. l ++ take n (drop f ys)) kept
-
--- what was written over all of a vector is what it holds
-pub written_back : (ys more : List ℕ) (len : ℕ) → len ≡ length ys → take len (ys ++ more) ≡ ys
-written_back ys more len all =
-    take-append-le len ys more (omega (arith, all)) ∙ take_all len ys (omega (arith, all))
-
--- as many octets as were asked for
-pub length_part : (ys : List ℕ) (f n : ℕ) → f + n ≤ length ys → length (take n (drop f ys)) ≡ n
-length_part ys f n fits = omega (arith, length-take {A = ℕ} n (drop f ys), length-drop {A = ℕ} f ys, fits)
 
 -- ---- the octets of a record
 
@@ -101,9 +63,7 @@ record_long octets is =
 
 -- the length in a header, whatever follows it
 pub length_in_front : (x y : List ℕ) → 12 ≤ length x → record_length (x ++ y) ≡ record_length x
-length_in_front x y long =
-    let rest : 4 ≤ length (drop 8 x) = omega (arith, length-drop {A = ℕ} 8 x, long) in
-    ap be (ap (take 4) (drop-append-le 8 x y (omega (arith, long))) ∙ take-append-le 4 (drop 8 x) y rest)
+length_in_front x y long = ap be (range_in_front x y 8 12 (omega arith) long)
 
 -- fewer octets than a header has begin with no record
 pub no_header : (octets : List ℕ) → length octets < 12 → ¬ BeginsWithRecord octets
@@ -157,3 +117,12 @@ whole_record given mid left header read octets len long says first all same seco
       subst IsRecordOctets (sym same) whole,
       subst (Consumes given left) (sym same) (Consumes-trans given mid left header read first second),
     )
+
+-- a record is at the front of octets in one way
+pub apart : (a b x y : List ℕ) → IsRecordOctets a → IsRecordOctets b → a ++ x ≡ b ++ y → a ≡ b
+apart a b x y first second same =
+    let long = record_long a first in
+    let other = record_long b second in
+    let kept = length_in_front a x (omega (arith, long)) in
+    let also = length_in_front b y (omega (arith, other)) in
+    apart_by (λ o. 12 + record_length o) a b x y long other (ap (λ n. 12 + n) kept) (ap (λ n. 12 + n) also) same

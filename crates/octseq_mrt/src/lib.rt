@@ -17,7 +17,7 @@ pub use bgp4mp::{Bgp4Mp, Event, MessageOctets};
 pub use header::CommonHeader;
 pub use kind::{Bgp4MpSubtype, RecordKind};
 pub use peer::{PeerEntry, PeerIndexTable, Peers};
-pub use reader::{RecordError, RecordReader, read_record};
+pub use reader::{RecordError, RecordReader, read_record, records_are_apart};
 pub use record::{Record, RecordValue, next_record, one_record, one_record_value};
 pub use rib::{Rib, RibEntries, RibEntry};
 pub use rib_attribute::{RibAttribute, RibAttributes, RibValue, next_hops_are_apart};

@@ -1,17 +1,24 @@
 //! A reader of files of records, which holds one record at a time.
-ghost use Rattle.std.specs.Prelude.{◌≡◌, ◌≢◌, ◌+◌, ◌<◌, ◌≤◌, ◌++◌, ℕ, true, false, List, [], length, take, drop};
+ghost use Rattle.std.specs.Prelude.{◌≡◌, ◌≢◌, ◌++◌, ℕ, true, false, List, [], length};
 ghost use Rattle.std.specs.Prelude.{IfOk, IsErr, OnErr, Ok, Err};
-ghost use Rattle.std.specs.Io.{ReadsAtMost};
 ghost use Rattle.std.specs.Io.KnownBytes.{Consumes, IsAtEnd};
-ghost use Rattle.octseq_mrt.specs.RecordReader.{reader_of, octets_of, is_over};
+ghost use Rattle.octseq_mrt.specs.RecordReader.{reader_of, octets_of, is_over, as_record_error};
 ghost use Rattle.octseq_mrt.specs.Records.{IsRecordOctets, BeginsWithRecord, IsCut, record_length};
 
 use crate::record::Record;
 use octseq::{Malformed, Parser};
+use octseq_bgp::filling::{FillError, append_octets};
 use std::alloc::{AllocError, Global};
 use std::error::Error;
 use std::fmt;
-use std::io::{self, ErrorKind, Read};
+use std::io::{self, Read};
+
+/// A record is at the front of octets in one way: no other is there.
+///
+/// It does nothing. A caller that calls it has the law in its proof.
+pub fn records_are_apart()
+    ensures { (a b x y : List ℕ) → IsRecordOctets a → IsRecordOctets b → a ++ x ≡ b ++ y → a ≡ b }
+{}
 
 /// Why no record was read.
 #[derive(Debug, Drop)]
@@ -56,8 +63,16 @@ impl From<io::Error> for RecordError {
     }
 }
 
-/// How many octets are asked for at a time, and how many a vector grows by before they have come.
-const STEP: usize = 65_536;
+impl From<FillError> for RecordError {
+    ghost from_gives = { λ error made. made ≡ as_record_error error };
+
+    fn from(error: FillError) -> RecordError {
+        match error {
+            FillError::Memory => RecordError::Memory,
+            FillError::Read(error) => RecordError::Read(error),
+        }
+    }
+}
 
 /// Reads the next record of a file into a vector, in place of what that holds, and answers whether there is one: not at
 /// the end of the input. The vector grows by at most 65,536 octets before as many have come, whatever the length in the
@@ -101,125 +116,6 @@ fn length_of(header: &[u8]) -> usize
         (Ok(()), Ok(len)) => len as usize,
         _ => 0,
     }
-}
-
-/// Reads so many octets to the end of a vector, and answers whether they have come: not where the input ends before.
-fn append_octets<R: Read>(
-    reader: &mut R,
-    octets: &mut Vec<u8>,
-    len: usize,
-) -> Result<bool, RecordError>
-    ensures all { result ≡ Ok true → (read : List ℕ) × (length read ≡ len)
-        × (octets.new.items ≡ octets.old.items ++ read)
-        × Consumes (R.remaining reader.old) (R.remaining reader.new) read }
-    ensures end { result ≡ Ok false → (read : List ℕ) × (length read < len)
-        × (octets.new.items ≡ octets.old.items ++ read)
-        × Consumes (R.remaining reader.old) (R.remaining reader.new) read × IsAtEnd (R.remaining reader.new) }
-    ensures err { OnErr result ((read : List ℕ) × (length read < len)
-        × Consumes (R.remaining reader.old) (R.remaining reader.new) read) }
-    ensures other { result ≢ Err RecordError.Short }
-{
-    let mut left = len;
-    'steps: while left > 0 {
-        let step = if left < STEP { left } else { STEP };
-        let count = append_step(reader, octets, step)?;
-        if count < step {
-            return Ok(false);
-        }
-        left -= step;
-    }
-    Ok(true)
-}
-
-/// Reads so many octets to the end of a vector, or as many as there are up to the end of the input, and gives how many
-/// it read.
-fn append_step<R: Read>(
-    reader: &mut R,
-    octets: &mut Vec<u8>,
-    step: usize,
-) -> Result<usize, RecordError>
-    requires some { 0 < step }
-    requires few { step ≤ 65536 }
-    ensures read { IfOk result (λ n. (read : List ℕ) × (length read ≡ n) × (n ≤ step)
-        × (octets.new.items ≡ octets.old.items ++ read)
-        × Consumes (R.remaining reader.old) (R.remaining reader.new) read) }
-    ensures end { IfOk result (λ n. n < step → IsAtEnd (R.remaining reader.new)) }
-    ensures err { OnErr result ((read : List ℕ) × (length read < step)
-        × Consumes (R.remaining reader.old) (R.remaining reader.new) read) }
-    ensures other { result ≢ Err RecordError.Short }
-{
-    let before = octets.len();
-    octets.resize(before + step, 0)?;
-    let count = fill_after(reader, octets.as_mut_slice(), before)?;
-    octets.truncate(before + count);
-    Ok(count)
-}
-
-/// Reads into what follows the first octets, until that is full or the input is at its end, and gives how many octets
-/// it read.
-fn fill_after<R: Read>(reader: &mut R, octets: &mut [u8], before: usize) -> io::Result<usize>
-    requires { before ≤ length octets.old }
-    ensures front { take before octets.new ≡ take before octets.old }
-    ensures fits { IfOk result (λ n. before + n ≤ length octets.new) }
-    ensures ok { IfOk result (λ n. Consumes (R.remaining reader.old) (R.remaining reader.new)
-        (take n (drop before octets.new))) }
-    ensures end { IfOk result (λ n. before + n < length octets.new → IsAtEnd (R.remaining reader.new)) }
-    ensures err { OnErr result ((read : List ℕ) × (before + length read < length octets.new)
-        × Consumes (R.remaining reader.old) (R.remaining reader.new) read) }
-{
-    fill(reader, &mut octets[before..])
-}
-
-/// Reads until the octets are full, or the input is at its end, and gives how many it read.
-fn fill<R: Read>(reader: &mut R, octets: &mut [u8]) -> io::Result<usize>
-    ensures count { IfOk result (λ n. n ≤ length octets.new) }
-    ensures ok { IfOk result (λ n. Consumes (R.remaining reader.old) (R.remaining reader.new) (take n octets.new)) }
-    ensures end { IfOk result (λ n. n < length octets.new → IsAtEnd (R.remaining reader.new)) }
-    ensures err { OnErr result ((read : List ℕ) × (length read < length octets.new)
-        × Consumes (R.remaining reader.old) (R.remaining reader.new) read) }
-{
-    if octets.is_empty() {
-        return Ok(0);
-    }
-    let mut filled = 0;
-    for _ in 0..u64::MAX {
-        let count = read_at(reader, octets, filled)?;
-        filled += count;
-        if count == 0 || filled == octets.len() {
-            return Ok(filled);
-        }
-    }
-    Err(io::Error::from(ErrorKind::TimedOut))
-}
-
-/// One read into what follows the first octets, and how many octets it gave.
-fn read_at<R: Read>(reader: &mut R, octets: &mut [u8], filled: usize) -> io::Result<usize>
-    requires { filled < length octets.old }
-    ensures front { take filled octets.new ≡ take filled octets.old }
-    ensures fits { IfOk result (λ n. filled + n ≤ length octets.new) }
-    ensures ok { IfOk result (λ n. Consumes (R.remaining reader.old) (R.remaining reader.new)
-        (take n (drop filled octets.new))) }
-    ensures err { OnErr result (Consumes (R.remaining reader.old) (R.remaining reader.new) []) }
-    ensures end { IfOk result (λ n. n ≡ 0 → IsAtEnd (R.remaining reader.new)) }
-{
-    read_once(reader, &mut octets[filled..])
-}
-
-/// One read, and how many octets it gave. One that was interrupted is tried again.
-fn read_once<R: Read>(reader: &mut R, room: &mut [u8]) -> io::Result<usize>
-    ensures bound { ReadsAtMost result room.new }
-    ensures ok { IfOk result (λ n. Consumes (R.remaining reader.old) (R.remaining reader.new) (take n room.new)) }
-    ensures err { OnErr result (Consumes (R.remaining reader.old) (R.remaining reader.new) []) }
-    ensures end { IfOk result (λ n. n ≡ 0 → 0 < length room.old → IsAtEnd (R.remaining reader.new)) }
-{
-    for _ in 0..u64::MAX {
-        match reader.read(room) {
-            Ok(count) => return Ok(count),
-            Err(error) if error.kind() == ErrorKind::Interrupted => {}
-            Err(error) => return Err(error),
-        }
-    }
-    Err(io::Error::from(ErrorKind::TimedOut))
 }
 
 /// The records of a file, read one at a time. It holds the octets of one record.

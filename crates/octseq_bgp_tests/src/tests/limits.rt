@@ -8,7 +8,7 @@ use std::alloc::Global;
 use std::test::Fail;
 
 /// A session with long messages.
-fn extended() -> SessionConfig {
+pub fn extended() -> SessionConfig {
     SessionConfig {
         four_octet_asn: true,
         add_path: AddPath::all(false),
@@ -17,7 +17,7 @@ fn extended() -> SessionConfig {
 }
 
 /// An UPDATE of so many octets, whose prefixes have no bits.
-fn zeros(alloc: Global, count: u16) -> Result<Vec<u8>, Fail> {
+pub fn zeros(alloc: Global, count: u16) -> Result<Vec<u8>, Fail> {
     let mut octets = Vec::new(alloc);
     for _ in 0..16 {
         octets.push(0xFF)?;

@@ -5,8 +5,8 @@
 use crate::tests::octets::message;
 use octseq::str::DisplayError;
 use octseq::{AsOctets, StrBuilder};
-use octseq_asserts::assert_equal;
-use octseq_bgp::{Message, SessionConfig};
+use octseq_asserts::{assert_equal, assert_true};
+use octseq_bgp::{Message, MessageReader, ReadMessageError, SessionConfig};
 use std::test::Fail;
 
 /// Appends the text of a message.
@@ -34,5 +34,18 @@ fn a_refused_text_stays(rt: HostRuntime) -> Result<(), Fail> {
     }
     appended?;
     assert_equal!(&rt, text.len(), 123);
+    Ok(())
+}
+
+#[test]
+fn a_refused_message_ends_the_stream(rt: HostRuntime) -> Result<(), Fail> {
+    let octets = message(rt.alloc(), "0013 04")?;
+    let mut messages = MessageReader::new(rt.alloc(), octets.as_slice(), SessionConfig::modern());
+    let found = messages.read_next();
+    if matches!(found, Err(ReadMessageError::Memory)) {
+        assert_true!(&rt, !messages.read_next()?);
+    }
+    assert_true!(&rt, found?);
+    assert_equal!(&rt, messages.octets().len(), 19);
     Ok(())
 }

@@ -1,7 +1,7 @@
 -- What the reader lost are the octets that are filled.
 use Rattle.std.proofs.Common.{◌<◌, length, take}
 use Rattle.std.specs.Io.KnownBytes.{Consumes}
-use Rattle.octseq_mrt.proofs.reader.fill.Given as goal
+use Rattle.octseq_bgp.proofs.filling.fill.Given as goal
 
 abbrev pub invariant-loop : goal.invariant-loop
 invariant-loop g l = (l.filled < length l.octets)

@@ -1,7 +1,7 @@
 -- Some of the octets have come.
 use Rattle.std.proofs.Common.{◌≡◌, ◌+◌, ◌++◌, ℕ, List, length}
 use Rattle.std.specs.Io.KnownBytes.{Consumes}
-use Rattle.octseq_mrt.proofs.reader.append_octets.Given as goal
+use Rattle.octseq_bgp.proofs.filling.append_octets.Given as goal
 
 abbrev pub invariant-steps : goal.invariant-steps
 invariant-steps g l = (read : List ℕ) × (length read + l.left ≡ l.fn.len)

@@ -1,6 +1,6 @@
 use Rattle.std.proofs.Common.{◌≡◌, ◌+◌, ◌-◌, ◌∙◌, length, take, drop, replicate, vec_len, ap, arith}
-use Rattle.octseq_mrt.proofs.Reading.{appended, written_back, length_part}
-use Rattle.octseq_mrt.proofs.reader.append_step.Goals as goal
+use Rattle.octseq_bgp.proofs.ReadOctets.{appended, written_back, length_part}
+use Rattle.octseq_bgp.proofs.filling.append_step.Goals as goal
 
 pub returns-clause-read : goal.returns-clause-read
 returns-clause-read g c =

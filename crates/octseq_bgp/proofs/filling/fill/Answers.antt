@@ -1,6 +1,6 @@
 use Rattle.std.proofs.Common.{◌<◌, length, arith}
-use Rattle.octseq_mrt.proofs.Reading.{consumed_more}
-use Rattle.octseq_mrt.proofs.reader.fill.Goals as goal
+use Rattle.octseq_bgp.proofs.ReadOctets.{consumed_more}
+use Rattle.octseq_bgp.proofs.filling.fill.Goals as goal
 
 pub loop-preserved : goal.loop-preserved
 loop-preserved g c =

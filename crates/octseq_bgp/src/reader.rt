@@ -1,0 +1,281 @@
+//! A reader of streams of messages, which holds one message at a time: RFC 4271, 4.1.
+ghost use Rattle.std.specs.Prelude.{◌≡◌, ◌≢◌, ◌++◌, ◌↔◌, ℕ, true, false, List, [], length};
+ghost use Rattle.std.specs.Prelude.{IsTrue, IfOk, IsErr, OnErr, Ok, Err};
+ghost use Rattle.std.specs.Io.KnownBytes.{Consumes, IsAtEnd};
+ghost use Rattle.octseq.specs.Code.{HasFront};
+ghost use Rattle.octseq_format.specs.Canonical.{AreOctets};
+ghost use Rattle.octseq_bgp.specs.Message.{IsMessage};
+ghost use Rattle.octseq_bgp.specs.Message as said;
+ghost use Rattle.octseq_bgp.specs.MessageReader.{reader_of, session_of, octets_of, is_over, as_message_error};
+ghost use Rattle.octseq_bgp.specs.Stream.{IsFramed, BeginsFramed, IsMisframed, IsCut};
+ghost use Rattle.octseq_bgp.specs.Stream.{IsMarked, longest_message, message_length};
+ghost use Rattle.octseq_bgp.specs.declared.session.SessionConfig.{SessionConfig as Session};
+
+use crate::filling::{FillError, append_octets};
+use crate::message::Message;
+use crate::session::SessionConfig;
+use octseq::{Malformed, Parser};
+use std::alloc::{AllocError, Global};
+use std::error::Error;
+use std::fmt;
+use std::io::{self, Read};
+
+/// A framed message is at the front of octets in one way: no other is there.
+///
+/// It does nothing. A caller that calls it has the law in its proof.
+pub fn framed_messages_are_apart()
+    ensures { (session : Session) (a b x y : List ℕ) → IsFramed session a → IsFramed session b
+        → a ++ x ≡ b ++ y → a ≡ b }
+{}
+
+/// With octets that are misframed no framed message begins, whatever follows them.
+///
+/// It does nothing. A caller that calls it has the law in its proof.
+pub fn misframed_begins_none()
+    ensures { (session : Session) (octets more : List ℕ) → IsMisframed session octets
+        → ¬ HasFront (IsFramed session) (λ octets. octets) (octets ++ more) }
+{}
+
+/// Octets that are a message are framed as one.
+///
+/// It does nothing. A caller that calls it has the law in its proof.
+pub fn messages_are_framed()
+    ensures { (session : Session) (octets : List ℕ) (m : said.Message) → AreOctets octets
+        → IsMessage session octets m → IsFramed session octets }
+{}
+
+/// Why no message was read.
+#[derive(Debug, Drop)]
+pub enum ReadMessageError {
+    /// The input ends inside a message.
+    Short,
+    /// What comes next is framed as no message of the session.
+    Malformed,
+    /// A request for memory was refused.
+    Memory,
+    /// A read failed.
+    Read(io::Error),
+}
+
+impl Error for ReadMessageError {}
+
+impl fmt::Display for ReadMessageError {
+    fn fmt<W: fmt::Write>(&self, f: &mut fmt::Formatter<W>) -> fmt::Result {
+        match self {
+            ReadMessageError::Short => f.write_str("unexpected end of input"),
+            ReadMessageError::Malformed => f.write_str("malformed message"),
+            ReadMessageError::Memory => f.write_str("out of memory"),
+            ReadMessageError::Read(error) => write!(f, "{error}"),
+        }
+    }
+}
+
+impl From<AllocError> for ReadMessageError {
+    ghost use Rattle.octseq_bgp.specs.declared.reader.ReadMessageError.TheVariants as why;
+
+    ghost from_gives = { λ _ error. error ≡ why.Memory };
+
+    fn from(_e: AllocError) -> ReadMessageError {
+        ReadMessageError::Memory
+    }
+}
+
+impl From<io::Error> for ReadMessageError {
+    ghost use Rattle.octseq_bgp.specs.declared.reader.ReadMessageError.TheVariants as why;
+
+    ghost from_gives = { λ error made. made ≡ why.Read error };
+
+    fn from(error: io::Error) -> ReadMessageError {
+        ReadMessageError::Read(error)
+    }
+}
+
+impl From<FillError> for ReadMessageError {
+    ghost from_gives = { λ error made. made ≡ as_message_error error };
+
+    fn from(error: FillError) -> ReadMessageError {
+        match error {
+            FillError::Memory => ReadMessageError::Memory,
+            FillError::Read(error) => ReadMessageError::Read(error),
+        }
+    }
+}
+
+/// How many octets a marker and a length have.
+const FRONT: usize = 18;
+
+/// The least octets that a message has.
+const LEAST: usize = 19;
+
+/// Reads the next message of a stream into a vector, in place of what that holds, and answers whether there is one: not
+/// at the end of the input. It looks at its marker and its length, and at nothing else of it. The vector grows by at
+/// most 65,536 octets before as many have come.
+///
+/// # Errors
+///
+/// `Short` where the input ends inside a message, `Malformed` where what comes next is framed as no message of the
+/// session, `Memory` where a request for memory was refused, `Read` where a read failed. The reader may then be inside a
+/// message. An input that ends within 18 octets is `Short` where those of the first 16 that came are 255.
+pub fn read_message<R: Read>(
+    reader: &mut R,
+    session: &SessionConfig,
+    octets: &mut Vec<u8>,
+) -> Result<bool, ReadMessageError>
+    ensures message { result ≡ Ok true → IsFramed session.now octets.new.items
+        × Consumes (R.remaining reader.old) (R.remaining reader.new) octets.new.items }
+    ensures end { result ≡ Ok false → Consumes (R.remaining reader.old) (R.remaining reader.new) []
+        × IsAtEnd (R.remaining reader.new) }
+    ensures short { result ≡ Err ReadMessageError.Short → (read : List ℕ) × IsCut session.now read
+        × Consumes (R.remaining reader.old) (R.remaining reader.new) read × IsAtEnd (R.remaining reader.new) }
+    ensures malformed { result ≡ Err ReadMessageError.Malformed → (read : List ℕ) × IsMisframed session.now read
+        × Consumes (R.remaining reader.old) (R.remaining reader.new) read }
+    ensures err { OnErr result ((read : List ℕ) × ¬ HasFront (IsFramed session.now) (λ octets. octets) read
+        × Consumes (R.remaining reader.old) (R.remaining reader.new) read) }
+{
+    octets.clear();
+    let is_there = append_octets(reader, octets, FRONT)?;
+    if !is_marked(octets.as_slice()) {
+        return Err(ReadMessageError::Malformed);
+    }
+    if !is_there {
+        if octets.is_empty() {
+            return Ok(false);
+        }
+        return Err(ReadMessageError::Short);
+    }
+    let len = length_of(octets.as_slice());
+    if len < LEAST || len > longest_message(session) {
+        return Err(ReadMessageError::Malformed);
+    }
+    if !append_octets(reader, octets, len - FRONT)? {
+        return Err(ReadMessageError::Short);
+    }
+    Ok(true)
+}
+
+/// As many octets as a message of the session may have.
+fn longest_message(session: &SessionConfig) -> usize
+    ensures { result ≡ longest_message session.now }
+{
+    if session.extended_message {
+        65_535
+    } else {
+        4096
+    }
+}
+
+/// Whether the first 16 octets are 255, as far as there are so many.
+fn is_marked(octets: &[u8]) -> bool
+    ensures { IsTrue result ↔ IsMarked octets.now }
+{
+    octets.iter().take(16).all(|octet| *octet == 255)
+}
+
+/// The length that a marker is followed by.
+fn length_of(front: &[u8]) -> usize
+    requires { length front.now ≡ 18 }
+    ensures { result ≡ message_length front.now }
+{
+    let mut parser = Parser::from_static(front);
+    match (parser.advance(16), parser.parse_u16_be()) {
+        (Ok(()), Ok(len)) => usize::from(len),
+        _ => 0,
+    }
+}
+
+/// The messages of a stream, read one at a time. It holds the octets of one message.
+#[derive(Drop)]
+pub struct MessageReader<R> {
+    reader: R,
+    session: SessionConfig,
+    octets: Vec<u8>,
+    is_over: bool,
+}
+
+impl<R: Read> MessageReader<R> {
+    ghost use Rattle.octseq_bgp.specs.Parsed.{message_of};
+
+    /// The messages of all that a reader has left.
+    pub fn new(alloc: Global, reader: R, session: SessionConfig) -> MessageReader<R>
+        ensures reader { reader_of result ≡ reader }
+        ensures session { session_of result ≡ session }
+        ensures octets { octets_of result ≡ [] }
+        ensures open { is_over result ≡ false }
+    {
+        MessageReader {
+            reader,
+            session,
+            octets: Vec::new(alloc),
+            is_over: false,
+        }
+    }
+
+    /// Reads the next message, in place of the last one, and answers whether there is one: not at the end of the input,
+    /// and not after an error.
+    ///
+    /// # Errors
+    ///
+    /// `Short` where the input ends inside a message, `Malformed` where what comes next is framed as no message of the
+    /// session, `Memory` where a request for memory was refused, `Read` where a read failed. The reader may then be
+    /// inside a message, so no message follows.
+    pub fn read_next(&mut self) -> Result<bool, ReadMessageError>
+        ensures message { result ≡ Ok true → IsFramed (session_of self.old) (octets_of self.new)
+            × Consumes (R.remaining (reader_of self.old)) (R.remaining (reader_of self.new)) (octets_of self.new) }
+        ensures end { result ≡ Ok false → is_over self.old ≡ false → Consumes (R.remaining (reader_of self.old))
+            (R.remaining (reader_of self.new)) [] × IsAtEnd (R.remaining (reader_of self.new)) }
+        ensures short { result ≡ Err ReadMessageError.Short → (read : List ℕ) × IsCut (session_of self.old) read
+            × Consumes (R.remaining (reader_of self.old)) (R.remaining (reader_of self.new)) read
+            × IsAtEnd (R.remaining (reader_of self.new)) }
+        ensures malformed { result ≡ Err ReadMessageError.Malformed → (read : List ℕ)
+            × IsMisframed (session_of self.old) read
+            × Consumes (R.remaining (reader_of self.old)) (R.remaining (reader_of self.new)) read }
+        ensures err { OnErr result ((read : List ℕ)
+            × ¬ HasFront (IsFramed (session_of self.old)) (λ octets. octets) read
+            × Consumes (R.remaining (reader_of self.old)) (R.remaining (reader_of self.new)) read) }
+        ensures over { is_over self.old ≡ true → (result ≡ Ok false) × (self.new ≡ self.old) }
+        ensures last { result ≢ Ok true → is_over self.new ≡ true }
+        ensures session { session_of self.new ≡ session_of self.old }
+    {
+        if self.is_over {
+            return Ok(false);
+        }
+        let found = read_message(&mut self.reader, &self.session, &mut self.octets);
+        self.is_over = !matches!(found, Ok(true));
+        found
+    }
+
+    /// The octets of the message that was read last.
+    pub fn octets(&self) -> &[u8]
+        ensures { result.now ≡ octets_of self.now }
+    {
+        self.octets.as_slice()
+    }
+
+    /// The message that was read last.
+    ///
+    /// # Errors
+    ///
+    /// `Malformed` where its octets are none of the session, or where none was read: where
+    /// [`read_next`](Self::read_next) didn't answer `true`.
+    pub fn message(&self) -> Result<Message<&[u8]>, Malformed>
+        ensures message { IfOk result (λ it. IsMessage (session_of self.now) (octets_of self.now) (message_of it)) }
+        ensures malformed { IsErr result → (m : said.Message)
+            → ¬ IsMessage (session_of self.now) (octets_of self.now) m }
+    {
+        Message::parse(self.octets.as_slice(), self.session)
+    }
+
+    /// The session that it reads in.
+    pub fn session(&self) -> SessionConfig
+        ensures { result ≡ session_of self.now }
+    {
+        self.session
+    }
+
+    /// What it reads from.
+    pub fn get_ref(&self) -> &R
+        ensures { result.now ≡ reader_of self.now }
+    {
+        &self.reader
+    }
+}

@@ -1,0 +1,247 @@
+//! Streams of messages, read one at a time.
+use crate::tests::limits::{extended, zeros};
+use crate::tests::octets::message;
+use octseq_asserts::{assert_equal, assert_true};
+use octseq_bgp::{Message, MessageReader, ReadMessageError, SessionConfig, read_message};
+use std::alloc::{AllocGlobal, Global};
+use std::io::{self, Error, ErrorKind, Read};
+use std::process::Abort;
+use std::test::Fail;
+
+/// A source that gives a few octets at a time, stalls before each read, and fails at its end where it is to.
+#[derive(Drop)]
+struct Drip<'a> {
+    rest: &'a [u8],
+    at_once: usize,
+    is_ready: bool,
+    fails: bool,
+}
+
+impl Read for Drip<'_> {
+    fn read(&mut self, buf: &mut [u8]) -> io::Result<usize> {
+        self.is_ready = !self.is_ready;
+        if self.is_ready {
+            return Err(Error::from(ErrorKind::Interrupted));
+        }
+        if self.fails && self.rest.is_empty() {
+            return Err(Error::from(ErrorKind::ConnectionReset));
+        }
+        let count = buf.len().min(self.at_once);
+        self.rest.read(&mut buf[..count])
+    }
+}
+
+/// A KEEPALIVE of 19 octets, and an UPDATE of 27.
+fn two(alloc: Global) -> Result<Vec<u8>, Fail> {
+    let mut all = message(alloc, "0013 04")?;
+    let update = message(alloc, "001b 02 0000 0000 18090909")?;
+    all.extend_from_slice(&update)?;
+    Ok(all)
+}
+
+#[test]
+fn messages_are_read_one_at_a_time(rt: HostRuntime) -> Result<(), Fail> {
+    let all = two(rt.alloc())?;
+    let modern = SessionConfig::modern();
+    let mut messages = MessageReader::new(rt.alloc(), all.as_slice(), modern);
+    assert_true!(&rt, messages.message().is_err());
+    assert_true!(&rt, messages.read_next()?);
+    assert_true!(&rt, matches!(messages.message(), Ok(Message::Keepalive)));
+    assert_equal!(&rt, messages.get_ref().len(), 27);
+    assert_equal!(&rt, messages.session(), modern);
+    assert_true!(&rt, messages.read_next()?);
+    assert_true!(&rt, matches!(messages.message(), Ok(Message::Update(_))));
+    assert_equal!(&rt, messages.octets(), &all[19..]);
+    assert_true!(&rt, !messages.read_next()?);
+    assert_true!(&rt, !messages.read_next()?);
+    Ok(())
+}
+
+/// Two messages are read of a source that gives so many octets at a time, and then it fails.
+fn comes(rt: &(impl Abort + AllocGlobal), all: &[u8], at_once: usize) -> Result<(), Fail> {
+    let source = Drip {
+        rest: all,
+        at_once,
+        is_ready: false,
+        fails: true,
+    };
+    let mut messages = MessageReader::new(rt.alloc(), source, SessionConfig::modern());
+    assert_true!(rt, messages.read_next()?);
+    assert_true!(rt, messages.read_next()?);
+    assert_equal!(rt, messages.octets().len(), 27);
+    let end = messages.read_next();
+    assert_true!(rt, matches!(end, Err(ReadMessageError::Read(_))));
+    assert_true!(rt, !messages.read_next()?);
+    Ok(())
+}
+
+#[test]
+fn messages_come_in_any_pieces(rt: HostRuntime) -> Result<(), Fail> {
+    let all = two(rt.alloc())?;
+    for at_once in 1..50 {
+        comes(&rt, &all, at_once)?;
+    }
+    Ok(())
+}
+
+/// How many whole messages are in so many octets of the two, and whether others are left.
+fn in_front(len: usize) -> (usize, bool) {
+    match len {
+        0 => (0, false),
+        1..=18 => (0, true),
+        19 => (1, false),
+        20..=45 => (1, true),
+        _ => (2, false),
+    }
+}
+
+/// How reading ends of a stream that is cut off.
+fn ends(rt: &(impl Abort + AllocGlobal), all: &[u8], len: usize) -> Result<(), Fail> {
+    if len > all.len() {
+        return Err(Fail::from("too long"));
+    }
+    let (whole, is_cut) = in_front(len);
+    let mut messages = MessageReader::new(rt.alloc(), &all[..len], SessionConfig::modern());
+    for _ in 0..whole {
+        assert_true!(rt, messages.read_next()?);
+    }
+    if is_cut {
+        let end = messages.read_next();
+        assert_true!(rt, matches!(end, Err(ReadMessageError::Short)));
+    }
+    assert_true!(rt, !messages.read_next()?);
+    Ok(())
+}
+
+#[test]
+fn a_stream_that_is_cut_off_is_told(rt: HostRuntime) -> Result<(), Fail> {
+    let all = two(rt.alloc())?;
+    assert_equal!(&rt, all.len(), 46);
+    for len in 0..47 {
+        ends(&rt, &all, len)?;
+    }
+    Ok(())
+}
+
+/// A source that fails after some octets.
+fn fails(rt: &(impl Abort + AllocGlobal), all: &[u8], len: usize) -> Result<(), Fail> {
+    if len > all.len() {
+        return Err(Fail::from("too long"));
+    }
+    let source = Drip {
+        rest: &all[..len],
+        at_once: 5,
+        is_ready: false,
+        fails: true,
+    };
+    let mut messages = MessageReader::new(rt.alloc(), source, SessionConfig::modern());
+    for _ in 0..in_front(len).0 {
+        assert_true!(rt, messages.read_next()?);
+    }
+    let end = messages.read_next();
+    assert_true!(rt, matches!(end, Err(ReadMessageError::Read(_))));
+    assert_true!(rt, !messages.read_next()?);
+    Ok(())
+}
+
+#[test]
+fn a_read_that_fails_is_told(rt: HostRuntime) -> Result<(), Fail> {
+    let all = two(rt.alloc())?;
+    for len in 0..47 {
+        fails(&rt, &all, len)?;
+    }
+    Ok(())
+}
+
+/// How reading of a source ends, whose first message isn't whole.
+fn end_of(alloc: Global, octets: &[u8], session: SessionConfig) -> Option<ReadMessageError> {
+    let mut source = octets;
+    read_message(&mut source, &session, &mut Vec::new(alloc)).err()
+}
+
+/// Whether a message, without its marker, is framed as none of the session.
+fn is_misframed(alloc: Global, session: SessionConfig, text: &str) -> Result<bool, Fail> {
+    let octets = message(alloc, text)?;
+    let end = end_of(alloc, &octets, session);
+    Ok(matches!(end, Some(ReadMessageError::Malformed)))
+}
+
+#[test]
+fn lengths_are_held_to_the_session(rt: HostRuntime) -> Result<(), Fail> {
+    let modern = SessionConfig::modern();
+    assert_true!(&rt, is_misframed(rt.alloc(), modern, "0012 04")?);
+    assert_true!(&rt, is_misframed(rt.alloc(), modern, "0000")?);
+    assert_true!(&rt, is_misframed(rt.alloc(), modern, "1001 02")?);
+    assert_true!(&rt, !is_misframed(rt.alloc(), modern, "1000 02")?);
+    assert_true!(&rt, !is_misframed(rt.alloc(), extended(), "ffff 02")?);
+    assert_true!(&rt, is_misframed(rt.alloc(), extended(), "0012 02")?);
+    Ok(())
+}
+
+/// A source that ends at an octet of its marker that is another, and one that goes on.
+fn other_octet(rt: &(impl Abort + AllocGlobal), index: usize) -> Result<(), Fail> {
+    let modern = SessionConfig::modern();
+    let mut octets = two(rt.alloc())?;
+    if index >= octets.len() {
+        return Err(Fail::from("too far"));
+    }
+    octets.as_mut_slice()[index] = 254;
+    let all = end_of(rt.alloc(), &octets, modern);
+    assert_true!(rt, matches!(all, Some(ReadMessageError::Malformed)));
+    let last = end_of(rt.alloc(), &octets[..index + 1], modern);
+    assert_true!(rt, matches!(last, Some(ReadMessageError::Malformed)));
+    let before = end_of(rt.alloc(), &octets[..index], modern);
+    let is_short = matches!(before, Some(ReadMessageError::Short));
+    assert_equal!(rt, is_short, index > 0);
+    Ok(())
+}
+
+#[test]
+fn a_marker_is_sixteen_octets_of_255(rt: HostRuntime) -> Result<(), Fail> {
+    for index in 0..16 {
+        other_octet(&rt, index)?;
+    }
+    Ok(())
+}
+
+#[test]
+fn nothing_follows_what_is_misframed(rt: HostRuntime) -> Result<(), Fail> {
+    let mut octets = message(rt.alloc(), "0012 04")?;
+    let more = two(rt.alloc())?;
+    octets.extend_from_slice(&more)?;
+    let mut messages = MessageReader::new(rt.alloc(), octets.as_slice(), SessionConfig::modern());
+    let end = messages.read_next();
+    assert_true!(&rt, matches!(end, Err(ReadMessageError::Malformed)));
+    assert_true!(&rt, !messages.read_next()?);
+    Ok(())
+}
+
+#[test]
+fn octets_that_are_framed_may_be_no_message(rt: HostRuntime) -> Result<(), Fail> {
+    let mut octets = message(rt.alloc(), "0014 04 00")?;
+    let more = two(rt.alloc())?;
+    octets.extend_from_slice(&more)?;
+    let mut messages = MessageReader::new(rt.alloc(), octets.as_slice(), SessionConfig::modern());
+    assert_true!(&rt, messages.read_next()?);
+    assert_true!(&rt, messages.message().is_err());
+    assert_true!(&rt, messages.read_next()?);
+    assert_true!(&rt, messages.message().is_ok());
+    Ok(())
+}
+
+/// Whether a message of so many octets is read, all of it, in a session.
+fn is_read(alloc: Global, session: SessionConfig, count: u16) -> Result<bool, Fail> {
+    let octets = zeros(alloc, count)?;
+    let mut messages = MessageReader::new(alloc, octets.as_slice(), session);
+    Ok(matches!(messages.read_next(), Ok(true)) && messages.octets() == octets.as_slice())
+}
+
+#[test]
+fn long_messages_are_read(rt: HostRuntime) -> Result<(), Fail> {
+    let modern = SessionConfig::modern();
+    assert_true!(&rt, is_read(rt.alloc(), modern, 4096)?);
+    assert_true!(&rt, !is_read(rt.alloc(), modern, 4097)?);
+    assert_true!(&rt, is_read(rt.alloc(), extended(), 4097)?);
+    assert_true!(&rt, is_read(rt.alloc(), extended(), 65535)?);
+    Ok(())
+}
