@@ -24,10 +24,10 @@ pub mod path;
 pub mod prefix;
 pub mod reach;
 pub mod session;
-mod text;
+pub mod text;
 pub mod update;
 pub mod value;
-mod whole;
+pub mod whole;
 
 pub use attribute::{Flags, PathAttribute, PathAttributes};
 pub use attribute_type::AttributeType;
