@@ -27,10 +27,10 @@ pub mod prefix;
 pub mod reach;
 pub mod reader;
 pub mod session;
-mod text;
+pub mod text;
 pub mod update;
 pub mod value;
-mod whole;
+pub mod whole;
 
 pub use attribute::{Flags, PathAttribute, PathAttributes};
 pub use attribute_type::AttributeType;

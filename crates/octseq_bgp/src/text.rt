@@ -1,4 +1,4 @@
-//! The text of numbers, communities, families and prefixes.
+//! The text of what is read: of numbers, communities, families and prefixes here, and what writes a part of a text.
 ghost use Rattle.std.specs.Prelude.{Some};
 ghost use Rattle.std.specs.Fmt.{decimal};
 ghost use Rattle.octseq_bgp.specs.OctetsText.{number_dotted};
@@ -15,9 +15,11 @@ use crate::community::{ClusterId, LargeCommunity, StandardCommunity};
 use crate::family::AfiSafiType;
 use crate::path::{Asn, SegmentType};
 use crate::prefix::{PathId, Prefix};
-use crate::text::octets::{write_address, write_dotted};
-pub use lines::one_text;
+pub use append::{WriteLines, append_lines};
+pub use lines::{one_text, write_attribute_lines};
+pub use octets::{write_address, write_dotted, write_opaque, write_string};
 use std::fmt;
+pub use value::write_next_hop;
 
 /// Prints the number.
 impl fmt::Display for Asn {

@@ -8,9 +8,7 @@ use octseq_format::Format;
 
 /// What all the octets say that a parser has left.
 #[inline(always)]
-pub(crate) fn parse_all<R: AsOctets + Copy, F: Format<R>>(
-    parser: Parser<R>,
-) -> Result<F::Value, Malformed>
+pub fn parse_all<R: AsOctets + Copy, F: Format<R>>(parser: Parser<R>) -> Result<F::Value, Malformed>
     ensures value { IfOk result (λ value. Whole F.is_at (window parser) (F.found value)) }
     ensures malformed { IsErr result → (other : F.Found) → ¬ Whole F.is_at (window parser) other }
 {

@@ -9,6 +9,7 @@ pub mod Parsed
 pub mod Peer
 pub mod Record
 pub mod RecordReader
+pub mod RecordText
 pub mod Records
 pub mod Rib
 pub mod Text

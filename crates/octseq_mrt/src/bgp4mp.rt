@@ -12,8 +12,8 @@ ghost use Rattle.octseq_mrt.specs.Bgp4Mp.{ArePeers, IsBgp4Mp, IsEvent, message_s
 
 use crate::address::{parse_address, parse_asn, parse_family, parse_optional};
 use crate::kind::Bgp4MpSubtype;
-use crate::whole::parse_all;
 use octseq::{AsOctets, Malformed, Parser};
+use octseq_bgp::whole::parse_all;
 use octseq_bgp::{AddPath, Afi, Asn, Message, SessionConfig};
 use octseq_format::{Format, U16Be};
 use std::alloc::AllocError;

@@ -11,7 +11,6 @@ pub mod record;
 pub mod rib;
 pub mod rib_attribute;
 mod text;
-mod whole;
 
 pub use bgp4mp::{Bgp4Mp, Event, MessageOctets};
 pub use header::CommonHeader;
@@ -21,3 +20,4 @@ pub use reader::{RecordError, RecordReader, read_record, records_are_apart};
 pub use record::{Record, RecordValue, next_record, one_record, one_record_value};
 pub use rib::{Rib, RibEntries, RibEntry};
 pub use rib_attribute::{RibAttribute, RibAttributes, RibValue, next_hops_are_apart};
+pub use text::one_record_text;

@@ -80,6 +80,18 @@ impl<R: AsOctets + Copy> Clone for Peers<R> {
     }
 }
 
+impl<R: AsOctets + Copy> Peers<R> {
+    ghost use Rattle.std.specs.Prelude.{length};
+    ghost use Rattle.octseq_mrt.specs.Parsed.{peers_left};
+
+    /// How many octets are left. A peer has one at least.
+    pub(crate) fn octets_left(&self) -> usize
+        ensures { length (peers_left self.now) ≤ result }
+    {
+        self.parser.remaining()
+    }
+}
+
 impl<R: AsOctets + Copy> Iterator for Peers<R> {
     ghost use Rattle.std.specs.Iterator.{YieldsFirstBy, item_count};
     ghost use Rattle.octseq_mrt.specs.Parsed.{peer_of, peers_left};

@@ -4,14 +4,10 @@
 //! records that were made; `stdout` is what another's reader makes of them.
 #![tactic(auto)]
 
-use crate::records::RecordText;
 use octseq_mrt::{RecordError, RecordReader};
 use std::io::{self, Read, Write};
 use std::process::ExitCode;
 
-mod messages;
-mod octets;
-mod records;
 #[cfg(test)]
 mod tests;
 
@@ -44,13 +40,10 @@ fn show<R: Read, W: Write>(records: &mut RecordReader<R>, out: &mut W) -> Result
 /// Shows the record that was read last.
 fn show_record<R: Read, W: Write>(records: &RecordReader<R>, out: &mut W) -> Result<(), Fault> {
     match records.record() {
-        Ok(record) => {
-            let text = RecordText(record);
-            match write!(out, "{text}\n") {
-                Ok(()) => Ok(()),
-                Err(_) => Err(Fault::Stream),
-            }
-        }
+        Ok(record) => match write!(out, "{record}\n") {
+            Ok(()) => Ok(()),
+            Err(_) => Err(Fault::Stream),
+        },
         Err(_) => Err(Fault::Stream),
     }
 }

@@ -1,21 +1,33 @@
-//! The text of a message at the end of another text.
+//! The text of a value at the end of another text.
 ghost use Rattle.std.specs.Prelude.{◌≡◌, ◌≢◌, ◌+◌, ◌++◌, ℕ, List, [], None, true, false, take, drop, length};
 ghost use Rattle.std.specs.Prelude.{IsErr, OnOk, OnErr};
 ghost use Rattle.std.specs.Borrow.{GName};
+ghost use Rattle.std.specs.Fmt.{HasWritten, IsPlainFormatter};
 ghost use Rattle.octseq.specs.Display.{display_error};
 ghost use Rattle.octseq.specs.Limit.{IsPast};
 ghost use Rattle.octseq.specs.Refusal.{Refusal, Is, IsShort, IsMemory};
 ghost use Rattle.octseq.specs.Text.{begins_within};
-ghost use Rattle.octseq_bgp.specs.MessageText.{IsMessageText};
+ghost use Rattle.octseq_bgp.specs.MessageText.{IsMessageText, OneAtMost};
 
 use crate::message::Message;
 use octseq::builder::OctetsLimit;
 use octseq::str::{Counter, DisplayError};
 use octseq::{AsOctets, OctetsBuilder, StrBuilder, Truncate};
-use std::fmt::{self, Display};
+use std::fmt;
 use std::marker::{Brand, PhantomData};
 
-/// What a text was before a message was appended, and whose it is.
+/// A value whose text is lines, each with a line feed at its end.
+pub trait WriteLines {
+    /// What its text is.
+    ghost is_text: { Self → List ℕ → Type 0 };
+
+    /// Writes its lines.
+    fn write_lines<W: fmt::Write>(&self, f: &mut fmt::Formatter<W>) -> fmt::Result
+        ensures shown { OnOk result ((lines : List ℕ) × is_text self.now lines
+            × (IsPlainFormatter f.old → HasWritten W.write_str_gives f.old lines f.new)) };
+}
+
+/// What a text was before lines were appended, and whose it is.
 trait Begun {
     ghost before: { List ℕ };
 
@@ -32,7 +44,7 @@ impl Begun for Brand {
     ghost borrows = { [] };
 }
 
-/// A text that a message is written to. What it was stays at its front.
+/// A text that lines are written to. What it was stays at its front.
 #[derive(Drop)]
 struct Appending<'a, K: Begun, B: AsOctets> {
     text: &'a mut StrBuilder<B>,
@@ -68,6 +80,121 @@ struct Appended<'a, B: AsOctets> {
     answer: Result<(), DisplayError>,
 }
 
+/// Appends the text of a value that has one at most, or nothing.
+///
+/// # Errors
+///
+/// `Short` where the text would pass the limit of its type, `Memory` where a request for memory was refused. The text is
+/// then as it was. (`Display` is never answered where `write_lines` never fails of itself, though no contract says so.)
+pub fn append_lines<T: WriteLines, B: OctetsBuilder + Truncate>(
+    value: &T,
+    text: &mut StrBuilder<B>,
+) -> Result<(), DisplayError>
+    requires { OneAtMost (T.is_text value.now) }
+    ensures text { OnOk result ((lines : List ℕ) × T.is_text value.now lines
+        × (B.content text.new ≡ B.content text.old ++ lines)) }
+    ensures err { OnErr result (B.content text.new ≡ B.content text.old) }
+    ensures past { (lines : List ℕ) → T.is_text value.now lines
+        → IsPast B.limit (length (B.content text.old) + length lines) → IsErr result }
+    ensures short { IsShort display_error result → (lines : List ℕ) → T.is_text value.now lines
+        → IsPast B.limit (length (B.content text.old) + length lines) }
+    ensures limited { IsShort display_error result → B.limit ≢ None }
+    ensures memory { IsMemory display_error result → B.asks ≡ true }
+    ensures borrows { B.borrows text.new ≡ B.borrows text.old }
+{
+    append_from::<Brand, B, T>(text, value).answer
+}
+
+/// Appends the text of a value, or cuts the text where it ended before.
+fn append_from<'a, K: Begun, B: OctetsBuilder + Truncate, T: WriteLines>(
+    text: &'a mut StrBuilder<B>,
+    value: &T,
+) -> Appended<'a, B>
+    requires one { OneAtMost (T.is_text value.now) }
+    requires begun { K.before ≡ B.content text.old }
+    requires lender { K.lender ≡ text.ghost_name }
+    requires borrows { K.borrows ≡ B.borrows text.old }
+    ensures same { result.text.ghost_name ≡ text.entry.ghost_name }
+    ensures ok { OnOk result.answer ((lines : List ℕ) × T.is_text value.now lines
+        × (B.content result.text.now ≡ B.content text.old ++ lines)) }
+    ensures err { OnErr result.answer (B.content result.text.now ≡ B.content text.old) }
+    ensures short { IsShort display_error result.answer → (lines : List ℕ) → T.is_text value.now lines
+        → IsPast B.limit (length (B.content text.old) + length lines) }
+    ensures limited { IsShort display_error result.answer → B.limit ≢ None }
+    ensures past { (lines : List ℕ) → T.is_text value.now lines
+        → IsPast B.limit (length (B.content text.old) + length lines) → IsErr result.answer }
+    ensures memory { IsMemory display_error result.answer → B.asks ≡ true }
+    ensures borrows { B.borrows result.text.now ≡ B.borrows text.old }
+{
+    let len = text.len();
+    let mut f = fmt::Formatter::new(Appending {
+        text,
+        refusal: DisplayError::Display,
+        of: PhantomData::<K>,
+    });
+    let written = value.write_lines(&mut f);
+    let Appending { text, refusal, .. } = f.into_inner();
+    // What is lent is well formed, as the cut asks, and within the limit.
+    let _lent = text.as_slice();
+    match written {
+        Ok(()) => Appended {
+            text,
+            answer: Ok(()),
+        },
+        Err(_) => {
+            text.truncate(len);
+            let answer = Err(reason::<B, T>(refusal, len, value));
+            Appended { text, answer }
+        }
+    }
+}
+
+/// Why a text wasn't appended at the end of so many octets, where an append of a part of it was refused: `Short` is said
+/// only where all of it passes the limit.
+fn reason<B: OctetsLimit, T: WriteLines>(
+    refusal: DisplayError,
+    len: usize,
+    value: &T,
+) -> DisplayError
+    requires one { OneAtMost (T.is_text value.now) }
+    requires limited { Is Refusal.short (display_error refusal) → B.limit ≢ None }
+    requires memory { Is Refusal.memory (display_error refusal) → B.asks ≡ true }
+    ensures short { Is Refusal.short (display_error result) → (lines : List ℕ) → T.is_text value.now lines
+        → IsPast B.limit (len + length lines) }
+    ensures limited { Is Refusal.short (display_error result) → B.limit ≢ None }
+    ensures memory { Is Refusal.memory (display_error result) → B.asks ≡ true }
+{
+    match refusal {
+        DisplayError::Short if !passes::<B, T>(len, value) => DisplayError::Display,
+        refusal => refusal,
+    }
+}
+
+/// Whether the text of a value that follows so many octets passes the limit. It doesn't where it can't be shown.
+fn passes<B: OctetsLimit, T: WriteLines>(len: usize, value: &T) -> bool
+    requires { OneAtMost (T.is_text value.now) }
+    ensures { result ≡ true → (lines : List ℕ) → T.is_text value.now lines
+        → IsPast B.limit (len + length lines) }
+{
+    let mut f = fmt::Formatter::new(Counter { count: len });
+    let shown = value.write_lines(&mut f);
+    let counter = f.into_inner();
+    match (B::limit(), shown) {
+        (Some(limit), Ok(())) if limit < counter.count => true,
+        _ => false,
+    }
+}
+
+impl<R: AsOctets + Copy> WriteLines for Message<R> {
+    ghost use Rattle.octseq_bgp.specs.Parsed.{message_of};
+
+    ghost is_text = { λ message. IsMessageText (message_of message) };
+
+    fn write_lines<W: fmt::Write>(&self, f: &mut fmt::Formatter<W>) -> fmt::Result {
+        fmt::Display::fmt(self, f)
+    }
+}
+
 impl<R: AsOctets + Copy> Message<R> {
     ghost use Rattle.octseq_bgp.specs.Parsed.{message_of};
 
@@ -94,86 +221,6 @@ impl<R: AsOctets + Copy> Message<R> {
         ensures memory { IsMemory display_error result → B.asks ≡ true }
         ensures borrows { B.borrows text.new ≡ B.borrows text.old }
     {
-        append_from::<Brand, B, R>(text, self).answer
-    }
-}
-
-ghost use Rattle.octseq_bgp.specs.Parsed.{message_of};
-
-/// Appends the text of a message, or cuts the text where it ended before.
-fn append_from<'a, K: Begun, B: OctetsBuilder + Truncate, R: AsOctets + Copy>(
-    text: &'a mut StrBuilder<B>,
-    message: &Message<R>,
-) -> Appended<'a, B>
-    requires begun { K.before ≡ B.content text.old }
-    requires lender { K.lender ≡ text.ghost_name }
-    requires borrows { K.borrows ≡ B.borrows text.old }
-    ensures same { result.text.ghost_name ≡ text.entry.ghost_name }
-    ensures ok { OnOk result.answer ((lines : List ℕ) × IsMessageText (message_of message.now) lines
-        × (B.content result.text.now ≡ B.content text.old ++ lines)) }
-    ensures err { OnErr result.answer (B.content result.text.now ≡ B.content text.old) }
-    ensures short { IsShort display_error result.answer → (lines : List ℕ)
-        → IsMessageText (message_of message.now) lines
-        → IsPast B.limit (length (B.content text.old) + length lines) }
-    ensures limited { IsShort display_error result.answer → B.limit ≢ None }
-    ensures past { (lines : List ℕ) → IsMessageText (message_of message.now) lines
-        → IsPast B.limit (length (B.content text.old) + length lines) → IsErr result.answer }
-    ensures memory { IsMemory display_error result.answer → B.asks ≡ true }
-    ensures borrows { B.borrows result.text.now ≡ B.borrows text.old }
-{
-    let len = text.len();
-    let mut f = fmt::Formatter::new(Appending {
-        text,
-        refusal: DisplayError::Display,
-        of: PhantomData::<K>,
-    });
-    let written = Display::fmt(message, &mut f);
-    let Appending { text, refusal, .. } = f.into_inner();
-    // What is lent is well formed, as the cut asks, and within the limit.
-    let _lent = text.as_slice();
-    match written {
-        Ok(()) => Appended {
-            text,
-            answer: Ok(()),
-        },
-        Err(_) => {
-            text.truncate(len);
-            let answer = Err(reason::<B, R>(refusal, len, message));
-            Appended { text, answer }
-        }
-    }
-}
-
-/// Why a message wasn't appended at the end of so many octets, where an append of a part of it was refused: `Short` is
-/// said only where all of it passes the limit.
-fn reason<B: OctetsLimit, R: AsOctets + Copy>(
-    refusal: DisplayError,
-    len: usize,
-    message: &Message<R>,
-) -> DisplayError
-    requires limited { Is Refusal.short (display_error refusal) → B.limit ≢ None }
-    requires memory { Is Refusal.memory (display_error refusal) → B.asks ≡ true }
-    ensures short { Is Refusal.short (display_error result) → (lines : List ℕ)
-        → IsMessageText (message_of message.now) lines → IsPast B.limit (len + length lines) }
-    ensures limited { Is Refusal.short (display_error result) → B.limit ≢ None }
-    ensures memory { Is Refusal.memory (display_error result) → B.asks ≡ true }
-{
-    match refusal {
-        DisplayError::Short if !passes::<B, R>(len, message) => DisplayError::Display,
-        refusal => refusal,
-    }
-}
-
-/// Whether the text of a message that follows so many octets passes the limit. It doesn't where it can't be shown.
-fn passes<B: OctetsLimit, R: AsOctets + Copy>(len: usize, message: &Message<R>) -> bool
-    ensures { result ≡ true → (lines : List ℕ) → IsMessageText (message_of message.now) lines
-        → IsPast B.limit (len + length lines) }
-{
-    let mut f = fmt::Formatter::new(Counter { count: len });
-    let shown = Display::fmt(message, &mut f);
-    let counter = f.into_inner();
-    match (B::limit(), shown) {
-        (Some(limit), Ok(())) if limit < counter.count => true,
-        _ => false,
+        append_lines(self, text)
     }
 }

@@ -82,7 +82,7 @@ fn write_value_lines<W: fmt::Write, R: AsOctets + Copy>(
 }
 
 /// Writes the lines of an attribute with what its value says.
-fn write_attribute_lines<W: fmt::Write, R: AsOctets + Copy>(
+pub fn write_attribute_lines<W: fmt::Write, R: AsOctets + Copy>(
     f: &mut fmt::Formatter<W>,
     attribute: &PathAttribute<R>,
     value: &AttributeValue<R>,

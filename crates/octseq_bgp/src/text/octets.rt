@@ -14,7 +14,7 @@ use std::net::{Ipv4Addr, Ipv6Addr};
 
 /// Writes an address of a family.
 #[tactic(auto, unfolding(crate::specs::Text::address_text))]
-pub(crate) fn write_address<W: fmt::Write>(
+pub fn write_address<W: fmt::Write>(
     f: &mut fmt::Formatter<W>,
     afi: Afi,
     octets: [u8; 16],
@@ -54,7 +54,7 @@ fn ends_in_ipv4(octets: [u8; 16]) -> bool
 
 /// Writes a number as an IPv4 address.
 #[tactic(auto, unfolding(crate::specs::OctetsText::number_dotted))]
-pub(crate) fn write_dotted<W: fmt::Write>(f: &mut fmt::Formatter<W>, number: u32) -> fmt::Result
+pub fn write_dotted<W: fmt::Write>(f: &mut fmt::Formatter<W>, number: u32) -> fmt::Result
     ensures { WritesOnOk W.write_str_gives f.old result (number_dotted number) f.new }
 {
     let [a, b, c, d] = octets_of(number);
@@ -86,7 +86,7 @@ pub(crate) fn write_number_hex<W: fmt::Write>(f: &mut fmt::Formatter<W>, number:
 }
 
 /// Writes how many octets there are, and they themselves if there are any, after a space.
-pub(crate) fn write_opaque<W: fmt::Write>(f: &mut fmt::Formatter<W>, octets: &[u8]) -> fmt::Result
+pub fn write_opaque<W: fmt::Write>(f: &mut fmt::Formatter<W>, octets: &[u8]) -> fmt::Result
     ensures { WritesOnOk W.write_str_gives f.old result (spaced (opaque_text octets.now)) f.new }
 {
     let len = octets.len();
@@ -117,7 +117,7 @@ fn write_hex_octet<W: fmt::Write>(f: &mut fmt::Formatter<W>, octet: u8) -> fmt::
 
 /// Writes octets as a string: between `"`, `"` and `\` after a backslash, each other one of 20 to 7E (hexadecimal) as
 /// itself, and any other as a backslash and three decimal digits.
-pub(crate) fn write_string<W: fmt::Write>(f: &mut fmt::Formatter<W>, octets: &[u8]) -> fmt::Result
+pub fn write_string<W: fmt::Write>(f: &mut fmt::Formatter<W>, octets: &[u8]) -> fmt::Result
     ensures { WritesOnOk W.write_str_gives f.old result (string_text octets.now) f.new }
 {
     f.write_char('"')?;

@@ -291,7 +291,7 @@ fn write_spaced_ipv6<W: fmt::Write>(f: &mut fmt::Formatter<W>, octets: [u8; 16])
 }
 
 /// Writes each next hop after a space.
-fn write_next_hop<W: fmt::Write>(f: &mut fmt::Formatter<W>, next_hop: NextHop) -> fmt::Result
+pub fn write_next_hop<W: fmt::Write>(f: &mut fmt::Formatter<W>, next_hop: NextHop) -> fmt::Result
     ensures { WritesOnOk W.write_str_gives f.old result (next_hop_text next_hop) f.new }
 {
     match next_hop {

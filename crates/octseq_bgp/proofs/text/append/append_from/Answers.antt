@@ -5,7 +5,6 @@ use Rattle.octseq.specs.Limit.{IsPast}
 use Rattle.octseq.specs.Text.{IsWellFormed, IsBoundary}
 use Rattle.octseq.proofs.Limits.{within_not_past}
 use Rattle.octseq_bgp.proofs.Edges.{boundary_there}
-use Rattle.octseq_bgp.proofs.Texts.{one_message_text}
 use Rattle.octseq_bgp.proofs.text.append.append_from.Goals as goal
 
 pub truncate-requires : goal.truncate-requires
@@ -32,6 +31,6 @@ returns-in-Ok-clause-past g c = λ lines are past.
     let limit = g.B.AsOctets.limit in
     let old = g.B.AsOctets.content c.args.text.now in
     let made = returns-in-Ok-clause-ok g c in
-    let same = one_message_text _ _ _ made.1 are in
+    let same = c.requires.one _ _ made.1 are in
     let long = ap length (c.as_slice-lent.ensures.content ∙ made.2 ∙ ap (λ y. old ++ y) same) ∙ length-append old lines in
     absurd (within_not_past limit _ c.as_slice-lent.ensures.within (subst (IsPast limit) (sym long) past))
