@@ -1,5 +1,5 @@
 -- What is made of a file of records, one after another.
-use Rattle.std.specs.Prelude.{◌≡◌, ℕ, List, [], ◌++◌, codes, Bool, true, false}
+use Rattle.std.specs.Prelude.{◌≡◌, ℕ, List, [], ◌++◌, codes, Bool, true, false, if◌then◌else◌}
 use Rattle.octseq.specs.Window.{Window, rest}
 use Rattle.octseq_bgp.specs.declared.session.SessionConfig.{SessionConfig}
 use Rattle.octseq_bgp.specs.Message.{Message, IsMessage}
@@ -11,44 +11,55 @@ use Rattle.octseq_mrt.specs.Record.{AreRecord, IsValue, Value}
 use Rattle.octseq_mrt.specs.RecordText.{IsRecordText}
 use Rattle.octseq_mrt.specs.Records.{IsCut}
 use Rattle.octseq_mrt.specs.declared.header.CommonHeader.{CommonHeader}
-use Rattle.octseq_program.specs.Frames.{IsPlainEnd}
+use Rattle.octseq_program.specs.Frames.{IsPlainEnd, IsPlainRest}
+use Rattle.octseq_program.specs.declared.frames.Ending.{Ending}
 
--- the octets of a message, where they are one, and nothing else
-abbrev pub IsTakenMessage : SessionConfig → List ℕ → Bool → List ℕ → Type 0
-IsTakenMessage s octets true written = ((m : Message) × IsMessage s octets m) × (written ≡ octets)
-IsTakenMessage s octets false written = IsMalformed s octets × (written ≡ [])
+-- whether octets are a message of the session
+abbrev pub IsRead : SessionConfig → List ℕ → Bool → Type 0
+IsRead s octets true = (m : Message) × IsMessage s octets m
+IsRead s octets false = IsMalformed s octets
 
--- the message that a record has as it is, where it has one, and what is told of octets that are none
-abbrev pub IsTakenEvent : ℕ → Event → List ℕ → List ℕ → Type 0
-IsTakenEvent number (Event.state_change states) written note = (written ≡ []) × (note ≡ [])
-IsTakenEvent number (Event.message s octets) written note = (is_message : Bool)
-    × IsTakenMessage s (rest octets) is_message written
+-- the message that a record has, as it is, or nothing where its octets are none
+abbrev pub IsTakenEvent : Event → List ℕ → Type 0
+IsTakenEvent (Event.state_change states) written = written ≡ []
+IsTakenEvent (Event.message s octets) written = (is_message : Bool) × IsRead s (rest octets) is_message
+    × (written ≡ (if is_message then rest octets else []))
+
+-- what is told of a record on standard error, by its number: where it has octets of a message that are none, the place
+-- in them where reading stopped
+abbrev pub IsEventNote : ℕ → Event → List ℕ → Type 0
+IsEventNote number (Event.state_change states) note = note ≡ []
+IsEventNote number (Event.message s octets) note = (is_message : Bool) × IsRead s (rest octets) is_message
     × IsNote (codes "message of record") s number (rest octets) is_message note
 
 -- so of what a record says
-abbrev pub IsTakenValue : ℕ → Value → List ℕ → List ℕ → Type 0
-IsTakenValue number (Value.bgp4mp b) written note = IsTakenEvent number b.event written note
-IsTakenValue number _ written note = (written ≡ []) × (note ≡ [])
+abbrev pub IsTakenValue : Value → List ℕ → Type 0
+IsTakenValue (Value.bgp4mp b) written = IsTakenEvent b.event written
+IsTakenValue _ written = written ≡ []
 
--- Octets are a record that says this.
-pub record HasValue (octets : List ℕ) (r : CommonHeader × Window) (v : Value) : Type 0 where
-  pub are : AreRecord octets r
-  pub says : IsValue r.0 r.1 v
+abbrev pub IsValueNote : ℕ → Value → List ℕ → Type 0
+IsValueNote number (Value.bgp4mp b) note = IsEventNote number b.event note
+IsValueNote number _ note = note ≡ []
 
--- what is made of a record: its text and an empty line, or the message that it has; and what is told of a message that
--- is none
+-- what is written of a record: its text and an empty line, or the message that it has
+abbrev pub IsWritten : Records → CommonHeader × Window → Value → List ℕ → Type 0
+IsWritten Shown r v written = (text : List ℕ) × IsRecordText r text × (written ≡ text ++ codes "\n")
+IsWritten Taken r v written = IsTakenValue v written
+
+-- what is made of a record
 abbrev pub IsRecordPiece : Records → ℕ → List ℕ → Bool → List ℕ → List ℕ → Type 0
-IsRecordPiece Shown number octets is_fine written note = (r : CommonHeader × Window) × (v : Value) × (text : List ℕ)
-    × (taken : List ℕ) × HasValue octets r v × IsRecordText r text × IsTakenValue number v taken note
-    × (is_fine ≡ true) × (written ≡ text ++ codes "\n")
-IsRecordPiece Taken number octets is_fine written note = (r : CommonHeader × Window) × (v : Value)
-    × HasValue octets r v × IsTakenValue number v written note × (is_fine ≡ true)
+IsRecordPiece c number octets is_fine written note = (r : CommonHeader × Window) × (v : Value) × AreRecord octets r
+    × IsValue r.0 r.1 v × IsWritten c r v written × IsValueNote number v note × (is_fine ≡ true)
 
 -- what is written where a file ends inside a record
 abbrev pub cut_text : Records → List ℕ
 cut_text Shown = codes "unexpected end of input\n"
 cut_text Taken = []
 
--- the rest of a file: nothing, or a part of a record
+-- the rest of a file, by how it ends
+abbrev pub IsRecordsRest : Ending → List ℕ → Type 0
+IsRecordsRest = IsPlainRest IsCut
+
+-- what is made of it
 abbrev pub IsRecordsEnd : Records → ℕ → List ℕ → Bool → List ℕ → List ℕ → Type 0
 IsRecordsEnd c number = IsPlainEnd IsCut (cut_text c)

@@ -3,7 +3,9 @@ use Rattle.std.specs.Prelude.{◌≡◌, ◌⊎◌, ℕ, List, [], ◌++◌, cod
 use Rattle.octseq_bgp.specs.Stream.{IsCut, IsMisframed}
 use Rattle.octseq_bgp.specs.declared.session.SessionConfig.{SessionConfig}
 use Rattle.octseq_bgp_tool.specs.Shown.{IsShown, IsNote}
-use Rattle.octseq_program.specs.Frames.{IsPlainEnd, stop_line}
+use Rattle.octseq_program.specs.Frames.{IsPlainEnd, IsPlainRest, stop_line}
+use Rattle.octseq_program.specs.declared.frames.Ending.{Ending}
+use Rattle.octseq_program.specs.declared.frames.Ending.TheVariants.{Misframed}
 
 -- what is written of a message: what is shown of it, and an empty line
 abbrev pub IsBlock : SessionConfig → ℕ → List ℕ → Bool → List ℕ → List ℕ → Type 0
@@ -16,7 +18,12 @@ abbrev pub IsMisframedEnd : SessionConfig → ℕ → List ℕ → Bool → List
 IsMisframedEnd s number rest is_fine ending note = IsMisframed s rest × (is_fine ≡ false)
     × (ending ≡ codes "malformed\n\n") × (note ≡ stop_line (codes "message") number 0)
 
--- the rest of a stream: nothing, or a part of a message, or octets that are framed as none
+-- the rest of a stream, by how it ends
+abbrev pub IsMessagesRest : SessionConfig → Ending → List ℕ → Type 0
+IsMessagesRest s Misframed rest = IsMisframed s rest
+IsMessagesRest s ending rest = IsPlainRest (IsCut s) ending rest
+
+-- what is made of the rest: of nothing or a part of a message, or of octets that are framed as none
 abbrev pub IsMessagesEnd : SessionConfig → ℕ → List ℕ → Bool → List ℕ → List ℕ → Type 0
 IsMessagesEnd s number rest is_fine ending note =
     IsPlainEnd (IsCut s) (codes "unexpected end of input\n") rest is_fine ending note

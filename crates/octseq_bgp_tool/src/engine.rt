@@ -10,7 +10,9 @@ use crate::engine::messages::Messages;
 use crate::engine::records::Records;
 use crate::engine::shown::OneMessage;
 use crate::options::Options;
-use octseq_program::{Commands, FrameCommand, ProgramFault, Status, StreamCommand, take_stream, take_whole};
+use octseq_program::{
+    Commands, FrameCommand, ProgramFault, Status, StreamCommand, take_stream, take_whole,
+};
 use std::alloc::Global;
 use std::io::{Read, Write};
 

@@ -11,31 +11,27 @@ use Rattle.octseq_dns.specs.Rewritten.{IsMessageOf}
 use Rattle.octseq_dns.specs.declared.header.Header.{Header}
 use Rattle.octseq_dns_tool.proofs.Stops.{one_stop}
 use Rattle.octseq_dns_tool.specs.Rewritten.{IsWritten, CannotBeWritten, IsAnew, IsStuck}
-use Rattle.octseq_dns_tool.specs.Shown.{HasText, IsMalformed, IsNote, IsShown}
-use Rattle.octseq_dns_tool.specs.Stop.{stop_line}
+use Rattle.octseq_dns_tool.specs.Shown.{HasText, IsMalformed, IsMessagePiece, IsNote, IsShown}
 use Rattle.octseq_dns_tool.specs.Taken.{IsBlock, IsMoved, IsPiece}
-use Rattle.octseq_dns_tool.specs.declared.engine.Command.{Command}
-use Rattle.octseq_dns_tool.specs.declared.engine.Command.TheVariants.{Message, Rewrite, Stream}
+use Rattle.octseq_dns_tool.specs.declared.engine.stream.Messages.{Messages}
+use Rattle.octseq_dns_tool.specs.declared.engine.stream.Messages.TheVariants.{Shown, Rewritten}
+use Rattle.octseq_program.specs.Frames.{stop_line}
 
 -- of octets that are no message one thing is told
 pub one_note : (number : ℕ) (octets x y : List ℕ) (b : Bool) → IsNote number octets b x → IsNote number octets b y
     → x ≡ y
 one_note number octets x y true p q = p ∙ sym q
 one_note number octets x y false (here, is, e) (there, it, f) =
-    e ∙ ap (stop_line number) (one_stop octets here there is it) ∙ sym f
+    e ∙ ap (stop_line (codes "message") number) (one_stop octets here there is it) ∙ sym f
 
--- by what the laws of messages say: octets are a message in one way, and a message has one text, and is written as one
--- message
+-- by what the laws of messages say: octets are a message in one way, and a message has one text
 module _ (one_message : (octets : List ℕ) (h k : Header) (q others : List Question) (a b d x y z : List Record)
     → IsMessage octets h q a b d → IsMessage octets k others x y z
     → (h ≡ k) × (q ≡ others) × (a ≡ x) × (b ≡ y) × (d ≡ z))
     (one_text : (header : Header) (questions : List Question) (answers authorities additionals : List Record)
     (text other : List ℕ)
     → IsMessageText header questions answers authorities additionals text
-    → IsMessageText header questions answers authorities additionals other → text ≡ other)
-    (one_message_of : (header : Header) (questions : List Question) (answers authorities additionals : List Record)
-    (m n : Contents) → IsMessageOf header questions answers authorities additionals m
-    → IsMessageOf header questions answers authorities additionals n → m ≡ n) where
+    → IsMessageText header questions answers authorities additionals other → text ≡ other) where
   -- octets that are a message have one text
   same_text : (octets x y : List ℕ) → HasText octets x → HasText octets y → x ≡ y
   same_text octets x y p q =
@@ -58,6 +54,22 @@ module _ (one_message : (octets : List ℕ) (h k : Header) (q others : List Ques
   one_shown octets x y false true p q =
       absurd (p.0 q.header q.questions q.answers q.authorities q.additionals q.is_message)
 
+  -- one thing is made of an input
+  pub one_message_piece : (number : ℕ) (octets x y e f : List ℕ) (a b : Bool) → IsMessagePiece number octets a x e
+      → IsMessagePiece number octets b y f → (a ≡ b) × (x ≡ y) × (e ≡ f)
+  one_message_piece number octets x y e f a b (p, n) (q, m) =
+      let same = one_shown octets x y a b p q in
+      (same.1, same.0, one_note number octets e f b (subst (λ a. IsNote number octets a e) same.1 n) m)
+
+-- by what the laws of messages say: octets are a message in one way, and one message is written of it; and by the law
+-- that one thing is shown of octets
+module _ (one_message : (octets : List ℕ) (h k : Header) (q others : List Question) (a b d x y z : List Record)
+    → IsMessage octets h q a b d → IsMessage octets k others x y z
+    → (h ≡ k) × (q ≡ others) × (a ≡ x) × (b ≡ y) × (d ≡ z))
+    (one_message_of : (header : Header) (questions : List Question) (answers authorities additionals : List Record)
+    (m n : Contents) → IsMessageOf header questions answers authorities additionals m
+    → IsMessageOf header questions answers authorities additionals n → m ≡ n)
+    (one_shown : (octets x y : List ℕ) (b c : Bool) → IsShown octets b x → IsShown octets c y → (x ≡ y) × (b ≡ c)) where
   -- what holds of the header and the lists of a message holds of those of each reading of its octets
   carried : (P : Header → List Question → List Record → List Record → List Record → Type 0) (octets : List ℕ)
       (h k : Header) (q others : List Question) (a b d x y z : List Record)
@@ -133,9 +145,8 @@ module _ (one_message : (octets : List ℕ) (h k : Header) (q others : List Ques
       (stuck_is_message octets stuck bad)
   one_moved number octets x y e f false false (inr (stuck, n), w) (inr (also, m), v) = (refl, w ∙ sym v, n ∙ sym m)
 
-  -- a command makes one thing of a message
-  pub one_piece : (c : Command) (number : ℕ) (octets x y e f : List ℕ) (a b : Bool)
+  -- one thing is made of a message
+  pub one_piece : (c : Messages) (number : ℕ) (octets x y e f : List ℕ) (a b : Bool)
       → IsPiece c number octets a x e → IsPiece c number octets b y f → (a ≡ b) × (x ≡ y) × (e ≡ f)
-  one_piece Stream = one_block
-  one_piece Rewrite = one_moved
-  one_piece Message = λ number octets x y e f a b p q. absurd p
+  one_piece Shown = one_block
+  one_piece Rewritten = one_moved

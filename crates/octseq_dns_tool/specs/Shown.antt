@@ -4,7 +4,8 @@ use Rattle.octseq_dns.specs.Entry.{Question, Record}
 use Rattle.octseq_dns.specs.Message.{IsMessage}
 use Rattle.octseq_dns.specs.MessageText.{IsMessageText}
 use Rattle.octseq_dns.specs.declared.header.Header.{Header}
-use Rattle.octseq_dns_tool.specs.Stop.{IsStop, stop_line}
+use Rattle.octseq_dns_tool.specs.Stop.{IsStop}
+use Rattle.octseq_program.specs.Frames.{stop_line}
 
 -- Octets are a message, and this is its text.
 pub record HasText (octets text : List ℕ) : Type 0 where
@@ -30,4 +31,9 @@ IsShown octets false shown = IsMalformed octets × (shown ≡ codes "malformed\n
 -- reading stopped
 abbrev pub IsNote : ℕ → List ℕ → Bool → List ℕ → Type 0
 IsNote number octets true note = note ≡ []
-IsNote number octets false note = (place : ℕ) × IsStop octets place × (note ≡ stop_line number place)
+IsNote number octets false note = (place : ℕ) × IsStop octets place × (note ≡ stop_line (codes "message") number place)
+
+-- what is made of an input as one message
+abbrev pub IsMessagePiece : ℕ → List ℕ → Bool → List ℕ → List ℕ → Type 0
+IsMessagePiece number octets is_fine written note =
+    IsShown octets is_fine written × IsNote number octets is_fine note

@@ -1,6 +1,5 @@
 -- Where reading stops in octets that are no message: at the first thing that isn't there.
-use Rattle.std.specs.Fmt.{decimal}
-use Rattle.std.specs.Prelude.{◌≡◌, ℕ, zero, suc, ◌+◌, ◌<◌, ◌≤◌, ◌⊎◌, List, ◌++◌, length, codes}
+use Rattle.std.specs.Prelude.{◌≡◌, ℕ, zero, suc, ◌+◌, ◌<◌, ◌≤◌, ◌⊎◌, List, length}
 use Rattle.octseq.specs.Window.{Window, whole}
 use Rattle.octseq_dns.specs.Entry.{Question, Record, IsQuestion, IsRecord}
 use Rattle.octseq_dns.specs.Header.{IsHeader}
@@ -30,8 +29,3 @@ IsStop octets place = ((65535 < length octets) × (place ≡ 65535))
     ⊎ ((length octets ≤ 65535) × (header : Header) × (counts : HeaderCounts) × (v : Window)
     × IsHeader (whole octets) header counts v
     × QuestionsStop counts.qdcount (counts.ancount + counts.nscount + counts.arcount) v place))
-
--- the line that tells it, of a message by its number
-abbrev pub stop_line : ℕ → ℕ → List ℕ
-stop_line number place =
-    codes "message " ++ decimal number ++ codes ": malformed at octet " ++ decimal place ++ codes "\n"

@@ -1,4 +1,5 @@
 pub mod Answering
+pub mod Ends
 pub mod Framing
 pub mod Naming
 pub mod Pieces

@@ -2,6 +2,8 @@
 use Rattle.std.specs.List.{AllByRecursion, flat_map}
 use Rattle.std.specs.Fmt.{decimal}
 use Rattle.std.specs.Prelude.{◌≡◌, codes, ℕ, ◌+◌, List, [], ◌∷◌, ◌++◌, Bool, true, false, ◌&&◌, length}
+use Rattle.octseq_program.specs.declared.frames.Ending.{Ending}
+use Rattle.octseq_program.specs.declared.frames.Ending.TheVariants.{Whole, Cut, Misframed}
 use Rattle.octseq_program.specs.declared.status.Status.{Status}
 use Rattle.octseq_program.specs.declared.status.Status.TheVariants.{Fine, Refused}
 
@@ -55,6 +57,12 @@ pub record IsStreamOut (Fits : List ℕ → Type 0) (code : List ℕ → List �
 abbrev pub IsPlainEnd : (List ℕ → Type 0) → List ℕ → List ℕ → Bool → List ℕ → List ℕ → Type 0
 IsPlainEnd IsCut text rest true ending note = (rest ≡ []) × (ending ≡ []) × (note ≡ [])
 IsPlainEnd IsCut text rest false ending note = IsCut rest × (ending ≡ text) × (note ≡ [])
+
+-- a rest that is nothing, or a part of a frame
+abbrev pub IsPlainRest : (List ℕ → Type 0) → Ending → List ℕ → Type 0
+IsPlainRest IsCut Whole rest = rest ≡ []
+IsPlainRest IsCut Cut rest = IsCut rest
+IsPlainRest IsCut Misframed rest = ⊥
 
 -- the line that tells where reading stopped, of a thing by its number
 abbrev pub stop_line : List ℕ → ℕ → ℕ → List ℕ

@@ -1,5 +1,5 @@
 //! All of an input, and all of an output.
-ghost use Rattle.std.specs.Prelude.{◌≡◌, ◌≢◌, ◌≤◌, [], length, take, List, ℕ, IfOk, IfErr, IfSome, OnOk, OnErr};
+ghost use Rattle.std.specs.Prelude.{◌≡◌, ◌≢◌, ◌≤◌, [], length, take, List, ℕ, IfOk, IfErr, IfSome, OnOk, OnErr, Ok, false};
 ghost use Rattle.std.specs.Io.KnownBytes.{Appends, Consumes, IsAtEnd};
 ghost use Rattle.std.specs.IoError.{error_kind};
 ghost use Rattle.octseq.specs.Parts.{IsFront};
@@ -36,6 +36,40 @@ pub fn read_all<R: Read>(alloc: Global, reader: &mut R) -> Result<Vec<u8>, Progr
     let mut input = Vec::new(alloc);
     match reader.read_to_end(&mut input) {
         Ok(_) => Ok(input),
+        Err(e) => Err(failed_read(&e)),
+    }
+}
+
+/// Reads all that the reader has left, and keeps nothing of it.
+///
+/// # Errors
+///
+/// `Read` where a read failed, `Memory` where the reader tells that it lacks memory.
+pub fn drop_rest<R: Read>(reader: &mut R) -> Result<(), ProgramFault>
+    ensures all { OnOk result ((rest : List ℕ) × Consumes (R.remaining reader.old) (R.remaining reader.new) rest
+        × IsAtEnd (R.remaining reader.new)) }
+    ensures some { OnErr result ((read : List ℕ)
+        × Consumes (R.remaining reader.old) (R.remaining reader.new) read) }
+    ensures err { IfErr result (λ fault. fault ≢ ProgramFault.Write) }
+{
+    for _ in 0..u64::MAX {
+        if !drop_next(reader)? {
+            return Ok(());
+        }
+    }
+    Err(ProgramFault::Read)
+}
+
+/// Reads once and keeps nothing of it. Answers whether more may come.
+fn drop_next<R: Read>(reader: &mut R) -> Result<bool, ProgramFault>
+    ensures read { (read : List ℕ) × Consumes (R.remaining reader.old) (R.remaining reader.new) read }
+    ensures end { result ≡ Ok false → IsAtEnd (R.remaining reader.new) }
+    ensures err { IfErr result (λ fault. fault ≢ ProgramFault.Write) }
+{
+    let mut room = [0; 4096];
+    match reader.read(&mut room) {
+        Ok(count) => Ok(count > 0),
+        Err(e) if e.kind() == ErrorKind::Interrupted => Ok(true),
         Err(e) => Err(failed_read(&e)),
     }
 }

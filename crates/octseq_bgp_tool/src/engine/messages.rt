@@ -8,10 +8,10 @@ ghost use Rattle.octseq_bgp_tool.specs.Streams.{IsBlock, IsMessagesEnd, IsMessag
 
 use crate::engine::shown::{note_on, one_message_piece, push_shown};
 use octseq::StrBuilder;
+use octseq_bgp::SessionConfig;
 use octseq_bgp::reader::{
     ReadMessageError, framed_messages_are_apart, misframed_begins_none, read_message,
 };
-use octseq_bgp::SessionConfig;
 use octseq_program::streams::{drop_rest, failed_read};
 use octseq_program::{Ending, FrameCommand, Next, Piece, ProgramFault, StreamCommand, stop_line};
 use std::alloc::{AllocError, Global};

@@ -1,153 +1,162 @@
-//! Streams of messages, taken one message at a time.
-ghost use Rattle.std.specs.Prelude.{◌≡◌, ◌⊎◌, ◌&&◌, ℕ, List, Bool, true, false, IfOk, OnErr, OnOk};
-ghost use Rattle.std.specs.Io.KnownBytes.{Appends, IsAtEnd};
-ghost use Rattle.octseq.specs.Parts.{IsFront};
-ghost use Rattle.octseq_dns_tool.specs.Out.{Out, ending_of};
-ghost use Rattle.octseq_dns_tool.specs.Taken.{IsPiece};
-ghost use Rattle.octseq_dns_tool.specs.declared.engine.Command.TheVariants as commands;
-ghost use Rattle.octseq_program.specs.Run.{Answers, BreaksOff};
-ghost use Rattle.octseq_program.specs.declared.status.Status.{Status as Ends};
+//! Streams of messages, each after its length in 2 octets.
+ghost use Rattle.std.specs.Prelude.{◌≡◌, ℕ, List, [], Bool, false, IfOk};
+ghost use Rattle.octseq.specs.Part.{part_of};
+ghost use Rattle.octseq_dns.specs.Frames.{FitsStream};
+ghost use Rattle.octseq_dns_tool.specs.Taken.{IsEnd, IsPiece, IsRest};
+ghost use Rattle.octseq_dns_tool.specs.declared.engine.stream.Messages.{Messages};
+ghost use Rattle.octseq_dns_tool.specs.declared.engine.stream.Messages.TheVariants as messages;
 
-use crate::engine::piece::{Piece, moved_piece, shown_piece, write_piece};
 use crate::engine::rewrite::Writer;
-use crate::engine::{Command, one_answer};
+use crate::engine::shown::{note_on, one_message_piece, push_shown};
+use octseq::StrBuilder;
+use octseq::compose::append_part_u16_be;
 use octseq_dns::frames::{FrameError, read_frame};
-use octseq_program::streams::{failed_read, write_all};
-use octseq_program::{ProgramFault, Status};
+use octseq_dns::{Message, laws};
+use octseq_program::streams::failed_read;
+use octseq_program::{Ending, FrameCommand, Next, Piece, ProgramFault, StreamCommand};
 use std::alloc::{AllocError, Global};
-use std::io::{Read, Write};
+use std::io::Read;
 
-/// Takes the messages of a stream, one at a time: what is made of one is written before the next is read.
-pub(super) fn take_stream<R: Read, W: Write, E: Write>(
-    command: Command,
+/// One thing is made of a message and of a rest.
+///
+/// It does nothing. A caller that calls it has the law in its proof.
+pub(super) fn one_stream_piece()
+    ensures piece { (c : Messages) (number : ℕ) (octets x y e f : List ℕ) (a b : Bool)
+        → IsPiece c number octets a x e → IsPiece c number octets b y f → (a ≡ b) × (x ≡ y) × (e ≡ f) }
+    ensures end { (c : Messages) (number : ℕ) (rest x y e f : List ℕ) (a b : Bool)
+        → IsEnd c number rest a x e → IsEnd c number rest b y f → (a ≡ b) × (x ≡ y) × (e ≡ f) }
+{
+    one_message_piece();
+    octseq_dns::message::one_message();
+    laws::one_message_of();
+}
+
+/// The messages of a stream: shown, or written anew.
+#[derive(Clone, Copy)]
+pub(super) enum Messages {
+    /// The text of each.
+    Shown,
+    /// Each with its names compressed, after its length.
+    Rewritten,
+}
+
+/// What is shown of a message, and an empty line.
+fn shown_piece(alloc: Global, number: u64, octets: &[u8]) -> Result<Piece, AllocError>
+    ensures { IfOk result (λ piece.
+        IsPiece messages.Shown number octets.now piece.is_fine piece.output.items piece.note.items) }
+{
+    let mut text = StrBuilder::<Vec<u8>>::new(alloc)?;
+    let is_message = push_shown(&mut text, octets)?;
+    text.push_str("\n")?;
+    let note = note_on(alloc, number, octets, is_message)?;
+    Ok(Piece {
+        output: text.into_octets_builder(),
+        note,
+        is_fine: true,
+    })
+}
+
+/// A message written anew after its length, or nothing where it is left out.
+fn moved_piece(
     alloc: Global,
-    reader: &mut R,
-    writer: &mut W,
-    errors: &mut E,
-) -> Result<Status, ProgramFault>
-    requires { (command ≡ commands.Stream) ⊎ (command ≡ commands.Rewrite) }
-    ensures ok { IfOk result (Answers (Out command) (R.remaining reader.old) (W.contents writer.old)
-        (W.contents writer.new) (E.contents errors.old) (E.contents errors.new)) }
-    ensures end { OnOk result (IsAtEnd (R.remaining reader.new)) }
-    ensures broke { OnErr result (BreaksOff (Out command) (R.remaining reader.old) (R.remaining reader.new)
-        (W.contents writer.old) (W.contents writer.new) (E.contents errors.old) (E.contents errors.new)) }
-{
-    one_answer();
-    let mut frame = Vec::new(alloc);
-    let mut table = Writer::new(alloc);
-    let mut is_all = true;
-    for index in 0..u64::MAX {
-        match read_frame(reader, &mut frame) {
-            Ok(true) => {
-                let octets = frame.as_slice();
-                let is_fine = take_next(
-                    command,
-                    alloc,
-                    &mut table,
-                    index + 1,
-                    octets,
-                    writer,
-                    errors,
-                )?;
-                is_all = both(is_all, is_fine);
-            }
-            Ok(false) => return Ok(status_of(is_all)),
-            Err(FrameError::Short) => return end_short(command, writer),
-            Err(error) => return Err(fault_of(&error)),
-        }
-    }
-    Err(ProgramFault::Read)
-}
-
-/// Whether both hold.
-fn both(first: bool, second: bool) -> bool
-    ensures { result ≡ (first && second) }
-{
-    first && second
-}
-
-/// How the program ends where the stream does, by whether each message is as it is to be.
-fn status_of(is_all: bool) -> Status
-    ensures fine { is_all ≡ true → result ≡ Ends.Fine }
-    ensures refused { is_all ≡ false → result ≡ Ends.Refused }
-{
-    if is_all {
-        Status::Fine
-    } else {
-        Status::Refused
-    }
-}
-
-/// Why the program gives up where no frame was read.
-fn fault_of(error: &FrameError) -> ProgramFault {
-    match error {
-        FrameError::Memory => ProgramFault::Memory,
-        FrameError::Read(error) => failed_read(error),
-        FrameError::Short => ProgramFault::Read,
-    }
-}
-
-/// Writes the end of a stream that ends inside a message.
-fn end_short<W: Write>(command: Command, writer: &mut W) -> Result<Status, ProgramFault>
-    ensures ok { OnOk result (Appends (W.contents writer.old) (W.contents writer.new) (ending_of command)) }
-    ensures status { IfOk result (λ status. status ≡ Ends.Refused) }
-    ensures front { (front : List ℕ) × IsFront front (ending_of command)
-        × Appends (W.contents writer.old) (W.contents writer.new) front }
-{
-    let ending = match command {
-        Command::Stream => "unexpected end of input\n",
-        Command::Message | Command::Rewrite => "",
-    };
-    write_all(writer, ending.as_bytes())?;
-    Ok(Status::Refused)
-}
-
-/// Writes what a command makes of the message of this number, and answers whether it is as it is to be.
-fn take_next<W: Write, E: Write>(
-    command: Command,
-    alloc: Global,
-    table: &mut Writer,
-    number: u64,
-    octets: &[u8],
-    writer: &mut W,
-    errors: &mut E,
-) -> Result<bool, ProgramFault>
-    requires { (command ≡ commands.Stream) ⊎ (command ≡ commands.Rewrite) }
-    ensures ok { IfOk result (λ is_fine. (written : List ℕ) × (note : List ℕ)
-        × IsPiece command number octets.now is_fine written note
-        × Appends (W.contents writer.old) (W.contents writer.new) written
-        × Appends (E.contents errors.old) (E.contents errors.new) note) }
-    ensures front { OnErr result ((front : List ℕ) × (told : List ℕ)
-        × ((is_fine : Bool) (written note : List ℕ) → IsPiece command number octets.now is_fine written note
-        → IsFront front written × IsFront told note)
-        × Appends (W.contents writer.old) (W.contents writer.new) front
-        × Appends (E.contents errors.old) (E.contents errors.new) told) }
-{
-    one_answer();
-    let piece = piece_of(command, alloc, table, number, octets)?;
-    write_piece(
-        writer,
-        errors,
-        piece.output.as_slice(),
-        piece.note.as_slice(),
-    )?;
-    Ok(piece.is_fine)
-}
-
-/// What a command makes of the message of this number.
-fn piece_of(
-    command: Command,
-    alloc: Global,
-    table: &mut Writer,
+    writer: &mut Writer,
     number: u64,
     octets: &[u8],
 ) -> Result<Piece, AllocError>
-    requires { (command ≡ commands.Stream) ⊎ (command ≡ commands.Rewrite) }
     ensures { IfOk result (λ piece.
-        IsPiece command number octets.now piece.is_fine piece.output.items piece.note.items) }
+        IsPiece messages.Rewritten number octets.now piece.is_fine piece.output.items piece.note.items) }
 {
-    match command {
-        Command::Stream => shown_piece(alloc, number, octets),
-        Command::Message | Command::Rewrite => moved_piece(alloc, table, number, octets),
+    let Ok(message) = Message::parse(octets) else {
+        let note = note_on(alloc, number, octets, false)?;
+        return Ok(left_out(alloc, note));
+    };
+    if !writer.rewrite(alloc, &message)? {
+        return Ok(left_out(alloc, Vec::new(alloc)));
+    }
+    let mut output = Vec::new(alloc);
+    // (a vector has no limit, and the octets are at most 65,535: all that is refused is for want of memory)
+    match append_part_u16_be(&mut output, writer.octets.as_slice()) {
+        Ok(()) => Ok(Piece {
+            output,
+            note: Vec::new(alloc),
+            is_fine: true,
+        }),
+        Err(_) => Err(AllocError),
+    }
+}
+
+/// A message that is left out, of which this is told.
+fn left_out(alloc: Global, note: Vec<u8>) -> Piece
+    ensures output { result.output.items ≡ [] }
+    ensures note { result.note.items ≡ note.items }
+    ensures is_fine { result.is_fine ≡ false }
+{
+    Piece {
+        output: Vec::new(alloc),
+        note,
+        is_fine: false,
+    }
+}
+
+impl FrameCommand for Messages {
+    type Tools = Writer;
+
+    ghost fits = { λ _. FitsStream };
+
+    ghost is_piece = { IsPiece };
+
+    fn one_piece(self) {
+        one_stream_piece();
+    }
+
+    fn tools(self, alloc: Global) -> Writer {
+        Writer::new(alloc)
+    }
+
+    fn take(
+        self,
+        alloc: Global,
+        tools: &mut Writer,
+        number: u64,
+        octets: &[u8],
+    ) -> Result<Piece, AllocError> {
+        match self {
+            Messages::Shown => shown_piece(alloc, number, octets),
+            Messages::Rewritten => moved_piece(alloc, tools, number, octets),
+        }
+    }
+}
+
+impl StreamCommand for Messages {
+    ghost code = { λ _. part_of 2 };
+
+    ghost is_rest = { λ _. IsRest };
+
+    ghost is_end = { IsEnd };
+
+    fn one_end(self) {
+        one_stream_piece();
+    }
+
+    fn read_next<R: Read>(
+        self,
+        reader: &mut R,
+        octets: &mut Vec<u8>,
+    ) -> Result<Next, ProgramFault> {
+        match read_frame(reader, octets) {
+            Ok(true) => Ok(Next::Frame),
+            Ok(false) => Ok(Next::End(Ending::Whole)),
+            Err(FrameError::Short) => Ok(Next::End(Ending::Cut)),
+            Err(FrameError::Memory) => Err(ProgramFault::Memory),
+            Err(FrameError::Read(error)) => Err(failed_read(&error)),
+        }
+    }
+
+    fn take_end(self, alloc: Global, _number: u64, ending: Ending) -> Result<Piece, AllocError> {
+        match (ending, self) {
+            (Ending::Whole, _) => Piece::plain(alloc, "", true),
+            (_, Messages::Shown) => Piece::plain(alloc, "unexpected end of input\n", false),
+            (_, Messages::Rewritten) => Piece::plain(alloc, "", false),
+        }
     }
 }

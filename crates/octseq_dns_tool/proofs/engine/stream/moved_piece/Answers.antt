@@ -1,7 +1,7 @@
 use Rattle.std.proofs.Common.{◌≡◌, ℕ, Bool, false, List, [], inl, refl, sym, subst}
 use Rattle.octseq_dns_tool.specs.Shown.{IsMalformed, IsNote}
 use Rattle.octseq_dns_tool.specs.Taken.{IsMoved}
-use Rattle.octseq_dns_tool.proofs.engine.piece.moved_piece.Goals as goal
+use Rattle.octseq_dns_tool.proofs.engine.stream.moved_piece.Goals as goal
 
 -- octets that are no message are left out
 left_malformed : (number : ℕ) (octets : List ℕ) (b : Bool) (written line note : List ℕ) → b ≡ false → written ≡ []
