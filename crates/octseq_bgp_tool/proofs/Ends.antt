@@ -1,0 +1,45 @@
+-- What is made of the rest of a stream of messages.
+use Rattle.std.proofs.Common.{◌≡◌, ◌<◌, ◌∙◌, ◌++◌, ℕ, Bool, true, false, List, [], length, inl, inr, refl, sym, ap}
+use Rattle.std.proofs.Common.{subst, arith}
+use Rattle.std.proofs.lemmas.List.{append-nil}
+use Rattle.octseq.specs.Code.{HasFront}
+use Rattle.octseq_bgp.specs.Stream.{IsCut, IsFramed, IsMisframed}
+use Rattle.octseq_bgp.specs.declared.session.SessionConfig.{SessionConfig}
+use Rattle.octseq_bgp_tool.specs.Out.{as_they_are}
+use Rattle.octseq_bgp_tool.specs.Streams.{IsMessagesEnd, IsMisframedEnd}
+use Rattle.octseq_program.proofs.Ends.{none_at_plain, one_plain_end}
+use Rattle.octseq_program.specs.Frames.{IsPlainEnd}
+
+-- no octets are misframed where there are none
+misframed_some : (s : SessionConfig) → IsMisframed s [] → ⊥
+misframed_some s (inl other) = other (λ k d few. absurd (omega (arith, few)))
+misframed_some s (inr (there, _)) = omega (arith, there)
+
+-- a rest that is nothing or a part of a message isn't misframed
+plain_not_misframed : {P : Type 0} (s : SessionConfig) (text rest ending note : List ℕ) (is_fine : Bool)
+    → IsPlainEnd (IsCut s) text rest is_fine ending note → IsMisframed s rest → P
+plain_not_misframed s text rest ending note true (none, o, n) bad =
+    absurd (misframed_some s (subst (IsMisframed s) none bad))
+plain_not_misframed s text rest ending note false (cut, o, n) bad = absurd (cut.1 bad)
+
+-- one thing is made of a rest
+pub one_messages_end : (s : SessionConfig) (number : ℕ) (rest x y e f : List ℕ) (a b : Bool)
+    → IsMessagesEnd s number rest a x e → IsMessagesEnd s number rest b y f → (a ≡ b) × (x ≡ y) × (e ≡ f)
+one_messages_end s number rest x y e f a b (inl p) (inl q) =
+    one_plain_end (IsCut s) (λ octets cut. cut.0) _ rest x y e f a b p q
+one_messages_end s number rest x y e f a b (inr (mis, fine, o, n)) (inr (also, all, p, m)) =
+    (fine ∙ sym all, o ∙ sym p, n ∙ sym m)
+one_messages_end s number rest x y e f a b (inl p) (inr (mis, _)) = plain_not_misframed s _ rest x e a p mis
+one_messages_end s number rest x y e f a b (inr (mis, _)) (inl q) = plain_not_misframed s _ rest y f b q mis
+
+-- by the laws of framed messages: none is at the front of nothing, and none begins with misframed octets
+module _ (nothing : (s : SessionConfig) → ¬ HasFront (IsFramed s) as_they_are [])
+    (misframed : (s : SessionConfig) (octets more : List ℕ) → IsMisframed s octets
+    → ¬ HasFront (IsFramed s) as_they_are (octets ++ more)) where
+  -- no message is at the front of a rest
+  pub none_at_messages_end : (s : SessionConfig) (number : ℕ) (octets written note : List ℕ) (is_fine : Bool)
+      → IsMessagesEnd s number octets is_fine written note → ¬ HasFront (IsFramed s) as_they_are octets
+  none_at_messages_end s number octets written note is_fine (inl p) =
+      none_at_plain (IsCut s) (IsFramed s) as_they_are (nothing s) (λ octets cut. cut.2) _ octets written note is_fine p
+  none_at_messages_end s number octets written note is_fine (inr (mis, _)) =
+      subst (λ l. ¬ HasFront (IsFramed s) as_they_are l) (append-nil octets) (misframed s octets [] mis)

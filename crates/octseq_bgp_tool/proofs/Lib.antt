@@ -1,0 +1,5 @@
+pub mod Ends
+pub mod OneAnswer
+pub mod OnePiece
+pub mod OneRecord
+pub mod Words

@@ -1,0 +1,58 @@
+-- What is made of a message is a function of it.
+use Rattle.std.proofs.Common.{◌≡◌, ◌++◌, ◌∙◌, ℕ, Bool, true, false, List, codes, refl, sym, ap, subst}
+use Rattle.octseq_bgp.specs.Message.{Message, IsMessage}
+use Rattle.octseq_bgp.specs.MessageText.{IsMessageText}
+use Rattle.octseq_bgp.specs.Stop.{IsStop}
+use Rattle.octseq_bgp.specs.declared.session.SessionConfig.{SessionConfig}
+use Rattle.octseq_bgp_tool.specs.Shown.{HasText, IsMessagePiece, IsNote, IsShown}
+use Rattle.octseq_bgp_tool.specs.Streams.{IsBlock}
+use Rattle.octseq_program.specs.Frames.{stop_line}
+
+-- by the law of places: of octets that are no message one thing is told
+module _ (one_stop : (s : SessionConfig) (octets : List ℕ) (x y : ℕ) → IsStop s octets x → IsStop s octets y → x ≡ y)
+  where
+    pub one_note : (what : List ℕ) (s : SessionConfig) (number : ℕ) (octets x y : List ℕ) (b : Bool)
+        → IsNote what s number octets b x → IsNote what s number octets b y → x ≡ y
+    one_note what s number octets x y true p q = p ∙ sym q
+    one_note what s number octets x y false (here, is, e) (there, it, f) =
+        e ∙ ap (stop_line what number) (one_stop s octets here there is it) ∙ sym f
+
+-- by the laws of messages: octets are a message in one way, and a message has one text
+module _ (one_message : (s : SessionConfig) (octets : List ℕ) (m n : Message) → IsMessage s octets m
+    → IsMessage s octets n → m ≡ n)
+    (one_text : (m : Message) (text other : List ℕ) → IsMessageText m text → IsMessageText m other → text ≡ other) where
+  -- of octets one thing is shown
+  pub one_shown : (s : SessionConfig) (octets x y : List ℕ) (b c : Bool) → IsShown s octets b x → IsShown s octets c y
+      → (x ≡ y) × (b ≡ c)
+  one_shown s octets x y true true p q =
+      let same = one_message s octets p.message q.message p.is_message q.is_message in
+      (one_text q.message x y (subst (λ m. IsMessageText m x) same p.is_text) q.is_text, refl)
+  one_shown s octets x y false false p q = (p.1 ∙ sym q.1, refl)
+  one_shown s octets x y true false p q = absurd (q.0 p.message p.is_message)
+  one_shown s octets x y false true p q = absurd (p.0 q.message q.is_message)
+
+-- by both
+module _ (one_shown : (s : SessionConfig) (octets x y : List ℕ) (b c : Bool) → IsShown s octets b x
+    → IsShown s octets c y → (x ≡ y) × (b ≡ c))
+    (one_note : (what : List ℕ) (s : SessionConfig) (number : ℕ) (octets x y : List ℕ) (b : Bool)
+    → IsNote what s number octets b x → IsNote what s number octets b y → x ≡ y) where
+  -- one thing is made of an input
+  pub one_message_piece : (s : SessionConfig) (number : ℕ) (octets x y e f : List ℕ) (a b : Bool)
+      → IsMessagePiece s number octets a x e → IsMessagePiece s number octets b y f → (a ≡ b) × (x ≡ y) × (e ≡ f)
+  one_message_piece s number octets x y e f a b (p, n) (q, m) =
+      let same = one_shown s octets x y a b p q in
+      let what = codes "message" in
+      let moved = subst (λ a. IsNote what s number octets a e) same.1 n in
+      (same.1, same.0, one_note what s number octets e f b moved m)
+
+  -- one thing is made of a message of a stream
+  pub one_block : (s : SessionConfig) (number : ℕ) (octets x y e f : List ℕ) (a b : Bool)
+      → IsBlock s number octets a x e → IsBlock s number octets b y f → (a ≡ b) × (x ≡ y) × (e ≡ f)
+  one_block s number octets x y e f a b (is_message, shown, p, n, fine, w) (is_other, other, q, m, also, v) =
+      let same = one_shown s octets shown other is_message is_other p q in
+      let what = codes "message" in
+      let moved = subst (λ b. IsNote what s number octets b e) same.1 n in (
+        fine ∙ sym also,
+        w ∙ ap (λ l. l ++ codes "\n") same.0 ∙ sym v,
+        one_note what s number octets e f is_other moved m,
+      )

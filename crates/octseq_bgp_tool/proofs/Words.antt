@@ -1,0 +1,63 @@
+-- Words that name commands: each names one.
+use Rattle.std.proofs.Common.{◌≡◌, ◌∙◌, ◌-◌, ℕ, Bool, true, false, List, drop, get_or, length, if◌then◌else◌}
+use Rattle.std.proofs.Common.{nat_eq, refl, sym, ap}
+use Rattle.octseq_bgp_tool.specs.Words.{name_of, words_of}
+use Rattle.octseq_bgp_tool.specs.declared.engine.Command.{Command}
+use Rattle.octseq_bgp_tool.specs.declared.engine.Command.TheVariants.{Message, Stream, Mrt, Messages}
+use Rattle.octseq_bgp_tool.specs.declared.options.Options.{Options}
+
+-- the options with these
+abbrev pub options : Bool → Bool → Bool → Options
+options two_octet add_path extended =
+    record { two_octet = two_octet; add_path = add_path; extended = extended }
+
+-- the words begin with `,t`
+abbrev begins_with_t : List ℕ → Bool
+begins_with_t words = nat_eq (get_or words 1 0) 116
+
+-- the options that words tell: `,t` begins the first of them, `,a` the second, and the third alone ends with `d`
+abbrev told_by : List ℕ → Options
+told_by words =
+    options (begins_with_t words)
+    (nat_eq (get_or (if begins_with_t words then drop 10 words else words) 1 0) 97)
+    (nat_eq (get_or words (length words - 1) 0) 100)
+
+told_again : (a b c : Bool) → told_by (words_of (options a b c)) ≡ options a b c
+told_again false false false = refl
+told_again false false true = refl
+told_again false true false = refl
+told_again false true true = refl
+told_again true false false = refl
+told_again true false true = refl
+told_again true true false = refl
+told_again true true true = refl
+
+-- no words of options begin with `s`
+not_an_s : (a b c : Bool) → nat_eq (get_or (words_of (options a b c)) 0 0) 115 ≡ false
+not_an_s false false false = refl
+not_an_s false false true = refl
+not_an_s false true false = refl
+not_an_s false true true = refl
+not_an_s true false false = refl
+not_an_s true false true = refl
+not_an_s true true false = refl
+not_an_s true true true = refl
+
+-- the command that a word names: by its first letter, its second, and what follows `message`
+abbrev command_told : List ℕ → Command
+command_told word =
+    if nat_eq (get_or word 0 0) 115 then Stream (told_by (drop 6 word))
+    else (if nat_eq (get_or word 1 0) 114 then Mrt
+    else (if nat_eq (get_or word 7 0) 115 then Messages else Message (told_by (drop 7 word))))
+
+command_again : (c : Command) → command_told (name_of c) ≡ c
+command_again Mrt = refl
+command_again Messages = refl
+command_again (Stream o) = ap Stream (told_again o.two_octet o.add_path o.extended)
+command_again (Message o) =
+    ap (λ is. if is then Messages else Message (told_by (words_of o))) (not_an_s o.two_octet o.add_path o.extended)
+    ∙ ap Message (told_again o.two_octet o.add_path o.extended)
+
+-- no two commands have one name
+pub same_name : (c d : Command) → name_of c ≡ name_of d → c ≡ d
+same_name c d e = sym (command_again c) ∙ ap command_told e ∙ command_again d
