@@ -1,9 +1,9 @@
 use super::Command;
+use octseq_program::engine::engine;
 use octseq_program::hostile::Drip;
-use octseq_program::{ProgramFault, Status};
-use std::alloc::Global;
+use octseq_program::{ProgramFault, Status, command_word};
+use std::alloc::{AllocError, Global};
 use std::fmt::Debug;
-use std::io::{self, Read, Write};
 use std::process::Abort;
 use std::test::Fail;
 
@@ -23,4 +23,221 @@ macro_rules! assert_true {
 
 fn equal<T: PartialEq + Debug + Drop>(rt: &impl Abort, what: &str, left: T, right: T) {
     assert_eq!(rt; left, right, "{what}");
+}
+
+mod hostile;
+mod records;
+mod refused;
+mod streams;
+
+/// The octets that a message begins with.
+const MARKER: [u8; 16] = [0xFF; 16];
+
+/// A KEEPALIVE after its marker.
+const KEEPALIVE: [u8; 3] = [0, 19, 4];
+
+/// An UPDATE after its marker: ORIGIN, AS_PATH, NEXT_HOP, and a prefix.
+const UPDATE: [u8; 31] = [
+    0, 0x2F, 2, 0, 0, 0, 0x14, 0x40, 1, 1, 0, 0x40, 2, 6, 2, 1, 0, 0, 0xFD, 0xFC, 0x40, 3, 4, 10,
+    0, 0, 1, 0x18, 9, 9, 9,
+];
+
+/// The text of `UPDATE`.
+const UPDATE_TEXT: &str = "update\n\
+    attribute T ORIGIN IGP\n\
+    attribute T AS_PATH sequence 65020\n\
+    attribute T NEXT_HOP 10.0.0.1\n\
+    announced 9.9.9.0/24\n";
+
+/// The text of `UPDATE` where AS numbers have two octets.
+const SHORT_TEXT: &str = "update\n\
+    attribute T ORIGIN IGP\n\
+    attribute T AS_PATH \\# 6 02010000fdfc\n\
+    attribute T NEXT_HOP 10.0.0.1\n\
+    announced 9.9.9.0/24\n";
+
+/// An UPDATE after its marker: a prefix after a path id.
+const PATH: [u8; 15] = [0, 0x1F, 2, 0, 0, 0, 0, 0, 0, 0, 7, 0x18, 9, 9, 9];
+
+/// What a word writes for octets, on standard output and on standard error.
+#[derive(Debug, Drop, PartialEq)]
+struct Outcome {
+    answer: Result<Status, ProgramFault>,
+    written: Vec<u8>,
+    errors: Vec<u8>,
+}
+
+/// What a word writes for octets that come so many at once, where all reads but the first ones fail.
+fn told(alloc: Global, word: &str, octets: &[u8], at_once: usize, reads: usize) -> Outcome {
+    let mut reader = Drip {
+        rest: octets,
+        at_once,
+        reads,
+    };
+    let (mut written, mut errors) = (Vec::new(alloc), Vec::new(alloc));
+    let (output, notes) = (&mut written, &mut errors);
+    let answer = engine::<Command, _, _, _>(alloc, word, &mut reader, output, notes);
+    Outcome {
+        answer,
+        written,
+        errors,
+    }
+}
+
+/// Checks what a word writes for octets that come one at a time.
+fn shows(
+    rt: &impl Abort,
+    alloc: Global,
+    word: &str,
+    octets: &[u8],
+    status: Status,
+    text: &str,
+    lines: &str,
+) {
+    let it = told(alloc, word, octets, 1, usize::MAX);
+    assert_equal!(rt, it.answer, Ok(status));
+    assert_equal!(rt, it.written.as_slice(), text.as_bytes());
+    assert_equal!(rt, it.errors.as_slice(), lines.as_bytes());
+}
+
+/// Octets one after another.
+fn joined(alloc: Global, parts: &[&[u8]]) -> Result<Vec<u8>, AllocError> {
+    let mut octets = Vec::new(alloc);
+    for part in parts {
+        octets.extend_from_slice(part)?;
+    }
+    Ok(octets)
+}
+
+/// Messages, each after its marker.
+fn messages(alloc: Global, bodies: &[&[u8]]) -> Result<Vec<u8>, AllocError> {
+    let mut octets = Vec::new(alloc);
+    for body in bodies {
+        octets.extend_from_slice(&MARKER)?;
+        octets.extend_from_slice(body)?;
+    }
+    Ok(octets)
+}
+
+#[test]
+fn message_is_shown(rt: HostRuntime) -> Result<(), Fail> {
+    let update = messages(rt.alloc(), &[&UPDATE])?;
+    let path = messages(rt.alloc(), &[&PATH])?;
+    let with_path = "update\nannounced 9.9.9.0/24 path 7\n";
+    let fine = Status::Fine;
+    shows(&rt, rt.alloc(), "message", &update, fine, UPDATE_TEXT, "");
+    shows(
+        &rt,
+        rt.alloc(),
+        "message,two-octet",
+        &update,
+        fine,
+        SHORT_TEXT,
+        "",
+    );
+    shows(
+        &rt,
+        rt.alloc(),
+        "message,extended",
+        &update,
+        fine,
+        UPDATE_TEXT,
+        "",
+    );
+    shows(
+        &rt,
+        rt.alloc(),
+        "message,add-path",
+        &path,
+        fine,
+        with_path,
+        "",
+    );
+    let all = "message,two-octet,add-path,extended";
+    shows(&rt, rt.alloc(), all, &path, fine, with_path, "");
+    Ok(())
+}
+
+#[test]
+fn a_malformed_message_is_told_with_its_place(rt: HostRuntime) -> Result<(), Fail> {
+    // (no octets, an unknown type, an octet too many, and prefixes that need path ids)
+    let cases = [
+        ("message", joined(rt.alloc(), &[])?, 0),
+        ("message", messages(rt.alloc(), &[&[0, 19, 6]])?, 0),
+        ("message", messages(rt.alloc(), &[&[0, 20, 4, 0]])?, 19),
+        ("message,add-path", messages(rt.alloc(), &[&UPDATE])?, 43),
+    ];
+    for (word, octets, place) in cases {
+        let line = format!(in rt.alloc(); "message 1: malformed at octet {place}\n")?;
+        shows(
+            &rt,
+            rt.alloc(),
+            word,
+            &octets,
+            Status::Refused,
+            "malformed\n",
+            &line,
+        );
+    }
+    Ok(())
+}
+
+#[test]
+fn no_argument_is_message(rt: HostRuntime) -> Result<(), Fail> {
+    let octets = messages(rt.alloc(), &[&KEEPALIVE])?;
+    let word = command_word::<Command>(&[]);
+    shows(
+        &rt,
+        rt.alloc(),
+        word,
+        &octets,
+        Status::Fine,
+        "keepalive\n",
+        "",
+    );
+    Ok(())
+}
+
+#[test]
+fn help_tells_commands_and_statuses(rt: HostRuntime) -> Result<(), Fail> {
+    let it = told(rt.alloc(), "--help", b"a", 1, 0);
+    assert_equal!(&rt, it.answer, Ok(Status::Fine));
+    assert_true!(&rt, it.errors.is_empty());
+    let text = str::from_utf8(&it.written)?;
+    for part in [
+        "  message   ",
+        "  stream    ",
+        "  mrt       ",
+        "  messages  ",
+        "  --help    ",
+        "  two-octet  ",
+        "  add-path   ",
+        "  extended   ",
+        "\nstatus:\n  0  ",
+        "\n  4  ",
+    ] {
+        assert_eq!(rt; text.contains(part), true, "{part}");
+    }
+    Ok(())
+}
+
+#[test]
+fn another_word_is_told_on_standard_error(rt: HostRuntime) {
+    let help = told(rt.alloc(), "--help", b"a", 1, 0).written;
+    for word in [
+        "",
+        "Stream",
+        "rewrite",
+        "messages,two-octet",
+        "mrt,extended",
+        "stream,",
+        "stream,add-path,two-octet",
+        "message,extended,extended",
+        "messagetwo-octet",
+    ] {
+        let it = told(rt.alloc(), word, b"a", 1, 0);
+        assert_eq!(rt; it.answer, Ok(Status::Usage), "{word}");
+        assert_true!(&rt, it.written.is_empty());
+        assert_equal!(&rt, it.errors.as_slice(), help.as_slice());
+    }
 }

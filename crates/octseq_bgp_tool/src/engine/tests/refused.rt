@@ -1,0 +1,78 @@
+//! Refused requests for memory.
+//!
+//! `.ci/refused` runs these tests with their n-th request refused, for each n up to the last of them. A refusal
+//! ends a test by the error that it was answered with, once the test has seen that a front of the output was written.
+use super::records::{file, file_text};
+use super::{Command, KEEPALIVE, UPDATE, UPDATE_TEXT, messages};
+use octseq::array::Array;
+use octseq_program::engine::engine;
+use octseq_program::hostile::Fixed;
+use octseq_program::{ProgramFault, Status};
+use std::alloc::{AllocError, Global};
+use std::io;
+use std::process::Abort;
+use std::test::Fail;
+
+/// Runs a command, which writes its whole output, or a front of it where memory is refused.
+fn is_told(
+    rt: &impl Abort,
+    alloc: Global,
+    word: &str,
+    octets: &[u8],
+    output: &[u8],
+) -> Result<(), Fail> {
+    let mut writer = Fixed::<512> {
+        taken: Array::new(),
+    };
+    let (mut rest, errors) = (octets, &mut io::sink());
+    let answer = engine::<Command, _, _, _>(alloc, word, &mut rest, &mut writer, errors);
+    let taken = writer.taken.as_slice();
+    assert_equal!(rt, output.get(..taken.len()), Some(taken));
+    match answer {
+        Ok(status) => {
+            assert_equal!(rt, status, Status::Fine);
+            assert_equal!(rt, taken.len(), output.len());
+            Ok(())
+        }
+        Err(fault) => {
+            assert_equal!(rt, fault, ProgramFault::Memory);
+            Err(Fail::from(AllocError))
+        }
+    }
+}
+
+#[test]
+fn message_tells_all_or_nothing(rt: HostRuntime) -> Result<(), Fail> {
+    let octets = messages(rt.alloc(), &[&UPDATE])?;
+    is_told(&rt, rt.alloc(), "message", &octets, UPDATE_TEXT.as_bytes())
+}
+
+#[test]
+fn stream_tells_a_front(rt: HostRuntime) -> Result<(), Fail> {
+    let octets = messages(rt.alloc(), &[&KEEPALIVE, &[0, 19, 6]])?;
+    is_told(
+        &rt,
+        rt.alloc(),
+        "stream",
+        &octets,
+        b"keepalive\n\nmalformed\n\n",
+    )
+}
+
+#[test]
+fn records_tell_a_front(rt: HostRuntime) -> Result<(), Fail> {
+    let octets = file(rt.alloc())?;
+    let text = file_text(rt.alloc())?;
+    is_told(&rt, rt.alloc(), "mrt", &octets, text.as_bytes())
+}
+
+#[test]
+fn another_word_requests_nothing(rt: HostRuntime) {
+    let mut notes = Fixed::<4096> {
+        taken: Array::new(),
+    };
+    let (mut rest, output, errors) = (b"a".as_slice(), &mut io::sink(), &mut notes);
+    let answer = engine::<Command, _, _, _>(rt.alloc(), "mesage", &mut rest, output, errors);
+    assert_equal!(&rt, answer, Ok(Status::Usage));
+    assert_true!(&rt, notes.taken.as_slice().len() > 0);
+}

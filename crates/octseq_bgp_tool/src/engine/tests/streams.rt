@@ -1,0 +1,146 @@
+//! Streams of messages.
+use super::{KEEPALIVE, MARKER, SHORT_TEXT, UPDATE, UPDATE_TEXT, joined, messages, shows, told};
+use octseq::StrBuilder;
+use octseq_program::{ProgramFault, Status};
+use std::alloc::{AllocError, Global};
+use std::process::Abort;
+use std::test::Fail;
+
+/// Texts one after another.
+fn texts(alloc: Global, parts: &[&str]) -> Result<StrBuilder<Vec<u8>>, AllocError> {
+    let mut text = StrBuilder::<Vec<u8>>::new(alloc)?;
+    for part in parts {
+        text.push_str(part)?;
+    }
+    Ok(text)
+}
+
+#[test]
+fn stream_goes_on_after_a_malformed_message(rt: HostRuntime) -> Result<(), Fail> {
+    let bodies: [&[u8]; 4] = [&KEEPALIVE, &[0, 20, 4, 0], &[0, 19, 6], &UPDATE];
+    let octets = messages(rt.alloc(), &bodies)?;
+    let lines = "message 2: malformed at octet 19\nmessage 3: malformed at octet 0\n";
+    let front = "keepalive\n\nmalformed\n\nmalformed\n\n";
+    let text = texts(rt.alloc(), &[front, UPDATE_TEXT, "\n"])?;
+    shows(
+        &rt,
+        rt.alloc(),
+        "stream",
+        &octets,
+        Status::Fine,
+        text.as_str(),
+        lines,
+    );
+    let short = texts(rt.alloc(), &[front, SHORT_TEXT, "\n"])?;
+    shows(
+        &rt,
+        rt.alloc(),
+        "stream,two-octet",
+        &octets,
+        Status::Fine,
+        short.as_str(),
+        lines,
+    );
+    Ok(())
+}
+
+#[test]
+fn stream_of_no_messages_shows_nothing(rt: HostRuntime) {
+    shows(&rt, rt.alloc(), "stream", b"", Status::Fine, "", "");
+}
+
+/// Checks that a stream of a KEEPALIVE and this rest ends so.
+fn ends(
+    rt: &impl Abort,
+    alloc: Global,
+    rest: &[u8],
+    ending: &str,
+    line: &str,
+) -> Result<(), AllocError> {
+    let octets = joined(alloc, &[&MARKER, &KEEPALIVE, rest])?;
+    let text = texts(alloc, &["keepalive\n\n", ending])?;
+    shows(
+        rt,
+        alloc,
+        "stream",
+        &octets,
+        Status::Refused,
+        text.as_str(),
+        line,
+    );
+    Ok(())
+}
+
+#[test]
+fn stream_tells_that_it_is_cut_off(rt: HostRuntime) -> Result<(), Fail> {
+    let whole = messages(rt.alloc(), &[&UPDATE])?;
+    for len in 1..whole.len() {
+        ends(
+            &rt,
+            rt.alloc(),
+            &whole[..len],
+            "unexpected end of input\n",
+            "",
+        )?;
+    }
+    Ok(())
+}
+
+#[test]
+fn stream_ends_where_no_message_is_framed(rt: HostRuntime) -> Result<(), Fail> {
+    // (another octet in the marker, be it the first or the last, and lengths of 18 and of 4,097)
+    let rests = [
+        joined(rt.alloc(), &[&[0xFE]])?,
+        joined(rt.alloc(), &[&MARKER[..15], &[0xFE, 0, 19, 4]])?,
+        messages(rt.alloc(), &[&[0, 18, 4]])?,
+        messages(rt.alloc(), &[&[0x10, 1, 2, 0, 0, 0, 0], &KEEPALIVE])?,
+    ];
+    for rest in rests {
+        ends(
+            &rt,
+            rt.alloc(),
+            &rest,
+            "malformed\n\n",
+            "message 2: malformed at octet 0\n",
+        )?;
+    }
+    Ok(())
+}
+
+#[test]
+fn a_long_message_is_shown_where_it_may_be_long(rt: HostRuntime) -> Result<(), Fail> {
+    // (65,512 prefixes of no bits)
+    let mut octets = messages(rt.alloc(), &[&[0xFF, 0xFF, 2, 0, 0, 0, 0]])?;
+    octets.resize(65_535, 0)?;
+    let it = told(
+        rt.alloc(),
+        "stream,extended",
+        &octets,
+        usize::MAX,
+        usize::MAX,
+    );
+    assert_equal!(&rt, it.answer, Ok(Status::Fine));
+    let line = "announced 0.0.0.0/0\n";
+    assert_equal!(&rt, it.written.len(), 7 + 65_512 * line.len() + 1);
+    assert_true!(
+        &rt,
+        it.written
+            .as_slice()
+            .ends_with(b"/0\nannounced 0.0.0.0/0\n\n")
+    );
+    let short = told(rt.alloc(), "stream", &octets, usize::MAX, usize::MAX);
+    assert_equal!(&rt, short.answer, Ok(Status::Refused));
+    assert_equal!(&rt, short.written.as_slice(), b"malformed\n\n".as_slice());
+    Ok(())
+}
+
+#[test]
+fn a_live_source_shows_at_once(rt: HostRuntime) -> Result<(), Fail> {
+    let octets = messages(rt.alloc(), &[&KEEPALIVE, &UPDATE])?;
+    // (two reads give the first message, and the third fails)
+    let it = told(rt.alloc(), "stream", &octets, usize::MAX, 2);
+    assert_equal!(&rt, it.answer, Err(ProgramFault::Read));
+    assert_equal!(&rt, it.written.as_slice(), b"keepalive\n\n".as_slice());
+    assert_true!(&rt, it.errors.is_empty());
+    Ok(())
+}
