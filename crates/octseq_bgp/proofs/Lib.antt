@@ -13,6 +13,7 @@ pub mod OneMessage
 pub mod ReadOctets
 pub mod Shown
 pub mod Spoken
+pub mod Stops
 pub mod Streams
 pub mod Texts
 pub mod Types
