@@ -14,6 +14,7 @@ pub mod ReadOctets
 pub mod Shown
 pub mod Spoken
 pub mod Stops
+pub mod StopsAtEnd
 pub mod Streams
 pub mod Texts
 pub mod Types

@@ -1,16 +1,19 @@
 -- Reading stops at one place.
-use Rattle.std.proofs.Common.{◌≡◌, ◌+◌, ◌<◌, ◌≤◌, ℕ, List, [], ◌∷◌, length, inl, inr, sym, ap, ◌∙◌, subst, arith, true, false}
+use Rattle.std.proofs.Common.{◌≡◌, ◌+◌, ◌<◌, ◌≤◌, ℕ, List, [], ◌∷◌, length, inl, inr, refl, sym, ap, ◌∙◌, subst}
+use Rattle.std.proofs.Common.{true, false, is_ok, Result, Ok, Err, arith}
+use Rattle.std.specs.Prelude.{OnOk}
 use Rattle.octseq.specs.Window.{Window, left, past, whole}
 use Rattle.octseq_format.proofs.RowSteps.{to_ends}
 use Rattle.octseq_format.specs.Laws.{Relation, NoneAt, IsOne}
 use Rattle.octseq_format.specs.Row.{Row}
 use Rattle.octseq_bgp.specs.Entry.{Entry, IsEntry, IsCounted}
 use Rattle.octseq_bgp.specs.Fills.{Whole}
+use Rattle.octseq_bgp.specs.Message.{IsHeader, IsShortEnough}
 use Rattle.octseq_bgp.specs.OneEntry.{one_entry, entry_moves, one_octets}
 use Rattle.octseq_bgp.specs.Open.{IsLong, parameter_form}
 use Rattle.octseq_bgp.specs.Session.{prefix_form}
 use Rattle.octseq_bgp.specs.Stop.{EntriesStop, AreFilled, ListStop, LastStop, ThingStop, FixedStop, CountedStop}
-use Rattle.octseq_bgp.specs.Stop.{ParametersStop, OpenStop, ListsStop, UpdateStop, BodyStop, IsStop}
+use Rattle.octseq_bgp.specs.Stop.{ParametersStop, ListsStop, UpdateStop, BodyStop, HasHeader, IsStop}
 use Rattle.octseq_bgp.specs.declared.entry.Form.{Form}
 use Rattle.octseq_bgp.specs.declared.entry.Form.TheVariants as form
 use Rattle.octseq_bgp.specs.declared.family.AfiSafiType.TheVariants as family
@@ -134,3 +137,29 @@ one_stop s octets x y (inl (kind, body, header, p)) (inl (other, there, also, q)
 one_stop s octets x y (inl (kind, body, header, p)) (inr (none, e)) = absurd (none kind body header)
 one_stop s octets x y (inr (none, e)) (inl (kind, body, header, p)) = absurd (none kind body header)
 one_stop s octets x y (inr (none, e)) (inr (_, f)) = e ∙ sym f
+
+-- ---- what was read
+
+-- what holds where a call succeeds
+pub on_ok : {T E P : Type 0} (result : Result T E) → is_ok result ≡ true → OnOk result P → P
+on_ok (Ok value) is p = p
+on_ok (Err e) is p = absurd (cc)
+
+-- reading stops in what follows a header
+pub stops_in : (s : SessionConfig) (octets : List ℕ) (kind : ℕ) (body : Window) (place : ℕ)
+    → IsHeader (whole octets) (length octets, (kind, body)) → IsShortEnough s kind (length octets) → 1 ≤ kind → kind ≤ 5
+    → BodyStop s kind body place → IsStop s octets place
+stops_in s octets kind body place header short least most stop =
+    let has : HasHeader s octets kind body = record { header = header; short = short; known = (least, most) } in
+    inl (kind, body, has, stop)
+
+-- or at the first octet, where the type isn't known
+pub stops_at_none : (s : SessionConfig) (octets : List ℕ) (kind : ℕ) (body : Window)
+    → IsHeader (whole octets) (length octets, (kind, body)) → ((1 ≤ kind) × (kind ≤ 5) → ⊥) → IsStop s octets 0
+stops_at_none s octets kind body header unknown =
+    let known = λ (h : ℕ × (ℕ × Window)). (1 ≤ h.1.0) × (h.1.0 ≤ 5) in
+    inr (
+      λ other there has. unknown (subst known (one_header (whole octets) (length octets, (other, there))
+          (length octets, (kind, body)) has.header header) has.known),
+      refl,
+    )
