@@ -13,6 +13,8 @@ pub mod OneMessage
 pub mod ReadOctets
 pub mod Shown
 pub mod Spoken
+pub mod Stops
+pub mod StopsAtEnd
 pub mod Streams
 pub mod Texts
 pub mod Types

@@ -12,7 +12,7 @@ use Rattle.octseq.specs.Integer.{be, octets_be}
 use Rattle.octseq.specs.Window.{left, next, past, whole}
 use Rattle.octseq_format.specs.Canonical.{IsSound, each_next, many_next, sound_past}
 use Rattle.octseq_bgp.specs.Message.{Message, IsMessage, IsShortEnough}
-use Rattle.octseq_bgp.specs.Stream.{IsMarked, IsFramed, BeginsFramed, HasOtherLength, IsMisframed, IsCut}
+use Rattle.octseq_bgp.specs.Stream.{IsMarked, IsFramed, IsFront, BeginsFramed, IsMisframed, IsCut}
 use Rattle.octseq_bgp.specs.Stream.{longest_message, message_length}
 use Rattle.octseq_bgp.specs.declared.session.SessionConfig.{SessionConfig}
 use Rattle.octseq_bgp.proofs.ReadOctets.{range_in_front, apart_by}
@@ -130,17 +130,6 @@ few_begin_none s octets few (a, rest, framed, e) =
     let all = length-append a rest in
     omega (arith, few, least, both, all)
 
--- so do a front and fewer octets than it says
-pub less_begin_none : (s : SessionConfig) (front read : List ℕ) → length front ≡ 18
-    → 18 + length read < message_length front → ¬ BeginsFramed s (front ++ read)
-less_begin_none s front read long less (a, rest, framed, e) =
-    let both = length-append front read in
-    let says = begins_length s (front ++ read) a rest (omega (arith, long, both)) framed e in
-    let kept = length_in_front front read (omega (arith, long)) in
-    let size = ap length e in
-    let all = length-append a rest in
-    omega (arith, long, less, both, says, kept, size, all)
-
 -- marked octets before a length aren't misframed
 not_misframed : (s : SessionConfig) (octets : List ℕ) → length octets < 18 → IsMarked octets → ¬ IsMisframed s octets
 not_misframed s octets few marked (inl other) = other marked
@@ -150,3 +139,67 @@ not_misframed s octets few marked (inr (there, _)) = omega (arith, few, there)
 pub cut_before : (s : SessionConfig) (octets : List ℕ) → 0 < length octets → length octets < 18 → IsMarked octets
     → IsCut s octets
 cut_before s octets some few marked = (some, not_misframed s octets few marked, few_begin_none s octets (omega (arith, few)))
+
+-- neither do a front and fewer octets than follow it
+less_begin_none : (s : SessionConfig) (front read : List ℕ) (more : ℕ) → IsFront s front more → length read < more
+    → ¬ BeginsFramed s (front ++ read)
+less_begin_none s front read more is less (a, rest, framed, e) =
+    let both = length-append front read in
+    let says = begins_length s (front ++ read) a rest (omega (arith, is.long, both)) framed e in
+    let kept = length_in_front front read (omega (arith, is.long)) in
+    let size = ap length e in
+    let all = length-append a rest in
+    omega (arith, is.long, is.says, less, both, says, kept, size, all)
+
+front_not_misframed : (s : SessionConfig) (front read : List ℕ) (more : ℕ) → IsFront s front more
+    → ¬ IsMisframed s (front ++ read)
+front_not_misframed s front read more is (inl other) = other (marked_more front read (omega (arith, is.long)) is.marked)
+front_not_misframed s front read more is (inr (there, inl few)) =
+    let kept = length_in_front front read (omega (arith, is.long)) in
+    omega (arith, kept, few, is.says, is.least)
+front_not_misframed s front read more is (inr (there, inr many)) =
+    let kept = length_in_front front read (omega (arith, is.long)) in
+    omega (arith, kept, many, is.says, is.most)
+
+-- reading stopped after a front
+pub after_front : (s : SessionConfig) (given mid left : Option (List ℕ)) (front read : List ℕ) (more : ℕ)
+    → IsFront s front more → Consumes given mid front → length read < more → Consumes mid left read
+    → (octets : List ℕ) × ¬ BeginsFramed s octets × Consumes given left octets
+after_front s given mid left front read more is first less second = (
+  front ++ read,
+  less_begin_none s front read more is less,
+  Consumes-trans given mid left front read first second,
+)
+
+-- the input ended after a front
+pub cut_after_front : (s : SessionConfig) (given mid left : Option (List ℕ)) (front read : List ℕ) (more : ℕ)
+    → IsFront s front more → Consumes given mid front → length read < more → Consumes mid left read → IsAtEnd left
+    → (octets : List ℕ) × IsCut s octets × Consumes given left octets × IsAtEnd left
+cut_after_front s given mid left front read more is first less second end =
+    let both = length-append front read in (
+      front ++ read,
+      (
+        omega (arith, is.long, both),
+        front_not_misframed s front read more is,
+        less_begin_none s front read more is less,
+      ),
+      Consumes-trans given mid left front read first second,
+      end,
+    )
+
+-- a front and what follows it were read
+pub whole_message : (s : SessionConfig) (given mid left : Option (List ℕ)) (front read octets : List ℕ) (more : ℕ)
+    → IsFront s front more → Consumes given mid front → length read ≡ more → octets ≡ front ++ read
+    → Consumes mid left read → IsFramed s octets × Consumes given left octets
+whole_message s given mid left front read octets more is first all same second =
+    let both = length-append front read in
+    let kept = length_in_front front read (omega (arith, is.long)) in
+    let whole_is : IsFramed s (front ++ read) = record {
+      marked = marked_more front read (omega (arith, is.long)) is.marked;
+      whole = omega (arith, is.long, is.says, all, both, kept);
+      least = omega (arith, is.long, is.least, all, both);
+      most = omega (arith, is.long, is.most, all, both);
+    } in (
+      subst (IsFramed s) (sym same) whole_is,
+      subst (Consumes given left) (sym same) (Consumes-trans given mid left front read first second),
+    )

@@ -1,6 +1,6 @@
 -- Streams of messages, one after another: RFC 4271, 4.1, and RFC 8654 for how long one may be.
 use Rattle.std.specs.List.{All}
-use Rattle.std.specs.Prelude.{◌≡◌, if◌then◌else◌, ℕ, ◌<◌, ◌≤◌, ◌⊎◌, List, length, take, slice_range}
+use Rattle.std.specs.Prelude.{◌≡◌, if◌then◌else◌, ℕ, ◌+◌, ◌<◌, ◌≤◌, ◌⊎◌, List, length, take, slice_range}
 use Rattle.octseq.specs.Code.{HasFront}
 use Rattle.octseq.specs.Integer.{be}
 use Rattle.octseq_bgp.specs.declared.session.SessionConfig.{SessionConfig}
@@ -24,6 +24,14 @@ pub record IsFramed (s : SessionConfig) (octets : List ℕ) : Type 0 where
   pub whole : length octets ≡ message_length octets
   pub least : 19 ≤ length octets
   pub most : length octets ≤ longest_message s
+
+-- A marker and a length, which a message of the session may have: so many octets follow.
+pub record IsFront (s : SessionConfig) (octets : List ℕ) (more : ℕ) : Type 0 where
+  pub marked : IsMarked octets
+  pub long : length octets ≡ 18
+  pub says : 18 + more ≡ message_length octets
+  pub least : 1 ≤ more
+  pub most : 18 + more ≤ longest_message s
 
 -- a framed message is at the front of the octets
 abbrev pub BeginsFramed : SessionConfig → List ℕ → Type 0

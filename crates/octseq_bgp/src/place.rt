@@ -115,9 +115,8 @@ fn place_in_update<R: AsOctets + Copy>(parser: Parser<R>, session: &SessionConfi
     let Ok(withdrawn) = Part::parse(&mut ahead) else {
         return parser.pos();
     };
-    let place = ahead.pos();
     let Ok(attributes) = Part::parse(&mut ahead) else {
-        return place;
+        return ahead.pos();
     };
     place_in_lists(withdrawn, attributes, ahead, session)
 }
@@ -159,9 +158,9 @@ fn first_other<R: AsOctets + Copy>(parser: Parser<R>, form: Form) -> Option<usiz
     let mut ahead = parser;
     'entries: while ahead.remaining() > 0 {
         let place = ahead.pos();
-        if Entry::parse(&mut ahead, form).is_err() {
+        let Ok(_entry) = Entry::parse(&mut ahead, form) else {
             return Some(place);
-        }
+        };
     }
     None
 }

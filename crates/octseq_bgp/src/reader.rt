@@ -1,13 +1,14 @@
 //! A reader of streams of messages, which holds one message at a time: RFC 4271, 4.1.
 ghost use Rattle.std.specs.Prelude.{◌≡◌, ◌≢◌, ◌++◌, ◌↔◌, ℕ, true, false, List, [], length};
-ghost use Rattle.std.specs.Prelude.{IsTrue, IfOk, IsErr, OnErr, Ok, Err};
+ghost use Rattle.std.specs.Prelude.{IsTrue, IfOk, IfSome, IsErr, OnErr, Ok, Err, None};
 ghost use Rattle.std.specs.Io.KnownBytes.{Consumes, IsAtEnd};
+ghost use Rattle.std.specs.List.{All};
 ghost use Rattle.octseq.specs.Code.{HasFront};
 ghost use Rattle.octseq_format.specs.Canonical.{AreOctets};
 ghost use Rattle.octseq_bgp.specs.Message.{IsMessage};
 ghost use Rattle.octseq_bgp.specs.Message as said;
 ghost use Rattle.octseq_bgp.specs.MessageReader.{reader_of, session_of, octets_of, is_over, as_message_error};
-ghost use Rattle.octseq_bgp.specs.Stream.{IsFramed, BeginsFramed, IsMisframed, IsCut};
+ghost use Rattle.octseq_bgp.specs.Stream.{IsFramed, IsFront, IsMisframed, IsCut};
 ghost use Rattle.octseq_bgp.specs.Stream.{IsMarked, longest_message, message_length};
 ghost use Rattle.octseq_bgp.specs.declared.session.SessionConfig.{SessionConfig as Session};
 
@@ -101,6 +102,9 @@ impl From<FillError> for ReadMessageError {
     }
 }
 
+/// How many octets a marker has.
+const MARKER: usize = 16;
+
 /// How many octets a marker and a length have.
 const FRONT: usize = 18;
 
@@ -132,6 +136,33 @@ pub fn read_message<R: Read>(
     ensures err { OnErr result ((read : List ℕ) × ¬ HasFront (IsFramed session.now) (λ octets. octets) read
         × Consumes (R.remaining reader.old) (R.remaining reader.new) read) }
 {
+    let Some(len) = read_front(reader, session, octets)? else {
+        return Ok(false);
+    };
+    if !append_octets(reader, octets, len)? {
+        return Err(ReadMessageError::Short);
+    }
+    Ok(true)
+}
+
+/// Reads the marker and the length of the next message into a vector, in place of what that holds, and answers how many
+/// octets follow, or `None` at the end of the input.
+fn read_front<R: Read>(
+    reader: &mut R,
+    session: &SessionConfig,
+    octets: &mut Vec<u8>,
+) -> Result<Option<usize>, ReadMessageError>
+    ensures front { IfOk result (λ len. IfSome len (λ len. IsFront session.now octets.new.items len
+        × Consumes (R.remaining reader.old) (R.remaining reader.new) octets.new.items)) }
+    ensures end { result ≡ Ok None → Consumes (R.remaining reader.old) (R.remaining reader.new) []
+        × IsAtEnd (R.remaining reader.new) }
+    ensures short { result ≡ Err ReadMessageError.Short → (read : List ℕ) × IsCut session.now read
+        × Consumes (R.remaining reader.old) (R.remaining reader.new) read × IsAtEnd (R.remaining reader.new) }
+    ensures malformed { result ≡ Err ReadMessageError.Malformed → (read : List ℕ) × IsMisframed session.now read
+        × Consumes (R.remaining reader.old) (R.remaining reader.new) read }
+    ensures err { OnErr result ((read : List ℕ) × ¬ HasFront (IsFramed session.now) (λ octets. octets) read
+        × Consumes (R.remaining reader.old) (R.remaining reader.new) read) }
+{
     octets.clear();
     let is_there = append_octets(reader, octets, FRONT)?;
     if !is_marked(octets.as_slice()) {
@@ -139,7 +170,7 @@ pub fn read_message<R: Read>(
     }
     if !is_there {
         if octets.is_empty() {
-            return Ok(false);
+            return Ok(None);
         }
         return Err(ReadMessageError::Short);
     }
@@ -147,10 +178,7 @@ pub fn read_message<R: Read>(
     if len < LEAST || len > longest_message(session) {
         return Err(ReadMessageError::Malformed);
     }
-    if !append_octets(reader, octets, len - FRONT)? {
-        return Err(ReadMessageError::Short);
-    }
-    Ok(true)
+    Ok(Some(len - FRONT))
 }
 
 /// As many octets as a message of the session may have.
@@ -168,7 +196,18 @@ fn longest_message(session: &SessionConfig) -> usize
 fn is_marked(octets: &[u8]) -> bool
     ensures { IsTrue result ↔ IsMarked octets.now }
 {
-    octets.iter().take(16).all(|octet| *octet == 255)
+    if octets.len() < MARKER {
+        are_255(octets)
+    } else {
+        are_255(&octets[..MARKER])
+    }
+}
+
+/// Whether each of the octets is 255.
+fn are_255(octets: &[u8]) -> bool
+    ensures { IsTrue result ↔ All (λ octet. octet ≡ 255) octets.now }
+{
+    octets.iter().all(|&octet| octet == 255)
 }
 
 /// The length that a marker is followed by.
@@ -177,7 +216,7 @@ fn length_of(front: &[u8]) -> usize
     ensures { result ≡ message_length front.now }
 {
     let mut parser = Parser::from_static(front);
-    match (parser.advance(16), parser.parse_u16_be()) {
+    match (parser.advance(MARKER), parser.parse_u16_be()) {
         (Ok(()), Ok(len)) => usize::from(len),
         _ => 0,
     }
