@@ -6,8 +6,8 @@ ghost use Rattle.octseq.specs.Window.{Window, rest};
 ghost use Rattle.octseq_bgp.specs.MessageText.{line};
 ghost use Rattle.octseq_bgp.specs.OctetsText.{spaced};
 ghost use Rattle.octseq_mrt.specs.Parsed.{peer_of, peers_left, table_of, event_of, bgp4mp_of, value_of, record_of};
-ghost use Rattle.octseq_mrt.specs.RecordText.{peer_lines, table_text, table_lines, microseconds_text, session_text};
-ghost use Rattle.octseq_mrt.specs.RecordText.{IsOctetsText, IsEventText, IsBgp4MpText, opaque_record_text};
+ghost use Rattle.octseq_mrt.specs.RecordText.{peer_lines, table_text, table_lines, six_digits, microseconds_text};
+ghost use Rattle.octseq_mrt.specs.RecordText.{session_text, IsOctetsText, IsEventText, IsBgp4MpText, opaque_record_text};
 ghost use Rattle.octseq_mrt.specs.RecordText.{IsValueText, IsRecordText};
 ghost use Rattle.octseq_mrt.specs.Text.{peer_text};
 ghost use Rattle.octseq_mrt.specs.declared.header.CommonHeader.{CommonHeader as Header};
@@ -87,6 +87,13 @@ fn write_table<W: fmt::Write, R: AsOctets + Copy>(
     write_peers(f, table.peers)
 }
 
+/// Writes a number in six digits at least.
+fn write_six_digits<W: fmt::Write>(f: &mut fmt::Formatter<W>, number: u32) -> fmt::Result
+    ensures { WritesOnOk W.write_str_gives f.old result (six_digits number) f.new }
+{
+    write!(f, "{number:06}")
+}
+
 /// Writes microseconds, where there are some.
 fn write_microseconds<W: fmt::Write>(
     f: &mut fmt::Formatter<W>,
@@ -95,7 +102,10 @@ fn write_microseconds<W: fmt::Write>(
     ensures { WritesOnOk W.write_str_gives f.old result (microseconds_text microseconds) f.new }
 {
     match microseconds {
-        Some(number) => write!(f, ".{number:06}"),
+        Some(number) => {
+            f.write_str(".")?;
+            write_six_digits(f, number)
+        }
         None => Ok(()),
     }
 }
