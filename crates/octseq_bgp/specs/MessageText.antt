@@ -108,7 +108,3 @@ IsMessageText (Message.update u) text = IsUpdateText u text
 IsMessageText (Message.notification n) text = IsNotificationText n text
 IsMessageText Message.keepalive text = text ≡ codes "keepalive\n"
 IsMessageText (Message.route_refresh r) text = text ≡ line (codes "route-refresh") (refresh_text r)
-
--- something is said of one text at most
-abbrev pub OneAtMost : (List ℕ → Type 0) → Type 0
-OneAtMost Is = (text other : List ℕ) → Is text → Is other → text ≡ other

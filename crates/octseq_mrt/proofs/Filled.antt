@@ -1,7 +1,7 @@
 -- What fills a window is read one thing after another.
-use Rattle.std.proofs.Common.{◌≡◌, ℕ, ◌+◌, ◌<◌, ◌≤◌, Bool, Option, List, [], ◌∷◌, refl, ap, ◌∙◌, subst, arith}
+use Rattle.std.proofs.Common.{◌≡◌, ℕ, ◌+◌, ◌<◌, ◌≤◌, Bool, Option, List, [], ◌∷◌, length, refl, ap, ◌∙◌, subst, arith}
 use Rattle.std.proofs.Math.Logic.{∥∥₁_elim}
-use Rattle.std.specs.Coded.{Coded, Coded-set, coded_list}
+use Rattle.std.specs.Coded.{Coded, Coded-set, coded_list, le_prop}
 use mathlib.Core.HLevel.{⊥_prop}
 use Rattle.octseq.specs.Integer.{be}
 use Rattle.octseq.specs.Window.{Window, left}
@@ -29,6 +29,21 @@ pub ahead_none : {A : Type 0} (code : Coded A) (Is : Relation A) → IsMoving Is
     → left w ≡ 0 → ahead.0 ≡ []
 ahead_none code Is moving w ahead none = ∥∥₁_elim ahead.1 (Coded-set (coded_list code) ahead.0 [])
     (λ x. row_none Is moving w x.0 ahead.0 none x.1.0)
+
+row_fits : {A : Type 0} (Is : Relation A) → IsMoving Is → (w v : Window) (row : List A) → Row Is w row v
+    → length row + left v ≤ left w
+row_fits Is moving w v [] is = let same = ap left is in omega (arith, same)
+row_fits Is moving w v (x ∷ row) is =
+    let less = moving.on w x is.0 is.1 in
+    let more = row_fits Is moving is.0 v row is.2 in
+    omega (arith, less, more)
+
+-- no more things than octets are left
+pub ahead_fits : {A : Type 0} (Is : Relation A) → IsMoving Is → (w : Window) (ahead : AllAhead Is w)
+    → length ahead.0 ≤ left w
+ahead_fits Is moving w ahead = ∥∥₁_elim ahead.1 le_prop (λ f.
+    let fits = row_fits Is moving w f.0 ahead.0 f.1.0 in
+    omega (arith, fits))
 
 row_not : {A : Type 0} (Is : Relation A) (w v : Window) (row : List A) → 0 < left w → left v ≡ 0 → Row Is w row v
     → NoneAt Is w → ⊥

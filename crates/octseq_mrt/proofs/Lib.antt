@@ -5,3 +5,4 @@ pub mod OneKind
 pub mod OneRecord
 pub mod Reading
 pub mod Steps
+pub mod Texts

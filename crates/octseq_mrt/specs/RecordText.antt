@@ -89,9 +89,13 @@ IsRibText h r text = (entries : List ℕ) × AreEntryLines r.entries entries
 
 -- ---- BGP4MP
 
--- microseconds, where there are some: after a full stop, and after zeros (48) where they have fewer than six digits
+-- a number of six digits at least: zeros (48), where it has fewer, and the number
+abbrev pub six_digits : ℕ → List ℕ
+six_digits n = replicate (6 - length (decimal n)) 48 ++ decimal n
+
+-- microseconds, where there are some, after a full stop
 abbrev pub microseconds_text : Option ℕ → List ℕ
-microseconds_text (Some n) = codes "." ++ replicate (6 - length (decimal n)) 48 ++ decimal n
+microseconds_text (Some n) = codes "." ++ six_digits n
 microseconds_text None = []
 
 -- a session: its time, its subtype, its speakers, and a change of state

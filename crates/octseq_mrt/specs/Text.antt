@@ -36,7 +36,7 @@ states_text (Event.state_change states) = codes " state " ++ decimal states.0 ++
 states_text (Event.message session octets) = []
 
 -- the speakers of a session, an interface, and a change of state
-abbrev pub bgp4mp_text : Bgp4Mp → List ℕ
+unfoldable pub bgp4mp_text : Bgp4Mp → List ℕ
 bgp4mp_text b = codes "peer " ++ ip_text b.peer_addr ++ codes " as " ++ decimal b.peer_asn ++ codes " local "
     ++ ip_text b.local_addr ++ codes " as " ++ decimal b.local_asn ++ codes " interface " ++ decimal b.interface
     ++ states_text b.event

@@ -90,6 +90,7 @@ impl<R: AsOctets> fmt::Display for Event<R> {
 impl<R: AsOctets + Copy> fmt::Display for Bgp4Mp<R> {
     ghost output = { λ it. Some (bgp4mp_text (bgp4mp_of it)) };
 
+    #[tactic(auto, unfolding(crate::specs::Text::bgp4mp_text))]
     fn fmt<W: fmt::Write>(&self, f: &mut fmt::Formatter<W>) -> fmt::Result {
         let peer = AddressText(self.peer_addr);
         let remote = self.peer_asn;

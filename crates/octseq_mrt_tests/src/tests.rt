@@ -11,3 +11,4 @@ mod kinds;
 mod readers;
 mod records;
 mod refused;
+mod texts;

@@ -7,7 +7,8 @@ ghost use Rattle.octseq.specs.Display.{display_error};
 ghost use Rattle.octseq.specs.Limit.{IsPast};
 ghost use Rattle.octseq.specs.Refusal.{Refusal, Is, IsShort, IsMemory};
 ghost use Rattle.octseq.specs.Text.{begins_within};
-ghost use Rattle.octseq_bgp.specs.MessageText.{IsMessageText, OneAtMost};
+ghost use Rattle.octseq_bgp.specs.MessageText.{IsMessageText};
+ghost use Rattle.octseq_bgp.specs.OneText.{OneAtMost};
 
 use crate::message::Message;
 use octseq::builder::OctetsLimit;

@@ -1,24 +1,24 @@
 //! The text of records, line by line.
 ghost use Rattle.std.specs.Prelude.{◌≡◌, ◌++◌, ℕ, List, None, codes, OnOk};
 ghost use Rattle.std.specs.Fmt.{WritesOnOk, HasWritten, IsPlainFormatter, decimal};
-ghost use Rattle.octseq.specs.Parser.{window};
-ghost use Rattle.octseq.specs.Window.{Window, rest};
+ghost use Rattle.octseq.specs.Window.{Window};
 ghost use Rattle.octseq_bgp.specs.MessageText.{line};
 ghost use Rattle.octseq_bgp.specs.OctetsText.{spaced};
 ghost use Rattle.octseq_mrt.specs.Parsed.{peer_of, peers_left, table_of, event_of, bgp4mp_of, value_of, record_of};
-ghost use Rattle.octseq_mrt.specs.RecordText.{peer_lines, table_text, table_lines, microseconds_text, session_text};
-ghost use Rattle.octseq_mrt.specs.RecordText.{IsOctetsText, IsEventText, IsBgp4MpText, opaque_record_text};
+ghost use Rattle.octseq_mrt.specs.RecordText.{peer_lines, table_text, table_lines, six_digits, microseconds_text};
+ghost use Rattle.octseq_mrt.specs.RecordText.{session_text, IsOctetsText, IsEventText, IsBgp4MpText, opaque_record_text};
 ghost use Rattle.octseq_mrt.specs.RecordText.{IsValueText, IsRecordText};
 ghost use Rattle.octseq_mrt.specs.Text.{peer_text};
 ghost use Rattle.octseq_mrt.specs.declared.header.CommonHeader.{CommonHeader as Header};
 
-use crate::bgp4mp::{Bgp4Mp, Event, MessageOctets};
+use crate::bgp4mp::{Bgp4Mp, Event};
 use crate::header::CommonHeader;
 use crate::peer::{PeerEntry, PeerIndexTable, Peers};
 use crate::record::{Record, RecordValue};
 use crate::text::rib::write_rib;
 use octseq::AsOctets;
 use octseq_bgp::text::{write_dotted, write_opaque, write_string};
+use octseq_bgp::{Message, SessionConfig};
 use std::fmt;
 
 /// A record has one text at most.
@@ -87,6 +87,13 @@ fn write_table<W: fmt::Write, R: AsOctets + Copy>(
     write_peers(f, table.peers)
 }
 
+/// Writes a number in six digits at least.
+fn write_six_digits<W: fmt::Write>(f: &mut fmt::Formatter<W>, number: u32) -> fmt::Result
+    ensures { WritesOnOk W.write_str_gives f.old result (six_digits number) f.new }
+{
+    write!(f, "{number:06}")
+}
+
 /// Writes microseconds, where there are some.
 fn write_microseconds<W: fmt::Write>(
     f: &mut fmt::Formatter<W>,
@@ -95,7 +102,10 @@ fn write_microseconds<W: fmt::Write>(
     ensures { WritesOnOk W.write_str_gives f.old result (microseconds_text microseconds) f.new }
 {
     match microseconds {
-        Some(number) => write!(f, ".{number:06}"),
+        Some(number) => {
+            f.write_str(".")?;
+            write_six_digits(f, number)
+        }
         None => Ok(()),
     }
 }
@@ -115,16 +125,16 @@ fn write_session<W: fmt::Write, R: AsOctets + Copy>(
     write!(f, " {subtype} {it}\n")
 }
 
-/// Writes the lines of a message, or `malformed`.
-fn write_message<W: fmt::Write, R: AsOctets + Copy>(
+/// Writes the lines of the message that octets are, or `malformed`.
+fn write_octets<W: fmt::Write, R: AsOctets + Copy>(
     f: &mut fmt::Formatter<W>,
-    octets: &MessageOctets<R>,
+    octets: R,
+    session: SessionConfig,
 ) -> fmt::Result
-    ensures { OnOk result ((lines : List ℕ)
-        × IsOctetsText octets.now.session (rest (window octets.now.octets)) lines
+    ensures { OnOk result ((lines : List ℕ) × IsOctetsText session (R.content octets) lines
         × (IsPlainFormatter f.old → HasWritten W.write_str_gives f.old lines f.new)) }
 {
-    match octets.message() {
+    match Message::parse(octets, session) {
         Ok(message) => fmt::Display::fmt(&message, f),
         Err(_) => f.write_str("malformed\n"),
     }
@@ -140,7 +150,7 @@ fn write_event<W: fmt::Write, R: AsOctets + Copy>(
 {
     match event {
         Event::StateChange(_, _) => Ok(()),
-        Event::Message(octets) => write_message(f, octets),
+        Event::Message(it) => write_octets(f, it.octets.peek_all(), it.session),
     }
 }
 
