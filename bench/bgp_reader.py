@@ -367,20 +367,18 @@ def message_text(message, session):
 
 
 def stream_text(octets, session):
-    """The text of messages one after another, each with an empty line after it."""
+    """The text of messages one after another, each with an empty line after it, and whether all were read."""
     text, place = "", 0
     while place < len(octets):
         header = octets[place:place + 18]
-        if header[:16] != MARKER[:len(header)]:
-            return text + "malformed\n\n"
         size = int.from_bytes(header[16:], "big")
-        if len(header) == 18 and not 19 <= size <= session.longest:
-            return text + "malformed\n\n"
+        if header[:16] != MARKER[:len(header)] or len(header) == 18 and not 19 <= size <= session.longest:
+            return text + "malformed\n\n", False
         if len(header) < 18 or len(octets) < place + size:
-            return text + "unexpected end of input\n"
+            return text + "unexpected end of input\n", False
         text += message_text(octets[place:place + size], session) + "\n"
         place += size
-    return text
+    return text, True
 
 
 def peer_lines(time, octets):
@@ -419,21 +417,26 @@ def table_lines(time, subtype, data):
     return lines
 
 
-def bgp4mp_lines(time, kind, subtype, data):
+def bgp4mp(kind, subtype, data):
+    """What is shown after the time of a BGP4MP record, its message, and the session of that, if it has one."""
     octets = Octets(data)
-    if kind == BGP4MP_ET:
-        time = f"{time}.{octets.val_num(4):06}"
+    fraction = f".{octets.val_num(4):06}" if kind == BGP4MP_ET else ""
     demand(subtype in (0, 1, 4, 5, 6, 7, 8, 9, 10, 11))
     size = 4 if subtype in (4, 5, 7, 9, 11) else 2
     remote, local, interface, afi = octets.val_asn(size), octets.val_asn(size), octets.val_num(2), octets.val_num(2)
     demand(afi in ADDRESSES)
     there, here = octets.val_addr(afi), octets.val_addr(afi)
-    line = f"bgp4mp {time} {subtype} peer {there} as {remote} local {here} as {local} interface {interface}"
+    shown = f"{fraction} {subtype} peer {there} as {remote} local {here} as {local} interface {interface}"
     if subtype in (0, 5):
-        line += f" state {octets.val_num(2)} {octets.val_num(2)}"
+        shown += f" state {octets.val_num(2)} {octets.val_num(2)}"
         demand(octets.size() == 0)
-        return [line]
-    return [line] + message_lines(octets.rest(), Session(size, subtype >= 8, 65535))
+        return shown, None, None
+    return shown, octets.rest(), Session(size, subtype >= 8, 65535)
+
+
+def bgp4mp_lines(time, kind, subtype, data):
+    shown, message, session = bgp4mp(kind, subtype, data)
+    return [f"bgp4mp {time}{shown}"] + ([] if message is None else message_lines(message, session))
 
 
 def record_lines(time, kind, subtype, data):
@@ -446,14 +449,38 @@ def record_lines(time, kind, subtype, data):
         return [f"record {time} {kind} {subtype} {opaque(data)}"]
 
 
-def mrt_text(octets):
-    """The text of records one after another, each with an empty line after it."""
-    text, octets = [], Octets(octets)
+def messages_of_record(kind, subtype, data):
+    """The message of a record, if it has one that isn't malformed."""
+    try:
+        demand(kind in (BGP4MP, BGP4MP_ET))
+        _, message, session = bgp4mp(kind, subtype, data)
+        demand(message is not None and message_lines(message, session) != ["malformed"])
+        return [message]
+    except MrtFormatError:
+        return []
+
+
+def records_of(octets):
+    """The time, type, subtype and data of records one after another, and whether all were read."""
+    records, octets = [], Octets(octets)
     while octets.size():
         try:
             time, kind, subtype = octets.val_num(4), octets.val_num(2), octets.val_num(2)
-            data = octets.counted(4)
+            records.append((time, kind, subtype, octets.counted(4)))
         except MrtFormatError:
-            return "".join(text) + "unexpected end of input\n"
-        text.append(text_of(record_lines(time, kind, subtype, data)) + "\n")
-    return "".join(text)
+            return records, False
+    return records, True
+
+
+def mrt_text(octets):
+    """The text of records one after another, each with an empty line after it, and whether all were read."""
+    records, is_whole = records_of(octets)
+    texts = [text_of(record_lines(*record)) + "\n" for record in records]
+    return "".join(texts) + ("" if is_whole else "unexpected end of input\n"), is_whole
+
+
+def mrt_messages(octets):
+    """The messages of records one after another, and whether all records were read."""
+    records, is_whole = records_of(octets)
+    messages = [message for _, *record in records for message in messages_of_record(*record)]
+    return b"".join(messages), is_whole
