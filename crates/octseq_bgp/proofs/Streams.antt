@@ -6,7 +6,7 @@ use Rattle.std.proofs.lemmas.List.{length-append, take-append-le}
 use Rattle.std.proofs.lemmas.List.Elements.{All-from_recursion, recursion_from_All, All-replicate}
 use Rattle.std.specs.Io.KnownBytes.{Consumes, IsAtEnd}
 use Rattle.std.specs.List.{All, AllByRecursion}
-use Rattle.std.specs.Prelude.{IsTrue, if◌then◌else◌, replicate}
+use Rattle.std.specs.Prelude.{IsTrue, if◌then◌else◌, replicate, ◌⊎◌}
 use Rattle.octseq.proofs.WrittenBack.{AreOctets, small_be, as_be}
 use Rattle.octseq.specs.Integer.{be, octets_be}
 use Rattle.octseq.specs.Window.{left, next, past, whole}
@@ -56,6 +56,18 @@ begins_length : (s : SessionConfig) (octets a more : List ℕ) → 18 ≤ length
 begins_length s octets a more there framed e =
     let least = framed.least in
     ap message_length e ∙ length_in_front a more (omega (arith, least)) ∙ sym framed.whole
+
+-- misframed octets stay so
+pub misframed_more : (s : SessionConfig) (octets more : List ℕ) → IsMisframed s octets
+    → IsMisframed s (octets ++ more)
+misframed_more s octets more (inl other) = inl (λ marked. other (marked_front octets more marked))
+misframed_more s octets more (inr (there, other)) =
+    let both = length-append octets more in
+    let says = sym (length_in_front octets more there) in
+    inr (
+      omega (arith, there, both),
+      subst (λ n. (n < 19) ⊎ (longest_message s < n)) says other,
+    )
 
 -- with misframed octets no framed message begins
 pub begins_none : (s : SessionConfig) (octets more : List ℕ) → IsMisframed s octets → ¬ BeginsFramed s (octets ++ more)

@@ -57,7 +57,7 @@ pub use prefix::{Nlri, PathId, Prefix, Prefixes};
 pub use reach::{MpReachNlri, MpUnreachNlri};
 pub use reader::{
     MessageReader, ReadMessageError, framed_messages_are_apart, messages_are_framed,
-    misframed_begins_none, read_message,
+    misframed_begins_none, misframed_octets_stay_so, read_message,
 };
 pub use session::{AddPath, SessionConfig};
 pub use text::one_text;

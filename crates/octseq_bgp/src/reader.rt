@@ -37,6 +37,14 @@ pub fn misframed_begins_none()
         → ¬ HasFront (IsFramed session) (λ octets. octets) (octets ++ more) }
 {}
 
+/// Octets that are misframed stay so, whatever follows them.
+///
+/// It does nothing. A caller that calls it has the law in its proof.
+pub fn misframed_octets_stay_so()
+    ensures { (session : Session) (octets more : List ℕ) → IsMisframed session octets
+        → IsMisframed session (octets ++ more) }
+{}
+
 /// Octets that are a message are framed as one.
 ///
 /// It does nothing. A caller that calls it has the law in its proof.

@@ -1,7 +1,7 @@
 -- What is made of the rest of a stream of messages.
-use Rattle.std.proofs.Common.{◌≡◌, ◌<◌, ◌∙◌, ◌++◌, ℕ, Bool, true, false, List, [], length, inl, inr, refl, sym, ap}
+use Rattle.std.proofs.Common.{◌≡◌, ◌+◌, ◌∙◌, ◌++◌, ℕ, Bool, true, false, List, [], length, inl, inr, refl, sym, ap}
 use Rattle.std.proofs.Common.{subst, arith}
-use Rattle.std.proofs.lemmas.List.{append-nil}
+use Rattle.std.proofs.lemmas.List.{append-nil, length-append}
 use Rattle.octseq.specs.Code.{HasFront}
 use Rattle.octseq_bgp.specs.Stream.{IsCut, IsFramed, IsMisframed}
 use Rattle.octseq_bgp.specs.declared.session.SessionConfig.{SessionConfig}
@@ -32,14 +32,20 @@ one_messages_end s number rest x y e f a b (inr (mis, fine, o, n)) (inr (also, a
 one_messages_end s number rest x y e f a b (inl p) (inr (mis, _)) = plain_not_misframed s _ rest x e a p mis
 one_messages_end s number rest x y e f a b (inr (mis, _)) (inl q) = plain_not_misframed s _ rest y f b q mis
 
--- by the laws of framed messages: none is at the front of nothing, and none begins with misframed octets
-module _ (nothing : (s : SessionConfig) → ¬ HasFront (IsFramed s) as_they_are [])
-    (misframed : (s : SessionConfig) (octets more : List ℕ) → IsMisframed s octets
+-- no message is at the front of nothing
+no_message : (s : SessionConfig) → ¬ HasFront (IsFramed s) as_they_are []
+no_message s (a, more, framed, e) =
+    let least = framed.least in
+    let none : 0 ≡ length a + length more = ap length e ∙ length-append a more in
+    omega (arith, least, none)
+
+-- by the law of framed messages: none begins with misframed octets
+module _ (misframed : (s : SessionConfig) (octets more : List ℕ) → IsMisframed s octets
     → ¬ HasFront (IsFramed s) as_they_are (octets ++ more)) where
   -- no message is at the front of a rest
   pub none_at_messages_end : (s : SessionConfig) (number : ℕ) (octets written note : List ℕ) (is_fine : Bool)
       → IsMessagesEnd s number octets is_fine written note → ¬ HasFront (IsFramed s) as_they_are octets
   none_at_messages_end s number octets written note is_fine (inl p) =
-      none_at_plain (IsCut s) (IsFramed s) as_they_are (nothing s) (λ octets cut. cut.2) _ octets written note is_fine p
+      none_at_plain (IsCut s) (IsFramed s) as_they_are (no_message s) (λ octets cut. cut.2) _ octets written note is_fine p
   none_at_messages_end s number octets written note is_fine (inr (mis, _)) =
       subst (λ l. ¬ HasFront (IsFramed s) as_they_are l) (append-nil octets) (misframed s octets [] mis)

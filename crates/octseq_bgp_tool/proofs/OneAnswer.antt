@@ -1,6 +1,6 @@
 -- What is written is a function of the word and the input.
-use Rattle.std.proofs.Common.{◌≡◌, ◌++◌, ◌∙◌, ℕ, List, [], Bool, sym, ap}
-use Rattle.std.proofs.lemmas.List.{append_cancel_left}
+use Rattle.std.proofs.Common.{◌≡◌, ◌+◌, ◌++◌, ◌∙◌, ℕ, List, [], Bool, length, sym, ap, arith}
+use Rattle.std.proofs.lemmas.List.{append_cancel_left, length-append}
 use Rattle.octseq.specs.Code.{HasFront, IsCode}
 use Rattle.octseq_bgp.specs.Stream.{IsFramed, IsMisframed}
 use Rattle.octseq_bgp.specs.declared.session.SessionConfig.{SessionConfig}
@@ -25,12 +25,19 @@ pub one_records_end : (c : Records) (number : ℕ) (rest x y e f : List ℕ) (a 
     → IsRecordsEnd c number rest a x e → IsRecordsEnd c number rest b y f → (a ≡ b) × (x ≡ y) × (e ≡ f)
 one_records_end c number = one_plain_end IsCut (λ octets cut. cut.0) (cut_text c)
 
+-- no record is at the front of nothing: it has four octets at least
+no_record : ¬ BeginsWithRecord []
+no_record (a, more, fits, e) =
+    let some = fits.1.1.1.1.0 in
+    let none : 0 ≡ length a + length more = ap length e ∙ length-append a more in
+    omega (arith, some, none)
+
 -- no record is at the front of a rest
-pub none_at_records_end : ¬ BeginsWithRecord [] → (c : Records) (number : ℕ) (octets written note : List ℕ)
+pub none_at_records_end : (c : Records) (number : ℕ) (octets written note : List ℕ)
     (is_fine : Bool)
     → IsRecordsEnd c number octets is_fine written note → ¬ HasFront IsRecordOctets as_they_are octets
-none_at_records_end nothing c number =
-    none_at_plain IsCut IsRecordOctets as_they_are nothing (λ octets cut. cut.1) (cut_text c)
+none_at_records_end c number =
+    none_at_plain IsCut IsRecordOctets as_they_are no_record (λ octets cut. cut.1) (cut_text c)
 
 -- what is apart is a code of itself
 pub code_of : (Fits : List ℕ → Type 0) → ((a b x y : List ℕ) → Fits a → Fits b → a ++ x ≡ b ++ y → a ≡ b)
@@ -40,7 +47,7 @@ code_of Fits apart a b x y fits suits e =
     (same, append_cancel_left a x y (e ∙ ap (λ l. l ++ y) (sym same)))
 
 -- by the laws: one thing is made of an input, of a message and of a record; framed messages and records are apart, and
--- none is at the front of nothing
+-- no message begins with misframed octets
 module _ (one_message : (s : SessionConfig) (number : ℕ) (octets x y e f : List ℕ) (a b : Bool)
     → IsMessagePiece s number octets a x e → IsMessagePiece s number octets b y f → (a ≡ b) × (x ≡ y) × (e ≡ f))
     (one_block : (s : SessionConfig) (number : ℕ) (octets x y e f : List ℕ) (a b : Bool)
@@ -48,24 +55,22 @@ module _ (one_message : (s : SessionConfig) (number : ℕ) (octets x y e f : Lis
     (one_record : (c : Records) (number : ℕ) (octets x y e f : List ℕ) (a b : Bool)
     → IsRecordPiece c number octets a x e → IsRecordPiece c number octets b y f → (a ≡ b) × (x ≡ y) × (e ≡ f))
     (messages : (s : SessionConfig) (a b x y : List ℕ) → IsFramed s a → IsFramed s b → a ++ x ≡ b ++ y → a ≡ b)
-    (no_message : (s : SessionConfig) → ¬ HasFront (IsFramed s) as_they_are [])
     (misframed : (s : SessionConfig) (octets more : List ℕ) → IsMisframed s octets
     → ¬ HasFront (IsFramed s) as_they_are (octets ++ more))
-    (records : (a b x y : List ℕ) → IsRecordOctets a → IsRecordOctets b → a ++ x ≡ b ++ y → a ≡ b)
-    (no_record : ¬ BeginsWithRecord []) where
+    (records : (a b x y : List ℕ) → IsRecordOctets a → IsRecordOctets b → a ++ x ≡ b ++ y → a ≡ b) where
   one_stream_out : (s : SessionConfig) (input x y e f : List ℕ) (t u : Status)
       → IsStreamOut (IsFramed s) as_they_are (IsBlock s) (IsMessagesEnd s) input x e t
       → IsStreamOut (IsFramed s) as_they_are (IsBlock s) (IsMessagesEnd s) input y f u
       → (x ≡ y) × (e ≡ f) × (t ≡ u)
   one_stream_out s =
       one_stream (IsFramed s) as_they_are (IsBlock s) (IsMessagesEnd s) (code_of (IsFramed s) (messages s))
-      (one_block s) (none_at_messages_end no_message misframed s) (one_messages_end s)
+      (one_block s) (none_at_messages_end misframed s) (one_messages_end s)
 
   one_records : (c : Records) (input x y e f : List ℕ) (t u : Status) → RecordsOut c input x e t
       → RecordsOut c input y f u → (x ≡ y) × (e ≡ f) × (t ≡ u)
   one_records c =
       one_stream IsRecordOctets as_they_are (IsRecordPiece c) (IsRecordsEnd c) (code_of IsRecordOctets records)
-      (one_record c) (none_at_records_end no_record c) (one_records_end c)
+      (one_record c) (none_at_records_end c) (one_records_end c)
 
   -- a command has one output and one status for an input
   pub one_output : (c : Command) (input x y e f : List ℕ) (t u : Status) → Out c input x e t → Out c input y f u

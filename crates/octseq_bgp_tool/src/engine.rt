@@ -6,13 +6,13 @@ ghost use Rattle.octseq_bgp_tool.specs.declared.engine.Command.{Command};
 ghost use Rattle.octseq_program.specs.Run.{IsNamed};
 ghost use Rattle.octseq_program.specs.declared.status.Status.{Status};
 
-use crate::engine::messages::Messages;
-use crate::engine::records::Records;
-use crate::engine::shown::OneMessage;
+use crate::engine::messages::{Messages, one_stream_piece};
+use crate::engine::records::{Records, one_record_piece};
+use crate::engine::shown::{OneMessage, one_message_piece};
 use crate::options::Options;
-use octseq_program::{
-    Commands, FrameCommand, ProgramFault, Status, StreamCommand, take_stream, take_whole,
-};
+use octseq_bgp::{framed_messages_are_apart, misframed_begins_none};
+use octseq_mrt::records_are_apart;
+use octseq_program::{Commands, ProgramFault, Status, take_stream, take_whole};
 use std::alloc::Global;
 use std::io::{Read, Write};
 
@@ -79,9 +79,12 @@ pub fn one_answer()
     ensures output { (c : Command) (input x y e f : List ℕ) (s t : Status)
         → Out c input x e s → Out c input y f t → (x ≡ y) × (e ≡ f) × (s ≡ t) }
 {
-    shown::one_message_piece();
-    messages::one_stream_piece();
-    records::one_record_piece();
+    one_message_piece();
+    one_stream_piece();
+    one_record_piece();
+    framed_messages_are_apart();
+    misframed_begins_none();
+    records_are_apart();
 }
 
 /// What follows a front of a word, where it begins with that.

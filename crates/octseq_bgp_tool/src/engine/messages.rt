@@ -8,9 +8,9 @@ ghost use Rattle.octseq_bgp_tool.specs.Streams.{IsBlock, IsMessagesEnd, IsMessag
 
 use crate::engine::shown::{note_on, one_message_piece, push_shown};
 use octseq::StrBuilder;
-use octseq_bgp::SessionConfig;
-use octseq_bgp::reader::{
-    ReadMessageError, framed_messages_are_apart, misframed_begins_none, read_message,
+use octseq_bgp::{
+    ReadMessageError, SessionConfig, framed_messages_are_apart, misframed_begins_none,
+    misframed_octets_stay_so, read_message,
 };
 use octseq_program::streams::{drop_rest, failed_read};
 use octseq_program::{Ending, FrameCommand, Next, Piece, ProgramFault, StreamCommand, stop_line};
@@ -85,6 +85,7 @@ impl StreamCommand for Messages {
         reader: &mut R,
         octets: &mut Vec<u8>,
     ) -> Result<Next, ProgramFault> {
+        misframed_octets_stay_so();
         match read_message(reader, &self.0, octets) {
             Ok(true) => Ok(Next::Frame),
             Ok(false) => Ok(Next::End(Ending::Whole)),

@@ -4,8 +4,7 @@ ghost use Rattle.octseq_bgp.specs.declared.session.SessionConfig.{SessionConfig 
 ghost use Rattle.octseq_bgp_tool.specs.Shown.{IsMessagePiece, IsNote, IsShown};
 
 use octseq::StrBuilder;
-use octseq_bgp::place::{one_stop, place_of_fault};
-use octseq_bgp::{Message, SessionConfig, one_message, one_text};
+use octseq_bgp::{Message, SessionConfig, one_message, one_stop, one_text, place_of_fault};
 use octseq_program::{FrameCommand, Piece, stop_line};
 use std::alloc::{AllocError, Global};
 

@@ -1,0 +1,9 @@
+use Rattle.octseq_bgp_tool.proofs.Ends.{one_messages_end}
+use Rattle.octseq_bgp_tool.proofs.OnePiece.{one_block}
+use Rattle.octseq_bgp_tool.proofs.engine.messages.one_stream_piece.Goals as goal
+
+pub returns-clause-piece : goal.returns-clause-piece
+returns-clause-piece c = one_block c.one_message_piece.ensures.shown c.one_message_piece.ensures.note
+
+pub returns-clause-end : goal.returns-clause-end
+returns-clause-end c = one_messages_end
