@@ -29,8 +29,8 @@ one_messages_end s number rest x y e f a b (inl p) (inl q) =
     one_plain_end (IsCut s) (λ octets cut. cut.0) _ rest x y e f a b p q
 one_messages_end s number rest x y e f a b (inr (mis, fine, o, n)) (inr (also, all, p, m)) =
     (fine ∙ sym all, o ∙ sym p, n ∙ sym m)
-one_messages_end s number rest x y e f a b (inl p) (inr (mis, _)) = plain_not_misframed s _ rest x e a p mis
-one_messages_end s number rest x y e f a b (inr (mis, _)) (inl q) = plain_not_misframed s _ rest y f b q mis
+one_messages_end s number rest x y e f a b (inl p) (inr (mis, fine, o, n)) = plain_not_misframed s _ rest x e a p mis
+one_messages_end s number rest x y e f a b (inr (mis, fine, o, n)) (inl q) = plain_not_misframed s _ rest y f b q mis
 
 -- no message is at the front of nothing
 no_message : (s : SessionConfig) → ¬ HasFront (IsFramed s) as_they_are []
@@ -47,5 +47,5 @@ module _ (misframed : (s : SessionConfig) (octets more : List ℕ) → IsMisfram
       → IsMessagesEnd s number octets is_fine written note → ¬ HasFront (IsFramed s) as_they_are octets
   none_at_messages_end s number octets written note is_fine (inl p) =
       none_at_plain (IsCut s) (IsFramed s) as_they_are (no_message s) (λ octets cut. cut.2) _ octets written note is_fine p
-  none_at_messages_end s number octets written note is_fine (inr (mis, _)) =
+  none_at_messages_end s number octets written note is_fine (inr (mis, fine, o, n)) =
       subst (λ l. ¬ HasFront (IsFramed s) as_they_are l) (append-nil octets) (misframed s octets [] mis)

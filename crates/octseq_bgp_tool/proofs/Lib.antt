@@ -1,4 +1,5 @@
 pub mod Ends
+pub mod Mapped
 pub mod OneAnswer
 pub mod OnePiece
 pub mod OneRecord

@@ -3,9 +3,9 @@ use Rattle.std.proofs.Common.{◌≡◌, ◌++◌, ◌∙◌, ℕ, [], Bool, tru
 use Rattle.std.proofs.Common.{if◌then◌else◌}
 use Rattle.octseq.specs.Window.{Window, rest}
 use Rattle.octseq_bgp.specs.declared.session.SessionConfig.{SessionConfig}
-use Rattle.octseq_bgp_tool.specs.Records.{IsEventNote, IsRead, IsRecordPiece, IsTakenEvent, IsTakenValue}
+use Rattle.octseq_bgp_tool.specs.Records.{IsEventNote, IsRecordPiece, IsTakenEvent, IsTakenValue}
 use Rattle.octseq_bgp_tool.specs.Records.{IsValueNote, IsWritten}
-use Rattle.octseq_bgp_tool.specs.Shown.{IsNote}
+use Rattle.octseq_bgp_tool.specs.Shown.{IsNote, IsRead}
 use Rattle.octseq_bgp_tool.specs.declared.engine.records.Records.{Records}
 use Rattle.octseq_bgp_tool.specs.declared.engine.records.Records.TheVariants.{Shown, Taken}
 use Rattle.octseq_mrt.specs.Bgp4Mp.{Event}

@@ -2,8 +2,7 @@
 use Rattle.std.specs.Prelude.{◌≡◌, ℕ, List, [], ◌++◌, codes, Bool, true, false, if◌then◌else◌}
 use Rattle.octseq.specs.Window.{Window, rest}
 use Rattle.octseq_bgp.specs.declared.session.SessionConfig.{SessionConfig}
-use Rattle.octseq_bgp.specs.Message.{Message, IsMessage}
-use Rattle.octseq_bgp_tool.specs.Shown.{IsMalformed, IsNote}
+use Rattle.octseq_bgp_tool.specs.Shown.{IsNote, IsRead}
 use Rattle.octseq_bgp_tool.specs.declared.engine.records.Records.{Records}
 use Rattle.octseq_bgp_tool.specs.declared.engine.records.Records.TheVariants.{Shown, Taken}
 use Rattle.octseq_mrt.specs.Bgp4Mp.{Event}
@@ -13,11 +12,6 @@ use Rattle.octseq_mrt.specs.Records.{IsCut}
 use Rattle.octseq_mrt.specs.declared.header.CommonHeader.{CommonHeader}
 use Rattle.octseq_program.specs.Frames.{IsPlainEnd, IsPlainRest}
 use Rattle.octseq_program.specs.declared.frames.Ending.{Ending}
-
--- whether octets are a message of the session
-abbrev pub IsRead : SessionConfig → List ℕ → Bool → Type 0
-IsRead s octets true = (m : Message) × IsMessage s octets m
-IsRead s octets false = IsMalformed s octets
 
 -- the message that a record has, as it is, or nothing where its octets are none
 abbrev pub IsTakenEvent : Event → List ℕ → Type 0

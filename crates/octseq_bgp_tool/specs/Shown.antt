@@ -16,6 +16,11 @@ pub record HasText (s : SessionConfig) (octets text : List ℕ) : Type 0 where
 abbrev pub IsMalformed : SessionConfig → List ℕ → Type 0
 IsMalformed s octets = (m : Message) → ¬ IsMessage s octets m
 
+-- whether octets are a message of the session
+abbrev pub IsRead : SessionConfig → List ℕ → Bool → Type 0
+IsRead s octets true = (m : Message) × IsMessage s octets m
+IsRead s octets false = IsMalformed s octets
+
 -- what is shown of octets: the text of the message, where they are one, and else `malformed`
 abbrev pub IsShown : SessionConfig → List ℕ → Bool → List ℕ → Type 0
 IsShown s octets true shown = HasText s octets shown

@@ -1,7 +1,21 @@
 -- Rests of streams that are nothing, or a part of a frame.
 use Rattle.std.proofs.Common.{◌≡◌, ◌<◌, ◌∙◌, ℕ, Bool, true, false, List, [], length, refl, sym, ap, subst, arith}
+use Rattle.std.proofs.Common.{Result, Ok}
 use Rattle.octseq.specs.Code.{HasFront}
 use Rattle.octseq_program.specs.Frames.{IsPlainEnd}
+use Rattle.octseq_program.specs.declared.frames.Ending.{Ending}
+use Rattle.octseq_program.specs.declared.frames.Ending.TheVariants.{Whole}
+use Rattle.octseq_program.specs.declared.frames.Next.{Next}
+
+-- the ending of a stream that is told to end
+abbrev ending_in : {E : Type 0} → Result Next E → Ending
+ending_in (Ok (Next.End ending)) = ending
+ending_in _ = Whole
+
+-- what holds of the ending of a stream holds of the one that is told
+pub ends_so : {E : Type 0} (P : Ending → Type 0) (a : Ending) → P a → (b : Ending)
+    → ◌≡◌ {A = Result Next E} (Ok (Next.End a)) (Ok (Next.End b)) → P b
+ends_so P a p b e = subst P (ap ending_in e) p
 
 module _ (IsCut : List ℕ → Type 0) where
   -- a part of a frame has octets

@@ -2,16 +2,17 @@
 ghost use Rattle.std.specs.Prelude.{◌≡◌, ◌++◌, ℕ, List, Bool, IfOk, codes};
 ghost use Rattle.octseq_bgp_tool.specs.Out.{as_they_are};
 ghost use Rattle.octseq_bgp_tool.specs.Records.{IsRecordPiece, IsRecordsEnd, IsRecordsRest};
-ghost use Rattle.octseq_bgp_tool.specs.Records.{IsTakenValue, IsValueNote, IsWritten};
+ghost use Rattle.octseq_bgp_tool.specs.Records.{IsEventNote, IsTakenEvent, IsTakenValue, IsValueNote, IsWritten};
 ghost use Rattle.octseq_bgp_tool.specs.declared.engine.records.Records.{Records};
-ghost use Rattle.octseq_mrt.specs.Parsed.{record_of, value_of};
+ghost use Rattle.octseq_mrt.specs.Parsed.{event_of, record_of, value_of};
+ghost use Rattle.octseq_mrt.specs.Record.{AreRecord};
 ghost use Rattle.octseq_mrt.specs.RecordText.{IsRecordText};
 ghost use Rattle.octseq_mrt.specs.Records.{IsRecordOctets};
 
-use crate::engine::shown::{note_on, one_message_piece};
-use octseq::StrBuilder;
+use crate::engine::shown::{is_message, note_on, one_message_piece};
+use octseq::{AsOctets, StrBuilder};
 use octseq_mrt::{
-    Bgp4Mp, Event, Record, RecordError, RecordValue, one_record, one_record_text, one_record_value,
+    Event, Record, RecordError, RecordValue, one_record, one_record_text, one_record_value,
     read_record, records_are_apart,
 };
 use octseq_program::streams::failed_read;
@@ -45,75 +46,134 @@ pub(super) enum Records {
     Taken,
 }
 
-/// The message that a record has, as it is, or nothing where its octets are none.
-fn taken_octets<'a>(value: &'a RecordValue<&[u8]>) -> &'a [u8]
+/// The message that came over a session, as it is, or nothing where its octets are none.
+fn taken_event<R: AsOctets + Copy>(event: &Event<R>) -> &[u8]
+    ensures { IsTakenEvent (event_of event.now) result.now }
+{
+    match event {
+        Event::StateChange(_, _) => &[],
+        Event::Message(message) => {
+            let octets = message.octets.peek_all();
+            if is_message(octets, message.session) {
+                octets
+            } else {
+                &[]
+            }
+        }
+    }
+}
+
+/// The message that a record has, as it is, or nothing.
+fn taken_value<R: AsOctets + Copy>(value: &RecordValue<R>) -> &[u8]
     ensures { IsTakenValue (value_of value.now) result.now }
 {
     match value {
-        RecordValue::Bgp4Mp(
-            Bgp4Mp {
-                event: Event::Message(message),
-                ..
-            },
-        ) if message.message().is_ok() => message.octets.peek_all(),
+        RecordValue::Bgp4Mp(it) => taken_event(&it.event),
         _ => &[],
     }
 }
 
-/// What is told of a record of this number.
-fn note_on_record(
+/// What is told of what happened to a session, by the number of its record.
+fn note_on_event<R: AsOctets + Copy>(
     alloc: Global,
     number: u64,
-    value: &RecordValue<&[u8]>,
+    event: &Event<R>,
+) -> Result<Vec<u8>, AllocError>
+    ensures { IfOk result (λ note. IsEventNote number (event_of event.now) note.items) }
+{
+    match event {
+        Event::StateChange(_, _) => Ok(Vec::new(alloc)),
+        Event::Message(message) => {
+            let (octets, session) = (message.octets.peek_all(), message.session);
+            let is_fine = is_message(octets, session);
+            note_on(alloc, "message of record", number, octets, session, is_fine)
+        }
+    }
+}
+
+/// What is told of a record of this number.
+fn note_on_value<R: AsOctets + Copy>(
+    alloc: Global,
+    number: u64,
+    value: &RecordValue<R>,
 ) -> Result<Vec<u8>, AllocError>
     ensures { IfOk result (λ note. IsValueNote number (value_of value.now) note.items) }
 {
-    let RecordValue::Bgp4Mp(
-        Bgp4Mp {
-            event: Event::Message(message),
-            ..
-        },
-    ) = value
-    else {
-        return Ok(Vec::new(alloc));
-    };
-    let octets = message.octets.peek_all();
-    let is_message = message.message().is_ok();
-    let what = "message of record";
-    note_on(alloc, what, number, octets, message.session, is_message)
+    match value {
+        RecordValue::Bgp4Mp(it) => note_on_event(alloc, number, &it.event),
+        _ => Ok(Vec::new(alloc)),
+    }
 }
 
 /// The text of a record, and an empty line.
-fn shown_record(alloc: Global, record: &Record<&[u8]>) -> Result<Vec<u8>, AllocError>
-    ensures { IfOk result (λ written. (text : List ℕ) × IsRecordText (record_of record.now) text
+fn shown_record<R: AsOctets + Copy>(alloc: Global, it: &Record<R>) -> Result<Vec<u8>, AllocError>
+    ensures { IfOk result (λ written. (text : List ℕ) × IsRecordText (record_of it.now) text
         × (written.items ≡ text ++ codes "\n")) }
 {
     let mut text = StrBuilder::<Vec<u8>>::new(alloc)?;
-    // (a vector has no limit, so all that it refuses is for want of memory)
-    if record.append_text(&mut text).is_err() {
-        return Err(AllocError);
+    match it.append_text(&mut text) {
+        // (a vector has no limit, so all that it refuses is for want of memory)
+        Ok(()) => {
+            text.push_str("\n")?;
+            Ok(text.into_octets_builder())
+        }
+        Err(_) => Err(AllocError),
     }
-    text.push_str("\n")?;
-    Ok(text.into_octets_builder())
 }
 
 /// What is written of a record.
-fn written_of(
+fn written_of<R: AsOctets + Copy>(
     command: Records,
     alloc: Global,
-    record: &Record<&[u8]>,
-    value: &RecordValue<&[u8]>,
+    it: &Record<R>,
+    value: &RecordValue<R>,
 ) -> Result<Vec<u8>, AllocError>
-    ensures { IfOk result (λ written.
-        IsWritten command (record_of record.now) (value_of value.now) written.items) }
+    ensures { IfOk result (λ written. IsWritten command (record_of it.now) (value_of value.now) written.items) }
 {
     match command {
-        Records::Shown => shown_record(alloc, record),
+        Records::Shown => shown_record(alloc, it),
         Records::Taken => {
             let mut output = Vec::new(alloc);
-            output.extend_from_slice(taken_octets(value))?;
+            output.extend_from_slice(taken_value(value))?;
             Ok(output)
         }
+    }
+}
+
+/// What is made of a record.
+fn piece_of<R: AsOctets + Copy>(
+    command: Records,
+    alloc: Global,
+    number: u64,
+    it: &Record<R>,
+) -> Result<Piece, AllocError>
+    ensures { IfOk result (λ piece. (octets : List ℕ) → AreRecord octets (record_of it.now)
+        → IsRecordPiece command number octets piece.is_fine piece.output.items piece.note.items) }
+{
+    let value = it.value();
+    let note = note_on_value(alloc, number, &value)?;
+    let output = written_of(command, alloc, it, &value)?;
+    Ok(Piece {
+        output,
+        note,
+        is_fine: true,
+    })
+}
+
+/// What is made of octets that are a record.
+fn piece_of_octets<R: AsOctets + Copy>(
+    command: Records,
+    alloc: Global,
+    number: u64,
+    octets: R,
+) -> Result<Piece, AllocError>
+    requires { IsRecordOctets (R.content octets) }
+    ensures { IfOk result (λ piece. IsRecordPiece command number (R.content octets) piece.is_fine piece.output.items
+        piece.note.items) }
+{
+    match Record::parse(octets) {
+        Ok(it) => piece_of(command, alloc, number, &it),
+        Err(_) => unreachable!(),
     }
 }
 
@@ -137,17 +197,7 @@ impl FrameCommand for Records {
         number: u64,
         octets: &[u8],
     ) -> Result<Piece, AllocError> {
-        let Ok(record) = Record::parse(octets) else {
-            unreachable!()
-        };
-        let value = record.value();
-        let note = note_on_record(alloc, number, &value)?;
-        let output = written_of(self, alloc, &record, &value)?;
-        Ok(Piece {
-            output,
-            note,
-            is_fine: true,
-        })
+        piece_of_octets(self, alloc, number, octets)
     }
 }
 

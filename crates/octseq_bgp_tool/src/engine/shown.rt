@@ -1,9 +1,9 @@
 //! What is shown of a message, and what is told of it.
 ghost use Rattle.std.specs.Prelude.{◌≡◌, ◌++◌, ℕ, List, Bool, IfOk, codes, ⊤};
 ghost use Rattle.octseq_bgp.specs.declared.session.SessionConfig.{SessionConfig as Session};
-ghost use Rattle.octseq_bgp_tool.specs.Shown.{IsMessagePiece, IsNote, IsShown};
+ghost use Rattle.octseq_bgp_tool.specs.Shown.{IsMessagePiece, IsNote, IsRead, IsShown};
 
-use octseq::StrBuilder;
+use octseq::{AsOctets, StrBuilder};
 use octseq_bgp::{Message, SessionConfig, one_message, one_stop, one_text, place_of_fault};
 use octseq_program::{FrameCommand, Piece, stop_line};
 use std::alloc::{AllocError, Global};
@@ -25,13 +25,23 @@ pub(super) fn one_message_piece()
     one_stop();
 }
 
+/// Whether octets are a message of a session.
+pub(super) fn is_message<R: AsOctets + Copy>(octets: R, session: SessionConfig) -> bool
+    ensures { IsRead session (R.content octets) result }
+{
+    match Message::parse(octets, session) {
+        Ok(_) => true,
+        Err(_) => false,
+    }
+}
+
 /// Appends the text of a message, or `malformed` where the octets are none, and answers whether they are one.
-pub(super) fn push_shown(
+pub(super) fn push_shown<R: AsOctets + Copy>(
     text: &mut StrBuilder<Vec<u8>>,
-    octets: &[u8],
+    octets: R,
     session: SessionConfig,
 ) -> Result<bool, AllocError>
-    ensures { IfOk result (λ is_message. (shown : List ℕ) × IsShown session octets.now is_message shown
+    ensures { IfOk result (λ is_message. (shown : List ℕ) × IsShown session (R.content octets) is_message shown
         × (text.new.items ≡ text.old.items ++ shown)) }
 {
     match Message::parse(octets, session) {
