@@ -1,16 +1,15 @@
 -- Reading stops at one place.
-use Rattle.std.proofs.Common.{◌≡◌, ◌+◌, ◌<◌, ◌≤◌, ℕ, List, [], ◌∷◌, length, inl, inr, sym, ap, ◌∙◌, subst}
+use Rattle.std.proofs.Common.{◌≡◌, ◌≤◌, ℕ, List, [], ◌∷◌, length, inl, inr, sym, ap, ◌∙◌, subst}
 use Rattle.std.proofs.Common.{true, false, is_ok, Result, Ok, Err, arith}
 use Rattle.std.specs.Prelude.{OnOk}
-use Rattle.octseq.specs.Window.{Window, left, past, whole}
+use Rattle.octseq.specs.Window.{Window, past, whole}
 use Rattle.octseq_format.proofs.RowSteps.{to_ends}
 use Rattle.octseq_format.specs.Laws.{Relation, NoneAt, IsOne}
 use Rattle.octseq_format.specs.Row.{Row}
 use Rattle.octseq_bgp.specs.Entry.{Entry, IsEntry, IsCounted}
-use Rattle.octseq_bgp.specs.Fills.{Whole}
 use Rattle.octseq_bgp.specs.Message.{IsHeader, IsShortEnough}
 use Rattle.octseq_bgp.specs.OneEntry.{one_entry, entry_moves, one_octets}
-use Rattle.octseq_bgp.specs.Open.{IsLong, parameter_form}
+use Rattle.octseq_bgp.specs.Open.{parameter_form}
 use Rattle.octseq_bgp.specs.Session.{prefix_form}
 use Rattle.octseq_bgp.specs.Stop.{EntriesStop, AreFilled, ListStop, LastStop, ThingStop, FixedStop, CountedStop}
 use Rattle.octseq_bgp.specs.Stop.{ParametersStop, ListsStop, UpdateStop, BodyStop, HasHeader, IsStop}
