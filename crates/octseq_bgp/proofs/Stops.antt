@@ -1,16 +1,15 @@
 -- Reading stops at one place.
-use Rattle.std.proofs.Common.{◌≡◌, ◌+◌, ◌<◌, ◌≤◌, ℕ, List, [], ◌∷◌, length, inl, inr, refl, sym, ap, ◌∙◌, subst}
+use Rattle.std.proofs.Common.{◌≡◌, ◌≤◌, ℕ, List, [], ◌∷◌, length, inl, inr, sym, ap, ◌∙◌, subst}
 use Rattle.std.proofs.Common.{true, false, is_ok, Result, Ok, Err, arith}
 use Rattle.std.specs.Prelude.{OnOk}
-use Rattle.octseq.specs.Window.{Window, left, past, whole}
+use Rattle.octseq.specs.Window.{Window, past, whole}
 use Rattle.octseq_format.proofs.RowSteps.{to_ends}
 use Rattle.octseq_format.specs.Laws.{Relation, NoneAt, IsOne}
 use Rattle.octseq_format.specs.Row.{Row}
 use Rattle.octseq_bgp.specs.Entry.{Entry, IsEntry, IsCounted}
-use Rattle.octseq_bgp.specs.Fills.{Whole}
 use Rattle.octseq_bgp.specs.Message.{IsHeader, IsShortEnough}
 use Rattle.octseq_bgp.specs.OneEntry.{one_entry, entry_moves, one_octets}
-use Rattle.octseq_bgp.specs.Open.{IsLong, parameter_form}
+use Rattle.octseq_bgp.specs.Open.{parameter_form}
 use Rattle.octseq_bgp.specs.Session.{prefix_form}
 use Rattle.octseq_bgp.specs.Stop.{EntriesStop, AreFilled, ListStop, LastStop, ThingStop, FixedStop, CountedStop}
 use Rattle.octseq_bgp.specs.Stop.{ParametersStop, ListsStop, UpdateStop, BodyStop, HasHeader, IsStop}
@@ -152,14 +151,3 @@ pub stops_in : (s : SessionConfig) (octets : List ℕ) (kind : ℕ) (body : Wind
 stops_in s octets kind body place header short least most stop =
     let has : HasHeader s octets kind body = record { header = header; short = short; known = (least, most) } in
     inl (kind, body, has, stop)
-
--- or at the first octet, where the type isn't known
-pub stops_at_none : (s : SessionConfig) (octets : List ℕ) (kind : ℕ) (body : Window)
-    → IsHeader (whole octets) (length octets, (kind, body)) → ((1 ≤ kind) × (kind ≤ 5) → ⊥) → IsStop s octets 0
-stops_at_none s octets kind body header unknown =
-    let known = λ (h : ℕ × (ℕ × Window)). (1 ≤ h.1.0) × (h.1.0 ≤ 5) in
-    inr (
-      λ other there has. unknown (subst known (one_header (whole octets) (length octets, (other, there))
-          (length octets, (kind, body)) has.header header) has.known),
-      refl,
-    )

@@ -1,5 +1,5 @@
 -- In octets that are a message, reading stops at their end.
-use Rattle.std.proofs.Common.{◌≡◌, ◌+◌, ◌≤◌, ℕ, List, length, inl, inr, refl, sym, ap, ◌∙◌, subst, arith, true, false}
+use Rattle.std.proofs.Common.{◌≡◌, ◌+◌, ◌≤◌, ℕ, List, length, inl, inr, refl, sym, ap, ◌∙◌, subst, arith}
 use Rattle.octseq.specs.Window.{Window, left, past, at, whole}
 use Rattle.octseq_bgp.specs.Entry.{Entry, IsEntry, IsCounted}
 use Rattle.octseq_bgp.specs.Fills.{Whole, Fills}

@@ -1,5 +1,5 @@
 -- Messages of a stream: octets that are framed, misframed, or cut.
-use Rattle.std.proofs.Common.{◌≡◌, ◌+◌, ◌<◌, ◌≤◌, ◌^◌, ◌++◌, ◌∙◌, ℕ, zero, suc, List, [], ◌∷◌, length, take, Bool, true}
+use Rattle.std.proofs.Common.{◌≡◌, ◌<◌, ◌≤◌, ◌^◌, ◌++◌, ◌∙◌, ℕ, zero, suc, List, [], ◌∷◌, length, take, Bool, true}
 use Rattle.std.proofs.Common.{false, Option, inl, inr, refl, sym, ap, subst, arith}
 use Rattle.std.proofs.KnownBytes.{Consumes-trans}
 use Rattle.std.proofs.lemmas.List.{length-append, take-append-le}
@@ -126,7 +126,8 @@ framed s octets m each message =
     let marker = marker_octets (next 16 w) (many_next 16 w sound (omega (arith, least))) (each_next 16 w sound)
     header.1.1 in
     record {
-      marked = subst (All (λ octet. octet ≡ 255)) (sym marker) (All-replicate (λ octet. octet ≡ 255) 16 255 (refl {a = 255}));
+      marked = subst (All (λ octet. octet ≡ 255)) (sym marker)
+          (All-replicate (λ octet. octet ≡ 255) 16 255 (refl {a = 255}));
       whole = whole_is;
       least = least;
       most = within s message.kind (length octets) (omega (arith, small, whole_is)) message.short;
@@ -150,7 +151,8 @@ not_misframed s octets few marked (inr (there, _)) = omega (arith, few, there)
 -- so they are cut
 pub cut_before : (s : SessionConfig) (octets : List ℕ) → 0 < length octets → length octets < 18 → IsMarked octets
     → IsCut s octets
-cut_before s octets some few marked = (some, not_misframed s octets few marked, few_begin_none s octets (omega (arith, few)))
+cut_before s octets some few marked =
+    (some, not_misframed s octets few marked, few_begin_none s octets (omega (arith, few)))
 
 -- neither do a front and fewer octets than follow it
 less_begin_none : (s : SessionConfig) (front read : List ℕ) (more : ℕ) → IsFront s front more → length read < more

@@ -52,8 +52,8 @@ impl From<io::Error> for FillError {
 /// How many octets are asked for at a time, and how many a vector grows by before they have come.
 const STEP: usize = 65_536;
 
-/// Reads so many octets to the end of a vector, and answers whether they have come: not where the input ends before. The
-/// vector grows by at most 65,536 octets before as many have come.
+/// Reads so many octets to the end of a vector, and answers whether they have come: not where the input ends before.
+/// The vector grows by at most 65,536 octets before as many have come.
 ///
 /// # Errors
 ///

@@ -36,12 +36,12 @@ pub fn messages_stop_at_their_end()
 /// octet: 0 where they have no header of a known type, whose length is that of the octets, which may be so many; else a
 /// place in what follows it:
 ///
-/// - OPEN: 19 where ten octets aren't there; the place of the length of the parameters where these don't end the
-///   message; else that of the first parameter that isn't one.
+/// - OPEN: 19 where ten octets aren't there; the place of the length of the parameters, short or long, where these
+///   don't end the message; else that of the first parameter that isn't one.
 /// - UPDATE: 19 where the length of the withdrawn prefixes and as many octets aren't there; the place of the length of
-///   the attributes where that and as many octets aren't there; else that of the first withdrawn prefix, then attribute,
-///   then announced prefix that isn't one.
-/// - NOTIFICATION and ROUTE-REFRESH: 19 where two octets aren't there, and four.
+///   the attributes where that and as many octets aren't there; else that of the first withdrawn prefix, then
+///   attribute, then announced prefix that isn't one.
+/// - NOTIFICATION: 19 where two octets aren't there. ROUTE-REFRESH: 19 where four aren't.
 /// - KEEPALIVE: 19 where something follows.
 ///
 /// Of a message it is the place of its end.

@@ -126,8 +126,8 @@ const LEAST: usize = 19;
 /// # Errors
 ///
 /// `Short` where the input ends inside a message, `Malformed` where what comes next is framed as no message of the
-/// session, `Memory` where a request for memory was refused, `Read` where a read failed. The reader may then be inside a
-/// message. An input that ends within 18 octets is `Short` where those of the first 16 that came are 255.
+/// session, `Memory` where a request for memory was refused, `Read` where a read failed. The reader may then be inside
+/// a message. Where the input ends within 18 octets, it is `Short` if those of the first 16 that came are 255.
 pub fn read_message<R: Read>(
     reader: &mut R,
     session: &SessionConfig,

@@ -11,4 +11,7 @@ returns g c =
     let place = c.place_in_entries.result in
     subst (λ f. ListStop f (window c.args.withdrawn) (ListStop form.Attribute attributes (LastStop f announced)) place)
     c.prefix_form-form.ensures
-    (inr (c.in_default.ensures.filled refl, inr (c.in_default-first_other.ensures.filled refl, c.place_in_entries.ensures)))
+    (inr (
+      c.in_default.ensures.filled refl,
+      inr (c.in_default-first_other.ensures.filled refl, c.place_in_entries.ensures),
+    ))

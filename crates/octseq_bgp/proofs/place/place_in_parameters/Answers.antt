@@ -1,5 +1,4 @@
 use Rattle.std.proofs.Common.{◌≡◌, true, is_ok, inl, rules, subst}
-use Rattle.octseq.specs.Parser.{window}
 use Rattle.octseq_bgp.specs.Open.{parameter_form}
 use Rattle.octseq_bgp.specs.Stop.{CountedStop}
 use Rattle.octseq_bgp.proofs.Stops.{on_ok}

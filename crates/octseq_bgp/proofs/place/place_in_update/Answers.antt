@@ -5,7 +5,8 @@ use Rattle.octseq_bgp.proofs.place.place_in_update.Goals as goal
 
 pub returns-in_default-parse : goal.returns-in_default-parse
 returns-in_default-parse g c =
-    let place = c.pos-in_default-parse.ensures.position ∙ ap (λ (w : Window). w.position) c.in_default-parse.ensures.kept in
+    let kept = c.in_default-parse.ensures.kept in
+    let place = c.pos-in_default-parse.ensures.position ∙ ap (λ (w : Window). w.position) kept in
     inl (
       window c.in-Ok.withdrawn,
       window c.parse.new.parser,
