@@ -7,6 +7,10 @@ use octseq::{AsOctets, Malformed, Parser};
 use octseq_format::Format;
 
 /// What all the octets say that a parser has left.
+///
+/// # Errors
+///
+/// `Malformed` where they aren't of the format, or where octets would be left after it.
 #[inline(always)]
 pub fn parse_all<R: AsOctets + Copy, F: Format<R>>(parser: Parser<R>) -> Result<F::Value, Malformed>
     ensures value { IfOk result (λ value. Whole F.is_at (window parser) (F.found value)) }

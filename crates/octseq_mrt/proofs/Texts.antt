@@ -37,7 +37,8 @@ one_attributes [] text other a b = a ∙ sym b
 one_attributes (e ∷ more) text other a b =
     let values = one_rib_value e.kind e.octets a.0 b.0 a.2 b.2 in
     let rests = one_attributes more a.1 b.1 a.3 b.3 in
-    a.4 ∙ ap (λ v. rib_attribute_lines e v ++ a.1) values ∙ ap (λ rest. rib_attribute_lines e b.0 ++ rest) rests ∙ sym b.4
+    a.4 ∙ ap (λ v. rib_attribute_lines e v ++ a.1) values ∙ ap (λ rest. rib_attribute_lines e b.0 ++ rest) rests
+    ∙ sym b.4
 
 one_entry_text : (e : RibEntry) (text other : List ℕ) → IsEntryText e text → IsEntryText e other → text ≡ other
 one_entry_text e text other a b =

@@ -81,12 +81,14 @@ struct Appended<'a, B: AsOctets> {
     answer: Result<(), DisplayError>,
 }
 
-/// Appends the text of a value that has one at most, or nothing.
+/// Appends the text of a value, or nothing. The value has one text at most, as `one_text` says of messages: so whether
+/// it fits doesn't depend on which text is meant.
 ///
 /// # Errors
 ///
-/// `Short` where the text would pass the limit of its type, `Memory` where a request for memory was refused. The text is
-/// then as it was. (`Display` is never answered where `write_lines` never fails of itself, though no contract says so.)
+/// `Short` where the text would pass the limit of its type, `Memory` where a request for memory was refused. The text
+/// is then as it was. (`Display` is never answered where `write_lines` never fails of itself, though no contract says
+/// so.)
 pub fn append_lines<T: WriteLines, B: OctetsBuilder + Truncate>(
     value: &T,
     text: &mut StrBuilder<B>,
@@ -150,8 +152,8 @@ fn append_from<'a, K: Begun, B: OctetsBuilder + Truncate, T: WriteLines>(
     }
 }
 
-/// Why a text wasn't appended at the end of so many octets, where an append of a part of it was refused: `Short` is said
-/// only where all of it passes the limit.
+/// Why a text wasn't appended at the end of so many octets, where an append of a part of it was refused: `Short` is
+/// said only where all of it passes the limit.
 fn reason<B: OctetsLimit, T: WriteLines>(
     refusal: DisplayError,
     len: usize,

@@ -12,7 +12,7 @@ use crate::family::Afi;
 use std::fmt;
 use std::net::{Ipv4Addr, Ipv6Addr};
 
-/// Writes an address of a family.
+/// Writes an address of a family: for IPv4, the first four of the octets.
 #[tactic(auto, unfolding(crate::specs::Text::address_text))]
 pub fn write_address<W: fmt::Write>(
     f: &mut fmt::Formatter<W>,

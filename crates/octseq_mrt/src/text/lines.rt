@@ -6,8 +6,8 @@ ghost use Rattle.octseq_bgp.specs.MessageText.{line};
 ghost use Rattle.octseq_bgp.specs.OctetsText.{spaced};
 ghost use Rattle.octseq_mrt.specs.Parsed.{peer_of, peers_left, table_of, event_of, bgp4mp_of, value_of, record_of};
 ghost use Rattle.octseq_mrt.specs.RecordText.{peer_lines, table_text, table_lines, six_digits, microseconds_text};
-ghost use Rattle.octseq_mrt.specs.RecordText.{session_text, IsOctetsText, IsEventText, IsBgp4MpText, opaque_record_text};
-ghost use Rattle.octseq_mrt.specs.RecordText.{IsValueText, IsRecordText};
+ghost use Rattle.octseq_mrt.specs.RecordText.{session_text, IsOctetsText, IsEventText, IsBgp4MpText};
+ghost use Rattle.octseq_mrt.specs.RecordText.{opaque_record_text, IsValueText, IsRecordText};
 ghost use Rattle.octseq_mrt.specs.Text.{peer_text};
 ghost use Rattle.octseq_mrt.specs.declared.header.CommonHeader.{CommonHeader as Header};
 

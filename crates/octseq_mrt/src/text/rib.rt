@@ -1,5 +1,5 @@
 //! The text of RIBs, line by line.
-ghost use Rattle.std.specs.Prelude.{◌≡◌, ◌++◌, List, ℕ, codes, length, OnOk};
+ghost use Rattle.std.specs.Prelude.{◌≡◌, List, ℕ, codes, length, OnOk};
 ghost use Rattle.std.specs.Fmt.{WritesOnOk, HasWritten, IsPlainFormatter};
 ghost use Rattle.octseq.specs.Parser.{window};
 ghost use Rattle.octseq_bgp.specs.MessageText.{line};

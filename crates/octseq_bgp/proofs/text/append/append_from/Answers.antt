@@ -32,5 +32,6 @@ returns-in-Ok-clause-past g c = λ lines are past.
     let old = g.B.AsOctets.content c.args.text.now in
     let made = returns-in-Ok-clause-ok g c in
     let same = c.requires.one _ _ made.1 are in
-    let long = ap length (c.as_slice-lent.ensures.content ∙ made.2 ∙ ap (λ y. old ++ y) same) ∙ length-append old lines in
+    let long = ap length (c.as_slice-lent.ensures.content ∙ made.2 ∙ ap (λ y. old ++ y) same)
+    ∙ length-append old lines in
     absurd (within_not_past limit _ c.as_slice-lent.ensures.within (subst (IsPast limit) (sym long) past))

@@ -10,7 +10,8 @@ unfolding padded_integral char_count
 padded_to_six n =
     let len = length (decimal n) in
     let same : 6 - len - 0 - 0 ≡ 6 - len = omega arith in
-    ap (λ k. replicate k 48 ++ (decimal n ++ [])) same ∙ ap (λ text. replicate (6 - len) 48 ++ text) (append-nil (decimal n))
+    ap (λ k. replicate k 48 ++ (decimal n ++ [])) same
+    ∙ ap (λ text. replicate (6 - len) 48 ++ text) (append-nil (decimal n))
 
 pub returns : goal.returns
 returns g c = λ plain ok. has_written_of_eq _ _ _ _ _ (padded_to_six c.args.number) (search rules)

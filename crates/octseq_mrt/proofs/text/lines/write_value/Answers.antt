@@ -25,5 +25,6 @@ returns-in-Opaque g c =
     shown_of c.write_opaque_record.result (IsValueText h (value_of c.args.value.now)) (IsPlainFormatter c.args.f.now)
     (λ lines. HasWritten took c.args.f.now lines after) text
     (subst (λ v. IsValueText h (value_of v) text) (sym c.in-Opaque.is) refl)
-    (λ plain ok. subst (λ octets. HasWritten took c.args.f.now (line (codes "record") (opaque_record_text h octets)) after)
+    (λ plain ok. subst
+    (λ octets. HasWritten took c.args.f.now (line (codes "record") (opaque_record_text h octets)) after)
     c.peek_all.ensures.content (c.write_opaque_record.ensures plain ok))
