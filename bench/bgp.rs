@@ -204,7 +204,10 @@ fn prefixes_of<T: Task, const MOST: u8, const PATH: bool>(octets: &[u8]) -> Opti
         }
         // That the octet of the length is counted here takes a step out of the way to the next one.
         let end = at + before + (usize::from(len) + 15) / 8;
-        let own = octets.get(at + before + 1..end)?;
+        if end > octets.len() {
+            return None;
+        }
+        let own = &octets[at + before + 1..end];
         let path = if PATH { u32::from_be_bytes(*octets[at..].first_chunk()?) } else { 0 };
         sum = sum.wrapping_add(T::prefix::<MOST>(path, len, own, &octets[at + before + 1..]));
         at = end;

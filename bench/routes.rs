@@ -187,8 +187,8 @@ fn main() {
     for (_, session, message) in &full {
         assert_eq!(agree(*session, message), 1);
     }
-    let names = TASKS.map(|(what, ..)| format!("{what} | "));
-    println!("| messages | count | octets | {}|", names.concat().replace(" | ", ", ours / by hand, ns a message | ratio | "));
+    let names = TASKS.map(|(what, ..)| format!("{what}: ours / by hand, ns a message | ratio |"));
+    println!("| messages | count | octets | {}", names.join(" "));
     println!("|---|---|---|{}", "---|".repeat(6));
     tell("all", &messages);
     for (name, kind) in [("OPEN", 1), ("UPDATE", 2), ("NOTIFICATION", 3), ("KEEPALIVE", 4), ("ROUTE-REFRESH", 5)] {
