@@ -70,6 +70,7 @@ impl<R: AsOctets + Copy> PathAttributes<R> {
     /// # Errors
     ///
     /// `Malformed` where attributes don't fill it.
+    #[inline(always)]
     pub(crate) fn parse_counted(
         parser: Parser<R>,
         session: SessionConfig,
@@ -115,7 +116,7 @@ impl<R: AsOctets + Copy> Iterator for PathAttributes<R> {
     fn next(&mut self) -> Option<PathAttribute<R>> {
         let session = self.session;
         let mut entries = self.entries;
-        let Some(entry) = entries.take_first() else {
+        let Some(entry) = entries.take_first(Form::Attribute) else {
             return None;
         };
         *self = PathAttributes { entries, session };

@@ -86,7 +86,7 @@ impl<R: AsOctets + Copy> Iterator for Capabilities<R> {
 
     fn next(&mut self) -> Option<Capability<R>> {
         let mut entries = self.entries;
-        let Some(entry) = entries.take_first() else {
+        let Some(entry) = entries.take_first(Form::Capability) else {
             return None;
         };
         *self = Capabilities { entries };

@@ -223,6 +223,7 @@ impl<R: AsOctets + Copy> Clone for Entries<R> {
 }
 
 /// Takes all up to the end of a parser, counts a turn for each entry, and tells how many they are.
+#[inline(always)]
 fn pass_entries<R: AsOctets + Copy>(
     parser: &mut Parser<R>,
     form: Form,
@@ -255,6 +256,7 @@ impl<R: AsOctets + Copy> Entries<R> {
     /// # Errors
     ///
     /// `Malformed` where entries don't fill it.
+    #[inline(always)]
     pub(crate) fn parse_counted(
         parser: Parser<R>,
         form: Form,
@@ -284,9 +286,10 @@ impl<R: AsOctets + Copy> Entries<R> {
         self.left
     }
 
-    /// Takes the first entry that is left.
+    /// Takes the first entry that is left, of the form that all have.
     #[inline(always)]
-    pub(crate) fn take_first(&mut self) -> Option<Entry<R>>
+    pub(crate) fn take_first(&mut self, form: Form) -> Option<Entry<R>>
+        requires { form ≡ self.old.form }
         ensures none { IsNone result → (entries_left self.old ≡ []) × (entries_left self.new ≡ []) }
         ensures some { IfSome result (λ entry. entries_left self.old ≡ entry_of entry ∷ entries_left self.new) }
         ensures is { IfSome result (λ entry. (w v : Window) × IsEntry self.old.form w (entry_of entry) v) }
@@ -297,7 +300,7 @@ impl<R: AsOctets + Copy> Entries<R> {
             return None;
         }
         let mut parser = self.parser;
-        match Entry::parse(&mut parser, self.form) {
+        match Entry::parse(&mut parser, form) {
             Ok(entry) => {
                 let form = self.form;
                 let left = self.left - 1;

@@ -148,6 +148,7 @@ impl<R: AsOctets + Copy> Message<R> {
     ghost use Rattle.octseq_bgp.specs.Parsed.{message_of};
 
     /// Reads what follows a header.
+    #[inline(always)]
     fn parse_body(
         parser: Parser<R>,
         kind: u8,
@@ -178,6 +179,7 @@ impl<R: AsOctets + Copy> Message<R> {
     /// # Errors
     ///
     /// `Malformed` where they are none.
+    #[inline(always)]
     pub fn parse(octets: R, session: SessionConfig) -> Result<Message<R>, Malformed>
         ensures message { IfOk result (λ it. IsMessage session (R.content octets) (message_of it)) }
         ensures malformed { IsErr result → (m : said.Message) → ¬ IsMessage session (R.content octets) m }
@@ -191,6 +193,7 @@ impl<R: AsOctets + Copy> Message<R> {
     /// # Errors
     ///
     /// As `parse`.
+    #[inline(always)]
     pub fn parse_counted(
         octets: R,
         session: SessionConfig,

@@ -107,7 +107,7 @@ impl<R: AsOctets + Copy> Iterator for Parameters<R> {
 
     fn next(&mut self) -> Option<Parameter<R>> {
         let mut entries = self.entries;
-        let Some(entry) = entries.take_first() else {
+        let Some(entry) = entries.take_first(entries.form()) else {
             return None;
         };
         *self = Parameters { entries };

@@ -216,7 +216,7 @@ impl<R: AsOctets + Copy> Iterator for AsPath<R> {
     fn next(&mut self) -> Option<Segment<R>> {
         let wide = self.wide;
         let mut entries = self.entries;
-        let Some(entry) = entries.take_first() else {
+        let Some(entry) = entries.take_first(path_form(wide)) else {
             return None;
         };
         *self = AsPath { entries, wide };

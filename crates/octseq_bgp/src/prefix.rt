@@ -107,7 +107,7 @@ impl<R: AsOctets + Copy> Iterator for Prefixes<R> {
     fn next(&mut self) -> Option<Nlri<R>> {
         let mut entries = self.entries;
         let form = entries.form();
-        let Some(entry) = entries.take_first() else {
+        let Some(entry) = entries.take_first(form) else {
             return None;
         };
         *self = Prefixes { entries };

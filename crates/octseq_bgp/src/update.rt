@@ -44,6 +44,7 @@ impl<R: AsOctets + Copy> UpdateParts<R> {
     ghost use Rattle.octseq_bgp.specs.Parsed.{parts_of};
 
     /// Reads all that a parser has left as the three parts of an UPDATE.
+    #[inline(always)]
     pub(crate) fn parse_body(parser: Parser<R>) -> Result<UpdateParts<R>, Malformed>
         ensures parts { IfOk result (λ it. Whole IsUpdateParts (window parser) (parts_of it)) }
         ensures malformed { IsErr result → (parts : Window × (Window × Window))
@@ -63,6 +64,7 @@ impl<R: AsOctets + Copy> UpdateMessage<R> {
 
     /// Reads all that a parser has left as an UPDATE after its header, and counts a turn for each prefix and
     /// attribute.
+    #[inline(always)]
     pub(crate) fn parse_counted(
         parser: Parser<R>,
         session: SessionConfig,

@@ -163,6 +163,7 @@ impl<R: AsOctets + Copy> AttributeValue<R> {
     /// # Errors
     ///
     /// `Malformed` where it is none.
+    #[inline(always)]
     pub(crate) fn parse_counted(
         kind: AttributeType,
         parser: Parser<R>,
@@ -222,6 +223,7 @@ impl<R: AsOctets + Copy> PathAttribute<R> {
     ghost use Rattle.octseq_bgp.specs.ValueOf.{value_of};
 
     /// Reads its octets as a value of its type.
+    #[inline(always)]
     fn typed(&self, turns: &mut Turns) -> Result<AttributeValue<R>, Malformed>
         ensures value { IfOk result (λ value.
             IsTyped self.now.session self.now.type_code (window self.now.value) (value_of value)) }
@@ -237,6 +239,7 @@ impl<R: AsOctets + Copy> PathAttribute<R> {
     }
 
     /// What its octets say: a value of its type, or nothing that is known here, and then they are opaque.
+    #[inline(always)]
     pub fn value(&self) -> AttributeValue<R>
         ensures { IsValue self.now.session self.now.type_code (window self.now.value) (value_of result) }
     {
@@ -245,6 +248,7 @@ impl<R: AsOctets + Copy> PathAttribute<R> {
 
     /// The same, and counts the turns of loops that this takes: one for each segment and prefix. There are at most as
     /// many as it has octets.
+    #[inline(always)]
     pub fn value_counted(&self, turns: &mut Turns) -> AttributeValue<R>
         ensures value { IsValue self.now.session self.now.type_code (window self.now.value) (value_of result) }
         ensures turns { turns.new ≤ turns.old + left (window self.now.value) }

@@ -1,4 +1,5 @@
-use Rattle.std.proofs.Common.{◌-◌, refl, arith, rules}
+use Rattle.std.proofs.Common.{◌-◌, refl, arith, rules, subst}
+use Rattle.octseq_format.specs.Laws.{NoneAt}
 use Rattle.octseq.specs.Parser.{window}
 use Rattle.octseq_format.proofs.RowSteps.{held_none, held_not, held_more, held_then}
 use Rattle.octseq_bgp.specs.Entry.{IsEntry}
@@ -16,7 +17,7 @@ pub returns-in-Err-clause-none : goal.returns-in-Err-clause-none
 returns-in-Err-clause-none g c = λ _.
     let self = c.args.self.now in
     absurd (held_not (IsEntry self.form) (window self.parser) self.left self.ahead (omega arith)
-    (c.in-Err.ensures.malformed refl))
+    (subst (λ f. NoneAt (IsEntry f) (window self.parser)) c.requires (c.in-Err.ensures.malformed refl)))
 
 pub invariant_of-self : goal.invariant_of-self
 invariant_of-self g c =
@@ -24,11 +25,14 @@ invariant_of-self g c =
     record {
       ahead = held_more entry_code (IsEntry self.form) (one_entry self.form) (window self.parser)
           (window c.parse.new.parser) (entry_of c.in-Ok.entry) self.left (self.left - 1) self.ahead
-          c.in-Ok.ensures.entry (omega arith);
+          (subst (λ f. IsEntry f (window self.parser) (entry_of c.in-Ok.entry) (window c.parse.new.parser)) c.requires
+          c.in-Ok.ensures.entry) (omega arith);
     }
 
 pub returns-in-Ok-clause-some : goal.returns-in-Ok-clause-some
 returns-in-Ok-clause-some g c =
     let self = c.args.self.now in
     held_then entry_code (IsEntry self.form) (one_entry self.form) (window self.parser) (window c.parse.new.parser)
-    (entry_of c.in-Ok.entry) self.left (self.left - 1) self.ahead c.self-1.given.0 c.in-Ok.ensures.entry (omega arith)
+    (entry_of c.in-Ok.entry) self.left (self.left - 1) self.ahead c.self-1.given.0
+    (subst (λ f. IsEntry f (window self.parser) (entry_of c.in-Ok.entry) (window c.parse.new.parser)) c.requires
+    c.in-Ok.ensures.entry) (omega arith)
