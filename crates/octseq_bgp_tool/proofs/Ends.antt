@@ -1,12 +1,12 @@
 -- What is made of the rest of a stream of messages.
-use Rattle.std.proofs.Common.{◌≡◌, ◌+◌, ◌∙◌, ◌++◌, ℕ, Bool, true, false, List, [], length, inl, inr, refl, sym, ap}
+use Rattle.std.proofs.Common.{◌≡◌, ◌+◌, ◌∙◌, ◌++◌, ℕ, Bool, true, false, List, [], length, inl, inr, sym, ap}
 use Rattle.std.proofs.Common.{subst, arith}
 use Rattle.std.proofs.lemmas.List.{append-nil, length-append}
 use Rattle.octseq.specs.Code.{HasFront}
 use Rattle.octseq_bgp.specs.Stream.{IsCut, IsFramed, IsMisframed}
 use Rattle.octseq_bgp.specs.declared.session.SessionConfig.{SessionConfig}
 use Rattle.octseq_bgp_tool.specs.Out.{as_they_are}
-use Rattle.octseq_bgp_tool.specs.Streams.{IsMessagesEnd, IsMisframedEnd}
+use Rattle.octseq_bgp_tool.specs.Streams.{IsMessagesEnd}
 use Rattle.octseq_program.proofs.Ends.{none_at_plain, one_plain_end}
 use Rattle.octseq_program.specs.Frames.{IsPlainEnd}
 

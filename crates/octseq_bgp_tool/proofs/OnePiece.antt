@@ -4,7 +4,7 @@ use Rattle.octseq_bgp.specs.Message.{Message, IsMessage}
 use Rattle.octseq_bgp.specs.MessageText.{IsMessageText}
 use Rattle.octseq_bgp.specs.Stop.{IsStop}
 use Rattle.octseq_bgp.specs.declared.session.SessionConfig.{SessionConfig}
-use Rattle.octseq_bgp_tool.specs.Shown.{HasText, IsMessagePiece, IsNote, IsShown}
+use Rattle.octseq_bgp_tool.specs.Shown.{IsMessagePiece, IsNote, IsShown}
 use Rattle.octseq_bgp_tool.specs.Streams.{IsBlock}
 use Rattle.octseq_program.specs.Frames.{stop_line}
 

@@ -1,5 +1,5 @@
 -- What is made of a stream of messages, one after another.
-use Rattle.std.specs.Prelude.{◌≡◌, ◌⊎◌, ℕ, List, [], ◌++◌, codes, Bool, true, false}
+use Rattle.std.specs.Prelude.{◌≡◌, ◌⊎◌, ℕ, List, ◌++◌, codes, Bool, true, false}
 use Rattle.octseq_bgp.specs.Stream.{IsCut, IsMisframed}
 use Rattle.octseq_bgp.specs.declared.session.SessionConfig.{SessionConfig}
 use Rattle.octseq_bgp_tool.specs.Shown.{IsShown, IsNote}

@@ -1,5 +1,5 @@
 -- The words that name commands, and how messages are read by them.
-use Rattle.std.specs.Prelude.{◌≡◌, Bool, not, if◌then◌else◌, ℕ, List, [], ◌++◌, codes}
+use Rattle.std.specs.Prelude.{Bool, not, if◌then◌else◌, ℕ, List, [], ◌++◌, codes}
 use Rattle.octseq_bgp.specs.declared.session.SessionConfig.{SessionConfig}
 use Rattle.octseq_bgp_tool.specs.declared.engine.Command.{Command}
 use Rattle.octseq_bgp_tool.specs.declared.engine.Command.TheVariants.{Message, Stream, Mrt, Messages}

@@ -1,5 +1,5 @@
 -- What is written is a function of the word and the input.
-use Rattle.std.proofs.Common.{◌≡◌, ℕ, List, Bool, [], length, refl, ap, arith}
+use Rattle.std.proofs.Common.{◌≡◌, ℕ, List, Bool, refl, arith}
 use Rattle.octseq.proofs.Codes.{part_code}
 use Rattle.octseq.specs.Code.{HasFront}
 use Rattle.octseq.specs.Part.{part_of}

@@ -1,4 +1,4 @@
-use Rattle.std.proofs.Common.{◌++◌, List, ℕ, Option, Ok, ap, sym}
+use Rattle.std.proofs.Common.{◌++◌, List, ℕ, Option, Ok, ap}
 use Rattle.std.proofs.KnownBytes.{Consumes-trans}
 use Rattle.std.specs.Io.KnownBytes.{Consumes}
 use Rattle.octseq_program.proofs.Answering.{on_err}

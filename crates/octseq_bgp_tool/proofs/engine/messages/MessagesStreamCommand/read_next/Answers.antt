@@ -1,4 +1,4 @@
-use Rattle.std.proofs.Common.{◌++◌, List, ℕ, Option, refl}
+use Rattle.std.proofs.Common.{◌++◌, List, ℕ, refl}
 use Rattle.std.proofs.KnownBytes.{Consumes-trans}
 use Rattle.std.specs.Io.KnownBytes.{Consumes, IsAtEnd}
 use Rattle.octseq_bgp_tool.specs.Streams.{IsMessagesRest}
