@@ -6,7 +6,7 @@
 # Input, output and exit status are the program's own, and so are the arguments. It is proved and built first, where
 # a file of the crates is newer than it is: some minutes the first time, of which standard error tells how far they are.
 # WORD is a command that ends well where there is no input, as the build runs it once. The program is as new as this look
-# at the files, so `run`, `dns` and `bgp` start it without one until git changes
+# at the files, so `run`, `dns` and `bgp` start it without one until git changes something.
 set -euo pipefail
 top="$(cd "$(dirname "${BASH_SOURCE[0]}")" && pwd)"
 crate="$1"
