@@ -1,6 +1,9 @@
 -- Octets that are each those of an address are its octets.
-use Rattle.std.proofs.Common.{◌≡◌, ℕ, zero, suc, ◌+◌, ◌<◌, List, [], ◌∷◌, length, refl, ap, ◌∙◌, subst, arith}
-use Rattle.std.specs.Prelude.{slice_index}
+use Rattle.std.proofs.Common.{◌≡◌, ℕ, zero, suc, ◌+◌, ◌*◌, ◌^◌, ◌<◌, ◌≤◌, List, [], ◌∷◌, length, inl, inr, refl, ap, ◌∙◌}
+use Rattle.std.proofs.Common.{subst, arith}
+use Rattle.std.proofs.Math.Nat.{zero-div, zero-mul}
+use Rattle.std.proofs.lemmas.List.{get_or_past}
+use Rattle.std.specs.Prelude.{◌⊎◌, slice_index}
 use Rattle.octseq_bgp.specs.PrefixValue.{bits_after, cleared, address_from, address_of}
 
 address_is_from : (n i bits : ℕ) (octets address : List ℕ) → length address ≡ n
@@ -25,3 +28,19 @@ pub address_is : (bits : ℕ) (octets address : List ℕ) → length address ≡
 address_is bits octets address long each = address_is_from 16 0 bits octets address long
     (λ k fits. let on : k ≡ 0 + k = omega arith in
     subst (λ j. slice_index address k ≡ cleared (bits_after bits j) (slice_index octets j)) on (each k fits))
+
+-- an index is below another or not
+pub below_or_not : (k n : ℕ) → (k < n) ⊎ (n ≤ k)
+below_or_not k zero = inr (omega arith)
+below_or_not zero (suc n) = inl (omega arith)
+below_or_not (suc k) (suc n) = elim (below_or_not k n) [
+  | inl below ↦ inl (omega (arith, below))
+  | inr past ↦ inr (omega (arith, past))
+]
+
+-- an octet that isn't there has no bits
+pub none_past : (bits k : ℕ) (octets : List ℕ) → length octets ≤ k
+    → cleared (bits_after bits k) (slice_index octets k) ≡ 0
+none_past bits k octets past =
+    let n = 2 ^ bits_after bits k in
+    ap (cleared (bits_after bits k)) (get_or_past octets k 0 past) ∙ ap (λ q. q * n) (zero-div n) ∙ zero-mul n

@@ -200,7 +200,8 @@ fn address_of(octets: &[u8], bits: u8) -> [u8; 16]
     ensures { result ≡ address_of bits octets.now }
 {
     let mut address = [0; 16];
-    for i in 0..16 {
+    let len = octets.len().min(16);
+    for i in 0..len {
         address[i] = octet_of(octets, bits, i);
     }
     address
