@@ -271,6 +271,18 @@ pub fn write_piece<W: Write, E: Write>(
         × IsFront line piece.now.note.items × Appends (W.contents writer.old) (W.contents writer.new) front
         × Appends (E.contents errors.old) (E.contents errors.new) line }
 {
-    write_all(writer, piece.output.as_slice())?;
-    write_all(errors, piece.note.as_slice())
+    write_some(writer, piece.output.as_slice())?;
+    write_some(errors, piece.note.as_slice())
+}
+
+/// Writes all of the octets, if there are any.
+fn write_some<W: Write>(writer: &mut W, octets: &[u8]) -> Result<(), ProgramFault>
+    ensures ok { OnOk result (Appends (W.contents writer.old) (W.contents writer.new) octets.now) }
+    ensures front { (front : List ℕ) × IsFront front octets.now
+        × Appends (W.contents writer.old) (W.contents writer.new) front }
+{
+    if octets.is_empty() {
+        return Ok(());
+    }
+    write_all(writer, octets)
 }

@@ -3,9 +3,9 @@ use Rattle.octseq_program.proofs.Answering.{appends_none, front_nil}
 use Rattle.octseq_program.proofs.Taken.{front_all}
 use Rattle.octseq_program.proofs.frames.write_piece.Goals as goal
 
-pub returns-in_err-write_all-clause-front : goal.returns-in_err-write_all-clause-front
-returns-in_err-write_all-clause-front g c =
-    let went = rw c.as_slice.ensures.value at c.write_all.ensures.front in (
+pub returns-in_err-write_some-clause-front : goal.returns-in_err-write_some-clause-front
+returns-in_err-write_some-clause-front g c =
+    let went = rw c.as_slice.ensures.value at c.write_some.ensures.front in (
       went.0,
       [],
       went.1,
@@ -16,12 +16,12 @@ returns-in_err-write_all-clause-front g c =
 
 pub returns-clause-front : goal.returns-clause-front
 returns-clause-front g c =
-    let went = rw c.as_slice-2.ensures.value at c.write_all-2.ensures.front in
+    let went = rw c.as_slice-2.ensures.value at c.write_some-2.ensures.front in
     let output = c.args.piece.now.output.items in (
       output,
       went.0,
       front_all output,
       went.1,
-      rw c.as_slice.ensures.value at c.in_ok-write_all.ensures.ok,
+      rw c.as_slice.ensures.value at c.in_ok-write_some.ensures.ok,
       went.2,
     )
