@@ -51,7 +51,9 @@ fn in_long_messages(rt: HostRuntime) -> Result<(), Fail> {
     let mut other = zeros(rt.alloc(), 4097)?;
     assert_equal!(&rt, place_of_fault(&other, modern), 0);
     assert_equal!(&rt, place_of_fault(&other, extended()), 4097);
-    other.as_mut_slice()[18] = 1;
+    if let Some(kind) = other.as_mut_slice().get_mut(18) {
+        *kind = 1;
+    }
     assert_equal!(&rt, place_of_fault(&other, extended()), 0);
     Ok(())
 }
