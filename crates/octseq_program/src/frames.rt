@@ -1,5 +1,5 @@
 //! Commands that take a stream, one frame at a time: what is made of one is written before the next is read, so that a
-//! live source shows at once, and an input of any length runs in the memory of one frame.
+//! live source shows at once, and an input of any length runs in the memory of one frame and of what is made of it.
 ghost use Rattle.std.specs.Prelude.{◌≡◌, ◌&&◌, ℕ, List, [], Bool, IfOk, OnErr, OnOk, Ok};
 ghost use Rattle.std.specs.Io.KnownBytes.{Appends, Consumes, IsAtEnd};
 ghost use Rattle.octseq.specs.Code.{HasFront, IsCode};
@@ -118,8 +118,8 @@ pub trait FrameCommand: Copy {
             is_piece self number octets.now piece.is_fine piece.output.items piece.note.items) };
 }
 
-/// A command that takes a stream of frames, each of octets that fit, and makes a piece of each and of the rest after the
-/// last one.
+/// A command that takes a stream of frames, each of octets that fit, and makes a piece of each and of the rest after
+/// the last one.
 pub trait StreamCommand: FrameCommand {
     ghost use Rattle.octseq_program.specs.declared.frames.Ending.{Ending};
 
