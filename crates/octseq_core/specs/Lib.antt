@@ -6,3 +6,4 @@ pub mod Limit
 pub mod Refusal
 pub mod Rewritten
 pub mod Shown
+pub mod SliceBuilder

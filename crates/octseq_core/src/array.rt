@@ -176,6 +176,10 @@ impl<const N: usize> OctetsLimit for Array<N> {
 }
 
 impl<const N: usize> OctetsBuilder for Array<N> {
+    fn max_len(&self) -> Option<usize> {
+        Some(N)
+    }
+
     /// The slice takes the place of as many hidden octets; the others stay hidden, as they are.
     #[inline(always)]
     fn append_slice(&mut self, slice: &[u8]) -> Result<(), AppendError>

@@ -91,7 +91,13 @@ pub trait OctetsLimit: AsOctets {
 }
 
 /// A sequence of octets that grows at its end.
-pub trait OctetsBuilder: OctetsLimit {
+pub trait OctetsBuilder: AsOctets {
+    /// The greatest length of a content in octets, or `None` where every length is possible. Where the
+    /// type has [`OctetsLimit`], it is that limit. A builder over a lent slice alone knows it only when
+    /// the program runs.
+    fn max_len(&self) -> Option<usize>
+        ensures { result ≡ Self.limit };
+
     /// Appends all of the slice, or nothing.
     ///
     /// # Errors
@@ -135,7 +141,7 @@ pub trait Truncate: AsOctets {
 }
 
 /// A builder that can be made with nothing in it.
-pub trait EmptyBuilder: OctetsBuilder {
+pub trait EmptyBuilder: OctetsBuilder + OctetsLimit {
     /// An empty builder.
     ///
     /// # Errors

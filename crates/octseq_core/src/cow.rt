@@ -100,6 +100,10 @@ fn joined(alloc: Global, octets: &[u8], more: &[u8]) -> Result<Vec<u8>, AllocErr
 }
 
 impl OctetsBuilder for CowOctets<'_> {
+    fn max_len(&self) -> Option<usize> {
+        None
+    }
+
     /// Makes borrowed octets owned, also where the slice is empty. They are copied first, so a refusal
     /// leaves them borrowed.
     ///

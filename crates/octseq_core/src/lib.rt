@@ -8,3 +8,4 @@
 pub mod array;
 pub mod builder;
 pub mod cow;
+pub mod slice_builder;

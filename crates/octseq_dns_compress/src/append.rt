@@ -61,7 +61,7 @@ pub(crate) fn append_value<B: OctetsBuilder + Truncate, R: AsOctets + Copy, F: F
     if len > MESSAGE_MAX - before {
         return Err(AppendError::Short(ShortBuf));
     }
-    if let Some(limit) = B::limit() {
+    if let Some(limit) = octets.max_len() {
         if before + len > limit {
             return Err(AppendError::Short(ShortBuf));
         }

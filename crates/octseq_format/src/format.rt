@@ -166,7 +166,7 @@ pub trait Format<R: AsOctets + Copy> {
         let Some(len) = Self::compose_len(value) else {
             return Err(ComposeError::TooLong);
         };
-        if !has_room::<B>(builder.len(), len) {
+        if !has_room(builder.max_len(), builder.len(), len) {
             return Err(ComposeError::Short);
         }
         match Self::put(builder, value) {
@@ -196,7 +196,7 @@ pub trait Format<R: AsOctets + Copy> {
         let Some(len) = Self::compose_len(value) else {
             return Err(ComposeError::TooLong);
         };
-        if !has_room::<B>(0, len) {
+        if !has_room(B::limit(), 0, len) {
             return Err(ComposeError::Short);
         }
         let Ok(mut builder) = B::with_capacity(alloc, len) else {
@@ -229,12 +229,12 @@ pub trait Moving<R: AsOctets + Copy>: Delimited<R> {
     ghost moving: { 0 < Self.least };
 }
 
-/// Whether a content of `before` octets has room for `len` more. One with no limit has.
-pub(crate) fn has_room<B: OctetsLimit>(before: usize, len: usize) -> bool
-    ensures within { IsTrue result → IsWithin B.limit (before + len) }
-    ensures past { IsFalse result ↔ IsPast B.limit (before + len) }
+/// Whether a content of `before` octets has room for `len` more within a limit. Without a limit it has.
+pub(crate) fn has_room(limit: Option<usize>, before: usize, len: usize) -> bool
+    ensures within { IsTrue result → IsWithin limit (before + len) }
+    ensures past { IsFalse result ↔ IsPast limit (before + len) }
 {
-    match B::limit() {
+    match limit {
         None => true,
         Some(limit) => before <= limit && len <= limit - before,
     }

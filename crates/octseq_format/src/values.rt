@@ -77,7 +77,7 @@ pub fn append_all<R: AsOctets + Copy, F: Format<R>, B: OctetsBuilder + Truncate>
         return Err(ComposeError::TooLong);
     };
     let before = builder.len();
-    if !has_room::<B>(before, len) {
+    if !has_room(builder.max_len(), before, len) {
         return Err(ComposeError::Short);
     }
     if put_values::<B, R, F>(builder, values).is_err() {

@@ -36,6 +36,10 @@ impl OctetsLimit for Capped {
 }
 
 impl OctetsBuilder for Capped {
+    fn max_len(&self) -> Option<usize> {
+        Some(5)
+    }
+
     fn append_slice(&mut self, slice: &[u8]) -> Result<(), AppendError> {
         if slice.len() > 5 - self.octets.len() {
             return Err(AppendError::Short(ShortBuf));

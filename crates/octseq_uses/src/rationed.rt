@@ -46,6 +46,10 @@ impl OctetsLimit for Rationed {
 }
 
 impl OctetsBuilder for Rationed {
+    fn max_len(&self) -> Option<usize> {
+        None
+    }
+
     fn append_slice(&mut self, slice: &[u8]) -> Result<(), AppendError> {
         let is_refused = self.until_refused == 1;
         self.until_refused = self.until_refused.saturating_sub(1);

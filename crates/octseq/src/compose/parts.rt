@@ -89,7 +89,7 @@ pub fn append_part_u32_be<B: OctetsBuilder + Truncate>(
 fn has_room<B: OctetsBuilder>(builder: &B, first: usize, more: usize) -> bool
     ensures { IsFalse result ↔ IsPast B.limit (length (B.content builder.now) + (first + more)) }
 {
-    match B::limit() {
+    match builder.max_len() {
         None => true,
         Some(limit) => {
             let room = limit - builder.len();

@@ -11,7 +11,6 @@ ghost use Rattle.octseq_bgp.specs.MessageText.{IsMessageText};
 ghost use Rattle.octseq_bgp.specs.OneText.{OneAtMost};
 
 use crate::message::Message;
-use octseq::builder::OctetsLimit;
 use octseq::str::{Counter, DisplayError};
 use octseq::{AsOctets, OctetsBuilder, StrBuilder, Truncate};
 use std::fmt;
@@ -130,6 +129,7 @@ fn append_from<'a, K: Begun, B: OctetsBuilder + Truncate, T: WriteLines>(
     ensures borrows { B.borrows result.text.now ≡ B.borrows text.old }
 {
     let len = text.len();
+    let limit = text.max_len();
     let mut f = fmt::Formatter::new(Appending {
         text,
         refusal: DisplayError::Display,
@@ -146,7 +146,7 @@ fn append_from<'a, K: Begun, B: OctetsBuilder + Truncate, T: WriteLines>(
         },
         Err(_) => {
             text.truncate(len);
-            let answer = Err(reason::<B, T>(refusal, len, value));
+            let answer = Err(reason::<B, T>(refusal, limit, len, value));
             Appended { text, answer }
         }
     }
@@ -154,12 +154,14 @@ fn append_from<'a, K: Begun, B: OctetsBuilder + Truncate, T: WriteLines>(
 
 /// Why a text wasn't appended at the end of so many octets, where an append of a part of it was refused: `Short` is
 /// said only where all of it passes the limit.
-fn reason<B: OctetsLimit, T: WriteLines>(
+fn reason<B: AsOctets, T: WriteLines>(
     refusal: DisplayError,
+    limit: Option<usize>,
     len: usize,
     value: &T,
 ) -> DisplayError
     requires one { OneAtMost (T.is_text value.now) }
+    requires limit { limit ≡ B.limit }
     requires limited { Is Refusal.short (display_error refusal) → B.limit ≢ None }
     requires memory { Is Refusal.memory (display_error refusal) → B.asks ≡ true }
     ensures short { Is Refusal.short (display_error result) → (lines : List ℕ) → T.is_text value.now lines
@@ -168,21 +170,21 @@ fn reason<B: OctetsLimit, T: WriteLines>(
     ensures memory { Is Refusal.memory (display_error result) → B.asks ≡ true }
 {
     match refusal {
-        DisplayError::Short if !passes::<B, T>(len, value) => DisplayError::Display,
+        DisplayError::Short if !passes(limit, len, value) => DisplayError::Display,
         refusal => refusal,
     }
 }
 
-/// Whether the text of a value that follows so many octets passes the limit. It doesn't where it can't be shown.
-fn passes<B: OctetsLimit, T: WriteLines>(len: usize, value: &T) -> bool
+/// Whether the text of a value that follows so many octets passes a limit. It doesn't where it can't be shown.
+fn passes<T: WriteLines>(limit: Option<usize>, len: usize, value: &T) -> bool
     requires { OneAtMost (T.is_text value.now) }
     ensures { result ≡ true → (lines : List ℕ) → T.is_text value.now lines
-        → IsPast B.limit (len + length lines) }
+        → IsPast limit (len + length lines) }
 {
     let mut f = fmt::Formatter::new(Counter { count: len });
     let shown = value.write_lines(&mut f);
     let counter = f.into_inner();
-    match (B::limit(), shown) {
+    match (limit, shown) {
         (Some(limit), Ok(())) if limit < counter.count => true,
         _ => false,
     }

@@ -31,6 +31,10 @@ impl<const N: usize> OctetsLimit for ArrayVec<u8, N> {
 }
 
 impl<const N: usize> OctetsBuilder for ArrayVec<u8, N> {
+    fn max_len(&self) -> Option<usize> {
+        Some(N)
+    }
+
     fn append_slice(&mut self, slice: &[u8]) -> Result<(), AppendError> {
         match self.try_extend_from_slice(slice) {
             Ok(()) => Ok(()),

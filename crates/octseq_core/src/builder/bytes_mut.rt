@@ -91,6 +91,10 @@ impl OctetsLimit for BytesMut {
 }
 
 impl OctetsBuilder for BytesMut {
+    fn max_len(&self) -> Option<usize> {
+        None
+    }
+
     fn append_slice(&mut self, slice: &[u8]) -> Result<(), AppendError> {
         self.extend_from_slice(slice)?;
         Ok(())

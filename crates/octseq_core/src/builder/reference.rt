@@ -50,6 +50,10 @@ impl<T: OctetsLimit> OctetsLimit for &mut T {
 }
 
 impl<T: OctetsBuilder> OctetsBuilder for &mut T {
+    fn max_len(&self) -> Option<usize> {
+        (**self).max_len()
+    }
+
     fn append_slice(&mut self, slice: &[u8]) -> Result<(), AppendError> {
         (**self).append_slice(slice)
     }

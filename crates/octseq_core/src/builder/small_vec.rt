@@ -32,6 +32,10 @@ impl<const N: usize> OctetsLimit for SmallVec<u8, N> {
 }
 
 impl<const N: usize> OctetsBuilder for SmallVec<u8, N> {
+    fn max_len(&self) -> Option<usize> {
+        None
+    }
+
     /// A content that stays inline takes no memory.
     fn append_slice(&mut self, slice: &[u8]) -> Result<(), AppendError>
         ensures appended { Appends None true result slice.now self.old.items self.new.items }

@@ -30,6 +30,10 @@ impl OctetsLimit for Vec<u8> {
 }
 
 impl OctetsBuilder for Vec<u8> {
+    fn max_len(&self) -> Option<usize> {
+        None
+    }
+
     fn append_slice(&mut self, slice: &[u8]) -> Result<(), AppendError> {
         self.extend_from_slice(slice)?;
         Ok(())

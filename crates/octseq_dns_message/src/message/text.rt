@@ -19,7 +19,6 @@ ghost use Rattle.octseq_dns_message.specs.Walk.{questions_left, records_left};
 
 use crate::header::Header;
 use crate::message::{Message, Question, Questions, Record, Records};
-use octseq::builder::OctetsLimit;
 use octseq::str::{Counter, DisplayError};
 use octseq::{AsOctets, OctetsBuilder, StrBuilder, Truncate};
 use octseq_dns_data::Data;
@@ -194,9 +193,9 @@ impl<R: AsOctets + Copy> Message<R> {
         ensures memory { IsMemory display_error result → B.asks ≡ true }
         ensures borrows { B.borrows text.new ≡ B.borrows text.old }
     {
-        let len = text.len();
+        let (limit, len) = (text.max_len(), text.len());
         match append_whole(text, self) {
-            Err(DisplayError::Short) if !passes::<B, R>(len, self) => Err(DisplayError::Display),
+            Err(DisplayError::Short) if !passes(limit, len, self) => Err(DisplayError::Display),
             answer => answer,
         }
     }
@@ -228,16 +227,16 @@ fn append_whole<B: OctetsBuilder + Truncate, R: AsOctets + Copy>(
     answer
 }
 
-/// Whether the text of a message that follows `len` octets passes the limit. It doesn't where it can't be shown.
-fn passes<B: OctetsLimit, R: AsOctets + Copy>(len: usize, message: &Message<R>) -> bool
+/// Whether the text of a message that follows `len` octets passes a limit. It doesn't where it can't be shown.
+fn passes<R: AsOctets + Copy>(limit: Option<usize>, len: usize, message: &Message<R>) -> bool
     ensures { result ≡ true → (lines : List ℕ) → IsMessageText (header_of message.now) (questions_of message.now)
         (answers_of message.now) (authorities_of message.now) (additionals_of message.now) lines
-        → IsPast B.limit (len + length lines) }
+        → IsPast limit (len + length lines) }
 {
     let mut f = fmt::Formatter::new(Counter { count: len });
     let shown = fmt::Display::fmt(message, &mut f);
     let counter = f.into_inner();
-    match (B::limit(), shown) {
+    match (limit, shown) {
         (Some(limit), Ok(())) if limit < counter.count => true,
         _ => false,
     }

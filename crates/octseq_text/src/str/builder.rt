@@ -177,6 +177,15 @@ impl<Octets: AsOctets> StrBuilder<Octets> {
         self.as_slice().len()
     }
 
+    /// The greatest length in octets that the text may have, or `None` where every length is possible.
+    pub fn max_len(&self) -> Option<usize>
+    where
+        Octets: OctetsBuilder,
+        ensures { result ≡ Octets.limit }
+    {
+        self.octets.max_len()
+    }
+
     /// Whether the text is empty.
     pub fn is_empty(&self) -> bool
         ensures { IsTrue result ↔ (Octets.content self.now ≡ []) }

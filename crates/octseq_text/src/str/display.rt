@@ -9,7 +9,7 @@ ghost use Rattle.octseq_utf8.specs.Text.{begins_within};
 
 use super::builder::StrBuilder;
 use super::counter::Counter;
-use octseq_core::builder::{AppendError, AsOctets, OctetsBuilder, OctetsLimit, Truncate};
+use octseq_core::builder::{AppendError, AsOctets, OctetsBuilder, Truncate};
 use std::error::Error;
 use std::fmt::{self, Display, Write};
 use std::marker::{Brand, PhantomData};
@@ -167,6 +167,7 @@ fn append_from<'a, K: Begun, B: OctetsBuilder + Truncate, D: Display + Drop>(
     ensures borrows { B.borrows result.text.now ≡ B.borrows text.old }
 {
     let len = text.len();
+    let limit = text.max_len();
     let mut writer = Appending {
         text,
         refusal: DisplayError::Display,
@@ -183,7 +184,7 @@ fn append_from<'a, K: Begun, B: OctetsBuilder + Truncate, D: Display + Drop>(
         },
         Err(_) => {
             text.truncate(len);
-            let answer = Err(reason::<B, D>(refusal, len, &value));
+            let answer = Err(reason::<B, D>(refusal, limit, len, &value));
             Appended { text, answer }
         }
     }
@@ -191,7 +192,13 @@ fn append_from<'a, K: Begun, B: OctetsBuilder + Truncate, D: Display + Drop>(
 
 /// Why a value wasn't appended at the end of so many octets, where an append of a part of it was refused: `Short` is
 /// said only where all of it passes the limit.
-fn reason<B: OctetsLimit, D: Display>(refusal: DisplayError, len: usize, value: &D) -> DisplayError
+fn reason<B: AsOctets, D: Display>(
+    refusal: DisplayError,
+    limit: Option<usize>,
+    len: usize,
+    value: &D,
+) -> DisplayError
+    requires limit { limit ≡ B.limit }
     requires limited { Is Refusal.short (display_error refusal) → B.limit ≢ None }
     requires memory { Is Refusal.memory (display_error refusal) → B.asks ≡ true }
     ensures short { Is Refusal.short (display_error result) → IfSome (D.output value.now)
@@ -200,17 +207,17 @@ fn reason<B: OctetsLimit, D: Display>(refusal: DisplayError, len: usize, value: 
     ensures memory { Is Refusal.memory (display_error result) → B.asks ≡ true }
 {
     match refusal {
-        DisplayError::Short if !passes::<B, D>(len, value) => DisplayError::Display,
+        DisplayError::Short if !passes(limit, len, value) => DisplayError::Display,
         refusal => refusal,
     }
 }
 
-/// Whether a value that follows so many octets passes the limit. It doesn't where it can't be shown.
-fn passes<B: OctetsLimit, D: Display>(len: usize, value: &D) -> bool
-    ensures { result ≡ true → IfSome (D.output value.now) (λ octets. IsPast B.limit (len + length octets)) }
+/// Whether a value that follows so many octets passes a limit. It doesn't where it can't be shown.
+fn passes<D: Display>(limit: Option<usize>, len: usize, value: &D) -> bool
+    ensures { result ≡ true → IfSome (D.output value.now) (λ octets. IsPast limit (len + length octets)) }
 {
     let mut counter = Counter { count: len };
-    match (B::limit(), counter.write(value)) {
+    match (limit, counter.write(value)) {
         (Some(limit), Ok(())) if limit < counter.count => true,
         _ => false,
     }
