@@ -1,4 +1,4 @@
-use Rattle.std.proofs.Common.{◌+◌, length, ap, subst, arith}
+use Rattle.std.proofs.Common.{◌+◌, length, ap, subst, sym, arith}
 use Rattle.octseq.proofs.Counts.{count_after_writes}
 use Rattle.octseq.specs.Limit.{IsPast}
 use Rattle.octseq_bgp.proofs.text.append.passes.Goals as goal
@@ -12,5 +12,5 @@ returns-in-Some-Ok g c = λ _ lines are.
     let first = ap (λ w. w.count) c.new-f.ensures.writer in
     let last = ap (λ w. w.count) c.into_inner-counter.ensures in
     let over = c.if-limit-counter.true in
-    subst (λ limit. IsPast limit (c.args.len + length lines)) c.in-Some-Ok.ensures
+    subst (λ limit. IsPast limit (c.args.len + length lines)) (sym c.in-Some-Ok.is-0)
     (omega (arith, over, counted, same, first, last))

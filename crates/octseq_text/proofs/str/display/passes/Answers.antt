@@ -1,4 +1,4 @@
-use Rattle.std.proofs.Common.{◌+◌, length, subst, arith}
+use Rattle.std.proofs.Common.{◌+◌, length, subst, sym, arith}
 use Rattle.std.proofs.lemmas.Option.{IfSome_then}
 use Rattle.octseq_core.specs.Limit.{IsPast}
 use Rattle.octseq_text.proofs.Counts.{count_after_writes}
@@ -6,8 +6,8 @@ use Rattle.octseq_text.proofs.str.display.passes.Goals as goal
 
 pub returns-in-Some-Ok : goal.returns-in-Some-Ok
 returns-in-Some-Ok g c = λ _.
-    IfSome_then (g.D.Display.output c.args.value.now) c.in-Some-Ok.ensures'.writes
+    IfSome_then (g.D.Display.output c.args.value.now) c.in-Some-Ok.ensures.writes
     (λ octets writes.
     let counted = count_after_writes _ (λ w. w.count) (λ _ _ _ counts. counts) _ octets _ writes in
     let over = c.if-limit-counter.true in
-    subst (λ limit. IsPast limit (c.args.len + length octets)) c.in-Some-Ok.ensures (omega (arith, over, counted)))
+    subst (λ limit. IsPast limit (c.args.len + length octets)) (sym c.in-Some-Ok.is-0) (omega (arith, over, counted)))

@@ -1,0 +1,176 @@
+/* octseq.h: the proved calls of octseq, for C and C++.
+ *
+ * No call requests memory, keeps a pointer, or has a state of its own: what it answers depends on its arguments alone,
+ * and calls may run in any number of threads.
+ *
+ * What a caller promises. A pointer and the length after it name so many octets (or rows), which the call may read, or
+ * write where the pointer isn't const, until it returns. The pointer may be NULL where the length is 0. What is written
+ * overlaps no other argument, and nobody else writes to an argument meanwhile. No length is above PTRDIFF_MAX. Any
+ * other pointer (`written`, `count`, `state` and the like) is to one such thing, and isn't NULL.
+ *
+ * What a call promises. For all octets: it returns, touches no other memory, and answers what its comment says. `out`
+ * has what was written in its first `*written` octets (or rows) after OCTSEQ_OK, and all that follows them is as it
+ * was. After any other status `out` is as it was, all of it. Every status has `*written` (or `*count`) set: to how much
+ * room it takes after OCTSEQ_NO_ROOM, so that a call with no room, (NULL, 0), asks for the length alone; to 0 after a
+ * status above OCTSEQ_NO_ROOM.
+ */
+#ifndef OCTSEQ_H
+#define OCTSEQ_H
+
+#include <stddef.h>
+#include <stdint.h>
+
+#ifdef __cplusplus
+extern "C" {
+#endif
+
+#define OCTSEQ_VERSION "0.1.0"
+
+/* What calls answer. Each comment below says which of these a call has. */
+#define OCTSEQ_OK 0u
+#define OCTSEQ_NO_ROOM 1u   /* there is too little room; `*written` or `*count` says how much it takes */
+#define OCTSEQ_MALFORMED 2u /* the octets aren't what they were read as */
+#define OCTSEQ_FAULT 3u     /* the octets are not well-formed UTF-8 */
+#define OCTSEQ_IMMOVABLE 4u /* data that isn't of its type's form may have pointers, so it can't be moved */
+#define OCTSEQ_TOO_LONG 5u  /* a DNS message would have more than 65,535 octets */
+#define OCTSEQ_BAD_ROW 6u   /* a row's name isn't at its place, its data isn't in the octets, or its section is none */
+#define OCTSEQ_BAD_STATE 7u /* the state of a reading in pieces is none that a call left */
+#define OCTSEQ_UNSHOWN 8u   /* no text could be made. No octets lead here, but no proof rules it out */
+
+/* ---- UTF-8 (the Unicode Standard, 3.9) ---- */
+
+/* 1 where the octets are well-formed UTF-8, else 0. */
+uint32_t octseq_is_utf8(const uint8_t *octets, size_t len);
+
+/* Where the octets stop being well-formed UTF-8. OK: nowhere; `*valid_up_to` is `len`, `*error_len` 0. FAULT: the
+ * first ill-formed part is at `*valid_up_to` and has `*error_len` octets, 1 to 3, or 0 where the octets end within a
+ * character. */
+uint32_t octseq_utf8_fault(const uint8_t *octets, size_t len, size_t *valid_up_to, size_t *error_len);
+
+/* The octets as a text in which each maximal ill-formed part became one U+FFFD (EF BF BD). OK, NO_ROOM. A text of more
+ * than SIZE_MAX octets is told as SIZE_MAX. */
+uint32_t octseq_lossy(const uint8_t *octets, size_t len, uint8_t *out, size_t room, size_t *written);
+
+/* The same for octets that come in pieces. The caller keeps the state: at most three octets of a character that isn't
+ * whole yet. All zeros is the state before the first piece. However the octets are cut, the texts of all pieces, and
+ * the last one of octseq_lossy_end, are together the text of octseq_lossy. */
+typedef struct octseq_lossy_state {
+    uint8_t octets[3];
+    uint8_t len;
+} octseq_lossy_state;
+
+/* The text of the next piece. OK, NO_ROOM, BAD_STATE. The state stays but after OK. */
+uint32_t octseq_lossy_piece(octseq_lossy_state *state, const uint8_t *piece, size_t len, uint8_t *out, size_t room,
+                            size_t *written);
+
+/* What is left once no piece follows: U+FFFD where the state has octets, else nothing. OK, NO_ROOM, BAD_STATE. After
+ * OK the state is that before the first piece. */
+uint32_t octseq_lossy_end(octseq_lossy_state *state, uint8_t *out, size_t room, size_t *written);
+
+/* ---- DNS messages (RFC 1035) ---- */
+
+/* The header of a message: its 12 octets as numbers. */
+typedef struct octseq_dns_header {
+    uint16_t id;
+    uint16_t flags; /* the bits below, the opcode as OCTSEQ_DNS_OPCODE, the response code as OCTSEQ_DNS_RCODE */
+    uint16_t qdcount;
+    uint16_t ancount;
+    uint16_t nscount;
+    uint16_t arcount;
+} octseq_dns_header;
+
+#define OCTSEQ_DNS_QR 0x8000u
+#define OCTSEQ_DNS_AA 0x0400u
+#define OCTSEQ_DNS_TC 0x0200u
+#define OCTSEQ_DNS_RD 0x0100u
+#define OCTSEQ_DNS_RA 0x0080u
+#define OCTSEQ_DNS_AD 0x0020u
+#define OCTSEQ_DNS_CD 0x0010u
+#define OCTSEQ_DNS_OPCODE(flags) (((flags) >> 11) & 15u)
+#define OCTSEQ_DNS_RCODE(flags) ((flags) & 15u)
+
+/* A question or a record. Places are counted from the first octet of what it was read from. */
+typedef struct octseq_dns_row {
+    size_t name_at;   /* where the name begins */
+    size_t data_at;   /* where the data begins; 0 of a question */
+    size_t data_len;  /* how many octets of data there are; 0 of a question */
+    uint32_t ttl;     /* for how many seconds it may be kept; 0 of a question */
+    uint16_t rtype;   /* its type */
+    uint16_t rclass;  /* its class */
+    uint32_t section; /* 0 question, 1 answer, 2 record of an authority, 3 additional record */
+} octseq_dns_row;
+
+/* The header of the message that the octets are. OK, MALFORMED: they are no message; `*header` is as it was. */
+uint32_t octseq_dns_message_header(const uint8_t *octets, size_t len, octseq_dns_header *header);
+
+/* The questions and the records of the message that the octets are, in their order. OK, NO_ROOM, MALFORMED. */
+uint32_t octseq_dns_rows(const uint8_t *octets, size_t len, octseq_dns_row *out, size_t room, size_t *count);
+
+/* The text of the message that the octets are, a line for its header and one for each of its entries. OK, NO_ROOM,
+ * MALFORMED, UNSHOWN. */
+uint32_t octseq_dns_message_text(const uint8_t *octets, size_t len, uint8_t *out, size_t room, size_t *written);
+
+/* The message that the octets are, written anew, with its names compressed (RFC 1035, 4.1.4; RFC 3597, 4). OK, NO_ROOM,
+ * MALFORMED, IMMOVABLE, TOO_LONG. */
+uint32_t octseq_dns_rewrite(const uint8_t *octets, size_t len, uint8_t *out, size_t room, size_t *written);
+
+/* A query: a message of one question. `name` is text, as octseq_dns_name_from_text takes it; `flags` as in a header.
+ * OK, NO_ROOM, MALFORMED: the text is no name. A query has at most 271 octets. */
+uint32_t octseq_dns_query(uint16_t id, uint16_t flags, const uint8_t *name, size_t name_len, uint16_t qtype,
+                          uint16_t qclass, uint8_t *out, size_t room, size_t *written);
+
+/* The answer to a message. It has the message's number, opcode, flag RD and questions, the flag QR, and of `flags` the
+ * response code and all other flags. Its records are the rows, each in its section (1, 2 or 3), in the order that they
+ * have here. Their names and data are at their places in `source`, names in data too; all are compressed. OK, NO_ROOM,
+ * MALFORMED: `query` is no message; BAD_ROW, IMMOVABLE, TOO_LONG. */
+uint32_t octseq_dns_answer(const uint8_t *query, size_t query_len, uint16_t flags, const uint8_t *source,
+                           size_t source_len, const octseq_dns_row *rows, size_t count, uint8_t *out, size_t room,
+                           size_t *written);
+
+/* ---- DNS names (RFC 1035, 3.1) ---- */
+
+/* The text of the name at a place of the octets, `example.com.`, with the escapes of RFC 1035, 5.1. OK, NO_ROOM,
+ * MALFORMED: no name is there; UNSHOWN. A text has at most 1,004 octets. */
+uint32_t octseq_dns_name_text(const uint8_t *octets, size_t len, size_t place, uint8_t *out, size_t room,
+                              size_t *written);
+
+/* The wire form of the name at a place of the octets, without pointers. OK, NO_ROOM, MALFORMED: no name is there. A
+ * wire form has at most 255 octets. */
+uint32_t octseq_dns_name_wire(const uint8_t *octets, size_t len, size_t place, uint8_t *out, size_t room,
+                              size_t *written);
+
+/* The wire form of the name that a text spells. The text ends with a full stop. OK, NO_ROOM, MALFORMED: it spells no
+ * name. */
+uint32_t octseq_dns_name_from_text(const uint8_t *text, size_t len, uint8_t *out, size_t room, size_t *written);
+
+/* How the name at one place compares with that at another, in the canonical order (RFC 4034, 6.1): `*order` is -1, 0
+ * or 1. Letters of either case are one. OK, MALFORMED: at one of the places no name is; `*order` is then 0. */
+uint32_t octseq_dns_name_compare(const uint8_t *one, size_t one_len, size_t one_place, const uint8_t *other,
+                                 size_t other_len, size_t other_place, int32_t *order);
+
+/* ---- data of DNS records ---- */
+
+/* 1 where the octets from `data_at` on, `data_len` of them, have the form of their type and class (27 types are known),
+ * else 0. Names in them may have pointers into the octets where their type allows it. */
+uint32_t octseq_dns_data_is_typed(const uint8_t *octets, size_t len, size_t data_at, size_t data_len, uint16_t rtype,
+                                  uint16_t rclass);
+
+/* The text of the same data: that of its type, or `\# n` and the octets in hexadecimal (RFC 3597, 5) where it has not
+ * the form of a type that is known. OK, NO_ROOM, MALFORMED: the data isn't within the octets; UNSHOWN. */
+uint32_t octseq_dns_data_text(const uint8_t *octets, size_t len, size_t data_at, size_t data_len, uint16_t rtype,
+                              uint16_t rclass, uint8_t *out, size_t room, size_t *written);
+
+/* The mnemonic of a type (`A`, `TYPE1234`) and of a class (`IN`, `CLASS5`). OK, NO_ROOM, UNSHOWN. */
+uint32_t octseq_dns_rtype_text(uint16_t rtype, uint8_t *out, size_t room, size_t *written);
+uint32_t octseq_dns_class_text(uint16_t rclass, uint8_t *out, size_t room, size_t *written);
+
+/* The type, the class that a text names, in letters of either case. OK, MALFORMED: it names none; the number is then
+ * 0. */
+uint32_t octseq_dns_rtype_from_text(const uint8_t *text, size_t len, uint16_t *rtype);
+uint32_t octseq_dns_class_from_text(const uint8_t *text, size_t len, uint16_t *rclass);
+
+#ifdef __cplusplus
+}
+#endif
+
+#endif
