@@ -15,6 +15,7 @@ pub use Rattle.octseq_core.specs.Cow
 pub use Rattle.octseq_core.specs.Lends
 pub use Rattle.octseq_core.specs.Limit
 pub use Rattle.octseq_core.specs.Shown as AppendShown
+pub use Rattle.octseq_core.specs.SliceBuilder
 pub use Rattle.octseq_text.specs.Chunk
 pub use Rattle.octseq_text.specs.Display
 pub use Rattle.octseq_text.specs.Encoding

@@ -16,7 +16,8 @@ pub use octseq_core::builder::{
     OctetsBuilder, OctetsLimit, ShortBuf, Truncate,
 };
 pub use octseq_core::cow::CowOctets;
-pub use octseq_core::{array, builder, cow};
+pub use octseq_core::slice_builder::SliceBuilder;
+pub use octseq_core::{array, builder, cow, slice_builder};
 pub use octseq_text::octets::{Octets, OctetsFrom, OctetsInto};
 pub use octseq_text::str::{Str, StrBuilder};
 pub use octseq_text::{octets, str, utf8};

@@ -1,0 +1,3 @@
+pub mod LossyText
+pub mod Puts
+pub mod Status

@@ -1,0 +1,17 @@
+-- What a call writes to a caller's room.
+use Rattle.std.specs.Prelude.{◌≡◌, ◌≢◌, ℕ, ◌<◌, ◌≤◌, List, ◌++◌, length, drop}
+use Rattle.octseq_c.specs.Status.{status_ok, status_no_room}
+
+-- the room has the items in front, and what follows them is as it was
+abbrev pub Fills : {A : Type 0} → List A → List A → List A → Type 0
+Fills items old new = new ≡ items ++ drop (length items) old
+
+-- A call that writes items to a room, or tells how many they are where they don't fit. `Is` says which items: there is
+-- one list of them at most.
+pub record Puts {A : Type 0} (Is : List A → Type 0) (status : ℕ) (old new : List A) (count : ℕ) : Type 0 where
+  pub ok : status ≡ status_ok → (items : List A)
+      × Is items × (length items ≤ length old) × (count ≡ length items) × Fills items old new
+  pub no_room : status ≡ status_no_room → (items : List A)
+      × Is items × (length old < length items) × (count ≡ length items)
+  pub nothing : status ≢ status_ok → status ≢ status_no_room → count ≡ 0
+  pub one : (items others : List A) → Is items → Is others → items ≡ others

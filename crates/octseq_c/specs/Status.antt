@@ -1,0 +1,38 @@
+-- What calls answer: octseq.h has the same numbers.
+use Rattle.std.specs.Prelude.{ℕ}
+
+-- all went well
+abbrev pub status_ok : ℕ
+status_ok = 0
+
+-- there is too little room
+abbrev pub status_no_room : ℕ
+status_no_room = 1
+
+-- the octets aren't what they were read as
+abbrev pub status_malformed : ℕ
+status_malformed = 2
+
+-- they are not well-formed UTF-8
+abbrev pub status_fault : ℕ
+status_fault = 3
+
+-- data that isn't of its type's form may have pointers
+abbrev pub status_immovable : ℕ
+status_immovable = 4
+
+-- a message would have more than 65,535 octets, or a text more than a size can say
+abbrev pub status_too_long : ℕ
+status_too_long = 5
+
+-- a row says what isn't there
+abbrev pub status_bad_row : ℕ
+status_bad_row = 6
+
+-- the state of a reading in pieces is none
+abbrev pub status_bad_state : ℕ
+status_bad_state = 7
+
+-- a value wrote no text
+abbrev pub status_unshown : ℕ
+status_unshown = 8
