@@ -1,3 +1,7 @@
-pub mod LossyText
+pub mod Made
+pub mod Order
 pub mod Puts
+pub mod Rows
 pub mod Status
+pub mod Texts
+pub mod LossyText

@@ -2,6 +2,14 @@
 //! requests no memory, keeps no pointer, and says with a number what came of it.
 #![tactic(auto)]
 
+mod data;
+mod header;
+mod names;
+mod numbers;
 mod room;
+mod rows;
+mod shown;
 mod status;
+mod text;
 mod utf8;
+mod write;

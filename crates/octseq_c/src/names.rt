@@ -1,0 +1,164 @@
+//! Domain names: RFC 1035, 3.1.
+ghost use Rattle.std.specs.Prelude.{◌≡◌, ◌≢◌, ◌↔◌, ◌⊎◌, ◌≤◌, ℕ, List, length, IfOk, IsErr};
+ghost use Rattle.std.specs.declared.cmp.Ordering.TheVariants.{Less, Equal, Greater};
+ghost use Rattle.octseq_dns.specs.Order.{name_cmp};
+ghost use Rattle.octseq_dns.specs.Read.{labels_of};
+ghost use Rattle.octseq_c.specs.Order.{IsOrder};
+ghost use Rattle.octseq_c.specs.Puts.{Puts};
+ghost use Rattle.octseq_c.specs.Status.{status_ok, status_no_room, status_malformed, status_unshown};
+ghost use Rattle.octseq_c.specs.Texts.{IsNameAt, IsNameText, IsNameWire, IsSpelledWire, Spells};
+
+use crate::room::put;
+use crate::shown::show;
+use crate::status::{MALFORMED, OK};
+use octseq::builder::infallible;
+use octseq::{Array, Parser, Str};
+use octseq_dns::name::{a_name_has_labels, one_name_at_a_place, one_name_of_a_text};
+use octseq_dns::{DomainName, Malformed, Name, ParsedName};
+use octseq_format::Format;
+use std::cmp::Ordering;
+
+/// The text of the name at a place of the octets, at the front of `out`.
+#[unsafe(no_mangle)]
+pub extern "C" fn octseq_dns_name_text(
+    octets: &[u8],
+    place: usize,
+    out: &mut [u8],
+    written: &mut usize,
+) -> u32
+    ensures puts { Puts (IsNameText octets.now place) result out.old out.new written.new }
+    ensures malformed { (result ≡ status_malformed)
+        ↔ ((labels : List (List ℕ)) → ¬ IsNameAt octets.now place labels) }
+    ensures only { (result ≡ status_ok) ⊎ (result ≡ status_no_room) ⊎ (result ≡ status_malformed)
+        ⊎ (result ≡ status_unshown) }
+    ensures kept { result ≢ status_ok → result ≢ status_unshown → out.new ≡ out.old }
+{
+    one_name_at_a_place();
+    match name_at(octets, place) {
+        Ok(name) => show(name, out, written),
+        Err(Malformed) => {
+            *written = 0;
+            MALFORMED
+        }
+    }
+}
+
+/// The wire form of the name at a place of the octets, at the front of `out`.
+#[unsafe(no_mangle)]
+pub extern "C" fn octseq_dns_name_wire(
+    octets: &[u8],
+    place: usize,
+    out: &mut [u8],
+    written: &mut usize,
+) -> u32
+    ensures puts { Puts (IsNameWire octets.now place) result out.old out.new written.new }
+    ensures malformed { (result ≡ status_malformed)
+        ↔ ((labels : List (List ℕ)) → ¬ IsNameAt octets.now place labels) }
+    ensures only { (result ≡ status_ok) ⊎ (result ≡ status_no_room) ⊎ (result ≡ status_malformed) }
+    ensures kept { result ≢ status_ok → out.new ≡ out.old }
+{
+    one_name_at_a_place();
+    match name_at(octets, place) {
+        Ok(name) => put(wire_of(&name).as_slice(), out, written),
+        Err(Malformed) => {
+            *written = 0;
+            MALFORMED
+        }
+    }
+}
+
+/// The wire form of the name that a text spells, at the front of `out`.
+#[unsafe(no_mangle)]
+pub extern "C" fn octseq_dns_name_from_text(
+    text: &[u8],
+    out: &mut [u8],
+    written: &mut usize,
+) -> u32
+    ensures puts { Puts (IsSpelledWire text.now) result out.old out.new written.new }
+    ensures malformed { (result ≡ status_malformed) ↔ ((labels : List (List ℕ)) → ¬ Spells text.now labels) }
+    ensures only { (result ≡ status_ok) ⊎ (result ≡ status_no_room) ⊎ (result ≡ status_malformed) }
+    ensures kept { result ≢ status_ok → out.new ≡ out.old }
+{
+    one_name_of_a_text();
+    match spelled(text) {
+        Some(name) => put(name.as_slice(), out, written),
+        None => {
+            *written = 0;
+            MALFORMED
+        }
+    }
+}
+
+/// How the name at one place compares with that at another: -1, 0 or 1.
+#[unsafe(no_mangle)]
+pub extern "C" fn octseq_dns_name_compare(
+    one: &[u8],
+    one_place: usize,
+    other: &[u8],
+    other_place: usize,
+    order: &mut i32,
+) -> u32
+    ensures ok { result ≡ status_ok → (labels others : List (List ℕ)) → IsNameAt one.now one_place labels
+        → IsNameAt other.now other_place others → IsOrder (name_cmp labels others) order.new }
+    ensures malformed { (result ≡ status_malformed)
+        ↔ ((labels others : List (List ℕ)) → IsNameAt one.now one_place labels
+        → ¬ IsNameAt other.now other_place others) }
+    ensures only { (result ≡ status_ok) ⊎ ((result ≡ status_malformed) × IsOrder Equal order.new) }
+{
+    one_name_at_a_place();
+    match (name_at(one, one_place), name_at(other, other_place)) {
+        (Ok(name), Ok(other)) => {
+            *order = number_of(name.name_cmp(&other));
+            OK
+        }
+        _ => {
+            *order = 0;
+            MALFORMED
+        }
+    }
+}
+
+/// An order as a number.
+fn number_of(order: Ordering) -> i32
+    ensures { IsOrder order result }
+{
+    match order {
+        Ordering::Less => -1,
+        Ordering::Equal => 0,
+        Ordering::Greater => 1,
+    }
+}
+
+/// The name at a place of the octets.
+pub fn name_at(octets: &[u8], place: usize) -> Result<ParsedName<&[u8]>, Malformed>
+    ensures name { IfOk result (λ name. IsNameAt octets.now place (labels_of name)) }
+    ensures malformed { IsErr result → (labels : List (List ℕ)) → ¬ IsNameAt octets.now place labels }
+{
+    let mut parser = Parser::from_ref(octets);
+    match parser.seek(place) {
+        Ok(()) => ParsedName::parse(&mut parser),
+        Err(_) => Err(Malformed),
+    }
+}
+
+/// The wire form of a name.
+fn wire_of(name: &ParsedName<&[u8]>) -> Array<255>
+    ensures { result.content ≡ wire (labels_of name.now) }
+{
+    a_name_has_labels(name);
+    let _len = name.len();
+    let mut octets = Array::<255>::new();
+    infallible(DomainName::put(&mut octets, name));
+    octets
+}
+
+/// The name that a text spells.
+pub fn spelled(text: &[u8]) -> Option<Name<Array<255>>>
+    ensures some { IfSome result (λ name. Spells text.now (owned_labels name)) }
+    ensures none { IfNone result ((labels : List (List ℕ)) → ¬ Spells text.now labels) }
+{
+    match Str::from_utf8_slice(text) {
+        Ok(text) => Name::from_text(text.as_str()).ok(),
+        Err(_) => None,
+    }
+}

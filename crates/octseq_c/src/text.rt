@@ -1,0 +1,94 @@
+//! The text of DNS messages.
+ghost use Rattle.std.specs.Prelude.{◌≡◌, ◌≢◌, ◌↔◌, ◌⊎◌, List, ℕ, length, IfSome, IsTrue};
+ghost use Rattle.octseq_dns.specs.MessageText.{IsMessageText};
+ghost use Rattle.octseq_dns.specs.Parsed.{header_of, questions_of, answers_of, authorities_of, additionals_of};
+ghost use Rattle.octseq_c.specs.Puts.{Puts};
+ghost use Rattle.octseq_c.specs.Rows.{IsSomeMessage};
+ghost use Rattle.octseq_c.specs.Status.{status_ok, status_no_room, status_malformed, status_unshown};
+ghost use Rattle.octseq_c.specs.Texts.{IsTextOf};
+
+use crate::status::{MALFORMED, NO_ROOM, OK, UNSHOWN};
+use octseq::slice_builder::{Room, SliceBuilder};
+use octseq::str::{Counter, StrBuilder};
+use octseq_dns::message::{one_message, one_text_of_a_message};
+use octseq_dns::{Malformed, Message};
+use std::fmt::{self, Display};
+use std::marker::Brand;
+
+/// The text of the message that the octets are, at the front of `out`.
+#[unsafe(no_mangle)]
+pub extern "C" fn octseq_dns_message_text(
+    octets: &[u8],
+    out: &mut [u8],
+    written: &mut usize,
+) -> u32
+    ensures puts { Puts (IsTextOf octets.now) result out.old out.new written.new }
+    ensures malformed { (result ≡ status_malformed) ↔ ¬ IsSomeMessage octets.now }
+    ensures only { (result ≡ status_ok) ⊎ (result ≡ status_no_room) ⊎ (result ≡ status_malformed)
+        ⊎ (result ≡ status_unshown) }
+    ensures kept { result ≢ status_ok → result ≢ status_unshown → out.new ≡ out.old }
+{
+    one_message();
+    one_text_of_a_message();
+    match Message::parse(octets) {
+        Ok(message) => put_text(&message, out, written),
+        Err(Malformed) => {
+            *written = 0;
+            MALFORMED
+        }
+    }
+}
+
+/// The text of a message, at the front of `out`.
+fn put_text(message: &Message<&[u8]>, out: &mut [u8], written: &mut usize) -> u32
+    ensures puts { Puts (IsMessageText (header_of message.now) (questions_of message.now) (answers_of message.now)
+        (authorities_of message.now) (additionals_of message.now)) result out.old out.new written.new }
+    ensures only { (result ≡ status_ok) ⊎ (result ≡ status_no_room) ⊎ (result ≡ status_unshown) }
+    ensures kept { result ≡ status_no_room → out.new ≡ out.old }
+{
+    one_text_of_a_message();
+    let Some(len) = text_len(message) else {
+        *written = 0;
+        return UNSHOWN;
+    };
+    if len > out.len() {
+        *written = len;
+        return NO_ROOM;
+    }
+    if text_in::<Brand>(message, &mut out[..len]) {
+        *written = len;
+        OK
+    } else {
+        *written = 0;
+        UNSHOWN
+    }
+}
+
+/// How many octets the text of a message has, if it can be shown.
+fn text_len(message: &Message<&[u8]>) -> Option<usize>
+    ensures { IfSome result (λ len. (text : List ℕ) × IsMessageText (header_of message.now) (questions_of message.now)
+        (answers_of message.now) (authorities_of message.now) (additionals_of message.now) text
+        × (len ≡ length text)) }
+{
+    let mut f = fmt::Formatter::new(Counter { count: 0 });
+    let shown = fmt::Display::fmt(message, &mut f);
+    let counter = f.into_inner();
+    match shown {
+        Ok(()) => Some(counter.count),
+        Err(_) => None,
+    }
+}
+
+/// The text of a message in a room of just its size.
+fn text_in<K: Room>(message: &Message<&[u8]>, out: &mut [u8]) -> bool
+    requires room { K.room ≡ length out.old }
+    requires fits { (text : List ℕ) × IsMessageText (header_of message.now) (questions_of message.now)
+        (answers_of message.now) (authorities_of message.now) (additionals_of message.now) text
+        × (length out.old ≡ length text) }
+    ensures { IsTrue result → IsMessageText (header_of message.now) (questions_of message.now)
+        (answers_of message.now) (authorities_of message.now) (additionals_of message.now) out.new }
+{
+    one_text_of_a_message();
+    let mut text = StrBuilder::from_utf8_unchecked(SliceBuilder::<K>::new(out));
+    message.append_text(&mut text).is_ok()
+}

@@ -1,0 +1,121 @@
+//! DNS messages written: RFC 1035, 4.1. They are composed on the stack, and copied to the caller's room where they fit.
+ghost use Rattle.std.specs.Prelude.{◌≡◌, ◌≢◌, ◌↔◌, ◌⊎◌, ◌<◌, ◌≤◌, ℕ, List, length, IfOk, IfSome, IsOk};
+ghost use Rattle.octseq.specs.Refusal.{IsShort, IsMalformed};
+ghost use Rattle.octseq_dns.specs.Contents.{octets_of};
+ghost use Rattle.octseq_dns.specs.Contents as contents;
+ghost use Rattle.octseq_dns.specs.Moved.{CanMove};
+ghost use Rattle.octseq_dns.specs.Owned.{owned_labels};
+ghost use Rattle.octseq_dns.specs.Parsed.{answers_of, authorities_of, additionals_of};
+ghost use Rattle.octseq_dns.specs.Rewritten.{IsContentsOf, rewrite_error};
+ghost use Rattle.octseq_c.specs.Made.{IsHeaderOf, IsImmovable, IsQuery, IsRewritten, asking, names_kept};
+ghost use Rattle.octseq_c.specs.Puts.{Puts};
+ghost use Rattle.octseq_c.specs.Rows.{IsSomeMessage};
+ghost use Rattle.octseq_c.specs.Status.{status_ok, status_no_room, status_malformed, status_immovable};
+ghost use Rattle.octseq_c.specs.Status.{status_too_long};
+ghost use Rattle.octseq_c.specs.Texts.{Spells};
+
+use crate::header::header_from;
+use crate::names::spelled;
+use crate::room::put;
+use crate::status::{IMMOVABLE, MALFORMED, TOO_LONG};
+use octseq::Array;
+use octseq::builder::infallible;
+use octseq_dns::laws::one_message_of;
+use octseq_dns::message::one_message;
+use octseq_dns::name::one_name_of_a_text;
+use octseq_dns::{
+    Class, Header, Malformed, Message, MessageBuilder, Name, RewriteError, Rtype, StaticCompressor,
+    rewrite,
+};
+
+/// How many names of a message are kept for pointers to lead to.
+const NAMES_KEPT: usize = 512;
+
+/// How many octets a message of one question may have: a header, a name, a type and a class.
+const QUERY_MAX: usize = 271;
+
+/// The message that the octets are, written anew at the front of `out`.
+#[unsafe(no_mangle)]
+pub extern "C" fn octseq_dns_rewrite(octets: &[u8], out: &mut [u8], written: &mut usize) -> u32
+    ensures puts { Puts (IsRewritten octets.now) result out.old out.new written.new }
+    ensures malformed { (result ≡ status_malformed) ↔ ¬ IsSomeMessage octets.now }
+    ensures immovable { (result ≡ status_immovable) ↔ IsImmovable octets.now }
+    ensures too_long { (result ≡ status_too_long)
+        ↔ ((made : List ℕ) × IsRewritten octets.now made × (65535 < length made)) }
+    ensures only { (result ≡ status_ok) ⊎ (result ≡ status_no_room) ⊎ (result ≡ status_malformed)
+        ⊎ (result ≡ status_immovable) ⊎ (result ≡ status_too_long) }
+    ensures kept { result ≢ status_ok → out.new ≡ out.old }
+{
+    one_message();
+    one_message_of();
+    let status = match Message::parse(octets) {
+        Ok(message) => match rewritten(&message) {
+            Ok(made) => return put(made.as_slice(), out, written),
+            Err(RewriteError::Immovable) => IMMOVABLE,
+            Err(_) => TOO_LONG,
+        },
+        Err(Malformed) => MALFORMED,
+    };
+    *written = 0;
+    status
+}
+
+/// The octets of a message that is written anew.
+fn rewritten(message: &Message<&[u8]>) -> Result<Array<65535>, RewriteError>
+    ensures made { IfOk result (λ made. (m : contents.Message) × IsContentsOf message.now m
+        × (made.content ≡ octets_of names_kept m)) }
+    ensures immovable { IsMalformed rewrite_error result
+        ↔ ¬ CanMove (answers_of message.now) (authorities_of message.now) (additionals_of message.now) }
+    ensures short { IsShort rewrite_error result → (m : contents.Message) → IsContentsOf message.now m
+        → 65535 < length (octets_of names_kept m) }
+    ensures only { IsOk result ⊎ IsMalformed rewrite_error result ⊎ IsShort rewrite_error result }
+{
+    match rewrite(message, Array::new(), StaticCompressor::<NAMES_KEPT>::new()) {
+        Ok(builder) => Ok(builder.finish().0),
+        Err(error) => Err(error),
+    }
+}
+
+/// A message of one question, at the front of `out`.
+#[unsafe(no_mangle)]
+pub extern "C" fn octseq_dns_query(
+    id: u16,
+    flags: u16,
+    name: &[u8],
+    qtype: u16,
+    qclass: u16,
+    out: &mut [u8],
+    written: &mut usize,
+) -> u32
+    ensures puts { Puts (IsQuery id flags name.now qtype qclass) result out.old out.new written.new }
+    ensures malformed { (result ≡ status_malformed) ↔ ((labels : List (List ℕ)) → ¬ Spells name.now labels) }
+    ensures only { (result ≡ status_ok) ⊎ (result ≡ status_no_room) ⊎ (result ≡ status_malformed) }
+    ensures kept { result ≢ status_ok → out.new ≡ out.old }
+{
+    one_name_of_a_text();
+    match spelled(name) {
+        Some(name) => {
+            let made = query(header_from(id, flags), &name, qtype, qclass);
+            put(made.as_slice(), out, written)
+        }
+        None => {
+            *written = 0;
+            MALFORMED
+        }
+    }
+}
+
+/// The octets of a message of one question.
+fn query(header: Header, name: &Name<Array<255>>, qtype: u16, qclass: u16) -> Array<QUERY_MAX>
+    ensures { result.content ≡ octets_of names_kept (asking header (owned_labels name.now) qtype qclass) }
+{
+    let mut message = infallible(MessageBuilder::from_builder(
+        Array::new(),
+        StaticCompressor::<NAMES_KEPT>::new(),
+    ));
+    message.set_header(header);
+    let mut questions = message.question();
+    let (qtype, qclass) = (Rtype::from_int(qtype), Class::from_int(qclass));
+    infallible(questions.push_question(&name.parsed(), qtype, qclass));
+    questions.answer().authority().additional().finish().0
+}
