@@ -1,5 +1,5 @@
 //! The mnemonics of types and classes: RFC 1035, 3.2, and RFC 3597, 5.
-ghost use Rattle.std.specs.Prelude.{◌≡◌, ◌≢◌, ◌↔◌, ◌⊎◌, ◌×◌, ℕ, List};
+ghost use Rattle.std.specs.Prelude.{◌≡◌, ◌≢◌, ◌↔◌, ◌⊎◌, ℕ, List};
 ghost use Rattle.octseq.specs.Text.{IsWellFormed};
 ghost use Rattle.octseq_dns.specs.Mnemonic.{ReadsClass, ReadsRtype, class_text, rtype_text};
 ghost use Rattle.octseq_c.specs.Puts.{Puts};

@@ -8,6 +8,7 @@
 pub mod any_builder;
 pub mod capped;
 pub mod join;
+pub mod lent;
 pub mod levels;
 pub mod lines;
 pub mod rationed;

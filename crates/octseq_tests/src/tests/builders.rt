@@ -76,6 +76,7 @@ fn fill<B: EmptyBuilder + Truncate>(rt: &impl Abort, alloc: Global) -> Result<()
     builder.truncate(1);
     builder.append_slice(b"e")?;
     assert_equal!(rt, builder.as_ref(), b"ae".as_slice());
+    assert_equal!(rt, (&mut builder).max_len(), B::limit());
     let reserved = B::with_capacity(alloc, 4)?;
     assert_equal!(rt, reserved.as_ref(), b"".as_slice());
     Ok(())

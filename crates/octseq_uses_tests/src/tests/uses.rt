@@ -12,6 +12,7 @@ use std::process::Abort;
 use std::test::Fail;
 
 mod alone;
+mod lent;
 mod lines;
 mod single_calls;
 

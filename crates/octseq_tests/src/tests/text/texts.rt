@@ -103,6 +103,7 @@ fn a_text_has_the_facts_of_its_octets(rt: HostRuntime) -> Result<(), Fail> {
     assert_equal!(&rt, <&StrBuilder<Array<4>>>::limit(), Some(4));
     assert_equal!(&rt, StrBuilder::<Vec<u8>>::limit(), None);
     assert_true!(&rt, StrBuilder::<Vec<u8>>::asks_memory());
+    assert_equal!(&rt, StrBuilder::<Array<4>>::default().max_len(), Some(4));
     let text = Str::from_str("ab");
     assert_equal!(&rt, AsOctets::as_ref(&&text), b"ab".as_slice());
     let mut builder = StrBuilder::<BytesMut>::new(rt.alloc())?;
