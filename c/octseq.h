@@ -3,16 +3,18 @@
  * No call requests memory, keeps a pointer, or has a state of its own: what it answers depends on its arguments alone,
  * and calls may run in any number of threads.
  *
- * What a caller promises. A pointer and the length after it name so many octets (or rows), which the call may read, or
- * write where the pointer isn't const, until it returns. The pointer may be NULL where the length is 0. What is written
- * overlaps no other argument, and nobody else writes to an argument meanwhile. No length is above PTRDIFF_MAX. Any
- * other pointer (`written`, `count`, `state` and the like) is to one such thing, and isn't NULL.
+ * What a caller promises. A pointer and the length after it name that many octets (or rows), which the call may read,
+ * or write where the pointer isn't const, until it returns. The pointer may be NULL where the length is 0. What is
+ * written overlaps no other argument, and nobody else writes to an argument meanwhile. No length after a pointer is
+ * above PTRDIFF_MAX. Any other pointer (`written`, `count`, `state` and the like) is to one such thing, and isn't NULL.
+ * All other numbers, as places, types and the fields of a row, may be any.
  *
  * What a call promises. For all octets: it returns, touches no other memory, and answers what its comment says. `out`
  * has what was written in its first `*written` octets (or rows) after OCTSEQ_OK, and all that follows them is as it
- * was. After any other status `out` is as it was, all of it. Every status has `*written` (or `*count`) set: to how much
- * room it takes after OCTSEQ_NO_ROOM, so that a call with no room, (NULL, 0), asks for the length alone; to 0 after a
- * status above OCTSEQ_NO_ROOM.
+ * was. After any other status `out` is as it was, all of it (after OCTSEQ_UNSHOWN, which nothing leads to, it may have
+ * changed). Every status has `*written` (or `*count`) set: to how much room it takes after OCTSEQ_NO_ROOM, so that a
+ * call with no room, (NULL, 0), asks for the length alone; to 0 after a status above OCTSEQ_NO_ROOM. Each text that is
+ * written is well-formed UTF-8. None has a NUL at its end.
  */
 #ifndef OCTSEQ_H
 #define OCTSEQ_H
@@ -32,7 +34,7 @@ extern "C" {
 #define OCTSEQ_MALFORMED 2u /* the octets aren't what they were read as */
 #define OCTSEQ_FAULT 3u     /* the octets are not well-formed UTF-8 */
 #define OCTSEQ_IMMOVABLE 4u /* data that isn't of its type's form may have pointers, so it can't be moved */
-#define OCTSEQ_TOO_LONG 5u  /* a DNS message would have more than 65,535 octets */
+#define OCTSEQ_TOO_LONG 5u  /* a DNS message would have more than 65,535 octets, a text more than SIZE_MAX */
 #define OCTSEQ_BAD_ROW 6u   /* a row's name isn't at its place, its data isn't in the octets, or its section is none */
 #define OCTSEQ_BAD_STATE 7u /* the state of a reading in pieces is none that a call left */
 #define OCTSEQ_UNSHOWN 8u   /* no text could be made. No octets lead here, but no proof rules it out */
@@ -47,8 +49,7 @@ uint32_t octseq_is_utf8(const uint8_t *octets, size_t len);
  * character. */
 uint32_t octseq_utf8_fault(const uint8_t *octets, size_t len, size_t *valid_up_to, size_t *error_len);
 
-/* The octets as a text in which each maximal ill-formed part became one U+FFFD (EF BF BD). OK, NO_ROOM. A text of more
- * than SIZE_MAX octets is told as SIZE_MAX. */
+/* The octets as a text in which each maximal ill-formed part became one U+FFFD (EF BF BD). OK, NO_ROOM, TOO_LONG. */
 uint32_t octseq_lossy(const uint8_t *octets, size_t len, uint8_t *out, size_t room, size_t *written);
 
 /* The same for octets that come in pieces. The caller keeps the state: at most three octets of a character that isn't
@@ -59,7 +60,7 @@ typedef struct octseq_lossy_state {
     uint8_t len;
 } octseq_lossy_state;
 
-/* The text of the next piece. OK, NO_ROOM, BAD_STATE. The state stays but after OK. */
+/* The text of the next piece. OK, NO_ROOM, TOO_LONG, BAD_STATE. The state changes only after OK. */
 uint32_t octseq_lossy_piece(octseq_lossy_state *state, const uint8_t *piece, size_t len, uint8_t *out, size_t room,
                             size_t *written);
 
@@ -121,8 +122,8 @@ uint32_t octseq_dns_query(uint16_t id, uint16_t flags, const uint8_t *name, size
 
 /* The answer to a message. It has the message's number, opcode, flag RD and questions, the flag QR, and of `flags` the
  * response code and all other flags. Its records are the rows, each in its section (1, 2 or 3), in the order that they
- * have here. Their names and data are at their places in `source`, names in data too; all are compressed. OK, NO_ROOM,
- * MALFORMED: `query` is no message; BAD_ROW, IMMOVABLE, TOO_LONG. */
+ * have here. Their names and data are at their places in `source`, and so are names in data. Names are compressed. OK,
+ * NO_ROOM, MALFORMED: `query` is no message; BAD_ROW, IMMOVABLE, TOO_LONG. */
 uint32_t octseq_dns_answer(const uint8_t *query, size_t query_len, uint16_t flags, const uint8_t *source,
                            size_t source_len, const octseq_dns_row *rows, size_t count, uint8_t *out, size_t room,
                            size_t *written);
@@ -144,7 +145,7 @@ uint32_t octseq_dns_name_wire(const uint8_t *octets, size_t len, size_t place, u
 uint32_t octseq_dns_name_from_text(const uint8_t *text, size_t len, uint8_t *out, size_t room, size_t *written);
 
 /* How the name at one place compares with that at another, in the canonical order (RFC 4034, 6.1): `*order` is -1, 0
- * or 1. Letters of either case are one. OK, MALFORMED: at one of the places no name is; `*order` is then 0. */
+ * or 1. Letters of either case are one. OK, MALFORMED: at one of the places no name is; `*order` is then 2. */
 uint32_t octseq_dns_name_compare(const uint8_t *one, size_t one_len, size_t one_place, const uint8_t *other,
                                  size_t other_len, size_t other_place, int32_t *order);
 

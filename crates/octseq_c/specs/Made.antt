@@ -1,10 +1,10 @@
 -- The DNS messages that are written.
-use Rattle.std.specs.Prelude.{◌≡◌, ◌≢◌, ℕ, ◌<◌, ◌≤◌, Bool, true, nat_eq, List, [], ◌∷◌, length, map, filter, IsTrue, ⊥}
-use Rattle.std.specs.List.{AllZip, All}
-use Rattle.octseq.specs.Window.{left, nested, at, whole}
+use Rattle.std.specs.Prelude.{◌≡◌, ◌≢◌, ℕ, ◌+◌, ◌<◌, ◌≤◌, true, nat_eq, List, ◌++◌, length, map, filter, IsTrue}
+use Rattle.std.specs.List.{AllZip, AllByRecursion}
+use Rattle.octseq.specs.Integer.{octets_be}
 use Rattle.octseq_dns.specs.Contents as contents
 use Rattle.octseq_dns.specs.Contents.{octets_of}
-use Rattle.octseq_dns.specs.Data.{ParsedRdata, IsTypedData}
+use Rattle.octseq_dns.specs.Data.{ParsedRdata}
 use Rattle.octseq_dns.specs.Entry.{Question, Record}
 use Rattle.octseq_dns.specs.Header.{flag_bits}
 use Rattle.octseq_dns.specs.Message.{IsMessage}
@@ -12,13 +12,16 @@ use Rattle.octseq_dns.specs.Moved.{CanMove, may_have_names}
 use Rattle.octseq_dns.specs.Rdata.{bare_rdata, rdata_fields}
 use Rattle.octseq_dns.specs.ReadBack.{bare}
 use Rattle.octseq_dns.specs.Rewritten.{IsMessageOf}
+use Rattle.octseq_dns.specs.Wire.{wire}
 use Rattle.octseq_dns_message.specs.declared.header.Header.{Header}
 use Rattle.octseq_c.specs.declared.rows.Row.{Row}
-use Rattle.octseq_c.specs.Texts.{IsNameAt, IsDataAt, Spells}
+use Rattle.octseq_c.specs.Texts.{IsNameAt, IsDataAt, IsTypedAt, Spells}
 
--- how many names of a message are kept for pointers to lead to
-abbrev pub names_kept : ℕ
-names_kept = 512
+-- how many places of a message are kept for pointers to lead to
+abbrev pub places_kept : ℕ
+places_kept = 512
+
+-- ---- a message written anew
 
 -- The octets are a message whose data can be moved, and these are those of the same message written anew.
 pub record IsRewritten (octets made : List ℕ) : Type 0 where
@@ -31,7 +34,7 @@ pub record IsRewritten (octets made : List ℕ) : Type 0 where
   pub moved : CanMove answers authorities additionals
   pub contents : contents.Message
   pub same : IsMessageOf header questions answers authorities additionals contents
-  pub made_is : made ≡ octets_of names_kept contents
+  pub made_is : made ≡ octets_of places_kept contents
 
 -- The octets are a message whose data can't be moved.
 pub record IsImmovable (octets : List ℕ) : Type 0 where
@@ -43,27 +46,79 @@ pub record IsImmovable (octets : List ℕ) : Type 0 where
   pub message : IsMessage octets header questions answers authorities additionals
   pub stays : ¬ CanMove answers authorities additionals
 
--- A header has this number, and these flags, opcode and response code.
-pub record IsHeaderOf (id bits : ℕ) (header : Header) : Type 0 where
-  pub id_is : header.id ≡ id
-  pub bits_are : flag_bits header ≡ bits
-  pub opcode : header.opcode < 16
-  pub rcode : header.rcode < 16
+-- ---- a query
 
--- a message of one question
-abbrev pub asking : Header → List (List ℕ) → ℕ → ℕ → contents.Message
-asking header labels qtype qclass = record {
-  header = header;
-  questions = record { labels = labels; qtype = qtype; qclass = qclass } ∷ [];
-  answers = [];
-  authorities = [];
-  additionals = [];
-}
+-- the octets of a header with this number and these flags, that counts one question
+abbrev pub query_header : ℕ → ℕ → List ℕ
+query_header id flags = octets_be 2 id ++ (octets_be 2 flags ++ (octets_be 2 1 ++ (octets_be 2 0 ++ (octets_be 2 0
+    ++ octets_be 2 0))))
 
--- These are the octets of a query for the name that a text spells.
-pub record IsQuery (id bits : ℕ) (text : List ℕ) (qtype qclass : ℕ) (made : List ℕ) : Type 0 where
-  pub header : Header
-  pub header_is : IsHeaderOf id bits header
+-- These are the octets of a query for the name that a text spells: a header, the name, a type and a class.
+pub record IsQuery (id flags : ℕ) (text : List ℕ) (qtype qclass : ℕ) (made : List ℕ) : Type 0 where
   pub labels : List (List ℕ)
   pub spelled : Spells text labels
-  pub made_is : made ≡ octets_of names_kept (asking header labels qtype qclass)
+  pub made_is : made ≡ query_header id flags ++ (wire labels ++ (octets_be 2 qtype ++ octets_be 2 qclass))
+
+-- ---- an answer
+
+-- A row's name is at its place of the octets, its data is within them, and its section is one of records.
+pub record IsRow (source : List ℕ) (row : Row) : Type 0 where
+  pub labels : List (List ℕ)
+  pub name : IsNameAt source row.name_at labels
+  pub data_within : row.data_at + row.data_len ≤ length source
+  pub first : 1 ≤ row.section
+  pub last : row.section ≤ 3
+
+-- Its data can be moved: it is of its type's form, or has no octet, or is of a type without names.
+abbrev pub CanMoveRow : List ℕ → Row → Type 0
+CanMoveRow source row =
+    ((rdata : ParsedRdata) → ¬ IsTypedAt source row.data_at row.data_len row.rtype row.class rdata)
+    → 0 < row.data_len → ¬ IsTrue (may_have_names row.rtype row.class)
+
+-- The record that a row stands for.
+pub record IsRecordAt (source : List ℕ) (row : Row) (written : contents.Record) : Type 0 where
+  pub labels : List (List ℕ)
+  pub name : IsNameAt source row.name_at labels
+  pub rdata : ParsedRdata
+  pub data_is : IsDataAt source row.data_at row.data_len row.rtype row.class rdata
+  pub is : written ≡ record {
+    labels = labels;
+    rtype = row.rtype;
+    class = row.class;
+    ttl = row.ttl;
+    fields = rdata_fields (bare_rdata rdata);
+  }
+
+-- the rows of a section
+abbrev pub in_section : ℕ → List Row → List Row
+in_section section rows = filter (λ row. nat_eq row.section section) rows
+
+-- The header of an answer has the number, the opcode and the flag RD of what it answers, the flag QR, and of these flags
+-- the response code and all others.
+pub record IsAnswerHeader (asked : Header) (flags : ℕ) (header : Header) : Type 0 where
+  pub told : Header
+  pub flags_are : flag_bits told ≡ flags
+  pub opcode : told.opcode < 16
+  pub rcode : told.rcode < 16
+  pub is : header ≡ record {
+    id = asked.id;
+    flags = record told.flags { qr = true; rd = asked.flags.rd };
+    opcode = asked.opcode;
+    rcode = told.rcode;
+  }
+
+-- These are the octets of an answer to a message, with the records that rows stand for.
+pub record IsAnswer (query : List ℕ) (flags : ℕ) (source : List ℕ) (rows : List Row) (made : List ℕ) : Type 0 where
+  pub asked : Header
+  pub questions : List Question
+  pub answers : List Record
+  pub authorities : List Record
+  pub additionals : List Record
+  pub message : IsMessage query asked questions answers authorities additionals
+  pub contents : contents.Message
+  pub header_is : IsAnswerHeader asked flags contents.header
+  pub questions_are : contents.questions ≡ map bare questions
+  pub answers_are : AllZip (IsRecordAt source) (in_section 1 rows) contents.answers
+  pub authorities_are : AllZip (IsRecordAt source) (in_section 2 rows) contents.authorities
+  pub additionals_are : AllZip (IsRecordAt source) (in_section 3 rows) contents.additionals
+  pub made_is : made ≡ octets_of places_kept contents

@@ -1,7 +1,8 @@
 //! The header of a DNS message as numbers: RFC 1035, 4.1.1.
-ghost use Rattle.std.specs.Prelude.{◌≡◌, ◌≢◌, ◌↔◌, ◌⊎◌, ◌*◌, ◌%◌, ◌/◌, ◌<◌, ◌≤◌, ℕ, Bool};
+ghost use Rattle.std.specs.Prelude.{◌≡◌, ◌≢◌, ◌↔◌, ◌⊎◌, ◌*◌, ◌%◌, ◌/◌, ◌<◌, ◌≤◌, ℕ, Bool, length};
 ghost use Rattle.octseq_dns.specs.Flag.{flag};
 ghost use Rattle.octseq_dns.specs.Header.{flag_bits};
+ghost use Rattle.octseq_dns.specs.Parsed.{header_of, questions_of, answers_of, authorities_of, additionals_of};
 ghost use Rattle.octseq_c.specs.Rows.{HasHeader, IsSomeMessage};
 ghost use Rattle.octseq_c.specs.Status.{status_ok, status_malformed};
 

@@ -1,6 +1,8 @@
 //! Domain names: RFC 1035, 3.1.
-ghost use Rattle.std.specs.Prelude.{◌≡◌, ◌≢◌, ◌↔◌, ◌⊎◌, ◌≤◌, ℕ, List, length, IfOk, IsErr};
-ghost use Rattle.std.specs.declared.cmp.Ordering.TheVariants.{Less, Equal, Greater};
+ghost use Rattle.std.specs.Prelude.{◌≡◌, ◌≢◌, ◌↔◌, ◌⊎◌, ◌≤◌, ℕ, pos, List, length, take, IfOk, IsErr, IfSome, IfNone};
+ghost use Rattle.octseq_dns.specs.Owned.{owned_labels};
+ghost use Rattle.octseq_dns.specs.Wire.{wire};
+ghost use Rattle.octseq.specs.Text.{IsWellFormed};
 ghost use Rattle.octseq_dns.specs.Order.{name_cmp};
 ghost use Rattle.octseq_dns.specs.Read.{labels_of};
 ghost use Rattle.octseq_c.specs.Order.{IsOrder};
@@ -31,6 +33,7 @@ pub extern "C" fn octseq_dns_name_text(
         ↔ ((labels : List (List ℕ)) → ¬ IsNameAt octets.now place labels) }
     ensures only { (result ≡ status_ok) ⊎ (result ≡ status_no_room) ⊎ (result ≡ status_malformed)
         ⊎ (result ≡ status_unshown) }
+    ensures utf8 { result ≡ status_ok → IsWellFormed (take written.new out.new) }
     ensures kept { result ≢ status_ok → result ≢ status_unshown → out.new ≡ out.old }
 {
     one_name_at_a_place();
@@ -103,7 +106,7 @@ pub extern "C" fn octseq_dns_name_compare(
     ensures malformed { (result ≡ status_malformed)
         ↔ ((labels others : List (List ℕ)) → IsNameAt one.now one_place labels
         → ¬ IsNameAt other.now other_place others) }
-    ensures only { (result ≡ status_ok) ⊎ ((result ≡ status_malformed) × IsOrder Equal order.new) }
+    ensures only { (result ≡ status_ok) ⊎ ((result ≡ status_malformed) × (order.new ≡ pos 2)) }
 {
     one_name_at_a_place();
     match (name_at(one, one_place), name_at(other, other_place)) {
@@ -112,7 +115,7 @@ pub extern "C" fn octseq_dns_name_compare(
             OK
         }
         _ => {
-            *order = 0;
+            *order = 2;
             MALFORMED
         }
     }

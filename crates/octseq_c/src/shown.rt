@@ -1,5 +1,6 @@
 //! Values shown in a caller's room. They are counted first, so that nothing is written where they don't fit.
-ghost use Rattle.std.specs.Prelude.{◌≡◌, ◌≢◌, ◌⊎◌, List, ℕ, length, IfSome, IsTrue};
+ghost use Rattle.std.specs.Prelude.{◌≡◌, ◌≢◌, ◌⊎◌, List, ℕ, length, take, IfSome, IsTrue};
+ghost use Rattle.octseq.specs.Text.{IsWellFormed};
 ghost use Rattle.octseq_c.specs.Puts.{Puts};
 ghost use Rattle.octseq_c.specs.Status.{status_ok, status_no_room, status_unshown};
 
@@ -14,6 +15,7 @@ pub fn show<D: Display + Copy>(value: D, out: &mut [u8], written: &mut usize) ->
     ensures puts { IfSome (D.output value)
         (λ text. Puts (λ made. made ≡ text) result out.old out.new written.new) }
     ensures only { (result ≡ status_ok) ⊎ (result ≡ status_no_room) ⊎ (result ≡ status_unshown) }
+    ensures utf8 { result ≡ status_ok → IsWellFormed (take written.new out.new) }
     ensures kept { result ≡ status_no_room → out.new ≡ out.old }
 {
     let Some(len) = shown_len(&value) else {
@@ -48,8 +50,11 @@ fn shown_len<D: Display>(value: &D) -> Option<usize>
 fn show_in<K: Room, D: Display + Copy>(value: D, out: &mut [u8]) -> bool
     requires room { K.room ≡ length out.old }
     requires fits { IfSome (D.output value) (λ text. length text ≡ length out.old) }
-    ensures { IsTrue result → IfSome (D.output value) (λ text. out.new ≡ text) }
+    ensures shown { IsTrue result → IfSome (D.output value) (λ text. out.new ≡ text) }
+    ensures utf8 { IsTrue result → IsWellFormed out.new }
 {
     let mut text = StrBuilder::from_utf8_unchecked(SliceBuilder::<K>::new(out));
-    text.try_push_display(value).is_ok()
+    let is_shown = text.try_push_display(value).is_ok();
+    let _octets = text.into_octets_builder();
+    is_shown
 }

@@ -1,5 +1,6 @@
 //! The text of DNS messages.
-ghost use Rattle.std.specs.Prelude.{◌≡◌, ◌≢◌, ◌↔◌, ◌⊎◌, List, ℕ, length, IfSome, IsTrue};
+ghost use Rattle.std.specs.Prelude.{◌≡◌, ◌≢◌, ◌↔◌, ◌⊎◌, List, ℕ, length, take, IfSome, IsTrue};
+ghost use Rattle.octseq.specs.Text.{IsWellFormed};
 ghost use Rattle.octseq_dns.specs.MessageText.{IsMessageText};
 ghost use Rattle.octseq_dns.specs.Parsed.{header_of, questions_of, answers_of, authorities_of, additionals_of};
 ghost use Rattle.octseq_c.specs.Puts.{Puts};
@@ -26,6 +27,7 @@ pub extern "C" fn octseq_dns_message_text(
     ensures malformed { (result ≡ status_malformed) ↔ ¬ IsSomeMessage octets.now }
     ensures only { (result ≡ status_ok) ⊎ (result ≡ status_no_room) ⊎ (result ≡ status_malformed)
         ⊎ (result ≡ status_unshown) }
+    ensures utf8 { result ≡ status_ok → IsWellFormed (take written.new out.new) }
     ensures kept { result ≢ status_ok → result ≢ status_unshown → out.new ≡ out.old }
 {
     one_message();
@@ -44,6 +46,7 @@ fn put_text(message: &Message<&[u8]>, out: &mut [u8], written: &mut usize) -> u3
     ensures puts { Puts (IsMessageText (header_of message.now) (questions_of message.now) (answers_of message.now)
         (authorities_of message.now) (additionals_of message.now)) result out.old out.new written.new }
     ensures only { (result ≡ status_ok) ⊎ (result ≡ status_no_room) ⊎ (result ≡ status_unshown) }
+    ensures utf8 { result ≡ status_ok → IsWellFormed (take written.new out.new) }
     ensures kept { result ≡ status_no_room → out.new ≡ out.old }
 {
     one_text_of_a_message();
@@ -85,10 +88,13 @@ fn text_in<K: Room>(message: &Message<&[u8]>, out: &mut [u8]) -> bool
     requires fits { (text : List ℕ) × IsMessageText (header_of message.now) (questions_of message.now)
         (answers_of message.now) (authorities_of message.now) (additionals_of message.now) text
         × (length out.old ≡ length text) }
-    ensures { IsTrue result → IsMessageText (header_of message.now) (questions_of message.now)
+    ensures text { IsTrue result → IsMessageText (header_of message.now) (questions_of message.now)
         (answers_of message.now) (authorities_of message.now) (additionals_of message.now) out.new }
+    ensures utf8 { IsTrue result → IsWellFormed out.new }
 {
     one_text_of_a_message();
     let mut text = StrBuilder::from_utf8_unchecked(SliceBuilder::<K>::new(out));
-    message.append_text(&mut text).is_ok()
+    let is_shown = message.append_text(&mut text).is_ok();
+    let _octets = text.into_octets_builder();
+    is_shown
 }

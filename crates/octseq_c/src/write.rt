@@ -1,5 +1,6 @@
 //! DNS messages written: RFC 1035, 4.1. They are composed on the stack, and copied to the caller's room where they fit.
-ghost use Rattle.std.specs.Prelude.{◌≡◌, ◌≢◌, ◌↔◌, ◌⊎◌, ◌<◌, ◌≤◌, ℕ, List, length, IfOk, IfSome, IsOk};
+ghost use Rattle.std.specs.Prelude.{◌≡◌, ◌≢◌, ◌↔◌, ◌⊎◌, ◌++◌, ◌<◌, ◌≤◌, ℕ, List, length, IfOk, IfSome, IsOk};
+ghost use Rattle.octseq.specs.Integer.{octets_be};
 ghost use Rattle.octseq.specs.Refusal.{IsShort, IsMalformed};
 ghost use Rattle.octseq_dns.specs.Contents.{octets_of};
 ghost use Rattle.octseq_dns.specs.Contents as contents;
@@ -7,29 +8,30 @@ ghost use Rattle.octseq_dns.specs.Moved.{CanMove};
 ghost use Rattle.octseq_dns.specs.Owned.{owned_labels};
 ghost use Rattle.octseq_dns.specs.Parsed.{answers_of, authorities_of, additionals_of};
 ghost use Rattle.octseq_dns.specs.Rewritten.{IsContentsOf, rewrite_error};
-ghost use Rattle.octseq_c.specs.Made.{IsHeaderOf, IsImmovable, IsQuery, IsRewritten, asking, names_kept};
+ghost use Rattle.octseq_dns.specs.Wire.{wire};
+ghost use Rattle.octseq_c.specs.Made.{IsImmovable, IsQuery, IsRewritten, places_kept, query_header};
 ghost use Rattle.octseq_c.specs.Puts.{Puts};
 ghost use Rattle.octseq_c.specs.Rows.{IsSomeMessage};
 ghost use Rattle.octseq_c.specs.Status.{status_ok, status_no_room, status_malformed, status_immovable};
 ghost use Rattle.octseq_c.specs.Status.{status_too_long};
 ghost use Rattle.octseq_c.specs.Texts.{Spells};
 
-use crate::header::header_from;
 use crate::names::spelled;
 use crate::room::put;
 use crate::status::{IMMOVABLE, MALFORMED, TOO_LONG};
-use octseq::Array;
 use octseq::builder::infallible;
+use octseq::compose::append_u16_be;
+use octseq::{Array, OctetsBuilder};
 use octseq_dns::laws::one_message_of;
-use octseq_dns::message::one_message;
+use octseq_dns::message::{MESSAGE_MAX, one_message};
 use octseq_dns::name::one_name_of_a_text;
-use octseq_dns::{
-    Class, Header, Malformed, Message, MessageBuilder, Name, RewriteError, Rtype, StaticCompressor,
-    rewrite,
-};
+use octseq_dns::{Malformed, Message, Name, RewriteError, StaticCompressor, rewrite};
 
-/// How many names of a message are kept for pointers to lead to.
-const NAMES_KEPT: usize = 512;
+/// A table of the places that pointers may lead to.
+pub type Table = StaticCompressor<512>;
+
+/// The octets of a message.
+pub type MessageOctets = Array<MESSAGE_MAX>;
 
 /// How many octets a message of one question may have: a header, a name, a type and a class.
 const QUERY_MAX: usize = 271;
@@ -61,16 +63,16 @@ pub extern "C" fn octseq_dns_rewrite(octets: &[u8], out: &mut [u8], written: &mu
 }
 
 /// The octets of a message that is written anew.
-fn rewritten(message: &Message<&[u8]>) -> Result<Array<65535>, RewriteError>
+fn rewritten(message: &Message<&[u8]>) -> Result<MessageOctets, RewriteError>
     ensures made { IfOk result (λ made. (m : contents.Message) × IsContentsOf message.now m
-        × (made.content ≡ octets_of names_kept m)) }
+        × (made.content ≡ octets_of places_kept m)) }
     ensures immovable { IsMalformed rewrite_error result
         ↔ ¬ CanMove (answers_of message.now) (authorities_of message.now) (additionals_of message.now) }
     ensures short { IsShort rewrite_error result → (m : contents.Message) → IsContentsOf message.now m
-        → 65535 < length (octets_of names_kept m) }
+        → 65535 < length (octets_of places_kept m) }
     ensures only { IsOk result ⊎ IsMalformed rewrite_error result ⊎ IsShort rewrite_error result }
 {
-    match rewrite(message, Array::new(), StaticCompressor::<NAMES_KEPT>::new()) {
+    match rewrite(message, MessageOctets::new(), Table::new()) {
         Ok(builder) => Ok(builder.finish().0),
         Err(error) => Err(error),
     }
@@ -95,7 +97,7 @@ pub extern "C" fn octseq_dns_query(
     one_name_of_a_text();
     match spelled(name) {
         Some(name) => {
-            let made = query(header_from(id, flags), &name, qtype, qclass);
+            let made = query(id, flags, &name, qtype, qclass);
             put(made.as_slice(), out, written)
         }
         None => {
@@ -106,16 +108,24 @@ pub extern "C" fn octseq_dns_query(
 }
 
 /// The octets of a message of one question.
-fn query(header: Header, name: &Name<Array<255>>, qtype: u16, qclass: u16) -> Array<QUERY_MAX>
-    ensures { result.content ≡ octets_of names_kept (asking header (owned_labels name.now) qtype qclass) }
+fn query(
+    id: u16,
+    flags: u16,
+    name: &Name<Array<255>>,
+    qtype: u16,
+    qclass: u16,
+) -> Array<QUERY_MAX>
+    ensures { result.content ≡ query_header id flags ++ (wire (owned_labels name.now)
+        ++ (octets_be 2 qtype ++ octets_be 2 qclass)) }
 {
-    let mut message = infallible(MessageBuilder::from_builder(
-        Array::new(),
-        StaticCompressor::<NAMES_KEPT>::new(),
-    ));
-    message.set_header(header);
-    let mut questions = message.question();
-    let (qtype, qclass) = (Rtype::from_int(qtype), Class::from_int(qclass));
-    infallible(questions.push_question(&name.parsed(), qtype, qclass));
-    questions.answer().authority().additional().finish().0
+    let _len = name.len();
+    let mut made = Array::new();
+    infallible(append_u16_be(&mut made, id));
+    infallible(append_u16_be(&mut made, flags));
+    infallible(append_u16_be(&mut made, 1));
+    infallible(made.append_slice(&[0; 6]));
+    infallible(made.append_slice(name.as_slice()));
+    infallible(append_u16_be(&mut made, qtype));
+    infallible(append_u16_be(&mut made, qclass));
+    made
 }

@@ -20,7 +20,7 @@ const TYPES_WITH_NAMES: [u16; 21] = [
 const TYPES_WITH_NAMES_IN: [u16; 3] = [33, 64, 65];
 
 /// Whether data of a type and a class may have names, and so pointers.
-fn data_may_have_names(rtype: Rtype, class: Class) -> bool
+pub fn data_may_have_names(rtype: Rtype, class: Class) -> bool
     ensures { result ≡ may_have_names rtype class }
 {
     TYPES_WITH_NAMES.contains(&rtype.to_int())
