@@ -56,6 +56,7 @@ class Texts(unittest.TestCase):
             self.assertEqual(Name.from_text(text[:-1]).to_wire(), wire)
         self.assertEqual(Name.from_text(r"a\.").to_wire(), b"\x02a.\x00")
         self.assertEqual(Name.from_text("\\\\").to_wire(), b"\x01\\\x00")
+        self.assertEqual(Name.from_text("").to_wire(), b"\x00")
 
     def test_octets_may_be_spelled_in_other_ways(self) -> None:
         self.assertEqual(Name.from_text(r"\097\b\..").to_wire(), b"\x03ab.\x00")
@@ -72,7 +73,7 @@ class Texts(unittest.TestCase):
             Name.from_text("a..b")
 
     def test_a_name_shows_itself(self) -> None:
-        self.assertEqual(repr(Name.from_text("a.b")), "Name('a.b.')")
+        self.assertEqual(repr(Name.from_text("a.b")), "<Name a.b.>")
 
 
 class OfOctets(unittest.TestCase):
@@ -154,6 +155,21 @@ class Relatives(unittest.TestCase):
     def test_labels(self) -> None:
         self.assertEqual(Name.from_text(r"www.a\.b.").labels, (b"www", b"a.b", b""))
         self.assertEqual(Name.from_text(".").labels, (b"",))
+
+    def test_a_name_is_made_of_labels(self) -> None:
+        for _, wire in SPELLED:
+            labels = Name.read(wire).labels
+            self.assertEqual(Name(labels).to_wire(), wire)
+            self.assertEqual(Name(iter(labels)).to_wire(), wire)
+
+    def test_labels_that_make_no_name(self) -> None:
+        no_names = [(), (b"a",), (b"", b""), (b"a", b"", b"b", b""), (b"", b"a"), (b"a" * 64, b""), (b"a" * 192, b"")]
+        for labels in (*no_names, (b"a" * 300, b""), (b"a",) * 128 + (b"",)):
+            with self.subTest(labels), self.assertRaises(Malformed):
+                Name(labels)
+        for labels in (("a", ""), (5,), None, 5):
+            with self.assertRaises(TypeError):
+                Name(labels)
 
     def test_parents(self) -> None:
         name = Name.from_text("www.example.com")

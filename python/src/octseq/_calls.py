@@ -24,6 +24,8 @@ if TYPE_CHECKING:
 
 Call = Callable[..., int]
 _OCTETS, _ROWS, _SIZE = ffi.typeof("uint8_t[]"), ffi.typeof("octseq_dns_row[]"), ffi.typeof("size_t *")
+_HEADER, _STATE = ffi.typeof("octseq_dns_header *"), ffi.typeof("octseq_lossy_state *")
+_ORDER, _NUMBER = ffi.typeof("int32_t *"), ffi.typeof("uint16_t *")
 _array_of = ffi.new_allocator(should_clear_after_alloc=False)
 _RAISED: dict[int, tuple[type[Exception], str]] = {
     lib.OCTSEQ_MALFORMED: (Malformed, "it isn't what it is read as"),
@@ -83,7 +85,7 @@ def _check(status: int) -> None:
 
 
 def _filled(kind: Any, room: int, call: Call, *arguments: Any) -> tuple[Any, int]:
-    """An array of so many octets or rows, or of as many as it takes, and how many of them the call wrote."""
+    """An array that a call wrote to, and how many octets or rows it wrote. `room` is a guess of how many they are."""
     written = ffi.new(_SIZE)
     while True:
         out = _array_of(kind, room)
@@ -126,7 +128,7 @@ def _state_of(held: bytes) -> Any:
     """The state of a reading that holds these octets, at most 3. BadState."""
     if len(held) > 3:
         _check(lib.OCTSEQ_BAD_STATE)
-    return ffi.new("octseq_lossy_state *", {"octets": held, "len": len(held)})
+    return ffi.new(_STATE, {"octets": held, "len": len(held)})
 
 
 def lossy_piece(held: bytes, data: bytes | memoryview) -> tuple[str, bytes]:
@@ -144,13 +146,13 @@ def lossy_end(held: bytes) -> str:
 
 
 def lossy_room(size: int) -> int:
-    """A guess of how many octets a text has of so many octets: three for each at most, but hardly so many."""
+    """A guess of how long the text of octets is: it has three for each of them at most, and mostly one."""
     return min(3 * size, size + 65_536)
 
 
 def dns_header(data: bytes) -> Header:
     """The header of a message. Malformed."""
-    header = ffi.new("octseq_dns_header *")
+    header = ffi.new(_HEADER)
     _check(lib.octseq_dns_message_header(data, len(data), header))
     return Header(header.id, header.flags, header.qdcount, header.ancount, header.nscount, header.arcount)
 
@@ -178,7 +180,7 @@ def dns_answer(query: bytes, flags: int, source: bytes, rows: Sequence[Row]) -> 
 
 def dns_name_compare(one: bytes, one_place: int, other: bytes, other_place: int) -> int:
     """-1, 0 or 1: how the name at one place compares with that at another. Malformed."""
-    order = ffi.new("int32_t *")
+    order = ffi.new(_ORDER)
     _check(lib.octseq_dns_name_compare(one, len(one), one_place, other, len(other), other_place, order))
     return order[0]
 
@@ -197,6 +199,6 @@ def mnemonic(call: Call, number: int) -> str:
 
 def number_of(call: Call, name: bytes) -> int:
     """The number of the type or the class that a text names. Malformed."""
-    number = ffi.new("uint16_t *")
+    number = ffi.new(_NUMBER)
     _check(call(name, len(name), number))
     return number[0]

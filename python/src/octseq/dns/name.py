@@ -1,6 +1,7 @@
 """Domain names (RFC 1035, 3.1)."""
 from __future__ import annotations
 
+from collections.abc import Iterable
 from typing import TYPE_CHECKING
 
 from .. import _calls
@@ -10,6 +11,9 @@ from .numbers import ascii_of
 
 if TYPE_CHECKING:
     from typing_extensions import Buffer
+
+LONGEST_LABEL = 63
+"""How many octets a label has at most."""
 
 LONGEST_WIRE = 255
 """How many octets the wire form of a name has at most."""
@@ -33,23 +37,35 @@ class Name:
     __slots__ = ("_wire",)
     _wire: bytes
 
-    def __init__(self, text: str) -> None:
-        """The name that a text spells, as `from_text` has it."""
-        octets = ascii_of(text)
-        try:
-            self._wire = _calls.octets(LONGEST_WIRE, lib.octseq_dns_name_from_text, octets)
-        except Malformed:
-            self._wire = _wire_of_unended(octets)
+    def __init__(self, labels: Iterable[bytes]) -> None:
+        """The name of these labels, from the first to that of the root, which has no octet.
+
+        Malformed where a label of no octets is missing at the end or is elsewhere, or a label has more than 63 octets,
+        or the name more than 255 in wire form.
+        """
+        labels = tuple(labels)
+        if any(len(label) > LONGEST_LABEL for label in labels):
+            raise Malformed(f"a label has more than {LONGEST_LABEL} octets")
+        wire = b"".join(bytes([len(label)]) + label for label in labels)
+        self._wire = _calls.octets(LONGEST_WIRE, lib.octseq_dns_name_wire, wire, 0)
+        if self._wire != wire:
+            raise Malformed("a label of no octets isn't the last one")
 
     @classmethod
     def from_text(cls, text: str) -> Name:
         """The name that a text spells, `example.com.` or `example.com`, with the escapes of RFC 1035, 5.1.
 
         An octet that isn't visible ASCII is written as `\\DDD`. The text is that of a whole name, so the full stop at
-        its end may be missing. Malformed where it spells no name: a label is empty or has more than 63 octets, or the
-        name has more than 255 in wire form.
+        its end may be missing: an empty text is the root. Malformed where it spells no name: a label is empty or has
+        more than 63 octets, or the name has more than 255 in wire form.
         """
-        return cls(text)
+        octets = ascii_of(text)
+        name = cls.__new__(cls)
+        try:
+            name._wire = _calls.octets(LONGEST_WIRE, lib.octseq_dns_name_from_text, octets)
+        except Malformed:
+            name._wire = _wire_of_unended(octets)
+        return name
 
     @classmethod
     def read(cls, data: Buffer, place: int = 0) -> Name:
@@ -128,7 +144,7 @@ class Name:
         return self.to_text()
 
     def __repr__(self) -> str:
-        return f"Name({self.to_text()!r})"
+        return f"<Name {self.to_text()}>"
 
 
 def _wire_of_unended(octets: bytes) -> bytes:
@@ -141,4 +157,4 @@ def _wire_of_unended(octets: bytes) -> bytes:
 
 def name_of(value: Name | str) -> Name:
     """A name that is given as one or by its text. Malformed."""
-    return value if isinstance(value, Name) else Name(value)
+    return value if isinstance(value, Name) else Name.from_text(value)

@@ -72,7 +72,7 @@ def rdataclass_of(value: int | str) -> int:
 
 
 def within(value: int, bits: int, what: str) -> int:
-    """A number of at most so many bits. ValueError where it has more or is negative."""
+    """The number, which has at most this many bits. ValueError where it has more or is negative."""
     if not 0 <= value < 1 << bits:
         raise ValueError(f"{what} is a number from 0 to {(1 << bits) - 1}, not {value}")
     return value

@@ -209,7 +209,7 @@ class Record(_Entry):
 
 
 def _moved(row: Row, distance: int) -> Row:
-    """A row whose source is so many octets further on."""
+    """The row, once its source begins this many octets further on."""
     return row._replace(name_at=row.name_at + distance, data_at=row.data_at + distance)
 
 
