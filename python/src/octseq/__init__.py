@@ -1,0 +1,21 @@
+"""UTF-8 texts and DNS messages, read and written by calls that are formally proved.
+
+The calls are those of the C library `octseq`, which is a part of this package: for all octets each of them returns,
+touches no memory but its own, and answers what its contract says. `octseq.dns` has the names and messages of DNS.
+"""
+from .errors import BadRow, BadState, Immovable, Malformed, TooLong, Unshown
+from .utf8 import Fault, LossyDecoder, first_fault, is_utf8, lossy
+
+__all__ = [
+    "BadRow",
+    "BadState",
+    "Fault",
+    "Immovable",
+    "LossyDecoder",
+    "Malformed",
+    "TooLong",
+    "Unshown",
+    "first_fault",
+    "is_utf8",
+    "lossy",
+]

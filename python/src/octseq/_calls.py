@@ -1,0 +1,204 @@
+"""The calls of the C library.
+
+The library is proved on what a caller promises (octseq.h). This file is what promises it: no other file of the package
+touches memory, and no proof covers this one. What it has to keep:
+
+- A pointer and the length after it are of one object, which lives until the call is over, and isn't moved till then.
+- Nobody writes to octets during a call. cffi lets other threads run meanwhile, so `frozen` copies all octets but those
+  of `bytes`. An object of a class made from `bytes` may tell another length, so it is copied too.
+- What is written overlaps nothing: each call has room of its own, made for it.
+- What a call wrote is copied before its room goes, rows too: a row of an array doesn't keep the array.
+- No length is above PTRDIFF_MAX, which is `sys.maxsize`: so much room isn't asked for.
+"""
+from __future__ import annotations
+
+import sys
+from collections.abc import Callable, Sequence
+from typing import TYPE_CHECKING, Any, NamedTuple
+
+from ._c import ffi, lib
+from .errors import BadRow, BadState, Immovable, Malformed, TooLong, Unshown
+
+if TYPE_CHECKING:
+    from typing_extensions import Buffer
+
+Call = Callable[..., int]
+_OCTETS, _ROWS, _SIZE = ffi.typeof("uint8_t[]"), ffi.typeof("octseq_dns_row[]"), ffi.typeof("size_t *")
+_HEADER, _STATE = ffi.typeof("octseq_dns_header *"), ffi.typeof("octseq_lossy_state *")
+_ORDER, _NUMBER = ffi.typeof("int32_t *"), ffi.typeof("uint16_t *")
+_array_of = ffi.new_allocator(should_clear_after_alloc=False)
+_RAISED: dict[int, tuple[type[Exception], str]] = {
+    lib.OCTSEQ_MALFORMED: (Malformed, "it isn't what it is read as"),
+    lib.OCTSEQ_IMMOVABLE: (Immovable, "data of a record isn't of its type's form and may have pointers"),
+    lib.OCTSEQ_TOO_LONG: (TooLong, "the message would have more than 65,535 octets"),
+    lib.OCTSEQ_BAD_ROW: (BadRow, "a record isn't in its octets, or its section is none"),
+    lib.OCTSEQ_BAD_STATE: (BadState, "no reading in pieces left this state"),
+    lib.OCTSEQ_UNSHOWN: (Unshown, "no text could be made"),
+}
+
+
+class Header(NamedTuple):
+    """The header of a DNS message, as `octseq_dns_header` has it."""
+
+    id: int
+    flags: int
+    qdcount: int
+    ancount: int
+    nscount: int
+    arcount: int
+
+
+class Row(NamedTuple):
+    """A question or a record, as `octseq_dns_row` has it. Places are counted from the first octet of its source."""
+
+    name_at: int
+    data_at: int
+    data_len: int
+    ttl: int
+    rtype: int
+    rclass: int
+    section: int
+
+
+def frozen(data: Buffer) -> bytes | memoryview:
+    """The octets of an object, where nobody can write to them: `bytes`, or a view of `bytes`.
+
+    TypeError where the object has no octets, ValueError where it is a view that was released.
+    """
+    if type(data) is bytes:
+        return data
+    view = memoryview(data)
+    is_frozen = type(view.obj) is bytes and view.format == "B" and view.ndim == 1 and view.c_contiguous
+    return view if is_frozen else bytes(view)
+
+
+def _pointer(octets: bytes | memoryview) -> Any:
+    """Frozen octets as cffi takes them, without a copy."""
+    return octets if type(octets) is bytes else ffi.from_buffer(_OCTETS, octets)
+
+
+def _check(status: int) -> None:
+    """Raises what a status means, unless it is OK."""
+    if status != lib.OCTSEQ_OK:
+        raised, message = _RAISED.get(status, (RuntimeError, f"the C library answered {status}"))
+        raise raised(message)
+
+
+def _filled(kind: Any, room: int, call: Call, *arguments: Any) -> tuple[Any, int]:
+    """An array that a call wrote to, and how many octets or rows it wrote. `room` is a guess of how many they are."""
+    written = ffi.new(_SIZE)
+    while True:
+        out = _array_of(kind, room)
+        status = call(*arguments, out, room, written)
+        if status == lib.OCTSEQ_OK:
+            return out, written[0]
+        if status != lib.OCTSEQ_NO_ROOM:
+            _check(status)
+        room = written[0]
+        if room > sys.maxsize:
+            raise MemoryError("no memory has room for the answer")
+
+
+def octets(room: int, call: Call, data: bytes, *numbers: int) -> bytes:
+    """The octets that a call makes of frozen ones. `room` is a guess of how many they are."""
+    out, written = _filled(_OCTETS, room, call, _pointer(data), len(data), *numbers)
+    return ffi.buffer(out, written)[:]
+
+
+def text(room: int, call: Call, data: bytes | memoryview, *numbers: int) -> str:
+    """The text that a call makes of frozen octets. `room` is a guess of how many octets it has."""
+    out, written = _filled(_OCTETS, room, call, _pointer(data), len(data), *numbers)
+    return str(ffi.buffer(out, written), "utf-8")
+
+
+def is_utf8(data: bytes | memoryview) -> bool:
+    """Whether frozen octets are UTF-8."""
+    return lib.octseq_is_utf8(_pointer(data), len(data)) == 1
+
+
+def utf8_fault(data: bytes | memoryview) -> tuple[int, int] | None:
+    """Where frozen octets stop being UTF-8, and how many octets are ill-formed there. None: they are UTF-8."""
+    valid_up_to, error_len = ffi.new(_SIZE), ffi.new(_SIZE)
+    if lib.octseq_utf8_fault(_pointer(data), len(data), valid_up_to, error_len) == lib.OCTSEQ_OK:
+        return None
+    return valid_up_to[0], error_len[0]
+
+
+def _state_of(held: bytes) -> Any:
+    """The state of a reading that holds these octets, at most 3. BadState."""
+    if len(held) > 3:
+        _check(lib.OCTSEQ_BAD_STATE)
+    return ffi.new(_STATE, {"octets": held, "len": len(held)})
+
+
+def lossy_piece(held: bytes, data: bytes | memoryview) -> tuple[str, bytes]:
+    """The text of frozen octets that come after those that are held, and what is held after them. BadState."""
+    state = _state_of(held)
+    room = lossy_room(len(held) + len(data))
+    out, written = _filled(_OCTETS, room, lib.octseq_lossy_piece, state, _pointer(data), len(data))
+    return str(ffi.buffer(out, written), "utf-8"), bytes(state.octets[0 : state.len])
+
+
+def lossy_end(held: bytes) -> str:
+    """The text of the octets that are held, where none come after them. BadState."""
+    out, written = _filled(_OCTETS, 3, lib.octseq_lossy_end, _state_of(held))
+    return str(ffi.buffer(out, written), "utf-8")
+
+
+def lossy_room(size: int) -> int:
+    """A guess of how long the text of octets is: it has three for each of them at most, and mostly one."""
+    return min(3 * size, size + 65_536)
+
+
+def dns_header(data: bytes) -> Header:
+    """The header of a message. Malformed."""
+    header = ffi.new(_HEADER)
+    _check(lib.octseq_dns_message_header(data, len(data), header))
+    return Header(header.id, header.flags, header.qdcount, header.ancount, header.nscount, header.arcount)
+
+
+def dns_rows(data: bytes, room: int) -> list[Row]:
+    """The questions and the records of a message. `room` is a guess of how many they are. Malformed."""
+    out, count = _filled(_ROWS, room, lib.octseq_dns_rows, data, len(data))
+    rows = (out[index] for index in range(count))
+    return [Row(r.name_at, r.data_at, r.data_len, r.ttl, r.rtype, r.rclass, r.section) for r in rows]
+
+
+def dns_query(number: int, flags: int, name: bytes, rtype: int, rclass: int) -> bytes:
+    """The query for a name, which is text. Malformed."""
+    out, written = _filled(_OCTETS, 271, lib.octseq_dns_query, number, flags, name, len(name), rtype, rclass)
+    return ffi.buffer(out, written)[:]
+
+
+def dns_answer(query: bytes, flags: int, source: bytes, rows: Sequence[Row]) -> bytes:
+    """The answer to a message, with rows whose places are in `source`. Malformed, BadRow, Immovable, TooLong."""
+    array = ffi.new(_ROWS, rows)
+    arguments = query, len(query), flags, source, len(source), array, len(array)
+    out, written = _filled(_OCTETS, 65_535, lib.octseq_dns_answer, *arguments)
+    return ffi.buffer(out, written)[:]
+
+
+def dns_name_compare(one: bytes, one_place: int, other: bytes, other_place: int) -> int:
+    """-1, 0 or 1: how the name at one place compares with that at another. Malformed."""
+    order = ffi.new(_ORDER)
+    _check(lib.octseq_dns_name_compare(one, len(one), one_place, other, len(other), other_place, order))
+    return order[0]
+
+
+def dns_data_is_typed(data: bytes, row: Row) -> bool:
+    """Whether the data of a row has the form of its type and class."""
+    numbers = row.data_at, row.data_len, row.rtype, row.rclass
+    return lib.octseq_dns_data_is_typed(data, len(data), *numbers) == 1
+
+
+def mnemonic(call: Call, number: int) -> str:
+    """The mnemonic of a type or a class."""
+    out, written = _filled(_OCTETS, 32, call, number)
+    return str(ffi.buffer(out, written), "utf-8")
+
+
+def number_of(call: Call, name: bytes) -> int:
+    """The number of the type or the class that a text names. Malformed."""
+    number = ffi.new(_NUMBER)
+    _check(call(name, len(name), number))
+    return number[0]

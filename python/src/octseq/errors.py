@@ -1,0 +1,26 @@
+"""What calls raise, by the status that the C library answers."""
+from __future__ import annotations
+
+
+class Malformed(ValueError):
+    """The octets, or the text, aren't what they were read as."""
+
+
+class Immovable(ValueError):
+    """Data of a record isn't of its type's form and may have pointers, so it can't be moved (RFC 3597, 4)."""
+
+
+class TooLong(ValueError):
+    """A DNS message would have more than 65,535 octets."""
+
+
+class BadRow(ValueError):
+    """A record isn't in the octets that it is said to be in, or its section is none."""
+
+
+class BadState(ValueError):
+    """The state of a reading in pieces is none that a reading left."""
+
+
+class Unshown(RuntimeError):
+    """No text could be made. No octets are known that lead here, but no proof rules it out."""
