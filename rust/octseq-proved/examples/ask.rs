@@ -2,7 +2,7 @@
 use octseq_proved::dns::{Class, Error, Message, Row, Rtype, Section, flags, query};
 use octseq_proved::utf8::lossy;
 
-fn shown() -> Result<String, Error> {
+pub fn shown() -> Result<String, Error> {
     let query = query(7, flags::RD, "example.com.", Rtype::A, Class::IN)?;
     let address = Row {
         name_at: 0,

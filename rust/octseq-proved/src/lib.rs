@@ -15,7 +15,21 @@ extern crate alloc;
 
 mod calls;
 pub mod dns;
-mod room;
 pub mod utf8;
 
-pub use room::NoRoom;
+use core::{error, fmt};
+
+/// There was too little room. Nothing was written.
+#[derive(Clone, Copy, Debug, PartialEq, Eq)]
+pub struct NoRoom {
+    /// How many octets, or rows, it takes.
+    pub needed: usize,
+}
+
+impl fmt::Display for NoRoom {
+    fn fmt(&self, f: &mut fmt::Formatter<'_>) -> fmt::Result {
+        write!(f, "too little room: it takes {}", self.needed)
+    }
+}
+
+impl error::Error for NoRoom {}

@@ -7,9 +7,7 @@ use crate::calls::{BAD_ROW, IMMOVABLE, MALFORMED, NO_ROOM, OK, TOO_LONG, Written
 use core::{error, fmt, str};
 
 #[cfg(feature = "alloc")]
-use crate::room;
-#[cfg(feature = "alloc")]
-use alloc::{string::String, vec::Vec};
+use alloc::{string::String, vec, vec::Vec};
 
 mod data;
 mod message;
@@ -83,17 +81,21 @@ fn text_of(answer: Written, room: &mut [u8]) -> Result<&mut str, Error> {
     str::from_utf8_mut(octets_of(answer, room)?).map_err(|_| Error::Unshown)
 }
 
-/// What a call writes, as a vector. `first` octets or rows are the first try.
+/// What a call writes, as a vector that has room for `first` octets or rows, and for as many as it takes where those
+/// are too few.
 #[cfg(feature = "alloc")]
 fn vec_of<T: Clone + Default>(first: usize, call: impl Fn(&mut [T]) -> Written) -> Result<Vec<T>, Error> {
-    let no_room = |error: &Error| match error {
-        Error::NoRoom(no_room) => Some(*no_room),
-        _ => None,
-    };
-    room::filled(first, |room| done(call(room)), no_room)
+    let mut room = vec![T::default(); first];
+    let mut written = done(call(&mut room));
+    if let Err(Error::NoRoom(NoRoom { needed })) = written {
+        room.resize(needed, T::default());
+        written = done(call(&mut room));
+    }
+    room.truncate(written?);
+    Ok(room)
 }
 
-/// What a call writes, as a text. `first` octets are the first try.
+/// What a call writes, as a text that has room for `first` octets, and for as many as it takes.
 #[cfg(feature = "alloc")]
 fn string_of(first: usize, call: impl Fn(&mut [u8]) -> Written) -> Result<String, Error> {
     String::from_utf8(vec_of(first, call)?).map_err(|_| Error::Unshown)
