@@ -1,6 +1,7 @@
 package octseq
 
 // #cgo pkg-config: octseq
+// #cgo LDFLAGS: -Wl,--as-needed -l:liboctseq.a
 // #include <octseq.h>
 import "C"
 
