@@ -10,6 +10,9 @@
 //!
 //! `usize` is `size_t` on each target that the library is built for.
 
+use crate::dns::{Class, Header, Row, Rtype};
+use core::mem::{align_of, offset_of, size_of};
+
 /// `OCTSEQ_OK`.
 pub const OK: u32 = 0;
 /// `OCTSEQ_NO_ROOM`.
@@ -22,9 +25,6 @@ pub const IMMOVABLE: u32 = 4;
 pub const TOO_LONG: u32 = 5;
 /// `OCTSEQ_BAD_ROW`.
 pub const BAD_ROW: u32 = 6;
-
-use crate::dns::{Class, Header, Row, Rtype};
-use core::mem::{align_of, offset_of, size_of};
 
 /// `octseq_lossy_state`: all zeros before the first piece.
 #[repr(C)]

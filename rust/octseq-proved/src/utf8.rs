@@ -102,6 +102,7 @@ fn append(text: &mut String, first: usize, mut call: impl FnMut(&mut [u8]) -> Re
         octets.resize(start.saturating_add(needed), 0);
         written = call(&mut octets[start..]);
     }
+    // The second call has as much room as the first one asked for, so that it isn't refused.
     octets.truncate(start + written.unwrap_or(0));
 }
 

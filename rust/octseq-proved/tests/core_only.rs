@@ -100,7 +100,7 @@ fn an_answer_is_read() {
     assert_eq!(message.rows_into(&mut room).unwrap(), [question, record]);
     assert_eq!(room[2], Row::default());
     assert_eq!(message.rows_into(&mut room[..1]), Err(no_room(2)));
-    assert!(matches!(message.entries_in(&mut []).err(), Some(error) if error == no_room(2)));
+    assert_eq!(message.entries_in(&mut []).err(), Some(no_room(2)));
 }
 
 #[test]
@@ -138,7 +138,7 @@ fn a_message_is_shown_and_rewritten() {
 #[test]
 fn fronts_of_a_message_are_none() {
     for len in 0..ANSWER.len() {
-        assert!(matches!(Message::new(&ANSWER[..len]).err(), Some(Error::Malformed)), "{len}");
+        assert_eq!(Message::new(&ANSWER[..len]).err(), Some(Error::Malformed), "{len}");
     }
 }
 
@@ -159,9 +159,9 @@ fn a_name_is_read_and_written() {
 #[test]
 fn what_is_no_name_is_refused() {
     for place in [28, 44, 45, usize::MAX] {
-        let is_root = ANSWER.get(place) == Some(&0);
-        assert_eq!(Name::new(ANSWER, place).err(), (!is_root).then_some(Error::Malformed), "{place}");
+        assert_eq!(Name::new(ANSWER, place).err(), Some(Error::Malformed), "{place}");
     }
+    assert_eq!(Name::new(b"\xC0\0", 0).err(), Some(Error::Malformed));
     for text in ["", "example.com", "..", "a..b.", "\\256."] {
         assert_eq!(Name::from_text(text, &mut [0; 255]).err(), Some(Error::Malformed), "{text}");
     }

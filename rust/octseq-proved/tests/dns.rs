@@ -127,6 +127,15 @@ fn data_of_an_unknown_form_is_not_moved() {
 }
 
 #[test]
+fn messages_and_entries_have_a_debug_form() {
+    let query = query(1, 0, ".", Rtype::TXT, Class::IN).unwrap();
+    let message = Message::new(&query).unwrap();
+    assert_eq!(format!("{message:?}"), format!("Message({query:?})"));
+    let row = Row { name_at: 12, rtype: Rtype::TXT, rclass: Class::IN, ..Row::default() };
+    assert_eq!(format!("{:?}", message.entries().unwrap()), format!("[Entry({row:?})]"));
+}
+
+#[test]
 fn errors_are_shown() {
     assert_eq!(query(1, 0, "a", Rtype::A, Class::IN).unwrap_err().to_string(), "malformed");
     let shown = [Error::Immovable, Error::TooLong, Error::BadRow, Error::Unshown].map(|error| error.to_string());
