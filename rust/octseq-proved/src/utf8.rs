@@ -1,6 +1,6 @@
 //! UTF-8: what is well-formed, and texts of what isn't (the Unicode Standard, 3.9).
 use crate::NoRoom;
-use crate::calls::{self, LossyState, OK};
+use crate::calls::{self, LossyState, NO_ROOM, OK};
 use core::{error, fmt, str};
 
 #[cfg(feature = "alloc")]
@@ -60,7 +60,9 @@ fn front((status, written): calls::Written, room: &mut [u8]) -> Result<&mut str,
     match status {
         // SAFETY: after OK, the first `written` octets of the room are the lossy text, which is well-formed UTF-8.
         OK => Ok(unsafe { str::from_utf8_unchecked_mut(&mut room[..written]) }),
-        _ => Err(NoRoom { needed: written }),
+        NO_ROOM => Err(NoRoom { needed: written }),
+        // A text of more octets than can be told. No slice of this process has as many.
+        _ => Err(NoRoom { needed: usize::MAX }),
     }
 }
 

@@ -21,7 +21,7 @@ pub use message::{Entry, Header, Message, Row, Section, query_into};
 pub use name::Name;
 pub use numbers::{Class, Rtype, flags};
 
-/// Why a call refused. Nothing was written then.
+/// Why a call refused. The room is then as it was, but for [`Error::Unshown`].
 #[derive(Clone, Copy, Debug, PartialEq, Eq)]
 pub enum Error {
     /// There was too little room.
