@@ -1,0 +1,268 @@
+package octseq
+
+// #cgo pkg-config: octseq
+// #cgo LDFLAGS: -Wl,--as-needed -l:liboctseq.a
+// #include <octseq.h>
+import "C"
+
+import (
+	"errors"
+	"unsafe"
+)
+
+// Why a call refused.
+var (
+	// ErrMalformed says that the octets, or the text, aren't what they were read as.
+	ErrMalformed = errors.New("octseq: malformed")
+	// ErrImmovable says that data isn't of its type's form. It may have pointers, so it can't be moved.
+	ErrImmovable = errors.New("octseq: data of an unknown form can't be moved")
+	// ErrTooLong says that a message would have more than 65,535 octets.
+	ErrTooLong = errors.New("octseq: a message of more than 65,535 octets")
+	// ErrBadRow says that a row's name isn't at its place, its data isn't in the octets, or its section has no records.
+	ErrBadRow = errors.New("octseq: a row that is none of a record")
+	// ErrUnshown says that no text could be made. No octets lead here, but no proof rules it out.
+	ErrUnshown = errors.New("octseq: no text could be made")
+)
+
+// errorOf is the error that a status other than OK and NO_ROOM says.
+func errorOf(status C.uint32_t) error {
+	switch status {
+	case C.OCTSEQ_IMMOVABLE:
+		return ErrImmovable
+	case C.OCTSEQ_TOO_LONG:
+		return ErrTooLong
+	case C.OCTSEQ_BAD_ROW:
+		return ErrBadRow
+	case C.OCTSEQ_UNSHOWN:
+		return ErrUnshown
+	default:
+		return ErrMalformed
+	}
+}
+
+// start is the pointer to the first of some octets. It is nil where there are none.
+func start(octets []byte) *C.uint8_t {
+	if len(octets) == 0 {
+		return nil
+	}
+	return (*C.uint8_t)(unsafe.Pointer(&octets[0]))
+}
+
+func size(octets []byte) C.size_t {
+	return C.size_t(len(octets))
+}
+
+// room is where a call writes to. Nothing else is there, so that what is written overlaps no other argument.
+type room struct {
+	out     *C.uint8_t
+	len     C.size_t
+	written C.size_t
+}
+
+// filled is what a call writes into a room of as many octets as first says, or of as many as it takes.
+func filled(first int, call func(*room) C.uint32_t) ([]byte, error) {
+	octets := make([]byte, first)
+	to := &room{out: start(octets), len: size(octets)}
+	status := call(to)
+	if status == C.OCTSEQ_NO_ROOM {
+		octets = make([]byte, to.written)
+		to = &room{out: start(octets), len: size(octets)}
+		status = call(to)
+	}
+	if status != C.OCTSEQ_OK {
+		return nil, errorOf(status)
+	}
+	return octets[:to.written], nil
+}
+
+// textOf is what was filled, as a text.
+func textOf(octets []byte, err error) (string, error) {
+	return string(octets), err
+}
+
+func isUTF8(octets []byte) bool {
+	return C.octseq_is_utf8(start(octets), size(octets)) != 0
+}
+
+func firstFault(octets []byte) (validUpTo, errorLen int, found bool) {
+	var upTo, length C.size_t
+	status := C.octseq_utf8_fault(start(octets), size(octets), &upTo, &length)
+	return int(upTo), int(length), status != C.OCTSEQ_OK
+}
+
+func lossy(octets []byte) ([]byte, error) {
+	return filled(len(octets), func(to *room) C.uint32_t {
+		return C.octseq_lossy(start(octets), size(octets), to.out, to.len, &to.written)
+	})
+}
+
+type lossyState = C.octseq_lossy_state
+
+func lossyPiece(state *lossyState, piece []byte) ([]byte, error) {
+	return filled(len(piece)+3, func(to *room) C.uint32_t {
+		return C.octseq_lossy_piece(state, start(piece), size(piece), to.out, to.len, &to.written)
+	})
+}
+
+func lossyEnd(state *lossyState) ([]byte, error) {
+	return filled(3, func(to *room) C.uint32_t {
+		return C.octseq_lossy_end(state, to.out, to.len, &to.written)
+	})
+}
+
+func messageHeader(octets []byte) (Header, error) {
+	var header C.octseq_dns_header
+	status := C.octseq_dns_message_header(start(octets), size(octets), &header)
+	if status != C.OCTSEQ_OK {
+		return Header{}, errorOf(status)
+	}
+	return Header{
+		ID:      uint16(header.id),
+		Flags:   uint16(header.flags),
+		QDCount: uint16(header.qdcount),
+		ANCount: uint16(header.ancount),
+		NSCount: uint16(header.nscount),
+		ARCount: uint16(header.arcount),
+	}, nil
+}
+
+// firstRow is the pointer to the first of some rows. It is nil where there are none.
+func firstRow(rows []C.octseq_dns_row) *C.octseq_dns_row {
+	if len(rows) == 0 {
+		return nil
+	}
+	return &rows[0]
+}
+
+// messageRows are the rows of a message that has as many entries as count says.
+func messageRows(octets []byte, count int) ([]Row, error) {
+	out := make([]C.octseq_dns_row, count)
+	var written C.size_t
+	status := C.octseq_dns_rows(start(octets), size(octets), firstRow(out), C.size_t(count), &written)
+	if status != C.OCTSEQ_OK {
+		return nil, errorOf(status)
+	}
+	rows := make([]Row, written)
+	for at := range rows {
+		row := &out[at]
+		rows[at] = Row{
+			NameAt:  int(row.name_at),
+			DataAt:  int(row.data_at),
+			DataLen: int(row.data_len),
+			TTL:     uint32(row.ttl),
+			Type:    Type(row.rtype),
+			Class:   Class(row.rclass),
+			Section: Section(row.section),
+		}
+	}
+	return rows, nil
+}
+
+// rowsOf are rows as C has them. A place or a length below 0 is then above that of all octets.
+func rowsOf(rows []Row) []C.octseq_dns_row {
+	out := make([]C.octseq_dns_row, len(rows))
+	for at, row := range rows {
+		out[at] = C.octseq_dns_row{
+			name_at:  C.size_t(row.NameAt),
+			data_at:  C.size_t(row.DataAt),
+			data_len: C.size_t(row.DataLen),
+			ttl:      C.uint32_t(row.TTL),
+			rtype:    C.uint16_t(row.Type),
+			rclass:   C.uint16_t(row.Class),
+			section:  C.uint32_t(row.Section),
+		}
+	}
+	return out
+}
+
+func messageText(octets []byte) (string, error) {
+	return textOf(filled(4*len(octets), func(to *room) C.uint32_t {
+		return C.octseq_dns_message_text(start(octets), size(octets), to.out, to.len, &to.written)
+	}))
+}
+
+func rewrite(octets []byte) ([]byte, error) {
+	return filled(len(octets), func(to *room) C.uint32_t {
+		return C.octseq_dns_rewrite(start(octets), size(octets), to.out, to.len, &to.written)
+	})
+}
+
+func query(id, flags uint16, name []byte, qtype Type, class Class) ([]byte, error) {
+	return filled(271, func(to *room) C.uint32_t {
+		return C.octseq_dns_query(C.uint16_t(id), C.uint16_t(flags), start(name), size(name), C.uint16_t(qtype),
+			C.uint16_t(class), to.out, to.len, &to.written)
+	})
+}
+
+func answer(query []byte, flags uint16, source []byte, rows []Row) ([]byte, error) {
+	records := rowsOf(rows)
+	return filled(512, func(to *room) C.uint32_t {
+		return C.octseq_dns_answer(start(query), size(query), C.uint16_t(flags), start(source), size(source),
+			firstRow(records), C.size_t(len(records)), to.out, to.len, &to.written)
+	})
+}
+
+func nameText(octets []byte, place int) (string, error) {
+	return textOf(filled(64, func(to *room) C.uint32_t {
+		return C.octseq_dns_name_text(start(octets), size(octets), C.size_t(place), to.out, to.len, &to.written)
+	}))
+}
+
+func nameWire(octets []byte, place int) ([]byte, error) {
+	return filled(255, func(to *room) C.uint32_t {
+		return C.octseq_dns_name_wire(start(octets), size(octets), C.size_t(place), to.out, to.len, &to.written)
+	})
+}
+
+func nameFromText(text []byte) ([]byte, error) {
+	return filled(255, func(to *room) C.uint32_t {
+		return C.octseq_dns_name_from_text(start(text), size(text), to.out, to.len, &to.written)
+	})
+}
+
+func nameCompare(one []byte, onePlace int, other []byte, otherPlace int) int {
+	var order C.int32_t
+	C.octseq_dns_name_compare(start(one), size(one), C.size_t(onePlace), start(other), size(other),
+		C.size_t(otherPlace), &order)
+	return int(order)
+}
+
+func dataIsTyped(octets []byte, at, length int, rtype Type, class Class) bool {
+	return C.octseq_dns_data_is_typed(start(octets), size(octets), C.size_t(at), C.size_t(length), C.uint16_t(rtype),
+		C.uint16_t(class)) != 0
+}
+
+func dataText(octets []byte, at, length int, rtype Type, class Class) (string, error) {
+	return textOf(filled(128, func(to *room) C.uint32_t {
+		return C.octseq_dns_data_text(start(octets), size(octets), C.size_t(at), C.size_t(length), C.uint16_t(rtype),
+			C.uint16_t(class), to.out, to.len, &to.written)
+	}))
+}
+
+func typeText(rtype Type) (string, error) {
+	return textOf(filled(16, func(to *room) C.uint32_t {
+		return C.octseq_dns_rtype_text(C.uint16_t(rtype), to.out, to.len, &to.written)
+	}))
+}
+
+func classText(class Class) (string, error) {
+	return textOf(filled(16, func(to *room) C.uint32_t {
+		return C.octseq_dns_class_text(C.uint16_t(class), to.out, to.len, &to.written)
+	}))
+}
+
+func typeFromText(text []byte) (Type, error) {
+	var number C.uint16_t
+	if status := C.octseq_dns_rtype_from_text(start(text), size(text), &number); status != C.OCTSEQ_OK {
+		return 0, errorOf(status)
+	}
+	return Type(number), nil
+}
+
+func classFromText(text []byte) (Class, error) {
+	var number C.uint16_t
+	if status := C.octseq_dns_class_from_text(start(text), size(text), &number); status != C.OCTSEQ_OK {
+		return 0, errorOf(status)
+	}
+	return Class(number), nil
+}

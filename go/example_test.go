@@ -1,0 +1,61 @@
+package octseq_test
+
+import (
+	"fmt"
+	"io"
+	"octseq"
+	"os"
+	"strings"
+)
+
+func ExampleLossy() {
+	fmt.Printf("%+q\n", octseq.Lossy([]byte("a\xE2\x82b\xFF\xFF")))
+	// Output: "a\ufffdb\ufffd\ufffd"
+}
+
+func ExampleFirstFault() {
+	fault, found := octseq.FirstFault([]byte("caf\xC3"))
+	fmt.Println(found, fault)
+	// Output: true octseq: the octets end within a character that begins at place 3
+}
+
+func ExampleLossyDecoder() {
+	var decoder octseq.LossyDecoder
+	fmt.Printf("%q %q %q\n", decoder.Feed([]byte("caf\xC3")), decoder.Feed([]byte("\xA9\xC3")), decoder.End())
+	// Output: "caf" "é" "�"
+}
+
+func ExampleNewLossyReader() {
+	reader := octseq.NewLossyReader(strings.NewReader("a\xFFb\n"))
+	io.Copy(os.Stdout, reader)
+	// Output: a�b
+}
+
+func ExampleMessage_Answer() {
+	query, err := octseq.Query(7, octseq.FlagRD, "example.com.", octseq.TypeA, octseq.ClassIN)
+	if err != nil {
+		panic(err)
+	}
+	message, err := octseq.ParseMessage(query)
+	if err != nil {
+		panic(err)
+	}
+	address := octseq.Row{
+		NameAt: 0, DataAt: 13, DataLen: 4, TTL: 300,
+		Type: octseq.TypeA, Class: octseq.ClassIN, Section: octseq.SectionAnswer,
+	}
+	source := []byte("\aexample\x03com\x00\xC0\x00\x02\x01")
+	octets, err := message.Answer(octseq.FlagRA, source, []octseq.Row{address})
+	if err != nil {
+		panic(err)
+	}
+	answer, err := octseq.ParseMessage(octets)
+	if err != nil {
+		panic(err)
+	}
+	fmt.Print(answer)
+	// Output:
+	// id 7 opcode 0 rcode 0 flags QR RD RA
+	// question example.com. IN A
+	// answer example.com. 300 IN A 192.0.2.1
+}

@@ -1,0 +1,3 @@
+module octseq
+
+go 1.19

@@ -1,0 +1,355 @@
+//! The calls of `octseq.h`, each with a slice in the place of a pointer and its length. All calls of C are here.
+//!
+//! What the header asks of a caller holds of each of them by the types of their arguments:
+//!
+//! - A slice names as many octets, or rows, as its length says, and is borrowed until the call returns. Nobody writes
+//!   to what is borrowed shared, and nobody else reads or writes what is borrowed alone, so that what is written
+//!   overlaps no other argument. The pointer of an empty slice is not NULL, and isn't read.
+//! - No slice has more than `isize::MAX` octets, all of its items together, and that is `PTRDIFF_MAX`.
+//! - A reference to one thing is a pointer to it, and isn't NULL.
+//!
+//! `usize` is `size_t` on each target that the library is built for.
+
+use crate::dns::{Class, Header, Row, Rtype};
+use core::mem::{align_of, offset_of, size_of};
+
+/// `OCTSEQ_OK`.
+pub const OK: u32 = 0;
+/// `OCTSEQ_NO_ROOM`.
+pub const NO_ROOM: u32 = 1;
+/// `OCTSEQ_MALFORMED`.
+pub const MALFORMED: u32 = 2;
+/// `OCTSEQ_IMMOVABLE`.
+pub const IMMOVABLE: u32 = 4;
+/// `OCTSEQ_TOO_LONG`.
+pub const TOO_LONG: u32 = 5;
+/// `OCTSEQ_BAD_ROW`.
+pub const BAD_ROW: u32 = 6;
+
+/// `octseq_lossy_state`: all zeros before the first piece.
+#[repr(C)]
+#[derive(Clone, Debug, Default)]
+pub struct LossyState {
+    octets: [u8; 3],
+    len: u8,
+}
+
+impl LossyState {
+    /// The state before the first piece.
+    pub const START: LossyState = LossyState { octets: [0; 3], len: 0 };
+}
+
+const _: () = {
+    assert!(size_of::<LossyState>() == 4 && align_of::<LossyState>() == 1);
+    assert!(offset_of!(LossyState, octets) == 0 && offset_of!(LossyState, len) == 3);
+
+    assert!(size_of::<Header>() == 12 && align_of::<Header>() == align_of::<u16>());
+    assert!(offset_of!(Header, id) == 0 && offset_of!(Header, flags) == 2);
+    assert!(offset_of!(Header, qdcount) == 4 && offset_of!(Header, ancount) == 6);
+    assert!(offset_of!(Header, nscount) == 8 && offset_of!(Header, arcount) == 10);
+
+    const WORD: usize = size_of::<usize>();
+    assert!(size_of::<Row>() == (3 * WORD + 12).next_multiple_of(WORD) && align_of::<Row>() == align_of::<usize>());
+    assert!(offset_of!(Row, name_at) == 0 && offset_of!(Row, data_at) == WORD && offset_of!(Row, data_len) == 2 * WORD);
+    assert!(offset_of!(Row, ttl) == 3 * WORD && offset_of!(Row, rtype) == 3 * WORD + 4);
+    assert!(offset_of!(Row, rclass) == 3 * WORD + 6 && offset_of!(Row, section) == 3 * WORD + 8);
+    assert!(size_of::<Rtype>() == 2 && size_of::<Class>() == 2);
+};
+
+unsafe extern "C" {
+    fn octseq_is_utf8(octets: *const u8, len: usize) -> u32;
+    fn octseq_utf8_fault(octets: *const u8, len: usize, valid_up_to: *mut usize, error_len: *mut usize) -> u32;
+    fn octseq_lossy(octets: *const u8, len: usize, out: *mut u8, room: usize, written: *mut usize) -> u32;
+    fn octseq_lossy_piece(
+        state: *mut LossyState,
+        piece: *const u8,
+        len: usize,
+        out: *mut u8,
+        room: usize,
+        written: *mut usize,
+    ) -> u32;
+    fn octseq_lossy_end(state: *mut LossyState, out: *mut u8, room: usize, written: *mut usize) -> u32;
+    fn octseq_dns_message_header(octets: *const u8, len: usize, header: *mut Header) -> u32;
+    fn octseq_dns_rows(octets: *const u8, len: usize, out: *mut Row, room: usize, count: *mut usize) -> u32;
+    fn octseq_dns_message_text(octets: *const u8, len: usize, out: *mut u8, room: usize, written: *mut usize) -> u32;
+    fn octseq_dns_rewrite(octets: *const u8, len: usize, out: *mut u8, room: usize, written: *mut usize) -> u32;
+    fn octseq_dns_query(
+        id: u16,
+        flags: u16,
+        name: *const u8,
+        name_len: usize,
+        qtype: u16,
+        qclass: u16,
+        out: *mut u8,
+        room: usize,
+        written: *mut usize,
+    ) -> u32;
+    fn octseq_dns_answer(
+        query: *const u8,
+        query_len: usize,
+        flags: u16,
+        source: *const u8,
+        source_len: usize,
+        rows: *const Row,
+        count: usize,
+        out: *mut u8,
+        room: usize,
+        written: *mut usize,
+    ) -> u32;
+    fn octseq_dns_name_text(
+        octets: *const u8,
+        len: usize,
+        place: usize,
+        out: *mut u8,
+        room: usize,
+        written: *mut usize,
+    ) -> u32;
+    fn octseq_dns_name_wire(
+        octets: *const u8,
+        len: usize,
+        place: usize,
+        out: *mut u8,
+        room: usize,
+        written: *mut usize,
+    ) -> u32;
+    fn octseq_dns_name_from_text(text: *const u8, len: usize, out: *mut u8, room: usize, written: *mut usize) -> u32;
+    fn octseq_dns_name_compare(
+        one: *const u8,
+        one_len: usize,
+        one_place: usize,
+        other: *const u8,
+        other_len: usize,
+        other_place: usize,
+        order: *mut i32,
+    ) -> u32;
+    fn octseq_dns_data_is_typed(
+        octets: *const u8,
+        len: usize,
+        data_at: usize,
+        data_len: usize,
+        rtype: u16,
+        rclass: u16,
+    ) -> u32;
+    fn octseq_dns_data_text(
+        octets: *const u8,
+        len: usize,
+        data_at: usize,
+        data_len: usize,
+        rtype: u16,
+        rclass: u16,
+        out: *mut u8,
+        room: usize,
+        written: *mut usize,
+    ) -> u32;
+    fn octseq_dns_rtype_text(rtype: u16, out: *mut u8, room: usize, written: *mut usize) -> u32;
+    fn octseq_dns_class_text(rclass: u16, out: *mut u8, room: usize, written: *mut usize) -> u32;
+    fn octseq_dns_rtype_from_text(text: *const u8, len: usize, rtype: *mut u16) -> u32;
+    fn octseq_dns_class_from_text(text: *const u8, len: usize, rclass: *mut u16) -> u32;
+}
+
+/// What a call answers that writes: its status, and what it says was written, or is needed.
+pub type Written = (u32, usize);
+
+pub fn is_utf8(octets: &[u8]) -> bool {
+    // SAFETY: `octets` is a slice that is borrowed for the call.
+    unsafe { octseq_is_utf8(octets.as_ptr(), octets.len()) != 0 }
+}
+
+/// The status, `valid_up_to` and `error_len`.
+pub fn utf8_fault(octets: &[u8]) -> (u32, usize, usize) {
+    let (mut valid_up_to, mut error_len) = (0, 0);
+    // SAFETY: `octets` is a slice that is borrowed for the call; the two others are variables, each of its own.
+    let status = unsafe { octseq_utf8_fault(octets.as_ptr(), octets.len(), &mut valid_up_to, &mut error_len) };
+    (status, valid_up_to, error_len)
+}
+
+pub fn lossy(octets: &[u8], out: &mut [u8]) -> Written {
+    let mut written = 0;
+    // SAFETY: `octets` and `out` are slices that are borrowed for the call, `out` alone; `written` is a variable.
+    let status = unsafe { octseq_lossy(octets.as_ptr(), octets.len(), out.as_mut_ptr(), out.len(), &mut written) };
+    (status, written)
+}
+
+pub fn lossy_piece(state: &mut LossyState, piece: &[u8], out: &mut [u8]) -> Written {
+    let mut written = 0;
+    // SAFETY: `piece` and `out` are slices that are borrowed for the call, `out` and `state` alone; `written` is a
+    // variable. The layout of the state is checked above.
+    let status =
+        unsafe { octseq_lossy_piece(state, piece.as_ptr(), piece.len(), out.as_mut_ptr(), out.len(), &mut written) };
+    (status, written)
+}
+
+pub fn lossy_end(state: &mut LossyState, out: &mut [u8]) -> Written {
+    let mut written = 0;
+    // SAFETY: `out` is a slice, and it and `state` are borrowed alone for the call; `written` is a variable. The
+    // layout of the state is checked above.
+    let status = unsafe { octseq_lossy_end(state, out.as_mut_ptr(), out.len(), &mut written) };
+    (status, written)
+}
+
+/// The status, and the header, which is all zeros where there is none.
+pub fn message_header(octets: &[u8]) -> (u32, Header) {
+    let mut header = Header::default();
+    // SAFETY: `octets` is a slice that is borrowed for the call; `header` is a variable, whose layout is checked above.
+    let status = unsafe { octseq_dns_message_header(octets.as_ptr(), octets.len(), &mut header) };
+    (status, header)
+}
+
+pub fn rows(octets: &[u8], out: &mut [Row]) -> Written {
+    let mut count = 0;
+    // SAFETY: `octets` and `out` are slices that are borrowed for the call, `out` alone; `count` is a variable. The
+    // layout of a row is checked above, and any numbers make a row.
+    let status = unsafe { octseq_dns_rows(octets.as_ptr(), octets.len(), out.as_mut_ptr(), out.len(), &mut count) };
+    (status, count)
+}
+
+pub fn message_text(octets: &[u8], out: &mut [u8]) -> Written {
+    let mut written = 0;
+    // SAFETY: `octets` and `out` are slices that are borrowed for the call, `out` alone; `written` is a variable.
+    let status =
+        unsafe { octseq_dns_message_text(octets.as_ptr(), octets.len(), out.as_mut_ptr(), out.len(), &mut written) };
+    (status, written)
+}
+
+pub fn rewrite(octets: &[u8], out: &mut [u8]) -> Written {
+    let mut written = 0;
+    // SAFETY: `octets` and `out` are slices that are borrowed for the call, `out` alone; `written` is a variable.
+    let status =
+        unsafe { octseq_dns_rewrite(octets.as_ptr(), octets.len(), out.as_mut_ptr(), out.len(), &mut written) };
+    (status, written)
+}
+
+pub fn query(id: u16, flags: u16, name: &str, rtype: Rtype, class: Class, out: &mut [u8]) -> Written {
+    let (name, room) = (name.as_bytes(), out.len());
+    let mut written = 0;
+    // SAFETY: `name` and `out` are slices that are borrowed for the call, `out` alone; `written` is a variable.
+    let status = unsafe {
+        let out = out.as_mut_ptr();
+        octseq_dns_query(id, flags, name.as_ptr(), name.len(), rtype.0, class.0, out, room, &mut written)
+    };
+    (status, written)
+}
+
+pub fn answer(query: &[u8], flags: u16, source: &[u8], rows: &[Row], out: &mut [u8]) -> Written {
+    let mut written = 0;
+    // SAFETY: `query`, `source`, `rows` and `out` are slices that are borrowed for the call, `out` alone; `written` is
+    // a variable. The layout of a row is checked above.
+    let status = unsafe {
+        octseq_dns_answer(
+            query.as_ptr(),
+            query.len(),
+            flags,
+            source.as_ptr(),
+            source.len(),
+            rows.as_ptr(),
+            rows.len(),
+            out.as_mut_ptr(),
+            out.len(),
+            &mut written,
+        )
+    };
+    (status, written)
+}
+
+pub fn name_text(octets: &[u8], place: usize, out: &mut [u8]) -> Written {
+    let mut written = 0;
+    // SAFETY: `octets` and `out` are slices that are borrowed for the call, `out` alone; `written` is a variable. Any
+    // place may be asked.
+    let status = unsafe {
+        octseq_dns_name_text(octets.as_ptr(), octets.len(), place, out.as_mut_ptr(), out.len(), &mut written)
+    };
+    (status, written)
+}
+
+pub fn name_wire(octets: &[u8], place: usize, out: &mut [u8]) -> Written {
+    let mut written = 0;
+    // SAFETY: `octets` and `out` are slices that are borrowed for the call, `out` alone; `written` is a variable. Any
+    // place may be asked.
+    let status = unsafe {
+        octseq_dns_name_wire(octets.as_ptr(), octets.len(), place, out.as_mut_ptr(), out.len(), &mut written)
+    };
+    (status, written)
+}
+
+pub fn name_from_text(text: &str, out: &mut [u8]) -> Written {
+    let text = text.as_bytes();
+    let mut written = 0;
+    // SAFETY: `text` and `out` are slices that are borrowed for the call, `out` alone; `written` is a variable.
+    let status =
+        unsafe { octseq_dns_name_from_text(text.as_ptr(), text.len(), out.as_mut_ptr(), out.len(), &mut written) };
+    (status, written)
+}
+
+/// The status, and the order of the name at a place of `one` and that at a place of `other`.
+pub fn name_compare(one: &[u8], one_place: usize, other: &[u8], other_place: usize) -> (u32, i32) {
+    let mut order = 0;
+    // SAFETY: `one` and `other` are slices that are borrowed for the call; `order` is a variable. Any places may be
+    // asked.
+    let status = unsafe {
+        let (one, one_len) = (one.as_ptr(), one.len());
+        octseq_dns_name_compare(one, one_len, one_place, other.as_ptr(), other.len(), other_place, &mut order)
+    };
+    (status, order)
+}
+
+pub fn data_is_typed(octets: &[u8], data_at: usize, data_len: usize, rtype: Rtype, class: Class) -> bool {
+    // SAFETY: `octets` is a slice that is borrowed for the call. Any places may be asked.
+    unsafe { octseq_dns_data_is_typed(octets.as_ptr(), octets.len(), data_at, data_len, rtype.0, class.0) != 0 }
+}
+
+pub fn data_text(
+    octets: &[u8],
+    data_at: usize,
+    data_len: usize,
+    rtype: Rtype,
+    class: Class,
+    out: &mut [u8],
+) -> Written {
+    let mut written = 0;
+    // SAFETY: `octets` and `out` are slices that are borrowed for the call, `out` alone; `written` is a variable. Any
+    // places may be asked.
+    let status = unsafe {
+        octseq_dns_data_text(
+            octets.as_ptr(),
+            octets.len(),
+            data_at,
+            data_len,
+            rtype.0,
+            class.0,
+            out.as_mut_ptr(),
+            out.len(),
+            &mut written,
+        )
+    };
+    (status, written)
+}
+
+pub fn rtype_text(rtype: Rtype, out: &mut [u8]) -> Written {
+    let mut written = 0;
+    // SAFETY: `out` is a slice that is borrowed alone for the call; `written` is a variable.
+    let status = unsafe { octseq_dns_rtype_text(rtype.0, out.as_mut_ptr(), out.len(), &mut written) };
+    (status, written)
+}
+
+pub fn class_text(class: Class, out: &mut [u8]) -> Written {
+    let mut written = 0;
+    // SAFETY: `out` is a slice that is borrowed alone for the call; `written` is a variable.
+    let status = unsafe { octseq_dns_class_text(class.0, out.as_mut_ptr(), out.len(), &mut written) };
+    (status, written)
+}
+
+/// The status and the number.
+pub fn rtype_from_text(text: &str) -> (u32, Rtype) {
+    let mut number = 0;
+    // SAFETY: the text's octets are a slice that is borrowed for the call; `number` is a variable.
+    let status = unsafe { octseq_dns_rtype_from_text(text.as_ptr(), text.len(), &mut number) };
+    (status, Rtype(number))
+}
+
+/// The status and the number.
+pub fn class_from_text(text: &str) -> (u32, Class) {
+    let mut number = 0;
+    // SAFETY: the text's octets are a slice that is borrowed for the call; `number` is a variable.
+    let status = unsafe { octseq_dns_class_from_text(text.as_ptr(), text.len(), &mut number) };
+    (status, Class(number))
+}

@@ -1,0 +1,90 @@
+//! The data of records.
+use super::{Class, Error, Rtype, text_of};
+use crate::calls;
+use core::{fmt, ops::Range};
+
+#[cfg(feature = "alloc")]
+use super::string_of;
+#[cfg(feature = "alloc")]
+use alloc::string::String;
+
+/// The data of a record, within the octets of its message. Names in it may have pointers into them.
+#[derive(Clone, Copy)]
+pub struct Data<'octets> {
+    message: &'octets [u8],
+    place: usize,
+    octets: &'octets [u8],
+    rtype: Rtype,
+    class: Class,
+}
+
+impl<'octets> Data<'octets> {
+    /// The data at a range of a message's octets, of a type and a class.
+    ///
+    /// # Errors
+    ///
+    /// [`Error::Malformed`]: the range isn't within the octets.
+    pub fn new(message: &'octets [u8], range: Range<usize>, rtype: Rtype, class: Class) -> Result<Self, Error> {
+        let place = range.start;
+        let octets = message.get(range).ok_or(Error::Malformed)?;
+        Ok(Data { message, place, octets, rtype, class })
+    }
+
+    /// Its octets.
+    pub fn octets(self) -> &'octets [u8] {
+        self.octets
+    }
+
+    /// The type that it is of.
+    pub fn rtype(self) -> Rtype {
+        self.rtype
+    }
+
+    /// The class that it is of.
+    pub fn class(self) -> Class {
+        self.class
+    }
+
+    /// Whether it has the form of its type and class; 27 types are known. Data of other types has none.
+    pub fn is_typed(self) -> bool {
+        calls::data_is_typed(self.message, self.place, self.octets.len(), self.rtype, self.class)
+    }
+
+    /// Its text: that of its type, or `\# n` and the octets in hexadecimal (RFC 3597, 5) where it isn't typed.
+    ///
+    /// # Errors
+    ///
+    /// [`Error::NoRoom`], [`Error::Unshown`].
+    pub fn text_into(self, room: &mut [u8]) -> Result<&mut str, Error> {
+        text_of(self.write_text(room), room)
+    }
+
+    /// As [`text_into`](Self::text_into), and it makes a text of its own.
+    ///
+    /// # Errors
+    ///
+    /// [`Error::Unshown`].
+    #[cfg(feature = "alloc")]
+    pub fn text(self) -> Result<String, Error> {
+        string_of(128, |room| self.write_text(room))
+    }
+
+    fn write_text(self, room: &mut [u8]) -> calls::Written {
+        calls::data_text(self.message, self.place, self.octets.len(), self.rtype, self.class, room)
+    }
+}
+
+/// Its type, its class and its octets.
+impl fmt::Debug for Data<'_> {
+    fn fmt(&self, f: &mut fmt::Formatter<'_>) -> fmt::Result {
+        write!(f, "Data({} {} {:?})", self.class, self.rtype, self.octets)
+    }
+}
+
+/// Its text.
+#[cfg(feature = "alloc")]
+impl fmt::Display for Data<'_> {
+    fn fmt(&self, f: &mut fmt::Formatter<'_>) -> fmt::Result {
+        f.pad(&self.text().map_err(|_| fmt::Error)?)
+    }
+}
