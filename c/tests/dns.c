@@ -314,7 +314,7 @@ static void check_bad_row(const struct read *it, octseq_dns_row row) {
 }
 
 static void check_bad_rows(const struct read *it) {
-    octseq_dns_row row = {12, 0, 0, 0, 1, 1, 1};
+    octseq_dns_row row = {12, 0, 4, 0, 1, 1, 1}; /* an address, in the octets of the header */
     if (it->question_count == 0)
         return;
     for (uint32_t section = 0; section < 8; section++)
