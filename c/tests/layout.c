@@ -80,6 +80,7 @@ static void check_rows(const uint8_t *octets) {
     size_t count = 0;
     CHECK(octseq_dns_rows(octets, LEN, rows, 10, &count) == OCTSEQ_OK);
     CHECK(count == 10);
+    note(count, rows, sizeof rows);
     for (size_t i = 0; i < 10; i++)
         check_row(&rows[i], i ? 17 + 14 * (i - 1) : 12, SECTIONS[i]);
 }
