@@ -32,6 +32,14 @@ struct answer {
 #define MAY(status) (1u << (status))
 #define MAY_OK (MAY(OCTSEQ_OK) | MAY(OCTSEQ_NO_ROOM))
 
+/* A call fills rows with what it has to say; what is between their last number and their end is nobody's. */
+static inline void clear_padding(uint8_t *out, size_t count, size_t unit) {
+    size_t used = offsetof(octseq_dns_row, section) + sizeof(uint32_t);
+    if (unit == sizeof(octseq_dns_row))
+        for (size_t i = 0; i < count; i++)
+            memset(out + i * unit + used, 0, unit - used);
+}
+
 /* A call with more room than it asked for, or than a refusal takes. */
 static inline void ask_with_more(call *it, const struct given *given, size_t unit, const struct answer *wanted) {
     size_t size = wanted->len, room = size + 9, written = 99;
@@ -39,6 +47,7 @@ static inline void ask_with_more(call *it, const struct given *given, size_t uni
     uint32_t status = it(given, out, room, &written);
     CHECK(status == wanted->status);
     CHECK(written == size);
+    clear_padding(out, size, unit);
     CHECK(is_same(out, wanted->out, size * unit));
     CHECK(is_filling(out, size * unit, room * unit));
     release(out);
@@ -60,6 +69,7 @@ static inline void ask_with_enough(call *it, const struct given *given, size_t u
     answer->status = it(given, answer->out, answer->len, &written);
     CHECK(answer->status == OCTSEQ_OK);
     CHECK(written == answer->len);
+    clear_padding(answer->out, answer->len, unit);
 }
 
 /* Asks a call whose room is counted in things of `unit` octets. */

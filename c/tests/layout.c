@@ -72,6 +72,7 @@ static void check_row(const octseq_dns_row *row, uint64_t name_at, uint64_t sect
     CHECK(at(row, 28, 2) == (is_record ? 0xFE0Bu : 0xFDE8u));
     CHECK(at(row, 30, 2) == (is_record ? 0xFD0Cu : 0xFCE9u));
     CHECK(at(row, 32, 4) == section);
+    note(section, row, 36);
 }
 
 static void check_rows(const uint8_t *octets) {
@@ -80,7 +81,6 @@ static void check_rows(const uint8_t *octets) {
     size_t count = 0;
     CHECK(octseq_dns_rows(octets, LEN, rows, 10, &count) == OCTSEQ_OK);
     CHECK(count == 10);
-    note(count, rows, sizeof rows);
     for (size_t i = 0; i < 10; i++)
         check_row(&rows[i], i ? 17 + 14 * (i - 1) : 12, SECTIONS[i]);
 }
