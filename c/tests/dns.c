@@ -415,6 +415,69 @@ static void check_message(const struct message *message) {
     release(octets);
 }
 
+/* ---- answers, octet by octet ---- */
+
+/* Asks for an answer to a query, with rows of a source. */
+static struct answer answer_of(const uint8_t *query, size_t len, const uint8_t *source, size_t source_len,
+                               const octseq_dns_row *from, size_t count) {
+    struct given given;
+    uint8_t *octets = block_with(query, len), *sources = block_with(source, source_len);
+    uint8_t *made = block_with(from, count * sizeof *from);
+    memset(&given, 0, sizeof given);
+    given.octets = octets;
+    given.len = len;
+    given.source = sources;
+    given.source_len = source_len;
+    given.rows = (const octseq_dns_row *)(void *)made;
+    given.count = count;
+    struct answer answer = ask(answer_to, &given, MAY_OK | MAY(OCTSEQ_TOO_LONG));
+    release(made);
+    release(sources);
+    release(octets);
+    return answer;
+}
+
+/* The names of RFC 1035, 4.1.4: F.ISI.ARPA in the question, then FOO.F.ISI.ARPA, ARPA and the root. */
+static void check_compressed(void) {
+    static const uint8_t QUERY[] = {0x12, 0x34, 0x01, 0,   0,   1,   0, 0,   0,   0,   0,   0, 1, 'F',
+                                    3,    'I',  'S',  'I', 4,   'A', 'R', 'P', 'A', 0, 0,   1, 0, 1};
+    static const uint8_t SOURCE[] = {3, 'F', 'O', 'O', 1, 'F', 3, 'I', 'S', 'I', 4, 'A', 'R', 'P', 'A', 0};
+    static const octseq_dns_row ROWS[] = {{0, 16, 0, 1, 0xFF00, 1, 1}, {10, 16, 0, 2, 0xFF00, 1, 2},
+                                          {15, 15, 1, 3, 0xFF00, 1, 3}};
+    static const uint8_t RECORDS[] = {3,    'F',  'O',  'O', 0xC0, 12, 0xFF, 0, 0, 1, 0, 0, 0, 1, 0, 0,
+                                      0xC0, 18,   0xFF, 0,   0,    1,  0,    0, 0, 2, 0, 0,
+                                      0,    0xFF, 0,    0,   1,    0,  0,    0, 3, 0, 1, 0};
+    uint8_t wanted[sizeof QUERY + sizeof RECORDS];
+    struct answer answer = answer_of(QUERY, sizeof QUERY, SOURCE, sizeof SOURCE, ROWS, 3);
+    memcpy(wanted, QUERY, sizeof QUERY);
+    memcpy(wanted + sizeof QUERY, RECORDS, sizeof RECORDS);
+    wanted[2] = 0x81;
+    wanted[7] = wanted[9] = wanted[11] = 1;
+    CHECK(answer.status == OCTSEQ_OK && answer.len == sizeof wanted);
+    CHECK(is_same(answer.out, wanted, sizeof wanted));
+    release(answer.out);
+}
+
+/* One record of the root, with so much data that the message has 65,535 octets, or more. */
+static void check_too_long(void) {
+    static const uint8_t QUERY[12] = {0x12, 0x34};
+    static const size_t LENS[] = {65511, 65512, 65513, 65535, 65536, 70000};
+    static uint8_t source[70001];
+    for (size_t i = 1; i < sizeof source; i++)
+        source[i] = (uint8_t)number();
+    for (size_t i = 0; i < sizeof LENS / sizeof LENS[0]; i++) {
+        octseq_dns_row row = {0, 1, 0, 7, 0xFF00, 1, 2};
+        row.data_len = LENS[i];
+        struct answer answer = answer_of(QUERY, sizeof QUERY, source, sizeof source, &row, 1);
+        CHECK(answer.status == (LENS[i] <= 65512 ? OCTSEQ_OK : OCTSEQ_TOO_LONG));
+        if (answer.status == OCTSEQ_OK) {
+            CHECK(answer.len == 23 + LENS[i]);
+            CHECK(is_same(answer.out + 23, source + 1, LENS[i]));
+        }
+        release(answer.out);
+    }
+}
+
 /* ---- mnemonics ---- */
 
 /* Some of IANA's registries of types and classes. */
@@ -553,6 +616,8 @@ int main(int argc, char **argv) {
     int few = read_arguments(argc, argv);
     for (size_t i = 0; i < message_count; i += few ? 8 : 1)
         check_message(&messages[i]);
+    check_compressed();
+    check_too_long();
     check_named();
     check_numbers(few ? 97 : 1);
     check_unnamed();
