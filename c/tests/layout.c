@@ -1,0 +1,117 @@
+/* The structs of octseq.h are laid out as the library has them: the compiler's offsets are stated here, and the library
+ * fills structs whose octets are read at those offsets. It is compiled as C and as C++. */
+#define _DEFAULT_SOURCE
+#include "check.h"
+#include "octseq.h"
+
+/* Fails to compile where a condition doesn't hold. */
+#define ASSERT(name, condition) typedef char name[(condition) ? 1 : -1]
+#define AT(type, field, offset, size) \
+    ASSERT(type##_has_##field, offsetof(type, field) == (offset) && sizeof(((type *)0)->field) == (size))
+
+AT(octseq_lossy_state, octets, 0, 3);
+AT(octseq_lossy_state, len, 3, 1);
+ASSERT(octseq_lossy_state_size, sizeof(octseq_lossy_state) == 4);
+
+AT(octseq_dns_header, id, 0, 2);
+AT(octseq_dns_header, flags, 2, 2);
+AT(octseq_dns_header, qdcount, 4, 2);
+AT(octseq_dns_header, ancount, 6, 2);
+AT(octseq_dns_header, nscount, 8, 2);
+AT(octseq_dns_header, arcount, 10, 2);
+ASSERT(octseq_dns_header_size, sizeof(octseq_dns_header) == 12);
+
+AT(octseq_dns_row, name_at, 0, 8);
+AT(octseq_dns_row, data_at, 8, 8);
+AT(octseq_dns_row, data_len, 16, 8);
+AT(octseq_dns_row, ttl, 24, 4);
+AT(octseq_dns_row, rtype, 28, 2);
+AT(octseq_dns_row, rclass, 30, 2);
+AT(octseq_dns_row, section, 32, 4);
+ASSERT(octseq_dns_row_size, sizeof(octseq_dns_row) == 40);
+
+/* The number of some octets at an offset, the lowest octet first. */
+static uint64_t at(const void *things, size_t offset, size_t size) {
+    const uint8_t *octets = (const uint8_t *)things + offset;
+    uint64_t found = 0;
+    for (size_t i = size; i > 0; i--)
+        found = found << 8 | octets[i - 1];
+    return found;
+}
+
+/* One question, then two, three and four records of the root, each with three octets of data. */
+#define LEN (12 + 5 + 9 * 14)
+
+static void make_message(uint8_t *octets) {
+    static const uint8_t HEADER[] = {0x11, 0x22, 0x85, 0x80, 0, 1, 0, 2, 0, 3, 0, 4};
+    static const uint8_t QUESTION[] = {0, 0xFD, 0xE8, 0xFC, 0xE9};
+    static const uint8_t RECORD[] = {0, 0xFE, 0x0B, 0xFD, 0x0C, 0x01, 0x02, 0x03, 0x04, 0, 3, 7, 8, 9};
+    memcpy(octets, HEADER, sizeof HEADER);
+    memcpy(octets + 12, QUESTION, sizeof QUESTION);
+    for (size_t i = 0; i < 9; i++)
+        memcpy(octets + 17 + 14 * i, RECORD, sizeof RECORD);
+}
+
+static void check_header(const uint8_t *octets) {
+    octseq_dns_header header;
+    CHECK(octseq_dns_message_header(octets, LEN, &header) == OCTSEQ_OK);
+    CHECK(at(&header, 0, 2) == 0x1122);
+    CHECK(at(&header, 2, 2) == 0x8580);
+    CHECK(at(&header, 4, 2) == 1);
+    CHECK(at(&header, 6, 2) == 2);
+    CHECK(at(&header, 8, 2) == 3);
+    CHECK(at(&header, 10, 2) == 4);
+}
+
+static void check_row(const octseq_dns_row *row, uint64_t name_at, uint64_t section) {
+    int is_record = section != 0;
+    CHECK(at(row, 0, 8) == name_at);
+    CHECK(at(row, 8, 8) == (is_record ? name_at + 11 : 0));
+    CHECK(at(row, 16, 8) == (is_record ? 3 : 0));
+    CHECK(at(row, 24, 4) == (is_record ? 0x01020304 : 0));
+    CHECK(at(row, 28, 2) == (is_record ? 0xFE0Bu : 0xFDE8u));
+    CHECK(at(row, 30, 2) == (is_record ? 0xFD0Cu : 0xFCE9u));
+    CHECK(at(row, 32, 4) == section);
+    note(section, row, 36);
+}
+
+static void check_rows(const uint8_t *octets) {
+    static const uint64_t SECTIONS[10] = {0, 1, 1, 2, 2, 2, 3, 3, 3, 3};
+    octseq_dns_row rows[10];
+    size_t count = 0;
+    CHECK(octseq_dns_rows(octets, LEN, rows, 10, &count) == OCTSEQ_OK);
+    CHECK(count == 10);
+    for (size_t i = 0; i < 10; i++)
+        check_row(&rows[i], i ? 17 + 14 * (i - 1) : 12, SECTIONS[i]);
+}
+
+/* The library reads rows as it writes them. */
+static void check_read(const uint8_t *octets) {
+    octseq_dns_row row = {17, 28, 3, 0x01020304, 0xFE0B, 0xFD0C, 1}, again[2];
+    uint8_t out[64];
+    size_t written = 0, count = 0;
+    CHECK(octseq_dns_answer(octets, LEN, 0, octets, LEN, &row, 1, out, sizeof out, &written) == OCTSEQ_OK);
+    CHECK(written == 12 + 5 + 14 && is_same(out + 17, octets + 17, 14));
+    CHECK(octseq_dns_rows(out, written, again, 2, &count) == OCTSEQ_OK);
+    CHECK(count == 2);
+    check_row(&again[1], 17, 1);
+}
+
+static void check_state(void) {
+    octseq_lossy_state state;
+    size_t written = 99;
+    memset(&state, 0, sizeof state);
+    CHECK(octseq_lossy_piece(&state, (const uint8_t *)"\xF0\x9F\x98", 3, NULL, 0, &written) == OCTSEQ_OK);
+    CHECK(written == 0);
+    CHECK(at(&state, 0, 4) == 0x03989FF0);
+}
+
+int main(void) {
+    uint8_t octets[LEN];
+    make_message(octets);
+    check_header(octets);
+    check_rows(octets);
+    check_read(octets);
+    check_state();
+    return finish("layout");
+}
