@@ -36,7 +36,7 @@ extern "C" {
 #define OCTSEQ_IMMOVABLE 4u /* data that isn't of its type's form may have pointers, so it can't be moved */
 #define OCTSEQ_TOO_LONG 5u  /* a DNS message would have more than 65,535 octets, a text more than SIZE_MAX */
 #define OCTSEQ_BAD_ROW 6u   /* a row's name isn't at its place, its data isn't in the octets, or its section is none */
-#define OCTSEQ_BAD_STATE 7u /* the state of a reading in pieces is none that a call left */
+#define OCTSEQ_BAD_STATE 7u /* the octets of a state are more than three, or begin no character */
 #define OCTSEQ_UNSHOWN 8u   /* no text could be made. No octets lead here, but no proof rules it out */
 
 /* ---- UTF-8 (the Unicode Standard, 3.9) ---- */
@@ -52,20 +52,21 @@ uint32_t octseq_utf8_fault(const uint8_t *octets, size_t len, size_t *valid_up_t
 /* The octets as a text in which each maximal ill-formed part became one U+FFFD (EF BF BD). OK, NO_ROOM, TOO_LONG. */
 uint32_t octseq_lossy(const uint8_t *octets, size_t len, uint8_t *out, size_t room, size_t *written);
 
-/* The same for octets that come in pieces. The caller keeps the state: at most three octets of a character that isn't
- * whole yet. All zeros is the state before the first piece. However the octets are cut, the texts of all pieces, and
- * the last one of octseq_lossy_end, are together the text of octseq_lossy. */
+/* The same for octets that come in pieces. The caller keeps the state: the `len` octets of a character that isn't whole
+ * yet, at most three. All zeros is the state before the first piece. However the octets are cut, the texts of all pieces,
+ * and the last one of octseq_lossy_end, are together the text of octseq_lossy. */
 typedef struct octseq_lossy_state {
     uint8_t octets[3];
     uint8_t len;
 } octseq_lossy_state;
 
-/* The text of the next piece. OK, NO_ROOM, TOO_LONG, BAD_STATE. The state changes only after OK. */
+/* The text of the next piece. OK, NO_ROOM, TOO_LONG, BAD_STATE. The state changes after OK alone: a piece is taken then,
+ * also where its text has no octets, so that it fits any room. */
 uint32_t octseq_lossy_piece(octseq_lossy_state *state, const uint8_t *piece, size_t len, uint8_t *out, size_t room,
                             size_t *written);
 
 /* What is left once no piece follows: U+FFFD where the state has octets, else nothing. OK, NO_ROOM, BAD_STATE. After
- * OK the state is that before the first piece. */
+ * OK the state is all zeros. */
 uint32_t octseq_lossy_end(octseq_lossy_state *state, uint8_t *out, size_t room, size_t *written);
 
 /* ---- DNS messages (RFC 1035) ---- */
@@ -90,7 +91,8 @@ typedef struct octseq_dns_header {
 #define OCTSEQ_DNS_OPCODE(flags) (((flags) >> 11) & 15u)
 #define OCTSEQ_DNS_RCODE(flags) ((flags) & 15u)
 
-/* A question or a record. Places are counted from the first octet of what it was read from. */
+/* A question or a record. Places are counted from the first octet of what it was read from. The four octets after
+ * `section`, which align the next row, are no part of it. */
 typedef struct octseq_dns_row {
     size_t name_at;   /* where the name begins */
     size_t data_at;   /* where the data begins; 0 of a question */
