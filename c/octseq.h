@@ -53,15 +53,15 @@ uint32_t octseq_utf8_fault(const uint8_t *octets, size_t len, size_t *valid_up_t
 uint32_t octseq_lossy(const uint8_t *octets, size_t len, uint8_t *out, size_t room, size_t *written);
 
 /* The same for octets that come in pieces. The caller keeps the state: the `len` octets of a character that isn't whole
- * yet, at most three. All zeros is the state before the first piece. However the octets are cut, the texts of all pieces,
- * and the last one of octseq_lossy_end, are together the text of octseq_lossy. */
+ * yet, at most three. All zeros is the state before the first piece. However the octets are cut, the texts of all
+ * pieces, and the last one of octseq_lossy_end, are together the text of octseq_lossy. */
 typedef struct octseq_lossy_state {
     uint8_t octets[3];
     uint8_t len;
 } octseq_lossy_state;
 
-/* The text of the next piece. OK, NO_ROOM, TOO_LONG, BAD_STATE. The state changes after OK alone: a piece is taken then,
- * also where its text has no octets, so that it fits any room. */
+/* The text of the next piece. OK, NO_ROOM, TOO_LONG, BAD_STATE. The state changes after OK alone: a piece is taken
+ * then, also where its text has no octets, so that it fits any room. */
 uint32_t octseq_lossy_piece(octseq_lossy_state *state, const uint8_t *piece, size_t len, uint8_t *out, size_t room,
                             size_t *written);
 
