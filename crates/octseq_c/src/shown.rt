@@ -1,12 +1,12 @@
 //! Values shown in a caller's room. They are counted first, so that nothing is written where they don't fit.
-ghost use Rattle.std.specs.Prelude.{◌≡◌, ◌≢◌, ◌⊎◌, List, ℕ, length, take, IfSome, IsTrue};
+ghost use Rattle.std.specs.Prelude.{◌≡◌, ◌≢◌, ◌⊎◌, List, ℕ, length, IfSome, IsTrue};
 ghost use Rattle.octseq.specs.Text.{IsWellFormed};
 ghost use Rattle.octseq_c.specs.Puts.{Puts};
 ghost use Rattle.octseq_c.specs.Status.{status_ok, status_no_room, status_unshown};
 
 use crate::status::{NO_ROOM, OK, UNSHOWN};
-use octseq::slice_builder::{Room, SliceBuilder};
-use octseq::str::{Counter, StrBuilder};
+use crate::writing::{Front, Shown, Writing};
+use octseq::str::Counter;
 use std::fmt::{Display, Write};
 use std::marker::Brand;
 
@@ -15,7 +15,7 @@ pub fn show<D: Display + Copy>(value: D, out: &mut [u8], written: &mut usize) ->
     ensures puts { IfSome (D.output value)
         (λ text. Puts (λ made. made ≡ text) result out.old out.new written.new) }
     ensures only { (result ≡ status_ok) ⊎ (result ≡ status_no_room) ⊎ (result ≡ status_unshown) }
-    ensures utf8 { result ≡ status_ok → IsWellFormed (take written.new out.new) }
+    ensures utf8 { result ≡ status_ok → IfSome (D.output value) IsWellFormed }
     ensures kept { result ≡ status_no_room → out.new ≡ out.old }
 {
     let Some(len) = shown_len(&value) else {
@@ -26,7 +26,7 @@ pub fn show<D: Display + Copy>(value: D, out: &mut [u8], written: &mut usize) ->
         *written = len;
         return NO_ROOM;
     }
-    if show_in::<Brand, D>(value, &mut out[..len]) {
+    if show_whole(value, &mut out[..len]) {
         *written = len;
         OK
     } else {
@@ -47,14 +47,34 @@ fn shown_len<D: Display>(value: &D) -> Option<usize>
 }
 
 /// Shows a value in a room of just its size.
-fn show_in<K: Room, D: Display + Copy>(value: D, out: &mut [u8]) -> bool
-    requires room { K.room ≡ length out.old }
-    requires fits { IfSome (D.output value) (λ text. length text ≡ length out.old) }
+fn show_whole<D: Display + Copy>(value: D, out: &mut [u8]) -> bool
+    requires { IfSome (D.output value) (λ text. length text ≡ length out.old) }
     ensures shown { IsTrue result → IfSome (D.output value) (λ text. out.new ≡ text) }
-    ensures utf8 { IsTrue result → IsWellFormed out.new }
+    ensures utf8 { IsTrue result → IfSome (D.output value) IsWellFormed }
+    ensures len { length out.new ≡ length out.old }
 {
-    let mut text = StrBuilder::from_utf8_unchecked(SliceBuilder::<K>::new(out));
-    let is_shown = text.try_push_display(value).is_ok();
-    let _octets = text.into_octets_builder();
-    is_shown
+    show_in::<Brand, D>(value, out).is_shown
+}
+
+/// The same, where `K` stands for the room.
+fn show_in<'a, K: Front, D: Display + Copy>(value: D, out: &'a mut [u8]) -> Shown<'a>
+    requires room { K.room ≡ length out.old }
+    requires lender { K.lender ≡ out.ghost_name }
+    requires fits { IfSome (D.output value) (λ text. length text ≡ length out.old) }
+    ensures same { result.octets.ghost_name ≡ out.entry.ghost_name }
+    ensures shown { IsTrue result.is_shown → IfSome (D.output value) (λ text. result.octets.now ≡ text) }
+    ensures utf8 { IsTrue result.is_shown → IfSome (D.output value) IsWellFormed }
+    ensures len { length result.octets.now ≡ length out.old }
+{
+    let mut writer = Writing::<K>::new(out);
+    match writer.write(&value) {
+        Ok(()) => Shown {
+            octets: writer.into_octets(),
+            is_shown: true,
+        },
+        Err(_) => Shown {
+            octets: writer.into_octets(),
+            is_shown: false,
+        },
+    }
 }

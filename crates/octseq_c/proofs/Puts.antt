@@ -1,0 +1,55 @@
+-- What calls tell of the items that they write.
+use Rattle.std.specs.Prelude.{◌↔◌}
+use Rattle.std.proofs.Common.{◌≡◌, ◌≢◌, ℕ, ◌<◌, ◌≤◌, List, length, refl, arith}
+use Rattle.octseq_c.specs.Puts.{Fills, Puts}
+
+module _ {A : Type 0} (Is : List A → Type 0) {old new : List A} {count : ℕ}
+    (one : (items others : List A) → Is items → Is others → items ≡ others) where
+  -- items were written
+  pub puts_ok : (items : List A) → Is items → length items ≤ length old → count ≡ length items
+      → Fills items old new → Puts Is 0 old new count
+  puts_ok items is within told fills = record {
+    ok = λ e. (items, is, within, told, fills);
+    no_room = λ e. absurd (omega arith);
+    nothing = λ e. absurd (e refl);
+    one = one;
+  }
+
+  -- there is no room for them
+  pub puts_no_room : (items : List A) → Is items → length old < length items → count ≡ length items
+      → Puts Is 1 old new count
+  puts_no_room items is short told = record {
+    ok = λ e. absurd (omega arith);
+    no_room = λ e. (items, is, short, told);
+    nothing = λ e n. absurd (n refl);
+    one = one;
+  }
+
+  -- none were written, for another reason
+  pub puts_none : (status : ℕ) → status ≢ 0 → status ≢ 1 → count ≡ 0 → Puts Is status old new count
+  puts_none status m n zero = record {
+    ok = λ e. absurd (m e);
+    no_room = λ e. absurd (n e);
+    nothing = λ e f. zero;
+    one = one;
+  }
+
+-- what a call of another list of the same items tells
+pub puts_as : {A : Type 0} {Is Other : List A → Type 0} {status count : ℕ} {old new : List A}
+    → ((items : List A) → Is items → Other items)
+    → ((items others : List A) → Other items → Other others → items ≡ others)
+    → Puts Is status old new count → Puts Other status old new count
+puts_as into one p = record {
+  ok = λ e. let q = p.ok e in (q.0, into q.0 q.1, q.2, q.3, q.4);
+  no_room = λ e. let q = p.no_room e in (q.0, into q.0 q.1, q.2, q.3);
+  nothing = p.nothing;
+  one = one;
+}
+
+-- a status that is told exactly where a fact holds
+
+pub told : {P : Type 0} (status : ℕ) → P → (status ≡ status) ↔ P
+told status p = (λ e. p, λ p. refl)
+
+pub not_told : {P : Type 0} (status other : ℕ) → status ≢ other → ¬ P → (status ≡ other) ↔ P
+not_told status other n refuted = (λ e. absurd (n e), λ p. absurd (refuted p))

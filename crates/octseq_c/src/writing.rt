@@ -1,0 +1,82 @@
+//! A writer to a slice that a caller lends.
+ghost use Rattle.std.specs.Prelude.{◌≡◌, ◌≤◌, ◌++◌, ℕ, length, take};
+ghost use Rattle.std.specs.Borrow.{GName};
+ghost use Rattle.octseq_c.specs.OwnText.{IsText};
+
+use std::fmt;
+use std::marker::{Brand, PhantomData};
+
+/// The slice that is written to, as a type: how long it is, and which borrow.
+pub trait Front {
+    ghost room: { ℕ };
+
+    ghost lender: { GName };
+}
+
+impl Front for Brand {
+    ghost room = { 0 };
+
+    ghost lender = { 0 };
+}
+
+/// A writer to the front of a slice. What was written is text.
+#[derive(Drop)]
+pub struct Writing<'a, K: Front> {
+    octets: &'a mut [u8],
+    len: usize,
+    of: PhantomData<K>,
+    ghost room: { length octets.now ≡ K.room },
+    ghost within: { len ≤ K.room },
+    ghost same: { octets.ghost_name ≡ K.lender },
+    ghost text: { IsText (take len octets.now) },
+}
+
+/// What was shown in a slice.
+#[derive(Drop)]
+pub struct Shown<'a> {
+    /// The slice.
+    pub octets: &'a mut [u8],
+    /// Whether all of it was shown.
+    pub is_shown: bool,
+}
+
+impl<'a, K: Front> Writing<'a, K> {
+    /// Nothing is written to a slice yet.
+    pub fn new(octets: &'a mut [u8]) -> Self
+        requires room { K.room ≡ length octets.old }
+        requires lender { K.lender ≡ octets.ghost_name }
+        ensures octets { result.octets.now ≡ octets.old }
+        ensures len { result.len ≡ 0 }
+    {
+        Writing {
+            octets,
+            len: 0,
+            of: PhantomData::<K>,
+        }
+    }
+
+    /// The slice.
+    pub fn into_octets(self) -> &'a mut [u8]
+        ensures same { result.ghost_name ≡ K.lender }
+        ensures octets { result.now ≡ self.entry.octets.now }
+    {
+        self.octets
+    }
+}
+
+impl<'a, K: Front> fmt::Write for Writing<'a, K> {
+    ghost write_str_gives = { λ before octets after.
+        take after.len after.octets.now ≡ take before.len before.octets.now ++ octets };
+
+    /// Writes all of `s`, or nothing.
+    fn write_str(&mut self, s: &str) -> fmt::Result {
+        if s.len() > self.octets.len() - self.len {
+            return Err(fmt::Error);
+        }
+        let start = self.len;
+        let end = start + s.len();
+        self.octets[start..end].copy_from_slice(s.as_bytes());
+        self.len = end;
+        Ok(())
+    }
+}
