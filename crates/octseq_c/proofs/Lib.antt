@@ -1,1 +1,2 @@
+pub mod OwnText
 pub mod Puts

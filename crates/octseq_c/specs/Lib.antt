@@ -1,5 +1,6 @@
 pub mod Made
 pub mod Order
+pub mod OwnText
 pub mod Puts
 pub mod Rows
 pub mod Status

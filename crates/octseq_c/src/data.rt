@@ -1,5 +1,5 @@
 //! The data of DNS records, by its type.
-ghost use Rattle.std.specs.Prelude.{◌≡◌, ◌≢◌, ◌↔◌, ◌⊎◌, ◌+◌, ◌≤◌, ◌<◌, ℕ, List, length, take, IfSome, IfNone};
+ghost use Rattle.std.specs.Prelude.{◌≡◌, ◌≢◌, ◌↔◌, ◌⊎◌, ◌+◌, ◌≤◌, ◌<◌, ℕ, List, length, IfSome, IfNone};
 ghost use Rattle.octseq.specs.Text.{IsWellFormed};
 ghost use Rattle.octseq.specs.Parser.{window};
 ghost use Rattle.octseq.specs.Window.{at, nested, whole};
@@ -54,7 +54,8 @@ pub extern "C" fn octseq_dns_data_text(
     ensures malformed { (result ≡ status_malformed) ↔ (length octets.now < data_at + data_len) }
     ensures only { (result ≡ status_ok) ⊎ (result ≡ status_no_room) ⊎ (result ≡ status_malformed)
         ⊎ (result ≡ status_unshown) }
-    ensures utf8 { result ≡ status_ok → IsWellFormed (take written.new out.new) }
+    ensures utf8 { result ≡ status_ok → (text : List ℕ)
+        → IsDataText octets.now data_at data_len rtype class text → IsWellFormed text }
     ensures kept { result ≢ status_ok → result ≢ status_unshown → out.new ≡ out.old }
 {
     one_reading_of_data();

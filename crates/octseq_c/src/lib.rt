@@ -13,3 +13,4 @@ mod status;
 mod text;
 mod utf8;
 mod write;
+mod writing;

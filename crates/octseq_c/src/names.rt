@@ -1,5 +1,5 @@
 //! Domain names: RFC 1035, 3.1.
-ghost use Rattle.std.specs.Prelude.{◌≡◌, ◌≢◌, ◌↔◌, ◌⊎◌, ◌≤◌, ℕ, pos, List, length, take, IfOk, IsErr, IfSome, IfNone};
+ghost use Rattle.std.specs.Prelude.{◌≡◌, ◌≢◌, ◌↔◌, ◌⊎◌, ◌≤◌, ℕ, pos, List, length, IfOk, IsErr, IfSome, IfNone};
 ghost use Rattle.octseq_dns.specs.Owned.{owned_labels};
 ghost use Rattle.octseq_dns.specs.Wire.{wire};
 ghost use Rattle.octseq.specs.Text.{IsWellFormed};
@@ -33,7 +33,7 @@ pub extern "C" fn octseq_dns_name_text(
         ↔ ((labels : List (List ℕ)) → ¬ IsNameAt octets.now place labels) }
     ensures only { (result ≡ status_ok) ⊎ (result ≡ status_no_room) ⊎ (result ≡ status_malformed)
         ⊎ (result ≡ status_unshown) }
-    ensures utf8 { result ≡ status_ok → IsWellFormed (take written.new out.new) }
+    ensures utf8 { result ≡ status_ok → (text : List ℕ) → IsNameText octets.now place text → IsWellFormed text }
     ensures kept { result ≢ status_ok → result ≢ status_unshown → out.new ≡ out.old }
 {
     one_name_at_a_place();

@@ -1,5 +1,5 @@
 //! The mnemonics of types and classes: RFC 1035, 3.2, and RFC 3597, 5.
-ghost use Rattle.std.specs.Prelude.{◌≡◌, ◌≢◌, ◌↔◌, ◌⊎◌, ℕ, List, take, IfSome, IfNone};
+ghost use Rattle.std.specs.Prelude.{◌≡◌, ◌≢◌, ◌↔◌, ◌⊎◌, ℕ, List, IfSome, IfNone};
 ghost use Rattle.octseq.specs.Text.{IsWellFormed};
 ghost use Rattle.octseq_dns.specs.Mnemonic.{ReadsClass, ReadsRtype, class_text, rtype_text};
 ghost use Rattle.octseq_c.specs.Puts.{Puts};
@@ -15,7 +15,7 @@ use octseq_dns::{Class, Rtype};
 pub extern "C" fn octseq_dns_rtype_text(rtype: u16, out: &mut [u8], written: &mut usize) -> u32
     ensures puts { Puts (λ made. made ≡ rtype_text rtype) result out.old out.new written.new }
     ensures only { (result ≡ status_ok) ⊎ (result ≡ status_no_room) ⊎ (result ≡ status_unshown) }
-    ensures utf8 { result ≡ status_ok → IsWellFormed (take written.new out.new) }
+    ensures utf8 { result ≡ status_ok → IsWellFormed (rtype_text rtype) }
     ensures kept { result ≡ status_no_room → out.new ≡ out.old }
 {
     show(Rtype::from_int(rtype), out, written)
@@ -26,7 +26,7 @@ pub extern "C" fn octseq_dns_rtype_text(rtype: u16, out: &mut [u8], written: &mu
 pub extern "C" fn octseq_dns_class_text(class: u16, out: &mut [u8], written: &mut usize) -> u32
     ensures puts { Puts (λ made. made ≡ class_text class) result out.old out.new written.new }
     ensures only { (result ≡ status_ok) ⊎ (result ≡ status_no_room) ⊎ (result ≡ status_unshown) }
-    ensures utf8 { result ≡ status_ok → IsWellFormed (take written.new out.new) }
+    ensures utf8 { result ≡ status_ok → IsWellFormed (class_text class) }
     ensures kept { result ≡ status_no_room → out.new ≡ out.old }
 {
     show(Class::from_int(class), out, written)

@@ -1,5 +1,5 @@
 //! The text of DNS messages.
-ghost use Rattle.std.specs.Prelude.{◌≡◌, ◌≢◌, ◌↔◌, ◌⊎◌, List, ℕ, length, take, IfSome, IsTrue};
+ghost use Rattle.std.specs.Prelude.{◌≡◌, ◌≢◌, ◌↔◌, ◌⊎◌, List, ℕ, length, IfSome, IsTrue};
 ghost use Rattle.octseq.specs.Text.{IsWellFormed};
 ghost use Rattle.octseq_dns.specs.MessageText.{IsMessageText};
 ghost use Rattle.octseq_dns.specs.Parsed.{header_of, questions_of, answers_of, authorities_of, additionals_of};
@@ -9,11 +9,11 @@ ghost use Rattle.octseq_c.specs.Status.{status_ok, status_no_room, status_malfor
 ghost use Rattle.octseq_c.specs.Texts.{IsTextOf};
 
 use crate::status::{MALFORMED, NO_ROOM, OK, UNSHOWN};
-use octseq::slice_builder::{Room, SliceBuilder};
-use octseq::str::{Counter, StrBuilder};
+use crate::writing::{Front, Shown, Writing};
+use octseq::str::Counter;
 use octseq_dns::message::{one_message, one_text_of_a_message};
 use octseq_dns::{Malformed, Message};
-use std::fmt::{self, Display};
+use std::fmt;
 use std::marker::Brand;
 
 /// The text of the message that the octets are, at the front of `out`.
@@ -27,7 +27,7 @@ pub extern "C" fn octseq_dns_message_text(
     ensures malformed { (result ≡ status_malformed) ↔ ¬ IsSomeMessage octets.now }
     ensures only { (result ≡ status_ok) ⊎ (result ≡ status_no_room) ⊎ (result ≡ status_malformed)
         ⊎ (result ≡ status_unshown) }
-    ensures utf8 { result ≡ status_ok → IsWellFormed (take written.new out.new) }
+    ensures utf8 { result ≡ status_ok → (text : List ℕ) → IsTextOf octets.now text → IsWellFormed text }
     ensures kept { result ≢ status_ok → result ≢ status_unshown → out.new ≡ out.old }
 {
     one_message();
@@ -46,7 +46,9 @@ fn put_text(message: &Message<&[u8]>, out: &mut [u8], written: &mut usize) -> u3
     ensures puts { Puts (IsMessageText (header_of message.now) (questions_of message.now) (answers_of message.now)
         (authorities_of message.now) (additionals_of message.now)) result out.old out.new written.new }
     ensures only { (result ≡ status_ok) ⊎ (result ≡ status_no_room) ⊎ (result ≡ status_unshown) }
-    ensures utf8 { result ≡ status_ok → IsWellFormed (take written.new out.new) }
+    ensures utf8 { result ≡ status_ok → (text : List ℕ) → IsMessageText (header_of message.now)
+        (questions_of message.now) (answers_of message.now) (authorities_of message.now)
+        (additionals_of message.now) text → IsWellFormed text }
     ensures kept { result ≡ status_no_room → out.new ≡ out.old }
 {
     one_text_of_a_message();
@@ -58,7 +60,7 @@ fn put_text(message: &Message<&[u8]>, out: &mut [u8], written: &mut usize) -> u3
         *written = len;
         return NO_ROOM;
     }
-    if text_in::<Brand>(message, &mut out[..len]) {
+    if put_whole(message, &mut out[..len]) {
         *written = len;
         OK
     } else {
@@ -83,18 +85,42 @@ fn text_len(message: &Message<&[u8]>) -> Option<usize>
 }
 
 /// The text of a message in a room of just its size.
-fn text_in<K: Room>(message: &Message<&[u8]>, out: &mut [u8]) -> bool
-    requires room { K.room ≡ length out.old }
+fn put_whole(message: &Message<&[u8]>, out: &mut [u8]) -> bool
     requires fits { (text : List ℕ) × IsMessageText (header_of message.now) (questions_of message.now)
         (answers_of message.now) (authorities_of message.now) (additionals_of message.now) text
         × (length out.old ≡ length text) }
     ensures text { IsTrue result → IsMessageText (header_of message.now) (questions_of message.now)
         (answers_of message.now) (authorities_of message.now) (additionals_of message.now) out.new }
     ensures utf8 { IsTrue result → IsWellFormed out.new }
+    ensures len { length out.new ≡ length out.old }
+{
+    put_in::<Brand>(message, out).is_shown
+}
+
+/// The same, where `K` stands for the room.
+fn put_in<'a, K: Front>(message: &Message<&[u8]>, out: &'a mut [u8]) -> Shown<'a>
+    requires room { K.room ≡ length out.old }
+    requires lender { K.lender ≡ out.ghost_name }
+    requires fits { (text : List ℕ) × IsMessageText (header_of message.now) (questions_of message.now)
+        (answers_of message.now) (authorities_of message.now) (additionals_of message.now) text
+        × (length out.old ≡ length text) }
+    ensures same { result.octets.ghost_name ≡ out.entry.ghost_name }
+    ensures text { IsTrue result.is_shown → IsMessageText (header_of message.now) (questions_of message.now)
+        (answers_of message.now) (authorities_of message.now) (additionals_of message.now) result.octets.now }
+    ensures utf8 { IsTrue result.is_shown → IsWellFormed result.octets.now }
 {
     one_text_of_a_message();
-    let mut text = StrBuilder::from_utf8_unchecked(SliceBuilder::<K>::new(out));
-    let is_shown = message.append_text(&mut text).is_ok();
-    let _octets = text.into_octets_builder();
-    is_shown
+    let mut f = fmt::Formatter::new(Writing::<K>::new(out));
+    let shown = fmt::Display::fmt(message, &mut f);
+    let writer = f.into_inner();
+    match shown {
+        Ok(()) => Shown {
+            octets: writer.into_octets(),
+            is_shown: true,
+        },
+        Err(_) => Shown {
+            octets: writer.into_octets(),
+            is_shown: false,
+        },
+    }
 }
