@@ -53,3 +53,15 @@ told status p = (λ e. p, λ p. refl)
 
 pub not_told : {P : Type 0} (status other : ℕ) → status ≢ other → ¬ P → (status ≡ other) ↔ P
 not_told status other n refuted = (λ e. absurd (n e), λ p. absurd (refuted p))
+
+-- what a call tells that copies items to the front of a room, or none
+pub puts_copied : {A : Type 0} (Is : List A → Type 0) {status count : ℕ} {old new : List A}
+    → ((items others : List A) → Is items → Is others → items ≡ others) → (items : List A) → Is items
+    → count ≡ length items → (status ≡ 0 → (length items ≤ length old) × Fills items old new)
+    → (status ≢ 0 → (status ≡ 1) × (length old < length items) × (new ≡ old)) → Puts Is status old new count
+puts_copied Is one items is told ok not = record {
+  ok = λ e. (items, is, (ok e).0, told, (ok e).1);
+  no_room = λ e. (items, is, (not (λ z. omega (arith, e, z))).1, told);
+  nothing = λ m n. absurd (n (not m).0);
+  one = one;
+}

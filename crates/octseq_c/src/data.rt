@@ -13,7 +13,6 @@ use crate::shown::show;
 use crate::status::MALFORMED;
 use octseq::Parser;
 use octseq::utf8::Turns;
-use octseq_dns::data::one_reading_of_data;
 use octseq_dns::{Class, Data, Rtype};
 
 /// Whether data has the form of its type and class: 1, or 0.
@@ -58,9 +57,8 @@ pub extern "C" fn octseq_dns_data_text(
         → IsDataText octets.now data_at data_len rtype class text → IsWellFormed text }
     ensures kept { result ≢ status_ok → result ≢ status_unshown → out.new ≡ out.old }
 {
-    one_reading_of_data();
     match data_of(octets, data_at, data_len, rtype, class) {
-        Some(data) => show(data, out, written),
+        Some(found) => show(found, out, written),
         None => {
             *written = 0;
             MALFORMED
@@ -76,13 +74,13 @@ pub fn data_of(
     rtype: u16,
     class: u16,
 ) -> Option<Data<&[u8]>>
-    ensures some { IfSome result (λ data. IsDataAt octets.now data_at data_len rtype class (rdata_of data)) }
+    ensures some { IfSome result (λ found. IsDataAt octets.now data_at data_len rtype class (rdata_of found)) }
     ensures none { IfNone result (length octets.now < data_at + data_len) }
 {
     let (message, inside) = place_of(octets, data_at, data_len)?;
     let (rtype, class) = (Rtype::from_int(rtype), Class::from_int(class));
     match Data::parse(message, inside, rtype, class, &mut Turns::new()) {
-        Ok(data) => Some(data),
+        Ok(found) => Some(found),
         Err(_) => Some(Data::Unknown(rtype, inside)),
     }
 }

@@ -15,7 +15,7 @@ use crate::shown::show;
 use crate::status::{MALFORMED, OK};
 use octseq::builder::infallible;
 use octseq::{Array, Parser, Str};
-use octseq_dns::name::{a_name_has_labels, one_name_at_a_place, one_name_of_a_text};
+use octseq_dns::name::a_name_has_labels;
 use octseq_dns::{DomainName, Malformed, Name, ParsedName};
 use octseq_format::Format;
 use std::cmp::Ordering;
@@ -36,7 +36,6 @@ pub extern "C" fn octseq_dns_name_text(
     ensures utf8 { result ≡ status_ok → (text : List ℕ) → IsNameText octets.now place text → IsWellFormed text }
     ensures kept { result ≢ status_ok → result ≢ status_unshown → out.new ≡ out.old }
 {
-    one_name_at_a_place();
     match name_at(octets, place) {
         Ok(name) => show(name, out, written),
         Err(Malformed) => {
@@ -60,7 +59,6 @@ pub extern "C" fn octseq_dns_name_wire(
     ensures only { (result ≡ status_ok) ⊎ (result ≡ status_no_room) ⊎ (result ≡ status_malformed) }
     ensures kept { result ≢ status_ok → out.new ≡ out.old }
 {
-    one_name_at_a_place();
     match name_at(octets, place) {
         Ok(name) => put(wire_of(&name).as_slice(), out, written),
         Err(Malformed) => {
@@ -82,7 +80,6 @@ pub extern "C" fn octseq_dns_name_from_text(
     ensures only { (result ≡ status_ok) ⊎ (result ≡ status_no_room) ⊎ (result ≡ status_malformed) }
     ensures kept { result ≢ status_ok → out.new ≡ out.old }
 {
-    one_name_of_a_text();
     match spelled(text) {
         Some(name) => put(name.as_slice(), out, written),
         None => {
@@ -108,7 +105,6 @@ pub extern "C" fn octseq_dns_name_compare(
         → ¬ IsNameAt other.now other_place others) }
     ensures only { (result ≡ status_ok) ⊎ ((result ≡ status_malformed) × (order.new ≡ pos 2)) }
 {
-    one_name_at_a_place();
     match (name_at(one, one_place), name_at(other, other_place)) {
         (Ok(name), Ok(other)) => {
             *order = number_of(name.name_cmp(&other));
@@ -160,8 +156,13 @@ pub fn spelled(text: &[u8]) -> Option<Name<Array<255>>>
     ensures some { IfSome result (λ name. Spells text.now (owned_labels name)) }
     ensures none { IfNone result ((labels : List (List ℕ)) → ¬ Spells text.now labels) }
 {
-    match Str::from_utf8_slice(text) {
-        Ok(text) => Name::from_text(text.as_str()).ok(),
+    let text = Str::from_utf8_slice(text).ok()?;
+    match Name::from_text(text.as_str()) {
+        Ok(name) => {
+            a_name_has_labels(&name.parsed());
+            let _len = name.len();
+            Some(name)
+        }
         Err(_) => None,
     }
 }

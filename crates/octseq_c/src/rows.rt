@@ -9,7 +9,7 @@ ghost use Rattle.octseq_c.specs.Rows.{AreRowsOf, IsSomeMessage, row_of_question,
 ghost use Rattle.octseq_c.specs.Status.{status_ok, status_no_room, status_malformed};
 
 use crate::status::{MALFORMED, NO_ROOM, OK};
-use octseq_dns::message::{Questions, Records, one_message};
+use octseq_dns::message::{Questions, Records};
 use octseq_dns::{Malformed, Message, Question, Record};
 
 /// A question or a record of a message.
@@ -40,7 +40,6 @@ pub extern "C" fn octseq_dns_rows(octets: &[u8], out: &mut [Row], count: &mut us
     ensures only { (result ≡ status_ok) ⊎ (result ≡ status_no_room) ⊎ (result ≡ status_malformed) }
     ensures kept { result ≢ status_ok → out.new ≡ out.old }
 {
-    one_message();
     match Message::parse(octets) {
         Ok(message) => {
             *count = row_count(&message);

@@ -11,7 +11,6 @@ ghost use Rattle.octseq_c.specs.Texts.{IsTextOf};
 use crate::status::{MALFORMED, NO_ROOM, OK, UNSHOWN};
 use crate::writing::{Front, Shown, Writing};
 use octseq::str::Counter;
-use octseq_dns::message::{one_message, one_text_of_a_message};
 use octseq_dns::{Malformed, Message};
 use std::fmt;
 use std::marker::Brand;
@@ -30,8 +29,6 @@ pub extern "C" fn octseq_dns_message_text(
     ensures utf8 { result ≡ status_ok → (text : List ℕ) → IsTextOf octets.now text → IsWellFormed text }
     ensures kept { result ≢ status_ok → result ≢ status_unshown → out.new ≡ out.old }
 {
-    one_message();
-    one_text_of_a_message();
     match Message::parse(octets) {
         Ok(message) => put_text(&message, out, written),
         Err(Malformed) => {
@@ -51,7 +48,6 @@ fn put_text(message: &Message<&[u8]>, out: &mut [u8], written: &mut usize) -> u3
         (additionals_of message.now) text → IsWellFormed text }
     ensures kept { result ≡ status_no_room → out.new ≡ out.old }
 {
-    one_text_of_a_message();
     let Some(len) = text_len(message) else {
         *written = 0;
         return UNSHOWN;
@@ -109,7 +105,6 @@ fn put_in<'a, K: Front>(message: &Message<&[u8]>, out: &'a mut [u8]) -> Shown<'a
         (answers_of message.now) (authorities_of message.now) (additionals_of message.now) result.octets.now }
     ensures utf8 { IsTrue result.is_shown → IsWellFormed result.octets.now }
 {
-    one_text_of_a_message();
     let mut f = fmt::Formatter::new(Writing::<K>::new(out));
     let shown = fmt::Display::fmt(message, &mut f);
     let writer = f.into_inner();

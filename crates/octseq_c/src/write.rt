@@ -22,9 +22,7 @@ use crate::status::{IMMOVABLE, MALFORMED, TOO_LONG};
 use octseq::builder::infallible;
 use octseq::compose::append_u16_be;
 use octseq::{Array, OctetsBuilder};
-use octseq_dns::laws::one_message_of;
-use octseq_dns::message::{MESSAGE_MAX, one_message};
-use octseq_dns::name::one_name_of_a_text;
+use octseq_dns::message::MESSAGE_MAX;
 use octseq_dns::{Malformed, Message, Name, RewriteError, StaticCompressor, rewrite};
 
 /// A table of the places that pointers may lead to.
@@ -48,8 +46,6 @@ pub extern "C" fn octseq_dns_rewrite(octets: &[u8], out: &mut [u8], written: &mu
         ⊎ (result ≡ status_immovable) ⊎ (result ≡ status_too_long) }
     ensures kept { result ≢ status_ok → out.new ≡ out.old }
 {
-    one_message();
-    one_message_of();
     let status = match Message::parse(octets) {
         Ok(message) => match rewritten(&message) {
             Ok(made) => return put(made.as_slice(), out, written),
@@ -94,7 +90,6 @@ pub extern "C" fn octseq_dns_query(
     ensures only { (result ≡ status_ok) ⊎ (result ≡ status_no_room) ⊎ (result ≡ status_malformed) }
     ensures kept { result ≢ status_ok → out.new ≡ out.old }
 {
-    one_name_of_a_text();
     match spelled(name) {
         Some(name) => {
             let made = query(id, flags, &name, qtype, qclass);

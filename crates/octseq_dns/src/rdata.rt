@@ -6,8 +6,9 @@ ghost use Rattle.octseq_dns_compress.specs.Composed.{Composes, message_limit};
 ghost use Rattle.octseq_dns_compress.specs.Fits.{FitsField};
 ghost use Rattle.octseq_dns_compress.specs.State.{Field, label_count, with_fields};
 ghost use Rattle.octseq_dns.specs.Rdata.{bare_rdata, rdata_fields, rtype_of};
-ghost use Rattle.octseq_dns_data.specs.Data.{ParsedRdata};
-ghost use Rattle.octseq_dns_data.specs.Typed.{rdata_of, mx_of, soa_of, srv_of};
+ghost use Rattle.octseq_dns_data.specs.Data.{ParsedRdata, FitsForm};
+ghost use Rattle.octseq_dns_data.specs.Local.{LocalType};
+ghost use Rattle.octseq_dns_data.specs.Typed.{rdata_of, mx_of, rrsig_of, soa_of, srv_of};
 
 use octseq::builder::{AsOctetsMut, infallible};
 use octseq::utf8::Turns;
@@ -122,7 +123,7 @@ impl<R: AsOctets + Copy> ComposeRecordData for Data<R> {
             Data::Dname(name) => message.append_value::<R, PlainName>(name),
             Data::Ds(ds) => message.append_value::<R, Of<Ds<R>>>(ds),
             Data::Sshfp(sshfp) => message.append_value::<R, Of<Sshfp<R>>>(sshfp),
-            Data::Rrsig(sig) => message.append_value::<R, Of<Rrsig<R>>>(sig),
+            Data::Rrsig(sig) => compose_rrsig(message, sig),
             Data::Nsec(nsec) => message.append_value::<R, Of<Nsec<R>>>(nsec),
             Data::Dnskey(key) => message.append_value::<R, Of<Dnskey<R>>>(key),
             Data::Nsec3(nsec) => message.append_value::<R, Of<Nsec3<R>>>(nsec),
@@ -204,6 +205,20 @@ fn compose_soa<B: OctetsBuilder + Truncate + AsOctetsMut, T: Compressor, R: AsOc
         return Err(error);
     }
     message.append_slice(&soa_numbers(soa))
+}
+
+/// Appends the parts of a signature: RFC 4034, 3.1.
+fn compose_rrsig<B: OctetsBuilder + Truncate + AsOctetsMut, T: Compressor, R: AsOctets + Copy>(
+    message: &mut Composer<B, T>,
+    sig: &Rrsig<R>,
+) -> Result<(), AppendError>
+    requires { FitsForm (ParsedRdata.local LocalType.rrsig (rrsig_of sig.now)) }
+    ensures composed { Composes (message_limit B.limit) ((B.asks ≡ true) ⊎ (T.asks ≡ true)) result
+        (with_fields T.most message.old.state
+        (rdata_fields (bare_rdata (ParsedRdata.local LocalType.rrsig (rrsig_of sig.now))))) message.old message.new }
+    ensures borrows { B.borrows message.new.octets ≡ B.borrows message.old.octets }
+{
+    message.append_value::<R, Of<Rrsig<R>>>(sig)
 }
 
 /// The three numbers of the place of a service.
