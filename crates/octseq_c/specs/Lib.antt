@@ -1,3 +1,4 @@
 pub mod LossyText
 pub mod Puts
+pub mod Settled
 pub mod Status

@@ -2,6 +2,9 @@
 //! requests no memory, keeps no pointer, and says with a number what came of it.
 #![tactic(auto)]
 
+mod lossy;
+mod pieces;
 mod room;
+mod settled;
 mod status;
 mod utf8;

@@ -1,0 +1,78 @@
+//! The text of what is settled of octets, whatever follows them: how long it is, and how it is written.
+ghost use Rattle.std.specs.Prelude.{◌≡◌, ◌+◌, ◌≤◌, ◌++◌, ℕ, List, length, take, drop, IfSome, IfNone};
+ghost use Rattle.octseq.specs.Parts.{Part, text};
+ghost use Rattle.octseq.specs.Pieces.{Settles};
+ghost use Rattle.octseq_c.specs.LossyText.{end_text};
+ghost use Rattle.octseq_c.specs.Settled.{HasRoom, IsMeasured, IsPastSize};
+
+use octseq::utf8::chunks;
+
+/// U+FFFD, which is written for each maximal ill-formed part.
+const REPLACEMENT: &[u8] = b"\xEF\xBF\xBD";
+
+/// How long the text of what is settled is, and the open end.
+#[derive(Clone, Copy)]
+pub struct Measure {
+    /// Where the text ends.
+    pub text_len: usize,
+    /// How many octets at the end begin a character that isn't whole yet.
+    pub end_len: usize,
+}
+
+/// Measures the text of what is settled, behind so many octets. `None` where a size can't say how long it is.
+pub fn measure(octets: &[u8], before: usize) -> Option<Measure>
+    ensures measured { IfSome result (λ measure. IsMeasured octets.now before measure.text_len measure.end_len) }
+    ensures past { IfNone result (IsPastSize octets.now before) }
+{
+    let mut text_len = before;
+    for chunk in chunks(octets) {
+        text_len = text_len.checked_add(chunk.valid().len())?;
+        if chunk.is_incomplete() {
+            let end_len = chunk.invalid().len();
+            return Some(Measure { text_len, end_len });
+        }
+        if !chunk.invalid().is_empty() {
+            text_len = text_len.checked_add(REPLACEMENT.len())?;
+        }
+    }
+    Some(Measure {
+        text_len,
+        end_len: 0,
+    })
+}
+
+/// Writes the text of what is settled, from a place on, and tells where it ends.
+pub fn fill(out: &mut [u8], before: usize, octets: &[u8]) -> usize
+    requires { HasRoom octets.now before (length out.old) }
+    ensures end { (settled : List Part) (end : List ℕ) → Settles octets.now settled end
+        → result ≡ before + length (text settled) }
+    ensures text { (settled : List Part) (end : List ℕ) → Settles octets.now settled end
+        → out.new ≡ (take before out.old ++ text settled) ++ drop result out.old }
+{
+    let mut at = before;
+    for chunk in chunks(octets) {
+        at = put_at(out, at, chunk.valid().as_bytes());
+        if !chunk.is_incomplete() && !chunk.invalid().is_empty() {
+            at = put_at(out, at, REPLACEMENT);
+        }
+    }
+    at
+}
+
+/// Copies octets to a place, and tells where they end.
+pub fn put_at(out: &mut [u8], at: usize, octets: &[u8]) -> usize
+    requires { at + length octets.now ≤ length out.old }
+    ensures end { result ≡ at + length octets.now }
+    ensures octets { out.new ≡ (take at out.old ++ octets.now) ++ drop (at + length octets.now) out.old }
+{
+    let end = at + octets.len();
+    out[at..end].copy_from_slice(octets);
+    end
+}
+
+/// What is written for an open end that nothing follows.
+pub fn replacement(end_len: usize) -> &'static [u8]
+    ensures { (end : List ℕ) → length end ≡ end_len → result.now ≡ end_text end }
+{
+    if end_len == 0 { b"" } else { REPLACEMENT }
+}
