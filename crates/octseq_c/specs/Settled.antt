@@ -1,16 +1,16 @@
--- What is settled of octets, whatever follows them: how long its text is, and that it has room. Contracts for C don't
--- cite it.
+-- What is settled of octets, whatever follows them: how long its text is, and whether it has room. Contracts for C
+-- don't cite it.
 use Rattle.std.specs.Prelude.{◌≡◌, ℕ, ◌+◌, ◌-◌, ◌<◌, ◌≤◌, ◌^◌, min, List, [], ◌∷◌, ◌++◌, length}
 use Rattle.octseq.specs.Parts.{Part, text}
 use Rattle.octseq.specs.Pieces.{Settles}
 
--- Behind so many octets, the text of what is settled ends at `text_len`, and the open end has `end_len` octets.
-pub record IsMeasured (octets : List ℕ) (before text_len end_len : ℕ) : Type 0 where
+-- Behind so many octets, the text of what is settled ends at this place, and the open end has so many octets.
+pub record IsMeasured (octets : List ℕ) (before place open_len : ℕ) : Type 0 where
   pub settled : List Part
   pub end : List ℕ
   pub settles : Settles octets settled end
-  pub text_len : text_len ≡ before + length (text settled)
-  pub end_len : end_len ≡ length end
+  pub text_len : place ≡ before + length (text settled)
+  pub end_len : open_len ≡ length end
 
 -- Behind so many octets, the text of what is settled is longer than a size can say.
 pub record IsPastSize (octets : List ℕ) (before : ℕ) : Type 0 where
@@ -26,15 +26,16 @@ pub record HasRoom (octets : List ℕ) (before room : ℕ) : Type 0 where
   pub settles : Settles octets settled end
   pub within : before + length (text settled) ≤ room
 
--- What is settled of the octets is what is settled of a front, and then of a rest, which has their open end.
-pub record IsPlan (octets front rest end : List ℕ) (text_len : ℕ) : Type 0 where
+-- What is settled of octets is what is settled of some, and then of others, which have their open end. The text is so
+-- long.
+pub record IsReading (octets some others open_end : List ℕ) (size : ℕ) : Type 0 where
   pub before : List Part
   pub cut : List ℕ
   pub more : List Part
-  pub front : Settles front before cut
-  pub rest : Settles rest more end
-  pub all : Settles octets (before ++ more) end
-  pub len : text_len ≡ length (text before) + length (text more)
+  pub front : Settles some before cut
+  pub rest : Settles others more open_end
+  pub all : Settles octets (before ++ more) open_end
+  pub text_len : size ≡ length (text before) + length (text more)
 
 -- how many octets of a piece are joined to those that are held: none where nothing is
 abbrev pub joined_len : List ℕ → List ℕ → ℕ

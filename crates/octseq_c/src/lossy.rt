@@ -17,11 +17,11 @@ pub extern "C" fn octseq_lossy(octets: &[u8], out: &mut [u8], written: &mut usiz
     ensures kept { result ≢ status_ok → out.new ≡ out.old }
 {
     *written = 0;
-    let Some(measured) = measure(octets, 0) else {
+    let Some(extent) = measure(octets, 0) else {
         return TOO_LONG;
     };
-    let end = replacement(measured.end_len);
-    let Some(len) = measured.text_len.checked_add(end.len()) else {
+    let end = replacement(extent.end_len);
+    let Some(len) = extent.text_len.checked_add(end.len()) else {
         return TOO_LONG;
     };
     *written = len;

@@ -8,7 +8,7 @@ ghost use Rattle.octseq_c.specs.Status.{status_ok, status_no_room, status_too_lo
 ghost use Rattle.std.specs.Prelude.{◌≤◌, IsTrue, IsSome, IfSome, IfNone, take};
 ghost use Rattle.std.specs.List.{concat};
 ghost use Rattle.octseq.specs.Parts.{IsBeginning};
-ghost use Rattle.octseq_c.specs.Settled.{IsPastSize, IsPlan, joined_len};
+ghost use Rattle.octseq_c.specs.Settled.{IsPastSize, IsReading, joined_len};
 
 use crate::room::put;
 use crate::settled::{fill, measure, replacement};
@@ -53,16 +53,16 @@ pub extern "C" fn octseq_lossy_piece(
         return BAD_STATE;
     };
     let joined = join(held, piece);
-    let Some(plan) = plan(held, joined.as_slice(), piece) else {
+    let Some(reading) = plan(held, joined.as_slice(), piece) else {
         return TOO_LONG;
     };
-    *written = plan.text_len;
-    if plan.text_len > out.len() {
+    *written = reading.text_len;
+    if reading.text_len > out.len() {
         return NO_ROOM;
     }
-    let at = fill(out, 0, plan.front);
-    fill(out, at, plan.rest);
-    *state = holding(plan.end);
+    let at = fill(out, 0, reading.front);
+    fill(out, at, reading.rest);
+    *state = holding(reading.end);
     OK
 }
 
@@ -99,8 +99,7 @@ pub extern "C" fn octseq_lossy_end(
 pub fn pieces_are_the_whole()
     ensures { (pieces : List (List ℕ)) (made : List ℕ) (parts : List Part) → IsTextOfPieces [] pieces made
         → Splits (concat pieces) parts → made ≡ text parts }
-{
-}
+{}
 
 /// The octets that a state holds, or `None` where it isn't the state of a reading.
 fn octets_held(state: &LossyState) -> Option<&[u8]>
@@ -161,7 +160,8 @@ fn join(held: &[u8], piece: &[u8]) -> Array<16>
 }
 
 /// How a piece is read: what is settled is what is settled of the front, and then of the rest.
-struct Plan<'a> {
+#[derive(Drop)]
+struct Reading<'a> {
     front: &'a [u8],
     rest: &'a [u8],
     text_len: usize,
@@ -169,16 +169,16 @@ struct Plan<'a> {
 }
 
 /// Plans how a piece is read. `None` where its text is longer than a size can say.
-fn plan<'a>(held: &[u8], joined: &'a [u8], piece: &'a [u8]) -> Option<Plan<'a>>
+fn plan<'a>(held: &[u8], joined: &'a [u8], piece: &'a [u8]) -> Option<Reading<'a>>
     requires { joined.now ≡ held.now ++ take (joined_len held.now piece.now) piece.now }
-    ensures some { IfSome result (λ plan.
-        IsPlan (held.now ++ piece.now) plan.front.now plan.rest.now plan.end.now plan.text_len) }
+    ensures some { IfSome result (λ reading.
+        IsReading (held.now ++ piece.now) reading.front.now reading.rest.now reading.end.now reading.text_len) }
     ensures none { IfNone result (IsPastSize (held.now ++ piece.now) 0) }
 {
     let front = measure(joined, 0)?;
     let taken = joined.len() - held.len();
     if taken == piece.len() {
-        return Some(Plan {
+        return Some(Reading {
             front: &joined[..0],
             rest: joined,
             text_len: front.text_len,
@@ -187,7 +187,7 @@ fn plan<'a>(held: &[u8], joined: &'a [u8], piece: &'a [u8]) -> Option<Plan<'a>>
     }
     let rest = &piece[taken - front.end_len..];
     let all = measure(rest, front.text_len)?;
-    Some(Plan {
+    Some(Reading {
         front: joined,
         rest,
         text_len: all.text_len,

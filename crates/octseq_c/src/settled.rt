@@ -12,7 +12,7 @@ const REPLACEMENT: &[u8] = b"\xEF\xBF\xBD";
 
 /// How long the text of what is settled is, and the open end.
 #[derive(Clone, Copy)]
-pub struct Measure {
+pub struct Extent {
     /// Where the text ends.
     pub text_len: usize,
     /// How many octets at the end begin a character that isn't whole yet.
@@ -20,8 +20,8 @@ pub struct Measure {
 }
 
 /// Measures the text of what is settled, behind so many octets. `None` where a size can't say how long it is.
-pub fn measure(octets: &[u8], before: usize) -> Option<Measure>
-    ensures measured { IfSome result (λ measure. IsMeasured octets.now before measure.text_len measure.end_len) }
+pub fn measure(octets: &[u8], before: usize) -> Option<Extent>
+    ensures measured { IfSome result (λ extent. IsMeasured octets.now before extent.text_len extent.end_len) }
     ensures past { IfNone result (IsPastSize octets.now before) }
 {
     let mut text_len = before;
@@ -29,13 +29,13 @@ pub fn measure(octets: &[u8], before: usize) -> Option<Measure>
         text_len = text_len.checked_add(chunk.valid().len())?;
         if chunk.is_incomplete() {
             let end_len = chunk.invalid().len();
-            return Some(Measure { text_len, end_len });
+            return Some(Extent { text_len, end_len });
         }
         if !chunk.invalid().is_empty() {
             text_len = text_len.checked_add(REPLACEMENT.len())?;
         }
     }
-    Some(Measure {
+    Some(Extent {
         text_len,
         end_len: 0,
     })
@@ -52,7 +52,10 @@ pub fn fill(out: &mut [u8], before: usize, octets: &[u8]) -> usize
     let mut at = before;
     for chunk in chunks(octets) {
         at = put_at(out, at, chunk.valid().as_bytes());
-        if !chunk.is_incomplete() && !chunk.invalid().is_empty() {
+        if chunk.is_incomplete() {
+            return at;
+        }
+        if !chunk.invalid().is_empty() {
             at = put_at(out, at, REPLACEMENT);
         }
     }

@@ -1,0 +1,5 @@
+pub mod OpenEnds
+pub mod Placed
+pub mod Readings
+pub mod SettledTexts
+pub mod Wholes

@@ -1,0 +1,5 @@
+use Rattle.octseq_c.proofs.SettledTexts.{ReadsTo}
+use Rattle.octseq_c.proofs.settled.measure.Given as goal
+
+abbrev pub invariant-loop-chunk : goal.invariant-loop-chunk
+invariant-loop-chunk l = ReadsTo l.fn.octets l.chunk-iterator l.fn.before l.text_len
