@@ -77,27 +77,31 @@ measured {before = before} s o = record {
 -- Of octets a text was written to a room, behind what was in front.
 pub record WritesTo (octets rest : List ℕ) (before : ℕ) (old new : List ℕ) (place : ℕ) : Type 0 where
   pub to : ReadsTo octets rest before place
-  pub new : new ≡ (take before old ++ to.made) ++ drop place old
+  pub room : new ≡ (take before old ++ to.made) ++ drop place old
 
 pub writes_start : (x : List ℕ) (before : ℕ) (old : List ℕ) → WritesTo x x before old old before
+unfolding to_start
 writes_start x before old = record {
   to = to_start x before;
-  new = sym (take-append-drop before old) ∙ ap (λ y. y ++ drop before old) (sym (append-nil (take before old)));
+  room = sym (take-append-drop before old) ∙ ap (λ y. y ++ drop before old) (sym (append-nil (take before old)));
 }
 
-pub writes_more : {x y z : List ℕ} {before a b room : ℕ} {old mid new : List ℕ} (more : List ℕ)
+pub writes_more : {x y z : List ℕ} {before a b : ℕ} {old mid new : List ℕ} (more seen : List ℕ) → seen ≡ more
     → HasRoom x before (length old) → WritesTo x y before old mid a
-    → ((made : List ℕ) → IsRead y z made (made ++ more)) → b ≡ a + length more
-    → new ≡ (take a mid ++ more) ++ drop (a + length more) mid → WritesTo x z before old new b
-writes_more {before = before} {a} {b} {old = old} {mid} {new} more h s r e n =
+    → ((made : List ℕ) → IsRead y z made (made ++ more)) → b ≡ a + length seen
+    → new ≡ (take a mid ++ seen) ++ drop (a + length seen) mid → WritesTo x z before old new b
+unfolding to_more
+writes_more {before = before} {a} {b} {old = old} {mid} {new} more seen same h s r e n =
     let len = s.to.len in
     let within = h.within in
-    let long : length (take before old ++ s.to.made) ≡ a =
-    omega (arith, length-append (take before old) s.to.made, length-take before old) in
+    let front = take before old ++ s.to.made in
+    let long : length front ≡ a = omega (arith, length-append (take before old) s.to.made, length-take before old) in
+    let next : b ≡ a + length more = e ∙ ap (λ y. a + length y) same in
     record {
-      to = to_more more s.to r e;
-      new = placed_more old mid new (take before old ++ s.to.made) more a long s.new n
-          ∙ ap (λ y. y ++ drop (a + length more) old) (append_assoc (take before old) s.to.made more)
+      to = to_more more s.to r next;
+      room = placed_more old mid new front seen a long s.room n
+          ∙ ap (λ y. (front ++ y) ++ drop (a + length seen) old) same
+          ∙ ap (λ y. y ++ drop (a + length seen) old) (append_assoc (take before old) s.to.made more)
           ∙ ap (λ k. (take before old ++ (s.to.made ++ more)) ++ drop k old) (sym e);
     }
 
@@ -112,5 +116,5 @@ pub written : {x end : List ℕ} {before a : ℕ} {old new : List ℕ} → Write
     → (settled : List Part) (last : List ℕ) → Settles x settled last
     → new ≡ (take before old ++ text settled) ++ drop a old
 written {before = before} {a} {old} w o settled last t =
-    w.new ∙ ap (λ y. (take before old ++ y) ++ drop a old)
+    w.room ∙ ap (λ y. (take before old ++ y) ++ drop a old)
     (w.to.read.grown ∙ ap text (one_settling (to_settles w.to o) t).0)
