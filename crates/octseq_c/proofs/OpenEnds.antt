@@ -1,17 +1,17 @@
 -- Whether octets are nothing or a beginning, as their first fault tells.
-use Rattle.std.specs.Prelude.{is_none, IsTrue, ◌==◌, ◌↔◌}
+use Rattle.std.specs.Prelude.{is_some, IsTrue, not, ◌==◌, ◌↔◌}
 use Rattle.std.proofs.Common.{Bool, true, false, ◌≡◌, ◌≢◌, ℕ, ◌≤◌, List, [], ◌∷◌, ◌++◌, length, refl, arith}
 use Rattle.std.proofs.Common.{◌⊎◌, inl, inr, ⊎_elim, ap, sym, ◌∙◌, subst, length-append, Option, Some, None}
 use Rattle.std.proofs.lemmas.Bool.{eqb-true}
-use Rattle.std.proofs.lemmas.List.{append-nil}
+use Rattle.std.proofs.lemmas.List.{append-nil, nil_from_length}
 use Rattle.octseq_utf8.specs.Fault.{Fault, IsFault, IsFaultSize}
 use Rattle.octseq_utf8.specs.Parts.{IsBeginning}
 use Rattle.octseq_utf8.specs.Text.{IsWellFormed}
+use Rattle.octseq_utf8.proofs.ByChunk.{tests_none}
 use Rattle.octseq_utf8.proofs.Faults.{fault_refutes, one_fault}
 use Rattle.octseq_utf8.proofs.Spelling.{spells_nothing}
 use Rattle.octseq_utf8.proofs.Splitting.{bad_some}
 use Rattle.octseq_text.proofs.BadParts.{bad_self}
-use Rattle.octseq_text.proofs.Piecewise.{nil_from_length}
 
 -- the fault of a beginning is at its front, and has no size
 pub beginning_fault : (q : List ℕ) → IsBeginning q → IsFault q (record { place = 0; size = None })
@@ -59,18 +59,20 @@ open_well_formed q test e w = (
   ⊎_elim (λ none. e ∙ ap (λ y. length y == 0) none) (λ b. absurd (fault_refutes (beginning_fault q b) w)),
 )
 
-is_none_none : (size : Option ℕ) → is_none size ≡ true → size ≡ None
-is_none_none None h = refl
-is_none_none (Some n) h = absurd (cc)
-
 -- octets with a fault at their front: they are a beginning where it has no size
-pub open_at_front : (q : List ℕ) (fault : Fault) (test : Bool) → IsFault q fault → fault.place ≡ 0
-    → test ≡ is_none fault.size → IsTrue test ↔ ((q ≡ []) ⊎ IsBeginning q)
-open_at_front q fault test f e t = (
-  λ h. inr (fault_beginning q fault f e fault.size (is_none_none fault.size (sym t ∙ h)) f.size),
-  λ b. t ∙ ap (λ fault. is_none fault.size) (begins_by q fault f b),
-)
+pub open_at_front : (q : List ℕ) (fault : Fault) (size : Option ℕ) (test : Bool) → IsFault q fault → fault.place ≡ 0
+    → size ≡ fault.size → is_some size ≡ not test → IsTrue test ↔ ((q ≡ []) ⊎ IsBeginning q)
+open_at_front q fault size test f e same t =
+    let none = tests_none size test t in
+    (
+      λ h. inr (fault_beginning q fault f e fault.size (sym same ∙ none.0 h) f.size),
+      λ b. none.1 (same ∙ ap (λ fault. fault.size) (begins_by q fault f b)),
+    )
 
 -- and with one behind well-formed octets they are none
-pub open_behind : (q : List ℕ) (fault : Fault) → IsFault q fault → fault.place ≢ 0 → ¬ ((q ≡ []) ⊎ IsBeginning q)
-open_behind q fault f n b = n (ap (λ fault. fault.place) (begins_by q fault f b))
+pub open_behind : (q : List ℕ) (fault : Fault) (place : ℕ) → IsFault q fault → place ≡ fault.place → place ≢ 0
+    → IsTrue (place == 0) ↔ ((q ≡ []) ⊎ IsBeginning q)
+open_behind q fault place f e n = (
+  λ t. absurd (n (eqb-true place 0 t)),
+  λ b. absurd (n (e ∙ ap (λ fault. fault.place) (begins_by q fault f b))),
+)

@@ -1,5 +1,6 @@
 -- The text of what is settled, and what becomes of the open end, are the text of the whole.
-use Rattle.std.proofs.Common.{◌≡◌, ◌≢◌, ℕ, List, [], ◌∷◌, ◌++◌, length, refl, arith, ap, sym, ◌∙◌, append_assoc}
+use Rattle.std.specs.Prelude.{◌==◌}
+use Rattle.std.proofs.Common.{Bool, true, false, ◌≡◌, ◌≢◌, ℕ, List, [], ◌∷◌, ◌++◌, length, refl, arith, ap, sym, ◌∙◌, append_assoc}
 use Rattle.std.proofs.lemmas.List.{append-nil}
 use Rattle.std.specs.List.{concat}
 use Rattle.octseq_utf8.specs.Encoding.{encoding_of}
@@ -50,6 +51,7 @@ pub replacement_is : encoding_of 0xFFFD ≡ 0xEF ∷ 0xBF ∷ 0xBD ∷ []
 unfolding encoding_of
 replacement_is = refl
 
-pub replaced : (n : ℕ) → n ≢ 0 → (end : List ℕ) → length end ≡ n → 0xEF ∷ 0xBF ∷ 0xBD ∷ [] ≡ end_text end
-replaced n some [] e = absurd (some (sym e))
-replaced n some (a ∷ end) e = sym replacement_is
+pub replaced : (end : List ℕ) (test : Bool) → test ≡ (length end == 0) → test ≡ false
+    → 0xEF ∷ 0xBF ∷ 0xBD ∷ [] ≡ end_text end
+replaced [] test e f = let no : true ≡ false = sym e ∙ f in absurd (cc)
+replaced (a ∷ end) test e f = sym replacement_is

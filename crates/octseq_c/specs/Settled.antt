@@ -4,13 +4,11 @@ use Rattle.std.specs.Prelude.{◌≡◌, ℕ, ◌+◌, ◌-◌, ◌<◌, ◌≤�
 use Rattle.octseq.specs.Parts.{Part, text}
 use Rattle.octseq.specs.Pieces.{Settles}
 
--- Behind so many octets, the text of what is settled ends at this place, and the open end has so many octets.
-pub record IsMeasured (octets : List ℕ) (before place open_len : ℕ) : Type 0 where
+-- Behind so many octets, the text of what is settled ends at this place, and these are the open end.
+pub record IsMeasured (octets : List ℕ) (before place : ℕ) (open_end : List ℕ) : Type 0 where
   pub settled : List Part
-  pub end : List ℕ
-  pub settles : Settles octets settled end
+  pub settles : Settles octets settled open_end
   pub text_len : place ≡ before + length (text settled)
-  pub end_len : open_len ≡ length end
 
 -- Behind so many octets, the text of what is settled is longer than a size can say.
 pub record IsPastSize (octets : List ℕ) (before : ℕ) : Type 0 where

@@ -20,7 +20,7 @@ pub extern "C" fn octseq_lossy(octets: &[u8], out: &mut [u8], written: &mut usiz
     let Some(extent) = measure(octets, 0) else {
         return TOO_LONG;
     };
-    let end = replacement(extent.end_len);
+    let end = replacement(extent.end);
     let Some(len) = extent.text_len.checked_add(end.len()) else {
         return TOO_LONG;
     };

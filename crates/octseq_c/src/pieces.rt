@@ -85,7 +85,7 @@ pub extern "C" fn octseq_lossy_end(
     let Some(held) = octets_held(state) else {
         return BAD_STATE;
     };
-    let status = put(replacement(held.len()), out, written);
+    let status = put(replacement(held), out, written);
     if status == OK {
         state.len = 0;
     }
@@ -182,15 +182,15 @@ fn plan<'a>(held: &[u8], joined: &'a [u8], piece: &'a [u8]) -> Option<Reading<'a
             front: &joined[..0],
             rest: joined,
             text_len: front.text_len,
-            end: &joined[joined.len() - front.end_len..],
+            end: front.end,
         });
     }
-    let rest = &piece[taken - front.end_len..];
+    let rest = &piece[taken - front.end.len()..];
     let all = measure(rest, front.text_len)?;
     Some(Reading {
         front: joined,
         rest,
         text_len: all.text_len,
-        end: &rest[rest.len() - all.end_len..],
+        end: all.end,
     })
 }

@@ -10,26 +10,26 @@ use octseq::utf8::chunks;
 /// U+FFFD, which is written for each maximal ill-formed part.
 const REPLACEMENT: &[u8] = b"\xEF\xBF\xBD";
 
-/// How long the text of what is settled is, and the open end.
+/// How long the text of what is settled is, and what is open.
 #[derive(Clone, Copy)]
-pub struct Extent {
+pub struct Extent<'a> {
     /// Where the text ends.
     pub text_len: usize,
-    /// How many octets at the end begin a character that isn't whole yet.
-    pub end_len: usize,
+    /// The octets at the end that begin a character which isn't whole yet.
+    pub end: &'a [u8],
 }
 
 /// Measures the text of what is settled, behind so many octets. `None` where a size can't say how long it is.
-pub fn measure(octets: &[u8], before: usize) -> Option<Extent>
-    ensures measured { IfSome result (λ extent. IsMeasured octets.now before extent.text_len extent.end_len) }
+pub fn measure(octets: &[u8], before: usize) -> Option<Extent<'_>>
+    ensures measured { IfSome result (λ extent. IsMeasured octets.now before extent.text_len extent.end.now) }
     ensures past { IfNone result (IsPastSize octets.now before) }
 {
     let mut text_len = before;
     for chunk in chunks(octets) {
         text_len = text_len.checked_add(chunk.valid().len())?;
         if chunk.is_incomplete() {
-            let end_len = chunk.invalid().len();
-            return Some(Extent { text_len, end_len });
+            let end = chunk.invalid();
+            return Some(Extent { text_len, end });
         }
         if !chunk.invalid().is_empty() {
             text_len = text_len.checked_add(REPLACEMENT.len())?;
@@ -37,7 +37,7 @@ pub fn measure(octets: &[u8], before: usize) -> Option<Extent>
     }
     Some(Extent {
         text_len,
-        end_len: 0,
+        end: &octets[..0],
     })
 }
 
@@ -74,8 +74,8 @@ pub fn put_at(out: &mut [u8], at: usize, octets: &[u8]) -> usize
 }
 
 /// What is written for an open end that nothing follows.
-pub fn replacement(end_len: usize) -> &'static [u8]
-    ensures { (end : List ℕ) → length end ≡ end_len → result.now ≡ end_text end }
+pub fn replacement(end: &[u8]) -> &'static [u8]
+    ensures { result.now ≡ end_text end.now }
 {
-    if end_len == 0 { b"" } else { REPLACEMENT }
+    if end.is_empty() { b"" } else { REPLACEMENT }
 }

@@ -17,7 +17,7 @@ returns-then-is_incomplete-clause-measured c =
     let cut = sym c.is_incomplete.ensures ∙ c.if-is_incomplete.true in
     let long = c.in_ok-text_len.ensures.1 ∙ ap (λ y. c.loop-chunk.text_len + length y) c.valid.ensures in
     let all = to_more c.in-Some.chunk.valid c.loop-chunk.invariant (read_to_end _ _ _ gives cut) long in
-    rw c.invalid-end_len.ensures (measured all (λ some. (gives.cut.0 cut).0))
+    rw c.invalid-end.ensures (measured all (λ some. (gives.cut.0 cut).0))
 
 pub returns-in_err-text_len-2-clause-past : goal.returns-in_err-text_len-2-clause-past
 returns-in_err-text_len-2-clause-past c =

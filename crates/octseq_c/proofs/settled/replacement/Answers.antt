@@ -1,5 +1,5 @@
 use Rattle.octseq_c.proofs.Wholes.{replaced}
 use Rattle.octseq_c.proofs.settled.replacement.Goals as goal
 
-pub returns-else-end_len-eq0 : goal.returns-else-end_len-eq0
-returns-else-end_len-eq0 c = replaced c.args.end_len c.if-end_len-eq0.false
+pub returns-else-is_empty : goal.returns-else-is_empty
+returns-else-is_empty c = replaced c.args.end.now c.is_empty.result c.is_empty.ensures c.if-is_empty.false
