@@ -82,6 +82,7 @@ reading_used held joined piece {end} k e all m = record {
   rest = m.settles;
   all = subst (λ y. Settles y m.settled end) (sym (used_up held joined piece k e all)) m.settles;
   text_len = m.text_len;
+  fits = m.fits;
 }
 
 -- where some of the piece is left, the open end is in the piece
@@ -127,6 +128,7 @@ reading_on {x} {rest = rest} {end} {last} m r more =
       all = reads_settles x last (m.settled ++ more.settled)
           (reads_then x rest last m.settled more.settled r (settles_reads more.settles)) (settles_end more.settles);
       text_len = omega arith;
+      fits = more.fits;
     }
 
 -- where what was read is too long, so is what is settled

@@ -64,11 +64,13 @@ room_more more h s r = room_to h (to_more more s r refl)
 to_settles : {x end : List ℕ} {before a : ℕ} → (s : ReadsTo x end before a) → IsOpenEnd end → Settles x s.read.parts end
 to_settles {x} {end} s o = reads_settles x end s.read.parts s.read.reads o
 
-pub measured : {x end : List ℕ} {before a : ℕ} → ReadsTo x end before a → IsOpenEnd end → IsMeasured x before a end
-measured {before = before} s o = record {
+pub measured : {x end : List ℕ} {before a : ℕ} → ReadsTo x end before a → IsOpenEnd end → a < 2 ^ 64
+    → IsMeasured x before a end
+measured {before = before} s o few = record {
   settled = s.read.parts;
   settles = to_settles s o;
   text_len = s.len ∙ ap (λ y. before + length y) s.read.grown;
+  fits = few;
 }
 
 -- Of octets a text was written to a room, behind what was in front.

@@ -1,14 +1,15 @@
 -- What calls tell of the texts that they write.
 use Rattle.std.specs.Prelude.{◌↔◌}
-use Rattle.std.proofs.Common.{◌≡◌, ◌≢◌, ℕ, ◌+◌, ◌-◌, ◌<◌, ◌≤◌, ◌^◌, List, [], ◌++◌, length, take, drop, refl, arith}
-use Rattle.std.proofs.Common.{ap, sym, ◌∙◌, subst, length-append}
-use Rattle.octseq_utf8.specs.Parts.{Part, text}
+use Rattle.std.proofs.Common.{◌≡◌, ◌≢◌, ℕ, ◌+◌, ◌-◌, ◌<◌, ◌≤◌, ◌^◌, List, [], ◌∷◌, ◌++◌, length, take, drop, refl, arith}
+use Rattle.std.proofs.Common.{ap, sym, ◌∙◌, subst, length-append, ◌⊎◌, inl, inr}
+use Rattle.octseq_utf8.specs.Parts.{IsBeginning, Part, text}
 use Rattle.octseq_text.specs.Pieces.{Settles}
-use Rattle.octseq_text.proofs.Settling.{one_settling, text-append}
-use Rattle.octseq_c.specs.LossyText.{IsLossyText, IsSettledText, end_text}
+use Rattle.octseq_text.specs.Progress.{IsOpenEnd}
+use Rattle.octseq_text.proofs.Settling.{one_settling, settles_end, text-append}
+use Rattle.octseq_c.specs.LossyText.{IsLossyText, IsSettledText, IsState, end_text, held}
 use Rattle.octseq_c.specs.Puts.{Fills, Puts}
 use Rattle.octseq_c.specs.Settled.{IsMeasured, IsPastSize, IsReading}
-use Rattle.octseq_c.specs.Status.{status_ok, status_no_room, status_too_long}
+use Rattle.octseq_c.specs.declared.pieces.LossyState.{LossyState}
 use Rattle.octseq_c.proofs.Placed.{placed_more}
 use Rattle.octseq_c.proofs.Wholes.{whole_text}
 
@@ -103,3 +104,16 @@ settled_made {end = end} r = (r.before ++ r.more, end, r.all, sym (text-append r
 pub settled_len : {x some others end : List ℕ} {len : ℕ} (r : IsReading x some others end len)
     → len ≡ length (text r.before ++ text r.more)
 settled_len r = r.text_len ∙ sym (length-append (text r.before) (text r.more))
+
+-- the state that a call leaves
+
+pub open_or : (q : List ℕ) → IsOpenEnd q → (q ≡ []) ⊎ IsBeginning q
+open_or [] o = inl refl
+open_or (a ∷ q) o = inr (o (λ e. let long = ap length e in absurd (omega arith)))
+
+pub state_left : {x q : List ℕ} {settled : List Part} (state : LossyState) → Settles x settled q → state.len ≤ 3
+    → held state ≡ q → IsState state × ((others : List Part) (end : List ℕ) → Settles x others end → held state ≡ end)
+state_left {q = q} state s few e = (
+  (few, subst (λ y. (y ≡ []) ⊎ IsBeginning y) (sym e) (open_or q (settles_end s))),
+  λ others end t. e ∙ (one_settling s t).1,
+)

@@ -9,6 +9,7 @@ pub record IsMeasured (octets : List ℕ) (before place : ℕ) (open_end : List 
   pub settled : List Part
   pub settles : Settles octets settled open_end
   pub text_len : place ≡ before + length (text settled)
+  pub fits : place < 2 ^ 64
 
 -- Behind so many octets, the text of what is settled is longer than a size can say.
 pub record IsPastSize (octets : List ℕ) (before : ℕ) : Type 0 where
@@ -34,6 +35,7 @@ pub record IsReading (octets some others open_end : List ℕ) (size : ℕ) : Typ
   pub rest : Settles others more open_end
   pub all : Settles octets (before ++ more) open_end
   pub text_len : size ≡ length (text before) + length (text more)
+  pub fits : size < 2 ^ 64
 
 -- how many octets of a piece are joined to those that are held: none where nothing is
 abbrev pub joined_len : List ℕ → List ℕ → ℕ
