@@ -1,7 +1,7 @@
 -- Whether octets are nothing or a beginning, as their first fault tells.
 use Rattle.std.specs.Prelude.{is_some, IsTrue, not, ◌==◌, ◌↔◌}
-use Rattle.std.proofs.Common.{Bool, true, false, ◌≡◌, ◌≢◌, ℕ, ◌≤◌, List, [], ◌∷◌, ◌++◌, length, refl, arith}
-use Rattle.std.proofs.Common.{◌⊎◌, inl, inr, ⊎_elim, ap, sym, ◌∙◌, subst, length-append, Option, Some, None}
+use Rattle.std.proofs.Common.{Bool, ◌≡◌, ◌≢◌, ℕ, List, [], ◌++◌, length, refl, arith}
+use Rattle.std.proofs.Common.{◌⊎◌, inl, inr, ⊎_elim, ap, sym, ◌∙◌, subst, length-append, Option, None}
 use Rattle.std.proofs.lemmas.Bool.{eqb-true}
 use Rattle.std.proofs.lemmas.List.{append-nil, nil_from_length}
 use Rattle.octseq_utf8.specs.Fault.{Fault, IsFault, IsFaultSize}
@@ -63,8 +63,7 @@ open_well_formed q test e w = (
 pub open_at_front : (q : List ℕ) (fault : Fault) (size : Option ℕ) (test : Bool) → IsFault q fault → fault.place ≡ 0
     → size ≡ fault.size → is_some size ≡ not test → IsTrue test ↔ ((q ≡ []) ⊎ IsBeginning q)
 open_at_front q fault size test f e same t =
-    let none = tests_none size test t in
-    (
+    let none = tests_none size test t in (
       λ h. inr (fault_beginning q fault f e fault.size (sym same ∙ none.0 h) f.size),
       λ b. none.1 (same ∙ ap (λ fault. fault.size) (begins_by q fault f b)),
     )

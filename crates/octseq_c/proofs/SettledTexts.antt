@@ -1,13 +1,13 @@
 -- The text of what is settled of octets, as it is measured and written, chunk by chunk.
-use Rattle.std.specs.Prelude.{IsTrue}
-use Rattle.std.proofs.Common.{◌≡◌, ℕ, ◌+◌, ◌-◌, ◌<◌, ◌≤◌, ◌^◌, List, [], ◌∷◌, ◌++◌, subst, length, take, drop, min, refl, arith}
+use Rattle.std.specs.Prelude.{◌==◌}
+use Rattle.std.proofs.Common.{Bool, false, ◌≡◌, ℕ, ◌+◌, ◌-◌, ◌<◌, ◌≤◌, ◌^◌, List, [], ◌∷◌, ◌++◌, subst, length, take, drop, refl, arith}
 use Rattle.std.proofs.Common.{ap, sym, ◌∙◌, append_assoc, length-append, length-take}
 use Rattle.std.proofs.lemmas.List.{append-nil, take-append-drop}
 use Rattle.octseq_utf8.specs.Chunk.{Chunk, IsFirstChunk}
 use Rattle.octseq_utf8.specs.Parts.{Part, text}
 use Rattle.octseq_text.specs.Pieces.{Settles}
 use Rattle.octseq_text.specs.Progress.{IsRead, IsOpenEnd}
-use Rattle.octseq_text.proofs.Piecewise.{read_invalid, read_none, read_then}
+use Rattle.octseq_text.proofs.Piecewise.{not_so, read_invalid, read_none, read_then, some_of}
 use Rattle.octseq_text.proofs.Settling.{one_settling, reads_settles, settling, text_read}
 use Rattle.octseq_c.specs.Settled.{HasRoom, IsMeasured, IsPastSize}
 use Rattle.octseq_c.proofs.Placed.{placed_more}
@@ -30,12 +30,14 @@ to_more more s r e = record {
   len = let len = s.len in omega (arith, length-append s.made more);
 }
 
--- at a chunk whose bad part isn't an open end, U+FFFD is read behind its text
+-- at a chunk whose bad part isn't an open end, as tests tell, U+FFFD is read behind its text
 pub read_mark : (x : List ℕ) (chunk : Chunk) (behind : List ℕ) → IsFirstChunk x chunk behind
-    → ¬ IsTrue chunk.incomplete → 1 ≤ length chunk.invalid
+    → (cut : Bool) → cut ≡ chunk.incomplete → cut ≡ false
+    → (bad : List ℕ) (none : Bool) → bad ≡ chunk.invalid → none ≡ (length bad == 0) → none ≡ false
     → (a : List ℕ) → IsRead (chunk.invalid ++ behind) behind a (a ++ 0xEF ∷ 0xBF ∷ 0xBD ∷ [])
-read_mark x chunk behind c n some a =
-    subst (λ y. IsRead (chunk.invalid ++ behind) behind a (a ++ y)) replacement_is (read_invalid x chunk behind c n some a)
+read_mark x chunk behind c cut e uncut bad none same test some a =
+    subst (λ y. IsRead (chunk.invalid ++ behind) behind a (a ++ y)) replacement_is
+    (read_invalid x chunk behind c (not_so chunk.incomplete cut e uncut) (some_of chunk.invalid bad none same test some) a)
 
 -- what was read is no longer than what is settled
 to_within : {x y : List ℕ} {before a : ℕ} → ReadsTo x y before a → (settled : List Part) (end : List ℕ)

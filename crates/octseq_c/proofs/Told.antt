@@ -69,8 +69,7 @@ fits one items is few (made, other, long) = omega (arith, ap length (one items m
 
 pub lossy_past : {x : List ℕ} → IsPastSize x 0 → (made : List ℕ) × IsLossyText x made × (2 ^ 64 - 1 < length made)
 lossy_past p =
-    let past = p.past in
-    (
+    let past = p.past in (
       text p.settled ++ end_text p.end,
       whole_text p.settles,
       omega (arith, length-append (text p.settled) (end_text p.end)),

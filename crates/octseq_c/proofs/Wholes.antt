@@ -4,13 +4,13 @@ use Rattle.std.proofs.Common.{Bool, true, false, ◌≡◌, ◌≢◌, ℕ, List
 use Rattle.std.proofs.lemmas.List.{append-nil}
 use Rattle.std.specs.List.{concat}
 use Rattle.octseq_utf8.specs.Encoding.{encoding_of}
-use Rattle.octseq_utf8.specs.Parts.{Part, Bad, Splits, text}
+use Rattle.octseq_utf8.specs.Parts.{Part, Bad, text}
 use Rattle.octseq_utf8.specs.Reading.{parts_of}
-use Rattle.octseq_utf8.proofs.Splitting.{only_parts, parts_nil, one_splitting}
+use Rattle.octseq_utf8.proofs.Splitting.{parts_nil, one_splitting}
 use Rattle.octseq_text.specs.Pieces.{Settles, open_end, no_end}
 use Rattle.octseq_text.specs.Progress.{IsOpenEnd}
 use Rattle.octseq_text.proofs.BadParts.{parts_self}
-use Rattle.octseq_text.proofs.Settling.{settles_reads, settles_end, text-append, snoc_some}
+use Rattle.octseq_text.proofs.Settling.{settles_reads, settles_end, text-append}
 use Rattle.octseq_c.specs.LossyText.{IsLossyText, IsTextOfPieces, end_text}
 
 -- what is written for an open end is the text of its parts

@@ -1,4 +1,4 @@
-use Rattle.std.proofs.Common.{refl, arith, ap, sym, ◌∙◌, ◌≡◌, ◌<◌, ◌^◌, length, ◌++◌, ◌≢◌}
+use Rattle.std.proofs.Common.{arith, ◌∙◌, ◌++◌}
 use Rattle.octseq_utf8.specs.Parts.{text}
 use Rattle.octseq_c.specs.LossyText.{IsLossyText}
 use Rattle.octseq_c.proofs.Told.{puts_ok, puts_no_room, puts_none, fills_both, told, not_told, fits}

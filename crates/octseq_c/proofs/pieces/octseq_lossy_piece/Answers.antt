@@ -1,4 +1,4 @@
-use Rattle.std.proofs.Common.{refl, arith, ap, sym, ◌∙◌, ◌++◌, take, drop}
+use Rattle.std.proofs.Common.{arith, ap, ◌∙◌, ◌++◌, take, drop}
 use Rattle.octseq_utf8.specs.Parts.{text}
 use Rattle.octseq_c.specs.LossyText.{IsSettledText, held}
 use Rattle.octseq_c.proofs.Readings.{end_few}

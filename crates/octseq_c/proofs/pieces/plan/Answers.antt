@@ -1,4 +1,4 @@
-use Rattle.std.proofs.Common.{refl, ◌-◌, length}
+use Rattle.std.proofs.Common.{refl}
 use Rattle.octseq_utf8.proofs.Faults.{rest_of}
 use Rattle.octseq_c.proofs.Readings.{reading_used, open_within, reads_on, reading_on, past_front, past_on}
 use Rattle.octseq_c.proofs.pieces.plan.Goals as goal

@@ -1,5 +1,5 @@
-use Rattle.std.proofs.Common.{rules, ◌≡◌, ◌+◌, ◌≤◌, [], ◌∷◌, length, refl, arith, ap, sym, ◌∙◌, subst}
-use Rattle.octseq_text.proofs.Piecewise.{read_valid, read_chunk, read_to_end, not_so}
+use Rattle.std.proofs.Common.{rules, ◌≡◌, [], ◌∷◌, length, refl, arith, ap, sym, ◌∙◌, subst}
+use Rattle.octseq_text.proofs.Piecewise.{read_valid, read_chunk, read_to_end}
 use Rattle.octseq_c.proofs.SettledTexts.{WritesTo, writes_start, writes_more, read_mark, room_more, written_to, written}
 use Rattle.octseq_c.proofs.settled.fill.Goals as goal
 
@@ -17,25 +17,21 @@ put_at-at-requires c =
 pub put_at-at-requires-then-not-is_empty : goal.put_at-at-requires-then-not-is_empty
 put_at-at-requires-then-not-is_empty c =
     let gives = c.in-Some.ensures.steps in
-    let uncut = not_so c.in-Some.chunk.incomplete c.is_incomplete.result c.is_incomplete.ensures c.if-is_incomplete.false
-    in
-    let some : 1 ≤ length c.in-Some.chunk.invalid = search rules in
     let bytes = c.as_bytes.ensures.value ∙ c.valid.ensures in
     let valid = writes_more c.in-Some.chunk.valid _ bytes c.requires c.loop-chunk.invariant (read_valid _ _ _ gives)
     c.put_at-at.ensures.end c.put_at-at.ensures.octets in
-    let within = room_more (0xEF ∷ 0xBF ∷ 0xBD ∷ []) c.requires valid.to (read_mark _ _ _ gives uncut some) in
+    let within = room_more (0xEF ∷ 0xBF ∷ 0xBD ∷ []) c.requires valid.to (read_mark _ _ _ gives _ c.is_incomplete.ensures
+    c.if-is_incomplete.false _ _ c.invalid.ensures c.is_empty.ensures c.if-not-is_empty.true) in
     omega (arith, within)
 
 pub loop-chunk-preserved-then-not-is_empty : goal.loop-chunk-preserved-then-not-is_empty
 loop-chunk-preserved-then-not-is_empty c =
     let gives = c.in-Some.ensures.steps in
-    let uncut = not_so c.in-Some.chunk.incomplete c.is_incomplete.result c.is_incomplete.ensures c.if-is_incomplete.false
-    in
-    let some : 1 ≤ length c.in-Some.chunk.invalid = search rules in
     let bytes = c.as_bytes.ensures.value ∙ c.valid.ensures in
     let valid = writes_more c.in-Some.chunk.valid _ bytes c.requires c.loop-chunk.invariant (read_valid _ _ _ gives)
     c.put_at-at.ensures.end c.put_at-at.ensures.octets in
-    writes_more (0xEF ∷ 0xBF ∷ 0xBD ∷ []) _ refl c.requires valid (read_mark _ _ _ gives uncut some)
+    writes_more (0xEF ∷ 0xBF ∷ 0xBD ∷ []) _ refl c.requires valid (read_mark _ _ _ gives _ c.is_incomplete.ensures
+    c.if-is_incomplete.false _ _ c.invalid.ensures c.is_empty.ensures c.if-not-is_empty.true)
     c.put_at-at-then-not-is_empty.ensures.end c.put_at-at-then-not-is_empty.ensures.octets
 
 pub loop-chunk-preserved : goal.loop-chunk-preserved

@@ -1,5 +1,5 @@
-use Rattle.std.proofs.Common.{rules, ◌≡◌, ◌+◌, ◌≤◌, [], ◌∷◌, length, refl, arith, ap, sym, ◌∙◌, subst}
-use Rattle.octseq_text.proofs.Piecewise.{read_valid, read_chunk, read_to_end, not_so}
+use Rattle.std.proofs.Common.{rules, ◌≡◌, ◌+◌, [], ◌∷◌, length, refl, arith, ap, sym, ◌∙◌, subst}
+use Rattle.octseq_text.proofs.Piecewise.{read_valid, read_chunk, read_to_end}
 use Rattle.octseq_c.proofs.SettledTexts.{ReadsTo, to_start, to_more, read_mark, past_size, measured}
 use Rattle.octseq_c.proofs.settled.measure.Goals as goal
 
@@ -23,24 +23,20 @@ returns-then-is_incomplete-clause-measured c =
 pub returns-in_err-text_len-2-clause-past : goal.returns-in_err-text_len-2-clause-past
 returns-in_err-text_len-2-clause-past c =
     let gives = c.in-Some.ensures.steps in
-    let uncut = not_so c.in-Some.chunk.incomplete c.is_incomplete.result c.is_incomplete.ensures c.if-is_incomplete.false
-    in
-    let some : 1 ≤ length c.in-Some.chunk.invalid = search rules in
     let long = c.in_ok-text_len.ensures.1 ∙ ap (λ y. c.loop-chunk.text_len + length y) c.valid.ensures in
     let valid = to_more c.in-Some.chunk.valid c.loop-chunk.invariant.read (read_valid _ _ _ gives) long in
-    let all = to_more (0xEF ∷ 0xBF ∷ 0xBD ∷ []) valid (read_mark _ _ _ gives uncut some) refl in
+    let all = to_more (0xEF ∷ 0xBF ∷ 0xBD ∷ []) valid (read_mark _ _ _ gives _ c.is_incomplete.ensures
+    c.if-is_incomplete.false _ _ c.invalid.ensures c.is_empty.ensures c.if-not-is_empty.true) refl in
     rw c.from_residual-in_err-text_len-2.ensures (past_size all (omega (arith, c.in_err-text_len-2.ensures)))
 
 pub loop-chunk-preserved-then-not-is_empty : goal.loop-chunk-preserved-then-not-is_empty
 loop-chunk-preserved-then-not-is_empty c =
     let gives = c.in-Some.ensures.steps in
-    let uncut = not_so c.in-Some.chunk.incomplete c.is_incomplete.result c.is_incomplete.ensures c.if-is_incomplete.false
-    in
-    let some : 1 ≤ length c.in-Some.chunk.invalid = search rules in
     let long = c.in_ok-text_len.ensures.1 ∙ ap (λ y. c.loop-chunk.text_len + length y) c.valid.ensures in
     let valid = to_more c.in-Some.chunk.valid c.loop-chunk.invariant.read (read_valid _ _ _ gives) long in
     record {
-      read = to_more (0xEF ∷ 0xBF ∷ 0xBD ∷ []) valid (read_mark _ _ _ gives uncut some) c.in_ok-text_len-2.ensures.1;
+      read = to_more (0xEF ∷ 0xBF ∷ 0xBD ∷ []) valid (read_mark _ _ _ gives _ c.is_incomplete.ensures
+          c.if-is_incomplete.false _ _ c.invalid.ensures c.is_empty.ensures c.if-not-is_empty.true) c.in_ok-text_len-2.ensures.1;
       fits = omega (arith, c.in_ok-text_len-2.ensures);
     }
 
