@@ -68,7 +68,7 @@ open_at_front q fault size test f e same t =
       λ b. none.1 (same ∙ ap (λ fault. fault.size) (begins_by q fault f b)),
     )
 
--- and with one behind well-formed octets they are none
+-- and with one after well-formed octets they are none
 pub open_behind : (q : List ℕ) (fault : Fault) (place : ℕ) → IsFault q fault → place ≡ fault.place → place ≢ 0
     → IsTrue (place == 0) ↔ ((q ≡ []) ⊎ IsBeginning q)
 open_behind q fault place f e n = (

@@ -13,7 +13,7 @@ use Rattle.octseq_c.specs.Settled.{HasRoom, IsMeasured, IsPastSize}
 use Rattle.octseq_c.proofs.Placed.{placed_more}
 use Rattle.octseq_c.proofs.Wholes.{replacement_is}
 
--- Of octets a text was read. Behind others, it ends at this place.
+-- Of octets a text was read. After others, it ends at this place.
 pub record ReadsTo (octets rest : List ℕ) (before place : ℕ) : Type 0 where
   pub made : List ℕ
   pub read : IsRead octets rest [] made
@@ -30,7 +30,7 @@ to_more more s r e = record {
   len = let len = s.len in omega (arith, length-append s.made more);
 }
 
--- at a chunk whose bad part isn't an open end, as tests tell, U+FFFD is read behind its text
+-- at a chunk whose bad part isn't an open end, as tests tell, U+FFFD is read after its text
 pub read_mark : (x : List ℕ) (chunk : Chunk) (behind : List ℕ) → IsFirstChunk x chunk behind
     → (cut : Bool) → cut ≡ chunk.incomplete → cut ≡ false
     → (bad : List ℕ) (none : Bool) → bad ≡ chunk.invalid → none ≡ (length bad == 0) → none ≡ false
@@ -75,7 +75,7 @@ measured {before = before} s o few = record {
   fits = few;
 }
 
--- Of octets a text was written to a room, behind what was in front.
+-- Of octets a text was written to a room, after what was in front.
 pub record WritesTo (octets rest : List ℕ) (before : ℕ) (old new : List ℕ) (place : ℕ) : Type 0 where
   pub to : ReadsTo octets rest before place
   pub room : new ≡ (take before old ++ to.made) ++ drop place old

@@ -44,7 +44,7 @@ puts_none Is status m n one = record {
   one = one;
 }
 
--- a text at the front of a room, and then another behind it
+-- a text at the front of a room, and then another after it
 pub fills_both : (old mid new front more : List ℕ) (place : ℕ) → place ≡ length front → mid ≡ front ++ drop place old
     → new ≡ (take place mid ++ more) ++ drop (place + length more) mid → Fills (front ++ more) old new
 fills_both old mid new front more place e m n =

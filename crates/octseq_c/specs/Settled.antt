@@ -4,21 +4,21 @@ use Rattle.std.specs.Prelude.{◌≡◌, ℕ, ◌+◌, ◌-◌, ◌<◌, ◌≤�
 use Rattle.octseq.specs.Parts.{Part, text}
 use Rattle.octseq.specs.Pieces.{Settles}
 
--- Behind so many octets, the text of what is settled ends at this place, and these are the open end.
+-- After so many octets, the text of what is settled ends at this place, and these are the open end.
 pub record IsMeasured (octets : List ℕ) (before place : ℕ) (open_end : List ℕ) : Type 0 where
   pub settled : List Part
   pub settles : Settles octets settled open_end
   pub text_len : place ≡ before + length (text settled)
   pub fits : place < 2 ^ 64
 
--- Behind so many octets, the text of what is settled is longer than a size can say.
+-- After so many octets, the text of what is settled is longer than a size can say.
 pub record IsPastSize (octets : List ℕ) (before : ℕ) : Type 0 where
   pub settled : List Part
   pub end : List ℕ
   pub settles : Settles octets settled end
   pub past : 2 ^ 64 - 1 < before + length (text settled)
 
--- Behind so many octets, a room has space for the text of what is settled.
+-- After so many octets, a room has space for the text of what is settled.
 pub record HasRoom (octets : List ℕ) (before room : ℕ) : Type 0 where
   pub settled : List Part
   pub end : List ℕ

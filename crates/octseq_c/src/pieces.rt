@@ -1,14 +1,13 @@
 //! The same for octets that come in pieces, with a state that the caller keeps.
-ghost use Rattle.std.specs.Prelude.{◌≡◌, ◌≢◌, ◌↔◌, ◌<◌, ◌^◌, ◌-◌, ◌⊎◌, ◌++◌, ℕ, List, [], length};
-ghost use Rattle.octseq.specs.Parts.{Part, Splits, text};
+ghost use Rattle.std.specs.Prelude.{◌≡◌, ◌≢◌, ◌↔◌, ◌<◌, ◌≤◌, ◌^◌, ◌-◌, ◌⊎◌, ◌++◌, ℕ, List, [], length, take};
+ghost use Rattle.std.specs.Prelude.{IsTrue, IsSome, IfSome, IfNone};
+ghost use Rattle.std.specs.List.{concat};
+ghost use Rattle.octseq.specs.Parts.{IsBeginning, Part, Splits, text};
 ghost use Rattle.octseq.specs.Pieces.{Settles};
 ghost use Rattle.octseq_c.specs.LossyText.{IsSettledText, IsState, IsTextOfPieces, end_text, held};
 ghost use Rattle.octseq_c.specs.Puts.{Puts};
-ghost use Rattle.octseq_c.specs.Status.{status_ok, status_no_room, status_too_long, status_bad_state};
-ghost use Rattle.std.specs.Prelude.{◌≤◌, IsTrue, IsSome, IfSome, IfNone, take};
-ghost use Rattle.std.specs.List.{concat};
-ghost use Rattle.octseq.specs.Parts.{IsBeginning};
 ghost use Rattle.octseq_c.specs.Settled.{IsPastSize, IsReading, joined_len};
+ghost use Rattle.octseq_c.specs.Status.{status_ok, status_no_room, status_too_long, status_bad_state};
 
 use crate::room::put;
 use crate::settled::{fill, measure, replacement};
@@ -145,7 +144,7 @@ fn holding(end: &[u8]) -> LossyState
 /// How many octets of a piece are joined to those that are held.
 const JOINED: usize = 13;
 
-/// The octets that are held, and some of the piece behind them. Where nothing is held, nothing is joined.
+/// The octets that are held, and some of the piece after them. Where nothing is held, nothing is joined.
 fn join(held: &[u8], piece: &[u8]) -> Array<16>
     requires { length held.now ≤ 3 }
     ensures { result.content ≡ held.now ++ take (joined_len held.now piece.now) piece.now }

@@ -19,7 +19,7 @@ pub struct Extent<'a> {
     pub end: &'a [u8],
 }
 
-/// Measures the text of what is settled, behind so many octets. `None` where a size can't say how long it is.
+/// Measures the text of what is settled, after so many octets. `None` where a size can't say how long it is.
 pub fn measure(octets: &[u8], before: usize) -> Option<Extent<'_>>
     ensures measured { IfSome result (λ extent. IsMeasured octets.now before extent.text_len extent.end.now) }
     ensures past { IfNone result (IsPastSize octets.now before) }
