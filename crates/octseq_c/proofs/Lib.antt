@@ -1,2 +1,9 @@
+pub mod OneNames
+pub mod OpenEnds
 pub mod OwnText
+pub mod Placed
 pub mod Puts
+pub mod Readings
+pub mod SettledTexts
+pub mod Told
+pub mod Wholes

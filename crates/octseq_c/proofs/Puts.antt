@@ -25,14 +25,15 @@ module _ {A : Type 0} (Is : List A → Type 0) {old new : List A} {count : ℕ}
     one = one;
   }
 
-  -- none were written, for another reason
-  pub puts_none : (status : ℕ) → status ≢ 0 → status ≢ 1 → count ≡ 0 → Puts Is status old new count
-  puts_none status m n zero = record {
-    ok = λ e. absurd (m e);
-    no_room = λ e. absurd (n e);
-    nothing = λ e f. zero;
-    one = one;
-  }
+-- none were written, for another reason
+pub puts_none : {A : Type 0} (Is : List A → Type 0) {old new : List A} (status : ℕ) → status ≢ 0 → status ≢ 1
+    → ((items others : List A) → Is items → Is others → items ≡ others) → Puts Is status old new 0
+puts_none Is status m n one = record {
+  ok = λ e. absurd (m e);
+  no_room = λ e. absurd (n e);
+  nothing = λ e f. refl;
+  one = one;
+}
 
 -- what a call of another list of the same items tells
 pub puts_as : {A : Type 0} {Is Other : List A → Type 0} {status count : ℕ} {old new : List A}

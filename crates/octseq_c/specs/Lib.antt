@@ -1,8 +1,9 @@
+pub mod LossyText
 pub mod Made
 pub mod Order
 pub mod OwnText
 pub mod Puts
 pub mod Rows
+pub mod Settled
 pub mod Status
 pub mod Texts
-pub mod LossyText

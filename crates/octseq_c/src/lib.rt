@@ -4,10 +4,13 @@
 
 mod data;
 mod header;
+mod lossy;
 mod names;
 mod numbers;
+mod pieces;
 mod room;
 mod rows;
+mod settled;
 mod shown;
 mod status;
 mod text;

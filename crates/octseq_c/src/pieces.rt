@@ -1,10 +1,21 @@
 //! The same for octets that come in pieces, with a state that the caller keeps.
-ghost use Rattle.std.specs.Prelude.{◌≡◌, ◌≢◌, ◌↔◌, ◌<◌, ◌^◌, ◌-◌, ◌⊎◌, ◌++◌, ℕ, List, [], length};
-ghost use Rattle.octseq.specs.Parts.{Part, Splits, text};
+ghost use Rattle.std.specs.Prelude.{◌≡◌, ◌≢◌, ◌↔◌, ◌<◌, ◌≤◌, ◌^◌, ◌-◌, ◌⊎◌, ◌++◌, ℕ, List, [], length, take};
+ghost use Rattle.std.specs.Prelude.{IsTrue, IsSome, IfSome, IfNone};
+ghost use Rattle.std.specs.List.{concat};
+ghost use Rattle.octseq.specs.Parts.{IsBeginning, Part, Splits, text};
 ghost use Rattle.octseq.specs.Pieces.{Settles};
 ghost use Rattle.octseq_c.specs.LossyText.{IsSettledText, IsState, IsTextOfPieces, end_text, held};
 ghost use Rattle.octseq_c.specs.Puts.{Puts};
+ghost use Rattle.octseq_c.specs.Settled.{IsPastSize, IsReading, joined_len};
 ghost use Rattle.octseq_c.specs.Status.{status_ok, status_no_room, status_too_long, status_bad_state};
+
+use crate::room::put;
+use crate::settled::{fill, measure, replacement};
+use crate::status::{BAD_STATE, NO_ROOM, OK, TOO_LONG};
+use octseq::array::Array;
+use octseq::builder::{OctetsBuilder, infallible};
+use octseq::utf8::find_fault;
+use std::cmp::min;
 
 /// What a reading in pieces keeps between two of them: the octets of a character that isn't whole yet.
 #[repr(C)]
@@ -36,6 +47,22 @@ pub extern "C" fn octseq_lossy_piece(
     ensures kept { result ≢ status_ok → (out.new ≡ out.old) × (state.new ≡ state.old) }
     ensures nothing { result ≢ status_ok → result ≢ status_no_room → written.new ≡ 0 }
 {
+    *written = 0;
+    let Some(held) = octets_held(state) else {
+        return BAD_STATE;
+    };
+    let joined = join(held, piece);
+    let Some(reading) = plan(held, joined.as_slice(), piece) else {
+        return TOO_LONG;
+    };
+    *written = reading.text_len;
+    if reading.text_len > out.len() {
+        return NO_ROOM;
+    }
+    let at = fill(out, 0, reading.front);
+    fill(out, at, reading.rest);
+    *state = holding(reading.end);
+    OK
 }
 
 /// The text of what is left once no piece follows, at the front of `out`.
@@ -47,12 +74,24 @@ pub extern "C" fn octseq_lossy_end(
 ) -> u32
     ensures puts { IsState state.old
         → Puts (λ made. made ≡ end_text (held state.old)) result out.old out.new written.new }
-    ensures state { result ≡ status_ok → held state.new ≡ [] }
+    ensures state { result ≡ status_ok → (state.new.octets ≡ replicate 3 0) × (state.new.len ≡ 0) }
     ensures bad_state { (result ≡ status_bad_state) ↔ ¬ IsState state.old }
     ensures only { (result ≡ status_ok) ⊎ (result ≡ status_no_room) ⊎ (result ≡ status_bad_state) }
     ensures kept { result ≢ status_ok → (out.new ≡ out.old) × (state.new ≡ state.old) }
     ensures nothing { result ≢ status_ok → result ≢ status_no_room → written.new ≡ 0 }
 {
+    *written = 0;
+    let Some(held) = octets_held(state) else {
+        return BAD_STATE;
+    };
+    let status = put(replacement(held), out, written);
+    if status == OK {
+        *state = LossyState {
+            octets: [0; 3],
+            len: 0,
+        };
+    }
+    status
 }
 
 /// The texts of all pieces, and of what is left after the last, are together the lossy text of the whole, however it
@@ -62,5 +101,98 @@ pub extern "C" fn octseq_lossy_end(
 pub fn pieces_are_the_whole()
     ensures { (pieces : List (List ℕ)) (made : List ℕ) (parts : List Part) → IsTextOfPieces [] pieces made
         → Splits (concat pieces) parts → made ≡ text parts }
+{}
+
+/// The octets that a state holds, or `None` where it isn't the state of a reading.
+fn octets_held(state: &LossyState) -> Option<&[u8]>
+    ensures variant { IsSome result ↔ IsState state.now }
+    ensures some { IfSome result (λ octets. octets.now ≡ held state.now) }
 {
+    let len = usize::from(state.len);
+    if len > state.octets.len() {
+        return None;
+    }
+    let octets = &state.octets[..len];
+    if is_open_end(octets) {
+        Some(octets)
+    } else {
+        None
+    }
+}
+
+/// Whether octets are nothing, or the beginning of a character.
+fn is_open_end(octets: &[u8]) -> bool
+    ensures { IsTrue result ↔ ((octets.now ≡ []) ⊎ IsBeginning octets.now) }
+{
+    match find_fault(octets) {
+        None => octets.is_empty(),
+        Some(fault) => fault.valid_up_to() == 0 && fault.error_len().is_none(),
+    }
+}
+
+/// The state that holds an open end.
+fn holding(end: &[u8]) -> LossyState
+    requires { length end.now ≤ 3 }
+    ensures held { held result ≡ end.now }
+    ensures len { result.len ≤ 3 }
+{
+    let mut octets = [0; 3];
+    octets[..end.len()].copy_from_slice(end);
+    LossyState {
+        octets,
+        len: end.len() as u8,
+    }
+}
+
+/// How many octets of a piece are joined to those that are held.
+const JOINED: usize = 13;
+
+/// The octets that are held, and some of the piece after them. Where nothing is held, nothing is joined.
+fn join(held: &[u8], piece: &[u8]) -> Array<16>
+    requires { length held.now ≤ 3 }
+    ensures { result.content ≡ held.now ++ take (joined_len held.now piece.now) piece.now }
+{
+    let mut joined = Array::new();
+    if held.is_empty() {
+        return joined;
+    }
+    infallible(joined.append_slice(held));
+    infallible(joined.append_slice(&piece[..min(JOINED, piece.len())]));
+    joined
+}
+
+/// How a piece is read: what is settled is what is settled of the front, and then of the rest.
+#[derive(Drop)]
+struct Reading<'a> {
+    front: &'a [u8],
+    rest: &'a [u8],
+    text_len: usize,
+    end: &'a [u8],
+}
+
+/// Plans how a piece is read. `None` where its text is longer than a size can say.
+fn plan<'a>(held: &[u8], joined: &'a [u8], piece: &'a [u8]) -> Option<Reading<'a>>
+    requires { joined.now ≡ held.now ++ take (joined_len held.now piece.now) piece.now }
+    ensures some { IfSome result (λ reading.
+        IsReading (held.now ++ piece.now) reading.front.now reading.rest.now reading.end.now reading.text_len) }
+    ensures none { IfNone result (IsPastSize (held.now ++ piece.now) 0) }
+{
+    let front = measure(joined, 0)?;
+    let taken = joined.len() - held.len();
+    if taken == piece.len() {
+        return Some(Reading {
+            front: &joined[..0],
+            rest: joined,
+            text_len: front.text_len,
+            end: front.end,
+        });
+    }
+    let rest = &piece[taken - front.end.len()..];
+    let all = measure(rest, front.text_len)?;
+    Some(Reading {
+        front: joined,
+        rest,
+        text_len: all.text_len,
+        end: all.end,
+    })
 }

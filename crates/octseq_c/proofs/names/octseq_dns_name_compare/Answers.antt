@@ -11,7 +11,7 @@ returns-in-Ok-Ok-clause-ok c = λ ok labels others one other.
     let first = one_at c.in-Ok-Ok.ensures.name one in
     let second = one_at c.in-Ok-Ok.ensures'.name other in
     let same = c.name_cmp.ensures ∙ ap (λ l. name_cmp l (labels_of c.in-Ok-Ok.other)) first ∙ ap (name_cmp labels) second in
-    subst (λ order. IsOrder order _) same c.number_of.ensures
+    rw (← same) c.number_of.ensures
 
 pub returns-in_default-2-clause-malformed : goal.returns-in_default-2-clause-malformed
-returns-in_default-2-clause-malformed c = told 2 (λ labels others one other. c.in_default.ensures.malformed labels one)
+returns-in_default-2-clause-malformed c = told 2 (λ labels others one other. c.in_default.ensures.malformed refl labels one)

@@ -13,8 +13,7 @@ returns-in-Some-clause-puts c =
 
 pub returns-in-None-clause-puts : goal.returns-in-None-clause-puts
 returns-in-None-clause-puts c =
-    puts_none (IsSpelledWire c.args.text.now) (one_spelled_wire c.args.text.now) 2 (λ e. omega arith) (λ e. omega arith)
-    refl
+    puts_none (IsSpelledWire c.args.text.now) 2 (λ e. omega arith) (λ e. omega arith) (one_spelled_wire c.args.text.now)
 
 pub returns-in-None-clause-malformed : goal.returns-in-None-clause-malformed
 returns-in-None-clause-malformed c = told 2 c.in-None.ensures.none

@@ -14,14 +14,14 @@ returns-in-Ok-clause-puts c =
 
 pub returns-in-Ok-clause-utf8 : goal.returns-in-Ok-clause-utf8
 returns-in-Ok-clause-utf8 c = λ ok text is.
-    let here = (labels_of c.in-Ok.name, c.in-Ok.ensures.name, refl) in
+    let here : IsNameText c.args.octets.now c.args.place (name_text (labels_of c.in-Ok.name)) =
+    (labels_of c.in-Ok.name, c.in-Ok.ensures.name, refl) in
     subst IsWellFormed (one_name_text c.args.octets.now c.args.place (name_text (labels_of c.in-Ok.name)) text here is)
     (c.show.ensures.utf8 ok)
 
 pub returns-in-Err-clause-puts : goal.returns-in-Err-clause-puts
 returns-in-Err-clause-puts c =
-    puts_none (IsNameText c.args.octets.now c.args.place) (one_name_text c.args.octets.now c.args.place) 2
-    (λ e. omega arith) (λ e. omega arith) refl
+    puts_none (IsNameText c.args.octets.now c.args.place) 2 (λ e. omega arith) (λ e. omega arith) (one_name_text c.args.octets.now c.args.place)
 
 pub returns-in-Err-clause-malformed : goal.returns-in-Err-clause-malformed
-returns-in-Err-clause-malformed c = told 2 c.in-Err.ensures.malformed
+returns-in-Err-clause-malformed c = told 2 (c.in-Err.ensures.malformed refl)

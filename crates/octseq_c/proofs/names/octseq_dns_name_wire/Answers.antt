@@ -14,8 +14,7 @@ returns-in-Ok-clause-puts c =
 
 pub returns-in-Err-clause-puts : goal.returns-in-Err-clause-puts
 returns-in-Err-clause-puts c =
-    puts_none (IsNameWire c.args.octets.now c.args.place) (one_name_wire c.args.octets.now c.args.place) 2
-    (λ e. omega arith) (λ e. omega arith) refl
+    puts_none (IsNameWire c.args.octets.now c.args.place) 2 (λ e. omega arith) (λ e. omega arith) (one_name_wire c.args.octets.now c.args.place)
 
 pub returns-in-Err-clause-malformed : goal.returns-in-Err-clause-malformed
-returns-in-Err-clause-malformed c = told 2 c.in-Err.ensures.malformed
+returns-in-Err-clause-malformed c = told 2 (c.in-Err.ensures.malformed refl)

@@ -1,0 +1,79 @@
+-- What calls tell of the texts that they write.
+use Rattle.std.specs.Prelude.{◌↔◌}
+use Rattle.std.proofs.Common.{◌≡◌, ◌≢◌, ℕ, ◌+◌, ◌-◌, ◌<◌, ◌≤◌, ◌^◌, List, [], ◌∷◌, ◌++◌, length, take, drop, refl, arith}
+use Rattle.std.proofs.Common.{ap, sym, ◌∙◌, subst, length-append, ◌⊎◌, inl, inr}
+use Rattle.octseq_utf8.specs.Parts.{IsBeginning, Part, text}
+use Rattle.octseq_text.specs.Pieces.{Settles}
+use Rattle.octseq_text.specs.Progress.{IsOpenEnd}
+use Rattle.octseq_text.proofs.Settling.{one_settling, settles_end, text-append}
+use Rattle.octseq_c.specs.LossyText.{IsLossyText, IsSettledText, IsState, end_text, held}
+use Rattle.octseq_c.specs.Puts.{Fills, Puts}
+use Rattle.octseq_c.specs.Settled.{IsMeasured, IsPastSize, IsReading}
+use Rattle.octseq_c.specs.declared.pieces.LossyState.{LossyState}
+use Rattle.octseq_c.proofs.Placed.{placed_more}
+use Rattle.octseq_c.proofs.Wholes.{whole_text}
+
+-- a text at the front of a room, and then another after it
+pub fills_both : (old mid new front more : List ℕ) (place : ℕ) → place ≡ length front → mid ≡ front ++ drop place old
+    → new ≡ (take place mid ++ more) ++ drop (place + length more) mid → Fills (front ++ more) old new
+fills_both old mid new front more place e m n =
+    placed_more old mid new front more place (sym e) m n
+    ∙ ap (λ k. (front ++ more) ++ drop k old) (ap (λ k. k + length more) e ∙ sym (length-append front more))
+
+-- A text of at most so many octets isn't too long.
+pub fits : {Is : List ℕ → Type 0} → ((items others : List ℕ) → Is items → Is others → items ≡ others)
+    → (items : List ℕ) → Is items → length items < 2 ^ 64
+    → ¬ ((made : List ℕ) × Is made × (2 ^ 64 - 1 < length made))
+fits one items is few (made, other, long) = omega (arith, ap length (one items made is other))
+
+-- the lossy text of all octets
+
+pub lossy_past : {x : List ℕ} → IsPastSize x 0 → (made : List ℕ) × IsLossyText x made × (2 ^ 64 - 1 < length made)
+lossy_past p =
+    let past = p.past in (
+      text p.settled ++ end_text p.end,
+      whole_text p.settles,
+      omega (arith, length-append (text p.settled) (end_text p.end)),
+    )
+
+pub lossy_made : {x end : List ℕ} {n : ℕ} (m : IsMeasured x 0 n end) (written : List ℕ) → written ≡ end_text end
+    → IsLossyText x (text m.settled ++ written)
+lossy_made {x} m written e = subst (λ y. IsLossyText x (text m.settled ++ y)) (sym e) (whole_text m.settles)
+
+pub lossy_len : {x end : List ℕ} {n : ℕ} (m : IsMeasured x 0 n end) (written : List ℕ)
+    → n + length written ≡ length (text m.settled ++ written)
+lossy_len m written = let len = m.text_len in omega (arith, length-append (text m.settled) written)
+
+pub lossy_past_end : {x end : List ℕ} {n : ℕ} → IsMeasured x 0 n end → (written : List ℕ) → written ≡ end_text end
+    → ¬ (n + length written < 2 ^ 64) → (made : List ℕ) × IsLossyText x made × (2 ^ 64 - 1 < length made)
+lossy_past_end m written e past =
+    (text m.settled ++ written, lossy_made m written e, omega (arith, past, lossy_len m written))
+
+-- the text of what is settled
+
+pub one_settled_text : (x made other : List ℕ) → IsSettledText x made → IsSettledText x other → made ≡ other
+one_settled_text x made other (settled, end, s, e) (others, last, t, f) = e ∙ ap text (one_settling s t).0 ∙ sym f
+
+pub settled_past : {x : List ℕ} → IsPastSize x 0 → (made : List ℕ) × IsSettledText x made × (2 ^ 64 - 1 < length made)
+settled_past p = let past = p.past in (text p.settled, (p.settled, p.end, p.settles, refl), omega arith)
+
+pub settled_made : {x some others end : List ℕ} {len : ℕ} (r : IsReading x some others end len)
+    → IsSettledText x (text r.before ++ text r.more)
+settled_made {end = end} r = (r.before ++ r.more, end, r.all, sym (text-append r.before r.more))
+
+pub settled_len : {x some others end : List ℕ} {len : ℕ} (r : IsReading x some others end len)
+    → len ≡ length (text r.before ++ text r.more)
+settled_len r = r.text_len ∙ sym (length-append (text r.before) (text r.more))
+
+-- the state that a call leaves
+
+pub open_or : (q : List ℕ) → IsOpenEnd q → (q ≡ []) ⊎ IsBeginning q
+open_or [] o = inl refl
+open_or (a ∷ q) o = inr (o (λ e. let long = ap length e in absurd (omega arith)))
+
+pub state_left : {x q : List ℕ} {settled : List Part} (state : LossyState) → Settles x settled q → state.len ≤ 3
+    → held state ≡ q → IsState state × ((others : List Part) (end : List ℕ) → Settles x others end → held state ≡ end)
+state_left {q = q} state s few e = (
+  (few, subst (λ y. (y ≡ []) ⊎ IsBeginning y) (sym e) (open_or q (settles_end s))),
+  λ others end t. e ∙ (one_settling s t).1,
+)

@@ -1,0 +1,81 @@
+//! The text of what is settled of octets, whatever follows them: how long it is, and how it is written.
+ghost use Rattle.std.specs.Prelude.{◌≡◌, ◌+◌, ◌≤◌, ◌++◌, ℕ, List, length, take, drop, IfSome, IfNone};
+ghost use Rattle.octseq.specs.Parts.{Part, text};
+ghost use Rattle.octseq.specs.Pieces.{Settles};
+ghost use Rattle.octseq_c.specs.LossyText.{end_text};
+ghost use Rattle.octseq_c.specs.Settled.{HasRoom, IsMeasured, IsPastSize};
+
+use octseq::utf8::chunks;
+
+/// U+FFFD, which is written for each maximal ill-formed part.
+const REPLACEMENT: &[u8] = b"\xEF\xBF\xBD";
+
+/// How long the text of what is settled is, and what is open.
+#[derive(Clone, Copy)]
+pub struct Extent<'a> {
+    /// Where the text ends.
+    pub text_len: usize,
+    /// The octets at the end that begin a character which isn't whole yet.
+    pub end: &'a [u8],
+}
+
+/// Measures the text of what is settled, after so many octets. `None` where a size can't say how long it is.
+pub fn measure(octets: &[u8], before: usize) -> Option<Extent<'_>>
+    ensures measured { IfSome result (λ extent. IsMeasured octets.now before extent.text_len extent.end.now) }
+    ensures past { IfNone result (IsPastSize octets.now before) }
+{
+    let mut text_len = before;
+    for chunk in chunks(octets) {
+        text_len = text_len.checked_add(chunk.valid().len())?;
+        if chunk.is_incomplete() {
+            let end = chunk.invalid();
+            return Some(Extent { text_len, end });
+        }
+        if !chunk.invalid().is_empty() {
+            text_len = text_len.checked_add(REPLACEMENT.len())?;
+        }
+    }
+    Some(Extent {
+        text_len,
+        end: &octets[..0],
+    })
+}
+
+/// Writes the text of what is settled, from a place on, and tells where it ends.
+pub fn fill(out: &mut [u8], before: usize, octets: &[u8]) -> usize
+    requires { HasRoom octets.now before (length out.old) }
+    ensures end { (settled : List Part) (end : List ℕ) → Settles octets.now settled end
+        → result ≡ before + length (text settled) }
+    ensures text { (settled : List Part) (end : List ℕ) → Settles octets.now settled end
+        → out.new ≡ (take before out.old ++ text settled) ++ drop result out.old }
+{
+    let mut at = before;
+    for chunk in chunks(octets) {
+        at = put_at(out, at, chunk.valid().as_bytes());
+        if chunk.is_incomplete() {
+            return at;
+        }
+        if !chunk.invalid().is_empty() {
+            at = put_at(out, at, REPLACEMENT);
+        }
+    }
+    at
+}
+
+/// Copies octets to a place, and tells where they end.
+pub fn put_at(out: &mut [u8], at: usize, octets: &[u8]) -> usize
+    requires { at + length octets.now ≤ length out.old }
+    ensures end { result ≡ at + length octets.now }
+    ensures octets { out.new ≡ (take at out.old ++ octets.now) ++ drop (at + length octets.now) out.old }
+{
+    let end = at + octets.len();
+    out[at..end].copy_from_slice(octets);
+    end
+}
+
+/// What is written for an open end that nothing follows.
+pub fn replacement(end: &[u8]) -> &'static [u8]
+    ensures { result.now ≡ end_text end.now }
+{
+    if end.is_empty() { b"" } else { REPLACEMENT }
+}
