@@ -58,7 +58,7 @@ pub extern "C" fn octseq_dns_data_text(
     ensures kept { result ≢ status_ok → result ≢ status_unshown → out.new ≡ out.old }
 {
     match data_of(octets, data_at, data_len, rtype, class) {
-        Some(found) => show(found, out, written),
+        Some(found) => show(&found, out, written),
         None => {
             *written = 0;
             MALFORMED

@@ -37,7 +37,7 @@ pub extern "C" fn octseq_dns_name_text(
     ensures kept { result ≢ status_ok → result ≢ status_unshown → out.new ≡ out.old }
 {
     match name_at(octets, place) {
-        Ok(name) => show(name, out, written),
+        Ok(name) => show(&name, out, written),
         Err(Malformed) => {
             *written = 0;
             MALFORMED

@@ -18,7 +18,7 @@ pub extern "C" fn octseq_dns_rtype_text(rtype: u16, out: &mut [u8], written: &mu
     ensures utf8 { result ≡ status_ok → IsWellFormed (rtype_text rtype) }
     ensures kept { result ≡ status_no_room → out.new ≡ out.old }
 {
-    show(Rtype::from_int(rtype), out, written)
+    show(&Rtype::from_int(rtype), out, written)
 }
 
 /// The mnemonic of a class, at the front of `out`.
@@ -29,7 +29,7 @@ pub extern "C" fn octseq_dns_class_text(class: u16, out: &mut [u8], written: &mu
     ensures utf8 { result ≡ status_ok → IsWellFormed (class_text class) }
     ensures kept { result ≡ status_no_room → out.new ≡ out.old }
 {
-    show(Class::from_int(class), out, written)
+    show(&Class::from_int(class), out, written)
 }
 
 /// The type that a text names.

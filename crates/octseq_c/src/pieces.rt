@@ -1,5 +1,5 @@
 //! The same for octets that come in pieces, with a state that the caller keeps.
-ghost use Rattle.std.specs.Prelude.{◌≡◌, ◌≢◌, ◌↔◌, ◌<◌, ◌≤◌, ◌^◌, ◌-◌, ◌⊎◌, ◌++◌, ℕ, List, [], length, take};
+ghost use Rattle.std.specs.Prelude.{◌≡◌, ◌≢◌, ◌↔◌, ◌<◌, ◌≤◌, ◌^◌, ◌-◌, ◌⊎◌, ◌++◌, ℕ, List, [], length, replicate, take};
 ghost use Rattle.std.specs.Prelude.{IsTrue, IsSome, IfSome, IfNone};
 ghost use Rattle.std.specs.List.{concat};
 ghost use Rattle.octseq.specs.Parts.{IsBeginning, Part, Splits, text};

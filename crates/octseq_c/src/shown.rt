@@ -11,14 +11,14 @@ use std::fmt::{Display, Write};
 use std::marker::Brand;
 
 /// Shows a value at the front of a room.
-pub fn show<D: Display + Copy>(value: D, out: &mut [u8], written: &mut usize) -> u32
-    ensures puts { IfSome (D.output value)
+pub fn show<D: Display>(value: &D, out: &mut [u8], written: &mut usize) -> u32
+    ensures puts { IfSome (D.output value.now)
         (λ text. Puts (λ made. made ≡ text) result out.old out.new written.new) }
     ensures only { (result ≡ status_ok) ⊎ (result ≡ status_no_room) ⊎ (result ≡ status_unshown) }
-    ensures utf8 { result ≡ status_ok → IfSome (D.output value) IsWellFormed }
+    ensures utf8 { result ≡ status_ok → IfSome (D.output value.now) IsWellFormed }
     ensures kept { result ≡ status_no_room → out.new ≡ out.old }
 {
-    let Some(len) = shown_len(&value) else {
+    let Some(len) = shown_len(value) else {
         *written = 0;
         return UNSHOWN;
     };
@@ -47,27 +47,27 @@ fn shown_len<D: Display>(value: &D) -> Option<usize>
 }
 
 /// Shows a value in a room of just its size.
-fn show_whole<D: Display + Copy>(value: D, out: &mut [u8]) -> bool
-    requires { IfSome (D.output value) (λ text. length text ≡ length out.old) }
-    ensures shown { IsTrue result → IfSome (D.output value) (λ text. out.new ≡ text) }
-    ensures utf8 { IsTrue result → IfSome (D.output value) IsWellFormed }
+fn show_whole<D: Display>(value: &D, out: &mut [u8]) -> bool
+    requires { IfSome (D.output value.now) (λ text. length text ≡ length out.old) }
+    ensures shown { IsTrue result → IfSome (D.output value.now) (λ text. out.new ≡ text) }
+    ensures utf8 { IsTrue result → IfSome (D.output value.now) IsWellFormed }
     ensures len { length out.new ≡ length out.old }
 {
     show_in::<Brand, D>(value, out).is_shown
 }
 
 /// The same, where `K` stands for the room.
-fn show_in<'a, K: Front, D: Display + Copy>(value: D, out: &'a mut [u8]) -> Shown<'a>
+fn show_in<'a, K: Front, D: Display>(value: &D, out: &'a mut [u8]) -> Shown<'a>
     requires room { K.room ≡ length out.old }
     requires lender { K.lender ≡ out.ghost_name }
-    requires fits { IfSome (D.output value) (λ text. length text ≡ length out.old) }
+    requires fits { IfSome (D.output value.now) (λ text. length text ≡ length out.old) }
     ensures same { result.octets.ghost_name ≡ out.entry.ghost_name }
-    ensures shown { IsTrue result.is_shown → IfSome (D.output value) (λ text. result.octets.now ≡ text) }
-    ensures utf8 { IsTrue result.is_shown → IfSome (D.output value) IsWellFormed }
+    ensures shown { IsTrue result.is_shown → IfSome (D.output value.now) (λ text. result.octets.now ≡ text) }
+    ensures utf8 { IsTrue result.is_shown → IfSome (D.output value.now) IsWellFormed }
     ensures len { length result.octets.now ≡ length out.old }
 {
     let mut writer = Writing::<K>::new(out);
-    match writer.write(&value) {
+    match writer.write(value) {
         Ok(()) => Shown {
             octets: writer.into_octets(),
             is_shown: true,

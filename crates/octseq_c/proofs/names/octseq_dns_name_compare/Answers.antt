@@ -1,8 +1,8 @@
-use Rattle.std.proofs.Common.{◌≡◌, ap, ◌∙◌, subst}
+use Rattle.std.proofs.Common.{◌≡◌, refl, ap, ◌∙◌}
 use Rattle.octseq_dns_name.specs.Order.{name_cmp}
 use Rattle.octseq_dns_name.specs.Read.{labels_of}
-use Rattle.octseq_c.specs.Order.{IsOrder}
 use Rattle.octseq_c.proofs.OneNames.{one_at}
+use Rattle.octseq_c.proofs.Orders.{stored}
 use Rattle.octseq_c.proofs.Puts.{told}
 use Rattle.octseq_c.proofs.names.octseq_dns_name_compare.Goals as goal
 
@@ -11,7 +11,8 @@ returns-in-Ok-Ok-clause-ok c = λ ok labels others one other.
     let first = one_at c.in-Ok-Ok.ensures.name one in
     let second = one_at c.in-Ok-Ok.ensures'.name other in
     let same = c.name_cmp.ensures ∙ ap (λ l. name_cmp l (labels_of c.in-Ok-Ok.other)) first ∙ ap (name_cmp labels) second in
-    rw (← same) c.number_of.ensures
+    rw (← same) (stored c.name_cmp.result c.number_of.result c.number_of.ensures)
 
 pub returns-in_default-2-clause-malformed : goal.returns-in_default-2-clause-malformed
-returns-in_default-2-clause-malformed c = told 2 (λ labels others one other. c.in_default.ensures.malformed refl labels one)
+returns-in_default-2-clause-malformed c =
+    told 2 (λ labels others one other. c.in_default.ensures.malformed refl labels one)

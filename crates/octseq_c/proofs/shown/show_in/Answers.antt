@@ -6,7 +6,7 @@ use Rattle.octseq_c.proofs.shown.show_in.Goals as goal
 
 pub returns-in-Ok-clause-shown : goal.returns-in-Ok-clause-shown
 returns-in-Ok-clause-shown g c = λ t.
-    both_some (g.D.Display.output c.args.value) c.in-Ok.ensures.writes c.requires.fits (λ text writes long.
+    both_some (g.D.Display.output c.args.value.now) c.in-Ok.ensures.writes c.requires.fits (λ text writes long.
     let writer = c.write.new.self in
     let told = contents_after_writes _ (λ w. take w.len w.octets.now) (λ _ _ _ told. told) _ _ _ writes in
     let first = ap (λ n. take n c.new-writer.result.octets.now ++ text) c.new-writer.ensures.len in
@@ -16,7 +16,7 @@ returns-in-Ok-clause-shown g c = λ t.
 
 pub returns-in-Ok-clause-utf8 : goal.returns-in-Ok-clause-utf8
 returns-in-Ok-clause-utf8 g c = λ t.
-    both_some (g.D.Display.output c.args.value) c.in-Ok.ensures.writes c.requires.fits (λ text writes long.
+    both_some (g.D.Display.output c.args.value.now) c.in-Ok.ensures.writes c.requires.fits (λ text writes long.
     let told = contents_after_writes _ (λ w. take w.len w.octets.now) (λ _ _ _ told. told) _ _ _ writes in
     let first = ap (λ n. take n c.new-writer.result.octets.now ++ text) c.new-writer.ensures.len in
     well_formed_from text (subst IsText (told ∙ first) c.write.new.self.text))
