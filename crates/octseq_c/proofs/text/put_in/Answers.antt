@@ -1,0 +1,41 @@
+use Rattle.std.proofs.Common.{◌≡◌, ◌++◌, take, length, ap, sym, ◌∙◌, subst, arith}
+use Rattle.std.proofs.lemmas.Fmt.{contents_after_writes}
+use Rattle.octseq_dns_message.proofs.MessageTexts.{one_message_text}
+use Rattle.octseq_dns_message.specs.MessageText.{IsMessageText}
+use Rattle.octseq_dns_message.specs.Parsed.{header_of, questions_of, answers_of, authorities_of, additionals_of}
+use Rattle.octseq_c.specs.OwnText.{IsText}
+use Rattle.octseq_c.proofs.OwnText.{well_formed_from, whole_front}
+use Rattle.octseq_c.proofs.text.put_in.Goals as goal
+
+pub returns-in-Ok-clause-text : goal.returns-in-Ok-clause-text
+returns-in-Ok-clause-text g c = λ t.
+    let message = c.args.message.now in
+    let shown = c.in-Ok.ensures.shown in
+    let writer = c.into_inner-writer.result in
+    let written = shown.2 c.new-f.ensures.plain in
+    let told = contents_after_writes _ (λ w. take w.len w.octets.now) (λ _ _ _ told. told) _ _ _ written.wrote in
+    let first = ap (λ w. take w.len w.octets.now) c.new-f.ensures.writer in
+    let last = ap (λ w. take w.len w.octets.now) c.into_inner-writer.ensures in
+    let none = ap (λ n. take n c.new.result.octets.now ++ shown.0) c.new.ensures.len in
+    let long = ap length (one_message_text _ _ _ _ _ _ _ shown.1 c.requires.fits.1) in
+    let whole = whole_front writer.len writer.octets.now shown.0 (omega (arith, writer.within, writer.room))
+    (last ∙ told ∙ ap (λ front. front ++ shown.0) first ∙ none)
+    (omega (arith, long, c.requires.fits.2, writer.room, c.requires.room)) in
+    subst (IsMessageText (header_of message) (questions_of message) (answers_of message) (authorities_of message)
+    (additionals_of message)) (sym (c.into_octets.ensures.octets ∙ whole)) shown.1
+
+pub returns-in-Ok-clause-utf8 : goal.returns-in-Ok-clause-utf8
+returns-in-Ok-clause-utf8 g c = λ t.
+    let shown = c.in-Ok.ensures.shown in
+    let writer = c.into_inner-writer.result in
+    let written = shown.2 c.new-f.ensures.plain in
+    let told = contents_after_writes _ (λ w. take w.len w.octets.now) (λ _ _ _ told. told) _ _ _ written.wrote in
+    let first = ap (λ w. take w.len w.octets.now) c.new-f.ensures.writer in
+    let last = ap (λ w. take w.len w.octets.now) c.into_inner-writer.ensures in
+    let none = ap (λ n. take n c.new.result.octets.now ++ shown.0) c.new.ensures.len in
+    let front = last ∙ told ∙ ap (λ front. front ++ shown.0) first ∙ none in
+    let long = ap length (one_message_text _ _ _ _ _ _ _ shown.1 c.requires.fits.1) in
+    let whole = whole_front writer.len writer.octets.now shown.0 (omega (arith, writer.within, writer.room)) front
+    (omega (arith, long, c.requires.fits.2, writer.room, c.requires.room)) in
+    well_formed_from c.into_octets.result.now
+    (subst IsText (front ∙ sym whole ∙ sym c.into_octets.ensures.octets) writer.text)

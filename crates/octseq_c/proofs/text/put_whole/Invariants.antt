@@ -1,0 +1,6 @@
+-- The room is the slice.
+use Rattle.std.specs.Prelude.{length}
+use Rattle.octseq_c.proofs.text.put_whole.Given as goal
+
+abbrev pub ghosts-put_in : goal.ghosts-put_in
+ghosts-put_in a = record { room = length a.out.now; lender = a.out.ghost_name }
