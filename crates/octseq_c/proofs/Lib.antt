@@ -1,5 +1,10 @@
+pub mod Appended
+pub mod OneData
+pub mod OneMessages
 pub mod OneNames
+pub mod OneRewriting
 pub mod OpenEnds
+pub mod Orders
 pub mod OwnText
 pub mod Placed
 pub mod Puts

@@ -40,8 +40,8 @@ pub extern "C" fn octseq_dns_rewrite(octets: &[u8], out: &mut [u8], written: &mu
     ensures puts { Puts (IsRewritten octets.now) result out.old out.new written.new }
     ensures malformed { (result ≡ status_malformed) ↔ ¬ IsSomeMessage octets.now }
     ensures immovable { (result ≡ status_immovable) ↔ IsImmovable octets.now }
-    ensures too_long { (result ≡ status_too_long)
-        ↔ ((made : List ℕ) × IsRewritten octets.now made × (65535 < length made)) }
+    ensures too_long { (made : List ℕ) → IsRewritten octets.now made
+        → (result ≡ status_too_long) ↔ (65535 < length made) }
     ensures only { (result ≡ status_ok) ⊎ (result ≡ status_no_room) ⊎ (result ≡ status_malformed)
         ⊎ (result ≡ status_immovable) ⊎ (result ≡ status_too_long) }
     ensures kept { result ≢ status_ok → out.new ≡ out.old }
@@ -50,7 +50,8 @@ pub extern "C" fn octseq_dns_rewrite(octets: &[u8], out: &mut [u8], written: &mu
         Ok(message) => match rewritten(&message) {
             Ok(made) => return put(made.as_slice(), out, written),
             Err(RewriteError::Immovable) => IMMOVABLE,
-            Err(_) => TOO_LONG,
+            Err(RewriteError::Short(_)) => TOO_LONG,
+            Err(RewriteError::Memory) => TOO_LONG,
         },
         Err(Malformed) => MALFORMED,
     };

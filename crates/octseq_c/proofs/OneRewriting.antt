@@ -1,0 +1,59 @@
+-- A message is written anew in one way.
+use Rattle.std.proofs.Common.{◌≡◌, ℕ, List, [], ◌∷◌, ◌⊎◌, inl, inr, ap, sym, ◌∙◌, subst}
+use Rattle.std.specs.List.{AllByRecursion}
+use Rattle.octseq_dns.specs.Contents as contents
+use Rattle.octseq_dns.specs.Contents.{octets_of}
+use Rattle.octseq_dns.specs.Moved.{CanMove, CanMoveRecord}
+use Rattle.octseq.specs.Refusal.{Is, Refusal}
+use Rattle.octseq_dns.specs.Rewritten.{IsMessageOf, rewrite_error}
+use Rattle.octseq_dns.specs.declared.rewriting.RewriteError.{RewriteError}
+use Rattle.octseq_dns.proofs.Stages.{one_contents}
+use Rattle.octseq_dns_message.specs.Entry.{Question, Record}
+use Rattle.octseq_dns_message.specs.declared.header.Header.{Header}
+use Rattle.octseq_dns_message.proofs.Messages.{said_once}
+use Rattle.octseq_c.specs.Made.{IsImmovable, IsRewritten, places_kept}
+
+-- what is written of one message is written of the other, where both are one
+pub moved_contents : {h k : Header} {q r : List Question} {a x b y d z : List Record} (m : contents.Message) → k ≡ h → r ≡ q
+    → x ≡ a → y ≡ b → z ≡ d → IsMessageOf k r x y z m → IsMessageOf h q a b d m
+moved_contents m h q a b d is = subst (λ i. i) (λ i. IsMessageOf (h i) (q i) (a i) (b i) (d i) m) is
+
+-- so is whether its data can be moved
+pub moved_can : {a x b y d z : List Record} → x ≡ a → y ≡ b → z ≡ d → CanMove x y z → CanMove a b d
+moved_can a b d is = subst (λ i. i) (λ i. CanMove (a i) (b i) (d i)) is
+
+pub one_rewriting : (octets made other : List ℕ) → IsRewritten octets made → IsRewritten octets other → made ≡ other
+one_rewriting octets made other a b =
+    let same = said_once octets _ _ _ _ _ _ _ _ _ _ b.message a.message in
+    let contents = one_contents _ _ _ _ _ a.contents b.contents a.same
+    (moved_contents b.contents same.0 same.1 same.2 same.3 same.4 b.same) in
+    a.made_is ∙ ap (octets_of places_kept) contents ∙ sym b.made_is
+
+-- data that can be moved is not such that can't
+pub not_both : (octets made : List ℕ) → IsRewritten octets made → ¬ IsImmovable octets
+not_both octets made a b =
+    let same = said_once octets _ _ _ _ _ _ _ _ _ _ a.message b.message in
+    b.stays (moved_can same.2 same.3 same.4 a.moved)
+
+-- ---- data of which it is not so that it can't be moved can be moved
+
+stable_all : (records : List Record) → ¬ ¬ AllByRecursion CanMoveRecord records → AllByRecursion CanMoveRecord records
+stable_all [] nn = tt
+stable_all (r ∷ records) nn =
+    ((λ unknown some names. nn (λ all. all.0 unknown some names)), stable_all records (λ n. nn (λ all. n all.1)))
+
+pub stable : (answers authorities additionals : List Record) → ¬ ¬ CanMove answers authorities additionals
+    → CanMove answers authorities additionals
+stable answers authorities additionals nn = (
+  stable_all answers (λ n. nn (λ all. n all.0)),
+  stable_all authorities (λ n. nn (λ all. n all.1)),
+  stable_all additionals (λ n. nn (λ all. n all.2)),
+)
+
+-- ---- a refusal that is neither for what is written nor for its length is not for memory
+
+pub no_memory : {A : Type 0} (e : RewriteError) → e ≡ RewriteError.Memory → (A → ⊥)
+    → A ⊎ (Is Refusal.malformed (rewrite_error e) ⊎ Is Refusal.short (rewrite_error e)) → ⊥
+no_memory e is no (inl a) = no a
+no_memory e is no (inr (inl told)) = subst (λ e. Is Refusal.malformed (rewrite_error e)) is told
+no_memory e is no (inr (inr told)) = subst (λ e. Is Refusal.short (rewrite_error e)) is told

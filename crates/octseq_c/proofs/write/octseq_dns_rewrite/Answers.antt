@@ -1,0 +1,115 @@
+use Rattle.std.proofs.Common.{◌≡◌, ◌<◌, length, arith, ap, sym, ◌∙◌, refl, subst, inl, inr}
+use Rattle.octseq_dns_message.specs.Parsed.{header_of, questions_of, answers_of, authorities_of, additionals_of}
+use Rattle.octseq_dns_message.proofs.Messages.{said_once}
+use Rattle.octseq.specs.Refusal.{Is, Refusal}
+use Rattle.octseq_dns.specs.Rewritten.{rewrite_error}
+use Rattle.octseq_c.specs.Made.{IsImmovable, IsRewritten}
+use Rattle.octseq_c.proofs.OneRewriting.{moved_can, moved_contents, no_memory, not_both, one_rewriting, stable}
+use Rattle.octseq_c.proofs.Puts.{not_told, puts_copied, puts_none, told}
+use Rattle.octseq_c.proofs.write.octseq_dns_rewrite.Goals as goal
+
+-- ---- it was written
+
+is_rewritten : (c : goal.After-slice_known-in-Ok-rewritten-1) → IsRewritten c.args.octets.now c.as_slice.result.now
+is_rewritten c =
+    let message = c.in-Ok.message in
+    let (contents, same, octets) = c.in-Ok-rewritten.ensures.made in
+    record {
+      header = header_of message;
+      questions = questions_of message;
+      answers = answers_of message;
+      authorities = authorities_of message;
+      additionals = additionals_of message;
+      message = c.in-Ok.ensures.message;
+      moved = stable _ _ _ (λ not. c.in-Ok-rewritten.ensures.immovable.1 not);
+      contents = contents;
+      same = same;
+      made_is = c.as_slice.ensures.content ∙ octets;
+    }
+
+pub returns-in-Ok-rewritten-clause-puts : goal.returns-in-Ok-rewritten-clause-puts
+returns-in-Ok-rewritten-clause-puts c =
+    puts_copied (IsRewritten c.args.octets.now) (one_rewriting c.args.octets.now) c.as_slice.result.now (is_rewritten c)
+    c.put.ensures.count c.put.ensures.ok c.put.ensures.no_room
+
+pub returns-in-Ok-rewritten-clause-immovable : goal.returns-in-Ok-rewritten-clause-immovable
+returns-in-Ok-rewritten-clause-immovable c = (
+  λ e. let other = (c.put.ensures.no_room (λ z. omega (arith, e, z))).0 in absurd (omega (arith, e, other)),
+  λ is. absurd (not_both c.args.octets.now c.as_slice.result.now (is_rewritten c) is),
+)
+
+pub returns-in-Ok-rewritten-clause-too_long : goal.returns-in-Ok-rewritten-clause-too_long
+returns-in-Ok-rewritten-clause-too_long c = λ made is. (
+  λ e. let other = (c.put.ensures.no_room (λ z. omega (arith, e, z))).0 in absurd (omega (arith, e, other)),
+  λ long.
+  let same = ap length (one_rewriting c.args.octets.now made c.as_slice.result.now is (is_rewritten c)) in
+  let content = ap length c.as_slice.ensures.content in
+  absurd (omega (arith, long, same, content, c.as_slice.ensures.size)),
+)
+
+-- ---- its data can't be moved
+
+pub returns-in-Err-Immovable-clause-puts : goal.returns-in-Err-Immovable-clause-puts
+returns-in-Err-Immovable-clause-puts c =
+    puts_none (IsRewritten c.args.octets.now) 4 (λ e. omega arith) (λ e. omega arith) (one_rewriting c.args.octets.now)
+
+pub returns-in-Err-Immovable-clause-too_long : goal.returns-in-Err-Immovable-clause-too_long
+returns-in-Err-Immovable-clause-too_long c = λ made is.
+    let same = said_once c.args.octets.now _ _ _ _ _ _ _ _ _ _ is.message c.in-Ok.ensures.message in
+    absurd (c.in-Err-Immovable.ensures.immovable.0
+    (subst (λ e. Is Refusal.malformed (rewrite_error e)) (sym c.in-Err-Immovable.field-0-is) tt) (moved_can same.2 same.3 same.4 is.moved))
+
+-- ---- it is too long
+
+pub returns-in-Err-Short : goal.returns-in-Err-Short
+returns-in-Err-Short c =
+    let message = c.in-Ok.message in
+    record {
+      puts = puts_none (IsRewritten c.args.octets.now) 5 (λ e. omega arith) (λ e. omega arith)
+      (one_rewriting c.args.octets.now);
+      malformed = not_told 5 2 (λ e. omega arith) (λ not. not (header_of message, questions_of message,
+      answers_of message, authorities_of message, additionals_of message, c.in-Ok.ensures.message));
+      immovable = not_told 5 4 (λ e. omega arith) (λ is.
+      let same = said_once c.args.octets.now _ _ _ _ _ _ _ _ _ _ is.message c.in-Ok.ensures.message in
+      let refused = c.in-Err-Short.ensures.immovable.1
+      (λ can. is.stays (moved_can (sym same.2) (sym same.3) (sym same.4) can)) in
+      subst (λ e. Is Refusal.malformed (rewrite_error e)) c.in-Err-Short.field-0-is refused);
+      too_long = λ made is. (
+        λ e.
+        let same = said_once c.args.octets.now _ _ _ _ _ _ _ _ _ _ is.message c.in-Ok.ensures.message in
+        let long = c.in-Err-Short.ensures.short
+        (subst (λ e. Is Refusal.short (rewrite_error e)) (sym c.in-Err-Short.field-0-is) tt) is.contents
+        (moved_contents is.contents same.0 same.1 same.2 same.3 same.4 is.same) in
+        let octets = ap length is.made_is in
+        omega (arith, long, octets),
+        λ long. refl,
+      );
+      only = inr (inr (inr (inr refl)));
+      kept = λ n. refl;
+    }
+
+-- ---- nothing requests memory
+
+pub returns-in-Err-Memory : goal.returns-in-Err-Memory
+returns-in-Err-Memory c =
+    absurd (no_memory c.in-Err-Memory.field-0 c.in-Err-Memory.field-0-is (λ ok. cc) c.in-Err-Memory.ensures.only)
+
+-- ---- it is no message
+
+pub returns-in-Err-clause-puts : goal.returns-in-Err-clause-puts
+returns-in-Err-clause-puts c =
+    puts_none (IsRewritten c.args.octets.now) 2 (λ e. omega arith) (λ e. omega arith) (one_rewriting c.args.octets.now)
+
+pub returns-in-Err-clause-malformed : goal.returns-in-Err-clause-malformed
+returns-in-Err-clause-malformed c =
+    told 2 (λ (header, questions, answers, authorities, additionals, is).
+    c.in-Err.ensures.malformed refl header questions answers authorities additionals is)
+
+pub returns-in-Err-clause-immovable : goal.returns-in-Err-clause-immovable
+returns-in-Err-clause-immovable c =
+    not_told 2 4 (λ e. omega arith) (λ is.
+    c.in-Err.ensures.malformed refl is.header is.questions is.answers is.authorities is.additionals is.message)
+
+pub returns-in-Err-clause-too_long : goal.returns-in-Err-clause-too_long
+returns-in-Err-clause-too_long c = λ made is.
+    absurd (c.in-Err.ensures.malformed refl is.header is.questions is.answers is.authorities is.additionals is.message)
