@@ -1,5 +1,5 @@
 -- Octets are one message, which has one text and one list of rows.
-use Rattle.std.proofs.Common.{◌≡◌, ℕ, List, length, ap, sym, ◌∙◌, subst}
+use Rattle.std.proofs.Common.{◌≡◌, ℕ, List, sym, ◌∙◌, subst}
 use Rattle.octseq_dns_message.specs.Entry.{Question, Record}
 use Rattle.octseq_dns_message.specs.MessageText.{IsMessageText}
 use Rattle.octseq_dns_message.specs.declared.header.Header.{Header}

@@ -1,13 +1,12 @@
 -- What calls tell of the texts that they write.
-use Rattle.std.specs.Prelude.{◌↔◌}
-use Rattle.std.proofs.Common.{◌≡◌, ◌≢◌, ℕ, ◌+◌, ◌-◌, ◌<◌, ◌≤◌, ◌^◌, List, [], ◌∷◌, ◌++◌, length, take, drop, refl, arith}
+use Rattle.std.proofs.Common.{◌≡◌, ℕ, ◌+◌, ◌-◌, ◌<◌, ◌≤◌, ◌^◌, List, [], ◌∷◌, ◌++◌, length, take, drop, refl, arith}
 use Rattle.std.proofs.Common.{ap, sym, ◌∙◌, subst, length-append, ◌⊎◌, inl, inr}
 use Rattle.octseq_utf8.specs.Parts.{IsBeginning, Part, text}
 use Rattle.octseq_text.specs.Pieces.{Settles}
 use Rattle.octseq_text.specs.Progress.{IsOpenEnd}
 use Rattle.octseq_text.proofs.Settling.{one_settling, settles_end, text-append}
 use Rattle.octseq_c.specs.LossyText.{IsLossyText, IsSettledText, IsState, end_text, held}
-use Rattle.octseq_c.specs.Puts.{Fills, Puts}
+use Rattle.octseq_c.specs.Puts.{Fills}
 use Rattle.octseq_c.specs.Settled.{IsMeasured, IsPastSize, IsReading}
 use Rattle.octseq_c.specs.declared.pieces.LossyState.{LossyState}
 use Rattle.octseq_c.proofs.Placed.{placed_more}

@@ -70,11 +70,7 @@ pub extern "C" fn octseq_dns_name_wire(
 
 /// The wire form of the name that a text spells, at the front of `out`.
 #[unsafe(no_mangle)]
-pub extern "C" fn octseq_dns_name_from_text(
-    text: &[u8],
-    out: &mut [u8],
-    written: &mut usize,
-) -> u32
+pub extern "C" fn octseq_dns_name_from_text(text: &[u8], out: &mut [u8], written: &mut usize) -> u32
     ensures puts { Puts (IsSpelledWire text.now) result out.old out.new written.new }
     ensures malformed { (result ≡ status_malformed) ↔ ((labels : List (List ℕ)) → ¬ Spells text.now labels) }
     ensures only { (result ≡ status_ok) ⊎ (result ≡ status_no_room) ⊎ (result ≡ status_malformed) }

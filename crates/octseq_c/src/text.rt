@@ -17,11 +17,7 @@ use std::marker::Brand;
 
 /// The text of the message that the octets are, at the front of `out`.
 #[unsafe(no_mangle)]
-pub extern "C" fn octseq_dns_message_text(
-    octets: &[u8],
-    out: &mut [u8],
-    written: &mut usize,
-) -> u32
+pub extern "C" fn octseq_dns_message_text(octets: &[u8], out: &mut [u8], written: &mut usize) -> u32
     ensures puts { Puts (IsTextOf octets.now) result out.old out.new written.new }
     ensures malformed { (result ≡ status_malformed) ↔ ¬ IsSomeMessage octets.now }
     ensures only { (result ≡ status_ok) ⊎ (result ≡ status_no_room) ⊎ (result ≡ status_malformed)

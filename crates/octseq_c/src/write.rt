@@ -104,13 +104,7 @@ pub extern "C" fn octseq_dns_query(
 }
 
 /// The octets of a message of one question.
-fn query(
-    id: u16,
-    flags: u16,
-    name: &Name<Array<255>>,
-    qtype: u16,
-    qclass: u16,
-) -> Array<QUERY_MAX>
+fn query(id: u16, flags: u16, name: &Name<Array<255>>, qtype: u16, qclass: u16) -> Array<QUERY_MAX>
     ensures { result.content ≡ query_header id flags ++ (wire (owned_labels name.now)
         ++ (octets_be 2 qtype ++ octets_be 2 qclass)) }
 {

@@ -1,4 +1,4 @@
-use Rattle.std.proofs.Common.{◌≡◌, refl, ap, ◌∙◌}
+use Rattle.std.proofs.Common.{refl, ap, ◌∙◌}
 use Rattle.octseq_dns_name.specs.Order.{name_cmp}
 use Rattle.octseq_dns_name.specs.Read.{labels_of}
 use Rattle.octseq_c.proofs.OneNames.{one_at}

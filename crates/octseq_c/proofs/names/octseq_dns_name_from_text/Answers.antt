@@ -1,4 +1,4 @@
-use Rattle.std.proofs.Common.{arith, refl}
+use Rattle.std.proofs.Common.{arith}
 use Rattle.octseq_dns_name.specs.Owned.{owned_labels}
 use Rattle.octseq_c.specs.Texts.{IsSpelledWire}
 use Rattle.octseq_c.proofs.OneNames.{one_spelled_wire}

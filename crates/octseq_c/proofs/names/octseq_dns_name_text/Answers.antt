@@ -1,4 +1,4 @@
-use Rattle.std.proofs.Common.{arith, refl, sym, subst}
+use Rattle.std.proofs.Common.{arith, refl, subst}
 use Rattle.octseq.specs.Text.{IsWellFormed}
 use Rattle.octseq_dns_name.specs.Read.{labels_of}
 use Rattle.octseq_dns_name.specs.Text.{name_text}

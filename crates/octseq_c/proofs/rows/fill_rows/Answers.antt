@@ -1,4 +1,4 @@
-use Rattle.std.proofs.Common.{◌≡◌, ◌++◌, length, drop, map, ◌+◌, sym, ap, ◌∙◌}
+use Rattle.std.proofs.Common.{◌++◌, length, drop, map, ◌+◌, sym, ap, ◌∙◌}
 use Rattle.std.proofs.lemmas.List.{length-map}
 use Rattle.octseq_dns_message.specs.Walk.{questions_left, records_left}
 use Rattle.octseq_c.specs.Rows.{row_of_question, row_of_record, rows_of}

@@ -1,4 +1,4 @@
-use Rattle.std.proofs.Common.{ap, arith}
+use Rattle.std.proofs.Common.{arith}
 use Rattle.std.proofs.lemmas.Option.{IfSome_then}
 use Rattle.octseq.proofs.Counts.{count_after_writes}
 use Rattle.octseq_c.proofs.shown.shown_len.Goals as goal

@@ -1,4 +1,4 @@
-use Rattle.std.proofs.Common.{◌≡◌, ◌++◌, take, length, ap, sym, ◌∙◌, subst, arith}
+use Rattle.std.proofs.Common.{◌++◌, take, length, ap, sym, ◌∙◌, subst, arith}
 use Rattle.std.proofs.lemmas.Fmt.{contents_after_writes}
 use Rattle.octseq_dns_message.proofs.MessageTexts.{one_message_text}
 use Rattle.octseq_dns_message.specs.MessageText.{IsMessageText}

@@ -1,8 +1,6 @@
-use Rattle.std.proofs.Common.{◌≡◌, ◌++◌, length, drop, ap, sym, ◌∙◌, refl, subst, arith}
+use Rattle.std.proofs.Common.{◌++◌, length, drop, ap, sym, ◌∙◌, refl, subst, arith}
 use Rattle.octseq.specs.Text.{IsWellFormed}
 use Rattle.octseq_dns_message.proofs.MessageTexts.{one_message_text}
-use Rattle.octseq_dns_message.specs.MessageText.{IsMessageText}
-use Rattle.octseq_dns_message.specs.Parsed.{header_of, questions_of, answers_of, authorities_of, additionals_of}
 use Rattle.octseq_c.proofs.Puts.{puts_ok, puts_no_room, puts_none}
 use Rattle.octseq_c.proofs.text.put_text.Goals as goal
 

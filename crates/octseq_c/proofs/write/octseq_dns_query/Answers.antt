@@ -1,4 +1,4 @@
-use Rattle.std.proofs.Common.{◌≡◌, ◌∙◌}
+use Rattle.std.proofs.Common.{◌∙◌}
 use Rattle.octseq_dns_name.specs.Owned.{owned_labels}
 use Rattle.octseq_c.specs.Made.{IsQuery}
 use Rattle.octseq_c.proofs.OneNames.{one_query}

@@ -1,9 +1,9 @@
-use Rattle.std.proofs.Common.{◌≡◌, ◌<◌, length, arith, ap, sym, ◌∙◌, refl, subst, inl, inr}
+use Rattle.std.proofs.Common.{length, arith, ap, sym, ◌∙◌, refl, subst, inr}
 use Rattle.octseq_dns_message.specs.Parsed.{header_of, questions_of, answers_of, authorities_of, additionals_of}
 use Rattle.octseq_dns_message.proofs.Messages.{said_once}
 use Rattle.octseq.specs.Refusal.{Is, Refusal}
 use Rattle.octseq_dns.specs.Rewritten.{rewrite_error}
-use Rattle.octseq_c.specs.Made.{IsImmovable, IsRewritten}
+use Rattle.octseq_c.specs.Made.{IsRewritten}
 use Rattle.octseq_c.proofs.OneRewriting.{moved_can, moved_contents, no_memory, not_both, one_rewriting, stable}
 use Rattle.octseq_c.proofs.Puts.{not_told, puts_copied, puts_none, told}
 use Rattle.octseq_c.proofs.write.octseq_dns_rewrite.Goals as goal
@@ -42,9 +42,9 @@ pub returns-in-Ok-rewritten-clause-too_long : goal.returns-in-Ok-rewritten-claus
 returns-in-Ok-rewritten-clause-too_long c = λ made is. (
   λ e. let other = (c.put.ensures.no_room (λ z. omega (arith, e, z))).0 in absurd (omega (arith, e, other)),
   λ long.
-  let same = ap length (one_rewriting c.args.octets.now made c.as_slice.result.now is (is_rewritten c)) in
-  let content = ap length c.as_slice.ensures.content in
-  absurd (omega (arith, long, same, content, c.as_slice.ensures.size)),
+      let same = ap length (one_rewriting c.args.octets.now made c.as_slice.result.now is (is_rewritten c)) in
+      let content = ap length c.as_slice.ensures.content in
+      absurd (omega (arith, long, same, content, c.as_slice.ensures.size)),
 )
 
 -- ---- its data can't be moved
@@ -66,22 +66,28 @@ returns-in-Err-Short c =
     let message = c.in-Ok.message in
     record {
       puts = puts_none (IsRewritten c.args.octets.now) 5 (λ e. omega arith) (λ e. omega arith)
-      (one_rewriting c.args.octets.now);
-      malformed = not_told 5 2 (λ e. omega arith) (λ not. not (header_of message, questions_of message,
-      answers_of message, authorities_of message, additionals_of message, c.in-Ok.ensures.message));
+          (one_rewriting c.args.octets.now);
+      malformed = not_told 5 2 (λ e. omega arith) (λ not. not (
+        header_of message,
+        questions_of message,
+        answers_of message,
+        authorities_of message,
+        additionals_of message,
+        c.in-Ok.ensures.message,
+      ));
       immovable = not_told 5 4 (λ e. omega arith) (λ is.
-      let same = said_once c.args.octets.now _ _ _ _ _ _ _ _ _ _ is.message c.in-Ok.ensures.message in
-      let refused = c.in-Err-Short.ensures.immovable.1
-      (λ can. is.stays (moved_can (sym same.2) (sym same.3) (sym same.4) can)) in
-      subst (λ e. Is Refusal.malformed (rewrite_error e)) c.in-Err-Short.field-0-is refused);
+          let same = said_once c.args.octets.now _ _ _ _ _ _ _ _ _ _ is.message c.in-Ok.ensures.message in
+          let refused = c.in-Err-Short.ensures.immovable.1
+          (λ can. is.stays (moved_can (sym same.2) (sym same.3) (sym same.4) can)) in
+          subst (λ e. Is Refusal.malformed (rewrite_error e)) c.in-Err-Short.field-0-is refused);
       too_long = λ made is. (
         λ e.
-        let same = said_once c.args.octets.now _ _ _ _ _ _ _ _ _ _ is.message c.in-Ok.ensures.message in
-        let long = c.in-Err-Short.ensures.short
-        (subst (λ e. Is Refusal.short (rewrite_error e)) (sym c.in-Err-Short.field-0-is) tt) is.contents
-        (moved_contents is.contents same.0 same.1 same.2 same.3 same.4 is.same) in
-        let octets = ap length is.made_is in
-        omega (arith, long, octets),
+            let same = said_once c.args.octets.now _ _ _ _ _ _ _ _ _ _ is.message c.in-Ok.ensures.message in
+            let long = c.in-Err-Short.ensures.short
+            (subst (λ e. Is Refusal.short (rewrite_error e)) (sym c.in-Err-Short.field-0-is) tt) is.contents
+            (moved_contents is.contents same.0 same.1 same.2 same.3 same.4 is.same) in
+            let octets = ap length is.made_is in
+            omega (arith, long, octets),
         λ long. refl,
       );
       only = inr (inr (inr (inr refl)));

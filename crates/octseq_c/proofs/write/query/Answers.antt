@@ -1,4 +1,4 @@
-use Rattle.std.proofs.Common.{◌≡◌, ◌≤◌, ◌+◌, ◌++◌, ◌∙◌, ap, length, arith}
+use Rattle.std.proofs.Common.{◌++◌, ◌∙◌, ap, length, arith}
 use Rattle.octseq.specs.Integer.{octets_be}
 use Rattle.octseq_dns_name.proofs.Wires.{wire_has}
 use Rattle.octseq_dns_name.specs.Owned.{owned_labels}
