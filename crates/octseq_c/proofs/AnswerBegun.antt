@@ -20,7 +20,7 @@ use Rattle.octseq_c.specs.Made.{without_records}
 -- where no request for memory is refused, a call is refused as short
 pub short_alone : {T : Type 0} (result : Result T AppendError) → IsErr result
     → (IsMemory append_error result → (false ≡ true) ⊎ (false ≡ true)) → IsShort append_error result
-short_alone (Ok value) err memory = absurd err
+short_alone (Ok value) err memory = absurd (cc)
 short_alone (Err (AppendError.Short e)) err memory = tt
 short_alone (Err AppendError.Memory) err memory = absurd (elim (memory tt) [ inl asks ↦ cc | inr asks ↦ cc ])
 

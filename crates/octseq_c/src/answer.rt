@@ -82,7 +82,10 @@ fn is_row(source: &[u8], row: &Row) -> bool
     ensures { IsTrue result ↔ IsRow source.now row.now }
 {
     let within = row.data_at <= source.len() && row.data_len <= source.len() - row.data_at;
-    within && row.section >= 1 && row.section <= 3 && name_at(source, row.name_at).is_ok()
+    match name_at(source, row.name_at) {
+        Ok(_) => within && row.section >= 1 && row.section <= 3,
+        Err(Malformed) => false,
+    }
 }
 
 /// Whether the data of each row can be moved.
