@@ -1,13 +1,14 @@
 -- An answer with its header and its questions.
-use Rattle.std.proofs.Common.{◌≡◌, ℕ, ◌<◌, true, false, ◌⊎◌, Some, Result, Ok, Err, List, [], length, refl, sym, ap, ◌∙◌}
+use Rattle.std.proofs.Common.{◌≡◌, ℕ, ◌<◌, true, false, ◌⊎◌, Option, Some, None, Result, Ok, Err, List, [], length, refl, sym, ap, ◌∙◌}
 use Rattle.std.proofs.Common.{subst, arith, inl, inr}
 use Rattle.std.specs.Prelude.{IsErr}
+use Rattle.octseq.specs.Limit.{IsPast}
 use Rattle.octseq.specs.Refusal.{IsMemory, IsShort, append_error}
 use Rattle.octseq.specs.declared.AppendError.{AppendError}
 use Rattle.octseq_dns.specs.Contents.{Message, Question, composed, counts_of, header_octets, octets_of}
 use Rattle.octseq_dns.specs.Sections.{takes_answers}
 use Rattle.octseq_dns.specs.State.{State}
-use Rattle.octseq_dns.specs.Writes.{Writes}
+use Rattle.octseq_dns.specs.Writes.{Writes, least_limit}
 use Rattle.octseq_dns.proofs.Anew.{all_longer}
 use Rattle.octseq_dns.proofs.HeaderRead.{header_length}
 use Rattle.octseq_dns.proofs.Pushed.{header_set, twelve_first}
@@ -23,6 +24,12 @@ pub short_alone : {T : Type 0} (result : Result T AppendError) → IsErr result
 short_alone (Ok value) err memory = absurd (cc)
 short_alone (Err (AppendError.Short e)) err memory = tt
 short_alone (Err AppendError.Memory) err memory = absurd (elim (memory tt) [ inl asks ↦ cc | inr asks ↦ cc ])
+
+-- where no limit is set for pushes, that of a message is passed
+pub past_unlimited : (P : Type 0) (push_limit : Option ℕ) (n : ℕ) → push_limit ≡ None
+    → IsPast (least_limit push_limit (Some 65535)) n ⊎ P → (65535 < n) ⊎ P
+past_unlimited P push_limit n none past =
+    subst (λ limit. IsPast (least_limit limit (Some 65535)) n ⊎ P) none past
 
 -- another header has as many octets
 same_long : (most : ℕ) (m : Message) (header : Header)

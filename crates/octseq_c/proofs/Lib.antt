@@ -1,12 +1,14 @@
-mod AnswerBegun
+pub mod AnswerBegun
 pub mod OneAnswer
+pub mod OneData
 pub mod OneNames
 pub mod OpenEnds
+pub mod Orders
 pub mod OwnText
 pub mod Placed
 pub mod Puts
 pub mod Readings
-mod RowsPushed
+pub mod RowsPushed
 pub mod SettledTexts
 pub mod Told
 pub mod Wholes

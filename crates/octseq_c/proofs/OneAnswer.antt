@@ -9,7 +9,7 @@ use Rattle.octseq_dns.specs.Header.{IsHeader, flag_bits}
 use Rattle.octseq_dns.specs.Message.{IsMessage}
 use Rattle.octseq_dns.specs.OneName.{one_name}
 use Rattle.octseq_dns.specs.Rdata.{bare_rdata, rdata_fields}
-use Rattle.octseq_dns.proofs.HeaderRead.{header_is_read}
+use Rattle.octseq_dns.proofs.HeaderRead.{FitCounts, header_is_read}
 use Rattle.octseq_dns.proofs.Stages.{of_sections}
 use Rattle.octseq_dns_data.proofs.Rdata.{one_said}
 use Rattle.octseq_dns_message.proofs.Headers.{one_header}
@@ -26,9 +26,9 @@ pub one_record : (source : List ℕ) (row : Row) (a b : Record) → IsRecordAt s
     → a ≡ b
 one_record source row a b is other =
     let place = at row.name_at (whole source) in
-    let data = at row.data_at (whole source) in
+    let inside = at row.data_at (whole source) in
     let labels = (one_name place is.name.end other.name.end is.labels other.labels is.name.name other.name.name).0 in
-    let said = one_said row.rtype row.class data (nested row.data_len data) is.rdata other.rdata is.data_is.says
+    let said = one_said row.rtype row.class inside (nested row.data_len inside) is.rdata other.rdata is.data_is.says
     other.data_is.says in
     is.is
     ∙ (λ i. record {
@@ -66,7 +66,7 @@ one_told a b o p r s is =
     let same : header_octets k no_counts ≡ header_octets h no_counts =
     ap (λ n. octets_be 2 0 ++ (octets_be 2 n ++ (octets_be 2 0 ++ (octets_be 2 0 ++ (octets_be 2 0 ++ octets_be 2 0)))))
     (sym is) in
-    let small = record {
+    let small : FitCounts no_counts = record {
       qdcount = omega arith;
       ancount = omega arith;
       nscount = omega arith;

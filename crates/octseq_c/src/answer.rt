@@ -1,12 +1,14 @@
 //! Answers to DNS messages: RFC 1035, 4.1.1. Their records are rows that point into octets of the caller's.
-ghost use Rattle.std.specs.Prelude.{◌≡◌, ◌≢◌, ◌↔◌, ◌⊎◌, ◌+◌, ◌<◌, ◌≤◌, ℕ, None, [], List, length, IsTrue, IsErr};
+ghost use Rattle.std.specs.Prelude.{◌≡◌, ◌≢◌, ◌↔◌, ◌⊎◌, ◌+◌, ◌<◌, ◌≤◌, ℕ, None, List, length, map, IsTrue, IsErr};
 ghost use Rattle.std.specs.Prelude.{IfOk, OnOk};
 ghost use Rattle.std.specs.List.{AllByRecursion, AllZip};
 ghost use Rattle.octseq_dns.specs.Contents as contents;
 ghost use Rattle.octseq_dns.specs.Contents.{octets_of, record_entry};
 ghost use Rattle.octseq_dns.specs.Parsed.{header_of, questions_of};
+ghost use Rattle.octseq_dns.specs.ReadBack.{bare};
 ghost use Rattle.octseq_dns.specs.State.{with_entry};
 ghost use Rattle.octseq_dns.specs.Writes.{Writes, all_more};
+ghost use Rattle.octseq_dns_message.specs.declared.header.Header.{Header as Fields};
 ghost use Rattle.octseq_c.specs.Made.{CanMoveRow, HasRecordsOf, IsAnswer, IsAnswerHeader, IsAnswerOf, IsRecordAt, IsRow};
 ghost use Rattle.octseq_c.specs.Made.{in_section, places_kept, without_records};
 ghost use Rattle.octseq_c.specs.Puts.{Puts};
@@ -135,7 +137,7 @@ fn begin_answer(
     message: &Message<&[u8]>,
     flags: u16,
 ) -> Result<AnswerBuilder<MessageOctets, Table>, AppendError>
-    ensures header { OnOk result ((header : Header) × IsAnswerHeader (header_of message.now) flags header) }
+    ensures header { OnOk result ((header : Fields) × IsAnswerHeader (header_of message.now) flags header) }
     ensures written { IfOk result (λ b. (m : contents.Message)
         → IsAnswerHeader (header_of message.now) flags m.header → m.questions ≡ map bare (questions_of message.now)
         → Writes places_kept (without_records m) b.state b.header b.counts) }
@@ -237,12 +239,12 @@ fn push_row<S: RecordSection>(
     ensures reaches { S.reaches message.old.counts }
     ensures unlimited { message.new.push_limit ≡ None }
 {
-    let (Ok(owner), Some(data)) = (
-        name_at(source, row.name_at),
-        data_of(source, row.data_at, row.data_len, row.rtype, row.class),
-    ) else {
+    let Ok(owner) = name_at(source, row.name_at) else {
+        unreachable!();
+    };
+    let Some(found) = data_of(source, row.data_at, row.data_len, row.rtype, row.class) else {
         unreachable!();
     };
     let (class, ttl) = (Class::from_int(row.class), Ttl::from_secs(row.ttl));
-    message.push_record(&owner, class, ttl, &data)
+    message.push_record(&owner, class, ttl, &found)
 }
