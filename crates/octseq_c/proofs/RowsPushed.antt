@@ -1,13 +1,14 @@
 -- Rows whose records are pushed to a section of a message, one after another.
-use Rattle.std.proofs.Common.{◌≡◌, ℕ, ◌+◌, ◌<◌, ◌≤◌, true, false, cond, List, [], ◌∷◌, length, drop, get_or, Some}
+use Rattle.std.proofs.Common.{◌≡◌, ℕ, ◌+◌, ◌<◌, ◌≤◌, ◌≢◌, Bool, true, false, cond, eq-eqb, List, [], ◌∷◌, length, drop, get_or, Some}
 use Rattle.std.proofs.Common.{refl, sym, ap, ◌∙◌, subst, arith}
-use Rattle.std.proofs.lemmas.List.{drop_more}
+use Rattle.std.proofs.lemmas.Bool.{ne_eqb}
+use Rattle.std.proofs.lemmas.List.{drop_all, drop_more}
 use Rattle.std.specs.List.{AllZip}
 use Rattle.std.specs.Prelude.{nat_eq}
 use Rattle.octseq_dns.specs.Contents.{Message, Record, counts_of, octets_of, record_entry}
 use Rattle.octseq_dns.specs.State.{State, with_entry}
 use Rattle.octseq_dns.specs.Writes.{TakesRecords, Writes, all_more}
-use Rattle.octseq_dns.proofs.Anew.{Ahead, ahead_next, ahead_past, all_longer}
+use Rattle.octseq_dns.proofs.Anew.{Ahead, ahead_next, ahead_none, ahead_past, all_longer}
 use Rattle.octseq_dns_message.specs.declared.header.Header.{Header}
 use Rattle.octseq_dns_message.specs.declared.header.HeaderCounts.{HeaderCounts}
 use Rattle.octseq_c.specs.Made.{IsRecordAt, in_section, places_kept}
@@ -16,19 +17,29 @@ use Rattle.octseq_c.proofs.OneAnswer.{one_record}
 
 -- ---- the rows of a section that are left
 
-pub rows_step : (rows : List Row) (i : ℕ) (row : Row) → i < length rows → row ≡ get_or rows i row
-    → drop i rows ≡ row ∷ drop (i + 1) rows
-rows_step rows i row within is = drop_more rows i row within ∙ ap (λ x. x ∷ drop (i + 1) rows) (sym is)
+-- the row at a place
+abbrev pub row_at : List Row → ℕ → Row
+row_at rows i = get_or rows i
+    (record { name_at = 0; data_at = 0; data_len = 0; ttl = 0; rtype = 0; class = 0; section = 0 })
 
-pub first_taken : (section : ℕ) (row : Row) (rows : List Row) → nat_eq row.section section ≡ true
-    → in_section section (row ∷ rows) ≡ row ∷ in_section section rows
-first_taken section row rows here =
-    ap (λ b. cond b (row ∷ in_section section rows) (in_section section rows)) here
+module _ (section : ℕ) (rows : List Row) (i : ℕ) (within : i < length rows) where
+  pub rows_step : drop i rows ≡ row_at rows i ∷ drop (i + 1) rows
+  rows_step = drop_more rows i _ within
 
-pub first_passed : (section : ℕ) (row : Row) (rows : List Row) → nat_eq row.section section ≡ false
-    → in_section section (row ∷ rows) ≡ in_section section rows
-first_passed section row rows other =
-    ap (λ b. cond b (row ∷ in_section section rows) (in_section section rows)) other
+  next_is : (b : Bool) → nat_eq (row_at rows i).section section ≡ b
+      → in_section section (drop i rows)
+      ≡ cond b (row_at rows i ∷ in_section section (drop (i + 1) rows)) (in_section section (drop (i + 1) rows))
+  next_is b is = ap (in_section section) rows_step
+      ∙ ap (λ b. cond b (row_at rows i ∷ in_section section (drop (i + 1) rows)) (in_section section (drop (i + 1) rows)))
+      is
+
+  pub row_taken : (row_at rows i).section ≡ section
+      → in_section section (drop i rows) ≡ row_at rows i ∷ in_section section (drop (i + 1) rows)
+  row_taken same = next_is true (eq-eqb (row_at rows i).section section same)
+
+  pub row_passed : (row_at rows i).section ≢ section
+      → in_section section (drop i rows) ≡ in_section section (drop (i + 1) rows)
+  row_passed other = next_is false (ne_eqb (row_at rows i).section section other)
 
 -- ---- what becomes of the message
 
@@ -51,6 +62,15 @@ left_first source more m written rows state header counts is are = record {
   turned = omega arith;
   took = omega arith;
 }
+
+-- at last none is
+pub left_none : (source : List ℕ) (more : Message → Record → Message) (m : Message) (written : List Record)
+    (section : ℕ) (rows : List Row) (i : ℕ) (state : State) (header : Header) (counts : HeaderCounts)
+    → length rows ≤ i → Left source more m written (in_section section (drop i rows)) state header counts
+    → Writes places_kept (all_more more m written) state header counts
+left_none source more m written section rows i state header counts all left =
+    (ahead_none places_kept m written state header counts 0 0 0
+    (subst (λ rows. Left source more m written (in_section section rows) state header counts) (drop_all i rows all) left)).0
 
 module _ {Reaches : HeaderCounts → Type 0} {count : HeaderCounts → ℕ} {counted : HeaderCounts → ℕ → HeaderCounts}
     {more : Message → Record → Message} (takes : TakesRecords Reaches count counted more) (source : List ℕ) (m : Message)

@@ -214,9 +214,10 @@ fn push_rows<S: RecordSection>(
 {
     let mut message = builder;
     for row in rows {
-        if row.section == section {
-            push_row(&mut message, source, row)?;
+        if row.section != section {
+            continue;
         }
+        push_row(&mut message, source, row)?;
     }
     Ok(message)
 }
