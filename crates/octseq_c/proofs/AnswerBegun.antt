@@ -1,7 +1,7 @@
 -- An answer with its header and its questions.
 use Rattle.std.proofs.Common.{◌≡◌, ℕ, ◌<◌, true, false, ◌⊎◌, Option, Some, None, Result, Ok, Err, List, [], length, refl, sym, ap, ◌∙◌}
 use Rattle.std.proofs.Common.{subst, arith, inl, inr}
-use Rattle.std.specs.Prelude.{IsErr}
+use Rattle.std.specs.Prelude.{IfOk, IsErr, OnOk}
 use Rattle.octseq.specs.Limit.{IsPast}
 use Rattle.octseq.specs.Refusal.{IsMemory, IsShort, append_error}
 use Rattle.octseq.specs.declared.AppendError.{AppendError}
@@ -18,6 +18,16 @@ use Rattle.octseq_dns_message.specs.declared.header.Header.{Header}
 use Rattle.octseq_dns_message.specs.declared.header.HeaderCounts.{HeaderCounts}
 use Rattle.octseq_c.specs.Made.{without_records}
 
+-- what follows where a call answers Ok
+pub on_ok : {T E P Q : Type 0} (r : Result T E) → (P → Q) → OnOk r P → OnOk r Q
+on_ok (Ok value) then is = then is
+on_ok (Err e) then is = tt
+
+pub if_ok : {T E : Type 0} {P Q : T → Type 0} (r : Result T E) → ((value : T) → P value → Q value) → IfOk r P
+    → IfOk r Q
+if_ok (Ok value) then is = then value is
+if_ok (Err e) then is = tt
+
 -- where no request for memory is refused, a call is refused as short
 pub short_alone : {T : Type 0} (result : Result T AppendError) → IsErr result
     → (IsMemory append_error result → (false ≡ true) ⊎ (false ≡ true)) → IsShort append_error result
@@ -26,10 +36,9 @@ short_alone (Err (AppendError.Short e)) err memory = tt
 short_alone (Err AppendError.Memory) err memory = absurd (elim (memory tt) [ inl asks ↦ cc | inr asks ↦ cc ])
 
 -- where no limit is set for pushes, that of a message is passed
-pub past_unlimited : (P : Type 0) (push_limit : Option ℕ) (n : ℕ) → push_limit ≡ None
-    → IsPast (least_limit push_limit (Some 65535)) n ⊎ P → (65535 < n) ⊎ P
-past_unlimited P push_limit n none past =
-    subst (λ limit. IsPast (least_limit limit (Some 65535)) n ⊎ P) none past
+pub past_unlimited : (push_limit : Option ℕ) (n : ℕ) → push_limit ≡ None
+    → IsPast (least_limit push_limit (Some 65535)) n → 65535 < n
+past_unlimited push_limit n none past = subst (λ limit. IsPast (least_limit limit (Some 65535)) n) none past
 
 -- another header has as many octets
 same_long : (most : ℕ) (m : Message) (header : Header)

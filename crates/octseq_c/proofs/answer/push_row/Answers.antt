@@ -1,4 +1,4 @@
-use Rattle.std.proofs.Common.{◌≡◌, ◌∙◌, refl}
+use Rattle.std.proofs.Common.{◌≡◌, inl, inr, ◌∙◌, refl}
 use Rattle.octseq.specs.Window.{at, nested, whole}
 use Rattle.octseq_dns.specs.Pushed.{told}
 use Rattle.octseq_dns.specs.Rdata.{bare_rdata, rdata_fields, rtype_of}
@@ -39,5 +39,8 @@ returns-clause-pushed g c =
         };
       },
       c.push_record.ensures.written,
-      λ err. past_unlimited _ _ _ c.requires.unlimited (went.short (short_alone c.push_record.result err went.memory)),
+      λ err. elim (went.short (short_alone c.push_record.result err went.memory)) [
+        | inl past ↦ inl (past_unlimited _ _ c.requires.unlimited past)
+        | inr full ↦ inr full
+      ],
     )
