@@ -107,9 +107,10 @@ fn can_move_row(source: &[u8], row: &Row) -> bool
     ensures { IsTrue result ↔ CanMoveRow source.now row.now }
 {
     let (rtype, class) = (Rtype::from_int(row.rtype), Class::from_int(row.class));
-    row.data_len == 0
-        || !data_may_have_names(rtype, class)
-        || octseq_dns_data_is_typed(source, row.data_at, row.data_len, row.rtype, row.class) == 1
+    if row.data_len == 0 || !data_may_have_names(rtype, class) {
+        return true;
+    }
+    octseq_dns_data_is_typed(source, row.data_at, row.data_len, row.rtype, row.class) == 1
 }
 
 /// The octets of an answer.

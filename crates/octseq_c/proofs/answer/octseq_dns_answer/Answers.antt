@@ -1,4 +1,4 @@
-use Rattle.std.proofs.Common.{◌∙◌, ap, refl, arith}
+use Rattle.std.proofs.Common.{length, ◌∙◌, ap, refl, arith}
 use Rattle.octseq_dns.specs.Parsed.{additionals_of, answers_of, authorities_of, header_of, questions_of}
 use Rattle.octseq_c.specs.Made.{IsAnswer}
 use Rattle.octseq_c.proofs.OneAnswer.{answer_of, one_answer}
@@ -19,7 +19,7 @@ returns-in-Ok-answer-clause-puts c =
       answers = _;
       authorities = _;
       additionals = _;
-      message = c.in-Ok-3.ensures.message;
+      message = c.in-Ok.ensures.message;
       contents = made.0;
       is = made.1;
       made_is = c.as_slice.ensures.content ∙ made.2;
@@ -38,10 +38,10 @@ returns-in-Err-answer-clause-puts c =
 
 pub returns-in-Err-answer-clause-too_long : goal.returns-in-Err-answer-clause-too_long
 returns-in-Err-answer-clause-too_long c e few made is =
-    let message = c.in-Ok-3.message in
+    let message = c.in-Ok.field-0 in
     let m = answer_of (header_of message) c.args.flags (questions_of message) c.args.source.now c.args.rows.now
     c.args.query.now (answers_of message) (authorities_of message) (additionals_of message) made
-    c.in-Ok-3.ensures.message is in
+    c.in-Ok.ensures.message is in
     let past = c.in-Err-answer.ensures.short refl m.0 m.1 few in
     let same = ap length m.2 in
     omega (arith, past, same)
