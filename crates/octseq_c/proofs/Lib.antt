@@ -1,4 +1,6 @@
+pub mod AnswerBegun
 pub mod Appended
+pub mod OneAnswer
 pub mod OneData
 pub mod OneMessages
 pub mod OneNames
@@ -9,6 +11,7 @@ pub mod OwnText
 pub mod Placed
 pub mod Puts
 pub mod Readings
+pub mod RowsPushed
 pub mod SettledTexts
 pub mod Told
 pub mod Wholes

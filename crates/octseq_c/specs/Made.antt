@@ -1,6 +1,6 @@
 -- The DNS messages that are written.
-use Rattle.std.specs.Prelude.{◌≡◌, ℕ, ◌+◌, ◌<◌, ◌≤◌, true, nat_eq, List, ◌++◌, length, map, filter, IsTrue}
-use Rattle.std.specs.List.{AllZip}
+use Rattle.std.specs.Prelude.{◌≡◌, ◌≢◌, ℕ, ◌+◌, ◌<◌, ◌≤◌, true, nat_eq, List, [], ◌++◌, length, map, filter, IsTrue}
+use Rattle.std.specs.List.{AllZip, AllByRecursion}
 use Rattle.octseq.specs.Integer.{octets_be}
 use Rattle.octseq_dns.specs.Contents as contents
 use Rattle.octseq_dns.specs.Contents.{octets_of}
@@ -107,6 +107,23 @@ pub record IsAnswerHeader (asked : Header) (flags : ℕ) (header : Header) : Typ
     rcode = told.rcode;
   }
 
+-- A message has the records that rows stand for, each in its section, in their order.
+pub record HasRecordsOf (source : List ℕ) (rows : List Row) (m : contents.Message) : Type 0 where
+  pub answers_are : AllZip (IsRecordAt source) (in_section 1 rows) m.answers
+  pub authorities_are : AllZip (IsRecordAt source) (in_section 2 rows) m.authorities
+  pub additionals_are : AllZip (IsRecordAt source) (in_section 3 rows) m.additionals
+
+-- the message with its header and its questions alone
+abbrev pub without_records : contents.Message → contents.Message
+without_records m = record m { answers = []; authorities = []; additionals = [] }
+
+-- A message answers one with this header and these questions, with the records that rows stand for.
+pub record IsAnswerOf (asked : Header) (flags : ℕ) (questions : List Question) (source : List ℕ) (rows : List Row)
+    (m : contents.Message) : Type 0 where
+  pub header_is : IsAnswerHeader asked flags m.header
+  pub questions_are : m.questions ≡ map bare questions
+  pub records_are : HasRecordsOf source rows m
+
 -- These are the octets of an answer to a message, with the records that rows stand for.
 pub record IsAnswer (query : List ℕ) (flags : ℕ) (source : List ℕ) (rows : List Row) (made : List ℕ) : Type 0 where
   pub asked : Header
@@ -116,9 +133,5 @@ pub record IsAnswer (query : List ℕ) (flags : ℕ) (source : List ℕ) (rows :
   pub additionals : List Record
   pub message : IsMessage query asked questions answers authorities additionals
   pub contents : contents.Message
-  pub header_is : IsAnswerHeader asked flags contents.header
-  pub questions_are : contents.questions ≡ map bare questions
-  pub answers_are : AllZip (IsRecordAt source) (in_section 1 rows) contents.answers
-  pub authorities_are : AllZip (IsRecordAt source) (in_section 2 rows) contents.authorities
-  pub additionals_are : AllZip (IsRecordAt source) (in_section 3 rows) contents.additionals
+  pub is : IsAnswerOf asked flags questions source rows contents
   pub made_is : made ≡ octets_of places_kept contents

@@ -2,6 +2,7 @@
 //! requests no memory, keeps no pointer, and says with a number what came of it.
 #![tactic(auto)]
 
+mod answer;
 mod data;
 mod header;
 mod lossy;

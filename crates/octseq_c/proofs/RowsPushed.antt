@@ -1,0 +1,96 @@
+-- Rows whose records are pushed to a section of a message, one after another.
+use Rattle.std.proofs.Common.{◌≡◌, ℕ, ◌+◌, ◌<◌, ◌≤◌, ◌≢◌, Bool, true, false, cond, eq-eqb, List, [], ◌∷◌, length, drop, get_or, Some}
+use Rattle.std.proofs.Common.{refl, sym, ap, ◌∙◌, subst, arith}
+use Rattle.std.proofs.lemmas.Bool.{ne_eqb}
+use Rattle.std.proofs.lemmas.List.{drop_all, drop_more}
+use Rattle.std.specs.List.{AllZip}
+use Rattle.std.specs.Prelude.{nat_eq}
+use Rattle.octseq_dns.specs.Contents.{Message, Record, counts_of, octets_of, record_entry}
+use Rattle.octseq_dns.specs.State.{State, with_entry}
+use Rattle.octseq_dns.specs.Writes.{TakesRecords, Writes, all_more}
+use Rattle.octseq_dns.proofs.Anew.{Ahead, ahead_next, ahead_none, ahead_past, all_longer}
+use Rattle.octseq_dns_message.specs.declared.header.Header.{Header}
+use Rattle.octseq_dns_message.specs.declared.header.HeaderCounts.{HeaderCounts}
+use Rattle.octseq_c.specs.Made.{IsRecordAt, in_section, places_kept}
+use Rattle.octseq_c.specs.declared.rows.Row.{Row}
+use Rattle.octseq_c.proofs.OneAnswer.{one_record}
+
+-- ---- the rows of a section that are left
+
+-- the row at a place
+abbrev pub row_at : List Row → ℕ → Row
+row_at rows i = get_or rows i
+    (record { name_at = 0; data_at = 0; data_len = 0; ttl = 0; rtype = 0; class = 0; section = 0 })
+
+module _ (section : ℕ) (rows : List Row) (i : ℕ) (within : i < length rows) where
+  pub rows_step : drop i rows ≡ row_at rows i ∷ drop (i + 1) rows
+  rows_step = drop_more rows i _ within
+
+  next_is : (b : Bool) → nat_eq (row_at rows i).section section ≡ b
+      → in_section section (drop i rows)
+      ≡ cond b (row_at rows i ∷ in_section section (drop (i + 1) rows)) (in_section section (drop (i + 1) rows))
+  next_is b is = ap (in_section section) rows_step
+      ∙ ap (λ b. cond b (row_at rows i ∷ in_section section (drop (i + 1) rows)) (in_section section (drop (i + 1) rows)))
+      is
+
+  pub row_taken : (row_at rows i).section ≡ section
+      → in_section section (drop i rows) ≡ row_at rows i ∷ in_section section (drop (i + 1) rows)
+  row_taken same = next_is true (eq-eqb (row_at rows i).section section same)
+
+  pub row_passed : (row_at rows i).section ≢ section
+      → in_section section (drop i rows) ≡ in_section section (drop (i + 1) rows)
+  row_passed other = next_is false (ne_eqb (row_at rows i).section section other)
+
+-- ---- what becomes of the message
+
+-- What is pushed of rows, where some are left: a message so far, which becomes the whole by their records.
+abbrev pub Left : List ℕ → (Message → Record → Message) → Message → List Record → List Row → State → Header
+    → HeaderCounts → Type 0
+Left source more m written rows state header counts =
+    Ahead (IsRecordAt source) (λ _. 0) more places_kept m written rows state header counts 0 0 0
+
+-- at first all are left
+pub left_first : (source : List ℕ) (more : Message → Record → Message) (m : Message) (written : List Record)
+    (rows : List Row) (state : State) (header : Header) (counts : HeaderCounts) → Writes places_kept m state header counts
+    → AllZip (IsRecordAt source) rows written → Left source more m written rows state header counts
+left_first source more m written rows state header counts is are = record {
+  now = m;
+  rest = written;
+  writes = is;
+  are = are;
+  same = refl;
+  turned = omega arith;
+  took = omega arith;
+}
+
+-- at last none is
+pub left_none : (source : List ℕ) (more : Message → Record → Message) (m : Message) (written : List Record)
+    (section : ℕ) (rows : List Row) (i : ℕ) (state : State) (header : Header) (counts : HeaderCounts)
+    → length rows ≤ i → Left source more m written (in_section section (drop i rows)) state header counts
+    → Writes places_kept (all_more more m written) state header counts
+left_none source more m written section rows i state header counts all left =
+    (ahead_none places_kept m written state header counts 0 0 0
+    (subst (λ rows. Left source more m written (in_section section rows) state header counts) (drop_all i rows all) left)).0
+
+module _ {Reaches : HeaderCounts → Type 0} {count : HeaderCounts → ℕ} {counted : HeaderCounts → ℕ → HeaderCounts}
+    {more : Message → Record → Message} (takes : TakesRecords Reaches count counted more) (source : List ℕ) (m : Message)
+    (written : List Record) (row : Row) (rows : List Row) (state : State) (header : Header) (counts : HeaderCounts)
+    (left : Left source more m written (row ∷ rows) state header counts) (one : Record)
+    (is : IsRecordAt source row one) (reaches : Reaches counts) where
+  -- one is pushed
+  pub left_next : (next : State) (another : Header) (now : HeaderCounts)
+      → ((m : Message) → Writes places_kept m state header counts → Writes places_kept (more m one) next another now)
+      → Left source more m written rows next another now
+  left_next next another now pushed =
+      let longer = all_longer places_kept takes left.now (one ∷ []) (subst Reaches left.writes.counts_are reaches) in
+      let before = ap (λ s. length s.octets) left.writes.state_is in
+      let after = ap (λ s. length s.octets) (pushed left.now left.writes).state_is in
+      ahead_next places_kept m written row rows state header counts 0 0 0 left one
+      (λ other of. one_record source row other one of is) next another now 0 pushed (omega arith)
+      (omega (arith, longer, before, after))
+
+  -- or the whole passes the limit, as the message with it does
+  pub left_past : 65535 < length (with_entry places_kept state (record_entry one)).octets
+      → 65535 < length (octets_of places_kept (all_more more m written))
+  left_past past = ahead_past places_kept m written row rows state header counts 0 0 0 left one
+      (λ other of. one_record source row other one of is) (Some 65535) takes reaches past

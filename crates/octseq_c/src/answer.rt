@@ -1,0 +1,252 @@
+//! Answers to DNS messages: RFC 1035, 4.1.1. Their records are rows that point into octets of the caller's.
+ghost use Rattle.std.specs.Prelude.{◌≡◌, ◌≢◌, ◌↔◌, ◌⊎◌, ◌+◌, ◌<◌, ◌≤◌, ℕ, None, List, length, map, IsTrue, IsErr};
+ghost use Rattle.std.specs.Prelude.{IfOk, OnOk};
+ghost use Rattle.std.specs.List.{AllByRecursion, AllZip};
+ghost use Rattle.octseq_dns.specs.Contents as contents;
+ghost use Rattle.octseq_dns.specs.Contents.{octets_of, record_entry};
+ghost use Rattle.octseq_dns.specs.Parsed.{header_of, questions_of};
+ghost use Rattle.octseq_dns.specs.ReadBack.{bare};
+ghost use Rattle.octseq_dns.specs.State.{with_entry};
+ghost use Rattle.octseq_dns.specs.Writes.{Writes, all_more};
+ghost use Rattle.octseq_dns_message.specs.declared.header.Header.{Header as Fields};
+ghost use Rattle.octseq_c.specs.Made.{CanMoveRow, HasRecordsOf, IsAnswer, IsAnswerHeader, IsAnswerOf, IsRecordAt, IsRow};
+ghost use Rattle.octseq_c.specs.Made.{in_section, places_kept, without_records};
+ghost use Rattle.octseq_c.specs.Puts.{Puts};
+ghost use Rattle.octseq_c.specs.Rows.{IsSomeMessage};
+ghost use Rattle.octseq_c.specs.Status.{status_ok, status_no_room, status_malformed, status_immovable};
+ghost use Rattle.octseq_c.specs.Status.{status_too_long, status_bad_row};
+
+use crate::data::{data_of, octseq_dns_data_is_typed};
+use crate::header::header_from;
+use crate::names::name_at;
+use crate::room::put;
+use crate::rows::Row;
+use crate::status::{BAD_ROW, IMMOVABLE, MALFORMED, TOO_LONG};
+use crate::write::{MessageOctets, Table};
+use octseq::AppendError;
+use octseq_dns::builder::section::RecordSection;
+use octseq_dns::builder::{AdditionalBuilder, AnswerBuilder, MessageBuilder, SectionBuilder};
+use octseq_dns::message::one_message;
+use octseq_dns::moved::data_may_have_names;
+use octseq_dns::{Class, Flags, Header, Malformed, Message, Rtype, Ttl};
+
+/// The answer to a message, at the front of `out`. Its records are the rows, each in its section, in their order; the
+/// names and the data of the rows are in `source`.
+#[unsafe(no_mangle)]
+pub extern "C" fn octseq_dns_answer(
+    query: &[u8],
+    flags: u16,
+    source: &[u8],
+    rows: &[Row],
+    out: &mut [u8],
+    written: &mut usize,
+) -> u32
+    ensures puts { Puts (IsAnswer query.now flags source.now rows.now) result out.old out.new written.new }
+    ensures malformed { (result ≡ status_malformed) ↔ ¬ IsSomeMessage query.now }
+    ensures bad_row { (result ≡ status_bad_row)
+        ↔ (IsSomeMessage query.now × ¬ AllByRecursion (IsRow source.now) rows.now) }
+    ensures immovable { (result ≡ status_immovable) ↔ (IsSomeMessage query.now
+        × AllByRecursion (IsRow source.now) rows.now × ¬ AllByRecursion (CanMoveRow source.now) rows.now) }
+    ensures too_long { result ≡ status_too_long → (length rows.now ≤ 65535) → (made : List ℕ)
+        → IsAnswer query.now flags source.now rows.now made → 65535 < length made }
+    ensures only { (result ≡ status_ok) ⊎ (result ≡ status_no_room) ⊎ (result ≡ status_malformed)
+        ⊎ (result ≡ status_bad_row) ⊎ (result ≡ status_immovable) ⊎ (result ≡ status_too_long) }
+    ensures kept { result ≢ status_ok → out.new ≡ out.old }
+{
+    one_message();
+    let status = match Message::parse(query) {
+        Ok(_) if !are_rows(source, rows) => BAD_ROW,
+        Ok(_) if !can_move_rows(source, rows) => IMMOVABLE,
+        Ok(message) => match answer(&message, flags, source, rows) {
+            Ok(made) => return put(made.as_slice(), out, written),
+            Err(_) => TOO_LONG,
+        },
+        Err(Malformed) => MALFORMED,
+    };
+    *written = 0;
+    status
+}
+
+/// Whether what each row says is there.
+fn are_rows(source: &[u8], rows: &[Row]) -> bool
+    ensures { IsTrue result ↔ AllByRecursion (IsRow source.now) rows.now }
+{
+    for row in rows {
+        if !is_row(source, row) {
+            return false;
+        }
+    }
+    true
+}
+
+/// Whether a row's name is at its place, its data is within the octets, and its section is one of records.
+fn is_row(source: &[u8], row: &Row) -> bool
+    ensures { IsTrue result ↔ IsRow source.now row.now }
+{
+    let within = row.data_at <= source.len() && row.data_len <= source.len() - row.data_at;
+    match name_at(source, row.name_at) {
+        Ok(_) => within && row.section >= 1 && row.section <= 3,
+        Err(Malformed) => false,
+    }
+}
+
+/// Whether the data of each row can be moved.
+fn can_move_rows(source: &[u8], rows: &[Row]) -> bool
+    ensures { IsTrue result ↔ AllByRecursion (CanMoveRow source.now) rows.now }
+{
+    for row in rows {
+        if !can_move_row(source, row) {
+            return false;
+        }
+    }
+    true
+}
+
+/// Whether the data of a row can be moved.
+fn can_move_row(source: &[u8], row: &Row) -> bool
+    ensures { IsTrue result ↔ CanMoveRow source.now row.now }
+{
+    let (rtype, class) = (Rtype::from_int(row.rtype), Class::from_int(row.class));
+    if row.data_len == 0 || !data_may_have_names(rtype, class) {
+        return true;
+    }
+    octseq_dns_data_is_typed(source, row.data_at, row.data_len, row.rtype, row.class) == 1
+}
+
+/// The octets of an answer.
+fn answer(
+    message: &Message<&[u8]>,
+    flags: u16,
+    source: &[u8],
+    rows: &[Row],
+) -> Result<MessageOctets, AppendError>
+    requires { AllByRecursion (IsRow source.now) rows.now }
+    ensures made { IfOk result (λ made. (m : contents.Message)
+        × IsAnswerOf (header_of message.now) flags (questions_of message.now) source.now rows.now m
+        × (made.content ≡ octets_of places_kept m)) }
+    ensures short { IsErr result → (m : contents.Message)
+        → IsAnswerOf (header_of message.now) flags (questions_of message.now) source.now rows.now m
+        → (length rows.now ≤ 65535) → 65535 < length (octets_of places_kept m) }
+{
+    let begun = begin_answer(message, flags)?;
+    let whole = push_sections(begun, source, rows)?;
+    Ok(whole.finish().0)
+}
+
+/// An answer with its header and its questions.
+fn begin_answer(
+    message: &Message<&[u8]>,
+    flags: u16,
+) -> Result<AnswerBuilder<MessageOctets, Table>, AppendError>
+    ensures header { OnOk result ((header : Fields) × IsAnswerHeader (header_of message.now) flags header) }
+    ensures written { IfOk result (λ b. (m : contents.Message)
+        → IsAnswerHeader (header_of message.now) flags m.header → m.questions ≡ map bare (questions_of message.now)
+        → Writes places_kept (without_records m) b.state b.header b.counts) }
+    ensures unlimited { IfOk result (λ b. b.push_limit ≡ None) }
+    ensures short { IsErr result → (m : contents.Message)
+        → m.questions ≡ map bare (questions_of message.now) → 65535 < length (octets_of places_kept m) }
+{
+    let header = answer_header(&message.header(), flags);
+    let begun = MessageBuilder::from_builder(MessageOctets::new(), Table::new())?;
+    let mut answers = begun.start_answer(message, header.rcode)?;
+    answers.set_header(header);
+    Ok(answers)
+}
+
+/// The header of an answer.
+fn answer_header(asked: &Header, flags: u16) -> Header
+    ensures { IsAnswerHeader asked.now flags result }
+{
+    let told = header_from(asked.id, flags);
+    Header {
+        id: asked.id,
+        flags: Flags {
+            qr: true,
+            rd: asked.flags.rd,
+            ..told.flags
+        },
+        opcode: asked.opcode,
+        rcode: told.rcode,
+    }
+}
+
+/// Pushes the records that rows stand for, each to its section.
+fn push_sections(
+    answers: AnswerBuilder<MessageOctets, Table>,
+    source: &[u8],
+    rows: &[Row],
+) -> Result<AdditionalBuilder<MessageOctets, Table>, AppendError>
+    requires rows { AllByRecursion (IsRow source.now) rows.now }
+    requires unlimited { answers.push_limit ≡ None }
+    ensures records { OnOk result ((m : contents.Message) × HasRecordsOf source.now rows.now m) }
+    ensures written { IfOk result (λ b. (m : contents.Message) → HasRecordsOf source.now rows.now m
+        → Writes places_kept (without_records m) answers.state answers.header answers.counts
+        → Writes places_kept m b.state b.header b.counts) }
+    ensures short { IsErr result → (m : contents.Message) → HasRecordsOf source.now rows.now m
+        → Writes places_kept (without_records m) answers.state answers.header answers.counts
+        → (length rows.now ≤ 65535) → 65535 < length (octets_of places_kept m) }
+{
+    let answered = push_rows(answers, source, rows, 1)?;
+    let authorized = push_rows(answered.authority(), source, rows, 2)?;
+    push_rows(authorized.additional(), source, rows, 3)
+}
+
+/// Pushes the records that the rows of a section stand for.
+fn push_rows<S: RecordSection>(
+    builder: SectionBuilder<MessageOctets, Table, S>,
+    source: &[u8],
+    rows: &[Row],
+    section: u32,
+) -> Result<SectionBuilder<MessageOctets, Table, S>, AppendError>
+    requires rows { AllByRecursion (IsRow source.now) rows.now }
+    requires unlimited { builder.push_limit ≡ None }
+    ensures records { OnOk result ((written : List contents.Record)
+        × AllZip (IsRecordAt source.now) (in_section section rows.now) written) }
+    ensures written { IfOk result (λ b. (m : contents.Message) (written : List contents.Record)
+        → Writes places_kept m builder.state builder.header builder.counts
+        → AllZip (IsRecordAt source.now) (in_section section rows.now) written
+        → Writes places_kept (all_more S.more m written) b.state b.header b.counts) }
+    ensures unlimited { IfOk result (λ b. b.push_limit ≡ None) }
+    ensures short { IsErr result → (m : contents.Message) (written : List contents.Record)
+        → Writes places_kept m builder.state builder.header builder.counts
+        → AllZip (IsRecordAt source.now) (in_section section rows.now) written
+        → (S.count builder.counts + length rows.now ≤ 65535)
+        → 65535 < length (octets_of places_kept (all_more S.more m written)) }
+{
+    let mut message = builder;
+    for row in rows {
+        if row.section != section {
+            continue;
+        }
+        push_row(&mut message, source, row)?;
+    }
+    Ok(message)
+}
+
+/// Pushes the record that a row stands for.
+fn push_row<S: RecordSection>(
+    message: &mut SectionBuilder<MessageOctets, Table, S>,
+    source: &[u8],
+    row: &Row,
+) -> Result<(), AppendError>
+    requires row { IsRow source.now row.now }
+    requires unlimited { message.old.push_limit ≡ None }
+    ensures pushed { (one : contents.Record) × IsRecordAt source.now row.now one
+        × OnOk result ((m : contents.Message)
+        → Writes places_kept m message.old.state message.old.header message.old.counts
+        → Writes places_kept (S.more m one) message.new.state message.new.header message.new.counts)
+        × (IsErr result → (65535 < length (with_entry places_kept message.old.state (record_entry one)).octets)
+        ⊎ (65535 ≤ S.count message.old.counts)) }
+    ensures counts { OnOk result (S.count message.new.counts ≡ S.count message.old.counts + 1) }
+    ensures reaches { S.reaches message.old.counts }
+    ensures unlimited { message.new.push_limit ≡ None }
+{
+    let Ok(owner) = name_at(source, row.name_at) else {
+        unreachable!();
+    };
+    let Some(found) = data_of(source, row.data_at, row.data_len, row.rtype, row.class) else {
+        unreachable!();
+    };
+    let (class, ttl) = (Class::from_int(row.class), Ttl::from_secs(row.ttl));
+    message.push_record(&owner, class, ttl, &found)
+}
