@@ -16,7 +16,7 @@ use Rattle.octseq_dns_message.proofs.Headers.{one_header}
 use Rattle.octseq_dns_message.proofs.Messages.{said_once}
 use Rattle.octseq_dns_message.specs.declared.header.Header.{Header}
 use Rattle.octseq_dns_message.specs.declared.header.HeaderCounts.{HeaderCounts}
-use Rattle.octseq_c.specs.Made.{HasRecordsOf, IsAnswer, IsAnswerHeader, IsAnswerOf, IsRecordAt, in_section, places_kept}
+use Rattle.octseq_c.specs.Made.{IsAnswer, IsAnswerHeader, IsAnswerOf, IsRecordAt, in_section, places_kept}
 use Rattle.octseq_c.specs.declared.rows.Row.{Row}
 
 -- ---- a record

@@ -1,11 +1,11 @@
 -- Rows whose records are pushed to a section of a message, one after another.
 use Rattle.std.proofs.Common.{◌≡◌, ℕ, ◌+◌, ◌<◌, ◌≤◌, ◌≢◌, Bool, true, false, cond, eq-eqb, List, [], ◌∷◌, length, drop, get_or, Some}
-use Rattle.std.proofs.Common.{refl, sym, ap, ◌∙◌, subst, arith}
+use Rattle.std.proofs.Common.{refl, ap, ◌∙◌, subst, arith}
 use Rattle.std.proofs.lemmas.Bool.{ne_eqb}
 use Rattle.std.proofs.lemmas.List.{drop_all, drop_more}
 use Rattle.std.specs.List.{AllZip}
 use Rattle.std.specs.Prelude.{nat_eq}
-use Rattle.octseq_dns.specs.Contents.{Message, Record, counts_of, octets_of, record_entry}
+use Rattle.octseq_dns.specs.Contents.{Message, Record, octets_of, record_entry}
 use Rattle.octseq_dns.specs.State.{State, with_entry}
 use Rattle.octseq_dns.specs.Writes.{TakesRecords, Writes, all_more}
 use Rattle.octseq_dns.proofs.Anew.{Ahead, ahead_next, ahead_none, ahead_past, all_longer}

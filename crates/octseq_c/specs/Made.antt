@@ -1,6 +1,6 @@
 -- The DNS messages that are written.
-use Rattle.std.specs.Prelude.{◌≡◌, ◌≢◌, ℕ, ◌+◌, ◌<◌, ◌≤◌, true, nat_eq, List, [], ◌++◌, length, map, filter, IsTrue}
-use Rattle.std.specs.List.{AllZip, AllByRecursion}
+use Rattle.std.specs.Prelude.{◌≡◌, ℕ, ◌+◌, ◌<◌, ◌≤◌, true, nat_eq, List, [], ◌++◌, length, map, filter, IsTrue}
+use Rattle.std.specs.List.{AllZip}
 use Rattle.octseq.specs.Integer.{octets_be}
 use Rattle.octseq_dns.specs.Contents as contents
 use Rattle.octseq_dns.specs.Contents.{octets_of}

@@ -49,6 +49,7 @@ pub extern "C" fn octseq_dns_answer(
         × AllByRecursion (IsRow source.now) rows.now × ¬ AllByRecursion (CanMoveRow source.now) rows.now) }
     ensures too_long { result ≡ status_too_long → (length rows.now ≤ 65535) → (made : List ℕ)
         → IsAnswer query.now flags source.now rows.now made → 65535 < length made }
+    ensures fits { written.new ≤ 65535 }
     ensures only { (result ≡ status_ok) ⊎ (result ≡ status_no_room) ⊎ (result ≡ status_malformed)
         ⊎ (result ≡ status_bad_row) ⊎ (result ≡ status_immovable) ⊎ (result ≡ status_too_long) }
     ensures kept { result ≢ status_ok → out.new ≡ out.old }

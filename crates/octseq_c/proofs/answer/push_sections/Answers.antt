@@ -1,4 +1,4 @@
-use Rattle.std.proofs.Common.{◌≡◌, Some, [], ap, refl, arith}
+use Rattle.std.proofs.Common.{Some, [], ap, refl, arith}
 use Rattle.octseq_dns.proofs.Stages.{additionals_pushed, answered, answers_pushed, asked, authorities_pushed}
 use Rattle.octseq_dns.proofs.Stages.{authorized, of_sections, past_additionals, past_answers, past_authorities}
 use Rattle.octseq_c.specs.Made.{places_kept}
