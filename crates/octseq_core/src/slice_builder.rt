@@ -1,5 +1,6 @@
 //! A builder whose octets are in a slice that somebody lends.
-ghost use Rattle.std.specs.Prelude.{◌≡◌, ◌≤◌, ℕ, [], ◌∷◌, false, Some, length};
+ghost use Rattle.std.specs.Prelude.{◌≡◌, ◌≤◌, ℕ, [], ◌∷◌, false, Some, drop, length, OnErr};
+ghost use Rattle.octseq_core.specs.Appends.{Appends};
 
 use crate::builder::{AppendError, AsOctets, OctetsBuilder, ShortBuf, Truncate};
 use std::marker::{Brand, PhantomData};
@@ -68,13 +69,23 @@ impl<K: Room> AsOctets for SliceBuilder<'_, K> {
 }
 
 impl<K: Room> OctetsBuilder for SliceBuilder<'_, K> {
+    ghost use Rattle.octseq_core.specs.SliceBuilder.{slice_content, slice_octets, lender};
+
     fn max_len(&self) -> Option<usize> {
         Some(self.octets.len())
     }
 
     /// The slice takes the place of as many octets after the content. Those after it stay.
     #[inline(always)]
-    fn append_slice(&mut self, slice: &[u8]) -> Result<(), AppendError> {
+    #[tactic(auto, using(std::proofs::lemmas::Slice::overwrites))]
+    fn append_slice(&mut self, slice: &[u8]) -> Result<(), AppendError>
+        ensures appended { Appends (Some K.room) false result slice.now (slice_content self.old)
+            (slice_content self.new) }
+        ensures rest { let len = length (slice_content self.new) in
+            drop len (slice_octets self.new) ≡ drop len (slice_octets self.old) }
+        ensures unchanged { OnErr result (self.new ≡ self.old) }
+        ensures lender { lender self.new ≡ lender self.old }
+    {
         if slice.len() > self.octets.len() - self.len {
             return Err(AppendError::Short(ShortBuf));
         }
@@ -87,8 +98,15 @@ impl<K: Room> OctetsBuilder for SliceBuilder<'_, K> {
 }
 
 impl<K: Room> Truncate for SliceBuilder<'_, K> {
+    ghost use Rattle.std.specs.Prelude.{take};
+    ghost use Rattle.octseq_core.specs.SliceBuilder.{slice_content, slice_octets, lender};
+
     /// Changes the length alone.
-    fn truncate(&mut self, len: usize) {
+    fn truncate(&mut self, len: usize)
+        ensures content { slice_content self.new ≡ take len (slice_content self.old) }
+        ensures octets { slice_octets self.new ≡ slice_octets self.old }
+        ensures lender { lender self.new ≡ lender self.old }
+    {
         if len < self.len {
             self.len = len;
         }
