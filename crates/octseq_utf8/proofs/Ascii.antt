@@ -49,39 +49,6 @@ pub lane_none : (ys : List ℕ) → length ys ≡ 16
     ↔ All (λ o. o < 128) ys
 lane_none ys long = (λ h. none_high ys (sym (mask_is ys long) ∙ h), λ h. mask_is ys long ∙ high_none ys h)
 
--- the lowest bit is that of the first octet
-first_of : (ys : List ℕ) → 1 ≤ length ys → (mask_l (map (leb 128) ys) % 2 ≡ 0) ↔ (get_or ys 0 0 < 128)
-first_of [] h = absurd (omega arith)
-first_of (y ∷ ys) h = go (leb 128 y) refl
-  where
-    go : (b : Bool) → leb 128 y ≡ b → ((cond (leb 128 y) 1 0 + 2 * mask_l (map (leb 128) ys)) % 2 ≡ 0) ↔ (y < 128)
-    go true e = (
-      λ k. absurd (let f = ap (λ b. (cond b 1 0 + 2 * mask_l (map (leb 128) ys)) % 2) e in omega arith),
-      λ k. absurd (grind (arith, nat_tests)),
-    )
-    go false e = (
-      λ k. grind (arith, nat_tests),
-      λ k. ap (λ b. (cond b 1 0 + 2 * mask_l (map (leb 128) ys)) % 2) e
-          ∙ omega arith,
-    )
-
--- what the code tests next: the mask is even exactly where the current octet is ASCII
-pub lane_first : (x : List ℕ) (i : ℕ) → length (take 16 (drop i x)) ≡ 16
-    → (mask_l (map (top 7) (zip2 (λ (a b : ℕ). cond (leb a b) 255 0) (replicate 16 128) (take 16 (drop i x)))) % 2 ^ 64
-    % 2 ≡ 0) ↔ (get_or x i 0 < 128)
-lane_first x i long =
-    let e = mask_is (take 16 (drop i x)) long in
-    let f = first_of (take 16 (drop i x)) (omega arith) in
-    let g : get_or (take 16 (drop i x)) 0 0 ≡ get_or x i 0 = get_or-chunk i 16 x 0 0 (omega arith)
-    ∙ ap (λ k. get_or x k 0) (let q : i + 0 ≡ i = omega arith in q) in
-    (λ h. let k = f.0 (ap (λ n. n % 2) (sym e) ∙ h) in omega arith, λ h. ap (λ n. n % 2) e ∙ f.1 (omega arith))
-
--- where a lane isn't all below 80, neither are the octets
-pub high_some : (x : List ℕ) (place high : ℕ) → (high ≡ 0) ↔ All (λ o. o < 128) (take 16 (drop place x)) → high ≢ 0
-    → ¬ All (λ o. o < 128) x
-high_some x place high none some all =
-    some (none.1 (All-take (λ o. o < 128) 16 _ (All-drop (λ o. o < 128) place x all)))
-
 -- the octets before the lowest bit of a lane's mask are below 80, and the one there isn't
 pub record IsBeforeHigh (x : List ℕ) (n : ℕ) : Type 0 where
   pub few : n < 16

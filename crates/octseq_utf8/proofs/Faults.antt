@@ -12,6 +12,7 @@ use Rattle.octseq_utf8.specs.Fault.{Fault, IsFaultSize, IsFault, fault_end}
 use Rattle.octseq_utf8.specs.Front.{StandsInFront}
 use Rattle.octseq_utf8.specs.Parts.{IsBadPart, Part, Char, Bad as BadPart}
 use Rattle.octseq_utf8.specs.Reading.{parts_of}
+use Rattle.octseq_utf8.specs.Search.{IsAt, IsFaultAt}
 use Rattle.octseq_utf8.specs.Text.{Spells, IsWellFormed, chars, octets_of}
 use Rattle.octseq_utf8.specs.declared.finder.Front.{Front}
 use Rattle.octseq_utf8.specs.declared.finder.Front.TheVariants.{Encoding, Bad}
@@ -20,21 +21,6 @@ use Rattle.octseq_utf8.proofs.Rows.{length_of, width_le}
 use Rattle.octseq_utf8.proofs.Joins.{parts_fault, parts_spelled}
 use Rattle.octseq_utf8.proofs.Spelling.{chars_of, octets_of_spelled, spells_nothing, spells_one, spells-append}
 use Rattle.octseq_utf8.proofs.Texts.{well_formed-append, chars-append}
-
--- The finder is at a place: what lies before it spells characters, with one turn for each at most, and sixteen octets a
--- turn at most.
-pub record IsAt (x : List ℕ) (place old now : ℕ) : Type 0 where
-  pub characters : List ℕ
-  pub within : place ≤ length x
-  pub spelled : Spells (take place x) characters
-  pub turns : now ≤ old + length characters
-  pub few : now ≤ old + place
-  pub passed : place + 16 * old ≤ 16 * now
-
--- The same where whole lanes are looked at: octets that are all below 80 are passed sixteen a turn.
-pub record IsInLanes (x : List ℕ) (place old now : ℕ) : Type 0 where
-  pub at : IsAt x place old now
-  pub lanes : All (λ o. o < 0x80) x → place + 16 * old ≡ 16 * now
 
 -- the finder is at the front before it takes a turn
 pub at_start : (x : List ℕ) (t : ℕ) → IsAt x 0 t t
@@ -46,10 +32,6 @@ at_start x t = record {
   few = omega arith;
   passed = omega arith;
 }
-
--- in lanes too, the finder is at the front before it takes a turn
-pub lanes_start : (x : List ℕ) (t : ℕ) → IsInLanes x 0 t t
-lanes_start x t = record { at = at_start x t; lanes = λ low. omega arith }
 
 -- the first i + n octets are the first i and the first n behind those
 pub take-add : (x : List ℕ) (i n : ℕ) → i ≤ length x → take (i + n) x ≡ take i x ++ take n (drop i x)
@@ -123,43 +105,31 @@ spells_low (a ∷ x) low =
     spells-append (spells_one (row_00_7F {a = a} (omega arith, omega arith)))
     (spells_low x (All-tail (λ o. o < 0x80) a x low))
 
--- a lane of octets that are all below 80 is passed in one turn
-pub lane_passed : (x : List ℕ) (place old now : ℕ) → IsInLanes x place old now → place + 16 ≤ length x
-    → All (λ o. o < 0x80) (take 16 (drop place x)) → IsInLanes x (place + 16) old (now + 1)
-lane_passed x place old now l room low =
-    let at = l.at in
+-- octets that are all below 80 are passed in as many turns, or in fewer, of sixteen octets at most
+pub at_low : (x : List ℕ) (place old now n more : ℕ) → IsAt x place old now → place + n ≤ length x
+    → All (λ o. o < 0x80) (take n (drop place x)) → more ≤ n → n ≤ 16 * more → IsAt x (place + n) old (now + more)
+at_low x place old now n more at room low few passed =
     let in_x = at.within in
     let turns = at.turns in
-    let few = at.few in
-    let passed = at.passed in
-    let lane : List ℕ = take 16 (drop place x) in
-    let next : List ℕ = map (λ o. number_of (o ∷ [])) lane in
+    let before = at.few in
+    let so_far = at.passed in
+    let octets : List ℕ = take n (drop place x) in
+    let next : List ℕ = map (λ o. number_of (o ∷ [])) octets in
     record {
-      at = record {
-        characters = at.characters ++ next;
-        within = omega arith;
-        spelled = subst (λ z. Spells z (at.characters ++ next)) (sym (take-add x place 16 in_x))
-            (spells-append at.spelled (spells_low lane low));
-        turns = omega (
-          arith,
-          length-append at.characters next,
-          length-map lane (λ o. number_of (o ∷ [])),
-          length-take 16 (drop place x),
-          length-drop place x,
-        );
-        few = omega arith;
-        passed = omega arith;
-      };
-      lanes = λ all. let before = l.lanes all in omega arith;
+      characters = at.characters ++ next;
+      within = omega arith;
+      spelled = subst (λ z. Spells z (at.characters ++ next)) (sym (take-add x place n in_x))
+          (spells-append at.spelled (spells_low octets low));
+      turns = omega (
+        arith,
+        length-append at.characters next,
+        length-map octets (λ o. number_of (o ∷ [])),
+        length-take n (drop place x),
+        length-drop place x,
+      );
+      few = omega arith;
+      passed = omega arith;
     }
-
--- an encoding more where the lane isn't all below 80
-pub other_passed : (x : List ℕ) (place old now len : ℕ) → IsInLanes x place old now
-    → StandsInFront (drop place x) (Encoding len) → ¬ All (λ o. o < 0x80) x → IsInLanes x (place + len) old (now + 1)
-other_passed x place old now len l front high = record {
-  at = at_more x place old now len l.at front;
-  lanes = λ all. absurd (high all);
-}
 
 -- the end
 pub at_end : (x : List ℕ) (place old now : ℕ) → IsAt x place old now → length x ≤ place
@@ -169,12 +139,6 @@ at_end x place old now at past =
     let turns = at.turns in
     let s : Spells x at.characters = subst (λ z. Spells z at.characters) (take_all place x past) at.spelled in
     ((at.characters, s), rw (chars_of s) (omega arith))
-
--- What the finder owes at a fault.
-pub record IsFaultAt (x : List ℕ) (old now : ℕ) (fault : Fault) : Type 0 where
-  pub is_fault : IsFault x fault
-  pub turns : now ≤ old + length (chars (take fault.place x)) + 1
-  pub passed : fault_end x fault + 16 * old ≤ 16 * now
 
 -- a bad part at the finder's place is the fault there, found in one turn more
 pub fault_at : (x : List ℕ) (place old now : ℕ) (size : Option ℕ) → IsAt x place old now
@@ -265,16 +229,6 @@ fault_behind x place old mid now fault at f turns passed =
       turns = rw spelled (omega (arith, length-append at.characters (chars (take fault.place (drop place x)))));
       passed = omega arith;
     }
-
--- the turns of octets that are all below 80
-pub ascii_turns : (x : List ℕ) (place old mid now : ℕ) → IsInLanes x place old mid → length x - 15 ≤ place
-    → now ≤ mid + length (drop place x) → All (λ o. o < 0x80) x
-    → now ≤ old + length x / 16 + length x % 16
-ascii_turns x place old mid now l end more low =
-    let lanes = l.lanes low in
-    let within = l.at.within in
-    let left = length-drop place x in
-    omega arith
 
 -- a fault is one, and refutes
 

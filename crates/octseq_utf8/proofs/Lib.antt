@@ -12,7 +12,7 @@ pub mod Fronts
 pub mod Masks
 pub mod Ascii
 pub mod Faults
-pub mod Mixed
+pub mod Search
 pub mod Tails
 pub mod LossyTexts
 pub mod AtFault

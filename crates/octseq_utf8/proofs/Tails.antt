@@ -1,5 +1,5 @@
 -- A search that begins at a place, and what it tells of the whole.
-use Rattle.std.proofs.Common.{◌≡◌, ℕ, zero, suc, ◌+◌, ◌-◌, ◌*◌, ◌<◌, ◌≤◌, ◌⊎◌, inl, inr, ⊎_elim}
+use Rattle.std.proofs.Common.{◌≡◌, ℕ, zero, suc, ◌+◌, ◌-◌, ◌*◌, ◌/◌, ◌%◌, ◌<◌, ◌≤◌, ◌⊎◌, inl, inr, ⊎_elim}
 use Rattle.std.proofs.Common.{List, [], ◌∷◌, map, length, take, drop, get_or, refl, arith, ap}
 use Rattle.std.proofs.Common.{sym, ◌∙◌, subst, length-take, length-drop, Option, Some, None}
 use Rattle.std.specs.Prelude.{IsNone, IfNone, IfSome, ◌↔◌}
@@ -9,11 +9,12 @@ use Rattle.std.proofs.lemmas.List.Elements.{All-get_or}
 use Rattle.octseq_utf8.specs.Encoding.{number_of}
 use Rattle.octseq_utf8.specs.Fault.{Fault, IsFault, fault_end, fault_from}
 use Rattle.octseq_utf8.specs.Front.{StandsInFront}
+use Rattle.octseq_utf8.specs.Search.{IsAt, IsSearching, IsFaultAt, FewTurns}
 use Rattle.octseq_utf8.specs.Text.{IsWellFormed, chars}
 use Rattle.octseq_utf8.specs.declared.finder.Front.TheVariants.{Encoding, Bad}
-use Rattle.octseq_utf8.proofs.Faults.{IsAt, IsInLanes, IsFaultAt, at_start, at_more, at_end, fault_at, fault_refutes}
-use Rattle.octseq_utf8.proofs.Faults.{fault_behind, lanes_start, spells_low, turns_behind, well_formed_behind}
-use Rattle.octseq_utf8.proofs.Mixed.{IsMixed, FewTurns, mixed_start, mixed_skipped, mixed_end, mixed_fault_behind}
+use Rattle.octseq_utf8.proofs.Faults.{at_start, at_more, at_end, fault_at, fault_refutes}
+use Rattle.octseq_utf8.proofs.Faults.{fault_behind, spells_low, turns_behind, well_formed_behind}
+use Rattle.octseq_utf8.proofs.Search.{few_to_the_end, few_to_a_fault}
 use Rattle.octseq_utf8.proofs.Spelling.{chars_of}
 
 -- The search that began at one place is at another.
@@ -106,50 +107,23 @@ tail_turns x place old mid now None at none turns = turns_behind x place old mid
 tail_turns x place old mid now (Some found) at none turns = turns
 
 -- whether or not a search behind the lanes finds a fault, the whole takes few turns
-pub tail_mixed : (x : List ℕ) (place old mid now : ℕ) (r : Option Fault) → IsMixed x place old mid → place ≤ length x
+pub tail_few : (x : List ℕ) (place old mid now : ℕ) (r : Option Fault) → IsSearching x place old mid
     → length x - 15 ≤ place → IsNone r ↔ IsWellFormed (drop place x)
     → IfNone r (now ≤ mid + length (chars (drop place x)))
     → IfSome r (λ fault. IsFault (drop place x) (fault_from place fault))
     → IfSome r (λ fault. now ≤ mid + length (chars (take (fault.place - place) (drop place x))) + 1)
     → FewTurns x old now
-tail_mixed x place old mid now None m within last none turns f turns_to =
-    mixed_end x place old mid m within last now (none.0 refl) turns
-tail_mixed x place old mid now (Some fault) m within last none turns f turns_to =
-    mixed_fault_behind x place old mid m within last now (fault_from place fault) f turns_to
+tail_few x place old mid now None s last none turns f turns_to =
+    few_to_the_end x place old mid s last now (none.0 refl) turns
+tail_few x place old mid now (Some fault) s last none turns f turns_to =
+    few_to_a_fault x place old mid s last now (fault_from place fault) f turns_to
 
--- The search begins behind octets below 80, of which the first lane has another that isn't.
-module _ (x : List ℕ) (n t : ℕ) (low : All (λ o. o < 0x80) (take n x)) (lane : 0 < n → (n < 16) × (16 ≤ length x))
-    (high : 0 < n → 0x80 ≤ get_or x n 0) where
-  zero_or_some : (k : ℕ) → (k ≡ 0) ⊎ (0 < k)
-  zero_or_some zero = inl refl
-  zero_or_some (suc k) = inr (omega arith)
-
-  pub lanes_from : IsInLanes x n t (t + n)
-  lanes_from = ⊎_elim
-      (λ none. subst (λ k. IsInLanes x k t (t + k)) (sym none)
-      (subst (λ k. IsInLanes x 0 t k) (let e : t ≡ t + 0 = omega arith in e) (lanes_start x t))) (λ some. from some)
-      (zero_or_some n)
-    where
-      from : 0 < n → IsInLanes x n t (t + n)
-      from some =
-          let few = (lane some).0 in
-          let room = (lane some).1 in
-          let top = high some in
-          record {
-            at = record {
-              characters = map (λ o. number_of (o ∷ [])) (take n x);
-              within = omega arith;
-              spelled = spells_low (take n x) low;
-              turns = omega (arith, length-map (take n x) (λ o. number_of (o ∷ [])), length-take n x);
-              few = omega arith;
-              passed = omega arith;
-            };
-            lanes = λ all. let below = All-get_or (λ o. o < 0x80) x n 0 (omega arith) all in absurd (omega arith);
-          }
-
-  pub mixed_from : IsMixed x n t (t + n)
-  mixed_from = ⊎_elim
-      (λ none. subst (λ k. IsMixed x k t (t + k)) (sym none)
-      (subst (λ k. IsMixed x 0 t k) (let e : t ≡ t + 0 = omega arith in e) (mixed_start x t)))
-      (λ some. mixed_skipped x n t (lane some).0 (let few = (lane some).0 in let room = (lane some).1 in omega arith)
-      (high some)) (zero_or_some n)
+-- the turns of octets that are all below 80
+pub ascii_turns : (x : List ℕ) (place old mid now : ℕ) → IsSearching x place old mid → length x - 15 ≤ place
+    → now ≤ mid + length (drop place x) → All (λ o. o < 0x80) x
+    → now ≤ old + length x / 16 + length x % 16
+ascii_turns x place old mid now s last more low =
+    let lanes = s.lanes low in
+    let within = s.at.within in
+    let left = length-drop place x in
+    omega arith

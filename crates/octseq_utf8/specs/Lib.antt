@@ -4,5 +4,6 @@ pub mod Fault
 pub mod Front
 pub mod Parts
 pub mod Reading
+pub mod Search
 pub mod Text
 pub mod Turns

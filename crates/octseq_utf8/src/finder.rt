@@ -19,16 +19,17 @@
 //! A turn passes sixteen octets below 80 as one lane, or one part. Where octets below 80 are jumped over, a turn is
 //! counted for each.
 ghost use Rattle.std.specs.Prelude.{◌≡◌, ℕ, ◌+◌, ◌-◌, ◌*◌, ◌/◌, ◌%◌, ◌<◌, ◌≤◌, ◌↔◌, length, take};
-ghost use Rattle.std.specs.Prelude.{drop, slice_index, count_by, nat_le, IsNone, IfNone, IfSome};
+ghost use Rattle.std.specs.Prelude.{drop, slice_index, count_by, nat_le, IsNone, IfNone, IfSome, IfOk, IfErr};
 ghost use Rattle.std.specs.Int.{is_in_range};
 ghost use Rattle.std.specs.List.{All};
 ghost use Rattle.octseq_utf8.specs.Fault.{IsFault, fault_end, fault_from};
 ghost use Rattle.octseq_utf8.specs.Front.{StandsInFront};
 ghost use Rattle.octseq_utf8.specs.Reading.{width_of, least_second, greatest_second, fitting};
+ghost use Rattle.octseq_utf8.specs.Search.{IsSearching, IsFound};
 ghost use Rattle.octseq_utf8.specs.Text.{IsWellFormed, chars};
 
 use crate::fault::Utf8Fault;
-use crate::lanes::{ascii_before_high, high_lanes, is_short_ascii};
+use crate::lanes::{ascii_len, is_short_ascii};
 use crate::turns::Turns;
 use crate::words::{begins_three, begins_two, encoding_len, is_four, word_at};
 
@@ -170,6 +171,72 @@ fn fault_by_parts(octets: &[u8], from: usize, turns: &mut Turns) -> Option<Utf8F
     None
 }
 
+/// Passes octets below 80 from a place on, while sixteen octets are left: lanes that have no other, and then the octets
+/// before the first of 80 or more. Answers the place after them.
+#[inline(always)]
+fn pass_ascii(octets: &[u8], from: usize, turns: &mut Turns) -> usize
+    requires { from ≤ length octets.now }
+    ensures past { from ≤ result }
+    ensures further { from + 15 < length octets.now → slice_index octets.now from < 0x80 → from < result }
+    ensures passed { (start : ℕ) → IsSearching octets.now from start turns.old
+        → IsSearching octets.now result start turns.new }
+{
+    let lanes = octets.len().saturating_sub(15);
+    let mut at = from;
+    while at < lanes {
+        let low = ascii_len(octets, at);
+        if low < 16 {
+            turns.pass(low);
+            return at + low;
+        }
+        turns.tick();
+        at += 16;
+    }
+    at
+}
+
+/// Passes encodings of two octets or more from a place on, while sixteen octets are left. Answers the place after them,
+/// or the fault there.
+#[inline(always)]
+fn pass_encodings(octets: &[u8], from: usize, turns: &mut Turns) -> Result<usize, Utf8Fault>
+    requires { from ≤ length octets.now }
+    ensures past { IfOk result (λ place. from ≤ place) }
+    ensures further { from + 15 < length octets.now → 0x80 ≤ slice_index octets.now from
+        → IfOk result (λ place. from < place) }
+    ensures passed { (start : ℕ) → IsSearching octets.now from start turns.old
+        → IfOk result (λ place. IsSearching octets.now place start turns.new) }
+    ensures fault { (start : ℕ) → IsSearching octets.now from start turns.old
+        → IfErr result (IsFound octets.now start turns.new) }
+{
+    let words = octets.len().saturating_sub(15);
+    let mut at = from;
+    while at < words {
+        if octets[at] < 0x80 {
+            break;
+        }
+        turns.tick();
+        let word = word_at(octets, at);
+        // (each width has a branch of its own here: by `encoding_len` hot text of one script takes up to half more)
+        if begins_two(word) {
+            at += 2;
+            continue;
+        }
+        if begins_three(word) {
+            at += 3;
+            continue;
+        }
+        if is_four(word) {
+            at += 4;
+            continue;
+        }
+        match part_at_front(&octets[at..]) {
+            Front::Encoding(len) => at += len,
+            Front::Bad(size) => return Err(Utf8Fault::new(at, size)),
+        }
+    }
+    Ok(at)
+}
+
 /// The first fault of the octets, or none where they are well-formed UTF-8.
 ///
 /// Where sixteen octets are left it takes one turn for them if all are below 80, and else one for the
@@ -194,37 +261,11 @@ pub fn first_fault(octets: &[u8], turns: &mut Turns) -> Option<Utf8Fault>
     ensures mixed { turns.new ≤ turns.old + length octets.now / 16
         + 8 * count_by (λ octet. nat_le 0x80 octet) octets.now + 15 }
 {
-    let mut at = ascii_before_high(octets);
-    turns.pass(at);
-    let lanes = octets.len().saturating_sub(15);
-    while at < lanes {
-        turns.tick();
-        let high = high_lanes(octets, at);
-        if high == 0 {
-            at += 16;
-            continue;
-        }
-        if high % 2 == 0 {
-            at += 1;
-            continue;
-        }
-        // (each width has a branch of its own here: by `encoding_len` hot text of one script takes up to half more)
-        let word = word_at(octets, at);
-        if begins_two(word) {
-            at += 2;
-            continue;
-        }
-        if begins_three(word) {
-            at += 3;
-            continue;
-        }
-        if is_four(word) {
-            at += 4;
-            continue;
-        }
-        match part_at_front(&octets[at..]) {
-            Front::Encoding(len) => at += len,
-            Front::Bad(size) => return Some(Utf8Fault::new(at, size)),
+    let mut at = 0;
+    while at + 15 < octets.len() {
+        match pass_encodings(octets, at, turns) {
+            Ok(end) => at = pass_ascii(octets, end, turns),
+            Err(fault) => return Some(fault),
         }
     }
     fault_by_parts(octets, at, turns)

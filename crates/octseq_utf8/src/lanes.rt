@@ -8,31 +8,27 @@ use std::simd::prelude::*;
 
 /// A bit for each of the sixteen octets from there on that is 80 or more, the first lowest.
 #[inline(always)]
-pub(crate) fn high_lanes(octets: &[u8], at: usize) -> u64
+fn high_lanes(octets: &[u8], at: usize) -> u64
     requires { at + 16 ≤ length octets.now }
     ensures mask { result ≡ mask_l (map (nat_le 0x80) (take 16 (drop at octets.now))) }
     ensures none { result ≡ 0 ↔ All (λ octet. octet < 0x80) (take 16 (drop at octets.now)) }
-    ensures first { result % 2 ≡ 0 ↔ slice_index octets.now at < 0x80 }
 {
     u8x16::from_slice(&octets[at..])
         .simd_ge(u8x16::splat(0x80))
         .to_bitmask()
 }
 
-/// How many octets below 80 stand before the first of 80 or more, where that is among the first sixteen of
-/// sixteen octets or more, and else 0.
+/// How many of the sixteen octets from there on are below 80 before the first that isn't, or 16 where all are.
 #[inline(always)]
-pub(crate) fn ascii_before_high(octets: &[u8]) -> usize
-    ensures low { All (λ octet. octet < 0x80) (take result octets.now) }
-    ensures lane { 0 < result → (result < 16) × (16 ≤ length octets.now) }
-    ensures high { 0 < result → 0x80 ≤ slice_index octets.now result }
+pub(crate) fn ascii_len(octets: &[u8], at: usize) -> usize
+    requires { at + 16 ≤ length octets.now }
+    ensures few { result ≤ 16 }
+    ensures low { All (λ octet. octet < 0x80) (take result (drop at octets.now)) }
+    ensures high { result < 16 → 0x80 ≤ slice_index octets.now (at + result) }
 {
-    if octets.len() < 16 {
-        return 0;
-    }
-    let high = high_lanes(octets, 0);
+    let high = high_lanes(octets, at);
     if high == 0 {
-        return 0;
+        return 16;
     }
     high.trailing_zeros() as usize
 }

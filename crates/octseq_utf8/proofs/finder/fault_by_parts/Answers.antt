@@ -1,6 +1,7 @@
 use Rattle.std.proofs.Common.{drop, refl, arith, length-drop}
 use Rattle.octseq_utf8.specs.Fault.{fault_from}
-use Rattle.octseq_utf8.proofs.Faults.{IsFaultAt, octet_front, fault_refutes}
+use Rattle.octseq_utf8.specs.Search.{IsFaultAt}
+use Rattle.octseq_utf8.proofs.Faults.{octet_front, fault_refutes}
 use Rattle.octseq_utf8.proofs.Tails.{behind_more, behind_end, behind_fault, low_well_formed}
 use Rattle.octseq_utf8.proofs.finder.fault_by_parts.Goals as goal
 

@@ -1,0 +1,225 @@
+-- Where the finder is, and what its turns cost.
+use Rattle.std.specs.Prelude.{count_by}
+use Rattle.std.proofs.Common.{◌≡◌, ℕ, zero, suc, ◌+◌, ◌-◌, ◌*◌, ◌/◌, ◌<◌, ◌≤◌, ◌⊎◌, inl, inr, ⊎_elim}
+use Rattle.std.proofs.Common.{Bool, true, false, cond, leb, ltb, List, [], ◌∷◌, ◌++◌, length, take, drop, get_or}
+use Rattle.std.proofs.Common.{refl, arith, ap, sym, ◌∙◌, subst, length-append, length-take, length-drop, Option}
+use Rattle.std.proofs.lemmas.Bool.{le-leb, lt-leb}
+use Rattle.std.proofs.lemmas.Bool.Decides.{nat_tests}
+use Rattle.std.proofs.lemmas.List.{take-append-drop, length-map, get_or-take, get_or-drop}
+use Rattle.std.proofs.lemmas.List.Elements.{All-get_or}
+use Rattle.std.proofs.lemmas.List.Sums.{sum_by-append, sum_by-cons, count_by-le-length}
+use Rattle.std.proofs.lemmas.Simd.{get_or-chunk, length-chunk}
+use Rattle.std.proofs.Math.Seq.{take-append_seam}
+use Rattle.std.specs.List.{All, concat, AllByRecursion}
+use Rattle.octseq_utf8.specs.Encoding.{IsEncoding, row_00_7F, row_C2_DF, row_E0, row_E1_EC}
+use Rattle.octseq_utf8.specs.Encoding.{row_ED, row_EE_EF, row_F0, row_F1_F3, row_F4, number_of}
+use Rattle.octseq_utf8.specs.Fault.{Fault, IsFault}
+use Rattle.octseq_utf8.specs.Front.{StandsInFront}
+use Rattle.octseq_utf8.specs.Search.{high_count, IsAt, IsSearching, FewTurns, IsFound}
+use Rattle.octseq_utf8.specs.Text.{Spells, IsWellFormed, chars}
+use Rattle.octseq_utf8.specs.declared.finder.Front.TheVariants.{Encoding, Bad}
+use Rattle.octseq_utf8.proofs.Faults.{take-add, at_start, at_low, at_more, fault_at}
+use Rattle.octseq_utf8.proofs.Rows.{length_of}
+use Rattle.octseq_utf8.proofs.Spelling.{chars_of}
+use Rattle.octseq_utf8.proofs.Splitting.{bad_some}
+
+high-append : (x y : List ℕ) → high_count (x ++ y) ≡ high_count x + high_count y
+high-append x y = sum_by-append (λ o. cond (leb 0x80 o) 1 0) x y
+
+high-cons_high : (a : ℕ) (y : List ℕ) → 0x80 ≤ a → high_count (a ∷ y) ≡ 1 + high_count y
+high-cons_high a y h = sum_by-cons (λ o. cond (leb 0x80 o) 1 0) a y ∙ ap (λ b. cond b 1 0 + high_count y)
+    (le-leb 0x80 a h)
+
+high-cons_low : (a : ℕ) (y : List ℕ) → a < 0x80 → high_count (a ∷ y) ≡ high_count y
+high-cons_low a y h = sum_by-cons (λ o. cond (leb 0x80 o) 1 0) a y ∙ ap (λ b. cond b 1 0 + high_count y)
+    (lt-leb 0x80 a h) ∙ omega arith
+
+two_high : (a b : ℕ) (y : List ℕ) → 0x80 ≤ a → 0x80 ≤ b → 2 ≤ high_count (a ∷ b ∷ y)
+two_high a b y h k = omega (arith, high-cons_high a (b ∷ y) h, high-cons_high b y k)
+
+-- an encoding has none, or two at least
+encoding_high : {e : List ℕ} → IsEncoding e → (high_count e ≡ 0) ⊎ (2 ≤ high_count e)
+encoding_high (row_00_7F {a} p) = inl (high-cons_low a [] (omega arith))
+encoding_high (row_C2_DF {a} {b} p q) = inr (two_high a b [] (omega arith) (omega arith))
+encoding_high (row_E0 {a} {b} {c} p q r) = inr (two_high a b (c ∷ []) (omega arith) (omega arith))
+encoding_high (row_E1_EC {a} {b} {c} p q r) = inr (two_high a b (c ∷ []) (omega arith) (omega arith))
+encoding_high (row_ED {a} {b} {c} p q r) = inr (two_high a b (c ∷ []) (omega arith) (omega arith))
+encoding_high (row_EE_EF {a} {b} {c} p q r) = inr (two_high a b (c ∷ []) (omega arith) (omega arith))
+encoding_high (row_F0 {a} {b} {c} {d} p q r s) = inr (two_high a b (c ∷ d ∷ []) (omega arith) (omega arith))
+encoding_high (row_F1_F3 {a} {b} {c} {d} p q r s) = inr (two_high a b (c ∷ d ∷ []) (omega arith) (omega arith))
+encoding_high (row_F4 {a} {b} {c} {d} p q r s) = inr (two_high a b (c ∷ d ∷ []) (omega arith) (omega arith))
+
+-- so it is with well-formed octets, which have no more characters than octets
+
+encodings_high : (es : List (List ℕ)) → AllByRecursion IsEncoding es
+    → (high_count (concat es) ≡ 0) ⊎ (2 ≤ high_count (concat es))
+encodings_high [] h = inl refl
+encodings_high (e ∷ es) h =
+    ⊎_elim
+    (λ none. ⊎_elim (λ others. inl (omega (arith, high-append e (concat es))))
+    (λ others. inr (omega (arith, high-append e (concat es)))) (encodings_high es h.1))
+    (λ two. inr (omega (arith, high-append e (concat es))))
+    (encoding_high h.0)
+
+encodings_few : (es : List (List ℕ)) → AllByRecursion IsEncoding es → length es ≤ length (concat es)
+encodings_few [] h = omega arith
+encodings_few (e ∷ es) h = let some = length_of h.0 in let few = encodings_few es h.1 in
+    omega (arith, length-append e (concat es))
+
+spelled_high : {x cs : List ℕ} → Spells x cs → (high_count x ≡ 0) ⊎ (2 ≤ high_count x)
+spelled_high {x} {cs} s =
+    subst (λ y. (high_count y ≡ 0) ⊎ (2 ≤ high_count y)) s.joined (encodings_high s.encodings s.each)
+
+-- octets spell no more characters than there are octets
+pub spelled_few : {x cs : List ℕ} → Spells x cs → length cs ≤ length x
+spelled_few {x} {cs} s =
+    let few = encodings_few s.encodings s.each in
+    omega (arith, ap length s.joined, ap length s.numbers, length-map s.encodings number_of)
+
+-- a number is below 80, or it isn't
+pub low_or_high : (a : ℕ) → (a < 0x80) ⊎ (0x80 ≤ a)
+low_or_high a = by (ltb a 0x80) refl
+  where
+    by : (b : Bool) → ltb a 0x80 ≡ b → (a < 0x80) ⊎ (0x80 ≤ a)
+    by true e = inl (grind (arith, nat_tests))
+    by false e = inr (grind (arith, nat_tests))
+
+-- octets whose first is 80 or more have one of 80 or more
+high_first : (y : List ℕ) → 0x80 ≤ get_or y 0 0 → 1 ≤ high_count y
+high_first [] h = absurd (omega arith)
+high_first (a ∷ y) h = omega (arith, high-cons_high a y h)
+
+pub search_start : (x : List ℕ) (t : ℕ) → IsSearching x 0 t t
+search_start x t = record {
+  at = at_start x t;
+  lanes = λ all. omega arith;
+  low = λ h. omega arith;
+  most = omega arith;
+}
+
+high_add : (x : List ℕ) (place n : ℕ) → place ≤ length x
+    → high_count (take (place + n) x) ≡ high_count (take place x) + high_count (take n (drop place x))
+high_add x place n h = ap high_count (take-add x place n h) ∙ high-append (take place x) (take n (drop place x))
+
+-- a lane of octets below 80
+pub search_lane : (x : List ℕ) (place old now : ℕ) → IsSearching x place old now → place + 16 ≤ length x
+    → All (λ o. o < 0x80) (take 16 (drop place x)) → IsSearching x (place + 16) old (now + 1)
+search_lane x place old now s room low =
+    let first : get_or x place 0 < 0x80 = subst (λ o. o < 0x80) (get_or-chunk place 16 x 0 0 (omega arith)
+    ∙ ap (λ k. get_or x k 0) (let e : place + 0 ≡ place = omega arith in e))
+    (All-get_or (λ o. o < 0x80) (take 16 (drop place x)) 0 0 (omega (arith, length-chunk place 16 x room)) low) in
+    let before = s.low first in
+    let high = high_add x place 16 (omega arith) in
+    record {
+      at = at_low x place old now 16 1 s.at room low (omega arith) (omega arith);
+      lanes = λ all. let same = s.lanes all in omega arith;
+      low = λ h. omega arith;
+      most = omega arith;
+    }
+
+-- octets below 80 before one of 80 or more, a turn each
+pub search_jump : (x : List ℕ) (place old now n : ℕ) → IsSearching x place old now → n < 16 → place + n < length x
+    → All (λ o. o < 0x80) (take n (drop place x)) → 0x80 ≤ get_or x (place + n) 0 → IsSearching x (place + n) old (now + n)
+search_jump x place old now zero s few room low high =
+    subst (λ k. IsSearching x k old (now + 0)) (let e : place ≡ place + 0 = omega arith in e)
+    (subst (λ k. IsSearching x place old k) (let e : now ≡ now + 0 = omega arith in e) s)
+search_jump x place old now (suc n) s few room low high =
+    let first : get_or x place 0 < 0x80 = subst (λ o. o < 0x80) (get_or-chunk place (suc n) x 0 0 (omega arith)
+    ∙ ap (λ k. get_or x k 0) (let e : place + 0 ≡ place = omega arith in e))
+    (All-get_or (λ o. o < 0x80) (take (suc n) (drop place x)) 0 0
+    (omega (arith, length-chunk place (suc n) x (omega arith))) low) in
+    let before = s.low first in
+    let more = high_add x place (suc n) (omega arith) in
+    record {
+      at = at_low x place old now (suc n) (suc n) s.at (omega arith) low (omega arith) (omega arith);
+      lanes = λ all. let below = All-get_or (λ o. o < 0x80) x (place + suc n) 0 room all in absurd (omega arith);
+      low = λ h. absurd (omega arith);
+      most = omega arith;
+    }
+
+-- an encoding whose first octet is 80 or more
+pub search_encoding : (x : List ℕ) (place old now len : ℕ) → IsSearching x place old now → place < length x
+    → 0x80 ≤ get_or x place 0 → StandsInFront (drop place x) (Encoding len) → IsSearching x (place + len) old (now + 1)
+search_encoding x place old now len s room first (within, e) =
+    let before = s.most in
+    let high = high_add x place len (omega arith) in
+    let z : List ℕ = take len (drop place x) in
+    let some : 1 ≤ len = let n = length_of e in omega (arith, length-take len (drop place x)) in
+    let here : get_or z 0 0 ≡ get_or x place 0 = get_or-take len (drop place x) 0 0 some ∙ get_or-drop place x 0 0
+    ∙ ap (λ k. get_or x k 0) (let e : place + 0 ≡ place = omega arith in e) in
+    let lead : 1 ≤ high_count z = high_first z (omega arith) in
+    let two : 2 ≤ high_count z = ⊎_elim (λ h. absurd (omega arith)) (λ h. h) (encoding_high e) in
+    let wide : 2 ≤ len = omega (arith, count_by-le-length (λ o. leb 0x80 o) z, length-take len (drop place x)) in
+    record {
+      at = at_more x place old now len s.at (within, e);
+      lanes = λ all. let below = All-get_or (λ o. o < 0x80) x place 0 room all in absurd (omega arith);
+      low = λ h. omega arith;
+      most = omega arith;
+    }
+
+high_cut : (x : List ℕ) (place : ℕ) → high_count x ≡ high_count (take place x) + high_count (drop place x)
+high_cut x place = ap high_count (sym (take-append-drop place x)) ∙ high-append (take place x) (drop place x)
+
+-- a fault at a place with sixteen octets left
+pub search_fault : (x : List ℕ) (place old now : ℕ) (size : Option ℕ) → IsSearching x place old now
+    → place + 16 ≤ length x → StandsInFront (drop place x) (Bad size)
+    → IsFound x old (now + 1) (record { place = place; size = size })
+search_fault x place old now size s room front =
+    let before = s.most in
+    record {
+      at = fault_at x place old now size s.at front;
+      few = omega (arith, high_cut x place);
+    }
+
+-- where fewer than sixteen octets are left
+module _ (x : List ℕ) (place old mid : ℕ) (s : IsSearching x place old mid) (last : length x - 15 ≤ place) where
+  here : get_or (drop place x) 0 0 ≡ get_or x place 0
+  here = get_or-drop place x 0 0 ∙ ap (λ k. get_or x k 0) (let e : place + 0 ≡ place = omega arith in e)
+
+  pub few_to_the_end : (now : ℕ) → IsWellFormed (drop place x) → now ≤ mid + length (chars (drop place x))
+      → FewTurns x old now
+  few_to_the_end now (cs, sp) turns =
+      let within = s.at.within in
+      let most = s.most in
+      let y : List ℕ = drop place x in
+      let long = length-drop place x in
+      let few = spelled_few sp in
+      let same = ap length (chars_of sp) in
+      let cut = high_cut x place in
+      ⊎_elim
+      (λ first. let before = s.low first in omega arith)
+      (λ first. let some : 1 ≤ high_count y = high_first y (omega (arith, here)) in
+      ⊎_elim (λ none. absurd (omega arith)) (λ two. omega arith) (spelled_high sp))
+      (low_or_high (get_or x place 0))
+
+  pub few_to_a_fault : (now : ℕ) (fault : Fault) → IsFault (drop place x) fault
+      → now ≤ mid + length (chars (take fault.place (drop place x))) + 1 → FewTurns x old now
+  few_to_a_fault now fault f turns =
+      let within = s.at.within in
+      let most = s.most in
+      let y : List ℕ = drop place x in
+      let long = length-drop place x in
+      let rest : List ℕ = f.bad ++ f.after in
+      let few = spelled_few f.good.1 in
+      let front : take fault.place y ≡ f.before = ap (λ z. take fault.place z) f.whole
+      ∙ ap (λ n. take n (f.before ++ rest)) f.place ∙ take-append_seam f.before rest in
+      let same = ap length (ap chars front ∙ chars_of f.good.1) in
+      let some = (bad_some f.first).0 in
+      let parts : length y ≡ length f.before + (length f.bad + length f.after) =
+      omega (arith, ap length f.whole, length-append f.before rest, length-append f.bad f.after) in
+      let cut = high_cut x place in
+      let high : high_count y ≡ high_count f.before + high_count rest =
+      ap high_count f.whole ∙ high-append f.before rest in
+      ⊎_elim
+      (λ first. let before = s.low first in omega arith)
+      (λ first. ⊎_elim
+      (λ none. let empty = none_before f.before rest (subst (λ z. 0x80 ≤ get_or z 0 0) f.whole (omega (arith, here)))
+      none in omega arith)
+      (λ two. omega arith)
+      (spelled_high f.good.1))
+      (low_or_high (get_or x place 0))
+    where
+      none_before : (before rest : List ℕ) → 0x80 ≤ get_or (before ++ rest) 0 0 → high_count before ≡ 0
+          → length before ≡ 0
+      none_before [] rest h none = refl
+      none_before (a ∷ before) rest h none = absurd (omega (arith, high-cons_high a before h))
