@@ -4,8 +4,8 @@ use Rattle.std.proofs.Common.{◌≡◌, ◌≢◌, ℕ, zero, suc, ◌+◌, ◌
 use Rattle.std.proofs.Common.{subst, Bool, not, true, false, cond, leb, List, [], ◌∷◌, map, length, replicate, take}
 use Rattle.std.proofs.Common.{drop, get_or, length-take, length-drop, refl, ap, sym, ◌∙◌, arith, w8}
 use Rattle.std.proofs.lemmas.Bool.Decides.{nat_tests}
-use Rattle.std.proofs.lemmas.List.Elements.{All-nil, All-cons, All-head, All-tail, All-take}
-use Rattle.std.proofs.lemmas.List.Elements.{All-drop, All-get_or, All-from_get_or}
+use Rattle.std.proofs.lemmas.List.Elements.{All-nil, All-cons, All-head, All-tail}
+use Rattle.std.proofs.lemmas.List.Elements.{All-get_or, All-from_get_or}
 use Rattle.std.proofs.lemmas.Simd.{mask_l-mod, tops_compared, zip2_splat_left}
 use Rattle.std.proofs.lemmas.Simd.{get_or-chunk, trailing_mask_l, length-chunk}
 use Rattle.std.proofs.lemmas.List.{length-map, get_or-take, get_or-drop}
@@ -35,19 +35,20 @@ high_none (y ∷ ys) h =
     ap (λ b. cond b 1 0 + 2 * mask_l (map (leb 128) ys)) e ∙ (let k = high_none ys (All-tail (λ o. o < 128) y ys h) in
     omega arith)
 
--- the mask that the code computes, by comparing the lane with sixteen times 0x80
-pub mask_is : (ys : List ℕ) → length ys ≡ 16
-    → mask_l (map (top 7) (zip2 (λ (a b : ℕ). cond (leb a b) 255 0) (replicate 16 128) ys)) % 2 ^ 64
+-- the mask that the code computes, by comparing the lane with as many times 0x80
+pub mask_is : (n : ℕ) (ys : List ℕ) → length ys ≡ n → n ≤ 64
+    → mask_l (map (top 7) (zip2 (λ (a b : ℕ). cond (leb a b) 255 0) (replicate n 128) ys)) % 2 ^ 64
     ≡ mask_l (map (leb 128) ys)
-mask_is ys long =
-    ap (λ l. mask_l l % 2 ^ 64) (tops_compared w8 leb (replicate 16 128) ys ∙ zip2_splat_left leb 128 16 ys long)
+mask_is n ys long few =
+    ap (λ l. mask_l l % 2 ^ 64) (tops_compared w8 leb (replicate n 128) ys ∙ zip2_splat_left leb 128 n ys long)
     ∙ mask_l-mod (map (leb 128) ys) 64 (omega (arith, length-map ys (leb 128)))
 
 -- what the code tests: the mask is 0 exactly where the lane is ASCII
-pub lane_none : (ys : List ℕ) → length ys ≡ 16
-    → (mask_l (map (top 7) (zip2 (λ (a b : ℕ). cond (leb a b) 255 0) (replicate 16 128) ys)) % 2 ^ 64 ≡ 0)
+pub lane_none : (n : ℕ) (ys : List ℕ) → length ys ≡ n → n ≤ 64
+    → (mask_l (map (top 7) (zip2 (λ (a b : ℕ). cond (leb a b) 255 0) (replicate n 128) ys)) % 2 ^ 64 ≡ 0)
     ↔ All (λ o. o < 128) ys
-lane_none ys long = (λ h. none_high ys (sym (mask_is ys long) ∙ h), λ h. mask_is ys long ∙ high_none ys h)
+lane_none n ys long few =
+    (λ h. none_high ys (sym (mask_is n ys long few) ∙ h), λ h. mask_is n ys long few ∙ high_none ys h)
 
 -- the octets before the lowest bit of a lane's mask are below 80, and the one there isn't
 pub record IsBeforeHigh (x : List ℕ) (n : ℕ) : Type 0 where

@@ -1,5 +1,5 @@
 -- Faults, and the places that the finder comes to.
-use Rattle.std.proofs.Common.{◌≡◌, ℕ, ◌+◌, ◌-◌, ◌*◌, ◌/◌, ◌%◌, ◌<◌, ◌≤◌, List, [], ◌∷◌, ◌++◌, map}
+use Rattle.std.proofs.Common.{◌≡◌, ℕ, ◌+◌, ◌-◌, ◌*◌, ◌<◌, ◌≤◌, List, [], ◌∷◌, ◌++◌, map}
 use Rattle.std.proofs.Common.{length, take, drop, get_or, refl, arith, inl, inr, ⊎_elim, ap, sym, ◌∙◌}
 use Rattle.std.proofs.Common.{subst, append_assoc, length-append, length-take, length-drop, Option, Some}
 use Rattle.std.specs.Prelude.{unwrap_or}

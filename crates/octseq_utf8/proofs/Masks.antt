@@ -3,8 +3,8 @@
 -- code tests of the word so puts each octet in the range that a row of the table gives it. Only this direction is
 -- needed: what no mask
 -- accepts is looked at octet by octet.
-use Rattle.std.proofs.Common.{◌≡◌, ◌≢◌, ℕ, zero, suc, ◌+◌, ◌*◌, ◌/◌, ◌%◌, ◌-◌, ◌<◌, ◌≤◌, ◌⊎◌}
-use Rattle.std.proofs.Common.{inl, inr, List, [], ◌∷◌, ap, ◌∙◌, arith, bit_and, bit_or, take}
+use Rattle.std.proofs.Common.{◌≡◌, ◌≢◌, ℕ, zero, suc, ◌+◌, ◌*◌, ◌/◌, ◌%◌, ◌^◌, ◌-◌, ◌<◌, ◌≤◌, ◌⊎◌}
+use Rattle.std.proofs.Common.{inl, inr, List, [], ◌∷◌, ◌++◌, ap, ◌∙◌, arith, bit_and, bit_or, take}
 use Rattle.std.proofs.Common.{drop, length, get_or, take_all, length-take, length-drop, Fits, w8}
 use Rattle.std.specs.Int.{IsInRange, w32, to_le_bytes, from_le_bytes}
 use lib.Lanes.{Each1}
@@ -166,3 +166,24 @@ loaded x four i n room fits e h =
     below_of [] f k = omega arith
     below_of (y ∷ ys) f zero = let g = f.0.fits in omega arith
     below_of (y ∷ ys) f (suc k) = below_of ys f.1 k
+
+-- a word shifted by one to three octets ends with as many zeros
+pub shifted : (w m : ℕ) → w < 2 ^ 32 → 1 ≤ m → m ≤ 3
+    → to_le_bytes w32 (w / 2 ^ (8 * m)) ≡ take 4 (drop m (to_le_bytes w32 w) ++ 0 ∷ 0 ∷ 0 ∷ [])
+shifted w zero fits some few = absurd (omega arith)
+shifted w (suc zero) fits some few =
+    let second : w / 256 / 256 % 256 ≡ w / 65536 % 256 = omega arith in
+    let third : w / 256 / 65536 % 256 ≡ w / 16777216 % 256 = omega arith in
+    let last : w / 256 / 16777216 % 256 ≡ 0 = omega arith in
+    cc
+shifted w (suc (suc zero)) fits some few =
+    let second : w / 65536 / 256 % 256 ≡ w / 16777216 % 256 = omega arith in
+    let third : w / 65536 / 65536 % 256 ≡ 0 = omega arith in
+    let last : w / 65536 / 16777216 % 256 ≡ 0 = omega arith in
+    cc
+shifted w (suc (suc (suc zero))) fits some few =
+    let second : w / 16777216 / 256 % 256 ≡ 0 = omega arith in
+    let third : w / 16777216 / 65536 % 256 ≡ 0 = omega arith in
+    let last : w / 16777216 / 16777216 % 256 ≡ 0 = omega arith in
+    cc
+shifted w (suc (suc (suc (suc m)))) fits some few = absurd (omega arith)

@@ -1,13 +1,12 @@
 -- Where the finder is, and what its turns cost.
-use Rattle.std.specs.Prelude.{count_by}
-use Rattle.std.proofs.Common.{◌≡◌, ℕ, zero, suc, ◌+◌, ◌-◌, ◌*◌, ◌/◌, ◌<◌, ◌≤◌, ◌⊎◌, inl, inr, ⊎_elim}
+use Rattle.std.proofs.Common.{◌≡◌, ℕ, zero, suc, ◌+◌, ◌-◌, ◌<◌, ◌≤◌, ◌⊎◌, inl, inr, ⊎_elim}
 use Rattle.std.proofs.Common.{Bool, true, false, cond, leb, ltb, List, [], ◌∷◌, ◌++◌, length, take, drop, get_or}
 use Rattle.std.proofs.Common.{refl, arith, ap, sym, ◌∙◌, subst, length-append, length-take, length-drop, Option}
 use Rattle.std.proofs.lemmas.Bool.{le-leb, lt-leb}
 use Rattle.std.proofs.lemmas.Bool.Decides.{nat_tests}
-use Rattle.std.proofs.lemmas.List.{take-append-drop, length-map, get_or-take, get_or-drop}
-use Rattle.std.proofs.lemmas.List.Elements.{All-get_or}
-use Rattle.std.proofs.lemmas.List.Sums.{sum_by-append, sum_by-cons, count_by-le-length}
+use Rattle.std.proofs.lemmas.List.{take-append-drop, take-take, drop-take, drop-drop, length-map, get_or-take, get_or-drop}
+use Rattle.std.proofs.lemmas.List.Elements.{All-get_or, All-take, All-drop, All-head, All-tail}
+use Rattle.std.proofs.lemmas.List.Sums.{sum_by-append, sum_by-cons}
 use Rattle.std.proofs.lemmas.Simd.{get_or-chunk, length-chunk}
 use Rattle.std.proofs.Math.Seq.{take-append_seam}
 use Rattle.std.specs.List.{All, concat, AllByRecursion}
@@ -15,7 +14,7 @@ use Rattle.octseq_utf8.specs.Encoding.{IsEncoding, row_00_7F, row_C2_DF, row_E0,
 use Rattle.octseq_utf8.specs.Encoding.{row_ED, row_EE_EF, row_F0, row_F1_F3, row_F4, number_of}
 use Rattle.octseq_utf8.specs.Fault.{Fault, IsFault}
 use Rattle.octseq_utf8.specs.Front.{StandsInFront}
-use Rattle.octseq_utf8.specs.Search.{high_count, IsAt, IsSearching, FewTurns, IsFound}
+use Rattle.octseq_utf8.specs.Search.{high_count, IsSearching, FewTurns, IsFound}
 use Rattle.octseq_utf8.specs.Text.{Spells, IsWellFormed, chars}
 use Rattle.octseq_utf8.specs.declared.finder.Front.TheVariants.{Encoding, Bad}
 use Rattle.octseq_utf8.proofs.Faults.{take-add, at_start, at_low, at_more, fault_at}
@@ -37,29 +36,53 @@ high-cons_low a y h = sum_by-cons (λ o. cond (leb 0x80 o) 1 0) a y ∙ ap (λ b
 two_high : (a b : ℕ) (y : List ℕ) → 0x80 ≤ a → 0x80 ≤ b → 2 ≤ high_count (a ∷ b ∷ y)
 two_high a b y h k = omega (arith, high-cons_high a (b ∷ y) h, high-cons_high b y k)
 
--- an encoding has none, or two at least
-encoding_high : {e : List ℕ} → IsEncoding e → (high_count e ≡ 0) ⊎ (2 ≤ high_count e)
-encoding_high (row_00_7F {a} p) = inl (high-cons_low a [] (omega arith))
-encoding_high (row_C2_DF {a} {b} p q) = inr (two_high a b [] (omega arith) (omega arith))
-encoding_high (row_E0 {a} {b} {c} p q r) = inr (two_high a b (c ∷ []) (omega arith) (omega arith))
-encoding_high (row_E1_EC {a} {b} {c} p q r) = inr (two_high a b (c ∷ []) (omega arith) (omega arith))
-encoding_high (row_ED {a} {b} {c} p q r) = inr (two_high a b (c ∷ []) (omega arith) (omega arith))
-encoding_high (row_EE_EF {a} {b} {c} p q r) = inr (two_high a b (c ∷ []) (omega arith) (omega arith))
-encoding_high (row_F0 {a} {b} {c} {d} p q r s) = inr (two_high a b (c ∷ d ∷ []) (omega arith) (omega arith))
-encoding_high (row_F1_F3 {a} {b} {c} {d} p q r s) = inr (two_high a b (c ∷ d ∷ []) (omega arith) (omega arith))
-encoding_high (row_F4 {a} {b} {c} {d} p q r s) = inr (two_high a b (c ∷ d ∷ []) (omega arith) (omega arith))
+-- an encoding is one octet below 80, or two octets or more of which the first two and the last are 80 or more
 
--- so it is with well-formed octets, which have no more characters than octets
+record IsNarrow (e : List ℕ) : Type 0 where
+  one : length e ≡ 1
+  low : get_or e 0 0 < 0x80
+  none : high_count e ≡ 0
+
+pub record IsWide (e : List ℕ) : Type 0 where
+  pub some : 2 ≤ length e
+  pub two : 2 ≤ high_count e
+  pub last : 0x80 ≤ get_or e (length e - 1) 0
+
+wide_2 : (a b : ℕ) → 0x80 ≤ a → 0x80 ≤ b → IsWide (a ∷ b ∷ [])
+wide_2 a b h k = record { some = omega arith; two = two_high a b [] h k; last = k }
+
+wide_3 : (a b c : ℕ) → 0x80 ≤ a → 0x80 ≤ b → 0x80 ≤ c → IsWide (a ∷ b ∷ c ∷ [])
+wide_3 a b c h k l = record { some = omega arith; two = two_high a b (c ∷ []) h k; last = l }
+
+wide_4 : (a b c d : ℕ) → 0x80 ≤ a → 0x80 ≤ b → 0x80 ≤ d → IsWide (a ∷ b ∷ c ∷ d ∷ [])
+wide_4 a b c d h k l = record { some = omega arith; two = two_high a b (c ∷ d ∷ []) h k; last = l }
+
+narrow_or_wide : {e : List ℕ} → IsEncoding e → IsNarrow e ⊎ IsWide e
+narrow_or_wide (row_00_7F {a} p) =
+    inl (record { one = refl; low = omega arith; none = high-cons_low a [] (omega arith) })
+narrow_or_wide (row_C2_DF {a} {b} p q) = inr (wide_2 a b (omega arith) (omega arith))
+narrow_or_wide (row_E0 {a} {b} {c} p q r) = inr (wide_3 a b c (omega arith) (omega arith) (omega arith))
+narrow_or_wide (row_E1_EC {a} {b} {c} p q r) = inr (wide_3 a b c (omega arith) (omega arith) (omega arith))
+narrow_or_wide (row_ED {a} {b} {c} p q r) = inr (wide_3 a b c (omega arith) (omega arith) (omega arith))
+narrow_or_wide (row_EE_EF {a} {b} {c} p q r) = inr (wide_3 a b c (omega arith) (omega arith) (omega arith))
+narrow_or_wide (row_F0 {a} {b} {c} {d} p q r s) = inr (wide_4 a b c d (omega arith) (omega arith) (omega arith))
+narrow_or_wide (row_F1_F3 {a} {b} {c} {d} p q r s) = inr (wide_4 a b c d (omega arith) (omega arith) (omega arith))
+narrow_or_wide (row_F4 {a} {b} {c} {d} p q r s) = inr (wide_4 a b c d (omega arith) (omega arith) (omega arith))
+
+pub wide_of : {e : List ℕ} → IsEncoding e → 2 ≤ length e → IsWide e
+wide_of {e} h some = ⊎_elim (λ n. let one = n.one in absurd (omega arith)) (λ w. w) (narrow_or_wide h)
+
+-- so octets that are well formed have none of 80 or more, or two at least, and have no more characters than octets
 
 encodings_high : (es : List (List ℕ)) → AllByRecursion IsEncoding es
     → (high_count (concat es) ≡ 0) ⊎ (2 ≤ high_count (concat es))
 encodings_high [] h = inl refl
 encodings_high (e ∷ es) h =
     ⊎_elim
-    (λ none. ⊎_elim (λ others. inl (omega (arith, high-append e (concat es))))
+    (λ n. let none = n.none in ⊎_elim (λ others. inl (omega (arith, high-append e (concat es))))
     (λ others. inr (omega (arith, high-append e (concat es)))) (encodings_high es h.1))
-    (λ two. inr (omega (arith, high-append e (concat es))))
-    (encoding_high h.0)
+    (λ w. let two = w.two in inr (omega (arith, high-append e (concat es))))
+    (narrow_or_wide h.0)
 
 encodings_few : (es : List (List ℕ)) → AllByRecursion IsEncoding es → length es ≤ length (concat es)
 encodings_few [] h = omega arith
@@ -89,6 +112,12 @@ high_first : (y : List ℕ) → 0x80 ≤ get_or y 0 0 → 1 ≤ high_count y
 high_first [] h = absurd (omega arith)
 high_first (a ∷ y) h = omega (arith, high-cons_high a y h)
 
+-- octets of which some are 80 or more aren't all below 80
+some_high : (y : List ℕ) → 1 ≤ high_count y → ¬ All (λ o. o < 0x80) y
+some_high [] h all = absurd (omega arith)
+some_high (a ∷ y) h all =
+    some_high y (omega (arith, high-cons_low a y (All-head (λ o. o < 0x80) a y all))) (All-tail (λ o. o < 0x80) a y all)
+
 pub search_start : (x : List ℕ) (t : ℕ) → IsSearching x 0 t t
 search_start x t = record {
   at = at_start x t;
@@ -117,6 +146,19 @@ search_lane x place old now s room low =
       most = omega arith;
     }
 
+-- two lanes of octets below 80
+pub search_lanes : (x : List ℕ) (place old now : ℕ) → IsSearching x place old now → place + 32 ≤ length x
+    → All (λ o. o < 0x80) (take 32 (drop place x)) → IsSearching x (place + 32) old (now + 2)
+search_lanes x place old now s room low =
+    let first : All (λ o. o < 0x80) (take 16 (drop place x)) =
+    subst (All (λ o. o < 0x80)) (take-take 16 32 (drop place x) (omega arith)) (All-take (λ o. o < 0x80) 16 _ low) in
+    let second : All (λ o. o < 0x80) (take 16 (drop (place + 16) x)) =
+    subst (All (λ o. o < 0x80)) (drop-take 16 16 (drop place x) ∙ ap (take 16) (drop-drop 16 place x))
+    (All-drop (λ o. o < 0x80) 16 _ low) in
+    subst (λ k. IsSearching x k old (now + 2)) (let e : place + 16 + 16 ≡ place + 32 = omega arith in e)
+    (subst (λ k. IsSearching x (place + 16 + 16) old k) (let e : now + 1 + 1 ≡ now + 2 = omega arith in e)
+    (search_lane x (place + 16) old (now + 1) (search_lane x place old now s (omega arith) first) (omega arith) second))
+
 -- octets below 80 before one of 80 or more, a turn each
 pub search_jump : (x : List ℕ) (place old now n : ℕ) → IsSearching x place old now → n < 16 → place + n < length x
     → All (λ o. o < 0x80) (take n (drop place x)) → 0x80 ≤ get_or x (place + n) 0 → IsSearching x (place + n) old (now + n)
@@ -137,32 +179,39 @@ search_jump x place old now (suc n) s few room low high =
       most = omega arith;
     }
 
--- an encoding whose first octet is 80 or more
-pub search_encoding : (x : List ℕ) (place old now len : ℕ) → IsSearching x place old now → place < length x
-    → 0x80 ≤ get_or x place 0 → StandsInFront (drop place x) (Encoding len) → IsSearching x (place + len) old (now + 1)
-search_encoding x place old now len s room first (within, e) =
+-- an encoding of two octets or more
+pub search_encoding : (x : List ℕ) (place old now len : ℕ) → IsSearching x place old now → place < length x → 2 ≤ len
+    → StandsInFront (drop place x) (Encoding len) → IsSearching x (place + len) old (now + 1)
+search_encoding x place old now len s room wide (within, e) =
     let before = s.most in
     let high = high_add x place len (omega arith) in
+    let z : List ℕ = take len (drop place x) in
+    let two : 2 ≤ high_count z = (wide_of e (omega (arith, length-take len (drop place x)))).two in
+    record {
+      at = at_more x place old now len s.at (within, e);
+      lanes = λ all. absurd (some_high z (omega arith) (All-take (λ o. o < 0x80) len _ (All-drop (λ o. o < 0x80) place x
+          all)));
+      low = λ h. omega arith;
+      most = omega arith;
+    }
+
+-- an encoding whose first octet is 80 or more has two octets or more
+pub front_wide : (x : List ℕ) (place len : ℕ) → 0x80 ≤ get_or x place 0 → StandsInFront (drop place x) (Encoding len)
+    → 2 ≤ len
+front_wide x place len first (within, e) =
     let z : List ℕ = take len (drop place x) in
     let some : 1 ≤ len = let n = length_of e in omega (arith, length-take len (drop place x)) in
     let here : get_or z 0 0 ≡ get_or x place 0 = get_or-take len (drop place x) 0 0 some ∙ get_or-drop place x 0 0
     ∙ ap (λ k. get_or x k 0) (let e : place + 0 ≡ place = omega arith in e) in
-    let lead : 1 ≤ high_count z = high_first z (omega arith) in
-    let two : 2 ≤ high_count z = ⊎_elim (λ h. absurd (omega arith)) (λ h. h) (encoding_high e) in
-    let wide : 2 ≤ len = omega (arith, count_by-le-length (λ o. leb 0x80 o) z, length-take len (drop place x)) in
-    record {
-      at = at_more x place old now len s.at (within, e);
-      lanes = λ all. let below = All-get_or (λ o. o < 0x80) x place 0 room all in absurd (omega arith);
-      low = λ h. omega arith;
-      most = omega arith;
-    }
+    let long = length-take len (drop place x) in
+    ⊎_elim (λ n. let low = n.low in absurd (omega arith)) (λ w. let some = w.some in omega arith) (narrow_or_wide e)
 
 high_cut : (x : List ℕ) (place : ℕ) → high_count x ≡ high_count (take place x) + high_count (drop place x)
 high_cut x place = ap high_count (sym (take-append-drop place x)) ∙ high-append (take place x) (drop place x)
 
 -- a fault at a place with sixteen octets left
 pub search_fault : (x : List ℕ) (place old now : ℕ) (size : Option ℕ) → IsSearching x place old now
-    → place + 16 ≤ length x → StandsInFront (drop place x) (Bad size)
+    → place + 4 ≤ length x → StandsInFront (drop place x) (Bad size)
     → IsFound x old (now + 1) (record { place = place; size = size })
 search_fault x place old now size s room front =
     let before = s.most in

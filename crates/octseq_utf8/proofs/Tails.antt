@@ -1,41 +1,35 @@
 -- A search that begins at a place, and what it tells of the whole.
-use Rattle.std.proofs.Common.{◌≡◌, ℕ, zero, suc, ◌+◌, ◌-◌, ◌*◌, ◌/◌, ◌%◌, ◌<◌, ◌≤◌, ◌⊎◌, inl, inr, ⊎_elim}
-use Rattle.std.proofs.Common.{List, [], ◌∷◌, map, length, take, drop, get_or, refl, arith, ap}
-use Rattle.std.proofs.Common.{sym, ◌∙◌, subst, length-take, length-drop, Option, Some, None}
+use Rattle.std.proofs.Common.{◌≡◌, ℕ, zero, suc, ◌+◌, ◌-◌, ◌*◌, ◌/◌, ◌%◌, ◌<◌, ◌≤◌}
+use Rattle.std.proofs.Common.{List, [], ◌∷◌, ◌++◌, map, length, take, drop, refl, arith, ap}
+use Rattle.std.proofs.Common.{sym, ◌∙◌, subst, length-drop, Option, Some, None}
 use Rattle.std.specs.Prelude.{IsNone, IfNone, IfSome, ◌↔◌}
-use Rattle.std.proofs.lemmas.List.{drop-drop, length-map}
+use Rattle.std.proofs.lemmas.List.{drop-drop, take-take, length-map}
 use Rattle.std.specs.List.{All}
-use Rattle.std.proofs.lemmas.List.Elements.{All-get_or}
-use Rattle.octseq_utf8.specs.Encoding.{number_of}
+use Rattle.octseq_utf8.specs.Encoding.{IsEncoding, number_of}
 use Rattle.octseq_utf8.specs.Fault.{Fault, IsFault, fault_end, fault_from}
 use Rattle.octseq_utf8.specs.Front.{StandsInFront}
-use Rattle.octseq_utf8.specs.Search.{IsAt, IsSearching, IsFaultAt, FewTurns}
+use Rattle.octseq_utf8.specs.Search.{IsAt, IsAfter, IsSearching, IsFaultAt, FewTurns}
 use Rattle.octseq_utf8.specs.Text.{IsWellFormed, chars}
 use Rattle.octseq_utf8.specs.declared.finder.Front.TheVariants.{Encoding, Bad}
 use Rattle.octseq_utf8.proofs.Faults.{at_start, at_more, at_end, fault_at, fault_refutes}
 use Rattle.octseq_utf8.proofs.Faults.{fault_behind, spells_low, turns_behind, well_formed_behind}
-use Rattle.octseq_utf8.proofs.Search.{few_to_the_end, few_to_a_fault}
+use Rattle.octseq_utf8.proofs.Search.{wide_of, few_to_the_end, few_to_a_fault}
 use Rattle.octseq_utf8.proofs.Spelling.{chars_of}
-
--- The search that began at one place is at another.
-pub record IsBehind (x : List ℕ) (from place old now : ℕ) : Type 0 where
-  pub past : from ≤ place
-  pub at : IsAt (drop from x) (place - from) old now
 
 drop_further : (x : List ℕ) (from place : ℕ) → from ≤ place → drop (place - from) (drop from x) ≡ drop place x
 drop_further x from place past =
     drop-drop (place - from) from x ∙ ap (λ k. drop k x) (let e : from + (place - from) ≡ place = omega arith in e)
 
 -- a search is where it begins before it takes a turn
-pub behind_start : (x : List ℕ) (from t : ℕ) → IsBehind x from from t t
+pub behind_start : (x : List ℕ) (from t : ℕ) → IsAfter x from from t t
 behind_start x from t = record {
   past = omega arith;
   at = subst (λ k. IsAt (drop from x) k t t) (let e : 0 ≡ from - from = omega arith in e) (at_start (drop from x) t);
 }
 
 -- an encoding at the place of a search is passed in one turn
-pub behind_more : (x : List ℕ) (from place old now len : ℕ) → IsBehind x from place old now
-    → StandsInFront (drop place x) (Encoding len) → IsBehind x from (place + len) old (now + 1)
+pub behind_more : (x : List ℕ) (from place old now len : ℕ) → IsAfter x from place old now
+    → StandsInFront (drop place x) (Encoding len) → IsAfter x from (place + len) old (now + 1)
 behind_more x from place old now len b front =
     let past = b.past in
     record {
@@ -47,13 +41,13 @@ behind_more x from place old now len b front =
     }
 
 -- a search that comes to the end has passed well-formed octets, with at most one turn for each character
-pub behind_end : (x : List ℕ) (from place old now : ℕ) → IsBehind x from place old now → length x ≤ place
+pub behind_end : (x : List ℕ) (from place old now : ℕ) → IsAfter x from place old now → length x ≤ place
     → IsWellFormed (drop from x) × (now ≤ old + length (chars (drop from x)))
 behind_end x from place old now b past =
     at_end (drop from x) (place - from) old now b.at (omega (arith, length-drop from x))
 
 -- a bad part at the place of a search is the fault of the octets that it searches, found in one turn more
-pub behind_fault : (x : List ℕ) (from place old now : ℕ) (size : Option ℕ) → IsBehind x from place old now
+pub behind_fault : (x : List ℕ) (from place old now : ℕ) (size : Option ℕ) → IsAfter x from place old now
     → StandsInFront (drop place x) (Bad size)
     → IsFaultAt (drop from x) old (now + 1) (fault_from from (record { place = place; size = size }))
 behind_fault x from place old now size b front =
@@ -127,3 +121,24 @@ ascii_turns x place old mid now s last more low =
     let within = s.at.within in
     let left = length-drop place x in
     omega arith
+
+-- an encoding that a word with zeros after the octets begins with has none of the zeros
+pub last_front : (x four : List ℕ) (place len : ℕ) → place < length x → four ≡ take 4 (drop place x ++ 0 ∷ 0 ∷ 0 ∷ [])
+    → 2 ≤ len → len ≤ 3 → IsEncoding (take len four) → StandsInFront (drop place x) (Encoding len)
+last_front x four place len room same some few e =
+    in_front (drop place x) len (omega (arith, length-drop place x)) some few
+    (subst IsEncoding (ap (take len) same ∙ take-take len 4 (drop place x ++ 0 ∷ 0 ∷ 0 ∷ []) (omega arith)) e)
+  where
+    in_front : (y : List ℕ) (len : ℕ) → 1 ≤ length y → 2 ≤ len → len ≤ 3
+        → IsEncoding (take len (y ++ 0 ∷ 0 ∷ 0 ∷ [])) → StandsInFront y (Encoding len)
+    in_front [] len room some few e = absurd (omega arith)
+    in_front (a ∷ []) (suc (suc zero)) room some few e = let last = (wide_of e (omega arith)).last in absurd (omega arith)
+    in_front (a ∷ []) (suc (suc (suc zero))) room some few e =
+        let last = (wide_of e (omega arith)).last in absurd (omega arith)
+    in_front (a ∷ b ∷ []) (suc (suc (suc zero))) room some few e =
+        let last = (wide_of e (omega arith)).last in absurd (omega arith)
+    in_front (a ∷ b ∷ y) (suc (suc zero)) room some few e = (omega arith, e)
+    in_front (a ∷ b ∷ c ∷ y) (suc (suc (suc zero))) room some few e = (omega arith, e)
+    in_front y zero room some few e = absurd (omega arith)
+    in_front y (suc zero) room some few e = absurd (omega arith)
+    in_front y (suc (suc (suc (suc len)))) room some few e = absurd (omega arith)

@@ -1,5 +1,5 @@
 -- Where a search for the first fault is, and how many turns it took.
-use Rattle.std.specs.Prelude.{ℕ, ◌+◌, ◌*◌, ◌/◌, ◌<◌, ◌≤◌, ◌≡◌, List, length, take, slice_index, count_by, nat_le}
+use Rattle.std.specs.Prelude.{ℕ, ◌+◌, ◌*◌, ◌/◌, ◌<◌, ◌-◌, ◌≤◌, ◌≡◌, List, length, take, drop, slice_index, count_by, nat_le}
 use Rattle.std.specs.List.{All}
 use Rattle.octseq_utf8.specs.Fault.{Fault, IsFault, fault_end}
 use Rattle.octseq_utf8.specs.Text.{Spells, chars}
@@ -16,6 +16,11 @@ pub record IsAt (octets : List ℕ) (place old now : ℕ) : Type 0 where
   pub turns : now ≤ old + length characters
   pub few : now ≤ old + place
   pub passed : place + 16 * old ≤ 16 * now
+
+-- A search that began at a place is at another.
+pub record IsAfter (octets : List ℕ) (from place old now : ℕ) : Type 0 where
+  pub past : from ≤ place
+  pub at : IsAt (drop from octets) (place - from) old now
 
 -- The same where lanes are looked at. Octets that are all below 80 are passed sixteen a turn. Else up to fifteen of them
 -- took a turn each before one of 80 or more; the encoding there has two such octets at least, which pay for them.

@@ -25,13 +25,13 @@ ghost use Rattle.std.specs.List.{All};
 ghost use Rattle.octseq_utf8.specs.Fault.{IsFault, fault_end, fault_from};
 ghost use Rattle.octseq_utf8.specs.Front.{StandsInFront};
 ghost use Rattle.octseq_utf8.specs.Reading.{width_of, least_second, greatest_second, fitting};
-ghost use Rattle.octseq_utf8.specs.Search.{IsSearching, IsFound};
+ghost use Rattle.octseq_utf8.specs.Search.{IsSearching, IsFound, IsAfter, IsFaultAt};
 ghost use Rattle.octseq_utf8.specs.Text.{IsWellFormed, chars};
 
 use crate::fault::Utf8Fault;
-use crate::lanes::{ascii_len, is_short_ascii};
+use crate::lanes::{ascii_len, is_high_in_thirty_two, is_short_ascii};
 use crate::turns::Turns;
-use crate::words::{begins_three, begins_two, encoding_len, is_four, word_at};
+use crate::words::{begins, begins_three, begins_two, is_four, last_word, word_at};
 
 /// How many octets an encoding that begins with this one has, or 0 where none does.
 #[tactic(auto, unfolding(crate::specs::Reading::width_of))]
@@ -123,16 +123,152 @@ fn part_at_front(octets: &[u8]) -> Front
     }
 }
 
-/// What stands at a place: told by the word there where four octets are left, and else by the table.
+/// Passes octets below 80 from a place on, in lanes of thirty-two that have no other. Answers the place after them.
 #[inline(always)]
-fn part_at(octets: &[u8], at: usize) -> Front
-    requires { at < length octets.now }
+fn pass_lanes(octets: &[u8], from: usize, turns: &mut Turns) -> usize
+    requires { from ≤ length octets.now }
+    ensures past { from ≤ result }
+    ensures passed { (start : ℕ) → IsSearching octets.now from start turns.old
+        → IsSearching octets.now result start turns.new }
+{
+    let lanes = octets.len().saturating_sub(31);
+    let mut at = from;
+    while at < lanes && !is_high_in_thirty_two(octets, at) {
+        turns.pass(2);
+        at += 32;
+    }
+    at
+}
+
+/// Passes octets below 80 from a place on, while sixteen octets are left: lanes that have no other, and then the octets
+/// before the first of 80 or more. Answers the place after them.
+#[inline(always)]
+fn pass_ascii(octets: &[u8], from: usize, turns: &mut Turns) -> usize
+    requires { from ≤ length octets.now }
+    ensures past { from ≤ result }
+    ensures further { from + 15 < length octets.now → slice_index octets.now from < 0x80 → from < result }
+    ensures passed { (start : ℕ) → IsSearching octets.now from start turns.old
+        → IsSearching octets.now result start turns.new }
+{
+    let lanes = octets.len().saturating_sub(15);
+    let mut at = pass_lanes(octets, from, turns);
+    while at < lanes {
+        let low = ascii_len(octets, at);
+        if low < 16 {
+            turns.pass(low);
+            return at + low;
+        }
+        turns.tick();
+        at += 16;
+    }
+    at
+}
+
+/// Passes encodings of `LEN` octets from a place on, one a turn, while four octets are left. Answers the place after them.
+///
+/// Text of one script is mostly encodings of one length, and a loop that asks for no other is the quickest.
+#[inline(always)]
+fn pass_run<const LEN: usize>(octets: &[u8], from: usize, turns: &mut Turns) -> usize
+    requires from { from ≤ length octets.now }
+    requires len { (2 ≤ LEN) × (LEN ≤ 4) }
+    ensures past { from ≤ result }
+    ensures passed { (start : ℕ) → IsSearching octets.now from start turns.old
+        → IsSearching octets.now result start turns.new }
+{
+    let words = octets.len().saturating_sub(3);
+    let mut at = from;
+    while at < words && begins::<LEN>(word_at(octets, at)) {
+        turns.tick();
+        at += LEN;
+    }
+    at
+}
+
+/// Passes encodings of two octets or more from a place on, one a turn, while sixteen octets are left. Answers the place
+/// after them, or the fault there.
+#[inline(always)]
+fn pass_encodings(octets: &[u8], from: usize, turns: &mut Turns) -> Result<usize, Utf8Fault>
+    requires { from ≤ length octets.now }
+    ensures past { IfOk result (λ place. from ≤ place) }
+    ensures further { from + 15 < length octets.now → 0x80 ≤ slice_index octets.now from
+        → IfOk result (λ place. from < place) }
+    ensures passed { (start : ℕ) → IsSearching octets.now from start turns.old
+        → IfOk result (λ place. IsSearching octets.now place start turns.new) }
+    ensures fault { (start : ℕ) → IsSearching octets.now from start turns.old
+        → IfErr result (IsFound octets.now start turns.new) }
+{
+    let words = octets.len().saturating_sub(15);
+    let mut at = from;
+    while at < words && octets[at] >= 0x80 {
+        turns.tick();
+        let word = word_at(octets, at);
+        if begins_two(word) {
+            at += 2;
+        } else if begins_three(word) {
+            at = pass_run::<3>(octets, at + 3, turns);
+        } else if is_four(word) {
+            at = pass_run::<4>(octets, at + 4, turns);
+        } else {
+            match part_at_front(&octets[at..]) {
+                Front::Encoding(len) => at += len,
+                Front::Bad(size) => return Err(Utf8Fault::new(at, size)),
+            }
+        }
+    }
+    Ok(at)
+}
+
+/// Passes one part a turn from a place on, while four octets are left. Answers the place after them, or the fault there.
+#[inline(always)]
+fn pass_words(octets: &[u8], from: usize, turns: &mut Turns) -> Result<usize, Utf8Fault>
+    requires { from ≤ length octets.now }
+    ensures passed { IfOk result (λ place. IsAfter octets.now from place turns.old turns.new) }
+    ensures few { IfOk result (λ place. length octets.now < place + 4) }
+    ensures place { IfErr result (λ fault. from ≤ fault.place) }
+    ensures fault { IfErr result (λ fault.
+        IsFaultAt (drop from octets.now) turns.old turns.new (fault_from from fault)) }
+    ensures octets { IfErr result (λ fault. turns.new ≤ turns.old + (length octets.now - from)) }
+{
+    let words = octets.len().saturating_sub(3);
+    let mut at = from;
+    while at < words {
+        turns.tick();
+        let word = word_at(octets, at);
+        // (each length has a branch of its own, which the processor foresees where text is of one script)
+        if octets[at] < 0x80 {
+            at += 1;
+        } else if begins_two(word) {
+            at += 2;
+        } else if begins_three(word) {
+            at += 3;
+        } else if is_four(word) {
+            at += 4;
+        } else {
+            match part_at_front(&octets[at..]) {
+                Front::Encoding(len) => at += len,
+                Front::Bad(size) => return Err(Utf8Fault::new(at, size)),
+            }
+        }
+    }
+    Ok(at)
+}
+
+/// What stands at a place among the last three octets: told by the last word where there is one, and else by the table.
+#[inline(always)]
+fn last_part(octets: &[u8], at: usize) -> Front
+    requires { (at < length octets.now) × (length octets.now < at + 4) }
     ensures { StandsInFront (drop at octets.now) result }
 {
-    if octets.len() - at >= 4 {
-        let len = encoding_len(word_at(octets, at));
-        if len > 0 {
-            return Front::Encoding(len);
+    if octets[at] < 0x80 {
+        return Front::Encoding(1);
+    }
+    if octets.len() >= 4 {
+        let word = last_word(octets, at);
+        if begins_two(word) {
+            return Front::Encoding(2);
+        }
+        if begins_three(word) {
+            return Front::Encoding(3);
         }
     }
     part_at_front(&octets[at..])
@@ -156,85 +292,18 @@ fn fault_by_parts(octets: &[u8], from: usize, turns: &mut Turns) -> Option<Utf8F
         turns.pass(octets.len() - from);
         return None;
     }
-    let mut at = from;
+    let mut at = match pass_words(octets, from, turns) {
+        Ok(at) => at,
+        Err(fault) => return Some(fault),
+    };
     while at < octets.len() {
         turns.tick();
-        if octets[at] < 0x80 {
-            at += 1;
-            continue;
-        }
-        match part_at(octets, at) {
+        match last_part(octets, at) {
             Front::Encoding(len) => at += len,
             Front::Bad(size) => return Some(Utf8Fault::new(at, size)),
         }
     }
     None
-}
-
-/// Passes octets below 80 from a place on, while sixteen octets are left: lanes that have no other, and then the octets
-/// before the first of 80 or more. Answers the place after them.
-#[inline(always)]
-fn pass_ascii(octets: &[u8], from: usize, turns: &mut Turns) -> usize
-    requires { from ≤ length octets.now }
-    ensures past { from ≤ result }
-    ensures further { from + 15 < length octets.now → slice_index octets.now from < 0x80 → from < result }
-    ensures passed { (start : ℕ) → IsSearching octets.now from start turns.old
-        → IsSearching octets.now result start turns.new }
-{
-    let lanes = octets.len().saturating_sub(15);
-    let mut at = from;
-    while at < lanes {
-        let low = ascii_len(octets, at);
-        if low < 16 {
-            turns.pass(low);
-            return at + low;
-        }
-        turns.tick();
-        at += 16;
-    }
-    at
-}
-
-/// Passes encodings of two octets or more from a place on, while sixteen octets are left. Answers the place after them,
-/// or the fault there.
-#[inline(always)]
-fn pass_encodings(octets: &[u8], from: usize, turns: &mut Turns) -> Result<usize, Utf8Fault>
-    requires { from ≤ length octets.now }
-    ensures past { IfOk result (λ place. from ≤ place) }
-    ensures further { from + 15 < length octets.now → 0x80 ≤ slice_index octets.now from
-        → IfOk result (λ place. from < place) }
-    ensures passed { (start : ℕ) → IsSearching octets.now from start turns.old
-        → IfOk result (λ place. IsSearching octets.now place start turns.new) }
-    ensures fault { (start : ℕ) → IsSearching octets.now from start turns.old
-        → IfErr result (IsFound octets.now start turns.new) }
-{
-    let words = octets.len().saturating_sub(15);
-    let mut at = from;
-    while at < words {
-        if octets[at] < 0x80 {
-            break;
-        }
-        turns.tick();
-        let word = word_at(octets, at);
-        // (each width has a branch of its own here: by `encoding_len` hot text of one script takes up to half more)
-        if begins_two(word) {
-            at += 2;
-            continue;
-        }
-        if begins_three(word) {
-            at += 3;
-            continue;
-        }
-        if is_four(word) {
-            at += 4;
-            continue;
-        }
-        match part_at_front(&octets[at..]) {
-            Front::Encoding(len) => at += len,
-            Front::Bad(size) => return Err(Utf8Fault::new(at, size)),
-        }
-    }
-    Ok(at)
 }
 
 /// The first fault of the octets, or none where they are well-formed UTF-8.

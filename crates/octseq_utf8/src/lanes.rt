@@ -1,4 +1,4 @@
-//! Sixteen octets at once, or eight, or four.
+//! Thirty-two octets at once, or sixteen, eight, or four.
 ghost use Rattle.std.specs.Prelude.{◌≡◌, ◌+◌, ◌%◌, ◌<◌, ◌≤◌, ◌↔◌, nat_le, true};
 ghost use Rattle.std.specs.Prelude.{false, map, length, take, drop, slice_index};
 ghost use Rattle.std.specs.List.{All};
@@ -31,6 +31,18 @@ pub(crate) fn ascii_len(octets: &[u8], at: usize) -> usize
         return 16;
     }
     high.trailing_zeros() as usize
+}
+
+/// Whether any of the thirty-two octets from there on is 80 or more.
+#[inline(always)]
+pub(crate) fn is_high_in_thirty_two(octets: &[u8], at: usize) -> bool
+    requires { at + 32 ≤ length octets.now }
+    ensures { result ≡ false → All (λ octet. octet < 0x80) (take 32 (drop at octets.now)) }
+{
+    u8x32::from_slice(&octets[at..])
+        .simd_ge(u8x32::splat(0x80))
+        .to_bitmask()
+        != 0
 }
 
 /// Whether any of the eight octets from there on is 80 or more.

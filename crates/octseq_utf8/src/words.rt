@@ -1,5 +1,5 @@
 //! Encodings told from a word of four octets, by one mask each.
-ghost use Rattle.std.specs.Prelude.{◌≡◌, ◌+◌, ◌<◌, ◌≤◌, true, length, take, drop};
+ghost use Rattle.std.specs.Prelude.{◌≡◌, ◌+◌, ◌<◌, ◌≤◌, ◌++◌, [], ◌∷◌, true, length, take, drop};
 ghost use Rattle.std.specs.Int.{w32, to_le_bytes};
 ghost use Rattle.octseq_utf8.specs.Encoding.{IsEncoding};
 
@@ -13,6 +13,18 @@ pub(crate) fn word_at(octets: &[u8], at: usize) -> u32
         Some((four, _)) => u32::from_le_bytes(*four),
         None => 0,
     }
+}
+
+/// The last one to three octets, from there on, and zeros after them: the last word, shifted.
+#[inline(always)]
+pub(crate) fn last_word(octets: &[u8], at: usize) -> u32
+    requires some { at < length octets.now }
+    requires few { length octets.now < at + 4 }
+    requires word { 4 ≤ length octets.now }
+    ensures { to_le_bytes w32 result ≡ take 4 (drop at octets.now ++ 0 ∷ 0 ∷ 0 ∷ []) }
+{
+    let missing = 4 - (octets.len() - at);
+    word_at(octets, octets.len() - 4) >> (8 * missing as u32)
 }
 
 /// Whether an encoding of two octets begins the word: the first is in C2..DF, and the second has the top bits 10.
@@ -53,19 +65,15 @@ pub(crate) fn is_four(word: u32) -> bool
     high.wrapping_sub(0x10) < 0x400
 }
 
-/// How many octets the encoding has that begins the word, or 0 where that is none of two octets or more.
+/// Whether an encoding of `LEN` octets begins the word, where that is two, three or four.
 #[inline(always)]
-pub(crate) fn encoding_len(word: u32) -> usize
-    ensures few { result ≤ 4 }
-    ensures encoding { 0 < result → IsEncoding (take result (to_le_bytes w32 word)) }
+pub(crate) fn begins<const LEN: usize>(word: u32) -> bool
+    ensures { result ≡ true → IsEncoding (take LEN (to_le_bytes w32 word)) }
 {
-    if begins_two(word) {
-        2
-    } else if begins_three(word) {
-        3
-    } else if is_four(word) {
-        4
-    } else {
-        0
+    match LEN {
+        2 => begins_two(word),
+        3 => begins_three(word),
+        4 => is_four(word),
+        _ => false,
     }
 }

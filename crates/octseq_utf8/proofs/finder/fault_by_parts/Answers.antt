@@ -1,7 +1,7 @@
 use Rattle.std.proofs.Common.{drop, refl, arith, length-drop}
 use Rattle.octseq_utf8.specs.Fault.{fault_from}
 use Rattle.octseq_utf8.specs.Search.{IsFaultAt}
-use Rattle.octseq_utf8.proofs.Faults.{octet_front, fault_refutes}
+use Rattle.octseq_utf8.proofs.Faults.{fault_refutes}
 use Rattle.octseq_utf8.proofs.Tails.{behind_more, behind_end, behind_fault, low_well_formed}
 use Rattle.octseq_utf8.proofs.finder.fault_by_parts.Goals as goal
 
@@ -20,16 +20,14 @@ returns-then-is_short_ascii-clause-turns c =
     (c.is_short_ascii.ensures c.if-is_short_ascii.true)).1 in
     omega (arith, length-drop c.args.from c.args.octets.now)
 
-pub loop-at-preserved-then-octets-at-lt128 : goal.loop-at-preserved-then-octets-at-lt128
-loop-at-preserved-then-octets-at-lt128 c =
-    rw c.tick.ensures
-    (behind_more c.args.octets.now c.args.from c.loop-at.at c.args.turns.now c.loop-at.turns 1 c.loop-at.invariant
-    (octet_front c.args.octets.now c.loop-at.at (omega arith) (omega arith)))
-
 pub loop-at-preserved : goal.loop-at-preserved
 loop-at-preserved c =
-    rw c.tick.ensures (behind_more c.args.octets.now c.args.from c.loop-at.at c.args.turns.now c.loop-at.turns
-    c.in-Encoding.len c.loop-at.invariant c.in-Encoding.ensures)
+    let few = c.loop-at.invariant.few in
+    record {
+      after = rw c.tick.ensures (behind_more c.args.octets.now c.args.from c.loop-at.at c.args.turns.now c.loop-at.turns
+          c.in-Encoding.len c.loop-at.invariant.after c.in-Encoding.ensures);
+      few = omega arith;
+    }
 
 -- what is owed at the fault that is answered
 owed : (c : goal.After-new)
@@ -38,7 +36,12 @@ owed : (c : goal.After-new)
 owed c =
     rw (c.new.ensures, c.tick.ensures)
     (behind_fault c.args.octets.now c.args.from c.loop-at.at c.args.turns.now c.loop-at.turns c.in-Bad.size
-    c.loop-at.invariant c.in-Bad.ensures)
+    c.loop-at.invariant.after c.in-Bad.ensures)
+
+-- a fault while four octets are left
+
+pub returns-in-Err-clause-none : goal.returns-in-Err-clause-none
+returns-in-Err-clause-none c = (λ h. cc, λ w. absurd (fault_refutes c.in-Err.ensures.fault.is_fault w))
 
 pub returns-in-Bad-clause-none : goal.returns-in-Bad-clause-none
 returns-in-Bad-clause-none c = (λ h. cc, λ w. absurd (fault_refutes (owed c).is_fault w))
@@ -51,5 +54,5 @@ returns-in-Bad-clause-turns_to_fault c = (owed c).turns
 
 pub returns-clause-turns : goal.returns-clause-turns
 returns-clause-turns c =
-    (behind_end c.args.octets.now c.args.from c.loop-at.at c.args.turns.now c.loop-at.turns c.loop-at.invariant
+    (behind_end c.args.octets.now c.args.from c.loop-at.at c.args.turns.now c.loop-at.turns c.loop-at.invariant.after
     c.loop-at-test.false).1

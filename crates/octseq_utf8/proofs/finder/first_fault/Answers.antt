@@ -3,7 +3,7 @@ use Rattle.std.specs.Prelude.{IfSome}
 use Rattle.std.proofs.lemmas.Option.{IfSome_then}
 use Rattle.octseq_utf8.specs.Search.{IsFaultAt, IsFound}
 use Rattle.octseq_utf8.proofs.Faults.{fault_refutes}
-use Rattle.octseq_utf8.proofs.Search.{low_or_high, search_start}
+use Rattle.octseq_utf8.proofs.Search.{search_start}
 use Rattle.octseq_utf8.proofs.Tails.{ascii_turns, low_well_formed, tail_fault, tail_few, tail_none, tail_turns}
 use Rattle.octseq_utf8.proofs.finder.first_fault.Goals as goal
 
@@ -77,4 +77,3 @@ returns-clause-ascii c low =
     ascii_turns c.args.octets.now c.loop-at.at c.args.turns.now c.loop-at.turns c.fault_by_parts.new.turns
     c.loop-at.invariant (omega arith) (let more = c.fault_by_parts.ensures.octets in
     omega (arith, length-drop c.loop-at.at c.args.octets.now)) low
-

@@ -1,12 +1,11 @@
-use Rattle.std.proofs.Common.{ℕ, ◌+◌, drop, arith}
-use Rattle.octseq_utf8.specs.Front.{StandsInFront}
+use Rattle.std.proofs.Common.{arith}
 use Rattle.octseq_utf8.specs.declared.finder.Front.TheVariants.{Encoding, Bad}
-use Rattle.octseq_utf8.proofs.Faults.{at_place, front_some, word_front}
-use Rattle.octseq_utf8.proofs.Search.{search_encoding, search_fault}
-use Rattle.octseq_utf8.proofs.finder.pass_encodings.Given as given
+use Rattle.octseq_utf8.proofs.Faults.{at_place, word_front}
+use Rattle.octseq_utf8.proofs.Search.{front_wide, search_encoding, search_fault}
 use Rattle.octseq_utf8.proofs.finder.pass_encodings.Goals as goal
 
--- an encoding is passed in a turn
+-- an encoding that the word begins with, and those after it
+
 pub loop-at-preserved-then-begins_two : goal.loop-at-preserved-then-begins_two
 loop-at-preserved-then-begins_two c =
     let words = c.saturating_sub-words.ensures in
@@ -24,45 +23,44 @@ pub loop-at-preserved-then-begins_three : goal.loop-at-preserved-then-begins_thr
 loop-at-preserved-then-begins_three c =
     let words = c.saturating_sub-words.ensures in
     let past = c.loop-at.invariant.past in
+    let run = c.pass_run-at.ensures in
     record {
-      past = omega arith;
-      passed = λ start before. rw c.tick.ensures
+      past = let further = run.past in omega arith;
+      passed = λ start before. run.passed start (rw c.tick.ensures
           (search_encoding c.args.octets.now c.loop-at.at start c.loop-at.turns 3
           (c.loop-at.invariant.passed start before) (omega arith) (omega arith)
           (word_front c.args.octets.now _ c.loop-at.at 3 (omega arith) c.word_at-word.ensures (omega arith)
-          (c.begins_three.ensures c.if-begins_three.true)));
+          (c.begins_three.ensures c.if-begins_three.true))));
     }
 
 pub loop-at-preserved-then-is_four : goal.loop-at-preserved-then-is_four
 loop-at-preserved-then-is_four c =
     let words = c.saturating_sub-words.ensures in
     let past = c.loop-at.invariant.past in
+    let run = c.pass_run-at-then-is_four.ensures in
     record {
-      past = omega arith;
-      passed = λ start before. rw c.tick.ensures
+      past = let further = run.past in omega arith;
+      passed = λ start before. run.passed start (rw c.tick.ensures
           (search_encoding c.args.octets.now c.loop-at.at start c.loop-at.turns 4
           (c.loop-at.invariant.passed start before) (omega arith) (omega arith)
           (word_front c.args.octets.now _ c.loop-at.at 4 (omega arith) c.word_at-word.ensures (omega arith)
-          (c.is_four.ensures c.if-is_four.true)));
+          (c.is_four.ensures c.if-is_four.true))));
     }
+
+-- what is read by the table
 
 pub loop-at-preserved : goal.loop-at-preserved
 loop-at-preserved c =
     let words = c.saturating_sub-words.ensures in
     let past = c.loop-at.invariant.past in
+    let front = at_place c.args.octets.now c.loop-at.at (Encoding c.in-Encoding.len) c.in-Encoding.ensures in
     record {
       past = omega arith;
       passed = λ start before. rw c.tick.ensures
           (search_encoding c.args.octets.now c.loop-at.at start c.loop-at.turns c.in-Encoding.len
-          (c.loop-at.invariant.passed start before) (omega arith) (omega arith)
-          (at_place c.args.octets.now c.loop-at.at (Encoding c.in-Encoding.len) c.in-Encoding.ensures));
+          (c.loop-at.invariant.passed start before) (omega arith)
+          (front_wide c.args.octets.now c.loop-at.at c.in-Encoding.len c.if-octets-at-ge128.true front) front);
     }
-
-pub loop-at-smaller : goal.loop-at-smaller
-loop-at-smaller c =
-    let some = front_some c.args.octets.now c.loop-at.at c.in-Encoding.len c.in-Encoding.ensures in
-    let words = c.saturating_sub-words.ensures in
-    omega arith
 
 pub returns-in-Bad-clause-fault : goal.returns-in-Bad-clause-fault
 returns-in-Bad-clause-fault c start before =

@@ -1,4 +1,4 @@
-use Rattle.std.proofs.Common.{drop, length-drop, arith, sym, subst, ◌≤◌}
+use Rattle.std.proofs.Common.{drop, length-drop, arith, subst, ◌≤◌}
 use Rattle.std.proofs.lemmas.List.{get_or-drop}
 use Rattle.std.specs.Int.Count.{count_trailing_zeros}
 use Rattle.octseq_utf8.proofs.Ascii.{IsBeforeHigh, before_high}
