@@ -1,20 +1,18 @@
 //! The finder of the first fault.
 //!
-//! Text is mostly ASCII, or mostly of one script; a fault is rare. So the search takes these ways, the quickest first:
+//! Text is mostly ASCII, or mostly of one script; a fault is rare. So the search goes run by run:
 //!
-//! - **Lanes.** Where sixteen octets are left, one load and one mask tell which of them are 80 or more. A lane with
-//!   none is passed at once. Where the current octet is below 80 but another of the lane isn't, one octet is passed:
-//!   the next place then hangs on a branch, which the processor foresees in text, and not on the mask. Only before
-//!   the first octet of 80 or more does the search jump by the mask, since a search that goes on behind a fault is
-//!   often at the next one soon.
-//! - **Words.** At an octet of 80 or more, four octets are loaded as one number, and a mask for each length tells
-//!   whether an encoding begins there. The masks hold the whole of the table: they leave no encoding to the next way,
-//!   but no proof needs that.
+//! - **Encodings.** While the octet at hand is 80 or more, four octets are loaded as one number, and a mask for each
+//!   length tells whether an encoding begins there. After one of three or of four octets a loop asks for no other
+//!   length. The masks hold the whole of the table: they leave no encoding to the next way, but no proof needs that.
 //! - **The table.** What no mask takes is read octet by octet, as the table of the Unicode Standard has it. This plain
 //!   way alone decides that there is a fault, and of what size. It looks at the second octet first, since most bad
 //!   parts end before it.
+//! - **Lanes.** Octets below 80 are passed thirty-two at once, and then sixteen: one load and one mask tell whether all
+//!   are. Where they aren't, the search jumps by the mask to the first of 80 or more.
 //! - **The tail.** Fewer than sixteen octets are left. Where all are below 80, two loads that overlap tell so; else
-//!   there is one part a step, by a word while four octets are left, and then by the table.
+//!   there is one part a step, by a word while four octets are left. The last three are read from the last word too,
+//!   shifted.
 //!
 //! A turn passes sixteen octets below 80 as one lane, or one part. Where octets below 80 are jumped over, a turn is
 //! counted for each.
@@ -308,8 +306,8 @@ fn fault_by_parts(octets: &[u8], from: usize, turns: &mut Turns) -> Option<Utf8F
 
 /// The first fault of the octets, or none where they are well-formed UTF-8.
 ///
-/// Where sixteen octets are left it takes one turn for them if all are below 80, and else one for the
-/// character or the fault that stands there; at the end one for each. It takes no memory.
+/// Where sixteen octets are left it takes one turn for them if all are below 80, and else one for each character up to
+/// the next of 80 or more and with it, or for the fault there; at the end one for each. It takes no memory.
 pub fn first_fault(octets: &[u8], turns: &mut Turns) -> Option<Utf8Fault>
     ensures none { IsNone result ↔ IsWellFormed octets.now }
     ensures fault { IfSome result (IsFault octets.now) }
