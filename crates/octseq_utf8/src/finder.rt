@@ -306,8 +306,8 @@ fn fault_by_parts(octets: &[u8], from: usize, turns: &mut Turns) -> Option<Utf8F
 
 /// The first fault of the octets, or none where they are well-formed UTF-8.
 ///
-/// Where sixteen octets are left it takes one turn for them if all are below 80, and else one for each character up to
-/// the next of 80 or more and with it, or for the fault there; at the end one for each. It takes no memory.
+/// While sixteen octets are left, those that are below 80 as a whole take one turn. Else each character takes one, and so
+/// does the fault. It takes no memory.
 pub fn first_fault(octets: &[u8], turns: &mut Turns) -> Option<Utf8Fault>
     ensures none { IsNone result ↔ IsWellFormed octets.now }
     ensures fault { IfSome result (IsFault octets.now) }
