@@ -11,7 +11,7 @@ use Rattle.octseq_utf8.specs.Reading.{width_of, width, parts_of}
 use Rattle.octseq_utf8.specs.Text.{IsWellFormed, chars}
 use Rattle.octseq_utf8.proofs.Beginnings.{beginning_fits, beginning_short, nil_or_some}
 use Rattle.octseq_utf8.proofs.Fits.{get_left}
-use Rattle.octseq_utf8.proofs.Mixed.{spelled_few}
+use Rattle.octseq_utf8.proofs.Search.{spelled_few}
 use Rattle.octseq_utf8.proofs.Rows.{length_of}
 use Rattle.octseq_utf8.proofs.Spelling.{chars_of}
 use Rattle.octseq_utf8.proofs.Splitting.{bad_some, encoding_fitting, splits}
