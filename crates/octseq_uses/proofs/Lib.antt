@@ -1,3 +1,4 @@
 pub mod Joins
 pub mod LineFronts
 pub mod RecordCode
+pub mod Filled
