@@ -30,6 +30,7 @@ unsafe extern "C" {
     fn octseq_dns_checked(octets: *const u8, len: usize) -> u64;
     fn octseq_dns_read(octets: *const u8, len: usize) -> u64;
     fn octseq_dns_written(octets: *const u8, len: usize) -> u64;
+    fn octseq_dns_pushed(owners: *const u8, len: usize) -> u64;
     fn octseq_ntp_by_format(octets: *const u8, len: usize) -> u64;
     fn octseq_ntp_by_calls(octets: *const u8, len: usize) -> u64;
     fn octseq_ntp_written(octets: *const u8, len: usize) -> u64;
@@ -380,29 +381,52 @@ fn sum_of(call: Sum, stream: &[u8]) -> u64 {
     unsafe { call(stream.as_ptr(), stream.len()) }
 }
 
-/// Messages: real traffic, and one that takes as long as its size allows. What is written anew is compared by a digest.
-fn messages(bench: &mut Bench) {
-    let traffic = dns::stream_of(include_str!("messages.hex"));
-    let hostile = dns::hostile();
-    let mut alone = (hostile.len() as u16).to_be_bytes().to_vec();
-    alone.extend(hostile);
-    let calls: [(&str, Sum, fn(&[u8]) -> u64); 2] =
-        [("checked", octseq_dns_checked, dns::checked), ("checked and read", octseq_dns_read, dns::read)];
-    for (what, call, rust) in calls {
-        for (name, stream) in [("363 messages of traffic", &traffic), ("a hostile message", &alone)] {
-            let mut section = Section::new("DNS messages", what, name, "a reader over slices, by hand");
-            let (octets, theirs) = (stream.clone(), stream.clone());
-            section.add(name, stream.len(), move || unsafe { call(octets.as_ptr(), octets.len()) },
-                move || rust(black_box(&theirs)));
-            bench.add(section);
+/// Tries that ours and those by hand answer alike on each message, cut at each length and with each octet changed. The
+/// writer by hand doesn't know some types, so their messages are left out.
+fn try_alike(messages: &[Vec<u8>]) {
+    let mut writer = dns::write::Writer::new();
+    for message in messages {
+        for changed in [message.clone()].into_iter().chain(dns::messages::changed(message)) {
+            let stream = dns::messages::stream_of(&[&changed]);
+            let said = format!("{changed:02x?}");
+            assert_eq!(sum_of(octseq_dns_checked, &stream), dns::read::checked(&stream), "checked: {said}");
+            assert_eq!(sum_of(octseq_dns_read, &stream), dns::read::read(&stream), "read: {said}");
+            if writer.rewrite(&changed).err() != Some(dns::write::Refused::Unknown) {
+                assert_eq!(sum_of(octseq_dns_written, &stream), dns::write::written(&stream), "written: {said}");
+            }
         }
     }
-    let name = "363 messages of traffic";
-    let mut section = Section::new("DNS messages", "written anew", name, "a writer over slices, by hand");
-    let theirs = traffic.clone();
-    section.add(name, traffic.len(), move || unsafe { octseq_dns_written(traffic.as_ptr(), traffic.len()) },
-        move || dns::write::written(black_box(&theirs)));
-    bench.add(section);
+}
+
+/// Messages: real traffic, one that takes as long as its size allows, and one of many owners. What is written is
+/// compared by a digest.
+fn messages(bench: &mut Bench) {
+    const RECORDS: usize = 1600;
+    const TRAFFIC: &str = "363 messages of traffic";
+    let messages = dns::messages::messages_of(include_str!("messages.hex"));
+    assert_eq!(messages.len(), 363);
+    try_alike(&messages);
+    let traffic = dns::messages::stream_of(&messages);
+    let malformed = 363 - dns::read::checked(&traffic);
+    bench.note(format!("Of the 363 messages {malformed} are malformed, which takes less time."));
+    let hostile = dns::messages::stream_of(&[dns::messages::hostile()]);
+    let (reader, writer) = ("a reader over slices, by hand", "a writer over slices, by hand, kept for all messages");
+    let rows: [(&str, &str, &str, Sum, fn(&[u8]) -> u64, &[u8]); 6] = [
+        ("checked", TRAFFIC, reader, octseq_dns_checked, dns::read::checked, &traffic),
+        ("checked", "a hostile message", reader, octseq_dns_checked, dns::read::checked, &hostile),
+        ("checked and read", TRAFFIC, reader, octseq_dns_read, dns::read::read, &traffic),
+        ("checked and read", "a hostile message", reader, octseq_dns_read, dns::read::read, &hostile),
+        ("written anew", TRAFFIC, writer, octseq_dns_written, dns::write::written, &traffic),
+        ("written", "1,600 records with owners that differ", "a writer over slices, by hand", octseq_dns_pushed,
+            dns::write::answered, &dns::messages::owners(RECORDS)),
+    ];
+    for (what, given, beside, call, rust, octets) in rows {
+        let mut section = Section::new("DNS messages", what, given, beside);
+        assert_ne!(rust(octets), 0, "{what}, {given}: nothing is answered");
+        let (octets, theirs) = (octets.to_vec(), octets.to_vec());
+        section.add(given, octets.len(), move || sum_of(call, &octets), move || rust(black_box(&theirs)));
+        bench.add(section);
+    }
 }
 
 /// Formats: headers of NTP and ClientHellos, a hundred of each, one after another.
