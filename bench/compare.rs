@@ -204,20 +204,21 @@ fn sum_of_pieces(octets: &[u8], pieces: &[(usize, usize)], of_piece: impl Fn(&[u
     pieces.iter().map(|&(start, end)| of_piece(&octets[start..end])).sum()
 }
 
-/// Texts of 7 to 40 octets: the same one again and again, and pieces of a text that differ in length.
+/// Texts of 7 to 40 octets, or a few less, so that the last character is whole: the same one again and again, and pieces
+/// of a text that differ in length.
 fn short_texts(bench: &mut Bench) {
     const LENGTHS: [usize; 8] = [7, 10, 15, 16, 20, 24, 31, 40];
-    let given = "a phrase again and again, 7 to 40 octets";
-    let mut section = Section::new("finding the first fault", "`first_fault`", given, FROM_UTF8);
     for (name, text) in PHRASES {
+        let given = format!("a phrase, 7 to 40 octets, {name}");
+        let mut section = Section::new("finding the first fault", "`first_fault`", &given, FROM_UTF8);
         for len in LENGTHS {
             let octets = filled(text, len);
             let theirs = octets.clone();
-            section.add(&format!("{name}, {len}"), octets.len(),
+            section.add(&format!("{len}"), octets.len(),
                 move || ours(octseq_valid_up_to, &octets), move || valid_up_to(black_box(&theirs)));
         }
+        bench.add(section);
     }
-    bench.add(section);
     let given = "words in no order, 7 to 40 octets, lengths in no order";
     let mut section = Section::new("finding the first fault", "`first_fault`", given, FROM_UTF8);
     for words in &WORDS {
