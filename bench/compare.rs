@@ -204,8 +204,8 @@ fn sum_of_pieces(octets: &[u8], pieces: &[(usize, usize)], of_piece: impl Fn(&[u
     pieces.iter().map(|&(start, end)| of_piece(&octets[start..end])).sum()
 }
 
-/// Texts of 7 to 40 octets, or a few less, so that the last character is whole: the same one again and again, and pieces
-/// of a text that differ in length.
+/// Texts of 7 to 40 octets, or a few less, so that the last character is whole: the same one again and again, and
+/// pieces of a text that differ in length.
 fn short_texts(bench: &mut Bench) {
     const LENGTHS: [usize; 8] = [7, 10, 15, 16, 20, 24, 31, 40];
     for (name, text) in PHRASES {
