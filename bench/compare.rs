@@ -18,6 +18,8 @@ unsafe extern "C" {
     fn octseq_copy_len(octets: *const u8, len: usize) -> usize;
     fn octseq_lossy_len(octets: *const u8, len: usize) -> usize;
     fn octseq_lossy_len_of_slice(octets: *const u8, len: usize) -> usize;
+    fn octseq_lossy_digest(octets: *const u8, len: usize) -> u64;
+    fn octseq_lossy_digest_of_slice(octets: *const u8, len: usize) -> u64;
     fn octseq_push(numbers: *const u32, count: usize) -> usize;
     fn octseq_push_array(numbers: *const u32, count: usize) -> usize;
     fn octseq_push_str(more: *const u8, len: usize, times: usize) -> usize;
@@ -268,15 +270,17 @@ fn lossy_inputs(pages: &[Pages]) -> Vec<(String, Vec<(&'static str, Vec<u8>)>)> 
 }
 
 fn lossy(bench: &mut Bench, pages: &[Pages]) {
-    // What is read, by which call, and whether its time has that of a copy of the source in it.
-    let readings: &[(&str, OfOctets, bool)] = &[
-        ("`try_copy_lossy`", octseq_lossy_len_of_slice, false),
-        ("`try_from_utf8_lossy` of a copy", octseq_lossy_len, true),
+    // What is read, by which call, the digest of the text, and whether its time has that of a copy of the source in it.
+    let readings: &[(&str, OfOctets, Sum, bool)] = &[
+        ("`try_copy_lossy`", octseq_lossy_len_of_slice, octseq_lossy_digest_of_slice, false),
+        ("`try_from_utf8_lossy` of a copy", octseq_lossy_len, octseq_lossy_digest, true),
     ];
-    for &(reading, call, copies) in readings {
+    for &(reading, call, digest, copies) in readings {
         for (given, texts) in lossy_inputs(pages) {
             let mut section = Section::new("lossy reading", reading, &given, LOSSY);
             for (name, octets) in texts {
+                let text = dns::messages::digest(String::from_utf8_lossy(&octets).as_bytes());
+                assert_eq!(sum_of(digest, &octets), text, "{reading}, {given}: {name}");
                 let (copied, theirs) = (octets.clone(), octets.clone());
                 section.add(name, octets.len(),
                     move || ours(call, &octets), move || lossy_len(black_box(&theirs)));

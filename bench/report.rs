@@ -128,6 +128,24 @@ fn cell(ratios: &[f64]) -> String {
     if ratios.len() > 1 { format!("{:.2}", greatest(ratios)) } else { String::new() }
 }
 
+/// A sentence in lines of at most 120 characters.
+fn wrapped(note: &str) -> String {
+    let (mut text, mut column) = (String::new(), 0);
+    for word in note.split(' ') {
+        let len = word.chars().count();
+        if column + 1 + len > 120 {
+            text.push('\n');
+            column = 0;
+        } else if column > 0 {
+            text.push(' ');
+            column += 1;
+        }
+        text.push_str(word);
+        column += len;
+    }
+    text
+}
+
 #[derive(Default)]
 pub struct Bench {
     sections: Vec<Section>,
@@ -189,7 +207,7 @@ impl Bench {
     fn tables(&self, when: &str) -> String {
         let mut page = format!("Measured on {when}, as time over Rust's.\n\n");
         for note in &self.notes {
-            let _ = writeln!(page, "{note}\n");
+            let _ = writeln!(page, "{}\n", wrapped(note));
         }
         page.push_str("| what | input | beside | mean | greatest |\n|---|---|---|---|---|\n");
         for section in &self.sections {
@@ -212,7 +230,7 @@ impl Bench {
 
     /// A bar a section from 0 to its mean, a thin line on to its greatest, and a line at 1.
     fn picture(&self, when: &str) -> String {
-        const LEFT: f64 = 480.0;
+        const LEFT: f64 = 540.0;
         const ONE: f64 = 190.0;
         const MOST: f64 = 2.0;
         const ROW: f64 = 20.0;

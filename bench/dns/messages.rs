@@ -75,3 +75,12 @@ pub fn owners(count: usize) -> Vec<u8> {
     let owner = |index| format!("\x06h{:05}\x07example\x03com\0", index * 7919 % 100_000).into_bytes();
     (0..count).flat_map(owner).collect()
 }
+
+/// A number of octets, which differs where they do: eight of them at a time, and then one by one.
+pub fn digest(octets: &[u8]) -> u64 {
+    const WEIGHT: u64 = 0x9E37_79B9_7F4A_7C15;
+    let (eights, rest) = octets.as_chunks::<8>();
+    let of_eight = |sum: u64, eight: &[u8; 8]| sum.wrapping_mul(WEIGHT).wrapping_add(u64::from_be_bytes(*eight));
+    let sum = eights.iter().fold(octets.len() as u64, of_eight);
+    rest.iter().fold(sum, |sum, &octet| sum.wrapping_mul(31).wrapping_add(u64::from(octet)))
+}
