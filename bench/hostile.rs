@@ -1,9 +1,11 @@
 //! Times messages that are meant to be slow for a writer that compresses names, beside as many octets of real traffic,
 //! and a message of 1,600 records with different owners, written.
-#[allow(dead_code)] // its reader and its writer are what compare.rs times ours beside
-mod dns;
+#[path = "dns/messages.rs"]
+#[allow(dead_code)] // compare.rs uses the rest
+mod messages;
 mod timing;
 
+use messages::{messages_of, owners, stream_of};
 use timing::seconds;
 
 unsafe extern "C" {
@@ -31,30 +33,12 @@ fn message_of(line: &str) -> (&str, Vec<u8>) {
     (name, (0..digits.len()).step_by(2).map(digit).collect())
 }
 
-/// The messages of a stream, each after its length in two octets.
-fn messages_of(mut stream: &[u8]) -> Vec<&[u8]> {
-    let mut messages = Vec::new();
-    while let Some((len, rest)) = stream.split_first_chunk::<2>() {
-        let (message, after) = rest.split_at(u16::from_be_bytes(*len).into());
-        messages.push(message);
-        stream = after;
-    }
-    messages
-}
-
-/// The owners of the records, one after another in plain form: each of three labels, of which the first differs.
-fn owners() -> Vec<u8> {
-    let owner = |index| format!("\x06h{:05}\x07example\x03com\0", index * 7919 % 100_000).into_bytes();
-    (0..RECORDS).flat_map(owner).collect()
-}
-
 /// Tells a message: its octets, those that it has anew, and its times, beside that of an octet of traffic. Answers how
 /// many times what as many octets of traffic take it takes.
 fn tell(name: &str, message: &[u8], each: f64) -> f64 {
     let anew = call(octseq_dns_rewritten, message);
     assert!(anew > 0, "{name}: not written anew");
-    let mut alone = (message.len() as u16).to_be_bytes().to_vec();
-    alone.extend(message);
+    let alone = stream_of(&[message]);
     let taken = seconds(|| call(octseq_dns_rewritten, message));
     let checked = seconds(|| call(octseq_dns_checked, &alone));
     let ratio = taken / (each * message.len() as f64);
@@ -65,8 +49,7 @@ fn tell(name: &str, message: &[u8], each: f64) -> f64 {
 fn main() {
     let path = std::env::args().nth(1).expect("the messages are in a file");
     let lines = std::fs::read_to_string(path).expect("the file is text");
-    let stream = dns::stream_of(include_str!("messages.hex"));
-    let mut traffic = messages_of(&stream);
+    let mut traffic = messages_of(include_str!("messages.hex"));
     traffic.retain(|message| call(octseq_dns_rewritten, message) > 0);
     let size: usize = traffic.iter().map(|message| message.len()).sum();
     let whole = seconds(|| traffic.iter().map(|message| call(octseq_dns_rewritten, message)).sum());
@@ -78,9 +61,8 @@ fn main() {
     let ratios = lines.lines().map(message_of).map(|(name, message)| tell(name, &message, each));
     let greatest = ratios.fold(0.0, f64::max);
     println!("\nThe slowest takes {greatest:.1} times what as many octets of traffic take; {RATIO_MAX} are meant.");
-    let owners = owners();
-    let written = call(octseq_dns_pushed, &owners);
-    assert!(written > 0, "the records are not written");
+    let owners = owners(RECORDS);
+    assert_ne!(call(octseq_dns_pushed, &owners), 0, "the records are not written");
     let taken = seconds(|| call(octseq_dns_pushed, &owners));
-    println!("{RECORDS} records with different owners, pushed, {written} octets: {:.3} ms; 1 is meant.", taken * 1e3);
+    println!("{RECORDS} records with different owners, pushed: {:.3} ms; 1 is meant.", taken * 1e3);
 }

@@ -69,17 +69,19 @@ impl Input {
     }
 }
 
-/// Inputs that make one row of the table and one bar of the picture.
+/// Inputs that make one row of the table and one bar of the picture: a call, what it is given, and what it is beside.
 pub struct Section {
     heading: String,
     what: String,
+    given: String,
     beside: String,
     inputs: Vec<Input>,
 }
 
 impl Section {
-    pub fn new(heading: &str, what: &str, beside: &str) -> Self {
-        Section { heading: heading.into(), what: what.into(), beside: beside.into(), inputs: Vec::new() }
+    pub fn new(heading: &str, what: &str, given: &str, beside: &str) -> Self {
+        let (heading, what, given, beside) = (heading.into(), what.into(), given.into(), beside.into());
+        Section { heading, what, given, beside, inputs: Vec::new() }
     }
 
     /// Adds an input of so many items, octets or characters, on which both sides have to answer the same.
@@ -90,7 +92,7 @@ impl Section {
         ours: impl Fn() -> T + 'static,
         theirs: impl Fn() -> T + 'static,
     ) {
-        assert_eq!(ours(), theirs(), "{}: {name}", self.what);
+        assert_eq!(ours(), theirs(), "{}, {}: {name}", self.what, self.given);
         let (ours, theirs) = (Side::new(timed(ours)), Side::new(timed(theirs)));
         self.inputs.push(Input { name: name.into(), items, ours, theirs, apart: None });
     }
@@ -126,14 +128,38 @@ fn cell(ratios: &[f64]) -> String {
     if ratios.len() > 1 { format!("{:.2}", greatest(ratios)) } else { String::new() }
 }
 
+/// A sentence in lines of at most 120 characters.
+fn wrapped(note: &str) -> String {
+    let (mut text, mut column) = (String::new(), 0);
+    for word in note.split(' ') {
+        let len = word.chars().count();
+        if column + 1 + len > 120 {
+            text.push('\n');
+            column = 0;
+        } else if column > 0 {
+            text.push(' ');
+            column += 1;
+        }
+        text.push_str(word);
+        column += len;
+    }
+    text
+}
+
 #[derive(Default)]
 pub struct Bench {
     sections: Vec<Section>,
+    notes: Vec<String>,
 }
 
 impl Bench {
     pub fn add(&mut self, section: Section) {
         self.sections.push(section);
+    }
+
+    /// Adds a sentence on the inputs.
+    pub fn note(&mut self, note: String) {
+        self.notes.push(note);
     }
 
     /// Goes over all inputs so many times, so that none is measured in one bad minute alone.
@@ -158,8 +184,10 @@ impl Bench {
                 }
             }
             let ratios = section.ratios();
-            println!("{}: mean {:.2}, greatest {:.2}\n", section.what, mean(&ratios), greatest(&ratios));
+            let (what, given) = (&section.what, &section.given);
+            println!("{what}, {given}: mean {:.2}, greatest {:.2}\n", mean(&ratios), greatest(&ratios));
         }
+        self.notes.iter().for_each(|note| println!("{note}"));
     }
 
     /// Writes the tables between their marks in SPEED.md, and speed.svg beside it.
@@ -178,27 +206,31 @@ impl Bench {
 
     fn tables(&self, when: &str) -> String {
         let mut page = format!("Measured on {when}, as time over Rust's.\n\n");
-        page.push_str("| what | beside | mean | greatest |\n|---|---|---|---|\n");
+        for note in &self.notes {
+            let _ = writeln!(page, "{}\n", wrapped(note));
+        }
+        page.push_str("| what | input | beside | mean | greatest |\n|---|---|---|---|---|\n");
         for section in &self.sections {
             let ratios = section.ratios();
-            let (what, beside) = (&section.what, &section.beside);
-            let _ = writeln!(page, "| {what} | {beside} | {:.2} | {} |", mean(&ratios), cell(&ratios));
+            let (what, given, beside) = (&section.what, &section.given, &section.beside);
+            let _ = writeln!(page, "| {what} | {given} | {beside} | {:.2} | {} |", mean(&ratios), cell(&ratios));
             if let Some(rest) = section.ratios_of_rest() {
-                let _ = writeln!(page, "| the same, less the copy | the same | {:.2} | {} |", mean(&rest), cell(&rest));
+                let (mean, cell) = (mean(&rest), cell(&rest));
+                let _ = writeln!(page, "| the same, less the copy | the same | the same | {mean:.2} | {cell} |");
             }
         }
-        page.push_str("\nBy input, where a row has more than one:\n\n| what | inputs |\n|---|---|\n");
+        page.push_str("\nBy input, where a row has more than one:\n\n| what | input | each |\n|---|---|---|\n");
         for section in self.sections.iter().filter(|section| section.inputs.len() > 1) {
             let inputs: Vec<String> =
                 section.inputs.iter().map(|input| format!("{}: {:.2}", input.name, input.ratio())).collect();
-            let _ = writeln!(page, "| {} | {} |", section.what, inputs.join("; "));
+            let _ = writeln!(page, "| {} | {} | {} |", section.what, section.given, inputs.join("; "));
         }
         page
     }
 
     /// A bar a section from 0 to its mean, a thin line on to its greatest, and a line at 1.
     fn picture(&self, when: &str) -> String {
-        const LEFT: f64 = 420.0;
+        const LEFT: f64 = 540.0;
         const ONE: f64 = 190.0;
         const MOST: f64 = 2.0;
         const ROW: f64 = 20.0;
@@ -214,7 +246,8 @@ impl Bench {
             let ratios = section.ratios();
             let (mean, greatest) = (mean(&ratios), greatest(&ratios));
             let color = if mean < 1.005 { "#2f81c7" } else { "#c4633a" };
-            let what = section.what.replace('`', "").replace('&', "&amp;").replace('<', "&lt;").replace('>', "&gt;");
+            let what = format!("{}, {}", section.what, section.given);
+            let what = what.replace('`', "").replace('&', "&amp;").replace('<', "&lt;").replace('>', "&gt;");
             let _ = writeln!(bars, r#"<text x="24" y="{:.0}">{what}</text>"#, y + 14.0);
             let _ = writeln!(bars, r#"<text x="{:.0}" y="{:.0}" text-anchor="end">{mean:.2}</text>"#,
                 LEFT - 8.0, y + 14.0);
