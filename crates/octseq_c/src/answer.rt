@@ -26,7 +26,6 @@ use crate::write::{MessageOctets, Table};
 use octseq::AppendError;
 use octseq_dns::builder::section::RecordSection;
 use octseq_dns::builder::{AdditionalBuilder, AnswerBuilder, MessageBuilder, SectionBuilder};
-use octseq_dns::message::one_message;
 use octseq_dns::moved::data_may_have_names;
 use octseq_dns::{Class, Flags, Header, Malformed, Message, Rtype, Ttl};
 
@@ -54,11 +53,11 @@ pub extern "C" fn octseq_dns_answer(
         ⊎ (result ≡ status_bad_row) ⊎ (result ≡ status_immovable) ⊎ (result ≡ status_too_long) }
     ensures kept { result ≢ status_ok → out.new ≡ out.old }
 {
-    one_message();
+    let mut room = MessageOctets::new();
     let status = match Message::parse(query) {
         Ok(_) if !are_rows(source, rows) => BAD_ROW,
         Ok(_) if !can_move_rows(source, rows) => IMMOVABLE,
-        Ok(message) => match answer(&message, flags, source, rows) {
+        Ok(message) => match answer(&message, flags, source, rows, &mut room) {
             Ok(made) => return put(made.as_slice(), out, written),
             Err(_) => TOO_LONG,
         },
@@ -114,31 +113,34 @@ fn can_move_row(source: &[u8], row: &Row) -> bool
     octseq_dns_data_is_typed(source, row.data_at, row.data_len, row.rtype, row.class) == 1
 }
 
-/// The octets of an answer.
-fn answer(
+/// The octets of an answer, in a room for them. (The builder holds the room by reference, so its stages move a pointer,
+/// and not the octets.)
+fn answer<'a>(
     message: &Message<&[u8]>,
     flags: u16,
     source: &[u8],
     rows: &[Row],
-) -> Result<MessageOctets, AppendError>
+    room: &'a mut MessageOctets,
+) -> Result<&'a mut MessageOctets, AppendError>
     requires { AllByRecursion (IsRow source.now) rows.now }
     ensures made { IfOk result (λ made. (m : contents.Message)
         × IsAnswerOf (header_of message.now) flags (questions_of message.now) source.now rows.now m
-        × (made.content ≡ octets_of places_kept m)) }
+        × (made.now.content ≡ octets_of places_kept m)) }
     ensures short { IsErr result → (m : contents.Message)
         → IsAnswerOf (header_of message.now) flags (questions_of message.now) source.now rows.now m
         → (length rows.now ≤ 65535) → 65535 < length (octets_of places_kept m) }
 {
-    let begun = begin_answer(message, flags)?;
+    let begun = begin_answer(message, flags, room)?;
     let whole = push_sections(begun, source, rows)?;
     Ok(whole.finish().0)
 }
 
 /// An answer with its header and its questions.
-fn begin_answer(
+fn begin_answer<'a>(
     message: &Message<&[u8]>,
     flags: u16,
-) -> Result<AnswerBuilder<MessageOctets, Table>, AppendError>
+    room: &'a mut MessageOctets,
+) -> Result<AnswerBuilder<&'a mut MessageOctets, Table>, AppendError>
     ensures header { OnOk result ((header : Fields) × IsAnswerHeader (header_of message.now) flags header) }
     ensures written { IfOk result (λ b. (m : contents.Message)
         → IsAnswerHeader (header_of message.now) flags m.header → m.questions ≡ map bare (questions_of message.now)
@@ -148,7 +150,7 @@ fn begin_answer(
         → m.questions ≡ map bare (questions_of message.now) → 65535 < length (octets_of places_kept m) }
 {
     let header = answer_header(&message.header(), flags);
-    let begun = MessageBuilder::from_builder(MessageOctets::new(), Table::new())?;
+    let begun = MessageBuilder::from_builder(room, Table::new())?;
     let mut answers = begun.start_answer(message, header.rcode)?;
     answers.set_header(header);
     Ok(answers)
@@ -172,19 +174,19 @@ fn answer_header(asked: &Header, flags: u16) -> Header
 }
 
 /// Pushes the records that rows stand for, each to its section.
-fn push_sections(
-    answers: AnswerBuilder<MessageOctets, Table>,
+fn push_sections<'a>(
+    answers: AnswerBuilder<&'a mut MessageOctets, Table>,
     source: &[u8],
     rows: &[Row],
-) -> Result<AdditionalBuilder<MessageOctets, Table>, AppendError>
+) -> Result<AdditionalBuilder<&'a mut MessageOctets, Table>, AppendError>
     requires rows { AllByRecursion (IsRow source.now) rows.now }
     requires unlimited { answers.push_limit ≡ None }
     ensures records { OnOk result ((m : contents.Message) × HasRecordsOf source.now rows.now m) }
     ensures written { IfOk result (λ b. (m : contents.Message) → HasRecordsOf source.now rows.now m
-        → Writes places_kept (without_records m) answers.state answers.header answers.counts
+        → Writes places_kept (without_records m) answers.entry.state answers.entry.header answers.entry.counts
         → Writes places_kept m b.state b.header b.counts) }
     ensures short { IsErr result → (m : contents.Message) → HasRecordsOf source.now rows.now m
-        → Writes places_kept (without_records m) answers.state answers.header answers.counts
+        → Writes places_kept (without_records m) answers.entry.state answers.entry.header answers.entry.counts
         → (length rows.now ≤ 65535) → 65535 < length (octets_of places_kept m) }
 {
     let answered = push_rows(answers, source, rows, 1)?;
@@ -193,25 +195,25 @@ fn push_sections(
 }
 
 /// Pushes the records that the rows of a section stand for.
-fn push_rows<S: RecordSection>(
-    builder: SectionBuilder<MessageOctets, Table, S>,
+fn push_rows<'a, S: RecordSection>(
+    builder: SectionBuilder<&'a mut MessageOctets, Table, S>,
     source: &[u8],
     rows: &[Row],
     section: u32,
-) -> Result<SectionBuilder<MessageOctets, Table, S>, AppendError>
+) -> Result<SectionBuilder<&'a mut MessageOctets, Table, S>, AppendError>
     requires rows { AllByRecursion (IsRow source.now) rows.now }
     requires unlimited { builder.push_limit ≡ None }
     ensures records { OnOk result ((written : List contents.Record)
         × AllZip (IsRecordAt source.now) (in_section section rows.now) written) }
     ensures written { IfOk result (λ b. (m : contents.Message) (written : List contents.Record)
-        → Writes places_kept m builder.state builder.header builder.counts
+        → Writes places_kept m builder.entry.state builder.entry.header builder.entry.counts
         → AllZip (IsRecordAt source.now) (in_section section rows.now) written
         → Writes places_kept (all_more S.more m written) b.state b.header b.counts) }
     ensures unlimited { IfOk result (λ b. b.push_limit ≡ None) }
     ensures short { IsErr result → (m : contents.Message) (written : List contents.Record)
-        → Writes places_kept m builder.state builder.header builder.counts
+        → Writes places_kept m builder.entry.state builder.entry.header builder.entry.counts
         → AllZip (IsRecordAt source.now) (in_section section rows.now) written
-        → (S.count builder.counts + length rows.now ≤ 65535)
+        → (S.count builder.entry.counts + length rows.now ≤ 65535)
         → 65535 < length (octets_of places_kept (all_more S.more m written)) }
 {
     let mut message = builder;
@@ -226,7 +228,7 @@ fn push_rows<S: RecordSection>(
 
 /// Pushes the record that a row stands for.
 fn push_row<S: RecordSection>(
-    message: &mut SectionBuilder<MessageOctets, Table, S>,
+    message: &mut SectionBuilder<&mut MessageOctets, Table, S>,
     source: &[u8],
     row: &Row,
 ) -> Result<(), AppendError>

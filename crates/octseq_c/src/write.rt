@@ -46,12 +46,13 @@ pub extern "C" fn octseq_dns_rewrite(octets: &[u8], out: &mut [u8], written: &mu
         ⊎ (result ≡ status_immovable) ⊎ (result ≡ status_too_long) }
     ensures kept { result ≢ status_ok → out.new ≡ out.old }
 {
+    let mut room = MessageOctets::new();
     let status = match Message::parse(octets) {
-        Ok(message) => match rewritten(&message) {
+        Ok(message) => match rewritten(&message, &mut room) {
             Ok(made) => return put(made.as_slice(), out, written),
             Err(RewriteError::Immovable) => IMMOVABLE,
             Err(RewriteError::Short(_)) => TOO_LONG,
-            Err(RewriteError::Memory) => TOO_LONG,
+            Err(RewriteError::Memory) => unreachable!(),
         },
         Err(Malformed) => MALFORMED,
     };
@@ -59,17 +60,21 @@ pub extern "C" fn octseq_dns_rewrite(octets: &[u8], out: &mut [u8], written: &mu
     status
 }
 
-/// The octets of a message that is written anew.
-fn rewritten(message: &Message<&[u8]>) -> Result<MessageOctets, RewriteError>
+/// The octets of a message that is written anew, in a room for them. (The builder holds the room by reference, so its
+/// stages move a pointer, and not the octets.)
+fn rewritten<'a>(
+    message: &Message<&[u8]>,
+    room: &'a mut MessageOctets,
+) -> Result<&'a mut MessageOctets, RewriteError>
     ensures made { IfOk result (λ made. (m : contents.Message) × IsContentsOf message.now m
-        × (made.content ≡ octets_of places_kept m)) }
+        × (made.now.content ≡ octets_of places_kept m)) }
     ensures immovable { IsMalformed rewrite_error result
         ↔ ¬ CanMove (answers_of message.now) (authorities_of message.now) (additionals_of message.now) }
     ensures short { IsShort rewrite_error result → (m : contents.Message) → IsContentsOf message.now m
         → 65535 < length (octets_of places_kept m) }
     ensures only { IsOk result ⊎ IsMalformed rewrite_error result ⊎ IsShort rewrite_error result }
 {
-    match rewrite(message, MessageOctets::new(), Table::new()) {
+    match rewrite(message, room, Table::new()) {
         Ok(builder) => Ok(builder.finish().0),
         Err(error) => Err(error),
     }
@@ -109,13 +114,21 @@ fn query(id: u16, flags: u16, name: &Name<Array<255>>, qtype: u16, qclass: u16) 
         ++ (octets_be 2 qtype ++ octets_be 2 qclass)) }
 {
     let _len = name.len();
+    let mut made = query_front(id, flags);
+    infallible(made.append_slice(name.as_slice()));
+    infallible(append_u16_be(&mut made, qtype));
+    infallible(append_u16_be(&mut made, qclass));
+    made
+}
+
+/// The header of a message of one question.
+fn query_front(id: u16, flags: u16) -> Array<QUERY_MAX>
+    ensures { result.content ≡ query_header id flags }
+{
     let mut made = Array::new();
     infallible(append_u16_be(&mut made, id));
     infallible(append_u16_be(&mut made, flags));
     infallible(append_u16_be(&mut made, 1));
     infallible(made.append_slice(&[0; 6]));
-    infallible(made.append_slice(name.as_slice()));
-    infallible(append_u16_be(&mut made, qtype));
-    infallible(append_u16_be(&mut made, qclass));
     made
 }

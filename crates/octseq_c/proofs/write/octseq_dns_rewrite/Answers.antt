@@ -96,8 +96,8 @@ returns-in-Err-Short c =
 
 -- ---- nothing requests memory
 
-pub returns-in-Err-Memory : goal.returns-in-Err-Memory
-returns-in-Err-Memory c =
+pub unreachable-requires : goal.unreachable-requires
+unreachable-requires c =
     absurd (no_memory c.in-Err-Memory.field-0 c.in-Err-Memory.field-0-is (λ ok. cc) c.in-Err-Memory.ensures.only)
 
 -- ---- it is no message
