@@ -53,14 +53,16 @@ pub extern "C" fn octseq_dns_answer(
         ⊎ (result ≡ status_bad_row) ⊎ (result ≡ status_immovable) ⊎ (result ≡ status_too_long) }
     ensures kept { result ≢ status_ok → out.new ≡ out.old }
 {
-    let mut room = MessageOctets::new();
     let status = match Message::parse(query) {
         Ok(_) if !are_rows(source, rows) => BAD_ROW,
         Ok(_) if !can_move_rows(source, rows) => IMMOVABLE,
-        Ok(message) => match answer(&message, flags, source, rows, &mut room) {
-            Ok(made) => return put(made.as_slice(), out, written),
-            Err(_) => TOO_LONG,
-        },
+        Ok(message) => {
+            let mut room = MessageOctets::new();
+            match answer(&message, flags, source, rows, &mut room) {
+                Ok(made) => return put(made.as_slice(), out, written),
+                Err(_) => TOO_LONG,
+            }
+        }
         Err(Malformed) => MALFORMED,
     };
     *written = 0;

@@ -46,14 +46,16 @@ pub extern "C" fn octseq_dns_rewrite(octets: &[u8], out: &mut [u8], written: &mu
         ⊎ (result ≡ status_immovable) ⊎ (result ≡ status_too_long) }
     ensures kept { result ≢ status_ok → out.new ≡ out.old }
 {
-    let mut room = MessageOctets::new();
     let status = match Message::parse(octets) {
-        Ok(message) => match rewritten(&message, &mut room) {
-            Ok(made) => return put(made.as_slice(), out, written),
-            Err(RewriteError::Immovable) => IMMOVABLE,
-            Err(RewriteError::Short(_)) => TOO_LONG,
-            Err(RewriteError::Memory) => unreachable!(),
-        },
+        Ok(message) => {
+            let mut room = MessageOctets::new();
+            match rewritten(&message, &mut room) {
+                Ok(made) => return put(made.as_slice(), out, written),
+                Err(RewriteError::Immovable) => IMMOVABLE,
+                Err(RewriteError::Short(_)) => TOO_LONG,
+                Err(RewriteError::Memory) => unreachable!(),
+            }
+        }
         Err(Malformed) => MALFORMED,
     };
     *written = 0;
