@@ -5,10 +5,10 @@ use Rattle.std.proofs.Common.{refl, arith, ap, sym, ◌∙◌, subst, length-app
 use Rattle.std.proofs.lemmas.Bool.{le-leb, lt-leb}
 use Rattle.std.proofs.lemmas.Bool.Decides.{nat_tests}
 use Rattle.std.proofs.lemmas.List.{take-append-drop, take-take, drop-take, drop-drop, length-map, get_or-take, get_or-drop}
-use Rattle.std.proofs.lemmas.List.Elements.{All-get_or, All-take, All-drop, All-head, All-tail}
+use Rattle.std.proofs.lemmas.List.Elements.{All-nil, All-cons, All-get_or, All-take, All-drop, All-head, All-tail}
 use Rattle.std.proofs.lemmas.List.Sums.{sum_by-append, sum_by-cons}
 use Rattle.std.proofs.lemmas.Simd.{get_or-chunk, length-chunk}
-use Rattle.std.proofs.Math.Seq.{take-append_seam}
+use Rattle.std.proofs.Math.Seq.{drop-cons, take-append_seam}
 use Rattle.std.specs.List.{All, concat, AllByRecursion}
 use Rattle.octseq_utf8.specs.Encoding.{IsEncoding, row_00_7F, row_C2_DF, row_E0, row_E1_EC}
 use Rattle.octseq_utf8.specs.Encoding.{row_ED, row_EE_EF, row_F0, row_F1_F3, row_F4, number_of}
@@ -178,6 +178,14 @@ search_jump x place old now (suc n) s few room low high =
       low = λ h. absurd (omega arith);
       most = omega arith;
     }
+
+-- one octet below 80 before one of 80 or more
+pub search_octet : (x : List ℕ) (place old now : ℕ) → IsSearching x place old now → place + 1 < length x
+    → get_or x place 0 < 0x80 → 0x80 ≤ get_or x (place + 1) 0 → IsSearching x (place + 1) old (now + 1)
+search_octet x place old now s room low high =
+    search_jump x place old now 1 s (omega arith) room
+    (subst (λ y. All (λ o. o < 0x80) (take 1 y)) (sym (drop-cons x place 0 (omega arith)))
+    (All-cons (λ o. o < 0x80) (get_or x place 0) [] low (All-nil (λ o. o < 0x80)))) high
 
 -- an encoding of two octets or more
 pub search_encoding : (x : List ℕ) (place old now len : ℕ) → IsSearching x place old now → place < length x → 2 ≤ len

@@ -17,11 +17,6 @@ pub record IsAt (octets : List ℕ) (place old now : ℕ) : Type 0 where
   pub few : now ≤ old + place
   pub passed : place + 16 * old ≤ 16 * now
 
--- A search that began at a place is at another.
-pub record IsAfter (octets : List ℕ) (from place old now : ℕ) : Type 0 where
-  pub past : from ≤ place
-  pub at : IsAt (drop from octets) (place - from) old now
-
 -- The same where lanes are looked at. Octets that are all below 80 are passed sixteen a turn. Else up to fifteen of them
 -- took a turn each before one of 80 or more; the encoding there has two such octets at least, which pay for them.
 pub record IsSearching (octets : List ℕ) (place old now : ℕ) : Type 0 where
@@ -29,6 +24,11 @@ pub record IsSearching (octets : List ℕ) (place old now : ℕ) : Type 0 where
   pub lanes : All (λ octet. octet < 0x80) octets → place + 16 * old ≡ 16 * now
   pub low : slice_index octets place < 0x80 → 16 * now ≤ 16 * old + place + 120 * high_count (take place octets)
   pub most : 16 * now ≤ 16 * old + place + 120 * high_count (take place octets) + 225
+
+-- A search that began at a place is at another.
+pub record IsAfter (octets : List ℕ) (from place old now : ℕ) : Type 0 where
+  pub past : from ≤ place
+  pub at : IsAt (drop from octets) (place - from) old now
 
 -- A fault, found with one turn for it and one for each character before it at most, and sixteen octets a turn at most.
 pub record IsFaultAt (octets : List ℕ) (old now : ℕ) (fault : Fault) : Type 0 where

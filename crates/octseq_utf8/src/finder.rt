@@ -5,6 +5,7 @@
 //! - **Encodings.** While the octet at hand is 80 or more, four octets are loaded as one number, and a mask for each
 //!   length tells whether an encoding begins there. After one of three or of four octets a loop asks for no other
 //!   length. The masks hold the whole of the table: they leave no encoding to the next way, but no proof needs that.
+//!   One octet below 80 between two encodings, as a space between words, takes a step of its own.
 //! - **The table.** What no mask takes is read octet by octet, as the table of the Unicode Standard has it. This plain
 //!   way alone decides that there is a fault, and of what size. It looks at the second octet first, since most bad
 //!   parts end before it.
@@ -162,7 +163,8 @@ fn pass_ascii(octets: &[u8], from: usize, turns: &mut Turns) -> usize
     at
 }
 
-/// Passes encodings of `LEN` octets from a place on, one a turn, while four octets are left. Answers the place after them.
+/// Passes encodings of `LEN` octets from a place on, one a turn, while four octets are left. Answers the place after
+/// them.
 ///
 /// Text of one script is mostly encodings of one length, and a loop that asks for no other is the quickest.
 #[inline(always)]
@@ -182,8 +184,8 @@ fn pass_run<const LEN: usize>(octets: &[u8], from: usize, turns: &mut Turns) -> 
     at
 }
 
-/// Passes encodings of two octets or more from a place on, one a turn, while sixteen octets are left. Answers the place
-/// after them, or the fault there.
+/// Passes encodings of two octets or more from a place on, and single octets below 80 between them, one a turn, while
+/// sixteen octets are left. Answers the place after them, or the fault there.
 #[inline(always)]
 fn pass_encodings(octets: &[u8], from: usize, turns: &mut Turns) -> Result<usize, Utf8Fault>
     requires { from ≤ length octets.now }
@@ -197,10 +199,15 @@ fn pass_encodings(octets: &[u8], from: usize, turns: &mut Turns) -> Result<usize
 {
     let words = octets.len().saturating_sub(15);
     let mut at = from;
-    while at < words && octets[at] >= 0x80 {
+    while at < words {
+        if octets[at] < 0x80 && octets[at + 1] < 0x80 {
+            break;
+        }
         turns.tick();
         let word = word_at(octets, at);
-        if begins_two(word) {
+        if octets[at] < 0x80 {
+            at += 1;
+        } else if begins_two(word) {
             at += 2;
         } else if begins_three(word) {
             at = pass_run::<3>(octets, at + 3, turns);

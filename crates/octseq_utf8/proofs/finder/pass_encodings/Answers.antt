@@ -1,8 +1,25 @@
 use Rattle.std.proofs.Common.{arith}
 use Rattle.octseq_utf8.specs.declared.finder.Front.TheVariants.{Encoding, Bad}
 use Rattle.octseq_utf8.proofs.Faults.{at_place, word_front}
-use Rattle.octseq_utf8.proofs.Search.{front_wide, search_encoding, search_fault}
+use Rattle.octseq_utf8.proofs.Search.{front_wide, search_encoding, search_fault, search_octet}
+use Rattle.octseq_utf8.proofs.finder.pass_encodings.Goals.{else-octets-at-lt128-via-then-octets-at-lt128+else-octets-at-lt128-2, else-octets-at-lt128-via-else-octets-at-lt128}
 use Rattle.octseq_utf8.proofs.finder.pass_encodings.Goals as goal
+
+-- an octet below 80 between encodings
+
+pub loop-at-preserved-then-octets-at-lt128-3 : goal.loop-at-preserved-then-octets-at-lt128-3
+loop-at-preserved-then-octets-at-lt128-3 c =
+    let words = c.saturating_sub-words.ensures in
+    let past = c.loop-at.invariant.past in
+    record {
+      past = omega arith;
+      passed = λ start before. rw c.tick.ensures
+          (search_octet c.args.octets.now c.loop-at.at start c.loop-at.turns (c.loop-at.invariant.passed start before)
+          (omega arith) c.if-octets-at-lt128-3.true (elim c.else-octets-at-lt128.branch [
+            | else-octets-at-lt128-via-then-octets-at-lt128+else-octets-at-lt128-2 w ↦ w.if-octets-at-lt128-2.false
+            | else-octets-at-lt128-via-else-octets-at-lt128 w ↦ absurd (omega (arith, w.if-octets-at-lt128.false, c.if-octets-at-lt128-3.true))
+          ]));
+    }
 
 -- an encoding that the word begins with, and those after it
 
@@ -59,7 +76,7 @@ loop-at-preserved c =
       passed = λ start before. rw c.tick.ensures
           (search_encoding c.args.octets.now c.loop-at.at start c.loop-at.turns c.in-Encoding.len
           (c.loop-at.invariant.passed start before) (omega arith)
-          (front_wide c.args.octets.now c.loop-at.at c.in-Encoding.len c.if-octets-at-ge128.true front) front);
+          (front_wide c.args.octets.now c.loop-at.at c.in-Encoding.len (omega arith) front) front);
     }
 
 pub returns-in-Bad-clause-fault : goal.returns-in-Bad-clause-fault
