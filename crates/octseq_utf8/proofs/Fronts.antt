@@ -1,5 +1,5 @@
 -- What stands at the front of octets, by how many fit.
-use Rattle.std.proofs.Common.{◌≡◌, ◌≢◌, ℕ, zero, suc, ◌-◌, ◌<◌, ◌≤◌, ◌⊎◌, ⊎_elim, false, List, length, get_or, take}
+use Rattle.std.proofs.Common.{◌≡◌, ◌≢◌, ℕ, zero, suc, ◌-◌, ◌<◌, ◌≤◌, ◌⊎◌, ⊎_elim, true, false, List, length, get_or, take}
 use Rattle.std.proofs.Common.{drop, refl, arith, inl, inr, ap, sym, ◌∙◌, subst, length-take, length-drop, Some, None}
 use Rattle.std.proofs.lemmas.List.{take-append-drop, drop_all}
 use Rattle.std.proofs.lemmas.Bool.Decides.{nat_tests}
@@ -114,3 +114,12 @@ front_second x more high second =
         subst (λ k. IsBadFront x (Some k) k) one
         (front_other x (omega arith) (λ h. omega arith) (λ h. width_high (get_or x 0 0) high (sym h ∙ one))
         (λ h. omega arith))
+
+width_stray : (a : ℕ) → is_in_range 0x80 0xBF a ≡ true → width_of a ≡ 0
+unfolding width_of
+width_stray a h = grind (arith, nat_tests)
+
+-- an octet of 80 to BF in front is the bad part
+pub front_stray : (x : List ℕ) → 0 < length x → is_in_range 0x80 0xBF (get_or x 0 0) ≡ true
+    → StandsInFront x (Bad (Some 1))
+front_stray x some stray = front_lead x some (width_stray (get_or x 0 0) stray)

@@ -1,12 +1,13 @@
 //! Octets in chunks of text, as Rust's `utf8_chunks` has them. What reads octets as text walks by these.
-ghost use Rattle.std.specs.Prelude.{◌≡◌, ◌≤◌, ◌+◌, ◌*◌, false, List, [], length, drop, slice_range};
+ghost use Rattle.std.specs.Prelude.{◌≡◌, ◌≤◌, ◌<◌, ◌+◌, ◌*◌, ◌↔◌, false, List, [], length, take, drop};
+ghost use Rattle.std.specs.Prelude.{slice_range, IsNone, IfNone, IfSome};
 ghost use Rattle.octseq_utf8.specs.Chunk.{GivesChunk, IsFirstChunk};
 ghost use Rattle.octseq_utf8.specs.Fault.{IsFault, fault_end};
 ghost use Rattle.octseq_utf8.specs.Parts.{Part, Splits};
-ghost use Rattle.octseq_utf8.specs.Text.{IsWellFormed};
+ghost use Rattle.octseq_utf8.specs.Text.{IsWellFormed, chars};
 
 use crate::fault::{Utf8Fault, before, behind, onward};
-use crate::finder::first_fault;
+use crate::finder::{first_fault, is_continuation};
 use crate::turns::Turns;
 use std::marker::Model;
 
@@ -89,6 +90,13 @@ pub fn chunks(octets: &[u8]) -> Utf8Chunks<'_>
 }
 
 impl<'a> Utf8Chunks<'a> {
+    /// The octets that are left.
+    pub fn as_octets(&self) -> &'a [u8]
+        ensures { result.now ≡ self.now }
+    {
+        self.rest
+    }
+
     /// The next chunk, or `None` where nothing is left. Counts the turns of the search: at most one for each
     /// part of the chunk, and at least one for every sixteen octets of it.
     #[inline(always)]
@@ -103,7 +111,7 @@ impl<'a> Utf8Chunks<'a> {
         if octets.is_empty() {
             return None;
         }
-        match first_fault(octets, turns) {
+        match fault_of_rest(octets, turns) {
             None => {
                 self.rest = &octets[octets.len()..];
                 Some(last_chunk(octets))
@@ -114,6 +122,26 @@ impl<'a> Utf8Chunks<'a> {
             }
         }
     }
+}
+
+/// As [`first_fault`] of octets that aren't empty, and tells without a search where the first is a bad part of its own.
+#[inline(always)]
+fn fault_of_rest(octets: &[u8], turns: &mut Turns) -> Option<Utf8Fault>
+    requires { 0 < length octets.now }
+    ensures none { IsNone result ↔ IsWellFormed octets.now }
+    ensures fault { IfSome result (IsFault octets.now) }
+    ensures turns { IfNone result (turns.new ≤ turns.old + length (chars octets.now)) }
+    ensures turns_to_fault { IfSome result (λ fault.
+        turns.new ≤ turns.old + length (chars (take fault.place octets.now)) + 1) }
+    ensures passed { IfNone result (length octets.now + 16 * turns.old ≤ 16 * turns.new) }
+    ensures passed_to_fault { IfSome result (λ fault.
+        fault_end octets.now fault + 16 * turns.old ≤ 16 * turns.new) }
+{
+    if is_continuation(octets[0]) {
+        turns.tick();
+        return Some(Utf8Fault::new(0, Some(1)));
+    }
+    first_fault(octets, turns)
 }
 
 /// The chunk of octets that are a text.

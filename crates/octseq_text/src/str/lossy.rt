@@ -14,7 +14,7 @@ ghost use Rattle.octseq_text.specs.Lossy.{ReadsLossily};
 ghost use Rattle.octseq_utf8.specs.Text.{IsWellFormed};
 
 use super::builder::StrBuilder;
-use super::staged::{STAGE, append_stage, append_staged};
+use super::staged::{STAGE, append_front, append_stage, append_staged};
 use crate::utf8::{Turns, Utf8Chunk, Utf8Chunks, chunks};
 use octseq_core::array::Array;
 use octseq_core::builder::{AppendError, AsOctets, EmptyBuilder, OctetsBuilder, OctetsLimit};
@@ -306,22 +306,27 @@ fn append_chunks<B: OctetsBuilder>(
     let mut encoded = [0; 4];
     let mark = replacement.encode_utf8(&mut encoded[..]).as_bytes();
     let mut staged = Array::new();
+    append_chunk(builder, &mut staged, first.valid().as_bytes(), &first, mark)?;
     let mut rest = rest;
-    append_chunk(builder, &mut staged, &first, mark)?;
+    let mut octets = rest.as_octets();
     while let Some(chunk) = rest.next_counted(turns) {
-        append_chunk(builder, &mut staged, &chunk, mark)?;
+        append_chunk(builder, &mut staged, octets, &chunk, mark)?;
+        octets = rest.as_octets();
     }
     append_stage(builder, &mut staged)
 }
 
-/// Appends the text of a chunk, with the mark in the place of its bad part, behind what is staged.
+/// Appends the text of the chunk at the front of octets, with the mark in the place of its bad part, after what is
+/// staged.
 #[inline(always)]
 fn append_chunk<B: OctetsBuilder>(
     builder: &mut B,
     staged: &mut Array<STAGE>,
+    octets: &[u8],
     chunk: &Utf8Chunk<'_>,
     mark: &[u8],
 ) -> Result<(), AppendError>
+    requires { IsFront chunk.now.valid octets.now }
     ensures text { OnOk result (B.content builder.new ++ staged.new.content
         ≡ (B.content builder.old ++ staged.old.content) ++ (chunk.now.valid ++ mark_of mark.now chunk.now.invalid)) }
     ensures front { IsFront (B.content builder.old) (B.content builder.new) }
@@ -330,7 +335,7 @@ fn append_chunk<B: OctetsBuilder>(
     ensures memory { IsMemory append_error result → B.asks ≡ true }
     ensures borrows { B.borrows builder.new ≡ B.borrows builder.old }
 {
-    append_staged(builder, staged, chunk.valid().as_bytes())?;
+    append_front(builder, staged, octets, chunk.valid().len())?;
     if chunk.invalid().is_empty() {
         return Ok(());
     }

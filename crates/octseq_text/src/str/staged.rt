@@ -2,7 +2,7 @@
 //!
 //! A builder asks of each append whether there is room, and some ask whether the two places overlap. For a character
 //! or two that takes longer than the copy, so such are copied into an array first, and appended with others.
-ghost use Rattle.std.specs.Prelude.{◌≡◌, true, [], ◌++◌, length, OnOk, OnErr};
+ghost use Rattle.std.specs.Prelude.{◌≡◌, ◌≤◌, true, false, [], ◌++◌, take, length, OnOk, OnErr};
 ghost use Rattle.octseq_core.specs.Limit.{IsWithin, IsPast};
 ghost use Rattle.octseq_core.specs.Refusal.{IsShort, IsMemory, append_error};
 ghost use Rattle.octseq_utf8.specs.Parts.{IsFront};
@@ -13,6 +13,50 @@ use octseq_core::builder::{AppendError, OctetsBuilder, Truncate};
 
 /// How many octets are gathered.
 pub(super) const STAGE: usize = 512;
+
+/// How many octets are copied at once, where a text is no longer.
+const LANE: usize = 16;
+
+/// Stages the first `len` octets, of which a whole lane is copied: one load and one store, whatever the length. Answers
+/// whether there was room.
+#[inline(always)]
+fn append_lane(staged: &mut Array<STAGE>, octets: &[u8], len: usize) -> bool
+    requires { (len ≤ 16) × (16 ≤ length octets.now) }
+    ensures some { result ≡ true → staged.new.content ≡ staged.old.content ++ take len octets.now }
+    ensures none { result ≡ false → staged.new.content ≡ staged.old.content }
+{
+    let end = staged.as_slice().len() + len;
+    match staged.append_slice(&octets[..LANE]) {
+        Ok(()) => {
+            staged.truncate(end);
+            true
+        }
+        Err(_) => false,
+    }
+}
+
+/// As [`append_staged`] of the first `len` octets, which go by a lane where they and those after them fill one.
+#[inline(always)]
+pub(super) fn append_front<B: OctetsBuilder>(
+    builder: &mut B,
+    staged: &mut Array<STAGE>,
+    octets: &[u8],
+    len: usize,
+) -> Result<(), AppendError>
+    requires { len ≤ length octets.now }
+    ensures text { OnOk result (B.content builder.new ++ staged.new.content
+        ≡ (B.content builder.old ++ staged.old.content) ++ take len octets.now) }
+    ensures front { IsFront (B.content builder.old) (B.content builder.new) }
+    ensures short { IsShort append_error result
+        → IsPast B.limit (length ((B.content builder.old ++ staged.old.content) ++ take len octets.now)) }
+    ensures memory { IsMemory append_error result → B.asks ≡ true }
+    ensures borrows { B.borrows builder.new ≡ B.borrows builder.old }
+{
+    if len <= LANE && octets.len() >= LANE && append_lane(staged, octets, len) {
+        return Ok(());
+    }
+    append_staged(builder, staged, &octets[..len])
+}
 
 /// Stages the octets where there is room, and else appends what is staged and then them.
 #[inline(always)]

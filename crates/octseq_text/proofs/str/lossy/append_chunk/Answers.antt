@@ -1,14 +1,20 @@
-use Rattle.std.proofs.Common.{◌≡◌, ℕ, ◌≤◌, Option, List, [], ◌∷◌, ◌++◌, length, arith, ap, sym, ◌∙◌, subst}
+use Rattle.std.proofs.Common.{◌≡◌, ℕ, ◌≤◌, Option, List, [], ◌∷◌, ◌++◌, length, take, arith, ap, sym, ◌∙◌, subst}
 use Rattle.std.proofs.Common.{append_assoc, length-append}
+use Rattle.std.proofs.Math.Seq.{take-append_seam}
 use Rattle.std.proofs.lemmas.List.{append-nil}
 use Rattle.std.proofs.lemmas.Result.{err_from_is_err_and, IfOk-from_err, IfOk-weaker}
 use Rattle.octseq_core.specs.Limit.{IsPast}
 use Rattle.octseq_core.proofs.Limits.{past_more}
 use Rattle.octseq_utf8.specs.Chunk.{mark_of}
+use Rattle.octseq_utf8.specs.Parts.{IsFront}
 use Rattle.octseq_utf8.proofs.ByChunk.{mark_some}
 use Rattle.octseq_text.proofs.Piecewise.{none_of, some_of}
 use Rattle.octseq_text.proofs.Replacing.{front_then}
 use Rattle.octseq_text.proofs.str.lossy.append_chunk.Goals as goal
+
+-- as many octets as a front has are the front
+front_is : (octets front : List ℕ) (len : ℕ) → IsFront front octets → len ≡ length front → take len octets ≡ front
+front_is octets front len f same = rw (same, f.1) (take-append_seam front f.0)
 
 -- with no bad part there is no mark
 unmarked : (all made read mark valid invalid : List ℕ) → made ≡ all ++ read → read ≡ valid → length invalid ≡ 0
@@ -39,27 +45,27 @@ past_marked limit all read valid mark same past =
 
 -- a refusal of the text
 
-pub returns-in_err-append_staged-clause-text : goal.returns-in_err-append_staged-clause-text
-returns-in_err-append_staged-clause-text g c = IfOk-from_err c.from_residual.result _ c.from_residual.ensures.0
+pub returns-in_err-append_front-clause-text : goal.returns-in_err-append_front-clause-text
+returns-in_err-append_front-clause-text g c = IfOk-from_err c.from_residual.result _ c.from_residual.ensures.0
 
-pub returns-in_err-append_staged-clause-front : goal.returns-in_err-append_staged-clause-front
-returns-in_err-append_staged-clause-front g c = c.in_err-append_staged.ensures.front
+pub returns-in_err-append_front-clause-front : goal.returns-in_err-append_front-clause-front
+returns-in_err-append_front-clause-front g c = c.in_err-append_front.ensures.front
 
-pub returns-in_err-append_staged-clause-short : goal.returns-in_err-append_staged-clause-short
-returns-in_err-append_staged-clause-short g c =
+pub returns-in_err-append_front-clause-short : goal.returns-in_err-append_front-clause-short
+returns-in_err-append_front-clause-short g c =
     let p = err_from_is_err_and c.from_residual.result c.from_residual.ensures.1 in
     rw (p.1, p.2)
     (λ h. past_marked g.B.AsOctets.limit (g.B.AsOctets.content c.args.builder.now ++ c.args.staged.now.content)
-    c.as_bytes.result.now c.args.chunk.now.valid (mark_of c.args.mark.now c.args.chunk.now.invalid)
-    (c.as_bytes.ensures.value ∙ c.valid.ensures) (c.in_err-append_staged.ensures.short h))
+    (take (length c.valid.result.now) c.args.octets.now) c.args.chunk.now.valid (mark_of c.args.mark.now c.args.chunk.now.invalid)
+    (front_is c.args.octets.now c.args.chunk.now.valid (length c.valid.result.now) c.requires (ap length c.valid.ensures)) (c.in_err-append_front.ensures.short h))
 
-pub returns-in_err-append_staged-clause-memory : goal.returns-in_err-append_staged-clause-memory
-returns-in_err-append_staged-clause-memory g c =
+pub returns-in_err-append_front-clause-memory : goal.returns-in_err-append_front-clause-memory
+returns-in_err-append_front-clause-memory g c =
     let p = err_from_is_err_and c.from_residual.result c.from_residual.ensures.1 in
-    rw (p.1, p.2) c.in_err-append_staged.ensures.memory
+    rw (p.1, p.2) c.in_err-append_front.ensures.memory
 
-pub returns-in_err-append_staged-clause-borrows : goal.returns-in_err-append_staged-clause-borrows
-returns-in_err-append_staged-clause-borrows g c = c.in_err-append_staged.ensures.borrows
+pub returns-in_err-append_front-clause-borrows : goal.returns-in_err-append_front-clause-borrows
+returns-in_err-append_front-clause-borrows g c = c.in_err-append_front.ensures.borrows
 
 -- no bad part
 
@@ -68,15 +74,15 @@ returns-then-is_empty-clause-text g c =
     let none = none_of c.args.chunk.now.invalid c.invalid.result.now c.is_empty.result c.invalid.ensures c.is_empty.ensures
     c.if-is_empty.true in
     unmarked (g.B.AsOctets.content c.args.builder.now ++ c.args.staged.now.content)
-    (g.B.AsOctets.content c.append_staged.new.builder ++ c.append_staged.new.staged.content) c.as_bytes.result.now
-    c.args.mark.now c.args.chunk.now.valid c.args.chunk.now.invalid c.in_ok-append_staged.ensures.text
-    (c.as_bytes.ensures.value ∙ c.valid.ensures) none
+    (g.B.AsOctets.content c.append_front.new.builder ++ c.append_front.new.staged.content) (take (length c.valid.result.now) c.args.octets.now)
+    c.args.mark.now c.args.chunk.now.valid c.args.chunk.now.invalid c.in_ok-append_front.ensures.text
+    (front_is c.args.octets.now c.args.chunk.now.valid (length c.valid.result.now) c.requires (ap length c.valid.ensures)) none
 
 pub returns-then-is_empty-clause-front : goal.returns-then-is_empty-clause-front
-returns-then-is_empty-clause-front g c = c.in_ok-append_staged.ensures.front
+returns-then-is_empty-clause-front g c = c.in_ok-append_front.ensures.front
 
 pub returns-then-is_empty-clause-borrows : goal.returns-then-is_empty-clause-borrows
-returns-then-is_empty-clause-borrows g c = c.in_ok-append_staged.ensures.borrows
+returns-then-is_empty-clause-borrows g c = c.in_ok-append_front.ensures.borrows
 
 -- or one
 
@@ -85,26 +91,26 @@ returns-clause-text g c =
     let some = some_of c.args.chunk.now.invalid c.invalid.result.now c.is_empty.result c.invalid.ensures c.is_empty.ensures
     c.if-is_empty.false in
     let made = marked (g.B.AsOctets.content c.args.builder.now ++ c.args.staged.now.content)
-    (g.B.AsOctets.content c.append_staged.new.builder ++ c.append_staged.new.staged.content) c.as_bytes.result.now
-    c.args.mark.now c.args.chunk.now.valid c.args.chunk.now.invalid c.in_ok-append_staged.ensures.text
-    (c.as_bytes.ensures.value ∙ c.valid.ensures) some in
-    IfOk-weaker c.append_staged-2.result _ _ (λ _ e. e ∙ made) c.append_staged-2.ensures.text
+    (g.B.AsOctets.content c.append_front.new.builder ++ c.append_front.new.staged.content) (take (length c.valid.result.now) c.args.octets.now)
+    c.args.mark.now c.args.chunk.now.valid c.args.chunk.now.invalid c.in_ok-append_front.ensures.text
+    (front_is c.args.octets.now c.args.chunk.now.valid (length c.valid.result.now) c.requires (ap length c.valid.ensures)) some in
+    IfOk-weaker c.append_staged.result _ _ (λ _ e. e ∙ made) c.append_staged.ensures.text
 
 pub returns-clause-front : goal.returns-clause-front
-returns-clause-front g c = front_then _ _ _ c.in_ok-append_staged.ensures.front c.append_staged-2.ensures.front
+returns-clause-front g c = front_then _ _ _ c.in_ok-append_front.ensures.front c.append_staged.ensures.front
 
 pub returns-clause-short : goal.returns-clause-short
 returns-clause-short g c =
     let some = some_of c.args.chunk.now.invalid c.invalid.result.now c.is_empty.result c.invalid.ensures c.is_empty.ensures
     c.if-is_empty.false in
     let made = marked (g.B.AsOctets.content c.args.builder.now ++ c.args.staged.now.content)
-    (g.B.AsOctets.content c.append_staged.new.builder ++ c.append_staged.new.staged.content) c.as_bytes.result.now
-    c.args.mark.now c.args.chunk.now.valid c.args.chunk.now.invalid c.in_ok-append_staged.ensures.text
-    (c.as_bytes.ensures.value ∙ c.valid.ensures) some in
-    λ h. subst (λ y. IsPast g.B.AsOctets.limit (length y)) made (c.append_staged-2.ensures.short h)
+    (g.B.AsOctets.content c.append_front.new.builder ++ c.append_front.new.staged.content) (take (length c.valid.result.now) c.args.octets.now)
+    c.args.mark.now c.args.chunk.now.valid c.args.chunk.now.invalid c.in_ok-append_front.ensures.text
+    (front_is c.args.octets.now c.args.chunk.now.valid (length c.valid.result.now) c.requires (ap length c.valid.ensures)) some in
+    λ h. subst (λ y. IsPast g.B.AsOctets.limit (length y)) made (c.append_staged.ensures.short h)
 
 pub returns-clause-memory : goal.returns-clause-memory
-returns-clause-memory g c = c.append_staged-2.ensures.memory
+returns-clause-memory g c = c.append_staged.ensures.memory
 
 pub returns-clause-borrows : goal.returns-clause-borrows
-returns-clause-borrows g c = c.append_staged-2.ensures.borrows ∙ c.in_ok-append_staged.ensures.borrows
+returns-clause-borrows g c = c.append_staged.ensures.borrows ∙ c.in_ok-append_front.ensures.borrows

@@ -1,4 +1,4 @@
-use Rattle.std.proofs.Common.{◌≡◌, ℕ, List, ◌++◌, length, ap, ◌∙◌, subst, append_assoc}
+use Rattle.std.proofs.Common.{◌≡◌, ℕ, List, [], ◌++◌, length, ap, ◌∙◌, subst, append_assoc}
 use Rattle.std.proofs.Common.{Result, Ok, Err, OnOk, OnErr}
 use Rattle.std.proofs.Math.Nat.{le_refl, le_trans}
 use Rattle.std.proofs.lemmas.List.{append-nil}
@@ -57,6 +57,7 @@ loop-chunk-init g c =
       turns = le_refl _;
       passed = passed_none _ _;
       kept = le_refl _;
+      octets = c.as_octets-octets.ensures;
     }
 
 pub loop-chunk-preserved : goal.loop-chunk-preserved
@@ -76,7 +77,15 @@ loop-chunk-preserved g c =
       turns = le_trans (c.in-Some.ensures.turns _ _ (splits _) (splits _)) i.turns;
       passed = passed_on _ _ _ _ _ _ i.passed c.in-Some.ensures.passed;
       kept = le_trans i.kept c.in-Some.ensures.kept;
+      octets = c.as_octets-octets-in-Some.ensures;
     }
+
+pub append_chunk-requires : goal.append_chunk-requires
+append_chunk-requires g c = ([], rw (append-nil _) (c.as_bytes.ensures.value ∙ c.valid.ensures))
+
+pub append_chunk-requires-in-Some : goal.append_chunk-requires-in-Some
+append_chunk-requires-in-Some g c =
+    (c.in-Some.chunk.invalid ++ c.next_counted.new.self, c.loop-chunk.invariant.octets ∙ c.in-Some.ensures.gives.whole)
 
 pub returns-in_err-append_chunk-2-clause-front : goal.returns-in_err-append_chunk-2-clause-front
 returns-in_err-append_chunk-2-clause-front g c =

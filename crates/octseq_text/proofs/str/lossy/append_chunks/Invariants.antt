@@ -14,6 +14,7 @@ invariant-loop-chunk g l = record {
   turns : l.turns + length (parts_of l.rest) ≤ l.fn.turns + length (parts_of l.fn.rest);
   passed : length l.fn.rest + 16 * l.fn.turns ≤ 16 * l.turns + length l.rest;
   kept : l.fn.turns ≤ l.turns;
+  octets : l.octets ≡ l.rest;
 }
 
 abbrev pub decreases-loop-chunk : goal.decreases-loop-chunk
