@@ -15,6 +15,8 @@
 //!   there is one part a step, by a word while four octets are left. The last three are read from the last word too,
 //!   shifted.
 //!
+//! Sixteen to thirty-two octets that are all below 80 are told by two lanes that overlap.
+//!
 //! A turn passes sixteen octets below 80 as one lane, or one part. Where octets below 80 are jumped over, a turn is
 //! counted for each.
 ghost use Rattle.std.specs.Prelude.{◌≡◌, ℕ, ◌+◌, ◌-◌, ◌*◌, ◌/◌, ◌%◌, ◌<◌, ◌≤◌, ◌↔◌, length, take};
@@ -28,7 +30,7 @@ ghost use Rattle.octseq_utf8.specs.Search.{IsSearching, IsFound, IsAfter, IsFaul
 ghost use Rattle.octseq_utf8.specs.Text.{IsWellFormed, chars};
 
 use crate::fault::Utf8Fault;
-use crate::lanes::{ascii_len, is_high_in_thirty_two, is_short_ascii};
+use crate::lanes::{ascii_len, is_ascii_of_two_lanes, is_high_in_thirty_two, is_short_ascii};
 use crate::turns::Turns;
 use crate::words::{begins, begins_three, begins_two, is_four, last_word, word_at};
 
@@ -335,6 +337,10 @@ pub fn first_fault(octets: &[u8], turns: &mut Turns) -> Option<Utf8Fault>
     ensures mixed { turns.new ≤ turns.old + length octets.now / 16
         + 8 * count_by (λ octet. nat_le 0x80 octet) octets.now + 15 }
 {
+    if is_ascii_of_two_lanes(octets) {
+        turns.pass(octets.len().div_ceil(16));
+        return None;
+    }
     let mut at = 0;
     while at + 15 < octets.len() {
         match pass_encodings(octets, at, turns) {

@@ -85,3 +85,17 @@ pub(crate) fn is_short_ascii(octets: &[u8], from: usize) -> bool
     }
     !is_high_in_eight(octets, from) && !is_high_in_eight(octets, octets.len() - 8)
 }
+
+/// Whether there are sixteen to thirty-two octets, all below 80: told by the first and the last sixteen of them, which
+/// overlap.
+#[inline(always)]
+pub(crate) fn is_ascii_of_two_lanes(octets: &[u8]) -> bool
+    ensures len { result ≡ true → (16 ≤ length octets.now) × (length octets.now ≤ 32) }
+    ensures low { result ≡ true → All (λ octet. octet < 0x80) octets.now }
+{
+    let len = octets.len();
+    if len < 16 || len > 32 || octets[0] >= 0x80 {
+        return false;
+    }
+    high_lanes(octets, 0) == 0 && high_lanes(octets, len - 16) == 0
+}

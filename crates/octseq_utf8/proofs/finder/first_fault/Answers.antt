@@ -1,4 +1,4 @@
-use Rattle.std.proofs.Common.{arith, length-drop}
+use Rattle.std.proofs.Common.{refl, arith, length-drop}
 use Rattle.std.specs.Prelude.{IfSome}
 use Rattle.std.proofs.lemmas.Option.{IfSome_then}
 use Rattle.octseq_utf8.specs.Search.{IsFaultAt, IsFound}
@@ -6,6 +6,25 @@ use Rattle.octseq_utf8.proofs.Faults.{fault_refutes}
 use Rattle.octseq_utf8.proofs.Search.{search_start}
 use Rattle.octseq_utf8.proofs.Tails.{ascii_turns, low_well_formed, tail_fault, tail_few, tail_none, tail_turns}
 use Rattle.octseq_utf8.proofs.finder.first_fault.Goals as goal
+
+-- sixteen to thirty-two octets that are all below 80
+
+pub returns-then-is_ascii_of_two_lanes-clause-none : goal.returns-then-is_ascii_of_two_lanes-clause-none
+returns-then-is_ascii_of_two_lanes-clause-none c = (
+  λ h. (low_well_formed c.args.octets.now
+      (c.is_ascii_of_two_lanes.ensures.low c.if-is_ascii_of_two_lanes.true)).0,
+  λ w. refl,
+)
+
+pub returns-then-is_ascii_of_two_lanes-clause-turns : goal.returns-then-is_ascii_of_two_lanes-clause-turns
+returns-then-is_ascii_of_two_lanes-clause-turns c =
+    let passed = c.pass.ensures in
+    let long = c.is_ascii_of_two_lanes.ensures.len c.if-is_ascii_of_two_lanes.true in
+    let same = (low_well_formed c.args.octets.now
+    (c.is_ascii_of_two_lanes.ensures.low c.if-is_ascii_of_two_lanes.true)).1 in
+    omega arith
+
+-- the runs
 
 pub loop-at-init : goal.loop-at-init
 loop-at-init c = search_start c.args.octets.now c.args.turns.now
