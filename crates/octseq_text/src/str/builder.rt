@@ -4,16 +4,14 @@ ghost use Rattle.std.specs.Prelude.{take, IsTrue, IsOk, IsSome, IfOk, IfErr, IfS
 ghost use Rattle.octseq_core.specs.Appends.{Appends};
 ghost use Rattle.octseq_core.specs.ArrayOctets.{blank};
 ghost use Rattle.octseq_core.specs.Limit.{IsWithin};
-ghost use Rattle.octseq_core.specs.Refusal.{append_error};
 ghost use Rattle.octseq_utf8.specs.Encoding.{IsEncoding, number_of, encoding_of};
 ghost use Rattle.octseq_utf8.specs.Fault.{IsFault};
-ghost use Rattle.octseq_text.specs.Lossy.{ReadsLossily};
 ghost use Rattle.octseq_text.specs.TextRun.{AppendsCharacters, append_reply, CutsTo, Pops};
 ghost use Rattle.octseq_utf8.specs.Text.{IsWellFormed, IsBoundary, chars, octets_of};
 
 use super::ends::{boundary, last_encoding};
 use super::error::FromUtf8Error;
-use super::lossy::append_lossy;
+use super::staged::append_short;
 use super::text::Str;
 use crate::utf8::{Turns, find_fault};
 use octseq_core::array::Array;
@@ -28,7 +26,7 @@ use std::marker::Model;
 /// Contracts see the builder.
 #[derive(Drop)]
 pub struct StrBuilder<Octets: AsOctets> {
-    octets: Octets,
+    pub(super) octets: Octets,
 }
 
 impl<Octets: AsOctets> Model for StrBuilder<Octets> {
@@ -267,53 +265,7 @@ impl<Octets: AsOctets> StrBuilder<Octets> {
     {
         let mut octets = [0; 4];
         let encoding = ch.encode_utf8(&mut octets[..]);
-        append_encoding(&mut self.octets, encoding.as_bytes())
-    }
-
-    /// Appends the octets as a text in which each maximal ill-formed part became one U+FFFD, or nothing.
-    ///
-    /// # Errors
-    ///
-    /// `Short` where the text would pass the limit of its type, `Memory` where a request for memory was
-    /// refused. The text is then as it was.
-    pub fn try_push_lossy(&mut self, octets: &[u8]) -> Result<(), AppendError>
-    where
-        Octets: OctetsBuilder + Truncate,
-        ensures answer { ReadsLossily append_error Octets.limit (Octets.asks ≡ true)
-            0xFFFD (Octets.content self.old) octets.now (λ _. Octets.content self.new) result }
-        ensures err { OnErr result (Octets.content self.new ≡ Octets.content self.old) }
-        ensures borrows { Octets.borrows self.new ≡ Octets.borrows self.old }
-    {
-        self.try_push_lossy_with(octets, char::REPLACEMENT_CHARACTER)
-    }
-
-    /// As [`StrBuilder::try_push_lossy`], with `replacement` for each maximal ill-formed part.
-    ///
-    /// # Errors
-    ///
-    /// `Short` where the text would pass the limit of its type, `Memory` where a request for memory was
-    /// refused. The text is then as it was.
-    pub fn try_push_lossy_with(
-        &mut self,
-        octets: &[u8],
-        replacement: char,
-    ) -> Result<(), AppendError>
-    where
-        Octets: OctetsBuilder + Truncate,
-        ensures answer { ReadsLossily append_error Octets.limit (Octets.asks ≡ true)
-            replacement (Octets.content self.old) octets.now (λ _. Octets.content self.new) result }
-        ensures err { OnErr result (Octets.content self.new ≡ Octets.content self.old) }
-        ensures borrows { Octets.borrows self.new ≡ Octets.borrows self.old }
-    {
-        let before = self.as_slice();
-        let len = before.len();
-        match append_lossy(&mut self.octets, octets, replacement) {
-            Ok(()) => Ok(()),
-            Err(refusal) => {
-                self.octets.truncate(len);
-                Err(refusal)
-            }
-        }
+        append_short(&mut self.octets, encoding.as_bytes())
     }
 
     /// Appends all of `s`, or nothing, in a builder with no limit.
@@ -404,24 +356,6 @@ impl<Octets: AsOctets> StrBuilder<Octets> {
         let (last, width) = last_encoding(self.as_slice(), &mut Turns::new())?;
         shorten(&mut self.octets, width);
         Some(last)
-    }
-}
-
-/// Appends the octets of one character, by a copy whose size is known where it is compiled.
-#[inline(always)]
-pub(super) fn append_encoding<Builder: OctetsBuilder>(
-    builder: &mut Builder,
-    encoding: &[u8],
-) -> Result<(), AppendError>
-    ensures appended { Appends Builder.limit Builder.asks result encoding.now
-        (Builder.content builder.old) (Builder.content builder.new) }
-    ensures borrows { Builder.borrows builder.new ≡ Builder.borrows builder.old }
-{
-    match encoding.len() {
-        1 => builder.append_slice(&encoding[..1]),
-        2 => builder.append_slice(&encoding[..2]),
-        3 => builder.append_slice(&encoding[..3]),
-        _ => builder.append_slice(encoding),
     }
 }
 

@@ -17,7 +17,9 @@ use super::builder::StrBuilder;
 use super::staged::{STAGE, append_front, append_stage, append_staged};
 use crate::utf8::{Turns, Utf8Chunk, Utf8Chunks, chunks};
 use octseq_core::array::Array;
-use octseq_core::builder::{AppendError, AsOctets, EmptyBuilder, OctetsBuilder, OctetsLimit};
+use octseq_core::builder::{
+    AppendError, AsOctets, EmptyBuilder, OctetsBuilder, OctetsLimit, Truncate,
+};
 use std::alloc::{AllocError, Global};
 
 impl<Octets: AsOctets> StrBuilder<Octets> {
@@ -225,6 +227,52 @@ impl<Octets: AsOctets> StrBuilder<Octets> {
         append_lossy(&mut made, octets, replacement)?;
         Ok(StrBuilder::from_utf8_unchecked(made))
     }
+
+    /// Appends the octets as a text in which each maximal ill-formed part became one U+FFFD, or nothing.
+    ///
+    /// # Errors
+    ///
+    /// `Short` where the text would pass the limit of its type, `Memory` where a request for memory was
+    /// refused. The text is then as it was.
+    pub fn try_push_lossy(&mut self, octets: &[u8]) -> Result<(), AppendError>
+    where
+        Octets: OctetsBuilder + Truncate,
+        ensures answer { ReadsLossily append_error Octets.limit (Octets.asks ≡ true)
+            0xFFFD (Octets.content self.old) octets.now (λ _. Octets.content self.new) result }
+        ensures err { OnErr result (Octets.content self.new ≡ Octets.content self.old) }
+        ensures borrows { Octets.borrows self.new ≡ Octets.borrows self.old }
+    {
+        self.try_push_lossy_with(octets, char::REPLACEMENT_CHARACTER)
+    }
+
+    /// As [`StrBuilder::try_push_lossy`], with `replacement` for each maximal ill-formed part.
+    ///
+    /// # Errors
+    ///
+    /// `Short` where the text would pass the limit of its type, `Memory` where a request for memory was
+    /// refused. The text is then as it was.
+    pub fn try_push_lossy_with(
+        &mut self,
+        octets: &[u8],
+        replacement: char,
+    ) -> Result<(), AppendError>
+    where
+        Octets: OctetsBuilder + Truncate,
+        ensures answer { ReadsLossily append_error Octets.limit (Octets.asks ≡ true)
+            replacement (Octets.content self.old) octets.now (λ _. Octets.content self.new) result }
+        ensures err { OnErr result (Octets.content self.new ≡ Octets.content self.old) }
+        ensures borrows { Octets.borrows self.new ≡ Octets.borrows self.old }
+    {
+        let before = self.as_slice();
+        let len = before.len();
+        match append_lossy(&mut self.octets, octets, replacement) {
+            Ok(()) => Ok(()),
+            Err(refusal) => {
+                self.octets.truncate(len);
+                Err(refusal)
+            }
+        }
+    }
 }
 
 /// The octets as a text with the replacement for each bad part.
@@ -260,7 +308,7 @@ fn read_with<B: EmptyBuilder>(
 }
 
 /// Appends the octets as a text with the replacement for each bad part. A refusal leaves a front of it behind.
-pub(super) fn append_lossy<B: OctetsBuilder>(
+fn append_lossy<B: OctetsBuilder>(
     builder: &mut B,
     octets: &[u8],
     replacement: char,

@@ -206,40 +206,6 @@ impl<B: EmptyBuilder> LossyPieces<B> {
         // A refusal that was met is the answer.
         ensures again { (refusal : AppendError) → self.refusal ≡ Some refusal → result ≡ Err refusal }
     {
-        self.finish_counted(&mut Turns::new())
-    }
-
-    /// As [`LossyPieces::finish`], and counts the turns of the search: there are none, as no octet is looked
-    /// at again.
-    ///
-    /// # Errors
-    ///
-    /// `Short` where the text passes the limit of the type, `Memory` where a request for memory was
-    /// refused. Where a piece was refused, that refusal.
-    pub fn finish_counted(self, turns: &mut Turns) -> Result<StrBuilder<B>, AppendError>
-        // Exactly one list of parts splits octets.
-        ensures one_splitting { (octets : List ℕ) (parts others : List Part)
-            → Splits octets parts → Splits octets others → parts ≡ others }
-        ensures splitting { (octets : List ℕ) → (parts : List Part) × Splits octets parts }
-
-        // The answer is the text of all parts of what it stands for.
-        ensures text { IfOk result (λ made. (octets : List ℕ) (parts : List Part)
-            → StandsFor self octets → Splits octets parts → B.content made ≡ text parts) }
-        ensures well_formed { IfOk result (λ made. IsWellFormed (B.content made)) }
-
-        // It is refused as short exactly where that text passes the limit, memory aside.
-        ensures short { IsShort append_error result → (octets : List ℕ) (parts : List Part)
-            → StandsFor self octets → Splits octets parts → IsPast B.limit (length (text parts)) }
-        ensures past { (octets : List ℕ) (parts : List Part)
-            → StandsFor self octets → Splits octets parts
-            → IsPast B.limit (length (text parts)) → IsErr result }
-        ensures memory { IsMemory append_error result → B.asks ≡ true }
-
-        // A refusal that was met is the answer.
-        ensures again { (refusal : AppendError) → self.refusal ≡ Some refusal → result ≡ Err refusal }
-
-        ensures turns { turns.new ≡ turns.old }
-    {
         let LossyPieces {
             mut text,
             end,

@@ -3,16 +3,34 @@
 //! A builder asks of each append whether there is room, and some ask whether the two places overlap. For a character
 //! or two that takes longer than the copy, so such are copied into an array first, and appended with others.
 ghost use Rattle.std.specs.Prelude.{◌≡◌, ◌≤◌, true, false, [], ◌++◌, take, length, OnOk, OnErr};
+ghost use Rattle.octseq_core.specs.Appends.{Appends};
 ghost use Rattle.octseq_core.specs.Limit.{IsWithin, IsPast};
 ghost use Rattle.octseq_core.specs.Refusal.{IsShort, IsMemory, append_error};
 ghost use Rattle.octseq_utf8.specs.Parts.{IsFront};
 
-use super::builder::append_encoding;
 use octseq_core::array::Array;
 use octseq_core::builder::{AppendError, OctetsBuilder, Truncate};
 
 /// How many octets are gathered.
 pub(super) const STAGE: usize = 512;
+
+/// Appends octets. Of one to three, as a character has, the copy's size is known where it is compiled.
+#[inline(always)]
+pub(super) fn append_short<B: OctetsBuilder>(
+    builder: &mut B,
+    octets: &[u8],
+) -> Result<(), AppendError>
+    ensures appended { Appends B.limit B.asks result octets.now
+        (B.content builder.old) (B.content builder.new) }
+    ensures borrows { B.borrows builder.new ≡ B.borrows builder.old }
+{
+    match octets.len() {
+        1 => builder.append_slice(&octets[..1]),
+        2 => builder.append_slice(&octets[..2]),
+        3 => builder.append_slice(&octets[..3]),
+        _ => builder.append_slice(octets),
+    }
+}
 
 /// How many octets are copied at once, where a text is no longer.
 const LANE: usize = 16;
@@ -73,7 +91,7 @@ pub(super) fn append_staged<B: OctetsBuilder>(
     ensures memory { IsMemory append_error result → B.asks ≡ true }
     ensures borrows { B.borrows builder.new ≡ B.borrows builder.old }
 {
-    if append_encoding(staged, octets).is_ok() {
+    if append_short(staged, octets).is_ok() {
         return Ok(());
     }
     append_stage(builder, staged)?;

@@ -41,7 +41,7 @@ front_appended (Err x) front old new octets f ok err = (f.0, err ∙ f.1)
 pub returns-then-is_ok-clause-text : goal.returns-then-is_ok-clause-text
 returns-then-is_ok-clause-text g c =
     let content = g.B.AsOctets.content c.args.builder.now in
-    let staged = where_ok c.append_encoding.result _ c.is_ok.result c.append_encoding.ensures.appended.ok c.is_ok.ensures.value
+    let staged = where_ok c.append_short.result _ c.is_ok.result c.append_short.ensures.appended.ok c.is_ok.ensures.value
     c.if-is_ok.true in
     ap (λ y. content ++ y) staged ∙ sym (append_assoc content c.args.staged.now.content c.args.octets.now)
 
@@ -59,10 +59,10 @@ returns-in_err-append_stage-clause-front g c = ([], c.in_err-append_stage.ensure
 pub returns-in_err-append_stage-clause-short : goal.returns-in_err-append_stage-clause-short
 returns-in_err-append_stage-clause-short g c =
     let p = err_from_is_err_and c.from_residual.result c.from_residual.ensures.1 in
-    let same = where_err c.append_encoding.result _ c.is_ok.result c.append_encoding.ensures.appended.err c.is_ok.ensures.value
+    let same = where_err c.append_short.result _ c.is_ok.result c.append_short.ensures.appended.err c.is_ok.ensures.value
     c.if-is_ok.false in
     rw (p.1, p.2)
-    (λ h. past_with g.B.AsOctets.limit (g.B.AsOctets.content c.args.builder.now) c.append_encoding.new.builder.content
+    (λ h. past_with g.B.AsOctets.limit (g.B.AsOctets.content c.args.builder.now) c.append_short.new.builder.content
     c.args.staged.now.content c.args.octets.now same (c.in_err-append_stage.ensures.short h))
 
 pub returns-in_err-append_stage-clause-memory : goal.returns-in_err-append_stage-clause-memory
@@ -79,7 +79,7 @@ pub returns-clause-text : goal.returns-clause-text
 returns-clause-text g c =
     let content = g.B.AsOctets.content c.args.builder.now in
     let made = g.B.AsOctets.content c.append_slice.new.self in
-    let same = where_err c.append_encoding.result _ c.is_ok.result c.append_encoding.ensures.appended.err c.is_ok.ensures.value
+    let same = where_err c.append_short.result _ c.is_ok.result c.append_short.ensures.appended.err c.is_ok.ensures.value
     c.if-is_ok.false in
     let all = c.in_ok-append_stage.ensures.text ∙ ap (λ y. content ++ y) same in
     IfOk-weaker c.append_slice.result _ _
@@ -90,13 +90,13 @@ returns-clause-text g c =
 pub returns-clause-front : goal.returns-clause-front
 returns-clause-front g c =
     front_appended c.append_slice.result _ _ _ c.args.octets.now
-    (c.append_encoding.new.builder.content, c.in_ok-append_stage.ensures.text) c.append_slice.ensures.appended.ok
+    (c.append_short.new.builder.content, c.in_ok-append_stage.ensures.text) c.append_slice.ensures.appended.ok
     c.append_slice.ensures.appended.err
 
 pub returns-clause-short : goal.returns-clause-short
 returns-clause-short g c =
     let content = g.B.AsOctets.content c.args.builder.now in
-    let same = where_err c.append_encoding.result _ c.is_ok.result c.append_encoding.ensures.appended.err c.is_ok.ensures.value
+    let same = where_err c.append_short.result _ c.is_ok.result c.append_short.ensures.appended.err c.is_ok.ensures.value
     c.if-is_ok.false in
     let all = c.in_ok-append_stage.ensures.text ∙ ap (λ y. content ++ y) same in
     let long = ap (λ y. length y + length c.args.octets.now) all

@@ -14,12 +14,12 @@ encoded g c = c.as_bytes.ensures.value ∙ c.encode_utf8-encoding.ensures.value 
 
 pub invariant_of-self : goal.invariant_of-self
 invariant_of-self g c =
-    let e = c.append_encoding.ensures.appended in
-    well_formed-appended c.append_encoding.result _ _ _ e.ok e.err c.self.invariant
+    let e = c.append_short.ensures.appended in
+    well_formed-appended c.append_short.result _ _ _ e.ok e.err c.self.invariant
     (well_formed_from_utf8 _ c.as_bytes.ensures.utf8)
 
 pub returns-clause-appended : goal.returns-clause-appended
-returns-clause-appended g c = rw (← encoded g c, ← c.self.view_is) c.append_encoding.ensures.appended
+returns-clause-appended g c = rw (← encoded g c, ← c.self.view_is) c.append_short.ensures.appended
 
 pub returns-clause-encoding : goal.returns-clause-encoding
 returns-clause-encoding g c = encoding_is_of c.args.ch (from_scalar c.args.ch c.ranges.ch.0)
@@ -30,9 +30,9 @@ returns-clause-only g c = λ e p n.
 
 pub returns-clause-step : goal.returns-clause-step
 returns-clause-step g c =
-    let e = c.append_encoding.ensures.appended in
+    let e = c.append_short.ensures.appended in
     let one : chars c.as_bytes.result.now ≡ c.args.ch ∷ [] =
     ap chars (encoded g c) ∙ chars-encoding c.args.ch (from_scalar c.args.ch c.ranges.ch.0) in
     rw (← one, ← c.self.view_is)
-    (appends g.Octets.AsOctets.limit g.Octets.AsOctets.asks c.append_encoding.result _ _ _ e.ok e.err e.short e.memory
+    (appends g.Octets.AsOctets.limit g.Octets.AsOctets.asks c.append_short.result _ _ _ e.ok e.err e.short e.memory
     c.self.invariant (well_formed_from_utf8 _ c.as_bytes.ensures.utf8))

@@ -6,7 +6,7 @@ use Rattle.octseq_text.proofs.Piecewise.{finish_text, finish_well_formed, finish
 use Rattle.octseq_text.proofs.Piecewise.{not_met, same_refusal, memory_met}
 use Rattle.octseq_text.proofs.Settling.{splitting}
 use Rattle.octseq_core.proofs.Limits.{within_not_past}
-use Rattle.octseq_text.proofs.str.pieces.LossyPieces.finish_counted.Goals as goal
+use Rattle.octseq_text.proofs.str.pieces.LossyPieces.finish.Goals as goal
 
 pub returns-in_err-append_end-clause-short : goal.returns-in_err-append_end-clause-short
 returns-in_err-append_end-clause-short g c =
