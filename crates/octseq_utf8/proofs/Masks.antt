@@ -25,6 +25,9 @@ and_2 w x a m n e ha hm = ap (λ v. bit_and v (n * 256 + m)) e ∙ and_block 8 x
 top_2 : (b : ℕ) → b < 256 → bit_and b 0xC0 ≡ b / 64 * 64
 top_2 b h = and_high b 2 6 ∙ omega arith
 
+top_3 : (b : ℕ) → b < 256 → bit_and b 0xE0 ≡ b / 32 * 32
+top_3 b h = and_high b 3 5 ∙ omega arith
+
 top_4 : (b : ℕ) → b < 256 → bit_and b 0xF0 ≡ b / 16 * 16
 top_4 b h = and_high b 4 4 ∙ omega arith
 
@@ -33,6 +36,9 @@ top_5 b h = and_high b 5 3 ∙ omega arith
 
 fifth : (b : ℕ) → bit_and b 0x20 ≡ (b / 32 % 2) * 32
 fifth b = and_high b 1 5
+
+middle_4 : (b : ℕ) → bit_and b 0x1E ≡ (b / 2 % 16) * 2
+middle_4 b = and_high b 4 1
 
 low_4 : (b : ℕ) → bit_and b 0x0F ≡ b % 16
 low_4 b = and_mask b 4
@@ -51,6 +57,59 @@ two w a b ea eb low high =
     let all = and_mask a 8 in
     let tb = top_2 b hb in
     row_C2_DF (omega arith, omega arith) (omega arith, omega arith)
+
+-- of the first octets of two encodings, the bits between the lowest and the top three carry where they aren't 0
+carries : (w a c : ℕ) → a ≡ w % 256 → c ≡ w / 65536 % 256
+    → bit_and (bit_and w 0x1E001E + 0x1E001E) 0x200020 ≡ 0x200020 → (2 ≤ a % 32) × (2 ≤ c % 32)
+carries w a c ea ec h =
+    let ha : a < 256 = omega arith in
+    let hc : c < 256 = omega arith in
+    let s0 : w ≡ w / 256 * 256 + a = omega arith in
+    let s1 : w / 256 ≡ w / 65536 * 256 + w / 256 % 256 = omega arith in
+    let s2 : w / 65536 ≡ w / 65536 / 256 * 256 + c = omega arith in
+    let n0 = and_2 w (w / 256) a 0x1E 0x1E00 s0 ha (omega arith) in
+    let n1 = and_2 (w / 256) (w / 65536) (w / 256 % 256) 0 0x1E s1 (omega arith) (omega arith) in
+    let n2 = and_2 (w / 65536) (w / 65536 / 256) c 0x1E 0 s2 hc (omega arith) in
+    let z1 = and_zero_r (w / 256 % 256) in
+    let z2 = and_zero_r (w / 65536 / 256) in
+    let ma = middle_4 a in
+    let mc = middle_4 c in
+    let p : ℕ = a / 2 % 16 * 2 + 0x1E in
+    let q : ℕ = c / 2 % 16 * 2 + 0x1E in
+    let sum : bit_and w 0x1E001E + 0x1E001E ≡ q * 256 * 256 + p = omega arith in
+    let m0 = and_2 (bit_and w 0x1E001E + 0x1E001E) (q * 256) p 0x20 0x2000 sum (omega arith) (omega arith) in
+    let m1 = and_2 (q * 256) q 0 0 0x20 (omega arith) (omega arith) (omega arith) in
+    let y = and_zero_r 0 in
+    let fp = fifth p in
+    let fq = fifth q in
+    (omega arith, omega arith)
+
+-- twice two octets: the masked word has the top bits of each, and the bits of the first ones carry
+pub two_twos : (w a b c d : ℕ) → a ≡ w % 256 → b ≡ w / 256 % 256 → c ≡ w / 65536 % 256 → d ≡ w / 16777216 % 256
+    → bit_and w 0xC0E0C0E0 ≡ 0x80C080C0 → bit_and (bit_and w 0x1E001E + 0x1E001E) 0x200020 ≡ 0x200020
+    → IsEncoding (a ∷ b ∷ []) × IsEncoding (c ∷ d ∷ [])
+two_twos w a b c d ea eb ec ed h k =
+    let ha : a < 256 = omega arith in
+    let hb : b < 256 = omega arith in
+    let hc : c < 256 = omega arith in
+    let hd : d < 256 = omega arith in
+    let s0 : w ≡ w / 256 * 256 + a = omega arith in
+    let s1 : w / 256 ≡ w / 65536 * 256 + b = omega arith in
+    let s2 : w / 65536 ≡ w / 16777216 * 256 + c = omega arith in
+    let s3 : w / 16777216 ≡ w / 16777216 / 256 * 256 + d = omega arith in
+    let e0 = and_2 w (w / 256) a 0xE0 0xC0E0C0 s0 ha (omega arith) in
+    let e1 = and_2 (w / 256) (w / 65536) b 0xC0 0xC0E0 s1 hb (omega arith) in
+    let e2 = and_2 (w / 65536) (w / 16777216) c 0xE0 0xC0 s2 hc (omega arith) in
+    let e3 = and_2 (w / 16777216) (w / 16777216 / 256) d 0xC0 0 s3 hd (omega arith) in
+    let z = and_zero_r (w / 16777216 / 256) in
+    let ta = top_3 a ha in
+    let tb = top_2 b hb in
+    let tc = top_3 c hc in
+    let td = top_2 d hd in
+    let wide = carries w a c ea ec k in (
+      row_C2_DF (omega arith, omega arith) (omega arith, omega arith),
+      row_C2_DF (omega arith, omega arith) (omega arith, omega arith),
+    )
 
 -- the rows of three octets, whose second octet's range depends on E0 and ED
 row_three : (a b c : ℕ) → IsInRange 0xE0 0xEF a → IsInRange 0x80 0xBF b → IsInRange 0x80 0xBF c → (a ≡ 0xE0 → 0xA0 ≤ b)

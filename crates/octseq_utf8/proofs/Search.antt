@@ -9,6 +9,7 @@ use Rattle.std.proofs.lemmas.List.Elements.{All-nil, All-cons, All-get_or, All-t
 use Rattle.std.proofs.lemmas.List.Sums.{sum_by-append, sum_by-cons}
 use Rattle.std.proofs.lemmas.Simd.{get_or-chunk, length-chunk}
 use Rattle.std.proofs.Math.Seq.{drop-cons, take-append_seam}
+use Rattle.std.specs.Int.{w32, to_le_bytes}
 use Rattle.std.specs.List.{All, concat, AllByRecursion}
 use Rattle.octseq_utf8.specs.Encoding.{IsEncoding, row_00_7F, row_C2_DF, row_E0, row_E1_EC}
 use Rattle.octseq_utf8.specs.Encoding.{row_ED, row_EE_EF, row_F0, row_F1_F3, row_F4, number_of}
@@ -17,7 +18,7 @@ use Rattle.octseq_utf8.specs.Front.{StandsInFront}
 use Rattle.octseq_utf8.specs.Search.{high_count, IsSearching, FewTurns, IsFound}
 use Rattle.octseq_utf8.specs.Text.{Spells, IsWellFormed, chars}
 use Rattle.octseq_utf8.specs.declared.finder.Front.TheVariants.{Encoding, Bad}
-use Rattle.octseq_utf8.proofs.Faults.{take-add, at_start, at_low, at_more, fault_at}
+use Rattle.octseq_utf8.proofs.Faults.{take-add, at_start, at_low, at_more, fault_at, word_front}
 use Rattle.octseq_utf8.proofs.Rows.{length_of}
 use Rattle.octseq_utf8.proofs.Spelling.{chars_of}
 use Rattle.octseq_utf8.proofs.Splitting.{bad_some}
@@ -202,6 +203,20 @@ search_encoding x place old now len s room wide (within, e) =
       low = λ h. omega arith;
       most = omega arith;
     }
+
+-- two encodings of two octets, told from one word
+pub search_two_twos : (x : List ℕ) (word place old now : ℕ) → IsSearching x place old now → place + 4 ≤ length x
+    → to_le_bytes w32 word ≡ take 4 (drop place x) → IsEncoding (take 2 (to_le_bytes w32 word))
+    → IsEncoding (drop 2 (to_le_bytes w32 word)) → IsSearching x (place + 4) old (now + 1 + 1)
+search_two_twos x word place old now s room same first second =
+    let left = length-drop place x in
+    let last : drop 2 (to_le_bytes w32 word) ≡ take 2 (drop (place + 2) x) =
+    ap (drop 2) same ∙ drop-take 2 2 (drop place x) ∙ ap (take 2) (drop-drop 2 place x) in
+    let one = search_encoding x place old now 2 s (omega arith) (omega arith)
+    (word_front x _ place 2 room same (omega arith) first) in
+    let two = search_encoding x (place + 2) old (now + 1) 2 one (omega arith) (omega arith)
+    (omega (arith, length-drop (place + 2) x), subst IsEncoding last second) in
+    subst (λ k. IsSearching x k old (now + 1 + 1)) (let e : place + 2 + 2 ≡ place + 4 = omega arith in e) two
 
 -- an encoding whose first octet is 80 or more has two octets or more
 pub front_wide : (x : List ℕ) (place len : ℕ) → 0x80 ≤ get_or x place 0 → StandsInFront (drop place x) (Encoding len)

@@ -3,8 +3,8 @@
 //! Text is mostly ASCII, or mostly of one script; a fault is rare. So the search goes run by run:
 //!
 //! - **Encodings.** While the octet at hand is 80 or more, four octets are loaded as one number, and a mask for each
-//!   length tells whether an encoding begins there. After one of three or of four octets a loop asks for no other
-//!   length. The masks hold the whole of the table: they leave no encoding to the next way, but no proof needs that.
+//!   length tells whether an encoding begins there. Two of two octets are one word. After one of three or of four octets a loop asks for no
+//!   other length. The masks hold the whole of the table: they leave no encoding to the next way, but no proof needs that.
 //!   One octet below 80 between two encodings, as a space between words, takes a step of its own.
 //! - **The table.** What no mask takes is read octet by octet, as the table of the Unicode Standard has it. This plain
 //!   way alone decides that there is a fault, and of what size. It looks at the second octet first, since most bad
@@ -32,7 +32,7 @@ ghost use Rattle.octseq_utf8.specs.Text.{IsWellFormed, chars};
 use crate::fault::Utf8Fault;
 use crate::lanes::{ascii_len, is_ascii_of_two_lanes, is_high_in_thirty_two, is_short_ascii};
 use crate::turns::Turns;
-use crate::words::{begins, begins_three, begins_two, is_four, last_word, word_at};
+use crate::words::{begins, begins_three, begins_two, is_four, is_two_twos, last_word, word_at};
 
 /// How many octets an encoding that begins with this one has, or 0 where none does.
 #[tactic(auto, unfolding(crate::specs::Reading::width_of))]
@@ -209,6 +209,9 @@ fn pass_encodings(octets: &[u8], from: usize, turns: &mut Turns) -> Result<usize
         let word = word_at(octets, at);
         if octets[at] < 0x80 {
             at += 1;
+        } else if is_two_twos(word) {
+            turns.tick();
+            at += 4;
         } else if begins_two(word) {
             at += 2;
         } else if begins_three(word) {

@@ -36,6 +36,21 @@ pub(crate) fn begins_two(word: u32) -> bool
     0x80C2 <= lead && lead <= 0x80DF
 }
 
+/// Whether the word is two encodings of two octets: each first octet has the top bits 110 and isn't C0 or C1, and each
+/// second one has the top bits 10.
+#[inline(always)]
+pub(crate) fn is_two_twos(word: u32) -> bool
+    ensures first { result ≡ true → IsEncoding (take 2 (to_le_bytes w32 word)) }
+    ensures second { result ≡ true → IsEncoding (drop 2 (to_le_bytes w32 word)) }
+{
+    if word & 0xC0E0_C0E0 != 0x80C0_80C0 {
+        return false;
+    }
+    // (of C0 and C1 these bits are 0, and all others carry)
+    let carried = (word & 0x1E_001E) + 0x1E_001E;
+    carried & 0x20_0020 == 0x20_0020
+}
+
 /// Whether an encoding of three octets begins the word: the top bits are those of the table, and the first
 /// and the second octet aren't E0 80..9F or ED A0..BF.
 #[inline(always)]

@@ -1,7 +1,7 @@
 use Rattle.std.proofs.Common.{arith}
 use Rattle.octseq_utf8.specs.declared.finder.Front.TheVariants.{Encoding, Bad}
-use Rattle.octseq_utf8.proofs.Faults.{at_place, word_front}
-use Rattle.octseq_utf8.proofs.Search.{front_wide, search_encoding, search_fault, search_octet}
+use Rattle.octseq_utf8.proofs.Faults.{at_place, front_some, word_front}
+use Rattle.octseq_utf8.proofs.Search.{front_wide, search_encoding, search_fault, search_octet, search_two_twos}
 use Rattle.octseq_utf8.proofs.finder.pass_encodings.Goals.{else-octets-at-lt128-via-then-octets-at-lt128+else-octets-at-lt128-2, else-octets-at-lt128-via-else-octets-at-lt128}
 use Rattle.octseq_utf8.proofs.finder.pass_encodings.Goals as goal
 
@@ -22,6 +22,18 @@ loop-at-preserved-then-octets-at-lt128-3 c =
     }
 
 -- an encoding that the word begins with, and those after it
+
+pub loop-at-preserved-then-is_two_twos : goal.loop-at-preserved-then-is_two_twos
+loop-at-preserved-then-is_two_twos c =
+    let words = c.saturating_sub-words.ensures in
+    let past = c.loop-at.invariant.past in
+    record {
+      past = omega arith;
+      passed = λ start before. rw (c.tick-then-is_two_twos.ensures, c.tick.ensures)
+          (search_two_twos c.args.octets.now c.word_at-word.result c.loop-at.at start c.loop-at.turns
+          (c.loop-at.invariant.passed start before) (omega arith) c.word_at-word.ensures
+          (c.is_two_twos.ensures.first c.if-is_two_twos.true) (c.is_two_twos.ensures.second c.if-is_two_twos.true));
+    }
 
 pub loop-at-preserved-then-begins_two : goal.loop-at-preserved-then-begins_two
 loop-at-preserved-then-begins_two c =
@@ -86,3 +98,9 @@ returns-in-Bad-clause-fault c start before =
     (search_fault c.args.octets.now c.loop-at.at start c.loop-at.turns c.in-Bad.size
     (c.loop-at.invariant.passed start before) (omega arith)
     (at_place c.args.octets.now c.loop-at.at (Bad c.in-Bad.size) c.in-Bad.ensures))
+
+pub loop-at-smaller : goal.loop-at-smaller
+loop-at-smaller c =
+    let words = c.saturating_sub-words.ensures in
+    let some = front_some c.args.octets.now c.loop-at.at c.in-Encoding.len c.in-Encoding.ensures in
+    omega arith
