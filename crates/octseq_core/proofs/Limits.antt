@@ -2,12 +2,12 @@
 use Rattle.std.proofs.Common.{ℕ, ◌≤◌, Option, Some, None, arith}
 use Rattle.octseq_core.specs.Limit.{IsWithin, IsPast}
 
--- a longer length passes a limit too
+-- a greater length is past the limit too
 pub past_more : (limit : Option ℕ) (m n : ℕ) → m ≤ n → IsPast limit m → IsPast limit n
 past_more (Some limit) m n less past = omega arith
 past_more None m n less past = absurd past
 
--- a length within a limit isn't past it
+-- a length within the limit isn't past it
 pub within_not_past : (limit : Option ℕ) (n : ℕ) → IsWithin limit n → IsPast limit n → ⊥
 within_not_past (Some limit) n within past = omega arith
 within_not_past None n within past = past

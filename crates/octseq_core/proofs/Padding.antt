@@ -1,9 +1,9 @@
--- An array that was made of a slice.
+-- An array made from a slice.
 use Rattle.std.proofs.Common.{◌≡◌, ℕ, List, length, drop, replicate, ◌∙◌}
 use Rattle.std.proofs.lemmas.List.{drop-replicate}
 use Rattle.octseq_core.specs.ArrayOctets.{ArrayOctets, padded}
 
--- zeros behind the content, as many as the array has left
+-- zeros after the content, as many as the array has room for
 pub is_padded : (n : ℕ) (a : ArrayOctets) (octets : List ℕ) → a.content ≡ octets
     → a.hidden ≡ drop (length octets) (replicate n 0) → a ≡ padded n octets
 is_padded n a octets content hidden =

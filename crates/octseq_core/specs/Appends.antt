@@ -4,8 +4,8 @@ use Rattle.octseq_core.specs.Limit.{IsPast}
 use Rattle.octseq_core.specs.Refusal.{IsShort, IsMemory, append_error}
 use Rattle.octseq_core.specs.declared.builder.AppendError.{AppendError}
 
--- A call adds the octets at the end of a content. It is refused as short exactly where the content would pass its
--- limit, for memory only where the type requests memory, and then the content stays.
+-- A call adds the octets at the end of a content. It is refused as short exactly if the content would exceed its limit,
+-- and for lack of memory only if the type requests memory. A refused call leaves the content unchanged.
 pub record Appends (limit : Option ℕ) (asks : Bool) (result : Result (Unit {0}) AppendError)
     (octets old new : List ℕ) : Type 0 where
   pub ok : OnOk result (new ≡ old ++ octets)

@@ -1,7 +1,7 @@
 -- What contracts see of an `Array`: its content, and the octets that its length hides.
 use Rattle.std.specs.Prelude.{ℕ, ◌-◌, List, [], ◌++◌, length, take, drop, replicate}
 
--- the content, and the hidden octets behind it up to the array's end
+-- the content, and the hidden octets after it, up to the array's end
 pub record ArrayOctets : Type 0 where
   pub content : List ℕ
   pub hidden : List ℕ
@@ -10,7 +10,7 @@ pub record ArrayOctets : Type 0 where
 abbrev pub all_octets : ArrayOctets → List ℕ
 all_octets a = a.content ++ a.hidden
 
--- these octets, of which the first len are the content
+-- these octets, the first len of them as the content
 abbrev pub cut_at : List ℕ → ℕ → ArrayOctets
 cut_at octets len = record { content = take len octets; hidden = drop len octets }
 
@@ -18,10 +18,10 @@ cut_at octets len = record { content = take len octets; hidden = drop len octets
 abbrev pub blank : ℕ → ArrayOctets
 blank n = record { content = []; hidden = replicate n 0 }
 
--- n octets with this content, and zeros behind it
+-- n octets with this content, followed by zeros
 abbrev pub padded : ℕ → List ℕ → ArrayOctets
 padded n octets = record { content = octets; hidden = replicate (n - length octets) 0 }
 
--- the array with other octets in the place of its content, as many as it had
+-- the array with its content replaced by other octets of the same length
 abbrev pub with_content : ArrayOctets → List ℕ → ArrayOctets
 with_content a octets = cut_at (octets ++ a.hidden) (length a.content)

@@ -1,12 +1,12 @@
--- What the limit of a type says of a length.
+-- What the limit of a type says about a length.
 use Rattle.std.specs.Prelude.{ℕ, ◌≤◌, ◌<◌, Option, Some, None}
 
--- the length is at most the limit; with no limit each length is
+-- the length is at most the limit; without a limit every length is
 abbrev pub IsWithin : Option ℕ → ℕ → Type 0
 IsWithin (Some limit) length = length ≤ limit
 IsWithin None length = Unit {0}
 
--- the length is greater than the limit; with no limit none is
+-- the length is greater than the limit; without a limit none is
 abbrev pub IsPast : Option ℕ → ℕ → Type 0
 IsPast (Some limit) length = limit < length
 IsPast None length = ⊥

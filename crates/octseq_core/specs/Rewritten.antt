@@ -1,10 +1,10 @@
--- A content that was written over. The law stands here since an `impl` cites it, which can't cite a proof of its own
--- crate.
+-- A content that was overwritten. The law is here because an `impl` cites it, and an `impl` can't cite a proof of its
+-- own crate.
 use Rattle.std.specs.Prelude.{◌≡◌, ℕ, List, ◌++◌, length, take}
 use Rattle.std.proofs.Common.{subst}
 use Rattle.std.proofs.Math.Seq.{take-append_seam}
 
--- the first of these octets, as many as there are, whatever stands behind them
+-- the first n octets, if these are n, whatever is after them
 pub taken_whole : (octets behind : List ℕ) (n : ℕ) → length octets ≡ n → take n (octets ++ behind) ≡ octets
 taken_whole octets behind n same =
     let Front : ℕ → Type 0 = λ m. take m (octets ++ behind) ≡ octets in

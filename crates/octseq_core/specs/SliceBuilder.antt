@@ -5,7 +5,7 @@ use Rattle.octseq_core.specs.declared.slice_builder.Room.{Ghosts}
 use Rattle.octseq_core.specs.declared.slice_builder.SliceBuilder.{SliceBuilder}
 
 module _ {K : Type 0} {g : Ghosts K} where
-  -- all octets of the slice; the first of them are the content
+  -- all octets of the slice; the content is at the front
   abbrev pub slice_octets : SliceBuilder K g → List ℕ
   slice_octets b = b.octets.now
 

@@ -24,8 +24,7 @@ use std::hash::{Hash, Hasher};
 use std::marker::Model;
 use std::ops::{DerefSlice, DerefSliceMut};
 
-/// Octets in a buffer of the fixed size `N`. The front of the buffer is the content; what the buffer has behind it is
-/// hidden.
+/// Octets in a buffer of the fixed size `N`. The front of the buffer is the content; the octets after it are hidden.
 ///
 /// # Examples
 ///
@@ -87,7 +86,7 @@ impl<const N: usize> Array<N> {
         &self.octets[..self.len]
     }
 
-    /// The content, for writing. The hidden octets stay.
+    /// The content, for writing. The hidden octets don't change.
     pub fn as_slice_mut(&mut self) -> &mut [u8]
         ensures* writes_back { sem 𝓛 (lends_content N.row self.entry result) }
         ensures content { result.now ≡ self.old.content }
@@ -95,11 +94,11 @@ impl<const N: usize> Array<N> {
         &mut self.octets[..self.len]
     }
 
-    /// Changes the length alone. A greater length shows hidden octets again, as they were left.
+    /// Changes only the length. A greater length shows hidden octets again, as they were left.
     ///
     /// # Errors
     ///
-    /// `ShortBuf` where the new length is past `N`. The array is then as it was.
+    /// `ShortBuf` if the new length is greater than `N`. The array is then unchanged.
     pub fn resize_raw(&mut self, new_len: usize) -> Result<(), ShortBuf>
         ensures variant { IsOk result ↔ (new_len ≤ N) }
         ensures ok { OnOk result (self.new ≡ cut_at (all_octets self.old) new_len) }
@@ -112,7 +111,7 @@ impl<const N: usize> Array<N> {
         Ok(())
     }
 
-    /// A copy of the content and of the hidden octets. It takes no memory.
+    /// A copy of the content and of the hidden octets. Requests no memory.
     pub fn clone(&self) -> Self
         ensures { result ≡ self.now }
     {
@@ -136,7 +135,7 @@ impl<const N: usize> DerefSlice for Array<N> {
 impl<const N: usize> DerefSliceMut for Array<N> {
     ghost use Rattle.octseq_core.specs.Lends.{lends_content};
 
-    /// The hidden octets stay.
+    /// The hidden octets don't change.
     fn deref_mut(&mut self) -> &mut [u8]
         ensures* writes_back { sem 𝓛 (lends_content N.row self.entry result) }
         ensures content { result.now ≡ self.old.content }
@@ -180,7 +179,7 @@ impl<const N: usize> OctetsBuilder for Array<N> {
         Some(N)
     }
 
-    /// The slice takes the place of as many hidden octets; the others stay hidden, as they are.
+    /// The slice overwrites the first hidden octets; the others stay hidden and don't change.
     #[inline(always)]
     fn append_slice(&mut self, slice: &[u8]) -> Result<(), AppendError>
         ensures appended { Appends (Some N) false result slice.now self.old.content self.new.content }
@@ -200,7 +199,7 @@ impl<const N: usize> OctetsBuilder for Array<N> {
 }
 
 impl<const N: usize> Truncate for Array<N> {
-    /// Changes the length alone: the octets behind it are hidden, and stay.
+    /// Changes only the length: the octets after it become hidden and don't change.
     fn truncate(&mut self, len: usize)
         ensures content { self.new.content ≡ take len self.old.content }
         ensures hidden { self.new.hidden ≡ drop len self.old.content ++ self.old.hidden }
@@ -299,7 +298,7 @@ impl<const N: usize> TryFrom<&[u8]> for Array<N> {
     }
 }
 
-// Arrays are compared, ordered and hashed by their contents alone.
+// Arrays are compared, ordered and hashed by content only.
 
 impl<const N: usize> PartialEq for Array<N> {
     ghost eq = { λ a b. pointwise nat_eq a.content b.content };

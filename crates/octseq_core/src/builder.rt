@@ -21,22 +21,22 @@ mod vec;
 
 /// A sequence of octets.
 ///
-/// Where std's `AsRef` is in scope too, write `AsOctets::as_ref(&x)`.
+/// If std's `AsRef` is in scope too, write `AsOctets::as_ref(&x)`.
 pub trait AsOctets: Drop {
-    // The octets that the value stands for.
+    // The octets that the value represents.
     ghost content: { Self → List ℕ };
 
-    // The greatest length of a content of this type, or none.
+    // The greatest length of a content of this type, or `None` if every length is possible.
     ghost limit: { Option ℕ };
 
     // Whether calls that make or fill a value of this type request memory.
     ghost asks: { Bool };
 
-    // The names of the `&mut` borrows that the value holds. A call that changes the content keeps
-    // them, so that a lender knows what its value ends as.
+    // The names of the `&mut` borrows that the value holds. A call that changes the content keeps them, so that a
+    // lender knows the final value of what it lent.
     ghost borrows: { Self → List GName } = { λ _. [] };
 
-    /// Lends the content.
+    /// Borrows the content.
     fn as_ref(&self) -> &[u8]
         ensures value { result.now ≡ content self.now }
         ensures within { IsWithin limit (length (content self.now)) };
@@ -61,27 +61,27 @@ pub trait AsOctets: Drop {
     }
 }
 
-/// A sequence of octets whose content can be written over in place. It keeps its length.
+/// A sequence of octets whose content can be overwritten in place. It keeps its length.
 pub trait AsOctetsMut: AsOctets {
     // The value with another content of the same length.
     ghost with_content: { Self → List ℕ → Self };
 
-    /// Lends the content for writing.
+    /// Borrows the content mutably.
     fn as_mut(&mut self) -> &mut [u8]
         ensures* writes_back { sem 𝓛 (lends_octets Self.row with_content self.entry result) }
         ensures value { result.now ≡ Self.content self.old };
 
-    // That content is what it then stands for,
+    // The content is then what was written,
     ghost written: { (x : Self) (octets : List ℕ) → length octets ≡ length (Self.content x)
         → Self.content (with_content x octets) ≡ octets };
 
-    // and the borrows that it holds stay.
+    // and the borrows that the value holds stay the same.
     ghost kept: { (x : Self) (octets : List ℕ) → Self.borrows (with_content x octets) ≡ Self.borrows x };
 }
 
 /// Two facts about a type of octet sequences.
 pub trait OctetsLimit: AsOctets {
-    /// The greatest length of a content in octets, or `None` where every length is possible.
+    /// The greatest length of a content in octets, or `None` if every length is possible.
     fn limit() -> Option<usize>
         ensures { result ≡ Self.limit };
 
@@ -92,9 +92,8 @@ pub trait OctetsLimit: AsOctets {
 
 /// A sequence of octets that grows at its end.
 pub trait OctetsBuilder: AsOctets {
-    /// The greatest length of a content in octets, or `None` where every length is possible. Where the
-    /// type has [`OctetsLimit`], it is that limit. A builder over a lent slice alone knows it only when
-    /// the program runs.
+    /// The greatest length of a content in octets, or `None` if every length is possible. If the type has
+    /// [`OctetsLimit`], it is that limit. Only a builder over a borrowed slice learns it at run time.
     fn max_len(&self) -> Option<usize>
         ensures { result ≡ Self.limit };
 
@@ -102,8 +101,8 @@ pub trait OctetsBuilder: AsOctets {
     ///
     /// # Errors
     ///
-    /// `Short` where the content would pass the type's limit, and else `Memory` where a request for
-    /// memory was refused. The content is then as it was.
+    /// `Short` if the content would exceed the type's limit, otherwise `Memory` if a request for memory was refused.
+    /// The content is then unchanged.
     ///
     /// # Examples
     ///
@@ -120,9 +119,9 @@ pub trait OctetsBuilder: AsOctets {
         ensures borrows { Self.borrows self.new ≡ Self.borrows self.old };
 }
 
-/// A sequence of octets that can be cut short.
+/// A sequence of octets that can be shortened.
 pub trait Truncate: AsOctets {
-    /// Keeps the first `len` octets, or all of them where there are no more.
+    /// Keeps the first `len` octets, or all of them if there are fewer.
     ///
     /// # Examples
     ///
@@ -140,13 +139,13 @@ pub trait Truncate: AsOctets {
         ensures borrows { Self.borrows self.new ≡ Self.borrows self.old };
 }
 
-/// A builder that can be made with nothing in it.
+/// A builder that can be created empty.
 pub trait EmptyBuilder: OctetsBuilder + OctetsLimit {
     /// An empty builder.
     ///
     /// # Errors
     ///
-    /// `AllocError` where a request for memory was refused.
+    /// `AllocError` if a request for memory was refused.
     ///
     /// # Examples
     ///
@@ -165,13 +164,13 @@ pub trait EmptyBuilder: OctetsBuilder + OctetsLimit {
     ///
     /// # Errors
     ///
-    /// `AllocError` where a request for memory was refused.
+    /// `AllocError` if a request for memory was refused.
     fn with_capacity(alloc: Global, capacity: usize) -> Result<Self, AllocError>
         ensures ok { IfOk result (λ builder. Self.content builder ≡ []) }
         ensures memory { OnErr result (Self.asks ≡ true) };
 }
 
-/// A builder whose octets can be had as a sequence that grows no more.
+/// A builder whose octets can be turned into a sequence that no longer grows.
 pub trait FreezeBuilder: AsOctets {
     /// The sequence.
     type Octets: OctetsLimit;
@@ -180,7 +179,7 @@ pub trait FreezeBuilder: AsOctets {
     ///
     /// # Errors
     ///
-    /// `AllocError` where a request for memory was refused. The builder is then dropped.
+    /// `AllocError` if a request for memory was refused. The builder is then dropped.
     ///
     /// # Examples
     ///
@@ -196,7 +195,7 @@ pub trait FreezeBuilder: AsOctets {
         ensures memory { OnErr result (Self.Octets.asks ≡ true) };
 }
 
-/// A sequence of octets that can go on growing.
+/// A sequence of octets that can be turned back into a builder.
 pub trait IntoBuilder: AsOctets {
     /// The builder.
     type Builder: OctetsBuilder;
@@ -205,13 +204,13 @@ pub trait IntoBuilder: AsOctets {
     ///
     /// # Errors
     ///
-    /// `AllocError` where a request for memory was refused. The sequence is then dropped.
+    /// `AllocError` if a request for memory was refused. The sequence is then dropped.
     fn into_builder(self, alloc: Global) -> Result<Self::Builder, AllocError>
         ensures ok { IfOk result (λ builder. Self.Builder.content builder ≡ Self.content self) }
         ensures memory { OnErr result (Self.Builder.asks ≡ true) };
 }
 
-/// A sequence of octets that is made by a builder.
+/// A sequence of octets that is made from a builder.
 pub trait FromBuilder: OctetsLimit {
     /// The builder.
     type Builder: OctetsBuilder + FreezeBuilder<Octets = Self>;
@@ -220,7 +219,7 @@ pub trait FromBuilder: OctetsLimit {
     ///
     /// # Errors
     ///
-    /// `AllocError` where a request for memory was refused. The builder is then dropped.
+    /// `AllocError` if a request for memory was refused. The builder is then dropped.
     fn from_builder(builder: Self::Builder) -> Result<Self, AllocError>
         ensures ok { IfOk result (λ octets. Self.content octets ≡ Self.Builder.content builder) }
         ensures memory { OnErr result (Self.asks ≡ true) };
@@ -228,11 +227,11 @@ pub trait FromBuilder: OctetsLimit {
 
 /// A sequence of octets that can be copied.
 pub trait CloneOctets: OctetsLimit {
-    /// A sequence of the same content.
+    /// A sequence with the same content.
     ///
     /// # Errors
     ///
-    /// `AllocError` where a request for memory was refused.
+    /// `AllocError` if a request for memory was refused.
     fn clone_octets(&self, alloc: Global) -> Result<Self, AllocError>
         ensures ok { IfOk result (λ octets. Self.content octets ≡ Self.content self.now) }
         ensures memory { OnErr result (Self.asks ≡ true) };
@@ -255,7 +254,7 @@ impl fmt::Display for ShortBuf {
 /// Why an append or a conversion was refused.
 #[derive(Clone, Copy, Debug, PartialEq, Eq)]
 pub enum AppendError {
-    /// The content would have passed the limit of its type.
+    /// The content would have exceeded the limit of its type.
     Short(ShortBuf),
     /// A request for memory was refused.
     Memory,
@@ -276,7 +275,7 @@ impl fmt::Display for AppendError {
     }
 }
 
-/// The error of appends.
+/// The error of an append.
 pub type BuilderAppendError = AppendError;
 
 /// The value of a result that is known to be `Ok`.
@@ -287,7 +286,7 @@ pub fn infallible<T, E>(src: Result<T, E>) -> T
     src.unwrap()
 }
 
-/// The value of a call that is known to answer `Ok`.
+/// The value of a call that is known to return `Ok`.
 pub fn with_infallible<F: FnOnce() -> Result<T, E>, T, E>(op: F) -> T
     requires callable { F.pre op }
     requires succeeds { (answer : Result T E) → F.post op answer → IsOk answer }

@@ -10,7 +10,7 @@ use crate::builder::{
 };
 use std::alloc::{AllocError, Global};
 
-/// Borrowed octets with the allocator for a copy of them, or octets of its own.
+/// Borrowed octets with the allocator for a copy of them, or owned octets.
 ///
 /// # Examples
 ///
@@ -26,14 +26,14 @@ use std::alloc::{AllocError, Global};
 /// ```
 #[derive(Drop)]
 pub enum CowOctets<'a> {
-    /// Octets of another, and the allocator for a copy of them.
+    /// Borrowed octets, and the allocator for a copy of them.
     Borrowed(&'a [u8], Global),
-    /// Octets of its own.
+    /// Owned octets.
     Owned(Vec<u8>),
 }
 
 impl<'a> CowOctets<'a> {
-    /// Borrows the slice. It takes no memory until octets are appended, from `alloc` then.
+    /// Borrows the slice. Requests no memory until octets are appended; that memory comes from `alloc`.
     pub fn borrowed(alloc: Global, slice: &'a [u8]) -> Self
         ensures content { cow_content result ≡ slice.now }
         ensures borrowed { is_borrowed result ≡ true }
@@ -41,7 +41,7 @@ impl<'a> CowOctets<'a> {
         CowOctets::Borrowed(slice, alloc)
     }
 
-    /// Takes the vector over.
+    /// Takes over the vector.
     pub fn owned(vec: Vec<u8>) -> Self
         ensures content { cow_content result ≡ vec.items }
         ensures owned { is_borrowed result ≡ false }
@@ -89,7 +89,7 @@ impl OctetsLimit for CowOctets<'_> {
     }
 }
 
-/// The octets, and others behind them, in one allocation.
+/// The octets followed by more, in one allocation.
 fn joined(alloc: Global, octets: &[u8], more: &[u8]) -> Result<Vec<u8>, AllocError>
     ensures { IfOk result (λ vec. vec.items ≡ octets.now ++ more.now) }
 {
@@ -104,8 +104,8 @@ impl OctetsBuilder for CowOctets<'_> {
         None
     }
 
-    /// Makes borrowed octets owned, also where the slice is empty. They are copied first, so a refusal
-    /// leaves them borrowed.
+    /// Makes borrowed octets owned, even if the slice is empty. They are copied first, so they stay borrowed if memory
+    /// is refused.
     ///
     /// # Examples
     ///
@@ -133,7 +133,7 @@ impl OctetsBuilder for CowOctets<'_> {
 }
 
 impl Truncate for CowOctets<'_> {
-    /// Shortens borrowed octets where they are, so they stay borrowed.
+    /// Shortens borrowed octets in place, so they stay borrowed.
     fn truncate(&mut self, len: usize)
         ensures content { cow_content self.new ≡ take len (cow_content self.old) }
         ensures unchanged { is_borrowed self.new ≡ is_borrowed self.old }
@@ -189,7 +189,7 @@ impl<'a> FromBuilder for CowOctets<'a> {
 }
 
 impl<'a> CloneOctets for CowOctets<'a> {
-    /// Borrows what is borrowed, and copies what is owned.
+    /// Borrows if the octets are borrowed, and copies if they are owned.
     fn clone_octets(&self, alloc: Global) -> Result<CowOctets<'a>, AllocError>
         ensures ok { IfOk result (λ octets. cow_content octets ≡ cow_content self.now) }
         ensures memory { OnErr result (true ≡ true) }

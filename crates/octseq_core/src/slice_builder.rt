@@ -1,13 +1,13 @@
-//! A builder whose octets are in a slice that somebody lends.
+//! A builder whose octets are in a borrowed slice.
 ghost use Rattle.std.specs.Prelude.{◌≡◌, ◌≤◌, ℕ, [], ◌∷◌, false, Some, drop, length, OnErr};
 ghost use Rattle.octseq_core.specs.Appends.{Appends};
 
 use crate::builder::{AppendError, AsOctets, OctetsBuilder, ShortBuf, Truncate};
 use std::marker::{Brand, PhantomData};
 
-/// How much room there is, as a type. A caller says the number in a proof, where it passes `Brand` as the type.
+/// The size of the slice, as a type. A caller gives the number in a proof, where it passes `Brand` as the type.
 pub trait Room {
-    // How many octets there is room for.
+    // The number of octets that there is room for.
     ghost room: { ℕ };
 }
 
@@ -15,8 +15,8 @@ impl Room for Brand {
     ghost room = { 0 };
 }
 
-/// A builder over a slice that is lent to it. The front of the slice is the content, and the limit is the slice's
-/// length. It requests no memory.
+/// A builder over a mutably borrowed slice. The front of the slice is the content, and the limit is the slice's length.
+/// It requests no memory.
 #[derive(Drop)]
 pub struct SliceBuilder<'a, K: Room> {
     octets: &'a mut [u8],
@@ -75,7 +75,7 @@ impl<K: Room> OctetsBuilder for SliceBuilder<'_, K> {
         Some(self.octets.len())
     }
 
-    /// The slice takes the place of as many octets after the content. Those after it stay.
+    /// The slice overwrites the octets after the content; the octets after those don't change.
     #[inline(always)]
     #[tactic(auto, using(std::proofs::lemmas::Slice::overwrites))]
     fn append_slice(&mut self, slice: &[u8]) -> Result<(), AppendError>
@@ -101,7 +101,7 @@ impl<K: Room> Truncate for SliceBuilder<'_, K> {
     ghost use Rattle.std.specs.Prelude.{take};
     ghost use Rattle.octseq_core.specs.SliceBuilder.{slice_content, slice_octets, lender};
 
-    /// Changes the length alone.
+    /// Changes only the length.
     fn truncate(&mut self, len: usize)
         ensures content { slice_content self.new ≡ take len (slice_content self.old) }
         ensures octets { slice_octets self.new ≡ slice_octets self.old }

@@ -1,4 +1,4 @@
-//! A vector of a fixed capacity. It requests no memory, and each call that the limit allows succeeds.
+//! A vector of a fixed capacity. It requests no memory, and every call within the limit succeeds.
 ghost use Rattle.std.specs.Prelude.{false, Some};
 
 use super::{

@@ -1,4 +1,4 @@
-//! The sequences whose content can be written over in place.
+//! The sequences whose content can be overwritten in place.
 ghost use Rattle.arrayvec.specs.ArrayVec.{with_items as with_fixed_items};
 ghost use Rattle.bytes.specs.Filled.{with_items as with_bytes};
 ghost use Rattle.octseq_core.specs.ArrayOctets.{with_content as with_array_content};

@@ -39,7 +39,7 @@ impl Truncate for Bytes {
 impl IntoBuilder for Bytes {
     type Builder = BytesMut;
 
-    /// Takes the octets over where no other `Bytes` shares them, and else copies them.
+    /// Takes over the octets if no other `Bytes` shares them, otherwise copies them.
     fn into_builder(self, alloc: Global) -> Result<BytesMut, AllocError> {
         match self.try_into_mut() {
             Ok(builder) => Ok(builder),
@@ -51,7 +51,7 @@ impl IntoBuilder for Bytes {
 impl FromBuilder for Bytes {
     type Builder = BytesMut;
 
-    /// An empty builder takes no memory.
+    /// An empty builder requests no memory.
     fn from_builder(builder: BytesMut) -> Result<Self, AllocError>
         ensures ok { IfOk result (λ octets. octets ≡ builder.items) }
         ensures memory { OnErr result (true ≡ true) }
@@ -62,7 +62,7 @@ impl FromBuilder for Bytes {
 }
 
 impl CloneOctets for Bytes {
-    /// Shares the octets, and copies none.
+    /// Shares the octets without copying them.
     fn clone_octets(&self, _alloc: Global) -> Result<Self, AllocError> {
         self.clone()
     }
@@ -124,7 +124,7 @@ impl EmptyBuilder for BytesMut {
 impl FreezeBuilder for BytesMut {
     type Octets = Bytes;
 
-    /// An empty builder takes no memory.
+    /// An empty builder requests no memory.
     fn freeze(self) -> Result<Bytes, AllocError>
         ensures ok { IfOk result (λ octets. octets ≡ self.items) }
         ensures memory { OnErr result (true ≡ true) }

@@ -1,4 +1,4 @@
-//! A slice that several owners share, counted.
+//! A reference-counted slice with several owners.
 ghost use Rattle.std.specs.Prelude.{true, None};
 ghost use Rattle.std.specs.Rc.{rc_slice_items};
 
@@ -29,7 +29,7 @@ impl OctetsLimit for RcSlice<u8> {
 }
 
 impl CloneOctets for RcSlice<u8> {
-    /// Shares the octets, and copies none.
+    /// Shares the octets without copying them.
     fn clone_octets(&self, _alloc: Global) -> Result<Self, AllocError> {
         self.clone()
     }

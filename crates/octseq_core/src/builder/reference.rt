@@ -1,4 +1,4 @@
-//! References: they stand for what the value behind them stands for.
+//! References: each represents the octets of the value that it refers to.
 ghost use Rattle.std.specs.Prelude.{◌∷◌};
 
 use super::{AppendError, AsOctets, OctetsBuilder, OctetsLimit, Truncate};

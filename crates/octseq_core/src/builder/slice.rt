@@ -1,4 +1,4 @@
-//! A slice as a sequence of octets that are borrowed. It requests no memory.
+//! A slice as a borrowed sequence of octets. It requests no memory.
 ghost use Rattle.std.specs.Prelude.{◌≡◌, false, None, IsOk, IfOk};
 
 use super::{AsOctets, CloneOctets, IntoBuilder, OctetsLimit, Truncate};

@@ -1,4 +1,4 @@
-//! A vector that begins inline. It requests memory where it outgrows that.
+//! A vector that begins inline. It requests memory once it outgrows its inline capacity.
 ghost use Rattle.std.specs.Prelude.{◌≡◌, ◌+◌, ◌≤◌, ◌++◌, ◌↔◌, true, None, [], length, IsOk, IfOk, OnOk, OnErr};
 ghost use Rattle.octseq_core.specs.Appends.{Appends};
 
@@ -36,7 +36,7 @@ impl<const N: usize> OctetsBuilder for SmallVec<u8, N> {
         None
     }
 
-    /// A content that stays inline takes no memory.
+    /// A content that stays inline requests no memory.
     fn append_slice(&mut self, slice: &[u8]) -> Result<(), AppendError>
         ensures appended { Appends None true result slice.now self.old.items self.new.items }
         ensures never { length self.old.items + length slice.now ≤ N → IsOk result }
