@@ -1,5 +1,5 @@
--- The mask of a lane has a bit for each octet that is 0x80 or more. So it is 0 where all are ASCII, and even where the
--- first one is.
+-- The mask of a lane has a bit for each octet that is 0x80 or more. So it is 0 if all are ASCII, and even if the first
+-- one is.
 use Rattle.std.proofs.Common.{◌≡◌, ◌≢◌, ℕ, zero, suc, ◌+◌, ◌*◌, ◌%◌, ◌^◌, ◌<◌, ◌≤◌, ◌-◌, ◌↔◌, ◌⊎◌, inl, inr, ⊎_elim}
 use Rattle.std.proofs.Common.{subst, Bool, not, true, false, cond, leb, List, [], ◌∷◌, map, length, replicate, take}
 use Rattle.std.proofs.Common.{drop, get_or, length-take, length-drop, refl, ap, sym, ◌∙◌, arith, w8}
@@ -15,13 +15,13 @@ use Rattle.std.proofs.Math.Nat.{eq-or-lt_of_le}
 use Rattle.std.specs.Int.Count.{count_trailing_zeros}
 use lib.Lanes.{mask_l, top, zip2}
 
--- an octet more at the front of a lane, by its bit
+-- one more octet at the front of a lane, by its bit
 none_more : (y : ℕ) (ys : List ℕ) → (mask_l (map (leb 128) ys) ≡ 0 → All (λ o. o < 128) ys) → (b : Bool) → leb 128 y ≡ b
     → cond b 1 0 + 2 * mask_l (map (leb 128) ys) ≡ 0 → All (λ o. o < 128) (y ∷ ys)
 none_more y ys rec true e h = absurd (omega arith)
 none_more y ys rec false e h = All-cons (λ o. o < 128) y ys (grind (arith, nat_tests)) (rec (omega arith))
 
--- a mask of 0 has no octet that isn't ASCII, and where none is the mask is 0
+-- if the mask is 0 every octet is ASCII, and if every octet is, the mask is 0
 
 none_high : (ys : List ℕ) → mask_l (map (leb 128) ys) ≡ 0 → All (λ o. o < 128) ys
 none_high [] h = All-nil (λ o. o < 128)
@@ -35,7 +35,7 @@ high_none (y ∷ ys) h =
     ap (λ b. cond b 1 0 + 2 * mask_l (map (leb 128) ys)) e ∙ (let k = high_none ys (All-tail (λ o. o < 128) y ys h) in
     omega arith)
 
--- the mask that the code computes, by comparing the lane with as many times 0x80
+-- the mask that the code computes, by comparing each octet of the lane with 0x80
 pub mask_is : (n : ℕ) (ys : List ℕ) → length ys ≡ n → n ≤ 64
     → mask_l (map (top 7) (zip2 (λ (a b : ℕ). cond (leb a b) 255 0) (replicate n 128) ys)) % 2 ^ 64
     ≡ mask_l (map (leb 128) ys)
@@ -43,14 +43,14 @@ mask_is n ys long few =
     ap (λ l. mask_l l % 2 ^ 64) (tops_compared w8 leb (replicate n 128) ys ∙ zip2_splat_left leb 128 n ys long)
     ∙ mask_l-mod (map (leb 128) ys) 64 (omega (arith, length-map ys (leb 128)))
 
--- what the code tests: the mask is 0 exactly where the lane is ASCII
+-- what the code tests: the mask is 0 exactly if the lane is ASCII
 pub lane_none : (n : ℕ) (ys : List ℕ) → length ys ≡ n → n ≤ 64
     → (mask_l (map (top 7) (zip2 (λ (a b : ℕ). cond (leb a b) 255 0) (replicate n 128) ys)) % 2 ^ 64 ≡ 0)
     ↔ All (λ o. o < 128) ys
 lane_none n ys long few =
     (λ h. none_high ys (sym (mask_is n ys long few) ∙ h), λ h. mask_is n ys long few ∙ high_none ys h)
 
--- the octets before the lowest bit of a lane's mask are below 80, and the one there isn't
+-- the octets before the lowest bit of a lane's mask are below 80, and the one at that bit isn't
 pub record IsBeforeHigh (x : List ℕ) (n : ℕ) : Type 0 where
   pub few : n < 16
   pub low : All (λ o. o < 128) (take n x)
@@ -59,7 +59,7 @@ pub record IsBeforeHigh (x : List ℕ) (n : ℕ) : Type 0 where
 less_or_more : (n k : ℕ) → n ≤ k → (n < k) ⊎ (n ≡ k)
 less_or_more n k h = ⊎_elim (λ e. inr e) (λ l. inl l) (eq-or-lt_of_le h)
 
--- where the mask of the first lane isn't 0, its lowest bit is that of the first octet of 80 or more
+-- if the mask of the first lane isn't 0, its lowest bit is for the first octet of 80 or more
 pub before_high : (x : List ℕ) (high : ℕ) → 16 ≤ length x → high ≡ mask_l (map (leb 128) (take 16 x)) → high ≢ 0
     → IsBeforeHigh x (count_trailing_zeros 64 high)
 before_high x high room same some =
@@ -91,13 +91,13 @@ before_high x high room same some =
     is_high : (o : ℕ) → not (leb 128 o) ≡ false → 128 ≤ o
     is_high o h = grind (arith, nat_tests)
 
--- a number is below another, or reaches it
+-- a number is less than another, or it isn't
 pub less_or_not : (i n : ℕ) → (i < n) ⊎ (n ≤ i)
 less_or_not i zero = inr (omega arith)
 less_or_not zero (suc n) = inl (omega arith)
 less_or_not (suc i) (suc n) = ⊎_elim (λ h. inl (omega arith)) (λ h. inr (omega arith)) (less_or_not i n)
 
--- octets whose first n and last n are below 80, where those overlap or meet
+-- octets whose first n and last n are below 80, if those overlap or meet
 pub ends_low : (x : List ℕ) (from n : ℕ) → from + n ≤ length x → length x ≤ from + (n + n)
     → All (λ o. o < 128) (take n (drop from x)) → All (λ o. o < 128) (take n (drop (length x - n) x))
     → All (λ o. o < 128) (drop from x)

@@ -1,4 +1,4 @@
--- Octets at a fault: what lies before it, how long it is, and what lies behind.
+-- Octets at a fault: what is before it, its length, and what is after it.
 use Rattle.std.proofs.Common.{◌≡◌, ℕ, ◌+◌, ◌-◌, ◌<◌, ◌≤◌, List, ◌∷◌, ◌++◌, map, length, take, drop}
 use Rattle.std.proofs.Common.{arith, inl, inr, ap, sym, ◌∙◌, append_assoc, length-append, Option}
 use Rattle.std.specs.Prelude.{unwrap_or}
@@ -26,7 +26,7 @@ module _ (rest : List ℕ) (fault : Fault) (f : IsFault rest fault) where
   pub end_is : fault_end rest fault ≡ fault.place + length f.bad
   end_is = ap (λ n. fault.place + n) (bad_size fault.size f.size)
 
-  -- the fault has an octet, and ends within the octets
+  -- the fault has at least one octet, and ends within the octets
   pub end_bounds : (fault.place < fault_end rest fault) × (fault_end rest fault ≤ length rest)
   end_bounds = let some = bad_some f.first in (omega (arith, end_is), omega (arith, end_is, whole_length))
 
@@ -46,7 +46,7 @@ module _ (rest : List ℕ) (fault : Fault) (f : IsFault rest fault) where
       ap (λ n. drop n rest) long ∙ ap (λ x. drop (length (f.before ++ f.bad)) x) cut
       ∙ drop-append_seam (f.before ++ f.bad) f.after
 
-  -- the parts are the characters before it, the bad part, and those behind
+  -- the parts are the characters before the fault, the bad part, and those after it
   pub parts_at_fault : length (parts_of rest) ≡ length (chars (take fault.place rest)) + 1
       + length (parts_of (drop (fault_end rest fault) rest))
   parts_at_fault =
@@ -62,6 +62,6 @@ module _ (rest : List ℕ) (fault : Fault) (f : IsFault rest fault) where
         length-map f.good.0 Char,
       )
 
--- of well-formed octets the parts are the characters
+-- the parts of well-formed octets are their characters
 pub parts_well_formed : (x : List ℕ) → IsWellFormed x → length (parts_of x) ≡ length (chars x)
 parts_well_formed x (cs, s) = ap length (parts_spelled s) ∙ length-map cs Char ∙ sym (ap length (chars_of s))

@@ -1,4 +1,4 @@
--- Beginnings: what fits and falls short of the width.
+-- Beginnings: octets that fit and are shorter than the width.
 use Rattle.std.proofs.Common.{◌≡◌, ◌≢◌, ℕ, ◌+◌, ◌<◌, ◌≤◌, List, [], ◌∷◌, ◌++◌, length, get_or}
 use Rattle.std.proofs.Common.{refl, arith, ◌⊎◌, inl, inr, ap, sym, ◌∙◌, length-append}
 use Rattle.std.specs.Int.{IsInRange}
@@ -20,7 +20,7 @@ beginning_fits {p} b =
     fits_less p b.more (length p) (omega arith)
     (fits_fewer (p ++ b.more) (length p) (length (p ++ b.more)) s (omega (arith, length-append p b.more)) f)
 
--- a beginning is shorter than the width that its first octet asks for
+-- a beginning is shorter than the width that its first octet requires
 pub beginning_short : {p : List ℕ} → IsBeginning p → length p < width_of (get_or p 0 0)
 beginning_short {p} b =
     let s = nil_or_some p b.some in
@@ -35,7 +35,7 @@ beginning_short {p} b =
 widths : (w n : ℕ) → n < w → w ≤ 4 → 1 ≤ n → (w ≡ n + 1) ⊎ ((w ≡ n + 2) ⊎ (w ≡ n + 3))
 widths w n h k s = grind arith
 
--- what fits and is shorter than the width is a beginning: some octets complete it
+-- what fits and is shorter than the width is a beginning: there are octets that complete it
 complete : (p more : List ℕ) → 1 ≤ length p → 1 ≤ length more → Fits (p ++ more) (length (p ++ more))
     → length (p ++ more) ≡ width_of (get_or p 0 0) → IsBeginning p
 complete p more s m f w = record {
@@ -111,7 +111,7 @@ complete_3 a b c w e s t l h = complete (a ∷ b ∷ c ∷ []) (0x80 ∷ []) (om
       fourth = λ k. (omega arith, omega arith);
     }) (omega arith)
 
--- octets that fit, and are fewer than the first one asks for, are a beginning
+-- octets that fit, and are fewer than the first one requires, are a beginning
 pub beginning_from : (p : List ℕ) → Fits p (length p) → length p < width_of (get_or p 0 0) → IsBeginning p
 beginning_from [] f h = let s = f.some in absurd (omega arith)
 beginning_from (a ∷ []) f h = complete_1 a (width_of a) refl (widths (width_of a) 1 h (width_le a) (omega arith))

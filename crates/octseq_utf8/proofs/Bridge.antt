@@ -1,4 +1,4 @@
--- The same words in std: well formed is `IsUtf8`, a character a scalar, and its encoding `encode_utf8`.
+-- The same definitions in std: well formed is `IsUtf8`, a character is a scalar, and its encoding is `encode_utf8`.
 use Rattle.std.proofs.Common.{◌≡◌, ℕ, Bool, true, false, ◌&&◌, List, [], ◌∷◌, ◌++◌}
 use Rattle.std.proofs.Common.{map, refl, arith, inl, inr, ⊎_elim, ap, sym, ◌∙◌, subst}
 use Rattle.std.proofs.lemmas.Bool.Decides.{nat_tests}
@@ -10,7 +10,7 @@ use Rattle.octseq_utf8.specs.Text.{Spells, IsWellFormed}
 use Rattle.octseq_utf8.proofs.Numbers.{number_is_character, encoding_is_of}
 use Rattle.octseq_utf8.proofs.Spelling.{octets_of_spelled}
 
--- std encodes a number as it is encoded here
+-- std encodes a number in the same octets as the definition here
 pub encode-is : (c : ℕ) → encode c ≡ encoding_of c
 unfolding encoding_of encode
 encode-is c = refl
@@ -51,11 +51,11 @@ spells_all (c ∷ cs) h =
       numbers = ap (λ n. n ∷ map number_of rest.encodings) first.1 ∙ ap (λ ns. c ∷ ns) rest.numbers;
     }
 
--- well-formed octets are UTF-8 by std's account
+-- well-formed octets are UTF-8 by std's definition
 pub utf8_from_well_formed : (x : List ℕ) → IsWellFormed x → IsUtf8 x
 utf8_from_well_formed x (cs, s) =
     (cs, (ap scalars (sym s.numbers) ∙ scalars_from s.encodings s.each, encodes-are cs ∙ octets_of_spelled s))
 
--- octets that are UTF-8 by std's account are well formed
+-- octets that are UTF-8 by std's definition are well formed
 pub well_formed_from_utf8 : (x : List ℕ) → IsUtf8 x → IsWellFormed x
 well_formed_from_utf8 x (cs, u) = (cs, subst (λ y. Spells y cs) (sym (encodes-are cs) ∙ u.1) (spells_all cs u.0))

@@ -18,21 +18,21 @@ use Rattle.octseq_utf8.proofs.Joins.{parts_spelled, parts_fault, text_fault, tex
 use Rattle.octseq_utf8.proofs.Spelling.{spells_nothing, chars_of}
 use Rattle.octseq_utf8.proofs.Splitting.{bad_some, only_parts, splits, parts_nil}
 
--- a fault has no size exactly where its bad part begins a character and reaches the end
+-- a fault has no size exactly if its bad part begins a character and reaches the end
 no_size : (bad after : List ℕ) (size : Option ℕ) → IsFaultSize bad after size
     → (size ≡ None → IsBeginning bad × (after ≡ [])) × (IsBeginning bad × (after ≡ []) → size ≡ None)
 no_size bad after size (inl h) = (λ e. (h.1, h.2), λ k. h.0)
 no_size bad after size (inr h) =
     (λ e. let no : Some (length bad) ≡ None = sym h.0 ∙ e in absurd (cc), λ k. absurd (h.1 k))
 
--- what a test for none answers
+-- what a test for none returns
 pub tests_none : (size : Option ℕ) (test : Bool) → is_some size ≡ not test → IsTrue test ↔ (size ≡ None)
 tests_none None true h = (λ t. refl, λ e. refl)
 tests_none None false h = absurd (cc)
 tests_none (Some n) true h = absurd (cc)
 tests_none (Some n) false h = (λ t. absurd (cc), λ e. absurd (cc))
 
--- no parts are left where no octets are
+-- there are no parts if there are no octets
 pub none_left : (x : List ℕ) → length x ≡ 0 → length (parts_of x) ≡ 0
 none_left [] h = ap length parts_nil
 none_left (a ∷ x) h = absurd (omega arith)
@@ -58,14 +58,14 @@ module _ (x : List ℕ) (fault : Fault) (f : IsFault x fault) where
         );
       }
 
-  -- the ill-formed part stands from the place of the fault to its end
+  -- the ill-formed part goes from the place of the fault to its end
   pub bad_is : slice_range x fault.place (fault_end x fault) ≡ f.bad
   bad_is =
       let long : fault_end x fault - fault.place ≡ length f.bad = omega (arith, end_is x fault f) in
       ap (take (fault_end x fault - fault.place)) (onward_is x fault f) ∙ ap (λ n. take n (f.bad ++ f.after)) long
       ∙ take-append_seam f.bad f.after
 
--- the chunk of octets that are a text
+-- the chunk of octets that are well-formed text
 pub chunk_at_end : (x : List ℕ) → x ≢ [] → IsWellFormed x
     → IsFirstChunk x (record { valid = x; invalid = []; incomplete = false }) []
 chunk_at_end x some good = record {
@@ -76,9 +76,9 @@ chunk_at_end x some good = record {
   cut = (λ t. absurd (cc), λ k. absurd (k.0.some refl));
 }
 
--- what a chunk is made of
+-- what a chunk consists of
 
--- the mark stands in the place of a bad part that has an octet
+-- the mark is in place of a bad part that has an octet
 pub mark_some : (mark bad : List ℕ) → 1 ≤ length bad → mark_of mark bad ≡ mark
 mark_some mark [] h = absurd (omega arith)
 mark_some mark (b ∷ bad) h = refl
@@ -87,7 +87,7 @@ parts_some : (bad : List ℕ) → 1 ≤ length bad → bad_parts bad ≡ Bad bad
 parts_some [] h = absurd (omega arith)
 parts_some (b ∷ bad) h = refl
 
--- the parts of octets are those of the first chunk, and those of what is behind it
+-- the parts of octets are the parts of the first chunk followed by the parts of what is after it
 pub parts_at_chunk : (x : List ℕ) (chunk : Chunk) (behind : List ℕ) → IsFirstChunk x chunk behind
     → parts_of x ≡ chunk_parts chunk ++ parts_of behind
 parts_at_chunk x chunk behind c = go c.bad
@@ -110,7 +110,7 @@ parts_at_chunk x chunk behind c = go c.bad
         ∙ sym (ap (λ ps. (map Char (chars chunk.valid) ++ ps) ++ parts_of behind) some
         ∙ append_assoc (map Char (chars chunk.valid)) (Bad chunk.invalid ∷ []) (parts_of behind))
 
--- and their text is that of the first chunk, and that of what is behind it
+-- and their text is the text of the first chunk followed by the text of what is after it
 pub text_at_chunk : (w : ℕ) (x : List ℕ) (chunk : Chunk) (behind : List ℕ) → IsFirstChunk x chunk behind
     → text_with w (parts_of x) ≡ chunk_text w chunk ++ text_with w (parts_of behind)
 text_at_chunk w x chunk behind c = go c.bad
@@ -132,7 +132,7 @@ text_at_chunk w x chunk behind c = go c.bad
         (sym (mark_some (encoding_of w) chunk.invalid (bad_some bad).0))
         ∙ sym (append_assoc chunk.valid (mark_of (encoding_of w) chunk.invalid) (text_with w (parts_of behind)))
 
--- octets whose first chunk has no bad part are a text
+-- octets whose first chunk has no bad part are well formed
 pub whole_text : (x : List ℕ) (chunk : Chunk) (behind : List ℕ) → IsFirstChunk x chunk behind → length chunk.invalid ≡ 0
     → IsWellFormed x
 whole_text x chunk behind c none = go c.bad
@@ -144,7 +144,7 @@ whole_text x chunk behind c none = go c.bad
         subst IsWellFormed (sym same) c.good
     go (inr bad) = let some = (bad_some bad).0 in absurd (omega arith)
 
--- and those whose first chunk has one aren't
+-- and octets whose first chunk has one aren't
 pub no_whole_text : (x : List ℕ) (chunk : Chunk) (behind : List ℕ) → IsFirstChunk x chunk behind
     → 1 ≤ length chunk.invalid → ¬ IsWellFormed x
 no_whole_text x chunk behind c some good = go c.bad
@@ -156,7 +156,7 @@ no_whole_text x chunk behind c some good = go c.bad
 
 -- the chunks of octets are their one splitting
 
--- octets split into the parts of their first chunk, and then as what is behind it splits
+-- octets split into the parts of their first chunk followed by a splitting of what is after it
 pub splits_at_chunk : (x : List ℕ) (chunk : Chunk) (behind : List ℕ) (parts : List Part) → IsFirstChunk x chunk behind
     → Splits behind parts
     → Splits x (chunk_parts chunk ++ parts)
@@ -170,7 +170,7 @@ chunks_split no_chunk = subst (Splits []) parts_nil (splits [])
 chunks_split (first_chunk {octets = x} {behind} {chunk} {chunks} c s) =
     splits_at_chunk x chunk behind (flat_map chunk_parts chunks) c (chunks_split s)
 
--- of any splittings, the parts of octets are those of the first chunk, and those of what is behind it
+-- for any splittings, the parts of octets are the parts of the first chunk followed by the parts of what is after it
 pub parts_by_chunk : (x behind : List ℕ) (chunk : Chunk) (parts rest : List Part) → IsFirstChunk x chunk behind
     → Splits x parts → Splits behind rest
     → parts ≡ chunk_parts chunk ++ rest
@@ -185,9 +185,9 @@ text_by_chunk x behind chunk parts rest w c s t =
     ap (text_with w) (only_parts s) ∙ text_at_chunk w x chunk behind c ∙ ap (λ ps. chunk_text w chunk ++ text_with w ps)
     (sym (only_parts t))
 
--- a text that grows by chunks is, with the text of what is left, the whole text
+-- a text that grows by chunks is, followed by the text of what is left, the whole text
 
--- with a chunk's text added, what is made and the text of what is behind the chunk are still the whole
+-- after a chunk's text is added, what is made and the text of what is after the chunk are still the whole
 pub grown : (w : ℕ) (x made made' all : List ℕ) (chunk : Chunk) (behind : List ℕ)
     → made ++ text_with w (parts_of x) ≡ all → IsFirstChunk x chunk behind
     → made' ≡ made ++ chunk_text w chunk → made' ++ text_with w (parts_of behind) ≡ all
@@ -196,7 +196,7 @@ grown w x made made' all chunk behind before c more =
     (text_with w (parts_of behind))
     ∙ ap (λ y. made ++ y) (sym (text_at_chunk w x chunk behind c)) ∙ before
 
--- where no octets are left, what is made is the whole text
+-- if no octets are left, what is made is the whole text
 pub all_made : (w : ℕ) (made all x : List ℕ) → made ++ text_with w (parts_of x) ≡ all → x ≡ [] → made ≡ all
 all_made w made all x whole nothing =
     sym (append-nil made)

@@ -1,4 +1,4 @@
--- Faults, and the places that the finder comes to.
+-- Faults, and the places that the finder reaches.
 use Rattle.std.proofs.Common.{◌≡◌, ℕ, ◌+◌, ◌-◌, ◌*◌, ◌<◌, ◌≤◌, List, [], ◌∷◌, ◌++◌, map}
 use Rattle.std.proofs.Common.{length, take, drop, get_or, refl, arith, inl, inr, ⊎_elim, ap, sym, ◌∙◌}
 use Rattle.std.proofs.Common.{subst, append_assoc, length-append, length-take, length-drop, Option, Some}
@@ -22,7 +22,7 @@ use Rattle.octseq_utf8.proofs.Joins.{parts_fault, parts_spelled}
 use Rattle.octseq_utf8.proofs.Spelling.{chars_of, octets_of_spelled, spells_nothing, spells_one, spells-append}
 use Rattle.octseq_utf8.proofs.Texts.{well_formed-append, chars-append}
 
--- the finder is at the front before it takes a turn
+-- the finder is at the front before its first turn
 pub at_start : (x : List ℕ) (t : ℕ) → IsAt x 0 t t
 at_start x t = record {
   characters = [];
@@ -33,7 +33,7 @@ at_start x t = record {
   passed = omega arith;
 }
 
--- the first i + n octets are the first i and the first n behind those
+-- the first i + n octets are the first i followed by the next n
 pub take-add : (x : List ℕ) (i n : ℕ) → i ≤ length x → take (i + n) x ≡ take i x ++ take n (drop i x)
 take-add x i n h =
     let cut : take i x ++ drop i x ≡ x = take-append-drop i x in
@@ -41,16 +41,16 @@ take-add x i n h =
     ap (λ y. take (i + n) y) (sym cut) ∙ ap (λ k. take (k + n) (take i x ++ drop i x)) (sym long)
     ∙ take-append-add (take i x) (drop i x) n
 
--- a slice from a place to the end has all octets from that place on
+-- a slice from a place to the end is all octets from that place on
 pub rest_of : (x : List ℕ) (place : ℕ) → take (length x - place) (drop place x) ≡ drop place x
 rest_of x place = take_all (length x - place) (drop place x) (omega (arith, length-drop place x))
 
--- what stands at a place, of the octets that a slice from there has
+-- what is at a place, given what is at the front of a slice from there
 pub at_place : (x : List ℕ) (place : ℕ) (front : Front) → StandsInFront (take (length x - place) (drop place x)) front
     → StandsInFront (drop place x) front
 at_place x place front h = subst (λ y. StandsInFront y front) (rest_of x place) h
 
--- an encoding that stands there has some octets
+-- an encoding at that place has at least one octet
 pub front_some : (x : List ℕ) (place len : ℕ) → StandsInFront (take (length x - place) (drop place x)) (Encoding len)
     → 1 ≤ len
 front_some x place len h =
@@ -59,7 +59,7 @@ front_some x place len h =
     let n = length_of h.1 in
     omega (arith, length-take len y)
 
--- one encoding more
+-- one more encoding
 pub at_more : (x : List ℕ) (place old now len : ℕ) → IsAt x place old now → StandsInFront (drop place x) (Encoding len)
     → IsAt x (place + len) old (now + 1)
 at_more x place old now len at (within, e) =
@@ -80,7 +80,7 @@ at_more x place old now len at (within, e) =
       passed = let most = some.1 in omega arith;
     }
 
--- an encoding that a word of four octets begins with
+-- an encoding at the front of a word of four octets
 pub word_front : (x four : List ℕ) (place len : ℕ) → place + 4 ≤ length x → four ≡ take 4 (drop place x) → len ≤ 4
     → IsEncoding (take len four) → StandsInFront (drop place x) (Encoding len)
 word_front x four place len room same few e =
@@ -97,7 +97,7 @@ octet_front x place lt low = (
 
 -- a lane of octets below 80: each spells its character
 
--- octets that are all below 80 spell one character each
+-- octets that are all below 80 spell one character for each octet
 pub spells_low : (x : List ℕ) → All (λ o. o < 0x80) x → Spells x (map (λ o. number_of (o ∷ [])) x)
 spells_low [] low = spells_nothing
 spells_low (a ∷ x) low =
@@ -105,7 +105,7 @@ spells_low (a ∷ x) low =
     spells-append (spells_one (row_00_7F {a = a} (omega arith, omega arith)))
     (spells_low x (All-tail (λ o. o < 0x80) a x low))
 
--- octets that are all below 80 are passed in as many turns, or in fewer, of sixteen octets at most
+-- octets that are all below 80 are passed in at most one turn each, and at most sixteen of them in a turn
 pub at_low : (x : List ℕ) (place old now n more : ℕ) → IsAt x place old now → place + n ≤ length x
     → All (λ o. o < 0x80) (take n (drop place x)) → more ≤ n → n ≤ 16 * more → IsAt x (place + n) old (now + more)
 at_low x place old now n more at room low few passed =
@@ -140,7 +140,7 @@ at_end x place old now at past =
     let s : Spells x at.characters = subst (λ z. Spells z at.characters) (take_all place x past) at.spelled in
     ((at.characters, s), rw (chars_of s) (omega arith))
 
--- a bad part at the finder's place is the fault there, found in one turn more
+-- a bad part at the finder's place is the fault there, found in one more turn
 pub fault_at : (x : List ℕ) (place old now : ℕ) (size : Option ℕ) → IsAt x place old now
     → StandsInFront (drop place x) (Bad size)
     → IsFaultAt x old (now + 1) (record { place = place; size = size })
@@ -169,9 +169,9 @@ fault_at x place old now size at front =
       passed = omega arith;
     }
 
--- what is found behind a place is found in the whole
+-- what is found after a place is found in the whole
 
--- octets that are well formed from the finder's place on are so as a whole, and their characters join
+-- if the octets from the finder's place on are well formed, so are all of them, and their characters join
 pub well_formed_behind : (x : List ℕ) (place old now : ℕ) → IsAt x place old now → IsWellFormed (drop place x)
     → IsWellFormed x × (chars x ≡ chars (take place x) ++ chars (drop place x))
 well_formed_behind x place old now at w =
@@ -179,7 +179,7 @@ well_formed_behind x place old now at w =
     let whole = take-append-drop place x in
     (subst IsWellFormed whole (well_formed-append _ _ before w), ap chars (sym whole) ∙ chars-append _ _ before w)
 
--- where the well-formed rest takes at most one turn for each character, so does the whole
+-- if the well-formed rest takes at most one turn for each character, so does the whole
 pub turns_behind : (x : List ℕ) (place old mid now : ℕ) → IsAt x place old mid → IsWellFormed (drop place x)
     → now ≤ mid + length (chars (drop place x)) → now ≤ old + length (chars x)
 turns_behind x place old mid now at w turns =
@@ -188,7 +188,7 @@ turns_behind x place old mid now at w turns =
     (well_formed_behind x place old mid at w).1 ∙ ap (λ cs. cs ++ chars (drop place x)) (chars_of at.spelled) in
     rw spelled (omega (arith, length-append at.characters (chars (drop place x))))
 
--- the fault of what is behind the finder's place is that of the whole, in the turns that the whole may take
+-- the fault of the octets from the finder's place on is the fault of the whole, within the turns that the whole allows
 pub fault_behind : (x : List ℕ) (place old mid now : ℕ) (fault : Fault) → IsAt x place old mid
     → IsFault (drop place x) fault
     → now ≤ mid + length (chars (take fault.place (drop place x))) + 1
@@ -230,9 +230,9 @@ fault_behind x place old mid now fault at f turns passed =
       passed = omega arith;
     }
 
--- a fault is one, and refutes
+-- there is only one fault, and it rules out that the octets are well formed
 
--- parts that are characters and then a bad part are never characters only
+-- parts that are characters and then a bad part are never only characters
 pub no_bad : (cs ds : List ℕ) (p : List ℕ) (ps : List Part) → map Char cs ++ (BadPart p ∷ ps) ≡ map Char ds → ⊥
 no_bad [] [] p ps h = cc
 no_bad [] (d ∷ ds) p ps h = cc
@@ -261,7 +261,7 @@ same_size bad after s t (inl h) (inr k) = absurd (k.1 (h.1, h.2))
 same_size bad after s t (inr h) (inl k) = absurd (h.1 (k.1, k.2))
 same_size bad after s t (inr h) (inr k) = h.0 ∙ sym k.0
 
--- octets have one fault at most
+-- octets have at most one fault
 pub one_fault : {x : List ℕ} {fault other : Fault} → IsFault x fault → IsFault x other → fault ≡ other
 one_fault {x} {fault} {other} f g =
     let same = first_bad_same f.good.0 g.good.0 f.bad g.bad (parts_of f.after) (parts_of g.after)

@@ -9,7 +9,7 @@ use Rattle.octseq_utf8.specs.Encoding.{IsEncoding}
 use Rattle.octseq_utf8.specs.Reading.{width_of, least_second, greatest_second}
 use Rattle.octseq_utf8.proofs.Rows.{rule_from, from_rule, length_of}
 
--- The first k octets of x fit an encoding that begins with its first octet.
+-- The first k octets of x fit an encoding that begins with the first octet of x.
 pub record Fits (x : List ℕ) (k : ℕ) : Type 0 where
   pub some : 1 ≤ k
   pub within : k ≤ length x
@@ -18,7 +18,7 @@ pub record Fits (x : List ℕ) (k : ℕ) : Type 0 where
   pub third : 2 < k → IsInRange 0x80 0xBF (get_or x 2 0)
   pub fourth : 3 < k → IsInRange 0x80 0xBF (get_or x 3 0)
 
--- an encoding fits as far as it goes, and that is the width
+-- all octets of an encoding fit, and their number is the width
 pub fits_from : {e : List ℕ} → IsEncoding e → Fits e (length e)
 fits_from {e} p = let r = rule_from p in record {
   some = r.some;
@@ -29,20 +29,20 @@ fits_from {e} p = let r = rule_from p in record {
   fourth = r.fourth;
 }
 
--- an encoding has as many octets as its first one asks for
+-- the length of an encoding is what its first octet requires
 pub width_from : {e : List ℕ} → IsEncoding e → length e ≡ width_of (get_or e 0 0)
 width_from p = (rule_from p).width
 
--- octets that all fit, and are as many as the first one asks for, are an encoding
+-- octets that all fit, and whose number is what the first one requires, are an encoding
 pub from_fits : (e : List ℕ) → Fits e (length e) → length e ≡ width_of (get_or e 0 0) → IsEncoding e
 from_fits e f w =
     from_rule e (record { some = f.some; width = w; second = f.second; third = f.third; fourth = f.fourth })
 
--- a fit is seen in front
+-- the whole has the same octet as a front at each place in the front
 pub get_left : (p r : List ℕ) (i : ℕ) → i < length p → get_or (p ++ r) i 0 ≡ get_or p i 0
 get_left p r i h = get_or-append p r 0 i h
 
--- what fits still fits with more octets behind it
+-- what fits still fits if more octets follow it
 pub fits_more : (p r : List ℕ) (k : ℕ) → Fits p k → Fits (p ++ r) k
 fits_more p r k f =
     let s = f.some in
@@ -57,7 +57,7 @@ fits_more p r k f =
       fourth = λ h. rw (get_left p r 3 (omega arith)) (f.fourth h);
     }
 
--- what fits still fits without the octets behind it
+-- what fits still fits without the octets after it
 pub fits_less : (p r : List ℕ) (k : ℕ) → k ≤ length p → Fits (p ++ r) k → Fits p k
 fits_less p r k w f =
     let s = f.some in
@@ -78,7 +78,7 @@ fits_take x k f =
     let whole : take k x ++ drop k x ≡ x = take-append-drop k x in
     fits_less (take k x) (drop k x) k (omega (arith, length-take k x)) (subst (λ y. Fits y k) (sym whole) f)
 
--- fewer fit too
+-- fewer octets fit too
 pub fits_fewer : (x : List ℕ) (j k : ℕ) → 1 ≤ j → j ≤ k → Fits x k → Fits x j
 fits_fewer x j k some le f =
     let a = f.within in
@@ -92,7 +92,7 @@ fits_fewer x j k some le f =
       fourth = λ h. f.fourth (omega arith);
     }
 
--- no encoding is a proper front of another, and where two begin the same octets they are one
+-- no encoding is a proper front of another, and two encodings at the front of the same octets are equal
 pub encodings_begin_alike : {e f : List ℕ} (r s : List ℕ) → IsEncoding e → IsEncoding f → e ++ r ≡ f ++ s
     → (e ≡ f) × (r ≡ s)
 encodings_begin_alike {e} {f} r s p q h =

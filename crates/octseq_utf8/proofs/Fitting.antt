@@ -1,4 +1,4 @@
--- How many octets fit: no more than there are, no more than the width, and no fewer than any front that fits.
+-- The number of octets that fit: no more than there are, no more than the width, and no fewer than any front that fits.
 use Rattle.std.proofs.Common.{◌≡◌, ℕ, ◌<◌, ◌≤◌, Bool, true, false, List, length, get_or, refl, arith}
 use Rattle.std.proofs.lemmas.Bool.Decides.{nat_tests}
 use Rattle.std.specs.Int.{IsInRange, is_in_range}
@@ -44,7 +44,7 @@ fitting_by_reaches : (w n k : ℕ) (s t u : Bool) → k ≤ n → k ≤ w → k 
 unfolding fitting_by
 fitting_by_reaches w n k s t u a b c d e f = grind (arith, nat_tests)
 
--- what is counted fits, where an encoding begins with the first octet
+-- the counted octets fit, if an encoding begins with the first octet
 pub fitting_fits : (x : List ℕ) → 1 ≤ length x → 1 ≤ width_of (get_or x 0 0) → Fits x (fitting x)
 fitting_fits x some lead = record {
   some = fitting_by_some (width_of (get_or x 0 0)) (length x)
@@ -64,21 +64,21 @@ fitting_fits x some lead = record {
   fourth = λ h. in_range_true _ _ _ (fitting_by_fourth (width_of (get_or x 0 0)) (length x) _ _ _ h);
 }
 
--- no more fit than there are octets, where there is one at least
+-- no more octets fit than there are, if there is at least one
 pub fitting_within : (x : List ℕ) → 1 ≤ length x → fitting x ≤ length x
 fitting_within x some =
     fitting_by_within (width_of (get_or x 0 0)) (length x)
     (is_in_range (least_second (get_or x 0 0)) (greatest_second (get_or x 0 0)) (get_or x 1 0))
     (is_in_range 0x80 0xBF (get_or x 2 0)) (is_in_range 0x80 0xBF (get_or x 3 0)) some
 
--- no more octets fit than the first one asks for
+-- no more octets fit than the first one requires
 pub fitting_wide : (x : List ℕ) → fitting x ≤ width_of (get_or x 0 0)
 fitting_wide x =
     fitting_by_wide (width_of (get_or x 0 0)) (length x)
     (is_in_range (least_second (get_or x 0 0)) (greatest_second (get_or x 0 0)) (get_or x 1 0))
     (is_in_range 0x80 0xBF (get_or x 2 0)) (is_in_range 0x80 0xBF (get_or x 3 0))
 
--- and no more fits
+-- and any front that fits is no longer
 pub fits_fitting : (x : List ℕ) (k : ℕ) → Fits x k → k ≤ fitting x
 fits_fitting x k f =
     let w = f.wide in

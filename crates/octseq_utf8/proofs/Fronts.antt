@@ -1,4 +1,4 @@
--- What stands at the front of octets, by how many fit.
+-- What is at the front of octets, by how many fit.
 use Rattle.std.proofs.Common.{◌≡◌, ◌≢◌, ℕ, zero, suc, ◌-◌, ◌<◌, ◌≤◌, ◌⊎◌, ⊎_elim, true, false, List, length, get_or, take}
 use Rattle.std.proofs.Common.{drop, refl, arith, inl, inr, ap, sym, ◌∙◌, subst, length-take, length-drop, Some, None}
 use Rattle.std.proofs.lemmas.List.{take-append-drop, drop_all}
@@ -55,7 +55,7 @@ front_cut x some lead short whole =
       );
     }
 
--- an octet stands where the encoding wants another
+-- the next octet is one that the encoding can't have there
 pub front_other : (x : List ℕ) → 0 < length x → width x ≢ 0 → fitting x ≢ width x → fitting x ≢ length x
     → StandsInFront x (Bad (Some (fitting x)))
 front_other x some lead short more =
@@ -80,7 +80,7 @@ width_high : (a : ℕ) → 0x80 ≤ a → width_of a ≢ 1
 unfolding width_of
 width_high a h e = absurd (grind (arith, nat_tests))
 
--- what may stand second is a continuation
+-- what can be second is a continuation
 pub second_range : (a b : ℕ) → IsInRange (least_second a) (greatest_second a) b → IsInRange 0x80 0xBF b
 unfolding least_second greatest_second
 second_range a b (l, g) = (grind (arith, nat_tests), grind (arith, nat_tests))
@@ -90,7 +90,7 @@ few_or_more zero = inl (omega arith)
 few_or_more (suc zero) = inl (omega arith)
 few_or_more (suc (suc n)) = inr (omega arith)
 
--- where the second octet is no continuation, one octet at most fits
+-- if the second octet is not a continuation, at most one octet fits
 fitting_one : (x : List ℕ) → 1 ≤ length x → 1 ≤ width x → is_in_range 0x80 0xBF (get_or x 1 0) ≡ false → fitting x ≡ 1
 fitting_one x some lead second =
     let f = fitting_fits x some lead in
@@ -98,7 +98,7 @@ fitting_one x some lead second =
     ⊎_elim (λ few. omega arith) (λ more. absurd (let r = second_range (get_or x 0 0) (get_or x 1 0) (f.second more) in
     let l = r.0 in let g = r.1 in grind (arith, nat_tests))) (few_or_more (fitting x))
 
--- and the first octet, of 80 or more, is the bad part
+-- and the first octet, 80 or more, is the bad part
 pub front_second : (x : List ℕ) → 1 < length x → 0x80 ≤ get_or x 0 0 → is_in_range 0x80 0xBF (get_or x 1 0) ≡ false
     → StandsInFront x (Bad (Some 1))
 front_second x more high second =
@@ -119,7 +119,7 @@ width_stray : (a : ℕ) → is_in_range 0x80 0xBF a ≡ true → width_of a ≡ 
 unfolding width_of
 width_stray a h = grind (arith, nat_tests)
 
--- an octet of 80 to BF in front is the bad part
+-- an octet of 80 to BF at the front is the bad part
 pub front_stray : (x : List ℕ) → 0 < length x → is_in_range 0x80 0xBF (get_or x 0 0) ≡ true
     → StandsInFront x (Bad (Some 1))
 front_stray x some stray = front_lead x some (width_stray (get_or x 0 0) stray)

@@ -1,4 +1,4 @@
--- Splittings and lossy texts of octets that are joined.
+-- Splittings and lossy texts of joined octets.
 use Rattle.std.proofs.Common.{◌≡◌, ℕ, List, [], ◌∷◌, ◌++◌, map, refl, ap, sym, ◌∙◌, append_assoc}
 use Rattle.std.proofs.lemmas.List.{append-nil}
 use Rattle.std.specs.List.{concat, AllByRecursion}
@@ -9,7 +9,7 @@ use Rattle.octseq_utf8.specs.Text.{Spells, octets_of}
 use Rattle.octseq_utf8.proofs.Spelling.{octets_of_spelled}
 use Rattle.octseq_utf8.proofs.Splitting.{parts_encoding, parts_bad, parts_nil}
 
--- the octets that some encodings make split into their characters, and then as the rest
+-- the octets of some encodings and a rest split into the characters of the encodings, and then like the rest
 join_encodings : (es : List (List ℕ)) → AllByRecursion IsEncoding es → (r : List ℕ)
     → parts_of (concat es ++ r) ≡ map Char (map number_of es) ++ parts_of r
 join_encodings [] h r = refl
@@ -17,13 +17,13 @@ join_encodings (e ∷ es) h r =
     ap parts_of (append_assoc e (concat es) r) ∙ parts_encoding h.0 (concat es ++ r)
     ∙ ap (λ ps. Char (number_of e) ∷ ps) (join_encodings es h.1 r)
 
--- a well-formed front, and then as the rest
+-- a well-formed front, and then like the rest
 pub parts_front : {x cs : List ℕ} → Spells x cs → (r : List ℕ) → parts_of (x ++ r) ≡ map Char cs ++ parts_of r
 parts_front {x} {cs} s r =
     ap (λ y. parts_of (y ++ r)) (sym s.joined) ∙ join_encodings s.encodings s.each r
     ∙ ap (λ y. map Char y ++ parts_of r) s.numbers
 
--- and at a fault: the characters before it, the bad part, and then as the rest
+-- and at a fault: the characters before it, the bad part, and then like the rest
 pub parts_fault : {x cs : List ℕ} → Spells x cs → (p r : List ℕ) → IsBadPart (p ++ r) p
     → parts_of (x ++ (p ++ r)) ≡ map Char cs ++ (Bad p ∷ parts_of r)
 parts_fault {x} {cs} s p r b = parts_front s (p ++ r) ∙ ap (λ ps. map Char cs ++ ps) (parts_bad p r b)

@@ -39,9 +39,9 @@ replacement_length : length (encoding_of 0xFFFD) ≡ 3
 unfolding encoding_of
 replacement_length = refl
 
--- so with a replacement of three octets or more the text is no shorter than its source
+-- so a text with a replacement of at least three octets is no shorter than its source
 
--- with a replacement of three octets or more, the text of parts is no shorter than the octets that split into them
+-- with a replacement of at least three octets, the text of parts is no shorter than the octets that split into them
 pub text_with_long : (w : ℕ) → 3 ≤ length (encoding_of w) → {x : List ℕ} {parts : List Part} → Splits x parts
     → length x ≤ length (text_with w parts)
 text_with_long w h nothing = omega arith
@@ -65,7 +65,7 @@ text_long s = text_with_long 0xFFFD (omega (arith, replacement_length)) s
 pub text_same : (w : ℕ) (x : List ℕ) (parts : List Part) → IsWellFormed x → Splits x parts → text_with w parts ≡ x
 text_same w x parts (cs, s) p = ap (text_with w) (only_parts p) ∙ text_spelled w s
 
--- and where they aren't, it is another
+-- and if they aren't well formed, it differs from them
 pub text_other : (w : ℕ) → IsCharacter w → (x : List ℕ) (parts : List Part) → Splits x parts → ¬ IsWellFormed x
     → text_with w parts ≢ x
 text_other w h x parts s n e = n (subst IsWellFormed e (text_well_formed w h s))

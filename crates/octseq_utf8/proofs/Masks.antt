@@ -1,8 +1,6 @@
--- Four octets in a word, the first one lowest. A mask of the word is a mask of each octet, and an octet's mask tells
--- its range; what the
--- code tests of the word so puts each octet in the range that a row of the table gives it. Only this direction is
--- needed: what no mask
--- accepts is looked at octet by octet.
+-- Four octets in a word, the first one lowest. A mask of the word is a mask of each octet, and the masked octet gives
+-- its range; so what the code tests of the word puts each octet in the range that a row of the table requires. Only
+-- this direction is needed: what no mask accepts is read octet by octet.
 use Rattle.std.proofs.Common.{◌≡◌, ◌≢◌, ℕ, zero, suc, ◌+◌, ◌*◌, ◌/◌, ◌%◌, ◌^◌, ◌-◌, ◌<◌, ◌≤◌, ◌⊎◌}
 use Rattle.std.proofs.Common.{inl, inr, List, [], ◌∷◌, ◌++◌, ap, ◌∙◌, arith, bit_and, bit_or, take}
 use Rattle.std.proofs.Common.{drop, length, get_or, take_all, length-take, length-drop, Fits, w8}
@@ -16,12 +14,12 @@ use Rattle.std.proofs.lemmas.Bool.{cases_eq, cases_lt}
 use Rattle.octseq_utf8.specs.Encoding.{IsEncoding, row_C2_DF, row_E0, row_E1_EC}
 use Rattle.octseq_utf8.specs.Encoding.{row_ED, row_EE_EF, row_F0, row_F1_F3, row_F4}
 
--- a mask of a number is one of its lowest octet and one of the rest
+-- a mask of a number is a mask of its lowest octet and a mask of the rest
 and_2 : (w x a m n : ℕ) → w ≡ x * 256 + a → a < 256 → m < 256
     → bit_and w (n * 256 + m) ≡ bit_and x n * 256 + bit_and a m
 and_2 w x a m n e ha hm = ap (λ v. bit_and v (n * 256 + m)) e ∙ and_block 8 x n a m ha hm
 
--- the bits of an octet that say its width, or that it is a continuation
+-- the bits of an octet that give its width, or that it is a continuation
 top_2 : (b : ℕ) → b < 256 → bit_and b 0xC0 ≡ b / 64 * 64
 top_2 b h = and_high b 2 6 ∙ omega arith
 
@@ -122,7 +120,7 @@ row_three a b c ra rb rc e0 ed = go (cases_eq a 0xE0) (cases_eq a 0xED) (cases_l
     go (inr h) (inr k) (inl l) = row_E1_EC (omega arith, omega arith) rb rc
     go (inr h) (inr k) (inr l) = row_EE_EF (omega arith, omega arith) rb rc
 
--- three octets: the masked word is that of the row, and the bits that E0 and ED look at are neither all 0 nor those of
+-- three octets: the masked word is as in the row, and the bits that matter for E0 and ED are neither all 0 nor those of
 -- a surrogate
 pub three : (w a b c : ℕ) → a ≡ w % 256 → b ≡ w / 256 % 256 → c ≡ w / 65536 % 256 → bit_and w 0xC0C0F0 ≡ 0x8080E0
     → bit_and w 0x200F ≢ 0 → bit_and w 0x200F ≢ 0x200D → IsEncoding (a ∷ b ∷ c ∷ [])
@@ -158,7 +156,7 @@ row_four a b c d ra rb rc rd f0 f4 = go (cases_eq a 0xF0) (cases_eq a 0xF4)
     go (inr h) (inl k) = let high = f4 k in row_F4 (omega arith, omega arith) (omega arith, omega arith) rc rd
     go (inr h) (inr k) = row_F1_F3 (omega arith, omega arith) rb rc rd
 
--- the low bits of the first octet before those of the second
+-- the low bits of the first octet followed by those of the second
 high_is : (w : ℕ) → bit_or (bit_and w 7 * 256 % 4294967296) (bit_and (w / 256) 63) ≡ (w % 8) * 256 + w / 256 % 64
 high_is w =
     let e : bit_and w 7 ≡ w % 8 = and_mask w 3 in
@@ -167,9 +165,8 @@ high_is w =
     g)
     ∙ ap (λ k. bit_or ((w % 8) * 256) k) f ∙ or_shifted (w % 8) 8 (w / 256 % 64) (omega arith)
 
--- four octets: the masked word is that of the row, and the bits of the first two octets are a number from 0x10 to
--- 0x40F, that is a character from
--- U+10000 to U+10FFFF
+-- four octets: the masked word is as in the row, and the bits of the first two octets are a number from 0x10 to 0x40F,
+-- that is, of a character from U+10000 to U+10FFFF
 pub four : (w a b c d : ℕ) → a ≡ w % 256 → b ≡ w / 256 % 256 → c ≡ w / 65536 % 256 → d ≡ w / 16777216 % 256
     → bit_and w 0xC0C0C0F8 ≡ 0x808080F0
     → (bit_or (bit_and w 7 * 256 % 4294967296) (bit_and (w / 256) 63) + 4294967280) % 4294967296 < 1024
@@ -210,7 +207,7 @@ four w a b c d ea eb ec ed h k =
         let high : (w % 8) * 256 + w / 256 % 64 < 1040 = omega arith in
         row_four a b c d (omega arith, omega arith) rb rc rd (λ q. omega arith) (λ q. omega arith)
 
--- the octets of a word that was loaded
+-- the octets of a loaded word
 pub loaded : (x four : List ℕ) (i n : ℕ) → i + 4 ≤ length x → ((k : ℕ) → Fits w8 (get_or x k 0))
     → four ≡ take 4 (take (i + 4 - i) (drop i x)) → n ≡ from_le_bytes w32 four → to_le_bytes w32 n ≡ take 4 (drop i x)
 loaded x four i n room fits e h =
@@ -226,7 +223,7 @@ loaded x four i n room fits e h =
     below_of (y ∷ ys) f zero = let g = f.0.fits in omega arith
     below_of (y ∷ ys) f (suc k) = below_of ys f.1 k
 
--- a word shifted by one to three octets ends with as many zeros
+-- a word shifted by one to three octets ends with that many zeros
 pub shifted : (w m : ℕ) → w < 2 ^ 32 → 1 ≤ m → m ≤ 3
     → to_le_bytes w32 (w / 2 ^ (8 * m)) ≡ take 4 (drop m (to_le_bytes w32 w) ++ 0 ∷ 0 ∷ 0 ∷ [])
 shifted w zero fits some few = absurd (omega arith)

@@ -65,7 +65,7 @@ from_number_4 : (a b c d n : ℕ) → IsInRange 0xF0 0xF4 a → IsInRange 0x80 0
 from_number_4 a b c d n p q r s e low = encoding_of_4 n low ∙ same_4 _ _ _ _ a b c d (omega arith) (omega arith)
     (omega arith) (omega arith)
 
--- an encoding is the one that its number has
+-- an encoding is the encoding of its number
 pub encoding_of-number_of : {e : List ℕ} → IsEncoding e → encoding_of (number_of e) ≡ e
 unfolding number_of
 encoding_of-number_of (row_00_7F {a} p) = encoding_of_1 a (omega arith)
@@ -98,11 +98,11 @@ number_is_character (row_F0 {a} {b} {c} {d} p q r s) = inr (omega arith, omega a
 number_is_character (row_F1_F3 {a} {b} {c} {d} p q r s) = inr (omega arith, omega arith)
 number_is_character (row_F4 {a} {b} {c} {d} p q r s) = inr (omega arith, omega arith)
 
--- two encodings of one number are one
+-- two encodings of the same number are equal
 pub one_encoding : {e f : List ℕ} → IsEncoding e → IsEncoding f → number_of e ≡ number_of f → e ≡ f
 one_encoding p q h = sym (encoding_of-number_of p) ∙ ap encoding_of h ∙ encoding_of-number_of q
 
--- the number by the octets
+-- the number from the octets
 
 -- the number of one octet is that octet
 pub number_of_1 : (a : ℕ) → number_of (a ∷ []) ≡ a
@@ -176,6 +176,6 @@ encodes_by_row c (inr (inr (inr (inr (inr (inr (inr (inr h)))))))) =
     (row_F4 (omega arith, omega arith) (omega arith, omega arith) (omega arith, omega arith) (omega arith, omega arith))
     (number_of_4 _ _ _ _ c (omega arith))
 
--- what encodes a character is an encoding, and has its number
+-- the encoding of a character is an encoding, and has its number
 pub encoding_is_of : (c : ℕ) → IsCharacter c → Encodes (encoding_of c) c
 encoding_is_of c h = encodes_by_row c (rows c h)

@@ -6,7 +6,7 @@ use Rattle.octseq_utf8.specs.Encoding.{IsEncoding, row_00_7F, row_C2_DF, row_E0,
 use Rattle.octseq_utf8.specs.Encoding.{row_ED, row_EE_EF, row_F0, row_F1_F3, row_F4}
 use Rattle.octseq_utf8.specs.Reading.{width_of, least_second, greatest_second}
 
--- the width by ranges
+-- the width from the range
 pub width_1 : (a : ℕ) → a ≤ 0x7F → width_of a ≡ 1
 unfolding width_of
 width_1 a h = grind (arith, nat_tests)
@@ -26,7 +26,7 @@ pub width_4 : (a : ℕ) → IsInRange 0xF0 0xF4 a → width_of a ≡ 4
 unfolding width_of
 width_4 a h = grind (arith, nat_tests)
 
--- and the ranges by width
+-- and the ranges from the width
 pub at_width_1 : (a : ℕ) → width_of a ≡ 1 → a ≤ 0x7F
 unfolding width_of
 at_width_1 a h = grind (arith, nat_tests)
@@ -46,37 +46,37 @@ pub at_width_4 : (a : ℕ) → width_of a ≡ 4 → (0xF0 ≤ a) × (a ≤ 0xF4)
 unfolding width_of
 at_width_4 a h = (grind (arith, nat_tests), grind (arith, nat_tests))
 
--- no octet asks for a width of more than four
+-- no octet requires a width of more than four
 pub width_le : (a : ℕ) → width_of a ≤ 4
 unfolding width_of
 width_le a = grind (arith, nat_tests)
 
--- the second octet by the first
+-- the second octet, given the first
 pub least_E0 : (a : ℕ) → IsInRange 0xE0 0xE0 a → least_second a ≡ 0xA0
 unfolding least_second
 least_E0 a h = grind (arith, nat_tests)
 
--- 90 is the least second octet behind F0
+-- 90 is the least second octet after F0
 pub least_F0 : (a : ℕ) → IsInRange 0xF0 0xF0 a → least_second a ≡ 0x90
 unfolding least_second
 least_F0 a h = grind (arith, nat_tests)
 
--- 80 is the least second octet behind any first one but E0 and F0
+-- 80 is the least second octet after any first one except E0 and F0
 pub least_other : (a : ℕ) → a ≢ 0xE0 → a ≢ 0xF0 → least_second a ≡ 0x80
 unfolding least_second
 least_other a h k = grind (arith, nat_tests)
 
--- 9F is the greatest second octet behind ED
+-- 9F is the greatest second octet after ED
 pub greatest_ED : (a : ℕ) → IsInRange 0xED 0xED a → greatest_second a ≡ 0x9F
 unfolding greatest_second
 greatest_ED a h = grind (arith, nat_tests)
 
--- 8F is the greatest second octet behind F4
+-- 8F is the greatest second octet after F4
 pub greatest_F4 : (a : ℕ) → IsInRange 0xF4 0xF4 a → greatest_second a ≡ 0x8F
 unfolding greatest_second
 greatest_F4 a h = grind (arith, nat_tests)
 
--- BF is the greatest second octet behind any first one but ED and F4
+-- BF is the greatest second octet after any first one except ED and F4
 pub greatest_other : (a : ℕ) → a ≢ 0xED → a ≢ 0xF4 → greatest_second a ≡ 0xBF
 unfolding greatest_second
 greatest_other a h k = grind (arith, nat_tests)
@@ -133,7 +133,7 @@ rule_4 a b c d w s t u = record {
   fourth = λ h. u;
 }
 
--- an encoding has the width that its first octet asks for, and the others in their ranges
+-- an encoding has the width that its first octet requires, and each other octet in its range
 pub rule_from : {e : List ℕ} → IsEncoding e → Rule e
 rule_from (row_00_7F {a} p) = rule_1 a p.1
 rule_from (row_C2_DF {a} {b} p q) =
@@ -163,7 +163,7 @@ pub length_of : {e : List ℕ} → IsEncoding e → (1 ≤ length e) × (length 
 length_of {e} p = let r = rule_from p in let s = r.some in let w = r.width in
     (s, omega (arith, width_le (get_or e 0 0)))
 
--- cases on where a number stands
+-- cases by the range of a number
 three : (a : ℕ) → IsInRange 0xE0 0xEF a
     → IsInRange 0xE0 0xE0 a ⊎ (IsInRange 0xE1 0xEC a ⊎ (IsInRange 0xED 0xED a ⊎ IsInRange 0xEE 0xEF a))
 three a h = grind arith
@@ -192,7 +192,7 @@ at_4 a b c d s t u (inr (inl p)) =
 at_4 a b c d s t u (inr (inr p)) =
     row_F4 p (omega (arith, least_other a, greatest_F4 a p), omega (arith, least_other a, greatest_F4 a p)) t u
 
--- and back
+-- and the converse
 pub from_rule : (e : List ℕ) → Rule e → IsEncoding e
 from_rule [] r = let h = r.some in absurd (omega arith)
 from_rule (a ∷ []) r = row_00_7F (omega arith, at_width_1 a (sym r.width))

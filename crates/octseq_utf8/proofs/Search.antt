@@ -1,4 +1,4 @@
--- Where the finder is, and what its turns cost.
+-- Where the finder is, and the cost of its turns.
 use Rattle.std.proofs.Common.{◌≡◌, ℕ, zero, suc, ◌+◌, ◌-◌, ◌<◌, ◌≤◌, ◌⊎◌, inl, inr, ⊎_elim}
 use Rattle.std.proofs.Common.{Bool, true, false, cond, leb, ltb, List, [], ◌∷◌, ◌++◌, length, take, drop, get_or}
 use Rattle.std.proofs.Common.{refl, arith, ap, sym, ◌∙◌, subst, length-append, length-take, length-drop, Option}
@@ -37,7 +37,7 @@ high-cons_low a y h = sum_by-cons (λ o. cond (leb 0x80 o) 1 0) a y ∙ ap (λ b
 two_high : (a b : ℕ) (y : List ℕ) → 0x80 ≤ a → 0x80 ≤ b → 2 ≤ high_count (a ∷ b ∷ y)
 two_high a b y h k = omega (arith, high-cons_high a (b ∷ y) h, high-cons_high b y k)
 
--- an encoding is one octet below 80, or two octets or more of which the first two and the last are 80 or more
+-- an encoding is one octet below 80, or at least two octets of which the first two and the last are 80 or more
 
 record IsNarrow (e : List ℕ) : Type 0 where
   one : length e ≡ 1
@@ -73,7 +73,7 @@ narrow_or_wide (row_F4 {a} {b} {c} {d} p q r s) = inr (wide_4 a b c d (omega ari
 pub wide_of : {e : List ℕ} → IsEncoding e → 2 ≤ length e → IsWide e
 wide_of {e} h some = ⊎_elim (λ n. let one = n.one in absurd (omega arith)) (λ w. w) (narrow_or_wide h)
 
--- so octets that are well formed have none of 80 or more, or two at least, and have no more characters than octets
+-- so well-formed octets have either none of 80 or more, or at least two, and have no more characters than octets
 
 encodings_high : (es : List (List ℕ)) → AllByRecursion IsEncoding es
     → (high_count (concat es) ≡ 0) ⊎ (2 ≤ high_count (concat es))
@@ -108,12 +108,12 @@ low_or_high a = by (ltb a 0x80) refl
     by true e = inl (grind (arith, nat_tests))
     by false e = inr (grind (arith, nat_tests))
 
--- octets whose first is 80 or more have one of 80 or more
+-- octets whose first is 80 or more have at least one of 80 or more
 high_first : (y : List ℕ) → 0x80 ≤ get_or y 0 0 → 1 ≤ high_count y
 high_first [] h = absurd (omega arith)
 high_first (a ∷ y) h = omega (arith, high-cons_high a y h)
 
--- octets of which some are 80 or more aren't all below 80
+-- if some octets are 80 or more, not all are below 80
 some_high : (y : List ℕ) → 1 ≤ high_count y → ¬ All (λ o. o < 0x80) y
 some_high [] h all = absurd (omega arith)
 some_high (a ∷ y) h all =
@@ -160,7 +160,7 @@ search_lanes x place old now s room low =
     (subst (λ k. IsSearching x (place + 16 + 16) old k) (let e : now + 1 + 1 ≡ now + 2 = omega arith in e)
     (search_lane x (place + 16) old (now + 1) (search_lane x place old now s (omega arith) first) (omega arith) second))
 
--- octets below 80 before one of 80 or more, a turn each
+-- octets below 80 before one of 80 or more, one turn each
 pub search_jump : (x : List ℕ) (place old now n : ℕ) → IsSearching x place old now → n < 16 → place + n < length x
     → All (λ o. o < 0x80) (take n (drop place x)) → 0x80 ≤ get_or x (place + n) 0 → IsSearching x (place + n) old (now + n)
 search_jump x place old now zero s few room low high =
@@ -188,7 +188,7 @@ search_octet x place old now s room low high =
     (subst (λ y. All (λ o. o < 0x80) (take 1 y)) (sym (drop-cons x place 0 (omega arith)))
     (All-cons (λ o. o < 0x80) (get_or x place 0) [] low (All-nil (λ o. o < 0x80)))) high
 
--- an encoding of two octets or more
+-- an encoding of at least two octets
 pub search_encoding : (x : List ℕ) (place old now len : ℕ) → IsSearching x place old now → place < length x → 2 ≤ len
     → StandsInFront (drop place x) (Encoding len) → IsSearching x (place + len) old (now + 1)
 search_encoding x place old now len s room wide (within, e) =
@@ -204,7 +204,7 @@ search_encoding x place old now len s room wide (within, e) =
       most = omega arith;
     }
 
--- two encodings of two octets, told from one word
+-- two encodings of two octets, found in one word
 pub search_two_twos : (x : List ℕ) (word place old now : ℕ) → IsSearching x place old now → place + 4 ≤ length x
     → to_le_bytes w32 word ≡ take 4 (drop place x) → IsEncoding (take 2 (to_le_bytes w32 word))
     → IsEncoding (drop 2 (to_le_bytes w32 word)) → IsSearching x (place + 4) old (now + 1 + 1)
@@ -218,7 +218,7 @@ search_two_twos x word place old now s room same first second =
     (omega (arith, length-drop (place + 2) x), subst IsEncoding last second) in
     subst (λ k. IsSearching x k old (now + 1 + 1)) (let e : place + 2 + 2 ≡ place + 4 = omega arith in e) two
 
--- an encoding whose first octet is 80 or more has two octets or more
+-- an encoding whose first octet is 80 or more has at least two octets
 pub front_wide : (x : List ℕ) (place len : ℕ) → 0x80 ≤ get_or x place 0 → StandsInFront (drop place x) (Encoding len)
     → 2 ≤ len
 front_wide x place len first (within, e) =
@@ -243,7 +243,7 @@ search_fault x place old now size s room front =
       few = omega (arith, high_cut x place);
     }
 
--- where fewer than sixteen octets are left
+-- if fewer than sixteen octets are left
 module _ (x : List ℕ) (place old mid : ℕ) (s : IsSearching x place old mid) (last : length x - 15 ≤ place) where
   here : get_or (drop place x) 0 0 ≡ get_or x place 0
   here = get_or-drop place x 0 0 ∙ ap (λ k. get_or x k 0) (let e : place + 0 ≡ place = omega arith in e)

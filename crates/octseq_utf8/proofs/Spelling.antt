@@ -1,4 +1,4 @@
--- What octets spell: the characters are a function of the octets, and the octets one of the characters.
+-- What octets spell: the characters are a function of the octets, and the octets a function of the characters.
 use Rattle.std.proofs.Common.{◌≡◌, ℕ, ◌≤◌, true, false, cond, List, [], ◌∷◌, ◌++◌}
 use Rattle.std.proofs.Common.{map, refl, arith, ap, sym, ◌∙◌, subst, append_assoc}
 use Rattle.std.proofs.lemmas.Bool.Decides.{nat_tests}
@@ -10,9 +10,9 @@ use Rattle.octseq_utf8.specs.Encoding.{row_ED, row_EE_EF, row_F0, row_F1_F3, row
 use Rattle.octseq_utf8.specs.Text.{octets_of, Spells, begins_within, put_in_front, encodings_in, chars}
 use Rattle.octseq_utf8.proofs.Numbers.{encoding_of-number_of}
 
--- an octet is within an encoding, or outside
+-- an octet is within an encoding, or it isn't
 
--- an octet in a range that lies within 80..BF passes the test for 80..BF
+-- an octet in a range that lies within 80..BF passes the test for a continuation
 pub inside : (low high b : ℕ) → 0x80 ≤ low → high ≤ 0xBF → IsInRange low high b → is_in_range 0x80 0xBF b ≡ true
 inside low high b p q h = grind (arith, nat_tests)
 
@@ -22,7 +22,7 @@ below a h = grind (arith, nat_tests)
 above : (low high a : ℕ) → 0xC0 ≤ low → IsInRange low high a → is_in_range 0x80 0xBF a ≡ false
 above low high a p h = grind (arith, nat_tests)
 
--- an encoding begins with no octet that is within one
+-- the first octet of an encoding is not one that is within an encoding
 pub begins : {e : List ℕ} → IsEncoding e → (r : List ℕ) → begins_within (e ++ r) ≡ false
 begins (row_00_7F {a} p) r = below a p.1
 begins (row_C2_DF {a} p q) r = above 0xC2 0xDF a (omega arith) p
@@ -60,11 +60,11 @@ cut_4 : (a b c d : ℕ) (r : List ℕ) → is_in_range 0x80 0xBF b ≡ true → 
     → encodings_in (a ∷ b ∷ c ∷ d ∷ r) ≡ (a ∷ b ∷ c ∷ d ∷ []) ∷ encodings_in r
 cut_4 a b c d r p q s h = cut_before a b (c ∷ d ∷ r) _ _ p (cut_3 b c d r q s h)
 
--- an octet of 80..BF passes the test for it
+-- an octet of 80..BF passes the test for that range
 pub plain : (b : ℕ) → IsInRange 0x80 0xBF b → is_in_range 0x80 0xBF b ≡ true
 plain b h = inside 0x80 0xBF b (omega arith) (omega arith) h
 
--- an encoding is cut off whole
+-- an encoding is cut off as a whole
 cut : {e : List ℕ} → IsEncoding e → (r : List ℕ) → begins_within r ≡ false → encodings_in (e ++ r) ≡ e ∷ encodings_in r
 cut (row_00_7F {a} p) r h = cut_last a r h
 cut (row_C2_DF {a} {b} p q) r h = cut_2 a b r (plain b q) h
@@ -78,7 +78,7 @@ cut (row_F1_F3 {a} {b} {c} {d} p q t u) r h = cut_4 a b c d r (plain b q) (plain
 cut (row_F4 {a} {b} {c} {d} p q t u) r h =
     cut_4 a b c d r (inside 0x80 0x8F b (omega arith) (omega arith) q) (plain c t) (plain d u) h
 
--- encodings, one after another, never begin within one
+-- octets that are encodings, one after another, never begin within one
 pub begins_all : (es : List (List ℕ)) → AllByRecursion IsEncoding es → begins_within (concat es) ≡ false
 begins_all [] h = refl
 begins_all (e ∷ es) h = begins h.0 (concat es)
@@ -92,11 +92,11 @@ encodings_in-concat [] h = encodings_in-nil
 encodings_in-concat (e ∷ es) h = cut h.0 (concat es) (begins_all es h.1)
     ∙ ap (λ groups. e ∷ groups) (encodings_in-concat es h.1)
 
--- octets spell their characters and no others
+-- octets spell only their own characters
 pub chars_of : {x cs : List ℕ} → Spells x cs → chars x ≡ cs
 chars_of {x} {cs} s = ap chars (sym s.joined) ∙ ap (map number_of) (encodings_in-concat s.encodings s.each) ∙ s.numbers
 
--- octets that spell some characters spell those that are read from them
+-- octets that spell some characters spell the characters that are read from them
 pub spells_chars : {x cs : List ℕ} → Spells x cs → Spells x (chars x)
 spells_chars {x} {cs} s = subst (Spells x) (sym (chars_of s)) s
 
@@ -119,19 +119,19 @@ spells_nothing = record { encodings = []; each = tt; joined = refl; numbers = re
 pub spells_one : {e : List ℕ} → IsEncoding e → Spells e (number_of e ∷ [])
 spells_one {e} p = record { encodings = e ∷ []; each = (p, tt); joined = append-nil e; numbers = refl }
 
--- octets behind others spell their characters behind those of the others
+-- octets that follow others spell their characters after the characters of the others
 
 each-append : (es fs : List (List ℕ)) → AllByRecursion IsEncoding es → AllByRecursion IsEncoding fs
     → AllByRecursion IsEncoding (es ++ fs)
 each-append [] fs p q = q
 each-append (e ∷ es) fs p q = (p.0, each-append es fs p.1 q)
 
--- two lists of encodings, one behind the other, make the octets of the first and then those of the second
+-- two joined lists of encodings make the octets of the first followed by those of the second
 pub concat-append : (es fs : List (List ℕ)) → concat (es ++ fs) ≡ concat es ++ concat fs
 concat-append [] fs = refl
 concat-append (e ∷ es) fs = ap (λ y. e ++ y) (concat-append es fs) ∙ sym (append_assoc e (concat es) (concat fs))
 
--- two texts joined spell the characters of the first and then those of the second
+-- two joined texts spell the characters of the first followed by those of the second
 pub spells-append : {x y cs ds : List ℕ} → Spells x cs → Spells y ds → Spells (x ++ y) (cs ++ ds)
 spells-append {x} {cs = cs} s t = record {
   encodings = s.encodings ++ t.encodings;

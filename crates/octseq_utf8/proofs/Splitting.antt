@@ -1,4 +1,4 @@
--- Octets split in one way, as the finder reads them.
+-- Octets split in exactly one way, as the finder reads them.
 use Rattle.std.proofs.Common.{◌≡◌, ℕ, zero, suc, ◌+◌, ◌-◌, ◌<◌, ◌≤◌, true, false, cond, ◌&&◌, ◌==◌, nat_lt}
 use Rattle.std.proofs.Common.{List, [], ◌∷◌, ◌++◌, length, get_or, take, drop, refl, arith, ◌⊎◌, inl, inr}
 use Rattle.std.proofs.Common.{⊎_elim, ap, sym, ◌∙◌, subst, length-append, length-take, length-drop}
@@ -14,18 +14,18 @@ use Rattle.octseq_utf8.proofs.Fits.{Fits, fits_from, width_from, from_fits, fits
 use Rattle.octseq_utf8.proofs.Beginnings.{beginning_fits, beginning_from}
 use Rattle.octseq_utf8.proofs.Fitting.{fitting_fits, fitting_within, fitting_wide, fits_fitting}
 
--- an encoding is in front, or none is
+-- an encoding is at the front, or none is
 pub whole_or : (x : List ℕ) → (1 ≤ width x) × (fitting x ≡ width x) ⊎ ((width x ≡ 0) ⊎ (fitting x < width x))
 whole_or x = let h = fitting_wide x in grind arith
 
--- where all of the width fits, the first part is the character that those octets encode
+-- if all of the width fits, the first part is the character that those octets encode
 pub first_whole : (x : List ℕ) → 1 ≤ width x → fitting x ≡ width x
     → first_part x ≡ Char (number_of (take (part_len x) x))
 unfolding first_part
 first_whole x w m = let test : (nat_lt 0 (width x) && fitting x == width x) ≡ true = grind (arith, nat_tests) in
     ap (λ b. cond b (Char (number_of (take (part_len x) x))) (Bad (take (part_len x) x))) test
 
--- where the first octet has no width, or less than the width fits, the first part is a bad part
+-- if the first octet has no width, or less than the width fits, the first part is a bad part
 pub first_bad : (x : List ℕ) → (width x ≡ 0) ⊎ (fitting x < width x) → first_part x ≡ Bad (take (part_len x) x)
 unfolding first_part
 first_bad x m = let test : (nat_lt 0 (width x) && fitting x == width x) ≡ false = grind (arith, nat_tests) in
@@ -35,7 +35,7 @@ first_bad x m = let test : (nat_lt 0 (width x) && fitting x == width x) ≡ fals
 pub part_len_within : (x : List ℕ) → 1 ≤ length x → (1 ≤ part_len x) × (part_len x ≤ length x)
 part_len_within x h = let m = fitting_within x h in (omega arith, omega arith)
 
--- the parts of x are its first part, and those of the rest
+-- the parts of x are its first part followed by those of the rest
 parts_after-drop : (n : ℕ) (x : List ℕ) → parts_after n x ≡ parts_after 0 (drop n x)
 unfolding parts_after
 parts_after-drop zero [] = refl
@@ -47,7 +47,7 @@ drop_one_less : (n b : ℕ) (bs : List ℕ) → 1 ≤ n → drop n (b ∷ bs) �
 drop_one_less zero b bs h = absurd (omega arith)
 drop_one_less (suc n) b bs h = let same : n ≡ suc n - 1 = omega arith in ap (λ k. drop k bs) same
 
--- where there are octets, their parts are the first part, and then those of what is behind it
+-- the parts of nonempty octets are the first part followed by the parts of what is after it
 pub parts_step : (x : List ℕ) → 1 ≤ length x → parts_of x ≡ first_part x ∷ parts_of (drop (part_len x) x)
 unfolding parts_after
 parts_step [] h = absurd (omega arith)
@@ -56,12 +56,12 @@ parts_step (b ∷ bs) h =
     ap (λ ps. first_part (b ∷ bs) ∷ ps) (parts_after-drop (part_len (b ∷ bs) - 1) bs
     ∙ ap parts_of (sym (drop_one_less (part_len (b ∷ bs)) b bs l.0)))
 
--- where there are no octets there are no parts
+-- no octets, no parts
 pub parts_nil : parts_of [] ≡ []
 unfolding parts_after
 parts_nil = refl
 
--- where an encoding begins, it is the first part
+-- if an encoding begins the octets, it is the first part
 pub encoding_fitting : {e : List ℕ} → IsEncoding e → (r : List ℕ)
     → (fitting (e ++ r) ≡ length e) × (width (e ++ r) ≡ length e)
 encoding_fitting {e} p r =
@@ -71,7 +71,7 @@ encoding_fitting {e} p r =
     let n = fitting_wide (e ++ r) in
     (omega arith, w)
 
--- the parts of an encoding with others behind it are its character, and then those of the others
+-- the parts of an encoding followed by other octets are its character and then the parts of those octets
 pub parts_encoding : {e : List ℕ} → IsEncoding e → (r : List ℕ) → parts_of (e ++ r) ≡ Char (number_of e) ∷ parts_of r
 parts_encoding {e} p r =
     let l = length_of p in
@@ -86,7 +86,7 @@ parts_encoding {e} p r =
     ∙ ap (λ t. Char (number_of t) ∷ parts_of (drop (part_len (e ++ r)) (e ++ r))) front
     ∙ ap (λ t. Char (number_of e) ∷ parts_of t) rest
 
--- what is fitting in full is an encoding
+-- if all of the width fits, it is an encoding
 pub whole_encoding : (x : List ℕ) → 1 ≤ length x → 1 ≤ width x → fitting x ≡ width x → IsEncoding (take (part_len x) x)
 whole_encoding x s w m =
     let f = fitting_fits x s w in
@@ -98,7 +98,7 @@ whole_encoding x s w m =
     subst (λ k. IsEncoding (take k x)) (sym n)
     (from_fits (take (fitting x) x) fits (long ∙ m ∙ ap width_of (sym first)))
 
--- where less is fitting, no front is an encoding
+-- if less than the width fits, no front is an encoding
 pub no_encoding : (x e : List ℕ) → (width x ≡ 0) ⊎ (fitting x < width x) → IsFront e x → ¬ IsEncoding e
 no_encoding x e h (r, same) p =
     let m = encoding_fitting p r in
@@ -107,7 +107,7 @@ no_encoding x e h (r, same) p =
     let b : width x ≡ length e = ap width same ∙ m.1 in
     ⊎_elim (λ z. omega arith) (λ z. omega arith) h
 
--- a front that is a beginning is no longer than what is fitting, and there is a width
+-- a front that is a beginning is no longer than what fits, and there is a width
 pub beginning_fitting : (x q : List ℕ) → IsFront q x → IsBeginning q → (length q ≤ fitting x) × (1 ≤ width x)
 beginning_fitting x q (r, same) b =
     let f = fits_more q r (length q) (beginning_fits b) in
@@ -116,7 +116,7 @@ beginning_fitting x q (r, same) b =
     let w = f.wide in
     (subst (λ y. length q ≤ fitting y) (sym same) k, subst (λ y. 1 ≤ width y) (sym same) (omega arith))
 
--- what is fitting short of the width is a beginning
+-- what fits, if it is less than the width, is a beginning
 pub fitting_beginning : (x : List ℕ) → 1 ≤ length x → 1 ≤ width x → fitting x < width x
     → IsBeginning (take (fitting x) x)
 fitting_beginning x s w m =
@@ -156,13 +156,13 @@ bad_of x s h = record {
           λ q g b. let k = (beginning_fitting x q g b).0 in omega (arith, length-take (part_len x) x),
         )
 
--- a bad part has an octet, and so has what it is of
+-- a bad part has at least one octet, and so do the octets that it is a part of
 pub bad_some : {x p : List ℕ} → IsBadPart x p → (1 ≤ length p) × (length p ≤ length x)
 bad_some {x} {p} b =
     let long : length x ≡ length p + length b.front.0 = ap length b.front.1 ∙ length-append p b.front.0 in
     (⊎_elim (λ h. (beginning_fits h.0).some) (λ h. omega arith) b.longest, omega arith)
 
--- there is but one bad part
+-- there is only one bad part
 pub bad_only : (x p : List ℕ) → IsBadPart x p → ((width x ≡ 0) ⊎ (fitting x < width x)) × (length p ≡ part_len x)
 bad_only x p b = go (whole_or x)
   where
@@ -193,7 +193,7 @@ bad_only x p b = go (whole_or x)
         (whole_encoding x some h.0 h.1))
     go (inr h) = (h, long h b.longest)
 
--- where no encoding begins, the bad part is the first part
+-- if no encoding begins the octets, the bad part is the first part
 pub parts_bad : (p r : List ℕ) → IsBadPart (p ++ r) p → parts_of (p ++ r) ≡ Bad p ∷ parts_of r
 parts_bad p r b =
     let s = bad_some b in
@@ -206,7 +206,7 @@ parts_bad p r b =
     ∙ ap (λ t. Bad t ∷ parts_of (drop (part_len (p ++ r)) (p ++ r))) front
     ∙ ap (λ t. Bad p ∷ parts_of t) rest
 
--- any splitting is the one that is read
+-- any splitting is the one that the finder reads
 pub only_parts : {x : List ℕ} {parts : List Part} → Splits x parts → parts ≡ parts_of x
 only_parts nothing = sym parts_nil
 only_parts (encoding {e} {rest = r} {parts} p s) = ap (λ ps. Char (number_of e) ∷ ps) (only_parts s)

@@ -1,4 +1,4 @@
--- A search that begins at a place, and what it tells of the whole.
+-- A search that begins at a place, and what it shows about the whole.
 use Rattle.std.proofs.Common.{◌≡◌, ℕ, zero, suc, ◌+◌, ◌-◌, ◌*◌, ◌/◌, ◌%◌, ◌<◌, ◌≤◌}
 use Rattle.std.proofs.Common.{List, [], ◌∷◌, ◌++◌, map, length, take, drop, refl, arith, ap}
 use Rattle.std.proofs.Common.{sym, ◌∙◌, subst, length-drop, Option, Some, None}
@@ -20,7 +20,7 @@ drop_further : (x : List ℕ) (from place : ℕ) → from ≤ place → drop (pl
 drop_further x from place past =
     drop-drop (place - from) from x ∙ ap (λ k. drop k x) (let e : from + (place - from) ≡ place = omega arith in e)
 
--- a search is where it begins before it takes a turn
+-- a search is at the place where it begins before its first turn
 pub behind_start : (x : List ℕ) (from t : ℕ) → IsAfter x from from t t
 behind_start x from t = record {
   past = omega arith;
@@ -40,13 +40,13 @@ behind_more x from place old now len b front =
           (subst (λ y. StandsInFront y (Encoding len)) (sym (drop_further x from place past)) front));
     }
 
--- a search that comes to the end has passed well-formed octets, with at most one turn for each character
+-- a search that reaches the end has passed well-formed octets, with at most one turn for each character
 pub behind_end : (x : List ℕ) (from place old now : ℕ) → IsAfter x from place old now → length x ≤ place
     → IsWellFormed (drop from x) × (now ≤ old + length (chars (drop from x)))
 behind_end x from place old now b past =
     at_end (drop from x) (place - from) old now b.at (omega (arith, length-drop from x))
 
--- a bad part at the place of a search is the fault of the octets that it searches, found in one turn more
+-- a bad part at the place of a search is the fault of the octets that it searches, found in one more turn
 pub behind_fault : (x : List ℕ) (from place old now : ℕ) (size : Option ℕ) → IsAfter x from place old now
     → StandsInFront (drop place x) (Bad size)
     → IsFaultAt (drop from x) old (now + 1) (fault_from from (record { place = place; size = size }))
@@ -54,7 +54,7 @@ behind_fault x from place old now size b front =
     fault_at (drop from x) (place - from) old now size b.at
     (subst (λ y. StandsInFront y (Bad size)) (sym (drop_further x from place b.past)) front)
 
--- octets that are all below 80 are characters, one each
+-- octets that are all below 80 are well formed, one character each
 pub low_well_formed : (y : List ℕ) → All (λ o. o < 0x80) y → IsWellFormed y × (length (chars y) ≡ length y)
 low_well_formed y low = (
   (map (λ o. number_of (o ∷ [])) y, spells_low y low),
@@ -62,7 +62,7 @@ low_well_formed y low = (
       ∙ length-map y (λ o. number_of (o ∷ [])),
 )
 
--- what is found from a place on, in the whole
+-- what is found from a place on, as found in the whole
 pub found_behind : (x : List ℕ) (place old mid now : ℕ) (fault : Fault) → IsAt x place old mid → place ≤ fault.place
     → IsFault (drop place x) (fault_from place fault)
     → now ≤ mid + length (chars (take (fault.place - place) (drop place x))) + 1
@@ -73,9 +73,9 @@ found_behind x place old mid now fault at past f turns passed =
     subst (λ k. IsFaultAt x old now (record { place = k; size = fault.size })) same
     (fault_behind x place old mid now (fault_from place fault) at f turns passed)
 
--- and what the whole search owes then
+-- and what must be shown of the whole search then
 
--- a fault that a search from a place on tells is that of the whole, in the turns that the whole may take
+-- a fault found by a search from a place on is the fault of the whole, within the turns that the whole allows
 pub tail_fault : (x : List ℕ) (place old mid now : ℕ) (r : Option Fault) → IsAt x place old mid
     → IfSome r (λ fault. place ≤ fault.place) → IfSome r (λ fault. IsFault (drop place x) (fault_from place fault))
     → IfSome r (λ fault. now ≤ mid + length (chars (take (fault.place - place) (drop place x))) + 1)
@@ -85,7 +85,7 @@ tail_fault x place old mid now None at past f turns passed = past
 tail_fault x place old mid now (Some fault) at past f turns passed =
     found_behind x place old mid now fault at past f turns passed
 
--- a search from a place on finds no fault exactly where the whole is well formed
+-- a search from a place on finds no fault exactly if the whole is well formed
 pub tail_none : (x : List ℕ) (place old mid now : ℕ) (r : Option Fault) → IsAt x place old mid
     → IsNone r ↔ IsWellFormed (drop place x) → IfSome r (IsFaultAt x old now) → IsNone r ↔ IsWellFormed x
 tail_none x place old mid now None at none fault =
@@ -93,14 +93,14 @@ tail_none x place old mid now None at none fault =
 tail_none x place old mid now (Some found) at none fault =
     (λ h. absurd (cc), λ w. absurd (fault_refutes fault.is_fault w))
 
--- where a search from a place on finds no fault, the whole takes at most one turn for each character
+-- if a search from a place on finds no fault, the whole takes at most one turn for each character
 pub tail_turns : (x : List ℕ) (place old mid now : ℕ) (r : Option Fault) → IsAt x place old mid
     → IsNone r ↔ IsWellFormed (drop place x) → IfNone r (now ≤ mid + length (chars (drop place x)))
     → IfNone r (now ≤ old + length (chars x))
 tail_turns x place old mid now None at none turns = turns_behind x place old mid now at (none.0 refl) turns
 tail_turns x place old mid now (Some found) at none turns = turns
 
--- whether or not a search behind the lanes finds a fault, the whole takes few turns
+-- whether or not a search after the lanes finds a fault, the whole takes few turns
 pub tail_few : (x : List ℕ) (place old mid now : ℕ) (r : Option Fault) → IsSearching x place old mid
     → length x - 15 ≤ place → IsNone r ↔ IsWellFormed (drop place x)
     → IfNone r (now ≤ mid + length (chars (drop place x)))
@@ -122,7 +122,7 @@ ascii_turns x place old mid now s last more low =
     let left = length-drop place x in
     omega arith
 
--- an encoding that a word with zeros after the octets begins with has none of the zeros
+-- an encoding at the front of a word that has zeros after the octets includes none of the zeros
 pub last_front : (x four : List ℕ) (place len : ℕ) → place < length x → four ≡ take 4 (drop place x ++ 0 ∷ 0 ∷ 0 ∷ [])
     → 2 ≤ len → len ≤ 3 → IsEncoding (take len four) → StandsInFront (drop place x) (Encoding len)
 last_front x four place len room same some few e =

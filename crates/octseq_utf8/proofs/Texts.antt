@@ -13,19 +13,19 @@ spelled x (cs, s) = spells_chars s
 pub octets_of-chars : (x : List ℕ) → IsWellFormed x → octets_of (chars x) ≡ x
 octets_of-chars x w = octets_of_spelled (spelled x w)
 
--- well-formed octets behind well-formed ones are well formed with them
+-- a well-formed text followed by another is well formed
 pub well_formed-append : (x y : List ℕ) → IsWellFormed x → IsWellFormed y → IsWellFormed (x ++ y)
 well_formed-append x y (cs, s) (ds, t) = (cs ++ ds, spells-append s t)
 
--- the characters of two texts joined are those of the first and then those of the second
+-- the characters of two joined texts are those of the first followed by those of the second
 pub chars-append : (x y : List ℕ) → IsWellFormed x → IsWellFormed y → chars (x ++ y) ≡ chars x ++ chars y
 chars-append x y v w = chars_of (spells-append (spelled x v) (spelled y w))
 
--- the characters of two texts, one after the other, are encoded as the texts joined
+-- the joined characters of two texts are encoded as the joined texts
 pub octets_of-append : (x y : List ℕ) → IsWellFormed x → IsWellFormed y → octets_of (chars x ++ chars y) ≡ x ++ y
 octets_of-append x y v w = octets_of_spelled (spells-append (spelled x v) (spelled y w))
 
--- texts of the same characters are the same
+-- texts with the same characters are the same
 pub same_text : (x y : List ℕ) → IsWellFormed x → IsWellFormed y → chars x ≡ chars y → x ≡ y
 same_text x y v w e = sym (octets_of-chars x v) ∙ ap octets_of e ∙ octets_of-chars y w
 
@@ -38,6 +38,6 @@ spells_encoding c h = let e = encoding_is_of c h in subst (λ n. Spells (encodin
 pub well_formed-encoding : (c : ℕ) → IsCharacter c → IsWellFormed (encoding_of c)
 well_formed-encoding c h = (c ∷ [], spells_encoding c h)
 
--- the encoding of a character spells that character only
+-- the encoding of a character spells only that character
 pub chars-encoding : (c : ℕ) → IsCharacter c → chars (encoding_of c) ≡ c ∷ []
 chars-encoding c h = chars_of (spells_encoding c h)

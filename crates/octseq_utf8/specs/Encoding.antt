@@ -1,4 +1,4 @@
--- UTF-8, by Table 3-7 of the Unicode Standard, chapter 3. Nothing here stands on std's account of it.
+-- UTF-8, by Table 3-7 of the Unicode Standard, chapter 3. Nothing here depends on std's definition of it.
 use Rattle.std.specs.Prelude.{ℕ, ◌+◌, ◌-◌, ◌*◌, ◌/◌, ◌%◌, ◌⊎◌, List, [], ◌∷◌, if◌then◌else◌, nat_lt}
 use Rattle.std.specs.Int.{IsInRange}
 
@@ -21,7 +21,7 @@ pub data IsEncoding : List ℕ → Type 0 where
   row_F4 : {a b c d : ℕ} → IsInRange 0xF4 0xF4 a → IsInRange 0x80 0x8F b → IsInRange 0x80 0xBF c → IsInRange 0x80 0xBF d
       → IsEncoding (a ∷ b ∷ c ∷ d ∷ [])
 
--- The number of the character that an encoding stands for.
+-- The number of the character that an encoding encodes.
 unfoldable pub number_of : List ℕ → ℕ
 number_of (a ∷ []) = a
 number_of (a ∷ b ∷ []) = (a - 0xC0) * 0x40 + (b - 0x80)
@@ -29,11 +29,11 @@ number_of (a ∷ b ∷ c ∷ []) = (a - 0xE0) * 0x1000 + (b - 0x80) * 0x40 + (c 
 number_of (a ∷ b ∷ c ∷ d ∷ []) = (a - 0xF0) * 0x4_0000 + (b - 0x80) * 0x1000 + (c - 0x80) * 0x40 + (d - 0x80)
 number_of _ = 0
 
--- A character is a number of these two ranges.
+-- A character is a number in one of these two ranges.
 abbrev pub IsCharacter : ℕ → Type 0
 IsCharacter c = IsInRange 0 0xD7FF c ⊎ IsInRange 0xE000 0x10_FFFF c
 
--- The encoding of a character, the one that has its number.
+-- The encoding of a character, whose number is that character.
 unfoldable pub encoding_of : ℕ → List ℕ
 encoding_of c = if nat_lt c 0x80 then c ∷ []
     else (if nat_lt c 0x800 then (0xC0 + c / 0x40) ∷ (0x80 + c % 0x40) ∷ []

@@ -7,17 +7,18 @@ use Rattle.std.specs.Ordering.{on, eq_of_both}
 use Rattle.octseq_utf8.specs.Parts.{IsBeginning, IsBadPart}
 use Rattle.octseq_utf8.specs.Text.{IsWellFormed}
 
--- How many octets before it are well formed, and how many it has, or none where the octets end within a character.
+-- The number of well-formed octets before the fault, and its size in octets, or none if the octets end within a
+-- character.
 pub record Fault : Type 0 where
   pub place : ℕ
   pub size : Option ℕ
 
--- The size of a fault: none where the bad part is a beginning that reaches the end, and else that of the bad part.
+-- The size of a fault: none if the bad part is a beginning that reaches the end, otherwise the size of the bad part.
 abbrev pub IsFaultSize : List ℕ → List ℕ → Option ℕ → Type 0
 IsFaultSize bad after size = ((size ≡ None) × IsBeginning bad × (after ≡ []))
     ⊎ ((size ≡ Some (length bad)) × ¬ (IsBeginning bad × (after ≡ [])))
 
--- The fault of octets that aren't well formed: the bad part behind the encodings at their front.
+-- The fault of octets that aren't well formed: the bad part after the encodings at their front.
 pub record IsFault (octets : List ℕ) (fault : Fault) : Type 0 where
   pub before : List ℕ
   pub bad : List ℕ
@@ -32,7 +33,7 @@ pub record IsFault (octets : List ℕ) (fault : Fault) : Type 0 where
 abbrev pub fault_end : List ℕ → Fault → ℕ
 fault_end octets fault = fault.place + unwrap_or fault.size (length octets - fault.place)
 
--- The fault as it is in the octets from a place on.
+-- The fault as seen in the octets from a place on.
 abbrev pub fault_from : ℕ → Fault → Fault
 fault_from from fault = record { place = fault.place - from; size = fault.size }
 

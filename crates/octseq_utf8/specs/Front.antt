@@ -1,4 +1,4 @@
--- What stands at the front of octets.
+-- What is at the front of octets.
 use Rattle.std.specs.Prelude.{ℕ, ◌≤◌, List, length, take, drop, Option, unwrap_or}
 use Rattle.octseq_utf8.specs.Encoding.{IsEncoding}
 use Rattle.octseq_utf8.specs.Fault.{IsFaultSize}
@@ -6,7 +6,7 @@ use Rattle.octseq_utf8.specs.Parts.{IsBadPart}
 use Rattle.octseq_utf8.specs.declared.finder.Front.{Front}
 use Rattle.octseq_utf8.specs.declared.finder.Front.TheVariants.{Encoding, Bad}
 
--- the first len octets are the bad part, and its size as a fault is the one told
+-- the first len octets are the bad part, and `told` is its size as a fault
 pub record IsBadFront (octets : List ℕ) (told : Option ℕ) (len : ℕ) : Type 0 where
   pub within : len ≤ length octets
   pub few : len ≤ 3

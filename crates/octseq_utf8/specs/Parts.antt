@@ -1,4 +1,4 @@
--- Octets that may be no text, in parts: characters, and the maximal subparts that are ill-formed.
+-- Octets that may not be text, in parts: characters, and maximal subparts that are ill-formed.
 use Rattle.std.specs.Prelude.{◌≡◌, ◌≢◌, ℕ, ◌≤◌, ◌⊎◌, List, [], ◌∷◌, ◌++◌, length}
 use Rattle.std.specs.List.{flat_map}
 use Rattle.octseq_utf8.specs.Encoding.{IsEncoding, number_of, encoding_of}
@@ -7,15 +7,15 @@ use Rattle.octseq_utf8.specs.Encoding.{IsEncoding, number_of, encoding_of}
 abbrev pub IsFront : List ℕ → List ℕ → Type 0
 IsFront front octets = (rest : List ℕ) × (octets ≡ front ++ rest)
 
--- A nonempty front of an encoding that lacks more of it.
+-- A nonempty front of an encoding that isn't the whole of it.
 pub record IsBeginning (octets : List ℕ) : Type 0 where
   pub more : List ℕ
   pub some : octets ≢ []
   pub proper : more ≢ []
   pub encoding : IsEncoding (octets ++ more)
 
--- The bad part of octets of which no front is an encoding: the longest front that is a beginning, or where none is the
--- first octet.
+-- The bad part of octets of which no front is an encoding: the longest front that is a beginning, or the first octet if
+-- none is.
 pub record IsBadPart (octets bad : List ℕ) : Type 0 where
   pub front : IsFront bad octets
   pub none : (e : List ℕ) → IsFront e octets → ¬ IsEncoding e
@@ -28,7 +28,7 @@ pub data Part : Type 0 where
   Char : ℕ → Part
   Bad : List ℕ → Part
 
--- How octets split into parts, from the left: an encoding where one begins, and else the bad part.
+-- How octets split into parts, from the left: an encoding if one begins there, otherwise the bad part.
 pub data Splits : List ℕ → List Part → Type 0 where
   nothing : Splits [] []
   encoding : {e rest : List ℕ} {parts : List Part} → IsEncoding e → Splits rest parts
@@ -36,7 +36,7 @@ pub data Splits : List ℕ → List Part → Type 0 where
   bad_part : {bad rest : List ℕ} {parts : List Part} → IsBadPart (bad ++ rest) bad → Splits rest parts
       → Splits (bad ++ rest) (Bad bad ∷ parts)
 
--- The text of parts, with a character in the place of each bad part.
+-- The text of parts, with a character in place of each bad part.
 abbrev pub octets_with : ℕ → Part → List ℕ
 octets_with replacement (Char c) = encoding_of c
 octets_with replacement (Bad bad) = encoding_of replacement
@@ -44,6 +44,6 @@ octets_with replacement (Bad bad) = encoding_of replacement
 abbrev pub text_with : ℕ → List Part → List ℕ
 text_with replacement parts = flat_map (octets_with replacement) parts
 
--- The lossy text of parts: it has U+FFFD, the replacement character, which is EF BF BD.
+-- The lossy text of parts, with U+FFFD, the replacement character, which is EF BF BD.
 abbrev pub text : List Part → List ℕ
 text parts = text_with 0xFFFD parts

@@ -15,17 +15,17 @@ pub record Spells (octets characters : List ℕ) : Type 0 where
 abbrev pub IsWellFormed : List ℕ → Type 0
 IsWellFormed octets = (characters : List ℕ) × Spells octets characters
 
--- Whether the octets begin within an encoding: with one of 80..BF, which no encoding begins with.
+-- Whether the octets begin within an encoding: with one of 80..BF, with which no encoding begins.
 abbrev pub begins_within : List ℕ → Bool
 begins_within [] = false
 begins_within (b ∷ octets) = is_in_range 0x80 0xBF b
 
--- An octet in front of the first of some groups.
+-- An octet put in front of the first group.
 abbrev pub put_in_front : ℕ → List (List ℕ) → List (List ℕ)
 put_in_front a [] = (a ∷ []) ∷ []
 put_in_front a (group ∷ groups) = (a ∷ group) ∷ groups
 
--- The encodings of well-formed octets: cut where the rest doesn't begin within one.
+-- The encodings of well-formed octets: cut wherever the rest doesn't begin within one.
 unfoldable pub encodings_in : List ℕ → List (List ℕ)
 encodings_in [] = []
 encodings_in (a ∷ octets) =
@@ -39,7 +39,7 @@ chars octets = map number_of (encodings_in octets)
 abbrev pub octets_of : List ℕ → List ℕ
 octets_of characters = flat_map encoding_of characters
 
--- The first of some characters, those that are exactly n octets.
+-- The first of some characters, those that take exactly n octets.
 pub record IsFrontOf (characters : List ℕ) (n : ℕ) (front : List ℕ) : Type 0 where
   pub rest : List ℕ
   pub joined : characters ≡ front ++ rest
@@ -49,7 +49,7 @@ pub record IsFrontOf (characters : List ℕ) (n : ℕ) (front : List ℕ) : Type
 abbrev pub IsBoundary : List ℕ → ℕ → Type 0
 IsBoundary octets n = (front : List ℕ) × IsFrontOf (chars octets) n front
 
--- The octets are a text and the encoding of one more character behind it.
+-- The octets are a text followed by the encoding of one more character.
 pub record EndsWith (octets : List ℕ) (c : ℕ) : Type 0 where
   pub before : List ℕ
   pub text : IsWellFormed before

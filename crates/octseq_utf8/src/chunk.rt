@@ -1,4 +1,4 @@
-//! Octets in chunks of text, as Rust's `utf8_chunks` has them. What reads octets as text walks by these.
+//! Octets in chunks of text, like Rust's `utf8_chunks`. Everything that reads octets as text iterates over these.
 ghost use Rattle.std.specs.Prelude.{◌≡◌, ◌≤◌, ◌<◌, ◌+◌, ◌*◌, ◌↔◌, false, List, [], length, take, drop};
 ghost use Rattle.std.specs.Prelude.{slice_range, IsNone, IfNone, IfSome};
 ghost use Rattle.octseq_utf8.specs.Chunk.{GivesChunk, IsFirstChunk};
@@ -11,7 +11,7 @@ use crate::finder::{first_fault, is_continuation};
 use crate::turns::Turns;
 use std::marker::Model;
 
-/// A text, and the maximal ill-formed part behind it.
+/// A text, and the maximal ill-formed part after it.
 #[derive(Drop)]
 pub struct Utf8Chunk<'a> {
     valid: &'a str,
@@ -36,16 +36,14 @@ impl<'a> Utf8Chunk<'a> {
         self.valid
     }
 
-    /// The maximal ill-formed part behind the text, of 1 to 3 octets. It is empty only at the end of the
-    /// octets.
+    /// The maximal ill-formed part after the text, of 1 to 3 octets. It is empty only at the end of the octets.
     pub fn invalid(&self) -> &'a [u8]
         ensures { result.now ≡ self.now.invalid }
     {
         self.invalid
     }
 
-    /// Whether the octets end within a character: the ill-formed part begins one, and nothing is left
-    /// behind it.
+    /// Whether the octets end within a character: the ill-formed part begins one, and nothing follows it.
     pub fn is_incomplete(&self) -> bool
         ensures { result ≡ self.now.incomplete }
     {
@@ -69,7 +67,7 @@ impl<'a> Model for Utf8Chunks<'a> {
     ghost view = { λ chunks. chunks.rest.now };
 }
 
-/// The chunks of these octets, by the practice of the Unicode Standard, chapter 3, on maximal subparts.
+/// The chunks of these octets, by the Unicode Standard's practice for maximal subparts (chapter 3).
 ///
 /// # Examples
 ///
@@ -97,8 +95,8 @@ impl<'a> Utf8Chunks<'a> {
         self.rest
     }
 
-    /// The next chunk, or `None` where nothing is left. Counts the turns of the search: at most one for each
-    /// part of the chunk, and at least one for every sixteen octets of it.
+    /// The next chunk, or `None` if nothing is left. Counts the turns of the search: at most one for each part of the
+    /// chunk, and at least one for every sixteen octets of it.
     #[inline(always)]
     pub fn next_counted(&mut self, turns: &mut Turns) -> Option<Utf8Chunk<'a>>
         ensures gives { GivesChunk self.old result self.new }
@@ -124,7 +122,7 @@ impl<'a> Utf8Chunks<'a> {
     }
 }
 
-/// As [`first_fault`] of octets that aren't empty, and tells without a search where the first is a bad part of its own.
+/// Like [`first_fault`], for octets that aren't empty. If the first octet is a bad part by itself, no search is needed.
 #[inline(always)]
 fn fault_of_rest(octets: &[u8], turns: &mut Turns) -> Option<Utf8Fault>
     requires { 0 < length octets.now }
@@ -144,7 +142,7 @@ fn fault_of_rest(octets: &[u8], turns: &mut Turns) -> Option<Utf8Fault>
     first_fault(octets, turns)
 }
 
-/// The chunk of octets that are a text.
+/// The chunk of octets that are well-formed text.
 #[inline(always)]
 fn last_chunk(octets: &[u8]) -> Utf8Chunk<'_>
     requires { IsWellFormed octets.now }

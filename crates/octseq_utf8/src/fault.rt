@@ -6,10 +6,10 @@ use std::error::Error;
 use std::fmt;
 use std::marker::Model;
 
-/// The first place at which octets are no UTF-8.
+/// The first place at which octets are not UTF-8.
 ///
-/// `{}` prints `invalid utf-8 sequence of {length} bytes from index {place}`, or
-/// `incomplete utf-8 byte sequence from index {place}` where the octets end within a character.
+/// `{}` prints `invalid utf-8 sequence of {length} bytes from index {place}`, or `incomplete utf-8 byte sequence from
+/// index {place}` if the octets end within a character.
 #[derive(Clone, Copy, Debug, PartialEq, Eq)]
 pub struct Utf8Fault {
     valid_up_to: usize,
@@ -27,7 +27,7 @@ impl Model for Utf8Fault {
 }
 
 impl Utf8Fault {
-    /// A fault of this many octets, or of octets that end too soon.
+    /// A fault of this many octets, or `None` if the octets end within a character.
     pub(crate) fn new(valid_up_to: usize, error_len: Option<usize>) -> Self
         ensures { result ≡ record { place = valid_up_to; size = error_len } }
     {
@@ -37,14 +37,14 @@ impl Utf8Fault {
         }
     }
 
-    /// How many octets before the fault are well formed.
+    /// The number of octets before the fault. They are well formed.
     pub fn valid_up_to(&self) -> usize
         ensures { result ≡ self.now.place }
     {
         self.valid_up_to
     }
 
-    /// How many octets the fault has, 1 to 3, or `None` where the octets end within a character.
+    /// The number of octets of the fault, 1 to 3, or `None` if the octets end within a character.
     pub fn error_len(&self) -> Option<usize>
         ensures { result ≡ self.now.size }
     {
@@ -52,7 +52,7 @@ impl Utf8Fault {
     }
 }
 
-/// The octets before a fault.
+/// The octets before the fault.
 #[inline(always)]
 pub(crate) fn before<'a>(octets: &'a [u8], fault: &Utf8Fault) -> &'a [u8]
     requires { fault.now.place ≤ length octets.now }
@@ -61,7 +61,7 @@ pub(crate) fn before<'a>(octets: &'a [u8], fault: &Utf8Fault) -> &'a [u8]
     &octets[..fault.valid_up_to]
 }
 
-/// The octets from a fault on.
+/// The octets from the fault on.
 #[inline(always)]
 pub(crate) fn onward<'a>(octets: &'a [u8], fault: &Utf8Fault) -> &'a [u8]
     requires { fault.now.place ≤ length octets.now }
@@ -70,7 +70,7 @@ pub(crate) fn onward<'a>(octets: &'a [u8], fault: &Utf8Fault) -> &'a [u8]
     &octets[fault.valid_up_to..]
 }
 
-/// The octets behind a fault.
+/// The octets after the fault.
 #[inline(always)]
 pub(crate) fn behind<'a>(octets: &'a [u8], fault: &Utf8Fault) -> &'a [u8]
     requires place { fault.now.place ≤ length octets.now }

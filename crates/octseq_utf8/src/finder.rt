@@ -2,23 +2,24 @@
 //!
 //! Text is mostly ASCII, or mostly of one script; a fault is rare. So the search goes run by run:
 //!
-//! - **Encodings.** While the octet at hand is 80 or more, four octets are loaded as one number, and a mask for each
-//!   length tells whether an encoding begins there. Two of two octets are one word. After one of three or of four octets a loop asks for no
-//!   other length. The masks hold the whole of the table: they leave no encoding to the next way, but no proof needs that.
-//!   One octet below 80 between two encodings, as a space between words, takes a step of its own.
-//! - **The table.** What no mask takes is read octet by octet, as the table of the Unicode Standard has it. This plain
-//!   way alone decides that there is a fault, and of what size. It looks at the second octet first, since most bad
-//!   parts end before it.
-//! - **Lanes.** Octets below 80 are passed thirty-two at once, and then sixteen: one load and one mask tell whether all
-//!   are. Where they aren't, the search jumps by the mask to the first of 80 or more.
-//! - **The tail.** Fewer than sixteen octets are left. Where all are below 80, two loads that overlap tell so; else
+//! - **Encodings.** While the current octet is 80 or more, four octets are loaded as one number, and one mask for each
+//!   length tests whether an encoding begins there. Two encodings of two octets fit one number, and are passed at once.
+//!   After an encoding of three or four octets, a loop tests for that length only. The masks cover the whole table: they
+//!   leave no encoding to the next step, though no proof needs that. A single octet below 80 between two encodings, such
+//!   as a space between words, takes a step of its own.
+//! - **The table.** What no mask accepts is read octet by octet, by the table of the Unicode Standard. Only this step
+//!   decides that there is a fault, and its size. It looks at the second octet first, since most bad parts end before
+//!   it.
+//! - **Lanes.** Octets below 80 are passed thirty-two at once, then sixteen: one load and one mask test whether all are
+//!   below 80. If not, the mask gives the first octet of 80 or more, and the search jumps there.
+//! - **The tail.** Fewer than sixteen octets are left. Two overlapping loads test whether all are below 80; if not,
 //!   there is one part a step, by a word while four octets are left. The last three are read from the last word too,
 //!   shifted.
 //!
-//! Sixteen to thirty-two octets that are all below 80 are told by two lanes that overlap.
+//! If there are sixteen to thirty-two octets, all below 80, two overlapping lanes show it.
 //!
-//! A turn passes sixteen octets below 80 as one lane, or one part. Where octets below 80 are jumped over, a turn is
-//! counted for each.
+//! A turn passes one lane of sixteen octets below 80, or one part. If octets below 80 are jumped over, each counts as a
+//! turn.
 ghost use Rattle.std.specs.Prelude.{◌≡◌, ℕ, ◌+◌, ◌-◌, ◌*◌, ◌/◌, ◌%◌, ◌<◌, ◌≤◌, ◌↔◌, length, take};
 ghost use Rattle.std.specs.Prelude.{drop, slice_index, count_by, nat_le, IsNone, IfNone, IfSome, IfOk, IfErr};
 ghost use Rattle.std.specs.Int.{is_in_range};
@@ -34,7 +35,7 @@ use crate::lanes::{ascii_len, is_ascii_of_two_lanes, is_high_in_thirty_two, is_s
 use crate::turns::Turns;
 use crate::words::{begins, begins_three, begins_two, is_four, is_two_twos, last_word, word_at};
 
-/// How many octets an encoding that begins with this one has, or 0 where none does.
+/// The number of octets of an encoding that begins with this one, or 0 if none does.
 #[tactic(auto, unfolding(crate::specs::Reading::width_of))]
 fn width(first: u8) -> usize
     ensures { result ≡ width_of first }
@@ -48,7 +49,7 @@ fn width(first: u8) -> usize
     }
 }
 
-/// Whether an octet may stand second behind this one.
+/// Whether an octet can be the second one of an encoding that begins with `first`.
 #[tactic(auto, unfolding(crate::specs::Reading::least_second, crate::specs::Reading::greatest_second))]
 fn may_stand_second(first: u8, second: u8) -> bool
     ensures { result ≡ is_in_range (least_second first) (greatest_second first) second }
@@ -62,14 +63,14 @@ fn may_stand_second(first: u8, second: u8) -> bool
     }
 }
 
-/// Whether an octet is a continuation: one of 80..BF, which may stand third and fourth, and never first.
+/// Whether an octet is a continuation: one of 80..BF, which can be third or fourth in an encoding, but never first.
 pub fn is_continuation(octet: u8) -> bool
     ensures { result ≡ is_in_range 0x80 0xBF octet }
 {
     0x80 <= octet && octet <= 0xBF
 }
 
-/// How many octets at the front fit an encoding that begins with the first.
+/// The number of octets at the front that fit an encoding that begins with the first.
 #[tactic(auto, unfolding(crate::specs::Reading::fitting_by))]
 fn fitting_len(octets: &[u8], width: usize) -> usize
     requires some { 0 < length octets.now }
@@ -91,18 +92,18 @@ fn fitting_len(octets: &[u8], width: usize) -> usize
     4
 }
 
-/// What stands at the front of octets.
+/// What is at the front of octets.
 #[derive(Drop)]
 enum Front {
     /// An encoding of this many octets.
     Encoding(usize),
-    /// A bad part of this many octets, or one that reaches the end and wants more.
+    /// A bad part of this many octets, or `None` for one that reaches the end and is incomplete.
     Bad(Option<usize>),
 }
 
-/// What stands at the front of octets, by the table.
+/// What is at the front of octets, by the table.
 ///
-/// Most bad parts have one octet, which the second octet tells.
+/// Most bad parts have one octet, and the second octet shows it.
 #[inline(always)]
 fn part_at_front(octets: &[u8]) -> Front
     requires { 0 < length octets.now }
@@ -124,7 +125,8 @@ fn part_at_front(octets: &[u8]) -> Front
     }
 }
 
-/// Passes octets below 80 from a place on, in lanes of thirty-two that have no other. Answers the place after them.
+/// Passes octets below 80 from a place on, in lanes of thirty-two that have no other octet. Returns the place after
+/// them.
 #[inline(always)]
 fn pass_lanes(octets: &[u8], from: usize, turns: &mut Turns) -> usize
     requires { from ≤ length octets.now }
@@ -141,8 +143,8 @@ fn pass_lanes(octets: &[u8], from: usize, turns: &mut Turns) -> usize
     at
 }
 
-/// Passes octets below 80 from a place on, while sixteen octets are left: lanes that have no other, and then the octets
-/// before the first of 80 or more. Answers the place after them.
+/// Passes octets below 80 from a place on, while sixteen octets are left: first lanes that have no other octet, then
+/// the octets before the first of 80 or more. Returns the place after them.
 #[inline(always)]
 fn pass_ascii(octets: &[u8], from: usize, turns: &mut Turns) -> usize
     requires { from ≤ length octets.now }
@@ -165,10 +167,10 @@ fn pass_ascii(octets: &[u8], from: usize, turns: &mut Turns) -> usize
     at
 }
 
-/// Passes encodings of `LEN` octets from a place on, one a turn, while four octets are left. Answers the place after
+/// Passes encodings of `LEN` octets from a place on, one a turn, while four octets are left. Returns the place after
 /// them.
 ///
-/// Text of one script is mostly encodings of one length, and a loop that asks for no other is the quickest.
+/// Text of one script is mostly encodings of one length, and a loop that tests for only that length is fastest.
 #[inline(always)]
 fn pass_run<const LEN: usize>(octets: &[u8], from: usize, turns: &mut Turns) -> usize
     requires from { from ≤ length octets.now }
@@ -187,7 +189,7 @@ fn pass_run<const LEN: usize>(octets: &[u8], from: usize, turns: &mut Turns) -> 
 }
 
 /// Passes encodings of two octets or more from a place on, and single octets below 80 between them, one a turn, while
-/// sixteen octets are left. Answers the place after them, or the fault there.
+/// sixteen octets are left. Returns the place after them, or the fault there.
 #[inline(always)]
 fn pass_encodings(octets: &[u8], from: usize, turns: &mut Turns) -> Result<usize, Utf8Fault>
     requires { from ≤ length octets.now }
@@ -228,7 +230,8 @@ fn pass_encodings(octets: &[u8], from: usize, turns: &mut Turns) -> Result<usize
     Ok(at)
 }
 
-/// Passes one part a turn from a place on, while four octets are left. Answers the place after them, or the fault there.
+/// Passes one part a turn from a place on, while four octets are left. Returns the place after them, or the fault
+/// there.
 #[inline(always)]
 fn pass_words(octets: &[u8], from: usize, turns: &mut Turns) -> Result<usize, Utf8Fault>
     requires { from ≤ length octets.now }
@@ -244,7 +247,7 @@ fn pass_words(octets: &[u8], from: usize, turns: &mut Turns) -> Result<usize, Ut
     while at < words {
         turns.tick();
         let word = word_at(octets, at);
-        // (each length has a branch of its own, which the processor foresees where text is of one script)
+        // (each length has its own branch, which the processor predicts if the text is of one script)
         if octets[at] < 0x80 {
             at += 1;
         } else if begins_two(word) {
@@ -263,7 +266,7 @@ fn pass_words(octets: &[u8], from: usize, turns: &mut Turns) -> Result<usize, Ut
     Ok(at)
 }
 
-/// What stands at a place among the last three octets: told by the last word where there is one, and else by the table.
+/// What is at a place among the last three octets: by the last word if there is one, otherwise by the table.
 #[inline(always)]
 fn last_part(octets: &[u8], at: usize) -> Front
     requires { (at < length octets.now) × (length octets.now < at + 4) }
@@ -284,7 +287,7 @@ fn last_part(octets: &[u8], at: usize) -> Front
     part_at_front(&octets[at..])
 }
 
-/// The first fault from a place on, one part a turn: octets that begin there are looked at as if alone.
+/// The first fault from a place on, one part a turn: the octets from there on are read as if alone.
 fn fault_by_parts(octets: &[u8], from: usize, turns: &mut Turns) -> Option<Utf8Fault>
     requires { from ≤ length octets.now }
     ensures none { IsNone result ↔ IsWellFormed (drop from octets.now) }
@@ -316,15 +319,15 @@ fn fault_by_parts(octets: &[u8], from: usize, turns: &mut Turns) -> Option<Utf8F
     None
 }
 
-/// The first fault of the octets, or none where they are well-formed UTF-8.
+/// The first fault of the octets, or `None` if they are well-formed UTF-8.
 ///
-/// While sixteen octets are left, those that are below 80 as a whole take one turn. Else each character takes one, and so
-/// does the fault. It takes no memory.
+/// While sixteen octets are left, sixteen that are all below 80 take one turn. Otherwise each character takes one, and
+/// so does the fault. Requests no memory.
 pub fn first_fault(octets: &[u8], turns: &mut Turns) -> Option<Utf8Fault>
     ensures none { IsNone result ↔ IsWellFormed octets.now }
     ensures fault { IfSome result (IsFault octets.now) }
 
-    // No more turns than parts, and a turn for every sixteen octets that were passed.
+    // At most as many turns as parts, and a turn for every sixteen octets that were passed.
     ensures turns { IfNone result (turns.new ≤ turns.old + length (chars octets.now)) }
     ensures turns_to_fault { IfSome result (λ fault.
         turns.new ≤ turns.old + length (chars (take fault.place octets.now)) + 1) }
@@ -332,11 +335,11 @@ pub fn first_fault(octets: &[u8], turns: &mut Turns) -> Option<Utf8Fault>
     ensures passed_to_fault { IfSome result (λ fault.
         fault_end octets.now fault + 16 * turns.old ≤ 16 * turns.new) }
 
-    // ASCII is passed sixteen octets a turn.
+    // ASCII is passed at sixteen octets a turn.
     ensures ascii { All (λ octet. octet < 0x80) octets.now
         → turns.new ≤ turns.old + length octets.now / 16 + length octets.now % 16 }
 
-    // Mixed with ASCII, an octet of 80 or more costs eight turns at most; the end costs fifteen.
+    // When mixed with ASCII, an octet of 80 or more costs at most eight turns; the end costs fifteen.
     ensures mixed { turns.new ≤ turns.old + length octets.now / 16
         + 8 * count_by (λ octet. nat_le 0x80 octet) octets.now + 15 }
 {
@@ -354,7 +357,7 @@ pub fn first_fault(octets: &[u8], turns: &mut Turns) -> Option<Utf8Fault>
     fault_by_parts(octets, at, turns)
 }
 
-/// As [`first_fault`], for callers that read no count.
+/// Like [`first_fault`], for callers that don't read the count.
 ///
 /// # Examples
 ///

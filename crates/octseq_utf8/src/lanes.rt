@@ -6,7 +6,7 @@ ghost use Rattle.std.specs.Simd.Lanes.{mask_l};
 
 use std::simd::prelude::*;
 
-/// A bit for each of the sixteen octets from there on that is 80 or more, the first lowest.
+/// A bit for each of the sixteen octets from `at` on, set if it is 80 or more; the first octet has the lowest bit.
 #[inline(always)]
 fn high_lanes(octets: &[u8], at: usize) -> u64
     requires { at + 16 ≤ length octets.now }
@@ -18,7 +18,7 @@ fn high_lanes(octets: &[u8], at: usize) -> u64
         .to_bitmask()
 }
 
-/// How many of the sixteen octets from there on are below 80 before the first that isn't, or 16 where all are.
+/// The number of octets below 80 before the first that isn't, of the sixteen from `at` on, or 16 if all are.
 #[inline(always)]
 pub(crate) fn ascii_len(octets: &[u8], at: usize) -> usize
     requires { at + 16 ≤ length octets.now }
@@ -33,7 +33,7 @@ pub(crate) fn ascii_len(octets: &[u8], at: usize) -> usize
     high.trailing_zeros() as usize
 }
 
-/// Whether any of the thirty-two octets from there on is 80 or more.
+/// Whether any of the thirty-two octets from `at` on is 80 or more.
 #[inline(always)]
 pub(crate) fn is_high_in_thirty_two(octets: &[u8], at: usize) -> bool
     requires { at + 32 ≤ length octets.now }
@@ -45,7 +45,7 @@ pub(crate) fn is_high_in_thirty_two(octets: &[u8], at: usize) -> bool
         != 0
 }
 
-/// Whether any of the eight octets from there on is 80 or more.
+/// Whether any of the eight octets from `at` on is 80 or more.
 #[inline(always)]
 fn is_high_in_eight(octets: &[u8], at: usize) -> bool
     requires { at + 8 ≤ length octets.now }
@@ -57,7 +57,7 @@ fn is_high_in_eight(octets: &[u8], at: usize) -> bool
         != 0
 }
 
-/// Whether any of the four octets from there on is 80 or more.
+/// Whether any of the four octets from `at` on is 80 or more.
 #[inline(always)]
 fn is_high_in_four(octets: &[u8], at: usize) -> bool
     requires { at + 4 ≤ length octets.now }
@@ -69,8 +69,8 @@ fn is_high_in_four(octets: &[u8], at: usize) -> bool
         != 0
 }
 
-/// Whether four to sixteen octets are left from there on, and all are below 80: told by the first and the last
-/// eight of them, or four, which overlap.
+/// Whether four to sixteen octets are left from `from` on, and all are below 80. Tests the first and the last eight of
+/// them, or four, which overlap.
 #[inline(always)]
 pub(crate) fn is_short_ascii(octets: &[u8], from: usize) -> bool
     requires { from ≤ length octets.now }
@@ -86,7 +86,7 @@ pub(crate) fn is_short_ascii(octets: &[u8], from: usize) -> bool
     !is_high_in_eight(octets, from) && !is_high_in_eight(octets, octets.len() - 8)
 }
 
-/// Whether there are sixteen to thirty-two octets, all below 80: told by the first and the last sixteen of them, which
+/// Whether there are sixteen to thirty-two octets, all below 80. Tests the first and the last sixteen of them, which
 /// overlap.
 #[inline(always)]
 pub(crate) fn is_ascii_of_two_lanes(octets: &[u8]) -> bool

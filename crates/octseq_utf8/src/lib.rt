@@ -1,7 +1,7 @@
-//! UTF-8: where octets stop being well formed, and laws about what that means.
+//! UTF-8: where octets stop being well formed, and laws about the definitions.
 //!
-//! The definitions stand in `specs/`, by the Unicode Standard; the contracts here cite them. The crate
-//! `octseq_text` passes on what is public to its callers, as `utf8`.
+//! The definitions are in `specs/`, by the Unicode Standard; the contracts here cite them. `octseq_text::utf8`
+//! re-exports what callers use.
 #![tactic(auto)]
 
 mod chunk;

@@ -1,18 +1,18 @@
-//! A count that only contracts read.
+//! A count that is read only by contracts.
 ghost use Rattle.std.specs.Prelude.{◌≡◌, ◌+◌};
 
 use std::marker::Model;
 use std::mem::replace;
 use std::snapshot::Snapshot;
 
-/// What was counted: nothing, or one more than a count before. A snapshot holds nothing at run time.
+/// The count: nothing, or one more than a previous count. A snapshot holds nothing at run time.
 #[derive(Drop)]
 enum Count {
     Zero,
     After(Snapshot<Count>),
 }
 
-/// How many turns a search took. Contracts see a number; at run time it holds nothing.
+/// The number of turns that a search took. Contracts see a number; at run time it holds nothing.
 #[derive(Drop)]
 pub struct Turns {
     count: Snapshot<Count>,
@@ -46,7 +46,7 @@ impl Turns {
         self.count = Snapshot::of(&Count::After(before));
     }
 
-    /// Counts so many turns, at no time.
+    /// Counts this many turns, without any cost at run time.
     #[inline(always)]
     pub(crate) fn pass(&mut self, count: usize)
         ensures { self.new ≡ self.old + count }

@@ -1,9 +1,9 @@
-//! Encodings told from a word of four octets, by one mask each.
+//! Encodings recognized in a word of four octets, by one mask each.
 ghost use Rattle.std.specs.Prelude.{◌≡◌, ◌+◌, ◌<◌, ◌≤◌, ◌++◌, [], ◌∷◌, true, length, take, drop};
 ghost use Rattle.std.specs.Int.{w32, to_le_bytes};
 ghost use Rattle.octseq_utf8.specs.Encoding.{IsEncoding};
 
-/// The four octets from there on, the first lowest.
+/// The four octets from `at` on, the first one lowest.
 #[inline(always)]
 pub(crate) fn word_at(octets: &[u8], at: usize) -> u32
     requires { at + 4 ≤ length octets.now }
@@ -15,7 +15,7 @@ pub(crate) fn word_at(octets: &[u8], at: usize) -> u32
     }
 }
 
-/// The last one to three octets, from there on, and zeros after them: the last word, shifted.
+/// The last one to three octets, from `at` on, followed by zeros: the last word, shifted.
 #[inline(always)]
 pub(crate) fn last_word(octets: &[u8], at: usize) -> u32
     requires some { at < length octets.now }
@@ -27,7 +27,8 @@ pub(crate) fn last_word(octets: &[u8], at: usize) -> u32
     word_at(octets, octets.len() - 4) >> (8 * missing as u32)
 }
 
-/// Whether an encoding of two octets begins the word: the first is in C2..DF, and the second has the top bits 10.
+/// Whether an encoding of two octets is at the front of the word: the first is in C2..DF, and the second has the top
+/// bits 10.
 #[inline(always)]
 pub(crate) fn begins_two(word: u32) -> bool
     ensures { result ≡ true → IsEncoding (take 2 (to_le_bytes w32 word)) }
@@ -46,13 +47,13 @@ pub(crate) fn is_two_twos(word: u32) -> bool
     if word & 0xC0E0_C0E0 != 0x80C0_80C0 {
         return false;
     }
-    // (of C0 and C1 these bits are 0, and all others carry)
+    // (in C0 and C1 these bits are 0; in all other first octets the sum carries)
     let carried = (word & 0x1E_001E) + 0x1E_001E;
     carried & 0x20_0020 == 0x20_0020
 }
 
-/// Whether an encoding of three octets begins the word: the top bits are those of the table, and the first
-/// and the second octet aren't E0 80..9F or ED A0..BF.
+/// Whether an encoding of three octets is at the front of the word: the top bits are as in the table, and the first and
+/// the second octet aren't E0 80..9F or ED A0..BF.
 #[inline(always)]
 pub(crate) fn begins_three(word: u32) -> bool
     ensures { result ≡ true → IsEncoding (take 3 (to_le_bytes w32 word)) }
@@ -67,8 +68,8 @@ pub(crate) fn begins_three(word: u32) -> bool
     nibbles != 0x200D
 }
 
-/// Whether the word is an encoding of four octets: the top bits are those of the table, and what the first
-/// two octets hold of the number is that of 10000..10FFFF.
+/// Whether the word is an encoding of four octets: the top bits are as in the table, and the bits of the number in the
+/// first two octets are in the range of 10000..10FFFF.
 #[inline(always)]
 pub(crate) fn is_four(word: u32) -> bool
     ensures { result ≡ true → IsEncoding (to_le_bytes w32 word) }
@@ -80,7 +81,7 @@ pub(crate) fn is_four(word: u32) -> bool
     high.wrapping_sub(0x10) < 0x400
 }
 
-/// Whether an encoding of `LEN` octets begins the word, where that is two, three or four.
+/// Whether an encoding of `LEN` octets is at the front of the word, if `LEN` is two, three or four.
 #[inline(always)]
 pub(crate) fn begins<const LEN: usize>(word: u32) -> bool
     ensures { result ≡ true → IsEncoding (take LEN (to_le_bytes w32 word)) }

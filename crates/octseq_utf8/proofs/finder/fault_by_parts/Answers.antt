@@ -5,7 +5,7 @@ use Rattle.octseq_utf8.proofs.Faults.{fault_refutes}
 use Rattle.octseq_utf8.proofs.Tails.{behind_more, behind_end, behind_fault, low_well_formed}
 use Rattle.octseq_utf8.proofs.finder.fault_by_parts.Goals as goal
 
--- the octets left are few and all below 80
+-- the octets that are left are few and all below 80
 
 pub returns-then-is_short_ascii-clause-none : goal.returns-then-is_short_ascii-clause-none
 returns-then-is_short_ascii-clause-none c = (
@@ -29,7 +29,7 @@ loop-at-preserved c =
       few = omega arith;
     }
 
--- what is owed at the fault that is answered
+-- what must be shown of the returned fault
 owed : (c : goal.After-new)
     → IsFaultAt (drop c.args.from c.args.octets.now) c.args.turns.now c.tick.new.self
     (fault_from c.args.from c.new.result)

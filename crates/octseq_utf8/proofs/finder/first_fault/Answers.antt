@@ -36,7 +36,7 @@ pub loop-at-preserved : goal.loop-at-preserved
 loop-at-preserved c =
     c.pass_ascii-at.ensures.passed c.args.turns.now (c.in-Ok.ensures.passed c.args.turns.now c.loop-at.invariant)
 
--- what is owed at a fault before the last octets
+-- what must be shown of a fault before the last octets
 owed : (c : goal.In-Err) → IsFound c.args.octets.now c.args.turns.now c.pass_encodings.new.turns c.in-Err.fault
 owed c = c.in-Err.ensures.fault c.args.turns.now c.loop-at.invariant
 
@@ -59,7 +59,7 @@ returns-in-Err-clause-ascii c low =
 pub returns-in-Err-clause-mixed : goal.returns-in-Err-clause-mixed
 returns-in-Err-clause-mixed c = (owed c).few
 
--- and what of the last octets: those that are behind the lanes
+-- and of the last octets, those after the lanes
 behind : (c : goal.After-fault_by_parts)
     → IfSome c.fault_by_parts.result (IsFaultAt c.args.octets.now c.args.turns.now c.fault_by_parts.new.turns)
 behind c =

@@ -21,7 +21,7 @@ loop-at-preserved-then-octets-at-lt128-3 c =
           ]));
     }
 
--- an encoding that the word begins with, and those after it
+-- an encoding at the front of the word, and those after it
 
 pub loop-at-preserved-then-is_two_twos : goal.loop-at-preserved-then-is_two_twos
 loop-at-preserved-then-is_two_twos c =

@@ -11,16 +11,16 @@ use Rattle.octseq_utf8.proofs.ByChunk.{chunk_at_end, none_left}
 use Rattle.octseq_utf8.proofs.Splitting.{only_parts}
 use Rattle.octseq_utf8.proofs.chunk.Utf8Chunks.next_counted.Goals as goal
 
--- octets that a test for none found to be some
+-- octets that the test for emptiness found nonempty
 some_octets : (x : List ℕ) (test : Bool) → test ≡ (length x == 0) → test ≡ false → x ≢ []
 some_octets [] test e f = absurd (cc)
 some_octets (o ∷ x) test e f = λ none. cc
 
--- behind the last octet there is none
+-- after the last octet there is none
 nothing_behind : (x : List ℕ) → take (length x - length x) (drop (length x) x) ≡ []
 nothing_behind x = nil_from_length _ (omega (arith, length-take (length x - length x) (drop (length x) x)))
 
--- octets that are a text are their last chunk
+-- octets that are well-formed text are their last chunk
 last_gives : (x : List ℕ) (chunk : Chunk) → x ≢ [] → IsWellFormed x
     → chunk ≡ record { valid = x; invalid = []; incomplete = false }
     → IsFirstChunk x chunk (take (length x - length x) (drop (length x) x))
@@ -28,7 +28,7 @@ last_gives x chunk some good e =
     subst (λ y. IsFirstChunk x chunk y) (sym (nothing_behind x))
     (subst (λ y. IsFirstChunk x y []) (sym e) (chunk_at_end x some good))
 
--- the turns at a text are no more than its parts
+-- the turns for a text are at most its parts
 last_turns : (x : List ℕ) (old new : ℕ) → IsWellFormed x → new ≤ old + length (chars x) → (parts rest : List Part)
     → Splits x parts → Splits (take (length x - length x) (drop (length x) x)) rest
     → new + length rest ≤ old + length parts
@@ -36,14 +36,14 @@ last_turns x old new good counted parts rest s t =
     let none : length rest ≡ 0 = ap length (only_parts t) ∙ none_left _ (ap length (nothing_behind x)) in
     omega (arith, ap length (only_parts s), parts_well_formed x good)
 
--- and those to a fault no more than the parts to its end
+-- and the turns to a fault are at most the parts up to its end
 fault_turns : (x : List ℕ) (fault : Fault) (old new : ℕ) → IsFault x fault
     → new ≤ old + length (chars (take fault.place x)) + 1 → (parts rest : List Part)
     → Splits x parts → Splits (drop (fault_end x fault) x) rest → new + length rest ≤ old + length parts
 fault_turns x fault old new f counted parts rest s t =
     omega (arith, ap length (only_parts s), ap length (only_parts t), parts_at_fault x fault f)
 
--- where nothing is read the parts are the same
+-- if nothing is read the parts are the same
 same_turns : (x : List ℕ) (old : ℕ) (parts rest : List Part) → Splits x parts → Splits x rest
     → old + length rest ≤ old + length parts
 same_turns x old parts rest s t = omega (arith, ap length (only_parts s), ap length (only_parts t))
@@ -52,16 +52,16 @@ same_turns x old parts rest s t = omega (arith, ap length (only_parts s), ap len
 place_within : (x : List ℕ) (fault : Fault) → IsFault x fault → fault.place ≤ length x
 place_within x fault f = let bounds = end_bounds x fault f in omega arith
 
--- what was passed is passed with more behind it
+-- what was passed stays passed if more follows
 passed_last : (passed old new more : ℕ) → passed + 16 * old ≤ 16 * new → passed + 16 * old ≤ 16 * new + more
 passed_last passed old new more h = omega arith
 
--- octets are passed to an end, with the rest behind it
+-- octets are passed up to an end, with the rest after it
 passed_to : (x : List ℕ) (end old new : ℕ) → end + 16 * old ≤ 16 * new
     → length x + 16 * old ≤ 16 * new + length (drop end x)
 passed_to x end old new h = omega (arith, length-drop end x)
 
--- turns for what is passed are no fewer than before
+-- after passing octets the turns are no fewer than before
 turns_grow : (passed old new : ℕ) → passed + 16 * old ≤ 16 * new → old ≤ new
 turns_grow passed old new h = omega arith
 
