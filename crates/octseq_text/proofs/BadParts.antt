@@ -10,14 +10,14 @@ use Rattle.octseq_utf8.proofs.Fits.{Fits, fits_more, fits_less, fits_fewer, get_
 use Rattle.octseq_utf8.proofs.Fitting.{fitting_fits, fitting_within, fitting_wide, fits_fitting}
 use Rattle.octseq_utf8.proofs.Splitting.{bad_of, bad_only, bad_some, fitting_beginning, parts_bad, parts_nil}
 
--- the front of p ++ t that is as long as the first part, where no encoding begins
+-- the front of p ++ t that is as long as the first part, if no encoding begins there
 bad_at : (p t : List ℕ) → 1 ≤ length p → (width (p ++ t) ≡ 0) ⊎ (fitting (p ++ t) < width (p ++ t))
     → part_len (p ++ t) ≡ length p → IsBadPart (p ++ t) p
 bad_at p t some h n =
     let front : take (part_len (p ++ t)) (p ++ t) ≡ p = ap (λ k. take k (p ++ t)) n ∙ take-append_seam p t in
     subst (λ y. IsBadPart (p ++ t) y) front (bad_of (p ++ t) (omega (arith, length-append p t)) h)
 
--- a beginning is the bad part of itself
+-- a beginning by itself is its own bad part
 pub bad_self : (q : List ℕ) → IsBeginning q → IsBadPart (q ++ []) q
 bad_self q b =
     let f = beginning_fits b in
@@ -34,7 +34,7 @@ bad_self q b =
 pub parts_self : (q : List ℕ) → IsBeginning q → parts_of q ≡ Bad q ∷ []
 parts_self q b = ap parts_of (sym (append-nil q)) ∙ parts_bad q [] (bad_self q b) ∙ ap (λ ps. Bad q ∷ ps) parts_nil
 
--- A bad part that doesn't reach the end, or is no beginning, is one whatever follows.
+-- A bad part that doesn't reach the end, or is not a beginning, stays one whatever follows.
 module _ (p s r : List ℕ) (b : IsBadPart (p ++ s) p) (settled : ¬ (IsBeginning p × (s ≡ []))) where
   some : 1 ≤ length p
   some = (bad_some b).0
@@ -42,7 +42,7 @@ module _ (p s r : List ℕ) (b : IsBadPart (p ++ s) p) (settled : ¬ (IsBeginnin
   lead : width (p ++ (s ++ r)) ≡ width (p ++ s)
   lead = ap width_of (get_left p (s ++ r) 0 some ∙ sym (get_left p s 0 some))
 
-  -- what of the whole fits is all of p, and no octet more
+  -- the octets of the whole that fit are all of p and no more
   no_longer : IsBeginning p → fitting (p ++ s) ≤ length p → 1 ≤ width (p ++ (s ++ r))
       → (fitting (p ++ (s ++ r)) ≤ length p) ⊎ (length p < fitting (p ++ (s ++ r))) → fitting (p ++ (s ++ r)) ≤ length p
   no_longer g here wide (inl h) = h

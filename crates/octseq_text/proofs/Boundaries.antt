@@ -14,7 +14,7 @@ use Rattle.octseq_utf8.proofs.Spelling.{inside, plain, begins_all, octets_of_num
 use Rattle.octseq_utf8.proofs.Spelling.{chars_of, octets_of_spelled, concat-append}
 use Rattle.octseq_utf8.proofs.Texts.{spelled, octets_of-chars}
 
--- The octets behind the first of an encoding are within it.
+-- The octets after the first of an encoding are within it.
 record IsLed (e : List ℕ) : Type 0 where
   first : ℕ
   more : List ℕ
@@ -64,7 +64,7 @@ within_encoding {e} p n y some lt =
     ap begins_within (drop-append-le n e y (omega arith)) ∙ ap (λ z. begins_within (drop n z ++ y)) l.whole
     ∙ within_behind l.first l.more l.within n y some (omega arith)
 
--- Encodings in two, of which the first are n octets.
+-- Encodings in two groups, of which the first is n octets.
 record IsCut (es : List (List ℕ)) (n : ℕ) : Type 0 where
   front : List (List ℕ)
   back : List (List ℕ)
@@ -107,7 +107,7 @@ each_in_back : (es fs : List (List ℕ)) → AllByRecursion IsEncoding (es ++ fs
 each_in_back [] fs h = h
 each_in_back (e ∷ es) fs h = each_in_back es fs h.1
 
--- where the octets behind a place don't begin within an encoding, whole characters end there
+-- if the octets after a place don't begin within an encoding, whole characters end there
 pub boundary_from : (x : List ℕ) → IsWellFormed x → (n : ℕ) → n ≤ length x → begins_within (drop n x) ≡ false
     → IsBoundary x n
 boundary_from x (cs, s) n le begins =
@@ -122,7 +122,7 @@ boundary_from x (cs, s) n le begins =
       },
     )
 
--- Encodings in two by their characters.
+-- Encodings in two groups by their characters.
 record IsInTwo (es : List (List ℕ)) (front rest : List ℕ) : Type 0 where
   first : List (List ℕ)
   second : List (List ℕ)
@@ -144,7 +144,7 @@ in_two (e ∷ es) (c ∷ front) rest h =
       others = t.others;
     }
 
--- Octets in two by their characters.
+-- Octets in two parts by their characters.
 pub record AreInTwo (x front rest : List ℕ) : Type 0 where
   pub before : List ℕ
   pub after : List ℕ
@@ -152,7 +152,7 @@ pub record AreInTwo (x front rest : List ℕ) : Type 0 where
   pub spells_before : Spells before front
   pub spells_after : Spells after rest
 
--- octets that spell a front of characters and a rest are in two: those of the front, and those of the rest
+-- octets that spell a front of characters and a rest are in two parts: those of the front, and those of the rest
 pub are_in_two : {x front rest : List ℕ} → Spells x (front ++ rest) → AreInTwo x front rest
 are_in_two {x} {front} {rest} s =
     let t = in_two s.encodings front rest s.numbers in
@@ -175,7 +175,7 @@ are_in_two {x} {front} {rest} s =
       };
     }
 
--- the octets before and behind a boundary are texts
+-- the octets before and after a boundary are texts
 pub at_boundary : (x : List ℕ) → IsWellFormed x → (n : ℕ) (front : List ℕ) (f : IsFrontOf (chars x) n front)
     → AreInTwo x front f.rest
 at_boundary x w n front f = are_in_two (subst (Spells x) f.joined (spelled x w))
@@ -183,7 +183,7 @@ at_boundary x w n front f = are_in_two (subst (Spells x) f.joined (spelled x w))
 length_before : {x front rest : List ℕ} (t : AreInTwo x front rest) → length t.before ≡ length (octets_of front)
 length_before t = sym (ap length (octets_of_spelled t.spells_before))
 
--- where the characters in front have n octets, the first n octets are those that spell them
+-- if the characters of the front have n octets, the first n octets spell them
 pub take_before : (x : List ℕ) (n : ℕ) {front rest : List ℕ} (t : AreInTwo x front rest) → length (octets_of front) ≡ n
     → take n x ≡ t.before
 take_before x n t long =
@@ -199,7 +199,7 @@ drop_before x n t long =
 begins_spelled : {x cs : List ℕ} → Spells x cs → begins_within x ≡ false
 begins_spelled s = sym (ap begins_within s.joined) ∙ begins_all s.encodings s.each
 
--- a boundary is within the octets, and those behind it don't begin within an encoding
+-- a boundary is within the octets, and the octets after it don't begin within an encoding
 pub from_boundary : (x : List ℕ) → IsWellFormed x → (n : ℕ) → IsBoundary x n
     → (n ≤ length x) × (begins_within (drop n x) ≡ false)
 from_boundary x w n (front, f) =
@@ -212,7 +212,7 @@ from_boundary x w n (front, f) =
           ∙ begins_spelled t.spells_after,
     )
 
--- well-formed octets stay so when they are cut at a boundary, or at their end or past it
+-- well-formed octets stay well formed if they are cut at a boundary, at their end or past it
 pub well_formed-cut : (x : List ℕ) → IsWellFormed x → (n : ℕ) → (n < length x → IsBoundary x n)
     → IsWellFormed (take n x)
 well_formed-cut x w n h = ⊎_elim (λ lt. cut_at (h lt)) (λ ge. subst IsWellFormed (sym (take_all n x ge)) w)
@@ -222,7 +222,7 @@ well_formed-cut x w n h = ⊎_elim (λ lt. cut_at (h lt)) (λ ge. subst IsWellFo
     cut_at (front, f) = let t = at_boundary x w n front f in
         (front, subst (λ y. Spells y front) (sym (take_before x n t f.long)) t.spells_before)
 
--- a cut of octets is one of their characters
+-- a cut of octets is a cut of their characters
 pub cuts_to : (x y : List ℕ) (n : ℕ) → y ≡ take n x → IsWellFormed x → (n < length x → IsBoundary x n)
     → CutsTo n (chars x) (chars y)
 cuts_to x y n e w h =
@@ -237,13 +237,13 @@ cuts_to x y n e w h =
         let same : chars y ≡ front = ap chars (e ∙ take_before x n t f.long) ∙ chars_of t.spells_before in
         subst (λ z. IsFrontOf (chars x) n z) (sym same) f
 
--- which octets don't begin within an encoding, by their first
+-- whether octets begin within an encoding, by the first of them
 begins_at : (x : List ℕ) (n : ℕ) → n < length x → begins_within (drop n x) ≡ is_in_range 0x80 0xBF (slice_index x n)
 begins_at [] n lt = absurd (omega arith)
 begins_at (b ∷ x) zero lt = refl
 begins_at (b ∷ x) (suc n) lt = begins_at x n (omega arith)
 
--- strictly before the end, a place is a boundary where its octet isn't within an encoding
+-- before the end, a place is a boundary exactly if its octet isn't within an encoding
 pub boundary_here : (x : List ℕ) → IsWellFormed x → (n : ℕ) → n < length x
     → (is_in_range 0x80 0xBF (slice_index x n) ≡ false) ↔ IsBoundary x n
 boundary_here x w n lt = (
@@ -251,7 +251,7 @@ boundary_here x w n lt = (
   λ b. sym (begins_at x n lt) ∙ (from_boundary x w n b).1,
 )
 
--- from the end on, that is the end alone
+-- from the end on, only the end is a boundary
 pub boundary_end : (x : List ℕ) → IsWellFormed x → (n : ℕ) → length x ≤ n → (n ≡ length x) ↔ IsBoundary x n
 boundary_end x w n ge = (
   λ e. boundary_from x w n (omega arith) (ap begins_within (drop_past x n ge)),

@@ -1,4 +1,4 @@
--- What a call on octets does to the characters.
+-- The effect on the characters of a call on octets.
 use Rattle.std.proofs.Common.{◌≡◌, ℕ, ◌+◌, Bool, true, Option, List, ◌++◌, length, Result}
 use Rattle.std.proofs.Common.{Ok, Err, OnOk, OnErr, ◌↔◌, ap, sym, ◌∙◌, subst, length-append}
 use Rattle.octseq_core.proofs.Limits.{within_if_not_past}
@@ -24,7 +24,7 @@ pub well_formed-appended : {T E : Type 0} (r : Result T E) (new old more : List 
 well_formed-appended (Ok x) new old more ok err v w = subst IsWellFormed (sym ok) (well_formed-append old more v w)
 well_formed-appended (Err e) new old more ok err v w = subst IsWellFormed (sym err) v
 
--- an append of octets is one of their characters
+-- an append of octets is an append of their characters
 
 appends_with : (limit : Option ℕ) (asks : Bool) (r : Result (Unit {0}) AppendError) (new old more : List ℕ)
     → OnOk r (new ≡ old ++ more) → OnErr r (new ≡ old)
@@ -42,7 +42,7 @@ on_ok : {T E : Type 0} (r : Result T E) (P Q : Type 0) → (P → Q) → OnOk r 
 on_ok (Ok x) P Q f p = f p
 on_ok (Err e) P Q f p = tt
 
--- an append of well-formed octets to well-formed ones, done or refused, is an append of their characters
+-- an append of well-formed octets to well-formed octets, done or refused, is an append of their characters
 pub appends : (limit : Option ℕ) (asks : Bool) (r : Result (Unit {0}) AppendError) (new old more : List ℕ)
     → OnOk r (new ≡ old ++ more) → OnErr r (new ≡ old)
     → (IsShort append_error r ↔ IsPast limit (length old + length more)) → (IsMemory append_error r → asks ≡ true)

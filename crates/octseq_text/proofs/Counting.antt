@@ -26,12 +26,12 @@ parts_few (encoding {e} {rest = r} p s) = let few = parts_few s in let long = le
 parts_few (bad_part {bad = p} {rest = r} b s) = let few = parts_few s in let some = bad_some b in
     omega (arith, length-append p r)
 
--- so turns within the parts are within the octets
+-- so turns within the number of parts are within the number of octets
 pub turns_within : (x rest : List ℕ) (old new : ℕ) → new + length (parts_of rest) ≤ old + length (parts_of x)
     → new ≤ old + length x
 turns_within x rest old new counted = let few = parts_few (splits x) in omega arith
 
--- and with parts left, they are fewer still
+-- and with parts left, there are fewer still
 pub turns_left : (new rest all : ℕ) → new + rest ≤ all → new ≤ all
 turns_left new rest all h = omega arith
 
@@ -41,12 +41,12 @@ none_turned turns parts = omega arith
 pub one_turned : (turns size : ℕ) → turns ≤ turns + size + 1
 one_turned turns size = omega arith
 
--- what turns passed, and what more turns passed of the rest
+-- the octets passed by turns, and by more turns on the rest
 pub passed_on : (all left rest old mid new : ℕ) → all + 16 * old ≤ 16 * mid + left → left + 16 * mid ≤ 16 * new + rest
     → all + 16 * old ≤ 16 * new + rest
 passed_on all left rest old mid new h k = omega arith
 
--- where no rest is left, all is passed
+-- if no rest is left, all is passed
 pub passed_all : (all old new : ℕ) (rest : List ℕ) → rest ≡ [] → all + 16 * old ≤ 16 * new + length rest
     → all + 16 * old ≤ 16 * new
 passed_all all old new rest none h = omega (arith, ap length none)
@@ -55,7 +55,7 @@ passed_all all old new rest none h = omega (arith, ap length none)
 pub passed_none : (all old : ℕ) → all + old ≤ old + all
 passed_none all old = omega arith
 
--- behind a chunk fewer octets are left
+-- after a chunk fewer octets are left
 pub fewer_left : (x : List ℕ) (chunk : Chunk) (behind : List ℕ) → IsFirstChunk x chunk behind
     → length behind < length x
 fewer_left x chunk behind c = go c.bad
@@ -69,7 +69,7 @@ fewer_left x chunk behind c = go c.bad
     go (inl none) = let some = nil_or_some x c.some in omega (arith, ap length none.1)
     go (inr bad) = let some = (bad_some bad).0 in omega (arith, long)
 
--- nor more turns to a fault than octets to its end
+-- nor are there more turns to a fault than octets up to its end
 pub turns_few : (x : List ℕ) (fault : Fault) → IsFault x fault
     → (length (chars (take fault.place x)) + 1 ≤ fault_end x fault) × (fault_end x fault ≤ length x)
 turns_few x fault f =
@@ -79,7 +79,7 @@ turns_few x fault f =
     let same : chars (take fault.place x) ≡ f.good.0 = ap chars (front_is x fault f) ∙ chars_of f.good.1 in
     (omega (arith, ap length same), omega arith)
 
--- A beginning with one octet behind it has one turn.
+-- A beginning followed by one octet takes one turn.
 
 module _ (b : List ℕ) (o : ℕ) (begins : IsBeginning b) where
   one_encoding : (es : List (List ℕ)) → AllByRecursion IsEncoding es → concat es ≡ b ++ o ∷ [] → length es ≤ 1
@@ -100,14 +100,14 @@ module _ (b : List ℕ) (o : ℕ) (begins : IsBeginning b) where
         length-append d (concat es),
       ))
 
--- a beginning and one octet behind it, where they are well formed, are one character at most
+-- a beginning followed by one octet, if well formed, is at most one character
 pub one_character : (b seen : List ℕ) (o : ℕ) → IsBeginning b → seen ≡ b ++ o ∷ [] → IsWellFormed seen
     → length (chars seen) ≤ 1
 one_character b seen o begins e (cs, s) =
     let few = one_encoding b o begins s.encodings s.each (s.joined ∙ e) in
     omega (arith, ap length (chars_of s), ap length s.numbers, length-map s.encodings number_of)
 
--- where a beginning and one octet behind it have a fault, no character stands before it
+-- if a beginning followed by one octet has a fault, there is no character before it
 pub none_before_fault : (b seen : List ℕ) (o : ℕ) → IsBeginning b → seen ≡ b ++ o ∷ [] → (fault : Fault)
     → IsFault seen fault → length (chars (take fault.place seen)) ≡ 0
 none_before_fault b seen o begins e fault f =
@@ -118,32 +118,32 @@ none_before_fault b seen o begins e fault f =
     ∙ ap chars (front_is (b ++ o ∷ []) fault at) ∙ chars_of at.good.1 in
     omega (arith, ap length same, ap length none)
 
--- A piece is read octet by octet, with one turn at most and one at least for each.
+-- A piece is read octet by octet, with exactly one turn for each.
 
--- a turn for the octet, or none, is one at most
+-- at most one turn for the octet is at most one more turn
 pub one_more : (few mid new : ℕ) → new ≤ mid + few → few ≤ 1 → new ≤ mid + 1
 one_more few mid new counted h = omega arith
 
--- and so are those to a fault at which no character stands before it
+-- and so are the turns to a fault with no character before it
 pub one_to_fault : (few mid new : ℕ) → new ≤ mid + few + 1 → few ≡ 0 → new ≤ mid + 1
 one_to_fault few mid new counted h = omega arith
 
--- turns within a place of the piece are within the next place
+-- turns up to a place of the piece are within those for the next place
 pub turns_next : (at old mid new : ℕ) → mid ≤ old + at → new ≤ mid + 1 → new ≤ old + (at + 1)
 turns_next at old mid new before one = omega arith
 
--- and within its length
+-- and within the length of the piece
 pub turns_inside : (size at old mid new : ℕ) → at < size → mid ≤ old + at → new ≤ mid + 1 → new ≤ old + size
 turns_inside size at old mid new h before one = omega arith
 
--- with what is left behind a place they are within its length and one
+-- together with what is left after a place they are within its length and one
 pub turns_to_rest : (piece : List ℕ) (place at old mid new : ℕ) → at ≤ place → place ≤ length piece
     → mid ≤ old + at → new ≤ mid + 1
     → new + length (take (length piece - place) (drop place piece)) ≤ old + length piece + 1
 turns_to_rest piece place at old mid new h k before one =
     omega (arith, length-take (length piece - place) (drop place piece), length-drop place piece)
 
--- octets are passed to a place, and what is left is behind it
+-- octets are passed up to a place, and the rest after it is left
 pub passed_to_rest : (piece : List ℕ) (place old new : ℕ) → place + 16 * old ≤ 16 * new
     → length piece + 16 * old ≤ 16 * new + length (take (length piece - place) (drop place piece))
 passed_to_rest piece place old new h =
@@ -154,7 +154,7 @@ pub passed_still : (at end old mid new : ℕ) → at + 16 * old ≤ 16 * mid →
     → at + 16 * old ≤ 16 * new
 passed_still at end old mid new h k = omega arith
 
--- where an octet at least was looked at, one more is passed
+-- if at least one octet was read, one more is passed
 pub passed_next : (at end old mid new : ℕ) → at + 16 * old ≤ 16 * mid → end + 16 * mid ≤ 16 * new → 1 ≤ end
     → at + 1 + 16 * old ≤ 16 * new
 passed_next at end old mid new h k some = omega arith
@@ -163,10 +163,10 @@ passed_next at end old mid new h k some = omega arith
 pub turns_kept : (passed old new : ℕ) → passed + 16 * old ≤ 16 * new → old ≤ new
 turns_kept passed old new h = omega arith
 
--- an octet stands behind a beginning
+-- there is an octet after a beginning
 pub octet_behind : (b seen : List ℕ) (o : ℕ) → seen ≡ b ++ o ∷ [] → 1 ≤ length seen
 octet_behind b seen o e = omega (arith, ap length e, length-append b (o ∷ []))
 
--- a fault ends behind an octet
+-- a fault ends after at least one octet
 pub fault_end_some : (x : List ℕ) (fault : Fault) → IsFault x fault → 1 ≤ fault_end x fault
 fault_end_some x fault f = let bounds = end_bounds x fault f in omega arith

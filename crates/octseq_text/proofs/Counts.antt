@@ -1,4 +1,4 @@
--- Writers that count what is written to them.
+-- Writers that count the octets written to them.
 use Rattle.std.proofs.Common.{◌≡◌, ℕ, ◌+◌, List, [], ◌∷◌, length, ap, ◌∙◌, arith}
 use Rattle.std.proofs.lemmas.List.{length-append}
 use Rattle.std.specs.Fmt.{WritesInCalls}
@@ -14,7 +14,7 @@ module _ {W : Type 0} (took : W → List ℕ → W → Type 0) (count : W → �
       let more = after_calls calls.0 parts v calls.2 in
       omega (arith, one, more, length-append part (concat parts))
 
-  -- what was written is counted, in how many calls it ever came
+  -- the octets written are counted, whatever the number of calls
   pub count_after_writes : (w : W) (octets : List ℕ) (v : W) → WritesInCalls took w octets v
       → count v ≡ count w + length octets
   count_after_writes w octets v writes =

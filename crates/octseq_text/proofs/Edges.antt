@@ -1,4 +1,4 @@
--- A front of a text that stays, and ends where a character does.
+-- A front of a text that stays, and ends at the end of a character.
 use Rattle.std.proofs.Common.{◌≡◌, ℕ, false, List, [], ◌∷◌, ◌++◌, length, take, drop}
 use Rattle.std.proofs.Common.{refl, ap, sym, ◌∙◌, append_assoc, arith, length-take}
 use Rattle.std.proofs.Math.Seq.{drop-append_seam}
@@ -13,7 +13,7 @@ begins_more : (m s : List ℕ) → begins_within m ≡ false → IsWellFormed s 
 begins_more [] s edge well = begins_text s well
 begins_more (b ∷ m) s edge well = edge
 
--- a character still ends there once a text was appended
+-- a character still ends there after a text was appended
 pub edge_stays : (before now s : List ℕ) → take (length before) now ≡ before
     → begins_within (drop (length before) now) ≡ false → IsWellFormed s
     → begins_within (drop (length before) (now ++ s)) ≡ false

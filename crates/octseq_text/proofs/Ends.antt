@@ -14,7 +14,7 @@ use Rattle.octseq_utf8.proofs.Numbers.{encoding_of-number_of, number_is_characte
 use Rattle.octseq_utf8.proofs.Numbers.{number_of_1, number_of_2, number_of_3, number_of_4}
 use Rattle.octseq_utf8.proofs.Spelling.{chars_of, spells_nothing, spells_one, spells-append}
 
--- Octets in front of a last encoding.
+-- Octets followed by a last encoding.
 record Ending (x : List ℕ) : Type 0 where
   before : List ℕ
   characters : List ℕ
@@ -71,7 +71,7 @@ ends_in t k c long n =
 scalar : {x : List ℕ} (t : Ending x) (c : ℕ) → number_of t.last ≡ c → IsScalar c
 scalar t c n = subst IsScalar n (scalar_from (number_of t.last) (number_is_character t.encoding))
 
--- the octet that stands k before the end
+-- the octet k places before the end
 abbrev from_end : List ℕ → ℕ → ℕ
 from_end x k = slice_index x (length x - k)
 
@@ -141,7 +141,7 @@ width_of_last x before w (row_F1_F3 {a} {b} {c} {d} p q r s) = four x before a b
 width_of_last x before w (row_F4 {a} {b} {c} {d} p q r s) =
     four x before a b c d w (omega arith) (omega arith, omega arith) r (omega arith)
 
--- the last encoding, whose octets are read from the end: p, q, r and s are the last four
+-- the last encoding, read from the end: p, q, r and s are the last four octets
 
 module _ (x : List ℕ) (w : IsWellFormed x) (some : 0 < length x) (p : ℕ) (is_p : p ≡ from_end x 1) where
   last : Ending x
@@ -243,7 +243,7 @@ pub record IsPopped (x y : List ℕ) (c : ℕ) : Type 0 where
   pub octets : x ≡ y ++ encoding_of c
   pub characters : chars x ≡ chars y ++ c ∷ []
 
--- a text that is cut by as many octets as its last encoding has is without its last character
+-- a text whose end is cut by the length of its last encoding is the text without its last character
 pub popped : (x y : List ℕ) (c n : ℕ) → EndsWith x c → n ≡ length x - length (encoding_of c) → y ≡ take n x
     → IsPopped x y c
 popped x y c n e cut taken =

@@ -1,4 +1,4 @@
--- What lossy readings answer.
+-- What lossy readings ensure.
 use Rattle.std.proofs.Common.{◌≡◌, ℕ, List, ◌++◌, length, Option, Result, IfOk, IsErr, ap, sym, ◌∙◌, subst}
 use Rattle.std.proofs.lemmas.Result.{IfOk-weaker}
 use Rattle.octseq_core.specs.Limit.{IsPast}
@@ -12,7 +12,7 @@ use Rattle.octseq_utf8.proofs.Splitting.{splits, only_parts, one_splitting}
 use Rattle.octseq_utf8.proofs.Texts.{well_formed-append}
 use Rattle.octseq_text.specs.Lossy.{ReadsLossily}
 
--- a call that answers the text of the octets' parts as the finder reads them reads lossily
+-- a call that returns the text of the octets' parts, as the finder reads them, is a lossy reading
 module _ {A E : Type 0} (tells : E → Refusal) (limit : Option ℕ) (requests : Type 0) (w : ℕ) (front octets : List ℕ)
     (content : A → List ℕ) (result : Result A E) where
   abbrev whole : List Part → List ℕ

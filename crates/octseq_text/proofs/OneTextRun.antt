@@ -1,4 +1,4 @@
--- Where no request for memory is refused, a list of commands has one answer.
+-- If no request for memory is refused, a list of commands has one result.
 use Rattle.std.proofs.Common.{◌≡◌, ◌≢◌, ℕ, Bool, true, false, IsTrue, ◌↔◌, ◌⊎◌, inl, inr, ⊎_elim, List, [], ◌∷◌}
 use Rattle.std.proofs.Common.{◌++◌, length, Option, Some, None, refl, arith, ap, sym, ◌∙◌, subst, length-append}
 use Rattle.std.proofs.lemmas.Bool.{cases_lt}
@@ -13,11 +13,11 @@ use Rattle.octseq_text.specs.declared.str.commands.Reply.{Reply}
 use Rattle.octseq_text.specs.declared.str.commands.Reply.TheVariants as reply
 use Rattle.octseq_utf8.proofs.Numbers.{encoding_some}
 
--- an answer is another
+-- a reply and the characters after it are the same as others
 abbrev Same : Reply → List ℕ → Reply → List ℕ → Type 0
 Same r x s y = (r ≡ s) × (x ≡ y)
 
--- an append with no refusal of memory is done or short, and not both
+-- an append that is not refused for memory is either done or short
 
 abbrev IsDone : Option ℕ → List ℕ → List ℕ → Reply → List ℕ → Type 0
 IsDone limit before more r after = (r ≡ reply.Done) × IsWithin limit (length (octets_of (before ++ more)))
@@ -49,7 +49,7 @@ one_append limit asks other b m r s x y a c kept also_kept =
     (done_or_refused limit other b m s y c also_kept))
     (done_or_refused limit asks b m r x a kept)
 
--- fronts of as many octets are one front
+-- two fronts with the same number of octets are equal
 
 fronts : (f g y z : List ℕ) → f ++ y ≡ g ++ z → length (octets_of f) ≡ length (octets_of g) → f ≡ g
 fronts [] [] y z e long = refl
@@ -119,7 +119,7 @@ one_step limit asks other b command.Len r s x y p q kept also_kept = (p.0 ∙ sy
 one_step limit asks other b (command.Is t) r s x y (c, e, p, u) (d, f, q, v) kept also_kept =
     (e ∙ ap (λ z. reply.Is z) (one_truth _ c d p q) ∙ sym f, u ∙ sym v)
 
--- where memory is never refused, a list of commands on a text has one list of replies, and leaves one text
+-- if memory is never refused, a list of commands on a text has one list of replies, and leaves one text
 pub one_run : (limit : Option ℕ) (asks other : Bool) (b : List ℕ) (commands : List Command) (rs ss : List Reply)
     (x y : List ℕ)
     → TextRun limit asks b commands rs x → TextRun limit other b commands ss y → IsWithoutMemory rs → IsWithoutMemory ss
@@ -148,7 +148,7 @@ no_memory limit b command.Pop x (c, e, p) = cc
 no_memory limit b command.Len x p = let e = p.0 in cc
 no_memory limit b (command.Is t) x (c, e, p, u) = cc
 
--- where the type requests no memory, no reply says that a request for memory was refused
+-- if the type requests no memory, no reply says that a request for memory was refused
 pub without_memory : (limit : Option ℕ) (b : List ℕ) (commands : List Command) (rs : List Reply) (x : List ℕ)
     → TextRun limit false b commands rs x → IsWithoutMemory rs
 without_memory limit b commands [] x p = tt

@@ -1,4 +1,4 @@
--- The order of well-formed octets is that of their characters.
+-- The order of well-formed octets is the order of their characters.
 use Rattle.std.proofs.Common.{◌≡◌, ℕ, ◌+◌, ◌/◌, ◌%◌, ◌≤◌, ◌<◌, List, [], ◌∷◌}
 use Rattle.std.proofs.Common.{◌++◌, refl, sym, ◌∙◌, ap, arith, ⊎_elim, nat_eq}
 use Rattle.std.proofs.Math.Nat.{div-div-eq-div-mul}
@@ -24,7 +24,7 @@ nat_cmp_same a = grind (arith, nat_tests)
 nat_cmp_greater : (a b : ℕ) → b < a → nat_cmp a b ≡ Greater
 nat_cmp_greater a b h = grind (arith, nat_tests)
 
--- by the first, and then by what follows
+-- by the first, then by what follows
 
 less : (a b : ℕ) (o : Ordering) → a < b → ordering_then (nat_cmp a b) o ≡ Less
 less a b o h = ap (λ x. ordering_then x o) (nat_cmp_less a b h)
@@ -37,12 +37,12 @@ less_or a b o h then =
     ∙ ap (λ x. ordering_then x o) (nat_cmp_same b) ∙ then e)
     (cases_lt a b)
 
--- equal fronts decide nothing
+-- equal fronts don't decide
 behind : (xs y z : List ℕ) → slice_cmp nat_cmp (xs ++ y) (xs ++ z) ≡ slice_cmp nat_cmp y z
 behind [] y z = refl
 behind (x ∷ xs) y z = ap (λ o. ordering_then o (slice_cmp nat_cmp (xs ++ y) (xs ++ z))) (nat_cmp_same x) ∙ behind xs y z
 
--- a character below another has the lesser encoding, also where both have the same width
+-- a lesser character has the lesser encoding, even if both have the same width
 
 abbrev IsLess : ℕ → ℕ → List ℕ → List ℕ → Type 0
 IsLess c d y z = slice_cmp nat_cmp (encoding_of c ++ y) (encoding_of d ++ z) ≡ Less
@@ -102,7 +102,7 @@ below c d y z h =
         rw (encoding_of_3 c low high, encoding_of_4 d d4) (less (224 + c / 4096) (240 + d / 262144) _ (omega arith)))
         (cases_lt d 0x1_0000)
 
--- the first characters decide, and then the rest
+-- the first characters decide, then the rest
 first_decides : (c d : ℕ) (y z : List ℕ) → slice_cmp nat_cmp (encoding_of c ++ y) (encoding_of d ++ z)
     ≡ ordering_then (nat_cmp c d) (slice_cmp nat_cmp y z)
 first_decides c d y z =
@@ -132,14 +132,14 @@ octets_order (c ∷ cs) [] = nat_list_cmp_total.antisymm (encoding_of c ++ octet
 octets_order (c ∷ cs) (d ∷ ds) = first_decides c d (octets_of cs) (octets_of ds) ∙ ap (ordering_then (nat_cmp c d))
     (octets_order cs ds)
 
--- the order of the octets is that of the characters
+-- the order of the octets is the order of the characters
 pub text_order : (x y : List ℕ) → IsWellFormed x → IsWellFormed y
     → slice_cmp nat_cmp x y ≡ slice_cmp nat_cmp (chars x) (chars y)
 text_order x y v w =
     ap (λ z. slice_cmp nat_cmp z y) (sym (octets_of-chars x v)) ∙ ap (λ z. slice_cmp nat_cmp (octets_of (chars x)) z)
     (sym (octets_of-chars y w)) ∙ octets_order (chars x) (chars y)
 
--- octets are equal where their characters are
+-- octets are equal exactly if their characters are
 pub text_equal : (x y : List ℕ) → IsWellFormed x → IsWellFormed y
     → pointwise nat_eq x y ≡ pointwise nat_eq (chars x) (chars y)
 text_equal x y v w = sym (is_eq-slice_cmp x y) ∙ ap is_eq (text_order x y v w) ∙ is_eq-slice_cmp (chars x) (chars y)

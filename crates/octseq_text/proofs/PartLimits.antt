@@ -7,7 +7,7 @@ use Rattle.octseq_core.specs.Limit.{IsPast}
 use Rattle.octseq_core.proofs.Limits.{past_more}
 use Rattle.octseq_utf8.specs.Parts.{Part, octets_with, text}
 
--- where the text of a front of parts passes a limit, the text of all of them does
+-- if the text of a front of the parts exceeds the limit, so does the text of all of them
 pub past_front : (limit : Option ℕ) (front others parts : List Part) → parts ≡ front ++ others
     → IsPast limit (length (text front)) → IsPast limit (length (text parts))
 past_front limit front others parts whole past =
@@ -15,7 +15,7 @@ past_front limit front others parts whole past =
     ∙ length-append (text front) (text others) in
     past_more limit (length (text front)) (length (text parts)) (omega arith) past
 
--- and where the text of all of them doesn't, the text of a front doesn't
+-- and if the text of all of them doesn't, the text of a front doesn't
 pub front_not_past : (limit : Option ℕ) (front others parts : List Part) → parts ≡ front ++ others
     → (IsPast limit (length (text parts)) → ⊥)
     → IsPast limit (length (text front)) → ⊥

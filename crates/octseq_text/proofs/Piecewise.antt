@@ -1,4 +1,4 @@
--- A lossy reading in pieces: what is read of a piece, and what is then held.
+-- A lossy reading in pieces: what is read from a piece, and what is held afterwards.
 use Rattle.std.specs.Prelude.{is_some, IsTrue, ◌==◌}
 use Rattle.std.proofs.Common.{Bool, true, false, ◌≡◌, ◌≢◌, ℕ, suc, ◌+◌, ◌<◌, ◌≤◌, List, [], ◌∷◌, ◌++◌}
 use Rattle.std.proofs.Common.{map, length, get_or, take, drop, refl, arith, ◌⊎◌, inl, inr, ⊎_elim, ap}
@@ -35,11 +35,11 @@ nil_from_length (a ∷ x) h = absurd (omega arith)
 
 -- the text grows
 
--- where no part is read, all octets are left, and the text is as it was
+-- if no part is read, all octets are left, and the text is unchanged
 pub read_none : (x a : List ℕ) → IsRead x x a a
 read_none x a = record { parts = []; reads = reads_none x; grown = sym (append-nil a) }
 
--- a reading, and one of what it left, are one reading together
+-- a reading followed by a reading of the rest is one reading
 pub read_then : {x y z a b c : List ℕ} → IsRead x y a b → IsRead y z b c → IsRead x z a c
 read_then {x} {y} {z} {a} s t = record {
   parts = s.parts ++ t.parts;
@@ -64,7 +64,7 @@ too_long limit more seen {z = z} {b = b} e s t p = record {
   past = subst (IsPast limit) (ap (λ y. length b + length y) e ∙ sym (length-append b more)) p;
 }
 
--- octets of which some parts were read are too long where the rest is
+-- octets of which some parts were read are too long if the rest is
 pub too_long_then : {limit : Option ℕ} {x y a b : List ℕ} → IsRead x y a b → IsTooLong limit y b → IsTooLong limit x a
 too_long_then s t = record { rest = t.rest; new = t.new; read = read_then s t.read; past = t.past }
 
@@ -93,7 +93,7 @@ module _ (x : List ℕ) (chunk : Chunk) (behind : List ℕ) (c : IsFirstChunk x 
   read_valid a = subst (λ y. IsRead y (chunk.invalid ++ behind) a (a ++ chunk.valid)) (sym c.whole)
       (read_good (chunk.invalid ++ behind) a c.good.1)
 
-  -- which is all, where no bad part is behind it
+  -- which is all of the chunk if it has no bad part
   pub read_chunk : length chunk.invalid ≡ 0 → (a : List ℕ) → IsRead x behind a (a ++ chunk.valid)
   read_chunk none a =
       subst (λ y. IsRead x y a (a ++ chunk.valid)) (ap (λ y. y ++ behind) (nil_from_length chunk.invalid none))
@@ -105,7 +105,7 @@ module _ (x : List ℕ) (chunk : Chunk) (behind : List ℕ) (c : IsFirstChunk x 
   by_cases n some (inl none) = absurd (omega (arith, ap length none.0))
   by_cases n some (inr bad) = reads_bad chunk.invalid behind bad (λ k. n (c.cut.1 k))
 
-  -- and the bad part, where it isn't an open end
+  -- and the bad part, unless it is an open end
   pub read_invalid : ¬ IsTrue chunk.incomplete → 1 ≤ length chunk.invalid → (a : List ℕ)
       → IsRead (chunk.invalid ++ behind) behind a (a ++ encoding_of 0xFFFD)
   read_invalid n some a = read_bad chunk.invalid behind a (by_cases n some c.bad)
@@ -116,11 +116,11 @@ module _ (x : List ℕ) (chunk : Chunk) (behind : List ℕ) (c : IsFirstChunk x 
       subst (λ y. IsRead x y a (a ++ chunk.valid)) (ap (λ y. chunk.invalid ++ y) (c.cut.0 t).1
       ∙ append-nil chunk.invalid) (read_valid a)
 
--- what a test answers
+-- what a test shows
 pub not_so : (is told : Bool) → told ≡ is → told ≡ false → ¬ IsTrue is
 not_so is told e f t = let no : true ≡ false = sym t ∙ sym e ∙ f in absurd (cc)
 
--- and what a test for none tells of the octets that it looked at
+-- what a test for emptiness shows of the octets it tested
 pub none_of : (x seen : List ℕ) (test : Bool) → seen ≡ x → test ≡ (length seen == 0) → test ≡ true → length x ≡ 0
 none_of x seen test e f t = sym (ap length e) ∙ eqb-true (length seen) 0 (sym f ∙ t)
 
@@ -128,23 +128,23 @@ pub some_of : (x seen : List ℕ) (test : Bool) → seen ≡ x → test ≡ (len
 some_of x [] test e f t = let no : true ≡ false = sym f ∙ t in absurd (cc)
 some_of x (o ∷ seen) test e f t = omega (arith, ap length e)
 
--- whether a fault has a size, as a test of a copy tells it
+-- whether a fault has a size, by the test of a copy
 
--- a fault has no size where the test finds none in the copy
+-- a fault has no size if the test finds none in the copy
 pub size_none : (size copy : Option ℕ) → copy ≡ size → is_some copy ≡ false → size ≡ None
 size_none size None e h = sym e
 size_none size (Some n) e h = absurd (cc)
 
--- and it has one where the test finds one in the copy
+-- and it has one if the test finds one in the copy
 pub size_some : (size copy : Option ℕ) → copy ≡ size → is_some copy ≡ true → size ≢ None
 size_some size None e h = absurd (cc)
 size_some size (Some n) e h = λ none. cc
 
--- a beginning has three octets at most
+-- a beginning has at most three octets
 pub beginning_few : (q : List ℕ) → IsBeginning q → length q ≤ 3
 beginning_few q b = let short = beginning_short b in omega (arith, width_le (get_or q 0 0))
 
--- at a fault of a beginning with one octet behind it
+-- at a fault of a beginning followed by one octet
 module _ (b : List ℕ) (o : ℕ) (begins : IsBeginning b) (fault : Fault) (f : IsFault (b ++ o ∷ []) fault) where
   pub none_before : (es : List (List ℕ)) → AllByRecursion IsEncoding es → concat es ≡ f.before → f.before ≡ []
   none_before [] a e = sym e
@@ -178,7 +178,7 @@ module _ (b : List ℕ) (o : ℕ) (begins : IsBeginning b) (fault : Fault) (f : 
   all_begins size e (inl k) = subst IsBeginning (sym (whole ∙ ap (λ y. f.bad ++ y) k.2 ∙ append-nil f.bad)) k.1
   all_begins size e (inr k) = let some = k.0 in absurd (cc)
 
-  -- where the fault reaches the end, all of it is a beginning
+  -- if the fault reaches the end, all of it is a beginning
   begins_more : fault.size ≡ None → IsBeginning (b ++ o ∷ [])
   begins_more e = all_begins fault.size e f.size
 
@@ -199,11 +199,11 @@ module _ (b : List ℕ) (o : ℕ) (begins : IsBeginning b) (fault : Fault) (f : 
       subst (λ y. IsBadPart (b ++ o ∷ []) y) same (subst (λ y. IsBadPart y f.bad) (sym whole) f.first) in
       reads_bad b (o ∷ r) (bad_more b (o ∷ []) r part (λ z. octet_some [] z.1)) (λ z. octet_some r z.1)
 
-  -- where it doesn't, the beginning is a bad part, whatever follows the octet
+  -- if it doesn't, the beginning is a bad part, whatever follows the octet
   refuted : fault.size ≢ None → (r a : List ℕ) → IsRead (b ++ (o ∷ r)) (o ∷ r) a (a ++ encoding_of 0xFFFD)
   refuted n r a = read_bad b (o ∷ r) a (refuted_by fault.size n f.size r)
 
--- A beginning q and the octets of a piece, as far as place i.
+-- A beginning q and the octets of a piece up to place i.
 module _ (q piece b : List ℕ) (i : ℕ) (h : i < length piece) (begun : b ≡ q ++ take i piece) where
   from_place : drop i piece ≡ get_or piece i 0 ∷ drop (i + 1) piece
   from_place = let next : suc i ≡ i + 1 = omega arith in
@@ -215,7 +215,7 @@ module _ (q piece b : List ℕ) (i : ℕ) (h : i < length piece) (begun : b ≡ 
       ∙ ap (λ y. (q ++ take i piece) ++ y) from_place ∙ ap (λ y. y ++ (get_or piece i 0 ∷ drop (i + 1) piece))
       (sym begun)
 
-  -- where all that was seen is well formed, the character is whole
+  -- if everything seen is well formed, the character is complete
   pub closed_whole : (seen a : List ℕ) → seen ≡ b ++ get_or piece i 0 ∷ [] → IsWellFormed seen
       → IsRead (q ++ piece) (drop (i + 1) piece) a (a ++ seen)
   closed_whole seen a e w =
@@ -224,7 +224,7 @@ module _ (q piece b : List ℕ) (i : ℕ) (h : i < length piece) (begun : b ≡ 
       (sym e) in
       subst (λ y. IsRead y (drop (i + 1) piece) a (a ++ seen)) (sym all) (read_good (drop (i + 1) piece) a w.1)
 
-  -- where it has a fault of a size, none can come of the beginning
+  -- if it has a fault with a size, the beginning can't become a character
   pub closed_bad : (seen a : List ℕ) → seen ≡ b ++ get_or piece i 0 ∷ [] → IsBeginning b → (fault : Fault)
       → IsFault seen fault → fault.size ≢ None
       → IsRead (q ++ piece) (drop i piece) a (a ++ encoding_of 0xFFFD)
@@ -233,7 +233,7 @@ module _ (q piece b : List ℕ) (i : ℕ) (h : i < length piece) (begun : b ≡ 
       subst (λ y. IsRead (q ++ piece) y a (a ++ encoding_of 0xFFFD)) (sym from_place)
       (subst (λ y. IsRead y (get_or piece i 0 ∷ drop (i + 1) piece) a (a ++ encoding_of 0xFFFD)) (sym all_at) bad)
 
-  -- and where it has one with none, it is a beginning
+  -- and if it has a fault without a size, it is a beginning
   pub still_begins : (seen : List ℕ) → seen ≡ b ++ get_or piece i 0 ∷ [] → IsBeginning b → (fault : Fault)
       → IsFault seen fault → fault.size ≡ None → IsBeginning seen
   still_begins seen e begins fault f n =
@@ -245,7 +245,7 @@ module _ (q piece b : List ℕ) (i : ℕ) (h : i < length piece) (begun : b ≡ 
       e ∙ ap (λ y. y ++ get_or piece i 0 ∷ []) begun ∙ append_assoc q (take i piece) (get_or piece i 0 ∷ [])
       ∙ ap (λ y. q ++ y) (sym (take-suc piece i 0 h) ∙ ap (λ k. take k piece) next)
 
--- A piece behind what a reading stands for.
+-- A piece after the octets that a reading stands for.
 module _ (held : Held) (x piece z new : List ℕ) (s : StandsFor held x)
     (r : IsRead (held.end ++ piece) z held.settled_text new) where
   all_read : Reads (x ++ piece) z (s.settled ++ r.parts)
@@ -264,7 +264,7 @@ module _ (held : Held) (x piece z new : List ℕ) (s : StandsFor held x)
     fine = n;
   }
 
-  -- the text is no longer than that of what settles, and where all is read it is that
+  -- the text is no longer than the text of what settles, and equals it if everything is read
   pub feed_short : (q : List ℕ) (settled : List Part) → Settles (x ++ piece) settled q
       → length new ≤ length (text settled)
   feed_short q settled t = let most = text_read (x ++ piece) z q (s.settled ++ r.parts) settled all_read t in
@@ -274,7 +274,7 @@ module _ (held : Held) (x piece z new : List ℕ) (s : StandsFor held x)
   feed_text e q settled t =
       all_text ∙ ap text (one_settling (reads_settles (x ++ piece) z (s.settled ++ r.parts) all_read e) t).0
 
--- where the open end and a piece are too long to be read, the text of what settles with the piece is past the limit
+-- if the open end and a piece are too long to be read, the text of what settles with the piece exceeds the limit
 pub feed_too_long : {limit : Option ℕ} (held : Held) (x piece : List ℕ) → StandsFor held x
     → IsTooLong limit (held.end ++ piece) held.settled_text
     → (q : List ℕ) (settled : List Part) → Settles (x ++ piece) settled q → IsPast limit (length (text settled))
@@ -294,7 +294,7 @@ settled_all (open_end {end = q} {settled = settled} s b) t =
     )
 settled_all (no_end s n) t = inl (refl, ap text (one_splitting s t))
 
--- the held text, with what became of the open end, is the whole text
+-- the held text followed by the text of the open end is the whole text
 module _ (held : Held) (x made : List ℕ) (s : StandsFor held x) (closed : held.end ≡ [] → made ≡ held.settled_text)
     (replaced : held.end ≢ [] → made ≡ held.settled_text ++ encoding_of 0xFFFD) where
   pub finish_text : (parts : List Part) → Splits x parts → made ≡ text parts
@@ -307,7 +307,7 @@ module _ (held : Held) (x made : List ℕ) (s : StandsFor held x) (closed : held
       subst IsWellFormed (sym (finish_text (parts_of x) (splits x)))
       (text_well_formed 0xFFFD replacement_is_character (splits x))
 
--- where the held text has no room for the replacement of its open end, the text of all parts is past the limit
+-- if the held text has no room for the replacement of its open end, the text of all parts exceeds the limit
 pub finish_too_long : (limit : Option ℕ) (held : Held) (x : List ℕ) (parts : List Part) → StandsFor held x
     → Splits x parts
     → held.end ≢ [] → IsPast limit (length held.settled_text + length (encoding_of 0xFFFD))
@@ -319,7 +319,7 @@ finish_too_long limit held x parts s t n p =
 
 -- A reading that met no refusal is sound, and so is one that met one.
 
--- a reading that stands for octets is sound, where its text is within the limit
+-- a reading that stands for octets is sound, if its text is within the limit
 pub sound_standing : (limit : Option ℕ) (asks : Bool) (held : Held) (x : List ℕ) → StandsFor held x
     → IsWithin limit (length held.settled_text) → IsSound limit asks held
 sound_standing limit asks held x s w = record {
@@ -328,16 +328,16 @@ sound_standing limit asks held x s w = record {
   memory = λ met. let none = s.fine in absurd (cc);
 }
 
--- no refusal, and one
+-- there is no refusal, and there is one: impossible
 pub not_met : (met : Option AppendError) (refusal : AppendError) → met ≡ None → met ≡ Some refusal → ⊥
 not_met met refusal none some = let no : None ≡ Some refusal = sym none ∙ some in absurd (cc)
 
--- one refusal was met
+-- only one refusal was met
 pub same_refusal : (met : Option AppendError) (refusal other : AppendError) → met ≡ Some refusal → met ≡ Some other
     → refusal ≡ other
 same_refusal met refusal other e f = let same : Some refusal ≡ Some other = sym e ∙ f in cc
 
--- memory was refused only where the type asks for it
+-- memory was refused only if the type requests it
 pub memory_met : (met : Option AppendError) (refusal : AppendError) (asks : Bool) → (met ≡ Some Memory → asks ≡ true)
     → met ≡ Some refusal → Is Refusal.memory (append_error refusal) → asks ≡ true
 memory_met met (Short short) asks memory e h = absurd h

@@ -1,4 +1,4 @@
--- The replacing of bad parts, chunk by chunk.
+-- Bad parts replaced, chunk by chunk.
 use Rattle.std.proofs.Common.{◌≡◌, ℕ, Option, List, [], ◌++◌, length, refl, ap}
 use Rattle.std.proofs.Common.{sym, ◌∙◌, arith, append_assoc, length-append}
 use Rattle.std.proofs.lemmas.List.{append-nil}
@@ -18,7 +18,7 @@ pub added : (w : ℕ) (content made valid invalid mark : List ℕ) → made ≡ 
     → made ≡ content ++ (valid ++ mark_of (encoding_of w) invalid)
 added w content made valid invalid mark e m = e ∙ ap (λ y. content ++ (valid ++ mark_of y invalid)) m
 
--- and then what it may be short of
+-- if the limit is exceeded with this chunk, it is with later text too
 pub chunk_short : (limit : Option ℕ) (w : ℕ) (content valid invalid mark later : List ℕ) → mark ≡ encoding_of w
     → IsPast limit (length (content ++ (valid ++ mark_of mark invalid)))
     → IsPast limit (length (content ++ ((valid ++ mark_of (encoding_of w) invalid) ++ later)))
@@ -34,7 +34,7 @@ chunk_short limit w content valid invalid mark later m past =
     ))
     past
 
--- a front of a front
+-- a front of a front is a front
 pub front_then : (a b c : List ℕ) → IsFront a b → IsFront b c → IsFront a c
 front_then a b c f g = (f.0 ++ g.0, g.1 ∙ ap (λ y. y ++ g.0) f.1 ∙ append_assoc a f.0 g.0)
 
@@ -54,7 +54,7 @@ grown_short limit w x made all chunk behind mark before c m past =
     ))
     past
 
--- a text of nothing adds nothing
+-- an empty text adds nothing
 pub nothing_added : (w : ℕ) (made x : List ℕ) → x ≡ [] → made ≡ made ++ text_with w (parts_of x)
 nothing_added w made x none =
     sym (append-nil made)

@@ -1,11 +1,11 @@
--- Runs that go on.
+-- Runs that continue.
 use Rattle.std.proofs.Common.{◌≡◌, ℕ, ◌+◌, ◌<◌, Bool, Option, List, [], ◌∷◌, ◌++◌, length, take, get_or, refl, subst}
 use Rattle.std.proofs.lemmas.List.{take_more}
 use Rattle.octseq_text.specs.TextRun.{TextStep, TextRun}
 use Rattle.octseq_text.specs.declared.str.commands.Command.{Command}
 use Rattle.octseq_text.specs.declared.str.commands.Reply.{Reply}
 
--- a run and one command more
+-- a run followed by one command
 pub run-append : (limit : Option ℕ) (asks : Bool) (before middle after : List ℕ) (commands : List Command)
     (replies : List Reply) (c : Command) (r : Reply)
     → TextRun limit asks before commands replies middle → TextStep limit asks middle c r after
@@ -17,7 +17,7 @@ run-append limit asks before middle after (d ∷ commands) (q ∷ replies) c r (
 run-append limit asks before middle after [] (q ∷ replies) c r u s = absurd u
 run-append limit asks before middle after (d ∷ commands) [] c r u s = absurd u
 
--- the turn of a loop over the commands
+-- one step of a loop over the commands
 pub run_more : (limit : Option ℕ) (asks : Bool) (before middle after : List ℕ) (commands : List Command) (i : ℕ)
     (d : Command) (replies more : List Reply) (r : Reply)
     → i < length commands → TextRun limit asks before (take i commands) replies middle

@@ -1,4 +1,4 @@
--- What of octets is settled: the parts that are theirs whatever follows.
+-- The settled parts of octets: those that stay whatever follows.
 use Rattle.std.proofs.Common.{◌≡◌, ◌≢◌, ℕ, ◌≤◌, List, [], ◌∷◌, ◌++◌, map, length, refl, arith, ◌⊎◌}
 use Rattle.std.proofs.Common.{inl, inr, ⊎_elim, ap, sym, ◌∙◌, subst, append_assoc, length-append}
 use Rattle.std.proofs.lemmas.Grind.{flat_map-append}
@@ -15,11 +15,11 @@ use Rattle.octseq_utf8.proofs.Splitting.{parts_nil, parts_encoding, parts_bad, s
 
 -- what was read, whatever follows
 
--- where no part is read, all octets are left
+-- if no part is read, all octets are left
 pub reads_none : (x : List ℕ) → Reads x x []
 reads_none x = record { whatever = λ r. refl }
 
--- octets behind those that are read change no part, and are left behind the rest
+-- octets that follow change no part that was read, and are left after the rest
 pub reads_more : (x z y : List ℕ) (ps : List Part) → Reads x z ps → Reads (x ++ y) (z ++ y) ps
 reads_more x z y ps s =
     record {
@@ -27,7 +27,7 @@ reads_more x z y ps s =
           ∙ ap (λ w. ps ++ parts_of w) (sym (append_assoc z y r));
     }
 
--- parts that are read of octets, and then parts of the rest, are all read of the octets
+-- parts read from octets, followed by parts read from the rest, are all read from the octets
 pub reads_then : (x y z : List ℕ) (ps qs : List Part) → Reads x y ps → Reads y z qs → Reads x z (ps ++ qs)
 reads_then x y z ps qs s t =
     record {
@@ -120,9 +120,9 @@ pub settles_end : {x q : List ℕ} {settled : List Part} → Settles x settled q
 settles_end (open_end s b) n = b
 settles_end (no_end s h) n = absurd (n refl)
 
--- octets settle in one way
+-- octets settle in exactly one way
 
--- octets have one list of settled parts, and one open end
+-- octets have only one list of settled parts, and one open end
 pub one_settling : {x q r : List ℕ} {settled others : List Part} → Settles x settled q → Settles x others r
     → (settled ≡ others) × (q ≡ r)
 one_settling (open_end {end = q} {settled = settled} s b) (open_end {end = r} {settled = others} t c) =
@@ -139,7 +139,7 @@ pub settled_front : {x q : List ℕ} {settled parts : List Part} → Settles x s
 settled_front (open_end {end = q} s b) t = (Bad q ∷ [], one_splitting t s)
 settled_front (no_end {parts = settled} s n) t = ([], one_splitting t s ∙ sym (append-nil settled))
 
--- a last part that is bad is the bad part of itself
+-- a last part that is bad is its own bad part
 last_bad : {x : List ℕ} {parts : List Part} → Splits x parts → (front : List Part) (q : List ℕ)
     → parts ≡ front ++ Bad q ∷ [] → IsBadPart (q ++ []) q
 last_bad nothing front q h = absurd (snoc_some front (Bad q) (sym h))
@@ -182,7 +182,7 @@ settling_by x parts s (inr (front, Bad q, same)) =
 pub settling : (x : List ℕ) → (settled : List Part) × (end : List ℕ) × Settles x settled end
 settling x = settling_by x (parts_of x) (splits x) (none_or_last (parts_of x))
 
--- what was read but for an open end is settled
+-- everything that was read except for an open end is settled
 
 parts_one : {e : List ℕ} → IsEncoding e → parts_of e ≡ Char (number_of e) ∷ []
 parts_one {e} p = ap parts_of (sym (append-nil e)) ∙ parts_encoding p [] ∙ ap (λ ps. Char (number_of e) ∷ ps) parts_nil
@@ -192,7 +192,7 @@ same_next [] rest a b h = cc
 same_next (c ∷ front) rest a b h = let k : (front ++ a ∷ []) ++ rest ≡ front ++ b ∷ [] =
     cc in same_next front rest a b k
 
--- all parts were read, so no beginning is their last one
+-- if all parts were read, the last one is not a beginning
 read_closed : {x : List ℕ} {ps : List Part} → Splits x ps → Reads x [] ps → (front : List Part) (q : List ℕ)
     → ps ≡ front ++ Bad q ∷ [] → ¬ IsBeginning q
 read_closed {x} {ps} s t front q e b =
@@ -202,7 +202,7 @@ read_closed {x} {ps} s t front q e b =
     (ap (λ y. y ++ parts_of b.more) (sym e) ∙ sym (t.whatever b.more) ∙ left.whatever b.more
     ∙ ap (λ y. front ++ y) (parts_one b.encoding))))
 
--- parts that were read are the settled ones, where what is left is empty or a beginning
+-- parts that were read are the settled ones, if what is left is empty or a beginning
 pub reads_settles : (x q : List ℕ) (ps : List Part) → Reads x q ps → IsOpenEnd q → Settles x ps q
 reads_settles x [] ps t h =
     let all : parts_of x ≡ ps = ap parts_of (sym (append-nil x)) ∙ t.whatever [] ∙ ap (λ y. ps ++ y) parts_nil
@@ -215,9 +215,9 @@ reads_settles x (o ∷ q) ps t h =
     ∙ ap (λ y. ps ++ y) (ap parts_of (append-nil (o ∷ q)) ∙ parts_self (o ∷ q) b) in
     open_end (subst (Splits x) all (splits x)) b
 
--- and what was read at all is a front of what settles
+-- and whatever was read is a front of what settles
 
--- two lists that differ behind one front
+-- two lists that differ after a common front
 front_of : (l ps u v : List Part) (a b : Part) → a ≢ b → l ++ a ∷ [] ≡ ps ++ u → l ++ b ∷ [] ≡ ps ++ v
     → (w : List Part) × (l ≡ ps ++ w)
 front_of l [] u v a b n h k = (l, refl)
@@ -249,7 +249,7 @@ reads_front x z (o ∷ q) ps settled s t h =
 
 -- the text of what was read
 
--- the text of parts and of others behind them is that of the first, and then that of the others
+-- the text of parts followed by others is the text of the first followed by the text of the others
 pub text-append : (ps qs : List Part) → text (ps ++ qs) ≡ text ps ++ text qs
 text-append ps qs = flat_map-append _ ps qs
 
@@ -257,7 +257,7 @@ text-append ps qs = flat_map-append _ ps qs
 pub text-chars : {g cs : List ℕ} → Spells g cs → text (map Char cs) ≡ g
 text-chars s = ap text (sym (parts_spelled s)) ∙ text_spelled 0xFFFD s
 
--- the text of parts that were read is no longer than that of the settled parts
+-- the text of parts that were read is no longer than the text of the settled parts
 pub text_read : (x z q : List ℕ) (ps settled : List Part) → Reads x z ps → Settles x settled q
     → length (text ps) ≤ length (text settled)
 text_read x z q ps settled s t =

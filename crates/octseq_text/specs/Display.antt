@@ -1,16 +1,16 @@
--- Why a value was not shown at the end of a text.
+-- Why a value was not formatted at the end of a text.
 use Rattle.std.specs.Prelude.{ℕ, List, codes}
 use Rattle.octseq_core.specs.Refusal.{Refusal}
 use Rattle.octseq_core.specs.declared.builder.AppendError.{AppendError}
 use Rattle.octseq_text.specs.declared.str.display.DisplayError.{DisplayError}
 
--- what it tells, for the words of refusals: a value that can't be shown is malformed
+-- its refusal: a value that can't be formatted is malformed
 abbrev pub display_error : DisplayError → Refusal
 display_error DisplayError.Short = Refusal.short
 display_error DisplayError.Memory = Refusal.memory
 display_error DisplayError.Display = Refusal.malformed
 
--- the refusal of an append
+-- the error for the refusal of an append
 abbrev pub display_error_of : AppendError → DisplayError
 display_error_of (AppendError.Short e) = DisplayError.Short
 display_error_of AppendError.Memory = DisplayError.Memory

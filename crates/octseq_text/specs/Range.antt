@@ -1,4 +1,4 @@
--- The range that a pair of bounds names in a list. All are whole numbers, so no bound is too great to be read.
+-- The range of a list that a pair of bounds names. All bounds are natural numbers, so none is too great to represent.
 use Rattle.std.specs.Prelude.{ℕ, ◌+◌, ◌≤◌, List, slice_range, length}
 use Rattle.std.specs.declared.ops.Bound.{Bound}
 use Rattle.std.specs.declared.ops.Bound.TheVariants.{Unbounded, Included, Excluded}

@@ -1,4 +1,4 @@
--- What commands do to a text, seen as a list of characters with a limit.
+-- The effect of commands on a text, seen as a list of characters with a limit.
 use Rattle.std.specs.Prelude.{◌≡◌, ◌≢◌, ℕ, ◌<◌, ◌≤◌, ◌↔◌, ◌⊎◌, Bool, true, List, [], ◌∷◌}
 use Rattle.std.specs.Prelude.{◌++◌, length, Option, Some, None, Result, Ok, Err, IsTrue}
 use Rattle.std.specs.List.{AllByRecursion}
@@ -11,8 +11,8 @@ use Rattle.octseq_text.specs.declared.str.commands.Command.TheVariants as comman
 use Rattle.octseq_text.specs.declared.str.commands.Reply.{Reply}
 use Rattle.octseq_text.specs.declared.str.commands.Reply.TheVariants as reply
 
--- More characters at the end, where the octets of all stay within the limit. Where the type requests memory, that may
--- be refused.
+-- More characters at the end, if the octets of all stay within the limit. If the type requests memory, that may be
+-- refused.
 abbrev pub AppendsCharacters : Option ℕ → Bool → List ℕ → List ℕ → Reply → List ℕ → Type 0
 AppendsCharacters limit asks before more reply.Done after = IsWithin limit (length (octets_of (before ++ more)))
     × (after ≡ before ++ more)
@@ -22,24 +22,24 @@ AppendsCharacters limit asks before more reply.Memory after = IsWithin limit (le
     × (asks ≡ true) × (after ≡ before)
 AppendsCharacters limit asks before more _ after = ⊥
 
--- The reply for what an append answered.
+-- The reply for the result of an append.
 abbrev pub append_reply : Result (Unit {0}) AppendError → Reply
 append_reply (Ok _) = reply.Done
 append_reply (Err (error.Short _)) = reply.Short
 append_reply (Err error.Memory) = reply.Memory
 
--- The front that is exactly n octets; at or past the length that is all of them.
+-- The front that is exactly n octets, or all characters if there are no more octets than n.
 abbrev pub CutsTo : ℕ → List ℕ → List ℕ → Type 0
 CutsTo n before after = (length (octets_of before) ≤ n → after ≡ before)
     × (n < length (octets_of before) → IsFrontOf before n after)
 
--- A cut, or its refusal where no front is exactly n octets.
+-- A cut, or its refusal if no front is exactly n octets.
 abbrev pub Cuts : List ℕ → ℕ → Reply → List ℕ → Type 0
 Cuts before n r after = ((r ≡ reply.Done) × CutsTo n before after)
     ⊎ ((r ≡ reply.NoBoundary) × (n < length (octets_of before)) × ((front : List ℕ) → ¬ IsFrontOf before n front)
     × (after ≡ before))
 
--- The last character goes, if there is one.
+-- The last character is removed, if there is one.
 abbrev pub Pops : List ℕ → Option ℕ → List ℕ → Type 0
 Pops before (Some c) after = before ≡ after ++ c ∷ []
 Pops before None after = (before ≡ []) × (after ≡ [])
@@ -55,7 +55,7 @@ TextStep limit asks before command.Len r after = (r ≡ reply.Len (length (octet
 TextStep limit asks before (command.Is s) r after =
     (same : Bool) × (r ≡ reply.Is same) × (IsTrue same ↔ (before ≡ chars s.now)) × (after ≡ before)
 
--- A list of commands, with one reply each: every step is on the characters that the step before left.
+-- A list of commands, with one reply each: every step starts from the characters that the step before left.
 abbrev pub TextRun : Option ℕ → Bool → List ℕ → List Command → List Reply → List ℕ → Type 0
 TextRun limit asks before [] [] after = after ≡ before
 TextRun limit asks before (c ∷ commands) (r ∷ replies) after =

@@ -1,7 +1,7 @@
 //! Texts over octet sequences.
 //!
-//! A sequence or a builder of octets is a text where its octets are well-formed UTF-8. The definitions of
-//! UTF-8 stand in `specs/`, by the Unicode Standard; the contracts here cite them.
+//! A sequence or a builder of octets is a text if its octets are well-formed UTF-8. The definitions of UTF-8 are in
+//! `specs/`, by the Unicode Standard; the contracts here cite them.
 #![tactic(auto)]
 
 pub mod octets;

@@ -14,13 +14,13 @@ use std::ops::{self, Range, RangeBounds};
 mod conversions;
 mod ranges;
 
-/// Octets that stay inline up to 24, which many names and addresses don't pass.
+/// Octets that are stored inline up to 24, enough for many names and addresses.
 pub type SmallOctets = SmallVec<u8, 24>;
 
-/// One end of a range of octets: a place, which is in the range or isn't, or the start or the end of the octets.
+/// One end of a range of octets: a place, included or excluded, or the start or the end of the octets.
 pub type Bound = ops::Bound<usize>;
 
-/// The bounds of the range from one place up to another, which isn't in it.
+/// The bounds of the range from `start` up to `end`, which is excluded.
 pub fn span(start: usize, end: usize) -> (Bound, Bound)
     ensures { result ≡ (Included start, Excluded end) }
 {
@@ -28,7 +28,7 @@ pub fn span(start: usize, end: usize) -> (Bound, Bound)
 }
 
 /// Whether a range exists in octets of this length: its start is at most its end, and its end at most the length.
-/// `has_bounds` holds of each of std's ranges but of an `a..=b` that was iterated to its end.
+/// `has_bounds` holds for each of std's ranges except an `a..=b` that was iterated to its end.
 ///
 /// # Examples
 ///
@@ -46,7 +46,7 @@ pub fn range_exists<R: RangeBounds<usize>>(len: usize, range: R) -> bool
     try_range(len, range).is_some()
 }
 
-/// Where a range starts and ends in octets of this length, or `None` where it doesn't exist.
+/// Where a range starts and ends in octets of this length, or `None` if it doesn't exist.
 pub fn try_range<R: RangeBounds<usize>>(len: usize, range: R) -> Option<Range<usize>>
     requires { R.has_bounds range }
     ensures variant { IsSome result ↔ RangeExists len (R.start_bound range, R.end_bound range) }
@@ -74,12 +74,12 @@ pub trait Octets: AsOctets {
     /// A range of the octets.
     type Range: AsOctets + OctetsLimit;
 
-    /// The octets of a range that exists, which `range_exists` tells. A range is written as Rust's are: `1..3`,
-    /// `at..`, `..=last`, or a pair of bounds.
+    /// The octets of a range that exists; `range_exists` tests that. A range is written as in Rust: `1..3`, `at..`,
+    /// `..=last`, or a pair of bounds.
     ///
     /// # Errors
     ///
-    /// `AllocError` where a request for memory was refused, which a range that is a slice never makes.
+    /// `AllocError` if a request for memory was refused. A range that is a slice requests none.
     ///
     /// # Examples
     ///
@@ -104,18 +104,18 @@ pub trait OctetsFrom<Source: AsOctets>: OctetsLimit {
     ///
     /// # Errors
     ///
-    /// `Short` where the octets pass the limit of the type, and else `Memory` where a request for memory
-    /// was refused. The source is then dropped.
+    /// `Short` if the octets exceed the limit of the type, otherwise `Memory` if a request for memory was refused. The
+    /// source is then dropped.
     fn try_octets_from(alloc: Global, source: Source) -> Result<Self, AppendError>
         ensures ok { IfOk result (λ octets. Self.content octets ≡ Source.content source) }
         ensures short { IsShort append_error result ↔ IsPast Self.limit (length (Source.content source)) }
         ensures memory { IsMemory append_error result → Self.asks ≡ true };
 
-    /// The source's octets, for a type with no limit.
+    /// The source's octets, for a type without a limit.
     ///
     /// # Errors
     ///
-    /// `AllocError` where a request for memory was refused. The source is then dropped.
+    /// `AllocError` if a request for memory was refused. The source is then dropped.
     final fn octets_from(alloc: Global, source: Source) -> Result<Self, AllocError>
     where
         Self: Sized,
@@ -131,13 +131,13 @@ pub trait OctetsFrom<Source: AsOctets>: OctetsLimit {
     }
 }
 
-/// A sequence of octets that can be made into another: each pair with [`OctetsFrom`].
+/// A sequence of octets that can be made into another: the counterpart of [`OctetsFrom`].
 pub trait OctetsInto<Target: OctetsLimit>: AsOctets {
     /// The octets in the other type.
     ///
     /// # Errors
     ///
-    /// As `OctetsFrom::try_octets_from`.
+    /// See `OctetsFrom::try_octets_from`.
     fn try_octets_into(self, alloc: Global) -> Result<Target, AppendError>
         ensures ok { IfOk result (λ octets. Target.content octets ≡ Self.content self) }
         ensures short { IsShort append_error result ↔ IsPast Target.limit (length (Self.content self)) }
@@ -147,7 +147,7 @@ pub trait OctetsInto<Target: OctetsLimit>: AsOctets {
     ///
     /// # Errors
     ///
-    /// `AllocError` where a request for memory was refused.
+    /// `AllocError` if a request for memory was refused.
     fn octets_into(self, alloc: Global) -> Result<Target, AllocError>
         requires { Target.limit ≡ None }
         ensures ok { IfOk result (λ octets. Target.content octets ≡ Self.content self) }

@@ -63,7 +63,7 @@ impl<Source: AsOctets, const N: usize> OctetsFrom<Source> for Array<N> {
 }
 
 impl<'a, S: AsOctets> OctetsFrom<&'a S> for &'a [u8] {
-    /// Borrows the octets, and copies none.
+    /// Borrows the octets without copying them.
     fn try_octets_from(_alloc: Global, source: &'a S) -> Result<Self, AppendError> {
         Ok(source.as_ref())
     }

@@ -1,4 +1,4 @@
-//! The references from which ranges are cut.
+//! The references of which ranges are cut.
 ghost use Rattle.std.specs.Prelude.{◌≡◌, length};
 ghost use Rattle.octseq_text.specs.Range.{RangeExists, range_of};
 
@@ -14,7 +14,7 @@ use std::ops::RangeBounds;
 use std::rc::RcSlice;
 use std::slice;
 
-/// The part of a slice that a range names.
+/// The part of a slice in a range.
 fn part<R: RangeBounds<usize>>(octets: &[u8], range: R) -> &[u8]
     requires known { R.has_bounds range }
     requires exists { RangeExists (length octets.now) (R.start_bound range, R.end_bound range) }
@@ -24,7 +24,7 @@ fn part<R: RangeBounds<usize>>(octets: &[u8], range: R) -> &[u8]
     &octets[range.start..range.end]
 }
 
-/// The types of which a range is a slice.
+/// The types whose ranges are slices.
 trait SliceRange: AsOctets {}
 
 impl SliceRange for Vec<u8> {}
@@ -60,7 +60,7 @@ impl<'a> Octets for &'a [u8] {
 impl<'a> Octets for &'a Bytes {
     type Range = Bytes;
 
-    /// Shares the octets, and copies none.
+    /// Shares the octets without copying them.
     fn range<R: RangeBounds<usize>>(&self, range: R) -> Result<Bytes, AllocError> {
         self.slice(range)
     }

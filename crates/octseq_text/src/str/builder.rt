@@ -42,7 +42,7 @@ impl<Octets: AsOctets> StrBuilder<Octets> {
     ///
     /// # Errors
     ///
-    /// `AllocError` where a request for memory was refused.
+    /// `AllocError` if a request for memory was refused.
     ///
     /// # Examples
     ///
@@ -69,7 +69,7 @@ impl<Octets: AsOctets> StrBuilder<Octets> {
     ///
     /// # Errors
     ///
-    /// `AllocError` where a request for memory was refused.
+    /// `AllocError` if a request for memory was refused.
     pub fn with_capacity(alloc: Global, capacity: usize) -> Result<Self, AllocError>
     where
         Octets: EmptyBuilder,
@@ -119,7 +119,7 @@ impl<Octets: AsOctets> StrBuilder<Octets> {
         StrBuilder { octets }
     }
 
-    /// Gives back the builder of octets.
+    /// Returns the builder of octets.
     pub fn into_octets_builder(self) -> Octets
         ensures same { result ≡ self }
         ensures well_formed { IsWellFormed (Octets.content result) }
@@ -127,11 +127,11 @@ impl<Octets: AsOctets> StrBuilder<Octets> {
         self.octets
     }
 
-    /// The text in a sequence that grows no more.
+    /// The text in a sequence that no longer grows.
     ///
     /// # Errors
     ///
-    /// `AllocError` where a request for memory was refused. The text is then dropped.
+    /// `AllocError` if a request for memory was refused. The text is then dropped.
     pub fn freeze(self) -> Result<Str<Octets::Octets>, AllocError>
     where
         Octets: FreezeBuilder,
@@ -175,7 +175,7 @@ impl<Octets: AsOctets> StrBuilder<Octets> {
         self.as_slice().len()
     }
 
-    /// The greatest length in octets that the text may have, or `None` where every length is possible.
+    /// The greatest length in octets that the text can have, or `None` if every length is possible.
     pub fn max_len(&self) -> Option<usize>
     where
         Octets: OctetsBuilder,
@@ -191,7 +191,7 @@ impl<Octets: AsOctets> StrBuilder<Octets> {
         self.as_slice().is_empty()
     }
 
-    /// Whether a character ends at this place, or the text begins there. No place past the length is one.
+    /// Whether a character ends at this place, or the text begins there. Never past the length.
     pub fn is_char_boundary(&self, place: usize) -> bool
         ensures { IsTrue result ↔ IsBoundary (Octets.content self.now) place }
     {
@@ -202,8 +202,8 @@ impl<Octets: AsOctets> StrBuilder<Octets> {
     ///
     /// # Errors
     ///
-    /// `Short` where the text would pass the limit of its type, and else `Memory` where a request for
-    /// memory was refused. The text is then as it was.
+    /// `Short` if the text would exceed the limit of its type, otherwise `Memory` if a request for memory was refused.
+    /// The text is then unchanged.
     ///
     /// # Examples
     ///
@@ -225,7 +225,7 @@ impl<Octets: AsOctets> StrBuilder<Octets> {
             (Octets.content self.old) (Octets.content self.new) }
         ensures borrows { Octets.borrows self.new ≡ Octets.borrows self.old }
 
-        // The same of the characters.
+        // The same for the characters.
         ensures step { AppendsCharacters Octets.limit Octets.asks (chars (Octets.content self.old)) (chars s.now)
             (append_reply result) (chars (Octets.content self.new)) }
     {
@@ -236,8 +236,8 @@ impl<Octets: AsOctets> StrBuilder<Octets> {
     ///
     /// # Errors
     ///
-    /// `Short` where the text would pass the limit of its type, and else `Memory` where a request for
-    /// memory was refused. The text is then as it was.
+    /// `Short` if the text would exceed the limit of its type, otherwise `Memory` if a request for memory was refused.
+    /// The text is then unchanged.
     ///
     /// # Examples
     ///
@@ -259,7 +259,7 @@ impl<Octets: AsOctets> StrBuilder<Octets> {
         ensures encoding { IsEncoding (encoding_of ch) × (number_of (encoding_of ch) ≡ ch) }
         ensures only { (e : List ℕ) → IsEncoding e → number_of e ≡ ch → e ≡ encoding_of ch }
 
-        // The same of the characters.
+        // The same for the characters.
         ensures step { AppendsCharacters Octets.limit Octets.asks (chars (Octets.content self.old)) (ch ∷ [])
             (append_reply result) (chars (Octets.content self.new)) }
     {
@@ -268,11 +268,11 @@ impl<Octets: AsOctets> StrBuilder<Octets> {
         append_short(&mut self.octets, encoding.as_bytes())
     }
 
-    /// Appends all of `s`, or nothing, in a builder with no limit.
+    /// Appends all of `s`, or nothing, in a builder without a limit.
     ///
     /// # Errors
     ///
-    /// `AllocError` where a request for memory was refused. The text is then as it was.
+    /// `AllocError` if a request for memory was refused. The text is then unchanged.
     pub fn push_str(&mut self, s: &str) -> Result<(), AllocError>
     where
         Octets: OctetsBuilder,
@@ -291,11 +291,11 @@ impl<Octets: AsOctets> StrBuilder<Octets> {
         }
     }
 
-    /// Appends `ch`, or nothing, in a builder with no limit.
+    /// Appends `ch`, or nothing, in a builder without a limit.
     ///
     /// # Errors
     ///
-    /// `AllocError` where a request for memory was refused. The text is then as it was.
+    /// `AllocError` if a request for memory was refused. The text is then unchanged.
     #[inline(always)]
     pub fn push(&mut self, ch: char) -> Result<(), AllocError>
     where
@@ -315,8 +315,8 @@ impl<Octets: AsOctets> StrBuilder<Octets> {
         }
     }
 
-    /// Keeps the first `new_len` octets, or all of them where there are no more. Where there are more, they
-    /// have to be whole characters, which `is_char_boundary` tells.
+    /// Keeps the first `new_len` octets, or all of them if there are fewer. If there are more, `new_len` must be a
+    /// character boundary; `is_char_boundary` tests that.
     pub fn truncate(&mut self, new_len: usize)
     where
         Octets: Truncate,
@@ -324,13 +324,13 @@ impl<Octets: AsOctets> StrBuilder<Octets> {
         ensures content { Octets.content self.new ≡ take new_len (Octets.content self.old) }
         ensures borrows { Octets.borrows self.new ≡ Octets.borrows self.old }
 
-        // The same of the characters.
+        // The same for the characters.
         ensures step { CutsTo new_len (chars (Octets.content self.old)) (chars (Octets.content self.new)) }
     {
         self.octets.truncate(new_len);
     }
 
-    /// Takes all characters away.
+    /// Removes all characters.
     pub fn clear(&mut self)
     where
         Octets: Truncate,
@@ -341,7 +341,7 @@ impl<Octets: AsOctets> StrBuilder<Octets> {
         self.truncate(0);
     }
 
-    /// Takes the last character away, if there is one.
+    /// Removes the last character, if there is one, and returns it.
     pub fn pop(&mut self) -> Option<char>
     where
         Octets: Truncate,
@@ -350,7 +350,7 @@ impl<Octets: AsOctets> StrBuilder<Octets> {
         ensures none { IfNone result (Octets.content self.new ≡ Octets.content self.old) }
         ensures borrows { Octets.borrows self.new ≡ Octets.borrows self.old }
 
-        // The same of the characters.
+        // The same for the characters.
         ensures step { Pops (chars (Octets.content self.old)) result (chars (Octets.content self.new)) }
     {
         let (last, width) = last_encoding(self.as_slice(), &mut Turns::new())?;
@@ -359,7 +359,8 @@ impl<Octets: AsOctets> StrBuilder<Octets> {
     }
 }
 
-/// Takes so many octets off the end. One has a branch of its own, where the compiler knows the lesser length.
+/// Removes `width` octets from the end. A width of one has a branch of its own, in which the compiler knows the smaller
+/// length.
 #[inline(always)]
 fn shorten<Builder: AsOctets + Truncate>(builder: &mut Builder, width: usize)
     requires { width ≤ length (Builder.content builder.old) }

@@ -7,45 +7,45 @@ use super::builder::StrBuilder;
 use octseq_core::builder::{AppendError, AsOctets, OctetsBuilder, OctetsLimit, Truncate};
 use std::alloc::{AllocError, Global};
 
-/// What can be asked of a text.
+/// A command on a text.
 #[derive(Clone, Copy)]
 pub enum Command<'a> {
     /// Append a text.
     PushStr(&'a str),
     /// Append a character.
     Push(char),
-    /// Keep this many octets, if whole characters make them.
+    /// Keep this many octets, if that doesn't cut a character.
     Truncate(usize),
-    /// Take all characters away.
+    /// Remove all characters.
     Clear,
-    /// Take the last character away.
+    /// Remove the last character.
     Pop,
-    /// Tell the length in octets.
+    /// Return the length in octets.
     Len,
-    /// Tell whether the text is this one.
+    /// Return whether the text equals this one.
     Is(&'a str),
 }
 
-/// The answer to a [`Command`].
+/// The reply to a [`Command`].
 #[derive(Debug, PartialEq, Eq, Drop)]
 pub enum Reply {
     /// It was done.
     Done,
-    /// The text would have passed the limit of its type, and is as it was.
+    /// The text would have exceeded the limit of its type, and is unchanged.
     Short,
-    /// A request for memory was refused, and the text is as it was.
+    /// A request for memory was refused, and the text is unchanged.
     Memory,
-    /// The cut would have been within a character, and the text is as it was.
+    /// The cut would have been within a character, and the text is unchanged.
     NoBoundary,
-    /// The last character, or none where there was none.
+    /// The last character, or `None` if the text was empty.
     Popped(Option<char>),
     /// The length in octets.
     Len(usize),
-    /// Whether the text is the one that was named.
+    /// Whether the text equals the one in the command.
     Is(bool),
 }
 
-/// The reply for what an append answered.
+/// The reply for the result of an append.
 fn reply_to(appended: Result<(), AppendError>) -> Reply
     ensures { result ≡ append_reply appended }
 {
@@ -68,7 +68,7 @@ fn truncate<B: OctetsBuilder + Truncate>(builder: &mut StrBuilder<B>, len: usize
     Reply::Done
 }
 
-/// One command.
+/// Carries out one command.
 fn step<B: OctetsBuilder + Truncate>(builder: &mut StrBuilder<B>, command: &Command) -> Reply
     ensures step { TextStep B.limit B.asks (chars (B.content builder.old)) command.now result
         (chars (B.content builder.new)) }
@@ -88,12 +88,12 @@ fn step<B: OctetsBuilder + Truncate>(builder: &mut StrBuilder<B>, command: &Comm
     }
 }
 
-/// Carries out the commands in turn. There is one reply a command: a refused one is answered by its
-/// reply, and the commands after it are carried out.
+/// Carries out the commands in order, with one reply for each. A refused command has its own reply, and the commands
+/// after it are still carried out.
 ///
 /// # Errors
 ///
-/// `AllocError` where room for the replies was refused. The text is then as it was.
+/// `AllocError` if the memory for the replies was refused. The text is then unchanged.
 pub fn run<B: OctetsBuilder + Truncate>(
     alloc: Global,
     builder: &mut StrBuilder<B>,

@@ -1,4 +1,4 @@
-//! Texts compared by their characters, and shown.
+//! Texts compared by their characters, and formatted.
 ghost use Rattle.std.specs.Prelude.{◌≡◌, Some, nat_eq};
 ghost use Rattle.std.specs.Cmp.{partial_order_from_own_ties};
 ghost use Rattle.std.specs.Cmp.Lexicographic.{pointwise, slice_cmp};
@@ -30,8 +30,8 @@ impl<Octets: AsOctets> Eq for Str<Octets> {
     ghost laws = { Prim.search (comparing, rules) };
 }
 
-/// As lists of the characters' numbers: the first two that differ decide, and a text comes before one that goes on
-/// behind it.
+/// Compares the lists of the characters' numbers: the first two that differ decide, and a text is less than any longer
+/// text that begins with it.
 impl<Octets: AsOctets> Ord for Str<Octets> {
     ghost cmp = { on (λ text. chars (Octets.content text)) (slice_cmp nat_cmp) };
 
@@ -66,7 +66,7 @@ impl<Octets: AsOctets> Hash for Str<Octets> {
     }
 }
 
-/// Prints the text. A width, a fill and a precision go by characters, as for a `str`.
+/// Prints the text. Width, fill and precision count characters, as for a `str`.
 impl<Octets: AsOctets> fmt::Display for Str<Octets> {
     ghost output = { λ text. Some (Octets.content text) };
 
@@ -100,8 +100,8 @@ impl<Octets: AsOctets> Eq for StrBuilder<Octets> {
     ghost laws = { Prim.search (comparing, rules) };
 }
 
-/// As lists of the characters' numbers: the first two that differ decide, and a text comes before one that goes on
-/// behind it.
+/// Compares the lists of the characters' numbers: the first two that differ decide, and a text is less than any longer
+/// text that begins with it.
 impl<Octets: AsOctets> Ord for StrBuilder<Octets> {
     ghost cmp = { on (λ text. chars (Octets.content text)) (slice_cmp nat_cmp) };
 
@@ -136,7 +136,7 @@ impl<Octets: AsOctets> Hash for StrBuilder<Octets> {
     }
 }
 
-/// Prints the text. A width, a fill and a precision go by characters, as for a `str`.
+/// Prints the text. Width, fill and precision count characters, as for a `str`.
 impl<Octets: AsOctets> fmt::Display for StrBuilder<Octets> {
     ghost output = { λ text. Some (Octets.content text) };
 

@@ -1,9 +1,9 @@
-//! How many octets a value writes.
+//! The number of octets that a value writes.
 ghost use Rattle.std.specs.Prelude.{◌≡◌, ◌+◌, length};
 
 use std::fmt;
 
-/// A writer that counts octets and keeps none. `write!(counter, "{value}")` tells how many `{}` shows of a value.
+/// A writer that counts octets and keeps none. `write!(counter, "{value}")` counts the octets of a value's `{}`.
 ///
 /// # Examples
 ///
@@ -15,14 +15,14 @@ use std::fmt;
 /// ```
 #[derive(Clone, Copy, Debug, PartialEq, Eq)]
 pub struct Counter {
-    /// How many octets were written.
+    /// The number of octets written.
     pub count: usize,
 }
 
 impl fmt::Write for Counter {
     ghost write_str_gives = { λ before octets after. after.count ≡ before.count + length octets };
 
-    /// Counts the octets of `s`. An error is answered where a `usize` doesn't count them.
+    /// Counts the octets of `s`. Returns an error if their number exceeds a `usize`.
     fn write_str(&mut self, s: &str) -> fmt::Result {
         match self.count.checked_add(s.len()) {
             Some(count) => {

@@ -1,4 +1,4 @@
-//! Texts in the place of a `str` or of a slice of octets.
+//! Texts as a `str` or as a slice of octets.
 ghost use Rattle.std.specs.Prelude.{◌≡◌};
 
 use super::builder::StrBuilder;

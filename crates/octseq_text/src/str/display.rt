@@ -1,4 +1,4 @@
-//! Values that are shown at the end of a text.
+//! Values formatted at the end of a text.
 ghost use Rattle.std.specs.Prelude.{◌≡◌, ◌≢◌, ◌+◌, ◌++◌, ℕ, List, [], Some, None, true};
 ghost use Rattle.std.specs.Prelude.{false, take, drop, length, IsErr, IfSome, OnOk, OnErr};
 ghost use Rattle.std.specs.Borrow.{GName};
@@ -17,11 +17,11 @@ use std::marker::{Brand, PhantomData};
 /// Why a value was not appended.
 #[derive(Clone, Copy, Debug, PartialEq, Eq)]
 pub enum DisplayError {
-    /// The text would have passed the limit of its type.
+    /// The text would have exceeded the limit of its type.
     Short,
     /// A request for memory was refused.
     Memory,
-    /// The value's own `fmt` answered an error, and no append was refused.
+    /// The value's own `fmt` returned an error, and no append was refused.
     Display,
 }
 
@@ -58,7 +58,7 @@ impl<Octets: OctetsBuilder> fmt::Write for StrBuilder<Octets> {
     ghost write_str_gives = { λ before octets after. (Octets.content after ≡ Octets.content before ++ octets)
         × (Octets.borrows after ≡ Octets.borrows before) };
 
-    /// Appends all of `s`, or nothing. An error doesn't tell which refusal it was.
+    /// Appends all of `s`, or nothing. The error doesn't say why it was refused.
     fn write_str(&mut self, s: &str) -> fmt::Result {
         match self.try_push_str(s) {
             Ok(()) => Ok(()),
@@ -68,13 +68,12 @@ impl<Octets: OctetsBuilder> fmt::Write for StrBuilder<Octets> {
 }
 
 impl<Octets: OctetsBuilder + Truncate> StrBuilder<Octets> {
-    /// Appends a value as `{}` shows it, or nothing. A value whose text would pass the limit is never appended.
+    /// Appends a value as `{}` formats it, or nothing. A value whose text would exceed the limit is never appended.
     ///
     /// # Errors
     ///
-    /// `Short` where the text would pass the limit of its type, `Memory` where a request for memory was refused,
-    /// and `Display` where the value's own `fmt` answers an error though nothing is refused. The text is then as it
-    /// was.
+    /// `Short` if the text would exceed the limit of its type, `Memory` if a request for memory was refused, and
+    /// `Display` if the value's own `fmt` returns an error although nothing is refused. The text is then unchanged.
     pub fn try_push_display<D: Display + Drop>(&mut self, value: D) -> Result<(), DisplayError>
         ensures ok { OnOk result (IfSome (D.output value)
             (λ octets. Octets.content self.new ≡ Octets.content self.old ++ octets)) }
@@ -92,7 +91,7 @@ impl<Octets: OctetsBuilder + Truncate> StrBuilder<Octets> {
     }
 }
 
-/// What a text was before a value was appended, and whose it is.
+/// A text before a value was appended, and who lent it.
 trait Begun {
     ghost before: { List ℕ };
 
@@ -109,7 +108,7 @@ impl Begun for Brand {
     ghost borrows = { [] };
 }
 
-/// A text that a value writes to. What it was stays at its front.
+/// A text that a value writes to. The previous text stays at its front.
 #[derive(Drop)]
 struct Appending<'a, K: Begun, B: AsOctets> {
     text: &'a mut StrBuilder<B>,
@@ -138,14 +137,14 @@ impl<'a, K: Begun, B: OctetsBuilder> fmt::Write for Appending<'a, K, B> {
     }
 }
 
-/// A text, and what an append to it answered.
+/// A text, and the result of an append to it.
 #[derive(Drop)]
 struct Appended<'a, B: AsOctets> {
     text: &'a mut StrBuilder<B>,
     answer: Result<(), DisplayError>,
 }
 
-/// Appends a value, or cuts the text where it ended before.
+/// Appends a value, or cuts the text back to where it ended before.
 fn append_from<'a, K: Begun, B: OctetsBuilder + Truncate, D: Display + Drop>(
     text: &'a mut StrBuilder<B>,
     value: D,
@@ -175,7 +174,7 @@ fn append_from<'a, K: Begun, B: OctetsBuilder + Truncate, D: Display + Drop>(
     };
     let written = writer.write(&value);
     let Appending { text, refusal, .. } = writer;
-    // What is lent is well formed, as the cut asks, and within the limit.
+    // The borrowed text is well formed, as the cut requires, and within the limit.
     let _lent = text.as_slice();
     match written {
         Ok(()) => Appended {
@@ -190,8 +189,8 @@ fn append_from<'a, K: Begun, B: OctetsBuilder + Truncate, D: Display + Drop>(
     }
 }
 
-/// Why a value wasn't appended at the end of so many octets, where an append of a part of it was refused: `Short` is
-/// said only where all of it passes the limit.
+/// Why a value wasn't appended after `len` octets, if an append of a part of it was refused: `Short` is reported only
+/// if all of it exceeds the limit.
 fn reason<B: AsOctets, D: Display>(
     refusal: DisplayError,
     limit: Option<usize>,
@@ -212,7 +211,7 @@ fn reason<B: AsOctets, D: Display>(
     }
 }
 
-/// Whether a value that follows so many octets passes a limit. It doesn't where it can't be shown.
+/// Whether a value after `len` octets exceeds the limit. False if the value can't be formatted.
 fn passes<D: Display>(limit: Option<usize>, len: usize, value: &D) -> bool
     ensures { result ≡ true → IfSome (D.output value.now) (λ octets. IsPast limit (len + length octets)) }
 {

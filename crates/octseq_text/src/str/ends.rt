@@ -1,4 +1,4 @@
-//! Where characters end: the last of a text, and the places between two.
+//! Where characters end: the last one of a text, and the places between two.
 ghost use Rattle.std.specs.Prelude.{◌≡◌, ◌≢◌, ◌+◌, ◌<◌, ◌≤◌, ◌↔◌, [], length, IsTrue, IfSome, IfNone};
 ghost use Rattle.octseq_utf8.specs.Encoding.{encoding_of};
 ghost use Rattle.octseq_utf8.specs.Text.{IsWellFormed, IsBoundary, EndsWith};
@@ -6,9 +6,9 @@ ghost use Rattle.octseq_utf8.specs.Text.{IsWellFormed, IsBoundary, EndsWith};
 use crate::utf8::Turns;
 use octseq_utf8::is_continuation;
 
-/// The last character of well-formed octets, and how many octets it has.
+/// The last character of well-formed octets, and the number of its octets.
 ///
-/// It reads from the end to where the character begins, each octet once and for one turn.
+/// Reads from the end to where the character begins, one turn for each octet.
 pub(super) fn last_encoding(octets: &[u8], turns: &mut Turns) -> Option<(char, usize)>
     requires { IsWellFormed octets.now }
     ensures some { IfSome result (λ last. EndsWith octets.now last.0) }
@@ -50,9 +50,9 @@ pub(super) fn last_encoding(octets: &[u8], turns: &mut Turns) -> Option<(char, u
     Some((unsafe { char::from_u32_unchecked(number) }, 4))
 }
 
-/// The last character of well-formed octets, or none where there are no octets.
+/// The last character of well-formed octets, or `None` if there are no octets.
 ///
-/// It takes a turn for each octet that it reads, from the end to where the character begins, and no memory.
+/// Reads from the end to where the character begins, one turn for each octet. Requests no memory.
 pub fn last_char(octets: &[u8], turns: &mut Turns) -> Option<char>
     requires { IsWellFormed octets.now }
     ensures some { IfSome result (EndsWith octets.now) }
@@ -61,7 +61,7 @@ pub fn last_char(octets: &[u8], turns: &mut Turns) -> Option<char>
     ensures kept { turns.old ≤ turns.new }
     ensures turns { turns.new ≤ turns.old + 4 }
 
-    // As many turns as the character has octets, and none where there is no character.
+    // As many turns as the character has octets, and none if there is no character.
     ensures exact { IfSome result (λ c. turns.new ≡ turns.old + length (encoding_of c)) }
     ensures nothing { IfNone result (turns.new ≡ turns.old) }
 {
@@ -69,10 +69,9 @@ pub fn last_char(octets: &[u8], turns: &mut Turns) -> Option<char>
     Some(last)
 }
 
-/// Whether whole characters make exactly the first `place` of well-formed octets. It never is past the
-/// length.
+/// Whether the first `place` of well-formed octets are whole characters. Never past the length.
 ///
-/// It reads the octet at the place, for one turn, and takes no memory.
+/// Reads the octet at the place, in one turn. Requests no memory.
 pub fn boundary(octets: &[u8], place: usize, turns: &mut Turns) -> bool
     requires { IsWellFormed octets.now }
     ensures between { IsTrue result ↔ IsBoundary octets.now place }
@@ -80,7 +79,7 @@ pub fn boundary(octets: &[u8], place: usize, turns: &mut Turns) -> bool
     ensures kept { turns.old ≤ turns.new }
     ensures turns { turns.new ≤ turns.old + 1 }
 
-    // At the length and past it there is no octet to read.
+    // At the length or past it there is no octet to read.
     ensures nothing { length octets.now ≤ place → turns.new ≡ turns.old }
 {
     match octets.get(place) {

@@ -1,4 +1,4 @@
-//! The refusal of octets that are no text.
+//! The error for octets that are not valid text.
 ghost use Rattle.std.specs.Prelude.{◌≡◌, true, Some, IfOk, OnErr};
 ghost use Rattle.octseq_utf8.specs.Fault.{IsFault, fault_text};
 
@@ -30,7 +30,7 @@ impl<Octets: AsOctets> Model for FromUtf8Error<Octets> {
 }
 
 impl<Octets: AsOctets> FromUtf8Error<Octets> {
-    /// The refusal of these octets.
+    /// The error for these octets.
     pub(super) fn new(octets: Octets, fault: Utf8Fault) -> Self
         requires { IsFault (Octets.content octets) fault }
         ensures octets { result.octets ≡ octets }
@@ -47,7 +47,7 @@ impl<Octets: AsOctets> FromUtf8Error<Octets> {
         self.octets.as_ref()
     }
 
-    /// Gives back the octets that were refused.
+    /// Returns the octets that were refused.
     pub fn into_octets(self) -> Octets
         ensures same { result ≡ self.octets }
         ensures fault { IsFault (Octets.content result) self.fault }
@@ -63,11 +63,11 @@ impl<Octets: AsOctets> FromUtf8Error<Octets> {
         self.fault
     }
 
-    /// The same refusal, with a copy of the octets.
+    /// The same error, with a copy of the octets.
     ///
     /// # Errors
     ///
-    /// `AllocError` where a request for memory was refused.
+    /// `AllocError` if a request for memory was refused.
     pub fn clone(&self, alloc: Global) -> Result<Self, AllocError>
     where
         Octets: CloneOctets,

@@ -1,5 +1,5 @@
-//! Laws about texts: what lists of commands answer whatever the text is kept in, and what of octets that
-//! come in pieces is settled.
+//! Laws about texts: the replies to lists of commands don't depend on how a text is stored, and octets that come in
+//! pieces settle in one way.
 ghost use Rattle.std.specs.Prelude.{◌≡◌, ℕ, Bool, false, Option, List, ◌++◌};
 ghost use Rattle.octseq_utf8.specs.Parts.{Part, Splits};
 ghost use Rattle.octseq_text.specs.Pieces.{Settles};
@@ -7,12 +7,12 @@ ghost use Rattle.octseq_text.specs.TextRun.{TextRun, IsWithoutMemory};
 ghost use Rattle.octseq_text.specs.declared.str.commands.Command.{Command};
 ghost use Rattle.octseq_text.specs.declared.str.commands.Reply.{Reply};
 
-/// Texts of the same characters answer a list of commands alike, whatever they are kept in, if only the
-/// limit is the same: where no request for memory was refused, the replies and the characters afterwards are
-/// a function of the characters, the limit and the commands. A type that requests no memory never replies
-/// that a request was refused.
+/// Texts of the same characters and the same limit reply to a list of commands alike, however they are stored: if no
+/// request for memory was refused, the replies and the characters afterwards are a function of the characters, the
+/// limit and the commands. A type that requests no memory never replies that a request was refused.
 ///
-/// It does nothing. A caller that calls it has the law in its proof, and the [`Run`](super::run) of each text.
+/// The function does nothing. A caller that calls it has the law in its proof, and the [`Run`](super::run) of each
+/// text.
 pub fn one_run()
     ensures alike { (limit : Option ℕ) (asks other_asks : Bool) (before : List ℕ) (commands : List Command)
         (replies others : List Reply) (after other_after : List ℕ)

@@ -1,7 +1,7 @@
-//! The lossy reading: octets as text, with a replacement for what is no text.
+//! The lossy reading: octets as text, with a replacement for each part that is not valid.
 //!
-//! Every call here walks by chunks: a text, and the bad part behind it. What a call answers is one record,
-//! `ReadsLossily` of `specs/Lossy.antt`; [`StrBuilder::try_from_utf8_lossy_counted`] says it at length besides.
+//! Every call here iterates over chunks: a text, and the bad part after it. What a call ensures is one record,
+//! `ReadsLossily` of `specs/Lossy.antt`; [`StrBuilder::try_from_utf8_lossy_counted`] also spells it out.
 ghost use Rattle.std.specs.Prelude.{◌≡◌, ◌≢◌, ℕ, ◌+◌, ◌*◌, ◌≤◌, true, None, List};
 ghost use Rattle.std.specs.Prelude.{[], ◌++◌, length, IsErr, IfOk, OnOk, OnErr};
 ghost use Rattle.octseq_core.specs.Limit.{IsWithin, IsPast};
@@ -23,16 +23,15 @@ use octseq_core::builder::{
 use std::alloc::{AllocError, Global};
 
 impl<Octets: AsOctets> StrBuilder<Octets> {
-    /// The octets as a text in which each maximal ill-formed part became one U+FFFD, by the practice of
-    /// the Unicode Standard, chapter 3, on the replacement of maximal subparts.
+    /// The octets as a text with one U+FFFD for each maximal ill-formed part, by the Unicode Standard's practice for
+    /// the replacement of maximal subparts (chapter 3).
     ///
-    /// Octets that are well formed are given back as they are, and no memory is requested. Else a new
-    /// builder is filled, and the one that was passed is dropped.
+    /// Well-formed octets are returned as they are, and no memory is requested. Otherwise a new builder is filled, and
+    /// `octets` is dropped.
     ///
     /// # Errors
     ///
-    /// `Short` where the lossy text passes the limit of the type, `Memory` where a request for memory
-    /// was refused.
+    /// `Short` if the lossy text exceeds the limit of the type, `Memory` if a request for memory was refused.
     ///
     /// # Examples
     ///
@@ -50,19 +49,18 @@ impl<Octets: AsOctets> StrBuilder<Octets> {
         ensures answer { ReadsLossily append_error Octets.limit
             ((Octets.asks ≡ true) × ¬ IsWellFormed (Octets.content octets))
             0xFFFD [] (Octets.content octets) Octets.content result }
-        // Well-formed octets are handed back.
+        // Well-formed octets are returned unchanged.
         ensures same { IsWellFormed (Octets.content octets) → result ≡ Ok octets }
     {
         StrBuilder::try_from_utf8_lossy_counted(alloc, octets, &mut Turns::new())
     }
 
-    /// As [`StrBuilder::try_from_utf8_lossy`], and counts the turns of the search: at most one for each
-    /// part of the octets, also where the reading is refused.
+    /// Like [`StrBuilder::try_from_utf8_lossy`], and counts the turns of the search: at most one for each part of the
+    /// octets, even if the reading is refused.
     ///
     /// # Errors
     ///
-    /// `Short` where the lossy text passes the limit of the type, `Memory` where a request for memory
-    /// was refused.
+    /// `Short` if the lossy text exceeds the limit of the type, `Memory` if a request for memory was refused.
     pub fn try_from_utf8_lossy_counted(
         alloc: Global,
         octets: Octets,
@@ -70,7 +68,7 @@ impl<Octets: AsOctets> StrBuilder<Octets> {
     ) -> Result<Self, AppendError>
     where
         Octets: EmptyBuilder,
-        // What every lossy reading answers. The clauses below say it at length.
+        // What every lossy reading ensures. The clauses below spell it out.
         ensures answer { ReadsLossily append_error Octets.limit
             ((Octets.asks ≡ true) × ¬ IsWellFormed (Octets.content octets))
             0xFFFD [] (Octets.content octets) Octets.content result }
@@ -80,27 +78,27 @@ impl<Octets: AsOctets> StrBuilder<Octets> {
             → Splits (Octets.content octets) parts → Splits (Octets.content octets) others → parts ≡ others }
         ensures splitting { (parts : List Part) × Splits (Octets.content octets) parts }
 
-        // The answer is the text of those parts. Well-formed octets are handed back.
+        // The result is the text of those parts. Well-formed octets are returned unchanged.
         ensures text { IfOk result (λ made. (parts : List Part)
             → Splits (Octets.content octets) parts → Octets.content made ≡ text parts) }
         ensures well_formed { IfOk result (λ made. IsWellFormed (Octets.content made)) }
         ensures same { IsWellFormed (Octets.content octets) → result ≡ Ok octets }
 
-        // It is refused as short exactly where that text passes the limit, memory aside.
+        // If that text exceeds the limit, the call is refused; it is refused as short only then.
         ensures short { IsShort append_error result → (parts : List Part)
             → Splits (Octets.content octets) parts → IsPast Octets.limit (length (text parts)) }
         ensures past { (parts : List Part) → Splits (Octets.content octets) parts
             → IsPast Octets.limit (length (text parts)) → IsErr result }
         ensures memory { IsMemory append_error result → (Octets.asks ≡ true) × ¬ IsWellFormed (Octets.content octets) }
 
-        // No more turns than parts, whatever the answer, and a turn for every sixteen octets.
+        // At most as many turns as parts, whatever the result, and a turn for every sixteen octets.
         ensures turns { (parts : List Part) → Splits (Octets.content octets) parts
             → turns.new ≤ turns.old + length parts }
         ensures passed { OnOk result (length (Octets.content octets) + 16 * turns.old ≤ 16 * turns.new) }
         ensures kept { turns.old ≤ turns.new }
 
-        // A second reading changes nothing, and a first one changes all that isn't well formed. The text is no
-        // shorter than its source, also where it is refused.
+        // A second reading changes nothing, and a first one changes everything that isn't well formed. The text is no
+        // shorter than its source, even if it is refused.
         ensures again { IfOk result (λ made. (parts : List Part)
             → Splits (Octets.content made) parts → text parts ≡ Octets.content made) }
         ensures other { ¬ IsWellFormed (Octets.content octets)
@@ -117,11 +115,11 @@ impl<Octets: AsOctets> StrBuilder<Octets> {
         )
     }
 
-    /// As [`StrBuilder::try_from_utf8_lossy`], for a builder with no limit.
+    /// Like [`StrBuilder::try_from_utf8_lossy`], for a builder without a limit.
     ///
     /// # Errors
     ///
-    /// `AllocError` where a request for memory was refused.
+    /// `AllocError` if a request for memory was refused.
     pub fn from_utf8_lossy(alloc: Global, octets: Octets) -> Result<Self, AllocError>
     where
         Octets: EmptyBuilder,
@@ -129,7 +127,7 @@ impl<Octets: AsOctets> StrBuilder<Octets> {
         ensures answer { ReadsLossily alloc_error Octets.limit
             ((Octets.asks ≡ true) × ¬ IsWellFormed (Octets.content octets))
             0xFFFD [] (Octets.content octets) Octets.content result }
-        // Well-formed octets are handed back.
+        // Well-formed octets are returned unchanged.
         ensures same { IsWellFormed (Octets.content octets) → result ≡ Ok octets }
     {
         match StrBuilder::try_from_utf8_lossy(alloc, octets) {
@@ -139,12 +137,11 @@ impl<Octets: AsOctets> StrBuilder<Octets> {
         }
     }
 
-    /// As [`StrBuilder::try_from_utf8_lossy`], with `replacement` for each maximal ill-formed part.
+    /// Like [`StrBuilder::try_from_utf8_lossy`], with `replacement` for each maximal ill-formed part.
     ///
     /// # Errors
     ///
-    /// `Short` where the text passes the limit of the type, `Memory` where a request for memory was
-    /// refused.
+    /// `Short` if the text exceeds the limit of the type, `Memory` if a request for memory was refused.
     pub fn try_from_utf8_lossy_with(
         alloc: Global,
         octets: Octets,
@@ -155,19 +152,18 @@ impl<Octets: AsOctets> StrBuilder<Octets> {
         ensures answer { ReadsLossily append_error Octets.limit
             ((Octets.asks ≡ true) × ¬ IsWellFormed (Octets.content octets))
             replacement [] (Octets.content octets) Octets.content result }
-        // Well-formed octets are handed back.
+        // Well-formed octets are returned unchanged.
         ensures same { IsWellFormed (Octets.content octets) → result ≡ Ok octets }
     {
         StrBuilder::try_from_utf8_lossy_with_counted(alloc, octets, replacement, &mut Turns::new())
     }
 
-    /// As [`StrBuilder::try_from_utf8_lossy_with`], and counts the turns of the search: at most one for
-    /// each part of the octets, also where the reading is refused.
+    /// Like [`StrBuilder::try_from_utf8_lossy_with`], and counts the turns of the search: at most one for each part of
+    /// the octets, even if the reading is refused.
     ///
     /// # Errors
     ///
-    /// `Short` where the text passes the limit of the type, `Memory` where a request for memory was
-    /// refused.
+    /// `Short` if the text exceeds the limit of the type, `Memory` if a request for memory was refused.
     pub fn try_from_utf8_lossy_with_counted(
         alloc: Global,
         octets: Octets,
@@ -179,10 +175,10 @@ impl<Octets: AsOctets> StrBuilder<Octets> {
         ensures answer { ReadsLossily append_error Octets.limit
             ((Octets.asks ≡ true) × ¬ IsWellFormed (Octets.content octets))
             replacement [] (Octets.content octets) Octets.content result }
-        // Well-formed octets are handed back.
+        // Well-formed octets are returned unchanged.
         ensures same { IsWellFormed (Octets.content octets) → result ≡ Ok octets }
 
-        // No more turns than parts, whatever the answer, and a turn for every sixteen octets.
+        // At most as many turns as parts, whatever the result, and a turn for every sixteen octets.
         ensures turns { (parts : List Part) → Splits (Octets.content octets) parts
             → turns.new ≤ turns.old + length parts }
         ensures passed { OnOk result (length (Octets.content octets) + 16 * turns.old ≤ 16 * turns.new) }
@@ -191,13 +187,12 @@ impl<Octets: AsOctets> StrBuilder<Octets> {
         read_with(alloc, octets, replacement, turns)
     }
 
-    /// A text of the octets in which each maximal ill-formed part became one U+FFFD. The octets are only
-    /// looked at: nothing but the text is copied.
+    /// A text of the octets with one U+FFFD for each maximal ill-formed part. The octets are only read: nothing but the
+    /// text is copied.
     ///
     /// # Errors
     ///
-    /// `Short` where the text passes the limit of the type, `Memory` where a request for memory was
-    /// refused.
+    /// `Short` if the text exceeds the limit of the type, `Memory` if a request for memory was refused.
     pub fn try_copy_lossy(alloc: Global, octets: &[u8]) -> Result<Self, AppendError>
     where
         Octets: EmptyBuilder,
@@ -207,12 +202,11 @@ impl<Octets: AsOctets> StrBuilder<Octets> {
         StrBuilder::try_copy_lossy_with(alloc, octets, char::REPLACEMENT_CHARACTER)
     }
 
-    /// As [`StrBuilder::try_copy_lossy`], with `replacement` for each maximal ill-formed part.
+    /// Like [`StrBuilder::try_copy_lossy`], with `replacement` for each maximal ill-formed part.
     ///
     /// # Errors
     ///
-    /// `Short` where the text passes the limit of the type, `Memory` where a request for memory was
-    /// refused.
+    /// `Short` if the text exceeds the limit of the type, `Memory` if a request for memory was refused.
     pub fn try_copy_lossy_with(
         alloc: Global,
         octets: &[u8],
@@ -228,12 +222,12 @@ impl<Octets: AsOctets> StrBuilder<Octets> {
         Ok(StrBuilder::from_utf8_unchecked(made))
     }
 
-    /// Appends the octets as a text in which each maximal ill-formed part became one U+FFFD, or nothing.
+    /// Appends the octets as a text with one U+FFFD for each maximal ill-formed part, or nothing.
     ///
     /// # Errors
     ///
-    /// `Short` where the text would pass the limit of its type, `Memory` where a request for memory was
-    /// refused. The text is then as it was.
+    /// `Short` if the text would exceed the limit of its type, `Memory` if a request for memory was refused. The text
+    /// is then unchanged.
     pub fn try_push_lossy(&mut self, octets: &[u8]) -> Result<(), AppendError>
     where
         Octets: OctetsBuilder + Truncate,
@@ -245,12 +239,12 @@ impl<Octets: AsOctets> StrBuilder<Octets> {
         self.try_push_lossy_with(octets, char::REPLACEMENT_CHARACTER)
     }
 
-    /// As [`StrBuilder::try_push_lossy`], with `replacement` for each maximal ill-formed part.
+    /// Like [`StrBuilder::try_push_lossy`], with `replacement` for each maximal ill-formed part.
     ///
     /// # Errors
     ///
-    /// `Short` where the text would pass the limit of its type, `Memory` where a request for memory was
-    /// refused. The text is then as it was.
+    /// `Short` if the text would exceed the limit of its type, `Memory` if a request for memory was refused. The text
+    /// is then unchanged.
     pub fn try_push_lossy_with(
         &mut self,
         octets: &[u8],
@@ -307,7 +301,8 @@ fn read_with<B: EmptyBuilder>(
     }
 }
 
-/// Appends the octets as a text with the replacement for each bad part. A refusal leaves a front of it behind.
+/// Appends the octets as a text with the replacement for each bad part. If refused, a front of that text may have been
+/// appended.
 fn append_lossy<B: OctetsBuilder>(
     builder: &mut B,
     octets: &[u8],
@@ -331,7 +326,7 @@ fn append_lossy<B: OctetsBuilder>(
     }
 }
 
-/// Appends the text of a chunk, and of those behind it.
+/// Appends the text of a chunk and of those after it.
 fn append_chunks<B: OctetsBuilder>(
     builder: &mut B,
     first: Utf8Chunk<'_>,
@@ -364,7 +359,7 @@ fn append_chunks<B: OctetsBuilder>(
     append_stage(builder, &mut staged)
 }
 
-/// Appends the text of the chunk at the front of octets, with the mark in the place of its bad part, after what is
+/// Appends the text of the chunk at the front of the octets, with the mark in place of its bad part, after what is
 /// staged.
 #[inline(always)]
 fn append_chunk<B: OctetsBuilder>(

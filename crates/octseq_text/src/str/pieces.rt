@@ -18,11 +18,11 @@ use std::alloc::{AllocError, Global};
 use std::marker::Model;
 use std::mem::replace;
 
-/// A lossy reading of octets that come in pieces. However they are cut, the text is that of
+/// A lossy reading of octets that come in pieces. However they are cut, the text is the one of
 /// [`StrBuilder::try_from_utf8_lossy`].
 ///
-/// It holds the text of what is settled, and at most three octets of a character that isn't whole yet.
-/// Once a request for memory or the limit of the type refused a piece, it has failed for good.
+/// It holds the text of what is settled, and at most three octets of a character that isn't complete yet. Once a piece
+/// is refused, for memory or by the limit of the type, the reading has failed permanently.
 ///
 /// Contracts see the text, those octets, and the refusal.
 #[derive(Drop)]
@@ -49,7 +49,7 @@ impl<B: EmptyBuilder> LossyPieces<B> {
     ///
     /// # Errors
     ///
-    /// `AllocError` where a request for memory was refused.
+    /// `AllocError` if a request for memory was refused.
     pub fn new(alloc: Global) -> Result<Self, AllocError>
         ensures stands { IfOk result (λ made. StandsFor made []) }
         ensures memory { OnErr result (B.asks ≡ true) }
@@ -66,8 +66,8 @@ impl<B: EmptyBuilder> LossyPieces<B> {
     ///
     /// # Errors
     ///
-    /// `Short` where the text of what is settled passes the limit of the type, `Memory` where a request
-    /// for memory was refused. Every later call answers that refusal again.
+    /// `Short` if the text of what is settled exceeds the limit of the type, `Memory` if a request for memory was
+    /// refused. Every later call returns the same error.
     ///
     /// # Examples
     ///
@@ -86,12 +86,11 @@ impl<B: EmptyBuilder> LossyPieces<B> {
         ensures settling { (octets : List ℕ)
             → (settled : List Part) × (end : List ℕ) × Settles octets settled end }
 
-        // What stood for octets stands for them and the piece behind them.
+        // If the reading stood for octets, it now stands for them followed by the piece.
         ensures stands { OnOk result ((octets : List ℕ)
             → StandsFor self.old octets → StandsFor self.new (octets ++ piece.now)) }
 
-        // It is refused as short exactly where the text of their settled parts passes the limit, memory
-        // aside.
+        // If the text of their settled parts exceeds the limit, the call is refused; it is refused as short only then.
         ensures short { IsShort append_error result → (octets end : List ℕ) (settled : List Part)
             → StandsFor self.old octets → Settles (octets ++ piece.now) settled end
             → IsPast B.limit (length (text settled)) }
@@ -100,7 +99,7 @@ impl<B: EmptyBuilder> LossyPieces<B> {
             → IsPast B.limit (length (text settled)) → IsErr result }
         ensures memory { IsMemory append_error result → B.asks ≡ true }
 
-        // A refusal is kept, and is the answer from then on.
+        // A refusal is kept, and returned from then on.
         ensures kept { IfErr result (λ refusal. self.new.refusal ≡ Some refusal) }
         ensures again { (refusal : AppendError)
             → self.old.refusal ≡ Some refusal → result ≡ Err refusal }
@@ -108,13 +107,13 @@ impl<B: EmptyBuilder> LossyPieces<B> {
         self.feed_counted(piece, &mut Turns::new())
     }
 
-    /// As [`LossyPieces::feed`], and counts the turns of the search: at most one for each octet of the piece,
-    /// and one more where one of them shows what was held to be no character.
+    /// Like [`LossyPieces::feed`], and counts the turns of the search: at most one for each octet of the piece, and one
+    /// more if one of them shows that the held octets are not a character.
     ///
     /// # Errors
     ///
-    /// `Short` where the text of what is settled passes the limit of the type, `Memory` where a request
-    /// for memory was refused. Every later call answers that refusal again.
+    /// `Short` if the text of what is settled exceeds the limit of the type, `Memory` if a request for memory was
+    /// refused. Every later call returns the same error.
     pub fn feed_counted(&mut self, piece: &[u8], turns: &mut Turns) -> Result<(), AppendError>
         // Octets have exactly one list of settled parts, and one open end.
         ensures one_settling { (octets end last : List ℕ) (settled others : List Part)
@@ -123,12 +122,11 @@ impl<B: EmptyBuilder> LossyPieces<B> {
         ensures settling { (octets : List ℕ)
             → (settled : List Part) × (end : List ℕ) × Settles octets settled end }
 
-        // What stood for octets stands for them and the piece behind them.
+        // If the reading stood for octets, it now stands for them followed by the piece.
         ensures stands { OnOk result ((octets : List ℕ)
             → StandsFor self.old octets → StandsFor self.new (octets ++ piece.now)) }
 
-        // It is refused as short exactly where the text of their settled parts passes the limit, memory
-        // aside.
+        // If the text of their settled parts exceeds the limit, the call is refused; it is refused as short only then.
         ensures short { IsShort append_error result → (octets end : List ℕ) (settled : List Part)
             → StandsFor self.old octets → Settles (octets ++ piece.now) settled end
             → IsPast B.limit (length (text settled)) }
@@ -137,13 +135,13 @@ impl<B: EmptyBuilder> LossyPieces<B> {
             → IsPast B.limit (length (text settled)) → IsErr result }
         ensures memory { IsMemory append_error result → B.asks ≡ true }
 
-        // A refusal is kept, and is the answer from then on.
+        // A refusal is kept, and returned from then on.
         ensures kept { IfErr result (λ refusal. self.new.refusal ≡ Some refusal) }
         ensures again { (refusal : AppendError)
             → self.old.refusal ≡ Some refusal → result ≡ Err refusal }
 
-        // No more turns than octets and one, whatever the answer, and a turn for every sixteen octets that
-        // were read; none behind a refusal.
+        // At most one more turn than octets, whatever the result, and a turn for every sixteen octets that were read;
+        // none after a refusal.
         ensures turns { turns.new ≤ turns.old + length piece.now + 1 }
         ensures passed { OnOk result (length piece.now + 16 * turns.old ≤ 16 * turns.new) }
         ensures turns_kept { turns.old ≤ turns.new }
@@ -166,12 +164,12 @@ impl<B: EmptyBuilder> LossyPieces<B> {
         }
     }
 
-    /// The text of all that was read. Octets of a character that never became whole are one bad part.
+    /// The text of everything that was read. Octets of a character that never became complete are one bad part.
     ///
     /// # Errors
     ///
-    /// `Short` where the text passes the limit of the type, `Memory` where a request for memory was
-    /// refused. Where a piece was refused, that refusal.
+    /// `Short` if the text exceeds the limit of the type, `Memory` if a request for memory was refused. If a piece was
+    /// refused, the error of that piece.
     ///
     /// # Examples
     ///
@@ -190,12 +188,12 @@ impl<B: EmptyBuilder> LossyPieces<B> {
             → Splits octets parts → Splits octets others → parts ≡ others }
         ensures splitting { (octets : List ℕ) → (parts : List Part) × Splits octets parts }
 
-        // The answer is the text of all parts of what it stands for.
+        // The result is the text of all parts of the octets that the reading stands for.
         ensures text { IfOk result (λ made. (octets : List ℕ) (parts : List Part)
             → StandsFor self octets → Splits octets parts → B.content made ≡ text parts) }
         ensures well_formed { IfOk result (λ made. IsWellFormed (B.content made)) }
 
-        // It is refused as short exactly where that text passes the limit, memory aside.
+        // If that text exceeds the limit, the call is refused; it is refused as short only then.
         ensures short { IsShort append_error result → (octets : List ℕ) (parts : List Part)
             → StandsFor self octets → Splits octets parts → IsPast B.limit (length (text parts)) }
         ensures past { (octets : List ℕ) (parts : List Part)
@@ -203,7 +201,7 @@ impl<B: EmptyBuilder> LossyPieces<B> {
             → IsPast B.limit (length (text parts)) → IsErr result }
         ensures memory { IsMemory append_error result → B.asks ≡ true }
 
-        // A refusal that was met is the answer.
+        // An earlier refusal is returned again.
         ensures again { (refusal : AppendError) → self.refusal ≡ Some refusal → result ≡ Err refusal }
     {
         let LossyPieces {
@@ -219,7 +217,7 @@ impl<B: EmptyBuilder> LossyPieces<B> {
     }
 }
 
-/// Reads the piece behind the open end, and answers the open end of both.
+/// Reads the piece after the open end, and returns the open end of both.
 fn read<B: OctetsBuilder>(
     text: &mut B,
     end: Array<4>,
@@ -248,8 +246,8 @@ fn read<B: OctetsBuilder>(
     }
 }
 
-/// Adds octets of the piece to a beginning until it is a character or none can come of it, appends what
-/// became of it, and answers the rest of the piece. Where the piece ends first, it is still a beginning.
+/// Adds octets of the piece to a beginning until it is a character or can't become one, appends the result, and returns
+/// the rest of the piece. If the piece ends first, it is still a beginning.
 fn close<'a, B: OctetsBuilder>(
     text: &mut B,
     begun: &mut Array<4>,
@@ -293,7 +291,7 @@ fn close<'a, B: OctetsBuilder>(
     Ok(None)
 }
 
-/// Appends the text of the settled parts of the octets, and answers the open end.
+/// Appends the text of the settled parts of the octets, and returns the open end.
 fn settle<B: OctetsBuilder>(
     text: &mut B,
     octets: &[u8],
@@ -323,7 +321,7 @@ fn settle<B: OctetsBuilder>(
     Ok(Array::new())
 }
 
-/// Appends what becomes of an open end that nothing follows: the replacement character, if there is one.
+/// Appends the replacement character for an open end that nothing follows, if there is one.
 fn append_end<B: OctetsBuilder>(text: &mut B, end: &Array<4>) -> Result<(), AppendError>
     requires { IsWithin B.limit (length (B.content text.old)) }
     ensures none { OnOk result (end.now.content ≡ [] → B.content text.new ≡ B.content text.old) }
@@ -351,7 +349,7 @@ fn append_replacement<B: OctetsBuilder>(text: &mut B) -> Result<(), AppendError>
     text.append_slice(b"\xEF\xBF\xBD")
 }
 
-/// One octet more behind a beginning.
+/// Adds one octet to a beginning.
 fn push(begun: &mut Array<4>, octet: u8)
     requires { length begun.old.content < 4 }
     ensures { begun.new.content ≡ begun.old.content ++ octet ∷ [] }

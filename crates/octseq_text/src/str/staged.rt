@@ -1,7 +1,8 @@
-//! Short texts, gathered before they are appended.
+//! Short texts, collected before they are appended.
 //!
-//! A builder asks of each append whether there is room, and some ask whether the two places overlap. For a character
-//! or two that takes longer than the copy, so such are copied into an array first, and appended with others.
+//! At each append a builder tests whether there is room, and some builders test whether the two places overlap. For a
+//! character or two that takes longer than the copy, so short texts are copied into an array first, and appended
+//! together.
 ghost use Rattle.std.specs.Prelude.{◌≡◌, ◌≤◌, true, false, [], ◌++◌, take, length, OnOk, OnErr};
 ghost use Rattle.octseq_core.specs.Appends.{Appends};
 ghost use Rattle.octseq_core.specs.Limit.{IsWithin, IsPast};
@@ -11,10 +12,10 @@ ghost use Rattle.octseq_utf8.specs.Parts.{IsFront};
 use octseq_core::array::Array;
 use octseq_core::builder::{AppendError, OctetsBuilder, Truncate};
 
-/// How many octets are gathered.
+/// The size of the array in octets.
 pub(super) const STAGE: usize = 512;
 
-/// Appends octets. Of one to three, as a character has, the copy's size is known where it is compiled.
+/// Appends octets. If they are one to three, as of one character, the size of the copy is known at compile time.
 #[inline(always)]
 pub(super) fn append_short<B: OctetsBuilder>(
     builder: &mut B,
@@ -32,11 +33,11 @@ pub(super) fn append_short<B: OctetsBuilder>(
     }
 }
 
-/// How many octets are copied at once, where a text is no longer.
+/// The number of octets that are copied at once, if the text is no longer than that.
 const LANE: usize = 16;
 
-/// Stages the first `len` octets, of which a whole lane is copied: one load and one store, whatever the length. Answers
-/// whether there was room.
+/// Stages the first `len` octets by copying a whole lane: one load and one store, whatever the length. Returns whether
+/// there was room.
 #[inline(always)]
 fn append_lane(staged: &mut Array<STAGE>, octets: &[u8], len: usize) -> bool
     requires { (len ≤ 16) × (16 ≤ length octets.now) }
@@ -53,7 +54,8 @@ fn append_lane(staged: &mut Array<STAGE>, octets: &[u8], len: usize) -> bool
     }
 }
 
-/// As [`append_staged`] of the first `len` octets, which go by a lane where they and those after them fill one.
+/// Like [`append_staged`] for the first `len` octets, which are copied as a lane if they fit one and the octets fill
+/// it.
 #[inline(always)]
 pub(super) fn append_front<B: OctetsBuilder>(
     builder: &mut B,
@@ -76,7 +78,7 @@ pub(super) fn append_front<B: OctetsBuilder>(
     append_staged(builder, staged, &octets[..len])
 }
 
-/// Stages the octets where there is room, and else appends what is staged and then them.
+/// Stages the octets if there is room. Otherwise appends what is staged, and then the octets.
 #[inline(always)]
 pub(super) fn append_staged<B: OctetsBuilder>(
     builder: &mut B,
@@ -98,7 +100,7 @@ pub(super) fn append_staged<B: OctetsBuilder>(
     builder.append_slice(octets)
 }
 
-/// Appends the octets that are staged.
+/// Appends the staged octets.
 pub(super) fn append_stage<B: OctetsBuilder>(
     builder: &mut B,
     staged: &mut Array<STAGE>,

@@ -75,8 +75,7 @@ impl<Octets: AsOctets> Str<Octets> {
     ///
     /// # Errors
     ///
-    /// `Short` where `s` passes the limit of the builder's type, and else `Memory` where a request for
-    /// memory was refused.
+    /// `Short` if `s` exceeds the limit of the builder's type, otherwise `Memory` if a request for memory was refused.
     pub fn try_copy_from_str(alloc: Global, s: &str) -> Result<Self, AppendError>
     where
         Octets: FromBuilder,
@@ -91,11 +90,11 @@ impl<Octets: AsOctets> Str<Octets> {
         }
     }
 
-    /// A copy of `s`, where the builder's type has no limit.
+    /// A copy of `s`, if the builder's type has no limit.
     ///
     /// # Errors
     ///
-    /// `AllocError` where a request for memory was refused.
+    /// `AllocError` if a request for memory was refused.
     pub fn copy_from_str(alloc: Global, s: &str) -> Result<Self, AllocError>
     where
         Octets: FromBuilder,
@@ -127,7 +126,7 @@ impl<Octets: AsOctets> Str<Octets> {
         }
     }
 
-    /// Gives back the octets.
+    /// Returns the octets.
     pub fn into_octets(self) -> Octets
         ensures same { result ≡ self }
         ensures well_formed { IsWellFormed (Octets.content result) }
@@ -135,7 +134,7 @@ impl<Octets: AsOctets> Str<Octets> {
         self.octets
     }
 
-    /// The octets behind the text.
+    /// The underlying sequence of octets.
     pub fn as_octets(&self) -> &Octets
         ensures same { result.now ≡ self.now }
         ensures well_formed { IsWellFormed (Octets.content result.now) }
@@ -180,7 +179,7 @@ impl<Octets: AsOctets> Str<Octets> {
     ///
     /// # Errors
     ///
-    /// `AllocError` where a request for memory was refused.
+    /// `AllocError` if a request for memory was refused.
     pub fn clone(&self, alloc: Global) -> Result<Self, AllocError>
     where
         Octets: CloneOctets,
@@ -197,7 +196,7 @@ impl<'a> Str<&'a [u8]> {
     ///
     /// # Errors
     ///
-    /// The first fault of octets that aren't well formed.
+    /// The first fault, if the octets aren't well formed.
     pub fn from_utf8_slice(slice: &'a [u8]) -> Result<Self, Utf8Fault>
         ensures variant { IsOk result ↔ IsWellFormed slice.now }
         ensures ok { IfOk result (λ text. text.now ≡ slice.now) }
@@ -209,7 +208,7 @@ impl<'a> Str<&'a [u8]> {
         }
     }
 
-    /// The octets of `s` as a text. They are borrowed.
+    /// The octets of `s`, borrowed, as a text.
     #[tactic(auto, using(octseq_utf8::proofs::Bridge::well_formed_from_utf8))]
     pub fn from_str(s: &'a str) -> Self
         ensures { result.now ≡ s.now }
@@ -221,7 +220,7 @@ impl<'a> Str<&'a [u8]> {
 }
 
 impl Str<Vec<u8>> {
-    /// The octets of a string as a text. None are copied.
+    /// The octets of a string as a text, without a copy.
     pub fn from_string(s: String) -> Self
         ensures { result.items ≡ string_bytes s }
     {

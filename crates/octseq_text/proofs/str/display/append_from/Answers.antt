@@ -21,7 +21,7 @@ returns-in-Ok-clause-ok g c =
     IfSome_then (g.D.Display.output c.args.value) c.in-Ok.ensures.writes
     (λ octets writes. contents_after_writes _ (λ s. g.B.AsOctets.content s.text.now) (λ _ _ _ t. t) _ _ _ writes)
 
--- what is lent is within the limit, so no value was appended that passes it
+-- the borrowed text is within the limit, so no value that exceeds it was appended
 pub returns-in-Ok-clause-past : goal.returns-in-Ok-clause-past
 returns-in-Ok-clause-past g c =
     let limit = g.B.AsOctets.limit in

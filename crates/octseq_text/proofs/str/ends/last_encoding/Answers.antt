@@ -2,7 +2,7 @@ use Rattle.std.proofs.Common.{◌≡◌, ◌≢◌, ℕ, ◌+◌, ◌-◌, ◌<�
 use Rattle.octseq_text.proofs.Ends.{ends_1, more_1, ends_2, more_2, ends_3, more_3, ends_4}
 use Rattle.octseq_text.proofs.str.ends.last_encoding.Goals as goal
 
--- what isn't 0 is more
+-- a number that isn't 0 is greater than 0
 nonzero : (n : ℕ) → n ≢ 0 → 0 < n
 nonzero n some = omega arith
 
@@ -20,7 +20,7 @@ ticks_3 a b c d e f g = omega arith
 ticks_4 : (a b c d e : ℕ) → b ≡ a + 1 → c ≡ b + 1 → d ≡ c + 1 → e ≡ d + 1 → e ≡ a + 4
 ticks_4 a b c d e f g h i = omega arith
 
--- from one tick to four
+-- one to four ticks
 few_1 : (1 ≤ 1) × (1 ≤ 4)
 few_1 = (omega arith, omega arith)
 

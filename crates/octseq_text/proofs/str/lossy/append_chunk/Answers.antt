@@ -12,7 +12,7 @@ use Rattle.octseq_text.proofs.Piecewise.{none_of, some_of}
 use Rattle.octseq_text.proofs.Replacing.{front_then}
 use Rattle.octseq_text.proofs.str.lossy.append_chunk.Goals as goal
 
--- as many octets as a front has are the front
+-- the first octets, as many as a front has, are the front
 front_is : (octets front : List ℕ) (len : ℕ) → IsFront front octets → len ≡ length front → take len octets ≡ front
 front_is octets front len f same = rw (same, f.1) (take-append_seam front f.0)
 
@@ -22,14 +22,14 @@ unmarked : (all made read mark valid invalid : List ℕ) → made ≡ all ++ rea
 unmarked all made read mark valid [] e same none = e ∙ ap (λ y. all ++ y) (same ∙ sym (append-nil valid))
 unmarked all made read mark valid (o ∷ invalid) e same none = absurd (omega arith)
 
--- with one the mark stands behind the text
+-- with a bad part, the mark follows the text
 marked : (all made read mark valid invalid : List ℕ) → made ≡ all ++ read → read ≡ valid → 1 ≤ length invalid
     → made ++ mark ≡ all ++ (valid ++ mark_of mark invalid)
 marked all made read mark valid invalid e same some =
     ap (λ y. y ++ mark) e ∙ append_assoc all read mark ∙ ap (λ y. all ++ (y ++ mark)) same
     ∙ ap (λ y. all ++ (valid ++ y)) (sym (mark_some mark invalid some))
 
--- what is past the limit with the text is past it with the mark
+-- if the text exceeds the limit, the text with the mark does too
 past_marked : (limit : Option ℕ) (all read valid mark : List ℕ) → read ≡ valid → IsPast limit (length (all ++ read))
     → IsPast limit (length (all ++ (valid ++ mark)))
 past_marked limit all read valid mark same past =
@@ -84,7 +84,7 @@ returns-then-is_empty-clause-front g c = c.in_ok-append_front.ensures.front
 pub returns-then-is_empty-clause-borrows : goal.returns-then-is_empty-clause-borrows
 returns-then-is_empty-clause-borrows g c = c.in_ok-append_front.ensures.borrows
 
--- or one
+-- a bad part
 
 pub returns-clause-text : goal.returns-clause-text
 returns-clause-text g c =

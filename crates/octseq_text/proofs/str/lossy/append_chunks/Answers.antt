@@ -14,12 +14,12 @@ use Rattle.octseq_text.proofs.Counting.{turns_left, none_turned, passed_on, pass
 use Rattle.octseq_text.proofs.Replacing.{added, chunk_short, front_then, grown_short}
 use Rattle.octseq_text.proofs.str.lossy.append_chunks.Goals as goal
 
--- what is so whatever the answer is so where it is Ok
+-- what always holds, holds if the result is Ok
 IfOk-any : {T E : Type 0} (r : Result T E) (P : Type 0) → P → OnOk r P
 IfOk-any (Ok x) P p = p
 IfOk-any (Err e) P p = tt
 
--- a front stays where an error left the content as it was
+-- a front stays if an error left the content unchanged
 front_kept : {T E : Type 0} (r : Result T E) (a b c : List ℕ) → IsFront a b → OnErr r (c ≡ b)
     → OnErr r (IsFront a c)
 front_kept (Ok x) a b c front same = tt

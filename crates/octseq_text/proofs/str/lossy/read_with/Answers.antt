@@ -15,19 +15,19 @@ use Rattle.octseq_text.proofs.Piecewise.{none_of, some_of}
 use Rattle.octseq_text.proofs.Replacing.{nothing_added}
 use Rattle.octseq_text.proofs.str.lossy.read_with.Goals as goal
 
--- octets whose first chunk has a bad part are no text
+-- octets whose first chunk has a bad part are not well formed
 is_bad : (x read after : List ℕ) (first : Chunk) → read ≡ x → IsFirstChunk read first after
     → 1 ≤ length first.invalid → ¬ IsWellFormed x
 is_bad x read after first same chunk some good =
     no_whole_text read first after chunk some (subst IsWellFormed (sym same) good)
 
--- those whose first chunk has none are the text that is read
+-- octets whose first chunk has none are the text that is read
 is_text : (w : ℕ) (x read after : List ℕ) (first : Chunk) → read ≡ x → IsFirstChunk read first after
     → length first.invalid ≡ 0 → text_with w (parts_of x) ≡ x
 is_text w x read after first same chunk none =
     text_same w x (parts_of x) (subst IsWellFormed same (whole_text read first after chunk none)) (splits x)
 
--- nothing, the text of the first chunk and that of what is behind it are the text that is read
+-- the text of the first chunk followed by the text of what is after it is the text that is read
 all_text : (w : ℕ) (x read after made : List ℕ) (first : Chunk) → read ≡ x → IsFirstChunk read first after
     → made ≡ [] → made ++ (chunk_text w first ++ text_with w (parts_of after)) ≡ text_with w (parts_of x)
 all_text w x read after made first same chunk nothing =
@@ -45,24 +45,24 @@ read_turns : (x read after : List ℕ) (old new : ℕ) → read ≡ x
     → new + length (parts_of after) ≤ old + length (parts_of read) → new ≤ old + length (parts_of x)
 read_turns x read after old new same counted = omega (arith, ap (λ y. length (parts_of y)) same)
 
--- and so are those to the end
+-- and so are the turns to the end
 more_turns : (x read after : List ℕ) (old mid new : ℕ) → read ≡ x
     → mid + length (parts_of after) ≤ old + length (parts_of read) → new ≤ mid + length (parts_of after)
     → new ≤ old + length (parts_of x)
 more_turns x read after old mid new same counted later = omega (arith, ap (λ y. length (parts_of y)) same)
 
--- where nothing is left behind a chunk, all is passed
+-- if nothing is left after a chunk, all is passed
 read_passed : (x read after : List ℕ) (old new : ℕ) → read ≡ x → after ≡ []
     → length read + 16 * old ≤ 16 * new + length after → length x + 16 * old ≤ 16 * new
 read_passed x read after old new same none passed = omega (arith, ap length same, ap length none)
 
--- and where it was passed too
+-- and so it is if the rest was passed too
 more_passed : (x read after : List ℕ) (old mid new : ℕ) → read ≡ x
     → length read + 16 * old ≤ 16 * mid + length after → length after + 16 * mid ≤ 16 * new
     → length x + 16 * old ≤ 16 * new
 more_passed x read after old mid new same passed later = omega (arith, ap length same)
 
--- behind a chunk with no bad part nothing is left
+-- after a chunk with no bad part nothing is left
 none_behind : (x : List ℕ) (chunk : Chunk) (behind : List ℕ) → IsFirstChunk x chunk behind
     → length chunk.invalid ≡ 0 → behind ≡ []
 none_behind x chunk behind c none =
@@ -131,7 +131,7 @@ returns-in_err-made-in-Some-clause-turns g c =
     read_turns _ _ _ _ _ (c.chunks-chunks.ensures ∙ c.as_ref-content.ensures.value)
     (c.in-Some.ensures.turns _ _ (splits _) (splits _))
 
--- or none for the text
+-- a bad part, and no room for the text
 
 pub returns-in_err-append_chunks-in-Some-clause-same : goal.returns-in_err-append_chunks-in-Some-clause-same
 returns-in_err-append_chunks-in-Some-clause-same g c = λ good.
@@ -164,7 +164,7 @@ returns-in_err-append_chunks-in-Some-clause-turns g c =
     more_turns _ _ _ _ _ _ (c.chunks-chunks.ensures ∙ c.as_ref-content.ensures.value)
     (c.in-Some.ensures.turns _ _ (splits _) (splits _)) c.in_err-append_chunks-in-Some.ensures.turns
 
--- or there is
+-- a bad part, and room for the text
 
 pub from_utf8_unchecked-requires-in-Some : goal.from_utf8_unchecked-requires-in-Some
 from_utf8_unchecked-requires-in-Some g c =

@@ -22,7 +22,7 @@ none_added turns = omega arith
 none_passed : (turns : ℕ) → 0 + 16 * turns ≤ 16 * turns
 none_passed turns = omega arith
 
--- fewer octets are left behind the next place
+-- fewer octets are left after the next place
 place_falls : (size at : ℕ) → at < size → size - (at + 1) < size - at
 place_falls size at h = omega arith
 
@@ -35,7 +35,7 @@ place_within size at h = omega arith
 next_behind : (at : ℕ) → at ≤ at + 1
 next_behind at = omega arith
 
--- at the end of the piece all of it is begun
+-- at the end of the piece all of it belongs to the beginning
 all_begun : (q piece b : List ℕ) (at : ℕ) → length piece ≤ at → b ≡ q ++ take at piece → b ≡ q ++ piece
 all_begun q piece b at h begun = begun ∙ ap (λ y. q ++ y) (take_all at piece h)
 
@@ -100,7 +100,7 @@ returns-in-None-clause-closed g c =
     (g.B.AsOctets.content c.loop-at.text)
     (c.as_slice.ensures.content ∙ c.push.ensures) (c.in-None.ensures.none.0 refl))
 
--- the octet refutes it
+-- the octet shows that it isn't a character
 
 pub returns-in_err-append_replacement-in-Some-clause-short :
     goal.returns-in_err-append_replacement-in-Some-clause-short
@@ -151,7 +151,7 @@ loop-at-preserved g c =
       text = i.text;
     }
 
--- what a refusal leaves to show
+-- what must be shown after a refusal
 
 pub returns-in_err-append_slice-in-None-clause-closed : goal.returns-in_err-append_slice-in-None-clause-closed
 returns-in_err-append_slice-in-None-clause-closed g c =

@@ -6,11 +6,11 @@ use Rattle.octseq_text.specs.Progress.{IsRead}
 use Rattle.octseq_text.proofs.Piecewise.{read_then, too_long_then}
 use Rattle.octseq_text.proofs.str.pieces.read.Goals as goal
 
--- turns within the octets are within one more
+-- turns within the number of octets are within one more
 one_past : (old size new : ℕ) → new ≤ old + size → new ≤ old + size + 1
 one_past old size new h = omega arith
 
--- what was passed to the rest, and then all of the rest
+-- octets passed up to the rest, and then all of the rest
 passed_both : (all rest old mid new : ℕ) → all + 16 * old ≤ 16 * mid + rest → rest + 16 * mid ≤ 16 * new
     → all + 16 * old ≤ 16 * new
 passed_both all rest old mid new h k = omega arith
@@ -28,7 +28,7 @@ returns-in-Some-clause-short g c =
     let closed = MatchOption-at_some _ _ _ c.in-Some.is c.in_ok-rest.ensures.closed in
     λ h. too_long_then closed (c.settle-in-Some.ensures.short h)
 
--- with no open end
+-- without an open end
 
 pub returns-then-is_empty-clause-open_end : goal.returns-then-is_empty-clause-open_end
 returns-then-is_empty-clause-open_end g c = c.settle.ensures.open_end
@@ -48,7 +48,7 @@ returns-then-is_empty-clause-kept g c = c.settle.ensures.kept
 pub returns-then-is_empty-clause-turns : goal.returns-then-is_empty-clause-turns
 returns-then-is_empty-clause-turns g c = one_past _ _ _ c.settle.ensures.turns
 
--- what a refusal leaves to show
+-- what must be shown after a refusal
 
 pub returns-in_err-rest-clause-read : goal.returns-in_err-rest-clause-read
 returns-in_err-rest-clause-read g c = IfOk-from_err c.from_residual.result _ c.from_residual.ensures.0
@@ -78,7 +78,7 @@ returns-in_err-rest-clause-turns g c = one_past _ _ _ c.in_err-rest.ensures.turn
 pub returns-in_err-rest-clause-kept : goal.returns-in_err-rest-clause-kept
 returns-in_err-rest-clause-kept g c = c.in_err-rest.ensures.kept
 
--- where the open end was closed, and the rest is settled
+-- the open end was closed, and the rest is settled
 
 pub returns-in-Some-clause-open_end : goal.returns-in-Some-clause-open_end
 returns-in-Some-clause-open_end g c = c.settle-in-Some.ensures.open_end
@@ -102,7 +102,7 @@ returns-in-Some-clause-passed g c =
 pub returns-in-Some-clause-kept : goal.returns-in-Some-clause-kept
 returns-in-Some-clause-kept g c = le_trans c.in_ok-rest.ensures.kept c.settle-in-Some.ensures.kept
 
--- and where it is still open
+-- the open end is still open
 
 pub returns-in-None-clause-kept : goal.returns-in-None-clause-kept
 returns-in-None-clause-kept g c = c.in_ok-rest.ensures.kept

@@ -43,7 +43,7 @@ returns-then-is_incomplete-clause-read g c =
     (read_more a made c.as_bytes.result.now c.in-Some.chunk.valid c.loop-chunk.invariant.read
     c.in_ok-append_slice.ensures.appended.ok bytes (read_to_end _ _ _ gives cut a))
 
--- a bad part stands behind the text
+-- a bad part follows the text
 
 pub returns-in_err-append_replacement-clause-short : goal.returns-in_err-append_replacement-clause-short
 returns-in_err-append_replacement-clause-short g c =
@@ -83,7 +83,7 @@ loop-chunk-preserved-in-Continue-branch-2 g c =
       kept = le_trans c.loop-chunk.invariant.kept c.in-Some.ensures.kept;
     })
 
--- or none does
+-- no bad part follows the text
 
 pub loop-chunk-preserved : goal.loop-chunk-preserved
 loop-chunk-preserved g c =
@@ -102,7 +102,7 @@ loop-chunk-preserved g c =
       kept = le_trans c.loop-chunk.invariant.kept c.in-Some.ensures.kept;
     }
 
--- at the beginning nothing is read
+-- at the start nothing is read
 
 pub loop-chunk-init : goal.loop-chunk-init
 loop-chunk-init g c = rw c.chunks-chunks.ensures (record {
@@ -113,7 +113,7 @@ loop-chunk-init g c = rw c.chunks-chunks.ensures (record {
   kept = le_refl _;
 })
 
--- fewer octets are left behind each chunk
+-- fewer octets are left after each chunk
 
 pub loop-chunk-smaller-in-Continue-branch-2 : goal.loop-chunk-smaller-in-Continue-branch-2
 loop-chunk-smaller-in-Continue-branch-2 g c = fewer_left _ _ _ c.in-Some.ensures.gives
@@ -121,7 +121,7 @@ loop-chunk-smaller-in-Continue-branch-2 g c = fewer_left _ _ _ c.in-Some.ensures
 pub loop-chunk-smaller : goal.loop-chunk-smaller
 loop-chunk-smaller g c = fewer_left _ _ _ c.in-Some.ensures.gives
 
--- what a refusal leaves to show
+-- what must be shown after a refusal
 
 pub returns-in_err-append_slice-clause-read : goal.returns-in_err-append_slice-clause-read
 returns-in_err-append_slice-clause-read g c = IfOk-from_err c.from_residual.result _ c.from_residual.ensures.0
@@ -173,7 +173,7 @@ returns-in_err-append_replacement-clause-turns g c =
 pub returns-in_err-append_replacement-clause-kept : goal.returns-in_err-append_replacement-clause-kept
 returns-in_err-append_replacement-clause-kept g c = le_trans c.loop-chunk.invariant.kept c.in-Some.ensures.kept
 
--- the rest of the clauses, where the octets end within a character
+-- the rest of the clauses, if the octets end within a character
 
 pub returns-then-is_incomplete-clause-open_end : goal.returns-then-is_incomplete-clause-open_end
 returns-then-is_incomplete-clause-open_end g c =

@@ -2,7 +2,7 @@ use Rattle.std.proofs.Common.{◌≡◌, ℕ, ◌+◌, ◌≤◌, List, ◌++◌
 use Rattle.std.proofs.Math.Seq.{take-append-add, take-take}
 use Rattle.octseq_text.proofs.str.staged.append_lane.Goals as goal
 
--- what is left of a lane that is cut
+-- what is left of a lane after the cut
 cut_lane : (staged octets : List ℕ) (len : ℕ) → len ≤ 16
     → take (length staged + len) (staged ++ take 16 octets) ≡ staged ++ take len octets
 cut_lane staged octets len few =

@@ -8,7 +8,7 @@ use Rattle.octseq_core.proofs.Limits.{past_more}
 use Rattle.octseq_utf8.specs.Parts.{IsFront}
 use Rattle.octseq_text.proofs.str.staged.append_staged.Goals as goal
 
--- what a test for Ok tells
+-- what a test for Ok shows
 where_ok : {T E : Type 0} (r : Result T E) (P : Type 0) (test : Bool) → OnOk r P → test ≡ is_ok r → test ≡ true → P
 where_ok (Ok x) P test h e t = h
 where_ok (Err x) P test h e t = let no : true ≡ false = sym t ∙ e in absurd (cc)
@@ -17,7 +17,7 @@ where_err : {T E : Type 0} (r : Result T E) (P : Type 0) (test : Bool) → OnErr
 where_err (Ok x) P test h e t = let no : true ≡ false = sym e ∙ t in absurd (cc)
 where_err (Err x) P test h e t = h
 
--- what is past the limit is past it with more octets behind it
+-- what exceeds the limit exceeds it with more octets after it
 past_with : (limit : Option ℕ) (content kept staged octets : List ℕ) → kept ≡ staged
     → IsPast limit (length (content ++ kept)) → IsPast limit (length ((content ++ staged) ++ octets))
 past_with limit content kept staged octets same past =
@@ -29,7 +29,7 @@ past_with limit content kept staged octets same past =
     ))
     past
 
--- an append leaves a front in front, whatever it answers
+-- an append keeps a front, whatever its result
 front_appended : {T E : Type 0} (r : Result T E) (front old new octets : List ℕ) → IsFront front old
     → OnOk r (new ≡ old ++ octets) → OnErr r (new ≡ old) → IsFront front new
 front_appended (Ok x) front old new octets f ok err =
@@ -48,7 +48,7 @@ returns-then-is_ok-clause-text g c =
 pub returns-then-is_ok-clause-front : goal.returns-then-is_ok-clause-front
 returns-then-is_ok-clause-front g c = ([], sym (append-nil _))
 
--- what was staged is refused
+-- the staged octets are refused
 
 pub returns-in_err-append_stage-clause-text : goal.returns-in_err-append_stage-clause-text
 returns-in_err-append_stage-clause-text g c = IfOk-from_err c.from_residual.result _ c.from_residual.ensures.0
@@ -73,7 +73,7 @@ returns-in_err-append_stage-clause-memory g c =
 pub returns-in_err-append_stage-clause-borrows : goal.returns-in_err-append_stage-clause-borrows
 returns-in_err-append_stage-clause-borrows g c = c.in_err-append_stage.ensures.borrows
 
--- or appended, and then the octets
+-- the staged octets are appended, and then the octets
 
 pub returns-clause-text : goal.returns-clause-text
 returns-clause-text g c =

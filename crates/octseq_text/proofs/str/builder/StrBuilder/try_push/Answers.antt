@@ -8,7 +8,7 @@ use Rattle.octseq_text.proofs.CharacterAppends.{appends, well_formed-appended}
 use Rattle.octseq_text.proofs.str.builder.StrBuilder.try_push.Given as given
 use Rattle.octseq_text.proofs.str.builder.StrBuilder.try_push.Goals as goal
 
--- the octets that are appended are the character's
+-- the appended octets are the encoding of the character
 encoded : (g : given.Over) (c : goal.After-octets-2-1 g) → c.as_bytes.result.now ≡ encoding_of c.args.ch
 encoded g c = c.as_bytes.ensures.value ∙ c.encode_utf8-encoding.ensures.value ∙ encode-is c.args.ch
 

@@ -38,7 +38,7 @@ returns-in-Err-clause-short g c =
     let long = rw c.replace-end.ensures.value at (c.in-Err.ensures.short h) in
     feed_too_long _ octets c.args.piece.now s long end settled t)
 
--- the settled parts are what they are
+-- the settled parts are unique
 
 pub returns-in-Some-clause-one_settling : goal.returns-in-Some-clause-one_settling
 returns-in-Some-clause-one_settling g c = λ octets end last settled others s t. one_settling s t
@@ -58,7 +58,7 @@ returns-in-Err-clause-one_settling g c = λ octets end last settled others s t. 
 pub returns-in-Err-clause-settling : goal.returns-in-Err-clause-settling
 returns-in-Err-clause-settling g c = settling
 
--- where a refusal was met before
+-- if a refusal was met before
 
 pub returns-in-Some-clause-short : goal.returns-in-Some-clause-short
 returns-in-Some-clause-short g c =
@@ -89,7 +89,7 @@ returns-in-Some-clause-turns_kept g c = le_refl _
 pub returns-in-Some-clause-nothing : goal.returns-in-Some-clause-nothing
 returns-in-Some-clause-nothing g c = λ refusal e. refl
 
--- where none was
+-- if none was
 
 pub read-requires-clause-within : goal.read-requires-clause-within
 read-requires-clause-within g c = c.self.invariant.within c.in_default.is

@@ -32,7 +32,7 @@ returns-clause-past g c = λ octets parts s t p.
     (subst (λ y. IsPast g.B.AsOctets.limit (length y)) (sym (returns-clause-text g c octets parts s t)
     ∙ ap g.B.AsOctets.content c.from_utf8_unchecked.ensures) p))
 
--- the parts are what they are
+-- the parts are unique
 
 pub returns-in-Some-clause-one_splitting : goal.returns-in-Some-clause-one_splitting
 returns-in-Some-clause-one_splitting g c = λ octets parts others s t. one_splitting s t
@@ -52,7 +52,7 @@ returns-clause-one_splitting g c = λ octets parts others s t. one_splitting s t
 pub returns-clause-splitting : goal.returns-clause-splitting
 returns-clause-splitting g c = splitting
 
--- where a refusal was met before
+-- if a refusal was met before
 
 pub returns-in-Some-clause-short : goal.returns-in-Some-clause-short
 returns-in-Some-clause-short g c =
@@ -71,7 +71,7 @@ returns-in-Some-clause-again g c =
     rw (← c.self.view_is)
     (λ refusal e. ap (λ r. Err r) (same_refusal c.self.inside.refusal c.in-Some.refusal refusal c.in-Some.is e))
 
--- where none was
+-- if none was
 
 pub returns-in_err-append_end-clause-text : goal.returns-in_err-append_end-clause-text
 returns-in_err-append_end-clause-text g c =
