@@ -10,11 +10,11 @@ use Rattle.octseq.proofs.Codes.{length_rest}
 use Rattle.octseq.proofs.Windows.{next_of_rest, rest_past}
 use Rattle.octseq.proofs.Written.{length_be, length_le, value_be, value_le}
 
--- behind a front, as many octets are left as stand there
+-- after a front, the number of octets left is the length of what follows it
 pub left_behind : (front xs : List ℕ) → left (behind front xs) ≡ length xs
 left_behind front xs = let all : length (front ++ xs) ≡ length front + length xs = length-append front xs in omega arith
 
--- and they are those that stand there
+-- and they are what follows it
 pub rest_behind : (front xs : List ℕ) → rest (behind front xs) ≡ xs
 rest_behind front xs =
     ap (λ n. take n (drop (length front) (front ++ xs))) (left_behind front xs)
@@ -27,7 +27,7 @@ next_behind front octets after k many =
     ap (λ n. take n (drop (length front) (front ++ (octets ++ after)))) count
     ∙ ap (take (length octets)) (drop-append_seam front (octets ++ after)) ∙ take-append_seam octets after
 
--- past the octets that stand there, what is behind them is left
+-- past the octets that follow, what is after them is left
 pub past_behind : (front octets after : List ℕ) (k : ℕ) → length octets ≡ k
     → past k (behind front (octets ++ after)) ≡ behind (front ++ octets) after
 past_behind front octets after k many =
@@ -36,9 +36,9 @@ past_behind front octets after k many =
     ap (λ p. at p (whole (front ++ (octets ++ after)))) place
     ∙ ap (λ all. at (length (front ++ octets)) (whole all)) (sym (append_assoc front octets after))
 
--- ---- what a parser reads behind a front
+-- ---- what a parser reads after a front
 
--- where a front of n octets is left and more behind it, the front comes next, and the rest is left behind it
+-- if a front of n octets and more after it are left, the front comes next, and then the rest is left
 pub front_comes_next : (w : Window) (front more : List ℕ) (n : ℕ) → rest w ≡ front ++ more → length front ≡ n
     → (n ≤ left w) × (next n w ≡ front) × (rest (past n w) ≡ more)
 front_comes_next w front more n is many =
@@ -52,7 +52,7 @@ front_comes_next w front more n is many =
           ∙ drop-append_seam front more,
     )
 
--- a parser of all the octets that moved past a front of n stands behind that front
+-- a parser of all the octets that moved past a front of n octets is after that front
 pub past_whole : (front more : List ℕ) (n : ℕ) → length front ≡ n → past n (whole (front ++ more)) ≡ behind front more
 past_whole front more n many =
     let place : 0 + n ≡ length front = omega arith in
@@ -60,7 +60,7 @@ past_whole front more n many =
 
 -- ---- what the laws say
 
--- so many octets come next, and others are left behind them
+-- k octets come next, and others are left after them
 pub come_next : (front octets after : List ℕ) (k : ℕ) → length octets ≡ k
     → (k ≤ left (behind front (octets ++ after))) × (next k (behind front (octets ++ after)) ≡ octets)
     × (rest (past k (behind front (octets ++ after))) ≡ after)
@@ -73,7 +73,7 @@ come_next front octets after k many =
       ap rest (past_behind front octets after k many) ∙ rest_behind (front ++ octets) after,
     )
 
--- behind a front, the octets of an integer, big-endian, come next and are read as it, and others are left behind them
+-- after a front, the octets of an integer, big-endian, come next and have its value, and others are left after them
 pub be_comes_next : (front after : List ℕ) (k n : ℕ) → n < 256 ^ k → (k ≤ left (behind front (octets_be k n ++ after)))
     × (be (next k (behind front (octets_be k n ++ after))) ≡ n)
     × (rest (past k (behind front (octets_be k n ++ after))) ≡ after)
@@ -81,7 +81,7 @@ be_comes_next front after k n fits =
     let come = come_next front (octets_be k n) after k (length_be k n) in
     (come.0, ap be come.1 ∙ value_be k n fits, come.2)
 
--- and so do those of an integer, little-endian
+-- and so do the octets of an integer, little-endian
 pub le_comes_next : (front after : List ℕ) (k n : ℕ) → n < 256 ^ k → (k ≤ left (behind front (octets_le k n ++ after)))
     × (le (next k (behind front (octets_le k n ++ after))) ≡ n)
     × (rest (past k (behind front (octets_le k n ++ after))) ≡ after)
@@ -109,7 +109,7 @@ part_comes_next_by front len octets after all k many value together =
       ap (λ n. rest (past n (past k w))) count ∙ ap (λ w. rest (past (length octets) w)) behind_length ∙ second.2,
     )
 
--- behind a front, a whole part comes next with its own octets, and others are left behind it
+-- after a front, a whole part comes next with its own octets, and others are left after it
 pub part_comes_next : (front octets after : List ℕ) (k : ℕ) → length octets < 256 ^ k
     → HasPart k (behind front (part_of k octets ++ after))
     × (rest (part k (behind front (part_of k octets ++ after))) ≡ octets)

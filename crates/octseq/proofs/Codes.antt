@@ -1,6 +1,5 @@
--- Laws of codes, for callers who write and read formats of their own: of integers and parts, of one thing behind
--- another, of fixed
--- octets and those of a known length, and of the windows that read them.
+-- Laws of codes, for callers who write and read formats of their own: for integers and parts, for one thing after
+-- another, for fixed octets and octets of a known length, and for the windows that read them.
 use Rattle.std.proofs.Common.{◌≡◌, ℕ, false, true, Ok, Err, refl, ◌+◌, ◌-◌, ◌^◌, ◌<◌, ◌≤◌, List}
 use Rattle.std.proofs.Common.{◌++◌, length, take, drop, sym, ap, ◌∙◌, append_assoc, subst, arith}
 use Rattle.std.proofs.Math.Seq.{take-append_seam, drop-append_seam, take-length}
@@ -17,7 +16,7 @@ use Rattle.octseq.proofs.Written.{length_be, value_be, signed_unsigned}
 
 -- ---- integers and parts
 
--- where equal lists have fronts of one length, the fronts are equal, and so is what stands behind them
+-- if equal lists have fronts of the same length, the fronts are equal, and so is what follows them
 pub halves : (a b x y : List ℕ) → length a ≡ length b → a ++ x ≡ b ++ y → (a ≡ b) × (x ≡ y)
 halves a b x y long e = (
   sym (take-append_seam a x) ∙ ap (λ n. take n (a ++ x)) long ∙ ap (take (length b)) e ∙ take-append_seam b y,
@@ -30,7 +29,7 @@ integer_code k m n x y fits also e =
     let both = halves (octets_be k m) (octets_be k n) x y (length_be k m ∙ sym (length_be k n)) e in
     (sym (value_be k m fits) ∙ ap be both.0 ∙ value_be k n also, both.1)
 
--- k octets, big-endian, are a code of the signed integers that they may stand for
+-- k octets, big-endian, are a code of the signed integers that fit in them
 pub signed_code : (k : ℕ) → IsCode (IsSigned k) (λ z. octets_be k (unsigned k z))
 signed_code k z v x y fits also e =
     let here = signed_unsigned k z fits in
@@ -38,12 +37,12 @@ signed_code k z v x y fits also e =
     let both = integer_code k (unsigned k z) (unsigned k v) x y here.0 there.0 e in
     (sym here.1 ∙ ap (signed k) both.0 ∙ there.1, both.1)
 
--- a part is as long as its length's octets and its own together
+-- the length of a part is the k octets of its length and its own octets
 pub length_part : (k : ℕ) (octets : List ℕ) → length (part_of k octets) ≡ k + length octets
 length_part k octets =
     length-append (octets_be k (length octets)) octets ∙ ap (λ n. n + length octets) (length_be k (length octets))
 
--- octets behind their length are a code of those whose length fits its k octets
+-- a part is a code of the octets whose length fits in k octets
 pub part_code : (k : ℕ) → IsCode (λ octets. length octets < 256 ^ k) (part_of k)
 part_code k a b x y fits also e =
     let apart : octets_be k (length a) ++ (a ++ x) ≡ octets_be k (length b) ++ (b ++ y) =
@@ -51,12 +50,12 @@ part_code k a b x y fits also e =
     let both = integer_code k (length a) (length b) (a ++ x) (b ++ y) fits also apart in
     halves a b x y both.0 both.1
 
--- ---- one thing behind another
+-- ---- one thing after another
 
 same_pair : {A B : Type 0} (a c : A) (b d : B) → a ≡ c → b ≡ d → ◌≡◌ {A = A × B} (a, b) (c, d)
 same_pair a c b d first second = ap (λ a. (a, b)) first ∙ ap (λ b. (c, b)) second
 
--- two codes, one behind the other, are a code of pairs
+-- two codes, one after the other, are a code of pairs
 pub pair_code : {A B : Type 0} (Fits : A → Type 0) (code : A → List ℕ) (Suits : B → Type 0) (spelling : B → List ℕ)
     → IsCode Fits code → IsCode Suits spelling
     → IsCode {A = A × B} (λ p. Fits p.0 × Suits p.1) (λ p. code p.0 ++ spelling p.1)
@@ -72,14 +71,14 @@ pub pair_front : (whole between behind first second : List ℕ) → whole ≡ fi
     → whole ≡ (first ++ second) ++ behind
 pair_front whole between behind first second e f = e ∙ ap (λ x. first ++ x) f ∙ sym (append_assoc first second behind)
 
--- the first one doesn't stand there
+-- the first one isn't there
 pub no_first : {A B : Type 0} (Fits : A → Type 0) (code : A → List ℕ) (Suits : B → Type 0) (spelling : B
     → List ℕ) (octets : List ℕ) → ¬ HasFront Fits code octets
     → ¬ HasFront {A = A × B} (λ p. Fits p.0 × Suits p.1) (λ p. code p.0 ++ spelling p.1) octets
 no_first Fits code Suits spelling octets none (p, more, fits, e) =
     none (p.0, spelling p.1 ++ more, fits.0, e ∙ append_assoc (code p.0) (spelling p.1) more)
 
--- the first one was read, and the second one doesn't stand behind it
+-- the first one was read, and the second one doesn't follow it
 pub no_second : {A B : Type 0} (Fits : A → Type 0) (code : A → List ℕ) (Suits : B → Type 0) (spelling : B
     → List ℕ) (octets behind : List ℕ) (a : A) → IsCode Fits code → Fits a
     → octets ≡ code a ++ behind → ¬ HasFront Suits spelling behind
@@ -96,18 +95,18 @@ pub rest_whole : (octets : List ℕ) → rest (whole octets) ≡ octets
 rest_whole octets = let all : length octets - 0 ≡ length octets = omega arith in ap (λ n. take n octets) all
     ∙ take-length octets
 
--- a window has no more octets than are left
+-- the rest of a window is no longer than the number of octets that are left
 pub length_rest : (w : Window) → length (rest w) ≤ left w
 length_rest w = omega (arith, length-take {A = ℕ}, length-drop {A = ℕ})
 
--- what was taken stood at the front
+-- what was taken was at the front
 pub taken : (w v : Window) (n : ℕ) (octets : List ℕ) → (left w < n → ⊥) → v ≡ past n w → octets ≡ next n w
     → rest w ≡ octets ++ rest v
 taken w v n octets enough moved e =
     sym (next_and_rest w n (omega (arith, enough))) ∙ ap (λ octets. octets ++ rest (past n w)) (sym e)
     ∙ ap (λ v. octets ++ rest v) (sym moved)
 
--- so of a call that took its octets
+-- the same for a call that took its octets
 pub took : {R T E : Type 0} {g : Ghosts R} {value : T} {n : ℕ} {p q : Parser R g} (octets : List ℕ)
     → Takes {E = E} (Ok value) n p q → octets ≡ next n (window p)
     → rest (window p) ≡ octets ++ rest (window q)
@@ -115,12 +114,12 @@ took {n = n} {p = p} {q = q} octets takes e =
     let room : n ≤ left (window p) = takes.variant.0 refl in
     taken (window p) (window q) n octets (λ less. omega arith) takes.ok e
 
--- and of one that was refused
+-- and for one that was refused
 pub not_taken : {R T E : Type 0} {g : Ghosts R} {e : E} {n : ℕ} {p q : Parser R g} → Takes {T = T} (Err e) n p q
     → n ≤ left (window p) → ⊥
 not_taken takes room = let bad : false ≡ true = takes.variant.1 room in absurd (cc)
 
--- fewer octets are left than any thing that fits has, so none stands there
+-- fewer octets are left than any thing that fits has, so none is there
 pub too_few_fit : {A : Type 0} (Fits : A → Type 0) (code : A → List ℕ) (w : Window) (n : ℕ)
     → ((a : A) → Fits a → n ≤ length (code a)) → (n ≤ left w → ⊥)
     → ¬ HasFront Fits code (rest w)
@@ -130,16 +129,16 @@ too_few_fit Fits code w n least few (a, more, fits, e) =
     let left = length_rest w in
     few (omega arith)
 
--- fewer octets are left than any thing has, so none stands there
+-- fewer octets are left than any thing has, so none is there
 pub too_few : {A : Type 0} (Fits : A → Type 0) (code : A → List ℕ) (w : Window) (n : ℕ)
     → ((a : A) → n ≤ length (code a)) → (n ≤ left w → ⊥) → ¬ HasFront Fits code (rest w)
 too_few Fits code w n least few = too_few_fit Fits code w n (λ a _. least a) few
 
--- fewer than k octets are left, so no integer in k octets stands there
+-- fewer than k octets are left, so there is no integer in k octets
 pub no_integer : (w : Window) (k : ℕ) → (k ≤ left w → ⊥) → ¬ HasFront (λ n. n < 256 ^ k) (octets_be k) (rest w)
 no_integer w k few = too_few (λ n. n < 256 ^ k) (octets_be k) w k (λ n. let all = length_be k n in omega arith) few
 
--- fewer than k octets are left, so no signed integer in k octets stands there
+-- fewer than k octets are left, so there is no signed integer in k octets
 pub no_signed : (w : Window) (k : ℕ) → (k ≤ left w → ⊥)
     → ¬ HasFront (IsSigned k) (λ z. octets_be k (unsigned k z)) (rest w)
 no_signed w k few =
@@ -153,7 +152,7 @@ part_front octets between behind value k n e f long =
     pair_front octets between behind (octets_be k (length value)) value
     (e ∙ ap (λ n. octets_be k n ++ between) (sym long)) f
 
--- no part: no room for its length
+-- no part: too few octets for its length
 pub no_part_length : (w : Window) (k : ℕ) → (k ≤ left w → ⊥)
     → ¬ HasFront (λ octets. length octets < 256 ^ k) (part_of k) (rest w)
 no_part_length w k few = too_few (λ octets. length octets < 256 ^ k) (part_of k) w k
@@ -174,7 +173,7 @@ no_part_value octets w k n fits read few (value, more, here, e) =
 
 -- ---- fixed octets, and octets of a known length
 
--- the same octets always, as a magic number: the code of a thing that there is one of
+-- always the same octets, such as a magic number: the code of a type with one value
 pub fixed_code : {A : Type 0} (Fits : A → Type 0) (octets : List ℕ) → ((a b : A) → a ≡ b) → IsCode Fits (λ _. octets)
 fixed_code Fits octets one a b x y fits also e = (one a b, (halves octets octets x y refl e).1)
 
@@ -183,18 +182,18 @@ pub no_fixed : {A : Type 0} (Fits : A → Type 0) (octets : List ℕ) (w : Windo
     → (n ≤ left w → ⊥) → ¬ HasFront Fits (λ _. octets) (rest w)
 no_fixed Fits octets w n long few = too_few Fits (λ _. octets) w n (λ _. omega arith) few
 
--- others were read in the place of the fixed ones
+-- others were read in place of the fixed ones
 pub no_fixed_value : {A : Type 0} (Fits : A → Type 0) (fixed octets found more : List ℕ) → octets ≡ found ++ more
     → length found ≡ length fixed → (found ≡ fixed → ⊥)
     → ¬ HasFront Fits (λ _. fixed) octets
 no_fixed_value Fits fixed octets found more read long other (a, behind, fits, e) =
     other (halves found fixed more behind long (sym read ∙ e)).0
 
--- integers that fit k octets are equal where their octets are
+-- integers that fit in k octets are equal if their octets are
 pub same_integer : (k m n : ℕ) → m < 256 ^ k → n < 256 ^ k → octets_be k m ≡ octets_be k n → m ≡ n
 same_integer k m n fits also e = sym (value_be k m fits) ∙ ap be e ∙ value_be k n also
 
--- the fixed octets are those of an integer, and another one was read in their place
+-- the fixed octets are those of an integer, and another integer was read in their place
 pub no_fixed_integer : {A : Type 0} (Fits : A → Type 0) (k fixed n : ℕ) (octets more : List ℕ) → fixed < 256 ^ k
     → n < 256 ^ k → octets ≡ octets_be k n ++ more → (n ≡ fixed → ⊥)
     → ¬ HasFront Fits (λ _. octets_be k fixed) octets
@@ -202,7 +201,7 @@ no_fixed_integer Fits k fixed n octets more fits also read other =
     no_fixed_value Fits (octets_be k fixed) octets (octets_be k n) more read (length_be k n ∙ sym (length_be k fixed))
     (λ e. other (same_integer k n fixed also fits e))
 
--- a thing behind fixed octets
+-- a thing after fixed octets
 pub marked_code : {A : Type 0} (Fits : A → Type 0) (code : A → List ℕ) (mark : List ℕ) → IsCode Fits code
     → IsCode Fits (λ a. mark ++ code a)
 marked_code Fits code mark told a b x y fits also e =
@@ -210,14 +209,14 @@ marked_code Fits code mark told a b x y fits also e =
     ∙ append_assoc mark (code b) y in
     told a b x y fits also (halves mark mark (code a ++ x) (code b ++ y) refl apart).1
 
--- the fixed octets don't stand there
+-- the fixed octets aren't there
 pub no_mark : {A : Type 0} (Fits : A → Type 0) (code : A → List ℕ) (mark octets : List ℕ)
     → ¬ HasFront {A = Unit {0}} (λ _. Unit {0}) (λ _. mark) octets
     → ¬ HasFront Fits (λ a. mark ++ code a) octets
 no_mark Fits code mark octets none (a, more, fits, e) =
     none (tt, code a ++ more, tt, e ∙ append_assoc mark (code a) more)
 
--- the fixed octets were read, and the thing doesn't stand behind them
+-- the fixed octets were read, and the thing doesn't follow them
 pub no_marked : {A : Type 0} (Fits : A → Type 0) (code : A → List ℕ) (mark octets behind : List ℕ)
     → octets ≡ mark ++ behind → ¬ HasFront Fits code behind
     → ¬ HasFront Fits (λ a. mark ++ code a) octets
@@ -239,9 +238,9 @@ pub no_octets : (w : Window) (n : ℕ) → (n ≤ left w → ⊥)
 no_octets w n few = too_few_fit {A = List ℕ} (λ octets. length octets ≡ n) (λ octets. octets) w n
     (λ octets fits. omega arith) few
 
--- ---- one thing behind another that says how it is written
+-- ---- one thing after another that decides how it is written
 
--- what fits behind the first thing, and how it is written, may depend on the first
+-- what fits after the first thing, and how it is written, can depend on the first
 pub chained_code : {A B : Type 0} (Fits : A → Type 0) (code : A → List ℕ) (Suits : A → B → Type 0) (spelling : A → B
     → List ℕ) → IsCode Fits code
     → ((a : A) → Fits a → IsCode (Suits a) (spelling a))
@@ -256,14 +255,14 @@ chained_code {A} {B} Fits code Suits spelling first second (a, b) (c, d) x y (fi
     let two : (b ≡ d) × (x ≡ y) = second a fits b d x y suits (subst (λ c. Suits c d) back likewise) there in
     (same_pair a c b d one.0 two.0, two.1)
 
--- the first one doesn't stand there
+-- the first one isn't there
 pub no_chained_first : {A B : Type 0} (Fits : A → Type 0) (code : A → List ℕ) (Suits : A → B → Type 0) (spelling : A → B
     → List ℕ) (octets : List ℕ) → ¬ HasFront Fits code octets
     → ¬ HasFront {A = A × B} (λ p. Fits p.0 × Suits p.0 p.1) (λ p. code p.0 ++ spelling p.0 p.1) octets
 no_chained_first Fits code Suits spelling octets none (p, more, fits, e) =
     none (p.0, spelling p.0 p.1 ++ more, fits.0, e ∙ append_assoc (code p.0) (spelling p.0 p.1) more)
 
--- the first one was read, and the second one, as the first says it, doesn't stand behind it
+-- the first one was read, and the second one, in the form that the first decides, doesn't follow it
 pub no_chained_second : {A B : Type 0} (Fits : A → Type 0) (code : A → List ℕ) (Suits : A → B → Type 0) (spelling : A
     → B → List ℕ) (octets behind : List ℕ) (a : A)
     → IsCode Fits code → Fits a → octets ≡ code a ++ behind → ¬ HasFront (Suits a) (spelling a) behind
@@ -275,20 +274,20 @@ no_chained_second Fits code Suits spelling octets behind a told fits read none (
     let back : p.0 ≡ a = sym one.0 in
     none (p.1, more, subst (λ c. Suits c p.1) back here.1, one.1 ∙ ap (λ c. spelling c p.1 ++ more) back)
 
--- octets whose length was read before them, wherever that was
+-- octets whose length was read before, wherever that was
 pub counted_code : {A : Type 0} (Fits : A → Type 0) (code : A → List ℕ) (count : A → ℕ) → IsCode Fits code
     → IsCode {A = A × List ℕ} (λ p. Fits p.0 × (length p.1 ≡ count p.0)) (λ p. code p.0 ++ p.1)
 counted_code Fits code count told = chained_code Fits code (λ a octets. length octets ≡ count a) (λ _ octets. octets)
     told (λ a _. octets_code (count a))
 
--- what tells their length doesn't stand there
+-- what gives their length isn't there
 pub no_counted_first : {A : Type 0} (Fits : A → Type 0) (code : A → List ℕ) (count : A → ℕ) (octets : List ℕ)
     → ¬ HasFront Fits code octets
     → ¬ HasFront {A = A × List ℕ} (λ p. Fits p.0 × (length p.1 ≡ count p.0)) (λ p. code p.0 ++ p.1) octets
 no_counted_first Fits code count octets none =
     no_chained_first Fits code (λ a octets. length octets ≡ count a) (λ _ octets. octets) octets none
 
--- it was read, and fewer octets are left behind it than it tells
+-- it was read, and fewer octets are left after it than it says
 pub no_counted_octets : {A : Type 0} (Fits : A → Type 0) (code : A → List ℕ) (count : A → ℕ) (octets : List ℕ)
     (w : Window) (a : A) → IsCode Fits code → Fits a → octets ≡ code a ++ rest w
     → left w < count a → ¬ HasFront {A = A × List ℕ} (λ p. Fits p.0 × (length p.1 ≡ count p.0)) (λ p. code p.0 ++ p.1)

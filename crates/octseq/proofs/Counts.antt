@@ -1,2 +1,2 @@
--- Writers that count what is written to them.
+-- Writers that count the octets written to them.
 pub use Rattle.octseq_text.proofs.Counts.{count_after_writes}

@@ -1,4 +1,4 @@
--- Refusals that a reader or a writer passes on. These are laws for callers who answer `ReadError` or `WriteError`.
+-- Refusals that a reader or a writer passes on. These are laws for callers who return `ReadError` or `WriteError`.
 use Rattle.std.proofs.Common.{◌≡◌, ◌∙◌, sym, ap, subst, Result, Err}
 use Rattle.octseq_core.specs.declared.builder.AppendError.{AppendError}
 use Rattle.octseq.specs.Composer.{refusal_of}
@@ -11,13 +11,13 @@ use Rattle.octseq.specs.declared.parse.error.ParseOctetsError.{ParseOctetsError}
 
 -- ---- of a parser
 
--- a refusal that is reported as malformed was for want of octets
+-- a parser's refusal that is reported as malformed was for lack of octets
 pub short_of : (T : Type 0) (e : ParseOctetsError) → read_error_of e ≡ ReadError.Malformed
     → IsShort {T = T} parse_octets_error (Err e)
 short_of T (ParseOctetsError.Short e) told = tt
 short_of T ParseOctetsError.Memory told = absurd (cc)
 
--- one that is reported as memory was for want of memory
+-- a refusal that is reported as memory was for lack of memory
 pub memory_of : (T : Type 0) (e : ParseOctetsError) → read_error_of e ≡ ReadError.Memory
     → IsMemory {T = T} parse_octets_error (Err e)
 memory_of T (ParseOctetsError.Short e) told = absurd (cc)
@@ -32,14 +32,14 @@ too_long_of ComposeError.TooLong told = tt
 too_long_of ComposeError.Short told = absurd (cc)
 too_long_of ComposeError.Memory told = absurd (cc)
 
--- one that is reported as short was for want of room
+-- a refusal that is reported as short was for lack of room
 pub part_short_of : (e : ComposeError) → write_error_of e ≡ WriteError.Short
     → IsShort {T = Unit {0}} compose_error (Err e)
 part_short_of ComposeError.TooLong told = absurd (cc)
 part_short_of ComposeError.Short told = tt
 part_short_of ComposeError.Memory told = absurd (cc)
 
--- one that is reported as memory was for want of memory
+-- a refusal that is reported as memory was for lack of memory
 pub part_memory_of : (e : ComposeError) → write_error_of e ≡ WriteError.Memory
     → IsMemory {T = Unit {0}} compose_error (Err e)
 part_memory_of ComposeError.TooLong told = absurd (cc)
@@ -48,18 +48,18 @@ part_memory_of ComposeError.Memory told = tt
 
 -- ---- of a builder
 
--- a refusal of a builder's is never told as malformed
+-- a builder's refusal is never reported as malformed
 pub append_not_malformed : (e : AppendError) → write_error_of (refusal_of e) ≡ WriteError.Malformed → ⊥
 append_not_malformed (AppendError.Short e) told = cc
 append_not_malformed AppendError.Memory told = cc
 
--- one that is reported as short was for want of room
+-- a refusal that is reported as short was for lack of room
 pub append_short_of : (T : Type 0) (e : AppendError) → write_error_of (refusal_of e) ≡ WriteError.Short
     → IsShort {T = T} append_error (Err e)
 append_short_of T (AppendError.Short e) told = tt
 append_short_of T AppendError.Memory told = absurd (cc)
 
--- one that is reported as memory was for want of memory
+-- a refusal that is reported as memory was for lack of memory
 pub append_memory_of : (T : Type 0) (e : AppendError) → write_error_of (refusal_of e) ≡ WriteError.Memory
     → IsMemory {T = T} append_error (Err e)
 append_memory_of T (AppendError.Short e) told = absurd (cc)
@@ -67,7 +67,7 @@ append_memory_of T AppendError.Memory told = tt
 
 -- ---- passed on as it is
 
--- a call answers the refusal that another answered it
+-- a call returns the refusal that another call returned to it
 pub same_refusal : {S T E : Type 0} (here : Result S E) (given : Result T E) (passed refusal wanted : E)
     → given ≡ Err passed → passed ≡ refusal → given ≡ Err wanted
     → here ≡ Err refusal → here ≡ Err wanted
@@ -75,7 +75,7 @@ same_refusal here given passed refusal wanted e is f was =
     let same : passed ≡ wanted = cc in
     was ∙ ap Err (sym is ∙ same)
 
--- so of a builder's, as short
+-- the same for a builder's refusal as short
 pub same_short : {S T : Type 0} (here : Result S AppendError) (given : Result T AppendError)
     (passed refusal : AppendError) → given ≡ Err passed → passed ≡ refusal
     → here ≡ Err refusal → IsShort append_error given → IsShort append_error here

@@ -1,4 +1,4 @@
--- Replies that a request for memory changed nothing of are a function of the windows and the commands.
+-- If no request for memory was refused, the replies are a function of the windows and the commands.
 use Rattle.std.proofs.Common.{◌≡◌, ◌≢◌, Bool, Option, Some, None, List, []}
 use Rattle.std.proofs.Common.{◌∷◌, ◌++◌, refl, sym, ap, ◌∙◌, subst, inl, inr}
 use Rattle.std.specs.Prelude.{slice_get, slice_set}
@@ -7,7 +7,7 @@ use Rattle.octseq.specs.WindowRun.{Outcome, Does, StepOn, IsWithoutMemory, Windo
 use Rattle.octseq.specs.Window.{Window}
 use Rattle.octseq.specs.declared.parse.commands.ParserCommand.{ParserCommand}
 
--- what a call does where its reply isn't `Memory`
+-- what a call does if its reply isn't `Memory`
 done_is : (asks : Bool) (before : Window) (wanted done : Outcome) → Does asks before wanted done
     → done.reply ≢ WindowReply.memory → done ≡ wanted
 done_is asks before wanted done (inl e) answered = e
@@ -27,7 +27,7 @@ one_step_on (Some w) asks others windows after later command r s (done, d, e, f)
           ∙ sym h,
     )
 
--- where memory is never refused, a list of commands on windows has one list of replies
+-- if memory is never refused, a list of commands on windows has one list of replies
 pub one_replies : (asks others : Bool) (windows : List Window) (commands : List ParserCommand) (x y : List WindowReply)
     → WindowRun asks windows commands x → WindowRun others windows commands y → IsWithoutMemory x → IsWithoutMemory y
     → x ≡ y

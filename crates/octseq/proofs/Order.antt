@@ -1,2 +1,2 @@
--- The order of well-formed octets is that of their characters.
+-- The order of well-formed octets is the order of their characters.
 pub use Rattle.octseq_text.proofs.Order.{text_order, text_equal}

@@ -1,4 +1,4 @@
--- Things of one code, one behind another, and a reader that takes one at a time. These are laws for callers who read
+-- Things of one code, one after another, and a reader that takes one at a time. These are laws for callers who read
 -- lists.
 use Rattle.std.proofs.Common.{◌≡◌, ℕ, ◌+◌, ◌<◌, List, [], ◌∷◌, ◌++◌, length}
 use Rattle.std.proofs.Common.{refl, sym, ap, ◌∙◌, append_assoc, subst, arith}
@@ -11,7 +11,7 @@ use Rattle.octseq.specs.Code.{HasFront, IsCode}
 abbrev pub IsWhole : {A : Type 0} → (A → Type 0) → (A → List ℕ) → List ℕ → Type 0
 IsWhole {A} Fits code octets = (things : List A) × AllByRecursion Fits things × (octets ≡ flat_map code things)
 
--- every thing has an octet
+-- every thing has at least one octet
 abbrev pub HasOctets : {A : Type 0} → (A → List ℕ) → Type 0
 HasOctets {A} code = (a : A) → 0 < length (code a)
 
@@ -21,7 +21,7 @@ none_of_some code a more some e =
     let none : length (code a) + length more ≡ 0 = sym (length-append (code a) more) ∙ ap length e in
     omega arith
 
--- octets are those of one list of things
+-- octets are the octets of at most one list of things
 pub one_list : {A : Type 0} (Fits : A → Type 0) (code : A → List ℕ) → IsCode Fits code → HasOctets code
     → (things others : List A) → AllByRecursion Fits things → AllByRecursion Fits others
     → flat_map code things ≡ flat_map code others → things ≡ others
@@ -34,7 +34,7 @@ one_list Fits code told some (a ∷ things) (b ∷ others) (fits, each) (also, a
     ap (λ a. a ∷ things) first.0
     ∙ ap (λ things. b ∷ things) (one_list Fits code told some things others each all first.1)
 
--- what is left behind a thing is whole where all was
+-- if all octets are whole, so is what is left after a thing
 whole_behind : {A : Type 0} (Fits : A → Type 0) (code : A → List ℕ) → IsCode Fits code → HasOctets code
     → (octets more : List ℕ) (a : A) → Fits a → octets ≡ code a ++ more → IsWhole Fits code octets
     → IsWhole Fits code more
@@ -49,13 +49,13 @@ has_front : {A : Type 0} (Fits : A → Type 0) (code : A → List ℕ) (octets :
 has_front Fits code octets some ([], each, all) = let none : length octets ≡ 0 = ap length all in absurd (omega arith)
 has_front Fits code octets some ((a ∷ others), (here, each), all) = (a, flat_map code others, here, all)
 
--- what holds of each holds with one more
+-- what holds for each thing still holds with one more
 pub each_snoc : {A : Type 0} (Fits : A → Type 0) (things : List A) (a : A) → AllByRecursion Fits things → Fits a
     → AllByRecursion Fits (things ++ a ∷ [])
 each_snoc Fits [] a each fits = (fits, tt)
 each_snoc Fits (b ∷ things) a (first, each) fits = (first, each_snoc Fits things a each fits)
 
--- The octets were read as these things, as far as this rest.
+-- The octets were read as these things, up to this rest.
 pub record IsReadTo {A : Type 0} (Fits : A → Type 0) (code : A → List ℕ) (octets rest : List ℕ) (things : List A) : Type
     0 where
   pub each : AllByRecursion Fits things
@@ -67,7 +67,7 @@ pub read_none : {A : Type 0} (Fits : A → Type 0) (code : A → List ℕ) (octe
     → IsReadTo Fits code octets octets []
 read_none Fits code octets = record { each = tt; front = refl; behind = λ all. all }
 
--- one thing more was read, and what stood behind it is left
+-- one more thing was read, and what followed it is left
 pub read_more : {A : Type 0} (Fits : A → Type 0) (code : A → List ℕ) → IsCode Fits code → HasOctets code
     → (octets before after : List ℕ) (things made : List A) (a : A) → IsReadTo Fits code octets before things → Fits a
     → before ≡ code a ++ after
@@ -90,7 +90,7 @@ pub read_all : {A : Type 0} (Fits : A → Type 0) (code : A → List ℕ) (octet
 read_all Fits code octets [] things so_far none = (so_far.each, so_far.front ∙ append-nil (flat_map code things))
 read_all Fits code octets (x ∷ rest) things so_far none = absurd (omega arith)
 
--- something is left, and no thing stands at its front
+-- something is left, and there is no thing at its front
 pub read_cut : {A : Type 0} (Fits : A → Type 0) (code : A → List ℕ) (octets rest : List ℕ) (things : List A)
     → IsReadTo Fits code octets rest things → 0 < length rest
     → ¬ HasFront Fits code rest → ¬ IsWhole Fits code octets

@@ -1,4 +1,4 @@
--- Runs that go on.
+-- Runs that continue.
 use Rattle.std.proofs.Common.{◌≡◌, ℕ, ◌+◌, ◌<◌, ◌≤◌, Bool, List, [], ◌∷◌, ◌++◌}
 use Rattle.std.proofs.Common.{length, get_or, drop, sym, add-one, append_assoc, subst}
 use Rattle.std.proofs.Math.Seq.{drop-cons}
@@ -8,14 +8,14 @@ use Rattle.octseq.specs.WindowRun.{WindowStep, WindowRun}
 use Rattle.octseq.specs.Window.{Window}
 use Rattle.octseq.specs.declared.parse.commands.ParserCommand.{ParserCommand}
 
--- Whatever the commands from number i on are answered on these windows, with the replies so far it is a run of all
+-- Whatever the replies to the commands from number i on are, together with the replies so far they make a run of all
 -- commands.
 abbrev pub RunsOn : Bool → List Window → List ParserCommand → ℕ → List Window → List WindowReply → Type 0
 RunsOn asks start commands i windows so_far =
     (more : List WindowReply) → WindowRun asks windows (drop i commands) more
     → WindowRun asks start commands (so_far ++ more)
 
--- one command more
+-- one more command
 pub runs_more : (asks : Bool) (start : List Window) (commands : List ParserCommand) (i : ℕ) (d : ParserCommand)
     (before after : List Window) (so_far : List WindowReply) (reply : WindowReply)
     → i < length commands → RunsOn asks start commands i before so_far

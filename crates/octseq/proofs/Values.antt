@@ -7,7 +7,7 @@ use Rattle.std.specs.Int.{w8, w16, w32, w64, w128, from_be_bytes, from_le_bytes,
 use Rattle.octseq.specs.Integer.{sum_of_first, be, le, signed}
 use Rattle.octseq.proofs.Written.{be_cons, le_snoc}
 
--- what std says that an octet counts
+-- what an octet counts in std
 worth : (i b : ℕ) → byte_worth i b ≡ b * 256 ^ i
 worth zero b = omega arith
 worth (suc i) b = refl
@@ -70,7 +70,7 @@ be_16 xs e = be_is 15 xs e
 pub le_16 : (xs : List ℕ) → length xs ≡ 16 → from_le_bytes w128 xs ≡ le xs
 le_16 xs e = le_is 15 xs e
 
--- ---- 3 octets and 6, with zeros where they count most
+-- ---- 3 octets and 6 octets, with zeros as the most significant
 
 be_zero : (xs : List ℕ) → be (0 ∷ xs) ≡ be xs
 be_zero xs = be_cons 0 xs ∙ omega arith

@@ -10,8 +10,8 @@ use Rattle.octseq.specs.WindowRun.{Outcome, outcome, Does, StepOn, WindowStep}
 use Rattle.octseq.specs.Window.{Window}
 use Rattle.octseq.specs.declared.parse.commands.ParserCommand.{ParserCommand}
 
--- The parser of the command's number is replaced by what the call made of it, and the parsers that it made stand behind
--- the others.
+-- The parser with the command's number is replaced by the result of the call, and the parsers that the call made come
+-- after the others.
 pub step_of : {P : Type 0} (view : P → Window) (asks : Bool) (command : ParserCommand) (count : ℕ)
     (ps new made : List P) (before after : P) (reply : WindowReply)
     → count ≡ length ps → command.parser < count → before ≡ get_or ps command.parser before
@@ -35,7 +35,7 @@ step_of view asks command count ps new made before after reply counted within re
     let S : Option Window → Type 0 = λ w. StepOn w asks (map view ps) command reply (map view new) in
     subst S (sym found) (done, subst D all does, refl, left)
 
--- the same where no parser is made
+-- the same if no parser is made
 pub step_alone : {P : Type 0} (view : P → Window) (asks : Bool) (command : ParserCommand) (count : ℕ) (ps : List P)
     (before after : P) (reply : WindowReply)
     → count ≡ length ps → command.parser < count → before ≡ get_or ps command.parser before

@@ -12,7 +12,7 @@ next_of_rest octets position end n within =
     let same : n ≡ position + n - position = omega arith in
     take-take n (end - position) (drop position octets) within ∙ ap (λ k. take k (drop position octets)) same
 
--- what comes next and what is left behind it
+-- what comes next followed by what is left after it
 pub next_and_rest : (w : Window) (n : ℕ) → n ≤ left w → next n w ++ rest (past n w) ≡ rest w
 next_and_rest w n within =
     let ahead = drop w.position w.octets in
@@ -23,7 +23,7 @@ next_and_rest w n within =
     ∙ ap (λ octets. take n ahead ++ take behind octets) (sym (drop-drop n w.position w.octets))
     ∙ sym (take-add n behind ahead) ∙ ap (λ k. take k ahead) all
 
--- what is left behind a call is what was left, without the octets that the call took
+-- what is left after a call is what was left before, without the octets that the call took
 pub rest_past : (w v : Window) (n : ℕ) → n ≤ left w → v ≡ past n w → drop n (rest w) ≡ rest v
 rest_past w v n within moved =
     let ahead = drop w.position w.octets in
@@ -38,10 +38,10 @@ rest_past w v n within moved =
 pub left_nested : (n : ℕ) (w : Window) → left (nested n w) ≡ n
 left_nested n w = omega arith
 
--- and those are what comes next
+-- and they are what comes next
 pub rest_nested : (n : ℕ) (w : Window) → rest (nested n w) ≡ next n w
 rest_nested n w = refl
 
--- past the next n octets, n fewer are left
+-- after the next n octets, n fewer are left
 pub left_past : (n : ℕ) (w : Window) → left (past n w) ≡ left w - n
 left_past n w = omega arith

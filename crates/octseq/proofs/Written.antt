@@ -1,4 +1,4 @@
--- The octets of an integer are read as that integer.
+-- The octets of an integer have that integer as their value.
 use Rattle.std.proofs.Common.{◌≡◌, ℕ, zero, suc, ℤ, pos, negsuc, ◌+◌, ◌-◌, ◌*◌, ◌^◌, ◌/◌, ◌%◌, ◌<◌, List, []}
 use Rattle.std.proofs.Common.{◌∷◌, ◌++◌, length, reverse, Option, Bool, Fits, refl, sym, subst, ap, ◌∙◌, arith}
 use Rattle.std.proofs.lemmas.Int.{ints}
@@ -22,7 +22,7 @@ positive (suc k) = let p = positive k in let e = pow-suc 256 k in omega arith
 
 -- ---- sums
 
--- a sum's first term apart
+-- a sum with its first term separate
 sum_first : (k : ℕ) (t : ℕ → ℕ) → sum_of_first (suc k) t ≡ t 0 + sum_of_first k (λ i. t (suc i))
 sum_first zero t = omega arith
 sum_first (suc k) t = let before = sum_first k t in omega arith
@@ -41,7 +41,7 @@ scaled (suc k) f =
     let here : f k * 256 ^ suc k ≡ f k * (256 ^ k * 256) = ap (λ p. f k * p) (pow-suc 256 k) in
     omega (arith, before, here)
 
--- ---- the value of one octet more
+-- ---- the value with one more octet
 
 -- no octets have the value 0
 pub be_nil : be [] ≡ 0
@@ -52,7 +52,7 @@ le_nil : le [] ≡ 0
 unfolding le
 le_nil = refl
 
--- the first of big-endian octets counts 256 to the power of how many are behind it
+-- the first of big-endian octets counts 256 to the power of the number of octets after it
 pub be_cons : (x : ℕ) (xs : List ℕ) → be (x ∷ xs) ≡ x * 256 ^ length xs + be xs
 unfolding be
 be_cons x xs =
@@ -72,7 +72,7 @@ le_cons x xs =
     sum_first n (λ i. slice_index (x ∷ xs) i * 256 ^ i)
     ∙ (let tail = scaled n (λ i. slice_index xs i) in omega (arith, tail))
 
--- the last of little-endian octets counts 256 to the power of how many are before it
+-- the last of little-endian octets counts 256 to the power of the number of octets before it
 pub le_snoc : (xs : List ℕ) (x : ℕ) → le (xs ++ x ∷ []) ≡ le xs + x * 256 ^ length xs
 le_snoc [] x = let last = le_cons x [] in omega (arith, last, le_nil)
 le_snoc (a ∷ xs) x =
@@ -85,7 +85,7 @@ le_snoc (a ∷ xs) x =
 reverse_cons : (x : ℕ) (xs : List ℕ) → reverse (x ∷ xs) ≡ reverse xs ++ x ∷ []
 reverse_cons x xs = reverse-append (x ∷ []) xs
 
--- octets turned round have the little-endian value that they had big-endian
+-- reversed octets have as their little-endian value the big-endian value of the octets
 pub le_reverse : (xs : List ℕ) → le (reverse xs) ≡ be xs
 le_reverse [] = le_nil ∙ sym be_nil
 le_reverse (x ∷ xs) =
@@ -102,11 +102,11 @@ unfolding octets_be
 length_octets zero n = refl
 length_octets (suc k) n = ap suc (length_octets k n)
 
--- a number is written in as many big-endian octets as are asked for
+-- a number has k big-endian octets
 pub length_be : (k n : ℕ) → length (octets_be k n) ≡ k
 length_be k n = length_octets k n
 
--- a number is written in as many little-endian octets as are asked for
+-- a number has k little-endian octets
 pub length_le : (k n : ℕ) → length (octets_le k n) ≡ k
 unfolding octets_le
 length_le k n = length-reverse (octets_be k n) ∙ length_octets k n
@@ -146,7 +146,7 @@ each_snoc : (xs : List ℕ) (x : ℕ) → AllByRecursion (λ octet. octet < 256)
 each_snoc [] x each small = (small, tt)
 each_snoc (a ∷ xs) x (first, each) small = (first, each_snoc xs x each small)
 
--- octets turned round are octets
+-- reversed octets are octets
 pub each_reverse : (xs : List ℕ) → AllByRecursion (λ octet. octet < 256) xs
     → AllByRecursion (λ octet. octet < 256) (reverse xs)
 each_reverse [] each = tt
@@ -158,7 +158,7 @@ each_le k n = each_reverse (octets_be k n) (each_be k n)
 
 -- ---- signed integers
 
--- a signed number and the sum of its octets each give the other
+-- a signed number and the sum of its octets determine each other
 pub signed_unsigned : (k : ℕ) (z : ℤ) → IsSigned k z → (unsigned k z < 256 ^ k) × (signed k (unsigned k z) ≡ z)
 unfolding signed unsigned
 signed_unsigned k (pos n) fits = (omega arith, grind (arith, ints))
@@ -194,7 +194,7 @@ made_le : (k n : ℕ) → bytes_low_first 0 k n ≡ octets_le k n
 unfolding octets_le
 made_le k n = low_is k n ∙ ap reverse (made_be k n)
 
--- ---- what an append says
+-- ---- what an append ensures
 
 -- an append of a slice is an append of octets that the slice equals
 pub appends : {limit : Option ℕ} {asks : Bool} {result : Result (Unit {0}) AppendError} {slice octets old new : List ℕ}
@@ -243,7 +243,7 @@ made_le_8 n = made_le 8 n
 pub made_le_16 : (n : ℕ) → to_le_bytes w128 n ≡ octets_le 16 n
 made_le_16 n = made_le 16 n
 
--- 3 octets and 6, cut from those that count most
+-- 3 octets and 6 octets, which are the least significant ones
 
 -- the 3 octets of the number are cut from what std makes of 32 bits, big-endian
 pub made_be_3 : (n : ℕ) → slice_range (to_be_bytes w32 n) 1 4 ≡ octets_be 3 n
@@ -263,15 +263,15 @@ made_le_6 n = made_le 6 n
 
 -- ---- what a call's octets are
 
--- the big-endian octets of a number that fits are those that the contracts ask for
+-- the big-endian octets of a number that fits are the ones that the contracts require
 pub are_be : (k n : ℕ) → n < 256 ^ k → AreOctetsOf be k n (octets_be k n)
 are_be k n fits = record { many = length_be k n; each = each_be k n; value = value_be k n fits }
 
--- the little-endian octets of a number that fits are those that the contracts ask for
+-- the little-endian octets of a number that fits are the ones that the contracts require
 pub are_le : (k n : ℕ) → n < 256 ^ k → AreOctetsOf le k n (octets_le k n)
 are_le k n fits = record { many = length_le k n; each = each_le k n; value = value_le k n fits }
 
--- the same of a signed number, big-endian
+-- the same for a signed number, big-endian
 pub are_signed_be : (k : ℕ) (z : ℤ) → IsSigned k z
     → AreOctetsOf (λ octets. signed k (be octets)) k z (octets_be k (unsigned k z))
 are_signed_be k z fits =
@@ -282,7 +282,7 @@ are_signed_be k z fits =
       value = ap (signed k) (value_be k (unsigned k z) sum.0) ∙ sum.1;
     }
 
--- the same of a signed number, little-endian
+-- the same for a signed number, little-endian
 pub are_signed_le : (k : ℕ) (z : ℤ) → IsSigned k z
     → AreOctetsOf (λ octets. signed k (le octets)) k z (octets_le k (unsigned k z))
 are_signed_le k z fits =
@@ -295,7 +295,7 @@ are_signed_le k z fits =
 
 -- ---- the widths that integers have
 
--- one octet can stand for each signed number of 8 bits
+-- each signed number of 8 bits fits in one octet
 pub is_signed_1 : (z : ℤ) → FitsSigned w8 z → IsSigned 1 z
 is_signed_1 (pos n) fits = grind (arith, ints)
 is_signed_1 (negsuc n) fits = grind (arith, ints)
@@ -306,7 +306,7 @@ unfolding unsigned
 cast_1 (pos n) fits = grind (arith, ints)
 cast_1 (negsuc n) fits = grind (arith, ints)
 
--- 2 octets can stand for each signed number of 16 bits
+-- each signed number of 16 bits fits in 2 octets
 pub is_signed_2 : (z : ℤ) → FitsSigned w16 z → IsSigned 2 z
 is_signed_2 (pos n) fits = grind (arith, ints)
 is_signed_2 (negsuc n) fits = grind (arith, ints)
@@ -317,7 +317,7 @@ unfolding unsigned
 cast_2 (pos n) fits = grind (arith, ints)
 cast_2 (negsuc n) fits = grind (arith, ints)
 
--- 4 octets can stand for each signed number of 32 bits
+-- each signed number of 32 bits fits in 4 octets
 pub is_signed_4 : (z : ℤ) → FitsSigned w32 z → IsSigned 4 z
 is_signed_4 (pos n) fits = grind (arith, ints)
 is_signed_4 (negsuc n) fits = grind (arith, ints)
@@ -328,7 +328,7 @@ unfolding unsigned
 cast_4 (pos n) fits = grind (arith, ints)
 cast_4 (negsuc n) fits = grind (arith, ints)
 
--- 8 octets can stand for each signed number of 64 bits
+-- each signed number of 64 bits fits in 8 octets
 pub is_signed_8 : (z : ℤ) → FitsSigned w64 z → IsSigned 8 z
 is_signed_8 (pos n) fits = grind (arith, ints)
 is_signed_8 (negsuc n) fits = grind (arith, ints)
@@ -339,7 +339,7 @@ unfolding unsigned
 cast_8 (pos n) fits = grind (arith, ints)
 cast_8 (negsuc n) fits = grind (arith, ints)
 
--- 16 octets can stand for each signed number of 128 bits
+-- each signed number of 128 bits fits in 16 octets
 pub is_signed_16 : (z : ℤ) → FitsSigned w128 z → IsSigned 16 z
 is_signed_16 (pos n) fits = grind (arith, ints)
 is_signed_16 (negsuc n) fits = grind (arith, ints)
@@ -350,11 +350,11 @@ unfolding unsigned
 cast_16 (pos n) fits = grind (arith, ints)
 cast_16 (negsuc n) fits = grind (arith, ints)
 
--- the octet of a number of 8 bits, big-endian, have its value
+-- the octet of a number of 8 bits, big-endian, has its value
 pub are_be_1 : (n : ℕ) → Fits w8 n → AreOctetsOf be 1 n (octets_be 1 n)
 are_be_1 n fits = are_be 1 n (Fits-lt-pow fits)
 
--- the octet of a signed number of 8 bits, big-endian, have its value
+-- the octet of a signed number of 8 bits, big-endian, has its value
 pub are_signed_be_1 : (z : ℤ) → FitsSigned w8 z
     → AreOctetsOf (λ octets. signed 1 (be octets)) 1 z (octets_be 1 (unsigned 1 z))
 are_signed_be_1 z fits = are_signed_be 1 z (is_signed_1 z fits)
@@ -447,7 +447,7 @@ pub are_signed_le_16 : (z : ℤ) → FitsSigned w128 z
     → AreOctetsOf (λ octets. signed 16 (le octets)) 16 z (octets_le 16 (unsigned 16 z))
 are_signed_le_16 z fits = are_signed_le 16 z (is_signed_16 z fits)
 
--- those of each width
+-- how one octet is written
 pub ruleset written_1 = (are_be_1, made_be_1, are_signed_be_1, cast_1)
 
 -- how 2 octets are written

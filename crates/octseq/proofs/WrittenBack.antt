@@ -1,4 +1,4 @@
--- Octets are those of the integer that they stand for.
+-- Octets are the octets of their value.
 use Rattle.std.proofs.Common.{◌≡◌, ℕ, zero, suc, ◌+◌, ◌*◌, ◌^◌, ◌/◌, ◌%◌, ◌<◌, List, []}
 use Rattle.std.proofs.Common.{◌∷◌, ◌++◌, length, reverse, refl, sym, ap, ◌∙◌, subst, arith}
 use Rattle.std.proofs.lemmas.Int.{ints}
@@ -17,7 +17,7 @@ use Rattle.octseq.proofs.Written.{positive, be_nil, be_cons, le_reverse, each_re
 abbrev pub AreOctets : List ℕ → Type 0
 AreOctets xs = AllByRecursion (λ octet. octet < 256) xs
 
--- the value of octets is less than 256 to the power of how many they are, big-endian
+-- the big-endian value of octets is less than 256 to the power of their number
 pub small_be : (xs : List ℕ) → AreOctets xs → be xs < 256 ^ length xs
 small_be [] each = omega (arith, be_nil)
 small_be (x ∷ xs) (small, each) =
@@ -28,7 +28,7 @@ small_be (x ∷ xs) (small, each) =
     let cons : be (x ∷ xs) ≡ x * 256 ^ n + be xs = be_cons x xs in
     omega (arith, more, power, cons)
 
--- what counts 256 ^ k or more has no place in k octets
+-- what counts 256 ^ k or more doesn't appear in k octets
 low_octets : (k a n : ℕ) → octets_be k (a * 256 ^ k + n) ≡ octets_be k n
 unfolding octets_be
 low_octets zero a n = refl
@@ -54,11 +54,11 @@ back_be (x ∷ xs) (small, each) =
     ap (octets_be (suc n)) cons ∙ ap (λ y. y ∷ octets_be n (x * 256 ^ n + be xs)) first
     ∙ ap (λ ys. x ∷ ys) (low_octets n x (be xs) ∙ back_be xs each)
 
--- octets have the little-endian value that they have big-endian when they are turned round
+-- the little-endian value of octets is the big-endian value of the reversed octets
 le_turned : (xs : List ℕ) → le xs ≡ be (reverse xs)
 le_turned xs = ap le (sym (reverse-reverse xs)) ∙ le_reverse (reverse xs)
 
--- so is their value little-endian
+-- and so is the little-endian value
 pub small_le : (xs : List ℕ) → AreOctets xs → le xs < 256 ^ length xs
 small_le xs each =
     subst (λ n. n < 256 ^ length xs) (sym (le_turned xs)) (subst (λ k. be (reverse xs) < 256 ^ k) (length-reverse xs)
@@ -73,7 +73,7 @@ back_le xs each =
     ap (λ n. reverse (octets_be (length xs) n)) turned ∙ ap (λ k. reverse (octets_be k (be (reverse xs)))) count
     ∙ ap reverse (back_be (reverse xs) (each_reverse xs each)) ∙ reverse-reverse xs
 
--- the same of octets whose number is known
+-- the same for octets whose number is known
 pub as_be : (k : ℕ) (xs : List ℕ) → length xs ≡ k → AreOctets xs → octets_be k (be xs) ≡ xs
 as_be k xs many each = subst (λ k. octets_be k (be xs) ≡ xs) many (back_be xs each)
 
@@ -83,7 +83,7 @@ as_le k xs many each = subst (λ k. octets_le k (le xs) ≡ xs) many (back_le xs
 
 -- ---- the widths that integers have
 
--- the octet, big-endian, of what std reads from one octet are those octets
+-- the octet, big-endian, of what std reads from one octet are that octet
 pub back_be_1 : (xs : List ℕ) → length xs ≡ 1 → AreOctets xs → octets_be 1 (slice_index xs 0) ≡ xs
 back_be_1 xs many each = ap (octets_be 1) (be_1 xs many) ∙ as_be 1 xs many each
 
@@ -162,7 +162,7 @@ pub unsigned_16 : (n : ℕ) → n < 2 ^ 128 → unsigned 16 (cast_signed w128 n)
 unfolding unsigned
 unsigned_16 n small = grind (arith, ints)
 
--- what each width is read by
+-- how one octet is read
 pub ruleset read_1 = (be_1, signed_1, back_be_1, unsigned_1)
 
 -- how 2 octets are read

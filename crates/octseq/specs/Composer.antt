@@ -9,20 +9,20 @@ use Rattle.octseq.specs.Refusal.{IsShort, IsMemory, IsTooLong, compose_error}
 use Rattle.octseq.specs.declared.compose.ComposeError.{ComposeError}
 use Rattle.octseq.specs.declared.compose.ComposeError.TheVariants.{Short, Memory}
 
--- Octets of an integer: k of them, each from 0 to 255, which are read as that integer.
+-- The octets of an integer: k of them, each from 0 to 255, with that integer as their value.
 pub record AreOctetsOf {A : Type 0} (reading : List ℕ → A) (k : ℕ) (integer : A) (octets : List ℕ) : Type 0 where
   pub many : length octets ≡ k
   pub each : AllByRecursion (λ octet. octet < 256) octets
   pub value : reading octets ≡ integer
 
--- the refusal of a part, or of an integer that fits its octets, whose append was refused
+-- the error if the append of a part, or of an integer that fits its octets, was refused
 abbrev pub refusal_of : AppendError → ComposeError
 refusal_of (AppendError.Short e) = Short
 refusal_of AppendError.Memory = Memory
 
--- A call adds the octets of an integer, k of them. It is refused as too long exactly where the integer doesn't fit
--- them, else as short exactly where the content would pass its limit, for memory only where the type requests memory,
--- and then the content stays.
+-- A call adds the k octets of an integer. It is refused as too long exactly if the integer doesn't fit them, otherwise
+-- as short exactly if the content would exceed its limit, and for lack of memory only if the type requests memory. A
+-- refused call leaves the content unchanged.
 pub record AppendsInteger (limit : Option ℕ) (asks : Bool) (result : Result (Unit {0}) ComposeError) (k integer : ℕ)
     (octets old new : List ℕ) : Type 0 where
   pub ok : OnOk result (new ≡ old ++ octets)
@@ -31,8 +31,8 @@ pub record AppendsInteger (limit : Option ℕ) (asks : Bool) (result : Result (U
   pub short : IsShort compose_error result ↔ (integer < 256 ^ k) × IsPast limit (length old + length octets)
   pub memory : IsMemory compose_error result → asks ≡ true
 
--- A call adds a part: its length, an integer in k octets, and its own octets behind it. It is refused as too long
--- exactly where its length doesn't fit them, and for the rest as that integer with octets behind it would be.
+-- A call adds a part: its length, an integer in k octets, followed by its own octets. It is refused as too long exactly
+-- if its length doesn't fit, and otherwise as if all of these were the octets of that integer.
 abbrev pub AppendsPart : (limit : Option ℕ) (asks : Bool) (result : Result (Unit {0}) ComposeError) (k : ℕ)
     → (part old new : List ℕ) → Type 0
 AppendsPart limit asks result k part old new = AppendsInteger limit asks result k (length part) (part_of k part) old new

@@ -12,7 +12,7 @@ sequence parser = parser.octets
 abbrev pub window : {R : Type 0} {g : Ghosts R} → Parser R g → Window
 window {g = g} parser = record { octets = g.content parser.octets; position = parser.pos; end = parser.len }
 
--- A call takes the next n octets. It succeeds exactly where so many are left, and else the window stays.
+-- A call takes the next n octets. It succeeds exactly if that many are left; otherwise the window doesn't change.
 pub record Takes {R T E : Type 0} {g : Ghosts R} (result : Result T E) (n : ℕ) (old new : Parser R g) : Type 0 where
   pub variant : IsOk result ↔ (n ≤ left (window old))
   pub ok : OnOk result (window new ≡ past n (window old))

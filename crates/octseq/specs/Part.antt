@@ -1,4 +1,4 @@
--- Parts: octets behind their length, which stands in k octets, big-endian.
+-- Parts: a length in k octets, big-endian, followed by that many octets.
 use Rattle.std.specs.Prelude.{◌≡◌, ℕ, ◌≤◌, ◌↔◌, List, ◌++◌, length, Result, IsOk, OnOk, OnErr}
 use Rattle.octseq_core.specs.declared.builder.AsOctets.{Ghosts}
 use Rattle.octseq.specs.Integer.{be, octets_be}
@@ -10,7 +10,7 @@ use Rattle.octseq.specs.declared.parse.Parser.{Parser}
 abbrev pub part_of : ℕ → List ℕ → List ℕ
 part_of k octets = octets_be k (length octets) ++ octets
 
--- how many octets the next part has behind its length
+-- the number of octets of the next part, after its length
 abbrev pub part_length : ℕ → Window → ℕ
 part_length k w = be (next k w)
 
@@ -18,15 +18,15 @@ part_length k w = be (next k w)
 abbrev pub HasPart : ℕ → Window → Type 0
 HasPart k w = (k ≤ left w) × (part_length k w ≤ left (past k w))
 
--- the window of the next part, behind its length
+-- the window of the next part, after its length
 abbrev pub part : ℕ → Window → Window
 part k w = nested (part_length k w) (past k w)
 
--- the window past the next part
+-- the window after the next part
 abbrev pub past_part : ℕ → Window → Window
 past_part k w = past (part_length k w) (past k w)
 
--- A call takes the next part. It succeeds exactly where a whole one comes next, and else the window stays.
+-- A call takes the next part. It succeeds exactly if a whole one comes next; otherwise the window doesn't change.
 pub record TakesPart {R T E : Type 0} {g : Ghosts R} (result : Result T E) (k : ℕ) (old new : Parser R g) : Type 0 where
   pub variant : IsOk result ↔ HasPart k (window old)
   pub ok : OnOk result (window new ≡ past_part k (window old))

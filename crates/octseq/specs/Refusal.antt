@@ -1,4 +1,4 @@
--- What the errors of this crate tell, for the words of refusals, which are those of `octseq_core`.
+-- The refusals that the errors of this crate report, in the words of `octseq_core`.
 use Rattle.octseq.specs.declared.compose.ComposeError.{ComposeError}
 use Rattle.octseq.specs.declared.error.ReadError.{ReadError}
 use Rattle.octseq.specs.declared.error.WriteError.{WriteError}
@@ -23,7 +23,7 @@ abbrev pub read_error : ReadError → Refusal
 read_error ReadError.Malformed = Refusal.malformed
 read_error ReadError.Memory = Refusal.memory
 
--- why a thing was not written
+-- why a value was not written
 abbrev pub write_error : WriteError → Refusal
 write_error WriteError.Malformed = Refusal.malformed
 write_error WriteError.Short = Refusal.short

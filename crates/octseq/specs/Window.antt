@@ -1,15 +1,15 @@
--- A window on octets: the place where reading goes on, and the end of what may be read.
+-- A window on octets: the place where reading continues, and the end of what can be read.
 use Rattle.std.specs.Prelude.{ℕ, ◌+◌, ◌-◌, List, ◌++◌, length, slice_range}
 use Rattle.octseq_text.specs.Range.{start_of, end_of}
 use Rattle.std.specs.declared.ops.Bound.{Bound}
 
--- The position and the end are counted from the first of the octets, also in a window that was cut from another.
+-- The position and the end are counted from the first of the octets, even in a window that was cut from another.
 pub record Window : Type 0 where
   pub octets : List ℕ
   pub position : ℕ
   pub end : ℕ
 
--- how many octets are left
+-- the number of octets that are left
 abbrev pub left : Window → ℕ
 left w = w.end - w.position
 
@@ -29,11 +29,11 @@ front w = slice_range w.octets 0 w.end
 abbrev pub at : ℕ → Window → Window
 at position w = record { octets = w.octets; position = position; end = w.end }
 
--- the window past its next n octets
+-- the window after its next n octets
 abbrev pub past : ℕ → Window → Window
 past n w = at (w.position + n) w
 
--- the window of the next n octets alone
+-- the window of only the next n octets
 abbrev pub nested : ℕ → Window → Window
 nested n w = record { octets = w.octets; position = w.position; end = w.position + n }
 
@@ -49,6 +49,6 @@ window_of_range octets bounds = record {
   end = end_of (length octets) bounds.1;
 }
 
--- the window on what stands behind a front
+-- the window on what follows a front
 abbrev pub behind : List ℕ → List ℕ → Window
 behind front rest = at (length front) (whole (front ++ rest))

@@ -1,4 +1,4 @@
--- What the replies of a run show.
+-- What the replies of a run represent.
 use Rattle.std.specs.Prelude.{ℕ, ℤ, Bool, List}
 use Rattle.octseq.specs.declared.parse.commands.ParserReply.{ParserReply}
 use Rattle.octseq.specs.declared.parse.commands.ParserReply.TheVariants.{Done, Short, Memory, NoParser, Number, Flag}
@@ -12,7 +12,7 @@ pub data WindowReply : Type 0 where
   slice range : List ℕ → WindowReply
   signed : ℤ → WindowReply
 
--- what a reply shows, where `content` gives the octets of a range
+-- the value of a reply, if `content` gives the octets of a range
 abbrev pub shown : {R P : Type 0} → (P → List ℕ) → ParserReply R P → WindowReply
 shown content Done = done
 shown content Short = short

@@ -1,4 +1,4 @@
--- What commands do to parsers of the same octets, seen as a list of windows.
+-- The effect of commands on parsers of the same octets, seen as a list of windows.
 use Rattle.std.specs.List.{AllByRecursion}
 use Rattle.std.specs.Prelude.{◌≡◌, ◌≢◌, ℕ, Bool, true, List, [], ◌∷◌, ◌++◌, length, slice_get}
 use Rattle.std.specs.Prelude.{slice_set, nat_le, ◌==◌, if◌then◌else◌, Option, Some, None, ◌⊎◌}
@@ -15,12 +15,12 @@ use Rattle.octseq.specs.declared.parse.commands.ParserCall.TheVariants.{PeekAll,
 use Rattle.octseq.specs.declared.parse.commands.ParserCall.TheVariants.{Advance, CheckLen, Octets, Buf, Nested, Int}
 use Rattle.octseq.specs.declared.parse.commands.ParserCommand.{ParserCommand}
 
--- How an integer is read: how many octets it has, and the reply with the value that they stand for.
+-- How an integer is read: the number of its octets, and the reply with their value.
 pub record Reading : Type 0 where
   pub width : ℕ
   pub reply : List ℕ → WindowReply
 
--- an unsigned and a signed integer of k octets, in an order
+-- an unsigned and a signed integer of k octets, in a byte order
 abbrev pub unsigned_of : ℕ → (List ℕ → ℕ) → Reading
 unsigned_of k order = record { width = k; reply = λ octets. WindowReply.unsigned (order octets) }
 
@@ -52,7 +52,7 @@ reading I128Le = signed_of 16 le
 reading U128Be = unsigned_of 16 be
 reading U128Le = unsigned_of 16 le
 
--- What a call on a window does: its reply, the window after it, and the windows that it adds.
+-- The effect of a call on a window: its reply, the window after it, and the windows that it adds.
 pub record Outcome : Type 0 where
   pub reply : WindowReply
   pub window : Window
@@ -62,11 +62,11 @@ pub record Outcome : Type 0 where
 abbrev pub says : WindowReply → Window → Outcome
 says reply w = record { reply = reply; window = w; added = [] }
 
--- the number of the window that is added behind `count` others
+-- the reply with the number of a window that is added after `count` others
 abbrev pub adds : ℕ → Window → Window → Outcome
 adds count new w = record { reply = WindowReply.parser count; window = w; added = new ∷ [] }
 
--- an outcome where n is at most the bound, and else a refusal, which leaves the window
+-- an outcome if n is at most the bound, otherwise a refusal, which leaves the window unchanged
 abbrev pub where_within : ℕ → ℕ → Window → Outcome → Outcome
 where_within bound n w outcome = if nat_le n bound then outcome else says WindowReply.short w
 
@@ -90,18 +90,18 @@ outcome count w (Nested n) = where_within (left w) n w (adds count (nested n w) 
 outcome count w (Int kind) = let n = (reading kind).width in
     where_within (left w) n w (says ((reading kind).reply (next n w)) (past n w))
 
--- A request for memory may be refused in the place of a slice, and of a range whose type requests memory.
+-- Instead of a slice, or a range whose type requests memory, a refusal of memory can be the reply.
 abbrev pub MayLackMemory : Bool → WindowReply → Type 0
 MayLackMemory asks (WindowReply.slice _) = Unit {0}
 MayLackMemory asks (WindowReply.range _) = asks ≡ true
 MayLackMemory asks _ = ⊥
 
--- A call does what it is to do, or a request for memory was refused, and nothing changed.
+-- A call has its outcome, or a request for memory was refused and nothing changed.
 abbrev pub Does : Bool → Window → Outcome → Outcome → Type 0
 Does asks before wanted done =
     (done ≡ wanted) ⊎ (MayLackMemory asks wanted.reply × (done ≡ says WindowReply.memory before))
 
--- A command on the window of its number, if there is one: the reply, and the windows after it.
+-- A command on the window with its number, if there is one: the reply, and the windows after it.
 abbrev pub StepOn : Option Window → Bool → List Window → ParserCommand → WindowReply → List Window → Type 0
 StepOn None asks windows command reply after = (reply ≡ WindowReply.no_parser) × (after ≡ windows)
 StepOn (Some w) asks windows command reply after = (done : Outcome)
@@ -112,7 +112,7 @@ StepOn (Some w) asks windows command reply after = (done : Outcome)
 abbrev pub WindowStep : Bool → List Window → ParserCommand → WindowReply → List Window → Type 0
 WindowStep asks windows command reply after = StepOn (slice_get windows command.parser) asks windows command reply after
 
--- A list of commands, with one reply each: every step is on the windows that the step before left.
+-- A list of commands, with one reply each: every step starts from the windows that the step before left.
 abbrev pub WindowRun : Bool → List Window → List ParserCommand → List WindowReply → Type 0
 WindowRun asks windows [] [] = Unit {0}
 WindowRun asks windows (command ∷ commands) (reply ∷ replies) =
@@ -120,6 +120,6 @@ WindowRun asks windows (command ∷ commands) (reply ∷ replies) =
 WindowRun asks windows [] (reply ∷ replies) = ⊥
 WindowRun asks windows (command ∷ commands) [] = ⊥
 
--- No reply tells that a request for memory was refused.
+-- No reply says that a request for memory was refused.
 abbrev pub IsWithoutMemory : List WindowReply → Type 0
 IsWithoutMemory replies = AllByRecursion (λ reply. reply ≢ WindowReply.memory) replies

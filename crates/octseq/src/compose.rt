@@ -1,12 +1,12 @@
-//! Composing messages: integers and parts behind the content of a builder.
+//! Composing messages: integers and parts appended to a builder.
 //!
-//! An integer is appended as the octets that [`Parser`](crate::Parser) reads it from. A part is its length,
-//! big-endian in as many octets as the call's name says, and then its octets.
+//! An integer is appended as the octets from which [`Parser`](crate::Parser) reads it. A part is its length, big-endian
+//! in the number of octets that the call's name gives, followed by its octets.
 //!
 //! # Errors
 //!
-//! Each call that appends answers `Short` where the content would pass the limit of its type, and else `Memory` where a
-//! request for memory was refused. The content is then as it was, but where a call says something else.
+//! Each call that appends returns `Short` if the content would exceed the limit of its type, otherwise `Memory` if a
+//! request for memory was refused. The content is then unchanged, unless a call says otherwise.
 ghost use Rattle.std.specs.Prelude.{◌≡◌, Some};
 
 use octseq_core::builder::AppendError;
@@ -29,9 +29,9 @@ pub use crate::compose::parts::{append_part_u8, append_part_u16_be, append_part_
 /// Why a part, or an integer that may not fit its octets, was not appended.
 #[derive(Clone, Copy, Debug, PartialEq, Eq)]
 pub enum ComposeError {
-    /// The integer, or the part's length, doesn't fit the octets that it is to have.
+    /// The integer, or the part's length, doesn't fit in its octets.
     TooLong,
-    /// The content would pass the limit of its type.
+    /// The content would exceed the limit of its type.
     Short,
     /// A request for memory was refused.
     Memory,

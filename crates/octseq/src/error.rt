@@ -1,4 +1,4 @@
-//! Errors that readers and writers of formats share, so that `?` passes each refusal on.
+//! The errors that readers and writers of formats share, so that `?` converts each refusal.
 ghost use Rattle.std.specs.Prelude.{◌≡◌, Some, codes};
 
 use crate::compose::ComposeError;
@@ -8,7 +8,7 @@ use std::alloc::{AllocError, AllocFailed};
 use std::error::Error;
 use std::fmt;
 
-/// What was to be read isn't there.
+/// The octets don't have the expected form.
 #[derive(Clone, Copy, Debug, Default, PartialEq, Eq)]
 pub struct Malformed;
 
@@ -31,7 +31,7 @@ impl From<ShortInput> for Malformed {
 /// Why octets were not read.
 #[derive(Clone, Copy, Debug, PartialEq, Eq)]
 pub enum ReadError {
-    /// They don't have the form that was to be read.
+    /// They don't have the expected form.
     Malformed,
     /// A request for memory was refused.
     Memory,
@@ -95,7 +95,7 @@ impl From<AllocError> for ReadError {
     }
 }
 
-/// The refusal of a `push` onto a vector. The value is dropped.
+/// The error of a `push` onto a vector. The value is dropped.
 impl<T: Drop> From<AllocFailed<T>> for ReadError {
     ghost use Rattle.octseq.specs.declared.error.ReadError.TheVariants.{Memory};
 
@@ -106,12 +106,12 @@ impl<T: Drop> From<AllocFailed<T>> for ReadError {
     }
 }
 
-/// Why a thing was not written.
+/// Why a value was not written.
 #[derive(Clone, Copy, Debug, PartialEq, Eq)]
 pub enum WriteError {
-    /// It doesn't have the form that is written.
+    /// It doesn't have the form of the format.
     Malformed,
-    /// The content would pass the limit of its type.
+    /// The content would exceed the limit of its type.
     Short,
     /// A request for memory was refused.
     Memory,
@@ -171,7 +171,7 @@ impl From<AllocError> for WriteError {
     }
 }
 
-/// The refusal of a `push` onto a vector. The value is dropped.
+/// The error of a `push` onto a vector. The value is dropped.
 impl<T: Drop> From<AllocFailed<T>> for WriteError {
     ghost use Rattle.octseq.specs.declared.error.WriteError.TheVariants.{Memory};
 

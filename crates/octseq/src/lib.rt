@@ -1,8 +1,7 @@
 //! Generic octet sequences: builders, ranges and conversions, texts, a parser and a composer.
 //!
-//! A sequence or a builder has a content, a list of octets, and everything here speaks of that content, however
-//! it is kept. This crate has [`parse`], [`compose`] and [`error`], and beside them all modules of the crates that it
-//! stands on.
+//! A sequence or a builder has a content, a list of octets, and everything here is about that content, however it is
+//! stored. This crate has [`parse`], [`compose`] and [`error`], and re-exports all modules of the crates below it.
 #![tactic(auto)]
 
 pub mod compose;

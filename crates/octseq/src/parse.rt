@@ -1,4 +1,4 @@
-//! Reading octets from the left: windows that move over a sequence.
+//! Reading octets from left to right: windows that move over a sequence.
 ghost use Rattle.std.specs.Prelude.{◌≡◌, ◌+◌, ◌<◌, ◌≤◌, ◌↔◌, ⊤, true, length};
 ghost use Rattle.std.specs.Prelude.{IsTrue, IsOk, IfOk, IsSome, IfSome, OnOk, OnErr};
 ghost use Rattle.octseq_text.specs.Range.{RangeExists};
@@ -22,10 +22,10 @@ pub use crate::parse::commands::{Kind, ParserCall, ParserCommand, ParserReply, r
 pub use crate::parse::error::{ParseOctetsError, ShortInput};
 pub use crate::parse::laws::{nothing_is_lost, one_run};
 
-/// A window on a sequence of octets: a position, at which reading goes on, and an end. Both are counted
-/// from the first octet of the sequence, also in a parser that was cut from another.
+/// A window on a sequence of octets: a position, where reading continues, and an end. Both are counted from the first
+/// octet of the sequence, even in a parser that was cut from another.
 ///
-/// A parser is a value: a copy of it has the same window, and neither follows the other's moves. A refused call changes
+/// A parser is a value: a copy has the same window, and neither follows the other's moves. A refused call changes
 /// nothing.
 #[derive(Debug)]
 pub struct Parser<R: AsOctets> {
@@ -51,7 +51,7 @@ impl<R: AsOctets + Copy> Clone for Parser<R> {
 impl<'a> Parser<&'a [u8]> {
     ghost use Rattle.octseq.specs.Parser.{sequence, window};
 
-    /// A parser of a slice. The name is the Rust crate's: the slice may have any lifetime.
+    /// A parser of a slice. The name is from the Rust crate: the slice can have any lifetime.
     pub fn from_static(slice: &'a [u8]) -> Self
         ensures sequence { sequence result ≡ slice.entry }
         ensures window { window result ≡ whole slice.now }
@@ -90,8 +90,8 @@ impl<R: AsOctets> Parser<R> {
         }
     }
 
-    /// A parser of a range that exists, which `range_exists` tells: it begins at the range's start and ends
-    /// at its end. A range is written as Rust's are: `1..3`, `at..`, `..=last`, or a pair of bounds.
+    /// A parser of a range that exists; `range_exists` tests that. It begins at the range's start and ends at its end.
+    /// A range is written as in Rust: `1..3`, `at..`, `..=last`, or a pair of bounds.
     pub fn with_range<B: RangeBounds<usize>>(octets: R, range: B) -> Self
         requires known { B.has_bounds range }
         requires exists { RangeExists (length (R.content octets)) (B.start_bound range, B.end_bound range) }
@@ -107,7 +107,7 @@ impl<R: AsOctets> Parser<R> {
         }
     }
 
-    /// A parser of a range, or `None` where the range doesn't exist.
+    /// A parser of a range, or `None` if the range doesn't exist.
     pub fn try_with_range<B: RangeBounds<usize>>(octets: R, range: B) -> Option<Self>
         requires { B.has_bounds range }
         ensures variant { IsSome result
@@ -124,7 +124,7 @@ impl<R: AsOctets> Parser<R> {
         })
     }
 
-    /// The sequence that is read, whole.
+    /// The whole sequence.
     pub fn octets_ref(&self) -> R
     where
         R: Copy,
@@ -141,8 +141,8 @@ impl<R: AsOctets> Parser<R> {
         self.pos
     }
 
-    /// The window's end, counted from the first octet of the sequence. How many octets are left is what
-    /// [`remaining`](Self::remaining) tells.
+    /// The window's end, counted from the first octet of the sequence. For the number of octets that are left, see
+    /// [`remaining`](Self::remaining).
     pub fn len(&self) -> usize
         ensures end { result ≡ (window self.now).end }
         ensures within { result ≤ length (window self.now).octets }
@@ -165,7 +165,7 @@ impl<R: AsOctets> Parser<R> {
         &self.octets.as_ref()[..self.len]
     }
 
-    /// How many octets are left.
+    /// The number of octets that are left.
     pub fn remaining(&self) -> usize
         ensures left { result ≡ left (window self.now) }
         ensures rest { result ≡ length (rest (window self.now)) }
@@ -173,11 +173,11 @@ impl<R: AsOctets> Parser<R> {
         self.len - self.pos
     }
 
-    /// The next `len` octets. The position stays.
+    /// The next `len` octets. The position doesn't change.
     ///
     /// # Errors
     ///
-    /// `ShortInput` where fewer octets are left.
+    /// `ShortInput` if fewer octets are left.
     pub fn peek(&self, len: usize) -> Result<&[u8], ShortInput>
         ensures variant { IsOk result ↔ (len ≤ left (window self.now)) }
         ensures ok { IfOk result (λ octets. octets.now ≡ next len (window self.now)) }
@@ -186,11 +186,11 @@ impl<R: AsOctets> Parser<R> {
         Ok(&self.octets.as_ref()[self.pos..self.place_past(len)?])
     }
 
-    /// The next octet, unsigned. The position stays.
+    /// The next octet, unsigned. The position doesn't change.
     ///
     /// # Errors
     ///
-    /// `ShortInput` where no octet is left.
+    /// `ShortInput` if no octet is left.
     #[tactic(auto, using(crate::proofs::WrittenBack::read_1))]
     pub fn peek_u8(&self) -> Result<u8, ShortInput>
         ensures variant { IsOk result ↔ (1 ≤ left (window self.now)) }
@@ -200,7 +200,7 @@ impl<R: AsOctets> Parser<R> {
         Ok(self.peek(1)?[0])
     }
 
-    /// The octets that are left. The position stays.
+    /// The octets that are left. The position doesn't change.
     pub fn peek_all(&self) -> &[u8]
         ensures content { result.now ≡ rest (window self.now) }
         ensures length { length result.now ≡ left (window self.now) }
@@ -208,11 +208,11 @@ impl<R: AsOctets> Parser<R> {
         &self.octets.as_ref()[self.pos..self.len]
     }
 
-    /// Whether `len` octets are left.
+    /// Tests whether `len` octets are left.
     ///
     /// # Errors
     ///
-    /// `ShortInput` where fewer octets are left.
+    /// `ShortInput` if fewer octets are left.
     pub fn check_len(&self, len: usize) -> Result<(), ShortInput>
         ensures { IsOk result ↔ (len ≤ left (window self.now)) }
     {
@@ -222,7 +222,7 @@ impl<R: AsOctets> Parser<R> {
         Ok(())
     }
 
-    /// The place past the next `len` octets, if so many are left.
+    /// The place after the next `len` octets, if that many are left.
     fn place_past(&self, len: usize) -> Result<usize, ShortInput>
         ensures variant { IsOk result ↔ (len ≤ left (window self.now)) }
         ensures ok { IfOk result (λ place. place ≡ (window self.now).position + len) }
@@ -231,12 +231,12 @@ impl<R: AsOctets> Parser<R> {
         Ok(self.pos + len)
     }
 
-    /// Moves to a position, counted from the first octet of the sequence: also before the place where a
-    /// nested parser began.
+    /// Moves to a position, counted from the first octet of the sequence. It can be before the place where a nested
+    /// parser began.
     ///
     /// # Errors
     ///
-    /// `ShortInput` where the window ends before that position. The parser is then as it was.
+    /// `ShortInput` if the window ends before that position. The parser is then unchanged.
     ///
     /// # Examples
     ///
@@ -268,7 +268,7 @@ impl<R: AsOctets> Parser<R> {
     ///
     /// # Errors
     ///
-    /// `ShortInput` where fewer octets are left. The parser is then as it was.
+    /// `ShortInput` if fewer octets are left. The parser is then unchanged.
     ///
     /// # Examples
     ///
@@ -302,8 +302,8 @@ impl<R: AsOctets> Parser<R> {
     ///
     /// # Errors
     ///
-    /// `Short` where fewer octets are left, and else `Memory` where a request for memory was refused, which
-    /// a range that is a slice never makes. The parser is then as it was.
+    /// `Short` if fewer octets are left, otherwise `Memory` if a request for memory was refused. A range that is a
+    /// slice requests none. The parser is then unchanged.
     ///
     /// # Examples
     ///
@@ -335,8 +335,7 @@ impl<R: AsOctets> Parser<R> {
     ///
     /// # Errors
     ///
-    /// `ShortInput` where fewer octets are left than the buffer has. The parser and the buffer are then as
-    /// they were.
+    /// `ShortInput` if fewer octets are left than the buffer has. The parser and the buffer are then unchanged.
     pub fn parse_buf(&mut self, buf: &mut [u8]) -> Result<(), ShortInput>
         ensures taken { Takes result (length buf.old) self.old self.new }
         ensures filled { OnOk result (buf.new ≡ next (length buf.old) (window self.old)) }
@@ -347,12 +346,12 @@ impl<R: AsOctets> Parser<R> {
         Ok(())
     }
 
-    /// Takes the next `len` octets, as a parser of them alone. It reads the same sequence, so its position
-    /// and its end are counted from there.
+    /// Takes the next `len` octets, as a parser of only those. It reads the same sequence, so its position and its end
+    /// are counted from the start of that sequence.
     ///
     /// # Errors
     ///
-    /// `ShortInput` where fewer octets are left. The parser is then as it was.
+    /// `ShortInput` if fewer octets are left. The parser is then unchanged.
     ///
     /// # Examples
     ///

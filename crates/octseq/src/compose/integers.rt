@@ -2,8 +2,8 @@
 //!
 //! # Errors
 //!
-//! Each call answers `Short` where the content would pass the limit of its type, and else `Memory` where a request
-//! for memory was refused. The content is then as it was.
+//! Each call returns `Short` if the content would exceed the limit of its type, otherwise `Memory` if a request for
+//! memory was refused. The content is then unchanged.
 ghost use Rattle.std.specs.Prelude.{◌≡◌, ◌<◌, ◌^◌};
 ghost use Rattle.octseq_core.specs.Appends.{Appends};
 ghost use Rattle.octseq.specs.Composer.{AreOctetsOf, AppendsInteger};
@@ -98,7 +98,7 @@ pub fn append_u16_le<B: OctetsBuilder>(builder: &mut B, value: u16) -> Result<()
 ///
 /// # Errors
 ///
-/// `TooLong` where the integer is more than 16,777,215, before all else.
+/// `TooLong` if the integer is greater than 16,777,215. This is tested first.
 #[tactic(auto, using(crate::proofs::Written::written_3))]
 pub fn append_u24_be<B: OctetsBuilder>(builder: &mut B, value: u32) -> Result<(), ComposeError>
     ensures octets { value < 256 ^ 3 → AreOctetsOf be 3 value (octets_be 3 value) }
@@ -116,7 +116,7 @@ pub fn append_u24_be<B: OctetsBuilder>(builder: &mut B, value: u32) -> Result<()
 ///
 /// # Errors
 ///
-/// `TooLong` where the integer is more than 16,777,215, before all else.
+/// `TooLong` if the integer is greater than 16,777,215. This is tested first.
 #[tactic(auto, using(crate::proofs::Written::written_3))]
 pub fn append_u24_le<B: OctetsBuilder>(builder: &mut B, value: u32) -> Result<(), ComposeError>
     ensures octets { value < 256 ^ 3 → AreOctetsOf le 3 value (octets_le 3 value) }
@@ -178,7 +178,7 @@ pub fn append_u32_le<B: OctetsBuilder>(builder: &mut B, value: u32) -> Result<()
 ///
 /// # Errors
 ///
-/// `TooLong` where the integer is more than 281,474,976,710,655, before all else.
+/// `TooLong` if the integer is greater than 281,474,976,710,655. This is tested first.
 #[tactic(auto, using(crate::proofs::Written::written_6))]
 pub fn append_u48_be<B: OctetsBuilder>(builder: &mut B, value: u64) -> Result<(), ComposeError>
     ensures octets { value < 256 ^ 6 → AreOctetsOf be 6 value (octets_be 6 value) }
@@ -196,7 +196,7 @@ pub fn append_u48_be<B: OctetsBuilder>(builder: &mut B, value: u64) -> Result<()
 ///
 /// # Errors
 ///
-/// `TooLong` where the integer is more than 281,474,976,710,655, before all else.
+/// `TooLong` if the integer is greater than 281,474,976,710,655. This is tested first.
 #[tactic(auto, using(crate::proofs::Written::written_6))]
 pub fn append_u48_le<B: OctetsBuilder>(builder: &mut B, value: u64) -> Result<(), ComposeError>
     ensures octets { value < 256 ^ 6 → AreOctetsOf le 6 value (octets_le 6 value) }

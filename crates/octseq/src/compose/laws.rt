@@ -1,12 +1,11 @@
-//! What was appended is read back. Each law stands on a function that does nothing, so that a check asks for
+//! What was appended is read back. Each law is the contract of a function that does nothing, so that the check demands
 //! its proof.
 ghost use Rattle.std.specs.Prelude.{◌≡◌, ℕ, ℤ, ◌<◌, ◌≤◌, ◌^◌, ◌++◌, List, length};
 ghost use Rattle.octseq.specs.Integer.{be, le, signed, octets_be, octets_le, IsSigned, unsigned};
 ghost use Rattle.octseq.specs.Part.{part_of, HasPart, part, past_part};
 ghost use Rattle.octseq.specs.Window.{left, rest, next, past, behind};
 
-/// The octets of an integer, read from the place where they begin, have its value, and what stands behind
-/// them is left.
+/// The octets of an integer, read from the place where they begin, have its value, and what follows them is left.
 pub fn integers_are_read_back()
     ensures be { (front after : List ℕ) (k n : ℕ) → n < 256 ^ k
         → (k ≤ left (behind front (octets_be k n ++ after)))
@@ -20,7 +19,7 @@ pub fn integers_are_read_back()
         → (unsigned k z < 256 ^ k) × (signed k (unsigned k z) ≡ z) }
 {}
 
-/// A part, read from the place where it begins, is whole, has its octets, and what stands behind it is left.
+/// A part, read from the place where it begins, is whole and has its octets, and what follows it is left.
 pub fn parts_are_read_back()
     ensures { (front octets after : List ℕ) (k : ℕ) → length octets < 256 ^ k
         → HasPart k (behind front (part_of k octets ++ after))

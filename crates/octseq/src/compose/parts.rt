@@ -1,4 +1,4 @@
-//! Parts at the end of a content: octets behind their length.
+//! Parts at the end of a content: a length followed by its octets.
 ghost use Rattle.std.specs.Prelude.{◌≡◌, ◌+◌, ◌++◌, ◌↔◌, true, length, IsFalse, OnOk, OnErr};
 ghost use Rattle.octseq_core.specs.Limit.{IsPast};
 ghost use Rattle.octseq.specs.Composer.{AppendsPart};
@@ -11,9 +11,9 @@ use octseq_core::builder::{OctetsBuilder, Truncate};
 ///
 /// # Errors
 ///
-/// `TooLong` where the part has more than 255 octets. Else `Short` where the content, with the length and the
-/// part behind it, would pass the limit of its type, and else `Memory` where a request for memory was refused.
-/// The content is then as it was.
+/// `TooLong` if the part has more than 255 octets. Otherwise `Short` if the content, with the length and the part,
+/// would exceed the limit of its type, and otherwise `Memory` if a request for memory was refused. The content is then
+/// unchanged.
 ///
 /// # Examples
 ///
@@ -45,9 +45,9 @@ pub fn append_part_u8<B: OctetsBuilder + Truncate>(
 ///
 /// # Errors
 ///
-/// `TooLong` where the part has more than 65,535 octets. Else `Short` where the content, with the length and
-/// the part behind it, would pass the limit of its type, and else `Memory` where a request for memory was
-/// refused. The content is then as it was.
+/// `TooLong` if the part has more than 65,535 octets. Otherwise `Short` if the content, with the length and the part,
+/// would exceed the limit of its type, and otherwise `Memory` if a request for memory was refused. The content is then
+/// unchanged.
 #[tactic(auto, using(crate::proofs::Written::written_2))]
 pub fn append_part_u16_be<B: OctetsBuilder + Truncate>(
     builder: &mut B,
@@ -67,9 +67,9 @@ pub fn append_part_u16_be<B: OctetsBuilder + Truncate>(
 ///
 /// # Errors
 ///
-/// `TooLong` where the part has more than 4,294,967,295 octets. Else `Short` where the content, with the
-/// length and the part behind it, would pass the limit of its type, and else `Memory` where a request for
-/// memory was refused. The content is then as it was.
+/// `TooLong` if the part has more than 4,294,967,295 octets. Otherwise `Short` if the content, with the length and the
+/// part, would exceed the limit of its type, and otherwise `Memory` if a request for memory was refused. The content is
+/// then unchanged.
 #[tactic(auto, using(crate::proofs::Written::written_4))]
 pub fn append_part_u32_be<B: OctetsBuilder + Truncate>(
     builder: &mut B,
@@ -85,7 +85,7 @@ pub fn append_part_u32_be<B: OctetsBuilder + Truncate>(
     append_both(builder, &len.to_be_bytes(), part)
 }
 
-/// Whether a builder has room for so many octets and so many more. One with no limit has.
+/// Whether a builder has room for `first + more` further octets. Always true without a limit.
 fn has_room<B: OctetsBuilder>(builder: &B, first: usize, more: usize) -> bool
     ensures { IsFalse result ↔ IsPast B.limit (length (B.content builder.now) + (first + more)) }
 {
@@ -98,7 +98,7 @@ fn has_room<B: OctetsBuilder>(builder: &B, first: usize, more: usize) -> bool
     }
 }
 
-/// Appends both slices or none. The limit is asked first, so a content that would pass it requests no memory.
+/// Appends both slices or none. The limit is tested first, so a content that would exceed it requests no memory.
 fn append_both<B: OctetsBuilder + Truncate>(
     builder: &mut B,
     first: &[u8],

@@ -39,25 +39,25 @@ pub enum Kind {
     U128Le,
 }
 
-/// A call on one of the parsers of a run. They are numbered from 0, in the order in which they were made.
+/// A call on one of the parsers of a run. They are numbered from 0, in the order in which they are made.
 #[derive(Clone, Copy)]
 pub struct ParserCommand {
     /// The number of the parser.
     pub parser: usize,
-    /// What it is asked.
+    /// The call on that parser.
     pub call: ParserCall,
 }
 
-/// What can be asked of a parser.
+/// A call on a parser.
 #[derive(Clone, Copy)]
 pub enum ParserCall {
-    /// Tell the position.
+    /// Return the position.
     Pos,
-    /// Tell the window's end.
+    /// Return the window's end.
     Len,
-    /// Tell whether the window's end is 0.
+    /// Return whether the window's end is 0.
     IsEmpty,
-    /// Tell how many octets are left.
+    /// Return the number of octets that are left.
     Remaining,
     /// Copy the octets from the first one to the window's end.
     AsSlice,
@@ -67,25 +67,25 @@ pub enum ParserCall {
     AdvanceToEnd,
     /// Make a parser with the same window.
     Duplicate,
-    /// Copy the next octets, so many.
+    /// Copy this many next octets.
     Peek(usize),
     /// Move to this position.
     Seek(usize),
-    /// Move past the next octets, so many.
+    /// Move past this many octets.
     Advance(usize),
-    /// Tell whether so many octets are left.
+    /// Test whether this many octets are left.
     CheckLen(usize),
-    /// Take the next octets, so many, as a range.
+    /// Take this many octets as a range.
     Octets(usize),
-    /// Take the next octets, so many, into a buffer of that length.
+    /// Take this many octets into a buffer of that length.
     Buf(usize),
-    /// Take the next octets, so many, and make a parser of them alone.
+    /// Take this many octets, and make a parser of only those.
     Nested(usize),
     /// Take an integer.
     Int(Kind),
 }
 
-/// The answer to a [`ParserCommand`].
+/// The reply to a [`ParserCommand`].
 #[derive(Drop)]
 pub enum ParserReply<R: Octets> {
     /// It was done.
@@ -94,9 +94,9 @@ pub enum ParserReply<R: Octets> {
     Short,
     /// A request for memory was refused, and no parser moved.
     Memory,
-    /// There is no parser of that number.
+    /// There is no parser with that number.
     NoParser,
-    /// A position, an end, or how many octets are left.
+    /// A position, an end, or the number of octets that are left.
     Number(usize),
     /// Whether the window's end is 0.
     Flag(bool),
@@ -104,7 +104,7 @@ pub enum ParserReply<R: Octets> {
     Slice(Vec<u8>),
     /// A range of the octets.
     Range(R::Range),
-    /// The number of the parser that was made.
+    /// The number of the new parser.
     Parser(usize),
     /// A signed integer.
     Signed(i128),
@@ -112,13 +112,13 @@ pub enum ParserReply<R: Octets> {
     Unsigned(u128),
 }
 
-/// What a call replied, and the parser that it made.
+/// The reply to a call, and the parser that it made.
 struct Answer<R: Octets> {
     reply: ParserReply<R>,
     made: Option<Parser<R>>,
 }
 
-/// The reply to a call that answers nothing more.
+/// The reply to a call that returns nothing more.
 fn done<R: Octets>(answer: Result<(), ShortInput>) -> Result<ParserReply<R>, ShortInput>
     ensures { MatchResult answer (λ _. result ≡ Ok ParserReply.Done) (λ e. result ≡ Err e) }
 {
@@ -133,7 +133,7 @@ fn copied<R: Octets>(alloc: Global, octets: &[u8]) -> Result<ParserReply<R>, All
     Ok(ParserReply::Slice(Vec::from_slice(alloc, octets)?))
 }
 
-/// The next `len` octets, taken into a buffer that is made once they are known to be there.
+/// The next `len` octets, taken into a buffer that is allocated only after they are known to be there.
 fn buffer<R: AsOctets>(
     alloc: Global,
     parser: &mut Parser<R>,
@@ -182,7 +182,7 @@ fn integer<R: Octets>(parser: &mut Parser<R>, kind: Kind) -> Result<ParserReply<
     })
 }
 
-/// One call on a parser, one of `count`.
+/// Carries out one call on a parser, which is one of `count`.
 fn carry_out<R: Octets + Copy>(
     alloc: Global,
     parser: &mut Parser<R>,
@@ -225,7 +225,7 @@ fn carry_out<R: Octets + Copy>(
     Ok(Answer { reply, made: None })
 }
 
-/// The answer of a call that makes a parser, behind `count` others.
+/// The answer of a call that makes a parser, after `count` others.
 fn with_new<R: Octets>(count: usize, parser: Parser<R>) -> Answer<R>
     ensures { result ≡ record { reply = ParserReply.Parser count; made = Some parser } }
 {
@@ -235,7 +235,7 @@ fn with_new<R: Octets>(count: usize, parser: Parser<R>) -> Answer<R>
     }
 }
 
-/// One command.
+/// Carries out one command.
 fn step<R: Octets + Copy>(
     alloc: Global,
     parsers: &mut Vec<Parser<R>>,
@@ -263,13 +263,13 @@ fn step<R: Octets + Copy>(
     }
 }
 
-/// Carries out the commands in turn, on parsers of the same octets. Number 0 is [`Parser::from_ref`] of them,
-/// and each parser that a command makes has the next number. There is one reply a command: a refused one is
-/// answered by its reply, and the commands after it are carried out.
+/// Carries out the commands in order, on parsers of the same octets. Number 0 is [`Parser::from_ref`] of them, and each
+/// parser that a command makes has the next number. There is one reply for each command. A refused command has its own
+/// reply, and the commands after it are still carried out.
 ///
 /// # Errors
 ///
-/// `AllocError` where room for the replies and the parsers was refused, which is made first.
+/// `AllocError` if the memory for the replies and the parsers was refused. It is requested first.
 pub fn run<R: Octets + Copy>(
     alloc: Global,
     octets: R,

@@ -1,11 +1,11 @@
-//! Why a parser refuses a call.
+//! Why a call on a parser was refused.
 ghost use Rattle.std.specs.Prelude.{◌≡◌, Some, codes};
 
 use std::alloc::AllocError;
 use std::error::Error;
 use std::fmt;
 
-/// Fewer octets were left than a call asked for.
+/// Fewer octets were left than requested.
 #[derive(Clone, Copy, Debug, Default, PartialEq, Eq)]
 pub struct ShortInput;
 

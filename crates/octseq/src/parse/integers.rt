@@ -1,4 +1,4 @@
-//! The integers that the next octets stand for.
+//! Integers read from the next octets.
 ghost use Rattle.std.specs.Prelude.{◌≡◌, ◌<◌, ◌≤◌, ◌↔◌, length, take, IsSome, IfSome, IfOk};
 ghost use Rattle.std.specs.List.{AllByRecursion};
 ghost use Rattle.octseq.specs.Window.{next};
@@ -17,12 +17,12 @@ fn first_octets<const N: usize>(octets: &[u8]) -> Option<[u8; N]>
     Some(*octets.first_chunk()?)
 }
 
-/// Each call takes as many octets as its integer has, and gives their value in the order that its name says:
-/// they are the octets that the call of that name in [`compose`](crate::compose) appends of it.
+/// Each call takes the octets of its integer and returns their value in the byte order that its name gives: the octets
+/// that the call of that name in [`compose`](crate::compose) appends for that value.
 ///
 /// # Errors
 ///
-/// `ShortInput` where fewer octets are left. The parser is then as it was.
+/// `ShortInput` if fewer octets are left. The parser is then unchanged.
 impl<R: AsOctets> Parser<R> {
     /// The next `N` octets.
     #[tactic(auto, using(crate::proofs::Windows::next_of_rest))]

@@ -1,5 +1,5 @@
-//! What holds of windows and of their runs. Each law stands on a function that does nothing, so that a check
-//! asks for its proof.
+//! Laws about windows and their runs. Each law is the contract of a function that does nothing, so that the check
+//! demands its proof.
 ghost use Rattle.std.specs.Prelude.{◌≡◌, ℕ, ◌≤◌, ◌++◌, Bool, List};
 ghost use Rattle.octseq.specs.WindowReply.{WindowReply};
 ghost use Rattle.octseq.specs.WindowRun.{IsWithoutMemory, WindowRun};
@@ -11,8 +11,7 @@ pub fn nothing_is_lost()
     ensures { (w : Window) (n : ℕ) → n ≤ left w → next n w ++ rest (past n w) ≡ rest w }
 {}
 
-/// Where no reply is `Memory`, the replies are a function of the windows and the commands, however the octets
-/// are kept.
+/// If no reply is `Memory`, the replies are a function of the windows and the commands, however the octets are stored.
 pub fn one_run()
     ensures { (asks others : Bool) (windows : List Window) (commands : List ParserCommand) (x y : List WindowReply)
         → WindowRun asks windows commands x → WindowRun others windows commands y

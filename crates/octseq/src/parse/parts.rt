@@ -1,4 +1,4 @@
-//! Parts: octets behind their length.
+//! Parts: a length followed by its octets.
 ghost use Rattle.std.specs.Prelude.{◌≡◌, IfOk};
 ghost use Rattle.octseq.specs.Parser.{window, sequence};
 ghost use Rattle.octseq.specs.Part.{part, TakesPart};
@@ -6,13 +6,13 @@ ghost use Rattle.octseq.specs.Part.{part, TakesPart};
 use super::{Parser, ShortInput};
 use octseq_core::builder::AsOctets;
 
-/// Each call takes a length, and a parser of that many octets behind it. It reads the same sequence, so its
-/// position and its end are counted from there.
+/// Each call takes a length, and returns a parser of that many octets after it. It reads the same sequence, so its
+/// position and its end are counted from the start of that sequence.
 ///
 /// # Errors
 ///
-/// `ShortInput` where fewer octets are left than the length has, or fewer behind it than it says. The parser
-/// is then as it was.
+/// `ShortInput` if fewer octets are left than the length has, or fewer after it than it says. The parser is then
+/// unchanged.
 impl<R: AsOctets + Copy> Parser<R> {
     /// The next part, whose length is one octet.
     pub fn parse_part_u8(&mut self) -> Result<Self, ShortInput>

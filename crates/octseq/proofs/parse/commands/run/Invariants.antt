@@ -1,4 +1,4 @@
--- The replies so far go on to a run of all commands, and there is room for what is left.
+-- The replies so far continue to a run of all commands, and there is room for the rest.
 use Rattle.std.proofs.Common.{◌≡◌, ◌+◌, ◌≤◌, [], ◌∷◌, length, map, vec_len, vec_capacity}
 use Rattle.octseq.proofs.Runs.{RunsOn}
 use Rattle.octseq.specs.Parser.{window}
