@@ -65,7 +65,7 @@ pub append_memory_of : (T : Type 0) (e : AppendError) → write_error_of (refusa
 append_memory_of T (AppendError.Short e) told = absurd (cc)
 append_memory_of T AppendError.Memory told = tt
 
--- ---- passed on as it is
+-- ---- passed on unchanged
 
 -- a call returns the refusal that another call returned to it
 pub same_refusal : {S T E : Type 0} (here : Result S E) (given : Result T E) (passed refusal wanted : E)

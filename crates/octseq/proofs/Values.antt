@@ -7,7 +7,7 @@ use Rattle.std.specs.Int.{w8, w16, w32, w64, w128, from_be_bytes, from_le_bytes,
 use Rattle.octseq.specs.Integer.{sum_of_first, be, le, signed}
 use Rattle.octseq.proofs.Written.{be_cons, le_snoc}
 
--- what an octet counts in std
+-- the value of an octet in std, by its place
 worth : (i b : ℕ) → byte_worth i b ≡ b * 256 ^ i
 worth zero b = omega arith
 worth (suc i) b = refl

@@ -52,7 +52,7 @@ le_nil : le [] ≡ 0
 unfolding le
 le_nil = refl
 
--- the first of big-endian octets counts 256 to the power of the number of octets after it
+-- the first of big-endian octets has the weight 256 to the power of the number of octets after it
 pub be_cons : (x : ℕ) (xs : List ℕ) → be (x ∷ xs) ≡ x * 256 ^ length xs + be xs
 unfolding be
 be_cons x xs =
@@ -72,7 +72,7 @@ le_cons x xs =
     sum_first n (λ i. slice_index (x ∷ xs) i * 256 ^ i)
     ∙ (let tail = scaled n (λ i. slice_index xs i) in omega (arith, tail))
 
--- the last of little-endian octets counts 256 to the power of the number of octets before it
+-- the last of little-endian octets has the weight 256 to the power of the number of octets before it
 pub le_snoc : (xs : List ℕ) (x : ℕ) → le (xs ++ x ∷ []) ≡ le xs + x * 256 ^ length xs
 le_snoc [] x = let last = le_cons x [] in omega (arith, last, le_nil)
 le_snoc (a ∷ xs) x =

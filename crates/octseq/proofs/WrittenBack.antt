@@ -28,7 +28,7 @@ small_be (x ∷ xs) (small, each) =
     let cons : be (x ∷ xs) ≡ x * 256 ^ n + be xs = be_cons x xs in
     omega (arith, more, power, cons)
 
--- what counts 256 ^ k or more doesn't appear in k octets
+-- a multiple of 256 ^ k doesn't change the k octets
 low_octets : (k a n : ℕ) → octets_be k (a * 256 ^ k + n) ≡ octets_be k n
 unfolding octets_be
 low_octets zero a n = refl

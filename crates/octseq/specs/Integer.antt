@@ -7,11 +7,11 @@ abbrev pub sum_of_first : ℕ → (ℕ → ℕ) → ℕ
 sum_of_first zero term = 0
 sum_of_first (suc n) term = sum_of_first n term + term n
 
--- big-endian: each octet counts 256 to the power of the number of octets after it
+-- big-endian: each octet has the weight 256 to the power of the number of octets after it
 unfoldable pub be : List ℕ → ℕ
 be octets = sum_of_first (length octets) (λ i. slice_index octets i * 256 ^ (length octets - 1 - i))
 
--- little-endian: each octet counts 256 to the power of the number of octets before it
+-- little-endian: each octet has the weight 256 to the power of the number of octets before it
 unfoldable pub le : List ℕ → ℕ
 le octets = sum_of_first (length octets) (λ i. slice_index octets i * 256 ^ i)
 
@@ -19,7 +19,7 @@ le octets = sum_of_first (length octets) (λ i. slice_index octets i * 256 ^ i)
 unfoldable pub signed : ℕ → ℕ → ℤ
 signed k n = if nat_le (256 ^ k) (2 * n) then (pos n -ℤ pos (256 ^ k)) else pos n
 
--- the k octets of n, big-endian: the octet that counts 256 ^ i is n / 256 ^ i, without what counts more
+-- the k octets of n, big-endian: the octet of weight 256 ^ i is n / 256 ^ i % 256
 unfoldable pub octets_be : ℕ → ℕ → List ℕ
 octets_be zero n = []
 octets_be (suc k) n = n / 256 ^ k % 256 ∷ octets_be k n

@@ -7,7 +7,7 @@ pub use Rattle.octseq_core.specs.Refusal.{Refusal, Is, IsRefused, IsShort, IsMem
 pub use Rattle.octseq_core.specs.Refusal.{IsTooLong, IsMalformed, append_error}
 pub use Rattle.octseq_text.specs.Display.{display_error}
 
--- fewer octets were left than `parse_octets` was to take, or a request for memory was refused
+-- fewer octets were left than `parse_octets` takes, or a request for memory was refused
 abbrev pub parse_octets_error : ParseOctetsError → Refusal
 parse_octets_error (ParseOctetsError.Short e) = Refusal.short
 parse_octets_error ParseOctetsError.Memory = Refusal.memory

@@ -109,7 +109,7 @@ impl<T: Drop> From<AllocFailed<T>> for ReadError {
 /// Why a value was not written.
 #[derive(Clone, Copy, Debug, PartialEq, Eq)]
 pub enum WriteError {
-    /// It doesn't have the form of the format.
+    /// It doesn't fit the format.
     Malformed,
     /// The content would exceed the limit of its type.
     Short,

@@ -331,7 +331,7 @@ impl<R: AsOctets> Parser<R> {
         Ok(range)
     }
 
-    /// Fills the buffer with the next octets, and takes them.
+    /// Fills the buffer with the next octets, and moves past them.
     ///
     /// # Errors
     ///

@@ -4,7 +4,7 @@ use Rattle.std.specs.Prelude.{◌≡◌, ℕ, List, ◌++◌, length, take}
 use Rattle.std.proofs.Common.{subst}
 use Rattle.std.proofs.Math.Seq.{take-append_seam}
 
--- the first n octets, if these are n, whatever is after them
+-- n octets are the first n of themselves followed by others
 pub taken_whole : (octets behind : List ℕ) (n : ℕ) → length octets ≡ n → take n (octets ++ behind) ≡ octets
 taken_whole octets behind n same =
     let Front : ℕ → Type 0 = λ m. take m (octets ++ behind) ≡ octets in

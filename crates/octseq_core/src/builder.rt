@@ -71,11 +71,11 @@ pub trait AsOctetsMut: AsOctets {
         ensures* writes_back { sem 𝓛 (lends_octets Self.row with_content self.entry result) }
         ensures value { result.now ≡ Self.content self.old };
 
-    // The content is then what was written,
+    // The content is then what was written.
     ghost written: { (x : Self) (octets : List ℕ) → length octets ≡ length (Self.content x)
         → Self.content (with_content x octets) ≡ octets };
 
-    // and the borrows that the value holds stay the same.
+    // The borrows that the value holds stay the same.
     ghost kept: { (x : Self) (octets : List ℕ) → Self.borrows (with_content x octets) ≡ Self.borrows x };
 }
 
@@ -159,8 +159,7 @@ pub trait EmptyBuilder: OctetsBuilder + OctetsLimit {
         ensures ok { IfOk result (λ builder. Self.content builder ≡ []) }
         ensures memory { OnErr result (Self.asks ≡ true) };
 
-    /// An empty builder with room for about `capacity` octets. A type that requests no memory ignores
-    /// the capacity.
+    /// An empty builder with room for about `capacity` octets. A type that requests no memory ignores the capacity.
     ///
     /// # Errors
     ///

@@ -14,7 +14,7 @@ use std::ops::{self, Range, RangeBounds};
 mod conversions;
 mod ranges;
 
-/// Octets that are stored inline up to 24, enough for many names and addresses.
+/// Octets that are stored inline if they are at most 24, enough for many names and addresses.
 pub type SmallOctets = SmallVec<u8, 24>;
 
 /// One end of a range of octets: a place, included or excluded, or the start or the end of the octets.

@@ -33,7 +33,7 @@ number_of _ = 0
 abbrev pub IsCharacter : ℕ → Type 0
 IsCharacter c = IsInRange 0 0xD7FF c ⊎ IsInRange 0xE000 0x10_FFFF c
 
--- The encoding of a character, whose number is that character.
+-- The encoding of a character: the one whose number is the character.
 unfoldable pub encoding_of : ℕ → List ℕ
 encoding_of c = if nat_lt c 0x80 then c ∷ []
     else (if nat_lt c 0x800 then (0xC0 + c / 0x40) ∷ (0x80 + c % 0x40) ∷ []

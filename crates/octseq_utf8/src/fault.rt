@@ -27,7 +27,7 @@ impl Model for Utf8Fault {
 }
 
 impl Utf8Fault {
-    /// A fault of this many octets, or `None` if the octets end within a character.
+    /// A fault after `valid_up_to` octets, with its size, or `None` if the octets end within a character.
     pub(crate) fn new(valid_up_to: usize, error_len: Option<usize>) -> Self
         ensures { result ≡ record { place = valid_up_to; size = error_len } }
     {

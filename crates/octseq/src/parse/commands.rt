@@ -67,7 +67,7 @@ pub enum ParserCall {
     AdvanceToEnd,
     /// Make a parser with the same window.
     Duplicate,
-    /// Copy this many next octets.
+    /// Copy this many octets, without moving past them.
     Peek(usize),
     /// Move to this position.
     Seek(usize),

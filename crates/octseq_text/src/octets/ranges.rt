@@ -1,4 +1,4 @@
-//! The references of which ranges are cut.
+//! The references from which ranges are cut.
 ghost use Rattle.std.specs.Prelude.{◌≡◌, length};
 ghost use Rattle.octseq_text.specs.Range.{RangeExists, range_of};
 

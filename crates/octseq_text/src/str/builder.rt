@@ -85,7 +85,7 @@ impl<Octets: AsOctets> StrBuilder<Octets> {
     ///
     /// # Errors
     ///
-    /// Octets that aren't well formed are handed back in the error, with their first fault.
+    /// Octets that aren't well formed are returned in the error, with their first fault.
     ///
     /// # Examples
     ///

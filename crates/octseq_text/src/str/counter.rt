@@ -3,7 +3,8 @@ ghost use Rattle.std.specs.Prelude.{◌≡◌, ◌+◌, length};
 
 use std::fmt;
 
-/// A writer that counts octets and keeps none. `write!(counter, "{value}")` counts the octets of a value's `{}`.
+/// A writer that counts octets and keeps none. `write!(counter, "{value}")` counts the octets that `{}` prints for a
+/// value.
 ///
 /// # Examples
 ///

@@ -15,7 +15,7 @@ use octseq_core::builder::{AppendError, OctetsBuilder, Truncate};
 /// The size of the array in octets.
 pub(super) const STAGE: usize = 512;
 
-/// Appends octets. If they are one to three, as of one character, the size of the copy is known at compile time.
+/// Appends octets. If they are one to three, the size of the copy is known at compile time.
 #[inline(always)]
 pub(super) fn append_short<B: OctetsBuilder>(
     builder: &mut B,
