@@ -37,12 +37,12 @@ signed_code k z v x y fits also e =
     let both = integer_code k (unsigned k z) (unsigned k v) x y here.0 there.0 e in
     (sym here.1 ∙ ap (signed k) both.0 ∙ there.1, both.1)
 
--- the length of a part is the k octets of its length and its own octets
+-- the length of a part is k plus the number of its own octets
 pub length_part : (k : ℕ) (octets : List ℕ) → length (part_of k octets) ≡ k + length octets
 length_part k octets =
     length-append (octets_be k (length octets)) octets ∙ ap (λ n. n + length octets) (length_be k (length octets))
 
--- a part is a code of the octets whose length fits in k octets
+-- parts are a code of the octets whose length fits in k octets
 pub part_code : (k : ℕ) → IsCode (λ octets. length octets < 256 ^ k) (part_of k)
 part_code k a b x y fits also e =
     let apart : octets_be k (length a) ++ (a ++ x) ≡ octets_be k (length b) ++ (b ++ y) =

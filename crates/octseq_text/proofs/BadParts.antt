@@ -10,7 +10,7 @@ use Rattle.octseq_utf8.proofs.Fits.{Fits, fits_more, fits_less, fits_fewer, get_
 use Rattle.octseq_utf8.proofs.Fitting.{fitting_fits, fitting_within, fitting_wide, fits_fitting}
 use Rattle.octseq_utf8.proofs.Splitting.{bad_of, bad_only, bad_some, fitting_beginning, parts_bad, parts_nil}
 
--- the front of p ++ t that is as long as the first part, if no encoding begins there
+-- p is the bad part of p ++ t if no encoding begins there and p is as long as the first part
 bad_at : (p t : List ℕ) → 1 ≤ length p → (width (p ++ t) ≡ 0) ⊎ (fitting (p ++ t) < width (p ++ t))
     → part_len (p ++ t) ≡ length p → IsBadPart (p ++ t) p
 bad_at p t some h n =
@@ -42,7 +42,7 @@ module _ (p s r : List ℕ) (b : IsBadPart (p ++ s) p) (settled : ¬ (IsBeginnin
   lead : width (p ++ (s ++ r)) ≡ width (p ++ s)
   lead = ap width_of (get_left p (s ++ r) 0 some ∙ sym (get_left p s 0 some))
 
-  -- the octets of the whole that fit are all of p and no more
+  -- of the whole, no octet after p fits
   no_longer : IsBeginning p → fitting (p ++ s) ≤ length p → 1 ≤ width (p ++ (s ++ r))
       → (fitting (p ++ (s ++ r)) ≤ length p) ⊎ (length p < fitting (p ++ (s ++ r))) → fitting (p ++ (s ++ r)) ≤ length p
   no_longer g here wide (inl h) = h

@@ -31,7 +31,7 @@ pub turns_within : (x rest : List ℕ) (old new : ℕ) → new + length (parts_o
     → new ≤ old + length x
 turns_within x rest old new counted = let few = parts_few (splits x) in omega arith
 
--- and with parts left, there are fewer still
+-- if turns and the parts that are left are within a number, so are the turns
 pub turns_left : (new rest all : ℕ) → new + rest ≤ all → new ≤ all
 turns_left new rest all h = omega arith
 
