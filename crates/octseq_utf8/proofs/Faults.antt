@@ -9,7 +9,7 @@ use Rattle.std.proofs.Math.Seq.{take-append-add, take-append_seam, drop-append_s
 use Rattle.std.specs.List.{All}
 use Rattle.octseq_utf8.specs.Encoding.{IsEncoding, row_00_7F, number_of}
 use Rattle.octseq_utf8.specs.Fault.{Fault, IsFaultSize, IsFault, fault_end}
-use Rattle.octseq_utf8.specs.Front.{StandsInFront}
+use Rattle.octseq_utf8.specs.Front.{IsAtFront}
 use Rattle.octseq_utf8.specs.Parts.{IsBadPart, Part, Char, Bad as BadPart}
 use Rattle.octseq_utf8.specs.Reading.{parts_of}
 use Rattle.octseq_utf8.specs.Search.{IsAt, IsFaultAt}
@@ -46,12 +46,12 @@ pub rest_of : (x : List ℕ) (place : ℕ) → take (length x - place) (drop pla
 rest_of x place = take_all (length x - place) (drop place x) (omega (arith, length-drop place x))
 
 -- what is at a place, given what is at the front of a slice from there
-pub at_place : (x : List ℕ) (place : ℕ) (front : Front) → StandsInFront (take (length x - place) (drop place x)) front
-    → StandsInFront (drop place x) front
-at_place x place front h = subst (λ y. StandsInFront y front) (rest_of x place) h
+pub at_place : (x : List ℕ) (place : ℕ) (front : Front) → IsAtFront (take (length x - place) (drop place x)) front
+    → IsAtFront (drop place x) front
+at_place x place front h = subst (λ y. IsAtFront y front) (rest_of x place) h
 
 -- an encoding at that place has at least one octet
-pub front_some : (x : List ℕ) (place len : ℕ) → StandsInFront (take (length x - place) (drop place x)) (Encoding len)
+pub front_some : (x : List ℕ) (place len : ℕ) → IsAtFront (take (length x - place) (drop place x)) (Encoding len)
     → 1 ≤ len
 front_some x place len h =
     let y : List ℕ = take (length x - place) (drop place x) in
@@ -60,7 +60,7 @@ front_some x place len h =
     omega (arith, length-take len y)
 
 -- one more encoding
-pub at_more : (x : List ℕ) (place old now len : ℕ) → IsAt x place old now → StandsInFront (drop place x) (Encoding len)
+pub at_more : (x : List ℕ) (place old now len : ℕ) → IsAt x place old now → IsAtFront (drop place x) (Encoding len)
     → IsAt x (place + len) old (now + 1)
 at_more x place old now len at (within, e) =
     let in_x = at.within in
@@ -82,13 +82,13 @@ at_more x place old now len at (within, e) =
 
 -- an encoding at the front of a word of four octets
 pub word_front : (x four : List ℕ) (place len : ℕ) → place + 4 ≤ length x → four ≡ take 4 (drop place x) → len ≤ 4
-    → IsEncoding (take len four) → StandsInFront (drop place x) (Encoding len)
+    → IsEncoding (take len four) → IsAtFront (drop place x) (Encoding len)
 word_front x four place len room same few e =
     (omega (arith, length-drop place x), subst IsEncoding (ap (take len) same ∙ take-take len 4 (drop place x) few) e)
 
 -- an octet below 80
 pub octet_front : (x : List ℕ) (place : ℕ) → place < length x → get_or x place 0 < 0x80
-    → StandsInFront (drop place x) (Encoding 1)
+    → IsAtFront (drop place x) (Encoding 1)
 octet_front x place lt low = (
   omega (arith, length-drop place x),
   subst IsEncoding (sym (ap (take 1) (drop-cons x place 0 lt)))
@@ -142,7 +142,7 @@ at_end x place old now at past =
 
 -- a bad part at the finder's place is the fault there, found in one more turn
 pub fault_at : (x : List ℕ) (place old now : ℕ) (size : Option ℕ) → IsAt x place old now
-    → StandsInFront (drop place x) (Bad size)
+    → IsAtFront (drop place x) (Bad size)
     → IsFaultAt x old (now + 1) (record { place = place; size = size })
 fault_at x place old now size at front =
     let in_x = at.within in

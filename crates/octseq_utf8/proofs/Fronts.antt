@@ -5,7 +5,7 @@ use Rattle.std.proofs.lemmas.List.{take-append-drop, drop_all}
 use Rattle.std.proofs.lemmas.Bool.Decides.{nat_tests}
 use Rattle.std.specs.Int.{IsInRange, is_in_range}
 use Rattle.octseq_utf8.specs.Encoding.{IsEncoding}
-use Rattle.octseq_utf8.specs.Front.{IsBadFront, StandsInFront}
+use Rattle.octseq_utf8.specs.Front.{IsBadFront, IsAtFront}
 use Rattle.octseq_utf8.specs.Parts.{IsBeginning, IsBadPart}
 use Rattle.octseq_utf8.specs.Reading.{width_of, least_second, greatest_second, width, fitting, part_len}
 use Rattle.octseq_utf8.specs.declared.finder.Front.TheVariants.{Encoding, Bad}
@@ -15,14 +15,14 @@ use Rattle.octseq_utf8.proofs.Splitting.{whole_encoding, bad_of, beginning_fitti
 
 -- all of the width fits
 pub front_encoding : (x : List ℕ) → 0 < length x → width x ≢ 0 → fitting x ≡ width x
-    → StandsInFront x (Encoding (width x))
+    → IsAtFront x (Encoding (width x))
 front_encoding x some lead same =
     let within = fitting_within x some in
     let n : part_len x ≡ width x = omega arith in
     (omega arith, subst (λ k. IsEncoding (take k x)) n (whole_encoding x some (omega arith) same))
 
 -- no encoding begins with the first octet
-pub front_lead : (x : List ℕ) → 0 < length x → width x ≡ 0 → StandsInFront x (Bad (Some 1))
+pub front_lead : (x : List ℕ) → 0 < length x → width x ≡ 0 → IsAtFront x (Bad (Some 1))
 front_lead x some none =
     let wide = fitting_wide x in
     let one : part_len x ≡ 1 = omega arith in
@@ -39,7 +39,7 @@ front_lead x some none =
 
 -- the octets end within an encoding
 pub front_cut : (x : List ℕ) → 0 < length x → width x ≢ 0 → fitting x ≢ width x → fitting x ≡ length x
-    → StandsInFront x (Bad None)
+    → IsAtFront x (Bad None)
 front_cut x some lead short whole =
     let wide = fitting_wide x in
     let n : part_len x ≡ length x = omega arith in
@@ -57,7 +57,7 @@ front_cut x some lead short whole =
 
 -- the next octet is one that the encoding can't have there
 pub front_other : (x : List ℕ) → 0 < length x → width x ≢ 0 → fitting x ≢ width x → fitting x ≢ length x
-    → StandsInFront x (Bad (Some (fitting x)))
+    → IsAtFront x (Bad (Some (fitting x)))
 front_other x some lead short more =
     let wide = fitting_wide x in
     let within = fitting_within x some in
@@ -100,7 +100,7 @@ fitting_one x some lead second =
 
 -- and the first octet, 80 or more, is the bad part
 pub front_second : (x : List ℕ) → 1 < length x → 0x80 ≤ get_or x 0 0 → is_in_range 0x80 0xBF (get_or x 1 0) ≡ false
-    → StandsInFront x (Bad (Some 1))
+    → IsAtFront x (Bad (Some 1))
 front_second x more high second =
     ⊎_elim (λ none. front_lead x (omega arith) none) (λ lead. some lead) (zero_or_more (width x))
   where
@@ -108,7 +108,7 @@ front_second x more high second =
     zero_or_more zero = inl refl
     zero_or_more (suc n) = inr (omega arith)
 
-    some : 1 ≤ width x → StandsInFront x (Bad (Some 1))
+    some : 1 ≤ width x → IsAtFront x (Bad (Some 1))
     some lead =
         let one = fitting_one x (omega arith) lead second in
         subst (λ k. IsBadFront x (Some k) k) one
@@ -121,5 +121,5 @@ width_stray a h = grind (arith, nat_tests)
 
 -- an octet of 80 to BF at the front is the bad part
 pub front_stray : (x : List ℕ) → 0 < length x → is_in_range 0x80 0xBF (get_or x 0 0) ≡ true
-    → StandsInFront x (Bad (Some 1))
+    → IsAtFront x (Bad (Some 1))
 front_stray x some stray = front_lead x some (width_stray (get_or x 0 0) stray)

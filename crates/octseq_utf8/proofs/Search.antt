@@ -14,7 +14,7 @@ use Rattle.std.specs.List.{All, concat, AllByRecursion}
 use Rattle.octseq_utf8.specs.Encoding.{IsEncoding, row_00_7F, row_C2_DF, row_E0, row_E1_EC}
 use Rattle.octseq_utf8.specs.Encoding.{row_ED, row_EE_EF, row_F0, row_F1_F3, row_F4, number_of}
 use Rattle.octseq_utf8.specs.Fault.{Fault, IsFault}
-use Rattle.octseq_utf8.specs.Front.{StandsInFront}
+use Rattle.octseq_utf8.specs.Front.{IsAtFront}
 use Rattle.octseq_utf8.specs.Search.{high_count, IsSearching, FewTurns, IsFound}
 use Rattle.octseq_utf8.specs.Text.{Spells, IsWellFormed, chars}
 use Rattle.octseq_utf8.specs.declared.finder.Front.TheVariants.{Encoding, Bad}
@@ -190,7 +190,7 @@ search_octet x place old now s room low high =
 
 -- an encoding of at least two octets
 pub search_encoding : (x : List ℕ) (place old now len : ℕ) → IsSearching x place old now → place < length x → 2 ≤ len
-    → StandsInFront (drop place x) (Encoding len) → IsSearching x (place + len) old (now + 1)
+    → IsAtFront (drop place x) (Encoding len) → IsSearching x (place + len) old (now + 1)
 search_encoding x place old now len s room wide (within, e) =
     let before = s.most in
     let high = high_add x place len (omega arith) in
@@ -219,7 +219,7 @@ search_two_twos x word place old now s room same first second =
     subst (λ k. IsSearching x k old (now + 1 + 1)) (let e : place + 2 + 2 ≡ place + 4 = omega arith in e) two
 
 -- an encoding whose first octet is 80 or more has at least two octets
-pub front_wide : (x : List ℕ) (place len : ℕ) → 0x80 ≤ get_or x place 0 → StandsInFront (drop place x) (Encoding len)
+pub front_wide : (x : List ℕ) (place len : ℕ) → 0x80 ≤ get_or x place 0 → IsAtFront (drop place x) (Encoding len)
     → 2 ≤ len
 front_wide x place len first (within, e) =
     let z : List ℕ = take len (drop place x) in
@@ -234,7 +234,7 @@ high_cut x place = ap high_count (sym (take-append-drop place x)) ∙ high-appen
 
 -- a fault at a place with sixteen octets left
 pub search_fault : (x : List ℕ) (place old now : ℕ) (size : Option ℕ) → IsSearching x place old now
-    → place + 4 ≤ length x → StandsInFront (drop place x) (Bad size)
+    → place + 4 ≤ length x → IsAtFront (drop place x) (Bad size)
     → IsFound x old (now + 1) (record { place = place; size = size })
 search_fault x place old now size s room front =
     let before = s.most in

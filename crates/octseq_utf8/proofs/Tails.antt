@@ -7,7 +7,7 @@ use Rattle.std.proofs.lemmas.List.{drop-drop, take-take, length-map}
 use Rattle.std.specs.List.{All}
 use Rattle.octseq_utf8.specs.Encoding.{IsEncoding, number_of}
 use Rattle.octseq_utf8.specs.Fault.{Fault, IsFault, fault_end, fault_from}
-use Rattle.octseq_utf8.specs.Front.{StandsInFront}
+use Rattle.octseq_utf8.specs.Front.{IsAtFront}
 use Rattle.octseq_utf8.specs.Search.{IsAt, IsAfter, IsSearching, IsFaultAt, FewTurns}
 use Rattle.octseq_utf8.specs.Text.{IsWellFormed, chars}
 use Rattle.octseq_utf8.specs.declared.finder.Front.TheVariants.{Encoding, Bad}
@@ -29,7 +29,7 @@ behind_start x from t = record {
 
 -- an encoding at the place of a search is passed in one turn
 pub behind_more : (x : List ℕ) (from place old now len : ℕ) → IsAfter x from place old now
-    → StandsInFront (drop place x) (Encoding len) → IsAfter x from (place + len) old (now + 1)
+    → IsAtFront (drop place x) (Encoding len) → IsAfter x from (place + len) old (now + 1)
 behind_more x from place old now len b front =
     let past = b.past in
     record {
@@ -37,7 +37,7 @@ behind_more x from place old now len b front =
       at = subst (λ k. IsAt (drop from x) k old (now + 1))
           (let e : place - from + len ≡ place + len - from = omega arith in e)
           (at_more (drop from x) (place - from) old now len b.at
-          (subst (λ y. StandsInFront y (Encoding len)) (sym (drop_further x from place past)) front));
+          (subst (λ y. IsAtFront y (Encoding len)) (sym (drop_further x from place past)) front));
     }
 
 -- a search that reaches the end has passed well-formed octets, with at most one turn for each character
@@ -48,11 +48,11 @@ behind_end x from place old now b past =
 
 -- a bad part at the place of a search is the fault of the octets that it searches, found in one more turn
 pub behind_fault : (x : List ℕ) (from place old now : ℕ) (size : Option ℕ) → IsAfter x from place old now
-    → StandsInFront (drop place x) (Bad size)
+    → IsAtFront (drop place x) (Bad size)
     → IsFaultAt (drop from x) old (now + 1) (fault_from from (record { place = place; size = size }))
 behind_fault x from place old now size b front =
     fault_at (drop from x) (place - from) old now size b.at
-    (subst (λ y. StandsInFront y (Bad size)) (sym (drop_further x from place b.past)) front)
+    (subst (λ y. IsAtFront y (Bad size)) (sym (drop_further x from place b.past)) front)
 
 -- octets that are all below 80 are well formed, one character each
 pub low_well_formed : (y : List ℕ) → All (λ o. o < 0x80) y → IsWellFormed y × (length (chars y) ≡ length y)
@@ -124,13 +124,13 @@ ascii_turns x place old mid now s last more low =
 
 -- an encoding at the front of a word that has zeros after the octets includes none of the zeros
 pub last_front : (x four : List ℕ) (place len : ℕ) → place < length x → four ≡ take 4 (drop place x ++ 0 ∷ 0 ∷ 0 ∷ [])
-    → 2 ≤ len → len ≤ 3 → IsEncoding (take len four) → StandsInFront (drop place x) (Encoding len)
+    → 2 ≤ len → len ≤ 3 → IsEncoding (take len four) → IsAtFront (drop place x) (Encoding len)
 last_front x four place len room same some few e =
     in_front (drop place x) len (omega (arith, length-drop place x)) some few
     (subst IsEncoding (ap (take len) same ∙ take-take len 4 (drop place x ++ 0 ∷ 0 ∷ 0 ∷ []) (omega arith)) e)
   where
     in_front : (y : List ℕ) (len : ℕ) → 1 ≤ length y → 2 ≤ len → len ≤ 3
-        → IsEncoding (take len (y ++ 0 ∷ 0 ∷ 0 ∷ [])) → StandsInFront y (Encoding len)
+        → IsEncoding (take len (y ++ 0 ∷ 0 ∷ 0 ∷ [])) → IsAtFront y (Encoding len)
     in_front [] len room some few e = absurd (omega arith)
     in_front (a ∷ []) (suc (suc zero)) room some few e = let last = (wide_of e (omega arith)).last in absurd (omega arith)
     in_front (a ∷ []) (suc (suc (suc zero))) room some few e =

@@ -14,6 +14,6 @@ pub record IsBadFront (octets : List ℕ) (told : Option ℕ) (len : ℕ) : Type
   pub size : IsFaultSize (take len octets) (drop len octets) told
 
 -- an encoding, or the bad part by its size as a fault
-abbrev pub StandsInFront : List ℕ → Front → Type 0
-StandsInFront octets (Encoding len) = (len ≤ length octets) × IsEncoding (take len octets)
-StandsInFront octets (Bad size) = IsBadFront octets size (unwrap_or size (length octets))
+abbrev pub IsAtFront : List ℕ → Front → Type 0
+IsAtFront octets (Encoding len) = (len ≤ length octets) × IsEncoding (take len octets)
+IsAtFront octets (Bad size) = IsBadFront octets size (unwrap_or size (length octets))

@@ -25,7 +25,7 @@ ghost use Rattle.std.specs.Prelude.{drop, slice_index, count_by, nat_le, IsNone,
 ghost use Rattle.std.specs.Int.{is_in_range};
 ghost use Rattle.std.specs.List.{All};
 ghost use Rattle.octseq_utf8.specs.Fault.{IsFault, fault_end, fault_from};
-ghost use Rattle.octseq_utf8.specs.Front.{StandsInFront};
+ghost use Rattle.octseq_utf8.specs.Front.{IsAtFront};
 ghost use Rattle.octseq_utf8.specs.Reading.{width_of, least_second, greatest_second, fitting};
 ghost use Rattle.octseq_utf8.specs.Search.{IsSearching, IsFound, IsAfter, IsFaultAt};
 ghost use Rattle.octseq_utf8.specs.Text.{IsWellFormed, chars};
@@ -51,7 +51,7 @@ fn width(first: u8) -> usize
 
 /// Whether an octet can be the second one of an encoding that begins with `first`.
 #[tactic(auto, unfolding(crate::specs::Reading::least_second, crate::specs::Reading::greatest_second))]
-fn may_stand_second(first: u8, second: u8) -> bool
+fn can_be_second(first: u8, second: u8) -> bool
     ensures { result ≡ is_in_range (least_second first) (greatest_second first) second }
 {
     match first {
@@ -80,7 +80,7 @@ fn fitting_len(octets: &[u8], width: usize) -> usize
     if width < 2 {
         return width;
     }
-    if octets.len() < 2 || !may_stand_second(octets[0], octets[1]) {
+    if octets.len() < 2 || !can_be_second(octets[0], octets[1]) {
         return 1;
     }
     if width < 3 || octets.len() < 3 || !is_continuation(octets[2]) {
@@ -107,7 +107,7 @@ enum Front {
 #[inline(always)]
 fn part_at_front(octets: &[u8]) -> Front
     requires { 0 < length octets.now }
-    ensures { StandsInFront octets.now result }
+    ensures { IsAtFront octets.now result }
 {
     if octets[0] >= 0x80 && octets.len() > 1 && !is_continuation(octets[1]) {
         return Front::Bad(Some(1));
@@ -270,7 +270,7 @@ fn pass_words(octets: &[u8], from: usize, turns: &mut Turns) -> Result<usize, Ut
 #[inline(always)]
 fn last_part(octets: &[u8], at: usize) -> Front
     requires { (at < length octets.now) × (length octets.now < at + 4) }
-    ensures { StandsInFront (drop at octets.now) result }
+    ensures { IsAtFront (drop at octets.now) result }
 {
     if octets[at] < 0x80 {
         return Front::Encoding(1);

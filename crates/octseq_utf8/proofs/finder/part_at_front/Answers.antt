@@ -1,5 +1,5 @@
 use Rattle.std.proofs.Common.{◌∙◌, sym, subst, arith, Some}
-use Rattle.octseq_utf8.specs.Front.{IsBadFront, StandsInFront}
+use Rattle.octseq_utf8.specs.Front.{IsBadFront, IsAtFront}
 use Rattle.octseq_utf8.specs.declared.finder.Front.TheVariants.{Encoding}
 use Rattle.octseq_utf8.proofs.Fronts.{front_encoding, front_lead, front_cut, front_other, front_second}
 use Rattle.octseq_utf8.proofs.finder.part_at_front.Goals as goal
@@ -13,7 +13,7 @@ returns-then-width-eq0 c = front_lead c.args.octets.now c.requires (sym c.width-
 
 pub returns-then-fitting-width : goal.returns-then-fitting-width
 returns-then-fitting-width c =
-    subst (λ k. StandsInFront c.args.octets.now (Encoding k)) (sym c.width-width.ensures)
+    subst (λ k. IsAtFront c.args.octets.now (Encoding k)) (sym c.width-width.ensures)
     (front_encoding c.args.octets.now c.requires (λ h. c.if-width-eq0.false (c.width-width.ensures ∙ h))
     (sym c.fitting_len-fitting.ensures ∙ c.if-fitting-width.true ∙ c.width-width.ensures))
 
