@@ -20,6 +20,7 @@ pub use Rattle.octseq_text.specs.Chunk
 pub use Rattle.octseq_text.specs.Display
 pub use Rattle.octseq_text.specs.Encoding
 pub use Rattle.octseq_text.specs.Fault
+pub use Rattle.octseq_text.specs.FaultSearch
 pub use Rattle.octseq_text.specs.Lossy
 pub use Rattle.octseq_text.specs.Parts
 pub use Rattle.octseq_text.specs.Pieces

@@ -5,6 +5,7 @@ pub mod Counting
 pub mod Counts
 pub mod Edges
 pub mod Ends
+pub mod FaultSearching
 pub mod LossyReadings
 pub mod OneTextRun
 pub mod Order

@@ -1,4 +1,5 @@
 pub mod Display
+pub mod FaultSearch
 pub mod Lossy
 pub mod Pieces
 pub mod Progress

@@ -1,5 +1,5 @@
 -- Where octets stop being well formed.
-use Rattle.std.specs.Prelude.{◌≡◌, ℕ, ◌+◌, ◌-◌, ◌⊎◌, List, [], ◌++◌, length}
+use Rattle.std.specs.Prelude.{◌≡◌, ℕ, ◌+◌, ◌-◌, ◌^◌, ◌⊎◌, min, List, [], ◌++◌, length}
 use Rattle.std.specs.Prelude.{codes, Option, Some, None, unwrap_or, Bool, nat_eq}
 use Rattle.std.specs.Option.{option_eq}
 use Rattle.std.specs.Fmt.{decimal}
@@ -36,6 +36,14 @@ fault_end octets fault = fault.place + unwrap_or fault.size (length octets - fau
 -- The fault as seen in the octets from a place on.
 abbrev pub fault_from : ℕ → Fault → Fault
 fault_from from fault = record { place = fault.place - from; size = fault.size }
+
+-- A number as 64 bits tell it: one past the greatest is told as that.
+abbrev pub saturated : ℕ → ℕ
+saturated n = min n (2 ^ 64 - 1)
+
+-- The fault where n octets more come before, its place told in 64 bits.
+abbrev pub fault_after : ℕ → Fault → Fault
+fault_after n fault = record { place = saturated (n + fault.place); size = fault.size }
 
 -- What a fault prints.
 abbrev pub text_of_size : ℕ → Option ℕ → List ℕ

@@ -1,6 +1,6 @@
 //! Where octets stop being well formed.
 ghost use Rattle.std.specs.Prelude.{◌≡◌, ◌≤◌, length, take, drop};
-ghost use Rattle.octseq_utf8.specs.Fault.{fault_end};
+ghost use Rattle.octseq_utf8.specs.Fault.{fault_end, fault_after};
 
 use std::error::Error;
 use std::fmt;
@@ -49,6 +49,16 @@ impl Utf8Fault {
         ensures { result ≡ self.now.size }
     {
         self.error_len
+    }
+
+    /// The fault as it is where so many octets come before the others. A place past the greatest is told as that.
+    pub fn offset(&self, octets: usize) -> Self
+        ensures { result ≡ fault_after octets self.now }
+    {
+        Utf8Fault {
+            valid_up_to: octets.saturating_add(self.valid_up_to),
+            error_len: self.error_len,
+        }
     }
 }
 

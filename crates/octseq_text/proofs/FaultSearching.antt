@@ -1,0 +1,344 @@
+-- The search for the first fault in pieces: what is found of a piece, and what that tells of all octets.
+use Rattle.std.specs.Prelude.{IfSome, IfNone, is_some, ◌==◌}
+use Rattle.std.proofs.Common.{◌≡◌, ◌≢◌, ℕ, ◌+◌, ◌-◌, ◌^◌, ◌<◌, ◌≤◌, List, [], ◌∷◌, ◌++◌, length, take, drop, refl}
+use Rattle.std.proofs.Common.{◌⊎◌, arith, inl, inr, ap, sym, ◌∙◌, subst, append_assoc, length-append, length-take}
+use Rattle.std.proofs.Common.{Bool, true, false, Option, Some, None}
+use Rattle.std.proofs.Math.Seq.{take-append-add, take-append_seam}
+use Rattle.std.proofs.lemmas.List.{append-nil, take-append-drop, take-take}
+use Rattle.std.specs.List.{concat, AllByRecursion}
+use Rattle.octseq_utf8.specs.Encoding.{IsEncoding, number_of}
+use Rattle.octseq_utf8.specs.Fault.{Fault, IsFault, IsFaultSize, saturated, fault_after}
+use Rattle.octseq_utf8.specs.Parts.{IsBeginning}
+use Rattle.octseq_utf8.specs.Reading.{width_of, width}
+use Rattle.octseq_utf8.specs.Text.{IsWellFormed, chars}
+use Rattle.octseq_utf8.proofs.AtFault.{end_bounds, onward_is}
+use Rattle.octseq_utf8.proofs.Beginnings.{beginning_fits, beginning_short}
+use Rattle.octseq_utf8.proofs.Faults.{fault_refutes, rest_of}
+use Rattle.octseq_utf8.proofs.Fits.{get_left}
+use Rattle.octseq_utf8.proofs.Search.{spelled_few}
+use Rattle.octseq_utf8.proofs.Spelling.{chars_of, spells_nothing, spells_one}
+use Rattle.octseq_utf8.proofs.Splitting.{encoding_fitting}
+use Rattle.octseq_utf8.proofs.Texts.{well_formed-append}
+use Rattle.octseq_text.specs.FaultSearch.{TellsBehind, SettlesBehind, PassesBehind, Searched, HasSearched}
+use Rattle.octseq_text.specs.Progress.{IsOpenEnd}
+use Rattle.octseq_text.proofs.BadParts.{bad_more}
+use Rattle.octseq_text.proofs.Counting.{turns_few}
+use Rattle.octseq_text.proofs.Piecewise.{beginning_few, some_of}
+
+-- a fault of a size stays
+
+nil_front : (x y : List ℕ) → x ++ y ≡ [] → x ≡ []
+nil_front [] y h = refl
+nil_front (a ∷ x) y h = absurd (cc)
+
+of_a_size : (bad after : List ℕ) (size : Option ℕ) → size ≢ None → IsFaultSize bad after size
+    → (size ≡ Some (length bad)) × ¬ (IsBeginning bad × (after ≡ []))
+of_a_size bad after size n (inl h) = absurd (n h.0)
+of_a_size bad after size n (inr h) = h
+
+fault_stays : {x : List ℕ} {fault : Fault} → IsFault x fault → fault.size ≢ None → (more : List ℕ)
+    → IsFault (x ++ more) fault
+fault_stays {fault = fault} f n more =
+    let sized = of_a_size f.bad f.after fault.size n f.size in
+    record {
+      before = f.before;
+      bad = f.bad;
+      after = f.after ++ more;
+      whole = ap (λ y. y ++ more) f.whole ∙ append_assoc f.before (f.bad ++ f.after) more
+          ∙ ap (λ y. f.before ++ y) (append_assoc f.bad f.after more);
+      good = f.good;
+      first = bad_more f.bad f.after more f.first sized.1;
+      place = f.place;
+      size = inr (sized.0, λ k. sized.1 (k.0, nil_front f.after more k.1));
+    }
+
+-- a fault of a size is told, whatever follows
+pub settled_here : (n : ℕ) {x : List ℕ} {fault told : Fault} → IsFault x fault → fault.size ≢ None
+    → told ≡ fault_after n fault → SettlesBehind n x told
+settled_here n {fault = fault} f some e = λ more. record { fault = fault; is_fault = fault_stays f some more; same = e }
+
+-- a fault of none leaves a beginning
+
+cut_off : (bad after : List ℕ) (size : Option ℕ) → size ≡ None → IsFaultSize bad after size
+    → IsBeginning (bad ++ after)
+cut_off bad after size n (inl h) = subst IsBeginning (sym (ap (λ y. bad ++ y) h.2 ∙ append-nil bad)) h.1
+cut_off bad after size n (inr h) = let some = h.0 in absurd (cc)
+
+pub left_open : (x : List ℕ) (fault : Fault) → IsFault x fault → fault.size ≡ None → IsBeginning (drop fault.place x)
+left_open x fault f n = subst IsBeginning (sym (onward_is x fault f)) (cut_off f.bad f.after fault.size n f.size)
+
+-- an open end has three octets at most
+pub open_few : (x : List ℕ) (fault : Fault) → IsFault x fault → fault.size ≡ None → (n : ℕ)
+    → length (take n (drop fault.place x)) ≤ 3
+open_few x fault f none n =
+    omega (arith, length-take n (drop fault.place x), beginning_few (drop fault.place x) (left_open x fault f none))
+
+-- turns
+
+-- of well-formed octets there are no more characters than octets
+pub turns_to_end : (x : List ℕ) (old new : ℕ) → IsWellFormed x → new ≤ old + length (chars x) → new ≤ old + length x
+turns_to_end x old new (cs, s) h = omega (arith, spelled_few s, ap length (chars_of s))
+
+pub turns_to_fault : (x : List ℕ) (old new : ℕ) (fault : Fault) → IsFault x fault
+    → new ≤ old + length (chars (take fault.place x)) + 1 → new ≤ old + length x
+turns_to_fault x old new fault f h = let few = turns_few x fault f in omega (arith, few.0, few.1)
+
+-- behind well-formed octets
+
+behind_good : (good : List ℕ) {x : List ℕ} {fault : Fault} → IsWellFormed good → IsFault x fault
+    → IsFault (good ++ x) (record { place = length good + fault.place; size = fault.size })
+behind_good good {fault = fault} w f = record {
+  before = good ++ f.before;
+  bad = f.bad;
+  after = f.after;
+  whole = ap (λ y. good ++ y) f.whole ∙ sym (append_assoc good f.before (f.bad ++ f.after));
+  good = well_formed-append good f.before w f.good;
+  first = f.first;
+  place = let here = f.place in omega (arith, length-append good f.before);
+  size = f.size;
+}
+
+saturated_on : (n g p : ℕ) → saturated (saturated (n + g) + p) ≡ saturated (n + (g + p))
+saturated_on n g p = omega arith
+
+-- n octets come before well-formed ones, and m before what is behind those
+module _ (n m : ℕ) (good : List ℕ) (w : IsWellFormed good) (passed : m ≡ saturated (n + length good)) where
+  saturated_behind : (p : ℕ) → saturated (m + p) ≡ saturated (n + (length good + p))
+  saturated_behind p = ap (λ k. saturated (k + p)) passed ∙ saturated_on n (length good) p
+
+  pub tells_behind : {x : List ℕ} {told : Fault} → TellsBehind m x told → TellsBehind n (good ++ x) told
+  tells_behind t = record {
+    fault = record { place = length good + t.fault.place; size = t.fault.size };
+    is_fault = behind_good good w t.is_fault;
+    same = t.same ∙ ap (λ k. record { place = k; size = t.fault.size }) (saturated_behind t.fault.place);
+  }
+
+  pub settles_behind : (x : List ℕ) (told : Fault) → SettlesBehind m x told → SettlesBehind n (good ++ x) told
+  settles_behind x told s =
+      λ more. subst (λ y. TellsBehind n y told) (sym (append_assoc good x more)) (tells_behind (s more))
+
+  pub passes_behind : {x : List ℕ} {place : ℕ} {end : List ℕ} → PassesBehind m x place end
+      → PassesBehind n (good ++ x) place end
+  passes_behind {end = end} p = record {
+    good = good ++ p.good;
+    well_formed = well_formed-append good p.good w p.well_formed;
+    whole = ap (λ y. good ++ y) p.whole ∙ sym (append_assoc good p.good end);
+    open_end = p.open_end;
+    passed = p.passed ∙ saturated_behind (length p.good)
+        ∙ ap (λ k. saturated (n + k)) (sym (length-append good p.good));
+  }
+
+-- what is settled of octets is settled of them and others
+pub settles_more : (n : ℕ) (x y : List ℕ) (told : Fault) → SettlesBehind n x told → SettlesBehind n (x ++ y) told
+settles_more n x y told s =
+    λ more. subst (λ z. TellsBehind n z told) (sym (append_assoc x y more)) (s (y ++ more))
+
+-- a beginning, and what is well formed of it and others
+
+-- the first encoding has more octets than the beginning
+longer : (b x good left : List ℕ) → IsBeginning b → b ++ x ≡ good ++ left → (es : List (List ℕ))
+    → AllByRecursion IsEncoding es → concat es ≡ good → 1 ≤ length good → length b < length good
+longer b x good left begins same [] all joined some = absurd (omega (arith, ap length joined))
+longer b x good left begins same (e ∷ es) all joined some =
+    let cut : b ++ x ≡ e ++ (concat es ++ left) = same ∙ ap (λ y. y ++ left) (sym joined)
+    ∙ append_assoc e (concat es) left in
+    let wide : width (b ++ x) ≡ length e = ap width cut ∙ (encoding_fitting all.0 (concat es ++ left)).1 in
+    let lead : width (b ++ x) ≡ width b = ap width_of (get_left b x 0 ((beginning_fits begins).some)) in
+    let short = beginning_short begins in
+    omega (arith, ap length joined, length-append e (concat es))
+
+-- b, and t octets of a piece: where fewer than those are left, the others are passed
+module _ (b piece good left : List ℕ) (t : ℕ) (within : t ≤ length piece) (w : IsWellFormed good)
+    (same : b ++ take t piece ≡ good ++ left) where
+  lengths : length b + t ≡ length good + length left
+  lengths = omega (
+    arith,
+    ap length same,
+    length-append b (take t piece),
+    length-append good left,
+    length-take t piece,
+  )
+
+  pub left_few : IsBeginning b → length left < length b + t → length left ≤ t
+  left_few begins few =
+      let more = longer b (take t piece) good left begins same w.1.encodings w.1.each w.1.joined (omega (arith, lengths)) in
+      omega (arith, lengths)
+
+  pub left_behind : length left ≤ t → b ++ piece ≡ good ++ drop (t - length left) piece
+  left_behind few =
+      let k : ℕ = t - length left in
+      let long : length good ≡ length b + k = omega (arith, lengths) in
+      let front : good ≡ b ++ take k piece =
+      sym (take-append_seam good left) ∙ ap (take (length good)) (sym same)
+      ∙ ap (λ n. take n (b ++ take t piece)) long ∙ take-append-add b (take t piece) k
+      ∙ ap (λ y. b ++ y) (take-take k t piece (omega arith)) in
+      ap (λ y. b ++ y) (sym (take-append-drop k piece)) ∙ sym (append_assoc b (take k piece) (drop k piece))
+      ∙ ap (λ y. y ++ drop k piece) (sym front)
+
+-- an open end has three octets at most
+pub open_end_few : (end : List ℕ) → IsOpenEnd end → length end ≤ 3
+open_end_few [] h = omega arith
+open_end_few (a ∷ end) h = beginning_few (a ∷ end) (h (λ e. let long = ap length e in absurd (omega arith)))
+
+-- one that has an octet is a beginning
+pub begins_by : (end seen : List ℕ) (test : Bool) → IsOpenEnd end → seen ≡ end → test ≡ (length seen == 0)
+    → test ≡ false → IsBeginning end
+begins_by end seen test h e f t =
+    let some = some_of end seen test e f t in
+    h (λ none. let long = ap length none in absurd (omega arith))
+
+-- An open end joined with octets of a piece.
+module _ (b piece joined : List ℕ) (same : joined ≡ b ++ take (4 - length b) piece) where
+  pub joined_settles : (n : ℕ) (told : Fault) → SettlesBehind n joined told → SettlesBehind n (b ++ piece) told
+  joined_settles n told s =
+      let k : ℕ = 4 - length b in
+      let all : joined ++ drop k piece ≡ b ++ piece =
+      ap (λ y. y ++ drop k piece) same ∙ append_assoc b (take k piece) (drop k piece)
+      ∙ ap (λ y. b ++ y) (take-append-drop k piece) in
+      subst (λ y. SettlesBehind n y told) all (settles_more n joined (drop k piece) told s)
+
+  -- where octets of the piece are left, those that make four are taken, and what is open of them is among those
+  module _ (begins : IsBeginning b) (taken : ℕ) (taken_is : taken ≡ length joined - length b)
+      (left_over : ¬ (taken ≡ length piece)) (n place : ℕ) (left seen : List ℕ) (seen_is : seen ≡ left)
+      (p : PassesBehind n joined place left) where
+    long : length joined ≡ length b + length (take (4 - length b) piece)
+    long = ap length same ∙ length-append b (take (4 - length b) piece)
+
+    most_or_more : (a c : ℕ) → (a ≤ c) ⊎ (c < a)
+    most_or_more a c = grind arith
+
+    few_by : (4 - length b ≤ length piece) ⊎ (length piece < 4 - length b) → 4 - length b ≤ length piece
+    few_by (inl h) = h
+    few_by (inr h) = absurd (left_over (omega (arith, long, taken_is, length-take (4 - length b) piece)))
+
+    room : 4 - length b ≤ length piece
+    room = few_by (most_or_more (4 - length b) (length piece))
+
+    four : taken ≡ 4 - length b
+    four = omega (arith, long, room, taken_is, length-take (4 - length b) piece)
+
+    among : length left ≤ 4 - length b
+    among = left_few b piece p.good left (4 - length b) room p.well_formed (sym same ∙ p.whole) begins
+        (omega (arith, open_end_few left p.open_end, beginning_few b begins))
+
+    pub fits : length seen ≤ taken
+    fits = omega (arith, among, four, ap length seen_is)
+
+    abbrev rest : List ℕ
+    rest = let from : ℕ = taken - length seen in take (length piece - from) (drop from piece)
+
+    rest_behind : p.good ++ rest ≡ b ++ piece
+    rest_behind =
+        let from : taken - length seen ≡ 4 - length b - length left = omega (arith, four, ap length seen_is) in
+        ap (λ y. p.good ++ y) (rest_of piece (taken - length seen) ∙ ap (λ k. drop k piece) from)
+        ∙ sym (left_behind b piece p.good left (4 - length b) room p.well_formed (sym same ∙ p.whole) among)
+
+    pub passes_all : (next : ℕ) (end : List ℕ) → PassesBehind place rest next end
+        → PassesBehind n (b ++ piece) next end
+    passes_all next end q =
+        subst (λ y. PassesBehind n y next end) rest_behind (passes_behind n place p.good p.well_formed p.passed q)
+
+    pub settles_all : (told : Fault) → SettlesBehind place rest told → SettlesBehind n (b ++ piece) told
+    settles_all told s =
+        subst (λ y. SettlesBehind n y told) rest_behind
+        (settles_behind n place p.good p.well_formed p.passed rest told s)
+
+-- what a search tells of all octets
+
+-- a fault that is told is the one, where 64 bits count the octets
+pub told_fault : (x : List ℕ) (told : Fault) → TellsBehind 0 x told → length x < 2 ^ 64 → IsFault x told
+told_fault x told t h =
+    let bounds = end_bounds x t.fault t.is_fault in
+    let place : saturated (0 + t.fault.place) ≡ t.fault.place = omega (arith, bounds.0, bounds.1) in
+    subst (IsFault x) (sym (t.same ∙ ap (λ k. record { place = k; size = t.fault.size }) place)) t.is_fault
+
+-- and octets that have one aren't well formed
+pub told_refutes : {x : List ℕ} {told : Fault} → TellsBehind 0 x told → ¬ IsWellFormed x
+told_refutes t = fault_refutes t.is_fault
+
+completed : (good end : List ℕ) → IsWellFormed good → IsOpenEnd end → (more : List ℕ) × IsWellFormed ((good ++ end) ++ more)
+completed good [] w h =
+    ([], subst IsWellFormed (sym (append-nil (good ++ []) ∙ append-nil good)) w)
+completed good (a ∷ end) w h =
+    let b : IsBeginning (a ∷ end) = h (λ e. let long = ap length e in absurd (omega arith)) in (
+      b.more,
+      subst IsWellFormed (sym (append_assoc good (a ∷ end) b.more))
+          (well_formed-append good ((a ∷ end) ++ b.more) w (number_of ((a ∷ end) ++ b.more) ∷ [], spells_one b.encoding)),
+    )
+
+-- an open end may become a character
+pub completes : (x end : List ℕ) (place : ℕ) (fault : Option Fault) → IfNone fault (PassesBehind 0 x place end)
+    → IfNone fault ((more : List ℕ) × IsWellFormed (x ++ more))
+completes x end place None p =
+    let all = completed p.good end p.well_formed p.open_end in
+    (all.0, subst (λ y. IsWellFormed (y ++ all.0)) (sym p.whole) all.1)
+completes x end place (Some fault) p = tt
+
+-- a test for a fault that finds none
+pub no_fault : (fault : Option Fault) (test : Bool) → test ≡ is_some fault → test ≡ false → fault ≡ None
+no_fault None test e f = refl
+no_fault (Some fault) test e f = absurd (let some : true ≡ false = sym e ∙ f in cc)
+
+-- no octet is passed before the first
+pub searched_nothing : (held : Searched) → held.passed ≡ 0 → held.end ≡ [] → held.fault ≡ None → HasSearched held []
+searched_nothing held p e n = record {
+  met = subst (λ o. IfSome o (SettlesBehind 0 [])) (sym n) tt;
+  passed = subst (λ o. IfNone o (PassesBehind 0 [] held.passed held.end)) (sym n)
+      (record {
+        good = [];
+        well_formed = ([], spells_nothing);
+        whole = sym e;
+        open_end = λ some. absurd (some e);
+        passed = p;
+      });
+}
+
+-- A search that met no fault.
+module _ (held : Searched) (x : List ℕ) (s : HasSearched held x) (none : held.fault ≡ None) where
+  passed_all : PassesBehind 0 x held.passed held.end
+  passed_all = subst (λ o. IfNone o (PassesBehind 0 x held.passed held.end)) none s.passed
+
+  cut : (y : List ℕ) → passed_all.good ++ (held.end ++ y) ≡ x ++ y
+  cut y = sym (ap (λ z. z ++ y) passed_all.whole ∙ append_assoc passed_all.good held.end y)
+
+  cut_end : passed_all.good ++ held.end ≡ x
+  cut_end = sym passed_all.whole
+
+  pub searched_more : (piece end : List ℕ) (next : ℕ) (fault : Option Fault) → fault ≡ None
+      → PassesBehind held.passed (held.end ++ piece) next end
+      → HasSearched (record { passed = next; end = end; fault = fault }) (x ++ piece)
+  searched_more piece end next fault e p = record {
+    met = subst (λ o. IfSome o (SettlesBehind 0 (x ++ piece))) (sym e) tt;
+    passed = subst (λ o. IfNone o (PassesBehind 0 (x ++ piece) next end)) (sym e)
+        (subst (λ y. PassesBehind 0 y next end) (cut piece)
+        (passes_behind 0 held.passed passed_all.good passed_all.well_formed passed_all.passed p));
+  }
+
+  pub searched_to_fault : (piece end : List ℕ) (next : ℕ) (told : Fault)
+      → SettlesBehind held.passed (held.end ++ piece) told
+      → HasSearched (record { passed = next; end = end; fault = Some told }) (x ++ piece)
+  searched_to_fault piece end next told t = record {
+    met = subst (λ y. SettlesBehind 0 y told) (cut piece)
+        (settles_behind 0 held.passed passed_all.good passed_all.well_formed passed_all.passed (held.end ++ piece) told
+        t);
+    passed = tt;
+  }
+
+  -- all is well formed where the open end is
+  pub all_well_formed : IsWellFormed held.end → IsWellFormed x
+  all_well_formed w =
+      subst IsWellFormed cut_end (well_formed-append passed_all.good held.end passed_all.well_formed w)
+
+  -- and its fault is that of the open end
+  pub end_told : {fault told : Fault} → IsFault held.end fault → told ≡ fault_after held.passed fault
+      → TellsBehind 0 x told
+  end_told {fault} {told} f e =
+      subst (λ y. TellsBehind 0 y told) cut_end
+      (tells_behind 0 held.passed passed_all.good passed_all.well_formed passed_all.passed
+      (record { fault = fault; is_fault = f; same = e }))
+
+-- a fault that was met is told
+pub met_told : (held : Searched) (x : List ℕ) (told : Fault) → HasSearched held x → held.fault ≡ Some told
+    → TellsBehind 0 x told
+met_told held x told s e =
+    subst (λ y. TellsBehind 0 y told) (append-nil x) (subst (λ o. IfSome o (SettlesBehind 0 x)) e s.met [])

@@ -1,0 +1,202 @@
+//! The search for the first fault of octets that come in pieces.
+ghost use Rattle.std.specs.Prelude.{◌≡◌, ℕ, ◌+◌, ◌*◌, ◌-◌, ◌^◌, ◌<◌, ◌≤◌, ◌↔◌, List, [], ◌++◌, length, take};
+ghost use Rattle.std.specs.Prelude.{IfOk, IfErr, OnOk, IsSome, IsNone, IfSome, IfNone};
+ghost use Rattle.octseq_utf8.specs.Fault.{IsFault};
+ghost use Rattle.octseq_utf8.specs.Text.{IsWellFormed};
+ghost use Rattle.octseq_text.specs.FaultSearch.{TellsFault, HasSearched, PassesBehind, SettlesBehind};
+ghost use Rattle.octseq_text.specs.Progress.{IsOpenEnd};
+
+use octseq_core::array::Array;
+use octseq_core::builder::{OctetsBuilder, infallible};
+use octseq_utf8::{Turns, Utf8Fault, find_fault, first_fault};
+use std::marker::Model;
+use std::mem::replace;
+
+/// A search for the first fault of octets that come in pieces. However they are cut, it is that of
+/// [`find_fault`](crate::utf8::find_fault).
+///
+/// It holds at most three octets, of a character that isn't whole yet. Once a fault was met that no further octets can
+/// change, it looks at no more of them.
+///
+/// More octets may come than a `usize` counts. A place past the greatest is told as that.
+///
+/// Contracts see how many octets were passed, the open end behind them, and the fault.
+#[derive(Drop)]
+pub struct FaultPieces {
+    passed: usize,
+    end: Array<3>,
+    fault: Option<Utf8Fault>,
+}
+
+impl Model for FaultPieces {
+    ghost use Rattle.octseq_text.specs.FaultSearch.{Searched, IsSearch};
+
+    ghost Value = { Searched };
+
+    ghost view = { λ pieces. record { passed = pieces.passed; end = pieces.end.content; fault = pieces.fault } };
+
+    ghost invariant = { λ pieces. IsSearch
+        (record { passed = pieces.passed; end = pieces.end.content; fault = pieces.fault }) };
+}
+
+impl FaultPieces {
+    /// A search of no octets yet.
+    pub fn new() -> Self
+        ensures { HasSearched result [] }
+    {
+        FaultPieces {
+            passed: 0,
+            end: Array::new(),
+            fault: None,
+        }
+    }
+
+    /// Searches the next piece.
+    pub fn feed(&mut self, piece: &[u8])
+        ensures { (octets : List ℕ) → HasSearched self.old octets → HasSearched self.new (octets ++ piece.now) }
+    {
+        self.feed_counted(piece, &mut Turns::new());
+    }
+
+    /// As [`FaultPieces::feed`], and counts the turns of the search: at most one for each octet of the piece, and four
+    /// more where a character that isn't whole yet is looked at again.
+    pub fn feed_counted(&mut self, piece: &[u8], turns: &mut Turns)
+        ensures searched { (octets : List ℕ)
+            → HasSearched self.old octets → HasSearched self.new (octets ++ piece.now) }
+
+        // No more turns than octets and four, and a turn for every sixteen octets that were passed; none behind a
+        // fault.
+        ensures turns { turns.new ≤ turns.old + length piece.now + 4 }
+        ensures passed { IfNone self.new.fault (length piece.now + 16 * turns.old ≤ 16 * turns.new) }
+        ensures turns_kept { turns.old ≤ turns.new }
+        ensures nothing { IsSome self.old.fault → turns.new ≡ turns.old }
+    {
+        if self.fault.is_some() {
+            return;
+        }
+        let end = replace(&mut self.end, Array::new());
+        match read(self.passed, &end, piece, turns) {
+            Ok(reached) => {
+                self.passed = reached.passed;
+                self.end = reached.end;
+            }
+            Err(fault) => self.fault = Some(fault),
+        }
+    }
+
+    /// The fault that no further octets can change, if one was met.
+    pub fn fault(&self) -> Option<Utf8Fault>
+        ensures fault { result ≡ self.now.fault }
+
+        // It is that of the octets, whatever follows.
+        ensures settled { (octets more : List ℕ) → HasSearched self.now octets
+            → IfSome result (TellsFault (octets ++ more)) }
+        ensures same { (octets more : List ℕ) → HasSearched self.now octets
+            → IfSome result (λ fault. length (octets ++ more) < 2 ^ 64 → IsFault (octets ++ more) fault) }
+
+        // Where there is none, octets may follow with which all are well formed.
+        ensures none { (octets : List ℕ) → HasSearched self.now octets
+            → IfNone result ((more : List ℕ) × IsWellFormed (octets ++ more)) }
+    {
+        self.fault
+    }
+
+    /// The first fault of all octets, or none where they are well-formed UTF-8.
+    pub fn finish(self) -> Option<Utf8Fault>
+        ensures none { (octets : List ℕ) → HasSearched self octets → IsNone result ↔ IsWellFormed octets }
+        ensures fault { (octets : List ℕ) → HasSearched self octets
+            → IfSome result (λ fault. length octets < 2 ^ 64 → IsFault octets fault) }
+
+        // A place past the greatest is told as that.
+        ensures told { (octets : List ℕ) → HasSearched self octets → IfSome result (TellsFault octets) }
+    {
+        if let Some(fault) = self.fault {
+            return Some(fault);
+        }
+        match find_fault(self.end.as_slice()) {
+            None => None,
+            Some(fault) => Some(fault.offset(self.passed)),
+        }
+    }
+}
+
+/// How far a search has come: how many octets were passed, and the open end behind them.
+#[derive(Drop)]
+struct Reached {
+    passed: usize,
+    end: Array<3>,
+}
+
+/// Searches the piece behind the open end, where so many octets were passed before that.
+fn read(
+    passed: usize,
+    end: &Array<3>,
+    piece: &[u8],
+    turns: &mut Turns,
+) -> Result<Reached, Utf8Fault>
+    requires { IsOpenEnd end.now.content }
+    ensures passed { IfOk result (λ reached.
+        PassesBehind passed (end.now.content ++ piece.now) reached.passed reached.end.content) }
+    ensures fault { IfErr result (SettlesBehind passed (end.now.content ++ piece.now)) }
+    ensures turns { turns.new ≤ turns.old + length piece.now + 4 }
+    ensures turns_passed { OnOk result (length piece.now + 16 * turns.old ≤ 16 * turns.new) }
+    ensures kept { turns.old ≤ turns.new }
+{
+    if end.as_slice().is_empty() {
+        return search(passed, piece, turns);
+    }
+    let joined = join(end, piece);
+    let reached = search(passed, joined.as_slice(), turns)?;
+    let taken = joined.as_slice().len() - end.as_slice().len();
+    if taken == piece.len() {
+        return Ok(reached);
+    }
+    let rest = &piece[taken - reached.end.as_slice().len()..];
+    search(reached.passed, rest, turns)
+}
+
+/// The open end, and as many octets of the piece as make four with it.
+fn join(end: &Array<3>, piece: &[u8]) -> Array<4>
+    ensures { result.content ≡ end.now.content ++ take (4 - length end.now.content) piece.now }
+{
+    let begun = end.as_slice();
+    let taken = piece.len().min(4 - begun.len());
+    let mut joined = Array::new();
+    infallible(joined.append_slice(begun));
+    infallible(joined.append_slice(&piece[..taken]));
+    joined
+}
+
+/// Searches octets, where so many were passed before.
+fn search(passed: usize, octets: &[u8], turns: &mut Turns) -> Result<Reached, Utf8Fault>
+    ensures passed { IfOk result (λ reached.
+        PassesBehind passed octets.now reached.passed reached.end.content) }
+    ensures fault { IfErr result (SettlesBehind passed octets.now) }
+    ensures turns { turns.new ≤ turns.old + length octets.now }
+    ensures turns_passed { OnOk result (length octets.now + 16 * turns.old ≤ 16 * turns.new) }
+    ensures kept { turns.old ≤ turns.new }
+{
+    match first_fault(octets, turns) {
+        None => Ok(Reached {
+            passed: passed.saturating_add(octets.len()),
+            end: Array::new(),
+        }),
+        Some(fault) => {
+            if fault.error_len().is_some() {
+                return Err(fault.offset(passed));
+            }
+            Ok(Reached {
+                passed: passed.saturating_add(fault.valid_up_to()),
+                end: open_end(&octets[fault.valid_up_to()..]),
+            })
+        }
+    }
+}
+
+/// The octets as an open end.
+fn open_end(octets: &[u8]) -> Array<3>
+    requires { length octets.now ≤ 3 }
+    ensures { result.content ≡ octets.now }
+{
+    infallible(Array::try_from(octets))
+}
