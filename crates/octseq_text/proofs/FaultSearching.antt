@@ -1,17 +1,17 @@
 -- The search for the first fault in pieces: what is found of a piece, and what that tells of all octets.
 use Rattle.std.specs.Prelude.{IfSome, IfNone, is_some, ◌==◌}
-use Rattle.std.proofs.Common.{◌≡◌, ◌≢◌, ℕ, ◌+◌, ◌-◌, ◌^◌, ◌<◌, ◌≤◌, List, [], ◌∷◌, ◌++◌, length, take, drop, refl}
-use Rattle.std.proofs.Common.{◌⊎◌, arith, inl, inr, ap, sym, ◌∙◌, subst, append_assoc, length-append, length-take}
+use Rattle.std.proofs.Common.{◌≡◌, ◌≢◌, ℕ, ◌+◌, ◌-◌, ◌^◌, ◌<◌, ◌≤◌, List, [], ◌∷◌, ◌++◌, map, length, take, drop, refl}
+use Rattle.std.proofs.Common.{◌⊎◌, arith, inl, inr, ap, sym, ◌∙◌, subst, append_assoc, length-append, length-take, length-drop}
 use Rattle.std.proofs.Common.{Bool, true, false, Option, Some, None}
 use Rattle.std.proofs.Math.Seq.{take-append-add, take-append_seam}
-use Rattle.std.proofs.lemmas.List.{append-nil, take-append-drop, take-take}
+use Rattle.std.proofs.lemmas.List.{append-nil, take-append-drop, take-take, length-map}
 use Rattle.std.specs.List.{concat, AllByRecursion}
 use Rattle.octseq_utf8.specs.Encoding.{IsEncoding, number_of}
 use Rattle.octseq_utf8.specs.Fault.{Fault, IsFault, IsFaultSize, saturated, fault_after}
 use Rattle.octseq_utf8.specs.Parts.{IsBeginning}
 use Rattle.octseq_utf8.specs.Reading.{width_of, width}
-use Rattle.octseq_utf8.specs.Text.{IsWellFormed, chars}
-use Rattle.octseq_utf8.proofs.AtFault.{end_bounds, onward_is}
+use Rattle.octseq_utf8.specs.Text.{Spells, IsWellFormed, chars}
+use Rattle.octseq_utf8.proofs.AtFault.{end_bounds, front_is, onward_is}
 use Rattle.octseq_utf8.proofs.Beginnings.{beginning_fits, beginning_short}
 use Rattle.octseq_utf8.proofs.Faults.{fault_refutes, rest_of}
 use Rattle.octseq_utf8.proofs.Fits.{get_left}
@@ -135,17 +135,63 @@ settles_more n x y told s =
 
 -- a beginning, and what is well formed of it and others
 
--- the first encoding has more octets than the beginning
+-- there are fewer encodings than octets behind the beginning
 longer : (b x good left : List ℕ) → IsBeginning b → b ++ x ≡ good ++ left → (es : List (List ℕ))
-    → AllByRecursion IsEncoding es → concat es ≡ good → 1 ≤ length good → length b < length good
-longer b x good left begins same [] all joined some = absurd (omega (arith, ap length joined))
+    → AllByRecursion IsEncoding es → concat es ≡ good → 1 ≤ length es → length b + length es ≤ length good
+longer b x good left begins same [] all joined some = absurd (omega arith)
 longer b x good left begins same (e ∷ es) all joined some =
     let cut : b ++ x ≡ e ++ (concat es ++ left) = same ∙ ap (λ y. y ++ left) (sym joined)
     ∙ append_assoc e (concat es) left in
     let wide : width (b ++ x) ≡ length e = ap width cut ∙ (encoding_fitting all.0 (concat es ++ left)).1 in
     let lead : width (b ++ x) ≡ width b = ap width_of (get_left b x 0 ((beginning_fits begins).some)) in
     let short = beginning_short begins in
-    omega (arith, ap length joined, length-append e (concat es))
+    let others : Spells (concat es) (map number_of es) =
+    record { encodings = es; each = all.1; joined = refl; numbers = refl } in
+    omega (arith, ap length joined, length-append e (concat es), spelled_few others, length-map es number_of)
+
+-- The turns of octets that begin with a beginning.
+module _ (x begun more : List ℕ) (begins : IsBeginning begun) (same : x ≡ begun ++ more) where
+  abbrev IsFew : ℕ → ℕ → List ℕ → Type 0
+  IsFew old new left = (new ≤ old + length more + 1)
+      × (length left ≤ length more → new + length left ≤ old + length more + 1)
+
+  few_encodings : (good left : List ℕ) → x ≡ good ++ left → (es : List (List ℕ)) → AllByRecursion IsEncoding es
+      → concat es ≡ good → (old new : ℕ) → new ≤ old + length es + 1 → IsFew old new left
+  few_encodings good left cut [] all joined old new turns =
+      let some = (beginning_fits begins).some in
+      let long : length begun + length more ≡ length left =
+      omega (arith, ap length same, ap length cut, ap length joined, length-append begun more, length-append good left) in
+      (omega arith, λ h. absurd (omega (arith, long)))
+  few_encodings good left cut (e ∷ es) all joined old new turns =
+      let most = longer begun more good left begins (sym same ∙ cut) (e ∷ es) all joined (omega arith) in
+      let long : length begun + length more ≡ length good + length left =
+      omega (arith, ap length same, ap length cut, length-append begun more, length-append good left) in
+      (omega (arith, most, long), λ h. omega (arith, most, long))
+
+  few_turns : (good left : List ℕ) → x ≡ good ++ left → IsWellFormed good → (old new : ℕ)
+      → new ≤ old + length (chars good) + 1 → IsFew old new left
+  few_turns good left cut (cs, s) old new turns =
+      few_encodings good left cut s.encodings s.each s.joined old new
+      (omega (arith, ap length (chars_of s), ap length s.numbers, length-map s.encodings number_of))
+
+  pub few_to_end : (left : List ℕ) → left ≡ [] → IsWellFormed x → (old new : ℕ) → new ≤ old + length (chars x)
+      → (new ≤ old + length more + 1) × (length left ≤ length more → new + length left ≤ old + length more + 1)
+  few_to_end left none w old new turns =
+      few_turns x left (sym (ap (λ y. x ++ y) none ∙ append-nil x)) w old new (omega arith)
+
+  pub few_to_fault : (fault : Fault) → IsFault x fault → (place : ℕ) → place ≡ fault.place → (left : List ℕ)
+      → left ≡ take (length x - place) (drop place x) → (old new : ℕ)
+      → new ≤ old + length (chars (take fault.place x)) + 1
+      → (new ≤ old + length more + 1) × (length left ≤ length more → new + length left ≤ old + length more + 1)
+  few_to_fault fault f place here left e old new turns =
+      let behind : left ≡ drop fault.place x = e ∙ rest_of x place ∙ ap (λ k. drop k x) here in
+      few_turns (take fault.place x) left
+      (sym (ap (λ y. take fault.place x ++ y) behind ∙ take-append-drop fault.place x))
+      (subst IsWellFormed (sym (front_is x fault f)) f.good) old new turns
+
+encodings_some : (x : List ℕ) (es : List (List ℕ)) → concat es ≡ x → 1 ≤ length x → 1 ≤ length es
+encodings_some x [] e some = absurd (omega (arith, ap length e))
+encodings_some x (c ∷ es) e some = omega arith
 
 -- b, and t octets of a piece: where fewer than those are left, the others are passed
 module _ (b piece good left : List ℕ) (t : ℕ) (within : t ≤ length piece) (w : IsWellFormed good)
@@ -161,7 +207,9 @@ module _ (b piece good left : List ℕ) (t : ℕ) (within : t ≤ length piece) 
 
   pub left_few : IsBeginning b → length left < length b + t → length left ≤ t
   left_few begins few =
-      let more = longer b (take t piece) good left begins same w.1.encodings w.1.each w.1.joined (omega (arith, lengths)) in
+      let some : 1 ≤ length good = omega (arith, lengths) in
+      let more = longer b (take t piece) good left begins same w.1.encodings w.1.each w.1.joined
+      (encodings_some good w.1.encodings w.1.joined some) in
       omega (arith, lengths)
 
   pub left_behind : length left ≤ t → b ++ piece ≡ good ++ drop (t - length left) piece
@@ -242,6 +290,28 @@ module _ (b piece joined : List ℕ) (same : joined ≡ b ++ take (4 - length b)
     settles_all told s =
         subst (λ y. SettlesBehind n y told) rest_behind
         (settles_behind n place p.good p.well_formed p.passed rest told s)
+
+    -- what is looked at again takes no more turns than the octets of the piece that are taken
+    pub turns_all : (old mid new : ℕ)
+        → (length left ≤ length (take (4 - length b) piece)
+        → mid + length left ≤ old + length (take (4 - length b) piece) + 1)
+        → new ≤ mid + length rest → new ≤ old + length piece + 1
+    turns_all old mid new first turns =
+        let more : length (take (4 - length b) piece) ≡ 4 - length b =
+        length-take (4 - length b) piece ∙ omega (arith, room) in
+        let before = first (omega (arith, more, among)) in
+        let from : ℕ = taken - length seen in
+        omega (
+          arith,
+          before,
+          more,
+          four,
+          room,
+          among,
+          ap length seen_is,
+          length-take (length piece - from) (drop from piece),
+          length-drop from piece,
+        )
 
 -- what a search tells of all octets
 

@@ -13,6 +13,7 @@ use std::test::Fail;
 
 mod chunks;
 mod conversions;
+mod fault_pieces;
 mod hostile;
 mod pieces;
 mod plain;

@@ -2,6 +2,7 @@
 ghost use Rattle.std.specs.Prelude.{◌≡◌, ℕ, ◌+◌, ◌*◌, ◌-◌, ◌^◌, ◌<◌, ◌≤◌, ◌↔◌, List, [], ◌++◌, length, take};
 ghost use Rattle.std.specs.Prelude.{IfOk, IfErr, OnOk, IsSome, IsNone, IfSome, IfNone};
 ghost use Rattle.octseq_utf8.specs.Fault.{IsFault};
+ghost use Rattle.octseq_utf8.specs.Parts.{IsBeginning};
 ghost use Rattle.octseq_utf8.specs.Text.{IsWellFormed};
 ghost use Rattle.octseq_text.specs.FaultSearch.{TellsFault, HasSearched, PassesBehind, SettlesBehind};
 ghost use Rattle.octseq_text.specs.Progress.{IsOpenEnd};
@@ -58,15 +59,15 @@ impl FaultPieces {
         self.feed_counted(piece, &mut Turns::new());
     }
 
-    /// As [`FaultPieces::feed`], and counts the turns of the search: at most one for each octet of the piece, and four
+    /// As [`FaultPieces::feed`], and counts the turns of the search: at most one for each octet of the piece, and one
     /// more where a character that isn't whole yet is looked at again.
     pub fn feed_counted(&mut self, piece: &[u8], turns: &mut Turns)
         ensures searched { (octets : List ℕ)
             → HasSearched self.old octets → HasSearched self.new (octets ++ piece.now) }
 
-        // No more turns than octets and four, and a turn for every sixteen octets that were passed; none behind a
+        // No more turns than octets and one, and a turn for every sixteen octets that were passed; none behind a
         // fault.
-        ensures turns { turns.new ≤ turns.old + length piece.now + 4 }
+        ensures turns { turns.new ≤ turns.old + length piece.now + 1 }
         ensures passed { IfNone self.new.fault (length piece.now + 16 * turns.old ≤ 16 * turns.new) }
         ensures turns_kept { turns.old ≤ turns.new }
         ensures nothing { IsSome self.old.fault → turns.new ≡ turns.old }
@@ -138,7 +139,7 @@ fn read(
     ensures passed { IfOk result (λ reached.
         PassesBehind passed (end.now.content ++ piece.now) reached.passed reached.end.content) }
     ensures fault { IfErr result (SettlesBehind passed (end.now.content ++ piece.now)) }
-    ensures turns { turns.new ≤ turns.old + length piece.now + 4 }
+    ensures turns { turns.new ≤ turns.old + length piece.now + 1 }
     ensures turns_passed { OnOk result (length piece.now + 16 * turns.old ≤ 16 * turns.new) }
     ensures kept { turns.old ≤ turns.new }
 {
@@ -175,6 +176,13 @@ fn search(passed: usize, octets: &[u8], turns: &mut Turns) -> Result<Reached, Ut
     ensures turns { turns.new ≤ turns.old + length octets.now }
     ensures turns_passed { OnOk result (length octets.now + 16 * turns.old ≤ 16 * turns.new) }
     ensures kept { turns.old ≤ turns.new }
+
+    // A beginning at the front takes no turn more than one.
+    ensures begun { (begun more : List ℕ) → IsBeginning begun → octets.now ≡ begun ++ more
+        → turns.new ≤ turns.old + length more + 1 }
+    ensures left { IfOk result (λ reached. (begun more : List ℕ) → IsBeginning begun → octets.now ≡ begun ++ more
+        → length reached.end.content ≤ length more
+        → turns.new + length reached.end.content ≤ turns.old + length more + 1) }
 {
     match first_fault(octets, turns) {
         None => Ok(Reached {

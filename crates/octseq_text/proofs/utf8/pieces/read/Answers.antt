@@ -1,7 +1,7 @@
-use Rattle.std.proofs.Common.{◌-◌, ◌++◌, length, take, drop, refl}
+use Rattle.std.proofs.Common.{◌-◌, ◌++◌, length, take, drop, refl, ◌∙◌}
 use Rattle.std.proofs.lemmas.Result.{err_from_is_err_and, IfOk-weaker, IfErr-weaker}
 use Rattle.octseq_text.specs.FaultSearch.{PassesBehind, SettlesBehind}
-use Rattle.octseq_text.proofs.FaultSearching.{joined_settles, begins_by, fits, passes_all, settles_all}
+use Rattle.octseq_text.proofs.FaultSearching.{joined_settles, begins_by, fits, passes_all, settles_all, turns_all}
 use Rattle.octseq_text.proofs.utf8.pieces.read.Goals as goal
 
 pub returns-in_err-reached-clause-fault : goal.returns-in_err-reached-clause-fault
@@ -46,3 +46,12 @@ returns-clause-fault c =
     (rw (c.as_slice-3.ensures.content, c.as_slice-4.ensures.content) refl) c.if-taken-piece.false _ _ _ _
     c.as_slice-5.ensures.content (rw c.as_slice-2.ensures.content at c.in_ok-reached.ensures.passed) _ s)
     c.search-3.ensures.fault
+
+pub returns-clause-turns : goal.returns-clause-turns
+returns-clause-turns c =
+    let begins = begins_by _ _ _ c.requires c.as_slice.ensures.content c.is_empty.ensures c.if-is_empty.false in
+    turns_all _ _ _ c.join-joined.ensures begins _
+    (rw (c.as_slice-3.ensures.content, c.as_slice-4.ensures.content) refl) c.if-taken-piece.false _ _ _ _
+    c.as_slice-5.ensures.content (rw c.as_slice-2.ensures.content at c.in_ok-reached.ensures.passed) _ _ _
+    (c.in_ok-reached.ensures.left _ _ begins (c.as_slice-2.ensures.content ∙ c.join-joined.ensures))
+    c.search-3.ensures.turns
