@@ -53,6 +53,19 @@ impl FaultPieces {
     }
 
     /// Searches the next piece.
+    ///
+    /// # Examples
+    ///
+    /// ```
+    /// // crates/octseq_tests/src/tests/text/fault_pieces.rt
+    /// fn fault_of(pieces: &[&[u8]]) -> Option<Utf8Fault> {
+    ///     let mut search = FaultPieces::new();
+    ///     for piece in pieces {
+    ///         search.feed(piece);
+    ///     }
+    ///     search.finish()
+    /// }
+    /// ```
     pub fn feed(&mut self, piece: &[u8])
         ensures { (octets : List ℕ) → HasSearched self.old octets → HasSearched self.new (octets ++ piece.now) }
     {

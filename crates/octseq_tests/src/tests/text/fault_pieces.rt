@@ -8,13 +8,13 @@ fn told(fault: &Utf8Fault) -> (usize, Option<usize>) {
     (fault.valid_up_to(), fault.error_len())
 }
 
-/// What a search finds in pieces.
-fn found(pieces: &[&[u8]]) -> Option<(usize, Option<usize>)> {
+/// The first fault of octets in pieces.
+fn fault_of(pieces: &[&[u8]]) -> Option<Utf8Fault> {
     let mut search = FaultPieces::new();
     for piece in pieces {
         search.feed(piece);
     }
-    search.finish().as_ref().map(told)
+    search.finish()
 }
 
 /// Octets, and where Rust's `from_utf8` says that they stop being UTF-8.
@@ -48,7 +48,8 @@ fn each_cut_has_the_same_fault(rt: HostRuntime) -> Result<(), Fail> {
             let (front, rest) = octets.split_at(place);
             for next in 0..=rest.len() {
                 let (middle, end) = rest.split_at(next);
-                assert_equal!(&rt, found(&[front, middle, end]), wanted);
+                let fault = fault_of(&[front, middle, end]);
+                assert_equal!(&rt, fault.as_ref().map(told), wanted);
             }
         }
     }
