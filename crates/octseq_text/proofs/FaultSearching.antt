@@ -19,7 +19,7 @@ use Rattle.octseq_utf8.proofs.Search.{spelled_few}
 use Rattle.octseq_utf8.proofs.Spelling.{chars_of, spells_nothing, spells_one}
 use Rattle.octseq_utf8.proofs.Splitting.{encoding_fitting}
 use Rattle.octseq_utf8.proofs.Texts.{well_formed-append}
-use Rattle.octseq_text.specs.FaultSearch.{TellsBehind, SettlesBehind, PassesBehind, Searched, HasSearched}
+use Rattle.octseq_text.specs.FaultSearch.{ReportsAfter, SettlesAfter, PassesAfter, Searched, HasSearched}
 use Rattle.octseq_text.specs.Progress.{IsOpenEnd}
 use Rattle.octseq_text.proofs.BadParts.{bad_more}
 use Rattle.octseq_text.proofs.Counting.{turns_few}
@@ -52,9 +52,9 @@ fault_stays {fault = fault} f n more =
       size = inr (sized.0, λ k. sized.1 (k.0, nil_front f.after more k.1));
     }
 
--- a fault of a size is told, whatever follows
+-- a fault with a size is found, whatever follows
 pub settled_here : (n : ℕ) {x : List ℕ} {fault told : Fault} → IsFault x fault → fault.size ≢ None
-    → told ≡ fault_after n fault → SettlesBehind n x told
+    → told ≡ fault_after n fault → SettlesAfter n x told
 settled_here n {fault = fault} f some e = λ more. record { fault = fault; is_fault = fault_stays f some more; same = e }
 
 -- a fault of none leaves a beginning
@@ -83,7 +83,7 @@ pub turns_to_fault : (x : List ℕ) (old new : ℕ) (fault : Fault) → IsFault 
     → new ≤ old + length (chars (take fault.place x)) + 1 → new ≤ old + length x
 turns_to_fault x old new fault f h = let few = turns_few x fault f in omega (arith, few.0, few.1)
 
--- behind well-formed octets
+-- after well-formed octets
 
 behind_good : (good : List ℕ) {x : List ℕ} {fault : Fault} → IsWellFormed good → IsFault x fault
     → IsFault (good ++ x) (record { place = length good + fault.place; size = fault.size })
@@ -101,24 +101,24 @@ behind_good good {fault = fault} w f = record {
 saturated_on : (n g p : ℕ) → saturated (saturated (n + g) + p) ≡ saturated (n + (g + p))
 saturated_on n g p = omega arith
 
--- n octets come before well-formed ones, and m before what is behind those
+-- n octets come before well-formed ones, and m before what is after those
 module _ (n m : ℕ) (good : List ℕ) (w : IsWellFormed good) (passed : m ≡ saturated (n + length good)) where
   saturated_behind : (p : ℕ) → saturated (m + p) ≡ saturated (n + (length good + p))
   saturated_behind p = ap (λ k. saturated (k + p)) passed ∙ saturated_on n (length good) p
 
-  pub tells_behind : {x : List ℕ} {told : Fault} → TellsBehind m x told → TellsBehind n (good ++ x) told
+  pub tells_behind : {x : List ℕ} {told : Fault} → ReportsAfter m x told → ReportsAfter n (good ++ x) told
   tells_behind t = record {
     fault = record { place = length good + t.fault.place; size = t.fault.size };
     is_fault = behind_good good w t.is_fault;
     same = t.same ∙ ap (λ k. record { place = k; size = t.fault.size }) (saturated_behind t.fault.place);
   }
 
-  pub settles_behind : (x : List ℕ) (told : Fault) → SettlesBehind m x told → SettlesBehind n (good ++ x) told
+  pub settles_behind : (x : List ℕ) (told : Fault) → SettlesAfter m x told → SettlesAfter n (good ++ x) told
   settles_behind x told s =
-      λ more. subst (λ y. TellsBehind n y told) (sym (append_assoc good x more)) (tells_behind (s more))
+      λ more. subst (λ y. ReportsAfter n y told) (sym (append_assoc good x more)) (tells_behind (s more))
 
-  pub passes_behind : {x : List ℕ} {place : ℕ} {end : List ℕ} → PassesBehind m x place end
-      → PassesBehind n (good ++ x) place end
+  pub passes_behind : {x : List ℕ} {place : ℕ} {end : List ℕ} → PassesAfter m x place end
+      → PassesAfter n (good ++ x) place end
   passes_behind {end = end} p = record {
     good = good ++ p.good;
     well_formed = well_formed-append good p.good w p.well_formed;
@@ -129,13 +129,13 @@ module _ (n m : ℕ) (good : List ℕ) (w : IsWellFormed good) (passed : m ≡ s
   }
 
 -- what is settled of octets is settled of them and others
-pub settles_more : (n : ℕ) (x y : List ℕ) (told : Fault) → SettlesBehind n x told → SettlesBehind n (x ++ y) told
+pub settles_more : (n : ℕ) (x y : List ℕ) (told : Fault) → SettlesAfter n x told → SettlesAfter n (x ++ y) told
 settles_more n x y told s =
-    λ more. subst (λ z. TellsBehind n z told) (sym (append_assoc x y more)) (s (y ++ more))
+    λ more. subst (λ z. ReportsAfter n z told) (sym (append_assoc x y more)) (s (y ++ more))
 
 -- a beginning, and what is well formed of it and others
 
--- there are fewer encodings than octets behind the beginning
+-- there are fewer encodings than octets after the beginning
 longer : (b x good left : List ℕ) → IsBeginning b → b ++ x ≡ good ++ left → (es : List (List ℕ))
     → AllByRecursion IsEncoding es → concat es ≡ good → 1 ≤ length es → length b + length es ≤ length good
 longer b x good left begins same [] all joined some = absurd (omega arith)
@@ -237,18 +237,18 @@ begins_by end seen test h e f t =
 
 -- An open end joined with octets of a piece.
 module _ (b piece joined : List ℕ) (same : joined ≡ b ++ take (4 - length b) piece) where
-  pub joined_settles : (n : ℕ) (told : Fault) → SettlesBehind n joined told → SettlesBehind n (b ++ piece) told
+  pub joined_settles : (n : ℕ) (told : Fault) → SettlesAfter n joined told → SettlesAfter n (b ++ piece) told
   joined_settles n told s =
       let k : ℕ = 4 - length b in
       let all : joined ++ drop k piece ≡ b ++ piece =
       ap (λ y. y ++ drop k piece) same ∙ append_assoc b (take k piece) (drop k piece)
       ∙ ap (λ y. b ++ y) (take-append-drop k piece) in
-      subst (λ y. SettlesBehind n y told) all (settles_more n joined (drop k piece) told s)
+      subst (λ y. SettlesAfter n y told) all (settles_more n joined (drop k piece) told s)
 
   -- where octets of the piece are left, those that make four are taken, and what is open of them is among those
   module _ (begins : IsBeginning b) (taken : ℕ) (taken_is : taken ≡ length joined - length b)
       (left_over : ¬ (taken ≡ length piece)) (n place : ℕ) (left seen : List ℕ) (seen_is : seen ≡ left)
-      (p : PassesBehind n joined place left) where
+      (p : PassesAfter n joined place left) where
     long : length joined ≡ length b + length (take (4 - length b) piece)
     long = ap length same ∙ length-append b (take (4 - length b) piece)
 
@@ -281,14 +281,14 @@ module _ (b piece joined : List ℕ) (same : joined ≡ b ++ take (4 - length b)
         ap (λ y. p.good ++ y) (rest_of piece (taken - length seen) ∙ ap (λ k. drop k piece) from)
         ∙ sym (left_behind b piece p.good left (4 - length b) room p.well_formed (sym same ∙ p.whole) among)
 
-    pub passes_all : (next : ℕ) (end : List ℕ) → PassesBehind place rest next end
-        → PassesBehind n (b ++ piece) next end
+    pub passes_all : (next : ℕ) (end : List ℕ) → PassesAfter place rest next end
+        → PassesAfter n (b ++ piece) next end
     passes_all next end q =
-        subst (λ y. PassesBehind n y next end) rest_behind (passes_behind n place p.good p.well_formed p.passed q)
+        subst (λ y. PassesAfter n y next end) rest_behind (passes_behind n place p.good p.well_formed p.passed q)
 
-    pub settles_all : (told : Fault) → SettlesBehind place rest told → SettlesBehind n (b ++ piece) told
+    pub settles_all : (told : Fault) → SettlesAfter place rest told → SettlesAfter n (b ++ piece) told
     settles_all told s =
-        subst (λ y. SettlesBehind n y told) rest_behind
+        subst (λ y. SettlesAfter n y told) rest_behind
         (settles_behind n place p.good p.well_formed p.passed rest told s)
 
     -- what is looked at again takes no more turns than the octets of the piece that are taken
@@ -315,15 +315,15 @@ module _ (b piece joined : List ℕ) (same : joined ≡ b ++ take (4 - length b)
 
 -- what a search tells of all octets
 
--- a fault that is told is the one, where 64 bits count the octets
-pub told_fault : (x : List ℕ) (told : Fault) → TellsBehind 0 x told → length x < 2 ^ 64 → IsFault x told
+-- a fault that is reported is the fault, if 64 bits count the octets
+pub told_fault : (x : List ℕ) (told : Fault) → ReportsAfter 0 x told → length x < 2 ^ 64 → IsFault x told
 told_fault x told t h =
     let bounds = end_bounds x t.fault t.is_fault in
     let place : saturated (0 + t.fault.place) ≡ t.fault.place = omega (arith, bounds.0, bounds.1) in
     subst (IsFault x) (sym (t.same ∙ ap (λ k. record { place = k; size = t.fault.size }) place)) t.is_fault
 
 -- and octets that have one aren't well formed
-pub told_refutes : {x : List ℕ} {told : Fault} → TellsBehind 0 x told → ¬ IsWellFormed x
+pub told_refutes : {x : List ℕ} {told : Fault} → ReportsAfter 0 x told → ¬ IsWellFormed x
 told_refutes t = fault_refutes t.is_fault
 
 completed : (good end : List ℕ) → IsWellFormed good → IsOpenEnd end → (more : List ℕ) × IsWellFormed ((good ++ end) ++ more)
@@ -337,7 +337,7 @@ completed good (a ∷ end) w h =
     )
 
 -- an open end may become a character
-pub completes : (x end : List ℕ) (place : ℕ) (fault : Option Fault) → IfNone fault (PassesBehind 0 x place end)
+pub completes : (x end : List ℕ) (place : ℕ) (fault : Option Fault) → IfNone fault (PassesAfter 0 x place end)
     → IfNone fault ((more : List ℕ) × IsWellFormed (x ++ more))
 completes x end place None p =
     let all = completed p.good end p.well_formed p.open_end in
@@ -352,8 +352,8 @@ no_fault (Some fault) test e f = absurd (let some : true ≡ false = sym e ∙ f
 -- no octet is passed before the first
 pub searched_nothing : (held : Searched) → held.passed ≡ 0 → held.end ≡ [] → held.fault ≡ None → HasSearched held []
 searched_nothing held p e n = record {
-  met = subst (λ o. IfSome o (SettlesBehind 0 [])) (sym n) tt;
-  passed = subst (λ o. IfNone o (PassesBehind 0 [] held.passed held.end)) (sym n)
+  met = subst (λ o. IfSome o (SettlesAfter 0 [])) (sym n) tt;
+  passed = subst (λ o. IfNone o (PassesAfter 0 [] held.passed held.end)) (sym n)
       (record {
         good = [];
         well_formed = ([], spells_nothing);
@@ -365,8 +365,8 @@ searched_nothing held p e n = record {
 
 -- A search that met no fault.
 module _ (held : Searched) (x : List ℕ) (s : HasSearched held x) (none : held.fault ≡ None) where
-  passed_all : PassesBehind 0 x held.passed held.end
-  passed_all = subst (λ o. IfNone o (PassesBehind 0 x held.passed held.end)) none s.passed
+  passed_all : PassesAfter 0 x held.passed held.end
+  passed_all = subst (λ o. IfNone o (PassesAfter 0 x held.passed held.end)) none s.passed
 
   cut : (y : List ℕ) → passed_all.good ++ (held.end ++ y) ≡ x ++ y
   cut y = sym (ap (λ z. z ++ y) passed_all.whole ∙ append_assoc passed_all.good held.end y)
@@ -375,20 +375,20 @@ module _ (held : Searched) (x : List ℕ) (s : HasSearched held x) (none : held.
   cut_end = sym passed_all.whole
 
   pub searched_more : (piece end : List ℕ) (next : ℕ) (fault : Option Fault) → fault ≡ None
-      → PassesBehind held.passed (held.end ++ piece) next end
+      → PassesAfter held.passed (held.end ++ piece) next end
       → HasSearched (record { passed = next; end = end; fault = fault }) (x ++ piece)
   searched_more piece end next fault e p = record {
-    met = subst (λ o. IfSome o (SettlesBehind 0 (x ++ piece))) (sym e) tt;
-    passed = subst (λ o. IfNone o (PassesBehind 0 (x ++ piece) next end)) (sym e)
-        (subst (λ y. PassesBehind 0 y next end) (cut piece)
+    met = subst (λ o. IfSome o (SettlesAfter 0 (x ++ piece))) (sym e) tt;
+    passed = subst (λ o. IfNone o (PassesAfter 0 (x ++ piece) next end)) (sym e)
+        (subst (λ y. PassesAfter 0 y next end) (cut piece)
         (passes_behind 0 held.passed passed_all.good passed_all.well_formed passed_all.passed p));
   }
 
   pub searched_to_fault : (piece end : List ℕ) (next : ℕ) (told : Fault)
-      → SettlesBehind held.passed (held.end ++ piece) told
+      → SettlesAfter held.passed (held.end ++ piece) told
       → HasSearched (record { passed = next; end = end; fault = Some told }) (x ++ piece)
   searched_to_fault piece end next told t = record {
-    met = subst (λ y. SettlesBehind 0 y told) (cut piece)
+    met = subst (λ y. SettlesAfter 0 y told) (cut piece)
         (settles_behind 0 held.passed passed_all.good passed_all.well_formed passed_all.passed (held.end ++ piece) told
         t);
     passed = tt;
@@ -401,14 +401,14 @@ module _ (held : Searched) (x : List ℕ) (s : HasSearched held x) (none : held.
 
   -- and its fault is that of the open end
   pub end_told : {fault told : Fault} → IsFault held.end fault → told ≡ fault_after held.passed fault
-      → TellsBehind 0 x told
+      → ReportsAfter 0 x told
   end_told {fault} {told} f e =
-      subst (λ y. TellsBehind 0 y told) cut_end
+      subst (λ y. ReportsAfter 0 y told) cut_end
       (tells_behind 0 held.passed passed_all.good passed_all.well_formed passed_all.passed
       (record { fault = fault; is_fault = f; same = e }))
 
--- a fault that was met is told
+-- a fault that was found is reported
 pub met_told : (held : Searched) (x : List ℕ) (told : Fault) → HasSearched held x → held.fault ≡ Some told
-    → TellsBehind 0 x told
+    → ReportsAfter 0 x told
 met_told held x told s e =
-    subst (λ y. TellsBehind 0 y told) (append-nil x) (subst (λ o. IfSome o (SettlesBehind 0 x)) e s.met [])
+    subst (λ y. ReportsAfter 0 y told) (append-nil x) (subst (λ o. IfSome o (SettlesAfter 0 x)) e s.met [])

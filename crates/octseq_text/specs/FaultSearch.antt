@@ -4,41 +4,41 @@ use Rattle.octseq_utf8.specs.Fault.{Fault, IsFault, saturated, fault_after}
 use Rattle.octseq_utf8.specs.Text.{IsWellFormed}
 use Rattle.octseq_text.specs.Progress.{IsOpenEnd}
 
--- The fault of octets behind n others, as a search of all tells it: its place counts those too, in 64 bits.
-pub record TellsBehind (n : ℕ) (octets : List ℕ) (told : Fault) : Type 0 where
+-- The fault of octets that come after n others, as a search of all reports it: its place counts those n too, in 64 bits.
+pub record ReportsAfter (n : ℕ) (octets : List ℕ) (told : Fault) : Type 0 where
   pub fault : Fault
   pub is_fault : IsFault octets fault
   pub same : told ≡ fault_after n fault
 
 -- And so it stays, whatever octets follow.
-abbrev pub SettlesBehind : ℕ → List ℕ → Fault → Type 0
-SettlesBehind n octets told = (more : List ℕ) → TellsBehind n (octets ++ more) told
+abbrev pub SettlesAfter : ℕ → List ℕ → Fault → Type 0
+SettlesAfter n octets told = (more : List ℕ) → ReportsAfter n (octets ++ more) told
 
--- Octets behind n others are well formed, but for an open end.
-pub record PassesBehind (n : ℕ) (octets : List ℕ) (place : ℕ) (end : List ℕ) : Type 0 where
+-- Octets after n others are well formed, up to an open end.
+pub record PassesAfter (n : ℕ) (octets : List ℕ) (place : ℕ) (end : List ℕ) : Type 0 where
   pub good : List ℕ
   pub well_formed : IsWellFormed good
   pub whole : octets ≡ good ++ end
   pub open_end : IsOpenEnd end
   pub passed : place ≡ saturated (n + length good)
 
--- The fault of octets, its place told in 64 bits.
-abbrev pub TellsFault : List ℕ → Fault → Type 0
-TellsFault octets told = TellsBehind 0 octets told
+-- The fault of octets, with its place in 64 bits.
+abbrev pub ReportsFault : List ℕ → Fault → Type 0
+ReportsFault octets told = ReportsAfter 0 octets told
 
--- What a search in pieces holds: how many octets it passed, the open end behind them, and the fault that it met.
+-- What a search in pieces holds: the number of octets it passed, the open end after them, and the fault it found.
 pub record Searched : Type 0 where
   pub passed : ℕ
   pub end : List ℕ
   pub fault : Option Fault
 
--- It has come to the end of octets: it met the fault that they have whatever follows, or passed them all but for an
--- open end.
+-- It has searched octets to their end: it found the fault that they have whatever follows, or passed all of them up to
+-- an open end.
 pub record HasSearched (held : Searched) (octets : List ℕ) : Type 0 where
-  pub met : IfSome held.fault (SettlesBehind 0 octets)
-  pub passed : IfNone held.fault (PassesBehind 0 octets held.passed held.end)
+  pub met : IfSome held.fault (SettlesAfter 0 octets)
+  pub passed : IfNone held.fault (PassesAfter 0 octets held.passed held.end)
 
--- It has come to the end of some octets.
+-- It has searched some octets to their end.
 pub record IsSearch (held : Searched) : Type 0 where
   pub octets : List ℕ
   pub searched : HasSearched held octets

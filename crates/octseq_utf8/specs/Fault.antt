@@ -37,11 +37,11 @@ fault_end octets fault = fault.place + unwrap_or fault.size (length octets - fau
 abbrev pub fault_from : ℕ → Fault → Fault
 fault_from from fault = record { place = fault.place - from; size = fault.size }
 
--- A number as 64 bits tell it: one past the greatest is told as that.
+-- A number in 64 bits: one past the greatest saturates.
 abbrev pub saturated : ℕ → ℕ
 saturated n = min n (2 ^ 64 - 1)
 
--- The fault where n octets more come before, its place told in 64 bits.
+-- The fault if n more octets come first, with its place in 64 bits.
 abbrev pub fault_after : ℕ → Fault → Fault
 fault_after n fault = record { place = saturated (n + fault.place); size = fault.size }
 

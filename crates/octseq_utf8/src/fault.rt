@@ -51,7 +51,7 @@ impl Utf8Fault {
         self.error_len
     }
 
-    /// The fault as it is where so many octets come before the others. A place past the greatest is told as that.
+    /// The fault if this many octets come before the others. A place past the greatest saturates.
     pub fn offset(&self, octets: usize) -> Self
         ensures { result ≡ fault_after octets self.now }
     {

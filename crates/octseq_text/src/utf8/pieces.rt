@@ -4,7 +4,7 @@ ghost use Rattle.std.specs.Prelude.{IfOk, IfErr, OnOk, IsSome, IsNone, IfSome, I
 ghost use Rattle.octseq_utf8.specs.Fault.{IsFault};
 ghost use Rattle.octseq_utf8.specs.Parts.{IsBeginning};
 ghost use Rattle.octseq_utf8.specs.Text.{IsWellFormed};
-ghost use Rattle.octseq_text.specs.FaultSearch.{TellsFault, HasSearched, PassesBehind, SettlesBehind};
+ghost use Rattle.octseq_text.specs.FaultSearch.{ReportsFault, HasSearched, PassesAfter, SettlesAfter};
 ghost use Rattle.octseq_text.specs.Progress.{IsOpenEnd};
 
 use octseq_core::array::Array;
@@ -16,12 +16,12 @@ use std::mem::replace;
 /// A search for the first fault of octets that come in pieces. However they are cut, it is that of
 /// [`find_fault`](crate::utf8::find_fault).
 ///
-/// It holds at most three octets, of a character that isn't whole yet. Once a fault was met that no further octets can
-/// change, it looks at no more of them.
+/// It holds at most three octets, of a character that isn't complete yet. Once it has found a fault that no further
+/// octets can change, it looks at no more of them.
 ///
-/// More octets may come than a `usize` counts. A place past the greatest is told as that.
+/// More octets may come than a `usize` counts. A place past the greatest `usize` saturates.
 ///
-/// Contracts see how many octets were passed, the open end behind them, and the fault.
+/// Contracts see the number of octets passed, the open end after them, and the fault.
 #[derive(Drop)]
 pub struct FaultPieces {
     passed: usize,
@@ -73,12 +73,12 @@ impl FaultPieces {
     }
 
     /// As [`FaultPieces::feed`], and counts the turns of the search: at most one for each octet of the piece, and one
-    /// more where a character that isn't whole yet is looked at again.
+    /// more if a character that isn't complete yet is looked at again.
     pub fn feed_counted(&mut self, piece: &[u8], turns: &mut Turns)
         ensures searched { (octets : List ℕ)
             → HasSearched self.old octets → HasSearched self.new (octets ++ piece.now) }
 
-        // No more turns than octets and one, and a turn for every sixteen octets that were passed; none behind a
+        // No more turns than octets and one, and a turn for every sixteen octets that were passed; none after a
         // fault.
         ensures turns { turns.new ≤ turns.old + length piece.now + 1 }
         ensures passed { IfNone self.new.fault (length piece.now + 16 * turns.old ≤ 16 * turns.new) }
@@ -98,31 +98,31 @@ impl FaultPieces {
         }
     }
 
-    /// The fault that no further octets can change, if one was met.
+    /// The fault that no further octets can change, if one was found.
     pub fn fault(&self) -> Option<Utf8Fault>
         ensures fault { result ≡ self.now.fault }
 
-        // It is that of the octets, whatever follows.
+        // It is the fault of the octets, whatever follows.
         ensures settled { (octets more : List ℕ) → HasSearched self.now octets
-            → IfSome result (TellsFault (octets ++ more)) }
+            → IfSome result (ReportsFault (octets ++ more)) }
         ensures same { (octets more : List ℕ) → HasSearched self.now octets
             → IfSome result (λ fault. length (octets ++ more) < 2 ^ 64 → IsFault (octets ++ more) fault) }
 
-        // Where there is none, octets may follow with which all are well formed.
+        // If there is none, some octets that follow make all of them well formed.
         ensures none { (octets : List ℕ) → HasSearched self.now octets
             → IfNone result ((more : List ℕ) × IsWellFormed (octets ++ more)) }
     {
         self.fault
     }
 
-    /// The first fault of all octets, or none where they are well-formed UTF-8.
+    /// The first fault of all octets, or `None` if they are well-formed UTF-8.
     pub fn finish(self) -> Option<Utf8Fault>
         ensures none { (octets : List ℕ) → HasSearched self octets → IsNone result ↔ IsWellFormed octets }
         ensures fault { (octets : List ℕ) → HasSearched self octets
             → IfSome result (λ fault. length octets < 2 ^ 64 → IsFault octets fault) }
 
-        // A place past the greatest is told as that.
-        ensures told { (octets : List ℕ) → HasSearched self octets → IfSome result (TellsFault octets) }
+        // A place past the greatest saturates.
+        ensures reported { (octets : List ℕ) → HasSearched self octets → IfSome result (ReportsFault octets) }
     {
         if let Some(fault) = self.fault {
             return Some(fault);
@@ -134,14 +134,14 @@ impl FaultPieces {
     }
 }
 
-/// How far a search has come: how many octets were passed, and the open end behind them.
+/// How far a search has come: the number of octets passed, and the open end after them.
 #[derive(Drop)]
 struct Reached {
     passed: usize,
     end: Array<3>,
 }
 
-/// Searches the piece behind the open end, where so many octets were passed before that.
+/// Searches the open end and the piece after it. `passed` octets came before them.
 fn read(
     passed: usize,
     end: &Array<3>,
@@ -150,8 +150,8 @@ fn read(
 ) -> Result<Reached, Utf8Fault>
     requires { IsOpenEnd end.now.content }
     ensures passed { IfOk result (λ reached.
-        PassesBehind passed (end.now.content ++ piece.now) reached.passed reached.end.content) }
-    ensures fault { IfErr result (SettlesBehind passed (end.now.content ++ piece.now)) }
+        PassesAfter passed (end.now.content ++ piece.now) reached.passed reached.end.content) }
+    ensures fault { IfErr result (SettlesAfter passed (end.now.content ++ piece.now)) }
     ensures turns { turns.new ≤ turns.old + length piece.now + 1 }
     ensures turns_passed { OnOk result (length piece.now + 16 * turns.old ≤ 16 * turns.new) }
     ensures kept { turns.old ≤ turns.new }
@@ -169,7 +169,7 @@ fn read(
     search(reached.passed, rest, turns)
 }
 
-/// The open end, and as many octets of the piece as make four with it.
+/// The open end, followed by octets of the piece, up to four in all.
 fn join(end: &Array<3>, piece: &[u8]) -> Array<4>
     ensures { result.content ≡ end.now.content ++ take (4 - length end.now.content) piece.now }
 {
@@ -181,16 +181,16 @@ fn join(end: &Array<3>, piece: &[u8]) -> Array<4>
     joined
 }
 
-/// Searches octets, where so many were passed before.
+/// Searches octets. `passed` octets came before them.
 fn search(passed: usize, octets: &[u8], turns: &mut Turns) -> Result<Reached, Utf8Fault>
     ensures passed { IfOk result (λ reached.
-        PassesBehind passed octets.now reached.passed reached.end.content) }
-    ensures fault { IfErr result (SettlesBehind passed octets.now) }
+        PassesAfter passed octets.now reached.passed reached.end.content) }
+    ensures fault { IfErr result (SettlesAfter passed octets.now) }
     ensures turns { turns.new ≤ turns.old + length octets.now }
     ensures turns_passed { OnOk result (length octets.now + 16 * turns.old ≤ 16 * turns.new) }
     ensures kept { turns.old ≤ turns.new }
 
-    // A beginning at the front takes no turn more than one.
+    // A beginning at the front takes at most one turn.
     ensures begun { (begun more : List ℕ) → IsBeginning begun → octets.now ≡ begun ++ more
         → turns.new ≤ turns.old + length more + 1 }
     ensures left { IfOk result (λ reached. (begun more : List ℕ) → IsBeginning begun → octets.now ≡ begun ++ more

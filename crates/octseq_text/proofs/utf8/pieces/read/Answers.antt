@@ -1,6 +1,6 @@
 use Rattle.std.proofs.Common.{◌-◌, ◌++◌, length, take, drop, refl, ◌∙◌}
 use Rattle.std.proofs.lemmas.Result.{err_from_is_err_and, IfOk-weaker, IfErr-weaker}
-use Rattle.octseq_text.specs.FaultSearch.{PassesBehind, SettlesBehind}
+use Rattle.octseq_text.specs.FaultSearch.{PassesAfter, SettlesAfter}
 use Rattle.octseq_text.proofs.FaultSearching.{joined_settles, begins_by, fits, passes_all, settles_all, turns_all}
 use Rattle.octseq_text.proofs.utf8.pieces.read.Goals as goal
 
@@ -24,9 +24,9 @@ pub returns-clause-passed : goal.returns-clause-passed
 returns-clause-passed c =
     let from = length c.as_slice-3.result.now - length c.as_slice-4.result.now - length c.as_slice-5.result.now in
     IfOk-weaker c.search-3.result
-    (λ reached. PassesBehind c.in_ok-reached.reached.passed
+    (λ reached. PassesAfter c.in_ok-reached.reached.passed
     (take (length c.args.piece.now - from) (drop from c.args.piece.now)) reached.passed reached.end.content)
-    (λ reached. PassesBehind c.args.passed (c.args.end.now.content ++ c.args.piece.now) reached.passed
+    (λ reached. PassesAfter c.args.passed (c.args.end.now.content ++ c.args.piece.now) reached.passed
     reached.end.content)
     (λ reached p. passes_all _ _ _ c.join-joined.ensures
     (begins_by _ _ _ c.requires c.as_slice.ensures.content c.is_empty.ensures c.if-is_empty.false) _
@@ -38,9 +38,9 @@ pub returns-clause-fault : goal.returns-clause-fault
 returns-clause-fault c =
     let from = length c.as_slice-3.result.now - length c.as_slice-4.result.now - length c.as_slice-5.result.now in
     IfErr-weaker c.search-3.result
-    (λ told. SettlesBehind c.in_ok-reached.reached.passed
+    (λ told. SettlesAfter c.in_ok-reached.reached.passed
     (take (length c.args.piece.now - from) (drop from c.args.piece.now)) told)
-    (λ told. SettlesBehind c.args.passed (c.args.end.now.content ++ c.args.piece.now) told)
+    (λ told. SettlesAfter c.args.passed (c.args.end.now.content ++ c.args.piece.now) told)
     (λ told s. settles_all _ _ _ c.join-joined.ensures
     (begins_by _ _ _ c.requires c.as_slice.ensures.content c.is_empty.ensures c.if-is_empty.false) _
     (rw (c.as_slice-3.ensures.content, c.as_slice-4.ensures.content) refl) c.if-taken-piece.false _ _ _ _
