@@ -3,11 +3,11 @@ use Rattle.std.proofs.Common.{◌≡◌, ℕ, ◌+◌, ◌*◌, ◌/◌, ◌<◌
 use Rattle.std.proofs.Math.Nat.{pow-le-pow_right, lt-div-mul-add, one-le-pow}
 use Rattle.std.proofs.lemmas.Nat.{pow-add}
 
--- numbers of 64 bits or more are more than a `usize` counts
+-- numbers of 64 bits or more don't fit a `usize`
 pub long_power : (bits : ℕ) → 64 ≤ bits → 2 ^ 64 ≤ 2 ^ bits
 long_power bits long = pow-le-pow_right (omega arith) long
 
--- and so are those that have some besides
+-- nor do those with more bits
 pub more_above : (a b : ℕ) → 2 ^ 64 ≤ 2 ^ a → 2 ^ 64 ≤ 2 ^ (a + b)
 more_above a b big =
     let more : 2 ^ a ≤ 2 ^ (a + b) = pow-le-pow_right (omega arith) (omega arith) in
@@ -18,11 +18,11 @@ more_below a b big =
     let more : 2 ^ b ≤ 2 ^ (a + b) = pow-le-pow_right (omega arith) (omega arith) in
     omega (arith, big, more)
 
--- how many numbers both have
+-- how many numbers both have together
 pub both_size : (a b : ℕ) → 2 ^ (a + b) ≡ 2 ^ a * 2 ^ b
 both_size a b = pow-add 2 a b
 
--- a number with no bits above
+-- a number without upper bits
 pub none_above : (n bits : ℕ) → n / 2 ^ bits ≡ 0 → n < 2 ^ bits
 none_above n bits none =
     let size = 2 ^ bits in

@@ -1,4 +1,4 @@
--- Things that are said in one way are written as the octets that they were read from.
+-- Values with a unique encoding are written as the octets they were read from.
 use Rattle.std.proofs.Common.{◌≡◌, ℕ, suc, ◌+◌, ◌≤◌, List, [], ◌∷◌, ◌++◌, length, length-append, map, take}
 use Rattle.std.proofs.Common.{sym, ap, ◌∙◌, arith, Fits, w8, slice_index_or}
 use Rattle.std.proofs.Math.Logic.{∥∥₁_elim}
@@ -10,12 +10,12 @@ use Rattle.octseq_format.specs.Canonical.{AreOctets, IsSound, IsCanonical, many_
 use Rattle.octseq_format.specs.Laws.{Relation, IsOnward}
 use Rattle.octseq_format.specs.Row.{HoldsTo, row_octets, onward_row, row_written, sound_row, each_once}
 
--- what a slice has are octets
+-- a slice holds octets
 pub slice_octets : (xs : List ℕ) → ((k : ℕ) → Fits w8 (slice_index_or xs k 0)) → AreOctets xs
 slice_octets [] each = tt
 slice_octets (x ∷ xs) each = (let fits = each 0 in omega (arith, fits), slice_octets xs (λ k. each (suc k)))
 
--- a row ends in the window that it is in
+-- a row ends in its window
 pub held_place : {A : Type 0} (Is : Relation A) {least : ℕ} → IsOnward least Is → (w : Window) (count end : ℕ)
     → HoldsTo Is w count end → w.position ≤ w.end → (w.position ≤ end) × (end ≤ w.end)
 held_place Is onward w count end held ordered =
@@ -24,7 +24,7 @@ held_place Is onward w count end held ordered =
     let place = x.1.1 in
     (omega (arith, on.2, place), omega (arith, on.1, on.3, place)))
 
--- and its octets are those up to there
+-- and its octets are those up to its end
 pub held_written : {A S : Type 0} {Is : Relation A} {says : A → S} {octets : S → List ℕ} {Fits : S → Type 0}
     {least : ℕ} → IsOnward least Is → IsCanonical Is says octets Fits → (w : Window) (count end n : ℕ)
     (held : HoldsTo Is w count end) → IsSound w → w.position + n ≡ end

@@ -1,15 +1,15 @@
--- Where no two things are, one after the other.
+-- Where no pair is.
 use Rattle.std.proofs.Common.{subst}
 use Rattle.octseq.specs.Window.{Window}
 use Rattle.octseq_format.specs.Laws.{Relation, NoneAt, IsOne}
 use Rattle.octseq_format.specs.Pair.{◌then◌}
 
 module _ {A B : Type 0} (First : Relation A) (Second : Relation B) where
-  -- where the first isn't
+  -- the first one isn't there
   pub none_first : (w : Window) → NoneAt First w → NoneAt (First then Second) w
   none_first w none both v is = none both.0 is.0 is.1
 
-  -- where the second isn't, after the first
+  -- the second one isn't there, after the first
   pub none_second : (w u : Window) (one : A) → IsOne First → First w one u → NoneAt Second u
       → NoneAt (First then Second) w
   none_second w u one first is none both v other =

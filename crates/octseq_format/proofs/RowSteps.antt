@@ -1,4 +1,4 @@
--- Rows that a walk keeps, and rows that are read one by one.
+-- Rows that a walk keeps, and rows that are read item by item.
 use Rattle.std.proofs.Common.{◌≡◌, ℕ, ◌+◌, ◌<◌, ◌≤◌, ◌*◌, List, [], ◌∷◌, ◌++◌, length, length-append, map, refl}
 use Rattle.std.proofs.Common.{sym, ap, ◌∙◌, subst, arith}
 use Rattle.std.proofs.Math.Logic.{∥∥₁_elim, ∥∥₁_prop}
@@ -11,9 +11,9 @@ use Rattle.octseq_format.specs.Laws.{Relation, NoneAt, IsOne, IsMoving}
 use Rattle.octseq_format.specs.Row.{Row, Many, Moved, Holds, HoldsTo, row_turns, one_row, one_many, held_once}
 use Rattle.octseq_format.specs.Row.{held_to_once}
 
--- ---- rows that are read one by one
+-- ---- rows that are read item by item
 
--- a row goes no further than where no such thing is
+-- a row doesn't go past a place without such a value
 pub row_ends : {A : Type 0} (Is : Relation A) → IsOne Is → (w u v : Window) (row others : List A)
     → NoneAt Is u → length row < length others → Row Is w row u
     → Row Is w others v → ⊥
@@ -37,7 +37,7 @@ pub row_more : {A : Type 0} (Is : Relation A) (w u v : Window) (row : List A) (o
 row_more Is w u v [] one a is = (v, subst (λ x. Is x one v) a is, refl)
 row_more Is w u v (x ∷ row) one a is = (a.0, a.1, row_more Is a.0 u v row one a.2 is)
 
--- a row of so many things, followed by one more, is a row of one more
+-- a row of `taken` items, followed by one more
 pub many_more : {A : Type 0} (Is : Relation A) (w u v : Window) (taken : ℕ) (row : List A) (one : A)
     → Many taken Is w row u → Is u one v
     → Many (taken + 1) Is w (row ++ one ∷ []) v
@@ -46,7 +46,7 @@ many_more Is w u v taken row one a is = (
   row_more Is w u v row one a.1 is,
 )
 
--- a row of things is one of what they are by another name
+-- a row of values is also a row of them by another name
 pub row_by : {A B : Type 0} (Is : Relation A) (Are : Relation B) (to : A → B)
     → ((w : Window) (a : A) (v : Window) → Is w a v → Are w (to a) v)
     → (w v : Window) (row : List A) → Row Is w row v → Row Are w (map to row) v
@@ -64,19 +64,19 @@ first_of_row : {A : Type 0} (Is : Relation A) (w v : Window) (row : List A) → 
 first_of_row Is w v [] some are none = omega (arith, some)
 first_of_row Is w v (x ∷ row) some are none = none x are.0 are.1
 
--- where there are none, the row is empty
+-- if there are none, the row is empty
 pub held_none : {A : Type 0} (code : Coded A) (Is : Relation A) (w : Window) (count : ℕ)
     (held : Holds Is w count) → count ≡ 0 → held.0 ≡ []
 held_none code Is w count held zero = ∥∥₁_elim held.1 (Coded-set (coded_list code) held.0 [])
     (λ x. no_items held.0 (x.1.0 ∙ zero))
 
--- where there are some, the first is there
+-- if there are some, the first is there
 pub held_not : {A : Type 0} (Is : Relation A) (w : Window) (count : ℕ) (held : Holds Is w count)
     → 0 < count → NoneAt Is w → ⊥
 held_not Is w count held some none = ∥∥₁_elim held.1 ⊥_prop (λ x. first_of_row Is w x.0 held.0 (let is = x.1.0 in
     omega (arith, is, some)) x.1.1 none)
 
--- what is after the first one
+-- what follows the first one
 rest_of_row : {A : Type 0} (Is : Relation A) → IsOne Is → (w u v : Window) (one : A) (row : List A)
     → Is w one u → 0 < length row → Row Is w row v
     → (more : List A) × (row ≡ one ∷ more) × Row Is u more v
@@ -85,7 +85,7 @@ rest_of_row Is single w u v one (x ∷ row) is some are =
     let same = single.same w x one are.0 u are.1 is in
     (row, ap (λ x. x ∷ row) same.0, subst (λ w. Row Is w row v) same.1 are.2)
 
--- the first, and then those after it
+-- the first one, and those after it
 pub held_then : {A : Type 0} (code : Coded A) (Is : Relation A) → IsOne Is
     → (w u : Window) (one : A) (count less : ℕ) (held : Holds Is w count)
     (after : Holds Is u less) → Is w one u → count ≡ less + 1 → held.0 ≡ one ∷ after.0
@@ -98,7 +98,7 @@ held_then code Is single w u one count less held after is down =
     let others = y.1.0 in
     (one_row Is single u x.0 y.0 on.0 after.0 (omega (arith, lengths, counted, down, others)) on.2 y.1.1).0)))
 
--- which is a fact
+-- so those after the first one are there
 pub held_more : {A : Type 0} (code : Coded A) (Is : Relation A) → IsOne Is
     → (w u : Window) (one : A) (count less : ℕ) (held : Holds Is w count)
     → Is w one u → count ≡ less + 1 → Holds Is u less
@@ -113,7 +113,7 @@ abbrev pub holds_of : {A : Type 0} (Is : Relation A) (w : Window) (count end : �
     → Holds Is w count
 holds_of Is w count end held = (held.0, ∥∥₁_elim held.1 ∥∥₁_prop (λ x. ∣ (x.0, x.1.0) ∣₁))
 
--- and so is what is after the first, up to the same place
+-- and so are the items after the first, up to the same place
 pub held_to_more : {A : Type 0} (code : Coded A) (Is : Relation A) → IsOne Is
     → (w u : Window) (one : A) (count less end : ℕ) (held : HoldsTo Is w count end)
     → Is w one u → count ≡ less + 1 → HoldsTo Is u less end
@@ -124,7 +124,7 @@ held_to_more code Is single w u one count less end held is down =
     let lengths = ap length on.1 in
     (on.0, ∣ (x.0, ((omega (arith, lengths, counted, down), on.2), x.1.1)) ∣₁))
 
--- so many were read, and those are kept
+-- the items that were read are those that are kept
 pub held_as : {A : Type 0} (code : Coded A) (Is : Relation A) → IsOne Is
     → (w end : Window) (count : ℕ) (row : List A) (held : Holds Is w count)
     → Many count Is w row end → row ≡ held.0
@@ -137,7 +137,7 @@ fewer one row more is = let lengths = ap length is in omega (arith, lengths)
 
 -- ---- rows up to the end of a window
 
--- where octets are left and no such thing is, no row goes on to the end
+-- if octets are left and no such value is there, no row goes on to the end
 pub to_ends : {A : Type 0} (Is : Relation A) → IsOne Is → IsMoving Is → (w u v : Window) (row others : List A)
     → NoneAt Is u → 0 < left u → Row Is w row u → Row Is w others v → left v ≡ 0 → ⊥
 to_ends Is one moving w u v [] [] none some a b ends =
@@ -149,7 +149,7 @@ to_ends Is one moving w u v (x ∷ row) (y ∷ others) none some a b ends =
     to_ends Is one moving a.0 u v row others none some a.2
     (subst (λ x. Row Is x others v) (sym (one.same w x y a.0 b.0 a.1 b.1).1) b.2) ends
 
--- a row of things that take octets is one of things that are known to
+-- a row of values that take octets, known to take them
 pub row_moved : {A : Type 0} (Is : Relation A) → IsMoving Is → (w v : Window) (row : List A)
     → Row Is w row v → Row (Moved Is) w row v
 row_moved Is moving w v [] is = is
@@ -164,12 +164,12 @@ row_of_moved Is w v (x ∷ row) is = (is.0, is.1.0, row_of_moved Is is.0 v row i
 
 -- ---- turns
 
--- one more thing, and a turn for it
+-- one more item, and a turn for it
 pub row_turns_more : {A : Type 0} (turns : A → ℕ) (row : List A) (one : A)
     → row_turns turns (row ++ one ∷ []) ≡ row_turns turns row + (1 + turns one)
 row_turns_more turns row one = sum_by_push (λ a. 1 + turns a) row one
 
--- one more thing takes an octet at least, which pays for its turns
+-- one more item takes at least one octet, which pays for its turns
 pub turns_more : (base rate before after turns start more : ℕ) → after < before → start ≡ turns + 1
     → more + rate * after ≤ start + base + rate * before
     → more + (base + 1 + rate) * after ≤ turns + (base + 1 + rate) * before
@@ -177,7 +177,7 @@ turns_more base rate before after turns start more less tick took =
     let paid : (base + 1) * (after + 1) ≤ (base + 1) * before = mul-le-mul_left (base + 1) (omega (arith, less)) in
     omega (arith, paid, tick, took)
 
--- one that is refused
+-- an item that is refused
 pub turns_most : (base rate before octets turns start more : ℕ)
     → turns + (base + 1 + rate) * before ≤ start + (base + 1 + rate) * octets
     → more ≤ turns + 1 + base + rate * before → more ≤ start + (base + 1) + (base + 1 + rate) * octets

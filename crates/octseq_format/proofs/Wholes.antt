@@ -1,10 +1,10 @@
--- All of the octets that say a thing.
+-- All the octets that say a value.
 use Rattle.std.proofs.Common.{◌≡◌, ℕ, List, length, ◌-◌, take, sym, ap, ◌∙◌, subst, arith}
 use Rattle.std.proofs.Math.Seq.{take-length}
 use Rattle.octseq.specs.Window.{whole}
 use Rattle.octseq_format.specs.Laws.{Relation, Takes, IsReadBack}
 
--- they are read as one that says it
+-- they are read as a value that says it
 pub whole_taken : {A S : Type 0} {Is : Relation A} {says : A → S} {octets : S → List ℕ} {Fits : S → Type 0}
     → IsReadBack Is says octets Fits → (said : S) → Fits said
     → Takes Is says (whole (octets said)) said (length (octets said))
@@ -13,7 +13,7 @@ whole_taken {octets = octets} back said fits =
     let all : length o - 0 ≡ length o = omega arith in
     back.back (whole o) said fits (ap (λ n. take n o) all ∙ take-length o) (omega arith)
 
--- whichever those octets are
+-- for any octets equal to them
 pub content_taken : {A S : Type 0} {Is : Relation A} {says : A → S} {octets : S → List ℕ} {Fits : S → Type 0}
     → IsReadBack Is says octets Fits → (said : S) → Fits said → (content : List ℕ) → content ≡ octets said
     → Takes Is says (whole content) said (length content)

@@ -11,15 +11,15 @@ use Rattle.octseq_format.specs.Integers.{are_be}
 use Rattle.octseq_format.specs.Laws.{Relation, IsOne, IsOnward, IsReadBack, IsDelimited, back_of}
 use Rattle.octseq_format.specs.Pair.{◌also◌}
 
--- A number is of one thing at most.
+-- A number is of at most one value.
 pub record IsOneNumber {S : Type 0} (number : S → ℕ) (Fits : S → Type 0) : Type 0 where
   pub same : (a b : S) → Fits a → Fits b → number a ≡ number b → a ≡ b
 
--- A number of what fits has so many bits.
+-- The number of a value that fits has at most this many bits.
 pub record HasBits {S : Type 0} (bits : ℕ) (number : S → ℕ) (Fits : S → Type 0) : Type 0 where
   pub few : (a : S) → Fits a → number a < 2 ^ bits
 
--- the number of two things, whose upper bits are of the first, and whose lowest, so many, of the second
+-- the number of two values: the lowest `bits` bits are those of the second, the upper ones those of the first
 abbrev pub both_bits : {S T : Type 0} → (S → ℕ) → ℕ → (T → ℕ) → S × T → ℕ
 both_bits high bits low both = high both.0 * 2 ^ bits + low both.1
 
@@ -66,7 +66,7 @@ pub upper_of : {S T : Type 0} (high : S → ℕ) (low : T → ℕ) {Low : T → 
     → (both : S × T) → Low both.1 → both_bits high bits low both / 2 ^ bits ≡ high both.0
 upper_of high low bits has both fits = div-mul-add (high both.0) (2 ^ bits) (low both.1) (has.few both.1 fits)
 
--- and the lowest
+-- and the lowest ones
 pub lowest_of : {S T : Type 0} (high : S → ℕ) (low : T → ℕ) {Low : T → Type 0} (bits : ℕ) → HasBits bits low Low
     → (both : S × T) → Low both.1 → both_bits high bits low both % 2 ^ bits ≡ low both.1
 lowest_of high low bits has both fits = mod-mul-add (high both.0) (2 ^ bits) (low both.1) (has.few both.1 fits)

@@ -1,4 +1,4 @@
--- Formats that say a thing in one way: what was read is written as the octets that it was read from.
+-- Formats with a unique encoding: what was read is written as the octets it was read from.
 use Rattle.std.specs.Prelude.{◌≡◌, Bool, true, false, ◌&&◌, IsTrue, refl, ℕ, zero, suc, ◌+◌, ◌-◌, ◌≤◌, List, [], ◌∷◌, ◌++◌, length}
 use Rattle.std.proofs.Common.{take, drop, length-take, length-drop, ap, sym, subst, arith}
 use Rattle.std.proofs.Math.Bool.{true≢false}
@@ -6,13 +6,13 @@ pub use Rattle.octseq.proofs.WrittenBack.{AreOctets}
 use Rattle.octseq.specs.Window.{Window, left, next, rest, past, nested}
 use Rattle.octseq_format.specs.Laws.{Relation, IsOnward}
 
--- A window on octets.
+-- A window on octets that isn't past its end.
 pub record IsSound (w : Window) : Type 0 where
   pub each : AreOctets w.octets
   pub ordered : w.position ≤ w.end
   pub within : w.end ≤ length w.octets
 
--- What is there fits, in one way, and its octets are those that it takes. The window past it is on the same octets.
+-- What is there fits, in one way, and its octets are the ones that it takes. The window past it is on the same octets.
 pub record IsCanonical {A S : Type 0} (Is : Relation A) (says : A → S) (octets : S → List ℕ)
     (Fits : S → Type 0) : Type 0 where
   pub once : (said : S) → IsProp (Fits said)
@@ -35,14 +35,14 @@ pub each_next : (n : ℕ) (w : Window) → IsSound w → AreOctets (next n w)
 each_next n w sound =
     each_taken (w.position + n - w.position) (drop w.position w.octets) (each_dropped w.position w.octets sound.each)
 
--- and as many as that
+-- and there are n of them
 pub many_next : (n : ℕ) (w : Window) → IsSound w → n ≤ left w → length (next n w) ≡ n
 many_next n w sound few =
     let taken = length-take (w.position + n - w.position) (drop w.position w.octets) in
     let dropped = length-drop w.position w.octets in
     omega (arith, taken, dropped, few, sound.within, sound.ordered)
 
--- all that are left are as many as that
+-- the octets that are left are as many as `left` says
 pub many_rest : (w : Window) → IsSound w → length (rest w) ≡ left w
 many_rest w sound =
     let taken = length-take (left w) (drop w.position w.octets) in
@@ -60,7 +60,7 @@ sound_nested n w sound few = record {
   within = omega (arith, few, sound.ordered, sound.within);
 }
 
--- the window past a thing
+-- the window past a value is sound
 pub sound_on : {A : Type 0} {Is : Relation A} {least : ℕ} → IsOnward least Is → (w : Window) (a : A) (v : Window)
     → IsSound w → Is w a v → IsSound v
 sound_on onward w a v sound is =
@@ -72,7 +72,7 @@ sound_on onward w a v sound is =
       within = omega (arith, on.1, many, sound.within);
     }
 
--- of what isn't known to be said in one way nothing follows
+-- nothing follows if the encoding isn't known to be unique
 pub not_one_way : {A S : Type 0} {Is : Relation A} {says : A → S} {octets : S → List ℕ} {Fits : S → Type 0}
     → IsTrue false → IsCanonical Is says octets Fits
 not_one_way told = absurd (true≢false (sym told))

@@ -1,4 +1,4 @@
--- One of several things, by a tag: a number that was read before them.
+-- A choice by a tag: a number that was read before.
 use Rattle.std.specs.Prelude.{◌≡◌, ℕ, ◌+◌, ◌<◌, ◌≤◌, ◌^◌, ◌⊎◌, List, ◌++◌, length, refl}
 use Rattle.std.proofs.Common.{inl, inr, sym, ap, ◌∙◌, subst, arith, append_assoc}
 use Rattle.octseq.specs.Integer.{be, octets_be}
@@ -12,13 +12,13 @@ use Rattle.octseq_format.specs.Laws.{Relation, Takes, IsOne, IsOnward, IsReadBac
 abbrev pub ByTag : Type 0 → Type 1
 ByTag A = ℕ → Relation A
 
--- Where nothing but its octets is left, what was said is there after its tag, and takes them all.
+-- If nothing but its octets is left, what was said is there after its tag, and takes them all.
 pub record IsCaseReadBack {A S : Type 0} (Is : ByTag A) (says : A → S) (tag : S → ℕ) (octets : S → List ℕ)
     (Fits : S → Type 0) : Type 0 where
   pub back : (w : Window) (said : S) → Fits said → rest w ≡ octets said → w.end ≡ w.position + length (octets said)
       → Takes (Is (tag said)) says w said (length (octets said))
 
--- Where its octets come next, what was said is there after its tag, and takes those alone.
+-- If its octets come next, what was said is there after its tag, and takes those alone.
 pub record IsCaseDelimited {A S : Type 0} (Is : ByTag A) (says : A → S) (tag : S → ℕ) (octets : S → List ℕ)
     (Fits : S → Type 0) : Type 0 where
   pub next : (w : Window) (said : S) (more : List ℕ) → Fits said → rest w ≡ octets said ++ more
@@ -46,7 +46,7 @@ abbrev pub case_turns : {A B : Type 0} → (A → ℕ) → (B → ℕ) → A ⊎
 case_turns turns other (inl a) = turns a
 case_turns turns other (inr b) = other b
 
--- It fits, and what is said by another tag doesn't have this one.
+-- It fits, and a value of another case doesn't have this tag.
 abbrev pub CaseFits : {S T : Type 0} → ℕ → (T → ℕ) → (S → Type 0) → (T → Type 0) → S ⊎ T → Type 0
 CaseFits n tag Fits Other (inl a) = Fits a
 CaseFits n tag Fits Other (inr b) = Other b × (¬ (tag b ≡ n))
@@ -112,7 +112,7 @@ module _ {A B S T : Type 0} {n : ℕ} {Is : Relation A} {Other : ByTag B} {says 
         let taken = more.next w b after fits.0 is in
         record { it = inr taken.it; tells = ap inr taken.tells; is = (fits.1, taken.is) }
 
--- ---- the tag is n, or nothing is there
+-- ---- the tag is n, or there is nothing
 
 abbrev pub IsLast : {A : Type 0} → ℕ → Relation A → ByTag A
 IsLast n Is tag w a v = (tag ≡ n) × Is w a v
@@ -186,12 +186,12 @@ module _ {A S : Type 0} {Is : Relation A} {says : A → S} {octets : S → List 
         record { it = (said.0, taken.it); tells = ap (λ s. (said.0, s)) taken.tells; is = (refl, taken.is) };
   }
 
--- ---- a tag in k octets, big-endian, followed by what it decides
+-- ---- a tag in k octets, big-endian, followed by what it selects
 
 abbrev pub Tagged : {A : Type 0} → ℕ → ByTag A → Relation A
 Tagged k Is w a v = (k ≤ left w) × Is (be (next k w)) (past k w) a v
 
--- the octets of the tag, followed by those of the thing
+-- the octets of the tag, followed by those of the value
 abbrev pub tagged_octets : {S : Type 0} → ℕ → (S → ℕ) → (S → List ℕ) → S → List ℕ
 tagged_octets k tag octets said = octets_be k (tag said) ++ octets said
 
@@ -214,7 +214,7 @@ module _ {A : Type 0} (k : ℕ) (Is : ByTag A) where
         omega (arith, more, is.0);
   }
 
--- a thing that takes its octets, past a tag of k octets
+-- a value that takes its octets, past a tag of k octets
 tagged_taken : {A S : Type 0} {says : A → S} (k : ℕ) (Is : ByTag A) (w : Window) (said : S) (tag : ℕ) (octets : List ℕ)
     → k ≤ left w → be (next k w) ≡ tag → Takes (Is tag) says (past k w) said (length octets)
     → Takes (Tagged k Is) says w said (length (octets_be k tag ++ octets))

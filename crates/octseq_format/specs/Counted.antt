@@ -1,5 +1,5 @@
--- A thing after its length, which has k octets, big-endian. The length counts `extra` octets more, those that a format
--- has before the thing and counts with it.
+-- A value after its length, which has k octets, big-endian. The length includes `extra` octets more, those that a
+-- format has before the value and counts with it.
 use Rattle.std.specs.Prelude.{◌≡◌, ℕ, ◌+◌, ◌-◌, ◌<◌, ◌≤◌, ◌^◌, List, ◌++◌, length, refl}
 use Rattle.std.proofs.Common.{sym, ap, ◌∙◌, subst, suc, take, drop, arith, length-append, append_assoc, append-nil}
 use Rattle.std.specs.Coded.{le_prop}
@@ -12,11 +12,11 @@ use Rattle.octseq.proofs.WrittenBack.{small_be, as_be}
 use Rattle.octseq_format.specs.Canonical.{IsCanonical, each_next, many_next, sound_past, sound_nested, sound_on}
 use Rattle.octseq_format.specs.Laws.{Relation, IsOne, IsOnward, IsReadBack, IsDelimited, back_of}
 
--- how many octets of its own the thing has, as its length says
+-- the number of octets of the value itself, by its length
 abbrev pub counted_length : ℕ → ℕ → Window → ℕ
 counted_length k extra w = be (next k w) - extra
 
--- the whole thing is there, after its length
+-- the whole value is there, after its length
 abbrev pub HasCounted : ℕ → ℕ → Window → Type 0
 HasCounted k extra w = (k ≤ left w) × (extra ≤ be (next k w)) × (counted_length k extra w ≤ left (past k w))
 
@@ -43,7 +43,7 @@ pub record CountFits {S : Type 0} (k extra : ℕ) (octets : S → List ℕ) (Fit
   pub inside : Fits said
   pub count : extra + length (octets said) < 256 ^ k
 
--- how many octets that are
+-- the number of octets with the length
 pub counted_long : (k n : ℕ) (octets : List ℕ) → length (octets_be k n ++ octets) ≡ k + length octets
 counted_long k n octets =
     length-append (octets_be k n) octets ∙ ap (λ m. m + length octets) (length_be k n)

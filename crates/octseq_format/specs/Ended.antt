@@ -12,7 +12,7 @@ use Rattle.octseq_format.specs.Laws.{Relation, IsOne, IsOnward, IsReadBack, IsDe
 abbrev pub NoneIsZero : List ℕ → ℕ → Type 0
 NoneIsZero octets n = (k : ℕ) → k < n → ¬ (slice_index octets k ≡ 0)
 
--- n octets, of which none is zero, are followed by a zero
+-- n octets, none of them zero, are followed by a zero
 abbrev pub EndsAt : List ℕ → ℕ → Type 0
 EndsAt octets n = (n < length octets) × (slice_index octets n ≡ 0) × NoneIsZero octets n
 

@@ -1,4 +1,4 @@
--- A number that is fixed.
+-- A fixed number.
 use Rattle.std.specs.Prelude.{◌≡◌, ℕ, ◌<◌, ◌≤◌, ◌^◌, ◌++◌, refl}
 use Rattle.std.proofs.Common.{sym, ap, ◌∙◌, subst, suc, arith}
 use Rattle.std.specs.Coded.{le_prop}

@@ -1,4 +1,4 @@
--- A thing of so many octets, whatever they are.
+-- Values of a fixed number of octets, whatever they are.
 use Rattle.std.specs.Prelude.{◌≡◌, ℕ, ◌≤◌, List, ◌++◌, length, refl}
 use Rattle.std.proofs.Common.{sym, ap, ◌∙◌, subst, arith}
 use Rattle.octseq.specs.Window.{Window, left, next, rest, past}
@@ -7,11 +7,11 @@ use Rattle.octseq.proofs.Windows.{next_and_rest}
 use Rattle.octseq_format.specs.Canonical.{AreOctets, IsCanonical, each_next, many_next, sound_on}
 use Rattle.octseq_format.specs.Laws.{Relation, IsOne, IsOnward, IsReadBack, IsDelimited, back_of}
 
--- the next k octets, by what they are read as
+-- the value that the next k octets are read as
 abbrev pub IsFixed : {A : Type 0} → ℕ → (List ℕ → A) → Relation A
 IsFixed k reading w a v = (k ≤ left w) × (a ≡ reading (next k w)) × (v ≡ past k w)
 
--- The octets of a thing that fits are k, and are read as it. Any k octets are read as a thing that fits, in one way,
+-- The octets of a value that fits are k, and are read as it. Any k octets are read as a value that fits, in one way,
 -- and are its octets.
 pub record AreFixed {A : Type 0} (k : ℕ) (reading : List ℕ → A) (octets : A → List ℕ) (Fits : A → Type 0) : Type 0 where
   pub many : (a : A) → Fits a → length (octets a) ≡ k

@@ -9,7 +9,7 @@ use Rattle.octseq.proofs.Written.{length_be, length_le, value_be, value_le, sign
 use Rattle.octseq.proofs.WrittenBack.{small_be, small_le, as_be, as_le}
 use Rattle.octseq_format.specs.Fixed.{AreFixed}
 
--- A kind of integers: how many octets they have, how those are read and written, big-endian and little-endian, and
+-- A kind of integers: how many octets they have, how these are read and written, big-endian and little-endian, and
 -- which integers fit.
 pub record Kind : Type 1 where
   pub Number : Type 0
@@ -45,13 +45,13 @@ signed_once : (k : ℕ) (z : ℤ) → IsProp (IsSigned k z)
 signed_once k (pos n) = le_prop {n = suc (2 * n)} {m = 256 ^ k}
 signed_once k (negsuc n) = le_prop {n = 2 * suc n} {m = 256 ^ k}
 
--- what fits k octets is the sum of those of a signed integer
+-- each number that fits k octets is the unsigned form of a signed integer
 summed : (k n : ℕ) → Dec (256 ^ k ≤ 2 * n) → n < 256 ^ k → (z : ℤ) × IsSigned k z × (unsigned k z ≡ n)
 unfolding unsigned
 summed k n (yes big) fits = (negsuc (256 ^ k - suc n), omega (arith, big, fits), omega (arith, fits))
 summed k n (no small) fits = (pos n, lt_of_not-le small, refl)
 
--- so it is the sum of those of the signed integer that it is read as
+-- so it is the unsigned form of the signed integer that it is read as
 signed_written : (k n : ℕ) → n < 256 ^ k → IsSigned k (signed k n) × (unsigned k (signed k n) ≡ n)
 signed_written k n fits =
     let sum = summed k n (dec_le (256 ^ k) (2 * n)) fits in
@@ -103,7 +103,7 @@ signed_kind k = record {
   are_le = are_signed k (are_le k);
 }
 
--- the same of one octet, which both orders read alike
+-- the same for one octet, which both orders read alike
 abbrev pub octet_kind : Kind → Kind
 octet_kind kind = record {
   Number = kind.Number;

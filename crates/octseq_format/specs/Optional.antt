@@ -1,10 +1,10 @@
--- A thing at the end of a window, or nothing.
+-- A value at the end of a window, or nothing.
 use Rattle.std.specs.Prelude.{◌≡◌, ℕ, ◌+◌, ◌<◌, ◌≤◌, Option, Some, None, List, [], length, refl}
 use Rattle.std.proofs.Common.{sym, ap, ◌∙◌, arith}
 use Rattle.octseq.specs.Window.{Window, left, rest, at}
 use Rattle.octseq_format.specs.Laws.{Relation, Takes, IsOne, IsOnward, IsReadBack}
 
--- nothing where nothing is left, and else the thing
+-- nothing if nothing is left, otherwise the value
 abbrev pub IsOptional : {A : Type 0} → Relation A → Relation (Option A)
 IsOptional Is w None v = (left w ≡ 0) × (v ≡ w)
 IsOptional Is w (Some a) v = (0 < left w) × Is w a v
@@ -17,12 +17,12 @@ abbrev pub optional_octets : {S : Type 0} → (S → List ℕ) → Option S → 
 optional_octets octets None = []
 optional_octets octets (Some said) = octets said
 
--- It fits, and has an octet at least.
+-- It fits, and has at least one octet.
 abbrev pub OptionalFits : {S : Type 0} → (S → List ℕ) → (S → Type 0) → Option S → Type 0
 OptionalFits octets Fits None = Unit {0}
 OptionalFits octets Fits (Some said) = Fits said × (0 < length (octets said))
 
--- the turns of the thing, if it is there
+-- the turns of the value, if it is there
 abbrev pub optional_turns : {A : Type 0} → (A → ℕ) → Option A → ℕ
 optional_turns turns None = 0
 optional_turns turns (Some a) = turns a

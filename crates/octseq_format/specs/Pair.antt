@@ -1,4 +1,4 @@
--- One thing, followed by another.
+-- One value, followed by another.
 use Rattle.std.specs.Prelude.{◌≡◌, Bool, ◌&&◌, IsTrue, ℕ, ◌+◌, ◌<◌, List, ◌++◌, length, refl}
 use Rattle.std.proofs.Common.{sym, ap, ◌∙◌, subst, arith, length-append, append_assoc}
 use Rattle.std.specs.Coded.{Coded, coded×}
@@ -55,13 +55,13 @@ first code_then second = coded× first second
 same_pair : {A B : Type 0} {a c : A} {b d : B} → a ≡ c → b ≡ d → Path (A × B) (a, b) (c, d)
 same_pair {c = c} {b = b} first second = ap (λ a. (a, b)) first ∙ ap (λ b. (c, b)) second
 
--- past two lists of octets is past the first and past the second
+-- past two lists of octets is past the first and then past the second
 past_both : (w : Window) (x y : List ℕ) → past (length y) (past (length x) w) ≡ past (length (x ++ y)) w
 past_both w x y =
     let long : length (x ++ y) ≡ length x + length y = length-append x y in
     ap (λ p. at p w) (omega (arith, long))
 
--- a sum is no less than its first number
+-- a sum is positive if its first number is
 pub some_more : {m : ℕ} (n : ℕ) → 0 < m → 0 < m + n
 some_more n some = omega (arith, some)
 
@@ -89,7 +89,7 @@ module _ {A B : Type 0} {First : Relation A} {Second : Relation B} where
   }
 
   module _ {S T : Type 0} {says : A → S} {tells : B → T} where
-    -- a second thing that takes its octets, past those of a first one
+    -- a second value that takes its octets, past those of a first one
     both_taken : (w : Window) (said : S × T) (x y : List ℕ) → Takes First says w said.0 (length x)
         → Takes Second tells (past (length x) w) said.1 (length y)
         → Takes (First then Second) (says and tells) w said (length (x ++ y))

@@ -10,7 +10,7 @@ use Rattle.octseq_format.specs.Laws.{Relation, IsOne, IsOnward, IsReadBack}
 abbrev pub IsRest : Relation Window
 IsRest w inside v = (inside ≡ w) × (v ≡ past (left w) w)
 
--- windows are equal in one way at most
+-- windows are equal in at most one way
 abbrev pub window_code : Coded Window
 window_code = code_by (List ℕ × (ℕ × ℕ)) (coded× (coded_list coded_ℕ) (coded× coded_ℕ coded_ℕ))
     (λ w. (w.octets, (w.position, w.end)))

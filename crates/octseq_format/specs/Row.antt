@@ -1,4 +1,4 @@
--- Things of one kind, one after another.
+-- Rows: values of one format, one after another.
 use Rattle.std.specs.Prelude.{◌≡◌, ℕ, ◌+◌, ◌<◌, ◌≤◌, ◌^◌, List, [], ◌∷◌, ◌++◌, length, map, refl}
 use Rattle.std.proofs.Common.{sym, ap, ◌∙◌, subst, suc, arith, length-append, append_assoc, append-nil}
 use Rattle.std.proofs.lemmas.List.{length-map}
@@ -20,15 +20,15 @@ abbrev pub Row : {A : Type 0} → Relation A → Relation (List A)
 Row Is w [] v = v ≡ w
 Row Is w (one ∷ more) v = (u : Window) × Is w one u × Row Is u more v
 
--- so many of them
+-- `count` of them
 abbrev pub Many : {A : Type 0} → ℕ → Relation A → Relation (List A)
 Many count Is w row v = (length row ≡ count) × Row Is w row v
 
--- so many of them, up to a place
+-- `count` of them, up to a place
 abbrev pub ManyTo : {A : Type 0} → ℕ → ℕ → Relation A → Relation (List A)
 ManyTo count end Is w row v = Many count Is w row v × (v.position ≡ end)
 
--- so many of them are there, and these are they
+-- `count` of them are there, and these are they
 abbrev pub Holds : {A : Type 0} → Relation A → Window → ℕ → Type 0
 Holds {A} Is w count = (row : List A) × ∥ ((end : Window) × Many count Is w row end) ∥₁
 
@@ -36,11 +36,11 @@ Holds {A} Is w count = (row : List A) × ∥ ((end : Window) × Many count Is w 
 abbrev pub HoldsTo : {A : Type 0} → Relation A → Window → ℕ → ℕ → Type 0
 HoldsTo {A} Is w count end = (row : List A) × ∥ ((v : Window) × ManyTo count end Is w row v) ∥₁
 
--- as many as a count says, which has k octets, big-endian
+-- as many as a big-endian count of k octets says
 abbrev pub Times : {A : Type 0} → ℕ → Relation A → Relation (List A)
 Times k Is w row v = (k ≤ left w) × Many (be (next k w)) Is (past k w) row v
 
--- a thing that takes an octet at least
+-- a value that takes at least one octet
 abbrev pub Moved : {A : Type 0} → Relation A → Relation A
 Moved Is w a v = Is w a v × (left v < left w)
 
@@ -56,7 +56,7 @@ row_octets octets said = flat_map octets said
 abbrev pub times_octets : {S : Type 0} → ℕ → (S → List ℕ) → List S → List ℕ
 times_octets k octets said = octets_be k (length said) ++ row_octets octets said
 
--- the turns of each, and one more for it
+-- the turns of each, and one for each
 abbrev pub row_turns : {A : Type 0} → (A → ℕ) → List A → ℕ
 row_turns turns row = sum_by (λ a. 1 + turns a) row
 
@@ -65,12 +65,12 @@ pub record TimesFit {S : Type 0} (k : ℕ) (Fits : S → Type 0) (said : List S)
   pub each : AllByRecursion Fits said
   pub count : length said < 256 ^ k
 
--- ---- one row at most
+-- ---- at most one row
 
 same_cons : {A : Type 0} {a b : A} {more others : List A} → a ≡ b → more ≡ others → a ∷ more ≡ b ∷ others
 same_cons {b = b} {more = more} first second = ap (λ a. a ∷ more) first ∙ ap (λ more. b ∷ more) second
 
--- of one length
+-- at most one row of a length
 pub one_row : {A : Type 0} (Is : Relation A) → IsOne Is → (w u v : Window) (row others : List A)
     → length row ≡ length others → Row Is w row u → Row Is w others v → (row ≡ others) × (u ≡ v)
 one_row Is one w u v [] [] same a b = (refl, a ∙ sym b)
@@ -96,7 +96,7 @@ one_times k Is one = record {
   same = λ w row others u v a b. one_row Is one (past k w) u v row others (a.1.0 ∙ sym b.1.0) a.1.1 b.1.1;
 }
 
--- so it is a fact that one is there
+-- so it is a fact that there is one
 one_held : {A : Type 0} (code : Coded A) (Is : Relation A) → IsOne Is → (w : Window)
     → IsProp ((a : A) × ∥ ((v : Window) × Is w a v) ∥₁)
 one_held code Is one w a b =
@@ -112,7 +112,7 @@ pub held_to_once : {A : Type 0} (code : Coded A) (Is : Relation A) → IsOne Is 
     → IsProp (HoldsTo Is w count end)
 held_to_once code Is one w count end = one_held (coded_list code) (ManyTo count end Is) (one_many_to count end Is one) w
 
--- ---- rows of things that take octets
+-- ---- rows of values that take octets
 
 -- no more octets are left after a row than before it
 pub row_moves : {A : Type 0} (Is : Relation A) → IsMoving Is → (w v : Window) (row : List A)
@@ -123,7 +123,7 @@ row_moves Is moving w v (x ∷ row) is =
     let more = row_moves Is moving is.0 v row is.2 in
     omega (arith, one, more)
 
--- so how many octets are left after it decides which it is
+-- so the number of octets left after it decides which row it is
 pub one_row_to : {A : Type 0} (Is : Relation A) → IsOne Is → IsMoving Is → (w u v : Window) (row others : List A)
     → left u ≡ left v → Row Is w row u → Row Is w others v → (row ≡ others) × (u ≡ v)
 one_row_to Is one moving w u v [] [] same a b = (refl, a ∙ sym b)
@@ -209,7 +209,7 @@ onward_to Is onward = record {
 
 module _ {A S : Type 0} (Is : Relation A) (says : A → S) (octets : S → List ℕ) (Fits : S → Type 0)
     (delimited : IsDelimited Is says octets Fits) where
-  -- where the octets of each come next, a row of them is there
+  -- if the octets of each come next, a row of them is there
   pub row_next : (w : Window) (said : List S) (more : List ℕ) → AllByRecursion Fits said
       → rest w ≡ row_octets octets said ++ more → Takes (Row Is) (map says) w said (length (row_octets octets said))
   row_next w [] more fits is = record { it = []; tells = refl; is = ap (λ p. at p w) (omega arith) }
@@ -281,7 +281,7 @@ times_once k once said a b =
 
 module _ {A S : Type 0} {Is : Relation A} {says : A → S} {octets : S → List ℕ} {Fits : S → Type 0}
     (canonical : IsCanonical Is says octets Fits) where
-  -- the window past a row
+  -- the window past a row is sound
   pub sound_row : (w : Window) (row : List A) (v : Window) → IsSound w → Row Is w row v → IsSound v
   sound_row w [] v sound is = subst IsSound (sym is) sound
   sound_row w (x ∷ row) v sound is = sound_row is.0 row v (canonical.on w x is.0 sound is.1) is.2

@@ -1,4 +1,4 @@
--- All octets up to the end of a window, which are a text.
+-- All octets up to the end of a window, which are well-formed UTF-8.
 use Rattle.std.specs.Prelude.{ℕ, List}
 use Rattle.octseq.specs.Text.{IsWellFormed}
 use Rattle.octseq.specs.Window.{Window, rest}
@@ -10,7 +10,7 @@ use Rattle.octseq_format.specs.Where.{IsWhere, WhereFits, one_where, onward_wher
 abbrev pub IsText : Relation Window
 IsText = IsWhere IsRest rest IsWellFormed
 
--- the octets are a text
+-- the octets are well-formed UTF-8
 abbrev pub TextFits : List ℕ → Type 0
 TextFits = WhereFits (λ _. Unit {0}) IsWellFormed
 

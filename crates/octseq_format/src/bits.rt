@@ -1,4 +1,4 @@
-//! Bits of a number, as numbers and flags.
+//! Bit fields: the bits of a number as numbers and flags.
 ghost use Rattle.std.specs.Prelude.{◌≡◌, ◌≢◌, ◌≤◌, ◌<◌, ◌+◌, ◌*◌, ◌/◌, ◌%◌, ◌^◌, ℕ, Bool, IsNone, IfSome, false};
 ghost use Rattle.std.specs.Coded.{Coded, coded_ℕ, coded_bool, coded×};
 ghost use Rattle.octseq.specs.Integer.{octets_be};
@@ -15,19 +15,19 @@ use octseq::{AsOctets, Malformed, OctetsBuilder, Parser, Truncate};
 use std::alloc::AllocError;
 use std::marker::PhantomData;
 
-/// What the bits of a number are.
+/// The fields that the bits of a number hold.
 pub trait BitFields {
-    /// What is read and written.
+    /// The type that is read and written.
     type Value: Copy + Drop;
 
     ghost Said: { Type 0 };
 
     ghost said: { Self.Value → Said };
 
-    // How many bits it has.
+    // The number of bits.
     ghost bits: { ℕ };
 
-    // The number whose bits they are.
+    // The number that the bits make up.
     ghost number: { Said → ℕ };
 
     ghost fits: { Said → Type 0 };
@@ -38,25 +38,25 @@ pub trait BitFields {
 
     ghost said_code: { Coded Said };
 
-    /// How many numbers have as many bits, or `None` where a `usize` doesn't count them.
+    /// Returns 2 to the power of the number of bits, or `None` if a `usize` can't hold it.
     fn size() -> Option<usize>
         ensures some { IfSome result (λ size. size ≡ 2 ^ bits) }
         ensures none { IsNone result → 2 ^ 64 ≤ 2 ^ bits };
 
-    /// What the bits of a number are, or `None` where it has more.
+    /// Splits a number into its fields. Returns `None` if it has more bits.
     fn split(from: usize) -> Option<Self::Value>
         ensures some { IfSome result (λ value. number (said value) ≡ from) }
         ensures fit { IfSome result (λ value. fits (said value)) }
         ensures none { IsNone result → (other : Said) → fits other → number other ≢ from };
 
-    /// The number whose bits they are, or `None` where one doesn't fit its bits, or the number a `usize`.
+    /// Joins fields to a number. Returns `None` if a field doesn't fit its bits, or the number doesn't fit a `usize`.
     fn join(value: Self::Value) -> Option<usize>
         ensures some { IfSome result (λ joined. joined ≡ number (said value)) }
         ensures fit { IfSome result (λ joined. fits (said value)) }
         ensures none { IsNone result → fits (said value) → 2 ^ 64 ≤ number (said value) };
 }
 
-/// A number without the lowest bits, which are `B`'s, and those.
+/// Splits off the lowest bits, those of `B`. Returns the upper bits and the lowest ones.
 fn parted<B: BitFields>(number: usize) -> (usize, usize)
     ensures high { result.0 ≡ number / 2 ^ B.bits }
     ensures low { result.1 ≡ number % 2 ^ B.bits }
@@ -67,7 +67,7 @@ fn parted<B: BitFields>(number: usize) -> (usize, usize)
     }
 }
 
-/// The number of these bits, the lowest, which are `B`'s, after the upper ones.
+/// Joins upper bits and the lowest ones, those of `B`.
 fn joined<B: BitFields>(high: usize, low: usize) -> Option<usize>
     ensures some { IfSome result (λ number. number ≡ high * 2 ^ B.bits + low) }
     ensures none { IsNone result → 2 ^ 64 ≤ high * 2 ^ B.bits + low }
@@ -78,7 +78,7 @@ fn joined<B: BitFields>(high: usize, low: usize) -> Option<usize>
     high.checked_mul(B::size()?)?.checked_add(low)
 }
 
-/// A number of `N` bits, where it has no more.
+/// Returns the number if it fits `N` bits.
 #[tactic(auto, using(crate::proofs::BitSteps::long_power, crate::proofs::BitSteps::none_above))]
 fn fitting<const N: u32>(number: usize) -> Option<usize>
     ensures some { IfSome result (λ value. (value ≡ number) × (number < 2 ^ N)) }
@@ -93,7 +93,7 @@ fn fitting<const N: u32>(number: usize) -> Option<usize>
     Some(number)
 }
 
-/// A number of `N` bits.
+/// An unsigned number of `N` bits.
 #[derive(Debug)]
 pub struct Low<const N: u32>;
 
@@ -133,7 +133,7 @@ impl<const N: u32> BitFields for Low<N> {
     }
 }
 
-/// One bit, as a truth value.
+/// One bit, as a `bool`.
 #[derive(Debug)]
 pub struct Flag;
 
@@ -280,7 +280,7 @@ impl<A: BitFields, B: BitFields, C: BitFields, D: BitFields> BitFields for (A, B
     }
 }
 
-/// A number in as many octets as `L` has, big-endian, by its bits `B`. Where `B` has fewer, the others are zero.
+/// A big-endian number of the width of `L`, split into the bit fields `B`. Bits above those of `B` are zero.
 #[derive(Debug)]
 pub struct Bits<L, B> {
     number: PhantomData<L>,

@@ -1,4 +1,4 @@
-//! One of several things, by a tag: a number that was read before them.
+//! A choice by a tag: a number that was read before.
 ghost use Rattle.std.specs.Prelude.{◌≡◌, ◌≤◌, ◌<◌, ◌^◌, ◌↔◌, ◌+◌, ◌*◌, ◌++◌, ℕ, ◌⊎◌, List, length, true, IsTrue};
 ghost use Rattle.std.specs.Prelude.{IsErr, IfOk, OnOk, OnErr, IsNone, IsSome, IfSome, false};
 ghost use Rattle.std.specs.Coded.{Coded, coded_ℕ, coded×, coded⊎};
@@ -24,26 +24,26 @@ use octseq::{AsOctets, Malformed, OctetsBuilder, Parser, Truncate};
 use std::alloc::AllocError;
 use std::marker::PhantomData;
 
-/// What comes after a tag: a format for each tag.
+/// The cases of a tag: the format of what follows it, for each tag.
 pub trait Cases<R: AsOctets + Copy> {
-    /// What is read and written.
+    /// The type that is read and written.
     type Value: Copy + Drop;
 
     ghost Found: { Type 0 };
 
     ghost found: { Self.Value → Found };
 
-    // It is at a window's position, after a tag.
+    // A value is at a window's position, after a tag.
     ghost is_at: { ByTag Found };
 
     ghost Said: { Type 0 };
 
     ghost says: { Found → Said };
 
-    // Its tag.
+    // The tag of a value.
     ghost tag: { Said → ℕ };
 
-    // Its octets, without the tag.
+    // The octets of a value, without the tag.
     ghost octets: { Said → List ℕ };
 
     ghost fits: { Said → Type 0 };
@@ -58,11 +58,11 @@ pub trait Cases<R: AsOctets + Copy> {
 
     ghost rate: { ℕ };
 
-    /// Takes what is at the parser's position, after this tag, and counts the turns of loops that this takes.
+    /// Reads the value at the parser's position, after this tag, and counts the loop turns that this takes.
     ///
     /// # Errors
     ///
-    /// `Malformed` where nothing of this format is there. The parser is then as it was.
+    /// `Malformed` if there is no value of this format. The parser is then unchanged.
     fn parse_case(
         number: usize,
         parser: &mut Parser<R>,
@@ -80,21 +80,21 @@ pub trait Cases<R: AsOctets + Copy> {
         ensures took { OnOk result (turns.new + rate * left (window parser.new)
             ≤ turns.old + base + rate * left (window parser.old)) };
 
-    /// The tag of a value.
+    /// Returns the tag of a value.
     fn tag_of(value: &Self::Value) -> usize
         ensures { result ≡ tag (says (found value.now)) };
 
-    /// How many octets say a value, or `None` where none do.
+    /// Returns the number of octets that encode a value, or `None` if none do.
     fn case_len(value: &Self::Value) -> Option<usize>
         ensures some { IfSome result (λ len. len ≡ length (octets (says (found value.now)))) }
         ensures fit { IsSome result → fits (says (found value.now)) }
         ensures none { IsNone result → ¬ HasOctets octets fits (says (found value.now)) };
 
-    /// Appends the octets of a value where they fit.
+    /// Appends the octets of a value. The caller has checked that they fit.
     ///
     /// # Errors
     ///
-    /// `AllocError` where a request for memory was refused. The content is then as it was.
+    /// `AllocError` if a request for memory was refused. The content is then unchanged.
     fn put_case<B: OctetsBuilder + Truncate>(
         builder: &mut B,
         value: &Self::Value,
@@ -111,21 +111,21 @@ pub trait Cases<R: AsOctets + Copy> {
     ghost read_back: { IsCaseReadBack is_at says tag octets fits };
 }
 
-/// Cases whose octets tell where they end.
+/// Cases whose octets show where they end, whatever follows.
 pub trait DelimitedCases<R: AsOctets + Copy>: Cases<R> {
     ghost delimited: { IsCaseDelimited Self.is_at Self.says Self.tag Self.octets Self.fits };
 }
 
-/// One of two things.
+/// One of two values.
 #[derive(Clone, Copy, Debug, PartialEq, Eq, Drop)]
 pub enum Either<A, B> {
-    /// The thing of the case.
+    /// The value of this case.
     This(A),
-    /// One of another case.
+    /// A value of another case.
     Other(B),
 }
 
-/// `F` where the tag is `N`, and else one of the cases `C`.
+/// `F` if the tag is `N`, otherwise one of the cases `C`.
 #[derive(Debug)]
 pub struct Case<const N: usize, F, C> {
     this: PhantomData<F>,
@@ -224,7 +224,7 @@ impl<R: AsOctets + Copy, const N: usize, F: Delimited<R>, C: DelimitedCases<R>> 
     ghost delimited = { delimited_case F.delimited C.delimited };
 }
 
-/// `F` where the tag is `N`, and nothing else: the last of the cases.
+/// `F` if the tag is `N`, otherwise an error. It ends a list of cases.
 #[derive(Debug)]
 pub struct Last<const N: usize, F> {
     this: PhantomData<F>,
@@ -298,7 +298,7 @@ impl<R: AsOctets + Copy, const N: usize, F: Delimited<R>> DelimitedCases<R> for 
     ghost delimited = { delimited_last F.delimited };
 }
 
-/// `F`, whatever the tag is, which is kept: the last of the cases.
+/// `F` for any tag, together with the tag. It ends a list of cases.
 #[derive(Debug)]
 pub struct Others<F> {
     other: PhantomData<F>,
@@ -372,7 +372,7 @@ impl<R: AsOctets + Copy, F: Delimited<R>> DelimitedCases<R> for Others<F> {
     ghost delimited = { delimited_other F.delimited };
 }
 
-/// A tag in as many octets as `L` has, followed by what the cases `C` have for it.
+/// A tag of the width of `L`, followed by the value that the cases `C` have for it.
 #[derive(Debug)]
 pub struct Tagged<L, C> {
     tag: PhantomData<L>,

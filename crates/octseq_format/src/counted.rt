@@ -1,4 +1,4 @@
-//! A thing after its length.
+//! Values with a length prefix.
 ghost use Rattle.std.specs.Prelude.{◌≡◌, ℕ, ◌+◌, ◌<◌, ◌≤◌, ◌^◌, ◌++◌, length, true, IsErr, IsNone, OnOk, OnErr, IfOk};
 ghost use Rattle.std.specs.Prelude.{IfSome};
 ghost use Rattle.std.proofs.Common.{rules};
@@ -15,31 +15,32 @@ use octseq::{AsOctets, Malformed, OctetsBuilder, Parser, ShortInput, Truncate};
 use std::alloc::AllocError;
 use std::marker::PhantomData;
 
-/// A length in 1, 2, 3 or 4 octets, big-endian.
+/// A big-endian length of 1, 2, 3 or 4 octets.
 pub trait Length {
     ghost width: { ℕ };
 
-    /// How many octets one has.
+    /// Returns the width in octets.
     fn octets() -> usize
         ensures { result ≡ width };
 
-    /// The next one.
+    /// Reads the next length.
     fn parse_len<R: AsOctets>(parser: &mut Parser<R>) -> Result<usize, ShortInput>
         ensures taken { Takes result width parser.old parser.new }
         ensures value { IfOk result (λ len. len ≡ be (next width (window parser.old))) };
 
-    /// A length and so many octets after it, or `None` where the length doesn't fit.
+    /// Returns the number of octets of a length and `len` octets after it, or `None` if the length, `extra + len`,
+    /// doesn't fit its width.
     fn whole_len(len: usize, extra: usize) -> Option<usize>
         ensures some { IfSome result (λ whole. (whole ≡ width + len) × (extra + len < 256 ^ width)) }
         ensures none { IsNone result → 256 ^ width ≤ extra + len };
 
-    /// A count of so many things, followed by `len` octets, or `None` where the count doesn't fit, or the octets are
-    /// more than a `usize` counts.
+    /// Returns the number of octets of a count and `len` octets after it, or `None` if the count doesn't fit its width,
+    /// or the sum doesn't fit a `usize`.
     fn count_len(count: usize, len: usize) -> Option<usize>
         ensures some { IfSome result (λ whole. (whole ≡ width + len) × (count < 256 ^ width)) }
         ensures none { IsNone result → count < 256 ^ width → 2 ^ 64 ≤ width + len };
 
-    /// Appends the length of so many octets and so many more.
+    /// Appends a length, `extra + len`.
     fn put_len<B: OctetsBuilder>(
         builder: &mut B,
         len: usize,
@@ -54,7 +55,7 @@ pub trait Length {
 
     ghost wide: { 0 < width };
 
-    // Its numbers are `usize`s.
+    // Its numbers fit a `usize`.
     ghost most: { 256 ^ width ≤ 2 ^ 64 };
 }
 
@@ -214,8 +215,8 @@ impl Length for u32 {
     ghost most = { Prim.search rules };
 }
 
-/// What `A` is, after a length of its octets. It takes all of the octets that the length counts. The length counts
-/// `EXTRA` octets more: those that a format has before the length, and the length itself.
+/// `A` with a length prefix. `A` takes all the octets that the length counts. The length includes `EXTRA` more octets:
+/// fields before the length, and the length itself.
 #[derive(Debug)]
 pub struct Counted<L, A, const EXTRA: usize> {
     length: PhantomData<L>,

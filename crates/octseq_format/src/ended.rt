@@ -14,7 +14,7 @@ use octseq::utf8::Turns;
 use octseq::{AsOctets, Malformed, OctetsBuilder, Parser, Truncate};
 use std::alloc::AllocError;
 
-/// Where the first zero is.
+/// Returns the index of the first zero.
 fn first_zero(octets: &[u8]) -> Option<usize>
     ensures some { IfSome result (λ n. EndsAt octets.now n) }
     ensures none { IsNone result → HasNoZero octets.now }
@@ -22,7 +22,7 @@ fn first_zero(octets: &[u8]) -> Option<usize>
     memchr(0, octets)
 }
 
-/// The octets before the first zero, as a parser of them alone. What comes next is after the zero.
+/// The octets before the first zero, as a parser of them alone. The parser goes on after the zero.
 #[derive(Debug)]
 pub struct ZeroEnded;
 

@@ -1,4 +1,4 @@
-//! A number that is fixed.
+//! A fixed number.
 ghost use Rattle.std.specs.Prelude.{◌≡◌, ◌<◌, ◌^◌, true};
 ghost use Rattle.octseq.specs.Integer.{octets_be};
 ghost use Rattle.octseq_format.specs.Exactly.{IsExactly, coded_unit, one_exactly, onward_exactly};
@@ -11,7 +11,7 @@ use octseq::{AsOctets, Malformed, OctetsBuilder, Parser, Truncate};
 use std::alloc::AllocError;
 use std::marker::PhantomData;
 
-/// The number `N`, in as many octets as `L` has.
+/// The number `N`, in the width of `L`.
 #[derive(Debug)]
 pub struct Exactly<L, const N: usize> {
     number: PhantomData<L>,

@@ -1,4 +1,4 @@
-//! Structs and enums of one's own.
+//! Your own structs and enums.
 ghost use Rattle.std.specs.Prelude.{◌≡◌};
 
 use crate::format::{Delimited, Format, Moving};
@@ -7,24 +7,24 @@ use octseq::{AsOctets, Malformed, OctetsBuilder, Parser, Truncate};
 use std::alloc::AllocError;
 use std::marker::PhantomData;
 
-/// A struct or an enum of one's own, by the format of its fields.
+/// A struct or an enum of your own, by the format of its fields.
 pub trait Fields<R: AsOctets + Copy>: Copy + Drop {
-    /// The format of the fields: a tuple, say.
+    /// The format of the fields, such as a tuple.
     type Format: Format<R>;
 
     // The fields.
     ghost fields: { Self → Self.Format.Value };
 
-    /// The value that has these fields.
+    /// Makes a value of its fields.
     fn from_fields(parts: <Self::Format as Format<R>>::Value) -> Self
         ensures { fields result ≡ parts };
 
-    /// Its fields.
+    /// Returns the fields.
     fn to_fields(&self) -> <Self::Format as Format<R>>::Value
         ensures { result ≡ fields self.now };
 }
 
-/// A struct or an enum of one's own: what its fields are.
+/// The format of a struct or an enum of your own, by its fields.
 #[derive(Debug)]
 pub struct Of<S> {
     whole: PhantomData<S>,

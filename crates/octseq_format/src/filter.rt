@@ -1,4 +1,4 @@
-//! A number that meets a test.
+//! Numbers that meet a test.
 ghost use Rattle.std.specs.Prelude.{◌≡◌, ◌<◌, ◌^◌, ℕ, IsTrue, IsFalse, false};
 ghost use Rattle.std.specs.Coded.{coded_ℕ};
 ghost use Rattle.octseq.specs.Integer.{be, octets_be};
@@ -26,7 +26,7 @@ pub trait Test {
         ensures no { IsFalse result → ¬ holds number };
 }
 
-/// A number in as many octets as `L` has, where it meets the test `T`.
+/// A number of the width of `L` that meets the test `T`.
 #[derive(Debug)]
 pub struct Where<L, T> {
     number: PhantomData<L>,

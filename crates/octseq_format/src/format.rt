@@ -1,4 +1,4 @@
-//! What a format is.
+//! The trait of formats.
 ghost use Rattle.std.specs.Prelude.{◌≡◌, ◌≤◌, ◌<◌, ◌↔◌, ◌+◌, ◌*◌, ◌++◌, ℕ, List, length, Bool, true, IsTrue, IsFalse};
 ghost use Rattle.std.specs.Prelude.{IsErr, IfOk, OnOk, OnErr, IsNone, IsSome, IfSome};
 ghost use Rattle.std.specs.Coded.{Coded};
@@ -15,9 +15,9 @@ use octseq::utf8::Turns;
 use octseq::{AsOctets, EmptyBuilder, Malformed, OctetsBuilder, OctetsLimit, Parser, Truncate};
 use std::alloc::{AllocError, Global};
 
-/// What octets say, and the octets that say it.
+/// How a value is encoded as octets: one type reads and writes it.
 pub trait Format<R: AsOctets + Copy> {
-    /// What is read and written.
+    /// The type that is read and written.
     type Value: Copy + Drop;
 
     // What contracts see of a value: what it says, and the places where that was found.
@@ -25,10 +25,10 @@ pub trait Format<R: AsOctets + Copy> {
 
     ghost found: { Self.Value → Found };
 
-    // It is at a window's position, and the second window is past it.
+    // A value is at a window's position, and the second window is past it.
     ghost is_at: { Relation Found };
 
-    // What it says, wherever it was found.
+    // What a value says, wherever it was found.
     ghost Said: { Type 0 };
 
     ghost says: { Found → Said };
@@ -36,34 +36,34 @@ pub trait Format<R: AsOctets + Copy> {
     // The octets that say it.
     ghost octets: { Said → List ℕ };
 
-    // It has octets: its lengths fit their numbers.
+    // It has octets: its lengths fit their fields.
     ghost fits: { Said → Type 0 };
 
-    // One thing is at a place at most.
+    // At most one value is at a place.
     ghost one: { IsOne is_at };
 
-    // Two of them are equal in one way at most.
+    // Two of them are equal in at most one way.
     ghost found_code: { Coded Found };
 
-    // How many octets it takes at least.
+    // The minimum number of octets.
     ghost least: { ℕ };
 
-    // How many turns of loops the reading of it takes at least.
+    // The minimum number of loop turns that reading it takes.
     ghost turns_of: { Found → ℕ };
 
-    // How many a reading takes at most, whatever is there, and how many more for each octet that is left.
+    // The maximum number of turns that any reading takes, without and for each octet that is left.
     ghost base: { ℕ };
 
     ghost rate: { ℕ };
 
-    // Whether it is known to be said in one way.
+    // Whether its encoding is known to be unique.
     ghost one_way: { Bool };
 
-    /// Takes what is at the parser's position, and counts the turns of loops that this takes.
+    /// Reads the value at the parser's position, and counts the loop turns that this takes.
     ///
     /// # Errors
     ///
-    /// `Malformed` where nothing of this format is there. The parser is then as it was.
+    /// `Malformed` if there is no value of this format. The parser is then unchanged.
     fn parse_counted(parser: &mut Parser<R>, turns: &mut Turns) -> Result<Self::Value, Malformed>
         ensures value { IfOk result (λ value. is_at (window parser.old) (found value) (window parser.new)) }
         ensures malformed { IsErr result → (other : Found) (end : Window) → ¬ is_at (window parser.old) other end }
@@ -76,27 +76,27 @@ pub trait Format<R: AsOctets + Copy> {
         ensures took { OnOk result (turns.new + rate * left (window parser.new)
             ≤ turns.old + base + rate * left (window parser.old)) };
 
-    /// How many octets a thing takes at least.
+    /// Returns the minimum number of octets of a value.
     fn least_len() -> usize
         ensures { result ≤ least };
 
-    /// Whether a thing is said in one way: then what was read is written as the octets that it was read from. `false`
-    /// where that isn't known.
+    /// Whether a value has one encoding only, so that what was read is written as the octets it was read from. Returns
+    /// `false` if that isn't known.
     fn is_canonical() -> bool
         ensures { result ≡ one_way };
 
-    /// How many octets say a value, or `None` where none do: where a length doesn't fit its number, or there are more
-    /// than a `usize` counts.
+    /// Returns the number of octets that encode a value, or `None` if none do: a length doesn't fit its field, or the
+    /// number doesn't fit a `usize`.
     fn compose_len(value: &Self::Value) -> Option<usize>
         ensures some { IfSome result (λ len. len ≡ length (octets (says (found value.now)))) }
         ensures fit { IsSome result → fits (says (found value.now)) }
         ensures none { IsNone result → ¬ HasOctets octets fits (says (found value.now)) };
 
-    /// Appends the octets of a value where they fit: [`append`](Self::append) asks that first.
+    /// Appends the octets of a value. The caller has checked that they fit, as [`append`](Self::append) does.
     ///
     /// # Errors
     ///
-    /// `AllocError` where a request for memory was refused. The content is then as it was.
+    /// `AllocError` if a request for memory was refused. The content is then unchanged.
     fn put<B: OctetsBuilder + Truncate>(
         builder: &mut B,
         value: &Self::Value,
@@ -108,11 +108,11 @@ pub trait Format<R: AsOctets + Copy> {
         ensures memory { IsErr result → B.asks ≡ true }
         ensures borrows { B.borrows builder.new ≡ B.borrows builder.old };
 
-    /// Takes what is at the parser's position.
+    /// Reads the value at the parser's position.
     ///
     /// # Errors
     ///
-    /// `Malformed` where nothing of this format is there. The parser is then as it was.
+    /// `Malformed` if there is no value of this format. The parser is then unchanged.
     #[inline(always)]
     final fn parse(parser: &mut Parser<R>) -> Result<Self::Value, Malformed>
         ensures value { IfOk result (λ value. is_at (window parser.old) (found value) (window parser.new)) }
@@ -124,11 +124,11 @@ pub trait Format<R: AsOctets + Copy> {
         Self::parse_counted(parser, &mut Turns::new())
     }
 
-    /// What all the octets say.
+    /// Reads a value from all the octets.
     ///
     /// # Errors
     ///
-    /// `Malformed` where they don't say such a thing, or octets are left after it.
+    /// `Malformed` if they aren't such a value, or octets are left after it.
     #[inline(always)]
     final fn parse_whole(from: R) -> Result<Self::Value, Malformed>
         ensures value { IfOk result (λ value. is_at (whole (R.content from)) (found value)
@@ -144,12 +144,12 @@ pub trait Format<R: AsOctets + Copy> {
         Ok(value)
     }
 
-    /// Appends the octets of a value, or nothing.
+    /// Appends the octets of a value. On an error it appends nothing.
     ///
     /// # Errors
     ///
-    /// `TooLong` where a length doesn't fit its number. Else `Short` where the content would pass the limit of its
-    /// type, and else `Memory` where a request for memory was refused. The content is then as it was.
+    /// `TooLong` if a length doesn't fit its field. Otherwise `Short` if the content would exceed the limit of its
+    /// type. Otherwise `Memory` if a request for memory was refused. The content is then unchanged.
     #[inline(always)]
     final fn append<B: OctetsBuilder + Truncate>(
         builder: &mut B,
@@ -175,12 +175,12 @@ pub trait Format<R: AsOctets + Copy> {
         }
     }
 
-    /// A builder with the octets of a value.
+    /// Returns a new builder with the octets of a value.
     ///
     /// # Errors
     ///
-    /// `TooLong` where a length doesn't fit its number. Else `Short` where the octets pass the limit of the builder's
-    /// type, and else `Memory` where a request for memory was refused.
+    /// `TooLong` if a length doesn't fit its field. Otherwise `Short` if the octets exceed the limit of the builder's
+    /// type. Otherwise `Memory` if a request for memory was refused.
     #[inline(always)]
     final fn compose_whole<B: EmptyBuilder + Truncate>(
         alloc: Global,
@@ -208,28 +208,28 @@ pub trait Format<R: AsOctets + Copy> {
         }
     }
 
-    // Where it is said in one way, what was read is written as the octets that it was read from.
+    // If the encoding is unique, what was read is written as the octets it was read from.
     ghost canonical: { IsTrue one_way → IsCanonical is_at says octets fits };
 
-    // What is past it is a window on the same octets, no further back and with the same end.
+    // What follows is a window on the same octets, no further back and with the same end.
     ghost onward: { IsOnward least is_at };
 
-    // Where nothing but its octets is left, it is read back.
+    // If nothing but its octets is left, it is read back.
     ghost read_back: { IsReadBack is_at says octets fits };
 }
 
-/// A format whose octets tell where it ends, whatever comes after them.
+/// A format whose octets show where a value ends, whatever follows.
 pub trait Delimited<R: AsOctets + Copy>: Format<R> {
-    // Where its octets come next, it is read back.
+    // If its octets come next, it is read back.
     ghost delimited: { IsDelimited Self.is_at Self.says Self.octets Self.fits };
 }
 
-/// A format whose things take an octet each at least.
+/// A format whose values take at least one octet each.
 pub trait Moving<R: AsOctets + Copy>: Delimited<R> {
     ghost moving: { 0 < Self.least };
 }
 
-/// Whether a content of `before` octets has room for `len` more within a limit. Without a limit it has.
+/// Whether `before` octets and `len` more are within a limit. Always, if there is none.
 pub(crate) fn has_room(limit: Option<usize>, before: usize, len: usize) -> bool
     ensures within { IsTrue result → IsWithin limit (before + len) }
     ensures past { IsFalse result ↔ IsPast limit (before + len) }

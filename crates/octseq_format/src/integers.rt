@@ -1,4 +1,4 @@
-//! Integers, in both orders.
+//! Big-endian and little-endian integers.
 ghost use Rattle.std.specs.Prelude.{◌≡◌, ℕ, ◌+◌, ◌<◌, ◌++◌, length, true, IsErr, IsTrue, IsFalse, OnOk, OnErr, IfOk};
 ghost use Rattle.octseq.specs.Limit.{IsPast, IsWithin};
 ghost use Rattle.octseq.specs.Parser.{window, sequence, Takes};
@@ -18,30 +18,30 @@ use octseq::{AsOctets, Malformed, OctetsBuilder, Parser, ShortInput, Truncate};
 use std::alloc::AllocError;
 use std::marker::PhantomData;
 
-/// Integers of one width and sign, and how they are read and written in both orders.
+/// Integers of one width and sign, read and written in both orders.
 pub trait Integer {
-    /// The Rust type of a value.
+    /// The Rust type of the integers.
     type Value: Copy + Drop;
 
     ghost kind: { Kind };
 
     ghost number: { Self.Value → kind.Number };
 
-    /// How many octets one has.
+    /// Returns the width in octets.
     fn width() -> usize
         ensures { result ≡ kind.width };
 
-    /// Whether a value fits so many octets.
+    /// Whether a value fits this many octets.
     fn fits(value: Self::Value) -> bool
         ensures yes { IsTrue result → kind.Fits (number value) }
         ensures no { IsFalse result → ¬ kind.Fits (number value) };
 
-    /// The next one, big-endian.
+    /// Reads the next one, big-endian.
     fn parse_be<R: AsOctets>(parser: &mut Parser<R>) -> Result<Self::Value, ShortInput>
         ensures taken { Takes result kind.width parser.old parser.new }
         ensures value { IfOk result (λ value. number value ≡ kind.be (next kind.width (window parser.old))) };
 
-    /// The next one, little-endian.
+    /// Reads the next one, little-endian.
     fn parse_le<R: AsOctets>(parser: &mut Parser<R>) -> Result<Self::Value, ShortInput>
         ensures taken { Takes result kind.width parser.old parser.new }
         ensures value { IfOk result (λ value. number value ≡ kind.le (next kind.width (window parser.old))) };
@@ -135,7 +135,7 @@ impl Integer for u16 {
     ghost wide = { Prim.search rules };
 }
 
-/// Unsigned integers of 3 octets. Their values are `u32`s.
+/// Unsigned integers of 3 octets, as `u32`s.
 #[derive(Debug)]
 pub struct U24;
 
@@ -207,7 +207,7 @@ impl Integer for u32 {
     ghost wide = { Prim.search rules };
 }
 
-/// Unsigned integers of 6 octets. Their values are `u64`s.
+/// Unsigned integers of 6 octets, as `u64`s.
 #[derive(Debug)]
 pub struct U48;
 
@@ -488,7 +488,7 @@ impl Integer for i128 {
     ghost wide = { Prim.search rules };
 }
 
-/// An integer, big-endian.
+/// A big-endian integer.
 #[derive(Debug)]
 pub struct Be<T> {
     integer: PhantomData<T>,
@@ -576,7 +576,7 @@ impl<R: AsOctets + Copy, T: Integer> Moving<R> for Be<T> {
     ghost moving = { T.wide };
 }
 
-/// An integer, little-endian.
+/// A little-endian integer.
 #[derive(Debug)]
 pub struct Le<T> {
     integer: PhantomData<T>,
@@ -664,68 +664,68 @@ impl<R: AsOctets + Copy, T: Integer> Moving<R> for Le<T> {
     ghost moving = { T.wide };
 }
 
-/// An octet, unsigned.
+/// An unsigned octet.
 pub type U8 = Be<u8>;
 
-/// An octet, signed.
+/// A signed octet.
 pub type I8 = Be<i8>;
 
-/// 2 octets, big-endian, unsigned.
+/// An unsigned integer of 2 octets, big-endian.
 pub type U16Be = Be<u16>;
 
-/// 2 octets, little-endian, unsigned.
+/// An unsigned integer of 2 octets, little-endian.
 pub type U16Le = Le<u16>;
 
-/// 3 octets, big-endian, unsigned.
+/// An unsigned integer of 3 octets, big-endian.
 pub type U24Be = Be<U24>;
 
-/// 3 octets, little-endian, unsigned.
+/// An unsigned integer of 3 octets, little-endian.
 pub type U24Le = Le<U24>;
 
-/// 4 octets, big-endian, unsigned.
+/// An unsigned integer of 4 octets, big-endian.
 pub type U32Be = Be<u32>;
 
-/// 4 octets, little-endian, unsigned.
+/// An unsigned integer of 4 octets, little-endian.
 pub type U32Le = Le<u32>;
 
-/// 6 octets, big-endian, unsigned.
+/// An unsigned integer of 6 octets, big-endian.
 pub type U48Be = Be<U48>;
 
-/// 6 octets, little-endian, unsigned.
+/// An unsigned integer of 6 octets, little-endian.
 pub type U48Le = Le<U48>;
 
-/// 8 octets, big-endian, unsigned.
+/// An unsigned integer of 8 octets, big-endian.
 pub type U64Be = Be<u64>;
 
-/// 8 octets, little-endian, unsigned.
+/// An unsigned integer of 8 octets, little-endian.
 pub type U64Le = Le<u64>;
 
-/// 16 octets, big-endian, unsigned.
+/// An unsigned integer of 16 octets, big-endian.
 pub type U128Be = Be<u128>;
 
-/// 16 octets, little-endian, unsigned.
+/// An unsigned integer of 16 octets, little-endian.
 pub type U128Le = Le<u128>;
 
-/// 2 octets, big-endian, signed.
+/// A signed integer of 2 octets, big-endian.
 pub type I16Be = Be<i16>;
 
-/// 2 octets, little-endian, signed.
+/// A signed integer of 2 octets, little-endian.
 pub type I16Le = Le<i16>;
 
-/// 4 octets, big-endian, signed.
+/// A signed integer of 4 octets, big-endian.
 pub type I32Be = Be<i32>;
 
-/// 4 octets, little-endian, signed.
+/// A signed integer of 4 octets, little-endian.
 pub type I32Le = Le<i32>;
 
-/// 8 octets, big-endian, signed.
+/// A signed integer of 8 octets, big-endian.
 pub type I64Be = Be<i64>;
 
-/// 8 octets, little-endian, signed.
+/// A signed integer of 8 octets, little-endian.
 pub type I64Le = Le<i64>;
 
-/// 16 octets, big-endian, signed.
+/// A signed integer of 16 octets, big-endian.
 pub type I128Be = Be<i128>;
 
-/// 16 octets, little-endian, signed.
+/// A signed integer of 16 octets, little-endian.
 pub type I128Le = Le<i128>;

@@ -1,4 +1,4 @@
-//! What holds of every format. Each law is the contract of a function that does nothing.
+//! The laws of every format. Each law is the contract of a function that does nothing.
 ghost use Rattle.std.specs.Prelude.{◌≡◌, ℕ, List, ◌++◌, length};
 ghost use Rattle.octseq_format.specs.Canonical.{AreOctets};
 ghost use Rattle.octseq_format.specs.Laws.{HasOctets};
@@ -7,31 +7,31 @@ ghost use Rattle.octseq.specs.Window.{Window, rest, past, whole};
 use crate::format::{Delimited, Format};
 use octseq::AsOctets;
 
-/// What a slice has are octets.
+/// A slice holds octets.
 pub fn are_octets(octets: &[u8])
     ensures { AreOctets octets.now }
 {
     let _octets = octets;
 }
 
-/// One thing is at a place at most, with one end.
+/// At most one value is at a place, with one end.
 pub fn one_reading<R: AsOctets + Copy, F: Format<R>>()
     ensures { (w : Window) (a b : F.Found) (u v : Window) → F.is_at w a u → F.is_at w b v → (a ≡ b) × (u ≡ v) }
 {}
 
-/// What was written is read back: all of the octets that say a thing are read as that thing.
+/// What was written is read back: all the octets of a value are read as that value.
 pub fn whole_is_read_back<R: AsOctets + Copy, F: Format<R>>()
     ensures { (said : F.Said) → F.fits said → (found : F.Found) × (F.says found ≡ said)
         × F.is_at (whole (F.octets said)) found (past (length (F.octets said)) (whole (F.octets said))) }
 {}
 
-/// And so they are wherever they come next, whatever comes after them, where the format tells where it ends.
+/// The same wherever the octets come next, whatever follows them, if the format shows where a value ends.
 pub fn next_is_read_back<R: AsOctets + Copy, F: Delimited<R>>()
     ensures { (w : Window) (said : F.Said) (more : List ℕ) → F.fits said → rest w ≡ F.octets said ++ more
         → (found : F.Found) × (F.says found ≡ said) × F.is_at w found (past (length (F.octets said)) w) }
 {}
 
-/// Reads octets that were composed of a value. It isn't refused, and what is read says the same.
+/// Reads octets that were composed of a value. It never fails, and what it reads says the same.
 pub fn parse_composed<R: AsOctets + Copy, F: Format<R>>(octets: R, value: &F::Value) -> F::Value
     requires fit { HasOctets F.octets F.fits (F.says (F.found value.now)) }
     requires octets { R.content octets ≡ F.octets (F.says (F.found value.now)) }

@@ -1,4 +1,4 @@
-//! Formats: what octets say, written down as a type. Its reader, its writer and their laws come with it.
+//! Binary formats as types: a format comes with its reader, its writer and their laws.
 #![tactic(auto)]
 
 pub mod bits;

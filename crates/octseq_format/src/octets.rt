@@ -9,7 +9,7 @@ use octseq::utf8::Turns;
 use octseq::{AsOctets, Malformed, OctetsBuilder, Parser, Truncate};
 use std::alloc::AllocError;
 
-/// All octets up to the end of the window, as a parser of them alone. A slice is written by a parser of it.
+/// All octets up to the end of the window, as a parser of them alone. To write a slice, pass a parser of it.
 #[derive(Debug)]
 pub struct Rest;
 

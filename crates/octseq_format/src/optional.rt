@@ -1,4 +1,4 @@
-//! A thing at the end, or nothing.
+//! An optional value at the end.
 ghost use Rattle.std.specs.Prelude.{Option, false};
 ghost use Rattle.std.specs.Coded.{coded_option};
 ghost use Rattle.octseq_format.specs.Optional.{IsOptional, optional_says, optional_octets, OptionalFits};
@@ -11,7 +11,7 @@ use octseq::{AsOctets, Malformed, OctetsBuilder, Parser, Truncate};
 use std::alloc::AllocError;
 use std::marker::PhantomData;
 
-/// What `A` is, or nothing where nothing is left.
+/// `A`, or nothing if no octets are left.
 #[derive(Debug)]
 pub struct Optional<A> {
     inside: PhantomData<A>,

@@ -1,4 +1,4 @@
-//! Things of one kind, one after another.
+//! Rows: values of one format, one after another.
 ghost use Rattle.std.specs.Prelude.{◌≡◌, ◌≤◌, ◌<◌, ◌+◌, ◌*◌, ◌++◌, ℕ, List, length, map, true, IsErr, IsNone, IsSome};
 ghost use Rattle.std.specs.Prelude.{IfSome, IfOk, OnOk, OnErr};
 ghost use Rattle.std.specs.Coded.{coded_list};
@@ -20,7 +20,7 @@ use octseq::{AsOctets, Malformed, OctetsBuilder, Parser, Truncate};
 use std::alloc::AllocError;
 use std::marker::PhantomData;
 
-/// Takes so many.
+/// Reads `count` items.
 fn pass_many<R: AsOctets + Copy, F: Moving<R>>(
     parser: &mut Parser<R>,
     count: usize,
@@ -45,11 +45,11 @@ fn pass_many<R: AsOctets + Copy, F: Moving<R>>(
     Ok(())
 }
 
-/// Takes as many things as a count that was read elsewhere says, and counts the turns of loops that this takes.
+/// Reads `count` items, as a count elsewhere in the message may say, and counts the loop turns that this takes.
 ///
 /// # Errors
 ///
-/// `Malformed` where there aren't as many. The parser is then as it was.
+/// `Malformed` if there are fewer. The parser is then unchanged.
 pub fn parse_many<R: AsOctets + Copy, F: Moving<R>>(
     parser: &mut Parser<R>,
     count: usize,
@@ -74,7 +74,7 @@ pub fn parse_many<R: AsOctets + Copy, F: Moving<R>>(
     Ok(Walk::at(first, count, ahead.pos()))
 }
 
-/// Takes all up to the end of the window, and tells how many they are.
+/// Reads all items up to the end of the window. Returns how many there are.
 fn pass_all<R: AsOctets + Copy, F: Moving<R>>(
     parser: &mut Parser<R>,
     turns: &mut Turns,
@@ -103,7 +103,7 @@ fn pass_all<R: AsOctets + Copy, F: Moving<R>>(
     Ok(count)
 }
 
-/// How many octets they have in all.
+/// Returns the number of octets of all the items.
 fn items_len<R: AsOctets + Copy, F: Format<R>>(walk: Walk<R, F>) -> Option<usize>
     ensures some { IfSome result (λ len. len ≡ length (row_octets F.octets (map F.says (items_left walk)))) }
     ensures fit { IsSome result → AllByRecursion F.fits (map F.says (items_left walk)) }
@@ -120,7 +120,7 @@ fn items_len<R: AsOctets + Copy, F: Format<R>>(walk: Walk<R, F>) -> Option<usize
     Some(len)
 }
 
-/// Appends the octets of each. A refusal leaves those of some.
+/// Appends the octets of each item. On an error it may have appended those of some.
 fn put_items<B: OctetsBuilder + Truncate, R: AsOctets + Copy, F: Format<R>>(
     builder: &mut B,
     walk: Walk<R, F>,
@@ -145,7 +145,7 @@ fn put_items<B: OctetsBuilder + Truncate, R: AsOctets + Copy, F: Format<R>>(
     Ok(())
 }
 
-/// All things up to the end of the window.
+/// All items up to the end of the window.
 #[derive(Debug)]
 pub struct Repeated<F> {
     item: PhantomData<F>,
@@ -232,7 +232,7 @@ impl<R: AsOctets + Copy, F: Moving<R>> Format<R> for Repeated<F> {
         (delimited_moved (moving_of F.onward F.moving) F.delimited) };
 }
 
-/// As many things as the count before them says.
+/// A count, followed by that many items.
 #[derive(Debug)]
 pub struct Times<N, F> {
     count: PhantomData<N>,

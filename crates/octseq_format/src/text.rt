@@ -11,8 +11,8 @@ use octseq::utf8::{Turns, find_fault};
 use octseq::{AsOctets, Malformed, OctetsBuilder, Parser, Truncate};
 use std::alloc::AllocError;
 
-/// All octets up to the end of the window, where they are well-formed UTF-8, as a parser of them alone. They are known
-/// to be a text, so `Str::from_utf8_unchecked` makes one of them with no second search.
+/// All octets up to the end of the window, if they are well-formed UTF-8, as a parser of them alone. They are known to
+/// be UTF-8, so `Str::from_utf8_unchecked` makes a text of them without a second check.
 #[derive(Debug)]
 pub struct Text;
 

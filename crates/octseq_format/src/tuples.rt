@@ -1,4 +1,4 @@
-//! Tuples: one thing after another.
+//! Tuples: one value after another.
 ghost use Rattle.std.specs.Prelude.{◌+◌, ◌&&◌};
 ghost use Rattle.octseq_format.specs.Pair.{◌then◌, ◌and◌, ◌before◌, ◌also◌, ◌code_then◌, ◌plus◌};
 ghost use Rattle.octseq_format.specs.Pair.{◌one_then◌, ◌onward_then◌, ◌back_then◌, ◌delimited_then◌, ◌canonical_then◌};

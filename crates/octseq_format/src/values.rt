@@ -1,4 +1,4 @@
-//! Values in a slice, written one after another.
+//! Slices of values, written one after another.
 ghost use Rattle.std.specs.Prelude.{◌≡◌, ◌↔◌, ◌+◌, ◌++◌, length, map, true, IsErr, IsNone, IsSome, IfSome, OnOk, OnErr};
 ghost use Rattle.std.specs.List.{AllByRecursion};
 ghost use Rattle.octseq.specs.Limit.{IsPast, IsWithin};
@@ -12,7 +12,7 @@ use octseq::compose::ComposeError;
 use octseq::{AsOctets, OctetsBuilder, Truncate};
 use std::alloc::AllocError;
 
-/// How many octets they have in all.
+/// Returns the number of octets of all the items.
 fn values_len<R: AsOctets + Copy, F: Format<R>>(values: &[F::Value]) -> Option<usize>
     ensures some { IfSome result (λ len.
         len ≡ length (row_octets F.octets (map (λ v. F.says (F.found v)) values.now))) }
@@ -29,7 +29,7 @@ fn values_len<R: AsOctets + Copy, F: Format<R>>(values: &[F::Value]) -> Option<u
     Some(len)
 }
 
-/// Appends the octets of each. A refusal leaves those of some.
+/// Appends the octets of each item. On an error it may have appended those of some.
 fn put_values<B: OctetsBuilder + Truncate, R: AsOctets + Copy, F: Format<R>>(
     builder: &mut B,
     values: &[F::Value],
@@ -51,12 +51,12 @@ fn put_values<B: OctetsBuilder + Truncate, R: AsOctets + Copy, F: Format<R>>(
     Ok(())
 }
 
-/// Appends the octets of values, one after another, or nothing.
+/// Appends the octets of values, one after another. On an error it appends nothing.
 ///
 /// # Errors
 ///
-/// `TooLong` where a length doesn't fit its number. Else `Short` where the content would pass the limit of its type,
-/// and else `Memory` where a request for memory was refused. The content is then as it was.
+/// `TooLong` if a length doesn't fit its field. Otherwise `Short` if the content would exceed the limit of its type.
+/// Otherwise `Memory` if a request for memory was refused. The content is then unchanged.
 pub fn append_all<R: AsOctets + Copy, F: Format<R>, B: OctetsBuilder + Truncate>(
     builder: &mut B,
     values: &[F::Value],

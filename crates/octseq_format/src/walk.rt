@@ -1,4 +1,4 @@
-//! A walk over things of one kind, one after another. It can't fail: they were read before.
+//! An iterator over the items of a row. It never fails, as they were read before.
 ghost use Rattle.std.specs.Prelude.{◌≡◌, ◌≤◌, ◌+◌, ◌↔◌, ⊤, [], length, map, IsTrue};
 ghost use Rattle.octseq.specs.Parser.{window};
 ghost use Rattle.octseq.specs.Window.{left};
@@ -12,7 +12,7 @@ use octseq::{AsOctets, Parser};
 use std::alloc::AllocError;
 use std::marker::PhantomData;
 
-/// The things of one kind that are left, from the first one on.
+/// The items of a row that are left.
 #[derive(Debug)]
 pub struct Walk<R: AsOctets + Copy, F: Format<R>> {
     parser: Parser<R>,
@@ -42,21 +42,21 @@ impl<R: AsOctets + Copy, F: Format<R>> Clone for Walk<R, F> {
 impl<R: AsOctets + Copy, F: Format<R>> Walk<R, F> {
     ghost use Rattle.octseq_format.specs.Walk.{items_left};
 
-    /// How many things are left.
+    /// Returns the number of items that are left.
     pub fn len(&self) -> usize
         ensures { result ≡ length (items_left self.now) }
     {
         self.left
     }
 
-    /// Whether nothing is left.
+    /// Whether no items are left.
     pub fn is_empty(&self) -> bool
         ensures { IsTrue result ↔ (items_left self.now ≡ []) }
     {
         self.len() == 0
     }
 
-    /// The same things again, from the first one on.
+    /// Returns another walk over the same items.
     pub fn iter(&self) -> Walk<R, F>
         ensures { items_left result ≡ items_left self.now }
     {
@@ -68,7 +68,8 @@ impl<R: AsOctets + Copy, F: Format<R>> Walk<R, F> {
         }
     }
 
-    /// The octets that they were read from, where those are the ones that say them.
+    /// Returns the octets that the items were read from. If their encoding is unique, these are the octets that say
+    /// them.
     pub(crate) fn as_slice(&self) -> &[u8]
         ensures { IsCanonical F.is_at F.says F.octets F.fits → AllByRecursion F.fits (map F.says (items_left self.now))
             × (result.now ≡ row_octets F.octets (map F.says (items_left self.now))) }
@@ -78,7 +79,7 @@ impl<R: AsOctets + Copy, F: Format<R>> Walk<R, F> {
         &self.parser.peek_all()[..self.octets_len()]
     }
 
-    /// How many octets they were read from.
+    /// Returns the number of octets that the items were read from.
     fn octets_len(&self) -> usize
         ensures end { (window self.now.parser).position + result ≡ self.now.end }
         ensures within { result ≤ left (window self.now.parser) }
@@ -86,7 +87,7 @@ impl<R: AsOctets + Copy, F: Format<R>> Walk<R, F> {
         self.end - self.parser.pos()
     }
 
-    /// So many that are at the position of a parser, up to a place.
+    /// Returns a walk over the `left` items at the parser's position, which end at `end`.
     pub(crate) fn at(parser: Parser<R>, left: usize, end: usize) -> Walk<R, F>
         requires { HoldsTo F.is_at (window parser) left end }
         ensures { (held : HoldsTo F.is_at (window parser) left end) → items_left result ≡ held.0 }

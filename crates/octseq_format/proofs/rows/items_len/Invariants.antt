@@ -1,4 +1,4 @@
--- The octets of some were counted, and the others are ahead.
+-- The octets of some items were counted, and the others are ahead.
 use Rattle.std.proofs.Common.{◌≡◌, ◌+◌, length, map}
 use Rattle.std.specs.List.{AllByRecursion}
 use Rattle.octseq_format.specs.Row.{row_octets}

@@ -1,4 +1,4 @@
--- So many were passed.
+-- `taken` items were passed.
 use Rattle.std.proofs.Common.{◌≡◌, ◌+◌, ◌*◌, ◌≤◌, List}
 use Rattle.octseq.specs.Parser.{sequence, window}
 use Rattle.octseq.specs.Window.{left}

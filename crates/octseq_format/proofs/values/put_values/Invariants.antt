@@ -1,4 +1,4 @@
--- The octets of some were appended, and the others fit.
+-- The octets of some items were appended, and the others fit.
 use Rattle.std.proofs.Common.{◌≡◌, ◌++◌, ℕ, List, length, map}
 use Rattle.std.specs.List.{AllByRecursion}
 use Rattle.octseq_format.specs.Laws.{HasOctets}
