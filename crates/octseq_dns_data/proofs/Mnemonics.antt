@@ -1,4 +1,4 @@
--- Numbers with names, found by their names and by a number after a word.
+-- Named numbers, found by their names and by a number after a word.
 use Rattle.std.proofs.Common.{◌≡◌, ℕ, zero, suc, ◌<◌, ◌⊎◌, Bool, true, false, ◌&&◌, not, if◌then◌else◌, nat_eq}
 use Rattle.std.proofs.Common.{Option, Some, None, IfSome, IfNone, List, [], ◌∷◌, ◌++◌, length, map, take, drop, codes}
 use Rattle.std.proofs.Common.{Decides, refl, sym, ◌∙◌, ap, subst, arith, inl, inr}
@@ -83,7 +83,7 @@ spelled_length letters word is =
     let same = ap length is in
     omega (arith, simp length-map at same)
 
--- the word is as many octets as it has letters
+-- the word has as many octets as letters
 word_split : (word text letters digits : List ℕ) → text ≡ letters ++ digits → Spells letters word
     → (letters ≡ take (length word) text) × (digits ≡ drop (length word) text)
 word_split word text letters digits parts spelled =
@@ -114,7 +114,7 @@ neither_there word text names None none there = λ n reads.
     elim reads [ inl named ↦ number_in_none names text none n named | inr numbered ↦ there n numbered ]
 neither_there word text names (Some n) none there = tt
 
--- ---- what is shown is read
+-- ---- what is shown is read back
 
 name_there : (named : ℕ × List ℕ) (more : Names) (n : ℕ) (name : List ℕ) (same : Bool) → (same ≡ true → named.0 ≡ n)
     → (if same then Some named.1 else name_in more n) ≡ Some name
@@ -151,7 +151,7 @@ shown_or_numbered word names n bits None is =
 pub reads_shown : (word : List ℕ) (names : Names) (n : ℕ) → n < 65536 → Reads word names (name_or word names n) n
 reads_shown word names n bits = shown_or_numbered word names n bits (name_in names n) refl
 
--- ---- a text is read as one number
+-- ---- a text is read as at most one number
 
 -- no two names have the same letters
 abbrev distinct : Names → Bool

@@ -1,4 +1,4 @@
--- Parameters of SVCB and HTTPS, and the values that are lists.
+-- Service parameters, and the values that are lists.
 use Rattle.std.proofs.Common.{◌≡◌, ℕ, zero, suc, ◌+◌, ◌^◌, ◌<◌, ◌≤◌, List, [], ◌∷◌, length, map, get_or, sym, ap}
 use Rattle.std.proofs.Common.{◌∙◌, subst, arith, Some}
 use Rattle.std.proofs.lemmas.List.{length-append}
@@ -16,7 +16,7 @@ use Rattle.octseq_dns_data.specs.SvcParams.{ids_of, keys_of, param_octets, param
 use Rattle.octseq_dns_data.proofs.Pieces.{IsSplit, Passes, PassFrom, each_after, is_number, is_pair, is_part}
 use Rattle.octseq_dns_data.proofs.Pieces.{pass_less, pass_more, pieces_of_all}
 
--- ---- each kind of piece is one
+-- ---- each kind of piece can be split
 
 pub key_split : IsSplit (split_number 2) (octets_be 2) (λ key. key < 256 ^ 2)
 key_split = is_number 2 (omega arith)
@@ -28,7 +28,7 @@ pub param_split : IsSplit split_param param_octets
     (λ param. (param.0 < 256 ^ 2) × (length param.1 < 256 ^ 2))
 param_split = is_pair (is_number 2 (omega arith)) (is_part 2 (omega arith))
 
--- ---- lists are taken apart in one way
+-- ---- lists are split in one way
 
 pub one_keys : (value keys : List ℕ) → AreKeys value keys → keys ≡ keys_of value
 one_keys value keys are =
@@ -52,7 +52,7 @@ one_params octets params are =
 
 -- ---- numbers that ascend, from a least one on
 
--- each is at least that, and greater than the one before it
+-- each is at least `least`, and greater than the one before it
 abbrev pub Ascends : ℕ → List ℕ → Type 0
 Ascends least [] = Unit {0}
 Ascends least (x ∷ xs) = (least ≤ x) × Ascends (x + 1) xs
@@ -67,7 +67,7 @@ increasing_after x xs is = λ k within.
     let less = is (k + 1) (omega (arith, within)) in
     omega (arith, first, second, less)
 
--- from a first number on that is at least that
+-- they ascend from a least number, if the first is at least that
 pub ascends : (least : ℕ) (xs : List ℕ) → (0 < length xs → least ≤ get_or xs 0 0) → IsStrictlyIncreasing xs
     → Ascends least xs
 ascends least [] first is = tt
@@ -94,17 +94,17 @@ pub increasing : (least : ℕ) (xs : List ℕ) → Ascends least xs → IsStrict
 increasing least [] is = λ k within. absurd (omega (arith, within))
 increasing least (x ∷ xs) is = increasing_from x xs is.1 (increasing (x + 1) xs is.1)
 
--- ---- what passes along the pieces
+-- ---- the test of each piece
 
--- a key: at least that
+-- a key is at least `least`
 abbrev pub KeyPasses : ℕ → ℕ → Type 0
 KeyPasses least key = (least ≤ key) × (key < 2 ^ 16)
 
--- an id: it has an octet
+-- an id has at least one octet
 abbrev pub IdPasses : Unit {0} → List ℕ → Type 0
 IdPasses _ id = (1 ≤ length id) × (length id < 2 ^ 8)
 
--- a parameter: its key is at least that, and it is one
+-- a parameter is valid, and its key is at least `least`
 abbrev pub ParamPasses : ℕ → Param → Type 0
 ParamPasses least param = (least ≤ param.0) × IsParam param
 
@@ -218,9 +218,9 @@ params_from octets are =
     let keys = map (λ (param : Param). param.0) (params_of octets) in
     (are.spelled, params_pass 0 (params_of octets) are.each (ascends 0 keys (λ _. omega arith) are.ascending))
 
--- ---- what passes is the same before a piece and after it
+-- ---- a piece and the octets after it pass exactly if all octets do
 
--- octets pass exactly where others do
+-- one holds exactly if the other does
 pub record Same (A B : Type 0) : Type 0 where
   pub yes : A → B
   pub no : B → A
@@ -279,7 +279,7 @@ param_less least octets param more each found pass =
     more each found pass).0 in
     (first.0, first.1.value)
 
--- the first of parameters is one, and so are those after it
+-- the first parameter is valid, and so are those after it
 pub first_param : (octets : List ℕ) (param : Param) (more : List ℕ) → AreOctets octets
     → split_param octets ≡ Some (param, more) → IsSvcParams octets
     → IsParam param × IsSvcParams more
@@ -300,7 +300,7 @@ after_piece {octets_of = octets_of} is octets x more each found =
       is.moving.less octets (x, more) found,
     )
 
--- how many octets a parameter has
+-- the number of octets of a parameter
 pub param_long : (param : Param) → length (param_octets param) ≡ 4 + length param.1
 param_long param =
     let all = length-append (octets_be 2 param.0) (part_of 2 param.1) in

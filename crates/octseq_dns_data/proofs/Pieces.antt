@@ -1,4 +1,4 @@
--- Octets taken apart: the pieces are those that the octets are made of.
+-- Split octets: the pieces are those that the octets are made of.
 use Rattle.std.proofs.Common.{◌≡◌, ℕ, zero, suc, ◌-◌, ◌^◌, ◌<◌, ◌≤◌, Bool, true, false, if◌then◌else◌, List, []}
 use Rattle.std.proofs.Common.{◌∷◌, ◌++◌, length, take, drop, Option, Some, None, nat_le, refl, sym, ap, ◌∙◌, subst}
 use Rattle.std.proofs.Common.{append_assoc, arith, length-append}
@@ -18,18 +18,18 @@ use Rattle.octseq_format.specs.Canonical.{each_taken}
 use Rattle.octseq_dns_data.specs.Pieces.{Split, split_number, split_octets, split_part, split_pair}
 use Rattle.octseq_dns_data.specs.Pieces.{pieces, pieces_within}
 
--- A piece has an octet or more.
+-- A piece has at least one octet.
 pub record IsMoving {X : Type 0} (split : Split X) : Type 0 where
   pub less : (octets : List ℕ) (piece : X × List ℕ) → split octets ≡ Some piece → length piece.1 < length octets
 
--- A piece is at the front of its octets, and where a piece is, its octets are.
+-- The octets of a piece at the front are split into it, and if a piece is split off, its octets are at the front.
 pub record IsSplit {X : Type 0} (split : Split X) (octets_of : X → List ℕ) (Fits : X → Type 0) : Type 0 where
   pub moving : IsMoving split
   pub front : (x : X) (more : List ℕ) → Fits x → split (octets_of x ++ more) ≡ Some (x, more)
   pub back : (octets : List ℕ) (piece : X × List ℕ) → AreOctets octets → split octets ≡ Some piece
       → (octets ≡ octets_of piece.0 ++ piece.1) × Fits piece.0
 
--- ---- how many may be taken doesn't matter, where they aren't fewer than the octets
+-- ---- the limit doesn't matter if it is at least the number of octets
 
 none_of_nothing : {X : Type 0} (split : Split X) → IsMoving split → (n : ℕ) (octets : List ℕ) → length octets ≤ 0
     → (given : Option (X × List ℕ)) → split octets ≡ given
@@ -80,7 +80,7 @@ more_pieces split moving octets x more is =
     ∙ ap (λ given. option_map_or (λ piece. piece.0 ∷ pieces_within split n piece.1) given []) is
     ∙ ap (λ more. x ∷ more) (same_within split moving n (length more) more (omega (arith, less)) (omega arith))
 
--- what is made of pieces is taken apart into them
+-- the octets of pieces are split into them
 pub pieces_of_all : {X : Type 0} {split : Split X} {octets_of : X → List ℕ} {Fits : X → Type 0}
     → IsSplit split octets_of Fits → (xs : List X) → AllByRecursion Fits xs → pieces split (flat_map octets_of xs) ≡ xs
 pieces_of_all is [] each = refl
@@ -90,7 +90,7 @@ pieces_of_all {split = split} {octets_of = octets_of} is (x ∷ xs) each =
     (is.front x (flat_map octets_of xs) each.0)
     ∙ ap (λ more. x ∷ more) (pieces_of_all is xs each.1)
 
--- ---- tests along the pieces, each by what was before it
+-- ---- tests along the pieces, each by what came before
 
 module _ {X S : Type 0} (Check : S → X → Type 0) (after : X → S) where
   -- each piece passes
@@ -138,13 +138,13 @@ module _ {X S : Type 0} (split : Split X) (octets_of : X → List ℕ) (Check : 
 
 -- ---- the kinds of pieces
 
--- a test and what it leads to
+-- a test and its result
 pub told_some : {A : Type 0} (test : Bool) (a b : A) → (let given : Option A = if test then Some a else None in given)
     ≡ Some b → (test ≡ true) × (a ≡ b)
 told_some true a b is = (refl, same_Some a b is)
 told_some false a b is = absurd (none-some b is)
 
--- what one step and the next lead to
+-- the results of one step and the next
 pub both_some : {A B : Type 0} (next : A → Option B) (given : Option A) (b : B) → option_and_then next given ≡ Some b
     → (a : A) × (given ≡ Some a) × (next a ≡ Some b)
 both_some next None b is = absurd (none-some b is)

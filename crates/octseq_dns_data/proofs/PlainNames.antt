@@ -1,4 +1,4 @@
--- A name has no pointer exactly where its octets are as many as its wire form.
+-- A name has no pointer exactly if its octets are as many as its wire form.
 use Rattle.std.proofs.Common.{◌≡◌, ℕ, ◌+◌, List, [], ◌∷◌, length, sym, ap, ◌∙◌, subst, arith}
 use Rattle.octseq.specs.Window.{Window, past}
 use Rattle.octseq_dns_name.specs.Name.{HasLabel, Stands, octet, wire_length}
@@ -13,7 +13,7 @@ label_long w v l sound has =
 after_label : (w v : Window) (l : List ℕ) → IsSound w → HasLabel w l v → IsSound (past (octet w) (past 1 w))
 after_label w v l sound has = sound_past (octet w) (past 1 w) (sound_past 1 w sound has.room) has.whole
 
--- labels without pointers take their wire form
+-- labels without pointers take as many octets as their wire form
 pub plain_long : (start : ℕ) (w v : Window) (labels : List (List ℕ)) (pointers : ℕ) → IsSound w → pointers ≡ 0
     → Stands start w labels pointers v → v.position ≡ w.position + wire_length labels
 plain_long start w v labels pointers sound none (Stands.root has) = ap (λ (x : Window). x.position) has.behind
@@ -31,7 +31,7 @@ not_two [] are is = omega (arith, is)
 not_two (l ∷ []) are is = let some = are.0 in omega (arith, some, is)
 not_two (l ∷ k ∷ labels) are is = let some = are.0 in omega (arith, some, is)
 
--- and labels that take their wire form have no pointer
+-- labels that take as many octets as their wire form have no pointer
 pub plain_by_length : (start : ℕ) (w v : Window) (labels : List (List ℕ)) (pointers : ℕ) → IsSound w → AreLabels labels
     → Stands start w labels pointers v → v.position ≡ w.position + wire_length labels → Stands start w labels 0 v
 plain_by_length start w v labels pointers sound are (Stands.root has) is = Stands.root has

@@ -1,4 +1,4 @@
--- The form of data follows from its type: what is there by each type, and where no form is.
+-- The form of data follows from its type: what is there for each type, and where there is none.
 use Rattle.std.proofs.Common.{◌≡◌, ◌⊎◌, ℕ, true, false, if◌then◌else◌, nat_eq, refl, sym, ap, ◌∙◌, subst, arith}
 use Rattle.std.proofs.Math.Bool.{true≢false}
 use mathlib.Core.Logic.{inl, inr}
@@ -66,7 +66,7 @@ kind_again Kind.of_naptr = refl
 one_kind : (k l : Kind) → number k ≡ number l → k ≡ l
 one_kind k l same = sym (kind_again k) ∙ ap kind_of same ∙ kind_again l
 
--- a form that is made of what is there
+-- data made from a value that is there
 abbrev pub Made : {A : Type 0} → (A → ParsedRdata) → Relation A → Relation ParsedRdata
 Made {A} make Has w rdata v = (one : A) × (rdata ≡ make one) × Has w one v
 
@@ -105,33 +105,33 @@ shape_by k rtype class w v rdata of is =
     let found = shape_of rtype class w v rdata is in
     subst (λ l. Shape l w rdata v) (one_kind found.0 k (sym found.1 ∙ of)) found.2
 
--- ---- where no form is
+-- ---- where there is no form
 
--- no mail exchange is where a number of 2 octets and a name after it aren't
+-- there is no mail exchange if there is no number of 2 octets followed by a name
 pub no_mx : (w : Window) → NoneAt (IsNumber 2 then HasName) w → NoneAt HasMx w
 no_mx w none mx v is = none (mx.preference, mx.exchange) v is
 
--- no place of a service is where three numbers of 2 octets and a name after them aren't
+-- there is no service record if there are no three numbers of 2 octets followed by a name
 pub no_srv : (w : Window) → NoneAt (IsNumber 2 then IsNumber 2 then IsNumber 2 then HasName) w → NoneAt HasSrv w
 no_srv w none srv v is = none (srv.priority, (srv.weight, (srv.port, srv.target))) v is
 
--- no naming authority pointer is where its parts aren't
+-- there is no naming authority pointer if its parts aren't there
 pub no_naptr : (w : Window) → NoneAt naptr_form.Is w → NoneAt HasNaptr w
 no_naptr w none naptr v is = none (naptr_parts naptr) v is
 
--- no start of a zone of authority is where two names and five numbers of 4 octets after them aren't
+-- there is no start of authority if there are no two names followed by five numbers of 4 octets
 pub no_soa : (w : Window)
     → NoneAt (HasName then HasName then IsNumber 4 then IsNumber 4 then IsNumber 4 then IsNumber 4 then IsNumber 4) w
     → NoneAt HasSoa w
 no_soa w none soa v is =
     none (soa.mname, (soa.rname, (soa.serial, (soa.refresh, (soa.retry, (soa.expire, soa.minimum)))))) v is
 
--- none of a type, where its form isn't
+-- there is none of a type if its form isn't there
 pub none_by : (k : Kind) (rtype class : ℕ) (w : Window) → rtype ≡ number k → NoneAt (Shape k) w
     → NoneAt (HasRdata rtype class) w
 none_by k rtype class w of none rdata v is = none rdata v (shape_by k rtype class w v rdata of is)
 
--- no form that is made of a thing is where no such thing is
+-- there is no form made from a value if the value isn't there
 pub none_made : {A : Type 0} (make : A → ParsedRdata) (Has : Relation A) (w : Window) → NoneAt Has w
     → NoneAt (Made make Has) w
 none_made make Has w none rdata v is = none is.0 v is.2
@@ -186,7 +186,7 @@ one_made make Has one = record {
       (a.1 ∙ ap make it.0 ∙ sym b.1, it.1);
 }
 
--- of any type but TXT
+-- for any type but TXT
 one_shape : (k : Kind) → (number k ≡ 16 → ⊥) → IsOne (Shape k)
 one_shape Kind.of_a other_type = one_made ParsedRdata.a (HasOctets 4) (one_fixed 4 (λ octets. octets))
 one_shape Kind.of_aaaa other_type = one_made ParsedRdata.aaaa (HasOctets 16) (one_fixed 16 (λ octets. octets))
@@ -199,7 +199,7 @@ one_shape Kind.of_txt other_type = absurd (other_type refl)
 one_shape Kind.of_srv other_type = one_made ParsedRdata.srv HasSrv one_srv
 one_shape Kind.of_naptr other_type = one_made ParsedRdata.naptr HasNaptr one_naptr
 
--- of TXT, where they end at one place
+-- for TXT, if they end at the same place
 one_text : (w u v : Window) (rdata other : ParsedRdata) → u.position ≡ v.position → Shape Kind.of_txt w rdata u
     → Shape Kind.of_txt w other v → rdata ≡ other
 one_text w u v rdata other same a b =
@@ -210,7 +210,7 @@ one_ending : (k : Kind) (w u v : Window) (rdata other : ParsedRdata) → u.posit
 one_ending Kind.of_txt w u v rdata other same a b = one_text w u v rdata other same a b
 one_ending k w u v rdata other same a b = ((one_shape k (λ is. omega (arith, is))).same w rdata other u v a b).0
 
--- so data in a message has one form at most
+-- so data in a message has at most one form
 one_in_message : (rtype class : ℕ) (w inside : Window) (rdata other : ParsedRdata)
     → IsInMessage rtype class w inside rdata → IsInMessage rtype class w inside other → rdata ≡ other
 one_in_message rtype class w inside rdata other a b =
@@ -218,7 +218,7 @@ one_in_message rtype class w inside rdata other a b =
     one_ending found.0 w a.end b.end rdata other (a.ends ∙ sym b.ends) found.2
     (shape_by found.0 rtype class w b.end other found.1 b.rdata_is)
 
--- a form that is there is of the type
+-- a form that is there is of its type
 typed_rtype : (rtype class : ℕ) (w v : Window) (rdata : ParsedRdata) → HasRdata rtype class w rdata v
     → rtype_of rdata ≡ rtype
 typed_rtype rtype class w v (ParsedRdata.a x) is = sym is.0
@@ -234,7 +234,7 @@ typed_rtype rtype class w v (ParsedRdata.naptr x) is = sym is.0
 typed_rtype rtype class w v (ParsedRdata.local k x) is = absurd is
 typed_rtype rtype class w v (ParsedRdata.unknown other x) is = absurd is
 
--- ---- data by itself
+-- ---- data in its own window
 
 -- the numbers of these types differ
 abbrev local_of : ℕ → LocalType
@@ -302,7 +302,7 @@ kind_in_message Kind.of_txt = refl
 kind_in_message Kind.of_srv = refl
 kind_in_message Kind.of_naptr = refl
 
--- one thing of a form takes a window whole
+-- at most one value of a form takes the whole window
 one_whole : (k l : LocalType) (a : (form k).Found) (b : (form l).Found) (w : Window) → k ≡ l
     → IsWhole (form k).Is w a → IsWhole (form l).Is w b → ParsedRdata.local k a ≡ ParsedRdata.local l b
 one_whole k l a b w same here there =
@@ -322,7 +322,7 @@ apart rtype class w inside rdata k is there =
     let found = shape_of rtype class w there.end rdata there.rdata_is in
     true≢false (sym (kind_in_message found.0) ∙ ap is_in_message (sym found.1 ∙ is) ∙ not_in_message k)
 
--- nor by itself where it is read in the message
+-- nor is data that is read in the message read in its own window
 pub none_by_itself : (rtype class : ℕ) (inside : Window) → is_in_message rtype ≡ true → (k : LocalType)
     (found : (form k).Found) → IsLocal rtype class inside k found → ⊥
 none_by_itself rtype class inside told k found is =
@@ -334,7 +334,7 @@ none_in_message rtype class w inside told rdata is =
     let found = shape_of rtype class w is.end rdata is.rdata_is in
     true≢false (sym (kind_in_message found.0) ∙ ap is_in_message (sym found.1) ∙ told)
 
--- none of another type is where one of a type isn't
+-- if there is none of a type, there is none of any other
 pub none_local : (k : LocalType) (rtype class : ℕ) (inside : Window) → rtype ≡ local_number k
     → ((found : (form k).Found) → IsWhole (form k).Is inside found → ⊥) → (l : LocalType) (found : (form l).Found)
     → IsLocal rtype class inside l found → ⊥
@@ -342,7 +342,7 @@ none_local k rtype class inside of none l found is =
     subst (λ (l : LocalType). (found : (form l).Found) → IsWhole (form l).Is inside found → ⊥)
     (one_local_type k l (sym of ∙ is.rtype_is)) none found is.whole
 
--- nor where one isn't that is of some classes alone
+-- the same for a type that is limited to a class
 pub none_local_of : (k : LocalType) (rtype class : ℕ) (inside : Window) → rtype ≡ local_number k
     → ((found : (form k).Found) → IsOfClass k class → IsWhole (form k).Is inside found → ⊥) → (l : LocalType)
     (found : (form l).Found) → IsLocal rtype class inside l found → ⊥
@@ -352,7 +352,7 @@ none_local_of k rtype class inside of none l found is =
 
 -- ---- data
 
--- it is in the message or by itself
+-- it is in the message or in its own window
 abbrev pub IsEither : (rtype class : ℕ) (w inside : Window) → ParsedRdata → Type 0
 IsEither rtype class w inside rdata = IsInMessage rtype class w inside rdata
     ⊎ ((k : LocalType) × (found : (form k).Found) × (rdata ≡ ParsedRdata.local k found)
@@ -373,7 +373,7 @@ either rtype class w inside (ParsedRdata.naptr x) is = inl is
 either rtype class w inside (ParsedRdata.local k found) is = inr (k, found, refl, is)
 either rtype class w inside (ParsedRdata.unknown other x) is = inl is
 
--- what is in the message is typed
+-- what is in the message has the form of its type
 pub in_message : (rtype class : ℕ) (w inside : Window) (rdata : ParsedRdata) → IsInMessage rtype class w inside rdata
     → IsTypedData rtype class w inside rdata
 in_message rtype class w inside (ParsedRdata.a x) is = is
@@ -389,7 +389,7 @@ in_message rtype class w inside (ParsedRdata.naptr x) is = is
 in_message rtype class w inside (ParsedRdata.local k found) is = absurd is.rdata_is
 in_message rtype class w inside (ParsedRdata.unknown other x) is = is
 
--- of a type that is read in the message there is none where none ends with the data
+-- there is none of a type that is read in the message if none ends with the data
 pub none_typed : (rtype class : ℕ) (w inside : Window) (end : ℕ) → is_in_message rtype ≡ true → end ≡ inside.end
     → ((rdata : ParsedRdata) (v : Window) → HasRdata rtype class w rdata v → v.position ≡ end → ⊥)
     → (rdata : ParsedRdata) → IsTypedData rtype class w inside rdata → ⊥
@@ -399,7 +399,7 @@ none_typed rtype class w inside end told same none rdata is = apart_from (either
     apart_from (inl a) = none rdata a.end a.rdata_is (a.ends ∙ sym same)
     apart_from (inr b) = none_by_itself rtype class inside told b.0 b.1 b.3
 
--- and of any other where there is none by itself
+-- nor of any other type if there is none in its own window
 pub none_typed_local : (rtype class : ℕ) (w inside : Window) → is_in_message rtype ≡ false
     → ((k : LocalType) (found : (form k).Found) → IsLocal rtype class inside k found → ⊥)
     → (rdata : ParsedRdata) → IsTypedData rtype class w inside rdata → ⊥
@@ -409,7 +409,7 @@ none_typed_local rtype class w inside told none rdata is = apart_from (either rt
     apart_from (inl a) = none_in_message rtype class w inside told rdata a
     apart_from (inr b) = none b.0 b.1 b.3
 
--- data has one form at most
+-- data has at most one form
 one_either : (rtype class : ℕ) (w inside : Window) (rdata other : ParsedRdata) → IsEither rtype class w inside rdata
     → IsEither rtype class w inside other → rdata ≡ other
 one_either rtype class w inside rdata other (inl a) (inl b) = one_in_message rtype class w inside rdata other a b
@@ -426,7 +426,7 @@ one_typed rtype class w inside rdata other a b =
     one_either rtype class w inside rdata other (either rtype class w inside rdata a)
     (either rtype class w inside other b)
 
--- and says one thing
+-- and says at most one thing
 pub one_said : (rtype class : ℕ) (w inside : Window) (rdata other : ParsedRdata) → SaysData rtype class w inside rdata
     → SaysData rtype class w inside other → rdata ≡ other
 one_said rtype class w inside rdata other (inl a) (inl b) = one_typed rtype class w inside rdata other a b
@@ -439,14 +439,14 @@ either_rtype : (rtype class : ℕ) (w inside : Window) (rdata : ParsedRdata) →
 either_rtype rtype class w inside rdata (inl is) = typed_rtype rtype class w is.end rdata is.rdata_is
 either_rtype rtype class w inside rdata (inr is) = ap rtype_of is.2 ∙ sym is.3.rtype_is
 
--- what data says is of its type
+-- what data says has its type
 pub said_rtype : (rtype class : ℕ) (w inside : Window) (rdata : ParsedRdata) → SaysData rtype class w inside rdata
     → rtype_of rdata ≡ rtype
 said_rtype rtype class w inside rdata (inl is) =
     either_rtype rtype class w inside rdata (either rtype class w inside rdata is)
 said_rtype rtype class w inside rdata (inr is) = ap rtype_of is.0
 
--- data of a type but TXT ends at one place
+-- data of any type but TXT ends at one place
 pub one_end : (rtype class : ℕ) (w u v : Window) (rdata other : ParsedRdata) → (rtype ≡ 16 → ⊥)
     → HasRdata rtype class w rdata u
     → HasRdata rtype class w other v → u ≡ v
@@ -455,7 +455,7 @@ one_end rtype class w u v rdata other untold a b =
     ((one_shape found.0 (λ is. untold (found.1 ∙ is))).same w rdata other u v found.2
     (shape_by found.0 rtype class w v other found.1 b)).1
 
--- none ends at the place where the one that is there doesn't
+-- if the value that is there doesn't end at a place, none does
 pub none_ends : (rtype class : ℕ) (w u v : Window) (rdata other : ParsedRdata) (end : ℕ) → (rtype ≡ 16 → ⊥)
     → HasRdata rtype class w rdata u → (u.position ≡ end → ⊥)
     → HasRdata rtype class w other v → v.position ≡ end → ⊥

@@ -1,4 +1,4 @@
--- Rows of things that take octets, up to a place.
+-- Rows of values that take octets, up to a place.
 use Rattle.std.proofs.Common.{◌≡◌, ℕ, List, [], ◌∷◌, length, refl, sym, ap, ◌∙◌, subst}
 use Rattle.std.proofs.Math.Logic.{∥∥₁_elim}
 use Rattle.std.specs.Coded.{Coded, Coded-set, coded_list, coded_ℕ}
@@ -10,7 +10,7 @@ use Rattle.octseq_format.specs.Row.{Row, Holds}
 
 -- ---- rows up to a place
 
--- before the place a row goes on, and what is there is its first
+-- before the end of a row there is a first value
 first_of : {A : Type 0} (Is : Relation A) → IsItem Is → (u x v : Window) (one : A) (row : List A)
     → (u.position ≡ v.position → ⊥) → Is u one x → Row Is u row v
     → (more : List A) × (row ≡ one ∷ more) × Row Is x more v
@@ -24,7 +24,7 @@ some_of : {A : Type 0} (Is : Relation A) (u v : Window) (row : List A) → (u.po
 some_of Is u v [] before none row = before (sym (ap (λ v. v.position) row))
 some_of Is u v (y ∷ row) before none all = none y all.0 all.1
 
--- none but the empty one ends where it begins
+-- a row that ends where it begins is empty
 pub none_of : {A : Type 0} (Is : Relation A) → IsItem Is → (w v : Window) (row : List A)
     → w.position ≡ v.position → Row Is w row v → row ≡ []
 none_of Is item w v row same all = one_row_at Is item w v w row [] (sym same) all refl
@@ -38,13 +38,13 @@ pub reached_as : {A : Type 0} (code : Coded A) (Is : Relation A) → IsItem Is
 reached_as code Is item w v end row held ends is = ∥∥₁_elim held.1 (Coded-set (coded_list code) row held.0) (λ x.
     one_row_at Is item w v x.0 row held.0 (ends ∙ sym x.2) is x.1)
 
--- at the place nothing is left
+-- at the end nothing is left
 pub reached_none : {A : Type 0} (code : Coded A) (Is : Relation A) → IsItem Is
     → (w : Window) (end : ℕ) (held : Reaches Is w end) → w.position ≡ end → held.0 ≡ []
 reached_none code Is item w end held same = ∥∥₁_elim held.1 (Coded-set (coded_list code) held.0 [])
     (λ x. none_of Is item w x.0 held.0 (same ∙ sym x.2) x.1)
 
--- before it something is there
+-- before the end something is there
 pub reached_not : {A : Type 0} (Is : Relation A) (w : Window) (end : ℕ) (held : Reaches Is w end)
     → (w.position ≡ end → ⊥) → NoneAt Is w → ⊥
 reached_not Is w end held other none = ∥∥₁_elim held.1 ⊥_prop
@@ -59,7 +59,7 @@ reached_more code Is item w u end one held other is =
     let on = first_of Is item w u x.0 one held.0 (λ same. other (same ∙ x.2)) is x.1 in
     (on.0, ∣ (x.0, on.2, x.2) ∣₁))
 
--- a row that is kept is its first thing, and then the row that is kept after it
+-- a row that is kept is its first value, followed by the row that is kept after it
 pub reached_then : {A : Type 0} (code : Coded A) (Is : Relation A) → IsItem Is
     → (w u : Window) (end last : ℕ) (one : A) (held : Reaches Is w end)
     (after : Reaches Is u last) → last ≡ end → (w.position ≡ end → ⊥) → Is w one u → held.0 ≡ one ∷ after.0
@@ -68,9 +68,9 @@ reached_then code Is item w u end last one held after to other is =
     let on = first_of Is item w u x.0 one held.0 (λ same. other (same ∙ x.2)) is x.1 in
     on.1 ∙ ap (λ more. one ∷ more) (reached_as code Is item u x.0 last on.0 after (x.2 ∙ sym to) on.2))
 
--- ---- rows of as many as a count says
+-- ---- rows with a count
 
--- a row that is held has as many things as it is said to
+-- a row that is held has `count` values
 pub held_count : {A : Type 0} (Is : Relation A) (w : Window) (count : ℕ) (held : Holds Is w count)
     → count ≡ length held.0
 held_count Is w count held = ∥∥₁_elim held.1 (Coded-set coded_ℕ count (length held.0)) (λ x. sym x.1.0)

@@ -1,4 +1,4 @@
--- Sets of types of records: their window blocks, and the types that they say.
+-- Type bitmaps: their window blocks, and their types.
 use Rattle.std.proofs.Common.{◌≡◌, ℕ, zero, suc, ◌+◌, ◌-◌, ◌*◌, ◌<◌, ◌≤◌, true, false, cond, List, [], ◌∷◌, ◌++◌}
 use Rattle.std.proofs.Common.{length, drop, filter, refl, sym, ap, ◌∙◌, subst, arith, length-append}
 use Rattle.std.proofs.Math.Seq.{take-append_seam, drop-append_seam}
@@ -10,7 +10,7 @@ use Rattle.octseq_dns_data.specs.RtypeBitmap.{places_from, types_at, types_of}
 
 -- ---- window blocks, one after another
 
--- a window block and what is after it
+-- a window block followed by window blocks
 pub block_then : (least next : ℕ) (octets rest : List ℕ) (block : WindowBlock) → octets ≡ block_octets block ++ rest
     → IsWindowBlock block → least ≤ block.number → next ≡ block.number + 1 → HasBlocksFrom next rest
     → HasBlocksFrom least octets
@@ -22,7 +22,7 @@ block_then least next octets rest block is form least_is same more = (
   ),
 )
 
--- so what is after the first block is blocks
+-- so the first block is followed by window blocks
 pub after_block : (least next : ℕ) (octets rest : List ℕ) (block : WindowBlock) → octets ≡ block_octets block ++ rest
     → next ≡ block.number + 1 → HasBlocksFrom least octets → (least ≤ block.number) × HasBlocksFrom next rest
 after_block least next octets rest block is same ([], (none, tt)) =
@@ -34,7 +34,7 @@ after_block least next octets rest block is same (first ∷ blocks, (spelled, as
       (blocks, (both.1, subst (λ least. AscendFrom least blocks) (omega (arith, number, same)) ascend.2)),
     )
 
--- where no block is first there is none
+-- if no block is first, there is none
 pub no_block : (least : ℕ) (octets : List ℕ) → HasBlocksFrom least octets
     → ((block : WindowBlock) (rest : List ℕ) → IsWindowBlock block → octets ≡ block_octets block ++ rest → ⊥)
     → octets ≡ []
@@ -42,7 +42,7 @@ no_block least octets ([], (none, tt)) not = none
 no_block least octets (first ∷ blocks, (spelled, ascend)) not =
     absurd (not first (flat_map block_octets blocks) ascend.1 spelled)
 
--- a block has three octets at least
+-- a block has at least three octets
 pub block_length : (octets rest : List ℕ) (block : WindowBlock) → octets ≡ block_octets block ++ rest
     → IsWindowBlock block → length rest + 3 ≤ length octets
 block_length octets rest block is form =
@@ -51,23 +51,23 @@ block_length octets rest block is form =
     let some = form.some in
     omega (arith, long, parts, some)
 
--- they ascend from any lower number, too
+-- they also ascend from any lower number
 pub ascend_lower : (least lower : ℕ) (blocks : List WindowBlock) → lower ≤ least → AscendFrom least blocks
     → AscendFrom lower blocks
 ascend_lower least lower [] low ascend = tt
 ascend_lower least lower (block ∷ blocks) low ascend =
     let first = ascend.0 in (omega (arith, low, first), ascend.1, ascend.2)
 
--- so what is after the first block is a set of types
+-- so what follows the first block is a type bitmap
 pub bitmap_after : (octets rest : List ℕ) (block : WindowBlock) → octets ≡ block_octets block ++ rest
     → IsRtypeBitmap octets → IsRtypeBitmap rest
 bitmap_after octets rest block is bitmap =
     let more = (after_block 0 (block.number + 1) octets rest block is refl bitmap).1 in
     (more.0, (more.1.0, ascend_lower (block.number + 1) 0 more.0 (omega arith) more.1.1))
 
--- ---- the types that octets say
+-- ---- the types of octets
 
--- the blocks of octets are those that they spell
+-- the blocks of octets are those that they are made of
 spelled_within : (count : ℕ) (blocks : List WindowBlock) → length blocks ≤ count
     → blocks_within count (flat_map block_octets blocks) ≡ blocks
 spelled_within zero [] few = refl
@@ -93,7 +93,7 @@ pub blocks_are : (octets : List ℕ) (blocks : List WindowBlock) → octets ≡ 
 blocks_are octets blocks is =
     ap blocks_of is ∙ spelled_within (length (flat_map block_octets blocks)) blocks (few_blocks blocks)
 
--- the types of octets are those of the first block and those of what is after it
+-- the types of octets are those of the first block, followed by those of the rest
 pub types_then : (octets rest : List ℕ) (block : WindowBlock) → octets ≡ block_octets block ++ rest
     → IsRtypeBitmap rest → types_of octets ≡ block_types block ++ types_of rest
 types_then octets rest block is bitmap =
@@ -105,7 +105,7 @@ types_then octets rest block is bitmap =
 
 -- ---- the places of a bitmap
 
--- the places from one on are it, where its type is said, and those from the next one on
+-- the places from `place` on are `place`, if its bit is set, followed by those from the next one on
 place_then : (bitmap : List ℕ) (place : ℕ) → place < 8 * length bitmap → places_from bitmap place
     ≡ cond (is_listed bitmap place) (place ∷ places_from bitmap (place + 1)) (places_from bitmap (place + 1))
 place_then bitmap place within =
@@ -129,13 +129,13 @@ no_places bitmap place past =
 
 -- ---- what an iterator has left
 
--- nothing, where no place is left and no block
+-- nothing, if no place and no block is left
 pub nothing_left : (number : ℕ) (bitmap octets : List ℕ) (place : ℕ) → places_from bitmap place ≡ [] → octets ≡ []
     → types_at number (places_from bitmap place) ++ types_of octets ≡ []
 nothing_left number bitmap octets place none empty =
     ap (λ places. types_at number places ++ types_of octets) none ∙ ap types_of empty
 
--- the next block's, where no place is left
+-- the types of the next block, if no place is left
 pub block_left : (number : ℕ) (bitmap octets rest : List ℕ) (place : ℕ) (block : WindowBlock)
     → places_from bitmap place ≡ [] → octets ≡ block_octets block ++ rest → IsRtypeBitmap rest
     → types_at number (places_from bitmap place) ++ types_of octets ≡ block_types block ++ types_of rest

@@ -1,4 +1,4 @@
--- The octets that are made of types are a set, and say those types.
+-- The octets made from types are a type bitmap, and have those types.
 use Rattle.std.proofs.Common.{◌≡◌, ℕ, zero, suc, ◌+◌, ◌-◌, ◌*◌, ◌/◌, ◌%◌, ◌<◌, ◌≤◌, ◌^◌, ◌⊎◌, ◌↔◌}
 use Rattle.std.proofs.Common.{inl, inr, Bool, true, false, ◌||◌, ◌==◌, if◌then◌else◌, max, List, [], ◌∷◌, ◌++◌}
 use Rattle.std.proofs.Common.{length, get_or, refl, sym, ap, ◌∙◌, subst, arith, append_assoc, length-append}
@@ -45,7 +45,7 @@ member_among (first ∷ rtypes) rtype (inl same) =
 member_among (first ∷ rtypes) rtype (inr more) =
     ap (λ b. (first == rtype) || b) (member_among rtypes rtype more) ∙ or_true (first == rtype)
 
--- a size with one more type, by whether that is of the window
+-- the size with one more type, by whether that type is in the window
 sized : (b : Bool) (place size : ℕ) → ((b ≡ true) × ((if b then max place size else size) ≡ max place size))
     ⊎ ((if b then max place size else size) ≡ size)
 sized true place size = inl (refl, refl)
@@ -124,7 +124,7 @@ odd : (n : ℕ) (b : Bool) → (2 * n + (if b then 1 else 0)) % 2 ≡ (if b then
 odd n true = omega arith
 odd n false = omega arith
 
--- bit m from the lowest of a number of bits is of the type that has m types after it
+-- bit m, from the lowest, is that of the type with m types after it
 pub bit_says : (is_in : ℕ → Bool) (rtype j m n : ℕ) → n ≡ m + (j + 1)
     → bit_at (bits_number is_in rtype n) m ≡ (if is_in (rtype + j) then 1 else 0)
 bit_says is_in rtype j m zero is = absurd (omega (arith, is))
@@ -141,7 +141,7 @@ is_one : (b : Bool) → (if b then 1 else 0) == 1 ≡ b
 is_one true = refl
 is_one false = refl
 
--- what a window's octets say
+-- the types of a window's octets
 pub listed : (rtypes : List ℕ) (number size place : ℕ) → place < 8 * size
     → is_listed (window_octets rtypes number size) place ≡ is_among rtypes (256 * number + place)
 listed rtypes number size place within =
@@ -155,7 +155,7 @@ listed rtypes number size place within =
     ∙ ap (λ bit. bit == 1) (bit_says (is_among rtypes) (256 * number + 8 * octet) bit (7 - bit) 8 (omega arith))
     ∙ is_one (is_among rtypes (256 * number + 8 * octet + bit)) ∙ ap (is_among rtypes) same
 
--- a number of so many bits is below their power of two
+-- a number of n bits is below 2 ^ n
 bits_most : (is_in : ℕ → Bool) (rtype n : ℕ) → bits_number is_in rtype n < 2 ^ n
 bits_most is_in rtype zero = omega arith
 bits_most is_in rtype (suc n) =
@@ -237,11 +237,11 @@ ascending rtypes number (suc count) =
     (flat_map (window_blocks rtypes) (range_with_len (number + 1) count)) refl
     (λ is. block_form rtypes number (not_none (bitmap_size number rtypes) is)) (ascending rtypes (number + 1) count)
 
--- the octets are a set of types
+-- the octets are a type bitmap
 pub made_bitmap : (rtypes : List ℕ) → IsRtypeBitmap (bitmap_of rtypes)
 made_bitmap rtypes = (set_blocks rtypes, (refl, ascending rtypes 0 256))
 
--- ---- the types that the octets say
+-- ---- the types of the octets
 
 made_types : (rtypes : List ℕ) → types_of (bitmap_of rtypes) ≡ flat_map block_types (set_blocks rtypes)
 made_types rtypes = ap (flat_map block_types) (blocks_are (bitmap_of rtypes) (set_blocks rtypes) refl)
@@ -256,7 +256,7 @@ the_block : (is_none : Bool) (block : WindowBlock) → is_none ≡ false → Mem
 the_block true block is = absurd (false≢true (sym is))
 the_block false block is = inl refl
 
--- a type of a window's block is one of the types
+-- a type of a window's block is one of the given types
 in_block : (rtypes : List ℕ) (number rtype : ℕ) → Member (block_types (made_block rtypes number)) rtype
     → Member rtypes rtype
 in_block rtypes number rtype is =
@@ -312,7 +312,7 @@ made_members rtypes rtype small = (
 
 -- ---- the octets, as they are appended
 
--- how many octets a part of a block has
+-- the number of octets of a part of a block
 pub part_length : (old octets rtypes : List ℕ) (number size place : ℕ)
     → octets ≡ old ++ (number ∷ size ∷ window_octets rtypes number place) → length octets ≡ length old + place + 2
 part_length old octets rtypes number size place is =

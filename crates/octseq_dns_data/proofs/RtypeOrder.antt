@@ -1,4 +1,4 @@
--- The types that octets say strictly ascend.
+-- The types of octets strictly ascend.
 use Rattle.std.proofs.Common.{◌≡◌, ℕ, zero, suc, ◌+◌, ◌-◌, ◌*◌, ◌<◌, ◌≤◌, Bool, true, false, cond, List, [], ◌∷◌, ◌++◌}
 use Rattle.std.proofs.Common.{length, get_or, map, filter, sym, ap, subst, arith}
 use Rattle.std.specs.List.{flat_map, range_with_len}
@@ -7,7 +7,7 @@ use Rattle.octseq_dns_data.specs.RtypeBitmap.{WindowBlock, IsWindowBlock, Ascend
 use Rattle.octseq_dns_data.specs.RtypeBitmap.{block_types, is_listed, places_from, types_of}
 use Rattle.octseq_dns_data.proofs.RtypeBitmaps.{blocks_are}
 
--- the types of octets are those of the blocks that they spell
+-- the types of octets are those of the blocks that they are made of
 pub types_of_blocks : (octets : List ℕ) (blocks : List WindowBlock) → AreBlocksFrom 0 octets blocks
     → types_of octets ≡ flat_map block_types blocks
 types_of_blocks octets blocks is = ap (flat_map block_types) (blocks_are octets blocks is.0)
@@ -51,7 +51,7 @@ shifted by low high (x ∷ xs) is =
       subst (λ low. AscendsTo low (by + high) (map (λ x. by + x) xs)) next (shifted by (x + 1) high xs is.1),
     )
 
--- those of a window are in it
+-- the types of a block are in its window
 block_ascends : (block : WindowBlock) → IsWindowBlock block
     → AscendsTo (256 * block.number) (256 * (block.number + 1)) (block_types block)
 block_ascends block form =

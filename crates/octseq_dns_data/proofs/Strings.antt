@@ -1,4 +1,4 @@
--- Strings of text, as a format finds them: octets after their length.
+-- Character strings, as a format finds them: octets after their length.
 use Rattle.std.proofs.Common.{◌≡◌, ℕ, ◌+◌, ◌-◌, ◌^◌, ◌<◌, ◌≤◌, List, [], ◌∷◌, ◌++◌, length, map}
 use Rattle.std.proofs.Common.{refl, sym, ap, ◌∙◌, subst, arith}
 use Rattle.std.proofs.lemmas.List.{append-nil}
@@ -23,7 +23,7 @@ use Rattle.octseq_format.specs.Row.{canonical_moved, sound_row, row_turns}
 use Rattle.octseq_format.proofs.Parts.{part_of_counted, counted_of_part}
 use Rattle.octseq_format.proofs.RowSteps.{row_by}
 
--- octets after their length, which are at least the length's one
+-- octets after their length, with at least one octet for the length
 abbrev pub IsFound : Relation Window
 IsFound = Moved (Counted 1 0 IsRest)
 
@@ -33,7 +33,7 @@ string_is w inside v is =
     let part = part_of_counted 1 w inside v is.0 in
     (part.0, ap rest part.1, part.2)
 
--- and so are all
+-- and so are all of them
 pub strings_are : (w : Window) (found : List Window) (v : Window) → Row IsFound w found v
     → Row HasString w (map rest found) v
 strings_are w found v is = row_by IsFound HasString rest string_is w v found is
@@ -50,16 +50,16 @@ strings_found w (string ∷ strings) v is =
 
 -- ---- windows with another end
 
--- the window with that end
+-- the window with this end
 abbrev pub up_to : ℕ → Window → Window
 up_to end w = record { octets = w.octets; position = w.position; end = end }
 
--- so is the window of the next octets up to a place
+-- so is the window of the next octets, up to a place
 pub same_up_to : (w u : Window) (place end : ℕ) → place ≡ w.position → place ≤ end → u ≡ nested (end - place) w
     → u ≡ up_to end w
 same_up_to w u place end is before same = same ∙ ap (λ end. up_to end w) (omega (arith, is, before))
 
--- strings are in a window that ends later, too
+-- strings are also in a window that ends later
 pub wide_strings : (end : ℕ) (w : Window) (strings : List (List ℕ)) (v : Window) → w.end ≤ end
     → Row HasString w strings v → Row HasString (up_to end w) strings (up_to end v)
 wide_strings end w [] v further is = ap (up_to end) is
@@ -100,7 +100,7 @@ strings_within w strings v ordered is =
     let on = (onward_row IsFound (onward_moved (onward_counted 1 0 IsRest))).on w found.0 v ordered found.1 in
     omega (arith, on.1, on.3)
 
--- so where none are found up to there, none end there
+-- so if none are found up to a place, none end there
 pub no_strings : (w : Window) (end : ℕ) → NoneAt (RowTo IsFound) (up_to end w) → (strings : List (List ℕ)) (v : Window)
     → Row HasString w strings v → v.position ≡ end → ⊥
 no_strings w end none strings v is ends =
@@ -124,7 +124,7 @@ short (string ∷ strings) each =
     let few = each.0.count in
     All-cons (λ string. length string ≤ 255) string strings (omega (arith, few)) (short strings each.1)
 
--- Strings are from a window's position to a place: what they are, how they are spelled, and that none is too long.
+-- The strings from a window's position to a place: what they are, their octets, and that none is too long.
 pub record Taken (w : Window) (end : ℕ) (strings : List (List ℕ)) : Type 0 where
   pub row : Row HasString w strings (at end w)
   pub spelled : slice_range w.octets w.position end ≡ spelling strings
@@ -156,18 +156,18 @@ taken w end found v sound ordered within is =
       short = short said row.0;
     }
 
--- where something was found there is a string
+-- if something was found, there is a string
 pub some_found : (found : List Window) → (found ≡ [] → ⊥) → 1 ≤ length (map rest found)
 some_found [] some = absurd (some refl)
 some_found (x ∷ found) some = omega arith
 
--- and where nothing was, nothing was left
+-- and if nothing was found, nothing was left
 pub none_found : (w v : Window) (found : List Window) → found ≡ [] → RowTo IsFound w found v → left w ≡ 0
 none_found w v found none is =
     let here = subst (λ found. Row IsFound w found v) none is.0 in
     ap left (sym here) ∙ is.1
 
--- one string has as few octets as its length tells
+-- a string is as short as its length can say
 pub short_string : (w inside v : Window) → IsSound w → Counted 1 0 IsRest w inside v → left inside ≤ 255
 short_string w inside v sound is =
     let small = small_be (next 1 w) (each_next 1 w sound) in
@@ -175,7 +175,7 @@ short_string w inside v sound is =
     let same = ap left is.1.0 in
     omega (arith, few, same)
 
--- a turn is counted for each of a row
+-- each value of a row counts one turn
 pub turns_each : {A : Type 0} (row : List A) → row_turns (λ _. 0) row ≡ length row
 turns_each [] = refl
 turns_each (one ∷ row) =

@@ -1,4 +1,4 @@
--- The text of parameters, piece by piece.
+-- The text of service parameters, piece by piece.
 use Rattle.std.proofs.Common.{◌≡◌, ℕ, ◌<◌, List, [], ◌∷◌, ◌++◌, length, Some, codes, refl, sym, ap, ◌∙◌, arith}
 use Rattle.std.proofs.lemmas.Grind.{flat_map-append}
 use Rattle.std.proofs.lemmas.List.Concat.{flat_map-cons}
@@ -8,7 +8,7 @@ use Rattle.octseq_dns_data.specs.Pieces.{Split, pieces}
 use Rattle.octseq_dns_data.specs.SvcParamsText.{ids_text, listed_octet, value_behind, value_text, with_commas}
 use Rattle.octseq_dns_data.proofs.Pieces.{IsMoving, more_pieces}
 
--- the text of the pieces of octets, and of those after the first
+-- the text of the pieces of octets, from the first one and those after it
 pub first_text : {X : Type 0} (split : Split X) → IsMoving split → (text : X → List ℕ) (octets : List ℕ) (x : X)
     (more : List ℕ) → split octets ≡ Some (x, more)
     → text x ++ flat_map (λ y. 44 ∷ text y) (pieces split more) ≡ with_commas text (pieces split octets)

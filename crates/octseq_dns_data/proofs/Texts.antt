@@ -26,7 +26,7 @@ zeros_at_front (suc x ∷ xs) =
     subst (λ zero. take (if zero then 1 + zero_run xs else 0) (suc x ∷ xs)
     ≡ replicate (if zero then 1 + zero_run xs else 0) 0) (sym other) refl
 
--- no more zeros are at the front
+-- a run of zeros at the front isn't longer than this
 most_at_front : (xs : List ℕ) (size : ℕ) → take size xs ≡ replicate size 0 → size ≤ zero_run xs
 most_at_front xs zero is = omega arith
 most_at_front [] (suc size) is = let long = ap length is in absurd (omega (arith, long))
@@ -47,7 +47,7 @@ at_front x xs start len behind long =
     longest zero size is = most_at_front (x ∷ xs) size is
     longest (suc other) size is = let most = behind.longest other size is in omega (arith, long, most)
 
--- and one after it that is longer
+-- and a longer one after it
 further : (x : ℕ) (xs : List ℕ) (start len : ℕ) → IsFirstLongest xs start len → zero_run (x ∷ xs) < len
     → IsFirstLongest (x ∷ xs) (start + 1) len
 further x xs start len behind short =
@@ -106,7 +106,7 @@ groups_are_text groups =
     compressed groups run (first_longest groups) (nat_lt 1 run.1) (λ told. omega (arith, leb-true 2 run.1 told))
     (λ told. omega (arith, leb-false 2 run.1 told))
 
--- an IPv6 address that isn't shown with an IPv4 address in it is shown as the text of its groups
+-- an IPv6 address that isn't shown with an IPv4 address is shown as the text of its groups
 pub address_is_text : (octets : List ℕ) → (is_compatible octets ≡ true → ⊥) → (IsIpv4Mapped (segments_of octets) → ⊥)
     → IsGroupsText (segments_of octets) (aaaa_text octets)
 unfolding ipv6_text

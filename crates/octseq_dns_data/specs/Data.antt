@@ -1,5 +1,5 @@
--- What the data of a record says, by its type and class: RFC 1035, 3.3 and 3.4, RFC 3596, 2.2 (AAAA), RFC 2782 (SRV)
--- and RFC 3403, 4.1 (NAPTR), whose names may have pointers; and the types of `Local`.
+-- Record data, by type and class: RFC 1035, 3.3 and 3.4, RFC 3596, 2.2 (AAAA), RFC 2782 (SRV) and RFC 3403, 4.1
+-- (NAPTR), whose names may have pointers; and the types of `Local`.
 use Rattle.std.specs.Prelude.{◌≡◌, ℕ, ◌≤◌, ◌⊎◌, Bool, nat_eq, List, [], ◌∷◌, length}
 use Rattle.std.specs.List.{list_any}
 use Rattle.octseq.specs.Part.{HasPart, part, past_part}
@@ -12,15 +12,15 @@ use Rattle.octseq_dns_name.specs.Name.{Name, HasName}
 use Rattle.octseq_format.specs.Pair.{◌then◌}
 use Rattle.octseq_format.specs.Row.{Row}
 
--- as many octets as a number says
+-- the given number of octets
 abbrev pub HasOctets : ℕ → Window → List ℕ → Window → Type 0
 HasOctets n w octets v = (n ≤ left w) × (octets ≡ next n w) × (v ≡ past n w)
 
--- a string: octets after their length, which has one octet
+-- a character string: octets after their length, which has one octet
 abbrev pub HasString : Window → List ℕ → Window → Type 0
 HasString w string v = HasPart 1 w × (string ≡ rest (part 1 w)) × (v ≡ past_part 1 w)
 
--- strings, one after another, at least one
+-- one or more strings, one after another
 abbrev pub HasStrings : Window → List (List ℕ) → Window → Type 0
 HasStrings w strings v = (1 ≤ length strings) × Row HasString w strings v
 
@@ -32,7 +32,7 @@ pub record Mx : Type 0 where
 abbrev pub HasMx : Window → Mx → Window → Type 0
 HasMx w mx v = (IsNumber 2 then HasName) w (mx.preference, mx.exchange) v
 
--- The start of a zone of authority: RFC 1035, 3.3.13.
+-- The start of authority: RFC 1035, 3.3.13.
 pub record Soa : Type 0 where
   pub mname : Name
   pub rname : Name
@@ -47,7 +47,7 @@ HasSoa w soa v =
     (HasName then HasName then IsNumber 4 then IsNumber 4 then IsNumber 4 then IsNumber 4 then IsNumber 4) w
     (soa.mname, (soa.rname, (soa.serial, (soa.refresh, (soa.retry, (soa.expire, soa.minimum)))))) v
 
--- The place of a service: RFC 2782.
+-- The location of a service: RFC 2782.
 pub record Srv : Type 0 where
   pub priority : ℕ
   pub weight : ℕ
@@ -79,8 +79,8 @@ naptr_parts naptr =
 abbrev pub HasNaptr : Window → Naptr → Window → Type 0
 HasNaptr w naptr v = naptr_form.Is w (naptr_parts naptr) v
 
--- What data says: an address of 4 octets or of 16, a name, one of the above, strings of text, what was found of a type
--- of `Local`; or nothing that is known here, and then it is the record's type and the window of the data (RFC 3597).
+-- What data says: an address of 4 or 16 octets, a name, one of the records above, strings, what was found of a type of
+-- `Local`; or, in an unknown form, the record's type and the window of the data (RFC 3597).
 pub data ParsedRdata : Type 0 where
   a : List ℕ → ParsedRdata
   aaaa : List ℕ → ParsedRdata
@@ -95,7 +95,7 @@ pub data ParsedRdata : Type 0 where
   local : (k : LocalType) → (form k).Found → ParsedRdata
   unknown : ℕ → Window → ParsedRdata
 
--- the type of which it is
+-- the type of the record
 abbrev pub rtype_of : ParsedRdata → ℕ
 rtype_of (ParsedRdata.a octets) = 1
 rtype_of (ParsedRdata.aaaa octets) = 28
@@ -110,8 +110,8 @@ rtype_of (ParsedRdata.naptr it) = 35
 rtype_of (ParsedRdata.local k found) = local_number k
 rtype_of (ParsedRdata.unknown rtype octets) = rtype
 
--- It is at a window's position, in data of a type and a class. Addresses, places of services and naming authority
--- pointers are of the class IN alone.
+-- Data of a type and a class is at a window's position. Addresses, service records and naming authority pointers are of
+-- class IN only.
 abbrev pub HasRdata : ℕ → ℕ → Window → ParsedRdata → Window → Type 0
 HasRdata rtype class w (ParsedRdata.a octets) v = (rtype ≡ 1) × (class ≡ 1) × HasOctets 4 w octets v
 HasRdata rtype class w (ParsedRdata.aaaa octets) v = (rtype ≡ 28) × (class ≡ 1) × HasOctets 16 w octets v
@@ -126,19 +126,19 @@ HasRdata rtype class w (ParsedRdata.naptr it) v = (rtype ≡ 35) × (class ≡ 1
 HasRdata rtype class w (ParsedRdata.local k found) v = ⊥
 HasRdata rtype class w (ParsedRdata.unknown other octets) v = ⊥
 
--- Data whose names may have pointers: it is where the data begins, in the window of the message, so that names may
+-- Data whose names may have pointers: it begins where the data does, in the window of the message, so that names can
 -- point before it; and it ends exactly where the window of the data does.
 pub record IsInMessage (rtype class : ℕ) (w inside : Window) (rdata : ParsedRdata) : Type 0 where
   pub end : Window
   pub rdata_is : HasRdata rtype class w rdata end
   pub ends : end.position ≡ inside.end
 
--- data of a type and a class has this form: in the message, or by itself
+-- data of a type and a class has this form: in the message, or in its own window
 abbrev pub IsTypedData : (rtype class : ℕ) (w inside : Window) → ParsedRdata → Type 0
 IsTypedData rtype class w inside (ParsedRdata.local k found) = IsLocal rtype class inside k found
 IsTypedData rtype class w inside rdata = IsInMessage rtype class w inside rdata
 
--- What data says: it has the form, or it has none and is unknown, of its own type.
+-- What data says: what its form says, or, if it has no form, unknown data of its type.
 abbrev pub SaysData : (rtype class : ℕ) (w inside : Window) → ParsedRdata → Type 0
 SaysData rtype class w inside rdata = IsTypedData rtype class w inside rdata
     ⊎ (rdata ≡ ParsedRdata.unknown rtype inside) × ((other : ParsedRdata) → ¬ IsTypedData rtype class w inside other)
@@ -147,7 +147,7 @@ SaysData rtype class w inside rdata = IsTypedData rtype class w inside rdata
 abbrev pub is_in_message : ℕ → Bool
 is_in_message rtype = list_any (λ t. nat_eq t rtype) (1 ∷ 2 ∷ 5 ∷ 6 ∷ 12 ∷ 15 ∷ 16 ∷ 28 ∷ 33 ∷ 35 ∷ [])
 
--- Data that is written by its form, as it is read by it, has octets: its parts fit.
+-- Data that is written by its form has octets: its parts fit.
 abbrev pub FitsForm : ParsedRdata → Type 0
 FitsForm (ParsedRdata.naptr it) = naptr_form.Fits (naptr_form.says (naptr_parts it))
 FitsForm (ParsedRdata.local k found) = (form k).Fits ((form k).says found)

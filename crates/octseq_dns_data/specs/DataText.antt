@@ -15,28 +15,28 @@ use Rattle.octseq_dns_data.specs.RtypeBitmapText.{rtypes_text}
 use Rattle.octseq_dns_name.specs.Name.{Name}
 use Rattle.octseq_dns_name.specs.Text.{three_digits, name_text}
 
--- whether an IPv6 address ends in an IPv4 address: after twelve zeros, and not in 0.0.0.0 to 0.0.255.255
+-- whether an IPv6 address ends in an IPv4 address: twelve zeros, then not 0.0.0.0 to 0.0.255.255
 abbrev pub is_compatible : List ℕ → Bool
 is_compatible octets = bytes_eq (take 12 octets) (replicate 12 0)
     && not (bytes_eq (take 2 (drop 12 octets)) (0 ∷ 0 ∷ []))
 
--- An IPv6 address of 16 octets: `::` and the IPv4 address in which it ends, or else what std's `ipv6_text` has, which
--- also shows the IPv4 address after ten zeros and FF FF.
+-- An IPv6 address of 16 octets: `::` and the IPv4 address at its end, otherwise std's `ipv6_text`, which also shows the
+-- IPv4 address after ten zeros and FF FF.
 abbrev pub aaaa_text : List ℕ → List ℕ
 aaaa_text octets =
     if is_compatible octets then codes "::" ++ ipv4_text (drop 12 octets) else ipv6_text (segments_of octets)
 
--- from a place on as many groups are zero as a number says
+-- `len` groups from `start` on are zero
 abbrev pub AreZero : List ℕ → ℕ → ℕ → Type 0
 AreZero groups start len = take len (drop start groups) ≡ replicate len 0
 
--- They are the longest run of zero groups, and of two such runs the first.
+-- This is the longest run of zero groups, and the first of that length.
 pub record IsFirstLongest (groups : List ℕ) (start len : ℕ) : Type 0 where
   pub zeros : AreZero groups start len
   pub longest : (other size : ℕ) → AreZero groups other size → size ≤ len
   pub first : (other : ℕ) → AreZero groups other len → start ≤ other
 
--- The text of groups: `::` in the place of the first longest run, where that has two groups or more.
+-- The text of groups: `::` for the first longest run, if it has two groups or more.
 pub record IsGroupsText (groups text : List ℕ) : Type 0 where
   pub start : ℕ
   pub len : ℕ
@@ -45,8 +45,8 @@ pub record IsGroupsText (groups text : List ℕ) : Type 0 where
       ++ groups_text (drop (start + len) groups)
   pub plain : len ≤ 1 → text ≡ groups_text groups
 
--- An octet of a string: after a backslash (92), as itself where it is visible ASCII or a space, or as a backslash
--- and its number.
+-- An octet of a string: after a backslash (92), or as it is if it is visible ASCII or a space, or as a backslash and
+-- its number.
 abbrev pub is_string_quoted : ℕ → Bool
 is_string_quoted = char_set_contains (codes "\"\\")
 
@@ -62,12 +62,12 @@ string_text octets = 34 ∷ flat_map string_octet_text octets ++ 34 ∷ []
 abbrev pub strings_behind : List (List ℕ) → List ℕ
 strings_behind = flat_map (λ string. 32 ∷ string_text string)
 
--- strings with a space between each two
+-- strings, separated by spaces
 abbrev pub strings_text : List (List ℕ) → List ℕ
 strings_text [] = []
 strings_text (string ∷ strings) = string_text string ++ strings_behind strings
 
--- two hexadecimal digits in lower case
+-- two lower-case hexadecimal digits
 abbrev pub hex_text : ℕ → List ℕ
 hex_text octet = digit_char (octet / 16) ∷ digit_char (octet % 16) ∷ []
 
@@ -76,7 +76,7 @@ abbrev pub octets_behind : List ℕ → List ℕ
 octets_behind [] = []
 octets_behind (octet ∷ octets) = 32 ∷ flat_map hex_text (octet ∷ octets)
 
--- how many octets, and they themselves
+-- the number of octets, and the octets
 abbrev pub unknown_text : List ℕ → List ℕ
 unknown_text octets = codes "\\# " ++ decimal (length octets) ++ octets_behind octets
 
@@ -97,7 +97,7 @@ naptr_text naptr = decimal naptr.order ++ 32 ∷ decimal naptr.preference ++ 32 
     ++ 32 ∷ string_text (rest naptr.services) ++ 32 ∷ string_text (rest naptr.regexp)
     ++ 32 ∷ name_text naptr.replacement.labels
 
--- octets in hexadecimal, or a hyphen (45) where there are none: RFC 5155, 3.3
+-- octets in hexadecimal, or a hyphen (45) if there are none: RFC 5155, 3.3
 abbrev pub salt_text : List ℕ → List ℕ
 salt_text [] = 45 ∷ []
 salt_text (octet ∷ octets) = flat_map hex_text (octet ∷ octets)
@@ -118,15 +118,15 @@ ds_text ds = numbered_text ds (flat_map hex_text)
 abbrev pub dnskey_text : ℕ × (ℕ × (ℕ × Window)) → List ℕ
 dnskey_text key = numbered_text key base64_text
 
--- of a signature the type covered, the algorithm and the number of labels, each followed by a space
+-- the type covered, the algorithm and the number of labels of a signature, each followed by a space
 abbrev pub covered_text : ℕ × (ℕ × (ℕ × (ℕ × (ℕ × (ℕ × (ℕ × (Name × Window))))))) → List ℕ
 covered_text sig = rtype_text sig.0 ++ 32 ∷ decimal sig.1.0 ++ 32 ∷ decimal sig.1.1.0 ++ 32 ∷ []
 
--- its TTL, its end and its beginning
+-- its TTL, expiration and inception
 abbrev pub times_text : ℕ × (ℕ × (ℕ × (ℕ × (ℕ × (ℕ × (ℕ × (Name × Window))))))) → List ℕ
 times_text sig = decimal sig.1.1.1.0 ++ 32 ∷ decimal sig.1.1.1.1.0 ++ 32 ∷ decimal sig.1.1.1.1.1.0 ++ 32 ∷ []
 
--- the tag of the key and its name
+-- the key tag and the signer's name
 abbrev pub signer_text : ℕ × (ℕ × (ℕ × (ℕ × (ℕ × (ℕ × (ℕ × (Name × Window))))))) → List ℕ
 signer_text sig = decimal sig.1.1.1.1.1.1.0 ++ 32 ∷ name_text sig.1.1.1.1.1.1.1.0.labels ++ 32 ∷ []
 

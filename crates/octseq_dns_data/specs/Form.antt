@@ -1,4 +1,5 @@
--- Forms of data: parts, one after another, of which the last may take all that is left. What is written is read back.
+-- Forms of data: parts, one after another. The last one may take all the octets that are left. What is written is read
+-- back.
 use Rattle.std.specs.Prelude.{ℕ, ◌<◌, ◌^◌, List}
 use Rattle.octseq.specs.Integer.{be, octets_be}
 use Rattle.octseq.specs.Window.{Window, rest}
@@ -14,8 +15,8 @@ use Rattle.octseq_format.specs.Laws.{Relation, IsOne, IsReadBack, IsDelimited, b
 use Rattle.octseq_format.specs.Pair.{◌then◌, ◌and◌, ◌before◌, ◌also◌, ◌one_then◌, ◌back_then◌, ◌delimited_then◌}
 use Rattle.octseq_format.specs.Rest.{IsRest, one_rest, rest_read_back}
 
--- A part that tells its own end: what is found, what that says wherever it is, the octets that say it, and which have
--- any.
+-- A part that shows its own end: what is found, what it says wherever it is, the octets that say it, and which values
+-- have octets.
 pub record Part : Type 1 where
   pub Found : Type 0
   pub Said : Type 0
@@ -26,7 +27,7 @@ pub record Part : Type 1 where
   pub one : IsOne Is
   pub next : IsDelimited Is says octets Fits
 
--- A form, which takes the window whole.
+-- A form, which takes the whole window.
 pub record Form : Type 1 where
   pub Found : Type 0
   pub Said : Type 0
@@ -91,7 +92,7 @@ number k = record {
   next = delimited_fixed (are_be k);
 }
 
--- a name, which may have pointers where it is read, and has none where it is written
+-- a name, which may have pointers when it is read, and has none when it is written
 abbrev pub domain_name : Part
 domain_name = record {
   Found = Name;
@@ -117,7 +118,7 @@ plain_name = record {
   next = delimited_plain;
 }
 
--- octets of a form after their length, which has one octet
+-- octets of a form, after their length of one octet
 abbrev pub string : (List ℕ → Type 0) → Part
 string HasForm = record {
   Found = Window;
@@ -130,7 +131,7 @@ string HasForm = record {
   next = delimited_counted (formed_read_back HasForm);
 }
 
--- all octets up to the end, of a form
+-- all octets up to the end, which have a form
 abbrev pub octets_of : (List ℕ → Type 0) → Form
 octets_of HasForm = record {
   Found = Window;

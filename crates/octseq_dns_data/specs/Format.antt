@@ -1,4 +1,4 @@
--- Numbers and data, of which RFC 1035 makes a message besides names (sections 2.3.2 and 4.1).
+-- Numbers and data, the parts of a message besides names: RFC 1035, 2.3.2 and 4.1.
 use Rattle.std.specs.Prelude.{ℕ}
 use Rattle.octseq.specs.Integer.{be}
 use Rattle.octseq.specs.Window.{Window}
@@ -14,7 +14,7 @@ IsNumber k = IsFixed k be
 abbrev pub IsData : Relation Window
 IsData = IsPart 2
 
--- one of each is at a place at most
+-- at most one of each is at a place
 pub one_number : (k : ℕ) → IsOne (IsNumber k)
 one_number k = one_fixed k be
 

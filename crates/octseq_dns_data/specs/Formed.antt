@@ -23,7 +23,7 @@ module _ (HasForm : List ℕ → Type 0) where
   pub formed_read_back : IsReadBack (IsFormed HasForm) rest (λ octets. octets) (FormedFits HasForm)
   formed_read_back = where_read_back IsRest rest HasForm (λ octets. octets) (λ _. Unit {0}) rest_read_back
 
--- as many octets as a length of one octet says at most
+-- at most as many octets as a length of one octet can say
 abbrev pub IsString : List ℕ → Type 0
 IsString octets = length octets ≤ 255
 

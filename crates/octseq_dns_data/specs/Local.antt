@@ -1,5 +1,4 @@
--- The types whose data is read without the message: it has no names, or names that have no pointers. What it says is in
--- the window of the data alone, which it takes whole.
+-- Types whose data is read without the message: it has no names, or names without pointers. It takes its whole window.
 use Rattle.std.specs.Prelude.{◌≡◌, ℕ}
 use Rattle.octseq.specs.Window.{Window, left, past}
 use Rattle.octseq_dns_data.specs.Form.{Form, ◌followed_by◌, alone, number, plain_name, string, octets_of, all_octets}
@@ -48,24 +47,24 @@ local_number LocalType.svcb = 64
 local_number LocalType.https = 65
 local_number LocalType.uri = 256
 
--- The digest of a key: the tag and the algorithm of the key, the type of the digest, the digest.
+-- The digest of a key: the key tag, the algorithm, the digest type, the digest.
 abbrev pub digest_form : Form
 digest_form = number 2 followed_by number 1 followed_by number 1 followed_by octets_of IsSome
 
--- A key: flags, a protocol, an algorithm, the key.
+-- A key: the flags, the protocol, the algorithm, the public key.
 abbrev pub key_form : Form
 key_form = number 2 followed_by number 1 followed_by number 1 followed_by octets_of IsSome
 
--- A certificate: how it is used, which part of it, by which hash, that part.
+-- A certificate association: the usage, the selector, the matching type, the data.
 abbrev pub certificate_form : Form
 certificate_form = number 1 followed_by number 1 followed_by number 1 followed_by octets_of IsSome
 
--- A service: a priority, a name, parameters.
+-- A service binding: the priority, the name, the parameters.
 abbrev pub service_form : Form
 service_form = number 2 followed_by plain_name followed_by octets_of IsSvcParams
 
--- The form of each: RFC 1035, 3.3.2 (HINFO), RFC 6672, 2.1 (DNAME), RFC 4034, 2.1, 3.1 and 5.1 (DNSKEY, RRSIG, DS),
--- RFC 4034, 4.1 (NSEC), RFC 4255, 3.1 (SSHFP), RFC 5155, 3.2 and 4.2 (NSEC3, NSEC3PARAM), RFC 6698, 2.1 (TLSA),
+-- The form of each type: RFC 1035, 3.3.2 (HINFO), RFC 6672, 2.1 (DNAME), RFC 4034, 2.1, 3.1 and 5.1 (DNSKEY, RRSIG,
+-- DS), RFC 4034, 4.1 (NSEC), RFC 4255, 3.1 (SSHFP), RFC 5155, 3.2 and 4.2 (NSEC3, NSEC3PARAM), RFC 6698, 2.1 (TLSA),
 -- RFC 8162, 2 (SMIMEA), RFC 7344, 3 (CDS, CDNSKEY), RFC 7553, 4.5 (URI), RFC 8659, 4.1 (CAA), RFC 9460, 2.2 (SVCB,
 -- HTTPS).
 abbrev pub form : LocalType → Form
@@ -89,17 +88,17 @@ form LocalType.svcb = service_form
 form LocalType.https = service_form
 form LocalType.uri = number 2 followed_by number 2 followed_by octets_of IsSome
 
--- whether data of a class may have the form of a type: services are of the class IN alone
+-- whether data of a class may have the form of a type: service bindings are of class IN only
 abbrev pub IsOfClass : LocalType → ℕ → Type 0
 IsOfClass LocalType.svcb class = class ≡ 1
 IsOfClass LocalType.https class = class ≡ 1
 IsOfClass _ class = Unit {0}
 
--- it takes the window whole
+-- a value takes the whole window
 abbrev pub IsWhole : {A : Type 0} → Relation A → Window → A → Type 0
 IsWhole Is w found = Is w found (past (left w) w)
 
--- Data of a type and a class, in its window, has the form of one of these types, and this was found.
+-- Data of a type and a class has the form of one of these types, and this was found in its window.
 pub record IsLocal (rtype class : ℕ) (inside : Window) (k : LocalType) (found : (form k).Found) : Type 0 where
   pub rtype_is : rtype ≡ local_number k
   pub class_is : IsOfClass k class

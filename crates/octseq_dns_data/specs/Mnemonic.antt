@@ -1,5 +1,5 @@
--- How numbers with names are shown and read: by the mnemonics of the registry of DNS parameters, and else by a word
--- and the number (RFC 3597, 5).
+-- How named numbers are shown and read: by the mnemonics of the DNS parameters registry, otherwise by a word and the
+-- number (RFC 3597, 5).
 use Rattle.std.specs.Prelude.{◌≡◌, ℕ, ◌<◌, ◌⊎◌, nat_eq, if◌then◌else◌, List, [], ◌∷◌, ◌++◌, map, codes}
 use Rattle.std.specs.Prelude.{Option, None, Some, unwrap_or}
 use Rattle.std.specs.Char.{to_ascii_lowercase}
@@ -17,26 +17,26 @@ abbrev pub name_in : Names → ℕ → Option (List ℕ)
 name_in [] number = None
 name_in (named ∷ more) number = if nat_eq named.0 number then Some named.1 else name_in more number
 
--- the name of a number, or else the word and the number
+-- the name of a number, otherwise the word and the number
 abbrev pub name_or : List ℕ → Names → ℕ → List ℕ
 name_or word names number = unwrap_or (name_in names number) (word ++ decimal number)
 
--- the number whose name a text is, in letters of either case: the first one
+-- the first number whose name a text is, in letters of either case
 abbrev pub number_in : Names → List ℕ → Option ℕ
 number_in [] text = None
 number_in (named ∷ more) text = if str_eq_ignore_ascii_case text named.1 then Some named.0 else number_in more text
 
--- text has the letters of a word, each in either case
+-- a text is a word, in letters of either case
 abbrev pub Spells : List ℕ → List ℕ → Type 0
 Spells text word = map to_ascii_lowercase text ≡ map to_ascii_lowercase word
 
--- text is the name of a number
+-- a text is the name of a number
 pub record IsNameOf (names : Names) (text : List ℕ) (number : ℕ) : Type 0 where
   pub name : List ℕ
   pub named : IsAmong names (number, name)
   pub spelled : Spells text name
 
--- text is a word and one or more decimal digits, of a number of 16 bits
+-- a text is a word and one or more decimal digits, of a number of 16 bits
 pub record IsWordAndNumber (word text : List ℕ) (number : ℕ) : Type 0 where
   pub letters : List ℕ
   pub digits : List ℕ
@@ -46,7 +46,7 @@ pub record IsWordAndNumber (word text : List ℕ) (number : ℕ) : Type 0 where
   pub value : digits_value 10 digits ≡ number
   pub bits : number < 65536
 
--- text is the name of a number, or else the word and the number
+-- a text is the name of a number, otherwise the word and the number
 abbrev pub Reads : List ℕ → Names → List ℕ → ℕ → Type 0
 Reads word names text number = IsNameOf names text number ⊎ IsWordAndNumber word text number
 
@@ -70,7 +70,7 @@ class_text = name_or (codes "CLASS") class_names
 unfoldable pub rtype_text : ℕ → List ℕ
 rtype_text = name_or (codes "TYPE") rtype_names
 
--- text is that of a class, or of a type, in letters of either case
+-- a text is the text of a class, or of a type, in letters of either case
 unfoldable pub ReadsClass : List ℕ → ℕ → Type 0
 ReadsClass = Reads (codes "CLASS") class_names
 

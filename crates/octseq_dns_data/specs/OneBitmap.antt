@@ -1,4 +1,4 @@
--- Octets are window blocks in one way at most: so a value may keep as a fact that they are a set of types.
+-- Octets are window blocks in at most one way, so a value may keep as a fact that they are a type bitmap.
 use Rattle.std.specs.Prelude.{◌≡◌, ℕ, ◌+◌, List, [], ◌∷◌, ◌++◌, length, take}
 use Rattle.std.proofs.Common.{sym, ap, ◌∙◌, arith, refl}
 use Rattle.std.proofs.lemmas.List.{append_cancel_left}
@@ -10,7 +10,7 @@ use mathlib.Core.HLevel.{Σ_prop_path}
 use Rattle.octseq_dns_data.specs.RtypeBitmap.{WindowBlock, AscendFrom, IsRtypeBitmap}
 use Rattle.octseq_dns_data.specs.RtypeBitmap.{block_octets}
 
--- two fronts of one length are one front
+-- two fronts of equal length are equal
 same_front : (xs us ys vs : List ℕ) → length xs ≡ length us → xs ++ ys ≡ us ++ vs → (xs ≡ us) × (ys ≡ vs)
 same_front xs us ys vs same is =
     let front = sym (take-append_seam xs ys) ∙ ap (take (length xs)) is ∙ ap (λ n. take n (us ++ vs)) same
@@ -20,7 +20,7 @@ same_front xs us ys vs same is =
 abbrev made : ℕ → List ℕ → WindowBlock
 made number bitmap = record { number = number; bitmap = bitmap }
 
--- octets begin with one window block at most
+-- octets begin with at most one window block
 pub one_block : (block other : WindowBlock) (rest more : List ℕ)
     → block_octets block ++ rest ≡ block_octets other ++ more
     → (block ≡ other) × (rest ≡ more)
@@ -31,7 +31,7 @@ one_block block other rest more is =
     let both = same_front block.bitmap other.bitmap rest more size octets in
     (ap (λ number. made number block.bitmap) number ∙ ap (made other.number) both.0, both.1)
 
--- so they are one list of blocks
+-- so they are at most one list of blocks
 pub same_blocks : (blocks others : List WindowBlock)
     → flat_map block_octets blocks ≡ flat_map block_octets others → blocks ≡ others
 same_blocks [] [] is = refl

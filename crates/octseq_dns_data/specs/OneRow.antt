@@ -1,5 +1,4 @@
--- At most one row of things that take octets is at a place and ends at another: so a value may keep such a row as
--- a fact.
+-- At most one row of values that take octets is between two places, so a value may keep such a row as a fact.
 use Rattle.std.specs.Prelude.{◌≡◌, ℕ, ◌≤◌, List, [], ◌∷◌}
 use Rattle.std.proofs.Common.{sym, ap, ◌∙◌, arith}
 use Rattle.std.specs.Coded.{Coded, Coded-set, coded_list, coded_ℕ}
@@ -10,19 +9,19 @@ use Rattle.octseq_dns_data.specs.Data.{HasString}
 use Rattle.octseq_format.specs.Laws.{Relation, IsOne, IsMoving}
 use Rattle.octseq_format.specs.Row.{Row, row_moves, one_row_to}
 
--- One such thing is there at most. It takes an octet at least, and the window past it has the same end.
+-- At most one such value is there. It takes at least one octet, and the window past it has the same end.
 pub record IsItem {A : Type 0} (Is : Relation A) : Type 0 where
   pub one : IsOne Is
   pub moving : IsMoving Is
   pub ends : (w : Window) (a : A) (v : Window) → Is w a v → v.end ≡ w.end
 
--- so has the window past a row of them
+-- so does the window past a row of them
 pub row_end : {A : Type 0} (Is : Relation A) → IsItem Is → (w v : Window) (row : List A) → Row Is w row v
     → v.end ≡ w.end
 row_end Is item w v [] is = ap (λ (x : Window). x.end) is
 row_end Is item w v (x ∷ row) is = row_end Is item is.0 v row is.2 ∙ item.ends w x is.0 is.1
 
--- which is no earlier
+-- its position is no earlier
 pub row_on : {A : Type 0} (Is : Relation A) → IsItem Is → (w v : Window) (row : List A) → Row Is w row v
     → w.position ≤ v.position
 row_on Is item w v [] is = let same = ap (λ (x : Window). x.position) is in omega (arith, same)
@@ -32,7 +31,7 @@ row_on Is item w v (x ∷ row) is =
     let end = row_end Is item w v (x ∷ row) is in
     omega (arith, first, more, end)
 
--- so where a row ends decides which it is
+-- so the place where a row ends decides which row it is
 pub one_row_at : {A : Type 0} (Is : Relation A) → IsItem Is → (w u v : Window) (row others : List A)
     → u.position ≡ v.position → Row Is w row u → Row Is w others v → row ≡ others
 one_row_at Is item w u v row others same a b =
@@ -52,7 +51,7 @@ reached_once {A} code Is item w end a b =
     Σ_prop_path (λ row. ∥∥₁_prop)
     (∥∥₁_elim a.1 set (λ x. ∥∥₁_elim b.1 set (λ y. one_row_at Is item w x.0 y.0 a.0 b.0 (x.2 ∙ sym y.2) x.1 y.1)))
 
--- strings of text
+-- character strings
 abbrev pub string_code : Coded (List ℕ)
 string_code = coded_list coded_ℕ
 

@@ -1,4 +1,4 @@
--- Names without pointers, as data of the types that came after RFC 1035 has them: RFC 3597, 4.
+-- Names without compression pointers, as in data of types later than RFC 1035: RFC 3597, 4.
 use Rattle.std.specs.Prelude.{◌≡◌, ℕ, ◌≤◌, List, refl}
 use Rattle.std.proofs.Common.{arith}
 use Rattle.octseq.specs.Window.{Window}
@@ -7,7 +7,7 @@ use Rattle.octseq_dns_name.specs.NameFormat.{NameFits, name_labels, one_named, o
 use Rattle.octseq_dns_name.specs.Wire.{wire}
 use Rattle.octseq_format.specs.Laws.{Relation, IsOne, IsOnward, IsReadBack, IsDelimited, back_of}
 
--- A name is at a window's position, through no pointer: its labels, of at most 255 octets in wire form; and the window
+-- A name without pointers is at a window's position: its labels, of at most 255 octets in wire form; and the window
 -- after it.
 pub record IsPlainName (w : Window) (labels : List (List ℕ)) (v : Window) : Type 0 where
   pub stands : Stands w.position w labels 0 v

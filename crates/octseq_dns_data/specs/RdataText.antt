@@ -12,7 +12,7 @@ use Rattle.octseq_dns_data.specs.SvcParamsText.{svc_params_text}
 use Rattle.octseq_dns_name.specs.Name.{Name}
 use Rattle.octseq_dns_name.specs.Text.{name_text}
 
--- a service: its priority, its name, and each parameter after a space
+-- a service binding: its priority, its name, and each parameter after a space
 abbrev pub svcb_text : ℕ × (Name × Window) → List ℕ
 svcb_text svcb = decimal svcb.0 ++ 32 ∷ name_text svcb.1.0.labels ++ svc_params_text (rest svcb.1.1)
 
@@ -36,7 +36,7 @@ local_text LocalType.svcb it = svcb_text it
 local_text LocalType.https it = svcb_text it
 local_text LocalType.uri uri = uri_text uri
 
--- what data says
+-- the text of what data says
 abbrev pub rdata_text : ParsedRdata → List ℕ
 rdata_text (ParsedRdata.a octets) = ipv4_text octets
 rdata_text (ParsedRdata.aaaa octets) = aaaa_text octets

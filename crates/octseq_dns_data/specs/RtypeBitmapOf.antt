@@ -1,4 +1,4 @@
--- What contracts see of sets of types.
+-- What contracts see of type bitmaps.
 use Rattle.std.specs.Prelude.{ℕ, List, ◌++◌}
 use Rattle.octseq.specs.declared.AsOctets.{Ghosts}
 use Rattle.octseq.specs.Parser.{window}
@@ -13,15 +13,15 @@ use Rattle.octseq_dns_data.specs.declared.rtype_bitmap.iter.RtypeBitmapIter.{Rty
 abbrev pub block_of : WindowBlock → said.WindowBlock
 block_of block = record { number = block.number; bitmap = block.bitmap.now }
 
--- the window of the octets of a set of types
+-- the window of the octets of a bitmap
 abbrev pub bitmap_place : {R : Type 0} {g : Ghosts R} → RtypeBitmap R g → Window
 bitmap_place bitmap = window bitmap.parser
 
--- the octets of a set of types
+-- the octets of a bitmap
 abbrev pub bitmap_octets : {R : Type 0} {g : Ghosts R} → RtypeBitmap R g → List ℕ
 bitmap_octets bitmap = rest (bitmap_place bitmap)
 
--- its types, ascending
+-- the types of a bitmap, ascending
 abbrev pub rtypes_of : {R : Type 0} {g : Ghosts R} → RtypeBitmap R g → List ℕ
 rtypes_of bitmap = types_of (bitmap_octets bitmap)
 

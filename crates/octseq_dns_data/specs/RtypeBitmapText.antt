@@ -1,4 +1,4 @@
--- The text of a set of types: RFC 4034, 4.2.
+-- The text of a type bitmap: RFC 4034, 4.2.
 use Rattle.std.specs.Prelude.{ℕ, List, ◌∷◌}
 use Rattle.std.specs.List.{flat_map}
 use Rattle.octseq_dns_data.specs.Mnemonic.{rtype_text}

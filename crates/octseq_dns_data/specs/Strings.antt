@@ -1,4 +1,4 @@
--- Strings of text as they are in data: RFC 1035, 3.3 and 3.3.14.
+-- Character strings as they are in data: RFC 1035, 3.3 and 3.3.14.
 use Rattle.std.specs.Prelude.{ℕ, List}
 use Rattle.std.specs.List.{flat_map}
 use Rattle.octseq.specs.Part.{part_of}

@@ -1,4 +1,4 @@
--- The parameters of SVCB and HTTPS: RFC 9460, 2.2, 7 and 8.
+-- The service parameters of SVCB and HTTPS: RFC 9460, 2.2, 7 and 8.
 use Rattle.std.specs.Prelude.{◌≡◌, ℕ, ◌%◌, ◌^◌, ◌<◌, ◌≤◌, List, [], length, map, ◌++◌}
 use Rattle.std.specs.List.{All, flat_map}
 use Rattle.std.specs.List.Sorted.{IsStrictlyIncreasing}
@@ -8,33 +8,32 @@ use Rattle.octseq_dns_data.specs.Pieces.{Split, pieces, split_number, split_pair
 
 -- ---- the values of keys
 
--- These are the keys of a value: one or more, each in 2 octets, none 0, and they ascend (RFC 9460, 8).
+-- The keys of a value: one or more, each in 2 octets, none of them 0, ascending (RFC 9460, 8).
 pub record AreKeys (value keys : List ℕ) : Type 0 where
   pub spelled : value ≡ flat_map (octets_be 2) keys
   pub some : 1 ≤ length keys
   pub each : All (λ key. (1 ≤ key) × (key < 2 ^ 16)) keys
   pub ascending : IsStrictlyIncreasing keys
 
--- the keys that a value is taken apart into
+-- the keys that a value is split into
 abbrev pub keys_of : List ℕ → List ℕ
 keys_of = pieces (split_number 2)
 
--- These are the ids of protocols of a value: one or more, each after its length, which has one octet, and none is
--- empty (RFC 9460, 7.1.1).
+-- The protocol ids of a value: one or more, each after its length of one octet, none of them empty (RFC 9460, 7.1.1).
 pub record AreIds (value : List ℕ) (ids : List (List ℕ)) : Type 0 where
   pub spelled : value ≡ flat_map (part_of 1) ids
   pub some : 1 ≤ length ids
   pub each : All (λ id. (1 ≤ length id) × (length id < 2 ^ 8)) ids
 
--- the ids that a value is taken apart into
+-- the ids that a value is split into
 abbrev pub ids_of : List ℕ → List (List ℕ)
 ids_of = pieces (split_part 1)
 
--- one or more addresses, each of as many octets as a number says (RFC 9460, 7.3)
+-- one or more addresses of the given number of octets each (RFC 9460, 7.3)
 abbrev pub AreAddresses : ℕ → List ℕ → Type 0
 AreAddresses size value = (1 ≤ length value) × (length value % size ≡ 0)
 
--- A value has the form of its key: RFC 9460, 14.3.2. The value of any other key has any octets, or none.
+-- A value has the form of its key: RFC 9460, 14.3.2. The value of any other key may have any octets, or none.
 pub record IsValueOf (key : ℕ) (value : List ℕ) : Type 0 where
   pub mandatory : key ≡ 0 → AreKeys value (keys_of value)
   pub alpn : key ≡ 1 → AreIds value (ids_of value)
@@ -49,17 +48,17 @@ pub record IsValueOf (key : ℕ) (value : List ℕ) : Type 0 where
 abbrev pub Param : Type 0
 Param = ℕ × List ℕ
 
--- its octets: the key in 2 octets, and the value after its length, which has 2 octets
+-- its octets: the key in 2 octets, and the value after its length of 2 octets
 abbrev pub param_octets : Param → List ℕ
 param_octets param = octets_be 2 param.0 ++ part_of 2 param.1
 
--- Key and length fit their octets, and the value has the form of its key.
+-- Key and length fit 2 octets each, and the value has the form of its key.
 pub record IsParam (param : Param) : Type 0 where
   pub key : param.0 < 2 ^ 16
   pub few : length param.1 < 2 ^ 16
   pub value : IsValueOf param.0 param.1
 
--- These are the parameters of octets: none or more, one after another up to the end, and their keys ascend.
+-- The parameters of octets: any number, one after another up to the end, with ascending keys.
 pub record AreParams (octets : List ℕ) (params : List Param) : Type 0 where
   pub spelled : octets ≡ flat_map param_octets params
   pub each : All IsParam params
@@ -69,7 +68,7 @@ pub record AreParams (octets : List ℕ) (params : List Param) : Type 0 where
 abbrev pub split_param : Split Param
 split_param = split_pair (split_number 2) (split_part 2)
 
--- the parameters that octets are taken apart into
+-- the parameters that octets are split into
 abbrev pub params_of : List ℕ → List Param
 params_of = pieces split_param
 

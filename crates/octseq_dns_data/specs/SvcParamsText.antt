@@ -1,4 +1,4 @@
--- The text of parameters of SVCB and HTTPS: RFC 9460, 2.1 and A.1.
+-- The text of the service parameters of SVCB and HTTPS: RFC 9460, 2.1 and A.1.
 use Rattle.std.specs.Prelude.{ℕ, ◌==◌, if◌then◌else◌, Bool, List, [], ◌∷◌, ◌++◌, codes}
 use Rattle.std.specs.Char.{char_set_contains}
 use Rattle.std.specs.Fmt.{decimal}
@@ -11,7 +11,7 @@ use Rattle.octseq_dns_data.specs.Mnemonic.{Names, name_or}
 use Rattle.octseq_dns_data.specs.Pieces.{pieces, split_octets}
 use Rattle.octseq_dns_data.specs.SvcParams.{Param, ids_of, keys_of, params_of}
 
--- the texts of things, with a comma (44) between each two
+-- texts, separated by commas (44)
 abbrev pub with_commas : {X : Type 0} → (X → List ℕ) → List X → List ℕ
 with_commas text [] = []
 with_commas text (x ∷ xs) = text x ++ flat_map (λ y. 44 ∷ text y) xs
@@ -21,23 +21,23 @@ abbrev pub key_names : Names
 key_names = (0, codes "mandatory") ∷ (1, codes "alpn") ∷ (2, codes "no-default-alpn") ∷ (3, codes "port")
     ∷ (4, codes "ipv4hint") ∷ (5, codes "ech") ∷ (6, codes "ipv6hint") ∷ []
 
--- the name of a key, or else `key` and its number
+-- the name of a key, otherwise `key` and its number
 unfoldable pub key_text : ℕ → List ℕ
 key_text = name_or (codes "key") key_names
 
--- An octet of an id in a list: a backslash (92) and a comma are after a backslash.
+-- An octet of an id in a list: a backslash (92) or a comma comes after a backslash.
 abbrev pub is_listed_quoted : ℕ → Bool
 is_listed_quoted = char_set_contains (codes "\\,")
 
 abbrev pub listed_octet : ℕ → List ℕ
 listed_octet octet = if is_listed_quoted octet then 92 ∷ octet ∷ [] else octet ∷ []
 
--- ids with a comma between each two, all this as the octets of a string
+-- ids, separated by commas, as the octets of a string
 abbrev pub ids_text : List (List ℕ) → List ℕ
 ids_text ids = flat_map string_octet_text (with_commas (flat_map listed_octet) ids)
 
--- A value, of an octet or more, by its key: keys, ids, a port, addresses, octets in base 64, and of any other key the
--- octets as those of a string.
+-- A value of one or more octets, by its key: keys, ids, a port, addresses, base 64, and for any other key the octets of
+-- a string.
 unfoldable pub value_text : ℕ → List ℕ → List ℕ
 value_text key value = if key == 0 then with_commas key_text (keys_of value)
     else (if key == 1 then ids_text (ids_of value)
@@ -47,7 +47,7 @@ value_text key value = if key == 0 then with_commas key_text (keys_of value)
     else (if key == 6 then with_commas aaaa_text (pieces (split_octets 16) value)
     else flat_map string_octet_text value)))))
 
--- `=` (61) and the value between quotation marks (34), if it has an octet
+-- `=` (61) and the value in quotation marks (34), if it has an octet
 abbrev pub value_behind : ℕ → List ℕ → List ℕ
 value_behind key [] = []
 value_behind key (octet ∷ octets) = 61 ∷ 34 ∷ value_text key (octet ∷ octets) ++ 34 ∷ []

@@ -1,4 +1,4 @@
--- What contracts see of strings of text.
+-- What contracts see of character strings.
 use Rattle.std.specs.Iterator.{YieldsFirstBy}
 use Rattle.std.specs.Prelude.{◌≡◌, ℕ, List, Option, IfSome}
 use Rattle.octseq.specs.declared.AsOctets.{Ghosts}
@@ -21,7 +21,7 @@ txt_place txt = window txt.parser
 abbrev pub strings_left : {R : Type 0} {g : Ghosts R} → Strings R g → List (List ℕ)
 strings_left strings = strings.ahead.0
 
--- the window at whose position those are
+-- the window at whose position they are
 abbrev pub strings_ahead : {R : Type 0} {g : Ghosts R} → Strings R g → Window
 strings_ahead strings = window strings.parser
 
@@ -33,12 +33,12 @@ string_place string = window string.parser
 abbrev pub string_octets : {R : Type 0} {g : Ghosts R} → CharStr R g → List ℕ
 string_octets string = rest (string_place string)
 
--- an iterator's step over a string: its octets are where its length says, and the next one is after them
+-- an iterator steps over a string: its octets are where its length says, and the next one is after them
 abbrev pub StepsOver : {R : Type 0} {g : Ghosts R} → Strings R g → Window → Strings R g → Type 0
 StepsOver before place after =
     (place ≡ part 1 (strings_ahead before)) × (strings_ahead after ≡ past_part 1 (strings_ahead before))
 
--- what `next` gives: the first of the strings that are left, at its place; or none where none is left
+-- what `next` returns: the first string that is left, at its place; or none if none is left
 abbrev pub YieldsNextString : {R : Type 0} {g : Ghosts R} → Strings R g → Option (CharStr R g) → Strings R g → Type 0
 YieldsNextString before given after = YieldsFirstBy string_octets strings_left before given after
     × IfSome given (λ string. StepsOver before (string_place string) after)

@@ -35,7 +35,7 @@ use Rattle.octseq_dns_data.specs.declared.data.srv.Srv.{Srv}
 abbrev pub mx_of : {R : Type 0} {g : Ghosts R} → Mx R g → said.Mx
 mx_of mx = record { preference = mx.preference; exchange = name_of mx.exchange }
 
--- the start of a zone of authority
+-- the start of authority
 abbrev pub soa_of : {R : Type 0} {g : Ghosts R} → Soa R g → said.Soa
 soa_of soa = record {
   mname = name_of soa.mname;
@@ -47,7 +47,7 @@ soa_of soa = record {
   minimum = soa.minimum;
 }
 
--- the place of a service
+-- the service record
 abbrev pub srv_of : {R : Type 0} {g : Ghosts R} → Srv R g → said.Srv
 srv_of srv = record { priority = srv.priority; weight = srv.weight; port = srv.port; target = name_of srv.target }
 
@@ -149,7 +149,7 @@ rdata_of (kind.Https it) = ParsedRdata.local LocalType.https (svcb_of it)
 rdata_of (kind.Uri it) = ParsedRdata.local LocalType.uri (uri_of it)
 rdata_of (kind.Unknown rtype octets) = ParsedRdata.unknown rtype (window octets)
 
--- strings of text are at a window's position (a name says its place itself)
+-- strings are at a window's position (a name says its place itself)
 abbrev pub IsAt : {R : Type 0} {g : Ghosts R} → Window → Data R g → Type 0
 IsAt w (kind.Txt txt) = txt_place txt ≡ w
 IsAt w _ = Unit {0}

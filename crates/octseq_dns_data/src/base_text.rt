@@ -1,4 +1,4 @@
-//! The text of octets in base 64 and in base 32: RFC 4648.
+//! Base 64 and base 32 text: RFC 4648.
 ghost use Rattle.std.specs.Prelude.{◌≡◌, ℕ, ◌<◌, List, length, map, All};
 ghost use Rattle.std.specs.Fmt.{WritesOnOk};
 ghost use Rattle.std.specs.Char.{digit_char};
@@ -8,7 +8,7 @@ ghost use Rattle.octseq_dns_data.specs.BaseText.{quintets, base32hex_text};
 
 use std::fmt;
 
-/// Writes octets in base 64, with `=` after a last group that is short: RFC 4648, 4.
+/// Writes octets in base 64, with `=` after a short last group: RFC 4648, 4.
 pub fn write_base64<W: fmt::Write>(f: &mut fmt::Formatter<W>, octets: &[u8]) -> fmt::Result
     ensures { WritesOnOk W.write_str_gives f.old result (base64_text octets.now) f.new }
 {
@@ -20,7 +20,7 @@ pub fn write_base64<W: fmt::Write>(f: &mut fmt::Formatter<W>, octets: &[u8]) -> 
     write_base64_end(f, rest)
 }
 
-/// Writes the last group, of fewer than three octets, as the digits that it needs and `=` up to four.
+/// Writes a last group of fewer than three octets: the digits it needs, and `=` up to four.
 fn write_base64_end<W: fmt::Write>(f: &mut fmt::Formatter<W>, octets: &[u8]) -> fmt::Result
     requires { length octets.now < 3 }
     ensures { WritesOnOk W.write_str_gives f.old result (base64_text octets.now) f.new }
@@ -38,7 +38,7 @@ fn write_base64_end<W: fmt::Write>(f: &mut fmt::Formatter<W>, octets: &[u8]) -> 
     }
 }
 
-/// Three octets as four numbers of six bits.
+/// Splits three octets into four numbers of six bits.
 fn sextets(octets: [u8; 3]) -> [u8; 4]
     ensures { result ≡ sextets octets }
 {
@@ -46,7 +46,7 @@ fn sextets(octets: [u8; 3]) -> [u8; 4]
     [a / 4, a % 4 * 16 + b / 16, b % 16 * 4 + c / 64, c % 64]
 }
 
-/// Writes numbers of six bits as digits of base 64.
+/// Writes numbers of six bits as base 64 digits.
 fn write_base64_digits<W: fmt::Write>(f: &mut fmt::Formatter<W>, values: &[u8]) -> fmt::Result
     ensures { WritesOnOk W.write_str_gives f.old result (map base64_digit values.now) f.new }
 {
@@ -56,7 +56,7 @@ fn write_base64_digits<W: fmt::Write>(f: &mut fmt::Formatter<W>, values: &[u8]) 
     Ok(())
 }
 
-/// The digit of a number of six bits.
+/// Returns the base 64 digit of a number of six bits.
 fn base64_digit(value: u8) -> u8
     ensures { result ≡ base64_digit value }
 {
@@ -69,8 +69,8 @@ fn base64_digit(value: u8) -> u8
     }
 }
 
-/// Writes octets in base 32 with the digits `0` to `9` and `a` to `v`, and nothing after a last group that is short:
-/// RFC 4648, 7, as the next owner of NSEC3 is shown (RFC 5155, 3.3).
+/// Writes octets in base 32 with the digits `0` to `9` and `a` to `v`, without padding: RFC 4648, 7, as NSEC3 shows its
+/// next hashed owner name (RFC 5155, 3.3).
 pub fn write_base32hex<W: fmt::Write>(f: &mut fmt::Formatter<W>, octets: &[u8]) -> fmt::Result
     ensures { WritesOnOk W.write_str_gives f.old result (base32hex_text octets.now) f.new }
 {
@@ -82,7 +82,7 @@ pub fn write_base32hex<W: fmt::Write>(f: &mut fmt::Formatter<W>, octets: &[u8]) 
     write_base32hex_end(f, rest)
 }
 
-/// Writes the last group, of fewer than five octets, as the digits that it needs.
+/// Writes a last group of fewer than five octets: the digits it needs.
 fn write_base32hex_end<W: fmt::Write>(f: &mut fmt::Formatter<W>, octets: &[u8]) -> fmt::Result
     requires { length octets.now < 5 }
     ensures { WritesOnOk W.write_str_gives f.old result (base32hex_text octets.now) f.new }
@@ -96,7 +96,7 @@ fn write_base32hex_end<W: fmt::Write>(f: &mut fmt::Formatter<W>, octets: &[u8]) 
     }
 }
 
-/// Five octets as eight numbers of five bits.
+/// Splits five octets into eight numbers of five bits.
 fn quintets(octets: [u8; 5]) -> [u8; 8]
     ensures values { result ≡ quintets octets }
     ensures small { All (λ value. value < 32) result }
@@ -114,7 +114,7 @@ fn quintets(octets: [u8; 5]) -> [u8; 8]
     ]
 }
 
-/// Writes numbers of five bits as digits of base 32.
+/// Writes numbers of five bits as base 32 digits.
 fn write_base32hex_digits<W: fmt::Write>(f: &mut fmt::Formatter<W>, values: &[u8]) -> fmt::Result
     requires { All (λ value. value < 32) values.now }
     ensures { WritesOnOk W.write_str_gives f.old result (map digit_char values.now) f.new }
@@ -125,7 +125,7 @@ fn write_base32hex_digits<W: fmt::Write>(f: &mut fmt::Formatter<W>, values: &[u8
     Ok(())
 }
 
-/// The digit of a number of five bits, a letter in lower case.
+/// Returns the base 32 digit of a number of five bits, in lower case.
 fn base32hex_digit(value: u8) -> u8
     requires { value < 32 }
     ensures { result ≡ digit_char value }
@@ -136,17 +136,17 @@ fn base32hex_digit(value: u8) -> u8
     b'a' + (value - 10)
 }
 
-/// Octets with one text in base 64 are the same octets.
+/// Octets with the same base 64 text are the same octets.
 ///
-/// It does nothing. A caller that calls it has the law in its proof.
+/// It does nothing. Calling it brings the law into the caller's proof.
 pub fn base64_determines_octets()
     ensures { (octets other : List ℕ) → AreOctets octets → AreOctets other
         → base64_text octets ≡ base64_text other → octets ≡ other }
 {}
 
-/// Octets with one text in base 32 are the same octets.
+/// Octets with the same base 32 text are the same octets.
 ///
-/// It does nothing. A caller that calls it has the law in its proof.
+/// It does nothing. Calling it brings the law into the caller's proof.
 pub fn base32hex_determines_octets()
     ensures { (octets other : List ℕ) → AreOctets octets → AreOctets other
         → base32hex_text octets ≡ base32hex_text other → octets ≡ other }

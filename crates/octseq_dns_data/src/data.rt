@@ -1,4 +1,4 @@
-//! What the data of a record says, by the record's type and class: RFC 1035, 3.3 and 3.4.
+//! Record data, read by the record's type and class: RFC 1035, 3.3 and 3.4.
 ghost use Rattle.std.specs.Prelude.{◌≡◌, ◌≢◌, ℕ, ◌+◌, ◌-◌, ◌≤◌, List, true, IsTrue, IsErr, IfOk, OnOk, ⊤};
 ghost use Rattle.std.specs.Net.Addr.{IsIpv4Mapped, segments_of};
 ghost use Rattle.octseq.specs.Parser.{window};
@@ -55,32 +55,32 @@ pub use crate::data::text::{write_hex, write_string};
 pub use crate::data::txt::{CharStr, Strings, Txt};
 pub use crate::data::uri::Uri;
 
-/// Data says one thing at most.
+/// Data says at most one thing.
 ///
-/// It does nothing. A caller that calls it has the law in its proof.
+/// It does nothing. Calling it brings the law into the caller's proof.
 pub fn one_reading_of_data()
     ensures { (rtype class : ℕ) (w inside : Window) (rdata other : ParsedRdata) → SaysData rtype class w inside rdata
         → SaysData rtype class w inside other → rdata ≡ other }
 {}
 
-/// What data says is of the record's type.
+/// What data says has the record's type.
 ///
-/// It does nothing. A caller that calls it has the law in its proof.
+/// It does nothing. Calling it brings the law into the caller's proof.
 pub fn data_has_the_records_type()
     ensures { (rtype class : ℕ) (w inside : Window) (rdata : ParsedRdata) → SaysData rtype class w inside rdata
         → rtype_of rdata ≡ rtype }
 {}
 
-/// An IPv6 address that doesn't end in an IPv4 address shows its eight groups, with `::` in the place of the first of
-/// the longest runs of two or more zero groups: RFC 5952, 4.2.
+/// An IPv6 address without an IPv4 address in it is shown as its eight groups, with `::` for the first of the longest
+/// runs of two or more zero groups: RFC 5952, 4.2.
 ///
-/// It does nothing. A caller that calls it has the law in its proof.
+/// It does nothing. Calling it brings the law into the caller's proof.
 pub fn zero_groups_are_shortened()
     ensures { (octets : List ℕ) → ¬ IsTrue (is_compatible octets) → ¬ IsIpv4Mapped (segments_of octets)
         → IsGroupsText (segments_of octets) (aaaa_text octets) }
 {}
 
-/// What the data of a record says. Names in it are in the message, and no octet of them is copied.
+/// The data of a record. Names in it stay in the message, and no octet of them is copied.
 #[derive(Debug)]
 pub enum Data<R: AsOctets> {
     /// An IPv4 address, in class IN: RFC 1035, 3.4.1.
@@ -95,50 +95,49 @@ pub enum Data<R: AsOctets> {
     Ptr(ParsedName<R>),
     /// A mail exchange: RFC 1035, 3.3.9.
     Mx(Mx<R>),
-    /// The start of a zone of authority: RFC 1035, 3.3.13.
+    /// The start of authority: RFC 1035, 3.3.13.
     Soa(Soa<R>),
-    /// Strings of text: RFC 1035, 3.3.14.
+    /// Character strings: RFC 1035, 3.3.14.
     Txt(Txt<R>),
-    /// The place of a service, in class IN: RFC 2782.
+    /// The location of a service, in class IN: RFC 2782.
     Srv(Srv<R>),
     /// A naming authority pointer, in class IN: RFC 3403.
     Naptr(Naptr<R>),
-    /// What a host is: RFC 1035, 3.3.2.
+    /// Host information: RFC 1035, 3.3.2.
     Hinfo(Hinfo<R>),
-    /// A name that all names below the owner are moved to: RFC 6672.
+    /// The name that replaces the owner for all names below it: RFC 6672.
     Dname(ParsedName<R>),
     /// The digest of a key of a child zone: RFC 4034, 5.
     Ds(Ds<R>),
-    /// The fingerprint of a host's key: RFC 4255.
+    /// The fingerprint of a host's SSH key: RFC 4255.
     Sshfp(Sshfp<R>),
-    /// A signature of records: RFC 4034, 3.
+    /// A signature of a record set: RFC 4034, 3.
     Rrsig(Rrsig<R>),
-    /// The next name of a zone, and which types a name has: RFC 4034, 4.
+    /// The next name of a zone, and the types that the owner has: RFC 4034, 4.
     Nsec(Nsec<R>),
-    /// A key of a zone: RFC 4034, 2.
+    /// A public key of a zone: RFC 4034, 2.
     Dnskey(Dnskey<R>),
-    /// The next hash of a name of a zone, and which types the name has: RFC 5155, 3.
+    /// The next hashed owner name of a zone, and the types that the name has: RFC 5155, 3.
     Nsec3(Nsec3<R>),
-    /// How names of a zone are hashed: RFC 5155, 4.
+    /// The parameters by which a zone hashes its names: RFC 5155, 4.
     Nsec3param(Nsec3param<R>),
-    /// What a certificate is to be: RFC 6698.
+    /// A certificate association of a TLS server: RFC 6698.
     Tlsa(Tlsa<R>),
-    /// What a certificate of a mailbox is to be: RFC 8162.
+    /// A certificate association of a mailbox: RFC 8162.
     Smimea(Tlsa<R>),
-    /// The digest of a key that a child zone wants in its parent: RFC 7344.
+    /// The DS that a child zone wants in its parent: RFC 7344.
     Cds(Ds<R>),
-    /// The key of which a child zone wants the digest in its parent: RFC 7344.
+    /// The key whose DS a child zone wants in its parent: RFC 7344.
     Cdnskey(Dnskey<R>),
     /// Who may issue certificates: RFC 8659.
     Caa(Caa<R>),
-    /// How a service is reached, in class IN: RFC 9460.
+    /// A service binding, in class IN: RFC 9460.
     Svcb(Svcb<R>),
-    /// How a web server is reached, in class IN: RFC 9460.
+    /// A service binding of HTTPS, in class IN: RFC 9460.
     Https(Svcb<R>),
-    /// Where a service is, as a URI: RFC 7553.
+    /// URI records: RFC 7553.
     Uri(Uri<R>),
-    /// Anything else, as RFC 3597 has it: the record's type, and a parser of the message that begins and ends with the
-    /// data.
+    /// Data of an unknown form: the record's type, and a parser of the message limited to the data (RFC 3597).
     Unknown(Rtype, Parser<R>),
 }
 
@@ -157,7 +156,7 @@ impl<R: AsOctets + Copy> Clone for Data<R> {
 impl<R: AsOctets + Copy> Data<R> {
     ghost use Rattle.octseq_dns_data.specs.Typed.{rdata_of, IsAt};
 
-    /// The type of which it is: the record's.
+    /// Returns the type of the record.
     pub fn rtype(&self) -> Rtype
         ensures { result ≡ rtype_of (rdata_of self.now) }
     {
@@ -193,9 +192,9 @@ impl<R: AsOctets + Copy> Data<R> {
         }
     }
 
-    /// Data that is written by its form, and not by fields of which some are compressed, has octets: its parts fit.
+    /// Data that is written by its form, rather than by fields some of which are compressed, has octets: its parts fit.
     ///
-    /// It does nothing. A caller that calls it has the law in its proof.
+    /// It does nothing. Calling it brings the law into the caller's proof.
     pub fn has_octets(&self)
         ensures { FitsForm (rdata_of self.now) }
     {
@@ -225,12 +224,12 @@ impl<R: AsOctets + Copy> Data<R> {
         }
     }
 
-    /// What data of a type and a class says: where it is in a message, and in its own window. It counts the turns that
-    /// names, strings, windows and parameters in it take.
+    /// Reads data of a type and a class, given where it is in the message, and its own window. It counts the turns of
+    /// the names, strings, window blocks and parameters in it.
     ///
     /// # Errors
     ///
-    /// `Malformed` where it doesn't have the form of its type.
+    /// `Malformed` if it doesn't have the form of its type.
     pub fn parse(
         message: Parser<R>,
         inside: Parser<R>,
@@ -257,8 +256,8 @@ impl<R: AsOctets + Copy> Data<R> {
         Ok(found)
     }
 
-    /// Takes the data of a type and a class, which ends at a place of the message. It counts the turns that names and
-    /// strings in it take.
+    /// Reads data of a type and a class that ends at `end` in the message. It counts the turns of the names and strings
+    /// in it.
     fn parse_in_message(
         parser: &mut Parser<R>,
         rtype: Rtype,
@@ -285,7 +284,7 @@ impl<R: AsOctets + Copy> Data<R> {
         Ok(found)
     }
 
-    /// Takes the data of a type and a class, where it tells its own end: of any type but TXT.
+    /// Reads data of a type and a class that shows its own end: any type but TXT.
     fn take(
         parser: &mut Parser<R>,
         rtype: Rtype,
@@ -332,7 +331,7 @@ impl<R: AsOctets + Copy> Data<R> {
         Err(Malformed)
     }
 
-    /// What data of a type and a class says by itself.
+    /// Reads data of a type and a class from its own window.
     fn parse_local(
         inside: Parser<R>,
         rtype: Rtype,
@@ -371,7 +370,7 @@ impl<R: AsOctets + Copy> Data<R> {
     }
 }
 
-/// What data of a service says, which is of the class IN alone.
+/// Reads a service binding, which is of class IN only.
 fn parse_service<R: AsOctets + Copy>(
     inside: Parser<R>,
     class: Class,
@@ -390,7 +389,7 @@ fn parse_service<R: AsOctets + Copy>(
     Ok(svcb)
 }
 
-/// What a window says that a format takes whole.
+/// Reads a value that takes the whole window.
 fn whole<R: AsOctets + Copy, F: Format<R>>(
     inside: Parser<R>,
     turns: &mut Turns,
@@ -407,7 +406,7 @@ fn whole<R: AsOctets + Copy, F: Format<R>>(
     Ok(value)
 }
 
-/// Whether data of a type is read in the message, where its names may have pointers, or where it always was.
+/// Whether data of a type is read in the message: types whose names may have pointers, and A, AAAA and TXT.
 fn is_in_message(rtype: Rtype) -> bool
     ensures { result ≡ is_in_message rtype }
 {

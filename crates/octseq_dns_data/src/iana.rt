@@ -1,28 +1,28 @@
-//! Numbers with names: types, classes, opcodes and response codes.
+//! Named numbers: types, classes, opcodes and response codes.
 //!
-//! A number without a name here is as good as any other: nothing is refused for its number. Contracts see the number.
+//! Numbers without a name here are valid: nothing is refused because of its number. Contracts see the number.
 ghost use Rattle.std.specs.Prelude.{◌≡◌, ℕ, ◌<◌, List};
 ghost use Rattle.octseq_dns_data.specs.Mnemonic.{class_text, rtype_text, ReadsClass, ReadsRtype};
 
 use std::marker::Model;
 
-/// The text of a type is read as that type, and a text is read as one type at most.
+/// The text of a type is read as that type, and a text is read as at most one type.
 ///
-/// It does nothing. A caller that calls it has the law in its proof.
+/// It does nothing. Calling it brings the law into the caller's proof.
 pub fn types_are_read_from_their_text()
     ensures shown { (number : ℕ) → number < 65536 → ReadsRtype (rtype_text number) number }
     ensures one { (text : List ℕ) (a b : ℕ) → ReadsRtype text a → ReadsRtype text b → a ≡ b }
 {}
 
-/// The text of a class is read as that class, and a text is read as one class at most.
+/// The text of a class is read as that class, and a text is read as at most one class.
 ///
-/// It does nothing. A caller that calls it has the law in its proof.
+/// It does nothing. Calling it brings the law into the caller's proof.
 pub fn classes_are_read_from_their_text()
     ensures shown { (number : ℕ) → number < 65536 → ReadsClass (class_text number) number }
     ensures one { (text : List ℕ) (a b : ℕ) → ReadsClass text a → ReadsClass text b → a ≡ b }
 {}
 
-/// A text is no type's, or no class's: neither a mnemonic nor a word and a number of 16 bits.
+/// The error for text that isn't a type, or a class: neither a mnemonic nor a word and a number of 16 bits.
 #[derive(Clone, Copy, Debug, PartialEq, Eq)]
 pub struct FromStrError;
 
@@ -49,85 +49,85 @@ impl Rtype {
     pub const NS: Self = Rtype { number: 2 };
     /// The canonical name of an alias.
     pub const CNAME: Self = Rtype { number: 5 };
-    /// The start of a zone of authority.
+    /// The start of authority.
     pub const SOA: Self = Rtype { number: 6 };
     /// A pointer to another name.
     pub const PTR: Self = Rtype { number: 12 };
-    /// A host's kind of machine and its system.
+    /// Host information.
     pub const HINFO: Self = Rtype { number: 13 };
     /// A mail exchange.
     pub const MX: Self = Rtype { number: 15 };
-    /// Strings of text.
+    /// Character strings.
     pub const TXT: Self = Rtype { number: 16 };
-    /// Who answers for a name: RFC 1183, 2.2.
+    /// The person responsible for a name: RFC 1183, 2.2.
     pub const RP: Self = Rtype { number: 17 };
     /// An IPv6 address: RFC 3596.
     pub const AAAA: Self = Rtype { number: 28 };
-    /// A place on earth: RFC 1876.
+    /// A geographical location: RFC 1876.
     pub const LOC: Self = Rtype { number: 29 };
-    /// The place of a service: RFC 2782.
+    /// The location of a service: RFC 2782.
     pub const SRV: Self = Rtype { number: 33 };
-    /// A rule that rewrites a name: RFC 3403.
+    /// A naming authority pointer: RFC 3403.
     pub const NAPTR: Self = Rtype { number: 35 };
-    /// Another name for all names under one: RFC 6672.
+    /// A redirection of all names below one: RFC 6672.
     pub const DNAME: Self = Rtype { number: 39 };
-    /// The options of EDNS: RFC 6891.
+    /// The EDNS options: RFC 6891.
     pub const OPT: Self = Rtype { number: 41 };
-    /// The digest of a key of the zone below: RFC 4034, 5.
+    /// The digest of a key of a child zone: RFC 4034, 5.
     pub const DS: Self = Rtype { number: 43 };
-    /// The fingerprint of a key of SSH: RFC 4255.
+    /// The fingerprint of an SSH key: RFC 4255.
     pub const SSHFP: Self = Rtype { number: 44 };
-    /// A signature of records: RFC 4034, 3.
+    /// A signature of a record set: RFC 4034, 3.
     pub const RRSIG: Self = Rtype { number: 46 };
-    /// The next name, and the types that a name has: RFC 4034, 4.
+    /// The next name, and the types that the owner has: RFC 4034, 4.
     pub const NSEC: Self = Rtype { number: 47 };
-    /// A key of a zone: RFC 4034, 2.
+    /// A public key of a zone: RFC 4034, 2.
     pub const DNSKEY: Self = Rtype { number: 48 };
-    /// The next hash of a name, and the types that a name has: RFC 5155, 3.
+    /// The next hashed owner name, and the types that the name has: RFC 5155, 3.
     pub const NSEC3: Self = Rtype { number: 50 };
-    /// How names of a zone are hashed: RFC 5155, 4.
+    /// The parameters by which a zone hashes its names: RFC 5155, 4.
     pub const NSEC3PARAM: Self = Rtype { number: 51 };
-    /// A certificate or key of a TLS server: RFC 6698.
+    /// A certificate association of a TLS server: RFC 6698.
     pub const TLSA: Self = Rtype { number: 52 };
-    /// A certificate or key for S/MIME: RFC 8162.
+    /// A certificate association for S/MIME: RFC 8162.
     pub const SMIMEA: Self = Rtype { number: 53 };
-    /// The DS that a zone wants above it: RFC 7344.
+    /// The DS that a zone wants in its parent: RFC 7344.
     pub const CDS: Self = Rtype { number: 59 };
-    /// The DNSKEY whose DS a zone wants above it: RFC 7344.
+    /// The DNSKEY whose DS a zone wants in its parent: RFC 7344.
     pub const CDNSKEY: Self = Rtype { number: 60 };
-    /// A key of OpenPGP: RFC 7929.
+    /// An OpenPGP key: RFC 7929.
     pub const OPENPGPKEY: Self = Rtype { number: 61 };
     /// The digest of a zone: RFC 8976.
     pub const ZONEMD: Self = Rtype { number: 63 };
-    /// The ends of a service and their parameters: RFC 9460.
+    /// A service binding: RFC 9460.
     pub const SVCB: Self = Rtype { number: 64 };
-    /// The same of HTTPS: RFC 9460, 9.
+    /// A service binding of HTTPS: RFC 9460, 9.
     pub const HTTPS: Self = Rtype { number: 65 };
-    /// Who may send mail, in a type that TXT replaced: RFC 7208, 3.1.
+    /// The Sender Policy Framework, in a type that TXT replaced: RFC 7208, 3.1.
     pub const SPF: Self = Rtype { number: 99 };
-    /// An exchange of keys: RFC 2930.
+    /// A key exchange: RFC 2930.
     pub const TKEY: Self = Rtype { number: 249 };
     /// A signature of a message: RFC 8945.
     pub const TSIG: Self = Rtype { number: 250 };
-    /// A question for what changed in a zone: RFC 1995.
+    /// A request for the changes of a zone: RFC 1995.
     pub const IXFR: Self = Rtype { number: 251 };
-    /// A question for a whole zone.
+    /// A request for a whole zone.
     pub const AXFR: Self = Rtype { number: 252 };
-    /// A question for all records.
+    /// A request for all records.
     pub const ANY: Self = Rtype { number: 255 };
-    /// An address on the web: RFC 7553.
+    /// A URI: RFC 7553.
     pub const URI: Self = Rtype { number: 256 };
     /// Who may issue certificates: RFC 8659.
     pub const CAA: Self = Rtype { number: 257 };
 
-    /// The type of a number.
+    /// Makes the type of a number.
     pub fn from_int(number: u16) -> Self
         ensures { result ≡ number }
     {
         Rtype { number }
     }
 
-    /// Its number.
+    /// Returns the number.
     pub fn to_int(self) -> u16
         ensures { result ≡ self }
     {
@@ -160,17 +160,17 @@ impl Class {
     pub const HS: Self = Class { number: 4 };
     /// No class, in updates: RFC 2136, 1.3.
     pub const NONE: Self = Class { number: 254 };
-    /// A question for any class.
+    /// A request for any class.
     pub const ANY: Self = Class { number: 255 };
 
-    /// The class of a number.
+    /// Makes the class of a number.
     pub fn from_int(number: u16) -> Self
         ensures { result ≡ number }
     {
         Class { number }
     }
 
-    /// Its number.
+    /// Returns the number.
     pub fn to_int(self) -> u16
         ensures { result ≡ self }
     {
@@ -178,7 +178,7 @@ impl Class {
     }
 }
 
-/// What kind of question a message is: RFC 1035, 4.1.1. It has four bits.
+/// The kind of query: RFC 1035, 4.1.1. It has four bits.
 #[derive(Clone, Copy, Debug, PartialEq, Eq, PartialOrd, Ord, Hash)]
 pub struct Opcode {
     number: u8,
@@ -201,14 +201,14 @@ impl Opcode {
     pub const QUERY: Self = Opcode { number: 0 };
     /// An inverse query.
     pub const IQUERY: Self = Opcode { number: 1 };
-    /// A request for the state of a server.
+    /// A request for the status of a server.
     pub const STATUS: Self = Opcode { number: 2 };
-    /// A notice that a zone changed: RFC 1996.
+    /// A notification that a zone changed: RFC 1996.
     pub const NOTIFY: Self = Opcode { number: 4 };
-    /// An update of a zone: RFC 2136.
+    /// A dynamic update of a zone: RFC 2136.
     pub const UPDATE: Self = Opcode { number: 5 };
 
-    /// The opcode of a number, which is below 16.
+    /// Makes the opcode of a number below 16.
     pub fn from_int(number: u8) -> Self
         requires { number < 16 }
         ensures { result ≡ number }
@@ -216,7 +216,7 @@ impl Opcode {
         Opcode { number }
     }
 
-    /// Its number, which is below 16.
+    /// Returns the number, which is below 16.
     pub fn to_int(self) -> u8
         ensures number { result ≡ self }
         ensures most { result < 16 }
@@ -225,7 +225,7 @@ impl Opcode {
     }
 }
 
-/// What a response tells of its success: RFC 1035, 4.1.1. It has four bits.
+/// The response code: RFC 1035, 4.1.1. It has four bits.
 #[derive(Clone, Copy, Debug, PartialEq, Eq, PartialOrd, Ord, Hash)]
 pub struct Rcode {
     number: u8,
@@ -246,18 +246,18 @@ impl Model for Rcode {
 impl Rcode {
     /// No error.
     pub const NOERROR: Self = Rcode { number: 0 };
-    /// The server could not read the question.
+    /// The server couldn't interpret the query.
     pub const FORMERR: Self = Rcode { number: 1 };
     /// The server failed.
     pub const SERVFAIL: Self = Rcode { number: 2 };
-    /// There is no such name.
+    /// The name doesn't exist.
     pub const NXDOMAIN: Self = Rcode { number: 3 };
-    /// The server has no such kind of question.
+    /// The server doesn't support this kind of query.
     pub const NOTIMP: Self = Rcode { number: 4 };
-    /// The server refuses.
+    /// The server refuses the query.
     pub const REFUSED: Self = Rcode { number: 5 };
 
-    /// The response code of a number, which is below 16.
+    /// Makes the response code of a number below 16.
     pub fn from_int(number: u8) -> Self
         requires { number < 16 }
         ensures { result ≡ number }
@@ -265,7 +265,7 @@ impl Rcode {
         Rcode { number }
     }
 
-    /// Its number, which is below 16.
+    /// Returns the number, which is below 16.
     pub fn to_int(self) -> u8
         ensures number { result ≡ self }
         ensures most { result < 16 }
@@ -325,7 +325,7 @@ pub(crate) static CLASS_NAMES: [(u16, &str); 5] = [
     (Class::ANY.number, "ANY"),
 ];
 
-// The numbers that IANA assigned to these names. A constant with another number isn't compiled.
+// The numbers that IANA assigned to these names. A constant with another number doesn't compile.
 const _: () = prove!(
     Opcode::QUERY.number == 0
         && Opcode::IQUERY.number == 1

@@ -1,5 +1,5 @@
-//! Data of DNS records, read from one buffer with nothing copied: what it says by the record's type and class, and its
-//! text; types, classes and the other numbers with names.
+//! The data of DNS records, read from one buffer without copies: by the record's type and class, with its text form;
+//! types, classes and the other named numbers.
 #![tactic(auto)]
 
 pub mod base_text;

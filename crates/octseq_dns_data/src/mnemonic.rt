@@ -1,4 +1,4 @@
-//! Numbers and their names, by a table.
+//! Named numbers, by a table.
 ghost use Rattle.std.specs.Prelude.{◌≡◌, ℕ, ◌<◌, option_copied, map, IfSome, IfNone};
 ghost use Rattle.std.specs.Fmt.{WritesOnOk};
 ghost use Rattle.std.specs.Option.{SomeIff};
@@ -8,7 +8,7 @@ ghost use Rattle.octseq_dns_data.specs.Mnemonic.{name_in, name_or, number_in, Re
 
 use std::{fmt, str};
 
-/// Writes the name of a number, or else the word and the number.
+/// Writes the name of a number. If it has none, writes the word and the number.
 pub(crate) fn write_named<W: fmt::Write>(
     f: &mut fmt::Formatter<W>,
     names: &[(u16, &'static str)],
@@ -24,7 +24,7 @@ pub(crate) fn write_named<W: fmt::Write>(
     }
 }
 
-/// The name of a number.
+/// Returns the name of a number.
 fn name_of(mut names: &[(u16, &'static str)], number: u16) -> Option<&'static str>
     ensures { option_copied result ≡ name_in (map (λ named. (named.0, named.1.now)) names.entry.now) number }
 {
@@ -37,7 +37,7 @@ fn name_of(mut names: &[(u16, &'static str)], number: u16) -> Option<&'static st
     None
 }
 
-/// The number whose name a text is, in letters of either case, or else the one that follows the word there.
+/// Returns the number whose name the text is, or the number that follows the word in it. Letters are of either case.
 pub(crate) fn read_number(names: &[(u16, &'static str)], word: &str, text: &str) -> Option<u16>
     ensures some { IfSome result (Reads word.now (map (λ named. (named.0, named.1.now)) names.now) text.now) }
     ensures none { IfNone result ((number : ℕ)
@@ -49,7 +49,7 @@ pub(crate) fn read_number(names: &[(u16, &'static str)], word: &str, text: &str)
     }
 }
 
-/// The number whose name a text is, in letters of either case.
+/// Returns the number whose name the text is, in letters of either case.
 fn number_of(mut names: &[(u16, &'static str)], text: &str) -> Option<u16>
     ensures { result ≡ number_in (map (λ named. (named.0, named.1.now)) names.entry.now) text.now }
 {
@@ -62,14 +62,14 @@ fn number_of(mut names: &[(u16, &'static str)], text: &str) -> Option<u16>
     None
 }
 
-/// Whether a text has the letters of a name, each in either case.
+/// Whether a text is a name, in letters of either case.
 fn has_letters(text: &str, name: &str) -> bool
     ensures { result ≡ str_eq_ignore_ascii_case text.now name.now }
 {
     text.eq_ignore_ascii_case(name)
 }
 
-/// The number of 16 bits that follows a word, whose letters may be of either case.
+/// Returns the number of 16 bits that follows a word, whose letters are of either case.
 fn number_after(word: &[u8], text: &[u8]) -> Option<u16>
     ensures some { IfSome result (IsWordAndNumber word.now text.now) }
     ensures none { IfNone result ((number : ℕ) → ¬ IsWordAndNumber word.now text.now number) }
@@ -81,7 +81,7 @@ fn number_after(word: &[u8], text: &[u8]) -> Option<u16>
     None
 }
 
-/// The number of 16 bits that decimal digits write, of which there is one or more.
+/// Returns the number of 16 bits that one or more decimal digits write.
 fn decimal_number(digits: &[u8]) -> Option<u16>
     ensures { SomeIff result (IsNumeral 10 digits.now × (digits_value 10 digits.now < 65536))
         (digits_value 10 digits.now) }

@@ -1,4 +1,4 @@
-//! Sets of types of records: RFC 4034, 4.1.2.
+//! Sets of record types, as type bitmaps: RFC 4034, 4.1.2.
 ghost use Rattle.std.specs.Prelude.{◌≡◌, ℕ, List, ◌+◌, ◌*◌, ◌≤◌, ◌↔◌, ⊤, [], Some, IsTrue, IsErr, IfOk, OnOk};
 ghost use Rattle.std.specs.List.{Contains, flat_map};
 ghost use Rattle.std.specs.List.Sorted.{IsStrictlyIncreasing};
@@ -22,16 +22,16 @@ use octseq::{AsOctets, Malformed, Parser};
 use std::alloc::AllocError;
 use std::fmt;
 
-/// The types of octets are those that their window blocks say, and strictly ascend.
+/// The types of octets are those of their window blocks, and strictly ascend.
 ///
-/// It does nothing. A caller that calls it has the laws in its proof.
+/// It does nothing. Calling it brings the laws into the caller's proof.
 pub fn types_of_blocks()
     ensures blocks { (octets : List ℕ) (blocks : List WindowBlock) → AreBlocksFrom 0 octets blocks
         → types_of octets ≡ flat_map block_types blocks }
     ensures ascending { (octets : List ℕ) → IsRtypeBitmap octets → IsStrictlyIncreasing (types_of octets) }
 {}
 
-/// A set of types of records, where it was read. None of its octets is copied.
+/// A type bitmap, where it was read. None of its octets is copied.
 #[derive(Debug)]
 pub struct RtypeBitmap<R: AsOctets> {
     parser: Parser<R>,
@@ -53,11 +53,11 @@ impl<R: AsOctets + Copy> Clone for RtypeBitmap<R> {
 impl<R: AsOctets> RtypeBitmap<R> {
     ghost use Rattle.octseq_dns_data.specs.RtypeBitmapOf.{bitmap_octets, bitmap_place, rtypes_left, rtypes_of};
 
-    /// Reads all of the octets as a set of types.
+    /// Reads all the octets as a type bitmap.
     ///
     /// # Errors
     ///
-    /// `Malformed` where the octets are no set of types.
+    /// `Malformed` if the octets aren't a type bitmap.
     pub fn from_octets(octets: R) -> Result<RtypeBitmap<R>, Malformed>
         ensures octets { IfOk result (λ bitmap. bitmap_octets bitmap ≡ R.content octets) }
         ensures ok { OnOk result (IsRtypeBitmap (R.content octets)) }
@@ -67,7 +67,7 @@ impl<R: AsOctets> RtypeBitmap<R> {
         RtypeBitmap::parse(parser, &mut Turns::new())
     }
 
-    /// Reads all that is left as a set of types. It counts a turn for each window block.
+    /// Reads the octets that are left as a type bitmap. It counts a turn for each window block.
     pub(crate) fn parse(parser: Parser<R>, turns: &mut Turns) -> Result<RtypeBitmap<R>, Malformed>
         ensures place { IfOk result (λ bitmap. bitmap_place bitmap ≡ window parser) }
         ensures ok { OnOk result (IsRtypeBitmap (rest (window parser))) }
@@ -81,7 +81,7 @@ impl<R: AsOctets> RtypeBitmap<R> {
         Ok(RtypeBitmap::of_parser(parser))
     }
 
-    /// The set of types that is left.
+    /// Makes a bitmap of the octets that a parser has left.
     pub(crate) fn of_parser(parser: Parser<R>) -> RtypeBitmap<R>
         requires { IsRtypeBitmap (rest (window parser)) }
         ensures { bitmap_place result ≡ window parser }
@@ -89,7 +89,7 @@ impl<R: AsOctets> RtypeBitmap<R> {
         RtypeBitmap { parser }
     }
 
-    /// A parser that begins and ends with its octets.
+    /// Returns a parser limited to the octets of the bitmap.
     pub(crate) fn parser(&self) -> Parser<R>
     where
         R: Copy,
@@ -99,7 +99,7 @@ impl<R: AsOctets> RtypeBitmap<R> {
         self.parser
     }
 
-    /// Its octets: window blocks, their numbers ascending.
+    /// Returns the octets: window blocks with ascending numbers.
     pub fn as_slice(&self) -> &[u8]
         ensures octets { result.now ≡ bitmap_octets self.now }
         ensures bitmap { IsRtypeBitmap result.now }
@@ -107,21 +107,21 @@ impl<R: AsOctets> RtypeBitmap<R> {
         self.parser.peek_all()
     }
 
-    /// Its types, ascending.
+    /// Returns an iterator over the types, in ascending order.
     pub fn iter(&self) -> RtypeBitmapIter<'_>
         ensures { rtypes_left result ≡ rtypes_of self.now }
     {
         RtypeBitmapIter::new(self.as_slice())
     }
 
-    /// Whether a type is in it.
+    /// Whether the bitmap contains a type.
     pub fn contains(&self, rtype: Rtype) -> bool
         ensures { IsTrue result ↔ Contains (rtypes_of self.now) rtype }
     {
         self.iter().any(|said| said == rtype)
     }
 
-    /// Whether no type is in it.
+    /// Whether the bitmap contains no type.
     pub fn is_empty(&self) -> bool
         ensures { IsTrue result ↔ (rtypes_of self.now ≡ []) }
     {
@@ -149,7 +149,7 @@ impl<R: AsOctets + Copy> FormedOctets<R> for RtypeBitmap<R> {
     }
 }
 
-/// Prints the types, ascending, each after a space.
+/// Prints the types in ascending order, each after a space.
 impl<R: AsOctets> fmt::Display for RtypeBitmap<R> {
     ghost use Rattle.octseq_dns_data.specs.RtypeBitmapOf.{rtypes_of};
 

@@ -1,4 +1,4 @@
-//! The parameters of SVCB and HTTPS: RFC 9460, 2.2, 7 and 8.
+//! The service parameters of SVCB and HTTPS: RFC 9460, 2.2, 7 and 8.
 ghost use Rattle.std.specs.Prelude.{◌≡◌, ℕ, ◌+◌, ◌≤◌, List, IsErr, IsOk, IfOk, ⊤};
 ghost use Rattle.octseq.specs.Parser.{window};
 ghost use Rattle.octseq.specs.Window.{left, rest, whole};
@@ -16,33 +16,33 @@ mod form;
 pub mod key;
 mod text;
 
-/// Octets are parameters in one way at most: these are those that they are taken apart into.
+/// Octets are parameters in at most one way: as the parameters that they are split into.
 ///
-/// It does nothing. A caller that calls it has the law in its proof.
+/// It does nothing. Calling it brings the law into the caller's proof.
 pub fn one_reading_of_params()
     ensures { (octets : List ℕ) (params : List Param) → AreParams octets params → params ≡ params_of octets }
 {}
 
-/// A list of keys is read in one way at most.
+/// A list of keys is read in at most one way.
 ///
-/// It does nothing. A caller that calls it has the law in its proof.
+/// It does nothing. Calling it brings the law into the caller's proof.
 pub fn one_reading_of_keys()
     ensures { (value keys : List ℕ) → AreKeys value keys → keys ≡ keys_of value }
 {}
 
-/// A list of ids is read in one way at most.
+/// A list of ids is read in at most one way.
 ///
-/// It does nothing. A caller that calls it has the law in its proof.
+/// It does nothing. Calling it brings the law into the caller's proof.
 pub fn one_reading_of_ids()
     ensures { (value : List ℕ) (ids : List (List ℕ)) → AreIds value ids → ids ≡ ids_of value }
 {}
 
-/// A parameter: RFC 9460, 2.2. Its value has the form of its key.
+/// A service parameter: RFC 9460, 2.2. Its value has the form of its key.
 #[derive(Debug)]
 pub struct SvcParam<R: AsOctets> {
-    /// Its key.
+    /// The key.
     pub key: u16,
-    /// The place of its value: a parser that begins and ends with the octets of the value.
+    /// The value, as a parser limited to its octets.
     pub octets: Parser<R>,
     ghost value: { IsValueOf key (rest (window octets)) },
 }
@@ -63,7 +63,7 @@ impl<R: AsOctets + Copy> SvcParam<R> {
     ghost use Rattle.std.specs.Prelude.{◌↔◌, IsSome, IfSome};
     ghost use Rattle.octseq_dns_data.specs.SvcParamsRead.{ids_left};
 
-    /// The ids of protocols, where the key is [`ALPN`](key::ALPN).
+    /// Returns an iterator over the protocol ids, if the key is [`ALPN`](key::ALPN).
     pub fn alpn_ids(&self) -> Option<AlpnIds<R>>
         ensures some { IsSome result ↔ (self.now.key ≡ 1) }
         ensures ids { IfSome result (λ ids. ids_left ids ≡ ids_of (rest (window self.now.octets))) }
@@ -76,7 +76,7 @@ impl<R: AsOctets + Copy> SvcParam<R> {
     }
 }
 
-/// Parameters, none or more: RFC 9460, 2.2. Their keys ascend, and each value has the form of its key.
+/// Any number of service parameters: RFC 9460, 2.2. Their keys ascend, and each value has the form of its key.
 #[derive(Debug)]
 pub struct SvcParams<R: AsOctets> {
     parser: Parser<R>,
@@ -100,11 +100,11 @@ impl<R: AsOctets + Copy> SvcParams<R> {
     ghost use Rattle.std.specs.Prelude.{◌==◌, find};
     ghost use Rattle.octseq_dns_data.specs.SvcParamsRead.{param_of, params_place, params_left};
 
-    /// Reads all of the octets as parameters.
+    /// Reads all the octets as parameters.
     ///
     /// # Errors
     ///
-    /// `Malformed` where the octets are no parameters.
+    /// `Malformed` if the octets aren't parameters.
     pub fn from_octets(octets: R) -> Result<SvcParams<R>, Malformed>
         ensures place { IfOk result (λ params. params_place params ≡ whole (R.content octets)) }
         ensures params { IsOk result → IsSvcParams (R.content octets) }
@@ -113,7 +113,7 @@ impl<R: AsOctets + Copy> SvcParams<R> {
         SvcParams::parse(Parser::from_ref(octets), &mut Turns::new())
     }
 
-    /// Reads what a parser has left as parameters. It counts the turns that they take.
+    /// Reads the octets that a parser has left as parameters. It counts the turns that they take.
     fn parse(parser: Parser<R>, turns: &mut Turns) -> Result<SvcParams<R>, Malformed>
         ensures place { IfOk result (λ params. params_place params ≡ window parser) }
         ensures params { IsOk result → IsSvcParams (rest (window parser)) }
@@ -128,7 +128,7 @@ impl<R: AsOctets + Copy> SvcParams<R> {
         }
     }
 
-    /// The octets of all of them.
+    /// Returns the octets of all the parameters.
     pub fn as_slice(&self) -> &[u8]
         ensures octets { result.now ≡ rest (params_place self.now) }
         ensures params { IsSvcParams result.now }
@@ -136,7 +136,7 @@ impl<R: AsOctets + Copy> SvcParams<R> {
         self.parser.peek_all()
     }
 
-    /// The parameter of a key, if there is one.
+    /// Returns the parameter of a key, if there is one.
     pub fn get(&self, key: u16) -> Option<SvcParam<R>>
         ensures { option_map param_of result
             ≡ find (λ param. param.0 == key) (params_of (rest (params_place self.now))) }
@@ -149,7 +149,7 @@ impl<R: AsOctets + Copy> SvcParams<R> {
         None
     }
 
-    /// The parameters, from the first one on.
+    /// Returns an iterator over the parameters.
     pub fn iter(&self) -> SvcParamIter<R>
         ensures { params_left result ≡ params_of (rest (params_place self.now)) }
     {
@@ -179,7 +179,7 @@ impl<R: AsOctets + Copy> FormedOctets<R> for SvcParams<R> {
     }
 }
 
-/// The parameters that are left, from the first one on.
+/// An iterator over service parameters.
 #[derive(Debug)]
 pub struct SvcParamIter<R: AsOctets> {
     parser: Parser<R>,
@@ -221,7 +221,7 @@ impl<R: AsOctets + Copy> Iterator for SvcParamIter<R> {
     }
 }
 
-/// The ids of protocols that are left, from the first one on: RFC 9460, 7.1.1.
+/// An iterator over protocol ids: RFC 9460, 7.1.1.
 #[derive(Debug)]
 pub struct AlpnIds<R: AsOctets> {
     parser: Parser<R>,
@@ -242,7 +242,7 @@ impl<R: AsOctets + Copy> Clone for AlpnIds<R> {
 impl<R: AsOctets + Copy> AlpnIds<R> {
     ghost use Rattle.octseq_dns_data.specs.SvcParamsRead.{ids_left};
 
-    /// The ids that a value is taken apart into.
+    /// Iterates over the ids that a value is split into.
     pub(crate) fn from_value(parser: Parser<R>) -> AlpnIds<R>
         ensures { ids_left result ≡ ids_of (rest (window parser)) }
     {

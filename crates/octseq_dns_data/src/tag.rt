@@ -1,4 +1,4 @@
-//! The tags of CAA: RFC 8659, 4.1.
+//! The property tags of CAA: RFC 8659, 4.1.
 ghost use Rattle.std.specs.Prelude.{IsTrue, IsFalse};
 ghost use Rattle.std.specs.Fmt.{WritesOnOk};
 ghost use Rattle.octseq_dns_data.specs.Tag.{IsTag};

@@ -1,4 +1,4 @@
-//! The text of numbers with names.
+//! The text of named numbers.
 ghost use Rattle.std.specs.Prelude.{Some, codes};
 ghost use Rattle.std.specs.Fmt.{decimal};
 ghost use Rattle.std.specs.Net.Grammar.{Parses};
@@ -30,7 +30,7 @@ impl fmt::Display for Rtype {
     }
 }
 
-/// Reads the mnemonic of a class, or `CLASS` and its number, in letters of either case: RFC 3597, 5.
+/// Parses the mnemonic of a class, or `CLASS` and its number, in letters of either case: RFC 3597, 5.
 impl FromStr for Class {
     type Err = FromStrError;
 
@@ -45,7 +45,7 @@ impl FromStr for Class {
     }
 }
 
-/// Reads the mnemonic of a type, or `TYPE` and its number, in letters of either case: RFC 3597, 5.
+/// Parses the mnemonic of a type, or `TYPE` and its number, in letters of either case: RFC 3597, 5.
 impl FromStr for Rtype {
     type Err = FromStrError;
 

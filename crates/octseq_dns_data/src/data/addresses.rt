@@ -1,4 +1,4 @@
-//! Addresses as data: RFC 1035, 3.4.1, and RFC 3596, 2.2.
+//! Addresses as record data: RFC 1035, 3.4.1, and RFC 3596, 2.2.
 ghost use Rattle.std.specs.Prelude.{◌≡◌, ℕ, List, IfSome, IsNone};
 ghost use Rattle.std.specs.Net.Addr.{ipv4_octets, ipv6_octets, ipv6_segments, segments_of};
 ghost use Rattle.octseq_dns_data.specs.Data.{ParsedRdata};
@@ -25,7 +25,7 @@ impl<R: AsOctets> From<Ipv6Addr> for Data<R> {
 }
 
 impl<R: AsOctets> Data<R> {
-    /// The IPv4 address that it is, or none where it is of another type than A.
+    /// Returns the IPv4 address, or `None` if the data isn't of type A.
     pub fn ipv4_addr(&self) -> Option<Ipv4Addr>
         ensures some { IfSome result (λ address. rdata_of self.now ≡ ParsedRdata.a (ipv4_octets address)) }
         ensures none { IsNone result → (octets : List ℕ) → ¬ (rdata_of self.now ≡ ParsedRdata.a octets) }
@@ -36,7 +36,7 @@ impl<R: AsOctets> Data<R> {
         }
     }
 
-    /// The IPv6 address that it is, or none where it is of another type than AAAA.
+    /// Returns the IPv6 address, or `None` if the data isn't of type AAAA.
     pub fn ipv6_addr(&self) -> Option<Ipv6Addr>
         ensures some { IfSome result (λ address. (octets : List ℕ) × (rdata_of self.now ≡ ParsedRdata.aaaa octets)
             × (ipv6_segments address ≡ segments_of octets)) }

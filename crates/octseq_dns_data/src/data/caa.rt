@@ -1,4 +1,4 @@
-//! Who may issue certificates: RFC 8659, 4.1.
+//! Certification authority authorization: RFC 8659, 4.1.
 ghost use Rattle.std.specs.Prelude.{◌≡◌, ⊤};
 
 use crate::data::formed::Formed;
@@ -7,14 +7,14 @@ use octseq::{AsOctets, Parser};
 use octseq_format::{Counted, Fields, Format, Rest, U8};
 use std::alloc::AllocError;
 
-/// Who may issue certificates for a name.
+/// Certification authority authorization: who may issue certificates for a name.
 #[derive(Debug)]
 pub struct Caa<R: AsOctets> {
-    /// Flags: whether it is to be understood.
+    /// The flags: whether an issuer must understand the property.
     pub flags: u8,
-    /// What it is about.
+    /// The property tag.
     pub tag: CaaTag<R>,
-    /// What it says of that: a parser of the message that begins and ends with it.
+    /// The property value, as a parser of the message limited to it.
     pub value: Parser<R>,
 }
 

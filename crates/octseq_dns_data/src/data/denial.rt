@@ -1,4 +1,4 @@
-//! Which names and types don't exist: RFC 4034, 4 (NSEC) and RFC 5155 (NSEC3).
+//! Authenticated denial of existence: RFC 4034, 4 (NSEC) and RFC 5155 (NSEC3).
 ghost use Rattle.std.specs.Prelude.{◌≡◌, ⊤};
 
 use crate::data::formed::Formed;
@@ -11,12 +11,12 @@ use octseq_dns_name::ParsedName;
 use octseq_format::{Counted, Fields, Format, U8, U16Be};
 use std::alloc::AllocError;
 
-/// The next name of a zone, and which types a name has: RFC 4034, 4.1.
+/// The next name of a zone, and the types that the owner name has: RFC 4034, 4.1.
 #[derive(Debug)]
 pub struct Nsec<R: AsOctets> {
-    /// The next name.
+    /// The next domain name.
     pub next_name: ParsedName<R>,
-    /// The types that the owner has.
+    /// The types of the owner name.
     pub types: RtypeBitmap<R>,
 }
 
@@ -47,20 +47,20 @@ impl<R: AsOctets + Copy> Fields<R> for Nsec<R> {
     }
 }
 
-/// The next hash of a name, and which types a name has: RFC 5155, 3.2.
+/// The next hashed owner name of a zone, and the types that the name has: RFC 5155, 3.2.
 #[derive(Debug)]
 pub struct Nsec3<R: AsOctets> {
-    /// The algorithm of the hash.
+    /// The hash algorithm.
     pub hash_algorithm: u8,
-    /// Flags: whether names without signatures are left out.
+    /// The flags: whether the span may leave out unsigned delegations (opt-out).
     pub flags: u8,
-    /// How often it is hashed again.
+    /// How many more times the hash is applied.
     pub iterations: u16,
-    /// What is hashed with the name.
+    /// The salt, which is hashed with the name.
     pub salt: CharStr<R>,
-    /// The next hash.
+    /// The next hashed owner name.
     pub next_owner: OwnerHash<R>,
-    /// The types that the name has.
+    /// The types of the name.
     pub types: RtypeBitmap<R>,
 }
 
@@ -119,16 +119,16 @@ impl<R: AsOctets + Copy> Fields<R> for Nsec3<R> {
     }
 }
 
-/// How names of a zone are hashed: RFC 5155, 4.2.
+/// The parameters by which a zone hashes its names: RFC 5155, 4.2.
 #[derive(Debug)]
 pub struct Nsec3param<R: AsOctets> {
-    /// The algorithm of the hash.
+    /// The hash algorithm.
     pub hash_algorithm: u8,
-    /// Flags, which are 0.
+    /// The flags, which are 0.
     pub flags: u8,
-    /// How often it is hashed again.
+    /// How many more times the hash is applied.
     pub iterations: u16,
-    /// What is hashed with the name.
+    /// The salt, which is hashed with the name.
     pub salt: CharStr<R>,
 }
 

@@ -1,4 +1,4 @@
-//! Keys, digests and signatures of DNSSEC: RFC 4034.
+//! DNSSEC keys, digests and signatures: RFC 4034.
 ghost use Rattle.std.specs.Prelude.{◌≡◌, ⊤};
 
 use crate::data::formed::Formed;
@@ -12,11 +12,11 @@ use std::alloc::AllocError;
 /// The digest of a key of a child zone, in DS (RFC 4034, 5.1) and CDS (RFC 7344, 3.1).
 #[derive(Debug)]
 pub struct Ds<R: AsOctets> {
-    /// The tag of the key.
+    /// The key tag.
     pub key_tag: u16,
     /// The algorithm of the key.
     pub algorithm: u8,
-    /// The algorithm of the digest.
+    /// The digest algorithm.
     pub digest_type: u8,
     /// The digest.
     pub digest: SomeOctets<R>,
@@ -54,16 +54,16 @@ impl<R: AsOctets + Copy> Fields<R> for Ds<R> {
     }
 }
 
-/// A key of a zone, in DNSKEY (RFC 4034, 2.1) and CDNSKEY (RFC 7344, 3.2).
+/// A public key of a zone, in DNSKEY (RFC 4034, 2.1) and CDNSKEY (RFC 7344, 3.2).
 #[derive(Debug)]
 pub struct Dnskey<R: AsOctets> {
-    /// Flags: whether it is a key of the zone, and whether one that others rest on.
+    /// The flags: whether it is a zone key, and whether a secure entry point.
     pub flags: u16,
     /// The protocol, which is 3.
     pub protocol: u8,
     /// The algorithm of the key.
     pub algorithm: u8,
-    /// The key.
+    /// The public key.
     pub public_key: SomeOctets<R>,
 }
 
@@ -99,24 +99,24 @@ impl<R: AsOctets + Copy> Fields<R> for Dnskey<R> {
     }
 }
 
-/// A signature of records: RFC 4034, 3.1. Its times are numbers of seconds.
+/// A signature of a record set: RFC 4034, 3.1. Its times are in seconds.
 #[derive(Debug)]
 pub struct Rrsig<R: AsOctets> {
-    /// The type of the records.
+    /// The type of the signed records.
     pub type_covered: u16,
     /// The algorithm of the signature.
     pub algorithm: u8,
-    /// How many labels their name has, in the zone.
+    /// The number of labels of the original owner name.
     pub labels: u8,
-    /// Their TTL in the zone.
+    /// The TTL of the records in the zone.
     pub original_ttl: u32,
-    /// When it ends.
+    /// When the signature expires.
     pub expiration: u32,
-    /// When it begins.
+    /// When the signature becomes valid.
     pub inception: u32,
-    /// The tag of the key.
+    /// The key tag.
     pub key_tag: u16,
-    /// The name of the zone.
+    /// The name of the signer, which is the zone.
     pub signer_name: ParsedName<R>,
     /// The signature.
     pub signature: SomeOctets<R>,

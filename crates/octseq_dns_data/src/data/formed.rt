@@ -1,4 +1,4 @@
-//! Octets that have a form, as a part of data.
+//! Octets of a given form, as a part of data.
 ghost use Rattle.std.specs.Prelude.{◌≡◌, ℕ, List, IsErr, IfOk, false};
 ghost use Rattle.octseq.specs.Parser.{window};
 ghost use Rattle.octseq.specs.Window.{Window, left, rest};
@@ -13,7 +13,7 @@ use octseq_format::Format;
 use std::alloc::AllocError;
 use std::marker::PhantomData;
 
-/// Octets that have a form: where they are, and that they have it.
+/// Octets of a given form, and where they are.
 pub trait FormedOctets<R: AsOctets + Copy>: Copy + Drop {
     // The form.
     ghost has_form: { List ℕ → Type 0 };
@@ -21,26 +21,26 @@ pub trait FormedOctets<R: AsOctets + Copy>: Copy + Drop {
     // Where they are.
     ghost place: { Self → Window };
 
-    // How many turns of loops the test of it takes at most for each octet, and besides.
+    // The maximum number of loop turns of the check for each octet, and the maximum besides.
     ghost rate: { ℕ };
 
-    /// All octets that a parser has left, and the turns of loops that the test takes.
+    /// Reads all octets that a parser has left, and counts the loop turns of the check.
     ///
     /// # Errors
     ///
-    /// `Malformed` where they don't have the form.
+    /// `Malformed` if they don't have the form.
     fn from_parser(parser: &Parser<R>, turns: &mut Turns) -> Result<Self, Malformed>
         ensures value { IfOk result (λ formed. place formed ≡ window parser.now) }
         ensures malformed { IsErr result → ¬ has_form (rest (window parser.now)) }
         ensures turns { TakesTurns rate rate (left (window parser.now)) turns.old turns.new };
 
-    /// A parser of the octets alone.
+    /// Returns a parser of the octets alone.
     fn parser(&self) -> Parser<R>
         ensures parser { window result ≡ place self.now }
         ensures form { has_form (rest (place self.now)) };
 }
 
-/// All octets up to the end of the window, where they have the form of `V`.
+/// All octets up to the end of the window, if they have the form of `V`.
 #[derive(Debug)]
 pub struct Formed<V> {
     form: PhantomData<V>,

@@ -1,4 +1,4 @@
-//! Information on hosts: RFC 1035, 3.3.2.
+//! Host information: RFC 1035, 3.3.2.
 ghost use Rattle.std.specs.Prelude.{◌≡◌, ⊤};
 
 use crate::data::formed::Formed;
@@ -7,12 +7,12 @@ use octseq::AsOctets;
 use octseq_format::{Counted, Fields, Format};
 use std::alloc::AllocError;
 
-/// What a host is: RFC 1035, 3.3.2.
+/// Host information: RFC 1035, 3.3.2.
 #[derive(Debug)]
 pub struct Hinfo<R: AsOctets> {
-    /// Its processor.
+    /// The processor.
     pub cpu: CharStr<R>,
-    /// Its operating system.
+    /// The operating system.
     pub os: CharStr<R>,
 }
 

@@ -7,16 +7,16 @@ use octseq::AsOctets;
 use octseq_format::{Fields, Format, U8};
 use std::alloc::AllocError;
 
-/// What a certificate is to be, in TLSA (RFC 6698, 2.1) and SMIMEA (RFC 8162, 2).
+/// A certificate association, in TLSA (RFC 6698, 2.1) and SMIMEA (RFC 8162, 2).
 #[derive(Debug)]
 pub struct Tlsa<R: AsOctets> {
-    /// How it is used.
+    /// How the certificate is used.
     pub cert_usage: u8,
-    /// Which part of it is meant.
+    /// Which part of the certificate is matched.
     pub selector: u8,
-    /// By which hash, if any.
+    /// The hash by which it is matched, if any.
     pub matching_type: u8,
-    /// That part, or its hash.
+    /// The certificate association data: that part, or its hash.
     pub cert_assoc_data: SomeOctets<R>,
 }
 
@@ -57,7 +57,7 @@ impl<R: AsOctets + Copy> Fields<R> for Tlsa<R> {
     }
 }
 
-/// The fingerprint of a host's key: RFC 4255, 3.1.
+/// The fingerprint of a host's SSH key: RFC 4255, 3.1.
 #[derive(Debug)]
 pub struct Sshfp<R: AsOctets> {
     /// The algorithm of the key.

@@ -9,7 +9,7 @@ use std::alloc::AllocError;
 /// A mail exchange.
 #[derive(Debug)]
 pub struct Mx<R: AsOctets> {
-    /// How it is preferred to others: the lower, the sooner.
+    /// The preference. Lower values are preferred.
     pub preference: u16,
     /// The name of the host.
     pub exchange: ParsedName<R>,

@@ -11,17 +11,17 @@ use std::alloc::AllocError;
 /// A naming authority pointer.
 #[derive(Debug)]
 pub struct Naptr<R: AsOctets> {
-    /// In which order such records are read: the lower, the sooner.
+    /// The order in which records are processed, lowest first.
     pub order: u16,
-    /// In which order those of one order are tried: the lower, the sooner.
+    /// The preference among records of equal order, lowest first.
     pub preference: u16,
-    /// Flags, which say how the next step goes on.
+    /// The flags, which control the next step of the rewriting.
     pub flags: CharStr<R>,
-    /// Which services are found along this way.
+    /// The services found along this path.
     pub services: CharStr<R>,
-    /// An expression by which the next name is made.
+    /// The expression that makes the next name.
     pub regexp: CharStr<R>,
-    /// The next name, where no expression makes it.
+    /// The next name, if no expression makes it.
     pub replacement: ParsedName<R>,
 }
 

@@ -1,4 +1,4 @@
-//! Names without pointers.
+//! Names without compression pointers.
 ghost use Rattle.std.specs.Prelude.{◌≡◌, ℕ, List, false};
 ghost use Rattle.std.proofs.Common.{rules};
 ghost use Rattle.octseq_dns_data.specs.PlainName.{HasPlainName, one_plain, onward_plain, delimited_plain};
@@ -16,8 +16,8 @@ use octseq_dns_name::{DomainName, ParsedName};
 use octseq_format::{Delimited, Format, Moving, are_octets};
 use std::alloc::AllocError;
 
-/// A domain name without compression pointers: one with a pointer is refused. Data of the types that came after
-/// RFC 1035 has them: RFC 3597, 4.
+/// A domain name without compression pointers. A name with a pointer is refused. Data of types later than RFC 1035 has
+/// such names: RFC 3597, 4.
 #[derive(Debug)]
 pub struct PlainName;
 
@@ -50,8 +50,8 @@ impl<R: AsOctets + Copy> Format<R> for PlainName {
 
     ghost rate = { 0 };
 
-    // (a name whose octets are as many as its wire form has no pointer: a pointer takes two, and no name has two in
-    // wire form)
+    // (if the octets of a name are as many as its wire form, it has no pointer: a pointer takes two octets, and no name
+    // has two in wire form)
     fn parse_counted(
         parser: &mut Parser<R>,
         turns: &mut Turns,

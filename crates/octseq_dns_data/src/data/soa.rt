@@ -1,4 +1,4 @@
-//! Starts of zones of authority: RFC 1035, 3.3.13.
+//! The start of authority: RFC 1035, 3.3.13.
 ghost use Rattle.std.specs.Prelude.{◌≡◌, ⊤};
 
 use octseq::AsOctets;
@@ -6,22 +6,22 @@ use octseq_dns_name::{DomainName, ParsedName};
 use octseq_format::{Fields, Format, U32Be};
 use std::alloc::AllocError;
 
-/// The start of a zone of authority. Its times are numbers of seconds.
+/// The start of authority of a zone. Its times are in seconds.
 #[derive(Debug)]
 pub struct Soa<R: AsOctets> {
     /// The name of the primary name server.
     pub mname: ParsedName<R>,
-    /// The mailbox of who is responsible, as a name.
+    /// The mailbox of the person responsible, as a name.
     pub rname: ParsedName<R>,
-    /// The number of this version of the zone.
+    /// The serial number of this version of the zone.
     pub serial: u32,
-    /// When a secondary server asks again.
+    /// When a secondary server refreshes the zone.
     pub refresh: u32,
-    /// When it asks again after it was not answered.
+    /// When it retries a failed refresh.
     pub retry: u32,
-    /// When it answers for the zone no more.
+    /// When it stops answering for the zone.
     pub expire: u32,
-    /// For how long it may be kept that a name doesn't exist: RFC 2308, 4.
+    /// How long a negative answer may be cached: RFC 2308, 4.
     pub minimum: u32,
 }
 

@@ -1,4 +1,4 @@
-//! Octets of data, at least one: digests, keys, signatures, hashes.
+//! One or more octets of data: digests, keys, signatures, hashes.
 ghost use Rattle.std.specs.Prelude.{◌≡◌, ◌≤◌, ⊤, ℕ, length, IsErr, IfOk};
 ghost use Rattle.octseq.specs.Parser.{window};
 ghost use Rattle.octseq.specs.Window.{left, rest, whole};
@@ -11,7 +11,7 @@ use octseq::utf8::Turns;
 use octseq::{AsOctets, Malformed, Parser};
 use std::alloc::AllocError;
 
-/// Octets, at least one, up to the end of the data.
+/// One or more octets up to the end of the data.
 #[derive(Debug)]
 pub struct SomeOctets<R: AsOctets> {
     parser: Parser<R>,
@@ -33,11 +33,11 @@ impl<R: AsOctets + Copy> Clone for SomeOctets<R> {
 impl<R: AsOctets + Copy> SomeOctets<R> {
     ghost use Rattle.octseq_dns_data.specs.Places.{some_place};
 
-    /// All of the octets.
+    /// Reads all the octets.
     ///
     /// # Errors
     ///
-    /// `Malformed` where there is none.
+    /// `Malformed` if there are none.
     pub fn from_octets(octets: R) -> Result<SomeOctets<R>, Malformed>
         ensures place { IfOk result (λ some. some_place some ≡ whole (R.content octets)) }
         ensures malformed { IsErr result → ¬ IsSome (R.content octets) }
@@ -45,7 +45,7 @@ impl<R: AsOctets + Copy> SomeOctets<R> {
         SomeOctets::from_parser(&Parser::from_ref(octets), &mut Turns::new())
     }
 
-    /// The octets.
+    /// Returns the octets.
     pub fn as_slice(&self) -> &[u8]
         ensures octets { result.now ≡ rest (some_place self.now) }
         ensures some { 1 ≤ length result.now }
@@ -77,7 +77,7 @@ impl<R: AsOctets + Copy> FormedOctets<R> for SomeOctets<R> {
     }
 }
 
-/// A hash after its length, of 1 to 255 octets.
+/// A hashed owner name: 1 to 255 octets with a length prefix.
 #[derive(Debug)]
 pub struct OwnerHash<R: AsOctets> {
     parser: Parser<R>,
@@ -99,11 +99,11 @@ impl<R: AsOctets + Copy> Clone for OwnerHash<R> {
 impl<R: AsOctets + Copy> OwnerHash<R> {
     ghost use Rattle.octseq_dns_data.specs.Places.{hash_place};
 
-    /// All of the octets.
+    /// Reads all the octets.
     ///
     /// # Errors
     ///
-    /// `Malformed` where there is none, or more than 255.
+    /// `Malformed` if there are none, or more than 255.
     pub fn from_octets(octets: R) -> Result<OwnerHash<R>, Malformed>
         ensures place { IfOk result (λ hash. hash_place hash ≡ whole (R.content octets)) }
         ensures malformed { IsErr result → ¬ IsSomeString (R.content octets) }
@@ -111,7 +111,7 @@ impl<R: AsOctets + Copy> OwnerHash<R> {
         OwnerHash::from_parser(&Parser::from_ref(octets), &mut Turns::new())
     }
 
-    /// The octets.
+    /// Returns the octets.
     pub fn as_slice(&self) -> &[u8]
         ensures octets { result.now ≡ rest (hash_place self.now) }
         ensures string { IsSomeString result.now }
@@ -144,7 +144,7 @@ impl<R: AsOctets + Copy> FormedOctets<R> for OwnerHash<R> {
     }
 }
 
-/// A tag of CAA: 1 to 255 ASCII letters and digits.
+/// A property tag of CAA: 1 to 255 ASCII letters and digits.
 #[derive(Debug)]
 pub struct CaaTag<R: AsOctets> {
     parser: Parser<R>,
@@ -166,11 +166,11 @@ impl<R: AsOctets + Copy> Clone for CaaTag<R> {
 impl<R: AsOctets + Copy> CaaTag<R> {
     ghost use Rattle.octseq_dns_data.specs.Places.{tag_place};
 
-    /// All of the octets.
+    /// Reads all the octets.
     ///
     /// # Errors
     ///
-    /// `Malformed` where there is none, there are more than 255, or one is no ASCII letter or digit.
+    /// `Malformed` if there are none, or more than 255, or one isn't an ASCII letter or digit.
     pub fn from_octets(octets: R) -> Result<CaaTag<R>, Malformed>
         ensures place { IfOk result (λ tag. tag_place tag ≡ whole (R.content octets)) }
         ensures malformed { IsErr result → ¬ IsCaaTag (R.content octets) }
@@ -178,7 +178,7 @@ impl<R: AsOctets + Copy> CaaTag<R> {
         CaaTag::from_parser(&Parser::from_ref(octets), &mut Turns::new())
     }
 
-    /// The octets.
+    /// Returns the octets.
     pub fn as_slice(&self) -> &[u8]
         ensures octets { result.now ≡ rest (tag_place self.now) }
         ensures tag { IsCaaTag result.now }

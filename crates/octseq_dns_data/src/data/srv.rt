@@ -1,4 +1,4 @@
-//! Places of services: RFC 2782.
+//! Service records: RFC 2782.
 ghost use Rattle.std.specs.Prelude.{◌≡◌, ⊤};
 
 use octseq::AsOctets;
@@ -6,12 +6,12 @@ use octseq_dns_name::{DomainName, ParsedName};
 use octseq_format::{Fields, Format, U16Be};
 use std::alloc::AllocError;
 
-/// The place of a service.
+/// The location of a service.
 #[derive(Debug)]
 pub struct Srv<R: AsOctets> {
-    /// The lower, the sooner it is tried.
+    /// The priority. The lowest is tried first.
     pub priority: u16,
-    /// How often it is chosen among those of one priority.
+    /// The weight: how often it is chosen among records of equal priority.
     pub weight: u16,
     /// The port of the service.
     pub port: u16,

@@ -1,4 +1,4 @@
-//! The strings that data is made of.
+//! The character strings of data.
 ghost use Rattle.std.specs.Prelude.{◌≡◌, ◌≤◌, ℕ, List, IsErr, IfOk};
 ghost use Rattle.octseq.specs.Parser.{window};
 ghost use Rattle.octseq.specs.Part.{part};
@@ -9,10 +9,10 @@ use octseq::{AsOctets, Parser};
 use octseq_dns_name::Malformed;
 use octseq_format::{Counted, Format, Rest, are_octets};
 
-/// The format of a string: its octets after their length, which has one octet.
+/// The format of a character string: octets with a length of one octet before them.
 pub(crate) type CharacterString = Counted<u8, Rest, 0>;
 
-/// Takes the next string: a parser of its octets.
+/// Reads the next string. Returns a parser of its octets.
 pub(crate) fn take_string<R: AsOctets + Copy>(
     parser: &mut Parser<R>,
 ) -> Result<Parser<R>, Malformed>

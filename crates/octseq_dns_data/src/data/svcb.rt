@@ -1,4 +1,4 @@
-//! How a service is reached: RFC 9460, 2.2.
+//! Service bindings: RFC 9460, 2.2.
 ghost use Rattle.std.specs.Prelude.{◌≡◌, ⊤};
 
 use crate::data::formed::Formed;
@@ -9,10 +9,10 @@ use octseq_dns_name::ParsedName;
 use octseq_format::{Fields, Format, U16Be};
 use std::alloc::AllocError;
 
-/// How a service is reached, in SVCB and HTTPS.
+/// A service binding: how a service is reached, in SVCB and HTTPS.
 #[derive(Debug)]
 pub struct Svcb<R: AsOctets> {
-    /// The lower, the sooner it is tried. 0 makes the owner an alias.
+    /// The priority. The lowest is tried first, and 0 makes the owner an alias.
     pub priority: u16,
     /// The name of the host.
     pub target: ParsedName<R>,

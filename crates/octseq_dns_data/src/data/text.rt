@@ -39,7 +39,7 @@ impl<R: AsOctets + Copy> fmt::Display for Mx<R> {
     }
 }
 
-/// Prints both names and the five numbers, in their order.
+/// Prints both names and the five numbers in order.
 impl<R: AsOctets + Copy> fmt::Display for Soa<R> {
     ghost output = { λ soa. Some (soa_text (soa_of soa)) };
 
@@ -172,7 +172,7 @@ impl<R: AsOctets + Copy> fmt::Display for Nsec3<R> {
     }
 }
 
-/// Prints the flags, the tag as it is, and the value between `"`, as a string.
+/// Prints the flags, the tag as it is, and the value as a string in `"`.
 impl<R: AsOctets + Copy> fmt::Display for Caa<R> {
     ghost output = { λ caa. Some (caa_text (caa_of caa)) };
 
@@ -185,7 +185,7 @@ impl<R: AsOctets + Copy> fmt::Display for Caa<R> {
     }
 }
 
-/// Prints the three numbers, and the salt in hexadecimal, or `-` where it has no octet.
+/// Prints the three numbers, and the salt in hexadecimal, or `-` if it is empty.
 impl<R: AsOctets + Copy> fmt::Display for Nsec3param<R> {
     ghost output = { λ param. Some (nsec3param_text (nsec3param_of param)) };
 
@@ -246,7 +246,7 @@ impl<R: AsOctets + Copy> fmt::Display for Svcb<R> {
     }
 }
 
-/// Prints both numbers, and the URI between `"`, as a string.
+/// Prints both numbers, and the URI as a string in `"`.
 impl<R: AsOctets + Copy> fmt::Display for Uri<R> {
     ghost output = { λ uri. Some (uri_text (uri_of uri)) };
 
@@ -261,8 +261,8 @@ impl<R: AsOctets + Copy> fmt::Display for Uri<R> {
     }
 }
 
-/// Prints the octets of the string between `"`: `"` and `\` after a backslash, each other one of 20 to 7E
-/// (hexadecimal) as itself, and any other as a backslash and three decimal digits.
+/// Prints the octets of the string in `"`: `"` and `\` after a backslash, other octets of 20 to 7E (hexadecimal) as
+/// they are, and all others as a backslash and three decimal digits.
 impl<R: AsOctets> fmt::Display for CharStr<R> {
     ghost output = { λ string. Some (string_text (string_octets string)) };
 
@@ -271,7 +271,7 @@ impl<R: AsOctets> fmt::Display for CharStr<R> {
     }
 }
 
-/// Prints the strings with a space between each two.
+/// Prints the strings, separated by spaces.
 impl<R: AsOctets + Copy> fmt::Display for Txt<R> {
     ghost output = { λ txt. Some (strings_text (strings_of txt)) };
 
@@ -288,7 +288,7 @@ impl<R: AsOctets + Copy> fmt::Display for Txt<R> {
     }
 }
 
-/// Prints what the data says: an address as RFC 5952 has it, and octets of no known form as RFC 3597, 5, does.
+/// Prints the data in its text form: an address as in RFC 5952, and octets of an unknown form as in RFC 3597, 5.
 impl<R: AsOctets + Copy> fmt::Display for Data<R> {
     ghost output = { λ found. Some (rdata_text (rdata_of found)) };
 
@@ -347,14 +347,14 @@ pub(crate) fn write_ipv6<W: fmt::Write>(f: &mut fmt::Formatter<W>, octets: [u8; 
     write!(f, "{address}")
 }
 
-/// Whether an IPv6 address shows its last four octets as an IPv4 address after `::`.
+/// Whether an IPv6 address is shown as `::` and an IPv4 address of its last four octets.
 fn is_compatible(octets: [u8; 16]) -> bool
     ensures { result ≡ is_compatible octets }
 {
     octets[..12] == [0; 12] && octets[12..14] != [0; 2]
 }
 
-/// Writes the type that a signature covers, its algorithm, and the number of labels.
+/// Writes the type covered, the algorithm and the number of labels of a signature.
 fn write_covered<W: fmt::Write, R: AsOctets + Copy>(
     f: &mut fmt::Formatter<W>,
     sig: &Rrsig<R>,
@@ -366,7 +366,7 @@ fn write_covered<W: fmt::Write, R: AsOctets + Copy>(
     write!(f, "{rtype} {algorithm} {labels} ")
 }
 
-/// Writes the TTL of a signature, its end and its beginning.
+/// Writes the TTL, the expiration and the inception of a signature.
 fn write_times<W: fmt::Write, R: AsOctets + Copy>(
     f: &mut fmt::Formatter<W>,
     sig: &Rrsig<R>,
@@ -377,7 +377,7 @@ fn write_times<W: fmt::Write, R: AsOctets + Copy>(
     write!(f, "{ttl} {expiration} {inception} ")
 }
 
-/// Writes the tag and the name of the key of a signature.
+/// Writes the key tag and the signer's name of a signature.
 fn write_signer<W: fmt::Write, R: AsOctets + Copy>(
     f: &mut fmt::Formatter<W>,
     sig: &Rrsig<R>,
@@ -388,8 +388,8 @@ fn write_signer<W: fmt::Write, R: AsOctets + Copy>(
     write!(f, "{key_tag} {name} ")
 }
 
-/// Writes octets, of any number, as a string: between `"`, `"` and `\` after a backslash, each other one of 20 to 7E
-/// (hexadecimal) as itself, and any other as a backslash and three decimal digits.
+/// Writes octets, of any number, as a string in `"`: `"` and `\` after a backslash, other octets of 20 to 7E
+/// (hexadecimal) as they are, and all others as a backslash and three decimal digits.
 pub fn write_string<W: fmt::Write>(f: &mut fmt::Formatter<W>, octets: &[u8]) -> fmt::Result
     ensures { WritesOnOk W.write_str_gives f.old result (string_text octets.now) f.new }
 {
@@ -412,7 +412,7 @@ fn write_hashed<W: fmt::Write, R: AsOctets + Copy>(
     write_salt(f, nsec.salt.as_slice())
 }
 
-/// Writes octets in hexadecimal, or `-` where there are none.
+/// Writes octets in hexadecimal, or `-` if there are none.
 pub(crate) fn write_salt<W: fmt::Write>(f: &mut fmt::Formatter<W>, octets: &[u8]) -> fmt::Result
     ensures { WritesOnOk W.write_str_gives f.old result (salt_text octets.now) f.new }
 {
@@ -444,7 +444,7 @@ fn needs_backslash(octet: u8) -> bool
     matches!(octet, b'"' | b'\\')
 }
 
-/// Writes how many octets there are, and they themselves if there are any.
+/// Writes the number of octets, and the octets in hexadecimal if there are any.
 fn write_unknown<W: fmt::Write>(f: &mut fmt::Formatter<W>, octets: &[u8]) -> fmt::Result
     ensures { WritesOnOk W.write_str_gives f.old result (unknown_text octets.now) f.new }
 {
@@ -457,7 +457,7 @@ fn write_unknown<W: fmt::Write>(f: &mut fmt::Formatter<W>, octets: &[u8]) -> fmt
     write_hex(f, octets)
 }
 
-/// Writes each octet in two hexadecimal digits, in lower case.
+/// Writes each octet as two lower-case hexadecimal digits.
 pub fn write_hex<W: fmt::Write>(f: &mut fmt::Formatter<W>, octets: &[u8]) -> fmt::Result
     ensures { WritesOnOk W.write_str_gives f.old result (flat_map hex_text octets.now) f.new }
 {
@@ -467,7 +467,7 @@ pub fn write_hex<W: fmt::Write>(f: &mut fmt::Formatter<W>, octets: &[u8]) -> fmt
     Ok(())
 }
 
-/// Writes an octet in two hexadecimal digits.
+/// Writes an octet as two hexadecimal digits.
 fn write_hex_octet<W: fmt::Write>(f: &mut fmt::Formatter<W>, octet: u8) -> fmt::Result
     ensures { WritesOnOk W.write_str_gives f.old result (hex_text octet) f.new }
 {

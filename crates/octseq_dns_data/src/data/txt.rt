@@ -1,4 +1,4 @@
-//! Strings of text: RFC 1035, 3.3 and 3.3.14.
+//! Character strings: RFC 1035, 3.3 and 3.3.14.
 ghost use Rattle.std.specs.Prelude.{◌≡◌, ◌≤◌, ◌+◌, ◌-◌, ⊤, length, slice_range};
 ghost use Rattle.std.specs.List.{All};
 ghost use Rattle.octseq.specs.Parser.{window};
@@ -15,7 +15,7 @@ use octseq_dns_name::Malformed;
 use octseq_format::{Format, Repeated, are_octets};
 use std::alloc::AllocError;
 
-/// A string of text: at most 255 octets of a message, where they are.
+/// A character string: at most 255 octets, where they are in the message.
 #[derive(Debug)]
 pub struct CharStr<R: AsOctets> {
     parser: Parser<R>,
@@ -38,7 +38,7 @@ impl<R: AsOctets> CharStr<R> {
     ghost use Rattle.std.specs.Prelude.{[], IsTrue, ◌↔◌};
     ghost use Rattle.octseq_dns_data.specs.Txt.{string_place, string_octets};
 
-    /// Its octets.
+    /// Returns the octets.
     pub fn as_slice(&self) -> &[u8]
         ensures octets { result.now ≡ string_octets self.now }
         ensures most { length result.now ≤ 255 }
@@ -46,21 +46,21 @@ impl<R: AsOctets> CharStr<R> {
         self.parser.peek_all()
     }
 
-    /// How many octets it has.
+    /// Returns the number of octets.
     pub fn len(&self) -> usize
         ensures { result ≡ length (string_octets self.now) }
     {
         self.parser.remaining()
     }
 
-    /// Whether it has no octet.
+    /// Whether the string is empty.
     pub fn is_empty(&self) -> bool
         ensures { IsTrue result ↔ (length (string_octets self.now) ≡ 0) }
     {
         self.len() == 0
     }
 
-    /// The place of its first octet, after its length, counted from the first octet of the message.
+    /// Returns the position of the first octet, after the length, from the start of the message.
     pub fn pos(&self) -> usize
         ensures { result ≡ (string_place self.now).position }
     {
@@ -74,11 +74,11 @@ impl<R: AsOctets + Copy> CharStr<R> {
     ghost use Rattle.octseq_dns_data.specs.Formed.{IsString};
     ghost use Rattle.octseq_dns_data.specs.Txt.{string_place};
 
-    /// All of the octets, as a string.
+    /// Reads all the octets as one string.
     ///
     /// # Errors
     ///
-    /// `Malformed` where there are more than 255.
+    /// `Malformed` if there are more than 255.
     pub fn from_octets(octets: R) -> Result<CharStr<R>, Malformed>
         ensures place { IfOk result (λ string. string_place string ≡ whole (R.content octets)) }
         ensures malformed { IsErr result → ¬ IsString (R.content octets) }
@@ -111,7 +111,7 @@ impl<R: AsOctets + Copy> FormedOctets<R> for CharStr<R> {
     }
 }
 
-/// Strings of text, at least one, one after another up to the end of the data.
+/// One or more character strings, one after another up to the end of the data.
 #[derive(Debug)]
 pub struct Txt<R: AsOctets> {
     parser: Parser<R>,
@@ -143,12 +143,12 @@ impl<R: AsOctets + Copy> Txt<R> {
     ghost use Rattle.octseq.specs.Window.{whole};
     ghost use Rattle.octseq_dns_data.specs.Txt.{strings_of, strings_left, txt_place, strings_ahead};
 
-    /// Reads all of the octets as strings: at least one, each after its length, which has one octet, as
-    /// `append_part_u8` writes them. So text that was never in a message is data that can be pushed.
+    /// Reads all the octets as one or more strings, each with a length of one octet before it, as `append_part_u8`
+    /// writes them. This makes data to push from text that was never in a message.
     ///
     /// # Errors
     ///
-    /// `Malformed` where the octets are no such strings.
+    /// `Malformed` if the octets aren't such strings.
     pub fn from_octets(octets: R) -> Result<Txt<R>, Malformed>
         ensures txt { IfOk result (λ txt. (end : Window) × HasStrings (whole (R.content octets)) (strings_of txt) end
             × (end.position ≡ length (R.content octets))) }
@@ -161,7 +161,7 @@ impl<R: AsOctets + Copy> Txt<R> {
         Txt::parse(&mut parser, end, &mut Turns::new())
     }
 
-    /// Takes the strings of a message up to a place. It counts a turn for each string.
+    /// Reads the strings of a message up to `end`. It counts a turn for each string.
     pub(crate) fn parse(
         parser: &mut Parser<R>,
         end: usize,
@@ -190,7 +190,7 @@ impl<R: AsOctets + Copy> Txt<R> {
         Ok(Txt { parser: first, end })
     }
 
-    /// Its octets as they are in the message: each string after its length, which has one octet.
+    /// Returns the octets as they are in the message: each string with its length before it.
     pub fn as_slice(&self) -> &[u8]
         ensures octets { result.now ≡ spelling (strings_of self.now) }
         ensures some { 1 ≤ length (strings_of self.now) }
@@ -199,7 +199,7 @@ impl<R: AsOctets + Copy> Txt<R> {
         &self.parser.as_slice()[self.parser.pos()..self.end]
     }
 
-    /// The strings, from the first one on.
+    /// Returns an iterator over the strings.
     pub fn strings(&self) -> Strings<R>
         ensures strings { strings_left result ≡ strings_of self.now }
         ensures ahead { strings_ahead result ≡ txt_place self.now }
@@ -212,7 +212,7 @@ impl<R: AsOctets + Copy> Txt<R> {
     }
 }
 
-/// The strings of text that are left, from the first one on.
+/// An iterator over the strings of a TXT record.
 #[derive(Debug)]
 pub struct Strings<R: AsOctets> {
     parser: Parser<R>,

@@ -1,4 +1,4 @@
-//! Where a service is, as a URI: RFC 7553.
+//! URI records: RFC 7553.
 ghost use Rattle.std.specs.Prelude.{◌≡◌, ⊤};
 
 use crate::data::formed::Formed;
@@ -7,12 +7,12 @@ use octseq::AsOctets;
 use octseq_format::{Fields, Format, U16Be};
 use std::alloc::AllocError;
 
-/// Where a service is, as a URI.
+/// The location of a service, as a URI.
 #[derive(Debug)]
 pub struct Uri<R: AsOctets> {
-    /// The lower, the sooner it is tried.
+    /// The priority. The lowest is tried first.
     pub priority: u16,
-    /// How often it is chosen among those of one priority.
+    /// The weight: how often it is chosen among records of equal priority.
     pub weight: u16,
     /// The URI.
     pub target: SomeOctets<R>,

@@ -1,4 +1,4 @@
-//! The window blocks of a set of types: RFC 4034, 4.1.2.
+//! The window blocks of a type bitmap: RFC 4034, 4.1.2.
 ghost use Rattle.std.specs.Prelude.{◌≡◌, ℕ, ◌+◌, ◌*◌, ◌≤◌, List, ◌++◌, length, IsTrue, IsFalse, IsNone, IfSome};
 ghost use Rattle.octseq_dns_data.specs.RtypeBitmap as said;
 ghost use Rattle.octseq_dns_data.specs.RtypeBitmapOf.{block_of};
@@ -13,7 +13,7 @@ pub(crate) struct WindowBlock<'a> {
     pub(crate) bitmap: &'a [u8],
 }
 
-/// The first window block of octets, and what is after it; or none where no window block is first.
+/// Splits off the first window block. Returns `None` if there is no window block at the front.
 pub(crate) fn split_block(octets: &[u8]) -> Option<(WindowBlock<'_>, &[u8])>
     ensures found { IfSome result (λ split. octets.now ≡ block_octets (block_of split.0) ++ split.1.now) }
     ensures form { IfSome result (λ split. IsWindowBlock (block_of split.0)) }
@@ -33,7 +33,7 @@ pub(crate) fn split_block(octets: &[u8]) -> Option<(WindowBlock<'_>, &[u8])>
     Some((WindowBlock { number, bitmap }, rest))
 }
 
-/// Whether octets are a set of types. It counts a turn for each window block that it finds.
+/// Whether octets are a type bitmap. It counts a turn for each window block it finds.
 pub(crate) fn is_bitmap(octets: &[u8], turns: &mut Turns) -> bool
     ensures yes { IsTrue result → IsRtypeBitmap octets.now }
     ensures no { IsFalse result → ¬ IsRtypeBitmap octets.now }

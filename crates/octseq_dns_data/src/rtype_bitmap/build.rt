@@ -1,4 +1,4 @@
-//! Sets of types that are made of types in any order.
+//! Type bitmaps made from types in any order.
 ghost use Rattle.std.specs.Prelude.{◌≡◌, ℕ, ◌+◌, ◌<◌, ◌≤◌, ◌↔◌, true, [], ◌∷◌, ◌++◌, length, IsTrue, IsFalse, IfOk};
 ghost use Rattle.std.specs.Prelude.{OnErr};
 ghost use Rattle.std.specs.List.{Contains, flat_map};
@@ -15,17 +15,17 @@ use octseq::{
 };
 use std::alloc::{AllocError, Global};
 
-/// At most as many octets has a set of types: 256 window blocks, each of at most 34.
+/// The maximum number of octets of a type bitmap: 256 window blocks of at most 34.
 const BITMAP_MAX: usize = 8704;
 
 impl<B: EmptyBuilder> RtypeBitmap<B> {
     ghost use Rattle.octseq_dns_data.specs.RtypeBitmapOf.{bitmap_octets, rtypes_of};
 
-    /// The set of these types, which are in any order, some of them more than once.
+    /// Makes the bitmap of these types, which may be in any order and repeated.
     ///
     /// # Errors
     ///
-    /// `Short` where the octets pass the limit of the builder's type, and else `Memory` where a request for memory was
+    /// `Short` if the octets exceed the limit of the builder's type. Otherwise `Memory` if a request for memory was
     /// refused.
     pub fn from_rtypes(alloc: Global, rtypes: &[Rtype]) -> Result<RtypeBitmap<B>, AppendError>
         ensures octets { IfOk result (λ bitmap. bitmap_octets bitmap ≡ bitmap_of rtypes.now) }
@@ -44,7 +44,7 @@ impl<B: EmptyBuilder> RtypeBitmap<B> {
         }
     }
 
-    /// A copy of octets that are within the limit.
+    /// Copies octets that are within the limit.
     fn copied(alloc: Global, octets: &[u8]) -> Result<RtypeBitmap<B>, AllocError>
         requires bitmap { IsRtypeBitmap octets.now }
         requires within { ¬ IsPast B.limit (length octets.now) }
@@ -59,12 +59,12 @@ impl<B: EmptyBuilder> RtypeBitmap<B> {
     }
 }
 
-/// Appends the octets of the set of these types, which are in any order, some of them more than once.
+/// Appends the octets of the bitmap of these types, which may be in any order and repeated.
 ///
 /// # Errors
 ///
-/// `Short` where the content would pass the builder's limit, and else `Memory` where a request for memory was refused.
-/// The content is then as it was.
+/// `Short` if the content would exceed the builder's limit. Otherwise `Memory` if a request for memory was refused. The
+/// content is then unchanged.
 pub fn append_rtypes<B: OctetsBuilder>(builder: &mut B, rtypes: &[Rtype]) -> Result<(), AppendError>
     ensures appended { Appends B.limit B.asks result (bitmap_of rtypes.now)
         (B.content builder.old) (B.content builder.new) }
@@ -77,7 +77,7 @@ pub fn append_rtypes<B: OctetsBuilder>(builder: &mut B, rtypes: &[Rtype]) -> Res
     builder.append_slice(octets.as_ref())
 }
 
-/// Whether a length passes the limit of a type.
+/// Whether a length exceeds the limit of a type.
 fn is_past<B: OctetsLimit>(len: usize) -> bool
     ensures past { IsTrue result → IsPast B.limit len }
     ensures within { IsFalse result → ¬ IsPast B.limit len }
@@ -88,7 +88,7 @@ fn is_past<B: OctetsLimit>(len: usize) -> bool
     }
 }
 
-/// The octets of the set of these types.
+/// Returns the octets of the bitmap of these types.
 fn octets_of(rtypes: &[Rtype]) -> Array<BITMAP_MAX>
     ensures octets { result.content ≡ bitmap_of rtypes.now }
     ensures bitmap { IsRtypeBitmap (bitmap_of rtypes.now) }
@@ -102,7 +102,7 @@ fn octets_of(rtypes: &[Rtype]) -> Array<BITMAP_MAX>
     octets
 }
 
-/// Appends the window block of a window, where one of the types is in it.
+/// Appends the window block of window `number`, if one of the types is in it.
 fn append_block(octets: &mut Array<BITMAP_MAX>, rtypes: &[Rtype], number: u16)
     requires window { number < 256 }
     requires room { length octets.old.content + 34 ≤ BITMAP_MAX }
@@ -122,7 +122,7 @@ fn append_block(octets: &mut Array<BITMAP_MAX>, rtypes: &[Rtype], number: u16)
     }
 }
 
-/// Appends an octet, for which there is room.
+/// Appends an octet. There is room for it.
 fn push(octets: &mut Array<BITMAP_MAX>, octet: u8)
     requires { length octets.old.content < BITMAP_MAX }
     ensures { octets.new.content ≡ octets.old.content ++ octet ∷ [] }
@@ -130,7 +130,7 @@ fn push(octets: &mut Array<BITMAP_MAX>, octet: u8)
     let _appended = octets.append_slice(&[octet]);
 }
 
-/// How many octets the bitmap of a window has: as many as its greatest type takes.
+/// Returns the number of octets of a window's bitmap, as many as its highest type needs.
 fn bitmap_size(rtypes: &[Rtype], number: u16) -> u16
     ensures size { result ≡ bitmap_size number rtypes.now }
     ensures most { result ≤ 32 }
@@ -145,7 +145,7 @@ fn bitmap_size(rtypes: &[Rtype], number: u16) -> u16
     size
 }
 
-/// The octet of the eight types from one on.
+/// Returns the octet of the eight types from `rtype` on.
 fn octet_of(rtypes: &[Rtype], rtype: u16) -> u8
     requires { rtype + 8 ≤ 65536 }
     ensures { result ≡ octet_of rtypes.now rtype }
@@ -157,7 +157,7 @@ fn octet_of(rtypes: &[Rtype], rtype: u16) -> u8
     octet
 }
 
-/// Whether a type is one of these.
+/// Whether `rtype` is one of the types.
 fn is_among(rtypes: &[Rtype], rtype: u16) -> bool
     ensures { result ≡ is_among rtypes.now rtype }
 {

@@ -1,4 +1,4 @@
-//! The types of a set, one after another.
+//! An iterator over the types of a bitmap.
 ghost use Rattle.std.specs.Prelude.{◌≡◌, ℕ, ◌+◌, ◌*◌, ◌<◌, ◌≤◌, [], ◌∷◌, length, IfSome, MatchOption};
 ghost use Rattle.octseq_dns_data.specs.OneBitmap.{one_bitmap};
 ghost use Rattle.octseq_dns_data.specs.RtypeBitmap.{IsRtypeBitmap, is_listed, places_from, types_of};
@@ -6,7 +6,7 @@ ghost use Rattle.octseq_dns_data.specs.RtypeBitmap.{IsRtypeBitmap, is_listed, pl
 use crate::iana::Rtype;
 use crate::rtype_bitmap::blocks::split_block;
 
-/// The types that a set has left, ascending.
+/// An iterator over the types of a bitmap, in ascending order.
 #[derive(Clone, Copy, Debug)]
 pub struct RtypeBitmapIter<'a> {
     number: u8,
@@ -20,7 +20,7 @@ pub struct RtypeBitmapIter<'a> {
 impl<'a> RtypeBitmapIter<'a> {
     ghost use Rattle.octseq_dns_data.specs.RtypeBitmapOf.{rtypes_left};
 
-    /// The types that octets say, which are a set of types.
+    /// Iterates over the types of a type bitmap.
     pub(crate) fn new(octets: &'a [u8]) -> RtypeBitmapIter<'a>
         requires { IsRtypeBitmap octets.now }
         ensures { rtypes_left result ≡ types_of octets.now }
@@ -62,7 +62,7 @@ impl<'a> Iterator for RtypeBitmapIter<'a> {
     }
 }
 
-/// The first place, from a place on, whose type a bitmap says.
+/// Returns the first place from `place` on whose bit is set.
 fn next_place(bitmap: &[u8], place: usize) -> Option<usize>
     requires { length bitmap.now ≤ 32 }
     ensures first { MatchOption result (places_from bitmap.now place ≡ [])
@@ -77,7 +77,7 @@ fn next_place(bitmap: &[u8], place: usize) -> Option<usize>
     None
 }
 
-/// Whether a bitmap says the type of a place.
+/// Whether the bit of a place is set.
 fn is_listed(bitmap: &[u8], place: usize) -> bool
     requires { place < 8 * length bitmap.now }
     ensures { result ≡ is_listed bitmap.now place }

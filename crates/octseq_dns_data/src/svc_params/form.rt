@@ -1,4 +1,4 @@
-//! The form of parameters, and of the values of their keys: RFC 9460, 2.2, 7 and 8.
+//! The form of parameters, and of the value of each key: RFC 9460, 2.2, 7 and 8.
 ghost use Rattle.std.specs.Prelude.{◌≡◌, ◌+◌, ◌≤◌, length, Some, None, IsTrue, IsFalse, IsErr, IfOk, OnErr};
 ghost use Rattle.octseq.specs.Parser.{window};
 ghost use Rattle.octseq.specs.Window.{rest};
@@ -11,7 +11,7 @@ use octseq::utf8::Turns;
 use octseq::{AsOctets, Malformed, Parser};
 use octseq_format::{Format, Octets, are_octets};
 
-/// Takes the next parameter, whatever its value.
+/// Reads the next parameter, whatever its value.
 pub(crate) fn take_param<R: AsOctets + Copy>(
     parser: &mut Parser<R>,
 ) -> Result<(u16, Parser<R>), Malformed>
@@ -27,7 +27,7 @@ pub(crate) fn take_param<R: AsOctets + Copy>(
     Ok((key, octets))
 }
 
-/// Takes the next id of a protocol.
+/// Reads the next protocol id.
 pub(crate) fn take_id<R: AsOctets + Copy>(parser: &mut Parser<R>) -> Result<Parser<R>, Malformed>
     ensures id { IfOk result (λ id. split_part 1 (rest (window parser.old))
         ≡ Some (rest (window id), rest (window parser.new))) }
@@ -37,7 +37,7 @@ pub(crate) fn take_id<R: AsOctets + Copy>(parser: &mut Parser<R>) -> Result<Pars
     Ok(parser.parse_part_u8()?)
 }
 
-/// Takes the next key of a list.
+/// Reads the next key of a list.
 pub(crate) fn take_key<R: AsOctets + Copy>(parser: &mut Parser<R>) -> Result<u16, Malformed>
     ensures key { IfOk result (λ key. split_number 2 (rest (window parser.old))
         ≡ Some (key, rest (window parser.new))) }
@@ -47,7 +47,7 @@ pub(crate) fn take_key<R: AsOctets + Copy>(parser: &mut Parser<R>) -> Result<u16
     Ok(parser.parse_u16_be()?)
 }
 
-/// Takes the next `N` octets.
+/// Reads the next `N` octets.
 pub(crate) fn take_octets<R: AsOctets + Copy, const N: usize>(
     parser: &mut Parser<R>,
 ) -> Result<[u8; N], Malformed>
@@ -60,7 +60,7 @@ pub(crate) fn take_octets<R: AsOctets + Copy, const N: usize>(
     Ok(octets)
 }
 
-/// Whether octets are parameters. It takes a turn for each parameter, key and id.
+/// Whether octets are parameters. It counts a turn for each parameter, key and id.
 pub(crate) fn is_svc_params(octets: &[u8], turns: &mut Turns) -> bool
     ensures yes { IsTrue result → IsSvcParams octets.now }
     ensures no { IsFalse result → ¬ IsSvcParams octets.now }
@@ -104,7 +104,7 @@ fn is_value_of(key: u16, octets: &[u8], turns: &mut Turns) -> bool
     }
 }
 
-/// Whether octets are addresses, one or more, each of as many octets as `size` says.
+/// Whether octets are one or more addresses of `size` octets each.
 fn are_addresses(size: usize, octets: &[u8]) -> bool
     requires { 1 ≤ size }
     ensures yes { IsTrue result → AreAddresses size octets.now }
@@ -113,7 +113,7 @@ fn are_addresses(size: usize, octets: &[u8]) -> bool
     !octets.is_empty() && octets.len() % size == 0
 }
 
-/// Whether octets are keys, one or more, none 0, that ascend.
+/// Whether octets are one or more ascending keys, none of them 0.
 fn are_keys(octets: &[u8], turns: &mut Turns) -> bool
     ensures yes { IsTrue result → AreKeys octets.now (keys_of octets.now) }
     ensures no { IsFalse result → ¬ AreKeys octets.now (keys_of octets.now) }
@@ -136,7 +136,7 @@ fn are_keys(octets: &[u8], turns: &mut Turns) -> bool
     !octets.is_empty()
 }
 
-/// Whether octets are ids of protocols, one or more, none empty.
+/// Whether octets are one or more protocol ids, none of them empty.
 fn are_ids(octets: &[u8], turns: &mut Turns) -> bool
     ensures yes { IsTrue result → AreIds octets.now (ids_of octets.now) }
     ensures no { IsFalse result → ¬ AreIds octets.now (ids_of octets.now) }

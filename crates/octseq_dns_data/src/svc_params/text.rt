@@ -1,4 +1,4 @@
-//! The text of parameters: RFC 9460, 2.1 and A.1.
+//! The text of service parameters: RFC 9460, 2.1 and A.1.
 ghost use Rattle.std.specs.Prelude.{◌≡◌, Some, length};
 ghost use Rattle.std.specs.Fmt.{WritesOnOk, decimal};
 ghost use Rattle.std.specs.List.{flat_map};
@@ -33,7 +33,7 @@ impl<R: AsOctets + Copy> fmt::Display for SvcParams<R> {
     }
 }
 
-/// Prints the key, and where the value has octets `=` and the value between `"`.
+/// Prints the key, and for a value that isn't empty `=` and the value in `"`.
 impl<R: AsOctets> fmt::Display for SvcParam<R> {
     ghost output = { λ param. Some (param_text (param_of param)) };
 
@@ -66,7 +66,7 @@ fn write_value<W: fmt::Write>(f: &mut fmt::Formatter<W>, key: u16, octets: &[u8]
     }
 }
 
-/// Writes keys with a comma between each two.
+/// Writes keys, separated by commas.
 fn write_keys<W: fmt::Write>(f: &mut fmt::Formatter<W>, octets: &[u8]) -> fmt::Result
     ensures { WritesOnOk W.write_str_gives f.old result (with_commas key_text (keys_of octets.now)) f.new }
 {
@@ -82,7 +82,7 @@ fn write_keys<W: fmt::Write>(f: &mut fmt::Formatter<W>, octets: &[u8]) -> fmt::R
     Ok(())
 }
 
-/// Writes IPv4 addresses with a comma between each two.
+/// Writes IPv4 addresses, separated by commas.
 fn write_ipv4_hints<W: fmt::Write>(f: &mut fmt::Formatter<W>, octets: &[u8]) -> fmt::Result
     ensures { WritesOnOk W.write_str_gives f.old result
         (with_commas ipv4_text (pieces (split_octets 4) octets.now)) f.new }
@@ -99,7 +99,7 @@ fn write_ipv4_hints<W: fmt::Write>(f: &mut fmt::Formatter<W>, octets: &[u8]) -> 
     Ok(())
 }
 
-/// Writes IPv6 addresses with a comma between each two.
+/// Writes IPv6 addresses, separated by commas.
 fn write_ipv6_hints<W: fmt::Write>(f: &mut fmt::Formatter<W>, octets: &[u8]) -> fmt::Result
     ensures { WritesOnOk W.write_str_gives f.old result
         (with_commas aaaa_text (pieces (split_octets 16) octets.now)) f.new }
@@ -116,7 +116,7 @@ fn write_ipv6_hints<W: fmt::Write>(f: &mut fmt::Formatter<W>, octets: &[u8]) -> 
     Ok(())
 }
 
-/// Writes ids with a comma between each two, as the octets of a string.
+/// Writes ids, separated by commas, as the octets of a string.
 fn write_ids<W: fmt::Write>(f: &mut fmt::Formatter<W>, octets: &[u8]) -> fmt::Result
     ensures { WritesOnOk W.write_str_gives f.old result (ids_text (ids_of octets.now)) f.new }
 {
@@ -146,14 +146,14 @@ fn write_id<W: fmt::Write>(f: &mut fmt::Formatter<W>, octets: &[u8]) -> fmt::Res
     Ok(())
 }
 
-/// Whether an octet of an id is after a backslash in a list.
+/// Whether an octet of an id is written after a backslash in a list.
 fn needs_backslash(octet: u8) -> bool
     ensures { result ≡ is_listed_quoted octet }
 {
     matches!(octet, b'\\' | b',')
 }
 
-/// Writes the number of a port, which has 2 octets.
+/// Writes a port number of 2 octets.
 fn write_port<W: fmt::Write>(f: &mut fmt::Formatter<W>, octets: &[u8]) -> fmt::Result
     requires { length octets.now ≡ 2 }
     ensures { WritesOnOk W.write_str_gives f.old result (decimal (be octets.now)) f.new }
@@ -164,7 +164,7 @@ fn write_port<W: fmt::Write>(f: &mut fmt::Formatter<W>, octets: &[u8]) -> fmt::R
     }
 }
 
-/// Writes octets as those of a string.
+/// Writes octets as those of a string, without `"`.
 fn write_octets<W: fmt::Write>(f: &mut fmt::Formatter<W>, octets: &[u8]) -> fmt::Result
     ensures { WritesOnOk W.write_str_gives f.old result (flat_map string_octet_text octets.now) f.new }
 {

@@ -1,4 +1,4 @@
--- What is written, and the text of the types that are left, are the text of the types.
+-- What is written, and the text of the types that are left, are the whole text.
 use Rattle.std.proofs.Common.{◌≡◌, ℕ, List, ◌++◌}
 use Rattle.std.specs.Fmt.{HasWritten, IsPlainFormatter}
 use Rattle.octseq_dns_data.specs.RtypeBitmapOf.{rtypes_left, rtypes_of}

@@ -1,4 +1,4 @@
--- The octets are a set of types exactly where those that are left go on with window blocks.
+-- The octets are a type bitmap exactly if those that are left go on with window blocks.
 use Rattle.std.proofs.Common.{◌+◌, ◌*◌, ◌≤◌, length}
 use Rattle.octseq_dns_data.specs.RtypeBitmap.{HasBlocksFrom, IsRtypeBitmap}
 use Rattle.octseq_dns_data.proofs.rtype_bitmap.blocks.is_bitmap.Given as goal

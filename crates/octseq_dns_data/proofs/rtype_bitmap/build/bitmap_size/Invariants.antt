@@ -1,4 +1,4 @@
--- The size so far and that of the types that are left are the size of all.
+-- The size so far, and that of the types that are left, are the whole size.
 use Rattle.std.proofs.Common.{◌≡◌, ◌≤◌, drop, max}
 use Rattle.octseq_dns_data.specs.RtypeBitmapMade.{bitmap_size}
 use Rattle.octseq_dns_data.proofs.rtype_bitmap.build.bitmap_size.Given as goal

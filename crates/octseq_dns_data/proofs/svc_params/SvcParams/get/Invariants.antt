@@ -1,4 +1,4 @@
--- What is looked for is ahead exactly where it is in all.
+-- What is searched for is ahead exactly if it is anywhere.
 use Rattle.std.proofs.Common.{◌≡◌, ◌==◌, find}
 use Rattle.octseq.specs.Window.{rest}
 use Rattle.octseq_dns_data.specs.SvcParams.{params_of}

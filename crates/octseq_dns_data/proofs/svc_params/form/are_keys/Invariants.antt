@@ -1,4 +1,4 @@
--- What is ahead passes exactly where all does, and a turn was taken for an octet at most.
+-- What is ahead passes exactly if all does, and at most one turn was counted for each octet.
 use Rattle.std.proofs.Common.{◌+◌, ◌≤◌, length}
 use Rattle.octseq.proofs.WrittenBack.{AreOctets}
 use Rattle.octseq.specs.Parser.{window}

@@ -1,4 +1,4 @@
--- What is written, and the text of the strings ahead, are the text of the strings.
+-- What is written, and the text of the strings ahead, are the whole text.
 use Rattle.std.proofs.Common.{◌≡◌, ℕ, List, ◌++◌}
 use Rattle.std.specs.Fmt.{HasWritten, IsPlainFormatter}
 use Rattle.octseq_dns_data.specs.DataText.{strings_behind, strings_text}

@@ -1,4 +1,4 @@
--- The types that are left stay.
+-- The types that are left don't change.
 use Rattle.std.proofs.Common.{◌≡◌, length}
 use Rattle.octseq_dns_data.specs.RtypeBitmapOf.{rtypes_left}
 use Rattle.octseq_dns_data.proofs.rtype_bitmap.iter.RtypeBitmapIterIterator.next.Given as goal
