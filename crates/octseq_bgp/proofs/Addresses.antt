@@ -1,4 +1,4 @@
--- Octets that are each those of an address are its octets.
+-- Octets that are equal to those of an address one by one are its octets.
 use Rattle.std.proofs.Common.{◌≡◌, ℕ, zero, suc, ◌+◌, ◌*◌, ◌^◌, ◌<◌, ◌≤◌, List, [], ◌∷◌, length, inl, inr, refl, ap, ◌∙◌}
 use Rattle.std.proofs.Common.{subst, arith}
 use Rattle.std.proofs.Math.Nat.{zero-div, zero-mul}

@@ -1,4 +1,4 @@
--- What follows a header is of one kind, by the header's type.
+-- What follows a header is of one kind, by the type in the header.
 use Rattle.std.proofs.Common.{◌≡◌, ℕ, refl, arith}
 use Rattle.octseq.specs.Window.{Window, left}
 use Rattle.octseq_bgp.specs.Fills.{Whole}

@@ -1,4 +1,4 @@
--- A window of a multiple of k octets is filled by things of k octets, and no other window is.
+-- A window is filled by values of k octets exactly if the number of its octets is a multiple of k.
 use Rattle.std.proofs.Common.{◌≡◌, ℕ, zero, suc, ◌+◌, ◌-◌, ◌*◌, ◌/◌, ◌%◌, ◌<◌, ◌≤◌, List, [], ◌∷◌, length, take, drop, refl, sym, ap, subst, ◌∙◌, arith}
 use Rattle.std.proofs.lemmas.List.{drop-drop, drop-take, take-take}
 use Rattle.std.proofs.Math.Nat.{mul-mod_right}
@@ -24,7 +24,7 @@ module _ {A : Type 0} (k : ℕ) (reads : List ℕ → A) where
         omega (arith, fits, all),
       )
 
-  -- as many octets as they have
+  -- the number of octets that they take
   pub row_left : (w v : Window) (row : List A) → Row (IsFixed k reads) w row v → left v + k * length row ≡ left w
   row_left w v [] is = let same = ap left is in omega (arith, same)
   row_left w v (x ∷ row) is =
@@ -33,14 +33,14 @@ module _ {A : Type 0} (k : ℕ) (reads : List ℕ → A) where
       let more = row_left is.0 v row is.2 in
       omega (arith, here, room, more)
 
--- things of k octets fill a window in one way
+-- values of k octets fill a window in one way
 pub one_filling : {A : Type 0} (k : ℕ) (reads : List ℕ → A) → 0 < k → (w : Window) (row others : List A)
     → Fills (IsFixed k reads) w row → Fills (IsFixed k reads) w others → row ≡ others
 one_filling k reads some w row others a b =
     ((one_to (IsFixed k reads) (one_fixed k reads) (moving_of (onward_fixed k reads) some)).same w row others a.0 b.0
     a.1 b.1).0
 
--- k divides as many octets as things of k octets fill
+-- k divides the number of octets that values of k octets fill
 pub fills_divided : {A : Type 0} (k d o : ℕ) (reads : List ℕ → A) (w : Window) (row : List A) → d ≡ k → o ≡ left w
     → Fills (IsFixed k reads) w row → o % d ≡ 0
 fills_divided k d o reads w row same size fills =
@@ -54,7 +54,7 @@ pub divided : (k d o : ℕ) → d ≡ k → 0 < k → k * (o / d) + o % d ≡ o
 divided k d o same some =
     subst (λ d. k * (o / d) + o % d ≡ o) (sym same) (omega (arith, some))
 
--- k octets inside the n octets from p on, i octets after p
+-- k octets of the n octets from p on, i octets after p
 pub cut : (o : List ℕ) (p q i k n : ℕ) → q ≡ p + i → i + k ≤ n
     → take k (drop i (slice_range o p (p + n))) ≡ slice_range o q (q + k)
 cut o p q i k n place within =

@@ -1,4 +1,4 @@
--- A front of a text that stays, and ends where a character does.
+-- A front of a text that stays, and ends at a character boundary.
 use Rattle.std.proofs.Common.{◌≡◌, ℕ, false, List, [], ◌∷◌, ◌++◌, length, take, drop}
 use Rattle.std.proofs.Common.{refl, ap, sym, ◌∙◌, append_assoc, arith, length-take}
 use Rattle.std.proofs.Math.Seq.{drop-append_seam}
@@ -13,7 +13,7 @@ begins_more : (m s : List ℕ) → begins_within m ≡ false → IsWellFormed s 
 begins_more [] s edge well = begins_text s well
 begins_more (b ∷ m) s edge well = edge
 
--- a character still ends there once a text was appended
+-- it still ends at a boundary after a text was appended
 pub edge_stays : (before now s : List ℕ) → take (length before) now ≡ before
     → begins_within (drop (length before) now) ≡ false → IsWellFormed s
     → begins_within (drop (length before) (now ++ s)) ≡ false
@@ -25,7 +25,7 @@ edge_stays before now s front edge well =
     ∙ drop-append_seam before (more ++ s) in
     ap begins_within all ∙ begins_more more s edge well
 
--- so the text can be cut there
+-- so the text can be truncated there
 pub boundary_there : (before now : List ℕ) → IsWellFormed now → take (length before) now ≡ before
     → begins_within (drop (length before) now) ≡ false
     → IsBoundary now (length before)

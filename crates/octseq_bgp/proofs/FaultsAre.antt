@@ -1,4 +1,4 @@
--- The faults of attributes, one by one, and the worst of them.
+-- The faults of attributes, and the worst of them.
 use Rattle.std.proofs.Common.{◌≡◌, ◌≢◌, ℕ, List, [], ◌∷◌, Bool, true, false, if◌then◌else◌, nat_eq, refl, sym, ap, ◌∙◌, subst, arith, ◌<◌, get_or}
 use Rattle.std.specs.Prelude.{◌⊎◌, max, Option, Some, None}
 use Rattle.std.proofs.lemmas.Bool.{ne_eqb}
@@ -10,17 +10,17 @@ use Rattle.octseq_bgp.specs.Handling.{HasType, IsRank, IsWorst, IsHandling}
 use Rattle.octseq_bgp.specs.Update.{Update}
 use Rattle.octseq_bgp.specs.declared.session.SessionConfig.{SessionConfig}
 
--- what is accepted is no fault
+-- what is accepted isn't a fault
 pub none_before : (place : Option Entry) (n : ℕ) (row : List Fault) → n ≡ 0 → row ≡ fault_before place n row
 none_before place n row zero = ap (λ n. fault_before place n row) (sym zero)
 
--- and what isn't is one
+-- and what isn't accepted is one
 pub some_before : (place : Option Entry) (n : ℕ) (row : List Fault) → n ≢ 0
     → record { place = place; rank = n } ∷ row ≡ fault_before place n row
 some_before place n row not =
     ap (λ b. if b then row else record { place = place; rank = n } ∷ row) (sym (ne_eqb n 0 not))
 
--- the worst, with one more
+-- the worst fault, with one more
 worst_cases : (place : Option Entry) (n : ℕ) (row : List Fault)
     → ((nat_eq n 0 ≡ true) × (n ≡ 0)) ⊎ ((nat_eq n 0 ≡ false) × (n ≢ 0))
     → worst_of (fault_before place n row) ≡ max n (worst_of row)
@@ -34,7 +34,7 @@ worst_before : (place : Option Entry) (n : ℕ) (row : List Fault)
     → worst_of (fault_before place n row) ≡ max n (worst_of row)
 worst_before place n row = worst_cases place n row (eqb_tells n 0)
 
--- the worst of the faults of a list is the worst of what is to be done with its attributes, and with what is missing
+-- the worst fault of a list is the worst handling of its attributes and of a missing one
 pub worst_is : (s : SessionConfig) (external : Bool) (before row : List Entry) (missing : ℕ) (faults : List Fault)
     → AreFaults s external before row missing faults
     → (n : ℕ) × IsWorst s external before row n × (worst_of faults ≡ max n missing)

@@ -1,4 +1,4 @@
--- A type has its name, and a number of no type has none.
+-- Each type has its name, and a number of no type has none.
 use Rattle.std.proofs.Common.{◌≡◌, ℕ, List, if◌then◌else◌, nat_eq, refl, sym, ap, ◌∙◌}
 use Rattle.std.proofs.lemmas.Bool.{ne_eqb}
 use Rattle.std.specs.Fmt.{decimal}
@@ -35,7 +35,7 @@ type_is_named kind.As4Path = refl
 type_is_named kind.As4Aggregator = refl
 type_is_named kind.LargeCommunities = refl
 
--- a name that isn't that of a number is passed
+-- the name of another number is skipped
 passed : (n m : ℕ) (name other : List ℕ) → (m ≡ n → ⊥) → (if nat_eq n m then name else other) ≡ other
 passed n m name other not = ap (λ b. if b then name else other) (ne_eqb n m (λ is. not (sym is)))
 

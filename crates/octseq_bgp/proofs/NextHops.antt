@@ -1,4 +1,4 @@
--- Octets are next hops in one way at most.
+-- Octets are next hops in at most one way.
 use Rattle.std.proofs.Common.{◌≡◌, ◌≢◌, ℕ, List, ap, arith}
 use Rattle.octseq.specs.Window.{Window, left}
 use Rattle.octseq_format.specs.Fixed.{one_fixed}
@@ -15,7 +15,7 @@ use Rattle.octseq_bgp.proofs.Wholes.{one_whole}
 one_octets : (k : ℕ) → IsOne (AreOctets k)
 one_octets k = one_fixed k (λ octets. octets)
 
--- so many octets are a whole window
+-- a window of exactly k octets has k octets left
 pub octets_left : (k : ℕ) (w : Window) (a : List ℕ) → Whole (AreOctets k) w a → left w ≡ k
 octets_left k w a is =
     let past = ap left is.1.2 in
@@ -51,21 +51,21 @@ one_next_hop f w (hop.Ipv6LinkLocal a c) (hop.Ipv6LinkLocal b d) is other =
     ap (λ (p : List ℕ × List ℕ). hop.Ipv6LinkLocal p.0 p.1)
     (one_whole (AreOctets 16 then AreOctets 16) (one_octets 16 one_then one_octets 16) w (a, c) (b, d) is other)
 
--- sixteen octets that aren't an IPv6 address are no next hops
+-- 16 octets that aren't an IPv6 address aren't next hops
 pub none_of_16 : (f : AfiSafiType) (w : Window) → left w ≡ 16 → ((a : List ℕ) → Whole (AreOctets 16) w a → ⊥)
     → (h : NextHop) → IsNextHop f w h → ⊥
 none_of_16 f w size none (hop.Ipv4 a) is = let m = octets_left 4 w a is.1 in omega (arith, size, m)
 none_of_16 f w size none (hop.Ipv6 a) is = none a is
 none_of_16 f w size none (hop.Ipv6LinkLocal a b) is = let m = pair_left w (a, b) is in omega (arith, size, m)
 
--- so are 32 that aren't two
+-- nor are 32 octets that aren't two IPv6 addresses
 pub none_of_32 : (f : AfiSafiType) (w : Window) → left w ≡ 32
     → ((p : List ℕ × List ℕ) → Whole (AreOctets 16 then AreOctets 16) w p → ⊥) → (h : NextHop) → IsNextHop f w h → ⊥
 none_of_32 f w size none (hop.Ipv4 a) is = let m = octets_left 4 w a is.1 in omega (arith, size, m)
 none_of_32 f w size none (hop.Ipv6 a) is = let m = octets_left 16 w a is in omega (arith, size, m)
 none_of_32 f w size none (hop.Ipv6LinkLocal a b) is = none (a, b) is
 
--- and others that aren't an IPv4 address
+-- nor are others that aren't an IPv4 address
 pub none_of_4 : (f : AfiSafiType) (w : Window) → left w ≢ 16 → left w ≢ 32
     → ((a : List ℕ) → afi_number f ≡ 1 → Whole (AreOctets 4) w a → ⊥) → (h : NextHop) → IsNextHop f w h → ⊥
 none_of_4 f w short long none (hop.Ipv4 a) is = none a is.0 is.1

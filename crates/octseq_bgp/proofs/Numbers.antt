@@ -1,4 +1,4 @@
--- Numbers that fill a window are those that its octets begin with.
+-- Numbers that fill a window are the first numbers of its octets.
 use Rattle.std.proofs.Common.{◌≡◌, ℕ, ◌*◌, List, [], ◌∷◌, length, take, Bool, true, false, refl, sym, ap, ◌∙◌, arith}
 use Rattle.octseq.specs.Integer.{be}
 use Rattle.octseq.specs.Window.{Window, left, rest}

@@ -1,4 +1,4 @@
--- A capability says one thing at most.
+-- A capability says at most one thing.
 use Rattle.std.proofs.Common.{◌≡◌, ℕ, List, if◌then◌else◌, nat_eq, refl, sym, ap, ◌∙◌, subst, arith}
 use mathlib.Core.Logic.{inl, inr}
 use Rattle.octseq.specs.Window.{Window}
@@ -67,7 +67,7 @@ one_form code.AddPath w = one_said CapabilityValue.add_path
     (λ row others a b. one_filling 4 family_tuple (omega arith) w row others a.0.0 b.0.0)
 one_form code.EnhancedRouteRefresh w = λ v u a b. a.0 ∙ sym b.0
 
--- octets of a code that is known have its form
+-- octets of a known code have its form
 pub form_of_code : (number : ℕ) (c : CapabilityType) (w : Window) (v : CapabilityValue) → code_number c ≡ number
     → IsCoded number w v → HasCode c w v
 form_of_code number c w v known is = subst (λ c. HasCode c w v) (one_code is.0 c (sym is.1 ∙ sym known)) is.2

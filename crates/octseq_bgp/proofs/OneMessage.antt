@@ -1,4 +1,4 @@
--- Octets are a message in one way at most.
+-- Octets are a message in at most one way.
 use Rattle.std.proofs.Common.{◌≡◌, ℕ, List, length, true, false, sym, ap, ◌∙◌, subst}
 use Rattle.octseq.specs.Window.{Window, whole}
 use Rattle.octseq_format.specs.Laws.{IsOne}
@@ -60,13 +60,13 @@ one_parameters w row others (HasParameters.long _ marks is fills) (HasParameters
     one_fills (parameter_form true) there.1.1 row others
     (subst (λ x. Fills (IsEntry (parameter_form true)) x.1.1 row) same fills) rest
 
--- where no parameters are in the long form, none are at all
+-- if there are no parameters in the long form, there are none
 pub no_long : (w : Window) → IsLong w → ((row : List Entry) (marks : ℕ × (ℕ × Window)) → Whole IsLongPart w marks
     → Fills (IsEntry (parameter_form true)) marks.1.1 row → ⊥) → (row : List Entry) → HasParameters w row → ⊥
 no_long w is none row (HasParameters.short not _ _ _) = not is
 no_long w is none row (HasParameters.long _ marks are fills) = none row marks are fills
 
--- and so in the short one
+-- nor if there are none in the short form
 pub no_short : (w : Window) → (IsLong w → ⊥) → ((row : List Entry) (inside : Window) → Whole (IsCounted 1) w inside
     → Fills (IsEntry (parameter_form false)) inside row → ⊥) → (row : List Entry) → HasParameters w row → ⊥
 no_short w not none row (HasParameters.short _ inside is fills) = none row inside is fills
@@ -118,7 +118,7 @@ one_body s w kind (Message.route_refresh r) n a b =
     let other = as_route_refresh s w kind n a.0 b in
     ap (λ r. Message.route_refresh r) (one_whole IsRouteRefresh one_route_refresh w r other.0 a.1 other.2) ∙ sym other.1
 
--- a header is of one length, type and rest
+-- a header has one length, one type and one rest
 pub one_header : (w : Window) (h k : ℕ × (ℕ × Window)) → IsHeader w h → IsHeader w k → h ≡ k
 one_header w h k a b =
     ap (λ p. p.1) (one_whole (IsNumber 16 then IsNumber 2 then IsNumber 1 then IsRest)
@@ -132,7 +132,7 @@ one_message s octets m n a b =
     b.header in
     one_body s b.body b.kind m n (subst (λ h. IsBody s h.1.1 h.1.0 m) same a.is) b.is
 
--- where nothing follows a header that a message has, there is none
+-- if nothing of its type follows a header, there is no message
 pub no_message : (s : SessionConfig) (octets : List ℕ) (h : ℕ × (ℕ × Window)) → IsHeader (whole octets) h
     → ((m : Message) → IsBody s h.1.1 h.1.0 m → ⊥) → (m : Message) → IsMessage s octets m → ⊥
 no_message s octets h is none m message =

@@ -1,4 +1,4 @@
--- Octets that are read follow those of a vector, and say how many they are.
+-- Octets that are read come after those of a vector, and have a number.
 use Rattle.std.proofs.Common.{◌≡◌, ◌+◌, ◌-◌, ◌≤◌, ◌++◌, ◌∙◌, ℕ, List, length, take, drop, Option, Result, Ok, Err}
 use Rattle.std.proofs.Common.{refl, sym, ap, subst, take-append-drop, arith}
 use Rattle.std.proofs.KnownBytes.{Consumes-trans}
@@ -7,7 +7,7 @@ use Rattle.std.proofs.lemmas.List.{length-take, length-drop, drop-take, take_all
 use Rattle.std.specs.Io.KnownBytes.{Consumes}
 use Rattle.std.specs.Prelude.{OnErr, slice_range}
 
--- what holds whatever the result is holds where it is a refusal
+-- what always holds also holds of an error
 pub on_err : {T E P : Type 0} (result : Result T E) → P → OnErr result P
 on_err (Ok value) p = tt
 on_err (Err e) p = p
@@ -25,7 +25,7 @@ pub consumed_more : (a b c : Option (List ℕ)) (xs ys : List ℕ) (f n : ℕ) �
 consumed_more a b c xs ys f n same first second =
     subst (Consumes a c) (sym (take_more xs ys f n same)) (Consumes-trans a b c _ _ first second)
 
--- octets read into the room after others follow those
+-- octets read into the room after others follow them
 pub appended : (old room xs ys : List ℕ) (f n m : ℕ) → f ≡ length old → xs ≡ take (f + m) old ++ room
     → take f ys ≡ take f xs → take (f + n) ys ≡ old ++ take n (drop f ys)
 appended old room xs ys f n m all grown same =
@@ -34,29 +34,29 @@ appended old room xs ys f n m all grown same =
     ∙ take-append-le f old room (omega (arith, all)) ∙ take_all f old (omega (arith, all)) in
     take_more xs ys f n same ∙ ap (λ l. l ++ take n (drop f ys)) kept
 
--- what was written over all of a vector is what it holds
+-- a vector that was overwritten holds what was written
 pub written_back : (ys more : List ℕ) (len : ℕ) → len ≡ length ys → take len (ys ++ more) ≡ ys
 written_back ys more len all =
     take-append-le len ys more (omega (arith, all)) ∙ take_all len ys (omega (arith, all))
 
--- as many octets as were asked for
+-- as many octets as were requested
 pub length_part : (ys : List ℕ) (f n : ℕ) → f + n ≤ length ys → length (take n (drop f ys)) ≡ n
 length_part ys f n fits = omega (arith, length-take {A = ℕ} n (drop f ys), length-drop {A = ℕ} f ys, fits)
 
--- ---- octets that say how many they are
+-- ---- octets that say their number
 
--- octets inside a list are there, whatever follows it
+-- octets inside a list don't depend on what follows it
 pub range_in_front : (x y : List ℕ) (i j : ℕ) → i ≤ j → j ≤ length x → slice_range (x ++ y) i j ≡ slice_range x i j
 range_in_front x y i j ordered fits =
     let rest = length-drop {A = ℕ} i x in
     ap (take (j - i)) (drop-append-le i x y (omega (arith, ordered, fits)))
     ∙ take-append-le (j - i) (drop i x) y (omega (arith, ordered, fits, rest))
 
--- as many octets as a list has are its own, whatever follows it
+-- the first octets, as many as a list has, are its own, whatever follows
 take_front : (a x : List ℕ) (n : ℕ) → n ≡ length a → take n (a ++ x) ≡ a
 take_front a x n all = take-append-le n a x (omega (arith, all)) ∙ take_all n a (omega (arith, all))
 
--- octets that say how many they are, whatever follows them, are at the front of others in one way
+-- octets that say their number, whatever follows them, are at the front of others in one way
 pub apart_by : (size : List ℕ → ℕ) (a b x y : List ℕ) → length a ≡ size a → length b ≡ size b
     → size (a ++ x) ≡ size a → size (b ++ y) ≡ size b → a ++ x ≡ b ++ y → a ≡ b
 apart_by size a b x y first second kept also same =

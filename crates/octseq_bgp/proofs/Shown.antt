@@ -1,4 +1,4 @@
--- What is written of a text is written of one that there is.
+-- What is written of one text is written of some text.
 use Rattle.std.proofs.Common.{ℕ, List, Result, Ok, Err, IsOk, OnOk, refl}
 
 pub shown_of : {A E : Type 0} (result : Result A E) (Is : List ℕ → Type 0) (Plain : Type 0) (Wrote : List ℕ → Type 0)

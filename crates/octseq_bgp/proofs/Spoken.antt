@@ -1,4 +1,4 @@
--- What is said by a list and then by another is said by both.
+-- Adding a list and then another adds both.
 use Rattle.std.proofs.Common.{◌≡◌, List, [], ◌∷◌, ◌++◌, refl}
 use Rattle.octseq_bgp.specs.Capability.{CapabilityValue}
 use Rattle.octseq_bgp.specs.Negotiated.{Spoken, also_says, all_say}

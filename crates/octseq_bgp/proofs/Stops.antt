@@ -20,13 +20,13 @@ use Rattle.octseq_bgp.specs.declared.session.SessionConfig.{SessionConfig}
 use Rattle.octseq_bgp.proofs.OneMessage.{one_header}
 use Rattle.octseq_bgp.proofs.Wholes.{one_whole}
 
--- one place at most is where a thing stops
+-- there is at most one place where reading stops
 abbrev IsOnePlace : (ℕ → Type 0) → Type 0
 IsOnePlace Stop = (x y : ℕ) → Stop x → Stop y → x ≡ y
 
 -- ---- lists
 
--- entries go on to one place where none is
+-- entries go on to one place where there is none
 same_end : (f : Form) (w u v : Window) (row others : List Entry) → NoneAt (IsEntry f) u → NoneAt (IsEntry f) v
     → Row (IsEntry f) w row u → Row (IsEntry f) w others v → u ≡ v
 same_end f w u v [] [] none also a b = a ∙ sym b
@@ -41,7 +41,7 @@ one_entries f w x y a b =
     let same = same_end f w a.there b.there a.row b.row a.none b.none a.are b.are in
     a.is ∙ ap (λ (v : Window). v.position) same ∙ sym b.is
 
--- where entries stop they don't fill the window
+-- if entries stop early, they don't fill the window
 not_filled : (f : Form) (w : Window) (x : ℕ) → EntriesStop f w x → AreFilled f w → ⊥
 not_filled f w x a (row, (v, (are, ends))) =
     to_ends (IsEntry f) (one_entry f) (entry_moves f) w a.there v a.row row a.none a.some a.are are ends
@@ -139,7 +139,7 @@ one_stop s octets x y (inr (none, e)) (inr (_, f)) = e ∙ sym f
 
 -- ---- what was read
 
--- what holds where a call succeeds
+-- what holds if a call succeeds
 pub on_ok : {T E P : Type 0} (result : Result T E) → is_ok result ≡ true → OnOk result P → P
 on_ok (Ok value) is p = p
 on_ok (Err e) is p = absurd (cc)

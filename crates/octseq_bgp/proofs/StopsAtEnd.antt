@@ -1,4 +1,4 @@
--- In octets that are a message, reading stops at their end.
+-- Reading octets that are a message stops at their end.
 use Rattle.std.proofs.Common.{◌≡◌, ◌+◌, ◌≤◌, ℕ, List, length, inl, inr, refl, sym, ap, ◌∙◌, subst, arith}
 use Rattle.octseq.specs.Window.{Window, left, past, at, whole}
 use Rattle.octseq_bgp.specs.Entry.{Entry, IsEntry, IsCounted}
@@ -11,7 +11,7 @@ use Rattle.octseq_bgp.specs.Update.{Update, IsUpdate}
 use Rattle.octseq_bgp.specs.declared.family.AfiSafiType.TheVariants as family
 use Rattle.octseq_bgp.specs.declared.session.SessionConfig.{SessionConfig}
 
--- octets after their length, which end a window, end where it does
+-- octets after their length that end with a window
 counted_end : (k : ℕ) (w inside : Window) → 1 ≤ k → Whole (IsCounted k) w inside → w.end ≡ inside.end
 counted_end k w inside some is =
     let counted = is.1 in
@@ -35,7 +35,7 @@ parameters_end w row (HasParameters.long long marks is fills) =
     (is.0, subst (λ u. IsCounted 2 u marks.1.1 is.0) moved part.2.2, is.2) in
     inl (long, inl (marks.1.1, counted, inr ((row, fills), counted_end 2 (past 2 w) marks.1.1 (omega arith) counted)))
 
--- they have an octet at least
+-- they have at least one octet
 parameters_some : (w : Window) (row : List Entry) → HasParameters w row → 1 ≤ left w
 parameters_some w row (HasParameters.short _ inside is _) = is.1.0.0
 parameters_some w row (HasParameters.long long _ _ _) = let two = long.0 in omega (arith, two)
@@ -115,7 +115,7 @@ known s w kind (Message.notification n) is = let e = is.0 in (omega (arith, e), 
 known s w kind Message.keepalive is = let e = is.0 in (omega (arith, e), omega (arith, e))
 known s w kind (Message.route_refresh r) is = let e = is.0 in (omega (arith, e), omega (arith, e))
 
--- reading of a message stops at its end
+-- reading a message stops at its end
 pub message_end : (s : SessionConfig) (octets : List ℕ) (m : Message) → IsMessage s octets m
     → IsStop s octets (length octets)
 message_end s octets m message =

@@ -1,4 +1,4 @@
--- Messages of a stream: octets that are framed, misframed, or cut.
+-- Messages of a stream: octets that are framed, misframed, or cut short.
 use Rattle.std.proofs.Common.{◌≡◌, ◌<◌, ◌≤◌, ◌^◌, ◌++◌, ◌∙◌, ℕ, zero, suc, List, [], ◌∷◌, length, take, Bool, true}
 use Rattle.std.proofs.Common.{false, Option, inl, inr, refl, sym, ap, subst, arith}
 use Rattle.std.proofs.KnownBytes.{Consumes-trans}
@@ -29,13 +29,13 @@ front_kept P zero x y each = tt
 front_kept P (suc n) [] y each = tt
 front_kept P (suc n) (a ∷ x) y each = (each.0, front_kept P n x y each.1)
 
--- what is at the front of marked octets is marked
+-- a front of marked octets is marked
 marked_front : (x y : List ℕ) → IsMarked (x ++ y) → IsMarked x
 marked_front x y marked =
     let P = λ (octet : ℕ). octet ≡ 255 in
     All-from_recursion P (take 16 x) (front_kept P 16 x y (recursion_from_All P (take 16 (x ++ y)) marked))
 
--- octets after a marker have no part in it
+-- octets after a marker don't matter
 marked_more : (x y : List ℕ) → 16 ≤ length x → IsMarked x → IsMarked (x ++ y)
 marked_more x y long marked =
     subst (All (λ octet. octet ≡ 255)) (sym (take-append-le 16 x y long)) marked
@@ -57,7 +57,7 @@ begins_length s octets a more there framed e =
     let least = framed.least in
     ap message_length e ∙ length_in_front a more (omega (arith, least)) ∙ sym framed.whole
 
--- misframed octets stay so
+-- misframed octets stay misframed
 pub misframed_more : (s : SessionConfig) (octets more : List ℕ) → IsMisframed s octets
     → IsMisframed s (octets ++ more)
 misframed_more s octets more (inl other) = inl (λ marked. other (marked_front octets more marked))
@@ -69,7 +69,7 @@ misframed_more s octets more (inr (there, other)) =
       subst (λ n. (n < 19) ⊎ (longest_message s < n)) says other,
     )
 
--- with misframed octets no framed message begins
+-- no framed message begins with misframed octets
 pub begins_none : (s : SessionConfig) (octets more : List ℕ) → IsMisframed s octets → ¬ BeginsFramed s (octets ++ more)
 begins_none s octets more (inl other) (a, rest, framed, e) =
     let least = framed.least in
@@ -98,7 +98,7 @@ all_of : (long : Bool) (size : ℕ) → size < 65536 → IsTrue long → size �
 all_of true size small is = omega (arith, small)
 all_of false size small is = absurd (cc)
 
--- as many octets as a message may have, which two octets tell
+-- a number of octets that a message may have, which two octets can say
 within : (s : SessionConfig) (kind size : ℕ) → size < 65536 → IsShortEnough s kind size → size ≤ longest_message s
 within s kind size small (inl few) = at_least s.extended_message size few
 within s kind size small (inr may) = all_of s.extended_message size small may.0
@@ -135,7 +135,7 @@ framed s octets m each message =
 
 -- ---- what was read
 
--- fewer octets than a message has begin with none
+-- fewer octets than a message has don't begin with one
 pub few_begin_none : (s : SessionConfig) (octets : List ℕ) → length octets < 19 → ¬ BeginsFramed s octets
 few_begin_none s octets few (a, rest, framed, e) =
     let least = framed.least in
@@ -143,18 +143,18 @@ few_begin_none s octets few (a, rest, framed, e) =
     let all = length-append a rest in
     omega (arith, few, least, both, all)
 
--- marked octets before a length aren't misframed
+-- marked octets that end before the length aren't misframed
 not_misframed : (s : SessionConfig) (octets : List ℕ) → length octets < 18 → IsMarked octets → ¬ IsMisframed s octets
 not_misframed s octets few marked (inl other) = other marked
 not_misframed s octets few marked (inr (there, _)) = omega (arith, few, there)
 
--- so they are cut
+-- so they are cut short
 pub cut_before : (s : SessionConfig) (octets : List ℕ) → 0 < length octets → length octets < 18 → IsMarked octets
     → IsCut s octets
 cut_before s octets some few marked =
     (some, not_misframed s octets few marked, few_begin_none s octets (omega (arith, few)))
 
--- neither do a front and fewer octets than follow it
+-- nor does a front with fewer octets than follow it begin with one
 less_begin_none : (s : SessionConfig) (front read : List ℕ) (more : ℕ) → IsFront s front more → length read < more
     → ¬ BeginsFramed s (front ++ read)
 less_begin_none s front read more is less (a, rest, framed, e) =

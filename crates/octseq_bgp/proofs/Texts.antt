@@ -42,7 +42,7 @@ one_capabilities (e ∷ more) text other a b =
     a.4 ∙ ap (λ v. line (codes "capability") (capability_text e.kind v) ++ a.1) values
     ∙ ap (λ rest. line (codes "capability") (capability_text e.kind b.0) ++ rest) rests ∙ sym b.4
 
--- a parameter says one thing at most
+-- a parameter has at most one value
 one_parameter_value : (kind : ℕ) (w : Window) (a b : ParameterValue) → IsParameterValue kind w a
     → IsParameterValue kind w b → a ≡ b
 one_parameter_value kind w (ParameterValue.capabilities row) (ParameterValue.capabilities others) a b =
@@ -74,7 +74,7 @@ one_open_text o text other a b =
 one_communication : IsOne (Counted 1 0 IsText)
 one_communication = one_counted one_text
 
--- data says one thing at most
+-- the data says at most one thing
 one_data : (code subcode : ℕ) (w : Window) (a b : NotificationData) → IsNotificationData code subcode w a
     → IsNotificationData code subcode w b → a ≡ b
 one_data code subcode w (NotificationData.shutdown text) (NotificationData.shutdown other) a b =

@@ -1,4 +1,4 @@
--- Octets say one value at most.
+-- Octets are at most one value.
 use Rattle.std.proofs.Common.{◌≡◌, ℕ, ◌<◌, ◌≤◌, Bool, true, List, arith, sym, ap, ◌∙◌, subst}
 use mathlib.Core.Logic.{inl, inr}
 use Rattle.octseq.specs.Integer.{be}
@@ -29,7 +29,7 @@ use Rattle.octseq_bgp.proofs.NextHops.{one_next_hop}
 use Rattle.octseq_bgp.proofs.Types.{one_type}
 use Rattle.octseq_bgp.proofs.Wholes.{one_whole, one_fills, one_nlri}
 
--- a window says one thing of a kind at most
+-- a window is at most one value of a kind
 abbrev pub OneSaid : {A : Type 0} → (A → Type 0) → Type 0
 OneSaid {A} Is = (a b : A) → Is a → Is b → a ≡ b
 
@@ -39,7 +39,7 @@ one_made make one v u a b = a.1 ∙ ap make (one a.0 b.0 a.2 b.2) ∙ sym b.1
 one_items : {A : Type 0} (k : ℕ) (reads : List ℕ → A) (w : Window) → 0 < k → OneSaid (SomeItems k reads w)
 one_items k reads w some row others a b = one_filling k reads some w row others a.0 b.0
 
--- ---- prefixes of any family
+-- ---- prefixes of any address family
 
 pub one_reach_front : IsOne IsReachFront
 one_reach_front = one_number 2 one_then one_number 1 one_then one_octets 1 one_then one_number 1 one_then one_rest
@@ -107,7 +107,7 @@ one_form s kind.As4Path w = one_made Value.as4_path (path true w)
 one_form s kind.As4Aggregator w = one_made Value.as4_aggregator (pair 4 w)
 one_form s kind.LargeCommunities w = one_made Value.large_communities (one_items 12 large_community w (omega arith))
 
--- octets of a type that is known have its form
+-- octets of a known type have its form
 pub form_of_type : (s : SessionConfig) (number : ℕ) (t : AttributeType) (w : Window) (v : Value) → type_number t ≡ number
     → IsTyped s number w v → HasForm s t w v
 form_of_type s number t w v known is =

@@ -1,4 +1,4 @@
--- What fills a window is one thing, and what is read of it has no more octets.
+-- A window is filled by at most one value, and what is read of it has no more octets.
 use Rattle.std.proofs.Common.{◌≡◌, ℕ, ◌+◌, ◌≤◌, List, map, sym, ap, ◌∙◌, arith}
 use Rattle.octseq.specs.Window.{Window, left}
 use Rattle.octseq_format.specs.Laws.{Relation, IsOne}
@@ -17,11 +17,11 @@ pub one_fills : (f : Form) (w : Window) (row others : List Entry) → Fills (IsE
 one_fills f w row others a b =
     ((one_to (IsEntry f) (one_entry f) (entry_moves f)).same w row others a.0 b.0 a.1 b.1).0
 
--- so are prefixes of a form
+-- the same for prefixes of a form
 pub one_nlri : (f : Form) (w : Window) (row others : List Nlri) → AreNlri f w row → AreNlri f w others → row ≡ others
 one_nlri f w row others a b = a.2 ∙ ap (map (nlri_in f)) (one_fills f w a.0 b.0 a.1 b.1) ∙ sym b.2
 
--- octets after their length, and what follows them, are no more than the window has
+-- octets after their length, and what follows them, aren't more than the window has
 pub counted_left : (k : ℕ) (w inside v : Window) → IsCounted k w inside v → left inside + left v ≤ left w
 counted_left k w inside v is =
     let here = ap left is.1.0 in

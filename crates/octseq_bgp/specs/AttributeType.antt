@@ -1,4 +1,4 @@
--- The numbers of the types of attributes: RFC 4271, 4.3, and the RFCs that added others.
+-- The numbers of the types of path attributes: RFC 4271, 4.3, and the RFCs that added more.
 use Rattle.std.specs.Prelude.{ℕ}
 use Rattle.octseq_bgp.specs.declared.attribute_type.AttributeType.{AttributeType}
 use Rattle.octseq_bgp.specs.declared.attribute_type.AttributeType.TheVariants as kind

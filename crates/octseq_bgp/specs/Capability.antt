@@ -1,6 +1,6 @@
--- Parameters and capabilities: RFC 5492, 4, RFC 4760, 8 (multiprotocol), RFC 2918, 2 (route refresh), RFC 8654, 3
--- (extended messages), RFC 4724, 3 (graceful restart), RFC 6793, 3 (AS numbers of four octets), RFC 7911, 4 (path ids),
--- RFC 7313, 3.1 (enhanced route refresh).
+-- Parameters and capabilities: RFC 5492, 4, RFC 4760, 8 (multiprotocol extensions), RFC 2918, 2 (route refresh), RFC
+-- 8654, 3 (extended messages), RFC 4724, 3 (graceful restart), RFC 6793, 3 (four-octet AS numbers), RFC 7911, 4
+-- (additional paths), RFC 7313, 3.1 (enhanced route refresh).
 use Rattle.std.specs.Prelude.{◌≡◌, ℕ, ◌/◌, ◌%◌, ◌≤◌, Bool, nat_eq, ◌⊎◌, List, [], ◌∷◌}
 use Rattle.octseq.specs.Window.{Window, left}
 use Rattle.octseq_format.specs.Fixed.{IsFixed}
@@ -15,7 +15,7 @@ use Rattle.octseq_bgp.specs.declared.capability_type.CapabilityType.{CapabilityT
 use Rattle.octseq_bgp.specs.declared.capability_type.CapabilityType.TheVariants as code
 use Rattle.octseq_bgp.specs.declared.entry.Form.TheVariants as form
 
--- What a parameter says: capabilities, or octets that say nothing that is known.
+-- The value of a parameter: capabilities, or opaque octets.
 pub data ParameterValue : Type 0 where
   capabilities : List Entry → ParameterValue
   opaque : Window → ParameterValue
@@ -24,13 +24,13 @@ pub data ParameterValue : Type 0 where
 abbrev pub AreCapabilities : ℕ → Window → List Entry → Type 0
 AreCapabilities kind w row = (kind ≡ 2) × Fills (IsEntry form.Capability) w row
 
--- what a parameter says
+-- the value of a parameter
 abbrev pub IsParameterValue : ℕ → Window → ParameterValue → Type 0
 IsParameterValue kind w (ParameterValue.capabilities row) = AreCapabilities kind w row
 IsParameterValue kind w (ParameterValue.opaque octets) =
     (octets ≡ w) × ((row : List Entry) → ¬ AreCapabilities kind w row)
 
--- Who restarts: sixteen bits, and families with flags: RFC 4724, 3.
+-- Graceful restart: sixteen bits, and address families with flags: RFC 4724, 3.
 pub record Restart : Type 0 where
   pub bits : ℕ
   pub families : List (ℕ × (ℕ × ℕ))
@@ -55,8 +55,8 @@ abbrev pub ArePaths : List (ℕ × (ℕ × ℕ)) → Type 0
 ArePaths [] = Unit {0}
 ArePaths (t ∷ more) = (1 ≤ t.1.1) × (t.1.1 ≤ 3) × ArePaths more
 
--- What a capability says: AFI, an octet that has no meaning, and SAFI; nothing but that it is there; who restarts; an
--- AS number; families with path ids; or octets whose form isn't that of their code.
+-- The value of a capability: AFI, a reserved octet, and SAFI; nothing more; a graceful restart; an AS number; families
+-- with path ids; or octets without the form of their code.
 pub data CapabilityValue : Type 0 where
   multi_protocol : ℕ × (ℕ × ℕ) → CapabilityValue
   route_refresh : CapabilityValue
@@ -67,11 +67,11 @@ pub data CapabilityValue : Type 0 where
   enhanced_route_refresh : CapabilityValue
   opaque : Window → CapabilityValue
 
--- families with path ids, one at least
+-- one or more families with path ids
 abbrev pub IsAddPath : Window → List (ℕ × (ℕ × ℕ)) → Type 0
 IsAddPath w row = SomeItems 4 family_tuple w row × ArePaths row
 
--- a value that is made of what a window says
+-- a value made from what a window says
 abbrev pub Said : {A : Type 0} → (A → CapabilityValue) → (A → Type 0) → CapabilityValue → Type 0
 Said {A} make Is v = (a : A) × (v ≡ make a) × Is a
 
@@ -79,7 +79,7 @@ Said {A} make Is v = (a : A) × (v ≡ make a) × Is a
 abbrev pub Bare : CapabilityValue → Window → CapabilityValue → Type 0
 Bare value w v = (v ≡ value) × (left w ≡ 0)
 
--- the window says a value of a code
+-- the window has the form of a code, and is this value
 abbrev pub HasCode : CapabilityType → Window → CapabilityValue → Type 0
 HasCode code.MultiProtocol w =
     Said CapabilityValue.multi_protocol (Whole (IsNumber 2 then IsNumber 1 then IsNumber 1) w)
@@ -90,11 +90,11 @@ HasCode code.FourOctetAsn w = Said CapabilityValue.four_octet_asn (Whole (IsNumb
 HasCode code.AddPath w = Said CapabilityValue.add_path (IsAddPath w)
 HasCode code.EnhancedRouteRefresh w = Bare CapabilityValue.enhanced_route_refresh w
 
--- the octets of a capability of a code have the form of that code, and say a value
+-- the octets of a capability have the form of its code, and are this value
 abbrev pub IsCoded : ℕ → Window → CapabilityValue → Type 0
 IsCoded number w v = (c : CapabilityType) × (number ≡ code_number c) × HasCode c w v
 
--- they say a value, or none and are opaque
+-- they are a value, or have no form and are opaque
 abbrev pub IsCapabilityValue : ℕ → Window → CapabilityValue → Type 0
 IsCapabilityValue number w v =
     IsCoded number w v ⊎ (v ≡ CapabilityValue.opaque w) × ((other : CapabilityValue) → ¬ IsCoded number w other)

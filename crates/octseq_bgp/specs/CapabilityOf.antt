@@ -18,20 +18,20 @@ use Rattle.octseq_bgp.specs.declared.capability_value.GracefulRestart.{GracefulR
 abbrev pub capability_entry : {R : Type 0} {g : Ghosts R} → Capability R g → Entry
 capability_entry c = record { number = 0; kind = c.code; octets = window c.octets }
 
--- the capabilities that a parameter has left
+-- the capabilities that are left
 abbrev pub capabilities_left : {R : Type 0} {g : Ghosts R} → Capabilities R g → List Entry
 capabilities_left c = entries_left c.entries
 
--- what a parameter says
+-- the value of a parameter
 abbrev pub parameter_value_of : {R : Type 0} {g : Ghosts R} → ParameterValue R g → said.ParameterValue
 parameter_value_of (value.Capabilities c) = said.ParameterValue.capabilities (capabilities_left c)
 parameter_value_of (value.Opaque octets) = said.ParameterValue.opaque (window octets)
 
--- who restarts
+-- a graceful restart
 abbrev pub restart_of : {R : Type 0} {g : Ghosts R} → GracefulRestart R g → said.Restart
 restart_of r = record { bits = r.bits; families = items_left r.families }
 
--- what a capability says
+-- the value of a capability
 abbrev pub capability_value_of : {R : Type 0} {g : Ghosts R} → CapabilityValue R g → said.CapabilityValue
 capability_value_of (code.MultiProtocol afi reserved safi) = said.CapabilityValue.multi_protocol (afi, (reserved, safi))
 capability_value_of code.RouteRefresh = said.CapabilityValue.route_refresh

@@ -7,7 +7,7 @@ use Rattle.octseq_bgp.specs.Capability.{CapabilityValue, Restart, has_restarted,
 use Rattle.octseq_bgp.specs.FamilyTuple.{forwards}
 use Rattle.octseq_bgp.specs.OctetsText.{spaced, opaque_text}
 
--- a family by its numbers
+-- an address family by its numbers
 abbrev pub afi_text : ℕ → List ℕ
 afi_text n = if nat_eq n 1 then codes "IPv4" else (if nat_eq n 2 then codes "IPv6" else codes "AFI" ++ decimal n)
 
@@ -23,7 +23,7 @@ abbrev pub restart_flags : ℕ → List ℕ
 restart_flags bits = if has_restarted bits then (if takes_notifications bits then codes "RN" else codes "R")
     else (if takes_notifications bits then codes "N" else codes "-")
 
--- a family, and whether its routes were kept
+-- a family, and whether its forwarding state was kept
 abbrev pub kept_text : ℕ × (ℕ × ℕ) → List ℕ
 kept_text t = numbers_family t.0 t.1.0 ++ (if forwards t.1.1 then codes " F" else codes " -")
 
@@ -39,7 +39,7 @@ use_text n = if nat_eq n 1 then codes " receive" else (if nat_eq n 2 then codes 
 abbrev pub paths_text : ℕ × (ℕ × ℕ) → List ℕ
 paths_text t = numbers_family t.0 t.1.0 ++ use_text t.1.1
 
--- a capability of a code, of what it says
+-- a capability of a code, by its value
 abbrev pub capability_text : ℕ → CapabilityValue → List ℕ
 capability_text code (CapabilityValue.multi_protocol n) = codes "multiprotocol " ++ numbers_family n.0 n.1.1
 capability_text code CapabilityValue.route_refresh = codes "route-refresh"

@@ -1,4 +1,4 @@
--- The end of what a speaker sends at first: RFC 4724, 2.
+-- End-of-RIB markers: RFC 4724, 2.
 use Rattle.std.specs.Prelude.{◌≡◌, ◌⊎◌, List, [], ◌∷◌, length}
 use Rattle.octseq_bgp.specs.Entry.{Entry}
 use Rattle.octseq_bgp.specs.Update.{Update}
@@ -7,13 +7,14 @@ use Rattle.octseq_bgp.specs.declared.family.AfiSafiType.{AfiSafiType}
 use Rattle.octseq_bgp.specs.declared.family.AfiSafiType.TheVariants as family
 use Rattle.octseq_bgp.specs.declared.session.SessionConfig.{SessionConfig}
 
--- the attributes are one MP_UNREACH_NLRI alone, of that family, without prefixes
+-- the only attribute is an MP_UNREACH_NLRI of a family, without prefixes
 abbrev pub UnreachesNone : SessionConfig → List Entry → AfiSafiType → Type 0
 UnreachesNone s [] f = ⊥
 UnreachesNone s (e ∷ more) f = (length more ≡ 0) × (e.kind ≡ 15) × (r : Unreach) × IsUnreach s e.octets r
     × (length r.prefixes ≡ 0) × (f ≡ r.family)
 
--- An UPDATE without prefixes ends a family: IPv4 unicast where it has no attributes, else that of the attribute.
+-- An UPDATE without prefixes is the End-of-RIB marker of a family: IPv4 unicast if it has no attributes, otherwise that
+-- of the attribute.
 pub record IsEnd (u : Update) (f : AfiSafiType) : Type 0 where
   pub withdrawn : length u.withdrawn ≡ 0
   pub announced : length u.announced ≡ 0

@@ -10,6 +10,6 @@ use Rattle.octseq_bgp.specs.declared.entry.Entries.{Entries}
 abbrev pub entry_of : {R : Type 0} {g : Ghosts R} → Entry R g → said.Entry
 entry_of e = record { number = e.number; kind = e.kind; octets = window e.octets }
 
--- the entries that a list has left
+-- the entries that are left
 abbrev pub entries_left : {R : Type 0} {g : Ghosts R} → Entries R g → List said.Entry
 entries_left entries = entries.ahead.0

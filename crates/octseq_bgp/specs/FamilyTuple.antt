@@ -1,4 +1,4 @@
--- A family and flags, as capabilities list them: RFC 4724, 3, and RFC 7911, 4.
+-- Address families with flags, as capabilities list them: RFC 4724, 3, and RFC 7911, 4.
 use Rattle.std.specs.Prelude.{ℕ, Bool, nat_le, List, take, drop}
 use Rattle.octseq.specs.Integer.{be}
 

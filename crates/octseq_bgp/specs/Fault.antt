@@ -1,5 +1,4 @@
--- The faults of an UPDATE, one by one: each attribute that is to be handled otherwise than accepted, and that one is
--- missing.
+-- The faults of an UPDATE: each attribute that isn't accepted, and a missing one.
 use Rattle.std.specs.Prelude.{◌≡◌, ◌↔◌, ◌<◌, max, Bool, true, false, ℕ, List, [], ◌∷◌, IsTrue, get_or}
 use Rattle.std.specs.Prelude.{Option, Some, None, if◌then◌else◌, nat_eq}
 use Rattle.octseq_bgp.specs.Entry.{Entry}
@@ -7,16 +6,16 @@ use Rattle.octseq_bgp.specs.Handling.{HasType, IsRank, Misses}
 use Rattle.octseq_bgp.specs.Update.{Update}
 use Rattle.octseq_bgp.specs.declared.session.SessionConfig.{SessionConfig}
 
--- A fault: the attribute, or none where one is missing, and how bad it is.
+-- A fault: the attribute, or none if one is missing, and how severe it is.
 pub record Fault : Type 0 where
   pub place : Option Entry
   pub rank : ℕ
 
--- a fault and others, where something is to be done, or else the others
+-- a fault before others, if it isn't accepted; otherwise the others
 abbrev pub fault_before : Option Entry → ℕ → List Fault → List Fault
 fault_before place n row = if nat_eq n 0 then row else record { place = place; rank = n } ∷ row
 
--- The faults of a list of attributes, after those of another, and then that one is missing, as bad as a number says.
+-- The faults of a list of attributes, given those before them, followed by one of rank `missing` for a missing one.
 abbrev pub AreFaults : SessionConfig → Bool → List Entry → List Entry → ℕ → List Fault → Type 0
 AreFaults s external before [] missing row = row ≡ fault_before None missing []
 AreFaults s external before (e ∷ more) missing row =

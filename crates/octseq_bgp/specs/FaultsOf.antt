@@ -18,11 +18,11 @@ place_of None = None
 abbrev pub fault_of : {R : Type 0} {g : Ghosts R} → Fault R g → said.Fault
 fault_of f = record { place = place_of f.attribute; rank = rank f.handling }
 
--- These are the faults that are left, after those of any attributes whose types were seen.
+-- These are the faults that are left, given any attributes whose types were seen.
 abbrev pub AreLeft : {R : Type 0} {g : Ghosts R} → Faults R g → List said.Fault → Type 0
 AreLeft q row = (before : List Entry) → Marks q.seen before
     → AreFaults (attributes_session q.attributes) q.external before (attributes_left q.attributes) (rank q.missing) row
 
--- no more faults are left than this
+-- at most this many faults are left
 abbrev pub faults_most : {R : Type 0} {g : Ghosts R} → Faults R g → ℕ
 faults_most q = length (attributes_left q.attributes) + rank q.missing

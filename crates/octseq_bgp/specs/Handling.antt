@@ -1,4 +1,4 @@
--- What is wrong with an UPDATE, and what is to be done: RFC 7606, RFC 4271, 6.3, RFC 4456, 8, and RFC 6793, 6.
+-- How faulty UPDATEs must be handled: RFC 7606, RFC 4271, 6.3, RFC 4456, 8, and RFC 6793, 6.
 use Rattle.std.specs.Prelude.{◌≡◌, ◌↔◌, ◌<◌, ◌≤◌, ◌/◌, ◌⊎◌, max, Bool, true, ℕ, List, [], ◌∷◌, length, IsTrue}
 use Rattle.std.specs.Prelude.{if◌then◌else◌, nat_eq, nat_le}
 use Rattle.octseq.specs.Integer.{be}
@@ -15,14 +15,14 @@ use Rattle.octseq_bgp.specs.declared.handling.Handling.{Handling}
 use Rattle.octseq_bgp.specs.declared.handling.Handling.TheVariants as handling
 use Rattle.octseq_bgp.specs.declared.session.SessionConfig.{SessionConfig}
 
--- how bad a handling is
+-- how severe a handling is
 abbrev pub rank : Handling → ℕ
 rank handling.Accept = 0
 rank handling.AttributeDiscard = 1
 rank handling.TreatAsWithdraw = 2
 rank handling.SessionReset = 3
 
--- the two upper flags of an attribute of a type, optional and transitive: RFC 4271, 4.3
+-- the two upper flags of a type, optional and transitive: RFC 4271, 4.3
 abbrev pub type_flags : AttributeType → ℕ
 type_flags kind.Origin = 1
 type_flags kind.AsPath = 1
@@ -41,23 +41,23 @@ type_flags kind.As4Path = 3
 type_flags kind.As4Aggregator = 3
 type_flags kind.LargeCommunities = 3
 
--- what is to be done where the flags are others: RFC 7606, 3 (c)
+-- the handling if the flags are others: RFC 7606, 3 (c)
 abbrev pub flags_rank : AttributeType → ℕ → ℕ
 flags_rank t flags = if nat_eq (flags / 64) (type_flags t) then 0 else 2
 
--- what is to be done with an attribute that an external peer sends, whatever it says: RFC 7606, 7.5, 7.9 and 7.10
+-- the handling of an attribute from an external peer, whatever its value: RFC 7606, 7.5, 7.9 and 7.10
 abbrev pub external_rank : Bool → AttributeType → ℕ
 external_rank external kind.LocalPref = if external then 1 else 0
 external_rank external kind.OriginatorId = if external then 1 else 0
 external_rank external kind.ClusterList = if external then 1 else 0
 external_rank external _ = 0
 
--- The octets name a family whose prefixes are read, or are too few to name one.
+-- The octets name a family whose prefixes are parsed, or are too few to name one.
 abbrev pub NamesFamily : Window → Type 0
 NamesFamily w =
     (left w < 3) ⊎ (f : AfiSafiType) × (afi_number f ≡ be (next 2 w)) × (safi_number f ≡ be (next 1 (past 2 w)))
 
--- what is to be done where the octets aren't of the form of the type: RFC 7606, 7
+-- the handling if the octets don't have the form of the type: RFC 7606, 7
 abbrev pub opaque_rank : Bool → Bool → AttributeType → ℕ
 opaque_rank external names kind.LocalPref = if external then 1 else 2
 opaque_rank external names kind.OriginatorId = if external then 1 else 2
@@ -75,16 +75,15 @@ abbrev pub type_rank : Bool → Bool → Bool → AttributeType → ℕ → ℕ
 type_rank external typed names t flags =
     max (flags_rank t flags) (max (external_rank external t) (if typed then 0 else opaque_rank external names t))
 
--- what is to be done with an attribute of a type that was there before: RFC 7606, 3 (g)
+-- the handling of an attribute whose type has occurred before: RFC 7606, 3 (g)
 abbrev pub again_rank : ℕ → ℕ
 again_rank number = if nat_eq number 14 then 3 else (if nat_eq number 15 then 3 else 1)
 
--- what is to be done with an attribute of a type that isn't known: RFC 4271, 6.3
+-- the handling of an attribute of unknown type: RFC 4271, 6.3
 abbrev pub unknown_rank : ℕ → ℕ
 unknown_rank flags = if nat_le 128 flags then 0 else 3
 
--- What is to be done with an attribute, by whether one of its type was there before: it is of a type that is known, or
--- of none.
+-- The handling of an attribute, of a known or an unknown type, given whether its type has occurred before.
 pub data IsRank (s : SessionConfig) (external again : Bool) (e : Entry) (n : ℕ) : Type 0 where
   repeated : again ≡ true → n ≡ again_rank e.kind → IsRank s external again e n
   known : ¬ (again ≡ true) → (t : AttributeType) → type_number t ≡ e.kind → (typed names : Bool)
@@ -93,12 +92,12 @@ pub data IsRank (s : SessionConfig) (external again : Bool) (e : Entry) (n : ℕ
   unknown : ¬ (again ≡ true) → ((t : AttributeType) → ¬ (type_number t ≡ e.kind)) → n ≡ unknown_rank e.number
       → IsRank s external again e n
 
--- an attribute of that type is in the list
+-- an attribute of this type is in the list
 abbrev pub HasType : List Entry → ℕ → Type 0
 HasType [] number = ⊥
 HasType (e ∷ more) number = (e.kind ≡ number) ⊎ HasType more number
 
--- The worst of what is to be done with the attributes of a list, after those of another. Where it is empty, nothing is.
+-- The worst handling of the attributes of a list, given those before them. If it is empty, they are accepted.
 abbrev pub IsWorst : SessionConfig → Bool → List Entry → List Entry → ℕ → Type 0
 IsWorst s external before [] n = n ≡ 0
 IsWorst s external before (e ∷ more) n =
@@ -109,7 +108,7 @@ IsWorst s external before (e ∷ more) n =
 abbrev pub Reaches : SessionConfig → Entry → Type 0
 Reaches s e = (e.kind ≡ 14) × (r : Reach) × IsReach s e.octets r × (1 ≤ length r.prefixes)
 
--- one of the list is
+-- one of the attributes is
 abbrev pub ReachesSome : SessionConfig → List Entry → Type 0
 ReachesSome s [] = ⊥
 ReachesSome s (e ∷ more) = Reaches s e ⊎ ReachesSome s more
@@ -118,13 +117,13 @@ ReachesSome s (e ∷ more) = Reaches s e ⊎ ReachesSome s more
 abbrev pub Announces : SessionConfig → Update → Type 0
 Announces s u = (1 ≤ length u.announced) ⊎ ReachesSome s u.attributes
 
--- An attribute is missing that has to be there: ORIGIN or AS_PATH where prefixes are announced, NEXT_HOP where the
--- UPDATE itself announces them: RFC 4271, 5, and RFC 7606, 3 (d).
+-- A mandatory attribute is missing: ORIGIN or AS_PATH if prefixes are announced, NEXT_HOP if the UPDATE itself
+-- announces them: RFC 4271, 5, and RFC 7606, 3 (d).
 abbrev pub Misses : SessionConfig → Update → Type 0
 Misses s u = Announces s u × (¬ HasType u.attributes 1 ⊎ ¬ HasType u.attributes 2)
     ⊎ (1 ≤ length u.announced) × ¬ HasType u.attributes 3
 
--- what is to be done with an UPDATE: the worst of all this
+-- the handling of an UPDATE: the worst of all these
 pub record IsHandling (external : Bool) (u : Update) (n : ℕ) : Type 0 where
   pub worst : ℕ
   pub is_worst : IsWorst u.session external [] u.attributes worst

@@ -5,7 +5,7 @@ use Rattle.octseq.specs.Window.{Window}
 use Rattle.octseq_format.specs.Fixed.{IsFixed, one_fixed}
 use Rattle.octseq_format.specs.Row.{Holds, held_once}
 
--- so many items of k octets are ahead
+-- n items of k octets are ahead
 abbrev pub Ahead : {A : Type 0} → ℕ → (List ℕ → A) → Window → ℕ → Type 0
 Ahead k reads w left = Holds (IsFixed k reads) w left
 

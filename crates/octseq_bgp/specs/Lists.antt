@@ -1,4 +1,4 @@
--- What contracts see of the lists of a message: the entries that they have left.
+-- What contracts see of the lists of a message: the entries that are left.
 use Rattle.std.specs.Prelude.{List, map}
 use Rattle.octseq.specs.declared.AsOctets.{Ghosts}
 use Rattle.octseq.specs.Parser.{window}
@@ -30,7 +30,7 @@ attribute_entry a = record { number = a.flags.0; kind = a.type_code; octets = wi
 abbrev pub attributes_left : {R : Type 0} {g : Ghosts R} → PathAttributes R g → List said.Entry
 attributes_left a = entries_left a.entries
 
--- the session that they were read in
+-- the session in which they were read
 abbrev pub attributes_session : {R : Type 0} {g : Ghosts R} → PathAttributes R g → SessionConfig
 attributes_session a = a.session
 

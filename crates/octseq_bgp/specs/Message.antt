@@ -1,4 +1,4 @@
--- Messages: RFC 4271, 4, RFC 2918, 3 (ROUTE-REFRESH), and RFC 8654 for how long one may be.
+-- Messages: RFC 4271, 4, RFC 2918, 3 (ROUTE-REFRESH), and RFC 8654 for the maximum length.
 use Rattle.std.specs.Prelude.{◌≡◌, ◌≢◌, ℕ, ◌≤◌, ◌⊎◌, List, length, IsTrue}
 use Rattle.octseq.specs.Window.{Window, left, whole}
 use Rattle.octseq_format.specs.Laws.{Relation}
@@ -10,8 +10,8 @@ use Rattle.octseq_bgp.specs.Open.{Open, IsOpen}
 use Rattle.octseq_bgp.specs.Update.{Update, IsUpdate, IsUpdateParts}
 use Rattle.octseq_bgp.specs.declared.session.SessionConfig.{SessionConfig}
 
--- What a message says: an OPEN; an UPDATE; a code, a subcode and data of a NOTIFICATION; nothing; or AFI, subtype, SAFI
--- and what follows them in a ROUTE-REFRESH.
+-- What a message says: an OPEN; an UPDATE; a code, a subcode and the data of a NOTIFICATION; nothing; or AFI, subtype,
+-- SAFI and what follows them in a ROUTE-REFRESH.
 pub data Message : Type 0 where
   opens : Open → Message
   update : Update → Message
@@ -40,11 +40,11 @@ IsBody s w kind (Message.notification n) = (kind ≡ 3) × Whole IsNotification 
 IsBody s w kind Message.keepalive = (kind ≡ 4) × (left w ≡ 0)
 IsBody s w kind (Message.route_refresh r) = (kind ≡ 5) × Whole IsRouteRefresh w r
 
--- the messages of a session that may have more than 4,096 octets: all but OPEN and KEEPALIVE, if it is extended
+-- the messages of a session that may exceed 4,096 octets: all but OPEN and KEEPALIVE, if messages are extended
 abbrev pub MayBeLong : SessionConfig → ℕ → Type 0
 MayBeLong s kind = IsTrue s.extended_message × (kind ≢ 1) × (kind ≢ 4)
 
--- as many octets as a message may have (no length says more than 65,535)
+-- a number of octets that a message may have (no length can say more than 65,535)
 abbrev pub IsShortEnough : SessionConfig → ℕ → ℕ → Type 0
 IsShortEnough s kind size = (size ≤ 4096) ⊎ MayBeLong s kind
 
@@ -56,7 +56,7 @@ pub record IsMessage (s : SessionConfig) (octets : List ℕ) (m : Message) : Typ
   pub short : IsShortEnough s kind (length octets)
   pub is : IsBody s body kind m
 
--- The octets are an UPDATE by their header, and these are its three parts, whether its lists fill them or not.
+-- By their header the octets are an UPDATE, and these are its three parts, whether lists fill them or not.
 pub record HasUpdateParts (s : SessionConfig) (octets : List ℕ) (parts : Window × (Window × Window)) : Type 0 where
   pub body : Window
   pub header : IsHeader (whole octets) (length octets, (2, body))

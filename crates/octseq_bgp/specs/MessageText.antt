@@ -16,7 +16,7 @@ use Rattle.octseq_bgp.specs.Value.{Value, IsValue}
 use Rattle.octseq_bgp.specs.ValueText.{attribute_text, nlri_text}
 use Rattle.octseq_bgp.specs.declared.session.SessionConfig.{SessionConfig}
 
--- a word, what it is about, and a line feed (10)
+-- a word, its arguments, and a line feed (10)
 abbrev pub line : List ℕ → List ℕ → List ℕ
 line word text = word ++ 32 ∷ text ++ 10 ∷ []
 
@@ -26,7 +26,7 @@ line word text = word ++ 32 ∷ text ++ 10 ∷ []
 abbrev pub nlri_lines : List ℕ → List Nlri → List ℕ
 nlri_lines word = flat_map (λ n. line word (nlri_text n))
 
--- the lines of the prefixes that a value has
+-- the lines of the prefixes of a value
 abbrev pub value_lines : Value → List ℕ
 value_lines (Value.reach r) = nlri_lines (codes "reached") r.prefixes
 value_lines (Value.unreach r) = nlri_lines (codes "unreached") r.prefixes
@@ -36,13 +36,13 @@ value_lines _ = []
 abbrev pub attribute_lines : Entry → Value → List ℕ
 attribute_lines e v = line (codes "attribute") (attribute_text e v) ++ value_lines v
 
--- those of each attribute, of what its value says
+-- the lines of each attribute, by its value
 abbrev pub AreAttributeLines : SessionConfig → List Entry → List ℕ → Type 0
 AreAttributeLines s [] text = text ≡ []
 AreAttributeLines s (e ∷ more) text = (v : Value) × (rest : List ℕ) × IsValue s e.kind e.octets v
     × AreAttributeLines s more rest × (text ≡ attribute_lines e v ++ rest)
 
--- an UPDATE: its word, the prefixes that are withdrawn, its attributes, and the prefixes that are announced
+-- an UPDATE: its word, the withdrawn prefixes, the attributes, and the announced prefixes
 abbrev pub IsUpdateText : Update → List ℕ → Type 0
 IsUpdateText u text = (attributes : List ℕ) × AreAttributeLines u.session u.attributes attributes
     × (text ≡ codes "update\n" ++ nlri_lines (codes "withdrawn") u.withdrawn ++ attributes
@@ -50,26 +50,26 @@ IsUpdateText u text = (attributes : List ℕ) × AreAttributeLines u.session u.a
 
 -- ---- OPEN
 
--- a line for each capability, of what it says
+-- a line for each capability, by its value
 abbrev pub AreCapabilityLines : List Entry → List ℕ → Type 0
 AreCapabilityLines [] text = text ≡ []
 AreCapabilityLines (e ∷ more) text = (v : CapabilityValue) × (rest : List ℕ) × IsCapabilityValue e.kind e.octets v
     × AreCapabilityLines more rest × (text ≡ line (codes "capability") (capability_text e.kind v) ++ rest)
 
--- the lines of a parameter: those of its capabilities, or one
+-- the lines of a parameter: those of its capabilities, or one line
 abbrev pub AreParameterValueLines : ℕ → ParameterValue → List ℕ → Type 0
 AreParameterValueLines kind (ParameterValue.capabilities row) text = AreCapabilityLines row text
 AreParameterValueLines kind (ParameterValue.opaque w) text =
     text ≡ line (codes "parameter") (parameter_text kind w)
 
--- those of each
+-- the lines of each parameter
 abbrev pub AreParameterLines : List Entry → List ℕ → Type 0
 AreParameterLines [] text = text ≡ []
 AreParameterLines (p ∷ more) text = (v : ParameterValue) × (here : List ℕ) × (rest : List ℕ)
     × IsParameterValue p.kind p.octets v × AreParameterValueLines p.kind v here × AreParameterLines more rest
     × (text ≡ here ++ rest)
 
--- what an OPEN says before its parameters
+-- the text of an OPEN before its parameters
 abbrev pub open_text : Open → List ℕ
 open_text o = codes "version " ++ decimal o.version ++ codes " as " ++ decimal o.my_asn ++ codes " hold "
     ++ decimal o.holdtime ++ codes " id " ++ number_dotted o.identifier
@@ -81,7 +81,7 @@ IsOpenText o text = (parameters : List ℕ) × AreParameterLines o.parameters pa
 
 -- ---- the other messages
 
--- what the data of a NOTIFICATION says: text as a string, other octets as they are
+-- the data of a NOTIFICATION: text as a string, other octets as they are
 abbrev pub data_text : NotificationData → List ℕ
 data_text (NotificationData.shutdown text) = string_text (rest text)
 data_text (NotificationData.opaque octets) = opaque_text (rest octets)
@@ -93,7 +93,7 @@ abbrev pub IsNotificationText : ℕ × (ℕ × Window) → List ℕ → Type 0
 IsNotificationText n text = (it : NotificationData) × IsNotificationData n.0 n.1.0 n.1.1 it
     × (text ≡ line (codes "notification") (notification_text n.0 n.1.0 it))
 
--- what follows the family of a ROUTE-REFRESH, where something does
+-- what follows the family of a ROUTE-REFRESH, if anything does
 abbrev pub orf_text : List ℕ → List ℕ
 orf_text [] = []
 orf_text (octet ∷ octets) = spaced (opaque_text (octet ∷ octets))

@@ -1,4 +1,4 @@
--- What two OPENs agree on: RFC 6793, 4.1 (AS numbers of four octets), RFC 7911, 4 (path ids), RFC 8654, 3 (long
+-- What two OPENs agree on: RFC 6793, 4.1 (four-octet AS numbers), RFC 7911, 4 (path ids), RFC 8654, 3 (extended
 -- messages).
 use Rattle.std.specs.Prelude.{◌≡◌, Bool, true, false, ◌&&◌, ◌||◌, ℕ, List, [], ◌∷◌, ◌++◌, if◌then◌else◌, nat_eq}
 use Rattle.octseq_bgp.specs.Capability.{ParameterValue, IsParameterValue, CapabilityValue, IsCapabilityValue}
@@ -9,39 +9,39 @@ use Rattle.octseq_bgp.specs.declared.family.AfiSafiType.TheVariants as family
 use Rattle.octseq_bgp.specs.declared.session.AddPath.{AddPath}
 use Rattle.octseq_bgp.specs.declared.session.SessionConfig.{SessionConfig}
 
--- each capability says this
+-- the values of capabilities
 abbrev pub AreValues : List Entry → List CapabilityValue → Type 0
 AreValues [] values = values ≡ []
 AreValues (e ∷ more) values =
     (v : CapabilityValue) × IsCapabilityValue e.kind e.octets v × (rest : List CapabilityValue)
     × AreValues more rest × (values ≡ v ∷ rest)
 
--- the capabilities that a parameter says
+-- the capabilities of a parameter
 abbrev pub said_capabilities : ParameterValue → List Entry
 said_capabilities (ParameterValue.capabilities row) = row
 said_capabilities (ParameterValue.opaque octets) = []
 
--- the capabilities of parameters say this, in their order
+-- the values of the capabilities of parameters, in order
 abbrev pub SayAll : List Entry → List CapabilityValue → Type 0
 SayAll [] values = values ≡ []
 SayAll (p ∷ more) values = (v : ParameterValue) × IsParameterValue p.kind p.octets v
     × (here : List CapabilityValue) × AreValues (said_capabilities v) here
     × (rest : List CapabilityValue) × SayAll more rest × (values ≡ here ++ rest)
 
--- What capabilities say together: AS numbers of four octets; long messages; families with path ids.
+-- What capabilities say together: four-octet AS numbers; extended messages; families with path ids.
 pub record Spoken : Type 0 where
   pub four_octet_asn : Bool
   pub extended_message : Bool
   pub paths : List (ℕ × (ℕ × ℕ))
 
--- one more capability is said: of families with path ids, the last list counts
+-- one more capability is added: of families with path ids, the last list counts
 abbrev pub also_says : Spoken → CapabilityValue → Spoken
 also_says s (CapabilityValue.four_octet_asn asn) = record s { four_octet_asn = true }
 also_says s CapabilityValue.extended_message = record s { extended_message = true }
 also_says s (CapabilityValue.add_path paths) = record s { paths = paths }
 also_says s _ = s
 
--- and so on
+-- the same for a list
 abbrev pub all_say : Spoken → List CapabilityValue → Spoken
 all_say s [] = s
 all_say s (v ∷ more) = all_say (also_says s v) more
@@ -50,21 +50,21 @@ all_say s (v ∷ more) = all_say (also_says s v) more
 abbrev pub silence : Spoken
 silence = record { four_octet_asn = false; extended_message = false; paths = [] }
 
--- what a list says of the path ids of a family, of which the last entry counts, or else what was said before it
+-- what a list says of the path ids of a family, by its last entry, otherwise what was said before
 abbrev pub path_flags : AfiSafiType → ℕ → List (ℕ × (ℕ × ℕ)) → ℕ
 path_flags f before [] = before
 path_flags f before (t ∷ more) =
     path_flags f (if nat_eq t.0 (afi_number f) && nat_eq t.1.0 (safi_number f) then t.1.1 else before) more
 
--- 1 receives, 2 sends, 3 both
+-- 1 receive, 2 send, 3 both
 abbrev pub agrees : ℕ → ℕ → Bool
 agrees ours theirs = (nat_eq ours 1 || nat_eq ours 3) && (nat_eq theirs 2 || nat_eq theirs 3)
 
--- a family has path ids in what they send us: we receive them, and they send them
+-- a family has path ids in the messages they send us: we receive them, and they send them
 abbrev pub agree_on : Spoken → Spoken → AfiSafiType → Bool
 agree_on ours theirs f = agrees (path_flags f 0 ours.paths) (path_flags f 0 theirs.paths)
 
--- so the families that have
+-- the families with path ids
 abbrev pub paths_agreed : Spoken → Spoken → AddPath
 paths_agreed ours theirs = record {
   ipv4_unicast = agree_on ours theirs family.Ipv4Unicast;
@@ -73,7 +73,7 @@ paths_agreed ours theirs = record {
   ipv6_multicast = agree_on ours theirs family.Ipv6Multicast;
 }
 
--- how the messages are read that they send us
+-- how to read the messages that they send us
 abbrev pub agreed : Spoken → Spoken → SessionConfig
 agreed ours theirs = record {
   four_octet_asn = ours.four_octet_asn && theirs.four_octet_asn;
@@ -81,7 +81,7 @@ agreed ours theirs = record {
   extended_message = ours.extended_message && theirs.extended_message;
 }
 
--- of two lists of parameters
+-- the same for two lists of parameters
 abbrev pub IsAgreed : List Entry → List Entry → SessionConfig → Type 0
 IsAgreed ours theirs s = (a b : List CapabilityValue) × SayAll ours a × SayAll theirs b
     × (s ≡ agreed (all_say silence a) (all_say silence b))

@@ -1,4 +1,4 @@
--- Next hops: RFC 4760, 3, RFC 2545, 3 (an address on the link), and RFC 8950, 3 (IPv6 for prefixes of IPv4).
+-- Next hops: RFC 4760, 3, RFC 2545, 3 (link-local addresses), and RFC 8950, 3 (IPv6 next hops of IPv4 prefixes).
 use Rattle.std.specs.Prelude.{◌≡◌, ℕ, List}
 use Rattle.octseq.specs.Window.{Window}
 use Rattle.octseq_format.specs.Fixed.{IsFixed}
@@ -14,8 +14,8 @@ use Rattle.octseq_bgp.specs.declared.next_hop.NextHop.TheVariants as hop
 abbrev pub AreOctets : ℕ → Relation (List ℕ)
 AreOctets k = IsFixed k (λ octets. octets)
 
--- The octets are next hops of a family: an IPv4 address, for IPv4 alone; an IPv6 address; or two, of which the second
--- is on the link.
+-- The octets are next hops of a family: an IPv4 address, for IPv4 only; an IPv6 address; or two, the second one
+-- link-local.
 abbrev pub IsNextHop : AfiSafiType → Window → NextHop → Type 0
 IsNextHop f w (hop.Ipv4 a) = (afi_number f ≡ 1) × Whole (AreOctets 4) w a
 IsNextHop f w (hop.Ipv6 a) = Whole (AreOctets 16) w a

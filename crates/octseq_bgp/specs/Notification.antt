@@ -5,16 +5,16 @@ use Rattle.octseq_format.specs.Counted.{Counted}
 use Rattle.octseq_format.specs.Text.{IsText}
 use Rattle.octseq_bgp.specs.Fills.{Whole}
 
--- What the data says: why the session is ended, as text, or nothing that is known.
+-- What the data says: why the session ends, as text, or opaque octets.
 pub data NotificationData : Type 0 where
   shutdown : Window → NotificationData
   opaque : Window → NotificationData
 
--- the codes of an administrative shutdown and of an administrative reset
+-- the codes of an administrative shutdown and an administrative reset
 abbrev pub IsShutdown : ℕ → ℕ → Type 0
 IsShutdown code subcode = (code ≡ 6) × ((subcode ≡ 2) ⊎ (subcode ≡ 4))
 
--- the data is a length and as many octets of UTF-8, up to its end
+-- the data is a length and that many octets of UTF-8, up to its end
 abbrev pub IsCommunication : ℕ → ℕ → Window → Window → Type 0
 IsCommunication code subcode w text = IsShutdown code subcode × Whole (Counted 1 0 IsText) w text
 

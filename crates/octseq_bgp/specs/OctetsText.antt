@@ -1,4 +1,4 @@
--- The text of octets: RFC 3597, 5, has the form for those that say nothing that is known.
+-- The text of octets: opaque ones have the form of RFC 3597, 5.
 use Rattle.std.specs.Prelude.{ℕ, ◌+◌, ◌/◌, ◌%◌, Bool, ◌||◌, ◌==◌, if◌then◌else◌, List, [], ◌∷◌, ◌++◌, length, codes}
 use Rattle.std.specs.Char.{char_set_contains, digit_char, is_ascii_graphic}
 use Rattle.std.specs.Fmt.{decimal}
@@ -9,7 +9,7 @@ use Rattle.std.specs.Net.Text.{dotted_text}
 abbrev pub spaced : List ℕ → List ℕ
 spaced text = 32 ∷ text
 
--- two hexadecimal digits in lower case
+-- two lower-case hexadecimal digits
 abbrev pub hex_text : ℕ → List ℕ
 hex_text octet = digit_char (octet / 16) ∷ digit_char (octet % 16) ∷ []
 
@@ -18,7 +18,7 @@ abbrev pub octets_after : List ℕ → List ℕ
 octets_after [] = []
 octets_after (octet ∷ octets) = spaced (flat_map hex_text (octet ∷ octets))
 
--- how many octets, and they themselves
+-- the number of octets, and the octets
 abbrev pub opaque_text : List ℕ → List ℕ
 opaque_text octets = codes "\\# " ++ decimal (length octets) ++ octets_after octets
 
@@ -26,7 +26,7 @@ opaque_text octets = codes "\\# " ++ decimal (length octets) ++ octets_after oct
 abbrev pub three_digits : ℕ → List ℕ
 three_digits n = (48 + n / 100) ∷ (48 + n / 10 % 10) ∷ (48 + n % 10) ∷ []
 
--- An octet of a string: after a backslash (92), as itself where it is visible ASCII or a space, or as a backslash and
+-- An octet of a string: after a backslash (92), or as it is if it is visible ASCII or a space, or as a backslash and
 -- its number.
 abbrev pub is_quoted : ℕ → Bool
 is_quoted = char_set_contains (codes "\"\\")
@@ -52,11 +52,11 @@ third_octet n = n / 256 % 256
 abbrev pub fourth_octet : ℕ → ℕ
 fourth_octet n = n % 256
 
--- as an IPv4 address
+-- a number as an IPv4 address
 unfoldable pub number_dotted : ℕ → List ℕ
 number_dotted n = dotted_text (first_octet n) (second_octet n) (third_octet n) (fourth_octet n)
 
--- as eight hexadecimal digits
+-- a number as eight hexadecimal digits
 abbrev pub number_hex : ℕ → List ℕ
 number_hex n = hex_text (first_octet n) ++ hex_text (second_octet n) ++ hex_text (third_octet n)
     ++ hex_text (fourth_octet n)

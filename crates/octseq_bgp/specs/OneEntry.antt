@@ -1,4 +1,4 @@
--- At most one entry of a form is at a place, with one end, and it takes an octet at least: so entries up to the end of
+-- At most one entry of a form is at a place, with one end, and it takes at least one octet. So entries up to the end of
 -- a window are a fact.
 use Rattle.std.specs.Prelude.{◌≡◌, ℕ, ◌*◌, ◌≤◌, refl}
 use Rattle.std.proofs.Common.{sym, ap, ◌∙◌, subst, arith}
@@ -18,7 +18,7 @@ use Rattle.octseq_bgp.specs.Entry.{length_octets}
 use Rattle.octseq_bgp.specs.declared.entry.Form.{Form}
 use Rattle.octseq_bgp.specs.declared.entry.Form.TheVariants as form
 
--- ---- one at most
+-- ---- at most one
 
 pub same_pair : {A B : Type 0} {a c : A} {b d : B} → a ≡ c → b ≡ d → Path (A × B) (a, b) (c, d)
 same_pair {c = c} {b = b} first second = ap (λ a. (a, b)) first ∙ ap (λ b. (c, b)) second
@@ -82,7 +82,7 @@ entry_from parts = record { number = parts.0; kind = parts.1.0; octets = parts.1
 pub one_entry : (f : Form) → IsOne (IsEntry f)
 one_entry f = one_by entry_parts entry_from (λ _. refl) (one_parts f)
 
--- ---- it takes an octet at least, and keeps the end of the window
+-- ---- it takes at least one octet, and keeps the end of the window
 
 weaker : {A : Type 0} {Is : Relation A} {m n : ℕ} → n ≤ m → IsOnward m Is → IsOnward n Is
 weaker fewer onward = record {
@@ -168,12 +168,12 @@ onward_entry f = record {
 pub entry_moves : (f : Form) → IsMoving (IsEntry f)
 entry_moves f = moving_of (onward_entry f) (omega arith)
 
--- ---- so many of them are a fact
+-- ---- a number of them is a fact
 
 abbrev pub entry_code : Coded Entry
 entry_code = code_by (ℕ × (ℕ × Window)) (coded× coded_ℕ (coded× coded_ℕ window_code)) entry_parts entry_from (λ _. refl)
 
--- so many entries of a form are ahead
+-- `count` entries of a form are ahead
 abbrev pub EntriesAhead : Form → Window → ℕ → Type 0
 EntriesAhead f w left = Holds (IsEntry f) w left
 

@@ -1,6 +1,6 @@
--- Texts that are the only one.
+-- Texts that are unique.
 use Rattle.std.specs.Prelude.{◌≡◌, ℕ, List}
 
--- something is said of one text at most
+-- this holds of at most one text
 abbrev pub OneAtMost : (List ℕ → Type 0) → Type 0
 OneAtMost Is = (text other : List ℕ) → Is text → Is other → text ≡ other

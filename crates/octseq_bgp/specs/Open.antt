@@ -1,4 +1,4 @@
--- An OPEN after its header: RFC 4271, 4.2, and RFC 9072, 2, for parameters of more than 255 octets.
+-- An OPEN without its header: RFC 4271, 4.2, and RFC 9072, 2, for parameters of more than 255 octets.
 use Rattle.std.specs.Prelude.{◌≡◌, Bool, true, false, if◌then◌else◌, ℕ, ◌≤◌, List}
 use Rattle.octseq.specs.Integer.{be}
 use Rattle.octseq.specs.Window.{Window, left, next, past}
@@ -21,15 +21,15 @@ pub record Open : Type 0 where
   pub identifier : ℕ
   pub parameters : List Entry
 
--- a length that isn't 0, followed by the octet 255
+-- a nonzero length, followed by the octet 255
 abbrev pub IsLong : Window → Type 0
 IsLong w = (2 ≤ left w) × (1 ≤ be (next 1 w)) × (be (next 1 (past 1 w)) ≡ 255)
 
--- a length that has no meaning, the octet 255, and octets after their length of two octets
+-- a length without meaning, the octet 255, and octets after their length of two octets
 abbrev pub IsLongPart : Relation (ℕ × (ℕ × Window))
 IsLongPart = IsNumber 1 then IsNumber 1 then IsCounted 2
 
--- Parameters: after their length of one octet; or, where that isn't 0 and 255 follows, in the long form. They end the
+-- Parameters: after their length of one octet; or, if that isn't 0 and 255 follows, in the long form. They end the
 -- message.
 pub data HasParameters (w : Window) (row : List Entry) : Type 0 where
   short : ¬ IsLong w → (inside : Window) → Whole (IsCounted 1) w inside

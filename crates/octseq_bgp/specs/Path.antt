@@ -1,4 +1,4 @@
--- Paths of AS numbers: RFC 4271, 4.3, RFC 5065, 3, and RFC 6793 for how many octets a number has.
+-- AS paths: RFC 4271, 4.3, RFC 5065, 3, and RFC 6793 for the number of octets of an AS number.
 use Rattle.std.specs.Prelude.{Bool, ℕ, if◌then◌else◌}
 use Rattle.std.specs.Coded.{coded_ℕ}
 use Rattle.octseq.specs.Window.{Window}
@@ -10,11 +10,11 @@ use Rattle.octseq_bgp.specs.declared.entry.Form.TheVariants as form
 use Rattle.octseq_bgp.specs.declared.path.SegmentType.{SegmentType}
 use Rattle.octseq_bgp.specs.declared.path.SegmentType.TheVariants as kind
 
--- how many octets an AS number has
+-- the number of octets of an AS number
 abbrev pub asn_size : Bool → ℕ
 asn_size wide = if wide then 4 else 2
 
--- the form of segments whose AS numbers have four octets, or two
+-- the form of segments with AS numbers of four octets, or two
 abbrev pub path_form : Bool → Form
 path_form wide = if wide then form.Segment else form.ShortSegment
 
@@ -25,7 +25,7 @@ segment_number kind.Sequence = 2
 segment_number kind.ConfedSequence = 3
 segment_number kind.ConfedSet = 4
 
--- so many AS numbers are ahead
+-- `count` AS numbers are ahead
 abbrev pub AsnsAhead : Bool → Window → ℕ → Type 0
 AsnsAhead wide w left = Holds (IsNumber (asn_size wide)) w left
 

@@ -1,4 +1,4 @@
--- What contracts see of the segments of a path.
+-- What contracts see of the segments of an AS path.
 use Rattle.std.specs.Prelude.{ℕ, Bool, List}
 use Rattle.octseq.specs.declared.AsOctets.{Ghosts}
 use Rattle.octseq.specs.Parser.{window}
@@ -13,7 +13,7 @@ use Rattle.octseq_bgp.specs.declared.path.Segment.{Segment}
 abbrev pub segment_entry : {R : Type 0} {g : Ghosts R} → Segment R g → said.Entry
 segment_entry s = record { number = segment_number s.kind; kind = s.count; octets = window s.octets }
 
--- the segments that a path has left
+-- the segments that are left
 abbrev pub segments_left : {R : Type 0} {g : Ghosts R} → AsPath R g → List said.Entry
 segments_left path = entries_left path.entries
 
@@ -21,10 +21,10 @@ segments_left path = entries_left path.entries
 abbrev pub path_wide : {R : Type 0} {g : Ghosts R} → AsPath R g → Bool
 path_wide path = path.wide
 
--- a path: this, and its segments
+-- a path: whether it is wide, and its segments
 abbrev pub path_of : {R : Type 0} {g : Ghosts R} → AsPath R g → Bool × List said.Entry
 path_of path = (path_wide path, segments_left path)
 
--- the AS numbers that a segment has left
+-- the AS numbers that are left
 abbrev pub asns_left : {R : Type 0} {g : Ghosts R} → Asns R g → List ℕ
 asns_left asns = asns.ahead.0

@@ -1,4 +1,4 @@
--- How messages of a session are read: RFC 6793 (AS numbers of four octets), RFC 7911 (path ids), RFC 8654 (long
+-- How messages of a session are read: RFC 6793 (four-octet AS numbers), RFC 7911 (path ids), RFC 8654 (extended
 -- messages).
 use Rattle.std.specs.Prelude.{Bool, if◌then◌else◌}
 use Rattle.octseq_bgp.specs.declared.entry.Form.{Form}

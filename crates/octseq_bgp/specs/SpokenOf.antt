@@ -14,7 +14,7 @@ abbrev pub paths_of : {R : Type 0} {o : Ghosts R} {t : ItemGhosts FamilyTuple}
 paths_of (Some items) = items_left items
 paths_of None = []
 
--- what was said
+-- what capabilities said
 abbrev pub spoken_of : {R : Type 0} {g : Ghosts R} → Spoken R g → said.Spoken
 spoken_of s = record {
   four_octet_asn = s.four_octet_asn;

@@ -1,4 +1,4 @@
--- Where reading stops in octets of a message: at the first thing that isn't there, or at the end where all are.
+-- Where reading stops in octets of a message: at the first thing that isn't there, or at the end if nothing is missing.
 use Rattle.std.specs.Prelude.{◌≡◌, ℕ, ◌<◌, ◌≤◌, ◌⊎◌, List, length, true, false}
 use Rattle.octseq.specs.Window.{Window, left, past, whole}
 use Rattle.octseq_format.specs.Laws.{Relation, NoneAt}
@@ -38,12 +38,12 @@ LastStop f w place = ListStop f w (λ place. place ≡ w.end) place
 
 -- ---- bodies
 
--- a thing is there, and reading stops in what is read next; or it isn't, and reading stops here
+-- a value is there, and reading stops in what is read next; or it isn't, and reading stops here
 abbrev pub ThingStop : {A : Type 0} → Relation A → (A → Window → ℕ → Type 0) → Window → ℕ → Type 0
 ThingStop {A} Is Next w place =
     ((a : A) × (v : Window) × Is w a v × Next a v place) ⊎ (NoneAt Is w × (place ≡ w.position))
 
--- so many octets are there, and reading stops in what is read next; or they aren't, and reading stops here
+-- k octets are there, and reading stops in what is read next; or they aren't, and reading stops here
 abbrev pub FixedStop : ℕ → (ℕ → Type 0) → Window → ℕ → Type 0
 FixedStop k Next w place = ((k ≤ left w) × Next place) ⊎ ((left w < k) × (place ≡ w.position))
 
@@ -52,7 +52,7 @@ abbrev pub CountedStop : ℕ → Form → Window → ℕ → Type 0
 CountedStop k f w place = ((inside : Window) × Whole (IsCounted k) w inside × LastStop f inside place)
     ⊎ (((inside : Window) → ¬ Whole (IsCounted k) w inside) × (place ≡ w.position))
 
--- parameters, in the long form where its marks are there
+-- parameters, in the long form if its marks are there
 abbrev pub ParametersStop : Window → ℕ → Type 0
 ParametersStop w place = (IsLong w × CountedStop 2 (parameter_form true) (past 2 w) place)
     ⊎ (¬ IsLong w × CountedStop 1 (parameter_form false) w place)
@@ -67,13 +67,13 @@ ListsStop s withdrawn attributes announced =
     ListStop (prefix_form s family.Ipv4Unicast) withdrawn
     (ListStop form.Attribute attributes (LastStop (prefix_form s family.Ipv4Unicast) announced))
 
--- an UPDATE: withdrawn prefixes after their length, attributes after theirs, and announced prefixes
+-- an UPDATE: withdrawn routes after their length, attributes after theirs, and announced prefixes
 abbrev pub UpdateStop : SessionConfig → Window → ℕ → Type 0
 UpdateStop s = ThingStop (IsCounted 2) (λ withdrawn.
     ThingStop (IsCounted 2) (λ attributes announced. ListsStop s withdrawn attributes announced))
 
--- Reading stops in what follows a header, by its type: after two octets of a NOTIFICATION and four of a ROUTE-REFRESH
--- anything may follow, and nothing in a KEEPALIVE.
+-- Reading stops in what follows a header, by its type: anything may follow two octets of a NOTIFICATION and four of a
+-- ROUTE-REFRESH, and nothing may follow the header of a KEEPALIVE.
 pub data BodyStop (s : SessionConfig) (kind : ℕ) (w : Window) (place : ℕ) : Type 0 where
   opens : kind ≡ 1 → OpenStop w place → BodyStop s kind w place
   update : kind ≡ 2 → UpdateStop s w place → BodyStop s kind w place
@@ -83,13 +83,13 @@ pub data BodyStop (s : SessionConfig) (kind : ℕ) (w : Window) (place : ℕ) : 
 
 -- ---- messages
 
--- A header of a known type, whose length is that of the octets, which may be so many.
+-- A header of a known type whose length is the number of octets, and allowed in the session.
 pub record HasHeader (s : SessionConfig) (octets : List ℕ) (kind : ℕ) (body : Window) : Type 0 where
   pub header : IsHeader (whole octets) (length octets, (kind, body))
   pub short : IsShortEnough s kind (length octets)
   pub known : (1 ≤ kind) × (kind ≤ 5)
 
--- The place where reading stops: the first octet, where a header isn't there; or in what follows the header.
+-- The place where reading stops: the first octet if there is no header, otherwise a place in what follows it.
 abbrev pub IsStop : SessionConfig → List ℕ → ℕ → Type 0
 IsStop s octets place =
     ((kind : ℕ) × (body : Window) × HasHeader s octets kind body × BodyStop s kind body place)

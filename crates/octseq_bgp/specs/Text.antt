@@ -55,12 +55,12 @@ type_text kind.As4Path = codes "AS4_PATH"
 type_text kind.As4Aggregator = codes "AS4_AGGREGATOR"
 type_text kind.LargeCommunities = codes "LARGE_COMMUNITIES"
 
--- whether an IPv6 address ends in an IPv4 address: after twelve zeros, and not in 0.0.0.0 to 0.0.255.255
+-- whether an IPv6 address ends in an IPv4 address: twelve zeros, then not 0.0.0.0 to 0.0.255.255
 abbrev pub ends_in_ipv4 : List ℕ → Bool
 ends_in_ipv4 octets =
     bytes_eq (take 12 octets) (replicate 12 0) && not (bytes_eq (take 2 (drop 12 octets)) (0 ∷ 0 ∷ []))
 
--- an address: of IPv4 its first four octets; of IPv6 `::` and the IPv4 address in which it ends, or else what std has
+-- an address: for IPv4 its first four octets; for IPv6 `::` and the IPv4 address at its end, otherwise the text of std
 unfoldable pub address_text : Afi → List ℕ → List ℕ
 address_text addresses.Ipv4 octets = ipv4_text (take 4 octets)
 address_text addresses.Ipv6 octets =

@@ -1,4 +1,4 @@
--- An UPDATE after its header: RFC 4271, 4.3.
+-- An UPDATE without its header: RFC 4271, 4.3.
 use Rattle.std.specs.Prelude.{◌≡◌, List}
 use Rattle.octseq.specs.Window.{Window}
 use Rattle.octseq_format.specs.Laws.{Relation}
@@ -18,7 +18,7 @@ pub record Update : Type 0 where
   pub attributes : List Entry
   pub announced : List Nlri
 
--- withdrawn prefixes after the length of all of them, attributes after theirs, and prefixes up to the end
+-- withdrawn routes after their length, attributes after theirs, and prefixes up to the end
 abbrev pub IsUpdateParts : Relation (Window × (Window × Window))
 IsUpdateParts = IsCounted 2 then IsCounted 2 then IsRest
 

@@ -1,4 +1,4 @@
--- What the value of an attribute says, by its type.
+-- The values of path attributes, by their type.
 use Rattle.std.specs.Prelude.{◌≡◌, Bool, true, ℕ, ◌≤◌, ◌⊎◌, List, length}
 use Rattle.octseq.specs.Integer.{be}
 use Rattle.octseq.specs.Window.{Window, left}
@@ -21,13 +21,13 @@ use Rattle.octseq_bgp.specs.declared.family.AfiSafiType.{AfiSafiType}
 use Rattle.octseq_bgp.specs.declared.next_hop.NextHop.{NextHop}
 use Rattle.octseq_bgp.specs.declared.session.SessionConfig.{SessionConfig}
 
--- Prefixes that can be reached: a family, next hops, and the prefixes.
+-- Reachable prefixes: a family, next hops, and the prefixes.
 pub record Reach : Type 0 where
   pub family : AfiSafiType
   pub next_hop : NextHop
   pub prefixes : List Nlri
 
--- AFI, SAFI, next hops after their length, an octet that has no meaning, and what follows: RFC 4760, 3
+-- AFI, SAFI, next hops after their length, a reserved octet, and what follows: RFC 4760, 3
 abbrev pub IsReachFront : Relation (ℕ × (ℕ × (Window × (ℕ × Window))))
 IsReachFront = IsNumber 2 then IsNumber 1 then IsCounted 1 then IsNumber 1 then IsRest
 
@@ -39,7 +39,7 @@ pub record IsReach (s : SessionConfig) (w : Window) (r : Reach) : Type 0 where
   pub next_hop : IsNextHop r.family next_hops r.next_hop
   pub prefixes : ArePrefixes s r.family rest r.prefixes
 
--- Prefixes that can't be reached any more: a family and the prefixes.
+-- Prefixes that are no longer reachable: a family and the prefixes.
 pub record Unreach : Type 0 where
   pub family : AfiSafiType
   pub prefixes : List Nlri
@@ -53,8 +53,8 @@ pub record IsUnreach (s : SessionConfig) (w : Window) (r : Unreach) : Type 0 whe
   pub front : Whole IsUnreachFront w (afi_number r.family, (safi_number r.family, rest))
   pub prefixes : ArePrefixes s r.family rest r.prefixes
 
--- What a value says: a number; segments of a path, and whether its AS numbers have four octets; nothing; an AS number
--- and an address; communities; prefixes; or octets whose form isn't that of their type.
+-- The value of an attribute: a number; the segments of a path, and whether its AS numbers have four octets; nothing; an
+-- AS number and an address; communities; prefixes; or octets without the form of their type.
 pub data Value : Type 0 where
   origin : ℕ → Value
   as_path : Bool × List Entry → Value
@@ -74,19 +74,19 @@ pub data Value : Type 0 where
   large_communities : List (ℕ × (ℕ × ℕ)) → Value
   opaque : Window → Value
 
--- items of k octets fill the window, one at least
+-- one or more items of k octets fill the window
 abbrev pub SomeItems : {A : Type 0} → ℕ → (List ℕ → A) → Window → List A → Type 0
 SomeItems k reads w row = Fills (IsFixed k reads) w row × (1 ≤ length row)
 
--- segments fill the window, whose AS numbers have four octets or two
+-- segments with AS numbers of four octets or two fill the window
 abbrev pub IsPath : Bool → Window → Bool × List Entry → Type 0
 IsPath wide w path = (path.0 ≡ wide) × Fills (IsEntry (path_form wide)) w path.1
 
--- a value that is made of what a window says
+-- a value made from what a window says
 abbrev pub Made : {A : Type 0} → (A → Value) → (A → Type 0) → Value → Type 0
 Made {A} make Is v = (a : A) × (v ≡ make a) × Is a
 
--- the window says a value of a type
+-- the window has the form of a type, and is this value
 abbrev pub HasForm : SessionConfig → AttributeType → Window → Value → Type 0
 HasForm s kind.Origin w = Made Value.origin (Whole (IsWhere (IsNumber 1) (λ n. n) (λ n. n ≤ 2)) w)
 HasForm s kind.AsPath w = Made Value.as_path (IsPath s.four_octet_asn w)
@@ -105,10 +105,10 @@ HasForm s kind.As4Path w = Made Value.as4_path (IsPath true w)
 HasForm s kind.As4Aggregator w = Made Value.as4_aggregator (Whole (IsNumber 4 then IsNumber 4) w)
 HasForm s kind.LargeCommunities w = Made Value.large_communities (SomeItems 12 large_community w)
 
--- the octets of an attribute of a type have the form of that type, and say a value
+-- the octets of an attribute have the form of its type, and are this value
 abbrev pub IsTyped : SessionConfig → ℕ → Window → Value → Type 0
 IsTyped s number w v = (t : AttributeType) × (number ≡ type_number t) × HasForm s t w v
 
--- they say a value, or none and are opaque
+-- they are a value, or have no form and are opaque
 abbrev pub IsValue : SessionConfig → ℕ → Window → Value → Type 0
 IsValue s number w v = IsTyped s number w v ⊎ (v ≡ Value.opaque w) × ((other : Value) → ¬ IsTyped s number w other)

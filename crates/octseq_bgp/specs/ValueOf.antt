@@ -1,4 +1,4 @@
--- What contracts see of the values of attributes.
+-- What contracts see of the values of path attributes.
 use Rattle.octseq.specs.declared.AsOctets.{Ghosts}
 use Rattle.octseq.specs.Parser.{window}
 use Rattle.octseq_bgp.specs.Items.{items_left}
@@ -10,11 +10,11 @@ use Rattle.octseq_bgp.specs.declared.reach.MpUnreachNlri.{MpUnreachNlri}
 use Rattle.octseq_bgp.specs.declared.value.AttributeValue.{AttributeValue}
 use Rattle.octseq_bgp.specs.declared.value.AttributeValue.TheVariants as kind
 
--- prefixes that can be reached
+-- reachable prefixes
 abbrev pub reach_of : {R : Type 0} {g : Ghosts R} → MpReachNlri R g → Reach
 reach_of r = record { family = r.family; next_hop = r.next_hop; prefixes = prefixes_left r.prefixes }
 
--- prefixes that can't be
+-- prefixes that are no longer reachable
 abbrev pub unreach_of : {R : Type 0} {g : Ghosts R} → MpUnreachNlri R g → Unreach
 unreach_of r = record { family = r.family; prefixes = prefixes_left r.prefixes }
 

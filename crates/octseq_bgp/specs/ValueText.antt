@@ -1,4 +1,4 @@
--- The text of attributes: their flags, their names, and what their values say.
+-- The text of attributes: their flags, names and values.
 use Rattle.std.specs.Prelude.{ℕ, zero, suc, ◌/◌, ◌%◌, Bool, if◌then◌else◌, nat_eq, List, [], ◌∷◌, ◌++◌, take, drop}
 use Rattle.std.specs.Prelude.{Option, Some, None, codes}
 use Rattle.std.specs.Fmt.{decimal}
@@ -19,20 +19,20 @@ use Rattle.octseq_bgp.specs.declared.next_hop.NextHop.{NextHop}
 use Rattle.octseq_bgp.specs.declared.next_hop.NextHop.TheVariants as hop
 use Rattle.octseq_bgp.specs.declared.prefix.PathId.{PathId}
 
--- a letter where a bit is set
+-- a letter if a bit is set
 abbrev pub flag_text : ℕ → List ℕ → List ℕ
 flag_text bit letter = if nat_eq bit 1 then letter else []
 
--- the flags that are set of optional, transitive and partial
+-- the flags that are set: optional, transitive and partial
 abbrev pub set_flags : ℕ → List ℕ
 set_flags flags = flag_text (flags / 128) (codes "O") ++ flag_text (flags / 64 % 2) (codes "T")
     ++ flag_text (flags / 32 % 2) (codes "P")
 
--- they, or a hyphen where none is
+-- the flags, or a hyphen if none is set
 abbrev pub flags_text : ℕ → List ℕ
 flags_text flags = if nat_eq (flags / 32) 0 then codes "-" else set_flags flags
 
--- the names of the types whose values are read
+-- the names of the types whose values are parsed
 abbrev pub type_names : List (ℕ × List ℕ)
 type_names = (1, codes "ORIGIN") ∷ (2, codes "AS_PATH") ∷ (3, codes "NEXT_HOP") ∷ (4, codes "MULTI_EXIT_DISC")
     ∷ (5, codes "LOCAL_PREF") ∷ (6, codes "ATOMIC_AGGREGATE") ∷ (7, codes "AGGREGATOR") ∷ (8, codes "COMMUNITIES")
@@ -40,7 +40,7 @@ type_names = (1, codes "ORIGIN") ∷ (2, codes "AS_PATH") ∷ (3, codes "NEXT_HO
     ∷ (15, codes "MP_UNREACH_NLRI") ∷ (16, codes "EXTENDED_COMMUNITIES") ∷ (17, codes "AS4_PATH")
     ∷ (18, codes "AS4_AGGREGATOR") ∷ (32, codes "LARGE_COMMUNITIES") ∷ []
 
--- the name of a number in a list, or else the number
+-- the name of a number in a list, otherwise the number
 abbrev pub named : List (ℕ × List ℕ) → ℕ → List ℕ
 named [] n = decimal n
 named (name ∷ names) n = if nat_eq n name.0 then name.1 else named names n
@@ -52,7 +52,7 @@ name_text = named type_names
 abbrev pub origin_text : ℕ → List ℕ
 origin_text n = if nat_eq n 0 then codes "IGP" else (if nat_eq n 1 then codes "EGP" else codes "INCOMPLETE")
 
--- the numbers of k octets that octets begin with, so many of them
+-- the first `count` numbers of k octets of a list
 abbrev pub numbers : ℕ → ℕ → List ℕ → List ℕ
 numbers k zero octets = []
 numbers k (suc n) octets = be (take k octets) ∷ numbers k n (drop k octets)
@@ -84,7 +84,7 @@ next_hop_text (hop.Ipv6LinkLocal a b) =
 abbrev pub aggregator_text : ℕ × ℕ → List ℕ
 aggregator_text it = spaced (decimal it.0) ++ spaced (number_dotted it.1)
 
--- what a value says, each of its parts after a space
+-- a value, each of its parts after a space
 abbrev pub value_text : Value → List ℕ
 value_text (Value.origin n) = spaced (origin_text n)
 value_text (Value.as_path path) = path_text path
@@ -104,15 +104,15 @@ value_text (Value.as4_aggregator it) = aggregator_text it
 value_text (Value.large_communities row) = flat_map (λ it. spaced (large_text it.0 it.1.0 it.1.1)) row
 value_text (Value.opaque w) = spaced (opaque_text (rest w))
 
--- an attribute, of what its value says
+-- an attribute, with its value
 abbrev pub attribute_text : Entry → Value → List ℕ
 attribute_text e v = flags_text e.number ++ spaced (name_text e.kind) ++ value_text v
 
--- the id of a path, where there is one
+-- the path id, if there is one
 abbrev pub path_id_text : Option PathId → List ℕ
 path_id_text (Some id) = codes " path " ++ decimal id.0
 path_id_text None = []
 
--- a prefix, and the id of its path
+-- a prefix, with its path id
 unfoldable pub nlri_text : Nlri → List ℕ
 nlri_text n = prefix_text n.afi n.bits (address_of n.bits (rest n.octets)) ++ path_id_text n.path_id

@@ -12,20 +12,20 @@ use octseq::utf8::Turns;
 use octseq::{AsOctets, Malformed, Parser};
 use std::alloc::AllocError;
 
-/// The flags of an attribute: 0x80 optional, 0x40 transitive, 0x20 partial, 0x10 a length of two octets.
+/// The flags of a path attribute: 0x80 optional, 0x40 transitive, 0x20 partial, 0x10 extended length.
 #[derive(Clone, Copy, Debug, PartialEq, Eq)]
 pub struct Flags(pub u8);
 
-/// A path attribute where it was read.
+/// A path attribute, where it was read.
 #[derive(Debug)]
 pub struct PathAttribute<R: AsOctets> {
-    /// Its flags.
+    /// The flags.
     pub flags: Flags,
-    /// Its type.
+    /// The type.
     pub type_code: u8,
-    /// The place of its octets.
+    /// The octets, as a parser.
     pub value: Parser<R>,
-    /// The session that it was read in.
+    /// The session in which it was read.
     pub session: SessionConfig,
 }
 
@@ -41,7 +41,7 @@ impl<R: AsOctets + Copy> Clone for PathAttribute<R> {
     }
 }
 
-/// The path attributes that a list has left, from the first one on.
+/// An iterator over path attributes.
 #[derive(Debug)]
 pub struct PathAttributes<R: AsOctets> {
     entries: Entries<R>,
@@ -69,7 +69,7 @@ impl<R: AsOctets + Copy> PathAttributes<R> {
     ///
     /// # Errors
     ///
-    /// `Malformed` where attributes don't fill it.
+    /// `Malformed` if attributes don't fill it exactly.
     #[inline(always)]
     pub(crate) fn parse_counted(
         parser: Parser<R>,
@@ -86,14 +86,14 @@ impl<R: AsOctets + Copy> PathAttributes<R> {
         Ok(PathAttributes { entries, session })
     }
 
-    /// The session that they were read in.
+    /// Returns the session in which they were read.
     pub(crate) fn session(&self) -> SessionConfig
         ensures { result ≡ attributes_session self.now }
     {
         self.session
     }
 
-    /// How many attributes are left.
+    /// Returns the number of attributes that are left.
     pub fn len(&self) -> usize
         ensures { result ≡ length (attributes_left self.now) }
     {

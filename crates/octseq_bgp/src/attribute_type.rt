@@ -1,9 +1,9 @@
-//! The types of attributes whose values are read.
+//! The types of path attributes whose values are parsed.
 ghost use Rattle.std.specs.Prelude.{◌≡◌, IfSome, IsNone};
 ghost use Rattle.octseq_bgp.specs.AttributeType.{type_number};
 ghost use Rattle.octseq_bgp.specs.declared.attribute_type.AttributeType.{AttributeType as Kind};
 
-/// The type of an attribute whose value is read.
+/// The type of a path attribute whose value is parsed.
 #[derive(Clone, Copy, Debug, PartialEq, Eq)]
 pub enum AttributeType {
     /// ORIGIN: RFC 4271, 5.1.1.
@@ -41,7 +41,7 @@ pub enum AttributeType {
 }
 
 impl AttributeType {
-    /// The type of a number, or `None` where its values aren't read.
+    /// Returns the type of a number, or `None` if its values aren't parsed.
     pub fn from_number(number: u8) -> Option<AttributeType>
         ensures some { IfSome result (λ it. type_number it ≡ number) }
         ensures none { IsNone result → (it : Kind) → ¬ (type_number it ≡ number) }
@@ -67,7 +67,7 @@ impl AttributeType {
         }
     }
 
-    /// Its number.
+    /// Returns the number.
     pub fn number(self) -> u8
         ensures { result ≡ type_number self }
     {

@@ -12,12 +12,12 @@ use octseq::utf8::Turns;
 use octseq::{AsOctets, Malformed, Parser};
 use std::alloc::AllocError;
 
-/// A capability where it was read.
+/// A capability, where it was read.
 #[derive(Debug)]
 pub struct Capability<R: AsOctets> {
-    /// Its code.
+    /// The code.
     pub code: u8,
-    /// The place of its octets.
+    /// The octets, as a parser.
     pub octets: Parser<R>,
 }
 
@@ -33,7 +33,7 @@ impl<R: AsOctets + Copy> Clone for Capability<R> {
     }
 }
 
-/// The capabilities that a parameter has left, from the first one on.
+/// An iterator over the capabilities of a parameter.
 #[derive(Debug)]
 pub struct Capabilities<R: AsOctets> {
     entries: Entries<R>,
@@ -59,7 +59,7 @@ impl<R: AsOctets + Copy> Capabilities<R> {
     ///
     /// # Errors
     ///
-    /// `Malformed` where capabilities don't fill it.
+    /// `Malformed` if capabilities don't fill it exactly.
     pub(crate) fn parse_counted(
         parser: Parser<R>,
         turns: &mut Turns,
@@ -97,12 +97,12 @@ impl<R: AsOctets + Copy> Iterator for Capabilities<R> {
     }
 }
 
-/// What a parameter says.
+/// The value of an optional parameter.
 #[derive(Debug)]
 pub enum ParameterValue<R: AsOctets> {
-    /// Capabilities: parameters of type 2.
+    /// Capabilities: a parameter of type 2.
     Capabilities(Capabilities<R>),
-    /// Octets of another type, or that capabilities don't fill: their place.
+    /// Octets of another type, or that capabilities don't fill exactly, as a parser.
     Opaque(Parser<R>),
 }
 
@@ -122,14 +122,14 @@ impl<R: AsOctets + Copy> Parameter<R> {
     ghost use Rattle.octseq_bgp.specs.CapabilityOf.{parameter_value_of};
     ghost use Rattle.octseq_bgp.specs.Capability.{IsParameterValue};
 
-    /// What it says: capabilities, or nothing that is known here, and then it is opaque.
+    /// Returns the value: capabilities, or else opaque octets.
     pub fn said(&self) -> ParameterValue<R>
         ensures { IsParameterValue self.now.kind (window self.now.value) (parameter_value_of result) }
     {
         self.value_counted(&mut Turns::new())
     }
 
-    /// The same, and counts a turn for each capability. There are at most as many as it has octets.
+    /// Does the same, and counts a turn for each capability, at most one for each octet.
     pub fn value_counted(&self, turns: &mut Turns) -> ParameterValue<R>
         ensures value { IsParameterValue self.now.kind (window self.now.value) (parameter_value_of result) }
         ensures turns { turns.new ≤ turns.old + left (window self.now.value) }

@@ -1,12 +1,12 @@
-//! The codes of capabilities whose values are read.
+//! The codes of capabilities whose values are parsed.
 ghost use Rattle.std.specs.Prelude.{◌≡◌, IfSome, IsNone};
 ghost use Rattle.octseq_bgp.specs.CapabilityType.{code_number};
 ghost use Rattle.octseq_bgp.specs.declared.capability_type.CapabilityType.{CapabilityType as Code};
 
-/// The code of a capability whose value is read.
+/// The code of a capability whose value is parsed.
 #[derive(Clone, Copy, Debug, PartialEq, Eq)]
 pub enum CapabilityType {
-    /// Multiprotocol: RFC 4760, 8.
+    /// Multiprotocol extensions: RFC 4760, 8.
     MultiProtocol,
     /// Route refresh: RFC 2918, 2.
     RouteRefresh,
@@ -14,16 +14,16 @@ pub enum CapabilityType {
     ExtendedMessage,
     /// Graceful restart: RFC 4724, 3.
     GracefulRestart,
-    /// AS numbers of four octets: RFC 6793, 3.
+    /// Four-octet AS numbers: RFC 6793, 3.
     FourOctetAsn,
-    /// Path ids: RFC 7911, 4.
+    /// Additional paths: RFC 7911, 4.
     AddPath,
     /// Enhanced route refresh: RFC 7313, 3.1.
     EnhancedRouteRefresh,
 }
 
 impl CapabilityType {
-    /// The code of a number, or `None` where its values aren't read.
+    /// Returns the code of a number, or `None` if its values aren't parsed.
     pub fn from_number(number: u8) -> Option<CapabilityType>
         ensures some { IfSome result (λ it. code_number it ≡ number) }
         ensures none { IsNone result → (it : Code) → ¬ (code_number it ≡ number) }
@@ -40,7 +40,7 @@ impl CapabilityType {
         }
     }
 
-    /// Its number.
+    /// Returns the number.
     pub fn number(self) -> u8
         ensures { result ≡ code_number self }
     {

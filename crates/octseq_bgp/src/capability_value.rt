@@ -1,4 +1,4 @@
-//! What a capability says, by its code.
+//! The values of capabilities, by their code.
 ghost use Rattle.std.specs.Prelude.{◌≡◌, ◌+◌, ◌≤◌, ◌↔◌, ℕ, List, length, IsTrue, IsErr, IfOk, OnOk, ⊤};
 ghost use Rattle.octseq.specs.Parser.{window};
 ghost use Rattle.octseq.specs.Window.{Window, left};
@@ -20,20 +20,20 @@ use octseq::{AsOctets, Malformed, Parser};
 use octseq_format::{Rest, U8, U16Be, U32Be};
 use std::alloc::AllocError;
 
-/// A capability says one thing at most.
+/// A capability says at most one thing.
 ///
-/// It does nothing. A caller that calls it has the law in its proof.
+/// It does nothing. Calling it brings the law into the caller's proof.
 pub fn one_capability_value()
     ensures { (number : ℕ) (w : Window) (a b : said.CapabilityValue)
         → IsCapabilityValue number w a → IsCapabilityValue number w b → a ≡ b }
 {}
 
-/// Who restarts: RFC 4724, 3.
+/// Graceful restart: RFC 4724, 3.
 #[derive(Debug)]
 pub struct GracefulRestart<R: AsOctets> {
-    /// Sixteen bits: `restarted`, `takes_notifications`, two that have no meaning, and twelve of seconds.
+    /// Sixteen bits: `restarted`, `takes_notifications`, two reserved ones, and twelve of seconds.
     pub bits: u16,
-    /// Families, with flags.
+    /// Address families with flags.
     pub families: Items<R, FamilyTuple>,
 }
 
@@ -60,21 +60,21 @@ impl<R: AsOctets + Copy> GracefulRestart<R> {
         Ok(GracefulRestart { bits, families })
     }
 
-    /// Whether it has just restarted: the first bit.
+    /// Whether the speaker has restarted: the first bit.
     pub fn restarted(&self) -> bool
         ensures { result ≡ has_restarted self.now.bits }
     {
         self.bits / 32768 == 1
     }
 
-    /// Whether a NOTIFICATION doesn't end its routes: the second bit (RFC 8538, 2).
+    /// Whether its routes survive a NOTIFICATION: the second bit (RFC 8538, 2).
     pub fn takes_notifications(&self) -> bool
         ensures { result ≡ takes_notifications self.now.bits }
     {
         self.bits / 16384 % 2 == 1
     }
 
-    /// How many seconds a restart may take: the last twelve bits.
+    /// Returns how many seconds a restart may take: the last twelve bits.
     pub fn restart_time(&self) -> u16
         ensures { result ≡ restart_time self.now.bits }
     {
@@ -82,10 +82,10 @@ impl<R: AsOctets + Copy> GracefulRestart<R> {
     }
 }
 
-/// What a capability says.
+/// The value of a capability.
 #[derive(Debug)]
 pub enum CapabilityValue<R: AsOctets> {
-    /// A family: its AFI, an octet that has no meaning, and its SAFI.
+    /// An address family: its AFI, a reserved octet, and its SAFI.
     MultiProtocol(u16, u8, u8),
     /// Route refresh.
     RouteRefresh,
@@ -93,13 +93,13 @@ pub enum CapabilityValue<R: AsOctets> {
     ExtendedMessage,
     /// Graceful restart.
     GracefulRestart(GracefulRestart<R>),
-    /// AS numbers of four octets, and the sender's.
+    /// Four-octet AS numbers, with the sender's.
     FourOctetAsn(Asn),
-    /// Families with path ids.
+    /// Address families with path ids.
     AddPath(Items<R, FamilyTuple>),
     /// Enhanced route refresh.
     EnhancedRouteRefresh,
-    /// Octets whose form isn't that of their code: their place.
+    /// Octets without the form of their code, as a parser.
     Opaque(Parser<R>),
 }
 
@@ -115,7 +115,7 @@ impl<R: AsOctets + Copy> Clone for CapabilityValue<R> {
     }
 }
 
-/// Whether each family has path ids received, sent, or both. It counts a turn for each.
+/// Whether each family has its path ids received, sent, or both. It counts a turn for each.
 fn are_paths<R: AsOctets + Copy>(items: Items<R, FamilyTuple>, turns: &mut Turns) -> bool
     ensures are { IsTrue result ↔ ArePaths (items_left items) }
     ensures turns { turns.new ≤ turns.old + length (items_left items) }
@@ -130,7 +130,7 @@ fn are_paths<R: AsOctets + Copy>(items: Items<R, FamilyTuple>, turns: &mut Turns
     true
 }
 
-/// Families with path ids, one at least.
+/// Reads one or more families with path ids.
 fn parse_add_path<R: AsOctets + Copy>(
     parser: Parser<R>,
     turns: &mut Turns,
@@ -147,7 +147,7 @@ fn parse_add_path<R: AsOctets + Copy>(
 }
 
 impl<R: AsOctets + Copy> CapabilityValue<R> {
-    /// Reads all that a parser has left as a value of a code, and counts a turn for each family with path ids.
+    /// Reads all that a parser has left as the value of a code, and counts a turn for each family with path ids.
     fn parse_counted(
         code: CapabilityType,
         parser: Parser<R>,
@@ -186,7 +186,7 @@ impl<R: AsOctets + Copy> CapabilityValue<R> {
 }
 
 impl<R: AsOctets + Copy> Capability<R> {
-    /// Reads its octets as a value of its code.
+    /// Reads the octets as a value of the capability's code.
     fn coded(&self, turns: &mut Turns) -> Result<CapabilityValue<R>, Malformed>
         ensures value { IfOk result (λ value.
             IsCoded self.now.code (window self.now.octets) (capability_value_of value)) }
@@ -201,14 +201,14 @@ impl<R: AsOctets + Copy> Capability<R> {
         Ok(value)
     }
 
-    /// What its octets say: a value of its code, or nothing that is known here, and then they are opaque.
+    /// Returns the value by its code, or else opaque octets.
     pub fn value(&self) -> CapabilityValue<R>
         ensures { IsCapabilityValue self.now.code (window self.now.octets) (capability_value_of result) }
     {
         self.value_counted(&mut Turns::new())
     }
 
-    /// The same, and counts a turn for each family with path ids. There are at most as many as it has octets.
+    /// Does the same, and counts a turn for each family with path ids, at most one for each octet.
     pub fn value_counted(&self, turns: &mut Turns) -> CapabilityValue<R>
         ensures value { IsCapabilityValue self.now.code (window self.now.octets) (capability_value_of result) }
         ensures turns { turns.new ≤ turns.old + left (window self.now.octets) }

@@ -1,4 +1,4 @@
-//! Communities: RFC 1997, RFC 4360, RFC 8092, and the clusters of RFC 4456.
+//! Communities: RFC 1997, RFC 4360, RFC 8092, and cluster ids: RFC 4456.
 ghost use Rattle.std.specs.Prelude.{◌≡◌, ◌*◌, ℕ, ⊤};
 ghost use Rattle.std.proofs.Common.{rules};
 ghost use Rattle.std.specs.Coded.{coded_ℕ, coded×};
@@ -34,7 +34,7 @@ impl Item for StandardCommunity {
     ghost wide = { Prim.search rules };
 }
 
-/// The id of a cluster: RFC 4456, 8.
+/// A cluster id: RFC 4456, 8.
 #[derive(Clone, Copy, Debug, PartialEq, Eq)]
 pub struct ClusterId(pub u32);
 
@@ -89,11 +89,11 @@ impl Item for ExtendedCommunity {
 /// A large community: RFC 8092, 3.
 #[derive(Clone, Copy, Debug, PartialEq, Eq)]
 pub struct LargeCommunity {
-    /// The AS that gives it a meaning.
+    /// The global administrator: the AS that defines the meaning.
     pub global: u32,
-    /// The first part of its local data.
+    /// The first part of the local data.
     pub data1: u32,
-    /// The second part.
+    /// The second part of the local data.
     pub data2: u32,
 }
 
@@ -130,7 +130,7 @@ impl Item for LargeCommunity {
 /// Communities.
 pub type StandardCommunities<R> = Items<R, StandardCommunity>;
 
-/// The clusters that a route went through.
+/// The clusters that a route passed through.
 pub type ClusterIds<R> = Items<R, ClusterId>;
 
 /// Extended communities.

@@ -1,4 +1,4 @@
-//! The end of what a speaker sends at first: RFC 4724, 2.
+//! End-of-RIB markers: RFC 4724, 2.
 ghost use Rattle.std.specs.Prelude.{◌≡◌, IfSome, IsNone};
 ghost use Rattle.octseq_bgp.specs.EndOfRib.{IsEnd, UnreachesNone};
 ghost use Rattle.octseq_bgp.specs.Lists.{attributes_left};
@@ -13,7 +13,7 @@ use crate::update::UpdateMessage;
 use octseq::AsOctets;
 use octseq::utf8::Turns;
 
-/// The family of which one MP_UNREACH_NLRI alone is there, without prefixes.
+/// Returns the family of the only attribute, if it is an MP_UNREACH_NLRI without prefixes.
 fn unreaches_none<R: AsOctets + Copy>(
     session: &SessionConfig,
     attributes: PathAttributes<R>,
@@ -39,7 +39,7 @@ fn unreaches_none<R: AsOctets + Copy>(
 }
 
 impl<R: AsOctets + Copy> UpdateMessage<R> {
-    /// The family whose end it is, if it is one.
+    /// Returns the family that this End-of-RIB marker is for, or `None` if it isn't a marker.
     pub fn is_eor(&self) -> Option<AfiSafiType>
         ensures some { IfSome result (IsEnd (update_of self.now)) }
         ensures none { IsNone result → (family : Family) → ¬ IsEnd (update_of self.now) family }

@@ -1,4 +1,4 @@
-//! The lists of a message: one walk for entries of every form.
+//! The lists of a message, with one walk for entries of every form.
 ghost use Rattle.std.specs.Prelude.{◌≡◌, ◌+◌, ◌<◌, ◌≤◌, ◌∷◌, [], ℕ, List, length, IsErr, IsNone, IfOk, IfSome, ⊤};
 ghost use Rattle.octseq.specs.Parser.{window};
 ghost use Rattle.octseq.specs.Window.{Window, left};
@@ -21,32 +21,32 @@ pub enum Form {
     Ipv4,
     /// A prefix of up to 128 bits.
     Ipv6,
-    /// A prefix of up to 32 bits, after its path id.
+    /// A prefix of up to 32 bits, with a path id before it.
     Ipv4Path,
-    /// A prefix of up to 128 bits, after its path id.
+    /// A prefix of up to 128 bits, with a path id before it.
     Ipv6Path,
     /// A path attribute.
     Attribute,
     /// An optional parameter.
     Parameter,
-    /// An optional parameter whose length has two octets.
+    /// An optional parameter with a length of two octets.
     LongParameter,
     /// A capability.
     Capability,
-    /// A segment of a path of AS numbers.
+    /// A segment of an AS path.
     Segment,
-    /// A segment of a path of AS numbers of two octets.
+    /// A segment of an AS path with AS numbers of two octets.
     ShortSegment,
 }
 
 /// An entry of a list.
 #[derive(Debug)]
 pub struct Entry<R: AsOctets> {
-    /// A path id, the flags of an attribute, the type of a segment, or 0.
+    /// The path id, the flags of an attribute, the type of a segment, or 0.
     pub number: u32,
     /// The length of a prefix in bits, a type, a count, or 0.
     pub kind: u8,
-    /// The place of its octets.
+    /// The octets, as a parser.
     pub octets: Parser<R>,
 }
 
@@ -62,20 +62,20 @@ impl<R: AsOctets + Copy> Clone for Entry<R> {
     }
 }
 
-/// A type, and octets after their length of one octet.
+/// A type, and octets with a length of one octet before them.
 type Typed = (U8, Counted<u8, Rest, 0>);
 
-/// A type, and octets after their length of two octets.
+/// A type, and octets with a length of two octets before them.
 type LongTyped = (U8, Counted<u16, Rest, 0>);
 
 impl<R: AsOctets + Copy> Entry<R> {
     ghost use Rattle.octseq_bgp.specs.EntryOf.{entry_of};
 
-    /// Takes the next entry of a form.
+    /// Reads the next entry of a form.
     ///
     /// # Errors
     ///
-    /// `Malformed` where none comes next.
+    /// `Malformed` if there is none.
     #[inline(always)]
     pub(crate) fn parse(parser: &mut Parser<R>, form: Form) -> Result<Entry<R>, Malformed>
         ensures entry { IfOk result (λ entry. IsEntry form (window parser.old) (entry_of entry) (window parser.new)) }
@@ -201,7 +201,7 @@ impl<R: AsOctets + Copy> Entry<R> {
     }
 }
 
-/// Entries of one form that fill a part of a message, from the first one on.
+/// Entries of one form that fill a part of a message.
 #[derive(Debug)]
 pub struct Entries<R: AsOctets> {
     parser: Parser<R>,
@@ -222,7 +222,7 @@ impl<R: AsOctets + Copy> Clone for Entries<R> {
     }
 }
 
-/// Takes all up to the end of a parser, counts a turn for each entry, and tells how many they are.
+/// Reads all entries up to the end of a parser, and counts a turn for each. Returns how many there are.
 #[inline(always)]
 fn pass_entries<R: AsOctets + Copy>(
     parser: &mut Parser<R>,
@@ -255,7 +255,7 @@ impl<R: AsOctets + Copy> Entries<R> {
     ///
     /// # Errors
     ///
-    /// `Malformed` where entries don't fill it.
+    /// `Malformed` if entries don't fill it exactly.
     #[inline(always)]
     pub(crate) fn parse_counted(
         parser: Parser<R>,
@@ -272,14 +272,14 @@ impl<R: AsOctets + Copy> Entries<R> {
         Ok(Entries { parser, form, left })
     }
 
-    /// The form of its entries.
+    /// Returns the form of the entries.
     pub(crate) fn form(&self) -> Form
         ensures { result ≡ self.now.form }
     {
         self.form
     }
 
-    /// How many entries are left.
+    /// Returns the number of entries that are left.
     pub(crate) fn len(&self) -> usize
         ensures { result ≡ length (entries_left self.now) }
     {

@@ -1,4 +1,4 @@
-//! Families of addresses: RFC 4760, 5 and 6.
+//! Address families: RFC 4760, 5 and 6.
 ghost use Rattle.std.specs.Prelude.{◌≡◌, IfSome, IsNone};
 ghost use Rattle.octseq_bgp.specs.declared.family.AfiSafiType.{AfiSafiType as Family};
 
@@ -11,7 +11,7 @@ pub enum Afi {
     Ipv6,
 }
 
-/// A family of addresses whose prefixes are read.
+/// An address family whose prefixes are parsed.
 #[derive(Clone, Copy, Debug, PartialEq, Eq)]
 pub enum AfiSafiType {
     /// IPv4 unicast.
@@ -27,7 +27,7 @@ pub enum AfiSafiType {
 ghost use Rattle.octseq_bgp.specs.Family.{afi_number, safi_number, afi_of};
 
 impl AfiSafiType {
-    /// The family of two numbers, or `None` where its prefixes aren't read.
+    /// Returns the family of an AFI and a SAFI, or `None` if its prefixes aren't parsed.
     pub fn from_numbers(afi: u16, safi: u8) -> Option<AfiSafiType>
         ensures some { IfSome result (λ family. (afi_number family ≡ afi) × (safi_number family ≡ safi)) }
         ensures none { IsNone result → (family : Family) → afi_number family ≡ afi → ¬ (safi_number family ≡ safi) }
@@ -41,7 +41,7 @@ impl AfiSafiType {
         }
     }
 
-    /// The number of its addresses.
+    /// Returns the AFI.
     pub fn afi_number(self) -> u16
         ensures { result ≡ afi_number self }
     {
@@ -51,7 +51,7 @@ impl AfiSafiType {
         }
     }
 
-    /// The number of what they are for.
+    /// Returns the SAFI.
     pub fn safi_number(self) -> u8
         ensures { result ≡ safi_number self }
     {
@@ -61,7 +61,7 @@ impl AfiSafiType {
         }
     }
 
-    /// Its addresses.
+    /// Returns the family of the addresses.
     pub fn afi(self) -> Afi
         ensures { result ≡ afi_of self }
     {

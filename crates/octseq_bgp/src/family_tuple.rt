@@ -1,4 +1,4 @@
-//! A family and flags, as capabilities list them.
+//! Address families with flags, as capabilities list them.
 ghost use Rattle.std.specs.Prelude.{◌≡◌, ◌*◌, ℕ};
 ghost use Rattle.std.proofs.Common.{rules};
 ghost use Rattle.std.specs.Coded.{coded_ℕ, coded×};
@@ -7,19 +7,19 @@ ghost use Rattle.octseq_bgp.specs.FamilyTuple.{family_tuple, forwards};
 use crate::item::Item;
 use octseq::{AsOctets, Parser, ShortInput};
 
-/// A family by its numbers, and an octet about it: RFC 4724, 3, and RFC 7911, 4.
+/// An address family by its numbers, and an octet about it: RFC 4724, 3, and RFC 7911, 4.
 #[derive(Clone, Copy, Debug, PartialEq, Eq)]
 pub struct FamilyTuple {
-    /// The number of the addresses.
+    /// The AFI.
     pub afi: u16,
-    /// The number of what they are for.
+    /// Returns the SAFI.
     pub safi: u8,
-    /// Flags of a graceful restart, or what is done with path ids: 1 received, 2 sent, 3 both.
+    /// The flags of a graceful restart, or what is done with path ids: 1 receive, 2 send, 3 both.
     pub flags: u8,
 }
 
 impl FamilyTuple {
-    /// Whether routes of the family were kept over a restart: the first bit of the flags (RFC 4724, 3).
+    /// Whether the forwarding state of the family was kept over the restart: the first bit of the flags (RFC 4724, 3).
     pub fn forwards(&self) -> bool
         ensures { result ≡ forwards self.now.flags }
     {

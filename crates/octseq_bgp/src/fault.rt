@@ -1,4 +1,4 @@
-//! The faults of an UPDATE, one by one: RFC 7606, and RFC 4271, 6.3.
+//! The faults of an UPDATE: RFC 7606, and RFC 4271, 6.3.
 ghost use Rattle.std.specs.Prelude.{◌≡◌, ◌∷◌, [], Bool, List, length, Some, IfSome, IsNone};
 ghost use Rattle.octseq_bgp.specs.Fault as said;
 ghost use Rattle.octseq_bgp.specs.Fault.{AreFaultsOf, worst_of};
@@ -11,24 +11,24 @@ use crate::handling::{Handling, attribute_handling, missing_handling};
 use crate::update::UpdateMessage;
 use octseq::AsOctets;
 
-/// What is to be done with an UPDATE is the worst of its faults.
+/// An UPDATE must be handled by the worst of its faults.
 ///
-/// It does nothing. A caller that calls it has the law in its proof.
+/// It does nothing. Calling it brings the law into the caller's proof.
 pub fn worst_of_faults()
     ensures { (external : Bool) (update : Update) (row : List said.Fault) → AreFaultsOf external update row
         → IsHandling external update (worst_of row) }
 {}
 
-/// Something that is wrong with an UPDATE.
+/// A fault of an UPDATE.
 #[derive(Debug, Drop)]
 pub struct Fault<R: AsOctets> {
-    /// The attribute that is wrong, or `None` where one is missing.
+    /// The faulty attribute, or `None` if one is missing.
     pub attribute: Option<PathAttribute<R>>,
-    /// What is to be done, `Accept` never.
+    /// How the fault must be handled. It is never `Accept`.
     pub handling: Handling,
 }
 
-/// The faults of an UPDATE, from the first one on.
+/// An iterator over the faults of an UPDATE.
 #[derive(Debug, Drop)]
 pub struct Faults<R: AsOctets> {
     attributes: PathAttributes<R>,
@@ -42,9 +42,9 @@ impl<R: AsOctets + Copy> UpdateMessage<R> {
     ghost use Rattle.octseq_bgp.specs.FaultsOf.{AreLeft};
     ghost use Rattle.octseq_bgp.specs.Parsed.{update_of};
 
-    /// What is wrong with it, where it comes from an external peer or from another: each attribute that is to be
-    /// handled otherwise than accepted, by the worst of what is wrong with it, in their order; and then, where one is
-    /// missing, that it is. What is to be done with all of it, [`handling`](Self::handling) says.
+    /// Returns an iterator over the faults of the UPDATE, given whether it comes from an external peer. Each attribute
+    /// that isn't accepted comes in order, with the worst handling of its faults, followed by a fault for a missing
+    /// attribute, if one is missing. For the whole UPDATE, see [`handling`](Self::handling).
     pub fn faults(&self, external: bool) -> Faults<R>
         ensures { (row : List said.Fault) → AreLeft result row → AreFaultsOf external (update_of self.now) row }
     {
@@ -61,7 +61,7 @@ impl<R: AsOctets + Copy> UpdateMessage<R> {
 impl<R: AsOctets + Copy> Faults<R> {
     ghost use Rattle.octseq_bgp.specs.FaultsOf.{AreLeft};
 
-    /// Takes the next attribute, and tells what is to be done with it.
+    /// Takes the next attribute. Returns it with its handling.
     fn take_attribute(&mut self) -> Option<(PathAttribute<R>, Handling)>
         ensures none { IsNone result → (attributes_left self.old.attributes ≡ [])
             × (attributes_left self.new.attributes ≡ []) × (self.new.seen ≡ self.old.seen) }

@@ -1,4 +1,4 @@
-//! Vectors filled from a reader.
+//! Filling vectors from a reader.
 ghost use Rattle.std.specs.Prelude.{◌≡◌, ◌+◌, ◌<◌, ◌≤◌, ◌++◌, ℕ, true, false, List, [], length, take, drop};
 ghost use Rattle.std.specs.Prelude.{IfOk, OnErr, Ok};
 ghost use Rattle.std.specs.Io.{ReadsAtMost};
@@ -9,7 +9,7 @@ use std::error::Error;
 use std::fmt;
 use std::io::{self, ErrorKind, Read};
 
-/// Why octets weren't read.
+/// The reason why octets weren't read.
 #[derive(Debug, Drop)]
 pub enum FillError {
     /// A request for memory was refused.
@@ -49,15 +49,15 @@ impl From<io::Error> for FillError {
     }
 }
 
-/// How many octets are asked for at a time, and how many a vector grows by before they have come.
+/// The maximum number of octets to read at once, and for which a vector grows before they are read.
 const STEP: usize = 65_536;
 
-/// Reads so many octets to the end of a vector, and answers whether they have come: not where the input ends before.
-/// The vector grows by at most 65,536 octets before as many have come.
+/// Reads `len` octets and appends them to a vector. Returns `false` if the input ends before. The vector never grows by
+/// more than 65,536 octets ahead of the input.
 ///
 /// # Errors
 ///
-/// `Memory` where a request for memory was refused, `Read` where a read failed. Some of the octets may have come.
+/// `Memory` if a request for memory was refused, `Read` if a read failed. Some of the octets may have been read.
 pub fn append_octets<R: Read>(
     reader: &mut R,
     octets: &mut Vec<u8>,
@@ -84,8 +84,7 @@ pub fn append_octets<R: Read>(
     Ok(true)
 }
 
-/// Reads so many octets to the end of a vector, or as many as there are up to the end of the input, and gives how many
-/// it read.
+/// Reads and appends `step` octets, or as many as there are up to the end of the input. Returns how many it read.
 fn append_step<R: Read>(
     reader: &mut R,
     octets: &mut Vec<u8>,
@@ -107,8 +106,7 @@ fn append_step<R: Read>(
     Ok(count)
 }
 
-/// Reads into what follows the first octets, until that is full or the input is at its end, and gives how many octets
-/// it read.
+/// Reads into the octets from index `before` on, until they are full or the input ends. Returns how many it read.
 fn fill_after<R: Read>(reader: &mut R, octets: &mut [u8], before: usize) -> io::Result<usize>
     requires { before ≤ length octets.old }
     ensures front { take before octets.new ≡ take before octets.old }
@@ -122,7 +120,7 @@ fn fill_after<R: Read>(reader: &mut R, octets: &mut [u8], before: usize) -> io::
     fill(reader, &mut octets[before..])
 }
 
-/// Reads until the octets are full, or the input is at its end, and gives how many it read.
+/// Reads until the octets are full or the input ends. Returns how many it read.
 fn fill<R: Read>(reader: &mut R, octets: &mut [u8]) -> io::Result<usize>
     ensures count { IfOk result (λ n. n ≤ length octets.new) }
     ensures ok { IfOk result (λ n. Consumes (R.remaining reader.old) (R.remaining reader.new) (take n octets.new)) }
@@ -144,7 +142,7 @@ fn fill<R: Read>(reader: &mut R, octets: &mut [u8]) -> io::Result<usize>
     Err(io::Error::from(ErrorKind::TimedOut))
 }
 
-/// One read into what follows the first octets, and how many octets it gave.
+/// Reads once into the octets from index `filled` on. Returns how many octets it read.
 fn read_at<R: Read>(reader: &mut R, octets: &mut [u8], filled: usize) -> io::Result<usize>
     requires { filled < length octets.old }
     ensures front { take filled octets.new ≡ take filled octets.old }
@@ -157,7 +155,7 @@ fn read_at<R: Read>(reader: &mut R, octets: &mut [u8], filled: usize) -> io::Res
     read_once(reader, &mut octets[filled..])
 }
 
-/// One read, and how many octets it gave. One that was interrupted is tried again.
+/// Reads once, and returns how many octets it read. An interrupted read is repeated.
 fn read_once<R: Read>(reader: &mut R, room: &mut [u8]) -> io::Result<usize>
     ensures bound { ReadsAtMost result room.new }
     ensures ok { IfOk result (λ n. Consumes (R.remaining reader.old) (R.remaining reader.new) (take n room.new)) }

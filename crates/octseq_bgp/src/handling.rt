@@ -1,4 +1,4 @@
-//! What is wrong with an UPDATE, and what is to be done: RFC 7606, and RFC 4271, 6.3.
+//! How faulty UPDATEs must be handled: RFC 7606, and RFC 4271, 6.3.
 ghost use Rattle.std.specs.Prelude.{◌≡◌, ◌↔◌, ◌≤◌, ◌⊎◌, max, [], length, IsTrue, if◌then◌else◌};
 ghost use Rattle.octseq.specs.Parser.{window};
 ghost use Rattle.octseq_bgp.specs.Handling.{rank, type_rank, opaque_rank, external_rank, flags_rank, again_rank};
@@ -18,21 +18,21 @@ use crate::value::AttributeValue;
 use octseq::utf8::Turns;
 use octseq::{AsOctets, Parser};
 
-/// What is to be done, from the mildest on.
+/// The handlings, from the mildest on.
 #[derive(Clone, Copy, Debug, PartialEq, Eq)]
 pub enum Handling {
     /// Nothing is wrong.
     Accept,
-    /// The attribute is to be discarded.
+    /// Discard the attribute.
     AttributeDiscard,
-    /// The routes are to be treated as withdrawn.
+    /// Treat the routes as withdrawn.
     TreatAsWithdraw,
-    /// The session is to be reset.
+    /// Reset the session.
     SessionReset,
 }
 
 impl Handling {
-    /// How bad it is.
+    /// Returns how severe the handling is.
     pub(crate) fn rank(self) -> u8
         ensures { result ≡ rank self }
     {
@@ -44,7 +44,7 @@ impl Handling {
         }
     }
 
-    /// The worse of two.
+    /// Returns the worse of two handlings.
     pub fn worse(self, other: Handling) -> Handling
         ensures { rank result ≡ max (rank self) (rank other) }
     {
@@ -56,7 +56,7 @@ impl Handling {
     }
 }
 
-/// What is to be done where the upper flags of an attribute aren't those of its type.
+/// Returns the handling of an attribute by its two upper flags, which must be those of its type.
 fn flags_handling(kind: AttributeType, flags: u8) -> Handling
     ensures { rank result ≡ flags_rank kind flags }
 {
@@ -85,7 +85,7 @@ fn flags_handling(kind: AttributeType, flags: u8) -> Handling
     }
 }
 
-/// What is to be done with an attribute that an external peer sends, whatever it says.
+/// Returns the handling of an attribute from an external peer, whatever its value.
 fn external_handling(external: bool, kind: AttributeType) -> Handling
     ensures { rank result ≡ external_rank external kind }
 {
@@ -101,7 +101,7 @@ fn external_handling(external: bool, kind: AttributeType) -> Handling
     }
 }
 
-/// What is to be done where the octets aren't of the form of the type.
+/// Returns the handling of an attribute whose octets don't have the form of its type.
 fn opaque_handling(external: bool, names: bool, kind: AttributeType) -> Handling
     ensures { rank result ≡ opaque_rank external names kind }
 {
@@ -128,7 +128,7 @@ fn opaque_handling(external: bool, names: bool, kind: AttributeType) -> Handling
     }
 }
 
-/// The worst of these.
+/// Returns the worst of these.
 fn type_handling(
     external: bool,
     typed: bool,
@@ -147,7 +147,7 @@ fn type_handling(
     flags_handling(kind, flags).worse(always)
 }
 
-/// What is to be done with an attribute of a type that was there before.
+/// Returns the handling of an attribute whose type has occurred before.
 fn again_handling(type_code: u8) -> Handling
     ensures { rank result ≡ again_rank type_code }
 {
@@ -158,7 +158,7 @@ fn again_handling(type_code: u8) -> Handling
     }
 }
 
-/// What is to be done with an attribute of a type that isn't known.
+/// Returns the handling of an attribute of unknown type.
 fn unknown_handling(flags: u8) -> Handling
     ensures { rank result ≡ unknown_rank flags }
 {
@@ -169,7 +169,7 @@ fn unknown_handling(flags: u8) -> Handling
     }
 }
 
-/// Whether octets name a family whose prefixes are read, or are too few to name one.
+/// Whether octets name a family whose prefixes are parsed, or are too few to name one.
 fn names_family<R: AsOctets + Copy>(parser: Parser<R>) -> bool
     ensures { IsTrue result ↔ NamesFamily (window parser) }
 {
@@ -194,7 +194,7 @@ fn is_typed<R: AsOctets + Copy>(
     }
 }
 
-/// What is to be done with an attribute, by whether one of its type was there before.
+/// Returns the handling of an attribute, given whether its type has occurred before.
 pub(crate) fn attribute_handling<R: AsOctets + Copy>(
     session: &SessionConfig,
     external: bool,
@@ -216,7 +216,7 @@ pub(crate) fn attribute_handling<R: AsOctets + Copy>(
     }
 }
 
-/// The worst of what is to be done with each attribute.
+/// Returns the worst handling of the attributes.
 fn worst_handling<R: AsOctets + Copy>(
     session: &SessionConfig,
     external: bool,
@@ -236,7 +236,7 @@ fn worst_handling<R: AsOctets + Copy>(
     worst
 }
 
-/// Whether an attribute of a type is there.
+/// Whether there is an attribute of a type.
 fn has_type<R: AsOctets + Copy>(attributes: PathAttributes<R>, type_code: u8) -> bool
     ensures { IsTrue result ↔ HasType (attributes_left attributes) type_code }
 {
@@ -267,7 +267,7 @@ fn reaches<R: AsOctets + Copy>(session: &SessionConfig, attribute: &PathAttribut
     }
 }
 
-/// Whether one of the attributes is.
+/// Whether one of the attributes is an MP_REACH_NLRI that has prefixes.
 fn reaches_some<R: AsOctets + Copy>(session: &SessionConfig, attributes: PathAttributes<R>) -> bool
     ensures { IsTrue result ↔ ReachesSome session.now (attributes_left attributes) }
 {
@@ -280,7 +280,7 @@ fn reaches_some<R: AsOctets + Copy>(session: &SessionConfig, attributes: PathAtt
     false
 }
 
-/// What is to be done where an attribute is missing that has to be there.
+/// Returns the handling by whether a mandatory attribute is missing.
 pub(crate) fn missing_handling(misses: bool) -> Handling
     ensures { rank result ≡ (if misses then 2 else 0) }
 {
@@ -292,7 +292,7 @@ pub(crate) fn missing_handling(misses: bool) -> Handling
 }
 
 impl<R: AsOctets + Copy> UpdateMessage<R> {
-    /// Whether an attribute is missing that has to be there.
+    /// Whether a mandatory attribute is missing.
     pub(crate) fn misses(&self, session: &SessionConfig) -> bool
         ensures { IsTrue result ↔ Misses session.now (update_of self.now) }
     {
@@ -303,8 +303,8 @@ impl<R: AsOctets + Copy> UpdateMessage<R> {
         (announces || reaches) && !has_both || announces && !has_type(attributes, 3)
     }
 
-    /// What is to be done with it, where it comes from an external peer or from another: the worst of what is to be
-    /// done with each attribute, and of what is where one is missing.
+    /// Returns how the UPDATE must be handled, given whether it comes from an external peer: the worst handling of its
+    /// attributes, and of a missing one.
     pub fn handling(&self, external: bool) -> Handling
         ensures { IsHandling external (update_of self.now) (rank result) }
     {

@@ -1,4 +1,4 @@
-//! Lists of items of one size, as communities are.
+//! Lists of items of one size, such as communities.
 ghost use Rattle.std.specs.Prelude.{◌≡◌, ◌+◌, ◌*◌, ◌<◌, ◌≤◌, ℕ, List, length, IsErr, IfOk, ⊤};
 ghost use Rattle.std.specs.Coded.{Coded};
 ghost use Rattle.octseq.specs.Parser.{window, Takes};
@@ -11,30 +11,30 @@ use octseq::{AsOctets, Malformed, Parser, ShortInput};
 use std::alloc::AllocError;
 use std::marker::PhantomData;
 
-/// An item of a number of octets that is the same for all.
+/// An item with a fixed number of octets.
 pub trait Item: Copy + Drop {
-    // What contracts see of one.
+    // What contracts see of an item.
     ghost Found: { Type 0 };
 
     ghost found: { Self → Found };
 
-    // Two of them are equal in one way at most.
+    // Two of them are equal in at most one way.
     ghost found_code: { Coded Found };
 
-    // How many octets one has, and what they say.
+    // The number of octets, and what they say.
     ghost width: { ℕ };
 
     ghost reads: { List ℕ → Found };
 
-    /// How many octets one has.
+    /// Returns the number of octets of an item.
     fn width() -> usize
         ensures { result ≡ width };
 
-    /// Takes the next one.
+    /// Reads the next item.
     ///
     /// # Errors
     ///
-    /// `ShortInput` where fewer octets are left.
+    /// `ShortInput` if fewer octets are left.
     fn take<R: AsOctets>(parser: &mut Parser<R>) -> Result<Self, ShortInput>
         ensures taken { Takes result width parser.old parser.new }
         ensures value { IfOk result (λ item. found item ≡ reads (next width (window parser.old))) };
@@ -42,7 +42,7 @@ pub trait Item: Copy + Drop {
     ghost wide: { 0 < width };
 }
 
-/// The items that a list has left, from the first one on.
+/// An iterator over the items of a list.
 #[derive(Debug)]
 pub struct Items<R: AsOctets, T: Item> {
     parser: Parser<R>,
@@ -66,11 +66,11 @@ impl<R: AsOctets + Copy, T: Item> Clone for Items<R, T> {
 impl<R: AsOctets + Copy, T: Item> Items<R, T> {
     ghost use Rattle.octseq_bgp.specs.Items.{items_left};
 
-    /// Reads all that a parser has left as items. It goes over none of them.
+    /// Takes all that a parser has left as items, without a loop over them.
     ///
     /// # Errors
     ///
-    /// `Malformed` where items don't fill it.
+    /// `Malformed` if items don't fill it exactly.
     pub(crate) fn parse(parser: Parser<R>) -> Result<Items<R, T>, Malformed>
         ensures items { IfOk result (λ items. Fills (IsFixed T.width T.reads) (window parser) (items_left items)) }
         ensures malformed { IsErr result → (row : List T.Found)
@@ -88,7 +88,7 @@ impl<R: AsOctets + Copy, T: Item> Items<R, T> {
         })
     }
 
-    /// How many items are left.
+    /// Returns the number of items that are left.
     pub fn len(&self) -> usize
         ensures { result ≡ length (items_left self.now) }
     {

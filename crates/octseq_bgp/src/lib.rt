@@ -1,4 +1,4 @@
-//! BGP messages, read from one buffer with nothing copied: RFC 4271 and what was added to it.
+//! BGP messages, read from one buffer without copies: RFC 4271 and its extensions.
 #![tactic(auto)]
 
 pub mod attribute;

@@ -17,9 +17,9 @@ use octseq::utf8::Turns;
 use octseq::{AsOctets, Malformed, Parser};
 use octseq_format::{Rest, U8, U16Be, U128Be};
 
-/// Octets are a message of a session in one way at most.
+/// Octets are a message of a session in at most one way.
 ///
-/// It does nothing. A caller that calls it has the law in its proof.
+/// It does nothing. Calling it brings the law into the caller's proof.
 pub fn one_message()
     ensures { (session : Session) (octets : List ℕ) (m n : said.Message)
         → IsMessage session octets m → IsMessage session octets n → m ≡ n }
@@ -31,13 +31,13 @@ const MARKER: u128 = 340282366920938463463374607431768211455;
 /// A ROUTE-REFRESH: RFC 2918, 3.
 #[derive(Debug, Drop)]
 pub struct RouteRefreshMessage<R: AsOctets> {
-    /// The number of the family of addresses.
+    /// The AFI.
     pub afi: u16,
     /// The subtype: RFC 7313, 3.2.
     pub subtype: u8,
-    /// The number of what the addresses are for.
+    /// The SAFI.
     pub safi: u8,
-    /// The place of what follows: RFC 5291, 4.
+    /// The octets that follow, as a parser: RFC 5291, 4.
     pub orf: Parser<R>,
 }
 
@@ -93,14 +93,14 @@ impl<R: AsOctets + Copy> Header<R> {
     }
 }
 
-/// Whether a message of this type may have so many octets.
+/// Whether a message of a type may have this many octets.
 fn is_short_enough(session: &SessionConfig, kind: u8, size: usize) -> bool
     ensures { IsTrue result ↔ IsShortEnough session.now kind size }
 {
     size <= 4096 || session.extended_message && kind != 1 && kind != 4
 }
 
-/// Reads a header whose length is that of the octets, and which may have so many.
+/// Reads a header. Its length must be the number of octets, and allowed in the session.
 pub(crate) fn parse_header<R: AsOctets + Copy>(
     octets: R,
     session: &SessionConfig,
@@ -124,12 +124,12 @@ pub(crate) fn parse_header<R: AsOctets + Copy>(
 impl<R: AsOctets + Copy> UpdateParts<R> {
     ghost use Rattle.octseq_bgp.specs.Parsed.{parts_of};
 
-    /// The places of the three parts of an UPDATE whose lengths fit, whether its prefixes and attributes fill them or
-    /// not: RFC 7606, 3.
+    /// Splits an UPDATE into its three parts, as parsers. The lengths must fit, but prefixes and attributes needn't
+    /// fill them: RFC 7606, 3.
     ///
     /// # Errors
     ///
-    /// `Malformed` where the octets are no UPDATE of the session by their header, or where the lengths don't fit.
+    /// `Malformed` if by their header the octets aren't an UPDATE of the session, or if the lengths don't fit.
     pub fn parse(octets: R, session: SessionConfig) -> Result<UpdateParts<R>, Malformed>
         ensures parts { IfOk result (λ it. HasUpdateParts session (R.content octets) (parts_of it)) }
         ensures malformed { IsErr result → (parts : Window × (Window × Window))
@@ -174,11 +174,11 @@ impl<R: AsOctets + Copy> Message<R> {
         }
     }
 
-    /// Reads all of the octets as a message of the session. It requests no memory.
+    /// Reads all the octets as a message of the session. It requests no memory.
     ///
     /// # Errors
     ///
-    /// `Malformed` where they are none.
+    /// `Malformed` if they aren't one.
     #[inline(always)]
     pub fn parse(octets: R, session: SessionConfig) -> Result<Message<R>, Malformed>
         ensures message { IfOk result (λ it. IsMessage session (R.content octets) (message_of it)) }
@@ -187,12 +187,12 @@ impl<R: AsOctets + Copy> Message<R> {
         Message::parse_counted(octets, session, &mut Turns::new())
     }
 
-    /// Reads as [`parse`](Self::parse), and counts the turns of loops that this takes: one for each prefix, attribute
-    /// and parameter. There are at most as many as there are octets.
+    /// Reads like [`parse`](Self::parse), and counts the loop turns that this takes: one for each prefix, attribute and
+    /// parameter, at most one for each octet.
     ///
     /// # Errors
     ///
-    /// As `parse`.
+    /// Those of `parse`.
     #[inline(always)]
     pub fn parse_counted(
         octets: R,

@@ -40,7 +40,7 @@ impl<R: AsOctets + Copy> Clone for Spoken<R> {
 }
 
 impl<R: AsOctets + Copy> Spoken<R> {
-    /// Nothing.
+    /// Returns the state in which nothing was said.
     fn silence() -> Spoken<R>
         ensures { spoken_of result ≡ silence }
     {
@@ -51,7 +51,7 @@ impl<R: AsOctets + Copy> Spoken<R> {
         }
     }
 
-    /// One more capability is said.
+    /// Adds what one more capability says.
     fn also(self, value: CapabilityValue<R>) -> Spoken<R>
         ensures { spoken_of result ≡ also_says (spoken_of self) (capability_value_of value) }
     {
@@ -75,7 +75,7 @@ impl<R: AsOctets + Copy> Spoken<R> {
         }
     }
 
-    /// What a family's path ids are said to be: 0 where nothing is said of them.
+    /// Returns what is said of the path ids of a family, or 0 if nothing is.
     fn path_flags(&self, family: AfiSafiType) -> u8
         ensures { result ≡ path_flags family 0 (paths_of self.now.paths) }
     {
@@ -94,7 +94,7 @@ impl<R: AsOctets + Copy> Spoken<R> {
     }
 }
 
-/// The last flags that a list has for a family, or 0.
+/// Returns the last flags that a list has for a family, or 0.
 fn last_flags<R: AsOctets + Copy>(family: AfiSafiType, paths: Items<R, FamilyTuple>) -> u8
     ensures { result ≡ path_flags family 0 (items_left paths) }
 {
@@ -108,7 +108,7 @@ fn last_flags<R: AsOctets + Copy>(family: AfiSafiType, paths: Items<R, FamilyTup
     flags
 }
 
-/// What is said, and then by more capabilities.
+/// Adds what capabilities say.
 fn hear_capabilities<R: AsOctets + Copy>(
     before: Spoken<R>,
     capabilities: Capabilities<R>,
@@ -124,7 +124,7 @@ fn hear_capabilities<R: AsOctets + Copy>(
     spoken
 }
 
-/// What is said by one more parameter.
+/// Adds what a parameter says.
 fn hear_parameter<R: AsOctets + Copy>(before: Spoken<R>, value: ParameterValue<R>) -> Spoken<R>
     ensures { (values : List Value) × AreValues (said_capabilities (parameter_value_of value)) values
         × (spoken_of result ≡ all_say (spoken_of before) values) }
@@ -135,7 +135,7 @@ fn hear_parameter<R: AsOctets + Copy>(before: Spoken<R>, value: ParameterValue<R
     }
 }
 
-/// What all parameters say.
+/// Returns what all parameters say.
 fn hear_parameters<R: AsOctets + Copy>(parameters: Parameters<R>) -> Spoken<R>
     ensures { (values : List Value) × SayAll (parameters_left parameters) values
         × (spoken_of result ≡ all_say silence values) }
@@ -149,7 +149,7 @@ fn hear_parameters<R: AsOctets + Copy>(parameters: Parameters<R>) -> Spoken<R>
 }
 
 impl SessionConfig {
-    /// How messages are read that they send us, after our OPEN and theirs.
+    /// Returns how to read the messages that they send us, given our OPEN and theirs.
     pub fn negotiated<R: AsOctets + Copy, S: AsOctets + Copy>(
         ours: &OpenMessage<R>,
         theirs: &OpenMessage<S>,
@@ -166,7 +166,7 @@ impl SessionConfig {
     }
 }
 
-/// The families whose path ids we receive, and they send.
+/// Returns the families whose path ids we receive and they send.
 fn agreed_paths<R: AsOctets + Copy, S: AsOctets + Copy>(
     ours: &Spoken<R>,
     theirs: &Spoken<S>,

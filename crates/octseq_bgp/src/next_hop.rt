@@ -9,14 +9,14 @@ use crate::whole::parse_all;
 use octseq::{AsOctets, Malformed, Parser};
 use octseq_format::Octets;
 
-/// The next hops of prefixes that can be reached.
+/// The next hops of reachable prefixes.
 #[derive(Clone, Copy, Debug, PartialEq, Eq)]
 pub enum NextHop {
     /// An IPv4 address.
     Ipv4([u8; 4]),
     /// An IPv6 address.
     Ipv6([u8; 16]),
-    /// An IPv6 address, and another that is on the link: RFC 2545, 3.
+    /// An IPv6 address, followed by a link-local one: RFC 2545, 3.
     Ipv6LinkLocal([u8; 16], [u8; 16]),
 }
 
@@ -24,11 +24,11 @@ pub enum NextHop {
 type TwoAddresses = (Octets<16>, Octets<16>);
 
 impl NextHop {
-    /// Reads all that a parser has left as next hops of a family: 4 octets, of IPv4 alone, 16, or 32.
+    /// Reads all that a parser has left as next hops of a family: 4 octets (IPv4 only), 16, or 32.
     ///
     /// # Errors
     ///
-    /// `Malformed` where they are none.
+    /// `Malformed` if they aren't one.
     pub fn parse<R: AsOctets + Copy>(
         parser: Parser<R>,
         family: AfiSafiType,

@@ -1,4 +1,4 @@
-//! NOTIFICATION: RFC 4271, 4.5, and RFC 9003 for the text of a shutdown.
+//! NOTIFICATION: RFC 4271, 4.5, and RFC 9003 for shutdown communications.
 ghost use Rattle.std.specs.Prelude.{◌≡◌, ℕ, IsErr, IfOk, ⊤};
 ghost use Rattle.octseq.specs.Parser.{window};
 ghost use Rattle.octseq.specs.Window.{Window};
@@ -11,12 +11,12 @@ use octseq::{AsOctets, Malformed, Parser};
 use octseq_format::{Counted, Rest, Text, U8};
 use std::alloc::AllocError;
 
-/// What the data of a NOTIFICATION says.
+/// The value of the data of a NOTIFICATION.
 #[derive(Debug)]
 pub enum NotificationData<R: AsOctets> {
-    /// Why the session is ended: the place of well-formed UTF-8, of code 6 and subcode 2 or 4 (RFC 9003, 2).
+    /// Why the session ends, as a parser of well-formed UTF-8: code 6, subcode 2 or 4 (RFC 9003, 2).
     ShutdownCommunication(Parser<R>),
-    /// Octets of another code, or of another form: their place.
+    /// Octets of another code, or without this form, as a parser.
     Opaque(Parser<R>),
 }
 
@@ -39,7 +39,7 @@ pub struct NotificationMessage<R: AsOctets> {
     pub code: u8,
     /// The error subcode.
     pub subcode: u8,
-    /// The place of its data.
+    /// The data, as a parser.
     pub data: Parser<R>,
 }
 
@@ -59,7 +59,7 @@ impl<R: AsOctets + Copy> NotificationMessage<R> {
         })
     }
 
-    /// Reads its data as a shutdown communication.
+    /// Reads the data as a shutdown communication.
     fn communication(&self) -> Result<Parser<R>, Malformed>
         ensures text { IfOk result (λ text.
             IsCommunication self.now.code self.now.subcode (window self.now.«data») (window text)) }
@@ -73,7 +73,7 @@ impl<R: AsOctets + Copy> NotificationMessage<R> {
         Ok(text)
     }
 
-    /// What its data says.
+    /// Returns what the data says.
     pub fn said(&self) -> NotificationData<R>
         ensures { IsNotificationData self.now.code self.now.subcode (window self.now.«data»)
             (notification_data_of result) }

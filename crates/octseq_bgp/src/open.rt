@@ -17,23 +17,23 @@ use octseq_format::{Counted, Rest, U8, U16Be, U32Be};
 pub struct OpenMessage<R: AsOctets> {
     /// The version.
     pub version: u8,
-    /// The AS number in two octets.
+    /// The two-octet AS number.
     pub my_asn: u16,
     /// The hold time in seconds.
     pub holdtime: u16,
-    /// The identifier.
+    /// The BGP identifier.
     pub identifier: u32,
     /// The optional parameters.
     pub parameters: Parameters<R>,
 }
 
-/// The format of what comes before the parameters, and of all that follows.
+/// The format of the fields before the parameters, and of all that follows.
 type Front = (U8, U16Be, U16Be, U32Be, Rest);
 
-/// The format of parameters in the long form: two octets, and octets after their length.
+/// The format of parameters in the long form: two octets, and octets with a length before them.
 type LongPart = (U8, U8, Counted<u16, Rest, 0>);
 
-/// Whether a length that isn't 0 comes next, followed by the octet 255.
+/// Whether a nonzero length comes next, followed by the octet 255.
 pub(crate) fn is_long<R: AsOctets + Copy>(parser: &Parser<R>) -> bool
     ensures { IsTrue result ↔ IsLong (window parser.now) }
 {
@@ -48,7 +48,7 @@ impl<R: AsOctets + Copy> OpenMessage<R> {
     ghost use Rattle.octseq_bgp.specs.Lists.{parameters_left};
     ghost use Rattle.octseq_bgp.specs.Parsed.{open_of};
 
-    /// Reads all that a parser has left as parameters, short or long.
+    /// Reads all that a parser has left as parameters, in the short or the long form.
     fn parse_parameters(parser: Parser<R>, turns: &mut Turns) -> Result<Parameters<R>, Malformed>
         ensures parameters { IfOk result (λ row. HasParameters (window parser) (parameters_left row)) }
         ensures malformed { IsErr result → (row : List Entry) → ¬ HasParameters (window parser) row }
@@ -65,7 +65,7 @@ impl<R: AsOctets + Copy> OpenMessage<R> {
         }
     }
 
-    /// Reads all that a parser has left as an OPEN after its header, and counts a turn for each parameter.
+    /// Reads all that a parser has left as an OPEN without its header, and counts a turn for each parameter.
     pub(crate) fn parse_counted(
         parser: Parser<R>,
         turns: &mut Turns,

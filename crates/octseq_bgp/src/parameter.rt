@@ -11,12 +11,12 @@ use octseq::utf8::Turns;
 use octseq::{AsOctets, Malformed, Parser};
 use std::alloc::AllocError;
 
-/// An optional parameter where it was read.
+/// An optional parameter, where it was read.
 #[derive(Debug)]
 pub struct Parameter<R: AsOctets> {
-    /// Its type.
+    /// The type.
     pub kind: u8,
-    /// The place of its octets.
+    /// The octets, as a parser.
     pub value: Parser<R>,
 }
 
@@ -32,7 +32,7 @@ impl<R: AsOctets + Copy> Clone for Parameter<R> {
     }
 }
 
-/// The parameters that a list has left, from the first one on.
+/// An iterator over optional parameters.
 #[derive(Debug)]
 pub struct Parameters<R: AsOctets> {
     entries: Entries<R>,
@@ -51,7 +51,7 @@ impl<R: AsOctets + Copy> Clone for Parameters<R> {
     }
 }
 
-/// The form of parameters, with lengths of two octets or of one.
+/// Returns the form of parameters, with lengths of two octets or of one.
 fn parameter_form(long: bool) -> Form
     ensures { result ≡ parameter_form long }
 {
@@ -71,7 +71,7 @@ impl<R: AsOctets + Copy> Parameters<R> {
     ///
     /// # Errors
     ///
-    /// `Malformed` where parameters don't fill it.
+    /// `Malformed` if parameters don't fill it exactly.
     pub(crate) fn parse_counted(
         parser: Parser<R>,
         long: bool,
@@ -87,7 +87,7 @@ impl<R: AsOctets + Copy> Parameters<R> {
         Ok(Parameters { entries })
     }
 
-    /// How many parameters are left.
+    /// Returns the number of parameters that are left.
     pub fn len(&self) -> usize
         ensures { result ≡ length (parameters_left self.now) }
     {

@@ -1,4 +1,4 @@
-//! Paths of AS numbers: RFC 4271, 4.3, and RFC 5065, 3.
+//! AS paths: RFC 4271, 4.3, and RFC 5065, 3.
 ghost use Rattle.std.specs.Prelude.{◌≡◌, ◌+◌, ◌*◌, ◌≤◌, ℕ, Bool, List, IsErr, IfOk, IfSome, ⊤};
 ghost use Rattle.octseq.specs.Parser.{window};
 ghost use Rattle.octseq.specs.Window.{left};
@@ -11,25 +11,25 @@ use octseq::utf8::Turns;
 use octseq::{AsOctets, Malformed, Parser};
 use std::alloc::AllocError;
 
-/// The number of an autonomous system.
+/// An autonomous system number.
 #[derive(Clone, Copy, Debug, PartialEq, Eq)]
 pub struct Asn(pub u32);
 
 /// The type of a segment.
 #[derive(Clone, Copy, Debug, PartialEq, Eq)]
 pub enum SegmentType {
-    /// A set.
+    /// An AS_SET.
     Set,
-    /// A sequence.
+    /// An AS_SEQUENCE.
     Sequence,
-    /// A sequence inside a confederation.
+    /// An AS_CONFED_SEQUENCE.
     ConfedSequence,
-    /// A set inside a confederation.
+    /// An AS_CONFED_SET.
     ConfedSet,
 }
 
 impl SegmentType {
-    /// The type of a number.
+    /// Returns the type of a number.
     fn of_number(number: u32) -> SegmentType
         requires low { 1 ≤ number }
         requires high { number ≤ 4 }
@@ -44,16 +44,16 @@ impl SegmentType {
     }
 }
 
-/// A segment of a path, where it was read.
+/// A segment of an AS path, where it was read.
 #[derive(Debug)]
 pub struct Segment<R: AsOctets> {
-    /// Its type.
+    /// The type.
     pub kind: SegmentType,
-    /// How many AS numbers it has.
+    /// The number of AS numbers.
     pub count: u8,
-    /// The place of their octets.
+    /// The octets of the AS numbers, as a parser.
     pub octets: Parser<R>,
-    /// Whether an AS number has four octets, or two.
+    /// Whether AS numbers have four octets rather than two.
     pub wide: bool,
     ghost whole: { left (window octets) ≡ asn_size wide * count },
 }
@@ -73,7 +73,7 @@ impl<R: AsOctets + Copy> Clone for Segment<R> {
 impl<R: AsOctets + Copy> Segment<R> {
     ghost use Rattle.octseq_bgp.specs.PathOf.{asns_left};
 
-    /// Its AS numbers, from the first one on.
+    /// Returns an iterator over the AS numbers.
     pub fn asns(&self) -> Asns<R>
         ensures { Fills (IsNumber (asn_size self.now.wide)) (window self.now.octets) (asns_left result) }
     {
@@ -85,7 +85,7 @@ impl<R: AsOctets + Copy> Segment<R> {
     }
 }
 
-/// The AS numbers that a segment has left, from the first one on.
+/// An iterator over the AS numbers of a segment.
 #[derive(Debug)]
 pub struct Asns<R: AsOctets> {
     parser: Parser<R>,
@@ -106,7 +106,7 @@ impl<R: AsOctets + Copy> Clone for Asns<R> {
     }
 }
 
-/// The next AS number.
+/// Reads the next AS number.
 fn parse_asn<R: AsOctets + Copy>(parser: &mut Parser<R>, wide: bool) -> Result<Asn, Malformed>
     ensures number { IfOk result (λ asn. IsNumber (asn_size wide) (window parser.old) asn.0 (window parser.new)) }
     ensures malformed { IsErr result → NoneAt (IsNumber (asn_size wide)) (window parser.old) }
@@ -147,7 +147,7 @@ impl<R: AsOctets + Copy> Iterator for Asns<R> {
     }
 }
 
-/// The segments that a path has left, from the first one on.
+/// An iterator over the segments of an AS path.
 #[derive(Debug)]
 pub struct AsPath<R: AsOctets> {
     entries: Entries<R>,
@@ -167,7 +167,7 @@ impl<R: AsOctets + Copy> Clone for AsPath<R> {
     }
 }
 
-/// The form of segments whose AS numbers have four octets, or two.
+/// Returns the form of segments with AS numbers of four octets, or two.
 fn path_form(wide: bool) -> Form
     ensures { result ≡ path_form wide }
 {
@@ -182,12 +182,11 @@ impl<R: AsOctets + Copy> AsPath<R> {
     ghost use Rattle.octseq_bgp.specs.PathOf.{path_of};
     ghost use Rattle.octseq_bgp.specs.Value.{IsPath};
 
-    /// Reads all that a parser has left as segments, whose AS numbers have four octets or two, and counts a turn for
-    /// each.
+    /// Reads all that a parser has left as segments with AS numbers of four octets or two, and counts a turn for each.
     ///
     /// # Errors
     ///
-    /// `Malformed` where segments don't fill it.
+    /// `Malformed` if segments don't fill it exactly.
     pub(crate) fn parse_counted(
         parser: Parser<R>,
         wide: bool,

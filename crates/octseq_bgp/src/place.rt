@@ -1,4 +1,4 @@
-//! The place where reading stops in octets that are no message.
+//! Where reading stops in octets that aren't a message.
 ghost use Rattle.std.specs.Prelude.{◌≡◌, ℕ, List, length, IsNone, IfSome};
 ghost use Rattle.octseq.specs.Parser.{window};
 ghost use Rattle.octseq_bgp.specs.Message as said;
@@ -18,33 +18,33 @@ use octseq_format::{Counted, Format, Length, Rest};
 
 /// Reading stops at one place.
 ///
-/// It does nothing. A caller that calls it has the law in its proof.
+/// It does nothing. Calling it brings the law into the caller's proof.
 pub fn one_stop()
     ensures { (session : Session) (octets : List ℕ) (x y : ℕ)
         → IsStop session octets x → IsStop session octets y → x ≡ y }
 {}
 
-/// In octets that are a message, reading stops at their end.
+/// Reading octets that are a message stops at their end.
 ///
-/// It does nothing. A caller that calls it has the law in its proof.
+/// It does nothing. Calling it brings the law into the caller's proof.
 pub fn messages_stop_at_their_end()
     ensures { (session : Session) (octets : List ℕ) (m : said.Message)
         → IsMessage session octets m → IsStop session octets (length octets) }
 {}
 
-/// The place of the first thing that isn't there in octets that are no message of the session, counted from their first
-/// octet: 0 where they have no header of a known type, whose length is that of the octets, which may be so many; else a
-/// place in what follows it:
+/// Returns the position of the first fault in octets that aren't a message of the session. It is 0 if they don't begin
+/// with a header of a known type whose length is the number of octets, and is allowed in the session. Otherwise it is a
+/// position after the header:
 ///
-/// - OPEN: 19 where ten octets aren't there; the place of the length of the parameters, short or long, where these
-///   don't end the message; else that of the first parameter that isn't one.
-/// - UPDATE: 19 where the length of the withdrawn prefixes and as many octets aren't there; the place of the length of
-///   the attributes where that and as many octets aren't there; else that of the first withdrawn prefix, then
-///   attribute, then announced prefix that isn't one.
-/// - NOTIFICATION: 19 where two octets aren't there. ROUTE-REFRESH: 19 where four aren't.
-/// - KEEPALIVE: 19 where something follows.
+/// - OPEN: 19 if there are fewer than ten octets; the position of the length of the parameters, short or long, if these
+///   don't end with the message; otherwise that of the first invalid parameter.
+/// - UPDATE: 19 if the length of the withdrawn routes, and that many octets, aren't there; the position of the length
+///   of the attributes if it, and that many octets, aren't there; otherwise that of the first invalid withdrawn prefix,
+///   then attribute, then announced prefix.
+/// - NOTIFICATION: 19 if there are fewer than two octets. ROUTE-REFRESH: 19 if there are fewer than four.
+/// - KEEPALIVE: 19 if anything follows.
 ///
-/// Of a message it is the place of its end.
+/// For a message it is the position of its end.
 pub fn place_of_fault<R: AsOctets + Copy>(octets: R, session: SessionConfig) -> usize
     ensures { IsStop session (R.content octets) result }
 {
@@ -61,7 +61,7 @@ pub fn place_of_fault<R: AsOctets + Copy>(octets: R, session: SessionConfig) -> 
     }
 }
 
-/// The place of a parser where so many octets aren't left, or of its end.
+/// Returns the position of a parser if fewer than `len` octets are left, otherwise its end.
 fn place_after<R: AsOctets + Copy>(parser: Parser<R>, len: usize) -> usize
     ensures { FixedStop len (λ place. place ≡ (window parser).end) (window parser) result }
 {
@@ -72,7 +72,7 @@ fn place_after<R: AsOctets + Copy>(parser: Parser<R>, len: usize) -> usize
     }
 }
 
-/// The place of the first thing that isn't there in an OPEN after its header.
+/// Returns the position where reading stops in an OPEN, without its header.
 fn place_in_open<R: AsOctets + Copy>(parser: Parser<R>) -> usize
     ensures { OpenStop (window parser) result }
 {
@@ -83,7 +83,7 @@ fn place_in_open<R: AsOctets + Copy>(parser: Parser<R>) -> usize
     place_in_parameters(ahead)
 }
 
-/// The place of the first thing that isn't there in parameters, short or long, after their length.
+/// Returns the position where reading stops in parameters, short or long, with their length before them.
 fn place_in_parameters<R: AsOctets + Copy>(parser: Parser<R>) -> usize
     ensures { ParametersStop (window parser) result }
 {
@@ -94,7 +94,7 @@ fn place_in_parameters<R: AsOctets + Copy>(parser: Parser<R>) -> usize
     place_in_counted::<R, u8>(parser, Form::Parameter)
 }
 
-/// The place of the first thing that isn't there in entries after their length.
+/// Returns the position where reading stops in entries with their length before them.
 fn place_in_counted<R: AsOctets + Copy, L: Length>(parser: Parser<R>, form: Form) -> usize
     ensures { CountedStop L.width form (window parser) result }
 {
@@ -104,10 +104,10 @@ fn place_in_counted<R: AsOctets + Copy, L: Length>(parser: Parser<R>, form: Form
     }
 }
 
-/// The format of prefixes and of attributes that others follow: octets after their length.
+/// The format of withdrawn routes and of path attributes: octets with a length before them.
 type Part = Counted<u16, Rest, 0>;
 
-/// The place of the first thing that isn't there in an UPDATE after its header.
+/// Returns the position where reading stops in an UPDATE, without its header.
 fn place_in_update<R: AsOctets + Copy>(parser: Parser<R>, session: &SessionConfig) -> usize
     ensures { UpdateStop session.now (window parser) result }
 {
@@ -121,7 +121,7 @@ fn place_in_update<R: AsOctets + Copy>(parser: Parser<R>, session: &SessionConfi
     place_in_lists(withdrawn, attributes, ahead, session)
 }
 
-/// The place of the first entry of the three lists of an UPDATE that isn't one, or the end of the last.
+/// Returns the position of the first invalid entry of the three lists of an UPDATE, or the end of the last list.
 fn place_in_lists<R: AsOctets + Copy>(
     withdrawn: Parser<R>,
     attributes: Parser<R>,
@@ -140,7 +140,7 @@ fn place_in_lists<R: AsOctets + Copy>(
     place_in_entries(announced, form)
 }
 
-/// The place of the first entry of a form that isn't one, or the end of the parser.
+/// Returns the position of the first invalid entry of a form, or the end of the parser.
 fn place_in_entries<R: AsOctets + Copy>(parser: Parser<R>, form: Form) -> usize
     ensures { LastStop form (window parser) result }
 {
@@ -150,7 +150,7 @@ fn place_in_entries<R: AsOctets + Copy>(parser: Parser<R>, form: Form) -> usize
     }
 }
 
-/// The place of the first entry of a form that isn't one, or `None` where entries fill what a parser has left.
+/// Returns the position of the first invalid entry of a form, or `None` if entries fill what a parser has left.
 fn first_other<R: AsOctets + Copy>(parser: Parser<R>, form: Form) -> Option<usize>
     ensures stops { IfSome result (λ place. EntriesStop form (window parser) place) }
     ensures filled { IsNone result → AreFilled form (window parser) }

@@ -13,20 +13,20 @@ use octseq::utf8::Turns;
 use octseq::{AsOctets, Malformed, Parser};
 use std::alloc::AllocError;
 
-/// The id of a path: RFC 7911, 3.
+/// A path id: RFC 7911, 3.
 #[derive(Clone, Copy, Debug, PartialEq, Eq)]
 pub struct PathId(pub u32);
 
-/// A prefix where it was read.
+/// A prefix, where it was read.
 #[derive(Debug)]
 pub struct Nlri<R: AsOctets> {
-    /// The id of its path, where the session has them.
+    /// The path id, if the session has them.
     pub path_id: Option<PathId>,
-    /// The family of its address.
+    /// The family of the address.
     pub afi: Afi,
-    /// How many bits it has.
+    /// The length in bits.
     pub len: u8,
-    /// The place of its octets. Bits after its last one have no meaning.
+    /// The octets, as a parser. Bits after the last one of the prefix have no meaning.
     pub octets: Parser<R>,
 }
 
@@ -42,7 +42,7 @@ impl<R: AsOctets + Copy> Clone for Nlri<R> {
     }
 }
 
-/// The prefixes that a list has left, from the first one on.
+/// An iterator over prefixes.
 #[derive(Debug)]
 pub struct Prefixes<R: AsOctets> {
     entries: Entries<R>,
@@ -69,7 +69,7 @@ impl<R: AsOctets + Copy> Prefixes<R> {
     ///
     /// # Errors
     ///
-    /// `Malformed` where prefixes don't fill it.
+    /// `Malformed` if prefixes don't fill it exactly.
     pub(crate) fn parse_counted(
         parser: Parser<R>,
         session: &SessionConfig,
@@ -86,7 +86,7 @@ impl<R: AsOctets + Copy> Prefixes<R> {
         Ok(Prefixes { entries })
     }
 
-    /// How many prefixes are left.
+    /// Returns the number of prefixes that are left.
     pub fn len(&self) -> usize
         ensures { result ≡ length (prefixes_left self.now) }
     {
@@ -120,7 +120,7 @@ impl<R: AsOctets + Copy> Iterator for Prefixes<R> {
     }
 }
 
-/// The path id of a prefix of that form.
+/// Returns the path id of a prefix of a form.
 fn path_id(form: Form, number: u32) -> Option<PathId>
     ensures { result ≡ path_id_in form number }
 {
@@ -130,7 +130,7 @@ fn path_id(form: Form, number: u32) -> Option<PathId>
     }
 }
 
-/// The family of the address of a prefix of that form.
+/// Returns the family of the address of a prefix of a form.
 fn afi(form: Form) -> Afi
     ensures { result ≡ afi_in form }
 {
@@ -140,19 +140,19 @@ fn afi(form: Form) -> Afi
     }
 }
 
-/// A prefix as a value: its family, how many bits it has, and its address, whose bits after those are 0. An IPv4
-/// address has the first four octets.
+/// A prefix as a value: its family, its length in bits, and its address, whose bits after that length are 0. An IPv4
+/// address takes the first four octets.
 #[derive(Clone, Copy, Debug, PartialEq, Eq)]
 pub struct Prefix {
-    /// The family of its address.
+    /// The family of the address.
     pub afi: Afi,
-    /// How many bits it has.
+    /// The length in bits.
     pub len: u8,
-    /// Its address, and zeros after it.
+    /// The address, followed by zeros.
     pub address: [u8; 16],
 }
 
-/// An octet without its last bits.
+/// Clears the last `bits` bits of an octet.
 fn clear(octet: u8, bits: usize) -> u8
     requires { bits ≤ 8 }
     ensures { result ≡ cleared bits octet }
@@ -170,7 +170,7 @@ fn clear(octet: u8, bits: usize) -> u8
     }
 }
 
-/// How many bits of the octet at an index come after so many bits.
+/// Returns how many bits of the octet at `index` come after the first `bits` bits.
 fn bits_after(bits: u8, index: usize) -> usize
     requires { index < 16 }
     ensures { result ≡ bits_after bits index }
@@ -183,7 +183,7 @@ fn bits_after(bits: u8, index: usize) -> usize
     if end - begin < 8 { end - begin } else { 8 }
 }
 
-/// The octet of an address at an index, of octets that begin with so many bits of it.
+/// Returns the octet at `index` of the address whose first `bits` bits are in `octets`.
 fn octet_of(octets: &[u8], bits: u8, index: usize) -> u8
     requires { index < 16 }
     ensures { result ≡ cleared (bits_after bits index) (slice_index octets.now index) }
@@ -195,7 +195,7 @@ fn octet_of(octets: &[u8], bits: u8, index: usize) -> u8
     }
 }
 
-/// The address of so many bits that octets begin with.
+/// Returns the address whose first `bits` bits are in `octets`.
 fn address_of(octets: &[u8], bits: u8) -> [u8; 16]
     ensures { result ≡ address_of bits octets.now }
 {
@@ -208,7 +208,7 @@ fn address_of(octets: &[u8], bits: u8) -> [u8; 16]
 }
 
 impl<R: AsOctets + Copy> Nlri<R> {
-    /// The prefix as a value.
+    /// Returns the prefix as a value.
     pub fn prefix(&self) -> Prefix
         ensures afi { result.afi ≡ self.now.afi }
         ensures len { result.len ≡ self.now.len }

@@ -1,4 +1,4 @@
-//! Prefixes of any family: RFC 4760, 3 and 4.
+//! Prefixes of any address family: RFC 4760, 3 and 4.
 ghost use Rattle.std.specs.Prelude.{◌≡◌, ◌+◌, ◌≤◌, IsErr, IfOk, ⊤};
 ghost use Rattle.octseq.specs.Parser.{window};
 ghost use Rattle.octseq.specs.Window.{left};
@@ -14,10 +14,10 @@ use octseq::{AsOctets, Malformed, Parser};
 use octseq_format::{Counted, Rest, U8, U16Be};
 use std::alloc::AllocError;
 
-/// Prefixes that can be reached.
+/// Reachable prefixes.
 #[derive(Debug)]
 pub struct MpReachNlri<R: AsOctets> {
-    /// Their family.
+    /// The address family.
     pub family: AfiSafiType,
     /// The next hops.
     pub next_hop: NextHop,
@@ -37,7 +37,7 @@ impl<R: AsOctets + Copy> Clone for MpReachNlri<R> {
     }
 }
 
-/// AFI, SAFI, next hops after their length, an octet that has no meaning, and what follows.
+/// AFI, SAFI, next hops with a length before them, a reserved octet, and what follows.
 type ReachFront = (U16Be, U8, Counted<u8, Rest, 0>, U8, Rest);
 
 impl<R: AsOctets + Copy> MpReachNlri<R> {
@@ -67,10 +67,10 @@ impl<R: AsOctets + Copy> MpReachNlri<R> {
     }
 }
 
-/// Prefixes that can't be reached any more.
+/// Prefixes that are no longer reachable.
 #[derive(Debug)]
 pub struct MpUnreachNlri<R: AsOctets> {
-    /// Their family.
+    /// The address family.
     pub family: AfiSafiType,
     /// The prefixes.
     pub prefixes: Prefixes<R>,

@@ -1,4 +1,4 @@
-//! A reader of streams of messages, which holds one message at a time: RFC 4271, 4.1.
+//! A reader of message streams, which holds one message at a time: RFC 4271, 4.1.
 ghost use Rattle.std.specs.Prelude.{◌≡◌, ◌≢◌, ◌++◌, ◌↔◌, ℕ, true, false, List, [], length};
 ghost use Rattle.std.specs.Prelude.{IsTrue, IfOk, IfSome, IsErr, OnErr, Ok, Err, None};
 ghost use Rattle.std.specs.Io.KnownBytes.{Consumes, IsAtEnd};
@@ -21,25 +21,25 @@ use std::error::Error;
 use std::fmt;
 use std::io::{self, Read};
 
-/// A framed message is at the front of octets in one way: no other is there.
+/// At most one framed message is at the front of octets.
 ///
-/// It does nothing. A caller that calls it has the law in its proof.
+/// It does nothing. Calling it brings the law into the caller's proof.
 pub fn framed_messages_are_apart()
     ensures { (session : Session) (a b x y : List ℕ) → IsFramed session a → IsFramed session b
         → a ++ x ≡ b ++ y → a ≡ b }
 {}
 
-/// With octets that are misframed no framed message begins, whatever follows them.
+/// No framed message begins with misframed octets, whatever follows them.
 ///
-/// It does nothing. A caller that calls it has the law in its proof.
+/// It does nothing. Calling it brings the law into the caller's proof.
 pub fn misframed_begins_none()
     ensures { (session : Session) (octets more : List ℕ) → IsMisframed session octets
         → ¬ HasFront (IsFramed session) (λ octets. octets) (octets ++ more) }
 {}
 
-/// Octets that are misframed stay so, whatever follows them.
+/// Misframed octets stay misframed, whatever follows them.
 ///
-/// It does nothing. A caller that calls it has the law in its proof.
+/// It does nothing. Calling it brings the law into the caller's proof.
 pub fn misframed_octets_stay_so()
     ensures { (session : Session) (octets more : List ℕ) → IsMisframed session octets
         → IsMisframed session (octets ++ more) }
@@ -47,18 +47,18 @@ pub fn misframed_octets_stay_so()
 
 /// Octets that are a message are framed as one.
 ///
-/// It does nothing. A caller that calls it has the law in its proof.
+/// It does nothing. Calling it brings the law into the caller's proof.
 pub fn messages_are_framed()
     ensures { (session : Session) (octets : List ℕ) (m : said.Message) → AreOctets octets
         → IsMessage session octets m → IsFramed session octets }
 {}
 
-/// Why no message was read.
+/// The reason why no message was read.
 #[derive(Debug, Drop)]
 pub enum ReadMessageError {
     /// The input ends inside a message.
     Short,
-    /// What comes next is framed as no message of the session.
+    /// What comes next isn't framed as a message of the session.
     Malformed,
     /// A request for memory was refused.
     Memory,
@@ -110,24 +110,24 @@ impl From<FillError> for ReadMessageError {
     }
 }
 
-/// How many octets a marker has.
+/// The number of octets of a marker.
 const MARKER: usize = 16;
 
-/// How many octets a marker and a length have.
+/// The number of octets of a marker and a length.
 const FRONT: usize = 18;
 
-/// The least octets that a message has.
+/// The minimum number of octets of a message.
 const LEAST: usize = 19;
 
-/// Reads the next message of a stream into a vector, in place of what that holds, and answers whether there is one: not
-/// at the end of the input. It looks at its marker and its length, and at nothing else of it. The vector grows by at
-/// most 65,536 octets before as many have come.
+/// Reads the next message of a stream into a vector, replacing its content. Returns `false` at the end of the input.
+/// Only the marker and the length of the message are checked. The vector never grows by more than 65,536 octets ahead
+/// of the input.
 ///
 /// # Errors
 ///
-/// `Short` where the input ends inside a message, `Malformed` where what comes next is framed as no message of the
-/// session, `Memory` where a request for memory was refused, `Read` where a read failed. The reader may then be inside
-/// a message. Where the input ends within 18 octets, it is `Short` if those of the first 16 that came are 255.
+/// `Short` if the input ends inside a message, `Malformed` if what comes next isn't framed as a message of the session,
+/// `Memory` if a request for memory was refused, `Read` if a read failed. The reader may then be inside a message. If
+/// the input ends within 18 octets, the error is `Short` if those of the first 16 that came are 255.
 pub fn read_message<R: Read>(
     reader: &mut R,
     session: &SessionConfig,
@@ -153,8 +153,8 @@ pub fn read_message<R: Read>(
     Ok(true)
 }
 
-/// Reads the marker and the length of the next message into a vector, in place of what that holds, and answers how many
-/// octets follow, or `None` at the end of the input.
+/// Reads the marker and the length of the next message into a vector, replacing its content. Returns how many octets
+/// follow, or `None` at the end of the input.
 fn read_front<R: Read>(
     reader: &mut R,
     session: &SessionConfig,
@@ -189,7 +189,7 @@ fn read_front<R: Read>(
     Ok(Some(len - FRONT))
 }
 
-/// As many octets as a message of the session may have.
+/// Returns the maximum number of octets of a message of the session.
 fn longest_message(session: &SessionConfig) -> usize
     ensures { result ≡ longest_message session.now }
 {
@@ -200,7 +200,7 @@ fn longest_message(session: &SessionConfig) -> usize
     }
 }
 
-/// Whether the first 16 octets are 255, as far as there are so many.
+/// Whether the first 16 octets, or all if there are fewer, are 255.
 fn is_marked(octets: &[u8]) -> bool
     ensures { IsTrue result ↔ IsMarked octets.now }
 {
@@ -211,14 +211,14 @@ fn is_marked(octets: &[u8]) -> bool
     }
 }
 
-/// Whether each of the octets is 255.
+/// Whether all octets are 255.
 fn are_255(octets: &[u8]) -> bool
     ensures { IsTrue result ↔ All (λ octet. octet ≡ 255) octets.now }
 {
     octets.iter().all(|&octet| octet == 255)
 }
 
-/// The length that a marker is followed by.
+/// Returns the length that follows a marker.
 fn length_of(front: &[u8]) -> usize
     requires { length front.now ≡ 18 }
     ensures { result ≡ message_length front.now }
@@ -230,7 +230,7 @@ fn length_of(front: &[u8]) -> usize
     }
 }
 
-/// The messages of a stream, read one at a time. It holds the octets of one message.
+/// A reader of the messages of a stream, one at a time. It holds the octets of one message.
 #[derive(Drop)]
 pub struct MessageReader<R> {
     reader: R,
@@ -242,7 +242,7 @@ pub struct MessageReader<R> {
 impl<R: Read> MessageReader<R> {
     ghost use Rattle.octseq_bgp.specs.Parsed.{message_of};
 
-    /// The messages of all that a reader has left.
+    /// Makes a reader of all the messages that a reader has left.
     pub fn new(alloc: Global, reader: R, session: SessionConfig) -> MessageReader<R>
         ensures reader { reader_of result ≡ reader }
         ensures session { session_of result ≡ session }
@@ -257,14 +257,13 @@ impl<R: Read> MessageReader<R> {
         }
     }
 
-    /// Reads the next message, in place of the last one, and answers whether there is one: not at the end of the input,
-    /// and not after an error.
+    /// Reads the next message, replacing the last one. Returns `false` at the end of the input, and after an error.
     ///
     /// # Errors
     ///
-    /// `Short` where the input ends inside a message, `Malformed` where what comes next is framed as no message of the
-    /// session, `Memory` where a request for memory was refused, `Read` where a read failed. The reader may then be
-    /// inside a message, so no message follows.
+    /// `Short` if the input ends inside a message, `Malformed` if what comes next isn't framed as a message of the
+    /// session, `Memory` if a request for memory was refused, `Read` if a read failed. The reader may then be inside a
+    /// message, so no further message is read.
     pub fn read_next(&mut self) -> Result<bool, ReadMessageError>
         ensures message { result ≡ Ok true → IsFramed (session_of self.old) (octets_of self.new)
             × Consumes (R.remaining (reader_of self.old)) (R.remaining (reader_of self.new)) (octets_of self.new) }
@@ -291,19 +290,19 @@ impl<R: Read> MessageReader<R> {
         found
     }
 
-    /// The octets of the message that was read last.
+    /// Returns the octets of the last message read.
     pub fn octets(&self) -> &[u8]
         ensures { result.now ≡ octets_of self.now }
     {
         self.octets.as_slice()
     }
 
-    /// The message that was read last.
+    /// Returns the last message read.
     ///
     /// # Errors
     ///
-    /// `Malformed` where its octets are none of the session, or where none was read: where
-    /// [`read_next`](Self::read_next) didn't answer `true`.
+    /// `Malformed` if its octets aren't a message of the session, or if none was read: if
+    /// [`read_next`](Self::read_next) didn't return `true`.
     pub fn message(&self) -> Result<Message<&[u8]>, Malformed>
         ensures message { IfOk result (λ it. IsMessage (session_of self.now) (octets_of self.now) (message_of it)) }
         ensures malformed { IsErr result → (m : said.Message)
@@ -312,14 +311,14 @@ impl<R: Read> MessageReader<R> {
         Message::parse(self.octets.as_slice(), self.session)
     }
 
-    /// The session that it reads in.
+    /// Returns the session.
     pub fn session(&self) -> SessionConfig
         ensures { result ≡ session_of self.now }
     {
         self.session
     }
 
-    /// What it reads from.
+    /// Returns the underlying reader.
     pub fn get_ref(&self) -> &R
         ensures { result.now ≡ reader_of self.now }
     {

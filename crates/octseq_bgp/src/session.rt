@@ -1,11 +1,11 @@
-//! What two speakers agreed on: octets alone don't say how messages are to be read.
+//! What two speakers agreed on. Octets alone don't say how messages are to be read.
 ghost use Rattle.std.specs.Prelude.{◌≡◌, true, false};
 ghost use Rattle.octseq_bgp.specs.Session.{prefix_form, adds_path};
 
 use crate::entry::Form;
 use crate::family::AfiSafiType;
 
-/// Which families have path ids before their prefixes: RFC 7911, 4.
+/// The families that have path ids before their prefixes: RFC 7911, 4.
 #[derive(Clone, Copy, Debug, PartialEq, Eq)]
 pub struct AddPath {
     /// IPv4 unicast.
@@ -19,7 +19,7 @@ pub struct AddPath {
 }
 
 impl AddPath {
-    /// Every family, or none.
+    /// Returns a value with every family, or none.
     pub fn all(has: bool) -> AddPath
         ensures { result
             ≡ record { ipv4_unicast = has; ipv4_multicast = has; ipv6_unicast = has; ipv6_multicast = has } }
@@ -45,19 +45,19 @@ impl AddPath {
     }
 }
 
-/// How messages of a session are read.
+/// How the messages of a session are read.
 #[derive(Clone, Copy, Debug, PartialEq, Eq)]
 pub struct SessionConfig {
-    /// AS numbers have four octets: RFC 6793.
+    /// Whether AS numbers have four octets: RFC 6793.
     pub four_octet_asn: bool,
-    /// Families with path ids: RFC 7911.
+    /// The families with path ids: RFC 7911.
     pub add_path: AddPath,
-    /// Messages may have 65,535 octets: RFC 8654.
+    /// Whether messages may have up to 65,535 octets: RFC 8654.
     pub extended_message: bool,
 }
 
 impl SessionConfig {
-    /// AS numbers of four octets, no path ids, messages of 4,096 octets.
+    /// Four-octet AS numbers, no path ids, messages of up to 4,096 octets.
     pub fn modern() -> SessionConfig
         ensures numbers { result.four_octet_asn ≡ true }
         ensures paths { result.add_path
@@ -71,7 +71,7 @@ impl SessionConfig {
         }
     }
 
-    /// AS numbers of two octets, no path ids, messages of 4,096 octets.
+    /// Two-octet AS numbers, no path ids, messages of up to 4,096 octets.
     pub fn legacy() -> SessionConfig
         ensures numbers { result.four_octet_asn ≡ false }
         ensures paths { result.add_path
@@ -85,7 +85,7 @@ impl SessionConfig {
         }
     }
 
-    /// The form of the prefixes of a family.
+    /// Returns the form of the prefixes of a family.
     pub(crate) fn prefix_form(&self, family: AfiSafiType) -> Form
         ensures { result ≡ prefix_form self.now family }
     {

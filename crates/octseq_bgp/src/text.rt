@@ -1,4 +1,4 @@
-//! The text of what is read: of numbers, communities, families and prefixes here, and what writes a part of a text.
+//! The text of numbers, communities, families and prefixes, and the writers of parts of a text.
 ghost use Rattle.std.specs.Prelude.{Some};
 ghost use Rattle.std.specs.Fmt.{decimal};
 ghost use Rattle.octseq_bgp.specs.OctetsText.{number_dotted};
@@ -75,7 +75,7 @@ impl fmt::Display for LargeCommunity {
     }
 }
 
-/// Prints the addresses, and what they are for.
+/// Prints the AFI and the SAFI by name.
 impl fmt::Display for AfiSafiType {
     ghost output = { λ family. Some (family_text family) };
 
@@ -89,7 +89,7 @@ impl fmt::Display for AfiSafiType {
     }
 }
 
-/// Prints its name.
+/// Prints the name.
 impl fmt::Display for SegmentType {
     ghost output = { λ kind. Some (segment_text kind) };
 
@@ -103,7 +103,7 @@ impl fmt::Display for SegmentType {
     }
 }
 
-/// Prints its name.
+/// Prints the name.
 impl fmt::Display for AttributeType {
     ghost output = { λ kind. Some (type_text kind) };
 

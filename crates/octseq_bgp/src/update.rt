@@ -18,32 +18,32 @@ use octseq_format::{Counted, Rest};
 /// An UPDATE.
 #[derive(Debug, Drop)]
 pub struct UpdateMessage<R: AsOctets> {
-    /// The prefixes that are withdrawn.
+    /// The withdrawn routes.
     pub withdrawn: Prefixes<R>,
     /// The path attributes.
     pub path_attributes: PathAttributes<R>,
-    /// The prefixes that are announced.
+    /// The announced prefixes.
     pub announced: Prefixes<R>,
 }
 
-/// The three parts of an UPDATE, whether its lists fill them or not.
+/// The three parts of an UPDATE, whether lists fill them or not.
 #[derive(Debug, Drop)]
 pub struct UpdateParts<R: AsOctets> {
-    /// The place of the prefixes that are withdrawn.
+    /// The octets of the withdrawn routes, as a parser.
     pub withdrawn: Parser<R>,
-    /// The place of the path attributes.
+    /// The octets of the path attributes, as a parser.
     pub path_attributes: Parser<R>,
-    /// The place of the prefixes that are announced.
+    /// The octets of the announced prefixes, as a parser.
     pub announced: Parser<R>,
 }
 
-/// The format of the three parts: octets after their length, twice, and the rest.
+/// The format of the three parts: octets with a length before them, twice, and the rest.
 type Parts = (Counted<u16, Rest, 0>, Counted<u16, Rest, 0>, Rest);
 
 impl<R: AsOctets + Copy> UpdateParts<R> {
     ghost use Rattle.octseq_bgp.specs.Parsed.{parts_of};
 
-    /// Reads all that a parser has left as the three parts of an UPDATE.
+    /// Splits all that a parser has left into the three parts of an UPDATE.
     #[inline(always)]
     pub(crate) fn parse_body(parser: Parser<R>) -> Result<UpdateParts<R>, Malformed>
         ensures parts { IfOk result (λ it. Whole IsUpdateParts (window parser) (parts_of it)) }
@@ -62,7 +62,7 @@ impl<R: AsOctets + Copy> UpdateParts<R> {
 impl<R: AsOctets + Copy> UpdateMessage<R> {
     ghost use Rattle.octseq_bgp.specs.Parsed.{update_of};
 
-    /// Reads all that a parser has left as an UPDATE after its header, and counts a turn for each prefix and
+    /// Reads all that a parser has left as an UPDATE without its header, and counts a turn for each prefix and
     /// attribute.
     #[inline(always)]
     pub(crate) fn parse_counted(

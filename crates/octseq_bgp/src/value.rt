@@ -1,4 +1,4 @@
-//! What the value of an attribute says, by its type.
+//! The values of path attributes, by their type.
 ghost use Rattle.std.specs.Prelude.{◌≡◌, ◌+◌, ◌≤◌, ℕ, List, length, IsErr, IfOk, OnOk, ⊤};
 ghost use Rattle.octseq.specs.Integer.{be};
 ghost use Rattle.octseq.specs.Parser.{window};
@@ -25,25 +25,25 @@ use octseq::{AsOctets, Malformed, Parser};
 use octseq_format::{U8, U16Be, U32Be};
 use std::alloc::AllocError;
 
-/// Octets say one value of an attribute at most.
+/// Octets are at most one value of a path attribute.
 ///
-/// It does nothing. A caller that calls it has the law in its proof.
+/// It does nothing. Calling it brings the law into the caller's proof.
 pub fn one_value()
     ensures { (session : Session) (number : ℕ) (w : Window) (a b : Value)
         → IsValue session number w a → IsValue session number w b → a ≡ b }
 {}
 
-/// Who aggregated a route.
+/// The aggregator of a route.
 #[derive(Clone, Copy, Debug, PartialEq, Eq)]
 pub struct Aggregator {
-    /// Its AS number.
+    /// The AS number.
     pub asn: Asn,
-    /// Its IPv4 address.
+    /// The IPv4 address.
     pub address: u32,
 }
 
 impl Aggregator {
-    /// Reads all that a parser has left, with an AS number of four octets or of two.
+    /// Reads all that a parser has left, with an AS number of four octets or two.
     fn parse<R: AsOctets + Copy>(parser: Parser<R>, wide: bool) -> Result<Aggregator, Malformed>
         ensures is { IfOk result (λ it.
             Whole (IsNumber (asn_size wide) then IsNumber 4) (window parser) (it.asn.0, it.address)) }
@@ -66,7 +66,7 @@ impl Aggregator {
     }
 }
 
-/// What the value of an attribute says.
+/// The value of a path attribute.
 #[derive(Debug)]
 pub enum AttributeValue<R: AsOctets> {
     /// ORIGIN: 0 IGP, 1 EGP, 2 INCOMPLETE.
@@ -101,7 +101,7 @@ pub enum AttributeValue<R: AsOctets> {
     As4Aggregator(Aggregator),
     /// LARGE_COMMUNITIES.
     LargeCommunities(LargeCommunities<R>),
-    /// Octets whose form isn't that of their type: their place.
+    /// Octets without the form of their type, as a parser.
     Opaque(Parser<R>),
 }
 
@@ -117,7 +117,7 @@ impl<R: AsOctets + Copy> Clone for AttributeValue<R> {
     }
 }
 
-/// An octet of at most 2.
+/// Reads an octet of at most 2.
 fn parse_origin<R: AsOctets + Copy>(parser: Parser<R>) -> Result<u8, Malformed>
     ensures origin { IfOk result (λ n. Whole (IsWhere (IsNumber 1) (λ n. n) (λ n. n ≤ 2)) (window parser) n) }
     ensures malformed { IsErr result → (n : ℕ)
@@ -130,7 +130,7 @@ fn parse_origin<R: AsOctets + Copy>(parser: Parser<R>) -> Result<u8, Malformed>
     Ok(origin)
 }
 
-/// Nothing.
+/// Returns the state in which nothing was said.
 pub(crate) fn parse_nothing<R: AsOctets + Copy>(parser: Parser<R>) -> Result<(), Malformed>
     ensures nothing { OnOk result (left (window parser) ≡ 0) }
     ensures malformed { IsErr result → ¬ (left (window parser) ≡ 0) }
@@ -141,7 +141,7 @@ pub(crate) fn parse_nothing<R: AsOctets + Copy>(parser: Parser<R>) -> Result<(),
     Ok(())
 }
 
-/// Items, one at least.
+/// Reads one or more items.
 pub(crate) fn parse_some<R: AsOctets + Copy, T: Item>(
     parser: Parser<R>,
 ) -> Result<Items<R, T>, Malformed>
@@ -158,11 +158,11 @@ pub(crate) fn parse_some<R: AsOctets + Copy, T: Item>(
 impl<R: AsOctets + Copy> AttributeValue<R> {
     ghost use Rattle.octseq_bgp.specs.ValueOf.{value_of};
 
-    /// Reads all that a parser has left as a value of a type, and counts a turn for each segment and prefix.
+    /// Reads all that a parser has left as the value of a type, and counts a turn for each segment and prefix.
     ///
     /// # Errors
     ///
-    /// `Malformed` where it is none.
+    /// `Malformed` if it isn't one.
     #[inline(always)]
     pub(crate) fn parse_counted(
         kind: AttributeType,
@@ -222,7 +222,7 @@ impl<R: AsOctets + Copy> AttributeValue<R> {
 impl<R: AsOctets + Copy> PathAttribute<R> {
     ghost use Rattle.octseq_bgp.specs.ValueOf.{value_of};
 
-    /// Reads its octets as a value of its type.
+    /// Reads the octets as a value of the attribute's type.
     #[inline(always)]
     fn typed(&self, turns: &mut Turns) -> Result<AttributeValue<R>, Malformed>
         ensures value { IfOk result (λ value.
@@ -238,7 +238,7 @@ impl<R: AsOctets + Copy> PathAttribute<R> {
         Ok(value)
     }
 
-    /// What its octets say: a value of its type, or nothing that is known here, and then they are opaque.
+    /// Returns the value by its type, or else opaque octets.
     #[inline(always)]
     pub fn value(&self) -> AttributeValue<R>
         ensures { IsValue self.now.session self.now.type_code (window self.now.value) (value_of result) }
@@ -246,8 +246,7 @@ impl<R: AsOctets + Copy> PathAttribute<R> {
         self.value_counted(&mut Turns::new())
     }
 
-    /// The same, and counts the turns of loops that this takes: one for each segment and prefix. There are at most as
-    /// many as it has octets.
+    /// Does the same, and counts the loop turns: one for each segment and prefix, at most one for each octet.
     #[inline(always)]
     pub fn value_counted(&self, turns: &mut Turns) -> AttributeValue<R>
         ensures value { IsValue self.now.session self.now.type_code (window self.now.value) (value_of result) }

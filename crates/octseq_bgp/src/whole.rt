@@ -1,4 +1,4 @@
-//! Formats that take all that a parser has left.
+//! Reading all that a parser has left by a format.
 ghost use Rattle.std.specs.Prelude.{IsErr, IfOk};
 ghost use Rattle.octseq.specs.Parser.{window};
 ghost use Rattle.octseq_bgp.specs.Fills.{Whole};
@@ -6,11 +6,11 @@ ghost use Rattle.octseq_bgp.specs.Fills.{Whole};
 use octseq::{AsOctets, Malformed, Parser};
 use octseq_format::Format;
 
-/// What all the octets say that a parser has left.
+/// Reads a value of a format from all the octets that a parser has left.
 ///
 /// # Errors
 ///
-/// `Malformed` where they aren't of the format, or where octets would be left after it.
+/// `Malformed` if they don't have the format, or if octets are left after the value.
 #[inline(always)]
 pub fn parse_all<R: AsOctets + Copy, F: Format<R>>(parser: Parser<R>) -> Result<F::Value, Malformed>
     ensures value { IfOk result (λ value. Whole F.is_at (window parser) (F.found value)) }

@@ -1,4 +1,4 @@
--- The fields of a packet of TFTP.
+-- The fields of a TFTP packet.
 use Rattle.std.specs.Prelude.{ℕ}
 use Rattle.octseq.specs.declared.AsOctets.{Ghosts}
 use Rattle.octseq.specs.declared.parse.Parser.{Parser}

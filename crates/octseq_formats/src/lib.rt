@@ -1,4 +1,4 @@
-//! Formats of public standards, written with `octseq_format`: callers to copy from.
+//! Formats of public standards, written with `octseq_format`, as examples to copy.
 #![tactic(auto)]
 
 pub mod ntp;

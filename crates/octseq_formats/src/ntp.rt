@@ -1,4 +1,4 @@
-//! The header of NTP, version 4: RFC 5905, 7.3.
+//! The NTP version 4 header: RFC 5905, 7.3.
 
 ghost use Rattle.std.specs.Prelude.{◌≡◌, IfOk};
 
@@ -7,28 +7,28 @@ use octseq::compose::ComposeError;
 use octseq_format::{Bits, Fields, Format, I8, Low, Of, U8, U32Be, U64Be, parse_composed};
 use std::alloc::Global;
 
-/// What a header says.
+/// An NTP header.
 #[derive(Clone, Copy, Debug, PartialEq, Eq)]
 pub struct Ntp {
-    /// Whether the last minute of the day has another number of seconds.
+    /// A warning of a leap second in the last minute of the day.
     pub leap_indicator: usize,
     /// The version.
     pub version: usize,
-    /// Who sends it: 3 a client, 4 a server.
+    /// The mode of the sender: 3 for a client, 4 for a server.
     pub mode: usize,
-    /// How far the clock is from a reference.
+    /// The stratum: the distance from a reference clock.
     pub stratum: u8,
-    /// The logarithm to the base 2 of the most seconds between messages.
+    /// The maximum interval between messages, in log2 seconds.
     pub poll: i8,
-    /// The logarithm to the base 2 of the clock's precision in seconds.
+    /// The precision of the clock, in log2 seconds.
     pub precision: i8,
-    /// The round trip to the reference clock, in 1/65536 seconds.
+    /// The round-trip delay to the reference clock, in 1/65536 seconds.
     pub root_delay: u32,
-    /// How far the clock may be off, in 1/65536 seconds.
+    /// The dispersion to the reference clock, in 1/65536 seconds.
     pub root_dispersion: u32,
-    /// Which reference clock.
+    /// The id of the reference clock.
     pub reference_id: u32,
-    /// When the clock was last set, origin, receive and transmit: in 2 ^ -32 seconds from 1900 on.
+    /// The reference, origin, receive and transmit timestamps, in 2 ^ -32 seconds since 1900.
     pub timestamps: (u64, u64, u64, u64),
 }
 
@@ -84,11 +84,11 @@ impl<R: AsOctets + Copy> Fields<R> for Ntp {
     }
 }
 
-/// Writes a header, and reads it again: it says the same.
+/// Writes a header and reads it back. The result says the same.
 ///
 /// # Errors
 ///
-/// `TooLong` where a number has more bits than its field, `Memory` where a request for memory was refused.
+/// `TooLong` if a number has more bits than its field, `Memory` if a request for memory was refused.
 #[tactic(auto, unfolding(octseq_format::specs::Pair::both_say))]
 pub fn round_trip(alloc: Global, ntp: &Ntp) -> Result<Ntp, ComposeError>
     ensures { IfOk result (λ again. again ≡ ntp.now) }

@@ -1,20 +1,20 @@
-//! The packets of TFTP: RFC 1350, 5.
+//! TFTP packets: RFC 1350, 5.
 
 use octseq::{AsOctets, Parser};
 use octseq_format::{Case, Either, Fields, Format, Last, Rest, Tagged, U16Be, ZeroEnded};
 
-/// What a packet says. Texts are parsers of their octets.
+/// A TFTP packet. Texts are parsers of their octets.
 #[derive(Clone, Copy, Debug, Drop)]
 pub enum Packet<R: AsOctets + Copy> {
-    /// A request to read: a file's name, and a mode.
+    /// A read request: a file name and a mode.
     Read(Parser<R>, Parser<R>),
-    /// A request to write: a file's name, and a mode.
+    /// A write request: a file name and a mode.
     Write(Parser<R>, Parser<R>),
-    /// A block of a file: its number, and its octets.
+    /// A block of data: its number and its octets.
     Data(u16, Parser<R>),
-    /// That a block came: its number.
+    /// An acknowledgment: the number of the block.
     Acknowledgment(u16),
-    /// An error: its code, and words for a person.
+    /// An error: a code and a message.
     Error(u16, Parser<R>),
 }
 

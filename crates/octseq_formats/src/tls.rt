@@ -1,30 +1,30 @@
-//! A record of TLS with a ClientHello: RFC 8446, 5.1 and 4.1.2.
+//! A TLS record with a ClientHello: RFC 8446, 5.1 and 4.1.2.
 use octseq::{AsOctets, Parser};
 use octseq_format::{
     Counted, Exactly, Fields, Format, Octets, Of, Repeated, Rest, U16Be, U24, Walk,
 };
 
-/// An extension: its type, and its data after a length.
+/// An extension: its type, and its data with a length prefix.
 pub type Extension = (U16Be, Counted<u16, Rest, 0>);
 
-/// What a client says first, with its lists as `S` and `E`.
+/// A ClientHello, with its lists as `S` and `E`.
 #[derive(Clone, Copy, Debug, Drop)]
 pub struct ClientHello<R: AsOctets + Copy, S, E> {
-    /// The version, before there were extensions.
+    /// The legacy version.
     pub version: u16,
-    /// 32 octets at random.
+    /// 32 random octets.
     pub random: [u8; 32],
-    /// The session that it takes up again.
+    /// The id of the session to resume.
     pub session: Parser<R>,
-    /// Suites of ciphers.
+    /// The cipher suites.
     pub suites: S,
-    /// Methods of compression.
+    /// The compression methods.
     pub compression: Parser<R>,
-    /// Extensions.
+    /// The extensions.
     pub extensions: E,
 }
 
-/// As it is read: its lists are walks.
+/// A ClientHello that was read: its lists are walks.
 pub type Hello<R> = ClientHello<R, Walk<R, U16Be>, Walk<R, Extension>>;
 
 impl<R: AsOctets + Copy> Fields<R> for Hello<R> {
@@ -70,7 +70,8 @@ impl<R: AsOctets + Copy> Fields<R> for Hello<R> {
     }
 }
 
-/// A record of type 22, handshake: a version, and after its length a message of type 1, ClientHello, after its own.
+/// A record of type 22 (handshake): a version, and with a length prefix a message of type 1 (ClientHello) that has a
+/// length of its own.
 pub type Record<R> = (
     Exactly<u8, 22>,
     U16Be,

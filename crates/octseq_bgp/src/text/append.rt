@@ -1,4 +1,4 @@
-//! The text of a value at the end of another text.
+//! Appending the text of a value to another text.
 ghost use Rattle.std.specs.Prelude.{◌≡◌, ◌≢◌, ◌+◌, ◌++◌, ℕ, List, [], None, true, false, take, drop, length};
 ghost use Rattle.std.specs.Prelude.{IsErr, OnOk, OnErr};
 ghost use Rattle.std.specs.Borrow.{GName};
@@ -16,18 +16,18 @@ use octseq::{AsOctets, OctetsBuilder, StrBuilder, Truncate};
 use std::fmt;
 use std::marker::{Brand, PhantomData};
 
-/// A value whose text is lines, each with a line feed at its end.
+/// A value whose text is lines, each ended by a line feed.
 pub trait WriteLines {
-    /// What its text is.
+    /// Whether octets are its text.
     ghost is_text: { Self → List ℕ → Type 0 };
 
-    /// Writes its lines.
+    /// Writes the lines.
     fn write_lines<W: fmt::Write>(&self, f: &mut fmt::Formatter<W>) -> fmt::Result
         ensures shown { OnOk result ((lines : List ℕ) × is_text self.now lines
             × (IsPlainFormatter f.old → HasWritten W.write_str_gives f.old lines f.new)) };
 }
 
-/// What a text was before lines were appended, and whose it is.
+/// The text before lines were appended, and its identity.
 trait Begun {
     ghost before: { List ℕ };
 
@@ -44,7 +44,7 @@ impl Begun for Brand {
     ghost borrows = { [] };
 }
 
-/// A text that lines are written to. What it was stays at its front.
+/// A text that lines are appended to. Its old content stays at the front.
 #[derive(Drop)]
 struct Appending<'a, K: Begun, B: AsOctets> {
     text: &'a mut StrBuilder<B>,
@@ -73,21 +73,20 @@ impl<'a, K: Begun, B: OctetsBuilder> fmt::Write for Appending<'a, K, B> {
     }
 }
 
-/// A text, and what an append to it answered.
+/// A text, and the result of appending to it.
 #[derive(Drop)]
 struct Appended<'a, B: AsOctets> {
     text: &'a mut StrBuilder<B>,
     answer: Result<(), DisplayError>,
 }
 
-/// Appends the text of a value, or nothing. The value has one text at most, as `one_text` says of messages: so whether
-/// it fits doesn't depend on which text is meant.
+/// Appends the text of a value. On an error it appends nothing. The value has at most one text, as `one_text` says of
+/// messages, so whether it fits doesn't depend on the choice of a text.
 ///
 /// # Errors
 ///
-/// `Short` where the text would pass the limit of its type, `Memory` where a request for memory was refused. The text
-/// is then as it was. (`Display` is never answered where `write_lines` never fails of itself, though no contract says
-/// so.)
+/// `Short` if the text would exceed the limit of its type, `Memory` if a request for memory was refused. The text is
+/// then unchanged. (`Display` is never returned if `write_lines` never fails by itself, though no contract says so.)
 pub fn append_lines<T: WriteLines, B: OctetsBuilder + Truncate>(
     value: &T,
     text: &mut StrBuilder<B>,
@@ -107,7 +106,7 @@ pub fn append_lines<T: WriteLines, B: OctetsBuilder + Truncate>(
     append_from::<Brand, B, T>(text, value).answer
 }
 
-/// Appends the text of a value, or cuts the text where it ended before.
+/// Appends the text of a value, or truncates the text to its old length.
 fn append_from<'a, K: Begun, B: OctetsBuilder + Truncate, T: WriteLines>(
     text: &'a mut StrBuilder<B>,
     value: &T,
@@ -137,7 +136,7 @@ fn append_from<'a, K: Begun, B: OctetsBuilder + Truncate, T: WriteLines>(
     });
     let written = value.write_lines(&mut f);
     let Appending { text, refusal, .. } = f.into_inner();
-    // What is lent is well formed, as the cut asks, and within the limit.
+    // What is borrowed is well-formed, as the truncation requires, and within the limit.
     let _lent = text.as_slice();
     match written {
         Ok(()) => Appended {
@@ -152,8 +151,8 @@ fn append_from<'a, K: Begun, B: OctetsBuilder + Truncate, T: WriteLines>(
     }
 }
 
-/// Why a text wasn't appended at the end of so many octets, where an append of a part of it was refused: `Short` is
-/// said only where all of it passes the limit.
+/// Returns why a text wasn't appended after `len` octets, given why a part of it was refused: `Short` only if the whole
+/// text exceeds the limit.
 fn reason<B: AsOctets, T: WriteLines>(
     refusal: DisplayError,
     limit: Option<usize>,
@@ -175,7 +174,7 @@ fn reason<B: AsOctets, T: WriteLines>(
     }
 }
 
-/// Whether the text of a value that follows so many octets passes a limit. It doesn't where it can't be shown.
+/// Whether the text of a value after `len` octets exceeds a limit. If it can't be shown, it doesn't.
 fn passes<T: WriteLines>(limit: Option<usize>, len: usize, value: &T) -> bool
     requires { OneAtMost (T.is_text value.now) }
     ensures { result ≡ true → (lines : List ℕ) → T.is_text value.now lines
@@ -203,14 +202,14 @@ impl<R: AsOctets + Copy> WriteLines for Message<R> {
 impl<R: AsOctets + Copy> Message<R> {
     ghost use Rattle.octseq_bgp.specs.Parsed.{message_of};
 
-    /// Appends the text of the message, or nothing: a line for each of its parts, as `update`,
-    /// `attribute T ORIGIN IGP` and `announced 10.2.0.0/16`. Each ends with a line feed.
+    /// Appends the text of the message. On an error it appends nothing. There is a line for each part, such as
+    /// `update`, `attribute T ORIGIN IGP` and `announced 10.2.0.0/16`. Each ends with a line feed.
     ///
     /// # Errors
     ///
-    /// `Short` where the text would pass the limit of its type, `Memory` where a request for memory was refused. The
-    /// text is then as it was. (`Display` is never answered, though no contract says so: by std's, a `fmt` may always
-    /// fail.)
+    /// `Short` if the text would exceed the limit of its type, `Memory` if a request for memory was refused. The text
+    /// is then unchanged. (`Display` is never returned, though no contract says so: by std's contract, a `fmt` may
+    /// always fail.)
     pub fn append_text<B: OctetsBuilder + Truncate>(
         &self,
         text: &mut StrBuilder<B>,

@@ -20,7 +20,7 @@ use crate::text::octets::write_opaque;
 use octseq::AsOctets;
 use std::fmt;
 
-/// Writes the name of addresses, or their number.
+/// Writes the name of an AFI, or its number.
 fn write_afi<W: fmt::Write>(f: &mut fmt::Formatter<W>, afi: u16) -> fmt::Result
     ensures { WritesOnOk W.write_str_gives f.old result (afi_text afi) f.new }
 {
@@ -31,7 +31,7 @@ fn write_afi<W: fmt::Write>(f: &mut fmt::Formatter<W>, afi: u16) -> fmt::Result
     }
 }
 
-/// Writes the name of what addresses are for, or its number.
+/// Writes the name of a SAFI, or its number.
 fn write_safi<W: fmt::Write>(f: &mut fmt::Formatter<W>, safi: u8) -> fmt::Result
     ensures { WritesOnOk W.write_str_gives f.old result (safi_text safi) f.new }
 {
@@ -42,7 +42,7 @@ fn write_safi<W: fmt::Write>(f: &mut fmt::Formatter<W>, safi: u8) -> fmt::Result
     }
 }
 
-/// Writes a family by its numbers.
+/// Writes an address family by its numbers.
 pub(crate) fn write_family<W: fmt::Write>(
     f: &mut fmt::Formatter<W>,
     afi: u16,
@@ -55,7 +55,7 @@ pub(crate) fn write_family<W: fmt::Write>(
     write_safi(f, safi)
 }
 
-/// Writes the letters of the two flags of a restart.
+/// Writes the letters of the two flags of a graceful restart.
 fn write_restart_flags<W: fmt::Write, R: AsOctets + Copy>(
     f: &mut fmt::Formatter<W>,
     it: &GracefulRestart<R>,
@@ -70,7 +70,7 @@ fn write_restart_flags<W: fmt::Write, R: AsOctets + Copy>(
     }
 }
 
-/// Writes a family, and whether its routes were kept.
+/// Writes an address family, and whether its forwarding state was kept.
 fn write_kept<W: fmt::Write>(f: &mut fmt::Formatter<W>, tuple: FamilyTuple) -> fmt::Result
     ensures { WritesOnOk W.write_str_gives f.old result
         (kept_text (tuple.afi, (tuple.safi, tuple.flags))) f.new }
@@ -119,7 +119,7 @@ fn write_restart<W: fmt::Write, R: AsOctets + Copy>(
     write_all_kept(f, it.families)
 }
 
-/// Writes a family, and what is done with its path ids.
+/// Writes an address family, and what is done with its path ids.
 fn write_paths<W: fmt::Write>(f: &mut fmt::Formatter<W>, tuple: FamilyTuple) -> fmt::Result
     ensures { WritesOnOk W.write_str_gives f.old result
         (paths_text (tuple.afi, (tuple.safi, tuple.flags))) f.new }
@@ -155,7 +155,7 @@ fn write_all_paths<W: fmt::Write, R: AsOctets + Copy>(
     Ok(())
 }
 
-/// Writes a capability of a code, by what it says.
+/// Writes a capability of a code, by its value.
 pub(crate) fn write_capability<W: fmt::Write, R: AsOctets + Copy>(
     f: &mut fmt::Formatter<W>,
     code: u8,
@@ -188,7 +188,7 @@ pub(crate) fn write_capability<W: fmt::Write, R: AsOctets + Copy>(
     }
 }
 
-/// Prints what it says, as `multiprotocol IPv6/unicast`, or its code and its octets.
+/// Prints the value, such as `multiprotocol IPv6/unicast`, or the code and the octets.
 impl<R: AsOctets + Copy> fmt::Display for Capability<R> {
     ghost output = { λ _. None };
 
@@ -202,7 +202,7 @@ impl<R: AsOctets + Copy> fmt::Display for Capability<R> {
     }
 }
 
-/// Prints its type and its octets, whatever they say.
+/// Prints the type and the octets, whatever they say.
 impl<R: AsOctets + Copy> fmt::Display for Parameter<R> {
     ghost output = { λ parameter. Some (parameter_text parameter.kind (window parameter.value)) };
 

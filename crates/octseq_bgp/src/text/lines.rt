@@ -33,9 +33,9 @@ use crate::value::AttributeValue;
 use octseq::{AsOctets, Parser};
 use std::fmt;
 
-/// A message has one text at most.
+/// A message has at most one text.
 ///
-/// It does nothing. A caller that calls it has the law in its proof.
+/// It does nothing. Calling it brings the law into the caller's proof.
 pub fn one_text()
     ensures { (m : said.Message) (text other : List ℕ) → IsMessageText m text → IsMessageText m other → text ≡ other }
 {}
@@ -81,7 +81,7 @@ fn write_value_lines<W: fmt::Write, R: AsOctets + Copy>(
     }
 }
 
-/// Writes the lines of an attribute with what its value says.
+/// Writes the lines of an attribute, by its value.
 pub fn write_attribute_lines<W: fmt::Write, R: AsOctets + Copy>(
     f: &mut fmt::Formatter<W>,
     attribute: &PathAttribute<R>,
@@ -113,8 +113,8 @@ fn write_attributes<W: fmt::Write, R: AsOctets + Copy>(
     Ok(())
 }
 
-/// Prints its lines: `update`, one for each prefix that is withdrawn, those of its attributes, and one for each prefix
-/// that is announced.
+/// Prints the lines: `update`, one for each withdrawn prefix, those of the attributes, and one for each announced
+/// prefix.
 impl<R: AsOctets + Copy> fmt::Display for UpdateMessage<R> {
     ghost output = { λ _. None };
 
@@ -129,7 +129,7 @@ impl<R: AsOctets + Copy> fmt::Display for UpdateMessage<R> {
     }
 }
 
-/// Writes the line of a capability of a code, by what it says.
+/// Writes the line of a capability of a code, by its value.
 fn write_capability_line<W: fmt::Write, R: AsOctets + Copy>(
     f: &mut fmt::Formatter<W>,
     code: u8,
@@ -158,7 +158,7 @@ fn write_capabilities<W: fmt::Write, R: AsOctets + Copy>(
     Ok(())
 }
 
-/// Writes the lines of a parameter of a type, by what it says.
+/// Writes the lines of a parameter of a type, by its value.
 fn write_parameter<W: fmt::Write, R: AsOctets + Copy>(
     f: &mut fmt::Formatter<W>,
     kind: u8,
@@ -173,7 +173,7 @@ fn write_parameter<W: fmt::Write, R: AsOctets + Copy>(
     }
 }
 
-/// Writes the line of a parameter of a type that says nothing that is known.
+/// Writes the line of a parameter of a type with opaque octets.
 fn write_opaque_parameter<W: fmt::Write>(
     f: &mut fmt::Formatter<W>,
     kind: u8,
@@ -225,7 +225,7 @@ fn write_identifier<W: fmt::Write>(f: &mut fmt::Formatter<W>, identifier: u32) -
     f.write_str("\n")
 }
 
-/// Prints its lines: one for itself, and one for each capability and each parameter that says something else.
+/// Prints the lines: one for the OPEN, one for each capability, and one for each parameter that isn't capabilities.
 impl<R: AsOctets + Copy> fmt::Display for OpenMessage<R> {
     ghost output = { λ _. None };
 
@@ -255,7 +255,7 @@ fn write_data<W: fmt::Write, R: AsOctets + Copy>(
     }
 }
 
-/// Writes the line of a NOTIFICATION, by what its data says.
+/// Writes the line of a NOTIFICATION, by its data.
 fn write_notification<W: fmt::Write, R: AsOctets + Copy>(
     f: &mut fmt::Formatter<W>,
     message: &NotificationMessage<R>,
@@ -270,7 +270,7 @@ fn write_notification<W: fmt::Write, R: AsOctets + Copy>(
     f.write_str("\n")
 }
 
-/// Prints its line: its codes, and its data as a string or as octets.
+/// Prints the line: the codes, and the data as a string or as octets.
 impl<R: AsOctets + Copy> fmt::Display for NotificationMessage<R> {
     ghost output = { λ _. None };
 
@@ -294,7 +294,7 @@ fn write_orf<W: fmt::Write>(f: &mut fmt::Formatter<W>, octets: &[u8]) -> fmt::Re
     write_opaque(f, octets)
 }
 
-/// Prints its line: its family, its subtype, and the octets after them if there are any.
+/// Prints the line: the family, the subtype, and the octets after them if there are any.
 impl<R: AsOctets + Copy> fmt::Display for RouteRefreshMessage<R> {
     ghost output = { λ r. Some (line (codes "route-refresh")
         (refresh_text (r.afi, (r.subtype, (r.safi, window r.orf))))) };
@@ -309,7 +309,7 @@ impl<R: AsOctets + Copy> fmt::Display for RouteRefreshMessage<R> {
     }
 }
 
-/// Prints the text of the message, as [`append_text`](Message::append_text) appends it: a line for each of its parts.
+/// Prints the text of the message as [`append_text`](Message::append_text) appends it: a line for each part.
 impl<R: AsOctets + Copy> fmt::Display for Message<R> {
     ghost output = { λ _. None };
 

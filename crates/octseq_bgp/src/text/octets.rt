@@ -12,7 +12,7 @@ use crate::family::Afi;
 use std::fmt;
 use std::net::{Ipv4Addr, Ipv6Addr};
 
-/// Writes an address of a family: for IPv4, the first four of the octets.
+/// Writes an address of a family. An IPv4 address is the first four octets.
 #[tactic(auto, unfolding(crate::specs::Text::address_text))]
 pub fn write_address<W: fmt::Write>(
     f: &mut fmt::Formatter<W>,
@@ -45,7 +45,7 @@ fn write_ipv6<W: fmt::Write>(f: &mut fmt::Formatter<W>, octets: [u8; 16]) -> fmt
     write!(f, "{address}")
 }
 
-/// Whether an IPv6 address shows its last four octets as an IPv4 address after `::`.
+/// Whether an IPv6 address is shown as `::` and an IPv4 address of its last four octets.
 fn ends_in_ipv4(octets: [u8; 16]) -> bool
     ensures { result ≡ ends_in_ipv4 octets }
 {
@@ -62,7 +62,7 @@ pub fn write_dotted<W: fmt::Write>(f: &mut fmt::Formatter<W>, number: u32) -> fm
     write!(f, "{address}")
 }
 
-/// The four octets of a number.
+/// Returns the four octets of a number.
 fn octets_of(number: u32) -> [u8; 4]
     ensures { result ≡ first_octet number ∷ second_octet number ∷ third_octet number ∷ fourth_octet number ∷ [] }
 {
@@ -74,7 +74,7 @@ fn octets_of(number: u32) -> [u8; 4]
     ]
 }
 
-/// Writes a number in eight hexadecimal digits.
+/// Writes a number as eight hexadecimal digits.
 pub(crate) fn write_number_hex<W: fmt::Write>(f: &mut fmt::Formatter<W>, number: u32) -> fmt::Result
     ensures { WritesOnOk W.write_str_gives f.old result (number_hex number) f.new }
 {
@@ -85,7 +85,7 @@ pub(crate) fn write_number_hex<W: fmt::Write>(f: &mut fmt::Formatter<W>, number:
     write_hex_octet(f, d)
 }
 
-/// Writes how many octets there are, and they themselves if there are any, after a space.
+/// Writes the number of octets, and the octets after a space if there are any.
 pub fn write_opaque<W: fmt::Write>(f: &mut fmt::Formatter<W>, octets: &[u8]) -> fmt::Result
     ensures { WritesOnOk W.write_str_gives f.old result (spaced (opaque_text octets.now)) f.new }
 {
@@ -98,7 +98,7 @@ pub fn write_opaque<W: fmt::Write>(f: &mut fmt::Formatter<W>, octets: &[u8]) -> 
     write_hex(f, octets)
 }
 
-/// Writes each octet in two hexadecimal digits, in lower case.
+/// Writes each octet as two lower-case hexadecimal digits.
 fn write_hex<W: fmt::Write>(f: &mut fmt::Formatter<W>, octets: &[u8]) -> fmt::Result
     ensures { WritesOnOk W.write_str_gives f.old result (flat_map hex_text octets.now) f.new }
 {
@@ -108,15 +108,15 @@ fn write_hex<W: fmt::Write>(f: &mut fmt::Formatter<W>, octets: &[u8]) -> fmt::Re
     Ok(())
 }
 
-/// Writes an octet in two hexadecimal digits.
+/// Writes an octet as two hexadecimal digits.
 fn write_hex_octet<W: fmt::Write>(f: &mut fmt::Formatter<W>, octet: u8) -> fmt::Result
     ensures { WritesOnOk W.write_str_gives f.old result (hex_text octet) f.new }
 {
     write!(f, "{octet:02x}")
 }
 
-/// Writes octets as a string: between `"`, `"` and `\` after a backslash, each other one of 20 to 7E (hexadecimal) as
-/// itself, and any other as a backslash and three decimal digits.
+/// Writes octets as a string in `"`: `"` and `\` after a backslash, other octets of 20 to 7E (hexadecimal) as they are,
+/// and all others as a backslash and three decimal digits.
 pub fn write_string<W: fmt::Write>(f: &mut fmt::Formatter<W>, octets: &[u8]) -> fmt::Result
     ensures { WritesOnOk W.write_str_gives f.old result (string_text octets.now) f.new }
 {
@@ -149,7 +149,7 @@ fn needs_backslash(octet: u8) -> bool
     matches!(octet, b'"' | b'\\')
 }
 
-/// Writes a number in three decimal digits.
+/// Writes a number as three decimal digits.
 fn write_digits<W: fmt::Write>(f: &mut fmt::Formatter<W>, number: u8) -> fmt::Result
     ensures { WritesOnOk W.write_str_gives f.old result (three_digits number) f.new }
 {

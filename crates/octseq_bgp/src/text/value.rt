@@ -1,4 +1,4 @@
-//! The text of attributes, of what their values say, and of prefixes.
+//! The text of attributes, their values, and prefixes.
 ghost use Rattle.std.specs.Prelude.{◌≡◌, ◌<◌, ◌++◌, Some, None, codes};
 ghost use Rattle.std.specs.Fmt.{WritesOnOk, decimal};
 ghost use Rattle.std.specs.List.{flat_map};
@@ -32,7 +32,7 @@ use octseq::AsOctets;
 use std::fmt;
 use std::net::Ipv4Addr;
 
-/// Prints the letters of the flags that are set, `O` optional, `T` transitive and `P` partial, or `-`.
+/// Prints the letters of the flags that are set: `O` optional, `T` transitive, `P` partial, or `-` for none.
 impl fmt::Display for Flags {
     ghost output = { λ flags. Some (flags_text flags.0) };
 
@@ -54,7 +54,7 @@ fn write_set_flags<W: fmt::Write>(f: &mut fmt::Formatter<W>, flags: u8) -> fmt::
     write_flag(f, flags / 32 % 2, "P")
 }
 
-/// Writes a letter where a bit is set.
+/// Writes a letter if a bit is set.
 fn write_flag<W: fmt::Write>(f: &mut fmt::Formatter<W>, bit: u8, letter: &str) -> fmt::Result
     ensures { WritesOnOk W.write_str_gives f.old result (flag_text bit letter.now) f.new }
 {
@@ -74,7 +74,7 @@ fn write_name<W: fmt::Write>(f: &mut fmt::Formatter<W>, type_code: u8) -> fmt::R
     }
 }
 
-/// Prints the name and the parts of a route target or a route origin, as `target:65001:100`, or else sixteen
+/// Prints the name and the parts of a route target or a route origin, such as `target:65001:100`, otherwise sixteen
 /// hexadecimal digits.
 impl fmt::Display for ExtendedCommunity {
     ghost output = { λ community. Some (extended_text community.0) };
@@ -127,7 +127,7 @@ fn write_extended_name<W: fmt::Write>(f: &mut fmt::Formatter<W>, subtype: u8) ->
     }
 }
 
-/// Writes six octets, by their type.
+/// Writes the six octets after the subtype, by the type.
 fn write_extended_parts<W: fmt::Write>(
     f: &mut fmt::Formatter<W>,
     kind: u8,
@@ -227,7 +227,7 @@ fn write_origin<W: fmt::Write>(f: &mut fmt::Formatter<W>, origin: u8) -> fmt::Re
     }
 }
 
-/// Prints its type, and each AS number after a space.
+/// Prints the type, and each AS number after a space.
 impl<R: AsOctets + Copy> fmt::Display for Segment<R> {
     ghost output = { λ segment. Some (segment_words segment.wide (segment_entry segment)) };
 
@@ -317,7 +317,7 @@ fn write_two<W: fmt::Write>(
     write_spaced_ipv6(f, link_local)
 }
 
-/// Writes what a value says, each of its parts after a space.
+/// Writes a value, each of its parts after a space.
 fn write_value<W: fmt::Write, R: AsOctets + Copy>(
     f: &mut fmt::Formatter<W>,
     value: &AttributeValue<R>,
@@ -352,7 +352,7 @@ fn write_value<W: fmt::Write, R: AsOctets + Copy>(
     }
 }
 
-/// Prints the flags, the name or the number of the type, and what the value says, as `T ORIGIN IGP`. The prefixes of
+/// Prints the flags, the name or the number of the type, and the value, such as `T ORIGIN IGP`. The prefixes of
 /// MP_REACH_NLRI and MP_UNREACH_NLRI aren't shown.
 impl<R: AsOctets + Copy> fmt::Display for PathAttribute<R> {
     ghost output = { λ _. None };
@@ -366,7 +366,7 @@ impl<R: AsOctets + Copy> fmt::Display for PathAttribute<R> {
     }
 }
 
-/// Writes an attribute with what its value says.
+/// Writes an attribute with its value.
 pub(crate) fn write_attribute<W: fmt::Write, R: AsOctets + Copy>(
     f: &mut fmt::Formatter<W>,
     attribute: &PathAttribute<R>,
@@ -381,7 +381,7 @@ pub(crate) fn write_attribute<W: fmt::Write, R: AsOctets + Copy>(
     write_value(f, value)
 }
 
-/// Prints the address, the length, and the id of the path if there is one, as `10.0.0.0/8 path 7`.
+/// Prints the address, the length, and the path id if there is one, such as `10.0.0.0/8 path 7`.
 impl<R: AsOctets + Copy> fmt::Display for Nlri<R> {
     ghost output = { λ nlri. Some (nlri_text (nlri_of nlri)) };
 
@@ -392,7 +392,7 @@ impl<R: AsOctets + Copy> fmt::Display for Nlri<R> {
     }
 }
 
-/// Writes the id of a path, if there is one.
+/// Writes a path id, if there is one.
 fn write_path_id<W: fmt::Write>(f: &mut fmt::Formatter<W>, path_id: Option<PathId>) -> fmt::Result
     ensures { WritesOnOk W.write_str_gives f.old result (path_id_text path_id) f.new }
 {

@@ -1,4 +1,4 @@
--- Each one so far has.
+-- Each family so far has.
 use Rattle.std.proofs.Common.{◌+◌, ◌≤◌, length}
 use Rattle.std.specs.Prelude.{◌↔◌}
 use Rattle.octseq_bgp.specs.Capability.{ArePaths}

@@ -1,4 +1,4 @@
--- Some of the octets have come.
+-- Some of the octets were read.
 use Rattle.std.proofs.Common.{◌≡◌, ◌+◌, ◌++◌, ℕ, List, length}
 use Rattle.std.specs.Io.KnownBytes.{Consumes}
 use Rattle.octseq_bgp.proofs.filling.append_octets.Given as goal

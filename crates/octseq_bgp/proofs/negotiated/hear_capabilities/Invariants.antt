@@ -1,4 +1,4 @@
--- What was said so far, and what the capabilities that are left say, are what all say.
+-- What was said so far, and what the capabilities that are left say, is what all of them say.
 use Rattle.std.proofs.Common.{◌≡◌, List, length}
 use Rattle.octseq_bgp.specs.Capability.{CapabilityValue}
 use Rattle.octseq_bgp.specs.CapabilityOf.{capabilities_left}

@@ -1,4 +1,4 @@
--- The faults that are left now are those that were left at first.
+-- The faults that are left now are the ones that were left at first.
 use Rattle.std.proofs.Common.{◌≤◌, List, length}
 use Rattle.octseq_bgp.specs.Fault.{Fault}
 use Rattle.octseq_bgp.specs.FaultsOf.{AreLeft, faults_most}

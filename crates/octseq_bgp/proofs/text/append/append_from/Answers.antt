@@ -25,7 +25,7 @@ returns-in-Ok-clause-ok g c =
     let last = ap (λ s. content s.text.now) c.into_inner-text.ensures in
     (shown.0, shown.1, last ∙ told ∙ ap (λ x. x ++ shown.0) first)
 
--- what is lent is within the limit, so no text was appended that passes it
+-- what is borrowed is within the limit, so no text was appended that exceeds it
 pub returns-in-Ok-clause-past : goal.returns-in-Ok-clause-past
 returns-in-Ok-clause-past g c = λ lines are past.
     let limit = g.B.AsOctets.limit in

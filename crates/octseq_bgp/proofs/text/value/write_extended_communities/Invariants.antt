@@ -1,4 +1,4 @@
--- What is written, and the text of what is ahead, are the text of all.
+-- What is written, and the text of what is ahead, are the whole text.
 use Rattle.std.proofs.Common.{◌≡◌, ◌++◌, ℕ, List}
 use Rattle.std.specs.Fmt.{HasWritten, IsPlainFormatter}
 use Rattle.std.specs.List.{flat_map}

@@ -1,4 +1,4 @@
--- What is written, and the text of the segments ahead, are the text of all.
+-- What is written, and the text of the segments ahead, are the whole text.
 use Rattle.std.proofs.Common.{◌≡◌, ◌++◌, ℕ, List, length}
 use Rattle.std.specs.Fmt.{HasWritten, IsPlainFormatter}
 use Rattle.octseq_bgp.specs.PathOf.{path_of, path_wide, segments_left}
