@@ -1,4 +1,4 @@
--- Next hops alone are no MP_REACH_NLRI of a message.
+-- Octets that are next hops only aren't an MP_REACH_NLRI of a message.
 use Rattle.std.proofs.Common.{◌≡◌, ℕ, ◌+◌, ◌-◌, ◌≤◌, List, [], ◌∷◌, take, drop, ap, ◌∙◌, arith}
 use mathlib.Core.Logic.{inl, inr}
 use Rattle.octseq.specs.Integer.{be}
@@ -10,14 +10,14 @@ use Rattle.octseq_bgp.specs.declared.family.AfiSafiType.TheVariants as family
 use Rattle.octseq_bgp.specs.declared.session.SessionConfig.{SessionConfig}
 use Rattle.octseq_mrt.specs.Rib.{is_next_hop_size, IsNextHopAlone}
 
--- two octets stand for no less than 256 times the first
+-- the number of two octets is at least 256 times the first
 first_counts : (l : List ℕ) (n k : ℕ) → n ≡ be (take 2 l) → n ≤ 2 → k ≡ be (take 1 l) → 4 ≤ k → ⊥
 unfolding be
 first_counts [] n k two small one long = omega (arith, one, long)
 first_counts (a ∷ []) n k two small one long = omega (arith, two, small, one, long)
 first_counts (a ∷ (b ∷ more)) n k two small one long = omega (arith, two, small, one, long)
 
--- the numbers of the families that are read
+-- the numbers of the address families that are parsed
 small_number : (f : AfiSafiType) → afi_number f ≤ 2
 small_number family.Ipv4Unicast = omega arith
 small_number family.Ipv4Multicast = omega arith

@@ -1,4 +1,4 @@
--- What comes before an event, and when none is there.
+-- What comes before an event, and when there is no event.
 use Rattle.std.proofs.Common.{◌≡◌, ℕ, Bool, true, Option, subst}
 use Rattle.octseq.specs.Window.{Window}
 use Rattle.octseq_format.specs.Pair.{◌then◌}
@@ -14,7 +14,7 @@ use Rattle.octseq_mrt.specs.Kind.{is_state_change}
 use Rattle.octseq_mrt.specs.OneListed.{one_optional}
 use Rattle.octseq_mrt.specs.declared.kind.Bgp4MpSubtype.{Bgp4MpSubtype}
 
--- where no two states are, no change of state is
+-- if there are no two states, there is no state change
 pub no_states : (s : Bgp4MpSubtype) (w : Window) → is_state_change s ≡ true
     → ((states : ℕ × ℕ) → Whole (IsNumber 2 then IsNumber 2) w states → ⊥) → (event : Event) → IsEvent s w event → ⊥
 no_states s w change none (Event.state_change states) is = none states is.1

@@ -1,4 +1,4 @@
--- What fills a window is read one thing after another.
+-- What fills a window is read value by value.
 use Rattle.std.proofs.Common.{◌≡◌, ℕ, ◌+◌, ◌<◌, ◌≤◌, Bool, Option, List, [], ◌∷◌, length, refl, ap, ◌∙◌, subst, arith}
 use Rattle.std.proofs.Math.Logic.{∥∥₁_elim}
 use Rattle.std.specs.Coded.{Coded, Coded-set, coded_list, le_prop}
@@ -24,7 +24,7 @@ row_none Is moving w v [] none is = refl
 row_none Is moving w v (x ∷ row) none is =
     let less = moving.on w x is.0 is.1 in absurd (omega (arith, less, none))
 
--- where nothing is left, the list is empty
+-- if nothing is left, the list is empty
 pub ahead_none : {A : Type 0} (code : Coded A) (Is : Relation A) → IsMoving Is → (w : Window) (ahead : AllAhead Is w)
     → left w ≡ 0 → ahead.0 ≡ []
 ahead_none code Is moving w ahead none = ∥∥₁_elim ahead.1 (Coded-set (coded_list code) ahead.0 [])
@@ -38,7 +38,7 @@ row_fits Is moving w v (x ∷ row) is =
     let more = row_fits Is moving is.0 v row is.2 in
     omega (arith, less, more)
 
--- no more things than octets are left
+-- no more values than octets are left
 pub ahead_fits : {A : Type 0} (Is : Relation A) → IsMoving Is → (w : Window) (ahead : AllAhead Is w)
     → length ahead.0 ≤ left w
 ahead_fits Is moving w ahead = ∥∥₁_elim ahead.1 le_prop (λ f.
@@ -50,11 +50,11 @@ row_not : {A : Type 0} (Is : Relation A) (w v : Window) (row : List A) → 0 < l
 row_not Is w v [] some ends is none = let same = ap left is in omega (arith, same, some, ends)
 row_not Is w v (x ∷ row) some ends is none = none x is.0 is.1
 
--- where octets are left, a thing is next
+-- if octets are left, a value is next
 pub ahead_not : {A : Type 0} (Is : Relation A) (w : Window) (ahead : AllAhead Is w) → 0 < left w → NoneAt Is w → ⊥
 ahead_not Is w ahead some none = ∥∥₁_elim ahead.1 ⊥_prop (λ x. row_not Is w x.0 ahead.0 some x.1.1 x.1.0 none)
 
--- what is after the first one
+-- what follows the first one
 after_first : {A : Type 0} (Is : Relation A) → IsOne Is → IsMoving Is → (w u v : Window) (x : A) (row : List A)
     → Is w x u → left v ≡ 0 → Row Is w row v → (more : List A) × (row ≡ x ∷ more) × Row Is u more v
 after_first Is one moving w u v x [] first ends is =
@@ -71,7 +71,7 @@ module _ {A : Type 0} (code : Coded A) (Is : Relation A) (one : IsOne Is) (movin
       let on = after_first Is one moving w u f.0 x ahead.0 first f.1.1 f.1.0 in
       (on.0, ∣ (f.0, (on.2, f.1.1)) ∣₁))
 
-  -- the first, and then those after it
+  -- the first one, and those after it
   pub ahead_then : (w u : Window) (x : A) (ahead : AllAhead Is w) (after : AllAhead Is u) → Is w x u
       → ahead.0 ≡ x ∷ after.0
   ahead_then w u x ahead after first = ∥∥₁_elim ahead.1 (Coded-set (coded_list code) ahead.0 (x ∷ after.0)) (λ f.
@@ -86,7 +86,7 @@ module _ {A : Type 0} (code : Coded A) (Is : Relation A) (one : IsOne Is) (movin
 
 -- ---- entries of a RIB
 
--- where the parts of no entry are, no entry is
+-- if the parts of an entry aren't there, the entry isn't
 pub no_entry : (paths : Bool) (w : Window) → NoneAt (HasEntryParts paths) w → NoneAt (IsRibEntry paths) w
 no_entry paths w none e v is = none (entry_parts e is.octets) v is.parts
 
@@ -122,7 +122,7 @@ entries_then paths w u octets e ahead after are fills =
     ahead_then rib_entry_code (IsRibEntry paths) (one_rib_entry paths) (rib_entry_moves paths) w u e ahead after
     (record { octets = octets; parts = are; attributes = f }))
 
--- the octets of an entry's attributes, those before them, and those after the entry are no more than the window has
+-- the octets of an entry's attributes, those before them, and those after the entry, aren't more than the window has
 pub parts_left : (paths : Bool) (w : Window) (parts : ℕ × (ℕ × (Option ℕ × Window))) (v : Window)
     → HasEntryParts paths w parts v → left parts.1.1.1 + left v + 6 ≤ left w
 parts_left paths w parts v is =
@@ -132,15 +132,15 @@ parts_left paths w parts v is =
     let all = counted_left 2 is.2.2.0 parts.1.1.1 v is.2.2.2 in
     omega (arith, first, second, third, all)
 
--- ---- as many as a count says
+-- ---- with a count
 
--- a count, and as many things
+-- a count, followed by that many values
 pub times_of : {A : Type 0} (Is : Relation A) (w u v : Window) (count : ℕ) (row : List A) → IsNumber 2 w count u
     → Many count Is u row v → Times 2 Is w row v
 times_of Is w u v count row number many =
     (number.0, (many.0 ∙ number.1, subst (λ x. Row Is x row v) number.2 many.1))
 
--- where octets are left after a thing, no such thing fills the window
+-- if octets are left after a value, no such value fills the window
 pub not_whole : {A : Type 0} (Is : Relation A) → IsOne Is → (w v : Window) (a : A) → Is w a v → 0 < left v → (b : A)
     → Whole Is w b → ⊥
 not_whole Is one w v a is some b other =

@@ -1,4 +1,4 @@
--- A kind of records is known by its type and subtype.
+-- A kind is known by its type and subtype.
 use Rattle.std.proofs.Common.{◌≡◌, ℕ, true, false, if◌then◌else◌, nat_eq, refl, sym, ap, ◌∙◌}
 use Rattle.octseq_bgp.specs.declared.family.AfiSafiType.TheVariants as family
 use Rattle.octseq_mrt.specs.Kind.{bgp4mp_number, kind_type, kind_subtype}
@@ -31,7 +31,7 @@ subtype_again subtype.MessageAs4AddPath = refl
 subtype_again subtype.MessageLocalAddPath = refl
 subtype_again subtype.MessageAs4LocalAddPath = refl
 
--- the kind of a RIB, or else of a table of peers
+-- the kind of a RIB, otherwise of a peer index table
 abbrev table_of : ℕ → RecordKind
 table_of n = if nat_eq n 2 then kind.Rib family.Ipv4Unicast false
     else if nat_eq n 3 then kind.Rib family.Ipv4Multicast false

@@ -1,4 +1,4 @@
--- Octets are a record in one way at most, and it says one thing.
+-- Octets are a record in at most one way, and it has one value.
 use Rattle.std.proofs.Common.{◌≡◌, ℕ, Bool, true, false, Option, List, if◌then◌else◌, nat_eq, refl, sym, ap, ◌∙◌, subst}
 use mathlib.Core.Logic.{inl, inr}
 use Rattle.octseq.specs.Window.{Window, whole}
@@ -51,7 +51,7 @@ one_record_at = one_deciding one_header (λ h. one_next h.length)
 pub one_record : (octets : List ℕ) (a b : CommonHeader × Window) → AreRecord octets a → AreRecord octets b → a ≡ b
 one_record octets a b = one_whole IsRecord one_record_at (whole octets) a b
 
--- ---- tables of peers
+-- ---- peer index tables
 
 abbrev pub IsTable : Relation (ℕ × (Window × List Peer))
 IsTable = IsNumber 4 then IsCounted 2 then Times 2 IsPeer
@@ -109,7 +109,7 @@ pub one_front : (extended wide : Bool) → IsOne (IsBgp4MpFront extended wide)
 one_front extended wide = one_optional extended one_then one_number (asn_size wide) one_then one_number (asn_size wide)
     one_then one_number 2 one_then one_peers one_then one_rest
 
--- the parts before what happened
+-- the parts before the event
 abbrev pub front_parts : Bgp4Mp → Afi → Window → Option ℕ × (ℕ × (ℕ × (ℕ × ((Afi × (Address × Address)) × Window))))
 front_parts b afi rest = (
   b.microseconds,
@@ -157,7 +157,7 @@ one_bgp4mp extended s w a b is other =
     (subst (λ p. IsEvent s p.1.1.1.1.1 a.event) front is.event) other.event in
     ap (λ p. bgp4mp_from p a.event) front ∙ ap (bgp4mp_from (front_parts b other.afi other.rest)) event
 
--- ---- what a record says
+-- ---- the value of a record
 
 one_made : {A : Type 0} (make : A → Value) {Is : A → Type 0} → OneSaid Is → OneSaid (Made make Is)
 one_made make one v u a b = a.1 ∙ ap make (one a.0 b.0 a.2 b.2) ∙ sym b.1
@@ -168,7 +168,7 @@ one_form (kind.Rib f paths) w = one_made Value.rib (one_rib f paths w)
 one_form (kind.Bgp4Mp s) w = one_made Value.bgp4mp (one_bgp4mp false s w)
 one_form (kind.Bgp4MpEt s) w = one_made Value.bgp4mp (one_bgp4mp true s w)
 
--- octets of a kind that is known have its form
+-- octets of a known kind have its form
 pub form_of_kind : (h : CommonHeader) (k : RecordKind) (w : Window) (v : Value) → kind_type k ≡ h.type_code
     → kind_subtype k ≡ h.subtype → IsTyped h w v → HasForm k w v
 form_of_kind h k w v types subtypes is =

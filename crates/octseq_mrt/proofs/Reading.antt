@@ -12,7 +12,7 @@ use Rattle.octseq_mrt.specs.declared.header.CommonHeader.{CommonHeader}
 
 -- ---- the octets of a record
 
--- those of a header and as many as it says
+-- a header and as many octets as it says
 pub record_octets : (octets : List ℕ) → length octets ≡ 12 + record_length octets → IsRecordOctets octets
 record_octets octets all =
     let w = whole octets in
@@ -65,14 +65,14 @@ record_long octets is =
 pub length_in_front : (x y : List ℕ) → 12 ≤ length x → record_length (x ++ y) ≡ record_length x
 length_in_front x y long = ap be (range_in_front x y 8 12 (omega arith) long)
 
--- fewer octets than a header has begin with no record
+-- fewer octets than a header don't begin with a record
 pub no_header : (octets : List ℕ) → length octets < 12 → ¬ BeginsWithRecord octets
 no_header octets few (a, more, fits, e) =
     let long = record_long a fits in
     let all : length octets ≡ length a + length more = ap length e ∙ length-append a more in
     omega (arith, few, long, all)
 
--- neither do a header and fewer octets than it says
+-- nor do a header and fewer octets than it says
 pub no_whole : (header read : List ℕ) → length header ≡ 12 → length read < record_length header
     → ¬ BeginsWithRecord (header ++ read)
 no_whole header read long few (a, more, fits, e) =
@@ -106,7 +106,7 @@ cut_after_header given mid left header read len long says first few second end =
       end,
     )
 
--- a header and what it says were read
+-- a header and the octets it says were read
 pub whole_record : (given mid left : Option (List ℕ)) (header read octets : List ℕ) (len : ℕ) → length header ≡ 12
     → len ≡ record_length header → Consumes given mid header → length read ≡ len → octets ≡ header ++ read
     → Consumes mid left read → IsRecordOctets octets × Consumes given left octets

@@ -1,9 +1,9 @@
--- Where one of several things that come one after another isn't, not all of them are.
+-- If one of several consecutive values isn't there, not all of them are.
 use Rattle.octseq.specs.Window.{Window}
 use Rattle.octseq_format.specs.Laws.{Relation, NoneAt}
 use Rattle.octseq_bgp.specs.Entry.{◌deciding◌}
 
 module _ {A B : Type 0} (First : Relation A) (Second : A → Relation B) where
-  -- where the first isn't
+  -- the first one isn't there
   pub none_decided : (w : Window) → NoneAt First w → NoneAt (First deciding Second) w
   none_decided w none both v is = none both.0 is.0 is.1

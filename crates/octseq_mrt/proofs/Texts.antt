@@ -1,4 +1,4 @@
--- A record has one text at most.
+-- A record has at most one text.
 use Rattle.std.proofs.Common.{◌≡◌, ℕ, List, [], ◌∷◌, ◌++◌, codes, sym, ap, ◌∙◌, subst}
 use mathlib.Core.Logic.{inl, inr}
 use Rattle.octseq.specs.Window.{Window}
@@ -22,7 +22,7 @@ use Rattle.octseq_mrt.proofs.OneRecord.{one_record_value}
 
 -- ---- RIBs
 
--- an attribute of an entry says one thing at most
+-- an attribute of a RIB entry has at most one value
 one_rib_value : (kind : ℕ) (w : Window) (a b : RibValue) → IsRibValue kind w a → IsRibValue kind w b → a ≡ b
 one_rib_value kind w (RibValue.next_hop inside) (RibValue.next_hop other) a b =
     ap RibValue.next_hop (one_whole (IsCounted 1) (one_octets 1) w inside other a.1 b.1)

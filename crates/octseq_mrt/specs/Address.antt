@@ -1,4 +1,4 @@
--- Addresses, and numbers that may be absent.
+-- Addresses, and optional numbers.
 use Rattle.std.specs.Prelude.{◌≡◌, Bool, true, false, ℕ, Option, Some, None, List}
 use Rattle.std.specs.Net.Addr.{ipv4_octets, ipv6_segments, segments_of}
 use Rattle.std.specs.declared.net.ip_addr.IpAddr.{IpAddr}
@@ -19,12 +19,12 @@ abbrev pub address_of : IpAddr → Address
 address_of (V4 ip) = Address.ipv4 (ipv4_octets ip)
 address_of (V6 ip) = Address.ipv6 (ipv6_segments ip)
 
--- the number of a family of addresses
+-- the number of an address family
 abbrev pub family_number : Afi → ℕ
 family_number addresses.Ipv4 = 1
 family_number addresses.Ipv6 = 2
 
--- how many bits an address of a family has
+-- the number of bits of an address of a family
 abbrev pub address_bits : Afi → ℕ
 address_bits addresses.Ipv4 = 32
 address_bits addresses.Ipv6 = 128
@@ -34,11 +34,11 @@ abbrev pub IsAddress : Afi → Relation Address
 IsAddress addresses.Ipv4 = IsFixed 4 Address.ipv4
 IsAddress addresses.Ipv6 = IsFixed 16 (λ octets. Address.ipv6 (segments_of octets))
 
--- the next number of a family
+-- the next address family number
 abbrev pub IsFamily : Relation Afi
 IsFamily w afi v = IsNumber 2 w (family_number afi) v
 
--- a number of four octets where there is one, or else nothing
+-- a number of four octets if there is one, otherwise nothing
 abbrev pub IsOptional : Bool → Relation (Option ℕ)
 IsOptional true w (Some n) v = IsNumber 4 w n v
 IsOptional true w None v = ⊥

@@ -1,4 +1,4 @@
--- Things up to the end of a window: that they are there is a fact.
+-- Values up to the end of a window: it is a fact that they are there.
 use Rattle.std.specs.Prelude.{◌≡◌, List}
 use Rattle.std.proofs.Math.Logic.{∥∥₁_prop, ∥∥₁_elim}
 use Rattle.std.specs.Coded.{Coded, Coded-set, coded_list}

@@ -1,4 +1,4 @@
--- Messages and changes of state: RFC 6396, 4.4 and 4.5 (BGP4MP_ET), and RFC 8050, 3 (path ids).
+-- Messages and state changes: RFC 6396, 4.4 and 4.5 (BGP4MP_ET), and RFC 8050, 3 (path ids).
 use Rattle.std.specs.Prelude.{◌≡◌, Bool, true, false, ℕ, Option}
 use Rattle.octseq.specs.Window.{Window}
 use Rattle.octseq_format.specs.Laws.{Relation}
@@ -14,8 +14,8 @@ use Rattle.octseq_mrt.specs.Address.{Address, IsAddress, IsFamily, IsOptional}
 use Rattle.octseq_mrt.specs.Kind.{is_state_change, has_wide_asns, has_path_ids}
 use Rattle.octseq_mrt.specs.declared.kind.Bgp4MpSubtype.{Bgp4MpSubtype}
 
--- What happened: an old state and a new one; or a message, by the session that it is to be read in and the window of
--- its octets.
+-- An event: an old state and a new one; or a message, with the session in which it is to be read and the window of its
+-- octets.
 pub data Event : Type 0 where
   state_change : ℕ × ℕ → Event
   message : SessionConfig → Window → Event
@@ -33,7 +33,7 @@ pub record Bgp4Mp : Type 0 where
 abbrev pub all_paths : Bool → AddPath
 all_paths has = record { ipv4_unicast = has; ipv4_multicast = has; ipv6_unicast = has; ipv6_multicast = has }
 
--- how a message of a subtype is to be read: it may be a long one
+-- how a message of a subtype is to be read: it may be an extended one
 abbrev pub message_session : Bgp4MpSubtype → SessionConfig
 message_session s = record {
   four_octet_asn = has_wide_asns s;
@@ -41,12 +41,12 @@ message_session s = record {
   extended_message = true;
 }
 
--- a family, and the addresses of the peer and of the collector
+-- an address family, and the addresses of the peer and the collector
 abbrev pub ArePeers : Relation (Afi × (Address × Address))
 ArePeers = IsFamily deciding (λ afi. IsAddress afi then IsAddress afi)
 
--- Microseconds, where the type has them; the AS numbers of the peer and of the collector; the index of an interface;
--- their addresses; and what follows.
+-- Microseconds, if the type has them; the AS numbers of the peer and the collector; the interface index; their
+-- addresses; and what follows.
 abbrev pub IsBgp4MpFront : Bool → Bool → Relation (Option ℕ × (ℕ × (ℕ × (ℕ × ((Afi × (Address × Address)) × Window)))))
 IsBgp4MpFront extended wide = IsOptional extended then IsNumber (asn_size wide) then IsNumber (asn_size wide)
     then IsNumber 2 then ArePeers then IsRest

@@ -1,4 +1,4 @@
--- The numbers of the types and subtypes whose records are read: RFC 6396, 4 and 4.3 to 4.5, and RFC 8050, 3 and 4.
+-- The numbers of the types and subtypes whose records are parsed: RFC 6396, 4 and 4.3 to 4.5, and RFC 8050, 3 and 4.
 use Rattle.std.specs.Prelude.{Bool, true, false, if◌then◌else◌, ℕ}
 use Rattle.octseq_bgp.specs.declared.family.AfiSafiType.{AfiSafiType}
 use Rattle.octseq_bgp.specs.declared.family.AfiSafiType.TheVariants as family
@@ -20,13 +20,13 @@ bgp4mp_number subtype.MessageAs4AddPath = 9
 bgp4mp_number subtype.MessageLocalAddPath = 10
 bgp4mp_number subtype.MessageAs4LocalAddPath = 11
 
--- a change of state, or else a message
+-- a state change rather than a message
 abbrev pub is_state_change : Bgp4MpSubtype → Bool
 is_state_change subtype.StateChange = true
 is_state_change subtype.StateChangeAs4 = true
 is_state_change _ = false
 
--- AS numbers have four octets, or else two
+-- AS numbers have four octets rather than two
 abbrev pub has_wide_asns : Bgp4MpSubtype → Bool
 has_wide_asns subtype.MessageAs4 = true
 has_wide_asns subtype.StateChangeAs4 = true
@@ -43,21 +43,21 @@ has_path_ids subtype.MessageLocalAddPath = true
 has_path_ids subtype.MessageAs4LocalAddPath = true
 has_path_ids _ = false
 
--- the number of the subtype of a RIB of a family: RFC 6396, 4.3.2; of one with path ids: RFC 8050, 4
+-- the subtype of a RIB of an address family: RFC 6396, 4.3.2; with path ids: RFC 8050, 4
 abbrev pub rib_number : AfiSafiType → Bool → ℕ
 rib_number family.Ipv4Unicast paths = if paths then 8 else 2
 rib_number family.Ipv4Multicast paths = if paths then 9 else 3
 rib_number family.Ipv6Unicast paths = if paths then 10 else 4
 rib_number family.Ipv6Multicast paths = if paths then 11 else 5
 
--- the type of a kind of records: TABLE_DUMP_V2, BGP4MP or BGP4MP_ET
+-- the type of a kind: TABLE_DUMP_V2, BGP4MP or BGP4MP_ET
 abbrev pub kind_type : RecordKind → ℕ
 kind_type kind.PeerIndexTable = 13
 kind_type (kind.Rib f paths) = 13
 kind_type (kind.Bgp4Mp s) = 16
 kind_type (kind.Bgp4MpEt s) = 17
 
--- its subtype
+-- the subtype of a kind
 abbrev pub kind_subtype : RecordKind → ℕ
 kind_subtype kind.PeerIndexTable = 1
 kind_subtype (kind.Rib f paths) = rib_number f paths

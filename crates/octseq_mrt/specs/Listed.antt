@@ -1,4 +1,4 @@
--- What a list has left of peers, of entries and of attributes.
+-- The peers, entries and attributes that are left.
 use Rattle.std.specs.Prelude.{Bool}
 use Rattle.octseq.specs.Window.{Window}
 use Rattle.octseq_bgp.specs.Entry.{IsEntry}

@@ -1,4 +1,4 @@
--- At most one peer, and one entry of a RIB, is at a place, with one end, and it takes an octet at least.
+-- At most one peer, and one RIB entry, is at a place, with one end, and it takes at least one octet.
 use Rattle.std.specs.Prelude.{◌≡◌, ℕ, ◌≤◌, Bool, true, false, Option, Some, None, List, ◌⊎◌, refl}
 use Rattle.std.proofs.Common.{sym, ap, ◌∙◌, subst, arith}
 use mathlib.Core.Logic.{inl, inr}
@@ -60,7 +60,7 @@ onward_address : (afi : Afi) → IsOnward 0 (IsAddress afi)
 onward_address addresses.Ipv4 = weaker (omega arith) (onward_fixed 4 Address.ipv4)
 onward_address addresses.Ipv6 = weaker (omega arith) (onward_fixed 16 (λ octets. Address.ipv6 (segments_of octets)))
 
--- ---- numbers that may be absent
+-- ---- optional numbers
 
 same_optional : (has : Bool) (w : Window) (a b : Option ℕ) (u v : Window) → IsOptional has w a u → IsOptional has w b v
     → (a ≡ b) × (u ≡ v)

@@ -37,11 +37,11 @@ record_of r = (r.header, window r.octets)
 abbrev pub peer_of : PeerEntry → tables.Peer
 peer_of p = record { peer_type = p.peer_type; bgp_id = p.bgp_id; addr = address_of p.addr; asn = p.asn.0 }
 
--- the peers that a list has left
+-- the peers that are left
 abbrev pub peers_left : {R : Type 0} {g : Ghosts R} → Peers R g → List tables.Peer
 peers_left peers = peers.ahead.0
 
--- a table of peers
+-- a peer index table
 abbrev pub table_of : {R : Type 0} {g : Ghosts R} → PeerIndexTable R g → tables.PeerIndexTable
 table_of t = record {
   collector_bgp_id = t.collector_bgp_id;
@@ -49,20 +49,20 @@ table_of t = record {
   peers = peers_left t.peers;
 }
 
--- an attribute of an entry
+-- an attribute of a RIB entry
 abbrev pub attribute_of : {R : Type 0} {g : Ghosts R} → RibAttribute R g → Entry
 attribute_of a = record { number = a.flags.0; kind = a.type_code; octets = window a.value }
 
--- the attributes that a list has left
+-- the attributes that are left
 abbrev pub attributes_left : {R : Type 0} {g : Ghosts R} → RibAttributes R g → List Entry
 attributes_left attributes = attributes.ahead.0
 
--- what an attribute of an entry says
+-- the value of an attribute of a RIB entry
 abbrev pub rib_value_of : {R : Type 0} {g : Ghosts R} → RibValue R g → ribs.RibValue
 rib_value_of (said.NextHop octets) = ribs.RibValue.next_hop (window octets)
 rib_value_of (said.Value v) = ribs.RibValue.value (bgp.value_of v)
 
--- an entry of a RIB
+-- a RIB entry
 abbrev pub entry_of : {R : Type 0} {g : Ghosts R} → RibEntry R g → ribs.RibEntry
 entry_of e = record {
   peer_index = e.peer_index;
@@ -71,7 +71,7 @@ entry_of e = record {
   attributes = attributes_left e.attributes;
 }
 
--- the entries that a list has left
+-- the entries that are left
 abbrev pub entries_left : {R : Type 0} {g : Ghosts R} → RibEntries R g → List ribs.RibEntry
 entries_left entries = entries.ahead.0
 
@@ -84,12 +84,12 @@ rib_of r = record {
   entries = entries_left r.entries;
 }
 
--- what happened
+-- an event
 abbrev pub event_of : {R : Type 0} {g : Ghosts R} → Event R g → events.Event
 event_of (event.StateChange old new) = events.Event.state_change (old, new)
 event_of (event.Message message) = events.Event.message message.session (window message.octets)
 
--- a message or a change of state
+-- a message or a state change
 abbrev pub bgp4mp_of : {R : Type 0} {g : Ghosts R} → Bgp4Mp R g → events.Bgp4Mp
 bgp4mp_of b = record {
   microseconds = b.microseconds;
@@ -101,7 +101,7 @@ bgp4mp_of b = record {
   event = event_of b.event;
 }
 
--- what a record says
+-- the value of a record
 abbrev pub value_of : {R : Type 0} {g : Ghosts R} → RecordValue R g → records.Value
 value_of (value.PeerIndexTable t) = records.Value.peer_index_table (table_of t)
 value_of (value.Rib r) = records.Value.rib (rib_of r)

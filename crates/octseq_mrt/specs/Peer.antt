@@ -1,4 +1,4 @@
--- The table of peers: RFC 6396, 4.3.1.
+-- The peer index table: RFC 6396, 4.3.1.
 use Rattle.std.specs.Prelude.{◌/◌, ◌%◌, Bool, if◌then◌else◌, nat_eq, ℕ, List}
 use Rattle.octseq.specs.Window.{Window}
 use Rattle.octseq_format.specs.Laws.{Relation}
@@ -17,11 +17,11 @@ pub record Peer : Type 0 where
   pub addr : Address
   pub asn : ℕ
 
--- the family of a peer's address: IPv6 where its type has the bit 1
+-- the family of a peer's address: IPv6 if its type has the bit 1
 abbrev pub peer_family : ℕ → Afi
 peer_family kind = if nat_eq (kind % 2) 1 then addresses.Ipv6 else addresses.Ipv4
 
--- its AS number has four octets where its type has the bit 2
+-- its AS number has four octets if its type has the bit 2
 abbrev pub has_wide_asn : ℕ → Bool
 has_wide_asn kind = nat_eq (kind / 2 % 2) 1
 

@@ -22,9 +22,9 @@ use Rattle.octseq_mrt.specs.Rib.{Rib, RibEntry, RibValue, IsRibValue}
 use Rattle.octseq_mrt.specs.Text.{peer_text, entry_text, bgp4mp_text}
 use Rattle.octseq_mrt.specs.declared.header.CommonHeader.{CommonHeader}
 
--- ---- tables of peers
+-- ---- peer index tables
 
--- a line for each peer, numbered from a number on
+-- a line for each peer, numbered from a start on
 abbrev pub peer_lines : ℕ → List Peer → List ℕ
 peer_lines n [] = []
 peer_lines n (p ∷ more) = line (codes "peer") (decimal n ++ spaced (peer_text p)) ++ peer_lines (n + 1) more
@@ -41,22 +41,22 @@ table_lines h t =
 
 -- ---- RIBs
 
--- next hops alone, by how many octets they have: one of IPv4 (4), one of IPv6 (16), or two
+-- next hops only, by their number of octets: one IPv4 address (4), one IPv6 address (16), or two
 abbrev pub hops_of : List ℕ → NextHop
 hops_of octets = if nat_eq (length octets) 4 then hop.Ipv4 octets
     else (if nat_eq (length octets) 16 then hop.Ipv6 octets else hop.Ipv6LinkLocal (take 16 octets) (drop 16 octets))
 
--- the line of an attribute that is next hops alone
+-- the line of an attribute with next hops only
 abbrev pub hops_line : ℕ → List ℕ → List ℕ
 hops_line flags octets = line (codes "attribute")
     (flags_text flags ++ spaced (type_text kind.MpReachNlri) ++ next_hop_text (hops_of octets))
 
--- the lines of an attribute of an entry: that one, or those of an attribute of a message
+-- the lines of an attribute of a RIB entry: that one, or those of an attribute of a message
 abbrev pub rib_attribute_lines : Entry → RibValue → List ℕ
 rib_attribute_lines e (RibValue.next_hop inside) = hops_line e.number (rest inside)
 rib_attribute_lines e (RibValue.value v) = attribute_lines e v
 
--- those of each attribute, of what its value says
+-- the lines of each attribute, by its value
 abbrev pub AreRibAttributeLines : List Entry → List ℕ → Type 0
 AreRibAttributeLines [] text = text ≡ []
 AreRibAttributeLines (e ∷ more) text = (v : RibValue) × (rest : List ℕ) × IsRibValue e.kind e.octets v
@@ -89,21 +89,21 @@ IsRibText h r text = (entries : List ℕ) × AreEntryLines r.entries entries
 
 -- ---- BGP4MP
 
--- a number of six digits at least: zeros (48), where it has fewer, and the number
+-- a number with at least six digits, with leading zeros (48)
 abbrev pub six_digits : ℕ → List ℕ
 six_digits n = replicate (6 - length (decimal n)) 48 ++ decimal n
 
--- microseconds, where there are some, after a full stop
+-- microseconds, if there are any, after a full stop
 abbrev pub microseconds_text : Option ℕ → List ℕ
 microseconds_text (Some n) = codes "." ++ six_digits n
 microseconds_text None = []
 
--- a session: its time, its subtype, its speakers, and a change of state
+-- a session: its time, its subtype, its speakers, and a state change
 abbrev pub session_text : CommonHeader → Bgp4Mp → List ℕ
 session_text h b = decimal h.timestamp ++ microseconds_text b.microseconds ++ spaced (decimal h.subtype)
     ++ spaced (bgp4mp_text b)
 
--- octets that are a message of a session, or else `malformed`
+-- octets that are a message of a session, otherwise `malformed`
 abbrev pub IsOctetsText : SessionConfig → List ℕ → List ℕ → Type 0
 IsOctetsText s octets text = ((m : bgp.Message) × bgp.IsMessage s octets m × IsMessageText m text)
     ⊎ ((m : bgp.Message) → ¬ bgp.IsMessage s octets m) × (text ≡ codes "malformed\n")
@@ -119,18 +119,18 @@ IsBgp4MpText h b text = (event : List ℕ) × IsEventText b.event event
 
 -- ---- records
 
--- octets that say nothing that is known, with their time, their type and their subtype
+-- opaque octets, with their time, type and subtype
 abbrev pub opaque_record_text : CommonHeader → List ℕ → List ℕ
 opaque_record_text h octets = decimal h.timestamp ++ spaced (decimal h.type_code) ++ spaced (decimal h.subtype)
     ++ spaced (opaque_text octets)
 
--- what a record says, after its header
+-- the value of a record, after its header
 abbrev pub IsValueText : CommonHeader → Value → List ℕ → Type 0
 IsValueText h (Value.peer_index_table t) text = text ≡ table_lines h t
 IsValueText h (Value.rib r) text = IsRibText h r text
 IsValueText h (Value.bgp4mp b) text = IsBgp4MpText h b text
 IsValueText h (Value.opaque w) text = text ≡ line (codes "record") (opaque_record_text h (rest w))
 
--- a record: the text of what it says
+-- a record: the text of its value
 abbrev pub IsRecordText : CommonHeader × Window → List ℕ → Type 0
 IsRecordText r text = (v : Value) × IsValue r.0 r.1 v × IsValueText r.0 v text

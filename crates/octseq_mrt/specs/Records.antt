@@ -1,4 +1,4 @@
--- Files of records, one after another: RFC 6396, 2.
+-- MRT files: records, one after another: RFC 6396, 2.
 use Rattle.std.specs.Prelude.{ℕ, ◌<◌, List, length, slice_range}
 use Rattle.octseq.specs.Code.{HasFront}
 use Rattle.octseq.specs.Integer.{be}
@@ -6,11 +6,11 @@ use Rattle.octseq.specs.Window.{Window}
 use Rattle.octseq_mrt.specs.Record.{AreRecord}
 use Rattle.octseq_mrt.specs.declared.header.CommonHeader.{CommonHeader}
 
--- how many octets follow the header that octets begin with
+-- the number of octets after the header at the front of octets
 abbrev pub record_length : List ℕ → ℕ
 record_length octets = be (slice_range octets 8 12)
 
--- the octets are those of one record
+-- the octets are one record
 abbrev pub IsRecordOctets : List ℕ → Type 0
 IsRecordOctets octets = (r : CommonHeader × Window) × AreRecord octets r
 
@@ -18,6 +18,6 @@ IsRecordOctets octets = (r : CommonHeader × Window) × AreRecord octets r
 abbrev pub BeginsWithRecord : List ℕ → Type 0
 BeginsWithRecord octets = HasFront IsRecordOctets (λ octets. octets) octets
 
--- octets at the end of a file that are no whole record: at least one, and no record is at their front
+-- octets at the end of a file that aren't a whole record: at least one, and no record is at their front
 abbrev pub IsCut : List ℕ → Type 0
 IsCut octets = (0 < length octets) × ¬ BeginsWithRecord octets

@@ -15,7 +15,7 @@ use Rattle.octseq_bgp.specs.declared.session.SessionConfig.{SessionConfig}
 use Rattle.octseq_mrt.specs.Address.{IsOptional, address_bits}
 use Rattle.octseq_mrt.specs.Bgp4Mp.{all_paths}
 
--- the number of a path id, where there is one
+-- the number of a path id, if there is one
 abbrev pub path_of : Option PathId → Option ℕ
 path_of (Some id) = Some id.0
 path_of None = None
@@ -26,17 +26,18 @@ pub record RibEntry : Type 0 where
   pub path_id : Option ℕ
   pub attributes : List Entry
 
--- the number of a peer, seconds, a path id where the record has them, and octets after their length
+-- the number of a peer, seconds, a path id if the record has them, and octets after their length
 abbrev pub HasEntryParts : Bool → Relation (ℕ × (ℕ × (Option ℕ × Window)))
 HasEntryParts paths = IsNumber 2 then IsNumber 4 then IsOptional paths then IsCounted 2
 
--- An entry: path attributes fill those octets.
+-- A RIB entry: path attributes fill those octets.
 pub record IsRibEntry (paths : Bool) (w : Window) (e : RibEntry) (v : Window) : Type 0 where
   pub octets : Window
   pub parts : HasEntryParts paths w (e.peer_index, (e.originated_time, (e.path_id, octets))) v
   pub attributes : Fills (IsEntry form.Attribute) octets e.attributes
 
--- A RIB: its family, a sequence number, a prefix (its length in bits and the window of its octets), and the entries.
+-- A RIB: its address family, a sequence number, a prefix (its length in bits and the window of its octets), and the
+-- entries.
 pub record Rib : Type 0 where
   pub family : AfiSafiType
   pub sequence : ℕ
@@ -49,13 +50,13 @@ IsRib f paths w r = (r.family ≡ f)
     × Whole (IsNumber 4 then IsPrefix (address_bits (afi_of f)) then Times 2 (IsRibEntry paths)) w
     (r.sequence, (r.prefix, r.entries))
 
--- ---- attributes of entries
+-- ---- attributes of RIB entries
 
--- how they are read: AS numbers have four octets
+-- the session in which they are read: AS numbers have four octets
 abbrev pub rib_session : SessionConfig
 rib_session = record { four_octet_asn = true; add_path = all_paths false; extended_message = false }
 
--- how many octets next hops alone have
+-- a number of octets that next hops may have
 abbrev pub is_next_hop_size : ℕ → Type 0
 is_next_hop_size size = (size ≡ 4) ⊎ (size ≡ 16) ⊎ (size ≡ 32)
 
@@ -63,7 +64,7 @@ is_next_hop_size size = (size ≡ 4) ⊎ (size ≡ 16) ⊎ (size ≡ 32)
 abbrev pub IsNextHopAlone : ℕ → Window → Window → Type 0
 IsNextHopAlone number w inside = (number ≡ 14) × Whole (IsCounted 1) w inside × is_next_hop_size (left inside)
 
--- What an attribute of an entry says: next hops alone, or what an attribute of a message says.
+-- The value of an attribute of a RIB entry: next hops only, or the value as in a message.
 pub data RibValue : Type 0 where
   next_hop : Window → RibValue
   value : bgp.Value → RibValue

@@ -1,4 +1,4 @@
--- The text of peers, of entries of RIBs and of sessions: RFC 5952 (IPv6) and RFC 5396, 2 (AS numbers).
+-- The text of peers, RIB entries and sessions: RFC 5952 (IPv6) and RFC 5396, 2 (AS numbers).
 use Rattle.std.specs.Prelude.{ℕ, Option, Some, None, List, [], ◌++◌, codes}
 use Rattle.std.specs.Fmt.{decimal}
 use Rattle.std.specs.Net.Addr.{octets_of}
@@ -21,7 +21,7 @@ abbrev pub peer_text : Peer → List ℕ
 peer_text p =
     codes "id " ++ number_dotted p.bgp_id ++ codes " address " ++ ip_text p.addr ++ codes " as " ++ decimal p.asn
 
--- a path id, where there is one
+-- a path id, if there is one
 abbrev pub path_text : Option ℕ → List ℕ
 path_text (Some id) = codes " path " ++ decimal id
 path_text None = []
@@ -30,12 +30,12 @@ path_text None = []
 abbrev pub entry_text : RibEntry → List ℕ
 entry_text e = decimal e.peer_index ++ codes " time " ++ decimal e.originated_time ++ path_text e.path_id
 
--- a change of state
+-- a state change
 abbrev pub states_text : Event → List ℕ
 states_text (Event.state_change states) = codes " state " ++ decimal states.0 ++ codes " " ++ decimal states.1
 states_text (Event.message session octets) = []
 
--- the speakers of a session, an interface, and a change of state
+-- the speakers of a session, an interface, and a state change
 unfoldable pub bgp4mp_text : Bgp4Mp → List ℕ
 bgp4mp_text b = codes "peer " ++ ip_text b.peer_addr ++ codes " as " ++ decimal b.peer_asn ++ codes " local "
     ++ ip_text b.local_addr ++ codes " as " ++ decimal b.local_asn ++ codes " interface " ++ decimal b.interface

@@ -1,4 +1,4 @@
-//! Addresses, AS numbers, and numbers that may be absent.
+//! Addresses, AS numbers, and optional numbers.
 ghost use Rattle.std.specs.Prelude.{IsErr, IfOk};
 ghost use Rattle.octseq.specs.Parser.{window};
 ghost use Rattle.octseq_format.specs.Laws.{NoneAt};
@@ -11,7 +11,7 @@ use octseq_bgp::{Afi, Asn};
 use octseq_format::{Format, Octets, U16Be, U32Be};
 use std::net::{IpAddr, Ipv4Addr, Ipv6Addr};
 
-/// Takes the next address of a family.
+/// Reads the next address of a family.
 pub(crate) fn parse_address<R: AsOctets + Copy>(
     parser: &mut Parser<R>,
     afi: Afi,
@@ -31,7 +31,7 @@ pub(crate) fn parse_address<R: AsOctets + Copy>(
     }
 }
 
-/// Takes the next number of a family.
+/// Reads the next address family number.
 pub(crate) fn parse_family<R: AsOctets + Copy>(parser: &mut Parser<R>) -> Result<Afi, Malformed>
     ensures family { IfOk result (λ afi. IsFamily (window parser.old) afi (window parser.new)) }
     ensures malformed { IsErr result → NoneAt IsFamily (window parser.old) }
@@ -44,7 +44,7 @@ pub(crate) fn parse_family<R: AsOctets + Copy>(parser: &mut Parser<R>) -> Result
     }
 }
 
-/// Takes the next AS number, of four octets or of two.
+/// Reads the next AS number, of four octets or two.
 pub(crate) fn parse_asn<R: AsOctets + Copy>(
     parser: &mut Parser<R>,
     wide: bool,
@@ -59,7 +59,7 @@ pub(crate) fn parse_asn<R: AsOctets + Copy>(
     }
 }
 
-/// Takes the next four octets as a number where there is one, or else nothing.
+/// Reads the next four octets as a number, if there is one; otherwise nothing.
 pub(crate) fn parse_optional<R: AsOctets + Copy>(
     parser: &mut Parser<R>,
     has: bool,

@@ -1,4 +1,4 @@
-//! Messages and changes of state: RFC 6396, 4.4 and 4.5, and RFC 8050, 3.
+//! Messages and state changes: RFC 6396, 4.4 and 4.5, and RFC 8050, 3.
 ghost use Rattle.std.specs.Prelude.{◌≡◌, ℕ, IsErr, IfOk, ⊤};
 ghost use Rattle.octseq.specs.Parser.{window};
 ghost use Rattle.octseq.specs.Window.{Window, rest};
@@ -19,12 +19,12 @@ use octseq_format::{Format, U16Be};
 use std::alloc::AllocError;
 use std::net::IpAddr;
 
-/// The octets of a message of a record.
+/// The octets of a message in a record.
 #[derive(Debug)]
 pub struct MessageOctets<R: AsOctets> {
-    /// How the message is to be read.
+    /// The session in which the message is to be read.
     pub session: SessionConfig,
-    /// The place of its octets. They may be no message.
+    /// The octets, as a parser. They may not be a message.
     pub octets: Parser<R>,
 }
 
@@ -40,12 +40,12 @@ impl<R: AsOctets + Copy> Clone for MessageOctets<R> {
     }
 }
 
-/// What happened to a session.
+/// An event of a session.
 #[derive(Debug)]
 pub enum Event<R: AsOctets> {
-    /// Its state changed, from the first to the second: RFC 4271, 8.2.2.
+    /// The state changed, from the first to the second: RFC 4271, 8.2.2.
     StateChange(u16, u16),
-    /// A message went over it.
+    /// A message was sent or received.
     Message(MessageOctets<R>),
 }
 
@@ -62,8 +62,8 @@ impl<R: AsOctets + Copy> Clone for Event<R> {
 }
 
 impl Bgp4MpSubtype {
-    /// How a message of the subtype is to be read: with AS numbers of its width, with path ids for all families where
-    /// it has them, and of up to 65,535 octets.
+    /// Returns how a message of the subtype is to be read: with AS numbers of its width, with path ids for all families
+    /// if it has them, and of up to 65,535 octets.
     pub fn session(self) -> SessionConfig
         ensures { result ≡ message_session self }
     {
@@ -78,7 +78,7 @@ impl Bgp4MpSubtype {
 impl<R: AsOctets + Copy> Event<R> {
     ghost use Rattle.octseq_mrt.specs.Parsed.{event_of};
 
-    /// Reads all that a parser has left as what happened, by a subtype.
+    /// Reads all that a parser has left as the event of a subtype.
     fn parse(parser: Parser<R>, subtype: Bgp4MpSubtype) -> Result<Event<R>, Malformed>
         ensures event { IfOk result (λ event. IsEvent subtype (window parser) (event_of event)) }
         ensures malformed { IsErr result → (event : said.Event) → ¬ IsEvent subtype (window parser) event }
@@ -94,7 +94,7 @@ impl<R: AsOctets + Copy> Event<R> {
     }
 }
 
-/// The family and the addresses of two speakers.
+/// The address family and the addresses of two speakers.
 #[derive(Clone, Copy, Debug)]
 struct Addresses {
     afi: Afi,
@@ -103,7 +103,7 @@ struct Addresses {
 }
 
 impl Addresses {
-    /// Takes the next ones.
+    /// Reads the next addresses.
     fn parse<R: AsOctets + Copy>(parser: &mut Parser<R>) -> Result<Addresses, Malformed>
         ensures peers { IfOk result (λ it. ArePeers (window parser.old)
             (it.afi, (address_of it.peer, address_of it.local)) (window parser.new)) }
@@ -116,22 +116,22 @@ impl Addresses {
     }
 }
 
-/// A message or a change of state, with the speakers of its session.
+/// A message or a state change, with the speakers of its session.
 #[derive(Debug)]
 pub struct Bgp4Mp<R: AsOctets> {
-    /// The microseconds after the second of the header, where the type has them.
+    /// The microseconds of the timestamp, if the type has them.
     pub microseconds: Option<u32>,
     /// The AS number of the peer.
     pub peer_asn: Asn,
     /// The AS number of the collector.
     pub local_asn: Asn,
-    /// The index of the interface, or 0.
+    /// The interface index, or 0.
     pub interface: u16,
     /// The address of the peer.
     pub peer_addr: IpAddr,
     /// The address of the collector.
     pub local_addr: IpAddr,
-    /// What happened.
+    /// The event.
     pub event: Event<R>,
 }
 
@@ -150,7 +150,7 @@ impl<R: AsOctets + Copy> Clone for Bgp4Mp<R> {
 impl<R: AsOctets + Copy> Bgp4Mp<R> {
     ghost use Rattle.octseq_mrt.specs.Parsed.{bgp4mp_of};
 
-    /// Reads all that a parser has left, with microseconds or without, by a subtype.
+    /// Reads all that a parser has left, with or without microseconds, by a subtype.
     pub(crate) fn parse(
         parser: Parser<R>,
         extended: bool,
@@ -184,7 +184,7 @@ impl<R: AsOctets + Copy> MessageOctets<R> {
     ///
     /// # Errors
     ///
-    /// `Malformed` where they are none.
+    /// `Malformed` if they aren't one.
     pub fn message(&self) -> Result<Message<&[u8]>, Malformed>
         ensures message { IfOk result (λ it.
             IsMessage self.now.session (rest (window self.now.octets)) (message_of it)) }

@@ -9,27 +9,27 @@ use octseq_format::{Format, U16Be, U32Be};
 /// The header of a record.
 #[derive(Clone, Copy, Debug, PartialEq, Eq)]
 pub struct CommonHeader {
-    /// When it was written, in seconds since 1970.
+    /// The time of the record, in seconds since 1970.
     pub timestamp: u32,
-    /// The number of its type.
+    /// The type number.
     pub type_code: u16,
-    /// The number of its subtype.
+    /// The subtype number.
     pub subtype: u16,
-    /// How many octets follow the header.
+    /// The number of octets after the header.
     pub length: u32,
 }
 
 impl CommonHeader {
-    /// How many octets a header has.
+    /// The number of octets of a header.
     pub const LEN: usize = 12;
 
     ghost use Rattle.octseq_mrt.specs.Header.{IsHeader};
 
-    /// Takes the next header.
+    /// Reads the next header.
     ///
     /// # Errors
     ///
-    /// `Malformed` where fewer than 12 octets are left.
+    /// `Malformed` if fewer than 12 octets are left.
     pub fn parse<R: AsOctets + Copy>(parser: &mut Parser<R>) -> Result<CommonHeader, Malformed>
         ensures header { IfOk result (λ header. IsHeader (window parser.old) header (window parser.new)) }
         ensures malformed { IsErr result → NoneAt IsHeader (window parser.old) }

@@ -1,4 +1,4 @@
-//! The types and subtypes whose records are read: RFC 6396, 4, and RFC 8050.
+//! The types and subtypes of records that are parsed: RFC 6396, 4, and RFC 8050.
 ghost use Rattle.std.specs.Prelude.{◌≡◌, IfSome, IsNone};
 ghost use Rattle.octseq_mrt.specs.Kind.{bgp4mp_number, is_state_change, has_wide_asns, has_path_ids};
 ghost use Rattle.octseq_mrt.specs.Kind.{kind_type, kind_subtype, rib_number};
@@ -33,7 +33,7 @@ pub enum Bgp4MpSubtype {
 }
 
 impl Bgp4MpSubtype {
-    /// The subtype of a number, or `None` where its records aren't read.
+    /// Returns the subtype of a number, or `None` if its records aren't parsed.
     pub fn from_number(number: u16) -> Option<Bgp4MpSubtype>
         ensures some { IfSome result (λ it. bgp4mp_number it ≡ number) }
         ensures none { IsNone result → (it : Subtype) → ¬ (bgp4mp_number it ≡ number) }
@@ -53,7 +53,7 @@ impl Bgp4MpSubtype {
         }
     }
 
-    /// Its number.
+    /// Returns the number.
     pub fn number(self) -> u16
         ensures { result ≡ bgp4mp_number self }
     {
@@ -71,7 +71,7 @@ impl Bgp4MpSubtype {
         }
     }
 
-    /// Whether it is a change of state, and no message.
+    /// Whether it is a state change rather than a message.
     pub fn is_state_change(self) -> bool
         ensures { result ≡ is_state_change self }
     {
@@ -109,12 +109,12 @@ impl Bgp4MpSubtype {
     }
 }
 
-/// A kind of records, by type and subtype.
+/// A kind of record, by type and subtype.
 #[derive(Clone, Copy, Debug, PartialEq, Eq)]
 pub enum RecordKind {
     /// PEER_INDEX_TABLE of TABLE_DUMP_V2: RFC 6396, 4.3.1.
     PeerIndexTable,
-    /// A RIB of a family, of TABLE_DUMP_V2, without path ids or with them: RFC 6396, 4.3.2, and RFC 8050, 4.
+    /// A RIB of an address family in TABLE_DUMP_V2, and whether it has path ids: RFC 6396, 4.3.2, and RFC 8050, 4.
     Rib(AfiSafiType, bool),
     /// BGP4MP: RFC 6396, 4.4.
     Bgp4Mp(Bgp4MpSubtype),
@@ -122,7 +122,7 @@ pub enum RecordKind {
     Bgp4MpEt(Bgp4MpSubtype),
 }
 
-/// The family of a RIB, and whether it has path ids.
+/// Returns the address family of a RIB, and whether it has path ids.
 fn rib_of_number(number: u16) -> Option<(AfiSafiType, bool)>
     ensures some { IfSome result (λ it. rib_number it.0 it.1 ≡ number) }
     ensures none { IsNone result → (family : Family) (paths : Bool) → ¬ (rib_number family paths ≡ number) }
@@ -144,7 +144,7 @@ ghost use Rattle.std.specs.Prelude.{Bool};
 ghost use Rattle.octseq_bgp.specs.declared.family.AfiSafiType.{AfiSafiType as Family};
 
 impl RecordKind {
-    /// The kind of a type and a subtype, or `None` where its records aren't read.
+    /// Returns the kind of a type and a subtype, or `None` if its records aren't parsed.
     pub fn from_numbers(type_code: u16, subtype: u16) -> Option<RecordKind>
         ensures some { IfSome result (λ it. (kind_type it ≡ type_code) × (kind_subtype it ≡ subtype)) }
         ensures none { IsNone result → (it : Kind) → kind_type it ≡ type_code → ¬ (kind_subtype it ≡ subtype) }

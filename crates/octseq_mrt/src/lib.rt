@@ -1,4 +1,4 @@
-//! Records of MRT, read from one buffer with nothing copied: RFC 6396 and RFC 8050.
+//! MRT records, read from one buffer without copies: RFC 6396 and RFC 8050.
 #![tactic(auto)]
 
 pub mod address;

@@ -1,4 +1,4 @@
-//! The table of peers: RFC 6396, 4.3.1.
+//! The peer index table: RFC 6396, 4.3.1.
 ghost use Rattle.std.specs.Prelude.{◌≡◌, ◌+◌, ◌≤◌, ℕ, List, IsErr, IfOk, OnOk, ⊤};
 ghost use Rattle.octseq.specs.Parser.{window};
 ghost use Rattle.octseq.specs.Window.{left};
@@ -19,17 +19,17 @@ use std::net::IpAddr;
 /// A peer of a collector.
 #[derive(Clone, Copy, Debug, PartialEq, Eq)]
 pub struct PeerEntry {
-    /// Its type: 1 where its address is IPv6, and 2 where its AS number has four octets. Other bits have no meaning.
+    /// The peer type: 1 if the address is IPv6, plus 2 if the AS number has four octets. Other bits have no meaning.
     pub peer_type: u8,
-    /// Its BGP identifier.
+    /// The BGP identifier.
     pub bgp_id: u32,
-    /// Its address.
+    /// The address.
     pub addr: IpAddr,
-    /// Its AS number.
+    /// The AS number.
     pub asn: Asn,
 }
 
-/// The family of a peer's address.
+/// Returns the family of a peer's address.
 fn peer_family(peer_type: u8) -> Afi
     ensures { result ≡ peer_family peer_type }
 {
@@ -43,7 +43,7 @@ fn peer_family(peer_type: u8) -> Afi
 impl PeerEntry {
     ghost use Rattle.octseq_mrt.specs.Parsed.{peer_of};
 
-    /// Takes the next peer.
+    /// Reads the next peer.
     fn parse<R: AsOctets + Copy>(parser: &mut Parser<R>) -> Result<PeerEntry, Malformed>
         ensures peer { IfOk result (λ peer. IsPeer (window parser.old) (peer_of peer) (window parser.new)) }
         ensures malformed { IsErr result → NoneAt IsPeer (window parser.old) }
@@ -61,7 +61,7 @@ impl PeerEntry {
     }
 }
 
-/// The peers that a table has left, from the first one on.
+/// An iterator over the peers of a table.
 #[derive(Debug)]
 pub struct Peers<R: AsOctets> {
     parser: Parser<R>,
@@ -84,7 +84,7 @@ impl<R: AsOctets + Copy> Peers<R> {
     ghost use Rattle.std.specs.Prelude.{length};
     ghost use Rattle.octseq_mrt.specs.Parsed.{peers_left};
 
-    /// How many octets are left. A peer has one at least.
+    /// Returns the number of octets that are left. A peer has at least one.
     pub(crate) fn octets_left(&self) -> usize
         ensures { length (peers_left self.now) ≤ result }
     {
@@ -117,7 +117,7 @@ impl<R: AsOctets + Copy> Iterator for Peers<R> {
     }
 }
 
-/// Takes so many peers, and counts a turn for each.
+/// Reads `count` peers, and counts a turn for each.
 fn pass_peers<R: AsOctets + Copy>(
     parser: &mut Parser<R>,
     count: u16,
@@ -135,14 +135,14 @@ fn pass_peers<R: AsOctets + Copy>(
     Ok(())
 }
 
-/// The table of peers.
+/// The peer index table.
 #[derive(Debug)]
 pub struct PeerIndexTable<R: AsOctets> {
     /// The BGP identifier of the collector.
     pub collector_bgp_id: u32,
-    /// The place of the view's name.
+    /// The view name, as a parser.
     pub view_name: Parser<R>,
-    /// The peers. Entries of RIBs number them from 0.
+    /// The peers. RIB entries refer to them by number, from 0.
     pub peers: Peers<R>,
 }
 
@@ -161,7 +161,7 @@ impl<R: AsOctets + Copy> Clone for PeerIndexTable<R> {
 impl<R: AsOctets + Copy> PeerIndexTable<R> {
     ghost use Rattle.octseq_mrt.specs.Parsed.{table_of};
 
-    /// Reads all that a parser has left as a table, and counts a turn for each peer.
+    /// Reads all that a parser has left as a peer index table, and counts a turn for each peer.
     pub(crate) fn parse_counted(
         parser: Parser<R>,
         turns: &mut Turns,

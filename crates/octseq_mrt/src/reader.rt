@@ -1,4 +1,4 @@
-//! A reader of files of records, which holds one record at a time.
+//! A reader of MRT files, which holds one record at a time.
 ghost use Rattle.std.specs.Prelude.{◌≡◌, ◌≢◌, ◌++◌, ℕ, true, false, List, [], length};
 ghost use Rattle.std.specs.Prelude.{IfOk, IsErr, OnErr, Ok, Err};
 ghost use Rattle.std.specs.Io.KnownBytes.{Consumes, IsAtEnd};
@@ -13,14 +13,14 @@ use std::error::Error;
 use std::fmt;
 use std::io::{self, Read};
 
-/// A record is at the front of octets in one way: no other is there.
+/// At most one record is at the front of octets.
 ///
-/// It does nothing. A caller that calls it has the law in its proof.
+/// It does nothing. Calling it brings the law into the caller's proof.
 pub fn records_are_apart()
     ensures { (a b x y : List ℕ) → IsRecordOctets a → IsRecordOctets b → a ++ x ≡ b ++ y → a ≡ b }
 {}
 
-/// Why no record was read.
+/// The reason why no record was read.
 #[derive(Debug, Drop)]
 pub enum RecordError {
     /// The input ends inside a record.
@@ -74,14 +74,13 @@ impl From<FillError> for RecordError {
     }
 }
 
-/// Reads the next record of a file into a vector, in place of what that holds, and answers whether there is one: not at
-/// the end of the input. The vector grows by at most 65,536 octets before as many have come, whatever the length in the
-/// record's header says.
+/// Reads the next record of a file into a vector, replacing its content. Returns `false` at the end of the input.
+/// Whatever length the header says, the vector never grows by more than 65,536 octets ahead of the input.
 ///
 /// # Errors
 ///
-/// `Short` where the input ends inside a record, `Memory` where a request for memory was refused, `Read` where a read
-/// failed. The reader may then be inside a record.
+/// `Short` if the input ends inside a record, `Memory` if a request for memory was refused, `Read` if a read failed.
+/// The reader may then be inside a record.
 pub fn read_record<R: Read>(reader: &mut R, octets: &mut Vec<u8>) -> Result<bool, RecordError>
     ensures record { result ≡ Ok true → IsRecordOctets octets.new.items
         × Consumes (R.remaining reader.old) (R.remaining reader.new) octets.new.items }
@@ -106,7 +105,7 @@ pub fn read_record<R: Read>(reader: &mut R, octets: &mut Vec<u8>) -> Result<bool
     Ok(true)
 }
 
-/// How many octets follow a header.
+/// Returns the number of octets after a header.
 fn length_of(header: &[u8]) -> usize
     requires { length header.now ≡ 12 }
     ensures { result ≡ record_length header.now }
@@ -118,7 +117,7 @@ fn length_of(header: &[u8]) -> usize
     }
 }
 
-/// The records of a file, read one at a time. It holds the octets of one record.
+/// A reader of the records of a file, one at a time. It holds the octets of one record.
 #[derive(Drop)]
 pub struct RecordReader<R> {
     reader: R,
@@ -132,7 +131,7 @@ impl<R: Read> RecordReader<R> {
     ghost use Rattle.octseq_mrt.specs.declared.header.CommonHeader.{CommonHeader as Header};
     ghost use Rattle.octseq.specs.Window.{Window};
 
-    /// The records of all that a reader has left.
+    /// Makes a reader of all the records that a reader has left.
     pub fn new(alloc: Global, reader: R) -> RecordReader<R>
         ensures reader { reader_of result ≡ reader }
         ensures octets { octets_of result ≡ [] }
@@ -145,13 +144,12 @@ impl<R: Read> RecordReader<R> {
         }
     }
 
-    /// Reads the next record, in place of the last one, and answers whether there is one: not at the end of the input,
-    /// and not after an error.
+    /// Reads the next record, replacing the last one. Returns `false` at the end of the input, and after an error.
     ///
     /// # Errors
     ///
-    /// `Short` where the input ends inside a record, `Memory` where a request for memory was refused, `Read` where a
-    /// read failed. The reader may then be inside a record, so no record follows.
+    /// `Short` if the input ends inside a record, `Memory` if a request for memory was refused, `Read` if a read
+    /// failed. The reader may then be inside a record, so no further record is read.
     pub fn read_next(&mut self) -> Result<bool, RecordError>
         ensures record { result ≡ Ok true → IsRecordOctets (octets_of self.new)
             × Consumes (R.remaining (reader_of self.old)) (R.remaining (reader_of self.new)) (octets_of self.new) }
@@ -173,18 +171,18 @@ impl<R: Read> RecordReader<R> {
         found
     }
 
-    /// The octets of the record that was read last.
+    /// Returns the octets of the last record read.
     pub fn octets(&self) -> &[u8]
         ensures { result.now ≡ octets_of self.now }
     {
         self.octets.as_slice()
     }
 
-    /// The record that was read last.
+    /// Returns the last record read.
     ///
     /// # Errors
     ///
-    /// `Malformed` where none was: where [`read_next`](Self::read_next) didn't answer `true`.
+    /// `Malformed` if there is none: if [`read_next`](Self::read_next) didn't return `true`.
     pub fn record(&self) -> Result<Record<&[u8]>, Malformed>
         ensures record { IfOk result (λ it. AreRecord (octets_of self.now) (record_of it)) }
         ensures malformed { IsErr result → (it : Header × Window) → ¬ AreRecord (octets_of self.now) it }
@@ -192,7 +190,7 @@ impl<R: Read> RecordReader<R> {
         Record::parse(self.octets.as_slice())
     }
 
-    /// What it reads from.
+    /// Returns the underlying reader.
     pub fn get_ref(&self) -> &R
         ensures { result.now ≡ reader_of self.now }
     {

@@ -17,26 +17,26 @@ use octseq::utf8::Turns;
 use octseq::{AsOctets, Malformed, Parser, ShortInput};
 use std::alloc::AllocError;
 
-/// Octets are a record in one way at most.
+/// Octets are a record in at most one way.
 ///
-/// It does nothing. A caller that calls it has the law in its proof.
+/// It does nothing. Calling it brings the law into the caller's proof.
 pub fn one_record()
     ensures { (octets : List ℕ) (a b : Header × Window) → AreRecord octets a → AreRecord octets b → a ≡ b }
 {}
 
-/// A record says one thing at most.
+/// A record has at most one value.
 ///
-/// It does nothing. A caller that calls it has the law in its proof.
+/// It does nothing. Calling it brings the law into the caller's proof.
 pub fn one_record_value()
     ensures { (header : Header) (w : Window) (a b : said.Value) → IsValue header w a → IsValue header w b → a ≡ b }
 {}
 
-/// A record where it was read.
+/// A record, where it was read.
 #[derive(Debug)]
 pub struct Record<R: AsOctets> {
-    /// Its header.
+    /// The header.
     pub header: CommonHeader,
-    /// The place of what follows the header.
+    /// The octets after the header, as a parser.
     pub octets: Parser<R>,
 }
 
@@ -52,7 +52,7 @@ impl<R: AsOctets + Copy> Clone for Record<R> {
     }
 }
 
-/// What a record says.
+/// The value of a record.
 #[derive(Debug)]
 pub enum RecordValue<R: AsOctets> {
     /// PEER_INDEX_TABLE.
@@ -61,7 +61,7 @@ pub enum RecordValue<R: AsOctets> {
     Rib(Rib<R>),
     /// BGP4MP or BGP4MP_ET.
     Bgp4Mp(Bgp4Mp<R>),
-    /// Octets whose form isn't that of their type and subtype: their place.
+    /// Octets without the form of their type and subtype, as a parser.
     Opaque(Parser<R>),
 }
 
@@ -80,7 +80,7 @@ impl<R: AsOctets + Copy> Clone for RecordValue<R> {
 impl<R: AsOctets + Copy> RecordValue<R> {
     ghost use Rattle.octseq_mrt.specs.Parsed.{value_of};
 
-    /// Reads all that a parser has left as a value of a kind.
+    /// Reads all that a parser has left as the value of a kind.
     fn parse_counted(
         parser: Parser<R>,
         kind: RecordKind,
@@ -110,7 +110,7 @@ impl<R: AsOctets + Copy> RecordValue<R> {
 impl<R: AsOctets + Copy> Record<R> {
     ghost use Rattle.octseq_mrt.specs.Parsed.{record_of, value_of};
 
-    /// Takes the next record.
+    /// Reads the next record.
     fn take(parser: &mut Parser<R>) -> Result<Record<R>, Malformed>
         ensures record { IfOk result (λ it. IsRecord (window parser.old) (record_of it) (window parser.new)) }
         ensures malformed { IsErr result → NoneAt IsRecord (window parser.old) }
@@ -120,11 +120,11 @@ impl<R: AsOctets + Copy> Record<R> {
         Ok(Record { header, octets })
     }
 
-    /// Reads all of the octets as a record. It requests no memory.
+    /// Reads all the octets as a record. It requests no memory.
     ///
     /// # Errors
     ///
-    /// `Malformed` where they are none: fewer or more than a header, and as many as its length says.
+    /// `Malformed` if they aren't one: a header, and exactly as many octets as its length says.
     pub fn parse(octets: R) -> Result<Record<R>, Malformed>
         ensures record { IfOk result (λ it. AreRecord (R.content octets) (record_of it)) }
         ensures malformed { IsErr result → (it : Header × Window) → ¬ AreRecord (R.content octets) it }
@@ -137,7 +137,7 @@ impl<R: AsOctets + Copy> Record<R> {
         Ok(record)
     }
 
-    /// Reads its octets as a value of its type and subtype.
+    /// Reads the octets as a value of the record's type and subtype.
     fn typed(&self, turns: &mut Turns) -> Result<RecordValue<R>, Malformed>
         ensures value { IfOk result (λ value.
             IsTyped self.now.header (window self.now.octets) (value_of value)) }
@@ -152,16 +152,15 @@ impl<R: AsOctets + Copy> Record<R> {
         Ok(value)
     }
 
-    /// What it says: a value of its type and subtype, or nothing that is known here, and then it is opaque. It requests
-    /// no memory.
+    /// Returns the value by its type and subtype, or else opaque octets. It requests no memory.
     pub fn value(&self) -> RecordValue<R>
         ensures { IsValue self.now.header (window self.now.octets) (value_of result) }
     {
         self.value_counted(&mut Turns::new())
     }
 
-    /// The same, and counts the turns of loops that this takes: one for each peer, entry and attribute. There are at
-    /// most as many as octets follow the header.
+    /// Does the same, and counts the loop turns: one for each peer, entry and attribute, at most one for each octet
+    /// after the header.
     pub fn value_counted(&self, turns: &mut Turns) -> RecordValue<R>
         ensures value { IsValue self.now.header (window self.now.octets) (value_of result) }
         ensures turns { turns.new ≤ turns.old + left (window self.now.octets) }
@@ -175,11 +174,11 @@ impl<R: AsOctets + Copy> Record<R> {
 
 ghost use Rattle.octseq_mrt.specs.Parsed.{record_of};
 
-/// Takes the next record of a file, or gives `None` at the end.
+/// Reads the next record of a file. Returns `None` at the end.
 ///
 /// # Errors
 ///
-/// `ShortInput` where the octets end inside a record. The parser then stays where it was.
+/// `ShortInput` if the octets end inside a record. The parser is then unchanged.
 pub fn next_record<R: AsOctets + Copy>(
     parser: &mut Parser<R>,
 ) -> Result<Option<Record<R>>, ShortInput>

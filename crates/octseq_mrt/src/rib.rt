@@ -22,11 +22,11 @@ use std::alloc::AllocError;
 /// An entry of a RIB.
 #[derive(Debug)]
 pub struct RibEntry<R: AsOctets> {
-    /// The number of the peer, counted from 0 in the table of peers. It may be one that isn't there.
+    /// The number of the peer, from 0, in the peer index table. The table may not have it.
     pub peer_index: u16,
-    /// When the route was heard, in seconds since 1970.
+    /// When the route was received, in seconds since 1970.
     pub originated_time: u32,
-    /// The id of the path, where the RIB has them.
+    /// The path id, if the RIB has them.
     pub path_id: Option<PathId>,
     /// The path attributes.
     pub attributes: RibAttributes<R>,
@@ -44,7 +44,7 @@ impl<R: AsOctets + Copy> Clone for RibEntry<R> {
     }
 }
 
-/// An entry whose attributes aren't looked at.
+/// An entry whose attributes haven't been read.
 #[derive(Debug, Drop)]
 struct EntryParts<R: AsOctets> {
     peer_index: u16,
@@ -54,7 +54,7 @@ struct EntryParts<R: AsOctets> {
 }
 
 impl<R: AsOctets + Copy> EntryParts<R> {
-    /// Takes the next one, with a path id or without.
+    /// Reads the next entry, with or without a path id.
     fn parse(parser: &mut Parser<R>, paths: bool) -> Result<EntryParts<R>, Malformed>
         ensures parts { IfOk result (λ it. HasEntryParts paths (window parser.old)
             (it.peer_index, (it.originated_time, (it.path_id, window it.octets))) (window parser.new)) }
@@ -73,7 +73,7 @@ impl<R: AsOctets + Copy> EntryParts<R> {
     }
 }
 
-/// Takes an entry, and counts a turn for each of its attributes.
+/// Reads an entry, and counts a turn for each of its attributes.
 fn pass_entry<R: AsOctets + Copy>(
     parser: &mut Parser<R>,
     paths: bool,
@@ -91,7 +91,7 @@ fn pass_entry<R: AsOctets + Copy>(
     Ok(())
 }
 
-/// The entries that a RIB has left, from the first one on.
+/// An iterator over the entries of a RIB.
 #[derive(Debug)]
 pub struct RibEntries<R: AsOctets> {
     parser: Parser<R>,
@@ -111,7 +111,7 @@ impl<R: AsOctets + Copy> Clone for RibEntries<R> {
     }
 }
 
-/// The path id of a number.
+/// Makes a path id of a number.
 fn path_id(number: Option<u32>) -> Option<PathId>
     ensures { path_of result ≡ number }
 {
@@ -153,7 +153,7 @@ impl<R: AsOctets + Copy> Iterator for RibEntries<R> {
     }
 }
 
-/// Takes so many entries, and counts a turn for each and for each of its attributes.
+/// Reads `count` entries, and counts a turn for each and for each of its attributes.
 fn pass_entries<R: AsOctets + Copy>(
     parser: &mut Parser<R>,
     paths: bool,
@@ -175,13 +175,13 @@ fn pass_entries<R: AsOctets + Copy>(
 /// The routes to a prefix.
 #[derive(Debug)]
 pub struct Rib<R: AsOctets> {
-    /// The family of the prefix.
+    /// The address family of the prefix.
     pub family: AfiSafiType,
     /// The sequence number.
     pub sequence: u32,
     /// The length of the prefix in bits.
     pub len: u8,
-    /// The place of the octets of the prefix. Bits after its last one have no meaning.
+    /// The octets of the prefix, as a parser. Bits after the last one of the prefix have no meaning.
     pub octets: Parser<R>,
     /// The entries.
     pub entries: RibEntries<R>,
@@ -199,7 +199,7 @@ impl<R: AsOctets + Copy> Clone for Rib<R> {
     }
 }
 
-/// How many bits an address of a family has.
+/// Returns the number of bits of an address of a family.
 fn address_bits(afi: Afi) -> u8
     ensures { result ≡ address_bits afi }
 {
@@ -209,7 +209,7 @@ fn address_bits(afi: Afi) -> u8
     }
 }
 
-/// Takes the next prefix of at most so many bits: its length, and the place of its octets.
+/// Reads the next prefix of at most `most` bits. Returns its length, and its octets as a parser.
 fn parse_prefix<R: AsOctets + Copy>(
     parser: &mut Parser<R>,
     most: u8,
@@ -228,8 +228,8 @@ fn parse_prefix<R: AsOctets + Copy>(
 impl<R: AsOctets + Copy> Rib<R> {
     ghost use Rattle.octseq_mrt.specs.Parsed.{rib_of};
 
-    /// Reads all that a parser has left as a RIB of a family, and counts a turn for each entry and for each of its
-    /// attributes.
+    /// Reads all that a parser has left as a RIB of an address family, and counts a turn for each entry and for each of
+    /// its attributes.
     pub(crate) fn parse_counted(
         parser: Parser<R>,
         family: AfiSafiType,
@@ -261,7 +261,7 @@ impl<R: AsOctets + Copy> Rib<R> {
         })
     }
 
-    /// The prefix where it was read.
+    /// Returns the prefix, where it was read.
     pub fn prefix(&self) -> Nlri<R>
         ensures { result ≡ record {
           path_id = None;

@@ -1,4 +1,4 @@
-//! The path attributes of an entry of a RIB: RFC 6396, 4.3.4.
+//! The path attributes of a RIB entry: RFC 6396, 4.3.4.
 ghost use Rattle.std.specs.Prelude.{◌≡◌, ◌+◌, ◌≤◌, ◌↔◌, List, IsTrue, IsErr, IfOk, IfSome, IsNone, OnOk, ⊤};
 ghost use Rattle.octseq.specs.Parser.{window};
 ghost use Rattle.octseq.specs.Window.{Window, left};
@@ -16,20 +16,20 @@ use octseq_bgp::{AttributeValue, Flags, PathAttribute, SessionConfig};
 use octseq_format::{Counted, Format, Rest, U8};
 use std::alloc::AllocError;
 
-/// A type, and octets after their length of one octet.
+/// A type, and octets with a length of one octet before them.
 type Short = (U8, Counted<u8, Rest, 0>);
 
-/// A type, and octets after their length of two octets.
+/// A type, and octets with a length of two octets before them.
 type Long = (U8, Counted<u16, Rest, 0>);
 
-/// A path attribute of an entry, where it was read.
+/// A path attribute of a RIB entry, where it was read.
 #[derive(Debug)]
 pub struct RibAttribute<R: AsOctets> {
-    /// Its flags.
+    /// The flags.
     pub flags: Flags,
-    /// Its type.
+    /// The type.
     pub type_code: u8,
-    /// The place of its octets.
+    /// The octets, as a parser.
     pub value: Parser<R>,
 }
 
@@ -48,7 +48,7 @@ impl<R: AsOctets + Copy> Clone for RibAttribute<R> {
 impl<R: AsOctets + Copy> RibAttribute<R> {
     ghost use Rattle.octseq_mrt.specs.Parsed.{attribute_of};
 
-    /// Takes the next one.
+    /// Reads the next attribute.
     fn parse(parser: &mut Parser<R>) -> Result<RibAttribute<R>, Malformed>
         ensures attribute { IfOk result (λ it.
             IsEntry form.Attribute (window parser.old) (attribute_of it) (window parser.new)) }
@@ -68,7 +68,7 @@ impl<R: AsOctets + Copy> RibAttribute<R> {
     }
 }
 
-/// The path attributes that an entry has left, from the first one on.
+/// An iterator over the path attributes of an entry.
 #[derive(Debug)]
 pub struct RibAttributes<R: AsOctets> {
     parser: Parser<R>,
@@ -88,7 +88,7 @@ impl<R: AsOctets + Copy> Clone for RibAttributes<R> {
 }
 
 impl<R: AsOctets + Copy> RibAttributes<R> {
-    /// The attributes that fill what a parser has left.
+    /// Returns an iterator over the attributes that fill what a parser has left.
     pub(crate) fn at(parser: Parser<R>) -> RibAttributes<R>
         requires { AttributesAhead (window parser) }
         ensures { window result.parser ≡ window parser }
@@ -122,7 +122,7 @@ impl<R: AsOctets + Copy> Iterator for RibAttributes<R> {
     }
 }
 
-/// Takes all that a parser has left as path attributes, and counts a turn for each.
+/// Reads all that a parser has left as path attributes, and counts a turn for each.
 pub(crate) fn pass_attributes<R: AsOctets + Copy>(
     parser: &mut Parser<R>,
     turns: &mut Turns,
@@ -140,9 +140,9 @@ pub(crate) fn pass_attributes<R: AsOctets + Copy>(
     Ok(())
 }
 
-/// Octets that are next hops alone are no MP_REACH_NLRI of a message, so it doesn't matter which is looked for first.
+/// Octets that are next hops only aren't an MP_REACH_NLRI of a message, so it doesn't matter which is tried first.
 ///
-/// It does nothing. A caller that calls it has the law in its proof.
+/// It does nothing. Calling it brings the law into the caller's proof.
 pub fn next_hops_are_apart()
     ensures { (session : Session) (w : Window) (reach : Reach) → IsReach session w reach → (inside : Window)
         → ¬ IsNextHopAlone 14 w inside }
@@ -151,12 +151,12 @@ pub fn next_hops_are_apart()
 ghost use Rattle.octseq_bgp.specs.Value.{Reach, IsReach};
 ghost use Rattle.octseq_bgp.specs.declared.session.SessionConfig.{SessionConfig as Session};
 
-/// What an attribute of an entry says.
+/// The value of an attribute of an entry.
 #[derive(Debug)]
 pub enum RibValue<R: AsOctets> {
-    /// MP_REACH_NLRI that has next hops alone: their place. They are of the RIB's family.
+    /// An MP_REACH_NLRI with next hops only, as a parser. They are of the RIB's family.
     NextHop(Parser<R>),
-    /// What an attribute of a message says.
+    /// The value of an attribute, as in a message.
     Value(AttributeValue<R>),
 }
 
@@ -172,7 +172,7 @@ impl<R: AsOctets + Copy> Clone for RibValue<R> {
     }
 }
 
-/// Whether next hops alone may have so many octets.
+/// Whether next hops may have this many octets.
 fn is_next_hop_size(size: usize) -> bool
     ensures { IsTrue result ↔ is_next_hop_size size }
 {
@@ -182,7 +182,7 @@ fn is_next_hop_size(size: usize) -> bool
 impl<R: AsOctets + Copy> RibAttribute<R> {
     ghost use Rattle.octseq_mrt.specs.Parsed.{rib_value_of};
 
-    /// The place of the next hops, where it has them alone.
+    /// Returns the next hops, if the attribute has nothing else.
     fn next_hop_alone(&self) -> Option<Parser<R>>
         ensures some { IfSome result (λ it. IsNextHopAlone self.now.type_code (window self.now.value) (window it)) }
         ensures none { IsNone result → (inside : Window)
@@ -203,7 +203,7 @@ impl<R: AsOctets + Copy> RibAttribute<R> {
         }
     }
 
-    /// The same attribute as one of a message whose AS numbers have four octets.
+    /// Returns the attribute as one of a message with four-octet AS numbers.
     pub fn path_attribute(&self) -> PathAttribute<R>
         ensures { result ≡ record {
           flags = self.now.flags;
@@ -220,15 +220,14 @@ impl<R: AsOctets + Copy> RibAttribute<R> {
         }
     }
 
-    /// What it says: next hops alone, or what an attribute of a message says.
+    /// Returns the value: next hops only, or the value as in a message.
     pub fn value(&self) -> RibValue<R>
         ensures { IsRibValue self.now.type_code (window self.now.value) (rib_value_of result) }
     {
         self.value_counted(&mut Turns::new())
     }
 
-    /// The same, and counts the turns of loops that this takes: one for each segment and prefix. There are at most as
-    /// many as it has octets.
+    /// Does the same, and counts the loop turns: one for each segment and prefix, at most one for each octet.
     pub fn value_counted(&self, turns: &mut Turns) -> RibValue<R>
         ensures value { IsRibValue self.now.type_code (window self.now.value) (rib_value_of result) }
         ensures turns { turns.new ≤ turns.old + left (window self.now.value) }

@@ -1,4 +1,4 @@
-//! The text of peers, of entries of RIBs and of sessions.
+//! The text of peers, RIB entries and sessions.
 ghost use Rattle.std.specs.Prelude.{◌++◌, Some, codes};
 ghost use Rattle.octseq_mrt.specs.Address.{address_of};
 ghost use Rattle.octseq_mrt.specs.Parsed.{peer_of, entry_of, event_of, bgp4mp_of};
@@ -19,7 +19,7 @@ use octseq_bgp::{Afi, PathId};
 use std::fmt;
 use std::net::IpAddr;
 
-/// An address as text.
+/// The text of an address.
 #[derive(Clone, Copy)]
 struct AddressText(IpAddr);
 
@@ -47,7 +47,7 @@ impl fmt::Display for PeerEntry {
     }
 }
 
-/// A path id, where there is one, as text.
+/// The text of a path id, if there is one.
 #[derive(Clone, Copy)]
 struct PathText(Option<PathId>);
 
@@ -62,7 +62,7 @@ impl fmt::Display for PathText {
     }
 }
 
-/// Prints the number of the peer, the time, and the path id where there is one.
+/// Prints the number of the peer, the time, and the path id if there is one.
 impl<R: AsOctets> fmt::Display for RibEntry<R> {
     ghost output = { λ entry. Some (codes "entry " ++ entry_text (entry_of entry)) };
 
@@ -74,7 +74,7 @@ impl<R: AsOctets> fmt::Display for RibEntry<R> {
     }
 }
 
-/// Prints the states where it is a change of state, and else nothing.
+/// Prints the states of a state change, otherwise nothing.
 impl<R: AsOctets> fmt::Display for Event<R> {
     ghost output = { λ event. Some (states_text (event_of event)) };
 
@@ -86,7 +86,7 @@ impl<R: AsOctets> fmt::Display for Event<R> {
     }
 }
 
-/// Prints the speakers and the interface, and the states where it is a change of state.
+/// Prints the speakers and the interface, and the states of a state change.
 impl<R: AsOctets + Copy> fmt::Display for Bgp4Mp<R> {
     ghost output = { λ it. Some (bgp4mp_text (bgp4mp_of it)) };
 

@@ -1,4 +1,4 @@
-//! The text of a record at the end of another text.
+//! Appending the text of a record to another text.
 ghost use Rattle.std.specs.Prelude.{◌≡◌, ◌≢◌, ◌+◌, ◌++◌, ℕ, List, None, true, length, IsErr, OnOk, OnErr};
 ghost use Rattle.octseq.specs.Display.{display_error};
 ghost use Rattle.octseq.specs.Limit.{IsPast};
@@ -21,15 +21,15 @@ impl<R: AsOctets + Copy> WriteLines for Record<R> {
 }
 
 impl<R: AsOctets + Copy> Record<R> {
-    /// Appends the text of the record, or nothing: a line for each of its parts, as
-    /// `rib 1700000000 2 sequence 0 10.0.0.0/8`, `entry 0 time 1700000000` and `attribute T ORIGIN IGP`. Each ends
-    /// with a line feed. The number after the time, which is in seconds since 1970, is the subtype.
+    /// Appends the text of the record. On an error it appends nothing. There is a line for each part, such as `rib
+    /// 1700000000 2 sequence 0 10.0.0.0/8`, `entry 0 time 1700000000` and `attribute T ORIGIN IGP`. Each ends with a
+    /// line feed. The number after the time, which is in seconds since 1970, is the subtype.
     ///
     /// # Errors
     ///
-    /// `Short` where the text would pass the limit of its type, `Memory` where a request for memory was refused. The
-    /// text is then as it was. (`Display` is never answered, though no contract says so: by std's, a `fmt` may always
-    /// fail.)
+    /// `Short` if the text would exceed the limit of its type, `Memory` if a request for memory was refused. The text
+    /// is then unchanged. (`Display` is never returned, though no contract says so: by std's contract, a `fmt` may
+    /// always fail.)
     pub fn append_text<B: OctetsBuilder + Truncate>(
         &self,
         text: &mut StrBuilder<B>,

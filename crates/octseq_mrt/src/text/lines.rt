@@ -21,9 +21,9 @@ use octseq_bgp::text::{write_dotted, write_opaque, write_string};
 use octseq_bgp::{Message, SessionConfig};
 use std::fmt;
 
-/// A record has one text at most.
+/// A record has at most one text.
 ///
-/// It does nothing. A caller that calls it has the law in its proof.
+/// It does nothing. Calling it brings the law into the caller's proof.
 pub fn one_record_text()
     ensures { (r : Header × Window) (text other : List ℕ) → IsRecordText r text → IsRecordText r other → text ≡ other }
 {}
@@ -57,7 +57,7 @@ fn write_peers<W: fmt::Write, R: AsOctets + Copy>(
     Ok(())
 }
 
-/// Writes the line of a table.
+/// Writes the line of a peer index table.
 fn write_table_line<W: fmt::Write>(
     f: &mut fmt::Formatter<W>,
     time: u32,
@@ -74,7 +74,7 @@ fn write_table_line<W: fmt::Write>(
     f.write_str("\n")
 }
 
-/// Writes the lines of a table and of its peers.
+/// Writes the lines of a peer index table and of its peers.
 fn write_table<W: fmt::Write, R: AsOctets + Copy>(
     f: &mut fmt::Formatter<W>,
     header: CommonHeader,
@@ -87,14 +87,14 @@ fn write_table<W: fmt::Write, R: AsOctets + Copy>(
     write_peers(f, table.peers)
 }
 
-/// Writes a number in six digits at least.
+/// Writes a number with at least six digits.
 fn write_six_digits<W: fmt::Write>(f: &mut fmt::Formatter<W>, number: u32) -> fmt::Result
     ensures { WritesOnOk W.write_str_gives f.old result (six_digits number) f.new }
 {
     write!(f, "{number:06}")
 }
 
-/// Writes microseconds, where there are some.
+/// Writes microseconds, if there are any.
 fn write_microseconds<W: fmt::Write>(
     f: &mut fmt::Formatter<W>,
     microseconds: Option<u32>,
@@ -125,7 +125,7 @@ fn write_session<W: fmt::Write, R: AsOctets + Copy>(
     write!(f, " {subtype} {it}\n")
 }
 
-/// Writes the lines of the message that octets are, or `malformed`.
+/// Writes the lines of the message that the octets are, or `malformed`.
 fn write_octets<W: fmt::Write, R: AsOctets + Copy>(
     f: &mut fmt::Formatter<W>,
     octets: R,
@@ -140,7 +140,7 @@ fn write_octets<W: fmt::Write, R: AsOctets + Copy>(
     }
 }
 
-/// Writes the lines of a message, and nothing for a change of state.
+/// Writes the lines of a message, or nothing for a state change.
 fn write_event<W: fmt::Write, R: AsOctets + Copy>(
     f: &mut fmt::Formatter<W>,
     event: &Event<R>,
@@ -167,7 +167,7 @@ fn write_bgp4mp<W: fmt::Write, R: AsOctets + Copy>(
     write_event(f, &it.event)
 }
 
-/// Writes the line of a record that says nothing that is known.
+/// Writes the line of a record with opaque octets.
 fn write_opaque_record<W: fmt::Write>(
     f: &mut fmt::Formatter<W>,
     header: CommonHeader,
@@ -182,7 +182,7 @@ fn write_opaque_record<W: fmt::Write>(
     f.write_str("\n")
 }
 
-/// Writes the lines of what a record says.
+/// Writes the lines of the value of a record.
 fn write_value<W: fmt::Write, R: AsOctets + Copy>(
     f: &mut fmt::Formatter<W>,
     header: CommonHeader,
@@ -199,7 +199,7 @@ fn write_value<W: fmt::Write, R: AsOctets + Copy>(
     }
 }
 
-/// Prints the text of the record, as [`append_text`](Record::append_text) appends it: a line for each of its parts.
+/// Prints the text of the record as [`append_text`](Record::append_text) appends it: a line for each part.
 impl<R: AsOctets + Copy> fmt::Display for Record<R> {
     ghost output = { λ _. None };
 

@@ -17,7 +17,7 @@ use octseq_bgp::text::{write_attribute_lines, write_next_hop};
 use octseq_bgp::{AttributeType, Flags, NextHop};
 use std::fmt;
 
-/// The address that octets are.
+/// Returns octets as an address.
 fn address<const N: usize>(octets: &[u8]) -> [u8; N]
     requires { length octets.now ≡ N }
     ensures { result ≡ octets.now }
@@ -27,7 +27,7 @@ fn address<const N: usize>(octets: &[u8]) -> [u8; N]
     address
 }
 
-/// Next hops, by how many octets they have.
+/// Returns next hops, by their number of octets.
 fn hops_of(octets: &[u8]) -> NextHop
     requires { is_next_hop_size (length octets.now) }
     ensures { result ≡ hops_of octets.now }
@@ -39,7 +39,7 @@ fn hops_of(octets: &[u8]) -> NextHop
     }
 }
 
-/// Writes the line of an attribute that is next hops alone.
+/// Writes the line of an attribute with next hops only.
 fn write_hops_line<W: fmt::Write>(
     f: &mut fmt::Formatter<W>,
     flags: Flags,
@@ -54,7 +54,7 @@ fn write_hops_line<W: fmt::Write>(
     f.write_str("\n")
 }
 
-/// Writes the lines of an attribute with what its value says.
+/// Writes the lines of an attribute, by its value.
 fn write_attribute<W: fmt::Write, R: AsOctets + Copy>(
     f: &mut fmt::Formatter<W>,
     attribute: &RibAttribute<R>,

@@ -1,4 +1,4 @@
--- So many were passed.
+-- `taken` of them were passed.
 use Rattle.std.proofs.Common.{◌+◌, ◌≤◌, List}
 use Rattle.octseq.specs.Parser.{window}
 use Rattle.octseq.specs.Window.{left}

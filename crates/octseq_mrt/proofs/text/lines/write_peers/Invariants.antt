@@ -1,4 +1,4 @@
--- What is written, and the lines of what is ahead, are those of all; the numbers fit.
+-- What is written, and the lines of what is ahead, are all the lines; the numbers fit.
 use Rattle.std.proofs.Common.{◌≡◌, ◌+◌, ◌≤◌, ◌++◌, ℕ, List, length}
 use Rattle.std.specs.Fmt.{HasWritten, IsPlainFormatter}
 use Rattle.octseq_mrt.specs.Parsed.{peers_left}
