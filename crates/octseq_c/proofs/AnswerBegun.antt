@@ -1,4 +1,4 @@
--- An answer with its header and its questions.
+-- Begins an answer with its header and its questions.
 use Rattle.std.proofs.Common.{◌≡◌, ℕ, ◌<◌, true, false, ◌⊎◌, Option, Some, None, Result, Ok, Err, List, [], length, refl, sym, ap, ◌∙◌}
 use Rattle.std.proofs.Common.{subst, arith, inl, inr}
 use Rattle.std.specs.Prelude.{IfOk, IsErr, OnOk}
@@ -18,7 +18,7 @@ use Rattle.octseq_dns_message.specs.declared.header.Header.{Header}
 use Rattle.octseq_dns_message.specs.declared.header.HeaderCounts.{HeaderCounts}
 use Rattle.octseq_c.specs.Made.{without_records}
 
--- what follows where a call answers Ok
+-- what follows if a call returns `Ok`
 pub on_ok : {T E P Q : Type 0} (r : Result T E) → (P → Q) → OnOk r P → OnOk r Q
 on_ok (Ok value) then is = then is
 on_ok (Err e) then is = tt
@@ -28,19 +28,19 @@ pub if_ok : {T E : Type 0} {P Q : T → Type 0} (r : Result T E) → ((value : T
 if_ok (Ok value) then is = then value is
 if_ok (Err e) then is = tt
 
--- where no request for memory is refused, a call is refused as short
+-- if no request for memory is refused, the error of a call is `Short`
 pub short_alone : {T : Type 0} (result : Result T AppendError) → IsErr result
     → (IsMemory append_error result → (false ≡ true) ⊎ (false ≡ true)) → IsShort append_error result
 short_alone (Ok value) err memory = absurd (cc)
 short_alone (Err (AppendError.Short e)) err memory = tt
 short_alone (Err AppendError.Memory) err memory = absurd (elim (memory tt) [ inl asks ↦ cc | inr asks ↦ cc ])
 
--- where no limit is set for pushes, that of a message is passed
+-- if pushes have no limit, the limit of a message is exceeded
 pub past_unlimited : (push_limit : Option ℕ) (n : ℕ) → push_limit ≡ None
     → IsPast (least_limit push_limit (Some 65535)) n → 65535 < n
 past_unlimited push_limit n none past = subst (λ limit. IsPast (least_limit limit (Some 65535)) n) none past
 
--- another header has as many octets
+-- with another header there are as many octets
 same_long : (most : ℕ) (m : Message) (header : Header)
     → length (octets_of most (record m { header = header })) ≡ length (octets_of most m)
 same_long most m header =
@@ -56,7 +56,7 @@ asked_past most m past =
     past_answers (Some 65535) most m (omega (arith, longer, past))
 
 module _ (most : ℕ) (header : Header) (questions : List Question) (m : Message) (are : m.questions ≡ questions) where
-  -- so an answer passes the limit where its questions do, under whatever header
+  -- so an answer exceeds the limit if its questions do, whatever the header
   pub begun_past : 65535 < length (octets_of most (of_sections header questions [] [] []))
       → 65535 < length (octets_of most m)
   begun_past past =

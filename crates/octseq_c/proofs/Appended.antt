@@ -1,4 +1,4 @@
--- What appends to an array do: octets are at the end, and are not refused where there is room.
+-- Appends to an array: octets are at the end, and aren't refused if there is room.
 use Rattle.std.proofs.Common.{◌≡◌, ℕ, ◌+◌, ◌≤◌, false, Bool, Option, Some, List, [], ◌∷◌, ◌++◌, length, Result, Ok, Err, IsOk}
 use Rattle.std.proofs.Common.{OnOk, refl, arith, ap, ◌∙◌, subst, append_assoc}
 use Rattle.std.proofs.lemmas.List.{length-append}
@@ -7,7 +7,7 @@ use Rattle.octseq.specs.Integer.{octets_be}
 use Rattle.octseq.specs.declared.AppendError.{AppendError}
 use Rattle.octseq_c.specs.Made.{query_header}
 
--- where there is room an append is not refused
+-- if there is room, an append isn't refused
 pub append_fits : {n : ℕ} {old new octets : List ℕ} (result : Result (Unit {0}) AppendError)
     → Appends (Some n) false result octets old new → length old + length octets ≤ n → IsOk result
 append_fits (Ok done) does fits = refl
@@ -16,12 +16,12 @@ append_fits (Err (AppendError.Short e)) does fits =
     absurd (omega (arith, past, fits))
 append_fits (Err AppendError.Memory) does fits = absurd (let told = does.memory tt in cc)
 
--- the octets are at the end where it was not
+-- the octets are at the end if it wasn't refused
 pub append_done : {limit : Option ℕ} {asks : Bool} {old new octets : List ℕ} {result : Result (Unit {0}) AppendError}
     {done : Unit {0}} → result ≡ Ok done → Appends limit asks result octets old new → new ≡ old ++ octets
 append_done {old = old} {new = new} {octets = octets} e does = subst (λ r. OnOk r (new ≡ old ++ octets)) e does.ok
 
--- as many more
+-- the length grows by theirs
 pub longer : (old new octets : List ℕ) → new ≡ old ++ octets → length new ≡ length old + length octets
 longer old new octets e = ap length e ∙ length-append old octets
 

@@ -1,4 +1,4 @@
--- A message is answered in one way, where the flags and the rows are given.
+-- For given flags and rows, a message is answered in one way.
 use Rattle.std.proofs.Common.{◌≡◌, ℕ, true, ◌<◌, List, [], ◌∷◌, ◌++◌, length, refl, sym, ap, ◌∙◌, subst, arith}
 use Rattle.std.specs.List.{AllZip}
 use Rattle.octseq.specs.Integer.{octets_be}
@@ -21,7 +21,7 @@ use Rattle.octseq_c.specs.declared.rows.Row.{Row}
 
 -- ---- a record
 
--- a row stands for one record
+-- a row has one record
 pub one_record : (source : List ℕ) (row : Row) (a b : Record) → IsRecordAt source row a → IsRecordAt source row b
     → a ≡ b
 one_record source row a b is other =
@@ -56,7 +56,7 @@ one_row source (row ∷ rows) (x ∷ written) (y ∷ others) a b =
 no_counts : HeaderCounts
 no_counts = record { qdcount = 0; ancount = 0; nscount = 0; arcount = 0 }
 
--- its flags and its response code can be told from their number
+-- the flags and the response code follow from their number
 one_told : (a b : Header) → a.opcode < 16 → b.opcode < 16 → a.rcode < 16 → b.rcode < 16 → flag_bits a ≡ flag_bits b
     → ◌≡◌ {A = Header} (record a { id = 0 }) (record b { id = 0 })
 unfolding no_counts
@@ -108,7 +108,7 @@ module _ (asked : Header) (flags : ℕ) (questions : List entry.Question) (sourc
       there.additionals_are in
       λ i. of_sections (headers i) (asks i) (first i) (second i) (third i)
 
-  -- what answers octets answers the message that they are
+  -- an answer to octets is an answer to the message that they are
   pub answer_of : (query : List ℕ) (answers authorities additionals : List entry.Record) (made : List ℕ)
       → IsMessage query asked questions answers authorities additionals → IsAnswer query flags source rows made
       → (m : Message) × IsAnswerOf asked flags questions source rows m × (made ≡ octets_of places_kept m)

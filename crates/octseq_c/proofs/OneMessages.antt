@@ -9,7 +9,7 @@ use Rattle.octseq_c.specs.Rows.{AreRowsOf, rows_of}
 use Rattle.octseq_c.specs.Texts.{IsTextOf}
 use Rattle.octseq_c.specs.declared.rows.Row.{Row}
 
--- the text of one message is the text of the other, where both are one
+-- the text of one message is the text of the other, if both are one
 pub moved_text : {h k : Header} {q r : List Question} {a x b y d z : List Record} {text : List ℕ} → k ≡ h → r ≡ q → x ≡ a
     → y ≡ b → z ≡ d → IsMessageText k r x y z text → IsMessageText h q a b d text
 moved_text {text = text} h q a b d is = subst (λ i. i) (λ i. IsMessageText (h i) (q i) (a i) (b i) (d i) text) is

@@ -1,4 +1,4 @@
--- A message is written anew in one way.
+-- A message is composed anew in one way.
 use Rattle.std.proofs.Common.{◌≡◌, ℕ, List, [], ◌∷◌, ◌⊎◌, inl, inr, ap, sym, ◌∙◌, subst}
 use Rattle.std.specs.List.{AllByRecursion}
 use Rattle.octseq_dns.specs.Contents as contents
@@ -13,7 +13,7 @@ use Rattle.octseq_dns_message.specs.declared.header.Header.{Header}
 use Rattle.octseq_dns_message.proofs.Messages.{said_once}
 use Rattle.octseq_c.specs.Made.{IsImmovable, IsRewritten, places_kept}
 
--- what is written of one message is written of the other, where both are one
+-- what is composed from one message is composed from the other, if both are one
 pub moved_contents : {h k : Header} {q r : List Question} {a x b y d z : List Record} (m : contents.Message) → k ≡ h → r ≡ q
     → x ≡ a → y ≡ b → z ≡ d → IsMessageOf k r x y z m → IsMessageOf h q a b d m
 moved_contents m h q a b d is = subst (λ i. i) (λ i. IsMessageOf (h i) (q i) (a i) (b i) (d i) m) is
@@ -29,13 +29,13 @@ one_rewriting octets made other a b =
     (moved_contents b.contents same.0 same.1 same.2 same.3 same.4 b.same) in
     a.made_is ∙ ap (octets_of places_kept) contents ∙ sym b.made_is
 
--- data that can be moved is not such that can't
+-- data can't both be movable and not movable
 pub not_both : (octets made : List ℕ) → IsRewritten octets made → ¬ IsImmovable octets
 not_both octets made a b =
     let same = said_once octets _ _ _ _ _ _ _ _ _ _ a.message b.message in
     b.stays (moved_can same.2 same.3 same.4 a.moved)
 
--- ---- data of which it is not so that it can't be moved can be moved
+-- ---- data that isn't immovable can be moved
 
 stable_all : (records : List Record) → ¬ ¬ AllByRecursion CanMoveRecord records → AllByRecursion CanMoveRecord records
 stable_all [] nn = tt
@@ -50,7 +50,7 @@ stable answers authorities additionals nn = (
   stable_all additionals (λ n. nn (λ all. n all.2)),
 )
 
--- ---- a refusal that is neither for what is written nor for its length is not for memory
+-- ---- a refusal is never for memory
 
 pub no_memory : {A : Type 0} (e : RewriteError) → e ≡ RewriteError.Memory → (A → ⊥)
     → A ⊎ (Is Refusal.malformed (rewrite_error e) ⊎ Is Refusal.short (rewrite_error e)) → ⊥

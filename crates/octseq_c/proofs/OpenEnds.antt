@@ -1,4 +1,4 @@
--- Whether octets are nothing or a beginning, as their first fault tells.
+-- Whether octets are empty or the beginning of a character, by their first fault.
 use Rattle.std.specs.Prelude.{is_some, IsTrue, not, ◌==◌, ◌↔◌}
 use Rattle.std.proofs.Common.{Bool, ◌≡◌, ◌≢◌, ℕ, List, [], ◌++◌, length, refl, arith}
 use Rattle.std.proofs.Common.{◌⊎◌, inl, inr, ⊎_elim, ap, sym, ◌∙◌, subst, length-append, Option, None}
@@ -35,7 +35,7 @@ fault_beginning q fault f e size n (inl k) =
     ∙ append-nil f.bad in
     subst IsBeginning (sym whole) k.1
 
--- nothing has a fault
+-- empty octets have no fault
 some_at_fault : (q : List ℕ) (fault : Fault) → IsFault q fault → q ≢ []
 some_at_fault q fault f e =
     let some = (bad_some f.first).0 in
@@ -51,7 +51,7 @@ begins_by : (q : List ℕ) (fault : Fault) → IsFault q fault → (q ≡ []) �
 begins_by q fault f (inl e) = absurd (some_at_fault q fault f e)
 begins_by q fault f (inr b) = one_fault f (beginning_fault q b)
 
--- well-formed octets: they are no beginning
+-- well-formed octets aren't a beginning
 pub open_well_formed : (q : List ℕ) (test : Bool) → test ≡ (length q == 0) → IsWellFormed q
     → IsTrue test ↔ ((q ≡ []) ⊎ IsBeginning q)
 open_well_formed q test e w = (
@@ -59,7 +59,7 @@ open_well_formed q test e w = (
   ⊎_elim (λ none. e ∙ ap (λ y. length y == 0) none) (λ b. absurd (fault_refutes (beginning_fault q b) w)),
 )
 
--- octets with a fault at their front: they are a beginning where it has no size
+-- octets with a fault at their front are a beginning if it has no size
 pub open_at_front : (q : List ℕ) (fault : Fault) (size : Option ℕ) (test : Bool) → IsFault q fault → fault.place ≡ 0
     → size ≡ fault.size → is_some size ≡ not test → IsTrue test ↔ ((q ≡ []) ⊎ IsBeginning q)
 open_at_front q fault size test f e same t =
@@ -68,7 +68,7 @@ open_at_front q fault size test f e same t =
       λ b. none.1 (same ∙ ap (λ fault. fault.size) (begins_by q fault f b)),
     )
 
--- and with one after well-formed octets they are none
+-- octets with a fault after well-formed ones aren't a beginning
 pub open_behind : (q : List ℕ) (fault : Fault) (place : ℕ) → IsFault q fault → place ≡ fault.place → place ≢ 0
     → IsTrue (place == 0) ↔ ((q ≡ []) ⊎ IsBeginning q)
 open_behind q fault place f e n = (

@@ -1,4 +1,4 @@
--- An order that is stored in 32 bits is read again.
+-- An order that is stored in 32 bits is read back.
 use Rattle.std.proofs.Common.{◌≡◌, ℤ, negsuc, pos, refl, sym, subst, to_z, of_z, w32}
 use Rattle.std.specs.declared.cmp.Ordering.{Ordering}
 use Rattle.std.specs.declared.cmp.Ordering.TheVariants.{Less, Equal, Greater}

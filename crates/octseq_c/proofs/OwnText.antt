@@ -1,4 +1,4 @@
--- Octets are well formed exactly where they are their own lossy text; and what is shown in a room of just its size.
+-- Octets are well-formed exactly if they are their own lossy text; and what is shown in a buffer of exactly its size.
 use Rattle.std.proofs.Common.{◌≡◌, ◌+◌, ◌≤◌, ℕ, Option, Some, None, List, [], ◌++◌, length, take, ap, sym, ◌∙◌}
 use Rattle.std.proofs.Common.{subst, arith, append_assoc, length-append}
 use Rattle.std.proofs.Math.Seq.{take-append_seam, take-length}
@@ -17,7 +17,7 @@ text_from x well = text_same 0xFFFD x _ well (splits x)
 pub well_formed_from : (x : List ℕ) → IsText x → IsWellFormed x
 well_formed_from x same = subst IsWellFormed same (text_well_formed 0xFFFD replacement_is_character (splits x))
 
--- nothing is, and more is
+-- an empty text is text, and so is a longer one
 pub text_empty : IsText []
 text_empty = text_from [] ([], spells_nothing)
 
@@ -25,19 +25,19 @@ pub text_more : {z : List ℕ} (x y : List ℕ) → IsText x → IsWellFormed y 
 text_more x y same well e =
     subst IsText (sym e) (text_from (x ++ y) (well_formed-append x y (well_formed_from x same) well))
 
--- a front of a room that has as many octets as the room is all of it
+-- a front of a buffer that is as long as the buffer is all of it
 pub whole_front : (n : ℕ) (x text : List ℕ) → n ≤ length x → take n x ≡ text → length text ≡ length x → x ≡ text
 whole_front n x text few front long =
     let all : n ≡ length x = sym (length-take-le n x few) ∙ ap length front ∙ long in
     sym (ap (λ k. take k x) all ∙ take-length x) ∙ front
 
--- what is there has both, so a third
+-- if a value has both properties, it has a third
 pub both_some : {A : Type 0} {P Q R : A → Type 0} (o : Option A) → IfSome o P → IfSome o Q
     → ((x : A) → P x → Q x → R x) → IfSome o R
 both_some None p q f = tt
 both_some (Some x) p q f = f x p q
 
--- the front of a room once more was copied to its end
+-- the front of a buffer after one more copy to its end
 pub put_front : (x more s : List ℕ) (n : ℕ) (rest : List ℕ) → more ≡ s → n ≤ length x
     → take (n + length s) (take n x ++ (more ++ rest)) ≡ take n x ++ s
 put_front x more s n rest same few =

@@ -1,10 +1,10 @@
--- What is in a room once more was copied to the place where it ended.
+-- A buffer after one more copy to the place where its content ended.
 use Rattle.std.proofs.Common.{◌≡◌, ℕ, ◌+◌, List, ◌++◌, length, take, drop, arith, ap, sym, ◌∙◌, append_assoc}
 use Rattle.std.proofs.Math.Seq.{take-append_seam}
 use Rattle.std.proofs.lemmas.List.{length-append}
 use Rattle.std.proofs.lemmas.Slice.{drop-append-drop}
 
--- Of a room a front was written, and the rest is as it was. So it is once more is copied to the end of the front.
+-- The front of a buffer was written, and the rest is unchanged. This still holds after a copy to the end of the front.
 pub placed_more : {A : Type 0} (old mid new front more : List A) (place : ℕ) → length front ≡ place → mid ≡ front ++ drop place old
     → new ≡ (take place mid ++ more) ++ drop (place + length more) mid
     → new ≡ (front ++ more) ++ drop (place + length more) old
@@ -15,7 +15,7 @@ placed_more old mid new front more place l m e =
     ap (drop (place + length more)) m ∙ drop-append-drop place old front (place + length more) (omega arith) l in
     e ∙ ap (λ y. (y ++ more) ++ drop (place + length more) mid) before ∙ ap (λ y. (front ++ more) ++ y) behind
 
--- the same, where the place after it is told
+-- the same, if the place after it is given
 pub placed_after : {A : Type 0} (old mid new front more : List A) (place after : ℕ) → length front ≡ place
     → after ≡ place + length more → mid ≡ front ++ drop place old → new ≡ take place mid ++ (more ++ drop after mid)
     → new ≡ (front ++ more) ++ drop after old
@@ -23,7 +23,7 @@ placed_after old mid new front more place after l a m e =
     placed_more old mid new front more place l m (e ∙ sym (append_assoc (take place mid) more (drop after mid))
     ∙ ap (λ k. (take place mid ++ more) ++ drop k mid) a) ∙ ap (λ k. (front ++ more) ++ drop k old) (sym a)
 
--- Four lists were written one after another, each to the place where the list before it ended.
+-- Four lists were written one after another, each to the place where the one before it ended.
 pub four_placed : {A : Type 0} (old r1 r2 r3 r4 q a b d : List A) (n1 n2 n3 n4 : ℕ) → n1 ≡ length q
     → n2 ≡ n1 + length a → n3 ≡ n2 + length b → n4 ≡ n3 + length d → r1 ≡ q ++ drop n1 old
     → r2 ≡ take n1 r1 ++ (a ++ drop n2 r1) → r3 ≡ take n2 r2 ++ (b ++ drop n3 r2)

@@ -1,4 +1,4 @@
--- What calls tell of the items that they write.
+-- What calls report about the items that they write.
 use Rattle.std.specs.Prelude.{◌↔◌}
 use Rattle.std.proofs.Common.{◌≡◌, ◌≢◌, ℕ, ◌<◌, ◌≤◌, List, length, refl, arith}
 use Rattle.octseq_c.specs.Puts.{Fills, Puts}
@@ -35,7 +35,7 @@ puts_none Is status m n one = record {
   one = one;
 }
 
--- what a call of another list of the same items tells
+-- the same for another description of the same items
 pub puts_as : {A : Type 0} {Is Other : List A → Type 0} {status count : ℕ} {old new : List A}
     → ((items : List A) → Is items → Other items)
     → ((items others : List A) → Other items → Other others → items ≡ others)
@@ -47,7 +47,7 @@ puts_as into one p = record {
   one = one;
 }
 
--- a status that is told exactly where a fact holds
+-- a status that is returned exactly if a fact holds
 
 pub told : {P : Type 0} (status : ℕ) → P → (status ≡ status) ↔ P
 told status p = (λ e. p, λ p. refl)
@@ -55,7 +55,7 @@ told status p = (λ e. p, λ p. refl)
 pub not_told : {P : Type 0} (status other : ℕ) → status ≢ other → ¬ P → (status ≡ other) ↔ P
 not_told status other n refuted = (λ e. absurd (n e), λ p. absurd (refuted p))
 
--- what a call tells that copies items to the front of a room, or none
+-- a call that copies items to the front of a buffer, or none
 pub puts_copied : {A : Type 0} (Is : List A → Type 0) {status count : ℕ} {old new : List A}
     → ((items others : List A) → Is items → Is others → items ≡ others) → (items : List A) → Is items
     → count ≡ length items → (status ≡ 0 → (length items ≤ length old) × Fills items old new)

@@ -1,4 +1,4 @@
--- What is settled of joined octets, and then of the rest of a piece.
+-- What is settled in joined octets, and then in the rest of a piece.
 use Rattle.std.proofs.Common.{◌≡◌, ◌≢◌, ℕ, ◌+◌, ◌-◌, ◌<◌, ◌≤◌, ◌^◌, min, List, [], ◌∷◌, ◌++◌, length, take, drop}
 use Rattle.std.proofs.Common.{refl, arith, ap, sym, ◌∙◌, subst, append_assoc, length-append, length-take, length-drop}
 use Rattle.std.proofs.Math.Seq.{drop-append_seam}
@@ -44,26 +44,26 @@ pub end_few : {x q : List ℕ} {settled : List Part} → Settles x settled q →
 end_few (open_end {end = q} s b) = beginning_few q b
 end_few (no_end s n) = omega arith
 
--- nothing is settled of nothing
+-- nothing is settled in no octets
 pub nothing_settles : Settles [] [] []
 nothing_settles = no_end nothing (λ front q h b. snoc_some front (Bad q) (sym h))
 
--- Octets that are held, and some of a piece, are joined.
+-- Octets that are held are joined with the beginning of a piece.
 
--- they and the rest of the piece are all of the octets
+-- joined octets and the rest of the piece are all the octets
 all_joined : (held joined piece : List ℕ) (k : ℕ) → joined ≡ held ++ take k piece
     → held ++ piece ≡ joined ++ drop k piece
 all_joined held joined piece k e =
     ap (λ y. held ++ y) (sym (take-append-drop k piece)) ∙ sym (append_assoc held (take k piece) (drop k piece))
     ∙ ap (λ y. y ++ drop k piece) (sym e)
 
--- so many of the piece are joined
+-- how many octets of the piece are joined
 taken_len : (held joined piece : List ℕ) (k : ℕ) → joined ≡ held ++ take k piece
     → length joined - length held ≡ min k (length piece)
 taken_len held joined piece k e =
     omega (arith, ap length e, length-append held (take k piece), length-take k piece)
 
--- where all of it is, the joined octets are all
+-- if all of it is joined, the joined octets are all octets
 used_up : (held joined piece : List ℕ) (k : ℕ) → joined ≡ held ++ take k piece
     → length joined - length held ≡ length piece → held ++ piece ≡ joined
 used_up held joined piece k e all =
@@ -85,7 +85,7 @@ reading_used held joined piece {end} k e all m = record {
   fits = m.fits;
 }
 
--- where some of the piece is left, the open end is in the piece
+-- if some of the piece is left, the open end is in the piece
 pub open_within : (held joined piece end : List ℕ) (len : ℕ) → joined ≡ held ++ take (joined_len held piece) piece
     → length joined - length held ≢ length piece → IsMeasured joined 0 len end
     → length end ≤ length joined - length held
@@ -95,7 +95,7 @@ open_within [] joined piece end len e left m =
 open_within (o ∷ held) joined piece end len e left m =
     omega (arith, end_few m.settles, taken_len (o ∷ held) joined piece (min 13 (length piece)) e)
 
--- so what is settled of the joined octets is read of all, and what is left is the piece from there on
+-- so what is settled in the joined octets is read, and what is left is the piece from there on
 pub reads_on : (held joined piece : List ℕ) {end : List ℕ} {len : ℕ} (k at : ℕ) → joined ≡ held ++ take k piece
     → (m : IsMeasured joined 0 len end) → length end ≤ length joined - length held
     → at ≡ length joined - length held - length end → Reads (held ++ piece) (drop at piece) m.settled
@@ -131,7 +131,7 @@ reading_on {x} {rest = rest} {end} {last} m r more =
       fits = more.fits;
     }
 
--- where what was read is too long, so is what is settled
+-- if what was read is too long, so is what is settled
 
 past_reads : (x rest : List ℕ) (parts : List Part) → Reads x rest parts → 2 ^ 64 - 1 < length (text parts)
     → IsPastSize x 0

@@ -17,7 +17,7 @@ use Rattle.octseq_c.proofs.OneAnswer.{one_record}
 
 -- ---- the rows of a section that are left
 
--- the row at a place
+-- the row at an index
 abbrev pub row_at : List Row → ℕ → Row
 row_at rows i = get_or rows i
     (record { name_at = 0; data_at = 0; data_len = 0; ttl = 0; rtype = 0; class = 0; section = 0 })
@@ -43,13 +43,14 @@ module _ (section : ℕ) (rows : List Row) (i : ℕ) (within : i < length rows) 
 
 -- ---- what becomes of the message
 
--- What is pushed of rows, where some are left: a message so far, which becomes the whole by their records.
+-- What was pushed of rows, and what is left: a message so far, which becomes the whole one by the records that are
+-- left.
 abbrev pub Left : List ℕ → (Message → Record → Message) → Message → List Record → List Row → State → Header
     → HeaderCounts → Type 0
 Left source more m written rows state header counts =
     Ahead (IsRecordAt source) (λ _. 0) more places_kept m written rows state header counts 0 0 0
 
--- at first all are left
+-- at first all rows are left
 pub left_first : (source : List ℕ) (more : Message → Record → Message) (m : Message) (written : List Record)
     (rows : List Row) (state : State) (header : Header) (counts : HeaderCounts) → Writes places_kept m state header counts
     → AllZip (IsRecordAt source) rows written → Left source more m written rows state header counts
@@ -63,7 +64,7 @@ left_first source more m written rows state header counts is are = record {
   took = omega arith;
 }
 
--- at last none is
+-- at last none is left
 pub left_none : (source : List ℕ) (more : Message → Record → Message) (m : Message) (written : List Record)
     (section : ℕ) (rows : List Row) (i : ℕ) (state : State) (header : Header) (counts : HeaderCounts)
     → length rows ≤ i → Left source more m written (in_section section (drop i rows)) state header counts
@@ -77,7 +78,7 @@ module _ {Reaches : HeaderCounts → Type 0} {count : HeaderCounts → ℕ} {cou
     (written : List Record) (row : Row) (rows : List Row) (state : State) (header : Header) (counts : HeaderCounts)
     (left : Left source more m written (row ∷ rows) state header counts) (one : Record)
     (is : IsRecordAt source row one) (reaches : Reaches counts) where
-  -- one is pushed
+  -- one row is pushed
   pub left_next : (next : State) (another : Header) (now : HeaderCounts)
       → ((m : Message) → Writes places_kept m state header counts → Writes places_kept (more m one) next another now)
       → Left source more m written rows next another now
@@ -89,7 +90,7 @@ module _ {Reaches : HeaderCounts → Type 0} {count : HeaderCounts → ℕ} {cou
       (λ other of. one_record source row other one of is) next another now 0 pushed (omega arith)
       (omega (arith, longer, before, after))
 
-  -- or the whole passes the limit, as the message with it does
+  -- or the whole message exceeds the limit, as the message with it does
   pub left_past : 65535 < length (with_entry places_kept state (record_entry one)).octets
       → 65535 < length (octets_of places_kept (all_more more m written))
   left_past past = ahead_past places_kept m written row rows state header counts 0 0 0 left one

@@ -1,4 +1,4 @@
--- The text of what is settled of octets, as it is measured and written, chunk by chunk.
+-- The text of what is settled in octets, as it is measured and written, chunk by chunk.
 use Rattle.std.specs.Prelude.{◌==◌}
 use Rattle.std.proofs.Common.{Bool, false, ◌≡◌, ℕ, ◌+◌, ◌-◌, ◌<◌, ◌≤◌, ◌^◌, List, [], ◌∷◌, ◌++◌, subst, length, take, drop, refl, arith}
 use Rattle.std.proofs.Common.{ap, sym, ◌∙◌, append_assoc, length-append, length-take}
@@ -13,7 +13,7 @@ use Rattle.octseq_c.specs.Settled.{HasRoom, IsMeasured, IsPastSize}
 use Rattle.octseq_c.proofs.Placed.{placed_more}
 use Rattle.octseq_c.proofs.Wholes.{replacement_is}
 
--- Of octets a text was read. After others, it ends at this place.
+-- The text of the first octets, after other text, ends at this place.
 pub record ReadsTo (octets rest : List ℕ) (before place : ℕ) : Type 0 where
   pub made : List ℕ
   pub read : IsRead octets rest [] made
@@ -30,7 +30,7 @@ to_more more s r e = record {
   len = let len = s.len in omega (arith, length-append s.made more);
 }
 
--- at a chunk whose bad part isn't an open end, as tests tell, U+FFFD is read after its text
+-- after a chunk with an invalid part that isn't an open end, U+FFFD is read
 pub read_mark : (x : List ℕ) (chunk : Chunk) (behind : List ℕ) → IsFirstChunk x chunk behind
     → (cut : Bool) → cut ≡ chunk.incomplete → cut ≡ false
     → (bad : List ℕ) (none : Bool) → bad ≡ chunk.invalid → none ≡ (length bad == 0) → none ≡ false
@@ -46,14 +46,14 @@ to_within {x} {y} s settled end t =
     let most = text_read x y end s.read.parts settled s.read.reads t in
     let len = s.len in omega (arith, ap length s.read.grown)
 
--- where it is too long, so is the text of what is settled
+-- if it is too long, so is the text of what is settled
 pub past_size : {x y : List ℕ} {before a : ℕ} → ReadsTo x y before a → 2 ^ 64 - 1 < a → IsPastSize x before
 past_size {x} {before = before} {a} s h =
     let t = settling x in
     let within : a ≤ before + length (text t.0) = to_within s t.0 t.1 t.2 in
     record { settled = t.0; end = t.1; settles = t.2; past = omega arith }
 
--- and it has room where that has
+-- and there is room for it if there is room for that
 pub room_to : {x y : List ℕ} {before a room : ℕ} → HasRoom x before room → ReadsTo x y before a → a ≤ room
 room_to h s = let most = to_within s h.settled h.end h.settles in let within = h.within in omega arith
 
@@ -61,7 +61,7 @@ pub room_more : {x y z : List ℕ} {before a room : ℕ} (more : List ℕ) → H
     → ((made : List ℕ) → IsRead y z made (made ++ more)) → a + length more ≤ room
 room_more more h s r = room_to h (to_more more s r refl)
 
--- where an open end is left, all that is settled was read
+-- if an open end is left, all that is settled was read
 
 to_settles : {x end : List ℕ} {before a : ℕ} → (s : ReadsTo x end before a) → IsOpenEnd end → Settles x s.read.parts end
 to_settles {x} {end} s o = reads_settles x end s.read.parts s.read.reads o
@@ -75,7 +75,7 @@ measured {before = before} s o few = record {
   fits = few;
 }
 
--- Of octets a text was written to a room, after what was in front.
+-- The text of the first octets was written to a buffer, after what was at its front.
 pub record WritesTo (octets rest : List ℕ) (before : ℕ) (old new : List ℕ) (place : ℕ) : Type 0 where
   pub to : ReadsTo octets rest before place
   pub room : new ≡ (take before old ++ to.made) ++ drop place old
@@ -106,7 +106,7 @@ writes_more {before = before} {a} {b} {old = old} {mid} {new} more seen same h s
           ∙ ap (λ k. (take before old ++ (s.to.made ++ more)) ++ drop k old) (sym e);
     }
 
--- where an open end is left, the text of what is settled was written
+-- if an open end is left, the text of what is settled was written
 
 pub written_to : {x end : List ℕ} {before a : ℕ} {old new : List ℕ} → WritesTo x end before old new a → IsOpenEnd end
     → (settled : List Part) (last : List ℕ) → Settles x settled last → a ≡ before + length (text settled)

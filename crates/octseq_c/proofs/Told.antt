@@ -1,4 +1,4 @@
--- What calls tell of the texts that they write.
+-- What calls report about the texts that they write.
 use Rattle.std.proofs.Common.{◌≡◌, ℕ, ◌+◌, ◌-◌, ◌<◌, ◌≤◌, ◌^◌, List, [], ◌∷◌, ◌++◌, length, take, drop, refl, arith}
 use Rattle.std.proofs.Common.{ap, sym, ◌∙◌, subst, length-append, ◌⊎◌, inl, inr}
 use Rattle.octseq_utf8.specs.Parts.{IsBeginning, Part, text}
@@ -12,14 +12,14 @@ use Rattle.octseq_c.specs.declared.pieces.LossyState.{LossyState}
 use Rattle.octseq_c.proofs.Placed.{placed_more}
 use Rattle.octseq_c.proofs.Wholes.{whole_text}
 
--- a text at the front of a room, and then another after it
+-- a text at the front of a buffer, followed by another
 pub fills_both : (old mid new front more : List ℕ) (place : ℕ) → place ≡ length front → mid ≡ front ++ drop place old
     → new ≡ (take place mid ++ more) ++ drop (place + length more) mid → Fills (front ++ more) old new
 fills_both old mid new front more place e m n =
     placed_more old mid new front more place (sym e) m n
     ∙ ap (λ k. (front ++ more) ++ drop k old) (ap (λ k. k + length more) e ∙ sym (length-append front more))
 
--- A text of at most so many octets isn't too long.
+-- A text within the limit isn't too long.
 pub fits : {Is : List ℕ → Type 0} → ((items others : List ℕ) → Is items → Is others → items ≡ others)
     → (items : List ℕ) → Is items → length items < 2 ^ 64
     → ¬ ((made : List ℕ) × Is made × (2 ^ 64 - 1 < length made))

@@ -20,7 +20,7 @@ end_parts (a ∷ q) o =
     let some : a ∷ q ≢ [] = λ e. let long = ap length e in absurd (omega arith) in
     sym (append-nil (encoding_of 0xFFFD)) ∙ ap text (sym (parts_self (a ∷ q) (o some)))
 
--- the text of what is held and of pieces, however they are cut, is that of the whole
+-- the text of what is held and of pieces, however they are split, is that of the whole
 pub whole_pieces : (held : List ℕ) (pieces : List (List ℕ)) (made : List ℕ) → IsOpenEnd held
     → IsTextOfPieces held pieces made → made ≡ text (parts_of (held ++ concat pieces))
 whole_pieces held [] made o e = e ∙ end_parts held o ∙ ap (λ y. text (parts_of y)) (sym (append-nil held))

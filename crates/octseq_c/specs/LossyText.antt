@@ -5,7 +5,7 @@ use Rattle.octseq.specs.Parts.{IsBeginning, Part, Splits, text}
 use Rattle.octseq.specs.Pieces.{Settles}
 use Rattle.octseq_c.specs.declared.pieces.LossyState.{LossyState}
 
--- the size of a fault as C is told: 0 where the octets end within a character
+-- the size of a fault as C sees it: 0 if the octets end within a character
 abbrev pub size_told : ℕ → Option ℕ
 size_told zero = None
 size_told (suc n) = Some (suc n)
@@ -14,7 +14,7 @@ size_told (suc n) = Some (suc n)
 abbrev pub IsLossyText : List ℕ → List ℕ → Type 0
 IsLossyText octets made = (parts : List Part) × Splits octets parts × (made ≡ text parts)
 
--- the text of what is settled of octets, whatever follows them
+-- the text of what is settled in octets, whatever follows them
 abbrev pub IsSettledText : List ℕ → List ℕ → Type 0
 IsSettledText octets made = (settled : List Part) × (end : List ℕ) × Settles octets settled end × (made ≡ text settled)
 
@@ -22,16 +22,16 @@ IsSettledText octets made = (settled : List Part) × (end : List ℕ) × Settles
 abbrev pub held : LossyState → List ℕ
 held state = take state.len state.octets
 
--- It is the state of a reading: what it holds is nothing, or the beginning of a character.
+-- It is a valid state: it holds nothing, or the beginning of a character.
 abbrev pub IsState : LossyState → Type 0
 IsState state = (state.len ≤ 3) × ((held state ≡ []) ⊎ IsBeginning (held state))
 
--- what becomes of what is held once nothing follows
+-- the text of what is held if nothing follows
 abbrev pub end_text : List ℕ → List ℕ
 end_text [] = []
 end_text (octet ∷ octets) = encoding_of 0xFFFD
 
--- The texts of pieces, one after another, and of what is left after the last, where these octets were held before.
+-- The texts of pieces, one after another, and of what is left after the last, given the octets that were held before.
 abbrev pub IsTextOfPieces : List ℕ → List (List ℕ) → List ℕ → Type 0
 IsTextOfPieces held [] made = made ≡ end_text held
 IsTextOfPieces held (piece ∷ pieces) made = (settled : List Part) × (end : List ℕ) × (more : List ℕ)

@@ -1,4 +1,4 @@
--- The DNS messages that are written.
+-- The DNS messages that are composed.
 use Rattle.std.specs.Prelude.{◌≡◌, ℕ, ◌+◌, ◌<◌, ◌≤◌, true, nat_eq, List, [], ◌++◌, length, map, filter, IsTrue}
 use Rattle.std.specs.List.{AllZip}
 use Rattle.octseq.specs.Integer.{octets_be}
@@ -17,13 +17,13 @@ use Rattle.octseq_dns_message.specs.declared.header.Header.{Header}
 use Rattle.octseq_c.specs.declared.rows.Row.{Row}
 use Rattle.octseq_c.specs.Texts.{IsNameAt, IsDataAt, IsTypedAt, Spells}
 
--- how many places of a message are kept for pointers to lead to
+-- how many places of a message are kept for pointers to refer to
 abbrev pub places_kept : ℕ
 places_kept = 512
 
--- ---- a message written anew
+-- ---- a message composed anew
 
--- The octets are a message whose data can be moved, and these are those of the same message written anew.
+-- The octets are a message whose data can be moved, and these are the octets of the same message composed anew.
 pub record IsRewritten (octets made : List ℕ) : Type 0 where
   pub header : Header
   pub questions : List Question
@@ -48,7 +48,7 @@ pub record IsImmovable (octets : List ℕ) : Type 0 where
 
 -- ---- a query
 
--- the octets of a header with this number and these flags, that counts one question
+-- the octets of a header with this id and these flags, which counts one question
 abbrev pub query_header : ℕ → ℕ → List ℕ
 query_header id flags = octets_be 2 id ++ (octets_be 2 flags ++ (octets_be 2 1 ++ (octets_be 2 0 ++ (octets_be 2 0
     ++ octets_be 2 0))))
@@ -61,7 +61,7 @@ pub record IsQuery (id flags : ℕ) (text : List ℕ) (qtype qclass : ℕ) (made
 
 -- ---- an answer
 
--- A row's name is at its place of the octets, its data is within them, and its section is one of records.
+-- There is a name at a row's place of the octets, its data is within them, and its section is one of records.
 pub record IsRow (source : List ℕ) (row : Row) : Type 0 where
   pub labels : List (List ℕ)
   pub name : IsNameAt source row.name_at labels
@@ -69,13 +69,13 @@ pub record IsRow (source : List ℕ) (row : Row) : Type 0 where
   pub first : 1 ≤ row.section
   pub last : row.section ≤ 3
 
--- Its data can be moved: it is of its type's form, or has no octet, or is of a type without names.
+-- Its data can be moved: it has the form of its type, or is empty, or is of a type without names.
 abbrev pub CanMoveRow : List ℕ → Row → Type 0
 CanMoveRow source row =
     ((rdata : ParsedRdata) → ¬ IsTypedAt source row.data_at row.data_len row.rtype row.class rdata)
     → 0 < row.data_len → ¬ IsTrue (may_have_names row.rtype row.class)
 
--- The record that a row stands for.
+-- The record of a row.
 pub record IsRecordAt (source : List ℕ) (row : Row) (written : contents.Record) : Type 0 where
   pub labels : List (List ℕ)
   pub name : IsNameAt source row.name_at labels
@@ -93,8 +93,8 @@ pub record IsRecordAt (source : List ℕ) (row : Row) (written : contents.Record
 abbrev pub in_section : ℕ → List Row → List Row
 in_section section rows = filter (λ row. nat_eq row.section section) rows
 
--- The header of an answer has the number, the opcode and the flag RD of what it answers, the flag QR, and of these flags
--- the response code and all others.
+-- The header of an answer has the id, the opcode and the flag RD of the query, the flag QR, and of `flags` the response
+-- code and all other flags.
 pub record IsAnswerHeader (asked : Header) (flags : ℕ) (header : Header) : Type 0 where
   pub told : Header
   pub flags_are : flag_bits told ≡ flags
@@ -107,24 +107,24 @@ pub record IsAnswerHeader (asked : Header) (flags : ℕ) (header : Header) : Typ
     rcode = told.rcode;
   }
 
--- A message has the records that rows stand for, each in its section, in their order.
+-- A message has the records of the rows, each in its section, in order.
 pub record HasRecordsOf (source : List ℕ) (rows : List Row) (m : contents.Message) : Type 0 where
   pub answers_are : AllZip (IsRecordAt source) (in_section 1 rows) m.answers
   pub authorities_are : AllZip (IsRecordAt source) (in_section 2 rows) m.authorities
   pub additionals_are : AllZip (IsRecordAt source) (in_section 3 rows) m.additionals
 
--- the message with its header and its questions alone
+-- the message with only its header and its questions
 abbrev pub without_records : contents.Message → contents.Message
 without_records m = record m { answers = []; authorities = []; additionals = [] }
 
--- A message answers one with this header and these questions, with the records that rows stand for.
+-- A message answers one with this header and these questions, with the records of the rows.
 pub record IsAnswerOf (asked : Header) (flags : ℕ) (questions : List Question) (source : List ℕ) (rows : List Row)
     (m : contents.Message) : Type 0 where
   pub header_is : IsAnswerHeader asked flags m.header
   pub questions_are : m.questions ≡ map bare questions
   pub records_are : HasRecordsOf source rows m
 
--- These are the octets of an answer to a message, with the records that rows stand for.
+-- These are the octets of an answer to a message, with the records of the rows.
 pub record IsAnswer (query : List ℕ) (flags : ℕ) (source : List ℕ) (rows : List Row) (made : List ℕ) : Type 0 where
   pub asked : Header
   pub questions : List Question

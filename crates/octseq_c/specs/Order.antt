@@ -1,4 +1,4 @@
--- An order as C is told it.
+-- An order as C sees it.
 use Rattle.std.specs.Prelude.{◌≡◌, ℤ, pos, negsuc}
 use Rattle.std.specs.declared.cmp.Ordering.{Ordering}
 use Rattle.std.specs.declared.cmp.Ordering.TheVariants.{Less, Equal, Greater}

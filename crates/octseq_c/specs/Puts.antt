@@ -1,13 +1,13 @@
--- What a call writes to a caller's room.
+-- What a call writes to a caller's buffer.
 use Rattle.std.specs.Prelude.{◌≡◌, ◌≢◌, ℕ, ◌<◌, ◌≤◌, List, ◌++◌, length, drop}
 use Rattle.octseq_c.specs.Status.{status_ok, status_no_room}
 
--- the room has the items in front, and what follows them is as it was
+-- the items are at the front of the buffer, and what follows them is unchanged
 abbrev pub Fills : {A : Type 0} → List A → List A → List A → Type 0
 Fills items old new = new ≡ items ++ drop (length items) old
 
--- A call that writes items to a room, or tells how many they are where they don't fit. `Is` says which items: there is
--- one list of them at most.
+-- A call that writes items to a buffer, or reports how many there are if they don't fit. `Is` says which items; there
+-- is at most one list of them.
 pub record Puts {A : Type 0} (Is : List A → Type 0) (status : ℕ) (old new : List A) (count : ℕ) : Type 0 where
   pub ok : status ≡ status_ok → (items : List A)
       × Is items × (length items ≤ length old) × (count ≡ length items) × Fills items old new

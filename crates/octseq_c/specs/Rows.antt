@@ -1,4 +1,4 @@
--- The rows of numbers that C is told of a message, and its header.
+-- The rows of numbers that C sees of a message, and its header.
 use Rattle.std.specs.Prelude.{◌≡◌, ℕ, List, ◌++◌, length, map}
 use Rattle.octseq.specs.Window.{left}
 use Rattle.octseq_dns.specs.Entry.{Question, Record}
@@ -29,7 +29,7 @@ pub record HasHeader (octets : List ℕ) (told : DnsHeader) : Type 0 where
   pub nscount : told.nscount ≡ length authorities
   pub arcount : told.arcount ≡ length additionals
 
--- of a question: section 0, and no data
+-- the row of a question: section 0, and no data
 abbrev pub row_of_question : Question → Row
 row_of_question q = record {
   name_at = q.qname.place.position;
@@ -41,7 +41,7 @@ row_of_question q = record {
   section = 0;
 }
 
--- of a record of a section
+-- the row of a record of a section
 abbrev pub row_of_record : ℕ → Record → Row
 row_of_record section r = record {
   name_at = r.owner.place.position;
@@ -53,7 +53,7 @@ row_of_record section r = record {
   section = section;
 }
 
--- of all sections, one after another
+-- the rows of all sections, one after another
 abbrev pub rows_of : List Question → List Record → List Record → List Record → List Row
 rows_of questions answers authorities additionals = map row_of_question questions ++ (map (row_of_record 1) answers
     ++ (map (row_of_record 2) authorities ++ map (row_of_record 3) additionals))

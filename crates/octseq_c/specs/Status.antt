@@ -1,7 +1,7 @@
--- What calls answer: octseq.h has the same numbers.
+-- The statuses that calls return: octseq.h has the same numbers.
 use Rattle.std.specs.Prelude.{ℕ}
 
--- all went well
+-- the call succeeded
 abbrev pub status_ok : ℕ
 status_ok = 0
 
@@ -13,23 +13,23 @@ status_no_room = 1
 abbrev pub status_malformed : ℕ
 status_malformed = 2
 
--- they are not well-formed UTF-8
+-- they aren't well-formed UTF-8
 abbrev pub status_fault : ℕ
 status_fault = 3
 
--- data that isn't of its type's form may have pointers
+-- data without the form of its type may have pointers
 abbrev pub status_immovable : ℕ
 status_immovable = 4
 
--- a message would have more than 65,535 octets, or a text more than a size can say
+-- a message would exceed 65,535 octets, or a text is longer than a `usize` can say
 abbrev pub status_too_long : ℕ
 status_too_long = 5
 
--- a row says what isn't there
+-- what a row refers to isn't there
 abbrev pub status_bad_row : ℕ
 status_bad_row = 6
 
--- the state of a reading in pieces is none
+-- the state of a reading in pieces isn't valid
 abbrev pub status_bad_state : ℕ
 status_bad_state = 7
 

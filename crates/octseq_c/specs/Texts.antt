@@ -1,4 +1,4 @@
--- What is written of DNS messages, names and data.
+-- What is written for DNS messages, names and data.
 use Rattle.std.specs.Prelude.{◌≡◌, ℕ, ◌+◌, ◌≤◌, List, length}
 use Rattle.octseq.specs.Text.{IsWellFormed}
 use Rattle.octseq.specs.Window.{Window, at, nested, whole}
@@ -48,7 +48,7 @@ pub record Spells (text : List ℕ) (labels : List (List ℕ)) : Type 0 where
 abbrev pub IsSpelledWire : List ℕ → List ℕ → Type 0
 IsSpelledWire text made = (labels : List (List ℕ)) × Spells text labels × (made ≡ wire labels)
 
--- Data of a type and a class is at a place of the octets, so many of them, and says this.
+-- Data of a type and a class, of n octets, is at a place of the octets, and says this.
 pub record IsDataAt (octets : List ℕ) (place n rtype class : ℕ) (rdata : ParsedRdata) : Type 0 where
   pub within : place + n ≤ length octets
   pub says : SaysData rtype class (at place (whole octets)) (nested n (at place (whole octets))) rdata

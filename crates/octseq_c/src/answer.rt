@@ -1,4 +1,4 @@
-//! Answers to DNS messages: RFC 1035, 4.1.1. Their records are rows that point into octets of the caller's.
+//! Answers to DNS messages: RFC 1035, 4.1.1. The records of an answer are rows that point into octets of the caller.
 ghost use Rattle.std.specs.Prelude.{◌≡◌, ◌≢◌, ◌↔◌, ◌⊎◌, ◌+◌, ◌<◌, ◌≤◌, ℕ, None, List, length, map, IsTrue, IsErr};
 ghost use Rattle.std.specs.Prelude.{IfOk, OnOk};
 ghost use Rattle.std.specs.List.{AllByRecursion, AllZip};
@@ -29,7 +29,7 @@ use octseq_dns::builder::{AdditionalBuilder, AnswerBuilder, MessageBuilder, Sect
 use octseq_dns::moved::data_may_have_names;
 use octseq_dns::{Class, Flags, Header, Malformed, Message, Rtype, Ttl};
 
-/// The answer to a message, at the front of `out`. Its records are the rows, each in its section, in their order; the
+/// Writes the answer to a message to the front of `out`. Its records are the rows, each in its section, in order; the
 /// names and the data of the rows are in `source`.
 #[unsafe(no_mangle)]
 pub extern "C" fn octseq_dns_answer(
@@ -69,7 +69,7 @@ pub extern "C" fn octseq_dns_answer(
     status
 }
 
-/// Whether what each row says is there.
+/// Whether what each row refers to is there.
 fn are_rows(source: &[u8], rows: &[Row]) -> bool
     ensures { IsTrue result ↔ AllByRecursion (IsRow source.now) rows.now }
 {
@@ -81,7 +81,7 @@ fn are_rows(source: &[u8], rows: &[Row]) -> bool
     true
 }
 
-/// Whether a row's name is at its place, its data is within the octets, and its section is one of records.
+/// Whether there is a name at a row's place, its data is within the octets, and its section is one of records.
 fn is_row(source: &[u8], row: &Row) -> bool
     ensures { IsTrue result ↔ IsRow source.now row.now }
 {
@@ -115,8 +115,8 @@ fn can_move_row(source: &[u8], row: &Row) -> bool
     octseq_dns_data_is_typed(source, row.data_at, row.data_len, row.rtype, row.class) == 1
 }
 
-/// The octets of an answer, in a room for them. (The builder holds the room by reference, so its stages move a pointer,
-/// and not the octets.)
+/// Composes an answer in `room`. (The builder holds the room by reference, so its stages move a pointer rather than the
+/// octets.)
 fn answer<'a>(
     message: &Message<&[u8]>,
     flags: u16,
@@ -137,7 +137,7 @@ fn answer<'a>(
     Ok(whole.finish().0)
 }
 
-/// An answer with its header and its questions.
+/// Begins an answer with its header and its questions.
 fn begin_answer<'a>(
     message: &Message<&[u8]>,
     flags: u16,
@@ -158,7 +158,7 @@ fn begin_answer<'a>(
     Ok(answers)
 }
 
-/// The header of an answer.
+/// Returns the header of an answer.
 fn answer_header(asked: &Header, flags: u16) -> Header
     ensures { IsAnswerHeader asked.now flags result }
 {
@@ -175,7 +175,7 @@ fn answer_header(asked: &Header, flags: u16) -> Header
     }
 }
 
-/// Pushes the records that rows stand for, each to its section.
+/// Pushes the records of rows, each to its section.
 fn push_sections<'a>(
     answers: AnswerBuilder<&'a mut MessageOctets, Table>,
     source: &[u8],
@@ -196,7 +196,7 @@ fn push_sections<'a>(
     push_rows(authorized.additional(), source, rows, 3)
 }
 
-/// Pushes the records that the rows of a section stand for.
+/// Pushes the records of the rows of a section.
 fn push_rows<'a, S: RecordSection>(
     builder: SectionBuilder<&'a mut MessageOctets, Table, S>,
     source: &[u8],
@@ -228,7 +228,7 @@ fn push_rows<'a, S: RecordSection>(
     Ok(message)
 }
 
-/// Pushes the record that a row stands for.
+/// Pushes the record of a row.
 fn push_row<S: RecordSection>(
     message: &mut SectionBuilder<&mut MessageOctets, Table, S>,
     source: &[u8],

@@ -1,4 +1,4 @@
-//! The data of DNS records, by its type.
+//! The data of DNS records, by type.
 ghost use Rattle.std.specs.Prelude.{◌≡◌, ◌≢◌, ◌↔◌, ◌⊎◌, ◌+◌, ◌≤◌, ◌<◌, ℕ, List, length, IfSome, IfNone};
 ghost use Rattle.octseq.specs.Text.{IsWellFormed};
 ghost use Rattle.octseq.specs.Parser.{window};
@@ -15,7 +15,7 @@ use octseq::Parser;
 use octseq::utf8::Turns;
 use octseq_dns::{Class, Data, Rtype};
 
-/// Whether data has the form of its type and class: 1, or 0.
+/// Returns 1 if data has the form of its type and class, otherwise 0.
 #[unsafe(no_mangle)]
 pub extern "C" fn octseq_dns_data_is_typed(
     octets: &[u8],
@@ -38,7 +38,7 @@ pub extern "C" fn octseq_dns_data_is_typed(
     }
 }
 
-/// The text of data, at the front of `out`.
+/// Writes the text of data to the front of `out`.
 #[unsafe(no_mangle)]
 pub extern "C" fn octseq_dns_data_text(
     octets: &[u8],
@@ -66,7 +66,7 @@ pub extern "C" fn octseq_dns_data_text(
     }
 }
 
-/// What data at a place of the octets says.
+/// Reads the data at a place of the octets.
 pub fn data_of(
     octets: &[u8],
     data_at: usize,
@@ -85,7 +85,7 @@ pub fn data_of(
     }
 }
 
-/// The parser of the octets at a place, and that of so many octets there alone.
+/// Returns a parser of the octets at a place, and one of the `len` octets there alone.
 fn place_of(octets: &[u8], place: usize, len: usize) -> Option<(Parser<&[u8]>, Parser<&[u8]>)>
     ensures some { IfSome result (λ found. (place + len ≤ length octets.now)
         × (window found.0 ≡ at place (whole octets.now))

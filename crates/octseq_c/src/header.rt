@@ -13,21 +13,21 @@ use octseq_dns::{Flags, Header, Malformed, Message, Opcode, Rcode};
 #[repr(C)]
 #[derive(Clone, Copy)]
 pub struct DnsHeader {
-    /// The number of the message.
+    /// The message id.
     pub id: u16,
-    /// Its flags, its opcode and its response code, as they are in its octets.
+    /// The flags, the opcode and the response code, as they are in the octets.
     pub flags: u16,
-    /// How many questions it has.
+    /// The number of questions.
     pub qdcount: u16,
-    /// How many answers it has.
+    /// The number of answers.
     pub ancount: u16,
-    /// How many records of authorities it has.
+    /// The number of authority records.
     pub nscount: u16,
-    /// How many additional records it has.
+    /// The number of additional records.
     pub arcount: u16,
 }
 
-/// The header of the message that the octets are.
+/// Reads the header of the message that the octets are.
 #[unsafe(no_mangle)]
 pub extern "C" fn octseq_dns_message_header(octets: &[u8], header: &mut DnsHeader) -> u32
     ensures ok { result ≡ status_ok → HasHeader octets.now header.new }
@@ -44,7 +44,7 @@ pub extern "C" fn octseq_dns_message_header(octets: &[u8], header: &mut DnsHeade
     }
 }
 
-/// The header of a message as numbers.
+/// Returns the header of a message as numbers.
 fn header_told(message: &Message<&[u8]>) -> DnsHeader
     ensures id { result.id ≡ (header_of message.now).id }
     ensures flags { result.flags ≡ flag_bits (header_of message.now) }
@@ -64,7 +64,7 @@ fn header_told(message: &Message<&[u8]>) -> DnsHeader
     }
 }
 
-/// What a flag counts.
+/// Returns `weight` if a flag is set, otherwise 0.
 fn weight_of(set: bool, weight: u16) -> u16
     ensures value { result ≡ flag set weight }
     ensures most { result ≤ weight }
@@ -72,7 +72,7 @@ fn weight_of(set: bool, weight: u16) -> u16
     if set { weight } else { 0 }
 }
 
-/// The flags, the opcode and the response code of a header as one number.
+/// Returns the flags, the opcode and the response code of a header as one number.
 fn bits_of(header: &Header) -> u16
     ensures { result ≡ flag_bits header.now }
 {
@@ -91,7 +91,7 @@ fn is_odd(bits: u16) -> bool
     bits % 2 == 1
 }
 
-/// The header of that number of a message, and of this number of flags, opcode and response code.
+/// Makes a header of a message id, and of the number with the flags, the opcode and the response code.
 pub fn header_from(id: u16, bits: u16) -> Header
     ensures id { result.id ≡ id }
     ensures bits { flag_bits result ≡ bits }

@@ -1,5 +1,5 @@
-//! The library for C. Each of its calls is a call of `octseq` or `octseq_dns`, over octets that a caller lends: it
-//! requests no memory, keeps no pointer, and says with a number what came of it.
+//! The library for C. Each call does what a call of `octseq` or `octseq_dns` does, over octets that the caller lends.
+//! It requests no memory, keeps no pointer, and returns a status.
 #![tactic(auto)]
 
 mod answer;

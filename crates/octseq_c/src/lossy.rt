@@ -7,7 +7,7 @@ ghost use Rattle.octseq_c.specs.Status.{status_ok, status_no_room, status_too_lo
 use crate::settled::{fill, measure, put_at, replacement};
 use crate::status::{NO_ROOM, OK, TOO_LONG};
 
-/// The lossy text of octets, at the front of `out`.
+/// Writes the lossy text of octets to the front of `out`.
 #[unsafe(no_mangle)]
 pub extern "C" fn octseq_lossy(octets: &[u8], out: &mut [u8], written: &mut usize) -> u32
     ensures puts { Puts (IsLossyText octets.now) result out.old out.new written.new }

@@ -20,7 +20,7 @@ use octseq_dns::{DomainName, Malformed, Name, ParsedName};
 use octseq_format::Format;
 use std::cmp::Ordering;
 
-/// The text of the name at a place of the octets, at the front of `out`.
+/// Writes the text of the name at a place of the octets to the front of `out`.
 #[unsafe(no_mangle)]
 pub extern "C" fn octseq_dns_name_text(
     octets: &[u8],
@@ -45,7 +45,7 @@ pub extern "C" fn octseq_dns_name_text(
     }
 }
 
-/// The wire form of the name at a place of the octets, at the front of `out`.
+/// Writes the wire form of the name at a place of the octets to the front of `out`.
 #[unsafe(no_mangle)]
 pub extern "C" fn octseq_dns_name_wire(
     octets: &[u8],
@@ -68,7 +68,7 @@ pub extern "C" fn octseq_dns_name_wire(
     }
 }
 
-/// The wire form of the name that a text spells, at the front of `out`.
+/// Parses a name, and writes its wire form to the front of `out`.
 #[unsafe(no_mangle)]
 pub extern "C" fn octseq_dns_name_from_text(text: &[u8], out: &mut [u8], written: &mut usize) -> u32
     ensures puts { Puts (IsSpelledWire text.now) result out.old out.new written.new }
@@ -85,7 +85,7 @@ pub extern "C" fn octseq_dns_name_from_text(text: &[u8], out: &mut [u8], written
     }
 }
 
-/// How the name at one place compares with that at another: -1, 0 or 1.
+/// Compares the name at one place with that at another: -1, 0 or 1.
 #[unsafe(no_mangle)]
 pub extern "C" fn octseq_dns_name_compare(
     one: &[u8],
@@ -113,7 +113,7 @@ pub extern "C" fn octseq_dns_name_compare(
     }
 }
 
-/// An order as a number.
+/// Returns an order as a number.
 fn number_of(order: Ordering) -> i32
     ensures { IsOrder order result }
 {
@@ -124,7 +124,7 @@ fn number_of(order: Ordering) -> i32
     }
 }
 
-/// The name at a place of the octets.
+/// Reads the name at a place of the octets.
 pub fn name_at(octets: &[u8], place: usize) -> Result<ParsedName<&[u8]>, Malformed>
     ensures name { IfOk result (λ name. IsNameAt octets.now place (labels_of name)) }
     ensures malformed { IsErr result → (labels : List (List ℕ)) → ¬ IsNameAt octets.now place labels }
@@ -136,7 +136,7 @@ pub fn name_at(octets: &[u8], place: usize) -> Result<ParsedName<&[u8]>, Malform
     }
 }
 
-/// The wire form of a name.
+/// Returns the wire form of a name.
 fn wire_of(name: &ParsedName<&[u8]>) -> Array<255>
     ensures { result.content ≡ wire (labels_of name.now) }
 {
@@ -147,7 +147,7 @@ fn wire_of(name: &ParsedName<&[u8]>) -> Array<255>
     octets
 }
 
-/// The name that a text spells.
+/// Parses a name.
 pub fn spelled(text: &[u8]) -> Option<Name<Array<255>>>
     ensures some { IfSome result (λ name. Spells text.now (owned_labels name)) }
     ensures none { IfNone result ((labels : List (List ℕ)) → ¬ Spells text.now labels) }

@@ -10,7 +10,7 @@ use crate::status::{MALFORMED, OK};
 use octseq::Str;
 use octseq_dns::{Class, Rtype};
 
-/// The mnemonic of a type, at the front of `out`.
+/// Writes the mnemonic of a type to the front of `out`.
 #[unsafe(no_mangle)]
 pub extern "C" fn octseq_dns_rtype_text(rtype: u16, out: &mut [u8], written: &mut usize) -> u32
     ensures puts { Puts (λ made. made ≡ rtype_text rtype) result out.old out.new written.new }
@@ -21,7 +21,7 @@ pub extern "C" fn octseq_dns_rtype_text(rtype: u16, out: &mut [u8], written: &mu
     show(&Rtype::from_int(rtype), out, written)
 }
 
-/// The mnemonic of a class, at the front of `out`.
+/// Writes the mnemonic of a class to the front of `out`.
 #[unsafe(no_mangle)]
 pub extern "C" fn octseq_dns_class_text(class: u16, out: &mut [u8], written: &mut usize) -> u32
     ensures puts { Puts (λ made. made ≡ class_text class) result out.old out.new written.new }
@@ -32,7 +32,7 @@ pub extern "C" fn octseq_dns_class_text(class: u16, out: &mut [u8], written: &mu
     show(&Class::from_int(class), out, written)
 }
 
-/// The type that a text names.
+/// Parses the text of a type.
 #[unsafe(no_mangle)]
 pub extern "C" fn octseq_dns_rtype_from_text(text: &[u8], rtype: &mut u16) -> u32
     ensures ok { result ≡ status_ok → ReadsRtype text.now rtype.new }
@@ -52,7 +52,7 @@ pub extern "C" fn octseq_dns_rtype_from_text(text: &[u8], rtype: &mut u16) -> u3
     }
 }
 
-/// The class that a text names.
+/// Parses the text of a class.
 #[unsafe(no_mangle)]
 pub extern "C" fn octseq_dns_class_from_text(text: &[u8], class: &mut u16) -> u32
     ensures ok { result ≡ status_ok → ReadsClass text.now class.new }
@@ -72,7 +72,7 @@ pub extern "C" fn octseq_dns_class_from_text(text: &[u8], class: &mut u16) -> u3
     }
 }
 
-/// The number of the type that a text names.
+/// Returns the number of the type with this text.
 fn rtype_of(text: &[u8]) -> Option<u16>
     ensures some { IfSome result (λ number. IsWellFormed text.now × ReadsRtype text.now number) }
     ensures none { IfNone result ((number : ℕ) → IsWellFormed text.now → ¬ ReadsRtype text.now number) }
@@ -84,7 +84,7 @@ fn rtype_of(text: &[u8]) -> Option<u16>
     }
 }
 
-/// The number of the class that a text names.
+/// Returns the number of the class with this text.
 fn class_of(text: &[u8]) -> Option<u16>
     ensures some { IfSome result (λ number. IsWellFormed text.now × ReadsClass text.now number) }
     ensures none { IfNone result ((number : ℕ) → IsWellFormed text.now → ¬ ReadsClass text.now number) }

@@ -1,4 +1,4 @@
-//! The same for octets that come in pieces, with a state that the caller keeps.
+//! Lossy text of octets that come in pieces, with a state that the caller keeps.
 ghost use Rattle.std.specs.Prelude.{◌≡◌, ◌≢◌, ◌↔◌, ◌<◌, ◌≤◌, ◌^◌, ◌-◌, ◌⊎◌, ◌++◌, ℕ, List, [], length, replicate, take};
 ghost use Rattle.std.specs.Prelude.{IsTrue, IsSome, IfSome, IfNone};
 ghost use Rattle.std.specs.List.{concat};
@@ -17,17 +17,17 @@ use octseq::builder::{OctetsBuilder, infallible};
 use octseq::utf8::find_fault;
 use std::cmp::min;
 
-/// What a reading in pieces keeps between two of them: the octets of a character that isn't whole yet.
+/// The state between two pieces: the octets of an incomplete character.
 #[repr(C)]
 #[derive(Clone, Copy)]
 pub struct LossyState {
-    /// The octets, of which the first `len` count.
+    /// The octets. The first `len` count.
     pub octets: [u8; 3],
-    /// How many there are.
+    /// The number of octets.
     pub len: u8,
 }
 
-/// The text of the next piece, at the front of `out`.
+/// Writes the text of the next piece to the front of `out`.
 #[unsafe(no_mangle)]
 pub extern "C" fn octseq_lossy_piece(
     state: &mut LossyState,
@@ -65,7 +65,7 @@ pub extern "C" fn octseq_lossy_piece(
     OK
 }
 
-/// The text of what is left once no piece follows, at the front of `out`.
+/// Writes the text of what is left after the last piece to the front of `out`.
 #[unsafe(no_mangle)]
 pub extern "C" fn octseq_lossy_end(
     state: &mut LossyState,
@@ -95,15 +95,15 @@ pub extern "C" fn octseq_lossy_end(
 }
 
 /// The texts of all pieces, and of what is left after the last, are together the lossy text of the whole, however it
-/// was cut.
+/// was split.
 ///
-/// It does nothing. A caller that calls it has the law in its proof.
+/// It does nothing. Calling it brings the law into the caller's proof.
 pub fn pieces_are_the_whole()
     ensures { (pieces : List (List ℕ)) (made : List ℕ) (parts : List Part) → IsTextOfPieces [] pieces made
         → Splits (concat pieces) parts → made ≡ text parts }
 {}
 
-/// The octets that a state holds, or `None` where it isn't the state of a reading.
+/// Returns the octets that a state holds, or `None` if it isn't a valid state.
 fn octets_held(state: &LossyState) -> Option<&[u8]>
     ensures variant { IsSome result ↔ IsState state.now }
     ensures some { IfSome result (λ octets. octets.now ≡ held state.now) }
@@ -120,7 +120,7 @@ fn octets_held(state: &LossyState) -> Option<&[u8]>
     }
 }
 
-/// Whether octets are nothing, or the beginning of a character.
+/// Whether octets are empty, or the beginning of a character.
 fn is_open_end(octets: &[u8]) -> bool
     ensures { IsTrue result ↔ ((octets.now ≡ []) ⊎ IsBeginning octets.now) }
 {
@@ -130,7 +130,7 @@ fn is_open_end(octets: &[u8]) -> bool
     }
 }
 
-/// The state that holds an open end.
+/// Returns the state that holds an open end.
 fn holding(end: &[u8]) -> LossyState
     requires { length end.now ≤ 3 }
     ensures held { held result ≡ end.now }
@@ -144,10 +144,10 @@ fn holding(end: &[u8]) -> LossyState
     }
 }
 
-/// How many octets of a piece are joined to those that are held.
+/// The number of octets of a piece that are joined to those that are held.
 const JOINED: usize = 13;
 
-/// The octets that are held, and some of the piece after them. Where nothing is held, nothing is joined.
+/// Joins the octets that are held and the beginning of the piece. If nothing is held, nothing is joined.
 fn join(held: &[u8], piece: &[u8]) -> Array<16>
     requires { length held.now ≤ 3 }
     ensures { result.content ≡ held.now ++ take (joined_len held.now piece.now) piece.now }
@@ -161,7 +161,7 @@ fn join(held: &[u8], piece: &[u8]) -> Array<16>
     joined
 }
 
-/// How a piece is read: what is settled is what is settled of the front, and then of the rest.
+/// How a piece is read: the front first, and then the rest.
 #[derive(Drop)]
 struct Reading<'a> {
     front: &'a [u8],
@@ -170,7 +170,7 @@ struct Reading<'a> {
     end: &'a [u8],
 }
 
-/// Plans how a piece is read. `None` where its text is longer than a size can say.
+/// Plans how a piece is read. Returns `None` if its text is longer than a `usize` can say.
 fn plan<'a>(held: &[u8], joined: &'a [u8], piece: &'a [u8]) -> Option<Reading<'a>>
     requires { joined.now ≡ held.now ++ take (joined_len held.now piece.now) piece.now }
     ensures some { IfSome result (λ reading.

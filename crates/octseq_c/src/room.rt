@@ -1,11 +1,11 @@
-//! What is written to a caller's room.
+//! Writing to a caller's buffer.
 ghost use Rattle.std.specs.Prelude.{◌≡◌, ◌≢◌, ◌≤◌, ◌<◌, ◌++◌, List, length, drop};
 ghost use Rattle.octseq_c.specs.Puts.{Fills, Puts};
 ghost use Rattle.octseq_c.specs.Status.{status_ok, status_no_room};
 
 use crate::status::{NO_ROOM, OK};
 
-/// Copies items to the front of a room, or nothing where they don't fit.
+/// Copies items to the front of a buffer, or nothing if they don't fit.
 pub fn put<T: Copy>(items: &[T], out: &mut [T], count: &mut usize) -> u32
     ensures count { count.new ≡ length items.now }
     ensures ok { result ≡ status_ok → (length items.now ≤ length out.old) × Fills items.now out.old out.new }

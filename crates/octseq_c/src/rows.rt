@@ -16,23 +16,23 @@ use octseq_dns::{Malformed, Message, Question, Record};
 #[repr(C)]
 #[derive(Clone, Copy)]
 pub struct Row {
-    /// Where the name begins, counted from the first octet.
+    /// Where the name begins, from the first octet of the message.
     pub name_at: usize,
-    /// Where the data begins, or 0 of a question.
+    /// Where the data begins, or 0 for a question.
     pub data_at: usize,
-    /// How many octets of data there are.
+    /// The number of octets of data.
     pub data_len: usize,
-    /// For how many seconds it may be kept.
+    /// The TTL in seconds.
     pub ttl: u32,
-    /// Its type.
+    /// The type.
     pub rtype: u16,
-    /// Its class.
+    /// The class.
     pub class: u16,
-    /// 0 for a question, 1 for an answer, 2 for a record of an authority, 3 for an additional one.
+    /// The section: 0 for a question, 1 for an answer, 2 for an authority record, 3 for an additional one.
     pub section: u32,
 }
 
-/// The rows of the message that the octets are, at the front of `out`.
+/// Writes the rows of the message that the octets are to the front of `out`.
 #[unsafe(no_mangle)]
 pub extern "C" fn octseq_dns_rows(octets: &[u8], out: &mut [Row], count: &mut usize) -> u32
     ensures puts { Puts (AreRowsOf octets.now) result out.old out.new count.new }
@@ -56,7 +56,7 @@ pub extern "C" fn octseq_dns_rows(octets: &[u8], out: &mut [Row], count: &mut us
     }
 }
 
-/// How many rows a message has.
+/// Returns the number of rows of a message.
 fn row_count(message: &Message<&[u8]>) -> usize
     ensures { result ≡ length (rows_of (questions_of message.now) (answers_of message.now)
         (authorities_of message.now) (additionals_of message.now)) }
@@ -68,7 +68,7 @@ fn row_count(message: &Message<&[u8]>) -> usize
         + usize::from(counts.arcount)
 }
 
-/// Writes the rows of a message at the front of a room that has as much space.
+/// Writes the rows of a message to the front of a buffer that has room for them.
 fn fill_rows(out: &mut [Row], message: &Message<&[u8]>)
     requires { length (rows_of (questions_of message.now) (answers_of message.now)
         (authorities_of message.now) (additionals_of message.now)) ≤ length out.old }
@@ -81,7 +81,7 @@ fn fill_rows(out: &mut [Row], message: &Message<&[u8]>)
     fill_records(out, at, 3, message.additionals());
 }
 
-/// Writes the rows of questions at the front, and answers the place after them.
+/// Writes the rows of questions to the front. Returns the index after them.
 fn fill_questions(out: &mut [Row], questions: Questions<&[u8]>) -> usize
     requires { length (questions_left questions) ≤ length out.old }
     ensures end { result ≡ length (questions_left questions.entry) }
@@ -95,7 +95,7 @@ fn fill_questions(out: &mut [Row], questions: Questions<&[u8]>) -> usize
     at
 }
 
-/// Writes the rows of records from a place on, and answers the place after them.
+/// Writes the rows of records from an index on. Returns the index after them.
 fn fill_records(out: &mut [Row], from: usize, section: u32, records: Records<&[u8]>) -> usize
     requires { from + length (records_left records) ≤ length out.old }
     ensures end { result ≡ from + length (records_left records.entry) }
@@ -110,7 +110,7 @@ fn fill_records(out: &mut [Row], from: usize, section: u32, records: Records<&[u
     at
 }
 
-/// The row of a question.
+/// Returns the row of a question.
 fn question_row(question: &Question<&[u8]>) -> Row
     ensures { result ≡ row_of_question (question_of question.now) }
 {
@@ -125,7 +125,7 @@ fn question_row(question: &Question<&[u8]>) -> Row
     }
 }
 
-/// The row of a record.
+/// Returns the row of a record.
 fn record_row(section: u32, entry: &Record<&[u8]>) -> Row
     ensures { result ≡ row_of_record section (record_of entry.now) }
 {

@@ -1,4 +1,4 @@
-//! The text of what is settled of octets, whatever follows them: how long it is, and how it is written.
+//! The text of what is settled in octets, whatever follows them: its length, and how it is written.
 ghost use Rattle.std.specs.Prelude.{◌≡◌, ◌+◌, ◌≤◌, ◌++◌, ℕ, List, length, take, drop, IfSome, IfNone};
 ghost use Rattle.octseq.specs.Parts.{Part, text};
 ghost use Rattle.octseq.specs.Pieces.{Settles};
@@ -7,19 +7,20 @@ ghost use Rattle.octseq_c.specs.Settled.{HasRoom, IsMeasured, IsPastSize};
 
 use octseq::utf8::chunks;
 
-/// U+FFFD, which is written for each maximal ill-formed part.
+/// U+FFFD, the text of each maximal ill-formed part.
 const REPLACEMENT: &[u8] = b"\xEF\xBF\xBD";
 
-/// How long the text of what is settled is, and what is open.
+/// The length of the text of what is settled, and the open end.
 #[derive(Clone, Copy)]
 pub struct Extent<'a> {
-    /// Where the text ends.
+    /// The length of the text.
     pub text_len: usize,
-    /// The octets at the end that begin a character which isn't whole yet.
+    /// The octets at the end that begin an incomplete character.
     pub end: &'a [u8],
 }
 
-/// Measures the text of what is settled, after so many octets. `None` where a size can't say how long it is.
+/// Measures the text of what is settled, after `before` octets of text. Returns `None` if a `usize` can't hold the
+/// length.
 pub fn measure(octets: &[u8], before: usize) -> Option<Extent<'_>>
     ensures measured { IfSome result (λ extent. IsMeasured octets.now before extent.text_len extent.end.now) }
     ensures past { IfNone result (IsPastSize octets.now before) }
@@ -41,7 +42,7 @@ pub fn measure(octets: &[u8], before: usize) -> Option<Extent<'_>>
     })
 }
 
-/// Writes the text of what is settled, from a place on, and tells where it ends.
+/// Writes the text of what is settled, from index `before` on. Returns the index after it.
 pub fn fill(out: &mut [u8], before: usize, octets: &[u8]) -> usize
     requires { HasRoom octets.now before (length out.old) }
     ensures end { (settled : List Part) (end : List ℕ) → Settles octets.now settled end
@@ -62,7 +63,7 @@ pub fn fill(out: &mut [u8], before: usize, octets: &[u8]) -> usize
     at
 }
 
-/// Copies octets to a place, and tells where they end.
+/// Copies octets to an index. Returns the index after them.
 pub fn put_at(out: &mut [u8], at: usize, octets: &[u8]) -> usize
     requires { at + length octets.now ≤ length out.old }
     ensures end { result ≡ at + length octets.now }
@@ -73,7 +74,7 @@ pub fn put_at(out: &mut [u8], at: usize, octets: &[u8]) -> usize
     end
 }
 
-/// What is written for an open end that nothing follows.
+/// Returns the text of an open end that nothing follows.
 pub fn replacement(end: &[u8]) -> &'static [u8]
     ensures { result.now ≡ end_text end.now }
 {

@@ -1,4 +1,4 @@
-//! Values shown in a caller's room. They are counted first, so that nothing is written where they don't fit.
+//! Values shown in a caller's buffer. Their length is counted first, so that nothing is written if they don't fit.
 ghost use Rattle.std.specs.Prelude.{◌≡◌, ◌≢◌, ◌⊎◌, List, ℕ, length, IfSome, IsTrue};
 ghost use Rattle.octseq.specs.Text.{IsWellFormed};
 ghost use Rattle.octseq_c.specs.Puts.{Puts};
@@ -10,7 +10,7 @@ use octseq::str::Counter;
 use std::fmt::{Display, Write};
 use std::marker::Brand;
 
-/// Shows a value at the front of a room.
+/// Writes a value to the front of a buffer.
 pub fn show<D: Display>(value: &D, out: &mut [u8], written: &mut usize) -> u32
     ensures puts { IfSome (D.output value.now)
         (λ text. Puts (λ made. made ≡ text) result out.old out.new written.new) }
@@ -35,7 +35,7 @@ pub fn show<D: Display>(value: &D, out: &mut [u8], written: &mut usize) -> u32
     }
 }
 
-/// How many octets a value shows as, if it shows anything.
+/// Returns the number of octets of a value's text, if it has one.
 fn shown_len<D: Display>(value: &D) -> Option<usize>
     ensures { IfSome result (λ len. IfSome (D.output value.now) (λ text. len ≡ length text)) }
 {
@@ -46,7 +46,7 @@ fn shown_len<D: Display>(value: &D) -> Option<usize>
     }
 }
 
-/// Shows a value in a room of just its size.
+/// Writes a value to a buffer of exactly its size.
 fn show_whole<D: Display>(value: &D, out: &mut [u8]) -> bool
     requires { IfSome (D.output value.now) (λ text. length text ≡ length out.old) }
     ensures shown { IsTrue result → IfSome (D.output value.now) (λ text. out.new ≡ text) }
@@ -56,7 +56,7 @@ fn show_whole<D: Display>(value: &D, out: &mut [u8]) -> bool
     show_in::<Brand, D>(value, out).is_shown
 }
 
-/// The same, where `K` stands for the room.
+/// Does the same, with the buffer described by `K`.
 fn show_in<'a, K: Front, D: Display>(value: &D, out: &'a mut [u8]) -> Shown<'a>
     requires room { K.room ≡ length out.old }
     requires lender { K.lender ≡ out.ghost_name }

@@ -15,7 +15,7 @@ use octseq_dns::{Malformed, Message};
 use std::fmt;
 use std::marker::Brand;
 
-/// The text of the message that the octets are, at the front of `out`.
+/// Writes the text of the message that the octets are to the front of `out`.
 #[unsafe(no_mangle)]
 pub extern "C" fn octseq_dns_message_text(octets: &[u8], out: &mut [u8], written: &mut usize) -> u32
     ensures puts { Puts (IsTextOf octets.now) result out.old out.new written.new }
@@ -34,7 +34,7 @@ pub extern "C" fn octseq_dns_message_text(octets: &[u8], out: &mut [u8], written
     }
 }
 
-/// The text of a message, at the front of `out`.
+/// Writes the text of a message to the front of `out`.
 fn put_text(message: &Message<&[u8]>, out: &mut [u8], written: &mut usize) -> u32
     ensures puts { Puts (IsMessageText (header_of message.now) (questions_of message.now) (answers_of message.now)
         (authorities_of message.now) (additionals_of message.now)) result out.old out.new written.new }
@@ -61,7 +61,7 @@ fn put_text(message: &Message<&[u8]>, out: &mut [u8], written: &mut usize) -> u3
     }
 }
 
-/// How many octets the text of a message has, if it can be shown.
+/// Returns the number of octets of the text of a message, if it can be shown.
 fn text_len(message: &Message<&[u8]>) -> Option<usize>
     ensures { IfSome result (λ len. (text : List ℕ) × IsMessageText (header_of message.now) (questions_of message.now)
         (answers_of message.now) (authorities_of message.now) (additionals_of message.now) text
@@ -76,7 +76,7 @@ fn text_len(message: &Message<&[u8]>) -> Option<usize>
     }
 }
 
-/// The text of a message in a room of just its size.
+/// Writes the text of a message to a buffer of exactly its size.
 fn put_whole(message: &Message<&[u8]>, out: &mut [u8]) -> bool
     requires fits { (text : List ℕ) × IsMessageText (header_of message.now) (questions_of message.now)
         (answers_of message.now) (authorities_of message.now) (additionals_of message.now) text
@@ -89,7 +89,7 @@ fn put_whole(message: &Message<&[u8]>, out: &mut [u8]) -> bool
     put_in::<Brand>(message, out).is_shown
 }
 
-/// The same, where `K` stands for the room.
+/// Does the same, with the buffer described by `K`.
 fn put_in<'a, K: Front>(message: &Message<&[u8]>, out: &'a mut [u8]) -> Shown<'a>
     requires room { K.room ≡ length out.old }
     requires lender { K.lender ≡ out.ghost_name }

@@ -8,7 +8,7 @@ ghost use Rattle.octseq_c.specs.Status.{status_ok, status_fault};
 use crate::status::{FAULT, OK};
 use octseq::utf8::find_fault;
 
-/// Whether octets are well-formed UTF-8: 1, or 0.
+/// Returns 1 if octets are well-formed UTF-8, otherwise 0.
 #[unsafe(no_mangle)]
 pub extern "C" fn octseq_is_utf8(octets: &[u8]) -> u32
     ensures well_formed { (result ≡ 1) ↔ IsWellFormed octets.now }
@@ -20,7 +20,7 @@ pub extern "C" fn octseq_is_utf8(octets: &[u8]) -> u32
     }
 }
 
-/// Where octets stop being well-formed UTF-8.
+/// Finds where octets stop being well-formed UTF-8.
 #[unsafe(no_mangle)]
 pub extern "C" fn octseq_utf8_fault(
     octets: &[u8],

@@ -1,4 +1,4 @@
-//! DNS messages written: RFC 1035, 4.1. They are composed on the stack, and copied to the caller's room where they fit.
+//! DNS messages written: RFC 1035, 4.1. They are composed on the stack, and copied to the caller's buffer if they fit.
 ghost use Rattle.std.specs.Prelude.{◌≡◌, ◌≢◌, ◌↔◌, ◌⊎◌, ◌++◌, ◌<◌, ◌≤◌, ℕ, List, length, IfOk, IfSome, IsOk};
 ghost use Rattle.octseq.specs.Integer.{octets_be};
 ghost use Rattle.octseq.specs.Refusal.{IsShort, IsMalformed};
@@ -25,16 +25,16 @@ use octseq::{Array, OctetsBuilder};
 use octseq_dns::message::MESSAGE_MAX;
 use octseq_dns::{Malformed, Message, Name, RewriteError, StaticCompressor, rewrite};
 
-/// A table of the places that pointers may lead to.
+/// A table of the places that compression pointers can refer to.
 pub type Table = StaticCompressor<512>;
 
 /// The octets of a message.
 pub type MessageOctets = Array<MESSAGE_MAX>;
 
-/// How many octets a message of one question may have: a header, a name, a type and a class.
+/// The maximum number of octets of a message with one question: a header, a name, a type and a class.
 const QUERY_MAX: usize = 271;
 
-/// The message that the octets are, written anew at the front of `out`.
+/// Composes the message that the octets are anew, and writes it to the front of `out`.
 #[unsafe(no_mangle)]
 pub extern "C" fn octseq_dns_rewrite(octets: &[u8], out: &mut [u8], written: &mut usize) -> u32
     ensures puts { Puts (IsRewritten octets.now) result out.old out.new written.new }
@@ -62,8 +62,8 @@ pub extern "C" fn octseq_dns_rewrite(octets: &[u8], out: &mut [u8], written: &mu
     status
 }
 
-/// The octets of a message that is written anew, in a room for them. (The builder holds the room by reference, so its
-/// stages move a pointer, and not the octets.)
+/// Composes a message anew in `room`. (The builder holds the room by reference, so its stages move a pointer rather
+/// than the octets.)
 fn rewritten<'a>(
     message: &Message<&[u8]>,
     room: &'a mut MessageOctets,
@@ -82,7 +82,7 @@ fn rewritten<'a>(
     }
 }
 
-/// A message of one question, at the front of `out`.
+/// Writes a message with one question to the front of `out`.
 #[unsafe(no_mangle)]
 pub extern "C" fn octseq_dns_query(
     id: u16,
@@ -110,7 +110,7 @@ pub extern "C" fn octseq_dns_query(
     }
 }
 
-/// The octets of a message of one question.
+/// Composes a message with one question.
 fn query(id: u16, flags: u16, name: &Name<Array<255>>, qtype: u16, qclass: u16) -> Array<QUERY_MAX>
     ensures { result.content ≡ query_header id flags ++ (wire (owned_labels name.now)
         ++ (octets_be 2 qtype ++ octets_be 2 qclass)) }
@@ -123,7 +123,7 @@ fn query(id: u16, flags: u16, name: &Name<Array<255>>, qtype: u16, qclass: u16) 
     made
 }
 
-/// The header of a message of one question.
+/// Begins a message with one question with its header.
 fn query_front(id: u16, flags: u16) -> Array<QUERY_MAX>
     ensures { result.content ≡ query_header id flags }
 {

@@ -6,7 +6,7 @@ ghost use Rattle.octseq_c.specs.OwnText.{IsText};
 use std::fmt;
 use std::marker::{Brand, PhantomData};
 
-/// The slice that is written to, as a type: how long it is, and which borrow.
+/// The slice that is written to, as a type: its length, and its borrow.
 pub trait Front {
     ghost room: { ℕ };
 
@@ -19,7 +19,7 @@ impl Front for Brand {
     ghost lender = { 0 };
 }
 
-/// A writer to the front of a slice. What was written is text.
+/// A writer to the front of a slice. What was written is well-formed UTF-8.
 #[derive(Drop)]
 pub struct Writing<'a, K: Front> {
     octets: &'a mut [u8],
@@ -31,7 +31,7 @@ pub struct Writing<'a, K: Front> {
     ghost text: { IsText (take len octets.now) },
 }
 
-/// What was shown in a slice.
+/// A slice that a value was shown in.
 #[derive(Drop)]
 pub struct Shown<'a> {
     /// The slice.
@@ -41,7 +41,7 @@ pub struct Shown<'a> {
 }
 
 impl<'a, K: Front> Writing<'a, K> {
-    /// Nothing is written to a slice yet.
+    /// Makes a writer that has written nothing yet.
     pub fn new(octets: &'a mut [u8]) -> Self
         requires room { K.room ≡ length octets.old }
         requires lender { K.lender ≡ octets.ghost_name }

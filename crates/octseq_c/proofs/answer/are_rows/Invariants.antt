@@ -1,4 +1,4 @@
--- All rows are sound exactly where those ahead are.
+-- All rows are valid exactly if those ahead are.
 use Rattle.std.proofs.Common.{◌↔◌, drop}
 use Rattle.std.specs.List.{AllByRecursion}
 use Rattle.octseq_c.specs.Made.{IsRow}

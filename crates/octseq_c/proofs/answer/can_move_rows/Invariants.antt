@@ -1,4 +1,4 @@
--- All data can be moved exactly where that ahead can.
+-- All data can be moved exactly if the data ahead can.
 use Rattle.std.proofs.Common.{◌↔◌, drop}
 use Rattle.std.specs.List.{AllByRecursion}
 use Rattle.octseq_c.specs.Made.{CanMoveRow}

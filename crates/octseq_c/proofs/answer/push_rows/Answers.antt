@@ -15,7 +15,7 @@ loop-row-init g c = record {
   room = omega arith;
 }
 
--- a row of another section is passed over
+-- a row of another section is skipped
 pub loop-row-preserved-then-row-section : goal.loop-row-preserved-then-row-section
 loop-row-preserved-then-row-section g c =
     let so_far = c.loop-row.invariant in
@@ -36,7 +36,7 @@ loop-row-preserved-then-row-section g c =
       room = omega (arith, room);
     }
 
--- one of the section is pushed
+-- a row of the section is pushed
 pub loop-row-preserved : goal.loop-row-preserved
 loop-row-preserved g c =
     let so_far = c.loop-row.invariant in
@@ -64,7 +64,7 @@ loop-row-preserved g c =
       room = omega (arith, room, counts);
     }
 
--- where one isn't, the whole passes the limit
+-- if a row can't be pushed, the whole exceeds the limit
 pub returns-in_err-push_row-clause-short : goal.returns-in_err-push_row-clause-short
 returns-in_err-push_row-clause-short g c err m written is are room =
     let so_far = c.loop-row.invariant in

@@ -1,4 +1,4 @@
--- Whatever is written of the rows, a message so far becomes it by what is written of those that are left.
+-- Whatever is made of the rows, a message so far becomes it by what is made of those that are left.
 use Rattle.std.proofs.Common.{◌≡◌, ◌+◌, ◌≤◌, List, None, drop}
 use Rattle.std.specs.List.{AllByRecursion, AllZip}
 use Rattle.octseq_dns.specs.Contents.{Message, Record}

@@ -1,4 +1,4 @@
--- The rows so far, and those of the records that are left, are all rows. What follows them stays.
+-- The rows so far, and those of the records that are left, are all rows. What follows them is unchanged.
 use Rattle.std.proofs.Common.{◌≡◌, ◌+◌, ◌++◌, map, take, drop, length}
 use Rattle.octseq_dns_message.specs.Walk.{records_left}
 use Rattle.octseq_c.specs.Rows.{row_of_record}

@@ -1,4 +1,4 @@
--- The room is the slice.
+-- `K` describes the slice.
 use Rattle.std.specs.Prelude.{length}
 use Rattle.octseq_c.proofs.text.put_whole.Given as goal
 

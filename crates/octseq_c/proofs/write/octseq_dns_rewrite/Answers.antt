@@ -100,7 +100,7 @@ pub unreachable-requires : goal.unreachable-requires
 unreachable-requires c =
     absurd (no_memory c.in-Err-Memory.field-0 c.in-Err-Memory.field-0-is (λ ok. cc) c.in-Err-Memory.ensures.only)
 
--- ---- it is no message
+-- ---- it isn't a message
 
 pub returns-in-Err-clause-puts : goal.returns-in-Err-clause-puts
 returns-in-Err-clause-puts c =
