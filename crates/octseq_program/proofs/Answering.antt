@@ -1,4 +1,4 @@
--- Runs to their end, and runs that broke off.
+-- Complete runs, and runs that failed.
 use Rattle.std.proofs.Common.{◌≡◌, ℕ, List, [], ◌++◌, true, false, Option, Some, None, Result, Ok, Err, ◌∙◌, refl}
 use Rattle.std.proofs.Common.{sym, ap, subst}
 use Rattle.std.proofs.lemmas.List.{append-nil}
@@ -10,7 +10,7 @@ use Rattle.octseq_program.specs.declared.request.Asked.TheVariants.{Help, Unknow
 use Rattle.octseq_program.specs.declared.status.Status.{Status}
 use Rattle.octseq_program.specs.declared.status.Status.TheVariants.{Fine, Usage}
 
--- octets that stand in the place of others where those are known
+-- octets in place of others, if those are known
 known : {A : Type 0} (given : Option (List A)) → IfSome given (λ octets. unwrap_or given [] ≡ octets)
 known (Some octets) = refl
 known None = tt
@@ -25,18 +25,18 @@ pub consumes_none : (left : Option (List ℕ)) → Consumes left left []
 consumes_none (Some octets) = refl
 consumes_none None = tt
 
--- what holds whatever the result is holds where it is a refusal
+-- what always holds also holds of an error
 pub on_err : {T E P : Type 0} (result : Result T E) → P → OnErr result P
 on_err (Ok value) p = tt
 on_err (Err e) p = p
 
--- nothing is a front of all octets
+-- an empty list is a front of all octets
 pub front_nil : (octets : List ℕ) → IsFront [] octets
 front_nil octets = (octets, refl)
 
 module _ {C : Type 0} (out : C → List ℕ → List ℕ → List ℕ → Status → Type 0) (help : List ℕ)
     (given before after noted : Option (List ℕ)) where
-  -- the help was told
+  -- the help text was written
   pub told_help : Appends before after help → Answers (Writes out help Help) given before after noted noted Fine
   told_help written = record {
     input = unwrap_or given [];
@@ -48,7 +48,7 @@ module _ {C : Type 0} (out : C → List ℕ → List ℕ → List ℕ → Status
     noted = appends_none noted;
   }
 
-  -- the help was told on standard error
+  -- the help text was written to standard error
   pub told_usage : Appends before after help → Answers (Writes out help Unknown) given noted noted before after Usage
   told_usage written = record {
     input = unwrap_or given [];
@@ -60,7 +60,7 @@ module _ {C : Type 0} (out : C → List ℕ → List ℕ → List ℕ → Status
     noted = written;
   }
 
-  -- a front of the help went out
+  -- a front of the help text was written
   pub broke_help : (front : List ℕ) → IsFront front help → Appends before after front
       → BreaksOff (Writes out help Help) given given before after noted noted
   broke_help front is written = record {
@@ -75,7 +75,7 @@ module _ {C : Type 0} (out : C → List ℕ → List ℕ → List ℕ → Status
     fronts = λ more all notes status nothing is_out. (subst (IsFront front) (sym is_out.0) is, front_nil notes);
   }
 
-  -- so on standard error
+  -- the same on standard error
   pub broke_usage : (front : List ℕ) → IsFront front help → Appends before after front
       → BreaksOff (Writes out help Unknown) given given noted noted before after
   broke_usage front is written = record {
@@ -90,7 +90,7 @@ module _ {C : Type 0} (out : C → List ℕ → List ℕ → List ℕ → Status
     fronts = λ more all notes status nothing is_out. (front_nil all, subst (IsFront front) (sym is_out.1) is);
   }
 
--- what is to be written, of which nothing went out so far
+-- what is to be written, of which nothing was written so far
 module _ (out : List ℕ → List ℕ → List ℕ → Status → Type 0) (given left before after noted : Option (List ℕ)) where
   -- reading failed before anything was written
   pub broke_reading : ((read : List ℕ) × Consumes given left read) → BreaksOff out given left before before noted noted
@@ -106,7 +106,7 @@ module _ (out : List ℕ → List ℕ → List ℕ → Status → Type 0) (given
     fronts = λ more all notes status nothing is_out. (front_nil all, front_nil notes);
   }
 
-  -- writing failed once all was read
+  -- writing failed after everything was read
   pub broke_writing : (input output : List ℕ) → Consumes given left input → IsAtEnd left
       → ((front : List ℕ) × IsFront front output × Appends before after front)
       → ((all notes : List ℕ) (status : Status) → out input all notes status → all ≡ output)

@@ -1,4 +1,4 @@
--- Rests of streams that are nothing, or a part of a frame.
+-- Rests of streams that are empty, or a part of a frame.
 use Rattle.std.proofs.Common.{◌≡◌, ◌<◌, ◌∙◌, ℕ, Bool, true, false, List, [], length, refl, sym, ap, subst, arith}
 use Rattle.std.proofs.Common.{Result, Ok}
 use Rattle.octseq.specs.Code.{HasFront}
@@ -7,12 +7,12 @@ use Rattle.octseq_program.specs.declared.frames.Ending.{Ending}
 use Rattle.octseq_program.specs.declared.frames.Ending.TheVariants.{Whole}
 use Rattle.octseq_program.specs.declared.frames.Next.{Next}
 
--- the ending of a stream that is told to end
+-- the ending of a stream whose end was reported
 abbrev ending_in : {E : Type 0} → Result Next E → Ending
 ending_in (Ok (Next.End ending)) = ending
 ending_in _ = Whole
 
--- what holds of the ending of a stream holds of the one that is told
+-- what holds of the ending of a stream holds of the one that was reported
 pub ends_so : {E : Type 0} (P : Ending → Type 0) (a : Ending) → P a → (b : Ending)
     → ◌≡◌ {A = Result Next E} (Ok (Next.End a)) (Ok (Next.End b)) → P b
 ends_so P a p b e = subst P (ap ending_in e) p
@@ -23,7 +23,7 @@ module _ (IsCut : List ℕ → Type 0) where
     not_both : {P : Type 0} (rest : List ℕ) → rest ≡ [] → IsCut rest → P
     not_both rest none cut = let here = some rest cut in let same = ap length none in absurd (omega (arith, here, same))
 
-    -- one thing is made of a rest
+    -- a rest makes one piece
     pub one_plain_end : (text rest x y e f : List ℕ) (a b : Bool) → IsPlainEnd IsCut text rest a x e
         → IsPlainEnd IsCut text rest b y f → (a ≡ b) × (x ≡ y) × (e ≡ f)
     one_plain_end text rest x y e f true true (none, o, n) (also, p, m) = (refl, o ∙ sym p, n ∙ sym m)

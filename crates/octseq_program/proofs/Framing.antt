@@ -5,14 +5,14 @@ use Rattle.std.proofs.lemmas.List.{append-nil}
 use Rattle.std.specs.List.{AllByRecursion, flat_map}
 use Rattle.octseq.specs.Code.{HasFront, IsCode}
 
--- a stream with one frame more
+-- a stream with one more frame
 pub stream_more : (code : List ℕ → List ℕ) (frames : List (List ℕ)) (octets : List ℕ)
     → flat_map code frames ++ code octets ≡ flat_map code (frames ++ octets ∷ [])
 stream_more code frames octets =
     sym (flat_map-append code frames (octets ∷ []) ∙ ap (λ x. flat_map code frames ++ x) (append-nil (code octets)))
 
 module _ (Fits : List ℕ → Type 0) (code : List ℕ → List ℕ) (apart : IsCode Fits code) where
-  -- where no frame is at the front of either rest, octets are those of one list of frames and one rest
+  -- octets are one list of frames and one rest, if no frame is at the front of the rest
   pub one_reading : (frames others : List (List ℕ)) (x y : List ℕ)
       → AllByRecursion Fits frames → AllByRecursion Fits others → ¬ HasFront Fits code x → ¬ HasFront Fits code y
       → flat_map code frames ++ x ≡ flat_map code others ++ y → (frames ≡ others) × (x ≡ y)
@@ -27,7 +27,7 @@ module _ (Fits : List ℕ → Type 0) (code : List ℕ → List ℕ) (apart : Is
       let rest = one_reading frames others x y each all none also first.1 in
       (ap (λ a. a ∷ frames) first.0 ∙ ap (λ frames. b ∷ frames) rest.0, rest.1)
 
-  -- where frames are at the front of a stream, its frames begin with them
+  -- if frames are at the front of a stream, its frames begin with them
   pub begins_with : (frames others : List (List ℕ)) (x y : List ℕ)
       → AllByRecursion Fits frames → AllByRecursion Fits others → ¬ HasFront Fits code y
       → flat_map code frames ++ x ≡ flat_map code others ++ y

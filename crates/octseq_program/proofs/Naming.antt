@@ -10,7 +10,7 @@ other_first x y h e = absurd (h (ap (λ w. get_or w 0 0) e))
 pub other_length : {P : Type 0} (x y : List ℕ) → length x ≢ length y → x ≡ y → P
 other_length x y h e = absurd (h (ap length e))
 
--- where no two commands have one name, a word names one command at most
+-- if no two commands have the same name, a word names at most one command
 pub one_named : {C : Type 0} (name_of : C → List ℕ) → ((c d : C) → name_of c ≡ name_of d → c ≡ d)
     → (word : List ℕ) (c d : Option C) → IsNamed name_of word c → IsNamed name_of word d → c ≡ d
 one_named name_of same_name word (Some c) (Some d) e f = ap Some (same_name c d (sym e ∙ f))

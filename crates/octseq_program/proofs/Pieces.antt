@@ -13,17 +13,17 @@ both_assoc : (a b c : Bool) → (a && (b && c)) ≡ ((a && b) && c)
 both_assoc true b c = refl
 both_assoc false b c = refl
 
--- what is made of octets by their number: whether they are fine, what is written, and what is told of them
+-- what is made of octets and their number: whether they are valid, the output, and the note
 abbrev pub Makes : Type 1
 Makes = ℕ → List ℕ → Bool → List ℕ → List ℕ → Type 0
 
--- one thing is made of octets
+-- octets make one piece
 abbrev pub IsOne : Makes → Type 0
 IsOne Is = (number : ℕ) (octets x y e f : List ℕ) (a b : Bool) → Is number octets a x e → Is number octets b y f
     → (a ≡ b) × (x ≡ y) × (e ≡ f)
 
 module _ (IsPiece : Makes) where
-  -- a frame more
+  -- one more frame
   pub pieces_more : (number : ℕ) (frames : List (List ℕ)) (all : Bool) (output errors octets : List ℕ) (is_fine : Bool)
       (written note : List ℕ)
       → HavePieces IsPiece number frames all output errors
@@ -63,7 +63,7 @@ module _ (IsPiece : Makes) where
       )
 
   module _ (one_piece : IsOne IsPiece) where
-    -- what is made of the first frames comes first, and what is made of the others follows it
+    -- what is made of the first frames comes first, followed by what is made of the others
     pub pieces_split : (number : ℕ) (frames others : List (List ℕ)) (a b : Bool)
         (output errors all notes : List ℕ)
         → HavePieces IsPiece number frames a output errors
@@ -95,7 +95,7 @@ module _ (IsPiece : Makes) where
               ∙ sym (append_assoc note told split.2) ∙ ap (λ l. l ++ split.2) (sym n),
         )
 
-    -- one list of frames has one output
+    -- a list of frames has one output
     pub one_pieces : (number : ℕ) (frames : List (List ℕ)) (a b : Bool) (output errors all notes : List ℕ)
         → HavePieces IsPiece number frames a output errors → HavePieces IsPiece number frames b all notes
         → (a ≡ b) × (output ≡ all) × (errors ≡ notes)

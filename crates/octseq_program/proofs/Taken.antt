@@ -1,4 +1,4 @@
--- A stream that was taken in part, and runs of it.
+-- A stream that was processed in part, and runs of it.
 use Rattle.std.proofs.Common.{◌≡◌, ◌+◌, ◌∷◌, ◌++◌, ◌∙◌, ℕ, Bool, true, false, List, [], length, Option, Some, None}
 use Rattle.std.proofs.Common.{refl, sym, ap, subst, append_assoc, arith}
 use Rattle.std.proofs.KnownBytes.{Appends-trans, Consumes-trans}
@@ -16,7 +16,7 @@ use Rattle.octseq_program.specs.Frames.{HavePieces, IsStreamOut, IsWholeOut, end
 use Rattle.octseq_program.specs.Run.{Answers, BreaksOff}
 use Rattle.octseq_program.specs.declared.status.Status.{Status}
 
--- the reader lost all that it had
+-- the reader gave all that it had
 pub all_consumed : (given left : Option (List ℕ)) (octets : List ℕ) → Consumes given left octets → IsAtEnd left
     → IfSome given (λ known. octets ≡ known)
 all_consumed None left octets consumed ended = tt
@@ -24,13 +24,13 @@ all_consumed (Some known) None octets consumed ended = absurd consumed
 all_consumed (Some known) (Some rest) octets consumed ended =
     sym (consumed ∙ ap (λ r. octets ++ r) ended ∙ append-nil octets)
 
--- what begins the second of two parts is a front of both, after the first
+-- a front of the second of two parts, after the first part, is a front of both
 front_after : (first front second all : List ℕ) → all ≡ first ++ second → IsFront front second
     → IsFront (first ++ front) all
 front_after first front second all e (more, f) =
     (more, e ∙ ap (λ l. first ++ l) f ∙ sym (append_assoc first front more))
 
--- what begins the first of two parts is a front of both
+-- a front of the first of two parts is a front of both
 front_of : (front first second all : List ℕ) → all ≡ first ++ second → IsFront front first → IsFront front all
 front_of front first second all e (more, f) = (more ++ second, e ∙ ap (λ l. l ++ second) f ∙ append_assoc front more second)
 
@@ -38,7 +38,7 @@ front_of front first second all e (more, f) = (more ++ second, e ∙ ap (λ l. l
 pub front_all : (octets : List ℕ) → IsFront octets octets
 front_all octets = ([], sym (append-nil octets))
 
--- Of an input that was read whole, fronts of what is to be written went out.
+-- For an input that was read whole, fronts of its output were written.
 pub broke_whole : (out : List ℕ → List ℕ → List ℕ → Status → Type 0)
     (given left before after noted told : Option (List ℕ)) (input output errors : List ℕ)
     → Consumes given left input → IsAtEnd left
@@ -63,7 +63,7 @@ broke_whole out given left before after noted told input output errors consumed 
           (subst (IsFront front) (sym same.0) is, subst (IsFront line) (sym same.1) it);
     }
 
--- one thing is made of an input
+-- an input makes one output
 pub one_whole : (Is : List ℕ → Bool → List ℕ → List ℕ → Type 0)
     → ((octets x y e f : List ℕ) (a b : Bool) → Is octets a x e → Is octets b y f → (a ≡ b) × (x ≡ y) × (e ≡ f))
     → (input x y e f : List ℕ) (s t : Status) → IsWholeOut Is input x e s → IsWholeOut Is input y f t
@@ -73,7 +73,7 @@ one_whole Is one input x y e f s t p q =
     (same.1, same.2, p.status_is ∙ ap ends_as same.0 ∙ sym q.status_is)
 
 module _ (Fits : List ℕ → Type 0) (code : List ℕ → List ℕ) (IsPiece IsEnd : Makes) where
-  -- Of what the reader lost, these frames were taken, and what was made of them was written.
+  -- Of what was read, these frames were processed, and what was made of them was written.
   pub record IsTakenSo (given left before now noted told : Option (List ℕ)) (count : ℕ) (all : Bool) : Type 0 where
     pub frames : List (List ℕ)
     pub fit : AllByRecursion Fits frames
@@ -101,7 +101,7 @@ module _ (Fits : List ℕ → Type 0) (code : List ℕ → List ℕ) (IsPiece Is
 
   module _ (given left before now noted told : Option (List ℕ)) (count : ℕ) (all : Bool)
       (so_far : IsTakenSo given left before now noted told count all) where
-    -- a frame more
+    -- one more frame
     pub taken_more : (rest after line : Option (List ℕ)) (is_fine : Bool) (octets written note : List ℕ)
         → Fits octets → Consumes left rest (code octets) → IsPiece (count + 1) octets is_fine written note
         → Appends now after written → Appends told line note
@@ -147,7 +147,7 @@ module _ (Fits : List ℕ → Type 0) (code : List ℕ → List ℕ) (IsPiece Is
           status_is = refl;
         }
 
-    -- the stream was taken to its end
+    -- the stream was processed to its end
     pub taken_all : (after after_end line : Option (List ℕ)) (rest : List ℕ) (is_fine : Bool) (ending note : List ℕ)
         (status : Status) → Consumes left after rest → IsAtEnd after → IsEnd (count + 1) rest is_fine ending note
         → Appends now after_end ending → Appends told line note → status ≡ ends_as (all && is_fine)
@@ -170,7 +170,7 @@ module _ (Fits : List ℕ → Type 0) (code : List ℕ → List ℕ) (IsPiece Is
   module _ (apart : IsCode Fits code) (one_piece : IsOne IsPiece)
       (none : (number : ℕ) (octets written note : List ℕ) (is_fine : Bool) → IsEnd number octets is_fine written note
       → ¬ HasFront Fits code octets) (one_end : IsOne IsEnd) where
-    -- one thing is made of a stream
+    -- a stream makes one output
     pub one_stream : (input x y e f : List ℕ) (s t : Status) → IsStreamOut Fits code IsPiece IsEnd input x e s
         → IsStreamOut Fits code IsPiece IsEnd input y f t → (x ≡ y) × (e ≡ f) × (s ≡ t)
     one_stream input x y e f s t p q =
@@ -205,7 +205,7 @@ module _ (Fits : List ℕ → Type 0) (code : List ℕ → List ℕ) (IsPiece Is
           front_of errors out.notes out.note notes out.noted (split.2, split.5),
         )
 
-    -- what begins all that can be made of the next frame follows it
+    -- a front of what can be made of the next frame follows it
     fronts_next : (frames : List (List ℕ)) (octets : List ℕ) (a : Bool) (output errors behind front told : List ℕ)
         (all notes : List ℕ) (status : Status)
         → AllByRecursion Fits frames → Fits octets → HavePieces IsPiece 1 frames a output errors
@@ -235,7 +235,7 @@ module _ (Fits : List ℕ → Type 0) (code : List ℕ → List ℕ) (IsPiece Is
 
     module _ (given left rest before now noted told : Option (List ℕ)) (count : ℕ) (all : Bool)
         (so_far : IsTakenSo given left before now noted told count all) where
-      -- reading stopped, and nothing more was written
+      -- reading failed, and nothing more was written
       pub stopped_reading : ((read : List ℕ) × Consumes left rest read)
           → BreaksOff (IsStreamOut Fits code IsPiece IsEnd) given rest before now noted told
       stopped_reading lost = record {
@@ -255,7 +255,7 @@ module _ (Fits : List ℕ → Type 0) (code : List ℕ → List ℕ) (IsPiece Is
             so_far.pieces (subst (λ input. IsStreamOut Fits code IsPiece IsEnd input output notes status) same is_out);
       }
 
-      -- what is made of the next frame went out in part
+      -- what is made of the next frame was written in part
       pub stopped_writing : (after line : Option (List ℕ)) (octets front note : List ℕ) → Fits octets
           → Consumes left rest (code octets)
           → ((is_fine : Bool) (written lines : List ℕ) → IsPiece (count + 1) octets is_fine written lines
@@ -282,7 +282,7 @@ module _ (Fits : List ℕ → Type 0) (code : List ℕ → List ℕ) (IsPiece Is
                 (subst (λ n. IsPiece n octets is_fine written lines) number piece)) is_out;
           }
 
-      -- what is made of the rest went out in part
+      -- what is made of the rest was written in part
       pub stopped_ending : (after line : Option (List ℕ)) (octets : List ℕ) (is_fine : Bool)
           (ending note front told_front : List ℕ)
           → Consumes left rest octets → IsAtEnd rest → IsEnd (count + 1) octets is_fine ending note

@@ -12,13 +12,13 @@ appends_more (Some a) None after xs ys first second = absurd first
 appends_more (Some a) (Some b) None xs ys first second = absurd second
 appends_more (Some a) (Some b) (Some c) xs ys first second = second ∙ ap (λ l. l ++ ys) first ∙ append_assoc a xs ys
 
--- A front of the output went out, and this is left of it.
+-- A front of the output was written, and this is left of it.
 pub record IsWritten (before now : Option (List ℕ)) (output rest : List ℕ) : Type 0 where
   pub front : List ℕ
   pub whole : output ≡ front ++ rest
   pub written : Appends before now front
 
--- so many octets more were written
+-- n more octets were written
 pub written_more : (before mid after : Option (List ℕ)) (output rest : List ℕ) (n : ℕ)
     → IsWritten before mid output rest
     → Appends mid after (take n rest) → IsWritten before after output (slice_range rest n (length rest))

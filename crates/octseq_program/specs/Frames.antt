@@ -7,10 +7,10 @@ use Rattle.octseq_program.specs.declared.frames.Ending.TheVariants.{Whole, Cut, 
 use Rattle.octseq_program.specs.declared.status.Status.{Status}
 use Rattle.octseq_program.specs.declared.status.Status.TheVariants.{Fine, Refused}
 
--- What is made of octets, by their number in the stream: whether they are as they are to be, what is written of them,
--- and what is told of them on standard error. `IsPiece` is a relation of that kind here.
+-- What is made of octets and their number in the stream: whether they are valid, the output, and the note on standard
+-- error. `IsPiece` is such a relation here.
 
--- so of each of these frames, the first of which has this number
+-- the same for frames, where the first one has this number
 abbrev pub HavePieces : (ℕ → List ℕ → Bool → List ℕ → List ℕ → Type 0) → ℕ → List (List ℕ) → Bool → List ℕ → List ℕ
     → Type 0
 HavePieces IsPiece number [] all output errors = (all ≡ true) × (output ≡ []) × (errors ≡ [])
@@ -19,20 +19,20 @@ HavePieces IsPiece number (octets ∷ frames) all output errors = (is_fine : Boo
     × IsPiece number octets is_fine written note × HavePieces IsPiece (number + 1) frames others more notes
     × (all ≡ (is_fine && others)) × (output ≡ written ++ more) × (errors ≡ note ++ notes)
 
--- how a command ends, by whether all is as it is to be
+-- how a command ends, by whether everything is valid
 abbrev pub ends_as : Bool → Status
 ends_as true = Fine
 ends_as false = Refused
 
--- What is made of an input as one thing.
+-- What is made of an input as one item.
 pub record IsWholeOut (IsPiece : List ℕ → Bool → List ℕ → List ℕ → Type 0) (input output errors : List ℕ)
     (status : Status) : Type 0 where
   pub is_fine : Bool
   pub piece : IsPiece input is_fine output errors
   pub status_is : status ≡ ends_as is_fine
 
--- A stream is frames that fit, each written by a code, and a rest; this is made of the frames, counted from 1, and of
--- the rest, which has the number after theirs. That no frame begins the rest is what `IsEnd` says of it.
+-- A stream is frames that fit, each written by a code, and a rest. This is made of the frames, counted from 1, and of
+-- the rest, which has the number after theirs. `IsEnd` says that no frame is at the front of the rest.
 pub record IsStreamOut (Fits : List ℕ → Type 0) (code : List ℕ → List ℕ)
     (IsPiece IsEnd : ℕ → List ℕ → Bool → List ℕ → List ℕ → Type 0) (input output errors : List ℕ) (status : Status)
     : Type 0 where
@@ -52,19 +52,19 @@ pub record IsStreamOut (Fits : List ℕ → Type 0) (code : List ℕ → List �
   pub noted : errors ≡ notes ++ note
   pub status_is : status ≡ ends_as (all && is_fine)
 
--- What is made of a rest where nothing is told of it: all is well where there is none, and else it is a part of a frame,
--- and this text is written.
+-- What is made of a rest without a note: if it is empty, all is valid; otherwise it is a part of a frame, and `text` is
+-- written.
 abbrev pub IsPlainEnd : (List ℕ → Type 0) → List ℕ → List ℕ → Bool → List ℕ → List ℕ → Type 0
 IsPlainEnd IsCut text rest true ending note = (rest ≡ []) × (ending ≡ []) × (note ≡ [])
 IsPlainEnd IsCut text rest false ending note = IsCut rest × (ending ≡ text) × (note ≡ [])
 
--- a rest that is nothing, or a part of a frame
+-- a rest that is empty, or a part of a frame
 abbrev pub IsPlainRest : (List ℕ → Type 0) → Ending → List ℕ → Type 0
 IsPlainRest IsCut Whole rest = rest ≡ []
 IsPlainRest IsCut Cut rest = IsCut rest
 IsPlainRest IsCut Misframed rest = ⊥
 
--- the line that tells where reading stopped, of a thing by its number
+-- the line that reports where reading of a numbered item stopped
 abbrev pub stop_line : List ℕ → ℕ → ℕ → List ℕ
 stop_line what number place =
     what ++ codes " " ++ decimal number ++ codes ": malformed at octet " ++ decimal place ++ codes "\n"

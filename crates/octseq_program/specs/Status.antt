@@ -5,7 +5,7 @@ use Rattle.octseq_program.specs.declared.status.ProgramFault.TheVariants.{Memory
 use Rattle.octseq_program.specs.declared.status.Status.{Status}
 use Rattle.octseq_program.specs.declared.status.Status.TheVariants.{Fine, Refused, Usage}
 
--- the number that the process ends with
+-- the exit status of the process
 abbrev pub status_of : Result Status ProgramFault → ℕ
 status_of (Ok Fine) = 0
 status_of (Ok Refused) = 1

@@ -12,21 +12,21 @@ use octseq::{ShortInput, StrBuilder};
 use std::alloc::{AllocError, Global};
 use std::io::{Read, Write};
 
-/// What is written of an input that was read whole, and how the program ends.
+/// The output for an input that was read whole, and how the program ends.
 #[derive(Drop)]
 pub struct Answer {
     /// All that is written.
     pub output: Vec<u8>,
-    /// How the program ends once that is written.
+    /// How the program ends after the output is written.
     pub status: Status,
 }
 
-/// The refusal of an input that ends too early: what was made of the input before that, followed by the line that says
-/// so.
+/// Returns the answer to an input that ends too early: what was made of the input before its end, followed by the line
+/// that reports it.
 ///
 /// # Errors
 ///
-/// `AllocError` where a request for memory was refused.
+/// `AllocError` if a request for memory was refused.
 pub fn cut_off(text: StrBuilder<Vec<u8>>, short: ShortInput) -> Result<Answer, AllocError>
     ensures output { IfOk result (λ answer. answer.output.items ≡ text.items ++ codes "unexpected end of input\n") }
     ensures status { IfOk result (λ answer. answer.status ≡ Status.Refused) }
@@ -42,9 +42,9 @@ pub fn cut_off(text: StrBuilder<Vec<u8>>, short: ShortInput) -> Result<Answer, A
     })
 }
 
-/// The commands of a program. `name_of` is the word that names one, `default_word` the word of a program without
-/// arguments, `help` what the program tells of itself, and `out` what is written for a command and an input, on
-/// standard output and on standard error, and how the program ends.
+/// The commands of a program. `name_of` is the name of a command, `default_word` the word of a program without
+/// arguments, `help` the help text, and `out` what is written for a command and an input, on standard output and on
+/// standard error, and how the program ends.
 pub trait Commands: Copy {
     ghost name_of: { Self → List ℕ };
 
@@ -54,24 +54,24 @@ pub trait Commands: Copy {
 
     ghost out: { Self → List ℕ → List ℕ → List ℕ → Status → Type 0 };
 
-    /// The command of this name.
+    /// Returns the command of a name.
     fn named(word: &str) -> Option<Self>
         ensures { IsNamed name_of word.now result };
 
-    /// The word of a program without arguments.
+    /// Returns the word of a program without arguments.
     fn default_word() -> &'static str
         ensures { result.now ≡ default_word };
 
-    /// What the program does, its commands, an example of each, and the statuses.
+    /// Returns the help text: what the program does, its commands, an example of each, and the statuses.
     fn help() -> &'static str
         ensures { result.now ≡ help };
 
-    /// Writes what a command makes of all that the reader has left. It may write as it reads: where it breaks off, what
-    /// went out is a front of what it writes for every input that begins with what it read.
+    /// Writes what a command makes of all that the reader has left. It may write while it reads: if it fails, what it
+    /// wrote is a front of what it writes for every input that begins with what it read.
     ///
     /// # Errors
     ///
-    /// `Memory` where a request for memory was refused, `Read` where a read failed, `Write` where a write failed.
+    /// `Memory` if a request for memory was refused, `Read` if a read failed, `Write` if a write failed.
     fn carry_out<R: Read, W: Write, E: Write>(
         self,
         alloc: Global,
@@ -86,12 +86,12 @@ pub trait Commands: Copy {
             (W.contents writer.old) (W.contents writer.new) (E.contents errors.old) (E.contents errors.new)) };
 }
 
-/// Does what the word asks for: carries out a command on all that the reader has left, or tells what the program does,
-/// on standard error where the word asks for nothing that it knows.
+/// Does what the word asks for: runs a command on all that the reader has left, or writes the help text, on standard
+/// error if the word is unknown.
 ///
 /// # Errors
 ///
-/// `Memory` where a request for memory was refused, `Read` where a read failed, `Write` where a write failed.
+/// `Memory` if a request for memory was refused, `Read` if a read failed, `Write` if a write failed.
 pub fn engine<C: Commands, R: Read, W: Write, E: Write>(
     alloc: Global,
     word: &str,
@@ -99,17 +99,17 @@ pub fn engine<C: Commands, R: Read, W: Write, E: Write>(
     writer: &mut W,
     errors: &mut E,
 ) -> Result<Status, ProgramFault>
-    // What was written, and how the program ended, are what the word asks for makes of the whole input.
+    // What was written, and how the program ended, are what the word makes of the whole input.
     ensures ran { IfOk result (Ran C.name_of C.help C.out word.now (R.remaining reader.old)
         (W.contents writer.old) (W.contents writer.new) (E.contents errors.old) (E.contents errors.new)) }
     ensures end { OnOk result (IsCommand C.name_of word.now → IsAtEnd (R.remaining reader.new)) }
 
-    // After a failure, what went out is a front of that.
+    // After a failure, what was written is a front of that.
     ensures broke { OnErr result (Broke C.name_of C.help C.out word.now (R.remaining reader.old)
         (R.remaining reader.new) (W.contents writer.old) (W.contents writer.new)
         (E.contents errors.old) (E.contents errors.new)) }
 
-    // A word that names no command reads nothing, whatever the answer.
+    // A word that isn't a command reads nothing, whatever the result.
     ensures unread { ¬ IsCommand C.name_of word.now → reader.new ≡ reader.old }
     ensures never { ¬ IsCommand C.name_of word.now → IfErr result (λ fault. fault ≡ ProgramFault.Write) }
 {

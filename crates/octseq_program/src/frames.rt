@@ -1,5 +1,5 @@
-//! Commands that take a stream, one frame at a time: what is made of one is written before the next is read, so that a
-//! live source shows at once, and an input of any length runs in the memory of one frame and of what is made of it.
+//! Commands that process a stream frame by frame. The output for a frame is written before the next frame is read, so
+//! that a live source shows at once, and an input of any length needs only the memory of one frame and its output.
 ghost use Rattle.std.specs.Prelude.{◌≡◌, ◌&&◌, ℕ, List, [], Bool, IfOk, OnErr, OnOk, Ok};
 ghost use Rattle.std.specs.Io.KnownBytes.{Appends, Consumes, IsAtEnd};
 ghost use Rattle.octseq.specs.Code.{HasFront, IsCode};
@@ -12,23 +12,23 @@ use crate::streams::{read_all, write_all};
 use std::alloc::{AllocError, Global};
 use std::io::{Read, Write};
 
-/// What is written of a frame, what is told of it on standard error, and whether it is as it is to be.
+/// The output for a frame, the note about it on standard error, and whether the frame is valid.
 #[derive(Drop)]
 pub struct Piece {
-    /// What is written.
+    /// The output.
     pub output: Vec<u8>,
-    /// What is told on standard error.
+    /// The note on standard error.
     pub note: Vec<u8>,
-    /// Whether the frame is as the command wants it.
+    /// Whether the frame is valid.
     pub is_fine: bool,
 }
 
 impl Piece {
-    /// A text of which nothing is told.
+    /// Makes a piece of a text, without a note.
     ///
     /// # Errors
     ///
-    /// `AllocError` where a request for memory was refused.
+    /// `AllocError` if a request for memory was refused.
     pub fn plain(alloc: Global, text: &str, is_fine: bool) -> Result<Piece, AllocError>
         ensures { IfOk result (λ piece. (piece.output.items ≡ text.now) × (piece.note.items ≡ [])
             × (piece.is_fine ≡ is_fine)) }
@@ -43,11 +43,11 @@ impl Piece {
     }
 }
 
-/// The line that tells where reading stopped, of a thing by its number.
+/// Returns the line that reports where reading of a numbered item stopped.
 ///
 /// # Errors
 ///
-/// `AllocError` where a request for memory was refused.
+/// `AllocError` if a request for memory was refused.
 pub fn stop_line(
     alloc: Global,
     what: &str,
@@ -67,7 +67,7 @@ pub enum Ending {
     Whole,
     /// Inside a frame.
     Cut,
-    /// At octets with which no frame begins, and the input is read to its end.
+    /// At octets with which no frame begins. The input is read to its end.
     Misframed,
 }
 
@@ -80,32 +80,32 @@ pub enum Next {
     End(Ending),
 }
 
-/// A command that makes something of octets: a piece, by their number.
+/// A command that makes a piece of octets and their number.
 pub trait FrameCommand: Copy {
-    /// What serves for one frame after another.
+    /// The tools that are kept from frame to frame.
     type Tools: Drop;
 
-    // the octets that it takes
+    // the octets that it accepts
     ghost fits: { Self → List ℕ → Type 0 };
 
-    // what it makes of octets by their number: whether they are fine, what is written, and what is told of them
+    // what it makes of octets and their number: whether they are valid, the output, and the note
     ghost is_piece: { Self → ℕ → List ℕ → Bool → List ℕ → List ℕ → Type 0 };
 
-    /// One thing is made of octets.
+    /// Octets and their number make one piece.
     ///
-    /// It does nothing. A caller that calls it has the law in its proof.
+    /// It does nothing. Calling it brings the law into the caller's proof.
     fn one_piece(self)
         ensures { (number : ℕ) (octets x y e f : List ℕ) (a b : Bool) → is_piece self number octets a x e
             → is_piece self number octets b y f → (a ≡ b) × (x ≡ y) × (e ≡ f) };
 
-    /// Tools that have no room yet.
+    /// Makes tools without allocated memory.
     fn tools(self, alloc: Global) -> Self::Tools;
 
-    /// What is made of the octets of this number.
+    /// Makes a piece of the octets with a number.
     ///
     /// # Errors
     ///
-    /// `AllocError` where a request for memory was refused.
+    /// `AllocError` if a request for memory was refused.
     fn take(
         self,
         alloc: Global,
@@ -118,23 +118,22 @@ pub trait FrameCommand: Copy {
             is_piece self number octets.now piece.is_fine piece.output.items piece.note.items) };
 }
 
-/// A command that takes a stream of frames, each of octets that fit, and makes a piece of each and of the rest after
-/// the last one.
+/// A command that processes a stream of frames. It makes a piece of each frame and of the rest after the last one.
 pub trait StreamCommand: FrameCommand {
     ghost use Rattle.octseq_program.specs.declared.frames.Ending.{Ending};
 
     // the octets of a frame in the stream
     ghost code: { Self → List ℕ → List ℕ };
 
-    // the rest that a stream has after its last frame, by how it ends
+    // the rest of a stream after its last frame, by how it ends
     ghost is_rest: { Self → Ending → List ℕ → Type 0 };
 
-    // what is made of a rest, by the number after that of the last frame
+    // what is made of a rest, with the number after that of the last frame
     ghost is_end: { Self → ℕ → List ℕ → Bool → List ℕ → List ℕ → Type 0 };
 
-    /// A stream is frames in one way, no frame begins the rest, and one thing is made of that.
+    /// A stream is frames in one way, no frame is at the front of the rest, and the rest makes one piece.
     ///
-    /// It does nothing. A caller that calls it has the laws in its proof.
+    /// It does nothing. Calling it brings the laws into the caller's proof.
     fn one_end(self)
         ensures apart { IsCode (Self.fits self) (code self) }
         ensures rest { (number : ℕ) (octets written note : List ℕ) (is_fine : Bool)
@@ -142,11 +141,11 @@ pub trait StreamCommand: FrameCommand {
         ensures one { (number : ℕ) (octets x y e f : List ℕ) (a b : Bool) → is_end self number octets a x e
             → is_end self number octets b y f → (a ≡ b) × (x ≡ y) × (e ≡ f) };
 
-    /// Reads the next frame in place of the last one, or up to the end of the input where no frame comes.
+    /// Reads the next frame, replacing the last one, or to the end of the input if there is none.
     ///
     /// # Errors
     ///
-    /// `Memory` where a request for memory was refused, `Read` where a read failed.
+    /// `Memory` if a request for memory was refused, `Read` if a read failed.
     fn read_next<R: Read>(self, reader: &mut R, octets: &mut Vec<u8>) -> Result<Next, ProgramFault>
         ensures frame { result ≡ Ok Next.Frame → Self.fits self octets.new.items
             × Consumes (R.remaining reader.old) (R.remaining reader.new) (code self octets.new.items) }
@@ -155,21 +154,21 @@ pub trait StreamCommand: FrameCommand {
         ensures err { OnErr result ((read : List ℕ)
             × Consumes (R.remaining reader.old) (R.remaining reader.new) read) };
 
-    /// What is made of the rest of a stream that ends so.
+    /// Makes a piece of the rest of a stream that ends like this.
     ///
     /// # Errors
     ///
-    /// `AllocError` where a request for memory was refused.
+    /// `AllocError` if a request for memory was refused.
     fn take_end(self, alloc: Global, number: u64, ending: Ending) -> Result<Piece, AllocError>
         ensures { IfOk result (λ piece. (rest : List ℕ) → is_rest self ending rest
             → is_end self number rest piece.is_fine piece.output.items piece.note.items) };
 }
 
-/// Takes all that the reader has left as one thing, of the number 1.
+/// Processes all that the reader has left as one item with the number 1.
 ///
 /// # Errors
 ///
-/// `Memory` where a request for memory was refused, `Read` where a read failed, `Write` where a write failed.
+/// `Memory` if a request for memory was refused, `Read` if a read failed, `Write` if a write failed.
 pub fn take_whole<C: FrameCommand, R: Read, W: Write, E: Write>(
     command: C,
     alloc: Global,
@@ -193,11 +192,11 @@ pub fn take_whole<C: FrameCommand, R: Read, W: Write, E: Write>(
     Ok(status_of(piece.is_fine))
 }
 
-/// Takes a stream, one frame at a time.
+/// Processes a stream, one frame at a time.
 ///
 /// # Errors
 ///
-/// `Memory` where a request for memory was refused, `Read` where a read failed, `Write` where a write failed.
+/// `Memory` if a request for memory was refused, `Read` if a read failed, `Write` if a write failed.
 pub fn take_stream<C: StreamCommand, R: Read, W: Write, E: Write>(
     command: C,
     alloc: Global,
@@ -237,14 +236,14 @@ pub fn take_stream<C: StreamCommand, R: Read, W: Write, E: Write>(
     Err(ProgramFault::Read)
 }
 
-/// Whether both hold.
+/// Whether both are true.
 fn both(first: bool, second: bool) -> bool
     ensures { result ≡ (first && second) }
 {
     first && second
 }
 
-/// How the program ends, by whether all is as it is to be.
+/// Returns how the program ends, by whether everything is valid.
 fn status_of(is_all: bool) -> Status
     ensures { result ≡ ends_as is_all }
 {
@@ -255,11 +254,11 @@ fn status_of(is_all: bool) -> Status
     }
 }
 
-/// Writes what is made of a frame, and then what is told of it on standard error.
+/// Writes the output of a piece, and then its note on standard error.
 ///
 /// # Errors
 ///
-/// `Write` where a write failed.
+/// `Write` if a write failed.
 pub fn write_piece<W: Write, E: Write>(
     writer: &mut W,
     errors: &mut E,

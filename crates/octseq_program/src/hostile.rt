@@ -3,14 +3,14 @@ use octseq::array::Array;
 use octseq::builder::OctetsBuilder;
 use std::io::{self, Error, ErrorKind, Read, Write};
 
-/// Octets that come a few at a time, and fail after some reads.
+/// A reader of octets that come a few at a time, and fails after some reads.
 #[derive(Drop)]
 pub struct Drip<'a> {
     /// The octets that are left.
     pub rest: &'a [u8],
-    /// How many come at once.
+    /// The maximum number of octets of a read.
     pub at_once: usize,
-    /// How many reads go well.
+    /// The number of reads that succeed.
     pub reads: usize,
 }
 
@@ -25,19 +25,19 @@ impl Read for Drip<'_> {
     }
 }
 
-/// A writer that takes octets a few at a time, and fails after some calls.
+/// A writer that takes a few octets at a time, and fails after some calls.
 #[derive(Drop)]
 pub struct Narrow {
     /// The octets that it took.
     pub taken: Vec<u8>,
-    /// How many it takes at once.
+    /// The maximum number of octets of a write.
     pub at_once: usize,
-    /// How many calls go well.
+    /// The number of calls that succeed.
     pub calls: usize,
 }
 
 impl Narrow {
-    /// Counts a call, or fails where it has had them all.
+    /// Counts a call, or fails if there are none left.
     fn call(&mut self) -> io::Result<()> {
         if self.calls == 0 {
             return Err(Error::from(ErrorKind::BrokenPipe));
@@ -59,14 +59,14 @@ impl Write for Narrow {
     }
 }
 
-/// A writer that takes one octet at a time, fails at one call, and goes on behind it.
+/// A writer that takes one octet at a time, fails at one write, and goes on after it.
 #[derive(Drop)]
 pub struct Faltering {
     /// The octets that it took.
     pub taken: Vec<u8>,
-    /// Which write fails, counted from 1. Where it is 0, none does.
+    /// The number of the write that fails, counted from 1, or 0 for none.
     pub until_failure: usize,
-    /// Why it fails.
+    /// The kind of the error.
     pub kind: ErrorKind,
 }
 

@@ -1,9 +1,8 @@
-//! What programs share that read an input, do what one word says, and write what they made of it: the engine over any
-//! reader and any writer, the words of the command line, and the statuses.
+//! What programs share that read an input, run the command of a word, and write its output: the engine over any reader
+//! and any writers, the words of the command line, and the statuses.
 //!
-//! A program says what its commands are by the trait [`Commands`]. The function [`engine`](engine::engine) has the
-//! command carried out that a word names; [`start`] does so on standard input or a file, and tells on standard error
-//! what failed.
+//! A program defines its commands by the trait [`Commands`]. The function [`engine`](engine::engine) runs the command
+//! of a word; [`start`] does so on standard input or a file, and reports failures on standard error.
 #![tactic(auto)]
 
 pub mod engine;

@@ -16,17 +16,17 @@ use std::fs::File;
 use std::io::{self, BufReader, ErrorKind, Read, Write};
 use std::process::ExitCode;
 
-/// The program's arguments, of which the first is its own name.
+/// Returns the program's arguments. The first is its own name.
 ///
 /// # Errors
 ///
-/// An error of the kind `OutOfMemory` where there is no memory for them, of another kind where one is no text.
+/// An error of the kind `OutOfMemory` if there is no memory for them, of another kind if one isn't a text.
 pub fn arguments(rt: &HostRuntime) -> io::Result<Vec<String>> {
     let args: Result<Vec<String>, AllocError> = env::args(rt)?.collect(rt.alloc());
     Ok(args?)
 }
 
-/// The status that the process ends with.
+/// Returns the exit code of the process.
 pub fn exit_code(ended: Result<Status, ProgramFault>) -> ExitCode
     ensures { exit_status result ≡ status_of ended }
 {
@@ -39,8 +39,8 @@ pub fn exit_code(ended: Result<Status, ProgramFault>) -> ExitCode
     })
 }
 
-/// The end of a program that gave up: a line on standard error says what failed, and of a file which. What fails there
-/// can't be told.
+/// Ends a program that failed: a line on standard error says what failed, with the path if there is a file. A failure
+/// of that write can't be reported.
 fn give_up(rt: &HostRuntime, fault: ProgramFault, path: Option<&str>) -> ExitCode
     ensures { exit_status result ≡ status_of (Result.Err fault) }
 {
@@ -48,7 +48,7 @@ fn give_up(rt: &HostRuntime, fault: ProgramFault, path: Option<&str>) -> ExitCod
     exit_code(Err(fault))
 }
 
-/// Writes the line that says what failed, and of a file which.
+/// Writes the line that says what failed, with the path if there is a file.
 ///
 /// # Errors
 ///
@@ -62,7 +62,7 @@ pub fn tell<E: Write>(errors: &mut E, fault: ProgramFault, path: Option<&str>) -
     }
 }
 
-/// Does on the standard streams what the word asks for, with all that the reader gives as the input.
+/// Does what the word asks for on the standard streams, with a reader as the input.
 fn run_on<C: Commands, R: Read + Drop>(
     rt: &HostRuntime,
     word: &str,
@@ -88,7 +88,7 @@ fn run_on<C: Commands, R: Read + Drop>(
     }
 }
 
-/// Does on the standard streams what the word asks for, with a file as the input.
+/// Does what the word asks for on the standard streams, with a file as the input.
 fn run_on_file<C: Commands>(rt: &HostRuntime, word: &str, path: &str) -> ExitCode
     ensures { (ended : Result Status ProgramFault) × (exit_status result ≡ status_of ended)
         × IfOk ended (Ran C.name_of C.help C.out word.now None None None None None) }
@@ -105,7 +105,7 @@ fn run_on_file<C: Commands>(rt: &HostRuntime, word: &str, path: &str) -> ExitCod
     }
 }
 
-/// Tells on the standard streams what a program does, as a word asks for that names no command. No input is read.
+/// Does what a word that isn't a command asks for on the standard streams: writes the help text. No input is read.
 fn run_on_nothing<C: Commands>(rt: &HostRuntime, word: &str) -> ExitCode
     ensures { (ended : Result Status ProgramFault) × (exit_status result ≡ status_of ended)
         × IfOk ended (Ran C.name_of C.help C.out word.now None None None None None) }
@@ -117,8 +117,8 @@ fn run_on_nothing<C: Commands>(rt: &HostRuntime, word: &str) -> ExitCode
     }
 }
 
-/// Does on the standard streams what the word asks for. A command reads the file of that path, or standard input where
-/// there is none. The status is that of a run on some input, as no contract can say what these give.
+/// Does what the word asks for on the standard streams. A command reads the file of the path, or standard input if
+/// there is none. The status is that of a run on some input, as no contract can say what these contain.
 pub fn run<C: Commands>(rt: &HostRuntime, word: &str, path: Option<&str>) -> ExitCode
     ensures { (ended : Result Status ProgramFault) × (exit_status result ≡ status_of ended)
         × IfOk ended (Ran C.name_of C.help C.out word.now None None None None None) }
@@ -130,9 +130,9 @@ pub fn run<C: Commands>(rt: &HostRuntime, word: &str, path: Option<&str>) -> Exi
     }
 }
 
-/// Does what the program's arguments ask for. Where there is no memory for them, the program ends so; where one is no
-/// text, they are a word that names no command. The status is that of a run of some word on some input, as no contract
-/// can say what the arguments, a file and standard input give.
+/// Does what the program's arguments ask for. If there is no memory for them, the program ends with that status; if one
+/// isn't a text, they are an unknown word. The status is that of a run of some word on some input, as no contract can
+/// say what the arguments, a file and standard input contain.
 pub fn start<C: Commands>(rt: &HostRuntime) -> ExitCode
     ensures { (word : List ℕ) × (ended : Result Status ProgramFault) × (exit_status result ≡ status_of ended)
         × IfOk ended (Ran C.name_of C.help C.out word None None None None None) }

@@ -1,24 +1,24 @@
-//! What a program is asked for.
+//! What a program is asked to do.
 ghost use Rattle.std.specs.Prelude.{◌≡◌, ℕ, ◌<◌, ◌≤◌, ◌∷◌, [], length, map, codes, string_bytes, List, None, IsSomeAnd};
 ghost use Rattle.octseq_program.specs.Run.{IsAsked};
 
 use crate::engine::Commands;
 
-/// The word that asks for the help.
+/// The word for help.
 const HELP_WORD: &str = "--help";
 
-/// What a program is asked for by its first word.
+/// What a program is asked to do by its first word.
 #[derive(Clone, Copy, Debug, PartialEq, Eq)]
 pub enum Asked<C> {
-    /// To carry out the command of that name.
+    /// Run a command.
     Command(C),
-    /// To tell what it does.
+    /// Write the help text.
     Help,
-    /// Nothing that it knows.
+    /// The word is unknown.
     Unknown,
 }
 
-/// What the word asks for.
+/// Returns what the word asks for.
 pub fn asked_for<C: Commands>(word: &str) -> Asked<C>
     ensures { IsAsked C.name_of word.now result }
 {
@@ -29,9 +29,9 @@ pub fn asked_for<C: Commands>(word: &str) -> Asked<C>
     }
 }
 
-/// The word for the command, of the program's arguments: the first after its own name, or the program's default where
-/// there is none. The word that asks for the help is alone. Where there are more words than a command and a file, or
-/// one beside that for the help, it is the empty word.
+/// Returns the word for the command: the program's first argument after its own name, or the default word if there is
+/// none. The word for help must be alone. If there are more words than a command and a file, or a second word after
+/// that for help, this is the empty word.
 pub fn command_word<C: Commands>(args: &[String]) -> &str
     ensures none { length args.now ≤ 1 → result.now ≡ C.default_word }
     ensures one { (name word : List ℕ) → map string_bytes args.now ≡ name ∷ word ∷ [] → result.now ≡ word }
@@ -49,7 +49,7 @@ pub fn command_word<C: Commands>(args: &[String]) -> &str
     }
 }
 
-/// The word, or the empty one in the place of that which asks for the help.
+/// Returns the word, or the empty word for the word for help.
 fn unless_help(word: &str) -> &str
     ensures other { ¬ (word.now ≡ codes "--help") → result.now ≡ word.now }
     ensures help { word.now ≡ codes "--help" → result.now ≡ [] }
@@ -57,8 +57,8 @@ fn unless_help(word: &str) -> &str
     if word == HELP_WORD { "" } else { word }
 }
 
-/// The path of the file that is read in place of standard input: the second word after the program's own name, where
-/// there are two.
+/// Returns the path of the file to read in place of standard input: the program's second argument after its own name,
+/// if there are exactly two.
 pub fn input_path(args: &[String]) -> Option<&str>
     ensures file { (name word path : List ℕ) → map string_bytes args.now ≡ name ∷ word ∷ path ∷ []
         → IsSomeAnd result (λ file. file.now ≡ path) }

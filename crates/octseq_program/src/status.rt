@@ -1,18 +1,18 @@
 //! How a program ends.
 use std::alloc::AllocError;
 
-/// How a program ended that wrote its answer.
+/// How a program ended that wrote its output.
 #[derive(Clone, Copy, Debug, PartialEq, Eq)]
 pub enum Status {
-    /// The input is as the command wants it.
+    /// The input is valid.
     Fine,
-    /// The command refused the input, and told why.
+    /// The command refused the input, and said why.
     Refused,
-    /// No command has the name that was given.
+    /// There is no command of the given name.
     Usage,
 }
 
-/// Why a program gave up.
+/// The reason why a program failed.
 #[derive(Clone, Copy, Debug, PartialEq, Eq)]
 pub enum ProgramFault {
     /// A request for memory was refused.

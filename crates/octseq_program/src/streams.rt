@@ -1,4 +1,4 @@
-//! All of an input, and all of an output.
+//! Reading all of an input, and writing all of an output.
 ghost use Rattle.std.specs.Prelude.{◌≡◌, ◌≢◌, ◌≤◌, [], length, take, List, ℕ, IfOk, IfErr, IfSome};
 ghost use Rattle.std.specs.Prelude.{OnOk, OnErr, Ok, false};
 ghost use Rattle.std.specs.Io.KnownBytes.{Appends, Consumes, IsAtEnd};
@@ -9,7 +9,7 @@ use crate::status::ProgramFault;
 use std::alloc::Global;
 use std::io::{self, ErrorKind, Read, Write};
 
-/// Why a read failed. A reader tells so that it lacks memory.
+/// Returns the fault of a failed read. A reader may report that way that it is out of memory.
 pub fn failed_read(e: &io::Error) -> ProgramFault
     ensures memory { error_kind e.now ≡ ErrorKind.OutOfMemory → result ≡ ProgramFault.Memory }
     ensures read { error_kind e.now ≢ ErrorKind.OutOfMemory → result ≡ ProgramFault.Read }
@@ -21,11 +21,11 @@ pub fn failed_read(e: &io::Error) -> ProgramFault
     }
 }
 
-/// All that the reader has left.
+/// Reads all that the reader has left.
 ///
 /// # Errors
 ///
-/// `Memory` where a request for memory was refused, `Read` where a read failed.
+/// `Memory` if a request for memory was refused, `Read` if a read failed.
 pub fn read_all<R: Read>(alloc: Global, reader: &mut R) -> Result<Vec<u8>, ProgramFault>
     ensures whole { IfOk result (λ input. IfSome (R.remaining reader.old) (λ octets. input.items ≡ octets)) }
     ensures end { OnOk result (IsAtEnd (R.remaining reader.new)) }
@@ -41,11 +41,11 @@ pub fn read_all<R: Read>(alloc: Global, reader: &mut R) -> Result<Vec<u8>, Progr
     }
 }
 
-/// Reads all that the reader has left, and keeps nothing of it.
+/// Reads all that the reader has left, and discards it.
 ///
 /// # Errors
 ///
-/// `Read` where a read failed, `Memory` where the reader tells that it lacks memory.
+/// `Read` if a read failed, `Memory` if the reader reports that it is out of memory.
 pub fn drop_rest<R: Read>(reader: &mut R) -> Result<(), ProgramFault>
     ensures all { OnOk result ((rest : List ℕ) × Consumes (R.remaining reader.old) (R.remaining reader.new) rest
         × IsAtEnd (R.remaining reader.new)) }
@@ -61,7 +61,7 @@ pub fn drop_rest<R: Read>(reader: &mut R) -> Result<(), ProgramFault>
     Err(ProgramFault::Read)
 }
 
-/// Reads once and keeps nothing of it. Answers whether more may come.
+/// Reads once, and discards what it read. Returns whether more may come.
 fn drop_next<R: Read>(reader: &mut R) -> Result<bool, ProgramFault>
     ensures read { (read : List ℕ) × Consumes (R.remaining reader.old) (R.remaining reader.new) read }
     ensures end { result ≡ Ok false → IsAtEnd (R.remaining reader.new) }
@@ -75,11 +75,11 @@ fn drop_next<R: Read>(reader: &mut R) -> Result<bool, ProgramFault>
     }
 }
 
-/// Writes all of the output, through any buffer of the writer's own. What it wrote before a failure stays.
+/// Writes all of the output and flushes the writer. What was written before a failure stays.
 ///
 /// # Errors
 ///
-/// `Write` where a write failed.
+/// `Write` if a write failed.
 pub fn write_all<W: Write>(writer: &mut W, output: &[u8]) -> Result<(), ProgramFault>
     ensures ok { OnOk result (Appends (W.contents writer.old) (W.contents writer.new) output.now) }
     ensures err { IfErr result (λ fault. fault ≡ ProgramFault.Write) }
@@ -97,7 +97,7 @@ pub fn write_all<W: Write>(writer: &mut W, output: &[u8]) -> Result<(), ProgramF
     Err(ProgramFault::Write)
 }
 
-/// How many of the octets one write took, none where it was interrupted.
+/// Writes once. Returns how many octets were taken, or 0 if the write was interrupted.
 fn write_next<W: Write>(writer: &mut W, octets: &[u8]) -> Result<usize, ProgramFault>
     ensures ok { IfOk result (λ count. (count ≤ length octets.now)
         × Appends (W.contents writer.old) (W.contents writer.new) (take count octets.now)) }

@@ -1,4 +1,4 @@
--- The frames so far were taken.
+-- The frames so far were processed.
 use Rattle.octseq_program.proofs.Taken.{IsTakenSo}
 use Rattle.octseq_program.proofs.frames.take_stream.Given as goal
 

@@ -1,4 +1,4 @@
--- What was read so far is lost.
+-- What was read so far is discarded.
 use Rattle.std.proofs.Common.{List, ℕ}
 use Rattle.std.specs.Io.KnownBytes.{Consumes}
 use Rattle.octseq_program.proofs.streams.drop_rest.Given as goal

@@ -1,4 +1,4 @@
--- What went out is a front of the output, and the rest is what is left of it.
+-- What was written is a front of the output, and the rest is what is left of it.
 use Rattle.octseq_program.proofs.Writing.{IsWritten}
 use Rattle.octseq_program.proofs.streams.write_all.Given as goal
 
