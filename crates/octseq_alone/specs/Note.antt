@@ -7,10 +7,10 @@ use Rattle.octseq.specs.Part.{part_of}
 abbrev pub mark : List ℕ
 mark = octets_be 1 0x4E
 
--- it stands at the front
+-- it is at the front
 abbrev pub HasMark : List ℕ → Type 0
 HasMark octets = (more : List ℕ) × (octets ≡ mark ++ more)
 
--- the octets of a note: the mark, the number in 2 octets, big-endian, and the words behind their length in one octet
+-- the octets of a note: the mark, the number in 2 octets, big-endian, and the words after their length of one octet
 abbrev pub note_of : ℕ → List ℕ → List ℕ
 note_of number words = mark ++ (octets_be 2 number ++ part_of 1 words)

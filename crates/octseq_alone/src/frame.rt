@@ -1,4 +1,4 @@
-//! Frames: octets behind their length, which is known when all of them stand there.
+//! Frames: octets with a length prefix that is known only when all of them are written.
 ghost use Rattle.std.specs.Prelude.{◌≡◌, ◌+◌, ◌<◌, ◌≤◌, ◌++◌, ◌∷◌, [], true, length, take, drop, IsErr, OnOk, OnErr};
 ghost use Rattle.octseq.specs.Integer.{octets_be};
 ghost use Rattle.octseq.specs.Limit.{IsPast};
@@ -9,7 +9,7 @@ use octseq::builder::AsOctetsMut;
 use octseq::compose::append_u16_be;
 use octseq::{AppendError, OctetsBuilder, Truncate, WriteError};
 
-/// Writes an integer over the two octets at a place, which stand there, big-endian.
+/// Overwrites the two octets at an index, which exist, with an integer, big-endian.
 pub fn put_u16_be<B: AsOctetsMut>(octets: &mut B, at: usize, value: u16)
     requires { at + 2 ≤ length (B.content octets.old) }
     ensures content { B.content octets.new
@@ -19,7 +19,7 @@ pub fn put_u16_be<B: AsOctetsMut>(octets: &mut B, at: usize, value: u16)
     octets.as_mut()[at..at + 2].copy_from_slice(&value.to_be_bytes());
 }
 
-/// Appends a frame piece by piece. Where it is refused the content ends with a front of it.
+/// Appends a frame piece by piece. On an error the content may end with a front of it.
 fn append_pieces<B: OctetsBuilder + AsOctetsMut>(
     builder: &mut B,
     name: &[u8],
@@ -48,13 +48,12 @@ fn append_pieces<B: OctetsBuilder + AsOctetsMut>(
     Ok(())
 }
 
-/// Appends a frame: a name and a value behind the length of both, in 2 octets, big-endian.
+/// Appends a frame: the length of a name and a value, in 2 octets, big-endian, followed by both.
 ///
 /// # Errors
 ///
-/// `Malformed` only where both have more than 65,535 octets. `Short` only where the content, with the whole frame
-/// behind it, would pass the limit of its type, and `Memory` only where a request for memory was refused. The
-/// content is then as it was.
+/// `Malformed` only if both have more than 65,535 octets. `Short` only if the content with the whole frame would exceed
+/// the limit of its type, and `Memory` only if a request for memory was refused. The content is then unchanged.
 pub fn append_frame<B: OctetsBuilder + AsOctetsMut + Truncate>(
     builder: &mut B,
     name: &[u8],
@@ -84,8 +83,8 @@ pub fn append_frame<B: OctetsBuilder + AsOctetsMut + Truncate>(
 ///
 /// # Errors
 ///
-/// `Short` only where the content with the line would pass the limit of its type, and `Memory` only where a request for
-/// memory was refused. The content is then as it was.
+/// `Short` only if the content with the line would exceed the limit of its type, and `Memory` only if a request for
+/// memory was refused. The content is then unchanged.
 #[tactic(auto, using(octseq::proofs::Limits::past_more))]
 pub fn append_line<B: OctetsBuilder + Truncate>(
     builder: &mut B,

@@ -1,7 +1,7 @@
-//! A caller that lists `octseq` alone, and the kit's `anyhow`.
+//! A caller that depends on `octseq` alone, and the kit's `anyhow`.
 //!
-//! Each module shows one habit, and its contracts speak of lists of octets. Words of the crates below `octseq` come
-//! by `Rattle.octseq.specs`, and laws by `Rattle.octseq.proofs`.
+//! Each module shows one pattern, and its contracts speak of lists of octets. Words of the crates below `octseq` are
+//! imported from `Rattle.octseq.specs`, and laws from `Rattle.octseq.proofs`.
 #![tactic(auto)]
 
 pub mod frame;

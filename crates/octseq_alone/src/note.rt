@@ -1,4 +1,4 @@
-//! A tiny message, written and read in a program whose errors are `anyhow`'s.
+//! A small message, written and read in a program whose errors are `anyhow`'s.
 ghost use Rattle.std.specs.Prelude.{◌≡◌, ◌+◌, ◌<◌, ◌≤◌, ◌++◌, ◌↔◌, length, take, IsOk, IsErr, IfOk, OnOk, OnErr};
 ghost use Rattle.octseq.specs.Limit.{IsPast};
 ghost use Rattle.octseq.specs.Parser.{sequence, window};
@@ -13,20 +13,20 @@ use octseq::{Array, AsOctets, Octets, OctetsBuilder, Parser, ReadError, Str, Tru
 /// The octet that a note begins with.
 const MARK: u8 = b'N';
 
-/// A note whose words are octets of this type.
+/// A note with its words as octets of this type.
 #[derive(Drop)]
 pub struct Note<V: AsOctets> {
     /// The number of the note.
     pub number: u16,
-    /// What it says.
+    /// The words.
     pub words: Str<V>,
 }
 
-/// Takes the octet that a note begins with.
+/// Reads the octet that a note begins with.
 ///
 /// # Errors
 ///
-/// `Malformed` where it doesn't come next.
+/// `Malformed` if it isn't the next one.
 fn next_mark<R: AsOctets>(parser: &mut Parser<R>) -> Result<(), ReadError>
     ensures ok { OnOk result (rest (window parser.old) ≡ mark ++ rest (window parser.new)) }
     ensures malformed { IsMalformed read_error result ↔ ¬ HasMark (rest (window parser.old)) }
@@ -38,11 +38,11 @@ fn next_mark<R: AsOctets>(parser: &mut Parser<R>) -> Result<(), ReadError>
     Ok(())
 }
 
-/// Takes the next note.
+/// Reads the next note.
 ///
 /// # Errors
 ///
-/// That of the call that was refused: what comes next is no note, or a request for memory was refused.
+/// The error of the call that failed: what comes next isn't a note, or a request for memory was refused.
 pub fn read_note<R: Octets>(parser: &mut Parser<R>) -> Result<Note<R::Range>>
     ensures taken { IfOk result (λ note. rest (window parser.old)
         ≡ note_of note.number (R.Range.content note.words) ++ rest (window parser.new)) }
@@ -56,7 +56,7 @@ pub fn read_note<R: Octets>(parser: &mut Parser<R>) -> Result<Note<R::Range>>
     Ok(Note { number, words })
 }
 
-/// Appends a note piece by piece. Where it is refused the content ends with a front of it.
+/// Appends a note piece by piece. On an error the content may end with a front of it.
 fn append_pieces<B: OctetsBuilder + Truncate>(
     builder: &mut B,
     number: u16,
@@ -79,8 +79,8 @@ fn append_pieces<B: OctetsBuilder + Truncate>(
 ///
 /// # Errors
 ///
-/// That of the call that was refused: the words have more than 255 octets, the content would pass the limit of its
-/// type, or a request for memory was refused. The content is then as it was.
+/// The error of the call that failed: the words have more than 255 octets, the content would exceed the limit of its
+/// type, or a request for memory was refused. The content is then unchanged.
 pub fn append_note<B: OctetsBuilder + Truncate>(
     builder: &mut B,
     number: u16,
@@ -101,11 +101,11 @@ pub fn append_note<B: OctetsBuilder + Truncate>(
     appended
 }
 
-/// The octets of a note in an array of their own.
+/// Returns the octets of a note in an array.
 ///
 /// # Errors
 ///
-/// `ShortBuf` where the octets don't fit an array.
+/// `ShortBuf` if the octets don't fit an array.
 pub fn kept(octets: &[u8]) -> Result<Array<64>>
     ensures variant { IsOk result ↔ (length octets.now ≤ 64) }
     ensures ok { IfOk result (λ array. array.content ≡ octets.now) }

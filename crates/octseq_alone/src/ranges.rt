@@ -1,4 +1,4 @@
-//! Ranges of any octets, written as Rust's are.
+//! Ranges of any octets, written as in Rust.
 ghost use Rattle.std.specs.Prelude.{◌≡◌, ◌≤◌, ◌↔◌, true, length, drop, slice_range, IsSome, IfOk, IfSome, OnErr};
 ghost use Rattle.octseq.specs.Parser.{sequence, window};
 ghost use Rattle.octseq.specs.Window.{rest};
@@ -7,11 +7,11 @@ use octseq::octets::range_exists;
 use octseq::{AsOctets, Octets, Parser};
 use std::alloc::AllocError;
 
-/// The second and the third octet, or `None` where there are fewer.
+/// Returns the second and the third octet, or `None` if there are fewer.
 ///
 /// # Errors
 ///
-/// `AllocError` where a request for memory was refused, which a range that is a slice never makes.
+/// `AllocError` if a request for memory was refused. A range that is a slice requests none.
 pub fn key<O: Octets>(octets: &O) -> Result<Option<O::Range>, AllocError>
     ensures variant { IfOk result (λ key. IsSome key ↔ (3 ≤ length (O.content octets.now))) }
     ensures some { IfOk result (λ key. IfSome key (λ range.
@@ -24,11 +24,11 @@ pub fn key<O: Octets>(octets: &O) -> Result<Option<O::Range>, AllocError>
     Ok(Some(octets.range(1..3)?))
 }
 
-/// What stands at a place and behind it, or `None` where the octets end before that place.
+/// Returns the octets from an index on, or `None` if there are fewer octets than that.
 ///
 /// # Errors
 ///
-/// `AllocError` where a request for memory was refused, which a range that is a slice never makes.
+/// `AllocError` if a request for memory was refused. A range that is a slice requests none.
 pub fn onward<O: Octets>(octets: &O, at: usize) -> Result<Option<O::Range>, AllocError>
     ensures variant { IfOk result (λ onward. IsSome onward ↔ (at ≤ length (O.content octets.now))) }
     ensures some { IfOk result (λ onward. IfSome onward (λ range.
@@ -41,7 +41,7 @@ pub fn onward<O: Octets>(octets: &O, at: usize) -> Result<Option<O::Range>, Allo
     Ok(Some(octets.range(at..)?))
 }
 
-/// A parser of what stands behind the first two octets.
+/// Returns a parser of the octets after the first two.
 pub fn behind_two<R: AsOctets>(octets: R) -> Parser<R>
     requires { 2 ≤ length (R.content octets) }
     ensures sequence { sequence result ≡ octets }

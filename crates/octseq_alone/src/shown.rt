@@ -1,4 +1,4 @@
-//! Values that are shown at the end of a text.
+//! Values shown at the end of a text.
 ghost use Rattle.std.specs.Prelude.{◌≡◌, ◌≢◌, ◌+◌, ◌++◌, None, true, length, decimal, IsErr, OnOk, OnErr};
 ghost use Rattle.octseq.specs.Limit.{IsPast};
 ghost use Rattle.octseq.specs.Refusal.{IsShort, IsMemory, display_error};
@@ -7,24 +7,23 @@ use octseq::str::DisplayError;
 use octseq::{OctetsBuilder, StrBuilder, Truncate};
 use std::fmt::{self, Write};
 
-/// Appends a number in decimal, by a macro. A text of any builder takes it.
+/// Appends a number in decimal, by a macro. It works for a text of any builder.
 ///
 /// # Errors
 ///
-/// `fmt::Error` where the text has no room for all of it, or memory was refused. The text may then end with a front
-/// of it.
+/// `fmt::Error` if the text has no room for all of it, or memory was refused. The text may then end with a front of it.
 pub fn write_number<B: OctetsBuilder>(text: &mut StrBuilder<B>, n: u32) -> fmt::Result
     ensures { OnOk result (B.content text.new ≡ B.content text.old ++ decimal n) }
 {
     write!(text, "{n}")
 }
 
-/// Appends a number in decimal whole, or nothing.
+/// Appends a number in decimal. On an error it appends nothing.
 ///
 /// # Errors
 ///
-/// `Short` where the text would pass the limit of its type, and `Memory` where a request for memory was refused.
-/// The text is then as it was.
+/// `Short` if the text would exceed the limit of its type, and `Memory` if a request for memory was refused. The text
+/// is then unchanged.
 pub fn push_number<B: OctetsBuilder + Truncate>(
     text: &mut StrBuilder<B>,
     n: u32,

@@ -10,7 +10,7 @@ pub fn is_comment<O: AsOctets>(text: &Str<O>) -> bool
     text.starts_with("#")
 }
 
-/// The fourth octet, or `None` where the array has fewer.
+/// Returns the fourth octet, or `None` if the array has fewer.
 pub fn fourth(array: &Array<8>) -> Option<u8>
     ensures variant { IsSome result ↔ (4 ≤ length array.now.content) }
     ensures some { IfSome result (λ octet. octet ≡ slice_index array.now.content 3) }

@@ -1,4 +1,4 @@
-//! What the tests of the libraries share: assertions that are calls, and a test over each representation of octets.
+//! What the tests of the libraries share: assertions that are calls, and tests over each representation of octets.
 //!
 //! The assertions call the function `equal` of the tests that use them, as no library may end a program.
 #![tactic(auto)]
@@ -13,7 +13,7 @@ use std::alloc::AllocGlobal;
 use std::rc::RcSlice;
 use std::test::Fail;
 
-/// Ends the test where two values differ. A call is proved in a tenth of the time of an `assert_eq!`.
+/// Ends the test if two values differ. A call is proved in a tenth of the time of an `assert_eq!`.
 #[macro_export]
 macro_rules! assert_equal {
     ($rt:expr, $left:expr, $right:expr $(,)?) => {
@@ -21,7 +21,7 @@ macro_rules! assert_equal {
     };
 }
 
-/// Ends the test where this doesn't hold.
+/// Ends the test if the condition is false.
 #[macro_export]
 macro_rules! assert_true {
     ($rt:expr, $holds:expr $(,)?) => {
@@ -29,12 +29,12 @@ macro_rules! assert_true {
     };
 }
 
-/// A test over octets, whatever holds them, by a runtime.
+/// A test over octets, whatever holds them, with a runtime.
 pub trait Case<H> {
     fn holds<R: Octets + Copy>(&self, rt: &H, octets: R) -> Result<(), Fail>;
 }
 
-/// The test on the same octets in each representation that a parser may read.
+/// Runs the test on the same octets in each representation that a parser may read.
 pub fn over_each<H: AllocGlobal, C: Case<H>>(rt: &H, case: &C, octets: &[u8]) -> Result<(), Fail> {
     let alloc = rt.alloc();
     case.holds(rt, octets)?;

@@ -10,19 +10,19 @@ use Rattle.octseq_bgp_tool.specs.Streams.{IsMessagesEnd}
 use Rattle.octseq_program.proofs.Ends.{none_at_plain, one_plain_end}
 use Rattle.octseq_program.specs.Frames.{IsPlainEnd}
 
--- no octets are misframed where there are none
+-- no octets aren't misframed
 misframed_some : (s : SessionConfig) → IsMisframed s [] → ⊥
 misframed_some s (inl other) = other (λ k d few. absurd (omega (arith, few)))
 misframed_some s (inr (there, _)) = omega (arith, there)
 
--- a rest that is nothing or a part of a message isn't misframed
+-- a rest that is empty or a part of a message isn't misframed
 plain_not_misframed : {P : Type 0} (s : SessionConfig) (text rest ending note : List ℕ) (is_fine : Bool)
     → IsPlainEnd (IsCut s) text rest is_fine ending note → IsMisframed s rest → P
 plain_not_misframed s text rest ending note true (none, o, n) bad =
     absurd (misframed_some s (subst (IsMisframed s) none bad))
 plain_not_misframed s text rest ending note false (cut, o, n) bad = absurd (cut.1 bad)
 
--- one thing is made of a rest
+-- a rest makes one piece
 pub one_messages_end : (s : SessionConfig) (number : ℕ) (rest x y e f : List ℕ) (a b : Bool)
     → IsMessagesEnd s number rest a x e → IsMessagesEnd s number rest b y f → (a ≡ b) × (x ≡ y) × (e ≡ f)
 one_messages_end s number rest x y e f a b (inl p) (inl q) =
@@ -32,7 +32,7 @@ one_messages_end s number rest x y e f a b (inr (mis, fine, o, n)) (inr (also, a
 one_messages_end s number rest x y e f a b (inl p) (inr (mis, fine, o, n)) = plain_not_misframed s _ rest x e a p mis
 one_messages_end s number rest x y e f a b (inr (mis, fine, o, n)) (inl q) = plain_not_misframed s _ rest y f b q mis
 
--- no message is at the front of nothing
+-- no message is at the front of no octets
 no_message : (s : SessionConfig) → ¬ HasFront (IsFramed s) as_they_are []
 no_message s (a, more, framed, e) =
     let least = framed.least in

@@ -20,12 +20,12 @@ use Rattle.octseq_program.proofs.Taken.{one_stream, one_whole}
 use Rattle.octseq_program.specs.Frames.{IsStreamOut}
 use Rattle.octseq_program.specs.declared.status.Status.{Status}
 
--- one thing is made of the rest of a file
+-- the rest of a file makes one piece
 pub one_records_end : (c : Records) (number : ℕ) (rest x y e f : List ℕ) (a b : Bool)
     → IsRecordsEnd c number rest a x e → IsRecordsEnd c number rest b y f → (a ≡ b) × (x ≡ y) × (e ≡ f)
 one_records_end c number = one_plain_end IsCut (λ octets cut. cut.0) (cut_text c)
 
--- no record is at the front of nothing: it has four octets at least
+-- no record is at the front of no octets: it has at least four octets
 no_record : ¬ BeginsWithRecord []
 no_record (a, more, fits, e) =
     let some = fits.1.1.1.1.0 in
@@ -39,15 +39,15 @@ pub none_at_records_end : (c : Records) (number : ℕ) (octets written note : Li
 none_at_records_end c number =
     none_at_plain IsCut IsRecordOctets as_they_are no_record (λ octets cut. cut.1) (cut_text c)
 
--- what is apart is a code of itself
+-- octets that are apart are a code of themselves
 pub code_of : (Fits : List ℕ → Type 0) → ((a b x y : List ℕ) → Fits a → Fits b → a ++ x ≡ b ++ y → a ≡ b)
     → IsCode Fits as_they_are
 code_of Fits apart a b x y fits suits e =
     let same = apart a b x y fits suits e in
     (same, append_cancel_left a x y (e ∙ ap (λ l. l ++ y) (sym same)))
 
--- by the laws: one thing is made of an input, of a message and of a record; framed messages and records are apart, and
--- no message begins with misframed octets
+-- by the laws: an input, a message and a record make one piece; framed messages and records are apart, and no message
+-- begins with misframed octets
 module _ (one_message : (s : SessionConfig) (number : ℕ) (octets x y e f : List ℕ) (a b : Bool)
     → IsMessagePiece s number octets a x e → IsMessagePiece s number octets b y f → (a ≡ b) × (x ≡ y) × (e ≡ f))
     (one_block : (s : SessionConfig) (number : ℕ) (octets x y e f : List ℕ) (a b : Bool)

@@ -1,4 +1,4 @@
--- What is made of a message is a function of it.
+-- What is made of a message is a function of the message.
 use Rattle.std.proofs.Common.{◌≡◌, ◌++◌, ◌∙◌, ℕ, Bool, true, false, List, codes, refl, sym, ap, subst}
 use Rattle.octseq_bgp.specs.Message.{Message, IsMessage}
 use Rattle.octseq_bgp.specs.MessageText.{IsMessageText}
@@ -8,7 +8,7 @@ use Rattle.octseq_bgp_tool.specs.Shown.{IsMessagePiece, IsNote, IsShown}
 use Rattle.octseq_bgp_tool.specs.Streams.{IsBlock}
 use Rattle.octseq_program.specs.Frames.{stop_line}
 
--- by the law of places: of octets that are no message one thing is told
+-- by the law of places: octets that aren't a message have one note
 module _ (one_stop : (s : SessionConfig) (octets : List ℕ) (x y : ℕ) → IsStop s octets x → IsStop s octets y → x ≡ y)
   where
     pub one_note : (what : List ℕ) (s : SessionConfig) (number : ℕ) (octets x y : List ℕ) (b : Bool)
@@ -21,7 +21,7 @@ module _ (one_stop : (s : SessionConfig) (octets : List ℕ) (x y : ℕ) → IsS
 module _ (one_message : (s : SessionConfig) (octets : List ℕ) (m n : Message) → IsMessage s octets m
     → IsMessage s octets n → m ≡ n)
     (one_text : (m : Message) (text other : List ℕ) → IsMessageText m text → IsMessageText m other → text ≡ other) where
-  -- of octets one thing is shown
+  -- octets are shown in one way
   pub one_shown : (s : SessionConfig) (octets x y : List ℕ) (b c : Bool) → IsShown s octets b x → IsShown s octets c y
       → (x ≡ y) × (b ≡ c)
   one_shown s octets x y true true p q =
@@ -36,7 +36,7 @@ module _ (one_shown : (s : SessionConfig) (octets x y : List ℕ) (b c : Bool) �
     → IsShown s octets c y → (x ≡ y) × (b ≡ c))
     (one_note : (what : List ℕ) (s : SessionConfig) (number : ℕ) (octets x y : List ℕ) (b : Bool)
     → IsNote what s number octets b x → IsNote what s number octets b y → x ≡ y) where
-  -- one thing is made of an input
+  -- an input makes one piece
   pub one_message_piece : (s : SessionConfig) (number : ℕ) (octets x y e f : List ℕ) (a b : Bool)
       → IsMessagePiece s number octets a x e → IsMessagePiece s number octets b y f → (a ≡ b) × (x ≡ y) × (e ≡ f)
   one_message_piece s number octets x y e f a b (p, n) (q, m) =
@@ -45,7 +45,7 @@ module _ (one_shown : (s : SessionConfig) (octets x y : List ℕ) (b c : Bool) �
       let moved = subst (λ a. IsNote what s number octets a e) same.1 n in
       (same.1, same.0, one_note what s number octets e f b moved m)
 
-  -- one thing is made of a message of a stream
+  -- a message of a stream makes one piece
   pub one_block : (s : SessionConfig) (number : ℕ) (octets x y e f : List ℕ) (a b : Bool)
       → IsBlock s number octets a x e → IsBlock s number octets b y f → (a ≡ b) × (x ≡ y) × (e ≡ f)
   one_block s number octets x y e f a b (is_message, shown, p, n, fine, w) (is_other, other, q, m, also, v) =

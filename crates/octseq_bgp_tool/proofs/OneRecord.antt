@@ -1,4 +1,4 @@
--- What is made of a record is a function of it.
+-- What is made of a record is a function of the record.
 use Rattle.std.proofs.Common.{◌≡◌, ◌++◌, ◌∙◌, ℕ, [], Bool, true, false, List, codes, refl, sym, ap, subst}
 use Rattle.std.proofs.Common.{if◌then◌else◌}
 use Rattle.octseq.specs.Window.{Window, rest}
@@ -13,7 +13,7 @@ use Rattle.octseq_mrt.specs.Record.{AreRecord, IsValue, Value}
 use Rattle.octseq_mrt.specs.RecordText.{IsRecordText}
 use Rattle.octseq_mrt.specs.declared.header.CommonHeader.{CommonHeader}
 
--- octets are a message or none
+-- octets either are a message or aren't
 one_read : (s : SessionConfig) (octets : List ℕ) (b c : Bool) → IsRead s octets b → IsRead s octets c → b ≡ c
 one_read s octets true true p q = refl
 one_read s octets false false p q = refl
@@ -56,7 +56,7 @@ module _ (one_text : (r : CommonHeader × Window) (text other : List ℕ) → Is
       e ∙ ap (λ l. l ++ codes "\n") (one_text r text other p q) ∙ sym f
   one_written Taken r v x y p q = one_taken v x y p q
 
--- by the laws of records too: octets are a record in one way, and it says one thing
+-- also by the laws of records: octets are a record in one way, and it has one value
 module _ (one_record : (octets : List ℕ) (a b : CommonHeader × Window) → AreRecord octets a → AreRecord octets b
     → a ≡ b)
     (one_value : (header : CommonHeader) (w : Window) (a b : Value) → IsValue header w a → IsValue header w b → a ≡ b)

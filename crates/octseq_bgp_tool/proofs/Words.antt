@@ -1,4 +1,4 @@
--- Words that name commands: each names one.
+-- Names of commands: each command has its own.
 use Rattle.std.proofs.Common.{◌≡◌, ◌∙◌, ◌-◌, ℕ, Bool, true, false, List, drop, get_or, length, if◌then◌else◌}
 use Rattle.std.proofs.Common.{nat_eq, refl, sym, ap}
 use Rattle.octseq_bgp_tool.specs.Words.{name_of, words_of}
@@ -15,7 +15,7 @@ options two_octet add_path extended =
 abbrev begins_with_t : List ℕ → Bool
 begins_with_t words = nat_eq (get_or words 1 0) 116
 
--- the options that words tell: `,t` begins the first of them, `,a` the second, and the third alone ends with `d`
+-- the options of words: `,t` begins the first one, `,a` the second, and only the third ends with `d`
 abbrev told_by : List ℕ → Options
 told_by words =
     options (begins_with_t words)
@@ -32,7 +32,7 @@ told_again true false true = refl
 told_again true true false = refl
 told_again true true true = refl
 
--- no words of options begin with `s`
+-- the words of options don't begin with `s`
 not_an_s : (a b c : Bool) → nat_eq (get_or (words_of (options a b c)) 0 0) 115 ≡ false
 not_an_s false false false = refl
 not_an_s false false true = refl
@@ -43,7 +43,7 @@ not_an_s true false true = refl
 not_an_s true true false = refl
 not_an_s true true true = refl
 
--- the command that a word names: by its first letter, its second, and what follows `message`
+-- the command of a name: by its first letter, its second one, and what follows `message`
 abbrev command_told : List ℕ → Command
 command_told word =
     if nat_eq (get_or word 0 0) 115 then Stream (told_by (drop 6 word))

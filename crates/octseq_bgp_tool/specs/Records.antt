@@ -12,20 +12,20 @@ use Rattle.octseq_mrt.specs.declared.header.CommonHeader.{CommonHeader}
 use Rattle.octseq_program.specs.Frames.{IsPlainEnd, IsPlainRest}
 use Rattle.octseq_program.specs.declared.frames.Ending.{Ending}
 
--- the message that a record has, as it is, or nothing where its octets are none
+-- the message in a record as it is, or nothing if its octets aren't one
 abbrev pub IsTakenEvent : Event → List ℕ → Type 0
 IsTakenEvent (Event.state_change states) written = written ≡ []
 IsTakenEvent (Event.message s octets) written = (is_message : Bool) × IsRead s (rest octets) is_message
     × (written ≡ (if is_message then rest octets else []))
 
--- what is told of a record on standard error, by its number: where it has octets of a message that are none, the place
--- in them where reading stopped
+-- the note about a record on standard error, by its number: if it holds octets that aren't a message, the place where
+-- reading stopped
 abbrev pub IsEventNote : ℕ → Event → List ℕ → Type 0
 IsEventNote number (Event.state_change states) note = note ≡ []
 IsEventNote number (Event.message s octets) note = (is_message : Bool) × IsRead s (rest octets) is_message
     × IsNote (codes "message of record") s number (rest octets) is_message note
 
--- so of what a record says
+-- the same for the value of a record
 abbrev pub IsTakenValue : Value → List ℕ → Type 0
 IsTakenValue (Value.bgp4mp b) written = IsTakenEvent b.event written
 IsTakenValue _ written = written ≡ []
@@ -34,7 +34,7 @@ abbrev pub IsValueNote : ℕ → Value → List ℕ → Type 0
 IsValueNote number (Value.bgp4mp b) note = IsEventNote number b.event note
 IsValueNote number _ note = note ≡ []
 
--- what is written of a record: its text and an empty line, or the message that it has
+-- the output for a record: its text and an empty line, or its message
 abbrev pub IsWritten : Records → CommonHeader × Window → Value → List ℕ → Type 0
 IsWritten Shown r v written = (text : List ℕ) × IsRecordText r text × (written ≡ text ++ codes "\n")
 IsWritten Taken r v written = IsTakenValue v written
@@ -44,7 +44,7 @@ abbrev pub IsRecordPiece : Records → ℕ → List ℕ → Bool → List ℕ �
 IsRecordPiece c number octets is_fine written note = (r : CommonHeader × Window) × (v : Value) × AreRecord octets r
     × IsValue r.0 r.1 v × IsWritten c r v written × IsValueNote number v note × (is_fine ≡ true)
 
--- what is written where a file ends inside a record
+-- the output if a file ends inside a record
 abbrev pub cut_text : Records → List ℕ
 cut_text Shown = codes "unexpected end of input\n"
 cut_text Taken = []
@@ -53,6 +53,6 @@ cut_text Taken = []
 abbrev pub IsRecordsRest : Ending → List ℕ → Type 0
 IsRecordsRest = IsPlainRest IsCut
 
--- what is made of it
+-- what is made of the rest
 abbrev pub IsRecordsEnd : Records → ℕ → List ℕ → Bool → List ℕ → List ℕ → Type 0
 IsRecordsEnd c number = IsPlainEnd IsCut (cut_text c)

@@ -1,4 +1,4 @@
--- What the program shows of octets that may be a message, and what it tells of them.
+-- What the program shows of octets that may be a message, and its note about them.
 use Rattle.std.specs.Prelude.{◌≡◌, ℕ, List, [], Bool, true, false, codes}
 use Rattle.octseq_bgp.specs.Message.{Message, IsMessage}
 use Rattle.octseq_bgp.specs.MessageText.{IsMessageText}
@@ -12,7 +12,7 @@ pub record HasText (s : SessionConfig) (octets text : List ℕ) : Type 0 where
   pub is_message : IsMessage s octets message
   pub is_text : IsMessageText message text
 
--- octets are no message of the session
+-- octets aren't a message of the session
 abbrev pub IsMalformed : SessionConfig → List ℕ → Type 0
 IsMalformed s octets = (m : Message) → ¬ IsMessage s octets m
 
@@ -21,12 +21,12 @@ abbrev pub IsRead : SessionConfig → List ℕ → Bool → Type 0
 IsRead s octets true = (m : Message) × IsMessage s octets m
 IsRead s octets false = IsMalformed s octets
 
--- what is shown of octets: the text of the message, where they are one, and else `malformed`
+-- what is shown of octets: the text of the message, if they are one, otherwise `malformed`
 abbrev pub IsShown : SessionConfig → List ℕ → Bool → List ℕ → Type 0
 IsShown s octets true shown = HasText s octets shown
 IsShown s octets false shown = IsMalformed s octets × (shown ≡ codes "malformed\n")
 
--- what is told of octets on standard error, by the number of what they are: where they are no message, the place where
+-- the note about octets on standard error, by what they are and their number: if they aren't a message, the place where
 -- reading stopped
 abbrev pub IsNote : List ℕ → SessionConfig → ℕ → List ℕ → Bool → List ℕ → Type 0
 IsNote what s number octets true note = note ≡ []

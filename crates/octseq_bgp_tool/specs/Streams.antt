@@ -7,13 +7,13 @@ use Rattle.octseq_program.specs.Frames.{IsPlainEnd, IsPlainRest, stop_line}
 use Rattle.octseq_program.specs.declared.frames.Ending.{Ending}
 use Rattle.octseq_program.specs.declared.frames.Ending.TheVariants.{Misframed}
 
--- what is written of a message: what is shown of it, and an empty line
+-- the output for a message: what is shown of it, and an empty line
 abbrev pub IsBlock : SessionConfig → ℕ → List ℕ → Bool → List ℕ → List ℕ → Type 0
 IsBlock s number octets is_fine written note = (is_message : Bool) × (shown : List ℕ)
     × IsShown s octets is_message shown × IsNote (codes "message") s number octets is_message note
     × (is_fine ≡ true) × (written ≡ shown ++ codes "\n")
 
--- what is written of octets that are framed as no message, with all after them
+-- the output for octets that aren't framed as a message, with all after them
 abbrev pub IsMisframedEnd : SessionConfig → ℕ → List ℕ → Bool → List ℕ → List ℕ → Type 0
 IsMisframedEnd s number rest is_fine ending note = IsMisframed s rest × (is_fine ≡ false)
     × (ending ≡ codes "malformed\n\n") × (note ≡ stop_line (codes "message") number 0)
@@ -23,7 +23,7 @@ abbrev pub IsMessagesRest : SessionConfig → Ending → List ℕ → Type 0
 IsMessagesRest s Misframed rest = IsMisframed s rest
 IsMessagesRest s ending rest = IsPlainRest (IsCut s) ending rest
 
--- what is made of the rest: of nothing or a part of a message, or of octets that are framed as none
+-- what is made of the rest: it is empty or a part of a message, or isn't framed as one
 abbrev pub IsMessagesEnd : SessionConfig → ℕ → List ℕ → Bool → List ℕ → List ℕ → Type 0
 IsMessagesEnd s number rest is_fine ending note =
     IsPlainEnd (IsCut s) (codes "unexpected end of input\n") rest is_fine ending note

@@ -1,4 +1,4 @@
--- The words that name commands, and how messages are read by them.
+-- The names of commands, and how messages are read by them.
 use Rattle.std.specs.Prelude.{Bool, not, if◌then◌else◌, ℕ, List, [], ◌++◌, codes}
 use Rattle.octseq_bgp.specs.declared.session.SessionConfig.{SessionConfig}
 use Rattle.octseq_bgp_tool.specs.declared.engine.Command.{Command}
@@ -6,7 +6,7 @@ use Rattle.octseq_bgp_tool.specs.declared.engine.Command.TheVariants.{Message, S
 use Rattle.octseq_bgp_tool.specs.declared.options.Options.{Options}
 use Rattle.octseq_mrt.specs.Bgp4Mp.{all_paths}
 
--- a word where there is an option
+-- the word of an option, if it is set
 abbrev pub option_word : Bool → List ℕ → List ℕ
 option_word has word = if has then word else []
 
@@ -15,14 +15,14 @@ abbrev pub words_of : Options → List ℕ
 words_of o = option_word o.two_octet (codes ",two-octet") ++ option_word o.add_path (codes ",add-path")
     ++ option_word o.extended (codes ",extended")
 
--- the word that names a command
+-- the name of a command
 abbrev pub name_of : Command → List ℕ
 name_of (Message o) = codes "message" ++ words_of o
 name_of (Stream o) = codes "stream" ++ words_of o
 name_of Mrt = codes "mrt"
 name_of Messages = codes "messages"
 
--- how messages are read by the options: with AS numbers of two octets, with path ids for all families, of up to 65,535
+-- how messages are read by the options: with two-octet AS numbers, with path ids for all families, of up to 65,535
 -- octets
 abbrev pub session_of : Options → SessionConfig
 session_of o = record {

@@ -22,7 +22,7 @@ mod shown;
 #[cfg(test)]
 mod tests;
 
-/// What the program tells of itself.
+/// The help text of the program.
 const HELP: &str = "\
 octseq_bgp_tool reads BGP messages and MRT records, and shows them as text.
 
@@ -57,7 +57,7 @@ status:
   4  a read or a write failed
 ";
 
-/// What the program can do.
+/// The commands of the program.
 #[derive(Clone, Copy, Debug, PartialEq, Eq)]
 pub enum Command {
     /// Write the text of the input as one message.
@@ -66,13 +66,13 @@ pub enum Command {
     Stream(Options),
     /// Write the text of each record of the input.
     Mrt,
-    /// Write the messages that the records of the input have.
+    /// Write the messages in the records of the input.
     Messages,
 }
 
-/// A word names one command at most, and a command has one output, on standard output and on standard error, and one
+/// A word names at most one command, and a command has one output, on standard output and on standard error, and one
 /// status for an input: what the program writes is a function of both. The law is on a function that does nothing, so
-/// that a check asks for its proof.
+/// that a check proves it.
 pub fn one_answer()
     ensures command { (word : List ℕ) (c d : Option Command)
         → IsNamed name_of word c → IsNamed name_of word d → c ≡ d }
@@ -87,7 +87,7 @@ pub fn one_answer()
     records_are_apart();
 }
 
-/// What follows a front of a word, where it begins with that.
+/// Returns what follows a front of a word, if the word begins with it.
 fn after<'a>(word: &'a str, front: &str) -> Option<&'a str>
     ensures some { IfSome result (λ rest. word.now ≡ front.now ++ rest.now) }
     ensures none { IsNone result → (rest : List ℕ) → word.now ≢ front.now ++ rest }

@@ -1,10 +1,10 @@
 //! Reads BGP messages and MRT records from standard input or a file, and shows them as text.
 //!
-//! `octseq_bgp_tool message` shows one message, and `stream` messages that come one after another. `mrt` shows records
-//! of MRT, and `messages` writes the messages that such records have, as a stream. `message` and `stream` may be followed
-//! by `,two-octet`, `,add-path` and `,extended`, in this order, which tell how messages are read. The command is the
-//! program's first argument, and with no argument it is `message`; a second argument is the path of a file that is read
-//! in place of standard input. `--help` tells all this.
+//! `octseq_bgp_tool message` shows one message, and `stream` a stream of messages. `mrt` shows MRT records, and
+//! `messages` writes the messages in such records as a stream. `message` and `stream` may be followed by `,two-octet`,
+//! `,add-path` and `,extended`, in this order, which say how messages are read. The command is the program's first
+//! argument, and `message` if there is none; the second argument is the path of a file to read in place of standard
+//! input. `--help` describes all this.
 #![tactic(auto)]
 
 use engine::Command;

@@ -1,15 +1,15 @@
-//! How messages are to be read, as the words of a command tell.
+//! How messages are to be read, by the words of a command.
 ghost use Rattle.std.specs.Prelude.{◌≡◌};
 ghost use Rattle.octseq_bgp_tool.specs.Words.{session_of, words_of};
 ghost use Rattle.octseq_program.specs.Run.{IsNamed};
 
 use octseq_bgp::{AddPath, SessionConfig};
 
-/// What a session has, as the words after a command tell. With none of them it has AS numbers of four octets, no path
-/// ids, and messages of at most 4,096 octets.
+/// The options of a session, by the words after a command. Without any, AS numbers have four octets, there are no path
+/// ids, and messages have at most 4,096 octets.
 #[derive(Clone, Copy, Debug, PartialEq, Eq)]
 pub struct Options {
-    /// AS numbers of two octets: `two-octet`.
+    /// Two-octet AS numbers: `two-octet`.
     pub two_octet: bool,
     /// Path ids for all families: `add-path`.
     pub add_path: bool,
@@ -18,7 +18,7 @@ pub struct Options {
 }
 
 impl Options {
-    /// The options that these words are: in the order of the fields, each after a comma.
+    /// Parses options: in the order of the fields, each after a comma.
     pub fn named(words: &str) -> Option<Options>
         ensures { IsNamed words_of words.now result }
     {
@@ -40,7 +40,7 @@ impl Options {
         })
     }
 
-    /// How messages are read by them.
+    /// Returns how messages are read by the options.
     pub fn session(self) -> SessionConfig
         ensures { result ≡ session_of self }
     {

@@ -1,4 +1,4 @@
--- A reader's octets are fed until its end.
+-- The octets of a reader are fed until its end.
 use Rattle.std.proofs.Common.{◌≡◌, ℕ, List, [], ◌++◌, Option, Some, None, refl, sym, ap, ◌∙◌, append_assoc}
 use Rattle.std.proofs.lemmas.List.{append-nil}
 use Rattle.std.specs.Io.KnownBytes.{Consumes, Keeps}
@@ -11,7 +11,7 @@ consumes_none : (known : Option (List ℕ)) → Consumes known known []
 consumes_none None = tt
 consumes_none (Some octets) = refl
 
--- a reader that keeps its known octets loses none of them
+-- a reader that keeps its known octets consumes none of them
 pub keeps_consumes : (before after : Option (List ℕ)) → Keeps before after → Consumes before after []
 keeps_consumes None after keeps = tt
 keeps_consumes (Some xs) None keeps = absurd keeps
@@ -25,17 +25,17 @@ consumes_more (Some a) (Some b) None xs ys first second = absurd second
 consumes_more (Some a) (Some b) (Some c) xs ys first second =
     first ∙ ap (λ r. xs ++ r) second ∙ sym (append_assoc xs ys c)
 
--- The reading stands for octets that the reader lost.
+-- The octets that were fed are those that the reader gave.
 pub record IsFed (given left : Option (List ℕ)) (held : Held) : Type 0 where
   pub octets : List ℕ
   pub consumed : Consumes given left octets
   pub stands : StandsFor held octets
 
--- a reading that stands for no octets is fed by a reader that lost none
+-- at first no octets were fed, and the reader gave none
 pub fed_nothing : (given : Option (List ℕ)) (held : Held) → StandsFor held [] → IsFed given given held
 fed_nothing given held stands = record { octets = []; consumed = consumes_none given; stands = stands }
 
--- a reading that was fed, and takes in what the reader loses next, is fed still
+-- octets that are fed next are those that the reader gives next
 pub fed_more : (given left now : Option (List ℕ)) (held after : Held) (octets : List ℕ) → IsFed given left held
     → Consumes left now octets
     → ((before : List ℕ) → StandsFor held before → StandsFor after (before ++ octets)) → IsFed given now after
@@ -45,12 +45,12 @@ fed_more given left now held after octets so_far consumed stands = record {
   stands = stands so_far.octets so_far.stands;
 }
 
--- the reading stands for what the reader lost
+-- the octets that were fed are those that the reader gave
 pub fed_all : (given left : Option (List ℕ)) (held : Held) → IsFed given left held
     → (input : List ℕ) × StandsFor held input × Consumes given left input
 fed_all given left held fed = (fed.octets, fed.stands, fed.consumed)
 
--- a read more was lost
+-- one more read was consumed
 pub lost_more : (given left now : Option (List ℕ)) (held : Held) → IsFed given left held
     → ((read : List ℕ) × Consumes left now read) → (read : List ℕ) × Consumes given now read
 lost_more given left now held fed (read, consumed) =

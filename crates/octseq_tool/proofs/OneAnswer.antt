@@ -32,12 +32,11 @@ same_name Lossy64 Check e = other_first _ _ (omega arith) e
 same_name Lossy Lossy64 e = other_length _ _ (omega arith) e
 same_name Lossy64 Lossy e = other_length _ _ (omega arith) e
 
--- an output and a status that another is
+-- outputs and statuses that are equal
 abbrev Same : List ℕ → List ℕ → Status → Status → Type 0
 Same x y s t = (x ≡ y) × (s ≡ t)
 
--- by what the laws of octets say: they have one fault, those that have one aren't well formed, and they split in one
--- way
+-- by the laws of octets: they have one fault, octets with a fault aren't well-formed, and they split in one way
 module _
     (one_fault : (octets : List ℕ) (fault other : Fault) → IsFault octets fault → IsFault octets other → fault ≡ other)
     (refutes : (octets : List ℕ) (fault : Fault) → IsFault octets fault → ¬ IsWellFormed octets)

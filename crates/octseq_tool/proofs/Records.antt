@@ -12,7 +12,7 @@ use Rattle.octseq.specs.Window.{Window, left, rest, next, past, nested}
 use Rattle.octseq.proofs.Codes.{halves}
 use Rattle.octseq_tool.specs.Out.{HasText, records_of, IsCut, HasLines}
 
--- no whole record stands at the front
+-- no whole record is at the front
 abbrev pub IsRest : List ℕ → Type 0
 IsRest rest = (rest ≡ []) ⊎ IsCut rest
 
@@ -25,7 +25,7 @@ no_record (n ∷ octets) part more (inr short) e =
     let long : length octets ≡ length part + length more = ap length behind ∙ length-append part more in
     absurd (omega arith)
 
--- octets are whole records, and a rest with none at its front, in one way at most
+-- octets are whole records, and a rest with none at its front, in at most one way
 pub one_reading : (parts others : List (List ℕ)) (x y : List ℕ) → IsRest x → IsRest y
     → records_of parts ++ x ≡ records_of others ++ y → (parts ≡ others) × (x ≡ y)
 one_reading [] [] x y h k e = (refl, e)
@@ -46,7 +46,7 @@ one_octet : (b : ℕ) → be (b ∷ []) ≡ b
 unfolding be
 one_octet b = omega arith
 
--- the first of the octets that are left, and those behind it
+-- the first of the octets that are left, and those after it
 first_octet : (w : Window) → 0 < left w → w.end ≤ length w.octets → rest w ≡ be (next 1 w) ∷ rest (past 1 w)
 first_octet w some within =
     let b = get_or w.octets w.position 0 in
@@ -60,7 +60,7 @@ first_octet w some within =
     ap (λ n. take n (drop w.position w.octets)) many ∙ ap (take (suc (w.end - (w.position + 1)))) ahead
     ∙ ap (λ n. n ∷ rest (past 1 w)) (sym value)
 
--- how many octets a range has
+-- the number of octets of a range
 length_range : (octets : List ℕ) (from to : ℕ) → from ≤ to → to ≤ length octets
     → length (slice_range octets from to) ≡ to - from
 length_range octets from to ordered within = omega (arith, length-take {A = ℕ}, length-drop {A = ℕ})
@@ -87,9 +87,9 @@ cut_record w n some within value short =
 not_within : (n m : ℕ) → (n ≤ m → ⊥) → m < n
 not_within n m short = omega arith
 
--- what a call that takes a part says of the record at the front
+-- what a call that reads a part says of the record at the front
 
--- the part that a call took is the record at the front, and what is left then stands behind it
+-- the part that a call read is the record at the front, followed by what is left
 pub whole_part : {T E : Type 0} (result : Result T E) (view : T → Window) (w after : Window) → w.end ≤ length w.octets
     → (IsOk result ↔ HasPart 1 w) → OnOk result (after ≡ past_part 1 w) → IfOk result (λ taken. view taken ≡ part 1 w)
     → ((w : Window) (n : ℕ) → n ≤ left w → next n w ++ rest (past n w) ≡ rest w)
@@ -100,7 +100,7 @@ whole_part (Ok taken) view w after within variant moved is_part law =
     (whole_record w (part_length 1 w) has.0 within refl has.1 (law (past 1 w) (part_length 1 w) has.1))
 whole_part (Err e) view w after within variant moved is_part law = tt
 
--- where a call takes no part though octets are left, they begin with no whole record
+-- if a call reads no part though octets are left, they begin with no whole record
 pub cut_part : {T E : Type 0} (result : Result T E) (w : Window) → w.end ≤ length w.octets → (IsOk result ↔ HasPart 1 w)
     → OnErr result (0 < left w → IsCut (rest w))
 cut_part (Ok taken) w within variant = tt
@@ -109,13 +109,13 @@ cut_part (Err e) w within variant = λ some.
     absurd (cc) in
     cut_record w (part_length 1 w) some within refl (not_within (part_length 1 w) (left (past 1 w)) short)
 
--- The input was read as far as this rest, and the output has a line for each part.
+-- The input was read up to this rest, and the output has a line for each part.
 pub record IsReadTo (input rest output : List ℕ) : Type 0 where
   pub parts : List (List ℕ)
   pub whole : input ≡ records_of parts ++ rest
   pub lines : HasLines parts output
 
--- a line more
+-- one more line
 lines_more : (parts : List (List ℕ)) (lines part line : List ℕ) → HasLines parts lines → HasText part line
     → HasLines (parts ++ part ∷ []) (lines ++ (line ++ codes "\n"))
 lines_more [] lines part line none has =
@@ -128,7 +128,7 @@ lines_more (p ∷ parts) lines part line (first, more, h, hs, e) has = (
   ap (λ l. l ++ (line ++ codes "\n")) e ∙ append_assoc (first ++ codes "\n") more (line ++ codes "\n"),
 )
 
--- a record more
+-- one more record
 pub read_more : (input before after part line output made : List ℕ) → IsReadTo input before output
     → before ≡ length part ∷ part ++ after → HasText part line
     → made ≡ output ++ (line ++ codes "\n") → IsReadTo input after made

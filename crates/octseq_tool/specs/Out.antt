@@ -11,7 +11,7 @@ use Rattle.octseq_tool.specs.declared.engine.Command.TheVariants.{Check, Lossy, 
 use Rattle.octseq_program.specs.declared.status.Status.{Status}
 use Rattle.octseq_program.specs.declared.status.Status.TheVariants.{Fine, Refused}
 
--- the word that names a command
+-- the name of a command
 abbrev pub name_of : Command → List ℕ
 name_of Check = codes "check"
 name_of Lossy = codes "lossy"
@@ -22,11 +22,11 @@ name_of Records = codes "records"
 abbrev pub HasText : List ℕ → List ℕ → Type 0
 HasText input lossy = (parts : List Part) × Splits input parts × (lossy ≡ text parts)
 
--- records: parts one after another, each behind its length
+-- records: parts one after another, each after its length
 abbrev pub records_of : List (List ℕ) → List ℕ
 records_of parts = flat_map (λ part. length part ∷ part) parts
 
--- octets that begin with no whole record: behind the first of them stand fewer than it says
+-- octets that begin with no whole record: fewer octets follow the first one than it says
 abbrev pub IsCut : List ℕ → Type 0
 IsCut [] = ⊥
 IsCut (n ∷ octets) = length octets < n
@@ -53,12 +53,12 @@ Made Records input output Refused = (parts : List (List ℕ)) × (rest : List �
     (output ≡ lines ++ codes "unexpected end of input\n")
 Made _ input output _ = ⊥
 
--- what is written for a command and an input, on standard output and on standard error, and how the program ends:
--- what it makes of the input, and nothing on standard error
+-- what is written for a command and an input, on standard output and on standard error, and how the program ends: what
+-- the command makes of the input, and nothing on standard error
 abbrev pub Out : Command → List ℕ → List ℕ → List ℕ → Status → Type 0
 Out command input output errors status = Made command input output status × (errors ≡ [])
 
--- A command made this of all that a reader had left, and left it at this.
+-- A command made this of all that a reader had left.
 pub record Makes (command : Command) (given left : Option (List ℕ)) (output : List ℕ) (status : Status) : Type 0 where
   pub input : List ℕ
   pub consumed : Consumes given left input

@@ -27,10 +27,10 @@ use std::io::{ErrorKind, Read, Write};
 #[cfg(test)]
 mod tests;
 
-/// How many octets a read asks for where a text is made of pieces.
+/// The number of octets of a read, if a text is made of pieces.
 const PIECE: usize = 64 * 1024;
 
-/// What the program tells of itself.
+/// The help text of the program.
 const HELP: &str = "\
 octseq_tool reads octets, and tells of them as text.
 
@@ -57,23 +57,22 @@ status:
   4  a read or a write failed
 ";
 
-/// What the program can do.
+/// The commands of the program.
 #[derive(Clone, Copy, Debug, PartialEq, Eq)]
 pub enum Command {
-    /// Tell whether the input is well-formed UTF-8.
+    /// Check whether the input is well-formed UTF-8.
     Check,
     /// Write the input's lossy text.
     Lossy,
-    /// Write the input's lossy text where it has at most 64 octets.
+    /// Write the input's lossy text if it has at most 64 octets.
     Lossy64,
-    /// Read the input as records, a length in one octet and that many octets each, and write the lossy
-    /// text of each on a line.
+    /// Read the input as records of a length in one octet and that many octets, and write the lossy text of each on a
+    /// line.
     Records,
 }
 
-/// A word names one command at most, and a command has one output and one status for an input: what the
-/// program writes is a function of both. The law stands on a function that does nothing, so that a check
-/// asks for its proof.
+/// A word names at most one command, and a command has one output and one status for an input: what the program writes
+/// is a function of both. The law is on a function that does nothing, so that a check proves it.
 pub fn one_answer()
     ensures command { (word : List ℕ) (c d : Option Command)
         → IsNamed name_of word c → IsNamed name_of word d → c ≡ d }
@@ -84,7 +83,7 @@ pub fn one_answer()
     utf8::one_splitting();
 }
 
-/// Whether the octets are well-formed UTF-8, and where they stop being so.
+/// Checks whether the octets are well-formed UTF-8, and where they stop being so.
 fn check(alloc: Global, input: Vec<u8>) -> Result<Answer, AllocError>
     ensures { IfOk result (λ answer. Made Check input.items answer.output.items answer.status) }
 {
@@ -103,8 +102,8 @@ fn check(alloc: Global, input: Vec<u8>) -> Result<Answer, AllocError>
     }
 }
 
-/// The lossy text of all that the reader has left. It is made as the octets are read, so that they stand in memory
-/// as text alone.
+/// Returns the lossy text of all that the reader has left. It is made while the octets are read, so that only the text
+/// is in memory.
 fn lossy<R: Read>(alloc: Global, reader: &mut R) -> Result<Answer, ProgramFault>
     ensures ok { IfOk result (λ answer. Makes Lossy (R.remaining reader.old) (R.remaining reader.new)
         answer.output.items answer.status) }
@@ -113,7 +112,7 @@ fn lossy<R: Read>(alloc: Global, reader: &mut R) -> Result<Answer, ProgramFault>
 {
     let mut pieces = LossyPieces::new(alloc)?;
     feed_all(alloc, reader, &mut pieces)?;
-    // (a vector has no limit, so all that it refuses is for want of memory)
+    // (a vector has no limit, so it refuses only for lack of memory)
     let Ok(text) = pieces.finish() else {
         return Err(ProgramFault::Memory);
     };
@@ -144,7 +143,7 @@ fn feed_all<R: Read>(
     Err(ProgramFault::Read)
 }
 
-/// Feeds what one read gives, and tells whether there may be more.
+/// Feeds the octets of one read. Returns whether there may be more.
 fn feed_next<R: Read>(
     reader: &mut R,
     room: &mut [u8],
@@ -161,7 +160,7 @@ fn feed_next<R: Read>(
     match reader.read(room) {
         Ok(count) => match pieces.feed(&room[..count]) {
             Ok(()) => Ok(count > 0),
-            // (a vector has no limit, so all that it refuses is for want of memory)
+            // (a vector has no limit, so it refuses only for lack of memory)
             Err(_) => Err(ProgramFault::Memory),
         },
         Err(e) if e.kind() == ErrorKind::Interrupted => Ok(true),
@@ -169,7 +168,7 @@ fn feed_next<R: Read>(
     }
 }
 
-/// The lossy text of the octets, where an array of 64 octets can hold it.
+/// Returns the lossy text of the octets, if it fits an array of 64 octets.
 fn lossy64(alloc: Global, input: &[u8]) -> Result<Answer, AllocError>
     ensures { IfOk result (λ answer. Made Lossy64 input.now answer.output.items answer.status) }
 {
@@ -183,7 +182,7 @@ fn lossy64(alloc: Global, input: &[u8]) -> Result<Answer, AllocError>
     }
 }
 
-/// The refusal of octets that pass a limit.
+/// Returns the refusal of octets that exceed a limit.
 fn too_long(alloc: Global) -> Result<Answer, AllocError>
     ensures output { IfOk result (λ answer. answer.output.items ≡ codes "buffer size exceeded\n") }
     ensures status { IfOk result (λ answer. answer.status ≡ Refused) }
@@ -194,7 +193,7 @@ fn too_long(alloc: Global) -> Result<Answer, AllocError>
     })
 }
 
-/// The octets of the next record.
+/// Reads the next record. Returns its octets.
 fn next_part<'a>(parser: &mut Parser<&'a [u8]>) -> Result<Parser<&'a [u8]>, ShortInput>
     ensures ok { IfOk result (λ part. rest (window parser.old)
         ≡ length (rest (window part)) ∷ rest (window part) ++ rest (window parser.new)) }
@@ -210,15 +209,15 @@ fn push_line(output: &mut StrBuilder<Vec<u8>>, octets: &[u8]) -> Result<(), Allo
     ensures { OnOk result ((line : List ℕ) × HasText octets.now line
         × (output.new.items ≡ output.old.items ++ (line ++ codes "\n"))) }
 {
-    // (a vector has no limit, so all that it refuses is for want of memory)
+    // (a vector has no limit, so it refuses only for lack of memory)
     let Ok(()) = output.try_push_lossy(octets) else {
         return Err(AllocError);
     };
     output.push_str("\n")
 }
 
-/// The lossy text of each record on a line. A line is at least as long as its record, so there is room for all of
-/// them at once where no part is ill-formed.
+/// Returns the lossy text of each record on a line. A line is at least as long as its record, so there is room for all
+/// of them if no part is ill-formed.
 fn records(alloc: Global, input: &[u8]) -> Result<Answer, AllocError>
     ensures { IfOk result (λ answer. Made Records input.now answer.output.items answer.status) }
 {
@@ -237,7 +236,7 @@ fn records(alloc: Global, input: &[u8]) -> Result<Answer, AllocError>
 }
 
 impl Command {
-    /// What a command makes of all that the reader has left.
+    /// Returns what a command makes of all that the reader has left.
     #[tactic(auto, using(crate::proofs::Feeding::makes))]
     fn answer<R: Read>(self, alloc: Global, reader: &mut R) -> Result<Answer, ProgramFault>
         ensures ok { IfOk result (λ answer. Makes self (R.remaining reader.old) (R.remaining reader.new)

@@ -1,10 +1,9 @@
-//! Reads octets from standard input, and tells of them as text.
+//! Reads octets from standard input, and reports on them as text.
 //!
-//! `octseq_tool check` tells whether they are well-formed UTF-8. `lossy` writes their lossy text, `lossy64`
-//! the same where it has at most 64 octets. `records` reads them as records, a length in one octet and that
-//! many octets each, and writes the lossy text of each on a line. The command is the program's first argument,
-//! and with no argument it is `check`; a second argument is the path of a file that is read in place of standard input.
-//! `--help` tells all this.
+//! `octseq_tool check` reports whether they are well-formed UTF-8. `lossy` writes their lossy text, and `lossy64` does
+//! so if it has at most 64 octets. `records` reads them as records of a length in one octet and that many octets, and
+//! writes the lossy text of each on a line. The command is the program's first argument, and `check` if there is none;
+//! the second argument is the path of a file to read in place of standard input. `--help` describes all this.
 #![tactic(auto)]
 
 use engine::Command;
@@ -14,7 +13,7 @@ use std::process::ExitCode;
 mod engine;
 
 fn main(rt: HostRuntime) -> ExitCode {
-    // Arguments that can't be had are a word that names no command, also where it is memory that they lack.
+    // Arguments that can't be read are an unknown word, even if the reason is lack of memory.
     match arguments(&rt) {
         Ok(args) => run::<Command>(&rt, command_word::<Command>(&args), input_path(&args)),
         Err(_) => run::<Command>(&rt, "", None),

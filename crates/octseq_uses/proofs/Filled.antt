@@ -1,15 +1,15 @@
--- A slice whose front is written, a part at a time.
+-- A slice whose front is written part by part.
 use Rattle.std.proofs.Common.{◌≡◌, ℕ, zero, suc, ◌+◌, List, [], ◌∷◌, ◌++◌, length, take, drop, refl, ap, sym, ◌∙◌}
 use Rattle.std.proofs.Common.{append_assoc, length-append}
 use Rattle.std.proofs.lemmas.List.{drop-drop}
 
--- a list is a front of it and what follows that
+-- a list is a front of it, followed by the rest
 front_and_rest : (n : ℕ) (x : List ℕ) → x ≡ take n x ++ drop (length (take n x)) x
 front_and_rest zero x = refl
 front_and_rest (suc n) [] = refl
 front_and_rest (suc n) (a ∷ x) = ap (λ y. a ∷ y) (front_and_rest n x)
 
--- a text is written at the front of a slice, and then more
+-- a text is written to the front of a slice, followed by another
 pub filled : (before middle after text more : List ℕ) (n m : ℕ) → take n middle ≡ text
     → drop (length (take n middle)) middle ≡ drop (length (take n middle)) before
     → take m after ≡ text ++ more → drop (length (take m after)) after ≡ drop (length (take m after)) middle

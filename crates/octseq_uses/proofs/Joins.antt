@@ -1,4 +1,4 @@
--- What is still to come of joined words.
+-- The part of joined words that is still to come.
 use Rattle.std.proofs.Common.{◌≡◌, ℕ, suc, ◌+◌, ◌<◌, ◌≤◌, List, ◌∷◌, ◌++◌, length, drop}
 use Rattle.std.proofs.Common.{map, get_or, Option, subst, sym, ap, ◌∙◌, append_assoc, arith}
 use Rattle.std.proofs.Math.ListN.{drop_of_length-le}
@@ -10,15 +10,15 @@ use Rattle.octseq.proofs.Limits.{past_more}
 use Rattle.octseq.specs.Limit.{IsPast}
 use Rattle.octseq_uses.specs.Joined.{joined}
 
--- the words, each behind a separator
+-- the words, each after a separator
 abbrev pub spread : List ℕ → List (List ℕ) → List ℕ
 spread separator words = flat_map (λ other. separator ++ other) words
 
--- words of which those from a place on are still to come
+-- the words from an index on are still to come
 abbrev pub ToCome : {W : Type 0} → (W → List ℕ) → List ℕ → List W → ℕ → List ℕ → List ℕ → Type 0
 ToCome show separator others place text all = text ++ spread separator (map show (drop place others)) ≡ all
 
--- behind the first word, all the others are still to come
+-- after the first word, all others are still to come
 pub to_come_first : {W : Type 0} (show : W → List ℕ) (separator old text : List ℕ) (words others : List W) (first : W)
     → words ≡ first ∷ others → text ≡ old ++ show first
     → ToCome show separator others 0 text (old ++ joined separator (map show words))
@@ -27,7 +27,7 @@ to_come_first show separator old text words others first split e =
     ∙ append_assoc old (show first) (spread separator (map show others))
     ∙ ap (λ ws. old ++ joined separator (map show ws)) (sym split)
 
--- with a separator behind the text, the next word is to come, and then those behind it
+-- after a separator, the next word is to come, and those after it
 pub to_come_word : {W : Type 0} (show : W → List ℕ) (separator text between all : List ℕ) (others : List W)
     (default : W) (i : ℕ) → i < length others
     → ToCome show separator others i text all → between ≡ text ++ separator
@@ -39,7 +39,7 @@ to_come_word show separator text between all others default i within so_far e =
     ∙ ap (λ x. text ++ x) (sym (append_assoc separator (show word) more))
     ∙ ap (λ ws. text ++ spread separator (map show ws)) (sym (drop-cons others i default within)) ∙ so_far
 
--- with a separator and the next word behind the text, the words behind that one are still to come
+-- after a separator and the next word, those after it are still to come
 pub to_come_next : {W : Type 0} (show : W → List ℕ) (separator text between made all : List ℕ) (others : List W)
     (default : W) (i next : ℕ) → i < length others → next ≡ suc i
     → ToCome show separator others i text all → between ≡ text ++ separator
@@ -51,12 +51,12 @@ to_come_next show separator text between made all others default i next within s
     ∙ append_assoc between (show word) more
     ∙ to_come_word show separator text between all others default i within so_far e
 
--- what holds anyway holds where a call was refused
+-- what always holds also holds of an error
 pub on_err : {T E : Type 0} {P : Type 0} (result : Result T E) → P → OnErr result P
 on_err (Ok value) p = tt
 on_err (Err e) p = p
 
--- where no word is still to come, the text is whole
+-- if no word is still to come, the text is complete
 pub to_come_none : {W : Type 0} (show : W → List ℕ) (separator text all : List ℕ) (others : List W) (i : ℕ)
     → length others ≤ i
     → ToCome show separator others i text all → text ≡ all
@@ -71,7 +71,7 @@ pub within_still : (limit : Option ℕ) (old piece new : List ℕ) → new ≡ o
     → (IsPast limit (length old + length piece) → ⊥) → IsPast limit (length new) → ⊥
 within_still limit old piece new e fine past = fine (subst (IsPast limit) (ap length e ∙ length-append old piece) past)
 
--- the whole passes the limit where a piece on the way did
+-- the whole exceeds the limit if a part on the way did
 pub past_whole : (limit : Option ℕ) (text piece more all : List ℕ) → text ++ (piece ++ more) ≡ all
     → IsPast limit (length text + length piece) → IsPast limit (length all)
 past_whole limit text piece more all e past =

@@ -2,7 +2,7 @@
 use Rattle.std.proofs.Common.{◌≡◌, ◌≢◌, ℕ, ◌⊎◌, inl, inr, List, [], ◌∷◌, ◌++◌, refl, sym, ap, ◌∙◌, arith}
 use Rattle.octseq_uses.specs.Line.{IsLine, TakesLine}
 
--- octets without a line feed have none behind a front
+-- octets without a line feed have none after a front
 no_feed : (line other more : List ℕ) → IsLine other → other ≡ line ++ 10 ∷ more → ⊥
 no_feed [] (x ∷ other) more (here, is) e = let same : x ≡ 10 = cc in here same
 no_feed (y ∷ line) (x ∷ other) more (here, is) e = let behind : other ≡ line ++ 10 ∷ more =
@@ -21,7 +21,7 @@ same_line (x ∷ line) (y ∷ other) more rest (here, is) (there, other_is) e =
     let same = same_line line other more rest is other_is behind in
     (ap (λ z. z ∷ line) first ∙ ap (λ octets. y ∷ octets) same.0, same.1)
 
--- one line stands at the front
+-- at most one line is at the front
 pub one_line : (octets line other more rest : List ℕ) → TakesLine octets line more → TakesLine octets other rest
     → (line ≡ other) × (more ≡ rest)
 one_line octets line other more rest (is, inl e) (other_is, inl f) =
@@ -37,7 +37,7 @@ line_more : (x : ℕ) (octets line more : List ℕ) → x ≢ 10 → TakesLine o
 line_more x octets line more other (is, inl e) = ((other, is), inl (ap (λ xs. x ∷ xs) e))
 line_more x octets line more other (is, inr (e, none)) = ((other, is), inr (ap (λ xs. x ∷ xs) e, none))
 
--- a line, which may be empty, stands at the front of any octets
+-- a line, which may be empty, is at the front of any octets
 pub some_line : (octets : List ℕ) → (line : List ℕ) × (more : List ℕ) × TakesLine octets line more
 some_line [] = ([], [], (tt, inr (refl, refl)))
 some_line (x ∷ octets) =

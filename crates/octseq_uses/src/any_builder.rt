@@ -1,4 +1,4 @@
-//! One theorem for every builder: to take another builder changes no clause.
+//! One theorem for every builder: another builder changes no clause.
 ghost use Rattle.std.specs.Prelude.{◌≡◌, ◌+◌, ◌++◌, true, length, IsErr, IfOk};
 ghost use Rattle.octseq.specs.Limit.{IsPast};
 ghost use Rattle.octseq.specs.Refusal.{IsShort, IsMemory, append_error};
@@ -6,12 +6,12 @@ ghost use Rattle.octseq.specs.Refusal.{IsShort, IsMemory, append_error};
 use octseq::builder::{AppendError, EmptyBuilder};
 use std::alloc::Global;
 
-/// A builder with the octets of both slices, the second behind the first.
+/// Returns a builder with the octets of both slices, the second after the first.
 ///
 /// # Errors
 ///
-/// `Short` where both together pass the limit of the type, or `Memory` where a request for memory was refused:
-/// where both are so, either of them.
+/// `Short` if both together exceed the limit of the type, or `Memory` if a request for memory was refused. If both
+/// apply, it may be either.
 pub fn paired<B: EmptyBuilder>(alloc: Global, first: &[u8], second: &[u8]) -> Result<B, AppendError>
     ensures ok { IfOk result (λ builder. B.content builder ≡ first.now ++ second.now) }
     ensures short { IsShort append_error result → IsPast B.limit (length first.now + length second.now) }

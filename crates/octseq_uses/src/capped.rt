@@ -1,4 +1,4 @@
-//! A builder of a caller's own with a limit. It needs no proof.
+//! A custom builder with a limit. It needs no proof.
 ghost use Rattle.std.specs.Prelude.{◌≤◌, true, Some, vec_len};
 
 use octseq::builder::{

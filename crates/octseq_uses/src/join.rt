@@ -7,13 +7,12 @@ ghost use Rattle.octseq_uses.specs.Joined.{joined};
 use octseq::StrBuilder;
 use octseq::builder::{AppendError, OctetsBuilder};
 
-/// Appends the words, with the separator between each two of them.
+/// Appends the words, with the separator between them.
 ///
 /// # Errors
 ///
-/// `Short` where the text, with all of it behind, would pass the limit of its type, or `Memory` where a request
-/// for memory was refused: where both are so, either of them. The text then ends with a front of what was to be
-/// appended.
+/// `Short` if the text with all of them would exceed the limit of its type, or `Memory` if a request for memory was
+/// refused. If both apply, it may be either. The text then ends with a front of what was to be appended.
 pub fn join<B: OctetsBuilder>(
     text: &mut StrBuilder<B>,
     words: &[&str],

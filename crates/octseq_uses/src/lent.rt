@@ -1,4 +1,4 @@
-//! Octets that are built in a slice of somebody else's. A type parameter stands for how long the slice is.
+//! Octets that are built in someone else's slice. A type parameter gives the length of the slice.
 ghost use Rattle.std.specs.Prelude.{◌≡◌, ◌+◌, ◌<◌, ◌≤◌, ◌++◌, ◌∷◌, length, drop, IfSome, IfNone};
 
 use octseq::OctetsBuilder;
@@ -6,8 +6,8 @@ use octseq::builder::infallible;
 use octseq::slice_builder::{Room, SliceBuilder};
 use std::marker::Brand;
 
-/// Writes a text and a line feed at the front of a slice. Answers how many octets that takes, or `None` where they
-/// don't fit.
+/// Writes a text and a line feed to the front of a slice. Returns how many octets these are, or `None` if they don't
+/// fit.
 pub fn put_line(out: &mut [u8], text: &[u8]) -> Option<usize>
     ensures some { IfSome result (λ n. n ≡ length text.now + 1) }
     ensures line { IfSome result (λ n. out.new ≡ text.now ++ 10 ∷ drop n out.old) }
@@ -21,7 +21,7 @@ pub fn put_line(out: &mut [u8], text: &[u8]) -> Option<usize>
     Some(text.len() + 1)
 }
 
-/// The same where it fits. `K` stands for the slice's length.
+/// Does the same if they fit. `K` gives the slice's length.
 fn put_line_in<K: Room>(out: &mut [u8], text: &[u8])
     requires room { K.room ≡ length out.old }
     requires fits { length text.now < length out.old }

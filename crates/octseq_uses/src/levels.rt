@@ -1,4 +1,4 @@
-//! Levels: signed integers, one behind another.
+//! Levels: signed integers, one after another.
 ghost use Rattle.std.specs.List.{AllByRecursion, flat_map};
 ghost use Rattle.std.specs.Prelude.{◌≡◌, ◌≢◌, ℤ, List, IfOk};
 ghost use Rattle.octseq.specs.Integer.{IsSigned};
@@ -8,12 +8,11 @@ ghost use Rattle.octseq_uses.specs.Levels.{level_of};
 use octseq::{AsOctets, Parser, ReadError};
 use std::alloc::Global;
 
-/// Reads all of the octets as levels, one behind another: each a signed integer of 2 octets, big-endian.
+/// Reads all the octets as levels, one after another: each a signed integer of 2 octets, big-endian.
 ///
 /// # Errors
 ///
-/// `Malformed` where the octets are not those of any levels, and `Memory` only where a request for memory was
-/// refused.
+/// `Malformed` if the octets aren't levels, and `Memory` only if a request for memory was refused.
 pub fn read_levels<R: AsOctets>(alloc: Global, octets: R) -> Result<Vec<i16>, ReadError>
     ensures ok { IfOk result (λ levels. R.content octets ≡ flat_map level_of levels.items) }
     ensures malformed { IsMalformed read_error result → (levels : List ℤ)

@@ -1,8 +1,8 @@
-//! Callers of the crate octseq, proved from its public contracts, and from what a parser's holder knows of its
+//! Callers of the crate octseq, proved from its public contracts, and from what the holder of a parser knows of its
 //! window.
 //!
-//! Each module is what an outside crate would write: its code sees no private field, and its contracts speak
-//! of lists of octets.
+//! Each module is what an outside crate would write: its code accesses no private field, and its contracts speak of
+//! lists of octets.
 #![tactic(auto)]
 
 pub mod any_builder;

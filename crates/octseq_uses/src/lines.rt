@@ -12,16 +12,16 @@ use octseq::builder::{AppendError, AsOctets, EmptyBuilder, infallible};
 use octseq::{Parser, StrBuilder};
 use std::alloc::Global;
 
-/// Exactly one line stands at the front of octets.
+/// Exactly one line is at the front of octets.
 ///
-/// It does nothing. A caller that calls it has the law in its proof.
+/// It does nothing. Calling it brings the law into the caller's proof.
 pub fn one_line()
     ensures exists { (octets : List ℕ) → (line : List ℕ) × (more : List ℕ) × TakesLine octets line more }
     ensures only { (octets line other more rest : List ℕ)
         → TakesLine octets line more → TakesLine octets other rest → (line ≡ other) × (more ≡ rest) }
 {}
 
-/// Where the first line feed stands.
+/// Returns the index of the first line feed.
 fn line_feed(octets: &[u8]) -> Option<usize>
     ensures line { IfSome result (λ place. IsLine (take place octets.now)) }
     ensures feed { IfSome result (λ place. octets.now ≡ take place octets.now ++ 10 ∷ drop (place + 1) octets.now) }
@@ -31,7 +31,7 @@ fn line_feed(octets: &[u8]) -> Option<usize>
     octets.iter().position(|octet| *octet == b'\n')
 }
 
-/// The first line, and how many octets it has together with the line feed that ends it.
+/// Returns the first line, and its number of octets including the line feed that ends it.
 fn first_line(octets: &[u8]) -> (&[u8], usize)
     ensures line { TakesLine octets.now result.0.now (drop result.1 octets.now) }
     ensures within { result.1 ≤ length octets.now }
@@ -43,13 +43,13 @@ fn first_line(octets: &[u8]) -> (&[u8], usize)
     }
 }
 
-/// Takes the next line, which a line feed or the end of the octets ends, as a text without the line feed. The
-/// replacement character stands in the place of each bad part. `None` where no octets are left.
+/// Reads the next line, which ends with a line feed or with the octets, as a text without the line feed. Each
+/// ill-formed part becomes the replacement character. Returns `None` if no octets are left.
 ///
 /// # Errors
 ///
-/// `Short` where the text passes the limit of the type, or `Memory` where a request for memory was refused: where
-/// both are so, either of them. The parser is then as it was.
+/// `Short` if the text exceeds the limit of the type, or `Memory` if a request for memory was refused. If both apply,
+/// it may be either. The parser is then unchanged.
 pub fn next_line<R: AsOctets, B: EmptyBuilder>(
     alloc: Global,
     parser: &mut Parser<R>,

@@ -1,4 +1,4 @@
-//! A builder of a caller's own that answers `Memory` by a rule of its own. It needs no proof.
+//! A custom builder that returns `Memory` by a rule of its own. It needs no proof.
 ghost use Rattle.std.specs.Prelude.{◌≡◌, true, None};
 
 use octseq::builder::{AppendError, AsOctets, EmptyBuilder, OctetsBuilder, OctetsLimit, Truncate};
@@ -12,7 +12,7 @@ pub struct Rationed {
 }
 
 impl Rationed {
-    /// Refuses the n-th append, counted from 1, or none for 0.
+    /// Makes a builder that refuses the n-th append, counted from 1, or none for 0.
     pub fn new(octets: Vec<u8>, refused: usize) -> Self
         ensures { result.octets ≡ octets }
     {
@@ -67,7 +67,7 @@ impl Truncate for Rationed {
     }
 }
 
-/// An empty one refuses its second append.
+/// Makes an empty builder that refuses its second append.
 impl EmptyBuilder for Rationed {
     fn empty(alloc: Global) -> Result<Self, AllocError> {
         Ok(Rationed::new(Vec::new(alloc), 2))

@@ -1,4 +1,4 @@
-//! Records: a key and a value each, one behind another.
+//! Records: a key and a value each, one after another.
 ghost use Rattle.std.specs.Prelude.{◌≡◌, ℕ, ◌+◌, ◌<◌, ◌++◌, ◌↔◌, true, length, map, List, IsErr, IfOk, OnOk, OnErr};
 ghost use Rattle.octseq.specs.Limit.{IsPast};
 ghost use Rattle.octseq.specs.Parser.{sequence, window};
@@ -24,9 +24,9 @@ pub struct Record<V> {
 ///
 /// # Errors
 ///
-/// `TooLong` where the value has more than 255 octets. Else `Short` where the content, with the whole record
-/// behind it, would pass the limit of its type, or `Memory` where a request for memory was refused: where
-/// both are so, either of them. The content is then as it was.
+/// `TooLong` if the value has more than 255 octets. Otherwise `Short` if the content with the whole record would exceed
+/// the limit of its type, or `Memory` if a request for memory was refused. If both apply, it may be either. The content
+/// is then unchanged.
 pub fn append_record<B: OctetsBuilder + Truncate>(
     builder: &mut B,
     key: u16,
@@ -54,7 +54,7 @@ pub fn append_record<B: OctetsBuilder + Truncate>(
     appended
 }
 
-/// Takes the next record.
+/// Reads the next record.
 fn next_record<R: Octets>(parser: &mut Parser<R>) -> Result<Record<R::Range>, ReadError>
     ensures fits { IfOk result (λ read. IsRecord (read.key, R.Range.content read.value)) }
     ensures taken { IfOk result (λ read. rest (window parser.old)
@@ -71,12 +71,11 @@ fn next_record<R: Octets>(parser: &mut Parser<R>) -> Result<Record<R::Range>, Re
     Ok(Record { key, value })
 }
 
-/// Takes all that is left as records, one behind another, and leaves nothing.
+/// Reads all that is left as records, one after another, up to the end.
 ///
 /// # Errors
 ///
-/// `Malformed` where the octets are not those of any records, and `Memory` only where a request for memory was
-/// refused.
+/// `Malformed` if the octets aren't records, and `Memory` only if a request for memory was refused.
 pub fn take_records<R: Octets>(
     alloc: Global,
     parser: &mut Parser<R>,
@@ -98,13 +97,12 @@ pub fn take_records<R: Octets>(
     Ok(records)
 }
 
-/// Reads all of the octets as records, one behind another: each a key in 2 octets, big-endian, and a value
-/// behind its length in one octet.
+/// Reads all the octets as records, one after another: each a key in 2 octets, big-endian, and a value with a length of
+/// one octet before it.
 ///
 /// # Errors
 ///
-/// `Malformed` where the octets are not those of any records, and `Memory` only where a request for memory was
-/// refused.
+/// `Malformed` if the octets aren't records, and `Memory` only if a request for memory was refused.
 pub fn read_records<R: Octets>(alloc: Global, octets: R) -> Result<Vec<Record<R::Range>>, ReadError>
     ensures ok { IfOk result (λ records. AreRecords (R.content octets)
         (map (λ read. (read.key, R.Range.content read.value)) records.items)) }

@@ -1,4 +1,4 @@
-//! A sequence of a caller's own, whose ranges may be refused.
+//! A custom sequence, whose ranges may be refused.
 ghost use Rattle.std.specs.Prelude.{true, None};
 
 use octseq::builder::{AsOctets, OctetsLimit};
@@ -6,7 +6,7 @@ use octseq::octets::Octets;
 use std::alloc::AllocError;
 use std::ops::RangeBounds;
 
-/// Three octets, of which each range is refused for memory.
+/// Three octets, each range of which is refused for lack of memory.
 #[derive(Clone, Copy)]
 pub struct Scarce(pub [u8; 3]);
 

@@ -14,7 +14,7 @@ use octseq::utf8::{find_fault, one_fault};
 use octseq::{Array, CowOctets, Octets};
 use std::alloc::AllocError;
 
-/// The octets in an array of their own, or `None` where they don't fit.
+/// Returns the octets in an array, or `None` if they don't fit.
 pub fn kept<const N: usize>(octets: &[u8]) -> Option<Array<N>>
     ensures variant { IsSome result ↔ (length octets.now ≤ N) }
     ensures some { IfSome result (λ array. array.content ≡ octets.now) }
@@ -22,11 +22,11 @@ pub fn kept<const N: usize>(octets: &[u8]) -> Option<Array<N>>
     Array::try_from(octets).ok()
 }
 
-/// Appends to octets that may be borrowed. They stay borrowed where nothing is appended.
+/// Appends to octets that may be borrowed. They stay borrowed if nothing is appended.
 ///
 /// # Errors
 ///
-/// `Memory` where a request for memory was refused. The octets are then as they were.
+/// `Memory` if a request for memory was refused. The octets are then unchanged.
 pub fn extended(octets: &mut CowOctets<'_>, more: &[u8]) -> Result<(), AppendError>
     ensures ok { OnOk result (cow_content octets.new ≡ cow_content octets.old ++ more.now) }
     ensures err { OnErr result (cow_content octets.new ≡ cow_content octets.old) }
@@ -41,11 +41,11 @@ pub fn extended(octets: &mut CowOctets<'_>, more: &[u8]) -> Result<(), AppendErr
     octets.append_slice(more)
 }
 
-/// The field from `start` up to `end`, or `None` where the octets don't have it.
+/// Returns the field from `start` to `end`, or `None` if it isn't within the octets.
 ///
 /// # Errors
 ///
-/// `AllocError` where a request for memory was refused, which a range that is a slice never makes.
+/// `AllocError` if a request for memory was refused. A range that is a slice requests none.
 pub fn field<T: Octets>(
     octets: &T,
     start: usize,
@@ -63,7 +63,7 @@ pub fn field<T: Octets>(
     Ok(Some(octets.range(start..end)?))
 }
 
-/// The front of the octets that is a text: all of them, or those before the first fault.
+/// Returns the front of the octets that is well-formed UTF-8: all of them, or those before the first fault.
 pub fn text_front(octets: &[u8]) -> &[u8]
     ensures text { IsWellFormed result.now }
     ensures front { result.now ≡ take (length result.now) octets.now }

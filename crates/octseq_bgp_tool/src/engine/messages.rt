@@ -17,9 +17,9 @@ use octseq_program::{Ending, FrameCommand, Next, Piece, ProgramFault, StreamComm
 use std::alloc::{AllocError, Global};
 use std::io::Read;
 
-/// One thing is made of a message and of a rest.
+/// A message makes one piece, and so does a rest.
 ///
-/// It does nothing. A caller that calls it has the law in its proof.
+/// It does nothing. Calling it brings the law into the caller's proof.
 pub(super) fn one_stream_piece()
     ensures piece { (session : Session) (number : ℕ) (octets x y e f : List ℕ) (a b : Bool)
         → IsBlock session number octets a x e → IsBlock session number octets b y f

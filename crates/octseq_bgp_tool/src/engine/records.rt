@@ -20,9 +20,9 @@ use octseq_program::{Ending, FrameCommand, Next, Piece, ProgramFault, StreamComm
 use std::alloc::{AllocError, Global};
 use std::io::Read;
 
-/// One thing is made of a record and of a rest.
+/// A record makes one piece, and so does a rest.
 ///
-/// It does nothing. A caller that calls it has the law in its proof.
+/// It does nothing. Calling it brings the law into the caller's proof.
 pub(super) fn one_record_piece()
     ensures piece { (command : Records) (number : ℕ) (octets x y e f : List ℕ) (a b : Bool)
         → IsRecordPiece command number octets a x e → IsRecordPiece command number octets b y f
@@ -37,16 +37,16 @@ pub(super) fn one_record_piece()
     one_record_text();
 }
 
-/// The records of a file: shown, or the messages taken that they have.
+/// How the records of a file are processed: shown, or reduced to their messages.
 #[derive(Clone, Copy)]
 pub(super) enum Records {
-    /// The text of each.
+    /// The text of each record.
     Shown,
-    /// The message that each has, as it is.
+    /// The message in each record, as it is.
     Taken,
 }
 
-/// The message that came over a session, as it is, or nothing where its octets are none.
+/// Returns the message of an event as it is, or nothing if its octets aren't one.
 fn taken_event<R: AsOctets + Copy>(event: &Event<R>) -> &[u8]
     ensures { IsTakenEvent (event_of event.now) result.now }
 {
@@ -63,7 +63,7 @@ fn taken_event<R: AsOctets + Copy>(event: &Event<R>) -> &[u8]
     }
 }
 
-/// The message that a record has, as it is, or nothing.
+/// Returns the message in a record as it is, or nothing.
 fn taken_value<R: AsOctets + Copy>(value: &RecordValue<R>) -> &[u8]
     ensures { IsTakenValue (value_of value.now) result.now }
 {
@@ -73,7 +73,7 @@ fn taken_value<R: AsOctets + Copy>(value: &RecordValue<R>) -> &[u8]
     }
 }
 
-/// What is told of what happened to a session, by the number of its record.
+/// Returns the note about an event, by the number of its record.
 fn note_on_event<R: AsOctets + Copy>(
     alloc: Global,
     number: u64,
@@ -91,7 +91,7 @@ fn note_on_event<R: AsOctets + Copy>(
     }
 }
 
-/// What is told of a record of this number.
+/// Returns the note about a record of this number.
 fn note_on_value<R: AsOctets + Copy>(
     alloc: Global,
     number: u64,
@@ -105,14 +105,14 @@ fn note_on_value<R: AsOctets + Copy>(
     }
 }
 
-/// The text of a record, and an empty line.
+/// Returns the text of a record, and an empty line.
 fn shown_record<R: AsOctets + Copy>(alloc: Global, it: &Record<R>) -> Result<Vec<u8>, AllocError>
     ensures { IfOk result (λ written. (text : List ℕ) × IsRecordText (record_of it.now) text
         × (written.items ≡ text ++ codes "\n")) }
 {
     let mut text = StrBuilder::<Vec<u8>>::new(alloc)?;
     match it.append_text(&mut text) {
-        // (a vector has no limit, so all that it refuses is for want of memory)
+        // (a vector has no limit, so it refuses only for lack of memory)
         Ok(()) => {
             text.push_str("\n")?;
             Ok(text.into_octets_builder())
@@ -121,7 +121,7 @@ fn shown_record<R: AsOctets + Copy>(alloc: Global, it: &Record<R>) -> Result<Vec
     }
 }
 
-/// What is written of a record.
+/// Returns the output for a record.
 fn written_of<R: AsOctets + Copy>(
     command: Records,
     alloc: Global,
@@ -140,7 +140,7 @@ fn written_of<R: AsOctets + Copy>(
     }
 }
 
-/// What is made of a record.
+/// Makes a piece of a record.
 fn piece_of<R: AsOctets + Copy>(
     command: Records,
     alloc: Global,
@@ -160,7 +160,7 @@ fn piece_of<R: AsOctets + Copy>(
     })
 }
 
-/// What is made of octets that are a record.
+/// Makes a piece of the octets of a record.
 fn piece_of_octets<R: AsOctets + Copy>(
     command: Records,
     alloc: Global,

@@ -1,4 +1,4 @@
-//! What is shown of a message, and what is told of it.
+//! What is shown of a message, and the note about it.
 ghost use Rattle.std.specs.Prelude.{◌≡◌, ◌++◌, ℕ, List, Bool, IfOk, codes, ⊤};
 ghost use Rattle.octseq_bgp.specs.declared.session.SessionConfig.{SessionConfig as Session};
 ghost use Rattle.octseq_bgp_tool.specs.Shown.{IsMessagePiece, IsNote, IsRead, IsShown};
@@ -8,9 +8,9 @@ use octseq_bgp::{Message, SessionConfig, one_message, one_stop, one_text, place_
 use octseq_program::{FrameCommand, Piece, stop_line};
 use std::alloc::{AllocError, Global};
 
-/// One thing is shown and told of octets.
+/// Octets make one output and one note.
 ///
-/// It does nothing. A caller that calls it has the law in its proof.
+/// It does nothing. Calling it brings the law into the caller's proof.
 pub(super) fn one_message_piece()
     ensures shown { (session : Session) (octets x y : List ℕ) (b c : Bool)
         → IsShown session octets b x → IsShown session octets c y → (x ≡ y) × (b ≡ c) }
@@ -35,7 +35,7 @@ pub(super) fn is_message<R: AsOctets + Copy>(octets: R, session: SessionConfig) 
     }
 }
 
-/// Appends the text of a message, or `malformed` where the octets are none, and answers whether they are one.
+/// Appends the text of a message, or `malformed` if the octets aren't one. Returns whether they are.
 pub(super) fn push_shown<R: AsOctets + Copy>(
     text: &mut StrBuilder<Vec<u8>>,
     octets: R,
@@ -45,7 +45,7 @@ pub(super) fn push_shown<R: AsOctets + Copy>(
         × (text.new.items ≡ text.old.items ++ shown)) }
 {
     match Message::parse(octets, session) {
-        // (a vector has no limit, so all that it refuses is for want of memory)
+        // (a vector has no limit, so it refuses only for lack of memory)
         Ok(message) => match message.append_text(text) {
             Ok(()) => Ok(true),
             Err(_) => Err(AllocError),
@@ -57,8 +57,8 @@ pub(super) fn push_shown<R: AsOctets + Copy>(
     }
 }
 
-/// What is told of octets on standard error, by what they are and its number: nothing, or the line with the place where
-/// reading stopped.
+/// Returns the note about octets on standard error, by what they are and their number: nothing, or the line with the
+/// place where reading stopped.
 pub(super) fn note_on(
     alloc: Global,
     what: &str,

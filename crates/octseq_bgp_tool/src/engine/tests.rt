@@ -7,14 +7,14 @@ use std::fmt::Debug;
 use std::process::Abort;
 use std::test::Fail;
 
-/// Ends the test where two values differ. A call is proved in a tenth of the time of an `assert_eq!`.
+/// Ends the test if two values differ. A call is proved in a tenth of the time of an `assert_eq!`.
 macro_rules! assert_equal {
     ($rt:expr, $left:expr, $right:expr $(,)?) => {
         crate::engine::tests::equal($rt, stringify!($left), $left, $right)
     };
 }
 
-/// Ends the test where this doesn't hold.
+/// Ends the test if the condition is false.
 macro_rules! assert_true {
     ($rt:expr, $holds:expr $(,)?) => {
         crate::engine::tests::equal($rt, stringify!($holds), $holds, true)
@@ -30,13 +30,13 @@ mod records;
 mod refused;
 mod streams;
 
-/// The octets that a message begins with.
+/// The marker that a message begins with.
 const MARKER: [u8; 16] = [0xFF; 16];
 
-/// A KEEPALIVE after its marker.
+/// A KEEPALIVE, after the marker.
 const KEEPALIVE: [u8; 3] = [0, 19, 4];
 
-/// An UPDATE after its marker: ORIGIN, AS_PATH, NEXT_HOP, and a prefix.
+/// An UPDATE, after the marker: ORIGIN, AS_PATH, NEXT_HOP, and a prefix.
 const UPDATE: [u8; 31] = [
     0, 0x2F, 2, 0, 0, 0, 0x14, 0x40, 1, 1, 0, 0x40, 2, 6, 2, 1, 0, 0, 0xFD, 0xFC, 0x40, 3, 4, 10,
     0, 0, 1, 0x18, 9, 9, 9,
@@ -49,14 +49,14 @@ const UPDATE_TEXT: &str = "update\n\
     attribute T NEXT_HOP 10.0.0.1\n\
     announced 9.9.9.0/24\n";
 
-/// The text of `UPDATE` where AS numbers have two octets.
+/// The text of `UPDATE` with two-octet AS numbers.
 const SHORT_TEXT: &str = "update\n\
     attribute T ORIGIN IGP\n\
     attribute T AS_PATH \\# 6 02010000fdfc\n\
     attribute T NEXT_HOP 10.0.0.1\n\
     announced 9.9.9.0/24\n";
 
-/// An UPDATE after its marker: a prefix after a path id.
+/// An UPDATE, after the marker: a prefix with a path id.
 const PATH: [u8; 15] = [0, 0x1F, 2, 0, 0, 0, 0, 0, 0, 0, 7, 0x18, 9, 9, 9];
 
 /// What a word writes for octets, on standard output and on standard error.
@@ -67,7 +67,7 @@ struct Outcome {
     errors: Vec<u8>,
 }
 
-/// What a word writes for octets that come so many at once, where all reads but the first ones fail.
+/// Returns what a word writes for octets that come at most `at_once` at a time, if reads fail after the first `reads`.
 fn told(alloc: Global, word: &str, octets: &[u8], at_once: usize, reads: usize) -> Outcome {
     let mut reader = Drip {
         rest: octets,
@@ -109,7 +109,7 @@ fn joined(alloc: Global, parts: &[&[u8]]) -> Result<Vec<u8>, AllocError> {
     Ok(octets)
 }
 
-/// Messages, each after its marker.
+/// Messages, each with a marker.
 fn messages(alloc: Global, bodies: &[&[u8]]) -> Result<Vec<u8>, AllocError> {
     let mut octets = Vec::new(alloc);
     for body in bodies {
@@ -160,7 +160,7 @@ fn message_is_shown(rt: HostRuntime) -> Result<(), Fail> {
 
 #[test]
 fn a_malformed_message_is_told_with_its_place(rt: HostRuntime) -> Result<(), Fail> {
-    // (no octets, an unknown type, an octet too many, and prefixes that need path ids)
+    // (no octets, an unknown type, an extra octet, and prefixes that need path ids)
     let cases = [
         ("message", joined(rt.alloc(), &[])?, 0),
         ("message", messages(rt.alloc(), &[&[0, 19, 6]])?, 0),

@@ -7,14 +7,14 @@ use std::io::{self, Read, Write};
 use std::process::Abort;
 use std::test::Fail;
 
-/// Ends the test where two values differ. A call is proved in a tenth of the time of an `assert_eq!`.
+/// Ends the test if two values differ. A call is proved in a tenth of the time of an `assert_eq!`.
 macro_rules! assert_equal {
     ($rt:expr, $left:expr, $right:expr $(,)?) => {
         crate::engine::tests::equal($rt, stringify!($left), $left, $right)
     };
 }
 
-/// Ends the test where this doesn't hold.
+/// Ends the test if the condition is false.
 macro_rules! assert_true {
     ($rt:expr, $holds:expr $(,)?) => {
         crate::engine::tests::equal($rt, stringify!($holds), $holds, true)
@@ -28,7 +28,7 @@ fn equal<T: PartialEq + Debug + Drop>(rt: &impl Abort, what: &str, left: T, righ
 mod hostile;
 mod refused;
 
-/// Runs the program over a reader and a writer. What is told on standard error is dropped.
+/// Runs the program over a reader and a writer. What it writes to standard error is discarded.
 fn engine<R: Read, W: Write>(
     alloc: Global,
     word: &str,
@@ -38,7 +38,7 @@ fn engine<R: Read, W: Write>(
     octseq_program::engine::engine::<Command, _, _, _>(alloc, word, reader, writer, &mut io::sink())
 }
 
-/// What a command answers and writes for octets that come one a read.
+/// Returns the result and the output of a command for octets that come one per read.
 fn ran(alloc: Global, command: &str, octets: &[u8]) -> (Result<Status, ProgramFault>, Vec<u8>) {
     let mut reader = Drip {
         rest: octets,
@@ -100,7 +100,8 @@ fn one_argument_is_the_command(rt: HostRuntime) -> Result<(), Fail> {
     Ok(())
 }
 
-/// What a word that names no command writes, on standard output and on standard error, without a read.
+/// Returns the result of a word that isn't a command, and what it writes to standard output and standard error, without
+/// a read.
 fn told(alloc: Global, word: &str) -> (Result<Status, ProgramFault>, Vec<u8>, Vec<u8>) {
     let mut reader = Drip {
         rest: b"a",
@@ -152,7 +153,7 @@ fn another_word_is_told_on_standard_error(rt: HostRuntime) {
     }
 }
 
-/// Octets, each as many times.
+/// Octets, each repeated.
 fn repeated(alloc: Global, parts: &[(u8, usize)]) -> Result<Vec<u8>, Fail> {
     let mut octets = Vec::new(alloc);
     for (octet, count) in parts {

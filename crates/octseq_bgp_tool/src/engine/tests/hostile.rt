@@ -19,7 +19,7 @@ fn narrow(alloc: Global, calls: usize) -> Narrow {
 }
 
 /// Runs a command over writers that fail after no call, after one, and so on, and checks that a front of the output is
-/// written. Answers after how many calls it goes well.
+/// written. Returns after how many calls it succeeds.
 fn calls_needed(rt: &impl Abort, alloc: Global, word: &str, octets: &[u8], output: &[u8]) -> usize {
     for calls in 0..256 {
         let mut writer = narrow(alloc, calls);

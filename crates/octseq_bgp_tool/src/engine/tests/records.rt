@@ -5,7 +5,7 @@ use std::alloc::{AllocError, Global};
 use std::process::Abort;
 use std::test::Fail;
 
-/// The header of a record of BGP4MP of a subtype, with so many octets after it.
+/// The header of a BGP4MP record of a subtype with this many octets after it.
 fn header(subtype: u8, len: u8) -> [u8; 12] {
     [0x65, 0x53, 0xF1, 0, 0, 16, 0, subtype, 0, 0, 0, len]
 }
@@ -15,13 +15,13 @@ const SPEAKERS: [u8; 20] = [
     0, 0, 0xFD, 0xE9, 0, 0, 0xFD, 0xEA, 0, 0, 0, 1, 10, 0, 0, 1, 10, 0, 0, 2,
 ];
 
-/// What the line of a record of them says after its subtype.
+/// The text of the speakers in the line of a record, after its subtype.
 const SPEAKERS_TEXT: &str = "peer 10.0.0.1 as 65001 local 10.0.0.2 as 65002 interface 0";
 
-/// A record whose octets aren't those of its type.
+/// A record whose octets don't have the form of its type.
 const OPAQUE: [u8; 12] = [0, 0, 0, 0, 0, 0, 0, 0, 0, 1, 0, 8];
 
-/// A KEEPALIVE, a change of state, octets of an unknown type of message, and `OPAQUE`, each in a record.
+/// A KEEPALIVE, a state change, a message of unknown type, and `OPAQUE`, each in a record.
 pub(super) fn file(alloc: Global) -> Result<Vec<u8>, AllocError> {
     joined(
         alloc,
@@ -43,7 +43,7 @@ pub(super) fn file(alloc: Global) -> Result<Vec<u8>, AllocError> {
     )
 }
 
-/// What is shown of that file.
+/// The text of that file.
 pub(super) fn file_text(alloc: Global) -> Result<String, AllocError> {
     format!(in alloc;
         "bgp4mp 1700000000 4 {SPEAKERS_TEXT}\nkeepalive\n\n\
@@ -53,7 +53,7 @@ pub(super) fn file_text(alloc: Global) -> Result<String, AllocError> {
     )
 }
 
-/// What is told of it.
+/// The note about that file.
 pub(super) const NOTE: &str = "message of record 3: malformed at octet 0\n";
 
 #[test]

@@ -49,7 +49,7 @@ fn stream_of_no_messages_shows_nothing(rt: HostRuntime) {
     shows(&rt, rt.alloc(), "stream", b"", Status::Fine, "", "");
 }
 
-/// Checks that a stream of a KEEPALIVE and this rest ends so.
+/// Checks how a stream of a KEEPALIVE and this rest ends.
 fn ends(
     rt: &impl Abort,
     alloc: Global,
@@ -88,7 +88,7 @@ fn stream_tells_that_it_is_cut_off(rt: HostRuntime) -> Result<(), Fail> {
 
 #[test]
 fn stream_ends_where_no_message_is_framed(rt: HostRuntime) -> Result<(), Fail> {
-    // (another octet in the marker, be it the first or the last, and lengths of 18 and of 4,097)
+    // (another octet in the marker, the first or the last one, and lengths of 18 and of 4,097)
     let rests = [
         joined(rt.alloc(), &[&[0xFE]])?,
         joined(rt.alloc(), &[&MARKER[..15], &[0xFE, 0, 19, 4]])?,
@@ -137,7 +137,7 @@ fn a_long_message_is_shown_where_it_may_be_long(rt: HostRuntime) -> Result<(), F
 #[test]
 fn a_live_source_shows_at_once(rt: HostRuntime) -> Result<(), Fail> {
     let octets = messages(rt.alloc(), &[&KEEPALIVE, &UPDATE])?;
-    // (two reads give the first message, and the third fails)
+    // (two reads yield the first message, and the third one fails)
     let it = told(rt.alloc(), "stream", &octets, usize::MAX, 2);
     assert_equal!(&rt, it.answer, Err(ProgramFault::Read));
     assert_equal!(&rt, it.written.as_slice(), b"keepalive\n\n".as_slice());

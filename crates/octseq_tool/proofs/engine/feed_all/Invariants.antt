@@ -1,4 +1,4 @@
--- What the reader lost was fed, and there is room for more.
+-- What the reader gave was fed, and there is room for more.
 use Rattle.std.proofs.Common.{◌<◌}
 use Rattle.std.specs.Prelude.{vec_len}
 use Rattle.octseq_tool.proofs.Feeding.{IsFed}

@@ -7,7 +7,7 @@ use Rattle.octseq_tool.specs.declared.engine.Command.TheVariants.{Lossy64}
 use Rattle.octseq_program.specs.declared.status.Status.TheVariants.{Refused}
 use Rattle.octseq_tool.proofs.engine.lossy64.Goals as goal
 
--- the refusal answers octets whose text is too long
+-- octets whose text is too long are refused
 refused : {E : Type 0} (r : Result Answer E) (input : List ℕ) (parts : List Part) → Splits input parts
     → 64 < length (text parts)
     → IfOk r (λ answer. answer.output.items ≡ codes "buffer size exceeded\n")

@@ -1,4 +1,4 @@
--- The records so far have their lines, and each turn takes one of what is left.
+-- The records so far have their lines, and each turn takes one of the octets that are left.
 use Rattle.octseq.specs.Parser.{window}
 use Rattle.octseq.specs.Window.{left, rest}
 use Rattle.octseq_tool.proofs.Records.{IsReadTo}

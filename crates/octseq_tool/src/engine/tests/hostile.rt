@@ -88,7 +88,7 @@ fn lossy_writes_the_same_however_octets_are_read(rt: HostRuntime) -> Result<(), 
 #[test]
 fn lossy_reads_more_than_a_piece(rt: HostRuntime) -> Result<(), Fail> {
     let alloc = rt.alloc();
-    // (characters of three octets, so that one is cut at each place where a read of 65,536 may end)
+    // (characters of three octets, so that one is split wherever a read of 65,536 octets can end)
     let mut octets = "€".as_bytes().repeat(alloc, 50_000)?;
     octets.push(0xE2)?;
     let mut reader = octets.as_slice();
@@ -101,7 +101,7 @@ fn lossy_reads_more_than_a_piece(rt: HostRuntime) -> Result<(), Fail> {
     Ok(())
 }
 
-/// What each command writes for `\x03a\xFFb`.
+/// The output of each command for `\x03a\xFFb`.
 const OUTPUTS: [(&str, Status, &str); 4] = [
     (
         "check",
@@ -113,7 +113,7 @@ const OUTPUTS: [(&str, Status, &str); 4] = [
     ("records", Status::Fine, "a\u{FFFD}b\n"),
 ];
 
-/// How often the command's reading fails, where the reader fails after no read, after one, and so on.
+/// Counts how often the command fails to read, if the reader fails after no read, after one, and so on.
 fn failed_reads(
     rt: &impl Abort,
     alloc: Global,
@@ -142,7 +142,7 @@ fn failed_reads(
 #[test]
 fn a_failed_read_writes_nothing(rt: HostRuntime) {
     for (command, status, output) in OUTPUTS {
-        // (the read that finds the end counts too)
+        // (the read that finds the end counts, too)
         for (at_once, reads) in [(1, 5), (2, 3), (3, 3), (4, 2), (5, 2)] {
             let failed = failed_reads(&rt, rt.alloc(), at_once, (command, status, output));
             assert_eq!(rt; failed, reads, "{command} by {at_once}");
@@ -154,7 +154,7 @@ fn a_failed_read_writes_nothing(rt: HostRuntime) {
 fn a_failed_write_is_told(rt: HostRuntime) {
     for (command, status, output) in OUTPUTS {
         for at_once in [1, 7, usize::MAX] {
-            // (each write that is needed, and a call to flush)
+            // (each write that is needed, and a flush)
             let needed = output.len().div_ceil(at_once) + 1;
             for calls in 0..=needed {
                 let mut writer = Narrow {
@@ -216,7 +216,7 @@ fn a_writer_that_takes_nothing_has_failed(rt: HostRuntime) {
     assert_true!(&rt, writer.taken.is_empty());
 }
 
-/// A reader that lacks memory.
+/// A reader that is out of memory.
 #[derive(Drop)]
 struct Starved;
 

@@ -1,4 +1,4 @@
--- The room is the slice's length.
+-- The room is the length of the slice.
 use Rattle.std.specs.Prelude.{length}
 use Rattle.octseq_uses.proofs.lent.put_line.Given as goal
 

@@ -1,4 +1,4 @@
--- The octets were read as the levels so far, and each turn takes one of what is left.
+-- The octets were read as the levels so far, and each turn takes one of the octets that are left.
 use Rattle.octseq.proofs.Repeats.{IsReadTo}
 use Rattle.octseq.specs.Integer.{IsSigned}
 use Rattle.octseq.specs.Parser.{window}

@@ -1,4 +1,4 @@
--- The octets were read as the records so far, in the same window, and each turn takes one of what is left.
+-- The octets were read as the records so far, in the same window, and each turn takes one of the octets that are left.
 use Rattle.std.proofs.Common.{◌≡◌, map}
 use Rattle.octseq.proofs.Repeats.{IsReadTo}
 use Rattle.octseq.specs.Parser.{sequence, window}
