@@ -1,4 +1,4 @@
-//! Tests of messages of BGP: rows of octets and what they say, from outside.
+//! Tests of BGP messages: rows of octets and what they say, from outside.
 #![tactic(auto)]
 
 #[cfg(test)]

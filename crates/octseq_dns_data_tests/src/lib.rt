@@ -1,4 +1,4 @@
-//! Tests of data of DNS: what no proof sees.
+//! Tests of DNS record data: what no proof covers.
 #![tactic(auto)]
 
 #[cfg(test)]

@@ -1,4 +1,4 @@
-//! Tests of the formats of public standards, on packets that others made: what no proof sees.
+//! Tests of the formats of public standards, on packets from other programs: what no proof covers.
 #![tactic(auto)]
 
 #[cfg(test)]

@@ -1,7 +1,7 @@
-//! Shows each record of standard input, and an empty line after it.
+//! Shows each record of standard input, followed by an empty line.
 //!
 //! It is a test of `octseq_mrt`: `stdin` has files of records that four daemons wrote, one after another, and then
-//! records that were made; `stdout` is what another's reader makes of them.
+//! records that were made; `stdout` is what another reader makes of them.
 #![tactic(auto)]
 
 use octseq_mrt::{RecordError, RecordReader};
@@ -11,7 +11,7 @@ use std::process::ExitCode;
 #[cfg(test)]
 mod tests;
 
-/// Why the program gives up.
+/// The reason why the program fails.
 #[derive(Debug, Drop)]
 enum Fault {
     /// A request for memory was refused.
@@ -20,7 +20,7 @@ enum Fault {
     Stream,
 }
 
-/// Shows the records of a reader, one at a time, and answers whether the last one is whole.
+/// Shows the records of a reader, one at a time. Returns whether the last one is whole.
 fn show<R: Read, W: Write>(records: &mut RecordReader<R>, out: &mut W) -> Result<bool, Fault> {
     for _ in 0..u64::MAX {
         match records.read_next() {
@@ -37,7 +37,7 @@ fn show<R: Read, W: Write>(records: &mut RecordReader<R>, out: &mut W) -> Result
     Ok(true)
 }
 
-/// Shows the record that was read last.
+/// Shows the last record read.
 fn show_record<R: Read, W: Write>(records: &RecordReader<R>, out: &mut W) -> Result<(), Fault> {
     match records.record() {
         Ok(record) => match write!(out, "{record}\n") {

@@ -1,7 +1,7 @@
-//! Tests of sequences, builders, texts, parsers and composers: what no proof sees.
+//! Tests of sequences, builders, texts, parsers and composers: what no proof covers.
 //!
-//! A crate with tests is proved twice, with them and without. So they stand in a crate of their own, on the public
-//! calls alone.
+//! A crate with tests is proved twice, with and without them. So they have a crate of their own, which uses the public
+//! calls only.
 #![tactic(auto)]
 
 #[cfg(test)]

@@ -4,12 +4,12 @@ use octseq_asserts::{assert_equal, assert_true};
 use std::fmt::Debug;
 use std::process::Abort;
 
-/// What an assertion calls: it ends the test where two values differ.
+/// Called by an assertion: ends the test if two values differ.
 fn equal<T: PartialEq + Debug + Drop>(rt: &impl Abort, what: &str, left: T, right: T) {
     assert_eq!(rt; left, right, "{what}");
 }
 
-/// The answer is the text that is wanted, or where none is, the refusal of what passes the limit.
+/// Checks that the result is the expected text, or if there is none, the refusal of what exceeds the limit.
 fn is_text_or_short<B: AsOctets>(
     rt: &impl Abort,
     answer: Result<StrBuilder<B>, AppendError>,

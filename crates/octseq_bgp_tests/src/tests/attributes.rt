@@ -1,4 +1,4 @@
-//! Attributes alone, and the text that another's reader prints of each.
+//! Single attributes, and the text that another reader prints of each.
 use crate::tests::octets::octets;
 use crate::tests::text::{lines_of, text_of};
 use octseq_asserts::assert_equal;
@@ -7,7 +7,7 @@ use std::alloc::{AllocGlobal, Global};
 use std::process::Abort;
 use std::test::Fail;
 
-/// An UPDATE with these attributes alone.
+/// Returns an UPDATE with only these attributes.
 fn with_attributes(alloc: Global, attributes: &str) -> Result<Vec<u8>, Fail> {
     let attributes = octets(alloc, attributes)?;
     let many = attributes.len();
@@ -24,7 +24,7 @@ fn with_attributes(alloc: Global, attributes: &str) -> Result<Vec<u8>, Fail> {
     Ok(all)
 }
 
-/// The attributes of an UPDATE read as the text.
+/// Checks the text of the attributes of an UPDATE.
 fn reads(
     rt: &(impl AllocGlobal + Abort),
     session: SessionConfig,
@@ -40,7 +40,7 @@ fn reads(
     Ok(())
 }
 
-/// An UPDATE with these attributes is malformed.
+/// Checks that an UPDATE with these attributes is malformed.
 fn is_malformed(rt: &(impl AllocGlobal + Abort), attributes: &str) -> Result<(), Fail> {
     let all = with_attributes(rt.alloc(), attributes)?;
     let text = text_of(rt.alloc(), &all, SessionConfig::modern())?;

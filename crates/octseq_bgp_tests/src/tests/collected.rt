@@ -1,4 +1,4 @@
-//! A route collector keeps what it read: ranges of shared octets, with nothing copied.
+//! A route collector keeps what it read: ranges of shared octets, without copies.
 use crate::tests::octets::message;
 use bytes::Bytes;
 use octseq::octets::Octets;
@@ -17,7 +17,7 @@ struct Route<T: Drop> {
     attributes: Vec<(u8, T)>,
 }
 
-/// The types of attributes, and their octets: of a `Bytes` they are shared.
+/// Returns the types of attributes, and their octets, which a `Bytes` shares.
 fn attributes_of<R: Octets + Copy>(
     alloc: Global,
     attributes: PathAttributes<R>,
@@ -31,7 +31,7 @@ fn attributes_of<R: Octets + Copy>(
     Ok(kept)
 }
 
-/// The routes that an UPDATE announces.
+/// Returns the routes that an UPDATE announces.
 fn announced<R: Octets + Copy>(
     alloc: Global,
     update: &UpdateMessage<R>,
@@ -45,7 +45,7 @@ fn announced<R: Octets + Copy>(
     Ok(routes)
 }
 
-/// The routes that a message announces.
+/// Returns the routes that a message announces.
 fn routes_of<R: Octets + Copy>(alloc: Global, octets: R) -> Result<Vec<Route<R::Range>>, Fail> {
     match Message::parse(octets, SessionConfig::modern())? {
         Message::Update(update) => announced(alloc, &update),
@@ -53,7 +53,7 @@ fn routes_of<R: Octets + Copy>(alloc: Global, octets: R) -> Result<Vec<Route<R::
     }
 }
 
-/// The attribute is the next hop 10.0.0.1.
+/// Checks that the attribute is the next hop 10.0.0.1.
 fn is_next_hop(rt: &impl Abort, attribute: Option<&(u8, Bytes)>) {
     match attribute {
         Some((type_code, octets)) => {
@@ -64,7 +64,7 @@ fn is_next_hop(rt: &impl Abort, attribute: Option<&(u8, Bytes)>) {
     }
 }
 
-/// The route is one of 24 bits, with three attributes.
+/// Checks that the route has 24 bits, and three attributes.
 fn is_route(rt: &impl Abort, route: Option<&Route<Bytes>>) {
     match route {
         Some(route) => {
@@ -93,7 +93,7 @@ fn routes_share_the_octets_of_their_message(rt: HostRuntime) -> Result<(), Fail>
     Ok(())
 }
 
-/// The next hop of the routes that a message announces, or `None` where it announces none.
+/// Returns the next hop of the routes that a message announces, or `None` if it announces none.
 fn next_hop_of<R: Octets + Copy>(octets: R) -> Result<Option<Ipv4Addr>, Malformed> {
     let Message::Update(update) = Message::parse(octets, SessionConfig::modern())? else {
         return Ok(None);

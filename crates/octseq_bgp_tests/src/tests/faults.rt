@@ -1,4 +1,4 @@
-//! What is wrong with an UPDATE: each fault with its attribute, and the worst of them.
+//! The faults of an UPDATE: each one with its attribute, and the worst of them.
 use crate::tests::octets::message;
 use octseq::{AsOctets, Malformed};
 use octseq_asserts::assert_equal;
@@ -7,7 +7,7 @@ use std::alloc::{AllocGlobal, Global};
 use std::process::Abort;
 use std::test::Fail;
 
-/// The type of each attribute that is wrong, or 0 where one is missing, and what is to be done.
+/// Returns the type of each faulty attribute, or 0 for a missing one, and its handling.
 fn faults<R: AsOctets + Copy>(
     alloc: Global,
     update: &UpdateMessage<R>,
@@ -21,7 +21,7 @@ fn faults<R: AsOctets + Copy>(
     Ok(all)
 }
 
-/// The same of octets, and the worst of it.
+/// Does the same for octets, with the worst handling.
 fn judged<R: AsOctets + Copy>(
     alloc: Global,
     octets: R,
@@ -36,7 +36,7 @@ fn judged<R: AsOctets + Copy>(
     }
 }
 
-/// An UPDATE has these faults and this worst one.
+/// Checks the faults of an UPDATE, and the worst one.
 fn has_faults(
     rt: &(impl AllocGlobal + Abort),
     text: &str,
@@ -59,7 +59,7 @@ fn an_update_may_have_no_fault(rt: HostRuntime) -> Result<(), Fail> {
 
 #[test]
 fn each_fault_has_its_attribute(rt: HostRuntime) -> Result<(), Fail> {
-    // An AGGREGATOR of no octets, an ORIGIN of 3, a second ORIGIN, and no AS_PATH nor NEXT_HOP.
+    // An AGGREGATOR of no octets, an ORIGIN of 3, a second ORIGIN, and neither AS_PATH nor NEXT_HOP.
     has_faults(
         &rt,
         "0026 02 0000 000b c00700 40010103 40010100 18090909",

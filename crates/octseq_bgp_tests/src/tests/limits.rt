@@ -7,7 +7,7 @@ use octseq_bgp::{AddPath, Message, SessionConfig};
 use std::alloc::Global;
 use std::test::Fail;
 
-/// A session with long messages.
+/// Returns a session with extended messages.
 pub fn extended() -> SessionConfig {
     SessionConfig {
         four_octet_asn: true,
@@ -16,7 +16,7 @@ pub fn extended() -> SessionConfig {
     }
 }
 
-/// An UPDATE of so many octets, whose prefixes have no bits.
+/// Returns an UPDATE of this many octets, with prefixes of no bits.
 pub fn zeros(alloc: Global, count: u16) -> Result<Vec<u8>, Fail> {
     let mut octets = Vec::new(alloc);
     for _ in 0..16 {
@@ -30,7 +30,7 @@ pub fn zeros(alloc: Global, count: u16) -> Result<Vec<u8>, Fail> {
     Ok(octets)
 }
 
-/// How many prefixes a message announces.
+/// Returns how many prefixes a message announces.
 fn announced<R: AsOctets + Copy>(octets: R, session: SessionConfig) -> Result<usize, Malformed> {
     match Message::parse(octets, session)? {
         Message::Update(update) => Ok(update.announced.len()),

@@ -1,4 +1,4 @@
-//! Messages, and the text that another's reader prints of each.
+//! Messages, and the text that another reader prints of each.
 use crate::tests::octets::{message, octets};
 use crate::tests::text::{lines_of, text_of};
 use octseq_asserts::assert_equal;
@@ -7,7 +7,7 @@ use std::alloc::AllocGlobal;
 use std::process::Abort;
 use std::test::Fail;
 
-/// A session with path ids for all families.
+/// Returns a session with path ids for all families.
 fn with_paths() -> SessionConfig {
     SessionConfig {
         four_octet_asn: true,
@@ -16,7 +16,7 @@ fn with_paths() -> SessionConfig {
     }
 }
 
-/// A message, without its marker, reads as the text.
+/// Checks the text of a message, given without its marker.
 fn reads(
     rt: &(impl AllocGlobal + Abort),
     session: SessionConfig,

@@ -2,7 +2,7 @@
 use std::alloc::Global;
 use std::test::Fail;
 
-/// The value of a digit, or 16.
+/// Returns the value of a digit, or 16.
 fn digit(byte: u8) -> u8 {
     match byte {
         b'0'..=b'9' => byte - b'0',
@@ -11,7 +11,7 @@ fn digit(byte: u8) -> u8 {
     }
 }
 
-/// The octets that pairs of digits say. Spaces are passed over.
+/// Returns the octets that pairs of digits say. Spaces are skipped.
 pub fn octets(alloc: Global, text: &str) -> Result<Vec<u8>, Fail> {
     let mut octets = Vec::new(alloc);
     let mut high = 16;
@@ -29,7 +29,7 @@ pub fn octets(alloc: Global, text: &str) -> Result<Vec<u8>, Fail> {
     Ok(octets)
 }
 
-/// A message: a marker, its length, and the rest, a type at first.
+/// Makes a message: a marker, its length, and the rest, which begins with a type.
 pub fn message(alloc: Global, text: &str) -> Result<Vec<u8>, Fail> {
     let rest = octets(alloc, text)?;
     let mut all = Vec::new(alloc);

@@ -1,4 +1,4 @@
-//! The place where reading stops in octets that are no message: each is counted by hand from the layout.
+//! The place where reading stops in octets that aren't a message: each one is counted by hand from the layout.
 use crate::tests::limits::{extended, zeros};
 use crate::tests::octets::{message, octets};
 use octseq_asserts::assert_equal;
@@ -7,7 +7,7 @@ use std::alloc::AllocGlobal;
 use std::process::Abort;
 use std::test::Fail;
 
-/// Reading of a message, without its marker, stops at this place.
+/// Checks where reading of a message, given without its marker, stops.
 fn stops_in(
     rt: &(impl AllocGlobal + Abort),
     session: SessionConfig,
@@ -19,7 +19,7 @@ fn stops_in(
     Ok(())
 }
 
-/// It stops there in a session without path ids.
+/// Checks where it stops in a session without path ids.
 fn stops(rt: &(impl AllocGlobal + Abort), text: &str, wanted: usize) -> Result<(), Fail> {
     stops_in(rt, SessionConfig::modern(), text, wanted)
 }

@@ -1,4 +1,4 @@
-//! What two OPENs agree on, and what is to be done with an UPDATE.
+//! What two OPENs agree on, and how an UPDATE must be handled.
 use crate::tests::octets::message;
 use octseq::{AsOctets, Malformed};
 use octseq_asserts::assert_equal;
@@ -7,7 +7,7 @@ use std::alloc::AllocGlobal;
 use std::process::Abort;
 use std::test::Fail;
 
-/// What two messages agree on, if both are OPENs.
+/// Returns what two messages agree on, if both are OPENs.
 fn agreed<R: AsOctets + Copy>(ours: R, theirs: R) -> Result<SessionConfig, Malformed> {
     let modern = SessionConfig::modern();
     match (
@@ -40,7 +40,7 @@ fn path_ids_are_agreed_on(rt: HostRuntime) -> Result<(), Fail> {
     Ok(())
 }
 
-/// What is to be done with a message, if it is an UPDATE.
+/// Returns the handling of a message, if it is an UPDATE.
 fn handling<R: AsOctets + Copy>(octets: R, external: bool) -> Result<Handling, Malformed> {
     match Message::parse(octets, SessionConfig::modern())? {
         Message::Update(update) => Ok(update.handling(external)),
@@ -48,7 +48,7 @@ fn handling<R: AsOctets + Copy>(octets: R, external: bool) -> Result<Handling, M
     }
 }
 
-/// An UPDATE is to be handled so.
+/// Checks the handling of an UPDATE.
 fn is_handled(
     rt: &(impl AllocGlobal + Abort),
     octets: &str,

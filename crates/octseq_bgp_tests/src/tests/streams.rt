@@ -8,7 +8,7 @@ use std::io::{self, Error, ErrorKind, Read};
 use std::process::Abort;
 use std::test::Fail;
 
-/// A source that gives a few octets at a time, stalls before each read, and fails at its end where it is to.
+/// A source that gives a few octets at a time, stalls before each read, and may fail at its end.
 #[derive(Drop)]
 struct Drip<'a> {
     rest: &'a [u8],
@@ -57,7 +57,7 @@ fn messages_are_read_one_at_a_time(rt: HostRuntime) -> Result<(), Fail> {
     Ok(())
 }
 
-/// Two messages are read of a source that gives so many octets at a time, and then it fails.
+/// Checks that two messages are read from a source that gives at most `at_once` octets at a time, and then fails.
 fn comes(rt: &(impl Abort + AllocGlobal), all: &[u8], at_once: usize) -> Result<(), Fail> {
     let source = Drip {
         rest: all,
@@ -84,7 +84,7 @@ fn messages_come_in_any_pieces(rt: HostRuntime) -> Result<(), Fail> {
     Ok(())
 }
 
-/// How many whole messages are in so many octets of the two, and whether others are left.
+/// Returns how many whole messages are in the first `len` octets of the two, and whether other octets are left.
 fn in_front(len: usize) -> (usize, bool) {
     match len {
         0 => (0, false),
@@ -95,7 +95,7 @@ fn in_front(len: usize) -> (usize, bool) {
     }
 }
 
-/// How reading ends of a stream that is cut off.
+/// Checks how reading a truncated stream ends.
 fn ends(rt: &(impl Abort + AllocGlobal), all: &[u8], len: usize) -> Result<(), Fail> {
     if len > all.len() {
         return Err(Fail::from("too long"));
@@ -123,7 +123,7 @@ fn a_stream_that_is_cut_off_is_told(rt: HostRuntime) -> Result<(), Fail> {
     Ok(())
 }
 
-/// A source that fails after some octets.
+/// Checks a source that fails after some octets.
 fn fails(rt: &(impl Abort + AllocGlobal), all: &[u8], len: usize) -> Result<(), Fail> {
     if len > all.len() {
         return Err(Fail::from("too long"));
@@ -153,13 +153,13 @@ fn a_read_that_fails_is_told(rt: HostRuntime) -> Result<(), Fail> {
     Ok(())
 }
 
-/// How reading of a source ends, whose first message isn't whole.
+/// Returns how reading a source ends whose first message isn't whole.
 fn end_of(alloc: Global, octets: &[u8], session: SessionConfig) -> Option<ReadMessageError> {
     let mut source = octets;
     read_message(&mut source, &session, &mut Vec::new(alloc)).err()
 }
 
-/// Whether a message, without its marker, is framed as none of the session.
+/// Whether a message, given without its marker, isn't framed as one of the session.
 fn is_misframed(alloc: Global, session: SessionConfig, text: &str) -> Result<bool, Fail> {
     let octets = message(alloc, text)?;
     let end = end_of(alloc, &octets, session);
@@ -178,7 +178,7 @@ fn lengths_are_held_to_the_session(rt: HostRuntime) -> Result<(), Fail> {
     Ok(())
 }
 
-/// A source that ends at an octet of its marker that is another, and one that goes on.
+/// Checks a source that ends at a wrong octet of its marker, and one that goes on.
 fn other_octet(rt: &(impl Abort + AllocGlobal), index: usize) -> Result<(), Fail> {
     let modern = SessionConfig::modern();
     let mut octets = two(rt.alloc())?;
@@ -229,7 +229,7 @@ fn octets_that_are_framed_may_be_no_message(rt: HostRuntime) -> Result<(), Fail>
     Ok(())
 }
 
-/// Whether a message of so many octets is read, all of it, in a session.
+/// Whether a message of this many octets is read completely in a session.
 fn is_read(alloc: Global, session: SessionConfig, count: u16) -> Result<bool, Fail> {
     let octets = zeros(alloc, count)?;
     let mut messages = MessageReader::new(alloc, octets.as_slice(), session);

@@ -17,7 +17,7 @@ fn append_read<R: AsOctets + Copy>(
     }
 }
 
-/// The text of octets, or `malformed`.
+/// Returns the text of octets, or `malformed`.
 pub fn text_of(
     alloc: Global,
     octets: &[u8],
@@ -28,7 +28,7 @@ pub fn text_of(
     Ok(text)
 }
 
-/// Lines that are joined by semicolons, each with a line feed.
+/// Splits lines that are joined by semicolons. Each ends with a line feed.
 pub fn lines_of(alloc: Global, joined: &str) -> Result<String, Fail> {
     let mut lines = String::new(alloc);
     for c in joined.chars() {

@@ -1,4 +1,4 @@
-//! Values with parts: next hops, the bits of a graceful restart, data of a NOTIFICATION.
+//! Values with parts: next hops, the bits of a graceful restart, the data of a NOTIFICATION.
 use crate::tests::octets::{message, octets};
 use crate::tests::text::text_of;
 use octseq::{AsOctets, Malformed, Parser};
@@ -11,7 +11,7 @@ use std::alloc::AllocGlobal;
 use std::process::Abort;
 use std::test::Fail;
 
-/// Octets are these next hops of a family.
+/// Checks that octets are these next hops of a family.
 fn is_next_hop(
     rt: &(impl AllocGlobal + Abort),
     family: AfiSafiType,
@@ -39,8 +39,8 @@ fn next_hops_have_4_or_16_or_32_octets(rt: HostRuntime) -> Result<(), Fail> {
     is_next_hop(&rt, v6, "00000000 00000000", Err(Malformed))
 }
 
-/// The bits of the first capability of an OPEN, if it is a graceful restart: restarted, takes notifications, seconds,
-/// and whether its first family was kept.
+/// Returns the bits of the first capability of an OPEN, if it is a graceful restart: restarted, takes notifications,
+/// seconds, and whether the state of its first family was kept.
 fn restart<R: AsOctets + Copy>(open: OpenMessage<R>) -> Option<(bool, bool, u16, Option<bool>)> {
     let parameter = open.parameters.into_iter().next()?;
     let ParameterValue::Capabilities(capabilities) = parameter.said() else {
@@ -58,7 +58,7 @@ fn restart<R: AsOctets + Copy>(open: OpenMessage<R>) -> Option<(bool, bool, u16,
     }
 }
 
-/// The same of octets.
+/// Does the same for octets.
 fn restart_of<R: AsOctets + Copy>(
     octets: R,
 ) -> Result<Option<(bool, bool, u16, Option<bool>)>, Malformed> {
@@ -97,7 +97,7 @@ fn a_graceful_restart_has_bits(rt: HostRuntime) -> Result<(), Fail> {
     Ok(())
 }
 
-/// How many octets the shutdown communication of a message has, if it has one.
+/// Returns the number of octets of the shutdown communication of a message, if it has one.
 fn communicated<R: AsOctets + Copy>(octets: R) -> Result<Option<usize>, Malformed> {
     match Message::parse(octets, SessionConfig::modern())? {
         Message::Notification(it) => match it.said() {

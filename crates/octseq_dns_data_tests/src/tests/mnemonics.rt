@@ -1,10 +1,10 @@
-//! Types and classes by their mnemonics, and octets in base 64 and in base 32.
+//! Types and classes by their mnemonics, and octets in base 64 and base 32.
 use octseq_asserts::{assert_equal, assert_true};
 use octseq_dns_data::{Class, Rtype, write_base32hex, write_base64};
 use std::fmt;
 use std::test::Fail;
 
-/// Types of the registry of DNS parameters.
+/// Types of the DNS parameters registry.
 static TYPES: [(u16, &str); 38] = [
     (1, "A"),
     (2, "NS"),
@@ -126,7 +126,7 @@ fn classes_are_read_in_either_case(rt: HostRuntime) -> Result<(), Fail> {
     Ok(())
 }
 
-/// Octets that show in base 64.
+/// Octets that are shown in base 64.
 #[derive(Clone, Copy)]
 struct Base64<'a>(&'a [u8]);
 
@@ -136,7 +136,7 @@ impl fmt::Display for Base64<'_> {
     }
 }
 
-/// Octets that show in base 32.
+/// Octets that are shown in base 32.
 #[derive(Clone, Copy)]
 struct Base32hex<'a>(&'a [u8]);
 
@@ -146,7 +146,7 @@ impl fmt::Display for Base32hex<'_> {
     }
 }
 
-/// The vectors of RFC 4648, 10, and digits of the ends of its tables.
+/// The vectors of RFC 4648, 10, and digits at the ends of its tables.
 #[test]
 fn octets_show_in_base_64(rt: HostRuntime) -> Result<(), Fail> {
     for (octets, wanted) in [

@@ -1,4 +1,4 @@
-//! Sets of types of records: RFC 4034, 4.1.2.
+//! Type bitmaps: RFC 4034, 4.1.2.
 use octseq::array::Array;
 use octseq::octets::Octets;
 use octseq::{AppendError, ShortBuf};
@@ -9,12 +9,12 @@ use std::alloc::AllocGlobal;
 use std::process::Abort;
 use std::test::Fail;
 
-/// The types A, MX, RRSIG, NSEC and TYPE1234, as the example of RFC 4034, 4.3 has them.
+/// The types A, MX, RRSIG, NSEC and TYPE1234, as in the example of RFC 4034, 4.3.
 const EXAMPLE: &[u8] =
     b"\x00\x06\x40\x01\x00\x00\x00\x03\x04\x1B\x00\x00\x00\x00\x00\x00\x00\x00\x00\x00\x00\x00\x00\x00\
     \x00\x00\x00\x00\x00\x00\x00\x00\x00\x00\x00\x00\x20";
 
-/// Octets that are the set of these types.
+/// Checks that octets are the bitmap of these types.
 #[derive(Drop)]
 struct Are {
     numbers: &'static [u16],
@@ -127,7 +127,7 @@ fn a_set_may_be_cut_after_a_block_alone(rt: HostRuntime) -> Result<(), Fail> {
     Ok(())
 }
 
-/// The types of the example, in another order, some of them twice.
+/// The types of the example, in another order, some of them repeated.
 const UNORDERED: [u16; 7] = [1234, 47, 1, 46, 15, 1, 1234];
 
 #[test]

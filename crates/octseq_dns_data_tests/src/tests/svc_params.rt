@@ -1,4 +1,4 @@
-//! Parameters of SVCB and HTTPS: RFC 9460.
+//! Service parameters of SVCB and HTTPS: RFC 9460.
 use octseq::octets::Octets;
 use octseq_asserts::{Case, assert_equal, assert_true, over_each};
 use octseq_dns_data::svc_params::key::{ALPN, ECH, PORT};
@@ -8,7 +8,7 @@ use std::fmt::{Display, Write};
 use std::process::Abort;
 use std::test::Fail;
 
-/// A parameter of each key with a name but that of no default protocol, and two of other keys.
+/// A parameter of each named key except that of no default protocol, and two of other keys.
 const MANY: &[u8] =
     b"\x00\x00\x00\x04\x00\x01\x00\x03\x00\x01\x00\x06\x02h2\x02h3\x00\x03\x00\x02\x01\xBB\
 \x00\x04\x00\x08\x01\x02\x03\x04\x05\x06\x07\x08\x00\x05\x00\x01\x00\
@@ -19,7 +19,7 @@ const SIX: &[u8] =
     b"\x00\x00\x00\x04\x00\x01\x00\x03\x00\x01\x00\x06\x02h2\x02h3\x00\x03\x00\x02\x01\xBB\
 \x00\x05\x00\x01\x00\x00\x07\x00\x00\x02\x9B\x00\x02\"\x00";
 
-/// What a value shows.
+/// Returns what a value shows.
 fn shown<T: Display>(alloc: Global, value: &T) -> Result<String, Fail> {
     let mut text = String::new(alloc);
     write!(text, "{value}")?;
@@ -72,7 +72,7 @@ ipv6hint=\"2001:db8::1\" key7 key667=\"\\\"\\000\"",
 #[test]
 fn what_has_no_form_is_malformed(rt: HostRuntime) -> Result<(), Fail> {
     let cases: [&[u8]; 33] = [
-        // a key, a length or a value that is cut off
+        // a truncated key, length or value
         b"\x00",
         b"\x00\x03",
         b"\x00\x03\x00",
@@ -83,14 +83,14 @@ fn what_has_no_form_is_malformed(rt: HostRuntime) -> Result<(), Fail> {
         b"\x00\x03\x00\x02\x00\x35\x00\x01\x00\x03\x02h2",
         b"\x00\x03\x00\x02\x00\x35\x00\x03\x00\x02\x00\x35",
         b"\xFF\xFF\x00\x00\x00\x00\x00\x02\x00\x01",
-        // mandatory: none, half a key, 0, twice the same, descending
+        // mandatory: none, half a key, 0, a repeated key, descending keys
         b"\x00\x00\x00\x00",
         b"\x00\x00\x00\x01\x01",
         b"\x00\x00\x00\x03\x00\x01\x00",
         b"\x00\x00\x00\x02\x00\x00",
         b"\x00\x00\x00\x04\x00\x03\x00\x03",
         b"\x00\x00\x00\x04\x00\x04\x00\x03",
-        // alpn: none, an empty id first and last, an id that is cut off
+        // alpn: none, an empty id first and last, a truncated id
         b"\x00\x01\x00\x00",
         b"\x00\x01\x00\x01\x00",
         b"\x00\x01\x00\x04\x00\x02h2",
@@ -111,7 +111,7 @@ fn what_has_no_form_is_malformed(rt: HostRuntime) -> Result<(), Fail> {
         b"\x00\x06\x00\x04\x01\x02\x03\x04",
         b"\x00\x06\x00\x0F0123456789abcde",
         b"\x00\x06\x00\x110123456789abcdefg",
-        // a form that is broken after one that isn't
+        // an invalid value after a valid one
         b"\x00\x01\x00\x03\x02h2\x00\x02\x00\x01\x00",
         b"\x00\x05\x00\x01\x00\x06\x00\x00",
     ];
@@ -138,7 +138,7 @@ fn parameters_end_where_one_of_them_does(rt: HostRuntime) -> Result<(), Fail> {
     Ok(())
 }
 
-/// The parameters of `SIX`, in their order.
+/// Checks the parameters of `SIX`, in order.
 #[derive(Drop)]
 struct AreSix;
 
@@ -177,7 +177,7 @@ impl<H: Abort + AllocGlobal> Case<H> for AreSix {
     }
 }
 
-/// The ids `h2` and `h3`.
+/// Checks the ids `h2` and `h3`.
 fn has_two_ids<R: Octets + Copy>(rt: &impl Abort, alpn: &SvcParam<R>) -> Result<(), Fail> {
     let Some(ids) = alpn.clone()?.alpn_ids() else {
         return Err("no ids".into());

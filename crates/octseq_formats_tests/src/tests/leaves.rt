@@ -14,7 +14,7 @@ use std::fmt::Debug;
 use std::process::Abort;
 use std::test::Fail;
 
-/// What all of a slice says by a format, which is written again.
+/// Checks what a whole slice says by a format, and that it is written back.
 fn is_said<'a, F: Format<&'a [u8]>>(
     rt: &(impl AllocGlobal + Abort),
     octets: &'a [u8],
@@ -80,7 +80,7 @@ fn integers_may_be_signed(rt: HostRuntime) -> Result<(), Fail> {
     )
 }
 
-/// A version that is known.
+/// A known version.
 struct Known;
 
 impl Test for Known {
@@ -115,7 +115,7 @@ fn a_number_may_be_fixed_or_tested(rt: HostRuntime) -> Result<(), Fail> {
     Ok(())
 }
 
-/// The flags of a message of DNS: a response, an opcode, three flags, one more, three bits that are zero, and an rcode.
+/// The flags of a DNS message: a response, an opcode, three flags, another one, three zero bits, and an rcode.
 type DnsFlags = (Flag, (Low<4>, Flag, Flag), (Flag, Flag, Low<3>, Low<4>));
 
 #[test]
@@ -138,7 +138,7 @@ fn a_number_may_be_bits(rt: HostRuntime) -> Result<(), Fail> {
     Ok(())
 }
 
-/// The sum of as many numbers as a count says, and how many octets are left.
+/// Returns the sum of the first `count` numbers, and how many octets are left.
 fn sum_of<R: AsOctets + Copy>(octets: R, count: usize) -> Result<(u64, usize), Malformed> {
     let mut parser = Parser::from_ref(octets);
     let mut sum: u64 = 0;
@@ -177,7 +177,7 @@ fn values_may_be_in_a_slice(rt: HostRuntime) -> Result<(), Fail> {
     Ok(())
 }
 
-/// How many octets the first texts with a zero have, of those that all octets are, and how many texts are left.
+/// Returns the lengths of the first zero-terminated texts in all the octets, and how many texts are left.
 fn lens_of<R: AsOctets + Copy>(
     octets: R,
 ) -> Result<(Option<usize>, Option<usize>, usize), Malformed> {
@@ -187,7 +187,7 @@ fn lens_of<R: AsOctets + Copy>(
     Ok((first, second, walk.len()))
 }
 
-/// How many octets a text has.
+/// Returns the number of octets of a text.
 fn len_of_text<R: AsOctets + Copy>(octets: R) -> Result<usize, Malformed> {
     Ok(Text::parse_whole(octets)?.remaining())
 }
@@ -215,7 +215,7 @@ fn a_thing_at_the_end_may_be_left_out(rt: HostRuntime) -> Result<(), Fail> {
     Ok(())
 }
 
-/// Whether what was read is written as the octets that it was read from.
+/// Whether what was read is written as the octets it was read from.
 fn is_copied<'a, F: Format<&'a [u8]>>(_octets: &'a [u8]) -> bool {
     F::is_canonical()
 }

@@ -1,4 +1,4 @@
-//! What passes a limit or a length, and what has no octets.
+//! What exceeds a limit or a length, and what has no octets.
 use octseq::compose::ComposeError;
 use octseq::{Array, AsOctets, Malformed, OctetsBuilder, Parser};
 use octseq_asserts::assert_equal;
@@ -7,7 +7,7 @@ use octseq_formats::ntp::Ntp;
 use octseq_formats::tftp::Packet;
 use std::test::Fail;
 
-/// A header of NTP, all of whose numbers are 0 or 1.
+/// An NTP header in which all numbers are 0 or 1.
 const NTP: Ntp = Ntp {
     leap_indicator: 0,
     version: 0,
@@ -88,7 +88,7 @@ fn a_count_says_how_many(rt: HostRuntime) {
     }
 }
 
-/// Appends a request to read.
+/// Appends a read request.
 fn append_request<R: AsOctets + Copy>(
     content: &mut Array<9>,
     name: R,

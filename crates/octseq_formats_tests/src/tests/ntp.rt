@@ -1,4 +1,4 @@
-//! Headers of NTP, as tshark 4.0.17 reads them: packets of tcpdump's captures.
+//! NTP headers, as tshark 4.0.17 reads them: packets of tcpdump's captures.
 use octseq::Parser;
 use octseq_asserts::assert_equal;
 use octseq_format::{Format, Of};
@@ -7,18 +7,18 @@ use std::alloc::AllocGlobal;
 use std::process::Abort;
 use std::test::Fail;
 
-/// The seconds of a time stamp, and its nanoseconds.
+/// Returns the seconds of a timestamp, and its nanoseconds.
 fn seconds(stamp: u64) -> (u64, u64) {
     (stamp >> 32, ((stamp & 0xFFFF_FFFF) * 1_000_000_000) >> 32)
 }
 
-/// The numbers of a header, but its time stamps.
+/// The numbers of a header, except its timestamps.
 type Numbers = ((usize, usize, usize), u8, i8, i8, u32, u32, u32);
 
-/// The seconds and nanoseconds of the four time stamps.
+/// The seconds and nanoseconds of the four timestamps.
 type Times = [(u64, u64); 4];
 
-/// Reads a header, compares it, and writes it again.
+/// Reads a header, compares it, and writes it back.
 fn is_read<H: AllocGlobal + Abort>(
     rt: &H,
     octets: &[u8],

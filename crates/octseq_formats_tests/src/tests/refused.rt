@@ -1,7 +1,7 @@
 //! Refused requests for memory.
 //!
-//! `.ci/refused` runs these tests with their n-th request refused, for each n up to the last of them. A refusal
-//! ends a test by the error that it was answered with, once the test has looked at what is there.
+//! `.ci/refused` runs these tests with their n-th request refused, for each n up to the last of them. A refusal ends a
+//! test with its error, once the test has checked what is there.
 use octseq::compose::ComposeError;
 use octseq::{AsOctets, Parser};
 use octseq_asserts::assert_equal;
@@ -11,7 +11,7 @@ use std::alloc::AllocGlobal;
 use std::process::Abort;
 use std::test::Fail;
 
-/// Appends a request to write to a vector.
+/// Appends a write request to a vector.
 fn append_request<H: AllocGlobal + Abort, R: AsOctets + Copy>(
     rt: &H,
     name: R,

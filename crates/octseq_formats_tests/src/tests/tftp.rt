@@ -1,4 +1,4 @@
-//! Packets of TFTP, as tshark 4.0.17 reads them: packets of tcpdump's captures.
+//! TFTP packets, as tshark 4.0.17 reads them: packets of tcpdump's captures.
 use octseq::AsOctets;
 use octseq_asserts::assert_equal;
 use octseq_format::{Format, Of};
@@ -7,7 +7,7 @@ use std::alloc::AllocGlobal;
 use std::process::Abort;
 use std::test::Fail;
 
-/// What all octets say, which is written again.
+/// Reads all the octets, and writes the value back.
 fn read<H: AllocGlobal + Abort, R: AsOctets + Copy>(rt: &H, octets: R) -> Result<Packet<R>, Fail> {
     let packet: Packet<R> = Of::parse_whole(octets)?;
     let written: Vec<u8> = Of::<Packet<R>>::compose_whole(rt.alloc(), &packet)?;
@@ -15,7 +15,7 @@ fn read<H: AllocGlobal + Abort, R: AsOctets + Copy>(rt: &H, octets: R) -> Result
     Ok(packet)
 }
 
-/// Compares a request to read.
+/// Compares a read request.
 fn is_request<H: AllocGlobal + Abort, R: AsOctets + Copy>(
     rt: &H,
     octets: R,
@@ -38,7 +38,7 @@ fn a_request_to_read_is_read(rt: HostRuntime) -> Result<(), Fail> {
     is_request(&rt, octets, (b"file1", b"octet"), (2, 8))
 }
 
-/// The number of a block, and of its octets, or of an acknowledgment.
+/// Returns the number of a block and of its octets, or of an acknowledgment.
 fn block<H: AllocGlobal + Abort, R: AsOctets + Copy>(
     rt: &H,
     octets: R,
@@ -132,7 +132,7 @@ fn the_last_acknowledgment_is_read(rt: HostRuntime) -> Result<(), Fail> {
     Ok(())
 }
 
-/// Whether octets are no packet.
+/// Whether octets aren't a packet.
 fn is_refused<R: AsOctets + Copy>(octets: R) -> bool {
     Of::<Packet<R>>::parse_whole(octets).is_err()
 }

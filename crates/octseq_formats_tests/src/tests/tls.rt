@@ -1,4 +1,4 @@
-//! Records of TLS with a ClientHello that OpenSSL made, as tshark 4.0.17 reads them.
+//! TLS records with a ClientHello made by OpenSSL, as tshark 4.0.17 reads them.
 use octseq::AsOctets;
 use octseq_asserts::assert_equal;
 use octseq_format::{Format, U16Be, Walk};
@@ -7,7 +7,7 @@ use std::alloc::AllocGlobal;
 use std::process::Abort;
 use std::test::Fail;
 
-/// What all octets say, which is written again.
+/// Reads all the octets, and writes the value back.
 fn read<H: AllocGlobal + Abort, R: AsOctets + Copy>(rt: &H, octets: R) -> Result<Hello<R>, Fail> {
     let value = <Record<R> as Format<R>>::parse_whole(octets)?;
     let written: Vec<u8> = <Record<R> as Format<R>>::compose_whole(rt.alloc(), &value)?;
@@ -18,7 +18,7 @@ fn read<H: AllocGlobal + Abort, R: AsOctets + Copy>(rt: &H, octets: R) -> Result
     Ok(hello)
 }
 
-/// Compares the suites of ciphers.
+/// Compares the cipher suites.
 fn has_suites<R: AsOctets + Copy>(rt: &impl Abort, suites: Walk<R, U16Be>, wanted: &[u16]) {
     assert_equal!(rt, suites.len(), wanted.len());
     let mut suites = suites;
@@ -41,7 +41,7 @@ fn has_extensions<R: AsOctets + Copy>(
     }
 }
 
-/// Compares a hello.
+/// Compares a ClientHello.
 fn is_hello<H: AllocGlobal + Abort, R: AsOctets + Copy>(
     rt: &H,
     octets: R,

@@ -7,7 +7,7 @@ use std::io::{self, Error, ErrorKind, Read};
 use std::process::Abort;
 use std::test::Fail;
 
-/// A source that gives one octet at a time, stalls before each, and fails at its end where it is to.
+/// A source that gives one octet at a time, stalls before each, and may fail at its end.
 #[derive(Drop)]
 struct Slow<'a> {
     rest: &'a [u8],
@@ -66,7 +66,7 @@ fn a_source_that_stalls_is_read(rt: HostRuntime) -> Result<(), Fail> {
     Ok(())
 }
 
-/// How a reading ends of a file that is cut off.
+/// Checks how reading a truncated file ends.
 fn ends_short(rt: &(impl Abort + AllocGlobal), len: usize) -> Result<(), Fail> {
     if len > TWO.len() {
         return Err(Fail::from("too long"));
@@ -90,7 +90,7 @@ fn a_file_that_is_cut_off_is_told(rt: HostRuntime) -> Result<(), Fail> {
     Ok(())
 }
 
-/// A source that fails after some octets.
+/// Checks a source that fails after some octets.
 fn fails_after(rt: &(impl Abort + AllocGlobal), len: usize) -> Result<(), Fail> {
     if len > TWO.len() {
         return Err(Fail::from("too long"));

@@ -1,4 +1,4 @@
-//! Records by their octets: where they end, and how many turns their reading takes.
+//! Records by their octets: where they end, and how many turns reading them takes.
 use octseq::utf8::Turns;
 use octseq::{AsOctets, Parser};
 use octseq_asserts::{assert_equal, assert_true};
@@ -11,17 +11,17 @@ use std::alloc::AllocGlobal;
 use std::process::Abort;
 use std::test::Fail;
 
-/// A header of 12 octets and 2 more: RFC 6396, 2.
+/// A record of a header of 12 octets and 2 more: RFC 6396, 2.
 pub const OTHER: &[u8] = b"\x65\x53\xF1\x00\0\x0C\0\x01\0\0\0\x02\x01\x02";
 
-/// A table with four peers, of each type that counts: RFC 6396, 4.3.1.
+/// A peer index table with four peers, one of each type: RFC 6396, 4.3.1.
 const PEERS: &[u8] = b"\x65\x53\xF1\x00\0\x0D\0\x01\0\0\0\x54\x0A\0\0\x09\0\x04view\0\x04\
 \0\x0A\0\0\x01\x0A\0\0\x01\xFD\xE9\
 \x01\x0A\0\0\x02\x20\x01\x0D\xB8\0\0\0\0\0\0\0\0\0\0\0\x01\xFD\xEA\
 \x02\x0A\0\0\x03\x0A\0\0\x03\xFA\x56\xEA\x01\
 \xFF\x0A\0\0\x04\x20\x01\x0D\xB8\0\0\0\0\0\0\0\0\0\0\0\x02\xFA\x56\xEA\x02";
 
-/// A RIB of IPv4 unicast with a path id, and an entry of two attributes: RFC 8050, 4.
+/// A RIB of IPv4 unicast with a path id, and an entry with two attributes: RFC 8050, 4.
 pub const RIB: &[u8] = b"\x65\x53\xF1\x00\0\x0D\0\x08\0\0\0\x22\0\0\0\x01\x18\x09\x09\x09\0\x01\
 \0\x01\x65\x53\xF1\x00\0\0\0\x07\0\x0C\x40\x01\x01\0\x80\x0E\x05\x04\x0A\0\0\x01";
 
@@ -30,7 +30,7 @@ pub const KEEPALIVE: &[u8] = b"\x65\x53\xF1\x00\0\x11\0\x04\0\0\0\x2B\0\0\0\x7B\
 \xFA\x56\xEA\x01\0\0\xFD\xEA\0\x03\0\x01\x0A\0\0\x01\x0A\0\0\x02\
 \xFF\xFF\xFF\xFF\xFF\xFF\xFF\xFF\xFF\xFF\xFF\xFF\xFF\xFF\xFF\xFF\0\x13\x04";
 
-/// Fewer octets than a record has are none, and neither are more.
+/// Checks that neither fewer nor more octets are a record.
 fn is_whole(rt: &(impl Abort + AllocGlobal), octets: &[u8]) -> Result<(), Fail> {
     for len in 0..octets.len() {
         assert_true!(rt, Record::parse(&octets[..len]).is_err());
@@ -98,7 +98,7 @@ fn readings_are_counted(rt: HostRuntime) -> Result<(), Fail> {
     Ok(())
 }
 
-/// The parts of a RIB of IPv4.
+/// Checks the parts of a RIB of IPv4.
 fn has_parts<R: AsOctets + Copy>(rt: &impl Abort, octets: R) -> Result<(), Fail> {
     let RecordValue::Rib(rib) = Record::parse(octets)?.value() else {
         return Err(Fail::from("no RIB"));
@@ -114,7 +114,7 @@ fn has_parts<R: AsOctets + Copy>(rt: &impl Abort, octets: R) -> Result<(), Fail>
     Ok(())
 }
 
-/// An attribute is next hops alone where it is an MP_REACH_NLRI.
+/// Checks that an attribute is next hops exactly if it is an MP_REACH_NLRI.
 fn is_next_hop<R: AsOctets + Copy>(rt: &impl Abort, attribute: &RibAttribute<R>) {
     let same = attribute.path_attribute();
     assert_equal!(rt, same.session, SessionConfig::modern());
@@ -128,7 +128,7 @@ fn a_rib_has_its_parts(rt: HostRuntime) -> Result<(), Fail> {
     has_parts(&rt, RIB)
 }
 
-/// The message of a record, and how it is to be read.
+/// Checks the message of a record, and its session.
 fn has_message<R: AsOctets + Copy>(rt: &impl Abort, octets: R) -> Result<(), Fail> {
     let RecordValue::Bgp4Mp(it) = Record::parse(octets)?.value() else {
         return Err(Fail::from("no BGP4MP"));

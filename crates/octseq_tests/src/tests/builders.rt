@@ -68,7 +68,7 @@ fn array_is_written_in_place(rt: HostRuntime) -> Result<(), Fail> {
     Ok(())
 }
 
-/// Fills a new builder through the traits alone.
+/// Fills a new builder through its traits only.
 fn fill<B: EmptyBuilder + Truncate>(rt: &impl Abort, alloc: Global) -> Result<(), AppendError> {
     let mut builder = B::empty(alloc)?;
     builder.append_slice(b"abcd")?;
@@ -92,7 +92,7 @@ fn each_builder_is_filled(rt: HostRuntime) {
     assert_equal!(&rt, fill::<ArrayVec<u8, 4>>(&rt, alloc), Ok(()));
 }
 
-/// A type's limit and whether it asks for memory.
+/// Checks a type's limit and whether it requests memory.
 fn has_facts<T: OctetsLimit>(rt: &impl Abort, limit: Option<usize>, asks_memory: bool) {
     assert_equal!(rt, T::limit(), limit);
     assert_equal!(rt, T::asks_memory(), asks_memory);
@@ -113,7 +113,7 @@ fn types_tell_their_limits(rt: HostRuntime) {
     has_facts::<&mut Array<4>>(&rt, Some(4), false);
 }
 
-/// A copy of a sequence that was made has its content.
+/// Checks that a copy of a sequence has its content.
 fn is_copied<T: CloneOctets, E: Debug + Drop>(
     rt: &impl Abort,
     alloc: Global,
@@ -125,17 +125,17 @@ fn is_copied<T: CloneOctets, E: Debug + Drop>(
     Ok(())
 }
 
-/// Octets that are borrowed, and are not refused.
+/// Makes borrowed octets.
 fn borrowed(alloc: Global, octets: &[u8]) -> Result<CowOctets<'_>, AllocError> {
     Ok(CowOctets::borrowed(alloc, octets))
 }
 
-/// Octets that are owned.
+/// Makes owned octets.
 fn owned(alloc: Global, octets: &[u8]) -> Result<CowOctets<'static>, AllocError> {
     Ok(CowOctets::owned(octets.to_vec(alloc)?))
 }
 
-/// A builder of a fixed size that has octets.
+/// Makes a builder of a fixed size from octets.
 fn fixed(octets: &[u8]) -> Result<ArrayVec<u8, 4>, AppendError> {
     let mut fixed = ArrayVec::<u8, 4>::new();
     fixed.append_slice(octets)?;
@@ -154,7 +154,7 @@ fn each_sequence_is_copied(rt: HostRuntime) -> Result<(), Fail> {
     a_cut_array_is_copied(&rt, alloc, Array::try_from(slice)?)
 }
 
-/// Copies of sequences that may share their octets, or hold them inline.
+/// Checks copies of sequences that share their octets, or hold them inline.
 fn shared_octets_are_copied(rt: &impl Abort, alloc: Global, slice: &[u8]) -> Result<(), Fail> {
     is_copied(rt, alloc, Bytes::copy_from_slice(alloc, slice))?;
     is_copied(rt, alloc, BytesMut::copy_from_slice(alloc, slice))?;
@@ -162,7 +162,7 @@ fn shared_octets_are_copied(rt: &impl Abort, alloc: Global, slice: &[u8]) -> Res
     is_copied(rt, alloc, RcSlice::<u8>::from_slice(alloc, slice))
 }
 
-/// A copy of an array that was cut has what is hidden behind its end, too.
+/// Checks that a copy of a truncated array also has the octets hidden after its end.
 fn a_cut_array_is_copied(rt: &impl Abort, alloc: Global, mut array: Array<4>) -> Result<(), Fail> {
     array.truncate(1);
     let mut copy = array.clone_octets(alloc)?;
@@ -172,7 +172,7 @@ fn a_cut_array_is_copied(rt: &impl Abort, alloc: Global, mut array: Array<4>) ->
     Ok(())
 }
 
-/// A builder's octets, frozen and taken into a builder again, and grown.
+/// Checks a builder's octets when they are frozen, turned into a builder again, and grown.
 fn goes_round<B: EmptyBuilder + FreezeBuilder>(
     rt: &impl Abort,
     alloc: Global,
@@ -190,7 +190,7 @@ where
     Ok(())
 }
 
-/// A sequence made by its builder.
+/// Checks a sequence made from its builder.
 fn is_built<O: FromBuilder>(rt: &impl Abort, mut builder: O::Builder) -> Result<(), AppendError> {
     builder.append_slice(b"d")?;
     let octets = O::from_builder(builder)?;
@@ -227,7 +227,7 @@ fn fixed_and_shared_octets_are_made_by_their_builders(rt: HostRuntime) -> Result
     Ok(is_built::<Bytes>(&rt, FreezeBuilder::freeze(shared)?.into_builder(alloc)?)?)
 }
 
-/// Grows the octets "ab" by a reference, and cuts them.
+/// Grows the octets "ab" through a reference, and truncates them.
 fn grows_by_a_reference<B: OctetsBuilder + Truncate>(
     rt: &impl Abort,
     mut reference: B,
@@ -238,12 +238,12 @@ fn grows_by_a_reference<B: OctetsBuilder + Truncate>(
     Ok(())
 }
 
-/// Octets have the content "abc".
+/// Checks that octets are "abc".
 fn is_abc(rt: &impl Abort, octets: impl AsOctets) {
     assert_equal!(rt, octets.as_ref(), b"abc".as_slice());
 }
 
-/// Octets "abc" are cut at a length, and are those of their front.
+/// Truncates the octets "abc", and checks what is left.
 fn is_cut<T: Truncate>(rt: &impl Abort, octets: &mut T, len: usize, front: &[u8]) {
     octets.truncate(len);
     assert_equal!(rt, octets.as_ref(), front);
@@ -262,7 +262,7 @@ fn a_reference_grows_what_it_refers_to(rt: HostRuntime) -> Result<(), Fail> {
     Ok(())
 }
 
-/// Octets are owned once nothing was appended to them.
+/// Checks that octets are owned after an empty append.
 fn is_owned_behind_nothing(rt: &impl Abort, mut empty: CowOctets) -> Result<(), AppendError> {
     empty.append_slice(b"")?;
     assert_true!(rt, !empty.is_borrowed());
@@ -284,7 +284,7 @@ fn borrowed_octets_are_copied_at_the_first_append(rt: HostRuntime) -> Result<(),
     Ok(())
 }
 
-/// Takes no octet away at the greatest length.
+/// Checks that a truncation to the maximum length removes nothing.
 fn keeps_all<T: Truncate, E: Debug + Drop>(
     rt: &impl Abort,
     made: Result<T, E>,
@@ -306,7 +306,7 @@ fn the_greatest_length_takes_nothing_away(rt: HostRuntime) -> Result<(), Fail> {
     shared_and_fixed_octets_are_kept(&rt, alloc, slice)
 }
 
-/// Sequences that share their octets or hold them inline, at the greatest length.
+/// Does the same for sequences that share their octets or hold them inline.
 fn shared_and_fixed_octets_are_kept(
     rt: &impl Abort,
     alloc: Global,
@@ -382,7 +382,7 @@ fn results_known_to_be_ok_give_their_values(rt: HostRuntime) {
     assert_equal!(&rt, with_infallible(op), 7);
 }
 
-/// What an error shows.
+/// Checks what an error shows.
 fn shows<E: ToString>(rt: &impl Abort, alloc: Global, error: &E, text: &str) -> Result<(), Fail> {
     assert_equal!(rt, error.to_string(alloc)?.as_str(), text);
     Ok(())

@@ -9,7 +9,7 @@ use std::alloc::Global;
 use std::process::Abort;
 use std::test::Fail;
 
-/// Appends the least value of each integer, 0 and the greatest.
+/// Appends the minimum of each integer, 0 and the maximum.
 macro_rules! append_each {
     ($builder:expr, $($integer:ty, $append:ident;)*) => {{
         $(for value in [<$integer>::MIN, 0, <$integer>::MAX] {
@@ -19,7 +19,7 @@ macro_rules! append_each {
     }};
 }
 
-/// Reads the same values, and nothing is left behind them.
+/// Reads the same values, and checks that nothing is left.
 macro_rules! read_each {
     ($rt:expr, $octets:expr, $($integer:ty, $parse:ident;)*) => {{
         let mut parser = Parser::from_ref($octets);
@@ -118,7 +118,7 @@ fn are_integers_of_128_bits(rt: &impl Abort, octets: &[u8]) {
     )
 }
 
-/// Each integer, over one builder.
+/// Checks each integer with one builder.
 fn goes_round<B: EmptyBuilder + Truncate>(rt: &impl Abort, alloc: Global) -> Result<(), Fail> {
     let mut builder = B::empty(alloc)?;
     append_short_integers(&mut builder)?;
@@ -181,7 +181,7 @@ fn a_message_is_read_back(rt: HostRuntime) -> Result<(), Fail> {
     Ok(())
 }
 
-/// A part was appended, which alone stands in a builder now.
+/// Checks that a part was appended, which is now all of a builder's content.
 fn is_appended(
     rt: &impl Abort,
     appended: Result<(), ComposeError>,
@@ -212,7 +212,7 @@ fn parts_stand_behind_their_lengths(rt: HostRuntime) -> Result<(), Fail> {
     Ok(())
 }
 
-/// A part was refused as too long, and the builder has what it had.
+/// Checks that a part was refused as too long, and the builder is unchanged.
 fn is_too_long(
     rt: &impl Abort,
     refused: Result<(), ComposeError>,
@@ -243,7 +243,7 @@ fn the_longest_parts_are_appended_and_no_longer_ones(rt: HostRuntime) -> Result<
     Ok(())
 }
 
-/// A part was refused for want of room, and the builder has what it had.
+/// Checks that a part was refused for lack of room, and the builder is unchanged.
 fn is_short(
     rt: &impl Abort,
     refused: Result<(), ComposeError>,
@@ -270,7 +270,7 @@ fn a_part_that_passes_the_limit_leaves_the_content(rt: HostRuntime) -> Result<()
     Ok(())
 }
 
-/// A part behind a length of two octets or four isn't there, and the parser stays.
+/// Checks that there is no part with a length of two or four octets, and the parser is unchanged.
 fn is_cut(rt: &impl Abort, octets: &[u8]) {
     let mut parser = Parser::from_ref(octets);
     assert_true!(rt, parser.parse_part_u16_be().is_err());
@@ -278,7 +278,7 @@ fn is_cut(rt: &impl Abort, octets: &[u8]) {
     assert_equal!(rt, parser.pos(), 0);
 }
 
-/// A part of four octets is a window, and the parser stands behind it.
+/// Checks that a part of four octets is a window, and the parser is after it.
 fn is_read(rt: &impl Abort) -> Result<(), ShortInput> {
     let mut parser = Parser::from_static(b"\0\x02abc");
     let part = parser.parse_part_u16_be()?;

@@ -1,4 +1,4 @@
-//! What errors print, and which are made of which.
+//! What errors print, and how they convert.
 use octseq::ShortInput;
 use octseq::parse::ParseOctetsError;
 use octseq_asserts::{assert_equal, assert_true};
@@ -6,7 +6,7 @@ use std::alloc::{AllocError, Global};
 use std::error::Error;
 use std::test::Fail;
 
-/// What an error prints, through the trait of errors.
+/// Returns what an error prints, through the trait of errors.
 fn text<E: Error>(alloc: Global, error: E) -> Result<String, Fail> {
     Ok(format!(in alloc; "{error}")?)
 }

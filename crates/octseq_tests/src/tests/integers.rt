@@ -1,4 +1,4 @@
-//! Integers of each width, read in both orders of octets.
+//! Integers of each width, read in both byte orders.
 use octseq::octets::Octets;
 use octseq::parse::{Parser, ShortInput};
 use octseq_asserts::{Case, assert_equal, over_each};

@@ -9,12 +9,12 @@ use std::fmt::Write;
 use std::process::Abort;
 use std::test::Fail;
 
-/// Octets as the text that they are in these tests.
+/// Returns octets as a text, which they are in these tests.
 fn text(octets: &[u8]) -> &str {
     str::from_utf8(octets).unwrap_or("?")
 }
 
-/// Shows a reply.
+/// Writes a reply as a text.
 fn show<R: Octets>(shown: &mut String, reply: &ParserReply<R>) -> Result<(), AllocError> {
     match reply {
         ParserReply::Done => write!(shown, "Done"),
@@ -31,7 +31,7 @@ fn show<R: Octets>(shown: &mut String, reply: &ParserReply<R>) -> Result<(), All
     }
 }
 
-/// A reply shows as this text.
+/// Checks the text of a reply.
 fn shows<R: Octets>(
     rt: &impl Abort,
     alloc: Global,
@@ -44,7 +44,7 @@ fn shows<R: Octets>(
     Ok(())
 }
 
-/// Commands, each with the reply that it is to get.
+/// Commands, each with its expected reply.
 #[derive(Drop)]
 struct Answers<'a>(&'a [(usize, ParserCall, &'a str)]);
 
@@ -235,7 +235,7 @@ fn each_kind_of_integer_is_read(rt: HostRuntime) -> Result<(), Fail> {
     Ok(())
 }
 
-/// The test on octets whose ranges are refused for memory.
+/// Runs the test on octets whose ranges are refused for lack of memory.
 fn over_scarce<H: Abort + AllocGlobal>(rt: &H, answers: &Answers) -> Result<(), Fail> {
     answers.holds(rt, Scarce(*b"abc"))
 }

@@ -33,13 +33,13 @@ fn thai_and_chinese_are_read(rt: HostRuntime) -> Result<(), Fail> {
     Ok(())
 }
 
-/// Why octets in an array are no text.
+/// Returns why octets in an array aren't a text.
 fn refused(octets: &[u8]) -> Result<FromUtf8Error<Array<4>>, Fail> {
     let octets = Array::<4>::try_from(octets)?;
     Ok(StrBuilder::from_utf8(octets).err().ok_or("accepted")?)
 }
 
-/// The refusal has the octets, and says where they are wrong.
+/// Checks that the error has the octets, and says where they are wrong.
 fn is_refused(rt: &impl Abort, error: &FromUtf8Error<Array<4>>) {
     assert_equal!(rt, error.as_slice(), b"a\xC0".as_slice());
     let fault = error.utf8_error();
@@ -63,7 +63,7 @@ fn octets_that_are_no_text_are_handed_back(rt: HostRuntime) -> Result<(), Fail> 
     Ok(())
 }
 
-/// Octets are no text, and both refusals tell so.
+/// Checks that octets aren't a text, by both errors.
 fn is_faulty(
     rt: &impl Abort,
     alloc: Global,
@@ -116,7 +116,7 @@ fn faults_are_found_and_shown(rt: HostRuntime) -> Result<(), Fail> {
     Ok(())
 }
 
-/// The lengths of the ill-formed parts, from the left.
+/// Returns the lengths of the ill-formed parts, from the left.
 fn bad_lengths(alloc: Global, octets: &[u8]) -> Result<Vec<usize>, Fail> {
     let mut lengths = Vec::new(alloc);
     let mut at = 0;
@@ -154,7 +154,7 @@ fn maximal_subparts_are_those_of_the_standard(rt: HostRuntime) -> Result<(), Fai
     Ok(())
 }
 
-/// Makes texts through the traits alone.
+/// Makes texts through their traits only.
 fn make<B: EmptyBuilder>(rt: &impl Abort, alloc: Global) -> Result<(), Fail> {
     assert_true!(rt, StrBuilder::<B>::new(alloc)?.is_empty());
     assert_true!(rt, StrBuilder::<B>::with_capacity(alloc, 8)?.is_empty());
@@ -209,7 +209,7 @@ fn a_push_that_passes_the_limit_is_refused(rt: HostRuntime) -> Result<(), Fail> 
     Ok(())
 }
 
-/// The replies to commands on an empty text, which are the ones that are wanted.
+/// Checks the replies to commands on an empty text.
 fn replies<B: EmptyBuilder + Truncate>(
     rt: &impl Abort,
     alloc: Global,
@@ -283,7 +283,7 @@ fn a_refusal_of_memory_leaves_the_text(rt: HostRuntime) -> Result<(), Fail> {
     Ok(())
 }
 
-/// Three commands were done, but the n-th, where there is one.
+/// Checks that three commands were done except the n-th, if there is one.
 fn are_done_but_one(rt: &impl Abort, replies: &[Reply], n: usize) {
     assert_equal!(rt, replies.len(), 3);
     for (i, reply) in replies.iter().enumerate() {
@@ -350,12 +350,12 @@ fn lossy_texts() -> [(&'static [u8], &'static str); 16] {
     ]
 }
 
-/// The lossy text of octets over a vector.
+/// Returns the lossy text of octets, in a vector.
 fn lossy(alloc: Global, octets: &[u8]) -> Result<StrBuilder<Vec<u8>>, Fail> {
     Ok(StrBuilder::try_from_utf8_lossy_counted(alloc, octets.to_vec(alloc)?, &mut Turns::new())?)
 }
 
-/// Octets pushed behind a text are their lossy text.
+/// Checks that octets pushed to a text are their lossy text.
 fn is_pushed_lossily(
     rt: &impl Abort,
     alloc: Global,
@@ -382,14 +382,14 @@ fn each_bad_part_becomes_one_replacement(rt: HostRuntime) -> Result<(), Fail> {
     Ok(())
 }
 
-/// Octets in a builder.
+/// Puts octets into a builder.
 fn filled<B: EmptyBuilder>(alloc: Global, octets: &[u8]) -> Result<B, AppendError> {
     let mut builder = B::empty(alloc)?;
     builder.append_slice(octets)?;
     Ok(builder)
 }
 
-/// What both calls answer for these octets in a builder: the text that is wanted, or that it is too long.
+/// Checks that both calls return the expected text for these octets, or refuse it as too long.
 fn lossy_over<B: EmptyBuilder>(
     rt: &impl Abort,
     alloc: Global,

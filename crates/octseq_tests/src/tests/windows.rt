@@ -50,7 +50,7 @@ fn a_nested_parser_has_a_window_of_its_own(rt: HostRuntime) -> Result<(), Fail> 
     over_each(&rt, &MovesByItself, b"0123456789")
 }
 
-/// A parser of "0123456789" stands at a place, and shows what is left and no more.
+/// Checks that a parser of "0123456789" is at a position, and shows what is left and no more.
 fn stands(rt: &impl Abort, parser: &Parser<&[u8]>, pos: usize) {
     let left = b"0123456789".get(pos..).unwrap_or(b"");
     assert_equal!(rt, (parser.pos(), parser.remaining()), (pos, left.len()));
@@ -161,7 +161,7 @@ fn the_greatest_numbers_are_refused(rt: HostRuntime) -> Result<(), Fail> {
     over_each(&rt, &RefusesTheGreatest, b"0123456789")
 }
 
-/// A parser begins with this range, or there is none where nothing is wanted.
+/// Checks the range that a parser begins with, or that there is none.
 fn begins<R: Octets + Copy>(
     rt: &impl Abort,
     octets: R,
@@ -242,7 +242,7 @@ fn a_parser_begins_with_a_range(rt: HostRuntime) -> Result<(), Fail> {
     over_each(&rt, &StaysWhole, &[1, 2, 3])
 }
 
-/// Each bound of a place up to 5, with the start and the end in three octets that it stands for.
+/// Each bound with an index up to 5, with the start and the end that it means in three octets.
 const BOUNDS: [(Bound, usize, usize); 13] = [
     (Bound::Unbounded, 0, 3),
     (Bound::Included(0), 0, 1),

@@ -1,4 +1,4 @@
-//! Calls as Rust writes them: ranges, dereferences, `write!`, contents that are written over, errors that are shown.
+//! Calls written as in Rust: ranges, dereferences, `write!`, content that is overwritten, errors that are shown.
 use arrayvec::ArrayVec;
 use bytes::{Bytes, BytesMut};
 use octseq::array::Array;
@@ -18,7 +18,7 @@ use std::ops::RangeBounds;
 use std::process::Abort;
 use std::test::Fail;
 
-/// The octets of a range that exists, or none.
+/// Returns the octets of a range, or `None` if it doesn't exist.
 fn cut<O: Octets, R: RangeBounds<usize>>(octets: O, range: R) -> Option<O::Range>
     requires { R.has_bounds range }
 {
@@ -26,7 +26,7 @@ fn cut<O: Octets, R: RangeBounds<usize>>(octets: O, range: R) -> Option<O::Range
     octets.range(found).ok()
 }
 
-/// A range of "abcd" is this slice, or isn't there.
+/// Checks that a range of "abcd" is this slice, or doesn't exist.
 fn is_cut<R: RangeBounds<usize>>(rt: &impl Abort, range: R, wanted: Option<&[u8]>)
     requires { R.has_bounds range }
 {
@@ -115,7 +115,7 @@ fn texts_are_strs(rt: HostRuntime) -> Result<(), Fail> {
     Ok(())
 }
 
-/// A length is written over in the octets of each type.
+/// Checks that the octets of a builder are overwritten in place.
 fn is_written_over<B: AsOctetsMut, E: Debug + Drop>(
     rt: &impl Abort,
     made: Result<B, E>,
@@ -130,7 +130,7 @@ fn is_written_over<B: AsOctetsMut, E: Debug + Drop>(
     Ok(())
 }
 
-/// A builder of a fixed size that has octets.
+/// Makes a builder of a fixed size from octets.
 fn fixed(octets: &[u8]) -> Result<ArrayVec<u8, 4>, AppendError> {
     let mut fixed = ArrayVec::<u8, 4>::new();
     fixed.append_slice(octets)?;
@@ -148,7 +148,7 @@ fn octets_are_written_over_in_place(rt: HostRuntime) -> Result<(), Fail> {
     is_written_over(&rt, fixed(slice))
 }
 
-/// It shows nothing, and answers an error.
+/// A value that shows nothing, and returns an error.
 #[derive(Drop)]
 struct Unshowable;
 
@@ -158,7 +158,7 @@ impl Display for Unshowable {
     }
 }
 
-/// It shows more than a text of 8 octets holds, and then answers an error.
+/// A value that shows more than a text of 8 octets holds, and then returns an error.
 #[derive(Drop)]
 struct Unfinished;
 
@@ -210,7 +210,7 @@ fn octets_are_counted(rt: HostRuntime) {
     assert_equal!(&rt, counter, Counter { count: usize::MAX });
 }
 
-/// What an error prints, through the trait of errors.
+/// Checks what an error prints, through the trait of errors.
 fn shows<E: Error>(rt: &impl Abort, alloc: Global, error: E, text: &str) -> Result<(), Fail> {
     assert_equal!(rt, format!(in alloc; "{error}")?.as_str(), text);
     Ok(())

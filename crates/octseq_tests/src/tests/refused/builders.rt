@@ -75,7 +75,7 @@ fn builders_are_made(rt: HostRuntime) -> Result<(), Fail> {
     Ok(())
 }
 
-/// Copies a sequence, which stands whatever the answer.
+/// Copies a sequence. It is unchanged whatever the result.
 fn is_copied<T: CloneOctets>(rt: &impl Abort, alloc: Global, octets: T) -> Result<(), AllocError> {
     let copy = octets.clone_octets(alloc);
     assert_equal!(rt, octets.as_ref(), b"abc".as_slice());
@@ -108,7 +108,7 @@ fn shared_octets_go_round(rt: HostRuntime) -> Result<(), Fail> {
     let octets = FreezeBuilder::freeze(builder)?;
     assert_equal!(&rt, octets.as_slice(), b"abc".as_slice());
     let other = octets.clone_octets(alloc)?;
-    // (with another handle on the octets a builder has to copy them)
+    // (with another handle on the octets, a builder has to copy them)
     let builder = octets.into_builder(alloc)?;
     assert_equal!(&rt, builder.as_slice(), b"abc".as_slice());
     assert_equal!(&rt, other.as_slice(), b"abc".as_slice());

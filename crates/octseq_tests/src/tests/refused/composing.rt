@@ -26,7 +26,7 @@ fn grows<B: OctetsBuilder + Truncate>(rt: &impl Abort, mut builder: B) -> Result
     told(rt, appended)
 }
 
-/// The refusal of a part, which is that of memory.
+/// Checks that the refusal of a part is for memory.
 fn told(rt: &impl Abort, appended: Result<(), ComposeError>) -> Result<(), Fail> {
     if let Err(error) = appended {
         assert_equal!(rt, error, ComposeError::Memory);

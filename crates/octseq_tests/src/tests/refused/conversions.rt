@@ -15,7 +15,7 @@ use std::process::Abort;
 use std::rc::RcSlice;
 use std::test::Fail;
 
-/// The sequence stands, and the octets that are made of a copy of it are its own, unless they were refused.
+/// Checks that a sequence is unchanged, and that the octets made from a copy of it are equal, unless they were refused.
 fn holds<S: AsOctets, T: AsOctets, E: Drop>(
     rt: &impl Abort,
     source: &S,
@@ -26,7 +26,7 @@ fn holds<S: AsOctets, T: AsOctets, E: Drop>(
     Ok(())
 }
 
-/// Makes octets of copies of a sequence by each of the calls.
+/// Makes octets from copies of a sequence by each of the calls.
 fn is_made_of<S: CloneOctets, T: OctetsFrom<S>>(
     rt: &impl Abort,
     alloc: Global,

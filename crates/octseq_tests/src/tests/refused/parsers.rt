@@ -32,7 +32,7 @@ fn a_refused_range_moves_nothing(rt: HostRuntime) -> Result<(), Fail> {
     }
 }
 
-/// Whether the reply gives octets, which are then the ones that are wanted, or tells that memory was refused.
+/// Whether a reply has octets, which are then as expected, rather than a refusal for memory.
 fn gives<R: Octets>(rt: &impl Abort, reply: Option<ParserReply<R>>, wanted: Option<&[u8]>) -> bool {
     match reply {
         Some(ParserReply::Slice(octets)) => {
@@ -50,8 +50,7 @@ fn gives<R: Octets>(rt: &impl Abort, reply: Option<ParserReply<R>>, wanted: Opti
     }
 }
 
-/// Runs commands, of which one at most is refused for memory. The later ones are answered from the window
-/// that it left.
+/// Runs commands, of which at most one is refused for memory. The later ones use the window that it left.
 fn is_run<R: Octets + Copy>(rt: &(impl Abort + AllocGlobal), octets: R) -> Result<(), Fail> {
     let calls = [
         ParserCall::Peek(3),

@@ -1,4 +1,4 @@
-//! Calls that request no memory. What is set up for them may.
+//! Calls that request no memory. Their setup may.
 ghost use Rattle.std.specs.Prelude.{◌≡◌, None};
 
 use crate::tests::is_text_or_short;
@@ -21,12 +21,12 @@ use std::process::Abort;
 use std::rc::RcSlice;
 use std::test::Fail;
 
-/// The value of a call that requests no memory.
+/// Returns the value of a call that requests no memory.
 fn given<T, E: Drop>(answer: Result<T, E>) -> Result<T, Fail> {
     Ok(answer.ok().ok_or("it was refused")?)
 }
 
-/// Freezes octets, takes them for a builder, and reads them.
+/// Freezes octets, turns them into a builder, and reads them.
 fn stays<B>(rt: &impl Abort, alloc: Global, octets: B) -> Result<(), Fail>
 where
     B: FreezeBuilder<Octets = B> + IntoBuilder<Builder = B> + FromBuilder<Builder = B>,
@@ -74,7 +74,7 @@ where
     Ok(())
 }
 
-/// Makes a fixed builder, and lends it.
+/// Makes a fixed builder, and borrows it.
 fn is_lent<B: EmptyBuilder + Truncate>(rt: &impl Abort, alloc: Global) -> Result<(), Fail> {
     let mut builder = given(B::with_capacity(alloc, usize::MAX))?;
     given(builder.append_slice(b"abcd"))?;
@@ -93,7 +93,7 @@ fn fixed_builders_are_made(rt: HostRuntime) -> Result<(), Fail> {
     is_lent::<ArrayVec<u8, 5>>(&rt, rt.alloc())
 }
 
-/// Makes octets of copies of a sequence.
+/// Makes octets from copies of a sequence.
 fn is_made_of<S: CloneOctets, T: OctetsFrom<S>>(
     rt: &impl Abort,
     alloc: Global,
@@ -108,7 +108,7 @@ fn is_made_of<S: CloneOctets, T: OctetsFrom<S>>(
     Ok(())
 }
 
-/// Makes octets of each type that requests none, or none inline, and lends them as a slice.
+/// Makes octets of each type that requests no memory, or none inline, and borrows them as a slice.
 fn is_made_into_each<S: CloneOctets>(
     rt: &impl Abort,
     alloc: Global,
@@ -154,7 +154,7 @@ fn inline_octets_are_converted(rt: HostRuntime) -> Result<(), Fail> {
     is_made_into_each(&rt, alloc, Array::<4>::try_from(slice)?)
 }
 
-/// Cuts a range, as octets and as a parser.
+/// Takes a range, as octets and as a parser.
 fn is_cut<R: Octets + Copy>(rt: &impl Abort, octets: R) -> Result<(), Fail> {
     if !range_exists(octets.as_ref().len(), span(1, 3)) {
         return Err(Fail::from("no range"));
@@ -186,14 +186,14 @@ fn ranges_of_fixed_and_counted_octets_are_cut(rt: HostRuntime) -> Result<(), Fai
     is_cut(&rt, &RcSlice::<u8>::from_slice(alloc, slice)?)
 }
 
-/// Octets that aren't well formed, in a fixed builder.
+/// Puts octets that aren't well-formed into a fixed builder.
 fn unread<B: EmptyBuilder>(alloc: Global, octets: &[u8]) -> Result<B, Fail> {
     let mut builder = given(B::empty(alloc))?;
     given(builder.append_slice(octets))?;
     Ok(builder)
 }
 
-/// The text that a call read.
+/// Checks the text that a call read.
 fn is_text<B: AsOctets>(
     rt: &impl Abort,
     read: Result<StrBuilder<B>, AppendError>,
@@ -214,7 +214,7 @@ fn is_read<B: EmptyBuilder>(rt: &impl Abort, alloc: Global) -> Result<(), Fail> 
     is_text(rt, text, wanted)
 }
 
-/// Reads octets lossily as they come.
+/// Reads octets lossily in pieces.
 fn is_read_in_pieces<B: EmptyBuilder>(rt: &impl Abort, alloc: Global) -> Result<(), Fail> {
     let mut pieces = given(LossyPieces::<B>::new(alloc))?;
     given(pieces.feed(b"a\xFF\xE2"))?;
@@ -223,7 +223,7 @@ fn is_read_in_pieces<B: EmptyBuilder>(rt: &impl Abort, alloc: Global) -> Result<
     Ok(())
 }
 
-/// Reads octets lossily into a fixed builder, pushes to the text, and takes from it.
+/// Reads octets lossily into a fixed builder, pushes to the text, and removes from it.
 fn is_changed<B: EmptyBuilder + Truncate>(rt: &impl Abort, alloc: Global) -> Result<(), Fail> {
     let octets = unread::<B>(alloc, b"a\xFF\xFF")?;
     let mut text = given(StrBuilder::try_from_utf8_lossy(alloc, octets))?;
@@ -249,7 +249,7 @@ fn texts_in_fixed_builders_are_read_and_changed(rt: HostRuntime) -> Result<(), F
     is_changed::<ArrayVec<u8, 10>>(&rt, rt.alloc())
 }
 
-/// Reads octets lossily into a fixed builder that can hold the text, or can't.
+/// Reads octets lossily into a fixed builder that may be too small for the text.
 fn is_read_or_short<B: EmptyBuilder>(
     rt: &impl Abort,
     alloc: Global,
@@ -284,7 +284,7 @@ fn is_copied<O: CloneOctets>(rt: &impl Abort, alloc: Global, good: O) -> Result<
     Ok(())
 }
 
-/// Copies a refusal of octets that are no text, and those octets.
+/// Copies an error about octets that aren't well-formed, and those octets.
 fn is_refusal_copied<O: CloneOctets>(rt: &impl Abort, alloc: Global, bad: O) -> Result<(), Fail> {
     let error = Str::from_utf8(bad).err().ok_or("accepted")?;
     assert_true!(rt, given(error.clone(alloc))? == error);
@@ -293,7 +293,7 @@ fn is_refusal_copied<O: CloneOctets>(rt: &impl Abort, alloc: Global, bad: O) -> 
     Ok(())
 }
 
-/// The same over octets that are made of a slice.
+/// Does the same over octets made from a slice.
 fn are_copied<O: CloneOctets + OctetsFrom<&'static [u8]>>(
     rt: &impl Abort,
     alloc: Global,
@@ -349,12 +349,12 @@ fn parsers_of_slices_take_what_they_read(rt: HostRuntime) -> Result<(), Fail> {
     Ok(())
 }
 
-/// The octets of the text that a call read.
+/// Returns the octets of the text that a call read.
 fn octets_of<B: OctetsBuilder>(read: Result<StrBuilder<B>, AppendError>) -> Result<B, Fail> {
     Ok(given(read)?.into_octets_builder())
 }
 
-/// Reads octets that are well formed, which stay where they are, by each of the calls.
+/// Reads well-formed octets, which stay where they are, by each of the calls.
 fn is_read_as_it_is<B: EmptyBuilder>(rt: &impl Abort, alloc: Global, octets: B) -> Result<(), Fail>
     requires { B.limit ≡ None }
 {
@@ -385,7 +385,7 @@ fn strings_are_taken_over(rt: HostRuntime) -> Result<(), Fail> {
     Ok(())
 }
 
-/// An empty builder takes none.
+/// Checks that an empty builder accepts no octets.
 fn is_empty<B: EmptyBuilder>(rt: &impl Abort, alloc: Global) -> Result<(), Fail> {
     assert_true!(rt, given(B::empty(alloc))?.as_ref().is_empty());
     Ok(())

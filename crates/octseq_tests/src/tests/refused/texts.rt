@@ -1,4 +1,4 @@
-//! Texts: what they are made of, pushes, lossy readings and lists of commands.
+//! Texts: how they are made, pushes, lossy readings and lists of commands.
 ghost use Rattle.std.specs.Prelude.{◌≡◌, None};
 
 use arrayvec::ArrayVec;
@@ -50,7 +50,7 @@ fn texts_in_other_buffers_grow(rt: HostRuntime) -> Result<(), Fail> {
     grows(&rt, SmallVec::<u8, 20>::empty(rt.alloc())?)
 }
 
-/// Shows numbers at the end of a text. It has all digits of each, or none; `write!` doesn't tell which refusal it was.
+/// Shows numbers at the end of a text. It has all digits of each, or none; `write!` doesn't say why it failed.
 fn shows<B: OctetsBuilder + Truncate>(rt: &impl Abort, builder: B) -> Result<(), Fail> {
     let mut text = StrBuilder::from_utf8(builder).ok().ok_or("no text")?;
     let pushed = text.try_push_display(12_345_678_u32);
@@ -75,7 +75,7 @@ fn values_are_shown_in_buffers_that_grow(rt: HostRuntime) -> Result<(), Fail> {
     shows(&rt, CowOctets::borrowed(rt.alloc(), b""))
 }
 
-/// Pushes to an empty text with no limit by the calls that ask for that.
+/// Pushes to an empty text without a limit, by the calls that require that.
 fn grows_without_a_limit<B: OctetsBuilder>(rt: &impl Abort, builder: B) -> Result<(), Fail>
     requires { B.limit ≡ None }
 {
@@ -106,7 +106,7 @@ fn texts_in_other_buffers_grow_without_a_limit(rt: HostRuntime) -> Result<(), Fa
     grows_without_a_limit(&rt, SmallVec::<u8, 2>::empty(rt.alloc())?)
 }
 
-/// Begins empty texts, and makes texts of characters.
+/// Makes empty texts, and texts from characters.
 fn is_made<B: EmptyBuilder + FreezeBuilder<Octets = O>, O: FromBuilder<Builder = B>>(
     rt: &impl Abort,
     alloc: Global,
@@ -137,7 +137,7 @@ fn a_shared_text_is_frozen(rt: HostRuntime) -> Result<(), Fail> {
     Ok(())
 }
 
-/// Copies a text that was made, which stands whatever the answer.
+/// Copies a text. It is unchanged whatever the result.
 fn is_copied<O: CloneOctets, E: Debug + Drop>(
     rt: &impl Abort,
     alloc: Global,
@@ -150,7 +150,7 @@ fn is_copied<O: CloneOctets, E: Debug + Drop>(
     Ok(())
 }
 
-/// Copies a refusal of octets that are no text, which stands whatever the answer.
+/// Copies an error about octets that aren't well-formed. It is unchanged whatever the result.
 fn is_refusal_copied<O: CloneOctets, E: Debug + Drop>(
     rt: &impl Abort,
     alloc: Global,
@@ -163,7 +163,7 @@ fn is_refusal_copied<O: CloneOctets, E: Debug + Drop>(
     Ok(())
 }
 
-/// Octets that are owned.
+/// Makes owned octets.
 fn owned(alloc: Global, octets: &[u8]) -> Result<CowOctets<'static>, AllocError> {
     Ok(CowOctets::owned(octets.to_vec(alloc)?))
 }
@@ -190,14 +190,14 @@ fn shared_texts_are_copied(rt: HostRuntime) -> Result<(), Fail> {
     is_refusal_copied(&rt, alloc, RcSlice::<u8>::from_slice(alloc, bad))
 }
 
-/// Octets that aren't well formed, in a builder.
+/// Puts octets that aren't well-formed into a builder.
 fn unread<B: EmptyBuilder>(alloc: Global) -> Result<B, AppendError> {
     let mut octets = B::empty(alloc)?;
     octets.append_slice(b"0123456789\xFFabcdefgh\xF1\x80\x80")?;
     Ok(octets)
 }
 
-/// The text that was read is the lossy one of those octets.
+/// Checks that a text is the lossy text of those octets.
 fn is_lossy<B: AsOctets>(
     rt: &impl Abort,
     read: Result<StrBuilder<B>, AppendError>,
@@ -206,7 +206,7 @@ fn is_lossy<B: AsOctets>(
     Ok(())
 }
 
-/// Reads octets that aren't well formed by each of the calls.
+/// Reads octets that aren't well-formed by each of the calls.
 fn is_read<B: EmptyBuilder>(rt: &impl Abort, alloc: Global) -> Result<(), AppendError>
     requires { B.limit ≡ None }
 {
@@ -219,7 +219,7 @@ fn is_read<B: EmptyBuilder>(rt: &impl Abort, alloc: Global) -> Result<(), Append
     is_lossy(rt, text)
 }
 
-/// The same by the calls that take a replacement.
+/// Does the same by the calls that take a replacement.
 fn is_read_with<B: EmptyBuilder>(rt: &impl Abort, alloc: Global) -> Result<(), AppendError> {
     let replacement = char::REPLACEMENT_CHARACTER;
     let octets = unread::<B>(alloc)?;
@@ -230,7 +230,7 @@ fn is_read_with<B: EmptyBuilder>(rt: &impl Abort, alloc: Global) -> Result<(), A
     is_lossy(rt, text)
 }
 
-/// Lossy readings of a slice.
+/// Reads a slice lossily.
 fn copies_lossily<B: EmptyBuilder>(rt: &impl Abort, alloc: Global) -> Result<(), AppendError> {
     let octets = unread::<Vec<u8>>(alloc)?;
     let octets = octets.as_slice();
@@ -241,7 +241,7 @@ fn copies_lossily<B: EmptyBuilder>(rt: &impl Abort, alloc: Global) -> Result<(),
     )
 }
 
-/// Each lossy reading.
+/// Reads lossily by each of the calls.
 fn each_reads<B: EmptyBuilder>(rt: &impl Abort, alloc: Global) -> Result<(), AppendError>
     requires { B.limit ≡ None }
 {
@@ -250,7 +250,7 @@ fn each_reads<B: EmptyBuilder>(rt: &impl Abort, alloc: Global) -> Result<(), App
     copies_lossily::<B>(rt, alloc)
 }
 
-/// A push at the end of a text of ten octets, which has all of the lossy text afterwards or is as it was.
+/// Pushes to the end of a text of ten octets. It has all of the lossy text afterwards, or is unchanged.
 fn pushes_lossily<B: OctetsBuilder + Truncate>(rt: &impl Abort, builder: B) -> Result<(), Fail> {
     let mut text = StrBuilder::from_utf8(builder).ok().ok_or("no text")?;
     let front = text.len();
@@ -279,7 +279,7 @@ fn octets_are_read_lossily(rt: HostRuntime) -> Result<(), Fail> {
     Ok(each_reads::<SmallVec<u8, 2>>(&rt, rt.alloc())?)
 }
 
-/// Reads octets in pieces. A refusal is answered from then on.
+/// Reads octets in pieces. After a refusal every call returns it.
 fn is_read_in_pieces<B: EmptyBuilder>(rt: &impl Abort, alloc: Global) -> Result<(), AppendError> {
     let mut pieces = LossyPieces::<B>::new(alloc)?;
     let cut = [
@@ -307,8 +307,7 @@ fn pieces_are_read(rt: HostRuntime) -> Result<(), Fail> {
     Ok(is_read_in_pieces::<SmallVec<u8, 2>>(&rt, rt.alloc())?)
 }
 
-/// Runs commands on an empty text, of which one at most is refused for memory. The later ones are answered
-/// from what it left.
+/// Runs commands on an empty text, of which at most one is refused for memory. The later ones use what it left.
 fn is_run<B: OctetsBuilder + Truncate>(
     rt: &impl Abort,
     alloc: Global,

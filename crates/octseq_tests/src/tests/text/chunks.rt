@@ -1,4 +1,4 @@
-//! Octets in chunks of text. The first rows are those of the documentation of Rust's `utf8_chunks`.
+//! Octets in chunks of text. The first rows are from the documentation of Rust's `utf8_chunks`.
 use octseq::array::Array;
 use octseq::builder::{AppendError, ShortBuf};
 use octseq::str::StrBuilder;
@@ -7,12 +7,12 @@ use octseq_asserts::{assert_equal, assert_true};
 use std::process::Abort;
 use std::test::Fail;
 
-/// What a chunk lends: its text, its bad part, and whether the octets end within a character.
+/// Returns what a chunk has: its text, its invalid part, and whether the octets end within a character.
 fn lent<'a>(chunk: &Utf8Chunk<'a>) -> (&'a str, &'a [u8], bool) {
     (chunk.valid(), chunk.invalid(), chunk.is_incomplete())
 }
 
-/// The octets have these chunks, and no more.
+/// Checks the chunks of octets.
 fn has_chunks(rt: &impl Abort, octets: &[u8], wanted: &[(&str, &[u8], bool)]) {
     let mut found = chunks(octets);
     for each in wanted {
@@ -55,7 +55,7 @@ fn octets_are_lent_in_chunks(rt: HostRuntime) -> Result<(), Fail> {
     Ok(())
 }
 
-/// How many octets no text has.
+/// Counts the octets that aren't part of a text.
 fn bad_octets(octets: &[u8]) -> usize {
     let mut count = 0_usize;
     for chunk in chunks(octets) {
@@ -71,7 +71,7 @@ fn chunks_are_read_by_a_loop(rt: HostRuntime) -> Result<(), Fail> {
     Ok(())
 }
 
-/// A push of octets behind a text answers so, and leaves this text.
+/// Checks the result of pushing octets to a text, and the text afterwards.
 fn is_left(
     rt: &impl Abort,
     pushed: Result<(), AppendError>,

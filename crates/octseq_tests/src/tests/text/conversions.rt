@@ -13,7 +13,7 @@ use std::process::Abort;
 use std::rc::RcSlice;
 use std::test::Fail;
 
-/// The octets of a range that exists, or none.
+/// Returns the octets of a range, or `None` if it doesn't exist.
 fn cut<O: Octets>(octets: O, bounds: (Bound, Bound)) -> Option<O::Range> {
     if range_exists(octets.as_ref().len(), bounds) {
         octets.range(bounds).ok()
@@ -33,7 +33,7 @@ fn ranges_are_cut_where_they_lie(rt: HostRuntime) -> Result<(), Fail> {
     Ok(())
 }
 
-/// A range of "abc" is the slice "bc".
+/// Checks that a range of "abc" is the slice "bc".
 fn is_cut<'a, R: Octets<Range = &'a [u8]>>(rt: &impl Abort, octets: R) {
     assert_equal!(rt, cut(octets, span(1, 3)), Some(b"bc".as_slice()));
 }
@@ -77,7 +77,7 @@ fn the_greatest_bounds_are_told_apart(rt: HostRuntime) {
     );
 }
 
-/// Each bound of a place up to 5, with the start and the end in octets of a length that it stands for.
+/// Returns each bound with an index up to 5, with the start and the end that it means in octets of a length.
 fn each_bound(alloc: Global, len: usize) -> Result<Vec<(Bound, usize, usize)>, Fail> {
     let mut bounds = Vec::new(alloc);
     bounds.push((Bound::Unbounded, 0, len))?;
@@ -102,7 +102,7 @@ fn ranges_are_those_of_whole_numbers(rt: HostRuntime) -> Result<(), Fail> {
     Ok(())
 }
 
-/// A conversion keeps the octets.
+/// Checks that a conversion keeps the octets.
 fn converts<S: AsOctets, T: OctetsFrom<S>>(
     rt: &impl Abort,
     alloc: Global,
@@ -113,7 +113,7 @@ fn converts<S: AsOctets, T: OctetsFrom<S>>(
     Ok(())
 }
 
-/// A conversion of a copy of a source keeps the octets.
+/// Checks that a conversion of a copy of a source keeps the octets.
 fn is_made_into<S: CloneOctets, T: OctetsFrom<S>>(
     rt: &impl Abort,
     alloc: Global,
@@ -122,7 +122,7 @@ fn is_made_into<S: CloneOctets, T: OctetsFrom<S>>(
     converts::<S, T>(rt, alloc, source.clone_octets(alloc)?)
 }
 
-/// Every conversion of a source.
+/// Checks every conversion of a source.
 fn into_each_of<S: CloneOctets>(rt: &impl Abort, alloc: Global, source: &S) -> Result<(), Fail> {
     is_made_into::<S, Vec<u8>>(rt, alloc, source)?;
     is_made_into::<S, Bytes>(rt, alloc, source)?;
@@ -134,7 +134,7 @@ fn into_each_of<S: CloneOctets>(rt: &impl Abort, alloc: Global, source: &S) -> R
     converts::<&S, Vec<u8>>(rt, alloc, source)
 }
 
-/// Every conversion of a source that was made.
+/// Checks every conversion of a source that was made.
 fn into_each<S: CloneOctets, E: Debug + Drop>(
     rt: &impl Abort,
     alloc: Global,
@@ -157,7 +157,7 @@ fn each_sequence_is_made_into_each_other(rt: HostRuntime) -> Result<(), Fail> {
     into_each(&rt, alloc, ArrayVec::<u8, 4>::try_octets_from(alloc, slice))
 }
 
-/// What was made has the octets that are wanted, or where none are, it was refused for want of room.
+/// Checks that what was made has the expected octets, or if there are none, that it was refused for lack of room.
 fn is_whole_or_short<T: AsOctets>(
     rt: &impl Abort,
     made: Result<T, AppendError>,

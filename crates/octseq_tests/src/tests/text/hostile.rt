@@ -11,12 +11,12 @@ use std::alloc::Global;
 use std::process::Abort;
 use std::test::Fail;
 
-/// The place and the length of the first fault.
+/// Returns the position and the length of the first fault.
 fn fault(octets: &[u8]) -> Option<(usize, Option<usize>)> {
     first_fault(octets, &mut Turns::new()).map(|fault| (fault.valid_up_to(), fault.error_len()))
 }
 
-/// Octets begin with one ill-formed part of this length, and have this lossy text.
+/// Checks that octets begin with one ill-formed part of this length, and have this lossy text.
 fn is_one_part(
     rt: &impl Abort,
     alloc: Global,
@@ -29,7 +29,8 @@ fn is_one_part(
     Ok(())
 }
 
-/// Whole an encoding is well formed. Cut it is one ill-formed part, which reaches the end or what follows.
+/// Checks that a whole encoding is well-formed, and that a truncated one is one ill-formed part, which extends to the
+/// end or to what follows.
 fn is_whole_or_cut(rt: &impl Abort, alloc: Global, encoding: &[u8]) -> Result<(), Fail> {
     assert_equal!(rt, fault(encoding), None);
     assert_equal!(rt, lossy(alloc, encoding)?.as_slice(), encoding);
@@ -98,7 +99,7 @@ fn each_octet_out_of_its_range_ends_its_part(rt: HostRuntime) -> Result<(), Fail
     Ok(())
 }
 
-/// What a lossy reading answers over two builders of the same limit.
+/// Checks a lossy reading with two builders of the same limit.
 fn is_read_within<A: EmptyBuilder, B: EmptyBuilder>(
     rt: &impl Abort,
     alloc: Global,

@@ -1,4 +1,4 @@
-//! The lossy reading in pieces.
+//! Lossy reading in pieces.
 use super::lossy_texts;
 use crate::tests::is_text_or_short;
 use octseq::array::Array;
@@ -10,7 +10,7 @@ use std::alloc::Global;
 use std::process::Abort;
 use std::test::Fail;
 
-/// Each piece is read, and at the end the text is the one that is wanted, or passes the limit.
+/// Reads each piece, and checks that the text is as expected at the end, or exceeds the limit.
 fn is_read<B: EmptyBuilder>(
     rt: &impl Abort,
     alloc: Global,
@@ -43,7 +43,7 @@ fn the_limit_holds_for_what_is_settled(rt: HostRuntime) -> Result<(), Fail> {
     is_read::<Array<4>>(&rt, alloc, &[b"\xF0\x9F\x98", b"A"], Some("\u{FFFD}A"))
 }
 
-/// Every later call answers the refusal.
+/// Checks that every later call returns the error.
 fn stays_refused<B: EmptyBuilder>(
     rt: &impl Abort,
     mut reading: LossyPieces<B>,

@@ -1,4 +1,4 @@
-//! The finder beside a plain one, which reads the table octet by octet and knows no lanes and no words.
+//! The fault finder compared with a plain one, which reads the table octet by octet, without lanes and words.
 use super::lossy;
 use super::table::{ROWS, edges, plain_fault};
 use octseq::utf8::{Turns, first_fault};
@@ -7,15 +7,15 @@ use std::alloc::Global;
 use std::process::Abort;
 use std::test::Fail;
 
-/// What both answer.
+/// Checks that both find the same.
 fn agrees(rt: &impl Abort, octets: &[u8]) {
     let found = first_fault(octets, &mut Turns::new());
     let found = found.map(|fault| (fault.valid_up_to(), fault.error_len()));
     assert_eq!(rt; found, plain_fault(octets), "{octets:?}");
 }
 
-/// An encoding behind so many octets of ASCII, and others behind it: whole, cut at each place, and cut
-/// with another octet behind.
+/// Checks an encoding after this many octets of ASCII, with others after it: whole, truncated at each place, and
+/// truncated with another octet after it.
 fn agrees_around(
     rt: &impl Abort,
     alloc: Global,
@@ -72,7 +72,7 @@ fn each_octet_out_of_its_range_is_found_as_by_the_table(rt: HostRuntime) -> Resu
     Ok(())
 }
 
-/// So many octets of ASCII with others put in place of those from one on.
+/// Returns octets of ASCII, some of which are replaced from an index on.
 fn ascii_with(alloc: Global, len: usize, place: usize, others: &[u8]) -> Result<Vec<u8>, Fail> {
     let mut octets = Vec::from_elem(alloc, b'a', len)?;
     for (octet, other) in octets.as_mut_slice().iter_mut().skip(place).zip(others) {
@@ -81,7 +81,8 @@ fn ascii_with(alloc: Global, len: usize, place: usize, others: &[u8]) -> Result<
     Ok(octets)
 }
 
-/// The place and the length of the first fault in 48 octets of ASCII with others put in place of those from one on.
+/// Returns the position and the length of the first fault in 48 octets of ASCII, some of which are replaced from an
+/// index on.
 fn fault_within(
     alloc: Global,
     place: usize,
@@ -92,14 +93,14 @@ fn fault_within(
     Ok(fault.map(|fault| (fault.valid_up_to(), fault.error_len())))
 }
 
-/// A lane of ASCII has no fault.
+/// Checks that a lane of ASCII has no fault.
 fn is_passed(rt: &impl Abort, alloc: Global, len: usize) -> Result<(), Fail> {
     let octets = ascii_with(alloc, len, 0, b"")?;
     assert_equal!(rt, first_fault(octets.as_slice(), &mut Turns::new()), None);
     Ok(())
 }
 
-/// How many octets the lossy text has where one octet at a place is none of a text.
+/// Returns the length of the lossy text of octets with one invalid octet at an index.
 fn lossy_length(alloc: Global, place: usize) -> Result<usize, Fail> {
     let octets = ascii_with(alloc, 48, place, b"\xFF")?;
     Ok(lossy(alloc, octets.as_slice())?.len())

@@ -1,4 +1,4 @@
-//! The lossy reading with any character as the replacement.
+//! Lossy reading with any character as the replacement.
 use super::filled;
 use crate::tests::is_text_or_short;
 use octseq::array::Array;
@@ -9,7 +9,7 @@ use std::alloc::Global;
 use std::process::Abort;
 use std::test::Fail;
 
-/// What both calls answer for these octets in a builder: the text that is wanted, or that it is too long.
+/// Checks that both calls return the expected text for these octets, or refuse it as too long.
 fn replaces<B: EmptyBuilder>(
     rt: &impl Abort,
     alloc: Global,

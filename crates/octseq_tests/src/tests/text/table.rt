@@ -1,4 +1,4 @@
-//! Table 3-7 of the Unicode Standard, chapter 3, as data, and a finder that reads it octet by octet.
+//! Table 3-7 of the Unicode Standard, chapter 3, as data, and a fault finder that reads it octet by octet.
 
 use std::alloc::{AllocError, Global};
 
@@ -15,7 +15,7 @@ pub(super) const ROWS: [&[(u8, u8)]; 9] = [
     &[(0xF4, 0xF4), (0x80, 0x8F), (0x80, 0xBF), (0x80, 0xBF)],
 ];
 
-/// How many octets at the front are in the ranges of the row.
+/// Returns how many octets at the front are in the ranges of the row.
 fn fitting(octets: &[u8], row: &[(u8, u8)]) -> usize {
     octets
         .iter()
@@ -24,7 +24,7 @@ fn fitting(octets: &[u8], row: &[(u8, u8)]) -> usize {
         .count()
 }
 
-/// The first fault, its place and its length, part by part and row by row.
+/// Returns the position and the length of the first fault, part by part and row by row.
 pub(super) fn plain_fault(octets: &[u8]) -> Option<(usize, Option<usize>)> {
     let mut at = 0;
     for _ in octets {
@@ -49,7 +49,7 @@ pub(super) fn plain_fault(octets: &[u8]) -> Option<(usize, Option<usize>)> {
     None
 }
 
-/// The least encoding of a row and the greatest.
+/// Returns the lowest encoding of a row and the highest.
 pub(super) fn edges(alloc: Global, row: &[(u8, u8)]) -> Result<(Vec<u8>, Vec<u8>), AllocError> {
     let mut least = Vec::new(alloc);
     let mut greatest = Vec::new(alloc);

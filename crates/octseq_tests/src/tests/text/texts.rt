@@ -1,4 +1,4 @@
-//! Texts whole: makers, views, cuts, comparisons, and lists of commands over each representation.
+//! Whole texts: constructors, views, truncation, comparisons, and lists of commands over each representation.
 use arrayvec::ArrayVec;
 use bytes::BytesMut;
 use octseq::array::Array;
@@ -19,7 +19,7 @@ use std::hash::{BuildHasher, BuildHasherDefault, DefaultHasher, Hash};
 use std::process::Abort;
 use std::test::Fail;
 
-/// A text of three octets shows them by each call.
+/// Checks that a text of three octets shows them by each call.
 fn is_abc(rt: &impl Abort, text: &Str<Vec<u8>>) {
     assert_equal!(rt, text.as_str(), "abc");
     assert_equal!(rt, text.as_slice(), b"abc".as_slice());
@@ -60,7 +60,7 @@ fn texts_begin_empty(rt: HostRuntime) {
     assert_true!(&rt, StrBuilder::<Array<2>>::default().is_empty());
 }
 
-/// A copy is the text that is wanted, or where none is, it was refused for want of room.
+/// Checks that a copy is the expected text, or if there is none, that it was refused for lack of room.
 fn is_copy_or_short<O: AsOctets>(
     rt: &impl Abort,
     copy: Result<Str<O>, AppendError>,
@@ -113,12 +113,12 @@ fn a_text_has_the_facts_of_its_octets(rt: HostRuntime) -> Result<(), Fail> {
     Ok(())
 }
 
-/// The hash of a text.
+/// Returns the hash of a text.
 fn hash<T: Hash>(text: &T) -> u64 {
     BuildHasherDefault::<DefaultHasher>::new().hash_one(text)
 }
 
-/// Texts are ordered so, and have one hash where they are equal.
+/// Checks how texts are ordered, and that their hashes are equal if they are.
 fn are_ordered<T: Ord + Hash + Drop>(rt: &impl Abort, left: T, right: T, order: Ordering) {
     assert_equal!(rt, left.cmp(&right), order);
     assert_equal!(rt, left.partial_cmp(&right), Some(order));
@@ -126,7 +126,7 @@ fn are_ordered<T: Ord + Hash + Drop>(rt: &impl Abort, left: T, right: T, order: 
     assert_equal!(rt, hash(&left) == hash(&right), order == Ordering::Equal);
 }
 
-/// Well-formed octets as a text and as a text that grows are ordered so.
+/// Checks how well-formed octets are ordered as a text and as a text builder.
 fn are_texts_ordered<O: CloneOctets>(
     rt: &impl Abort,
     alloc: Global,
@@ -172,7 +172,7 @@ fn texts_are_the_same_in_each_representation(rt: HostRuntime) -> Result<(), Fail
     Ok(())
 }
 
-/// A text of two characters shows them, flush right where that is asked for, and with quotes.
+/// Checks that a text of two characters is shown, right-aligned if requested, and with quotes.
 fn is_shown<T: Display + Debug>(rt: &impl Abort, alloc: Global, text: &T) -> Result<(), Fail> {
     assert_equal!(rt, format!(in alloc; "{text}")?.as_str(), "ab");
     assert_equal!(rt, format!(in alloc; "{text:>4}")?.as_str(), "  ab");
@@ -213,7 +213,7 @@ fn the_last_character_is_found(rt: HostRuntime) -> Result<(), Fail> {
     Ok(())
 }
 
-/// Whether a place is a boundary of a text.
+/// Whether an index is a character boundary of a text.
 fn is_boundary(text: &str, place: usize) -> bool {
     boundary(Str::from_str(text).as_slice(), place, &mut Turns::new())
 }
@@ -254,7 +254,7 @@ fn characters_are_popped(rt: HostRuntime) -> Result<(), Fail> {
     Ok(())
 }
 
-/// A text in this builder answers these commands so.
+/// Checks how a text in this builder replies to these commands.
 fn answers<B: OctetsBuilder + Truncate>(
     rt: &impl Abort,
     alloc: Global,
@@ -309,7 +309,7 @@ fn cuts_within_a_character_are_refused(rt: HostRuntime) -> Result<(), Fail> {
     answers(&rt, alloc, borrowed, &commands, &wanted)
 }
 
-/// The replies to a list of commands on an empty text.
+/// Returns the replies to a list of commands on an empty text.
 fn replies<B: OctetsBuilder + Truncate>(alloc: Global, builder: B) -> Result<Vec<Reply>, Fail> {
     let commands = [
         Command::Push('€'),
@@ -325,7 +325,7 @@ fn replies<B: OctetsBuilder + Truncate>(alloc: Global, builder: B) -> Result<Vec
     Ok(run(alloc, &mut text, &commands)?)
 }
 
-/// A builder with the limit 4 answers the commands by it.
+/// Checks that a builder with the limit 4 applies it to the commands.
 fn answers_at_four<B: OctetsBuilder + Truncate>(
     rt: &impl Abort,
     alloc: Global,
@@ -345,7 +345,7 @@ fn answers_at_four<B: OctetsBuilder + Truncate>(
     Ok(())
 }
 
-/// A builder without a limit does what each command says.
+/// Checks that a builder without a limit does what each command says.
 fn answers_without_a_limit<B: OctetsBuilder + Truncate>(
     rt: &impl Abort,
     alloc: Global,
@@ -365,7 +365,7 @@ fn answers_without_a_limit<B: OctetsBuilder + Truncate>(
     Ok(())
 }
 
-/// A builder without a limit, which is made here.
+/// Does the same with a new builder without a limit.
 fn one_answers_without_a_limit<B: EmptyBuilder + Truncate>(
     rt: &impl Abort,
     alloc: Global,

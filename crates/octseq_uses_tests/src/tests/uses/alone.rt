@@ -1,4 +1,4 @@
-//! The caller that lists `octseq` alone.
+//! The caller that depends on `octseq` alone.
 use octseq::builder::OctetsBuilder;
 use octseq::str::{DisplayError, Str, StrBuilder};
 use octseq::{Array, Parser, WriteError};
@@ -20,12 +20,12 @@ fn a_frame_has_its_length_in_front(rt: HostRuntime) {
     assert_equal!(&rt, octets.as_slice(), b"\x00\x03abc".as_slice());
 }
 
-/// No note stands at the front of octets.
+/// Checks that no note is at the front of octets.
 fn has_no_note(rt: &impl Abort, octets: &[u8]) {
     assert_true!(rt, read_note(&mut Parser::from_ref(octets)).is_err());
 }
 
-/// A note is all that octets have.
+/// Checks that octets are a note and nothing else.
 fn is_note(rt: &impl Abort, octets: &[u8]) -> Result<(), Fail> {
     let mut parser = Parser::from_ref(octets);
     let note = read_note(&mut parser).ok().ok_or("no note")?;

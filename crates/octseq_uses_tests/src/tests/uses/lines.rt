@@ -7,7 +7,7 @@ use std::alloc::Global;
 use std::process::Abort;
 use std::test::Fail;
 
-/// All of the lines are these, each with the parser's position behind it.
+/// Checks that these are all the lines, each with the parser's position after it.
 fn are_read<R: AsOctets, B: EmptyBuilder>(
     rt: &impl Abort,
     alloc: Global,
