@@ -112,7 +112,7 @@ fn lossy<R: Read>(alloc: Global, reader: &mut R) -> Result<Answer, ProgramFault>
 {
     let mut pieces = LossyPieces::new(alloc)?;
     feed_all(alloc, reader, &mut pieces)?;
-    // (a vector has no limit, so it refuses only for lack of memory)
+    // (a vector has no limit, so all that it refuses is for want of memory)
     let Ok(text) = pieces.finish() else {
         return Err(ProgramFault::Memory);
     };
@@ -160,7 +160,7 @@ fn feed_next<R: Read>(
     match reader.read(room) {
         Ok(count) => match pieces.feed(&room[..count]) {
             Ok(()) => Ok(count > 0),
-            // (a vector has no limit, so it refuses only for lack of memory)
+            // (a vector has no limit, so all that it refuses is for want of memory)
             Err(_) => Err(ProgramFault::Memory),
         },
         Err(e) if e.kind() == ErrorKind::Interrupted => Ok(true),
@@ -209,7 +209,7 @@ fn push_line(output: &mut StrBuilder<Vec<u8>>, octets: &[u8]) -> Result<(), Allo
     ensures { OnOk result ((line : List ℕ) × HasText octets.now line
         × (output.new.items ≡ output.old.items ++ (line ++ codes "\n"))) }
 {
-    // (a vector has no limit, so it refuses only for lack of memory)
+    // (a vector has no limit, so all that it refuses is for want of memory)
     let Ok(()) = output.try_push_lossy(octets) else {
         return Err(AllocError);
     };
