@@ -12,7 +12,7 @@ use octseq::{AsOctets, Parser, ShortInput};
 pub struct FamilyTuple {
     /// The AFI.
     pub afi: u16,
-    /// Returns the SAFI.
+    /// The SAFI.
     pub safi: u8,
     /// The flags of a graceful restart, or what is done with path ids: 1 receive, 2 send, 3 both.
     pub flags: u8,

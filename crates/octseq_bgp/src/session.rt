@@ -57,7 +57,7 @@ pub struct SessionConfig {
 }
 
 impl SessionConfig {
-    /// Four-octet AS numbers, no path ids, messages of up to 4,096 octets.
+    /// Returns a session with four-octet AS numbers, no path ids, and messages of up to 4,096 octets.
     pub fn modern() -> SessionConfig
         ensures numbers { result.four_octet_asn ≡ true }
         ensures paths { result.add_path
@@ -71,7 +71,7 @@ impl SessionConfig {
         }
     }
 
-    /// Two-octet AS numbers, no path ids, messages of up to 4,096 octets.
+    /// Returns a session with two-octet AS numbers, no path ids, and messages of up to 4,096 octets.
     pub fn legacy() -> SessionConfig
         ensures numbers { result.four_octet_asn ≡ false }
         ensures paths { result.add_path

@@ -130,7 +130,7 @@ fn parse_origin<R: AsOctets + Copy>(parser: Parser<R>) -> Result<u8, Malformed>
     Ok(origin)
 }
 
-/// Returns the state in which nothing was said.
+/// Reads a value of no octets.
 pub(crate) fn parse_nothing<R: AsOctets + Copy>(parser: Parser<R>) -> Result<(), Malformed>
     ensures nothing { OnOk result (left (window parser) ≡ 0) }
     ensures malformed { IsErr result → ¬ (left (window parser) ≡ 0) }

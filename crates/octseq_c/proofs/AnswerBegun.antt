@@ -1,4 +1,4 @@
--- Begins an answer with its header and its questions.
+-- An answer with its header and its questions.
 use Rattle.std.proofs.Common.{◌≡◌, ℕ, ◌<◌, true, false, ◌⊎◌, Option, Some, None, Result, Ok, Err, List, [], length, refl, sym, ap, ◌∙◌}
 use Rattle.std.proofs.Common.{subst, arith, inl, inr}
 use Rattle.std.specs.Prelude.{IfOk, IsErr, OnOk}

@@ -55,7 +55,7 @@ impl<'a, K: Front> Writing<'a, K> {
         }
     }
 
-    /// The slice.
+    /// Returns the slice.
     pub fn into_octets(self) -> &'a mut [u8]
         ensures same { result.ghost_name ≡ K.lender }
         ensures octets { result.now ≡ self.entry.octets.now }

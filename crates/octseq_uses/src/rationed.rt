@@ -67,7 +67,7 @@ impl Truncate for Rationed {
     }
 }
 
-/// Makes an empty builder that refuses its second append.
+/// An empty builder refuses its second append.
 impl EmptyBuilder for Rationed {
     fn empty(alloc: Global) -> Result<Self, AllocError> {
         Ok(Rationed::new(Vec::new(alloc), 2))

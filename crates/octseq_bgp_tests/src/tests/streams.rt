@@ -31,7 +31,7 @@ impl Read for Drip<'_> {
     }
 }
 
-/// A KEEPALIVE of 19 octets, and an UPDATE of 27.
+/// Returns a KEEPALIVE of 19 octets, and an UPDATE of 27.
 fn two(alloc: Global) -> Result<Vec<u8>, Fail> {
     let mut all = message(alloc, "0013 04")?;
     let update = message(alloc, "001b 02 0000 0000 18090909")?;

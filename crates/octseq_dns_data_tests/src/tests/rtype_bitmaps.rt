@@ -14,7 +14,7 @@ const EXAMPLE: &[u8] =
     b"\x00\x06\x40\x01\x00\x00\x00\x03\x04\x1B\x00\x00\x00\x00\x00\x00\x00\x00\x00\x00\x00\x00\x00\x00\
     \x00\x00\x00\x00\x00\x00\x00\x00\x00\x00\x00\x00\x20";
 
-/// Checks that octets are the bitmap of these types.
+/// A test that octets are the bitmap of these types.
 #[derive(Drop)]
 struct Are {
     numbers: &'static [u16],

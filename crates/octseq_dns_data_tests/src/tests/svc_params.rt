@@ -138,7 +138,7 @@ fn parameters_end_where_one_of_them_does(rt: HostRuntime) -> Result<(), Fail> {
     Ok(())
 }
 
-/// Checks the parameters of `SIX`, in order.
+/// A test of the parameters of `SIX`, in order.
 #[derive(Drop)]
 struct AreSix;
 

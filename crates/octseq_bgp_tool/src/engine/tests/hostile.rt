@@ -9,7 +9,7 @@ use std::io;
 use std::process::Abort;
 use std::test::Fail;
 
-/// A writer that takes seven octets at a time, and fails after some calls.
+/// Makes a writer that takes seven octets at a time, and fails after some calls.
 fn narrow(alloc: Global, calls: usize) -> Narrow {
     Narrow {
         taken: Vec::new(alloc),

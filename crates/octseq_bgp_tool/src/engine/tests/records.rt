@@ -5,7 +5,7 @@ use std::alloc::{AllocError, Global};
 use std::process::Abort;
 use std::test::Fail;
 
-/// The header of a BGP4MP record of a subtype with this many octets after it.
+/// Returns the header of a BGP4MP record of a subtype with this many octets after it.
 fn header(subtype: u8, len: u8) -> [u8; 12] {
     [0x65, 0x53, 0xF1, 0, 0, 16, 0, subtype, 0, 0, 0, len]
 }
@@ -21,7 +21,7 @@ const SPEAKERS_TEXT: &str = "peer 10.0.0.1 as 65001 local 10.0.0.2 as 65002 inte
 /// A record whose octets don't have the form of its type.
 const OPAQUE: [u8; 12] = [0, 0, 0, 0, 0, 0, 0, 0, 0, 1, 0, 8];
 
-/// A KEEPALIVE, a state change, a message of unknown type, and `OPAQUE`, each in a record.
+/// Makes a file of a KEEPALIVE, a state change, a message of unknown type, and `OPAQUE`, each in a record.
 pub(super) fn file(alloc: Global) -> Result<Vec<u8>, AllocError> {
     joined(
         alloc,
@@ -43,7 +43,7 @@ pub(super) fn file(alloc: Global) -> Result<Vec<u8>, AllocError> {
     )
 }
 
-/// The text of that file.
+/// Returns the text of that file.
 pub(super) fn file_text(alloc: Global) -> Result<String, AllocError> {
     format!(in alloc;
         "bgp4mp 1700000000 4 {SPEAKERS_TEXT}\nkeepalive\n\n\
