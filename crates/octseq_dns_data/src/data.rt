@@ -135,7 +135,7 @@ pub enum Data<R: AsOctets> {
     Svcb(Svcb<R>),
     /// A service binding of HTTPS, in class IN: RFC 9460.
     Https(Svcb<R>),
-    /// URI records: RFC 7553.
+    /// The location of a service, as a URI: RFC 7553.
     Uri(Uri<R>),
     /// Data of an unknown form: the record's type, and a parser of the message limited to the data (RFC 3597).
     Unknown(Rtype, Parser<R>),
