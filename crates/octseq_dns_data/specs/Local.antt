@@ -1,4 +1,5 @@
--- Types whose data is read without the message: it has no names, or names without pointers. It takes its whole window.
+-- Types whose data is read without the message: it has no names, or names without pointers. The data takes its whole
+-- window.
 use Rattle.std.specs.Prelude.{◌≡◌, ℕ}
 use Rattle.octseq.specs.Window.{Window, left, past}
 use Rattle.octseq_dns_data.specs.Form.{Form, ◌followed_by◌, alone, number, plain_name, string, octets_of, all_octets}
