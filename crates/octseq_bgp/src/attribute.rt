@@ -8,8 +8,7 @@ ghost use Rattle.octseq_bgp.specs.declared.entry.Form.TheVariants as form;
 
 use crate::entry::{Entries, Form};
 use crate::session::SessionConfig;
-use octseq::utf8::Turns;
-use octseq::{AsOctets, Malformed, Parser};
+use octseq::{AsOctets, Malformed, Parser, Turns};
 use std::alloc::AllocError;
 
 /// The flags of a path attribute: 0x80 optional, 0x40 transitive, 0x20 partial, 0x10 extended length.

@@ -8,8 +8,7 @@ ghost use Rattle.octseq_bgp.specs.declared.entry.Form.TheVariants as form;
 
 use crate::entry::{Entries, Form};
 use crate::parameter::Parameter;
-use octseq::utf8::Turns;
-use octseq::{AsOctets, Malformed, Parser};
+use octseq::{AsOctets, Malformed, Parser, Turns};
 use std::alloc::AllocError;
 
 /// A capability, where it was read.

@@ -15,8 +15,7 @@ use crate::item::Items;
 use crate::path::Asn;
 use crate::value::{parse_nothing, parse_some};
 use crate::whole::parse_all;
-use octseq::utf8::Turns;
-use octseq::{AsOctets, Malformed, Parser};
+use octseq::{AsOctets, Malformed, Parser, Turns};
 use octseq_format::{Rest, U8, U16Be, U32Be};
 use std::alloc::AllocError;
 

@@ -10,8 +10,7 @@ use crate::family::AfiSafiType;
 use crate::reach::MpUnreachNlri;
 use crate::session::SessionConfig;
 use crate::update::UpdateMessage;
-use octseq::AsOctets;
-use octseq::utf8::Turns;
+use octseq::{AsOctets, Turns};
 
 /// Returns the family of the only attribute, if it is an MP_UNREACH_NLRI without prefixes.
 fn unreaches_none<R: AsOctets + Copy>(

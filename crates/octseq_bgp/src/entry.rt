@@ -9,8 +9,7 @@ ghost use Rattle.octseq_bgp.specs.Entry.{IsEntry, IsPrefix, IsAttribute, IsTyped
 ghost use Rattle.octseq_bgp.specs.Fills.{Fills};
 ghost use Rattle.octseq_bgp.specs.OneEntry.{EntriesAhead, entries_once};
 
-use octseq::utf8::Turns;
-use octseq::{AsOctets, Malformed, Parser};
+use octseq::{AsOctets, Malformed, Parser, Turns};
 use octseq_format::{Counted, Format, Rest, U8, U32Be};
 use std::alloc::AllocError;
 

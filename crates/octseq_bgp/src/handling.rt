@@ -15,8 +15,7 @@ use crate::reach::MpReachNlri;
 use crate::session::SessionConfig;
 use crate::update::UpdateMessage;
 use crate::value::AttributeValue;
-use octseq::utf8::Turns;
-use octseq::{AsOctets, Parser};
+use octseq::{AsOctets, Parser, Turns};
 
 /// The handlings, from the mildest on.
 #[derive(Clone, Copy, Debug, PartialEq, Eq)]

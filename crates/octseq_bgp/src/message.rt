@@ -13,8 +13,7 @@ use crate::open::OpenMessage;
 use crate::session::SessionConfig;
 use crate::update::{UpdateMessage, UpdateParts};
 use crate::whole::parse_all;
-use octseq::utf8::Turns;
-use octseq::{AsOctets, Malformed, Parser};
+use octseq::{AsOctets, Malformed, Parser, Turns};
 use octseq_format::{Rest, U8, U16Be, U128Be};
 
 /// Octets are a message of a session in at most one way.

@@ -8,8 +8,7 @@ ghost use Rattle.octseq_bgp.specs.Open.{IsOpen, IsLong, HasParameters};
 
 use crate::parameter::Parameters;
 use crate::whole::parse_all;
-use octseq::utf8::Turns;
-use octseq::{AsOctets, Malformed, Parser};
+use octseq::{AsOctets, Malformed, Parser, Turns};
 use octseq_format::{Counted, Rest, U8, U16Be, U32Be};
 
 /// An OPEN.

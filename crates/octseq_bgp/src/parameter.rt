@@ -7,8 +7,7 @@ ghost use Rattle.octseq_bgp.specs.Fills.{Fills};
 ghost use Rattle.octseq_bgp.specs.Open.{parameter_form};
 
 use crate::entry::{Entries, Form};
-use octseq::utf8::Turns;
-use octseq::{AsOctets, Malformed, Parser};
+use octseq::{AsOctets, Malformed, Parser, Turns};
 use std::alloc::AllocError;
 
 /// An optional parameter, where it was read.

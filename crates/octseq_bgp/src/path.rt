@@ -7,8 +7,7 @@ ghost use Rattle.octseq_bgp.specs.Fills.{Fills};
 ghost use Rattle.octseq_bgp.specs.Path.{path_form, asn_size, AsnsAhead, asns_once, segment_number};
 
 use crate::entry::{Entries, Form};
-use octseq::utf8::Turns;
-use octseq::{AsOctets, Malformed, Parser};
+use octseq::{AsOctets, Malformed, Parser, Turns};
 use std::alloc::AllocError;
 
 /// An autonomous system number.

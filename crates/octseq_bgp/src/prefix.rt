@@ -9,8 +9,7 @@ ghost use Rattle.octseq_bgp.specs.PrefixValue.{bits_after, cleared, address_of};
 use crate::entry::{Entries, Form};
 use crate::family::{Afi, AfiSafiType};
 use crate::session::SessionConfig;
-use octseq::utf8::Turns;
-use octseq::{AsOctets, Malformed, Parser};
+use octseq::{AsOctets, Malformed, Parser, Turns};
 use std::alloc::AllocError;
 
 /// A path id: RFC 7911, 3.

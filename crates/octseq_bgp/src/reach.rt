@@ -9,8 +9,7 @@ use crate::next_hop::NextHop;
 use crate::prefix::Prefixes;
 use crate::session::SessionConfig;
 use crate::whole::parse_all;
-use octseq::utf8::Turns;
-use octseq::{AsOctets, Malformed, Parser};
+use octseq::{AsOctets, Malformed, Parser, Turns};
 use octseq_format::{Counted, Rest, U8, U16Be};
 use std::alloc::AllocError;
 

@@ -11,8 +11,7 @@ use crate::family::AfiSafiType;
 use crate::prefix::Prefixes;
 use crate::session::SessionConfig;
 use crate::whole::parse_all;
-use octseq::utf8::Turns;
-use octseq::{AsOctets, Malformed, Parser};
+use octseq::{AsOctets, Malformed, Parser, Turns};
 use octseq_format::{Counted, Rest};
 
 /// An UPDATE.

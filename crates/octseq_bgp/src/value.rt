@@ -20,8 +20,7 @@ use crate::path::{AsPath, Asn};
 use crate::reach::{MpReachNlri, MpUnreachNlri};
 use crate::session::SessionConfig;
 use crate::whole::parse_all;
-use octseq::utf8::Turns;
-use octseq::{AsOctets, Malformed, Parser};
+use octseq::{AsOctets, Malformed, Parser, Turns};
 use octseq_format::{U8, U16Be, U32Be};
 use std::alloc::AllocError;
 

@@ -11,8 +11,7 @@ ghost use Rattle.octseq_c.specs.Texts.{IsDataAt, IsDataText, IsTypedAt};
 
 use crate::shown::show;
 use crate::status::MALFORMED;
-use octseq::Parser;
-use octseq::utf8::Turns;
+use octseq::{Parser, Turns};
 use octseq_dns::{Class, Data, Rtype};
 
 /// Returns 1 if data has the form of its type and class, otherwise 0.

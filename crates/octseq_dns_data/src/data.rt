@@ -11,8 +11,7 @@ ghost use Rattle.octseq_format.specs.Turns.{TakesTurns};
 ghost use Rattle.octseq_dns_data.specs.DataText.{IsGroupsText, is_compatible, aaaa_text};
 
 use crate::iana::{Class, Rtype};
-use octseq::utf8::Turns;
-use octseq::{AsOctets, Parser};
+use octseq::{AsOctets, Parser, Turns};
 use octseq_dns_name::name::a_name_has_labels;
 use octseq_dns_name::{DomainName, Malformed, ParsedName};
 use octseq_format::{Format, Octets, Of};

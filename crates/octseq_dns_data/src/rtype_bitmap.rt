@@ -17,8 +17,7 @@ use crate::iana::Rtype;
 use crate::rtype_bitmap::blocks::is_bitmap;
 pub use crate::rtype_bitmap::build::append_rtypes;
 pub use crate::rtype_bitmap::iter::RtypeBitmapIter;
-use octseq::utf8::Turns;
-use octseq::{AsOctets, Malformed, Parser};
+use octseq::{AsOctets, Malformed, Parser, Turns};
 use std::alloc::AllocError;
 use std::fmt;
 

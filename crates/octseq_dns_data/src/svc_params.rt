@@ -7,8 +7,7 @@ ghost use Rattle.octseq_dns_data.specs.SvcParams.{ids_of, keys_of, params_of};
 
 use crate::data::FormedOctets;
 use crate::svc_params::form::{is_svc_params, take_id, take_param};
-use octseq::utf8::Turns;
-use octseq::{AsOctets, Malformed, Parser};
+use octseq::{AsOctets, Malformed, Parser, Turns};
 use octseq_format::are_octets;
 use std::alloc::AllocError;
 

@@ -10,8 +10,7 @@ ghost use Rattle.octseq_format.specs.Pair.{◌also◌};
 
 use crate::counted::Length;
 use crate::format::{Delimited, Format, Moving};
-use octseq::utf8::Turns;
-use octseq::{AsOctets, Malformed, OctetsBuilder, Parser, Truncate};
+use octseq::{AsOctets, Malformed, OctetsBuilder, Parser, Truncate, Turns};
 use std::alloc::AllocError;
 use std::marker::PhantomData;
 

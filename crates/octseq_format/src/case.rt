@@ -19,8 +19,7 @@ ghost use Rattle.octseq_format.specs.Turns.{TakesTurns};
 
 use crate::counted::Length;
 use crate::format::{Delimited, Format, Moving};
-use octseq::utf8::Turns;
-use octseq::{AsOctets, Malformed, OctetsBuilder, Parser, Truncate};
+use octseq::{AsOctets, Malformed, OctetsBuilder, Parser, Truncate, Turns};
 use std::alloc::AllocError;
 use std::marker::PhantomData;
 

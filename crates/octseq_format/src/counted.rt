@@ -10,8 +10,7 @@ ghost use Rattle.octseq.specs.Window.{next};
 use crate::format::{Delimited, Format, Moving};
 use crate::integers::U24;
 use octseq::compose::{append_u8, append_u16_be, append_u24_be, append_u32_be};
-use octseq::utf8::Turns;
-use octseq::{AsOctets, Malformed, OctetsBuilder, Parser, ShortInput, Truncate};
+use octseq::{AsOctets, Malformed, OctetsBuilder, Parser, ShortInput, Truncate, Turns};
 use std::alloc::AllocError;
 use std::marker::PhantomData;
 

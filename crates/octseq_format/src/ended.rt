@@ -10,8 +10,7 @@ ghost use Rattle.octseq_format.specs.Rest.{window_code};
 
 use crate::format::{Delimited, Format, Moving};
 use memchr::memchr;
-use octseq::utf8::Turns;
-use octseq::{AsOctets, Malformed, OctetsBuilder, Parser, Truncate};
+use octseq::{AsOctets, Malformed, OctetsBuilder, Parser, Truncate, Turns};
 use std::alloc::AllocError;
 
 /// Returns the index of the first zero.

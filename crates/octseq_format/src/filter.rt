@@ -11,8 +11,7 @@ ghost use Rattle.octseq_format.specs.Where.{where_read_back, delimited_where};
 
 use crate::counted::Length;
 use crate::format::{Delimited, Format, Moving};
-use octseq::utf8::Turns;
-use octseq::{AsOctets, Malformed, OctetsBuilder, Parser, Truncate};
+use octseq::{AsOctets, Malformed, OctetsBuilder, Parser, Truncate, Turns};
 use std::alloc::AllocError;
 use std::marker::PhantomData;
 

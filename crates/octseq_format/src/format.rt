@@ -11,8 +11,9 @@ ghost use Rattle.octseq_format.specs.Laws.{Relation, IsOne, IsOnward, IsReadBack
 ghost use Rattle.octseq_format.specs.Turns.{TakesTurns};
 
 use octseq::compose::ComposeError;
-use octseq::utf8::Turns;
-use octseq::{AsOctets, EmptyBuilder, Malformed, OctetsBuilder, OctetsLimit, Parser, Truncate};
+use octseq::{
+    AsOctets, EmptyBuilder, Malformed, OctetsBuilder, OctetsLimit, Parser, Truncate, Turns,
+};
 use std::alloc::{AllocError, Global};
 
 /// How a value is encoded as octets: one type reads and writes it.

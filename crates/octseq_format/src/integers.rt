@@ -13,8 +13,7 @@ use octseq::compose::{
     append_u24_be, append_u24_le, append_u32_be, append_u32_le, append_u48_be, append_u48_le,
     append_u64_be, append_u64_le, append_u128_be, append_u128_le,
 };
-use octseq::utf8::Turns;
-use octseq::{AsOctets, Malformed, OctetsBuilder, Parser, ShortInput, Truncate};
+use octseq::{AsOctets, Malformed, OctetsBuilder, Parser, ShortInput, Truncate, Turns};
 use std::alloc::AllocError;
 use std::marker::PhantomData;
 

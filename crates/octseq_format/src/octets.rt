@@ -5,8 +5,7 @@ ghost use Rattle.octseq.specs.Parser.{window};
 ghost use Rattle.octseq.specs.Window.{Window, rest};
 
 use crate::format::{Delimited, Format};
-use octseq::utf8::Turns;
-use octseq::{AsOctets, Malformed, OctetsBuilder, Parser, Truncate};
+use octseq::{AsOctets, Malformed, OctetsBuilder, Parser, Truncate, Turns};
 use std::alloc::AllocError;
 
 /// All octets up to the end of the window, as a parser of them alone. To write a slice, pass a parser of it.

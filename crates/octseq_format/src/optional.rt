@@ -6,8 +6,7 @@ ghost use Rattle.octseq_format.specs.Canonical.{not_one_way};
 ghost use Rattle.octseq_format.specs.Optional.{optional_turns, one_optional, onward_optional, optional_read_back};
 
 use crate::format::Format;
-use octseq::utf8::Turns;
-use octseq::{AsOctets, Malformed, OctetsBuilder, Parser, Truncate};
+use octseq::{AsOctets, Malformed, OctetsBuilder, Parser, Truncate, Turns};
 use std::alloc::AllocError;
 use std::marker::PhantomData;
 

@@ -15,8 +15,7 @@ ghost use Rattle.octseq_format.specs.Walk.{items_left};
 use crate::counted::Length;
 use crate::format::{Delimited, Format, Moving};
 use crate::walk::Walk;
-use octseq::utf8::Turns;
-use octseq::{AsOctets, Malformed, OctetsBuilder, Parser, Truncate};
+use octseq::{AsOctets, Malformed, OctetsBuilder, Parser, Truncate, Turns};
 use std::alloc::AllocError;
 use std::marker::PhantomData;
 

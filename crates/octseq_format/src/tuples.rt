@@ -5,8 +5,7 @@ ghost use Rattle.octseq_format.specs.Pair.{◌one_then◌, ◌onward_then◌, �
 ghost use Rattle.octseq_format.specs.Pair.{some_more};
 
 use crate::format::{Delimited, Format, Moving};
-use octseq::utf8::Turns;
-use octseq::{AsOctets, Malformed, OctetsBuilder, Parser, Truncate};
+use octseq::{AsOctets, Malformed, OctetsBuilder, Parser, Truncate, Turns};
 use std::alloc::AllocError;
 
 impl<R: AsOctets + Copy, A: Delimited<R>, B: Format<R>> Format<R> for (A, B) {

@@ -9,8 +9,7 @@ ghost use Rattle.octseq_mrt.specs.Peer as said;
 ghost use Rattle.octseq_mrt.specs.Peer.{IsPeer, IsPeerIndexTable, peer_family};
 
 use crate::address::{parse_address, parse_asn};
-use octseq::utf8::Turns;
-use octseq::{AsOctets, Malformed, Parser};
+use octseq::{AsOctets, Malformed, Parser, Turns};
 use octseq_bgp::{Afi, Asn};
 use octseq_format::{Counted, Format, Rest, U8, U16Be, U32Be};
 use std::alloc::AllocError;

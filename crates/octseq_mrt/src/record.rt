@@ -13,8 +13,7 @@ use crate::header::CommonHeader;
 use crate::kind::RecordKind;
 use crate::peer::PeerIndexTable;
 use crate::rib::Rib;
-use octseq::utf8::Turns;
-use octseq::{AsOctets, Malformed, Parser, ShortInput};
+use octseq::{AsOctets, Malformed, Parser, ShortInput, Turns};
 use std::alloc::AllocError;
 
 /// Octets are a record in at most one way.

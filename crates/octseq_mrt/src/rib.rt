@@ -13,8 +13,7 @@ ghost use Rattle.octseq_mrt.specs.Rib.{path_of, HasEntryParts, IsRibEntry, IsRib
 
 use crate::address::parse_optional;
 use crate::rib_attribute::{RibAttributes, pass_attributes};
-use octseq::utf8::Turns;
-use octseq::{AsOctets, Malformed, Parser};
+use octseq::{AsOctets, Malformed, Parser, Turns};
 use octseq_bgp::{Afi, AfiSafiType, Nlri, PathId};
 use octseq_format::{Counted, Format, Rest, U16Be, U32Be};
 use std::alloc::AllocError;

@@ -9,8 +9,7 @@ ghost use Rattle.octseq_bgp.specs.declared.entry.Form.TheVariants as form;
 ghost use Rattle.octseq_mrt.specs.Listed.{AttributesAhead, attributes_once};
 ghost use Rattle.octseq_mrt.specs.Rib.{rib_session, is_next_hop_size, IsNextHopAlone, IsRibValue};
 
-use octseq::utf8::Turns;
-use octseq::{AsOctets, Malformed, Parser};
+use octseq::{AsOctets, Malformed, Parser, Turns};
 use octseq_bgp::whole::parse_all;
 use octseq_bgp::{AttributeValue, Flags, PathAttribute, SessionConfig};
 use octseq_format::{Counted, Format, Rest, U8};

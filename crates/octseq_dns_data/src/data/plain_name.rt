@@ -9,8 +9,7 @@ ghost use Rattle.octseq_dns_name.specs.Read.{name_of};
 ghost use Rattle.octseq_dns_name.specs.Wire.{wire};
 ghost use Rattle.octseq_format.specs.Canonical.{not_one_way};
 
-use octseq::utf8::Turns;
-use octseq::{AsOctets, Malformed, OctetsBuilder, Parser, Truncate};
+use octseq::{AsOctets, Malformed, OctetsBuilder, Parser, Truncate, Turns};
 use octseq_dns_name::name::a_name_has_labels;
 use octseq_dns_name::{DomainName, ParsedName};
 use octseq_format::{Delimited, Format, Moving, are_octets};

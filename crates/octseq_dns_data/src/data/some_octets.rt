@@ -7,8 +7,7 @@ ghost use Rattle.octseq_dns_data.specs.Tag.{IsCaaTag};
 
 use crate::data::formed::FormedOctets;
 use crate::tag::is_tag;
-use octseq::utf8::Turns;
-use octseq::{AsOctets, Malformed, Parser};
+use octseq::{AsOctets, Malformed, Parser, Turns};
 use std::alloc::AllocError;
 
 /// One or more octets up to the end of the data.

@@ -9,8 +9,7 @@ ghost use Rattle.octseq_dns_data.specs.Strings.{spelling};
 
 use crate::data::formed::FormedOctets;
 use crate::data::string::{CharacterString, take_string};
-use octseq::utf8::Turns;
-use octseq::{AsOctets, Parser};
+use octseq::{AsOctets, Parser, Turns};
 use octseq_dns_name::Malformed;
 use octseq_format::{Format, Repeated, are_octets};
 use std::alloc::AllocError;

@@ -4,7 +4,7 @@ ghost use Rattle.octseq_dns_data.specs.RtypeBitmap as said;
 ghost use Rattle.octseq_dns_data.specs.RtypeBitmapOf.{block_of};
 ghost use Rattle.octseq_dns_data.specs.RtypeBitmap.{IsRtypeBitmap, IsWindowBlock, block_octets};
 
-use octseq::utf8::Turns;
+use octseq::Turns;
 
 /// A window block: the number of its window, and its bitmap.
 #[derive(Clone, Copy)]

@@ -7,8 +7,7 @@ ghost use Rattle.octseq_dns_data.specs.SvcParams.{AreAddresses, AreIds, AreKeys,
 ghost use Rattle.octseq_dns_data.specs.SvcParams.{ids_of, keys_of, split_param};
 
 use crate::svc_params::key::{ALPN, IPV4HINT, IPV6HINT, MANDATORY, NO_DEFAULT_ALPN, PORT};
-use octseq::utf8::Turns;
-use octseq::{AsOctets, Malformed, Parser};
+use octseq::{AsOctets, Malformed, Parser, Turns};
 use octseq_format::{Format, Octets, are_octets};
 
 /// Reads the next parameter, whatever its value.
