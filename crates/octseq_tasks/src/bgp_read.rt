@@ -1,0 +1,14 @@
+//! A BGP message, read.
+use octseq_bgp::{Message, Prefix, SessionConfig};
+use std::alloc::Global;
+
+/// The prefixes that an UPDATE announces; none for other messages.
+pub fn announced(alloc: Global, octets: &[u8]) -> anyhow::Result<Vec<Prefix>> {
+    let mut prefixes = Vec::new(alloc);
+    if let Message::Update(update) = Message::parse(octets, SessionConfig::modern())? {
+        for nlri in update.announced {
+            prefixes.push(nlri.prefix())?;
+        }
+    }
+    Ok(prefixes)
+}
