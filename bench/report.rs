@@ -104,6 +104,21 @@ impl Section {
         }
     }
 
+    /// The mean, and that of what is left where a part is told apart.
+    fn means(&self) -> String {
+        let rest = self.ratios_of_rest().map(|rest| format!("; less the copy {:.2}", mean(&rest)));
+        format!("{:.2}{}", mean(&self.ratios()), rest.unwrap_or_default())
+    }
+
+    /// The ratio of each input, where there is more than one.
+    fn each(&self) -> String {
+        if self.inputs.len() == 1 {
+            return String::new();
+        }
+        let each = self.inputs.iter().map(|input| format!("{} {:.2}", input.name, input.ratio()));
+        each.collect::<Vec<_>>().join(", ")
+    }
+
     fn ratios(&self) -> Vec<f64> {
         self.inputs.iter().map(Input::ratio).collect()
     }
@@ -121,11 +136,6 @@ fn mean(ratios: &[f64]) -> f64 {
 
 fn greatest(ratios: &[f64]) -> f64 {
     ratios.iter().copied().fold(0.0, f64::max)
-}
-
-/// A cell for the greatest of more than one ratio.
-fn cell(ratios: &[f64]) -> String {
-    if ratios.len() > 1 { format!("{:.2}", greatest(ratios)) } else { String::new() }
 }
 
 /// A sentence in lines of at most 120 characters.
@@ -204,26 +214,20 @@ impl Bench {
         std::fs::write(format!("{folder}/speed.svg"), self.picture(when))
     }
 
+    /// A table for each call and what it is beside.
     fn tables(&self, when: &str) -> String {
-        let mut page = format!("Measured on {when}, as time over Rust's.\n\n");
+        let mut page = format!("Measured on {when}, as time over Rust's.\n");
         for note in &self.notes {
-            let _ = writeln!(page, "{}\n", wrapped(note));
+            let _ = write!(page, "\n{}\n", wrapped(note));
         }
-        page.push_str("| what | input | beside | mean | greatest |\n|---|---|---|---|---|\n");
+        let mut last = ("", "");
         for section in &self.sections {
-            let ratios = section.ratios();
-            let (what, given, beside) = (&section.what, &section.given, &section.beside);
-            let _ = writeln!(page, "| {what} | {given} | {beside} | {:.2} | {} |", mean(&ratios), cell(&ratios));
-            if let Some(rest) = section.ratios_of_rest() {
-                let (mean, cell) = (mean(&rest), cell(&rest));
-                let _ = writeln!(page, "| the same, less the copy | the same | the same | {mean:.2} | {cell} |");
+            let head = (section.what.as_str(), section.beside.as_str());
+            if head != last {
+                last = head;
+                let _ = write!(page, "\n**{}**, beside {}:\n\n| input | mean | each |\n|---|---|---|\n", head.0, head.1);
             }
-        }
-        page.push_str("\nBy input, where a row has more than one:\n\n| what | input | each |\n|---|---|---|\n");
-        for section in self.sections.iter().filter(|section| section.inputs.len() > 1) {
-            let inputs: Vec<String> =
-                section.inputs.iter().map(|input| format!("{}: {:.2}", input.name, input.ratio())).collect();
-            let _ = writeln!(page, "| {} | {} | {} |", section.what, section.given, inputs.join("; "));
+            let _ = writeln!(page, "| {} | {} | {} |", section.given, section.means(), section.each());
         }
         page
     }
