@@ -2,7 +2,6 @@
 use Rattle.std.proofs.Common.{◌≡◌, ℕ, List, [], ◌++◌, Option, Some, None, refl, sym, ap, ◌∙◌, append_assoc}
 use Rattle.std.proofs.lemmas.List.{append-nil}
 use Rattle.std.specs.Io.KnownBytes.{Consumes, Keeps}
-use Rattle.octseq.specs.Pieces.{Held, StandsFor}
 use Rattle.octseq_program.specs.declared.status.Status.{Status}
 use Rattle.octseq_tool.specs.Out.{Made, Makes}
 use Rattle.octseq_tool.specs.declared.engine.Command.{Command}
@@ -26,35 +25,37 @@ consumes_more (Some a) (Some b) (Some c) xs ys first second =
     first ∙ ap (λ r. xs ++ r) second ∙ sym (append_assoc xs ys c)
 
 -- The octets that were fed are those that the reader gave.
-pub record IsFed (given left : Option (List ℕ)) (held : Held) : Type 0 where
+pub record IsFed {F : Type 0} (stands_for : F → List ℕ → Type 0) (given left : Option (List ℕ)) (fed : F) : Type 0 where
   pub octets : List ℕ
   pub consumed : Consumes given left octets
-  pub stands : StandsFor held octets
+  pub stands : stands_for fed octets
 
--- at first no octets were fed, and the reader gave none
-pub fed_nothing : (given : Option (List ℕ)) (held : Held) → StandsFor held [] → IsFed given given held
-fed_nothing given held stands = record { octets = []; consumed = consumes_none given; stands = stands }
+module _ {F : Type 0} (stands_for : F → List ℕ → Type 0) where
+  -- at first no octets were fed, and the reader gave none
+  pub fed_nothing : (given : Option (List ℕ)) (fed : F) → stands_for fed [] → IsFed stands_for given given fed
+  fed_nothing given fed stands = record { octets = []; consumed = consumes_none given; stands = stands }
 
--- octets that are fed next are those that the reader gives next
-pub fed_more : (given left now : Option (List ℕ)) (held after : Held) (octets : List ℕ) → IsFed given left held
-    → Consumes left now octets
-    → ((before : List ℕ) → StandsFor held before → StandsFor after (before ++ octets)) → IsFed given now after
-fed_more given left now held after octets so_far consumed stands = record {
-  octets = so_far.octets ++ octets;
-  consumed = consumes_more given left now so_far.octets octets so_far.consumed consumed;
-  stands = stands so_far.octets so_far.stands;
-}
+  -- octets that are fed next are those that the reader gives next
+  pub fed_more : (given left now : Option (List ℕ)) (fed after : F) (octets : List ℕ) → IsFed stands_for given left fed
+      → Consumes left now octets
+      → ((before : List ℕ) → stands_for fed before → stands_for after (before ++ octets))
+      → IsFed stands_for given now after
+  fed_more given left now fed after octets so_far consumed stands = record {
+    octets = so_far.octets ++ octets;
+    consumed = consumes_more given left now so_far.octets octets so_far.consumed consumed;
+    stands = stands so_far.octets so_far.stands;
+  }
 
--- the octets that were fed are those that the reader gave
-pub fed_all : (given left : Option (List ℕ)) (held : Held) → IsFed given left held
-    → (input : List ℕ) × StandsFor held input × Consumes given left input
-fed_all given left held fed = (fed.octets, fed.stands, fed.consumed)
+  -- the octets that were fed are those that the reader gave
+  pub fed_all : (given left : Option (List ℕ)) (fed : F) → IsFed stands_for given left fed
+      → (input : List ℕ) × stands_for fed input × Consumes given left input
+  fed_all given left fed is_fed = (is_fed.octets, is_fed.stands, is_fed.consumed)
 
--- one more read was consumed
-pub lost_more : (given left now : Option (List ℕ)) (held : Held) → IsFed given left held
-    → ((read : List ℕ) × Consumes left now read) → (read : List ℕ) × Consumes given now read
-lost_more given left now held fed (read, consumed) =
-    (fed.octets ++ read, consumes_more given left now fed.octets read fed.consumed consumed)
+  -- one more read was consumed
+  pub lost_more : (given left now : Option (List ℕ)) (fed : F) → IsFed stands_for given left fed
+      → ((read : List ℕ) × Consumes left now read) → (read : List ℕ) × Consumes given now read
+  lost_more given left now fed is_fed (read, consumed) =
+      (is_fed.octets ++ read, consumes_more given left now is_fed.octets read is_fed.consumed consumed)
 
 -- what a command makes, by what it says of the input
 pub makes : {command : Command} {given left : Option (List ℕ)} {output : List ℕ} {status : Status} (input : List ℕ)

@@ -1,7 +1,7 @@
 //! The commands of the program, over any reader.
 ghost use Rattle.std.specs.Prelude.{◌≡◌, ◌≢◌, ◌<◌, ◌∷◌, ◌++◌};
 ghost use Rattle.std.specs.Prelude.{ℕ, [], length, codes, Some, List, Option};
-ghost use Rattle.std.specs.Prelude.{IsFalse, IfOk, IfErr, IfSome, OnOk, OnErr, ◌-◌};
+ghost use Rattle.std.specs.Prelude.{IfOk, IfErr, IfSome, OnOk, OnErr, ◌-◌};
 ghost use Rattle.std.specs.Io.KnownBytes.{Consumes, IsAtEnd};
 ghost use Rattle.octseq.specs.Parser.{window};
 ghost use Rattle.octseq.specs.Window.{left, rest};
@@ -13,22 +13,21 @@ ghost use Rattle.octseq_tool.specs.Out.{name_of, HasText, IsCut, Made, Makes, Ou
 ghost use Rattle.octseq_tool.specs.declared.engine.Command.{Command};
 ghost use Rattle.octseq_tool.specs.declared.engine.Command.TheVariants.{Check, Lossy, Lossy64, Records};
 
+use feeding::{Searched, feed_all};
 use octseq::array::Array;
 use octseq::builder::{AppendError, ShortBuf};
 use octseq::parse::{self, Parser, ShortInput};
 use octseq::str::{LossyPieces, StrBuilder};
 use octseq::utf8;
 use octseq_program::engine::cut_off;
-use octseq_program::streams::{failed_read, read_all, write_all};
+use octseq_program::streams::{read_all, write_all};
 use octseq_program::{Answer, Commands, ProgramFault, Status};
 use std::alloc::{AllocError, Global};
-use std::io::{ErrorKind, Read, Write};
+use std::io::{Read, Write};
 
+mod feeding;
 #[cfg(test)]
 mod tests;
-
-/// The number of octets of a read, if a text is made of pieces.
-const PIECE: usize = 64 * 1024;
 
 /// The help text of the program.
 const HELP: &str = "\
@@ -83,20 +82,25 @@ pub fn one_answer()
     utf8::one_splitting();
 }
 
-/// Checks whether the octets are well-formed UTF-8, and where they stop being so.
-fn check(alloc: Global, input: Vec<u8>) -> Result<Answer, AllocError>
-    ensures { IfOk result (λ answer. Made Check input.items answer.output.items answer.status) }
+/// Whether all that the reader has left is well-formed UTF-8, and if not, where it stops. It is searched as it is read.
+fn check<R: Read>(alloc: Global, reader: &mut R) -> Result<Answer, ProgramFault>
+    ensures ok { IfOk result (λ answer. Makes Check (R.remaining reader.old) (R.remaining reader.new)
+        answer.output.items answer.status) }
+    ensures end { OnOk result (IsAtEnd (R.remaining reader.new)) }
+    ensures err { OnErr result ((read : List ℕ) × Consumes (R.remaining reader.old) (R.remaining reader.new) read) }
 {
-    match StrBuilder::from_utf8(input) {
-        Ok(text) => {
-            let line = format!(in alloc; "well formed: {} octets\n", text.len())?;
+    let mut searched = Searched::new();
+    feed_all(alloc, reader, &mut searched)?;
+    match searched.search.finish() {
+        None => {
+            let line = format!(in alloc; "well formed: {} octets\n", searched.len)?;
             Ok(Answer {
                 output: line.into_bytes(),
                 status: Status::Fine,
             })
         }
-        Err(error) => Ok(Answer {
-            output: format!(in alloc; "{error}\n")?.into_bytes(),
+        Some(fault) => Ok(Answer {
+            output: format!(in alloc; "{fault}\n")?.into_bytes(),
             status: Status::Refused,
         }),
     }
@@ -122,53 +126,7 @@ fn lossy<R: Read>(alloc: Global, reader: &mut R) -> Result<Answer, ProgramFault>
     })
 }
 
-/// Feeds all that the reader has left, each piece as it was read.
-fn feed_all<R: Read>(
-    alloc: Global,
-    reader: &mut R,
-    pieces: &mut LossyPieces<Vec<u8>>,
-) -> Result<(), ProgramFault>
-    requires { StandsFor pieces.old [] }
-    ensures ok { OnOk result ((input : List ℕ) × StandsFor pieces.new input
-        × Consumes (R.remaining reader.old) (R.remaining reader.new) input) }
-    ensures end { OnOk result (IsAtEnd (R.remaining reader.new)) }
-    ensures err { OnErr result ((read : List ℕ) × Consumes (R.remaining reader.old) (R.remaining reader.new) read) }
-{
-    let mut piece = Vec::from_elem(alloc, 0, PIECE)?;
-    for _ in 0..u64::MAX {
-        if !feed_next(reader, piece.as_mut_slice(), pieces)? {
-            return Ok(());
-        }
-    }
-    Err(ProgramFault::Read)
-}
-
-/// Feeds the octets of one read. Returns whether there may be more.
-fn feed_next<R: Read>(
-    reader: &mut R,
-    room: &mut [u8],
-    pieces: &mut LossyPieces<Vec<u8>>,
-) -> Result<bool, ProgramFault>
-    requires { 0 < length room.old }
-    ensures room { length room.new ≡ length room.old }
-    ensures fed { OnOk result ((octets : List ℕ)
-        × Consumes (R.remaining reader.old) (R.remaining reader.new) octets
-        × ((before : List ℕ) → StandsFor pieces.old before → StandsFor pieces.new (before ++ octets))) }
-    ensures end { IfOk result (λ is_more. IsFalse is_more → IsAtEnd (R.remaining reader.new)) }
-    ensures err { OnErr result ((read : List ℕ) × Consumes (R.remaining reader.old) (R.remaining reader.new) read) }
-{
-    match reader.read(room) {
-        Ok(count) => match pieces.feed(&room[..count]) {
-            Ok(()) => Ok(count > 0),
-            // (a vector has no limit, so all that it refuses is for want of memory)
-            Err(_) => Err(ProgramFault::Memory),
-        },
-        Err(e) if e.kind() == ErrorKind::Interrupted => Ok(true),
-        Err(e) => Err(failed_read(&e)),
-    }
-}
-
-/// Returns the lossy text of the octets, if it fits an array of 64 octets.
+/// The lossy text of the octets, where an array of 64 octets can hold it.
 fn lossy64(alloc: Global, input: &[u8]) -> Result<Answer, AllocError>
     ensures { IfOk result (λ answer. Made Lossy64 input.now answer.output.items answer.status) }
 {
@@ -246,7 +204,7 @@ impl Command {
             × Consumes (R.remaining reader.old) (R.remaining reader.new) read) }
     {
         match self {
-            Command::Check => Ok(check(alloc, read_all(alloc, reader)?)?),
+            Command::Check => check(alloc, reader),
             Command::Lossy => lossy(alloc, reader),
             Command::Lossy64 => Ok(lossy64(alloc, read_all(alloc, reader)?.as_slice())?),
             Command::Records => Ok(records(alloc, read_all(alloc, reader)?.as_slice())?),

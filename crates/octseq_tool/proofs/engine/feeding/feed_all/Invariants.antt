@@ -2,8 +2,8 @@
 use Rattle.std.proofs.Common.{◌<◌}
 use Rattle.std.specs.Prelude.{vec_len}
 use Rattle.octseq_tool.proofs.Feeding.{IsFed}
-use Rattle.octseq_tool.proofs.engine.feed_all.Given as goal
+use Rattle.octseq_tool.proofs.engine.feeding.feed_all.Given as goal
 
 abbrev pub invariant-loop : goal.invariant-loop
 invariant-loop g l =
-    IsFed (g.R.Read.remaining l.fn.reader) (g.R.Read.remaining l.reader) l.pieces × (0 < vec_len l.piece)
+    IsFed g.F.Feed.stands_for (g.R.Read.remaining l.fn.reader) (g.R.Read.remaining l.reader) l.fed × (0 < vec_len l.piece)

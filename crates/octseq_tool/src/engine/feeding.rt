@@ -1,0 +1,122 @@
+//! Octets that are taken in as they are read.
+ghost use Rattle.std.specs.Prelude.{◌≡◌, ℕ, ◌<◌, ◌^◌, List, [], ◌++◌, length, IsFalse, IfOk, OnOk, OnErr};
+ghost use Rattle.std.specs.Io.KnownBytes.{Consumes, IsAtEnd};
+ghost use Rattle.octseq.specs.FaultSearch.{HasSearched};
+ghost use Rattle.octseq.specs.Pieces.{StandsFor};
+
+use octseq::str::LossyPieces;
+use octseq::utf8::FaultPieces;
+use octseq_program::ProgramFault;
+use octseq_program::streams::failed_read;
+use std::alloc::Global;
+use std::io::{ErrorKind, Read};
+
+/// How many octets a read asks for.
+const PIECE: usize = 64 * 1024;
+
+/// What takes in octets in pieces.
+pub trait Feed {
+    // what it is after these octets
+    ghost stands_for: { Self → List ℕ → Type 0 };
+
+    /// Takes in the next piece.
+    ///
+    /// # Errors
+    ///
+    /// `Memory` where a request for memory was refused, `Read` where there are more octets than can be counted.
+    fn take_in(&mut self, piece: &[u8]) -> Result<(), ProgramFault>
+        ensures { OnOk result ((octets : List ℕ)
+            → stands_for self.old octets → stands_for self.new (octets ++ piece.now)) };
+}
+
+impl Feed for LossyPieces<Vec<u8>> {
+    ghost stands_for = { λ pieces octets. StandsFor pieces octets };
+
+    fn take_in(&mut self, piece: &[u8]) -> Result<(), ProgramFault> {
+        // (a vector has no limit, so all that it refuses is for want of memory)
+        self.feed(piece).map_err(|_| ProgramFault::Memory)
+    }
+}
+
+/// A search for the first fault, and how many octets it was fed.
+#[derive(Drop)]
+pub struct Searched {
+    pub search: FaultPieces,
+    pub len: u64,
+}
+
+impl Searched {
+    /// A search of no octets yet.
+    pub fn new() -> Self
+        ensures search { HasSearched result.search [] }
+        ensures len { result.len ≡ 0 }
+    {
+        Searched {
+            search: FaultPieces::new(),
+            len: 0,
+        }
+    }
+}
+
+impl Feed for Searched {
+    ghost stands_for = { λ searched octets.
+        HasSearched searched.search octets × (searched.len ≡ length octets) × (length octets < 2 ^ 64) };
+
+    fn take_in(&mut self, piece: &[u8]) -> Result<(), ProgramFault> {
+        let Some(len) = self.len.checked_add(piece.len() as u64) else {
+            return Err(ProgramFault::Read);
+        };
+        self.search.feed(piece);
+        self.len = len;
+        Ok(())
+    }
+}
+
+/// Feeds all that the reader has left, each piece as it was read.
+///
+/// # Errors
+///
+/// `Memory` where a request for memory was refused, `Read` where a read failed.
+pub fn feed_all<R: Read, F: Feed>(
+    alloc: Global,
+    reader: &mut R,
+    fed: &mut F,
+) -> Result<(), ProgramFault>
+    requires { F.stands_for fed.old [] }
+    ensures ok { OnOk result ((input : List ℕ) × F.stands_for fed.new input
+        × Consumes (R.remaining reader.old) (R.remaining reader.new) input) }
+    ensures end { OnOk result (IsAtEnd (R.remaining reader.new)) }
+    ensures err { OnErr result ((read : List ℕ) × Consumes (R.remaining reader.old) (R.remaining reader.new) read) }
+{
+    let mut piece = Vec::from_elem(alloc, 0, PIECE)?;
+    for _ in 0..u64::MAX {
+        if !feed_next(reader, piece.as_mut_slice(), fed)? {
+            return Ok(());
+        }
+    }
+    Err(ProgramFault::Read)
+}
+
+/// Feeds what one read gives, and tells whether there may be more.
+fn feed_next<R: Read, F: Feed>(
+    reader: &mut R,
+    room: &mut [u8],
+    fed: &mut F,
+) -> Result<bool, ProgramFault>
+    requires { 0 < length room.old }
+    ensures room { length room.new ≡ length room.old }
+    ensures fed { OnOk result ((octets : List ℕ)
+        × Consumes (R.remaining reader.old) (R.remaining reader.new) octets
+        × ((before : List ℕ) → F.stands_for fed.old before → F.stands_for fed.new (before ++ octets))) }
+    ensures end { IfOk result (λ is_more. IsFalse is_more → IsAtEnd (R.remaining reader.new)) }
+    ensures err { OnErr result ((read : List ℕ) × Consumes (R.remaining reader.old) (R.remaining reader.new) read) }
+{
+    match reader.read(room) {
+        Ok(count) => {
+            fed.take_in(&room[..count])?;
+            Ok(count > 0)
+        }
+        Err(e) if e.kind() == ErrorKind::Interrupted => Ok(true),
+        Err(e) => Err(failed_read(&e)),
+    }
+}
