@@ -1,4 +1,4 @@
-//! Octets that are taken in as they are read.
+//! Octets that are consumed as they are read.
 ghost use Rattle.std.specs.Prelude.{◌≡◌, ℕ, ◌<◌, ◌^◌, List, [], ◌++◌, length, IsFalse, IfOk, OnOk, OnErr};
 ghost use Rattle.std.specs.Io.KnownBytes.{Consumes, IsAtEnd};
 ghost use Rattle.octseq.specs.FaultSearch.{HasSearched};
@@ -11,19 +11,19 @@ use octseq_program::streams::failed_read;
 use std::alloc::Global;
 use std::io::{ErrorKind, Read};
 
-/// How many octets a read asks for.
+/// The number of octets that a read asks for.
 const PIECE: usize = 64 * 1024;
 
-/// What takes in octets in pieces.
+/// A consumer of octets that come in pieces.
 pub trait Feed {
     // what it is after these octets
     ghost stands_for: { Self → List ℕ → Type 0 };
 
-    /// Takes in the next piece.
+    /// Takes the next piece.
     ///
     /// # Errors
     ///
-    /// `Memory` where a request for memory was refused, `Read` where there are more octets than can be counted.
+    /// `Memory` if a request for memory was refused, `Read` if there are more octets than can be counted.
     fn take_in(&mut self, piece: &[u8]) -> Result<(), ProgramFault>
         ensures { OnOk result ((octets : List ℕ)
             → stands_for self.old octets → stands_for self.new (octets ++ piece.now)) };
@@ -33,12 +33,12 @@ impl Feed for LossyPieces<Vec<u8>> {
     ghost stands_for = { λ pieces octets. StandsFor pieces octets };
 
     fn take_in(&mut self, piece: &[u8]) -> Result<(), ProgramFault> {
-        // (a vector has no limit, so all that it refuses is for want of memory)
+        // (a vector has no limit, so it refuses only for lack of memory)
         self.feed(piece).map_err(|_| ProgramFault::Memory)
     }
 }
 
-/// A search for the first fault, and how many octets it was fed.
+/// A search for the first fault, and the number of octets it was fed.
 #[derive(Drop)]
 pub struct Searched {
     pub search: FaultPieces,
@@ -72,11 +72,11 @@ impl Feed for Searched {
     }
 }
 
-/// Feeds all that the reader has left, each piece as it was read.
+/// Feeds all that the reader has left, piece by piece as it is read.
 ///
 /// # Errors
 ///
-/// `Memory` where a request for memory was refused, `Read` where a read failed.
+/// `Memory` if a request for memory was refused, `Read` if a read failed.
 pub fn feed_all<R: Read, F: Feed>(
     alloc: Global,
     reader: &mut R,
@@ -97,7 +97,7 @@ pub fn feed_all<R: Read, F: Feed>(
     Err(ProgramFault::Read)
 }
 
-/// Feeds what one read gives, and tells whether there may be more.
+/// Feeds the octets of one read. Returns whether there may be more.
 fn feed_next<R: Read, F: Feed>(
     reader: &mut R,
     room: &mut [u8],
