@@ -33,11 +33,14 @@ pub(super) fn append_short<B: OctetsBuilder>(
     }
 }
 
-/// Stages the first `len` octets by copying `LANE` of them: loads and stores without a loop, whatever the length. Returns
-/// whether there was room.
+/// The number of octets that are copied at once, if the text is no longer than that.
+const LANE: usize = 16;
+
+/// Stages the first `len` octets by copying a whole lane: one load and one store, whatever the length. Returns whether
+/// there was room.
 #[inline(always)]
-fn append_lane<const LANE: usize>(staged: &mut Array<STAGE>, octets: &[u8], len: usize) -> bool
-    requires { (len ≤ LANE) × (LANE ≤ length octets.now) }
+fn append_lane(staged: &mut Array<STAGE>, octets: &[u8], len: usize) -> bool
+    requires { (len ≤ 16) × (16 ≤ length octets.now) }
     ensures some { result ≡ true → staged.new.content ≡ staged.old.content ++ take len octets.now }
     ensures none { result ≡ false → staged.new.content ≡ staged.old.content }
 {
@@ -51,8 +54,8 @@ fn append_lane<const LANE: usize>(staged: &mut Array<STAGE>, octets: &[u8], len:
     }
 }
 
-/// Like [`append_staged`] for the first `len` octets, which are copied as a lane of 16 or 64 if they fit it and the octets
-/// fill it.
+/// Like [`append_staged`] for the first `len` octets, which are copied as a lane if they fit one and the octets fill
+/// it.
 #[inline(always)]
 pub(super) fn append_front<B: OctetsBuilder>(
     builder: &mut B,
@@ -69,10 +72,7 @@ pub(super) fn append_front<B: OctetsBuilder>(
     ensures memory { IsMemory append_error result → B.asks ≡ true }
     ensures borrows { B.borrows builder.new ≡ B.borrows builder.old }
 {
-    if len <= 16 && octets.len() >= 16 && append_lane::<16>(staged, octets, len) {
-        return Ok(());
-    }
-    if len <= 64 && octets.len() >= 64 && append_lane::<64>(staged, octets, len) {
+    if len <= LANE && octets.len() >= LANE && append_lane(staged, octets, len) {
         return Ok(());
     }
     append_staged(builder, staged, &octets[..len])
