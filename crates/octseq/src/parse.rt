@@ -241,15 +241,13 @@ impl<R: AsOctets> Parser<R> {
     /// # Examples
     ///
     /// ```
-    /// // crates/octseq_tests/src/tests/windows.rt
-    /// let mut outer = Parser::from_ref(octets);
-    /// outer.advance(2)?;
-    /// let mut nested = outer.parse_parser(4)?;
-    /// assert_equal!(rt, (nested.pos(), nested.len()), (2, 6));
-    /// assert_equal!(rt, nested.peek_all(), b"2345".as_slice());
-    /// nested.seek(0)?;
-    /// assert_equal!(rt, nested.peek_all(), b"012345".as_slice());
-    /// assert_equal!(rt, nested.seek(7), Err(ShortInput));
+    /// // crates/octseq_examples/src/parsing.rt
+    /// let mut parser = Parser::from_static(b"\x03ab\x01\x02");
+    /// let value_pos = parser.parse_u8()?; // 3
+    /// parser.seek(usize::from(value_pos))?;
+    /// let value = parser.parse_u16_be()?; // 0x0102
+    /// parser.seek(1)?;
+    /// let key = parser.parse_octets(2)?; // "ab"
     /// ```
     pub fn seek(&mut self, pos: usize) -> Result<(), ShortInput>
         ensures variant { IsOk result ↔ (pos ≤ (window self.old).end) }
@@ -356,13 +354,13 @@ impl<R: AsOctets> Parser<R> {
     /// # Examples
     ///
     /// ```
-    /// // crates/octseq_tests/src/tests/windows.rt
-    /// let mut outer = Parser::from_static(b"0123456789");
-    /// outer.advance(2)?;
-    /// let mut nested = outer.parse_parser(4)?;
-    /// assert_equal!(&rt, nested.peek_all(), b"2345".as_slice());
-    /// nested.advance(2)?;
-    /// assert_equal!(&rt, nested.peek_all(), b"45".as_slice());
+    /// // crates/octseq_examples/src/parsing.rt
+    /// let mut parser = Parser::from_static(b"\x06\x00\x01\x00\x02zz\x09");
+    /// let len = parser.parse_u8()?; // 6
+    /// let mut record = parser.parse_parser(usize::from(len))?;
+    /// let x = record.parse_u16_be()?; // 1
+    /// let y = record.parse_u16_be()?; // 2, and "zz" is left
+    /// let next = parser.parse_u8()?; // 9, the octet after the record
     /// ```
     pub fn parse_parser(&mut self, len: usize) -> Result<Self, ShortInput>
     where

@@ -62,12 +62,11 @@ impl<const N: usize> Array<N> {
     /// # Examples
     ///
     /// ```
-    /// // crates/octseq_tests/src/tests/builders.rt
+    /// // crates/octseq_examples/src/builders.rt
     /// let mut array = Array::<4>::new();
     /// array.append_slice(b"abcd")?;
-    /// array.truncate(1);
-    /// assert_equal!(&rt, array.resize_raw(3), Ok(()));
-    /// assert_equal!(&rt, array.as_slice(), b"abc".as_slice());
+    /// array.truncate(1); // the content is "a"
+    /// array.resize_raw(3)?; // the content is "abc"
     /// ```
     pub fn new() -> Self
         ensures { result ≡ blank N }

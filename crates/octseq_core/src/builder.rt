@@ -150,10 +150,13 @@ pub trait EmptyBuilder: OctetsBuilder + OctetsLimit {
     /// # Examples
     ///
     /// ```
-    /// // crates/octseq_tests/src/tests/builders.rt
-    /// let mut builder = B::empty(alloc)?;
-    /// builder.append_slice(b"abcd")?;
-    /// assert_equal!(rt, builder.as_ref(), b"abcd".as_slice());
+    /// // crates/octseq_examples/src/builders.rt
+    /// pub fn c_string<B: EmptyBuilder>(alloc: Global, name: &str) -> anyhow::Result<B> {
+    ///     let mut octets = B::empty(alloc)?;
+    ///     octets.append_slice(name.as_bytes())?;
+    ///     octets.append_slice(b"\0")?;
+    ///     Ok(octets)
+    /// }
     /// ```
     fn empty(alloc: Global) -> Result<Self, AllocError>
         ensures ok { IfOk result (λ builder. Self.content builder ≡ []) }
@@ -183,11 +186,12 @@ pub trait FreezeBuilder: AsOctets {
     /// # Examples
     ///
     /// ```
-    /// // crates/octseq_tests/src/tests/builders.rt
-    /// let mut builder = B::empty(alloc)?;
-    /// builder.append_slice(b"abc")?;
-    /// let octets = builder.freeze()?;
-    /// assert_equal!(rt, octets.as_ref(), b"abc".as_slice());
+    /// // crates/octseq_examples/src/builders.rt
+    /// pub fn greeting<B: EmptyBuilder + FreezeBuilder>(alloc: Global) -> anyhow::Result<B::Octets> {
+    ///     let mut builder = B::empty(alloc)?;
+    ///     builder.append_slice(b"hello")?;
+    ///     Ok(builder.freeze()?)
+    /// }
     /// ```
     fn freeze(self) -> Result<Self::Octets, AllocError>
         ensures ok { IfOk result (λ octets. Self.Octets.content octets ≡ Self.content self) }

@@ -15,14 +15,10 @@ use std::alloc::{AllocError, Global};
 /// # Examples
 ///
 /// ```
-/// // crates/octseq_tests/src/tests/builders.rt
-/// let mut cow = CowOctets::borrowed(rt.alloc(), b"abc");
-/// cow.truncate(5);
-/// assert_equal!(&rt, cow.as_ref(), b"abc".as_slice());
-/// assert_true!(&rt, cow.is_borrowed());
-/// cow.append_slice(b"d")?;
-/// assert_equal!(&rt, cow.as_ref(), b"abcd".as_slice());
-/// assert_true!(&rt, !cow.is_borrowed());
+/// // crates/octseq_examples/src/builders.rt
+/// let mut greeting = CowOctets::borrowed(alloc, b"hello world");
+/// greeting.truncate(5); // "hello", still borrowed
+/// greeting.append_slice(b"!")?; // "hello!", copied and owned
 /// ```
 #[derive(Drop)]
 pub enum CowOctets<'a> {

@@ -72,13 +72,13 @@ impl<'a> Model for Utf8Chunks<'a> {
 /// # Examples
 ///
 /// ```
-/// // crates/octseq_tests/src/tests/text/chunks.rt
-/// fn bad_octets(octets: &[u8]) -> usize {
-///     let mut count = 0_usize;
-///     for chunk in chunks(octets) {
-///         count = count.saturating_add(chunk.invalid().len());
+/// // crates/octseq_examples/src/text.rt
+/// let mut text = String::new(alloc);
+/// for chunk in chunks(octets) {
+///     text.push_str(chunk.valid())?;
+///     if !chunk.invalid().is_empty() {
+///         text.push('?')?;
 ///     }
-///     count
 /// }
 /// ```
 pub fn chunks(octets: &[u8]) -> Utf8Chunks<'_>

@@ -18,13 +18,11 @@ use octseq_core::builder::{OctetsBuilder, Truncate};
 /// # Examples
 ///
 /// ```
-/// // crates/octseq_tests/src/tests/composing.rt
-/// let mut message = Vec::new(rt.alloc());
-/// append_u16_be(&mut message, 0x1234)?;
-/// assert_equal!(&rt, append_part_u8(&mut message, b"abc"), Ok(()));
-/// append_i32_le(&mut message, -2)?;
-/// let octets = b"\x12\x34\x03abc\xFE\xFF\xFF\xFF".as_slice();
-/// assert_equal!(&rt, message.as_slice(), octets);
+/// // crates/octseq_examples/src/composing.rt
+/// let mut account = Array::<16>::new();
+/// append_u16_be(&mut account, 0x1234)?;
+/// append_part_u8(&mut account, b"abc")?; // the octet 3, and "abc"
+/// append_i32_le(&mut account, -2)?;
 /// ```
 #[tactic(auto, using(crate::proofs::Written::written_1))]
 pub fn append_part_u8<B: OctetsBuilder + Truncate>(

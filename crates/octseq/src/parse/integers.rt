@@ -93,14 +93,11 @@ impl<R: AsOctets> Parser<R> {
     /// # Examples
     ///
     /// ```
-    /// // crates/octseq_tests/src/tests/composing.rt
-    /// let octets = b"\x12\x34\x03abc\xFE\xFF\xFF\xFF".as_slice();
-    /// assert_equal!(&rt, message.as_slice(), octets);
-    /// let mut parser = Parser::from_ref(&message);
-    /// assert_equal!(&rt, parser.parse_u16_be()?, 0x1234);
-    /// assert_equal!(&rt, parser.parse_part_u8()?.peek_all(), b"abc".as_slice());
-    /// assert_equal!(&rt, parser.parse_i32_le()?, -2);
-    /// assert_equal!(&rt, parser.remaining(), 0);
+    /// // crates/octseq_examples/src/parsing.rt
+    /// let mut parser = Parser::from_static(b"\x12\x34\x03abc\xFE\xFF\xFF\xFF");
+    /// let number = parser.parse_u16_be()?; // 0x1234
+    /// let name = parser.parse_part_u8()?; // a parser of "abc"
+    /// let balance = parser.parse_i32_le()?; // -2
     /// ```
     #[tactic(auto, using(crate::proofs::WrittenBack::read_2, crate::proofs::Windows::next_of_rest))]
     pub fn parse_u16_be(&mut self) -> Result<u16, ShortInput>

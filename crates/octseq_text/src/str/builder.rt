@@ -47,12 +47,10 @@ impl<Octets: AsOctets> StrBuilder<Octets> {
     /// # Examples
     ///
     /// ```
-    /// // crates/octseq_tests/src/tests/text.rt
-    /// let mut text = StrBuilder::<Vec<u8>>::new(rt.alloc())?;
-    /// text.push_str("")?;
-    /// assert_equal!(&rt, text.as_str(), "");
-    /// text.push_str("abc")?;
-    /// assert_equal!(&rt, text.as_str(), "abc");
+    /// // crates/octseq_examples/src/text.rt
+    /// let mut text = StrBuilder::<Vec<u8>>::new(alloc)?;
+    /// text.push_str("caf")?;
+    /// text.push('é')?; // "café"
     /// ```
     pub fn new(alloc: Global) -> Result<Self, AllocError>
     where
@@ -90,14 +88,10 @@ impl<Octets: AsOctets> StrBuilder<Octets> {
     /// # Examples
     ///
     /// ```
-    /// // crates/octseq_tests/src/tests/text.rt
-    /// let octets = "ประเทศไทย中".as_bytes().to_vec(rt.alloc())?;
-    /// let mut text = StrBuilder::from_utf8(octets).ok().ok_or("refused")?;
-    /// for ch in ['华', 'b', '¢', '€', '𤭢'] {
-    ///     text.push(ch)?;
-    /// }
-    /// assert_equal!(&rt, text.len(), 43);
-    /// assert_equal!(&rt, text.as_str(), "ประเทศไทย中华b¢€𤭢");
+    /// // crates/octseq_examples/src/text.rt
+    /// let octets = b"caf\xC3\xA9".to_vec(alloc)?;
+    /// let mut text = StrBuilder::from_utf8(octets)?;
+    /// text.push_str(" 5€")?; // "café 5€"
     /// ```
     pub fn from_utf8(octets: Octets) -> Result<Self, FromUtf8Error<Octets>>
         ensures variant { IsOk result ↔ IsWellFormed (Octets.content octets) }
@@ -242,10 +236,12 @@ impl<Octets: AsOctets> StrBuilder<Octets> {
     /// # Examples
     ///
     /// ```
-    /// // crates/octseq_tests/src/tests/text.rt
-    /// let mut text = StrBuilder::<Array<4>>::new(rt.alloc())?;
-    /// assert_equal!(&rt, text.try_push_str("abc"), Ok(()));
-    /// assert_equal!(&rt, text.try_push('¢'), Err(AppendError::Short(ShortBuf)));
+    /// // crates/octseq_examples/src/text.rt
+    /// let mut text = StrBuilder::<Array<4>>::new(alloc)?;
+    /// text.try_push_str("abc")?;
+    /// if text.try_push('€').is_err() {
+    ///     text.try_push('?')?; // one octet was left, and "€" has three
+    /// }
     /// ```
     #[inline(always)]
     pub fn try_push(&mut self, ch: char) -> Result<(), AppendError>

@@ -9,10 +9,12 @@ use std::fmt;
 /// # Examples
 ///
 /// ```
-/// // crates/octseq_uses_tests/src/tests/habits.rt
-/// let mut counter = Counter { count: 0 };
-/// assert_true!(&rt, write!(counter, "{}/{}", 12_u8, "é").is_ok());
-/// assert_equal!(&rt, counter.count, 5);
+/// // crates/octseq_examples/src/text.rt
+/// pub fn printed_len(host: &str, port: u16) -> anyhow::Result<usize> {
+///     let mut counter = Counter { count: 0 };
+///     write!(counter, "{host}:{port}")?;
+///     Ok(counter.count)
+/// }
 /// ```
 #[derive(Clone, Copy, Debug, PartialEq, Eq)]
 pub struct Counter {

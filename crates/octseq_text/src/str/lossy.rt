@@ -36,12 +36,10 @@ impl<Octets: AsOctets> StrBuilder<Octets> {
     /// # Examples
     ///
     /// ```
-    /// // crates/octseq_tests/src/tests/refused/spared.rt
-    /// let octets = unread::<B>(alloc, b"a\xFF\xFF")?;
-    /// let mut text = given(StrBuilder::try_from_utf8_lossy(alloc, octets))?;
-    /// given(text.try_push('é'))?;
-    /// given(text.try_push_str("z"))?;
-    /// assert_equal!(rt, text.as_str(), "a\u{FFFD}\u{FFFD}éz");
+    /// // crates/octseq_examples/src/text.rt
+    /// let octets = b"caf\xE9".to_vec(alloc)?; // "café" in Latin-1
+    /// let mut text = StrBuilder::try_from_utf8_lossy(alloc, octets)?;
+    /// text.try_push_str(" au lait")?; // "caf\u{FFFD} au lait"
     /// ```
     pub fn try_from_utf8_lossy(alloc: Global, octets: Octets) -> Result<Self, AppendError>
     where

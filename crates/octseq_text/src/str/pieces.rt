@@ -72,11 +72,11 @@ impl<B: EmptyBuilder> LossyPieces<B> {
     /// # Examples
     ///
     /// ```
-    /// // crates/octseq_tests/src/tests/refused/spared.rt
-    /// let mut pieces = given(LossyPieces::<B>::new(alloc))?;
-    /// given(pieces.feed(b"a\xFF\xE2"))?;
-    /// given(pieces.feed(b"\x82\xAC\xF1"))?;
-    /// assert_equal!(rt, given(pieces.finish())?.as_str(), "a\u{FFFD}€\u{FFFD}");
+    /// // crates/octseq_examples/src/text.rt
+    /// let mut pieces = LossyPieces::<Vec<u8>>::new(alloc)?;
+    /// pieces.feed(b"5 \xE2\x82")?; // ends with two of the three octets of "€"
+    /// pieces.feed(b"\xAC \xFF")?; // begins with the third one
+    /// let text = pieces.finish()?; // "5 € \u{FFFD}"
     /// ```
     pub fn feed(&mut self, piece: &[u8]) -> Result<(), AppendError>
         // Octets have exactly one list of settled parts, and one open end.
@@ -174,13 +174,14 @@ impl<B: EmptyBuilder> LossyPieces<B> {
     /// # Examples
     ///
     /// ```
-    /// // crates/octseq_tool/src/engine.rt
-    /// let mut pieces = LossyPieces::new(alloc)?;
-    /// feed_all(alloc, reader, &mut pieces)?;
-    /// // (a vector has no limit, so all that it refuses is for want of memory)
-    /// let Ok(text) = pieces.finish() else {
-    ///     return Err(ProgramFault::Memory);
-    /// };
+    /// // crates/octseq_examples/src/text.rt
+    /// pub fn received_text(alloc: Global, received: &[&[u8]]) -> anyhow::Result<StrBuilder<Array<16>>> {
+    ///     let mut pieces = LossyPieces::new(alloc)?;
+    ///     for piece in received {
+    ///         pieces.feed(piece)?;
+    ///     }
+    ///     Ok(pieces.finish()?)
+    /// }
     /// ```
     pub fn finish(self) -> Result<StrBuilder<B>, AppendError>
         // Exactly one list of parts splits octets.

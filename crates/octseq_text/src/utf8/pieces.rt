@@ -57,14 +57,11 @@ impl FaultPieces {
     /// # Examples
     ///
     /// ```
-    /// // crates/octseq_tests/src/tests/text/fault_pieces.rt
-    /// fn fault_of(pieces: &[&[u8]]) -> Option<Utf8Fault> {
-    ///     let mut search = FaultPieces::new();
-    ///     for piece in pieces {
-    ///         search.feed(piece);
-    ///     }
-    ///     search.finish()
-    /// }
+    /// // crates/octseq_examples/src/text.rt
+    /// let mut search = FaultPieces::new();
+    /// search.feed(b"caf\xC3"); // ends with the first octet of "é"
+    /// search.feed(b"\xA9 \xFF"); // begins with the second one
+    /// search.finish() // a fault at index 6
     /// ```
     pub fn feed(&mut self, piece: &[u8])
         ensures { (octets : List ℕ) → HasSearched self.old octets → HasSearched self.new (octets ++ piece.now) }
