@@ -5,6 +5,7 @@ pub mod LabelLaws
 pub mod Names
 pub mod Origins
 pub mod Parents
+pub mod Passes
 pub mod Refusals
 pub mod SpellingSteps
 pub mod Spellings

@@ -11,7 +11,8 @@ use Rattle.octseq_dns_name.specs.NameFormat.{stands_takes}
 use Rattle.octseq_dns_name.specs.NameTurns.{name_turns}
 use Rattle.octseq_dns_name.specs.OneName.{at_label, at_pointer, one_standing, one_labels, one_name, Named, Ahead}
 use Rattle.octseq_dns_name.specs.OneName.{ahead_once}
-use Rattle.octseq_dns_name.specs.Piece.{Piece, HasPiece, end_of, kept_at}
+use Rattle.octseq_dns_name.specs.Pass.{GoesOn, LeadsTo, Reading}
+use Rattle.octseq_dns_name.specs.Piece.{Piece, HasPiece, end_of}
 
 -- ---- what is ahead
 
@@ -21,26 +22,6 @@ pub no_piece : (start : ℕ) (w x : Window) (labels : List (List ℕ)) (pointers
 no_piece start w x labels pointers none (Stands.root has) = none Piece.root x has
 no_piece start w x labels pointers none (Stands.label {u = u} {l = l} has rest) = none (Piece.label l) u has
 no_piece start w x labels pointers none (Stands.pointer {to = to} has rest) = none (Piece.pointer to) x has
-
--- A name at a first window is these labels and pointers, and then what is at a second one.
-pub record GoesOn (start : ℕ) (v : Window) (labels : List (List ℕ)) (pointers : ℕ) (behind : Option Window)
-    (all : List (List ℕ)) (count : ℕ) (x : Window) : Type 0 where
-  pub more : List (List ℕ)
-  pub fewer : ℕ
-  pub u : Window
-  pub stands : Stands start v more fewer u
-  pub labels_are : all ≡ labels ++ more
-  pub pointers_are : count ≡ pointers + fewer
-  pub end_is : x ≡ end_of behind u
-
--- These labels and pointers lead from a first window to a second one: a name is at the one exactly where the rest
--- of it is at the other.
-pub record LeadsTo (first : ℕ) (w : Window) (start : ℕ) (v : Window) (labels : List (List ℕ)) (pointers : ℕ)
-    (behind : Option Window) : Type 0 where
-  pub forward : (more : List (List ℕ)) (fewer : ℕ) (u : Window) → Stands start v more fewer u
-      → Stands first w (labels ++ more) (pointers + fewer) (end_of behind u)
-  pub backward : (all : List (List ℕ)) (count : ℕ) (x : Window) → Stands first w all count x
-      → GoesOn start v labels pointers behind all count x
 
 -- nothing was read yet
 pub leads_none : (start : ℕ) (w : Window) → LeadsTo start w start w [] 0 None
@@ -146,130 +127,33 @@ name_takes w v labels name = stands_takes w.position w v labels name.pointers na
 
 -- ---- the reader
 
--- What was read so far of the name at a window: its labels, with their wire length, and how many pointers led on.
-pub record Reading (w : Window) (start : ℕ) (v : Window) (size pointers : ℕ) (behind : Option Window) : Type 0 where
-  pub labels : List (List ℕ)
-  pub read : LeadsTo w.position w start v labels pointers behind
-  pub size_is : size ≡ wire_length labels
-
--- it took a turn for each label and for each pointer
-abbrev pub Counted : (w : Window) (start : ℕ) (v : Window) (size pointers : ℕ) (behind : Option Window) (old new : ℕ)
-    → Type 0
-Counted w start v size pointers behind old new =
-    (read : Reading w start v size pointers behind) × (new ≡ old + (length read.labels + pointers))
-
--- a reading begins with no labels, whose wire form is the root's one octet, and with no pointer
-pub begun : (w : Window) → Reading w w.position w 1 0 None
-begun w = record { labels = []; read = leads_none w.position w; size_is = refl }
+-- a reading begins with no labels, whose wire form is the root's one octet, with no pointer and no turn
+pub begun : (w : Window) (old : ℕ) → Reading w w.position w 1 0 None old old
+begun w old = record { labels = []; read = leads_none w.position w; size_is = refl; counted = omega arith }
 
 -- the reading goes on after a label, whose octets and the one of its length are counted
 pub with_label : (w : Window) (start : ℕ) (v u : Window) (size made pointers : ℕ) (behind : Option Window) (l : List ℕ)
-    → Reading w start v size pointers behind
-    → HasLabel v l u → made ≡ size + (1 + length l) → Reading w start u made pointers behind
-with_label w start v u size made pointers behind l so_far has is = record {
+    (old before new : ℕ) → Reading w start v size pointers behind old before
+    → HasLabel v l u → made ≡ size + (1 + length l) → new ≡ before + 1 → Reading w start u made pointers behind old new
+with_label w start v u size made pointers behind l old before new so_far has is tick = record {
   labels = so_far.labels ++ l ∷ [];
   read = leads_past_label w.position w start v u so_far.labels pointers l behind so_far.read has;
   size_is = let both = wire_append so_far.labels (l ∷ []) in let before = so_far.size_is in
       omega (arith, both, before, is);
+  counted = let counted = so_far.counted in omega (arith, length-append so_far.labels (l ∷ []), counted, tick);
 }
 
 -- the reading goes on where a pointer leads, with one pointer more, and no octet more
 pub with_pointer : (w : Window) (start : ℕ) (v u : Window) (size pointers : ℕ) (behind : Option Window) (to : ℕ)
-    → Reading w start v size pointers behind
-    → HasPointer start v to u → Reading w to (at to v) size (pointers + 1) (Some (end_of behind u))
-with_pointer w start v u size pointers behind to so_far has = record {
+    (old before new : ℕ) → Reading w start v size pointers behind old before
+    → HasPointer start v to u → new ≡ before + 1
+    → Reading w to (at to v) size (pointers + 1) (Some (end_of behind u)) old new
+with_pointer w start v u size pointers behind to old before new so_far has tick = record {
   labels = so_far.labels;
   read = leads_past_pointer w.position w start v u so_far.labels pointers to behind so_far.read has;
   size_is = so_far.size_is;
+  counted = let counted = so_far.counted in omega (arith, counted, tick);
 }
-
--- and with no turn
-pub counted_none : (w : Window) (start old : ℕ) → start ≡ w.position → Counted w start w 1 0 None old old
-unfolding begun
-counted_none w start old is =
-    subst (λ start. Counted w start w 1 0 None old old) (sym is) (begun w, omega arith)
-
--- one turn more for a label more
-pub counted_label : (w : Window) (start : ℕ) (v u : Window) (size made pointers : ℕ) (behind : Option Window)
-    (l : List ℕ) (old before new : ℕ) → Counted w start v size pointers behind old before
-    → HasLabel v l u → made ≡ size + (1 + length l) → new ≡ before + 1 → Counted w start u made pointers behind old new
-unfolding with_label
-counted_label w start v u size made pointers behind l old before new (read, counted) has is tick = (
-  with_label w start v u size made pointers behind l read has is,
-  omega (arith, length-append read.labels (l ∷ []), counted, tick),
-)
-
--- or for a pointer more
-pub counted_pointer : (w : Window) (start : ℕ) (v u : Window) (size pointers : ℕ) (behind : Option Window) (to : ℕ)
-    (old before new : ℕ) → Counted w start v size pointers behind old before
-    → HasPointer start v to u → new ≡ before + 1
-    → Counted w to (at to v) size (pointers + 1) (Some (end_of behind u)) old new
-unfolding with_pointer
-counted_pointer w start v u size pointers behind to old before new (read, counted) has tick =
-    (with_pointer w start v u size pointers behind to read has, omega (arith, counted, tick))
-
--- labels that are too long are no name, however they go on
-pub too_long : (w : Window) (start : ℕ) (v : Window) (size pointers : ℕ) (behind : Option Window)
-    → Reading w start v size pointers behind → 255 < size
-    → (labels : List (List ℕ)) (end : Window) → ¬ IsName w labels end
-too_long w start v size pointers behind so_far long labels end name =
-    let on = so_far.read.backward labels name.pointers end name.stands in
-    let both = wire_append so_far.labels on.more in
-    let some = wire_some on.more in
-    let all = ap wire_length on.labels_are in
-    let is = so_far.size_is in
-    let short = name.short in
-    omega (arith, both, some, all, is, short, long)
-
--- nor is what has no next piece
-pub no_next : (w : Window) (start : ℕ) (v : Window) (size pointers : ℕ) (behind : Option Window)
-    → Reading w start v size pointers behind
-    → ((p : Piece) (u : Window) → HasPiece start v p u → ⊥) → (labels : List (List ℕ)) (end : Window)
-    → ¬ IsName w labels end
-no_next w start v size pointers behind so_far none labels end name =
-    let on = so_far.read.backward labels name.pointers end name.stands in
-    no_piece start v on.u on.more on.fewer none on.stands
-
--- at the root the name is whole
-pub whole_name : (w : Window) (start : ℕ) (v u : Window) (size pointers : ℕ) (behind : Option Window)
-    → (read : Reading w start v size pointers behind)
-    → HasRoot v u → size ≤ 255 → pointers ≤ 127 → IsName w read.labels (end_of behind u)
-whole_name w start v u size pointers behind so_far has short few = record {
-  pointers = pointers;
-  stands = leads_to_root w.position w start v u so_far.labels pointers behind so_far.read has;
-  short = let is = so_far.size_is in omega (arith, is, short);
-  few = few;
-}
-
--- and at last for the root: however the name is read, those are its turns
-pub counted_name : (w : Window) (start : ℕ) (v u : Window) (size pointers : ℕ) (behind : Option Window)
-    (old before new : ℕ) → Counted w start v size pointers behind old before → HasRoot v u → size ≤ 255 → pointers ≤ 127
-    → new ≡ before + 1 → (labels : List (List ℕ)) (end : Window) (name : IsName w labels end)
-    → new ≡ old + name_turns name
-unfolding whole_name
-counted_name w start v u size pointers behind old before new (read, counted) has short few tick labels end name =
-    let whole = whole_name w start v u size pointers behind read has short few in
-    let same = one_standing w.position w _ end read.labels labels pointers name.pointers whole.stands name.stands in
-    omega (arith, ap length same.0, same.1, counted, tick)
-
--- ---- where the name ends
-
--- a window at a place of another is one at a place of the first
-pub at_of : (w u v : Window) (place : ℕ) → u ≡ at u.position w → v ≡ at place u → v ≡ at v.position w
-at_of w u v place of is = let there : v ≡ at place w = is ∙ ap (at place) of in
-    there ∙ sym (ap (λ x. at x.position w) there)
-
--- it ends at the place that was kept, or else where reading is
-pub kept_end : (w u : Window) (behind : Option ℕ) → u ≡ at u.position w
-    → end_of (kept_at w behind) u ≡ at (unwrap_or behind u.position) w
-kept_end w u None of = of
-kept_end w u (Some place) of = refl
-
--- which is within the window
-pub kept_within : (w u : Window) (behind : Option ℕ) → IfSome behind (λ place. place ≤ w.end) → u.position ≤ w.end
-    → unwrap_or behind u.position ≤ w.end
-kept_within w u None kept within = within
-kept_within w u (Some place) kept within = kept
 
 -- ---- what a name and its labels keep
 

@@ -7,6 +7,7 @@ pub mod Order
 pub mod OrderLaws
 pub mod Origin
 pub mod Owned
+pub mod Pass
 pub mod Piece
 pub mod Read
 pub mod Refused

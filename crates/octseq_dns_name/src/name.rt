@@ -6,7 +6,7 @@ ghost use Rattle.octseq_dns_name.specs.Name.{IsName, wire_length};
 ghost use Rattle.octseq_dns_name.specs.OneName.{Named, named_once};
 
 use crate::error::Malformed;
-use crate::name::step::{Step, next_step};
+use crate::name::pass::name_end;
 use octseq::builder::infallible;
 use octseq::utf8::Turns;
 use octseq::{AsOctets, Parser};
@@ -16,6 +16,7 @@ mod compare;
 mod format;
 mod labels;
 mod owned;
+mod pass;
 mod relatives;
 mod spelling;
 mod step;
@@ -109,6 +110,7 @@ impl<R: AsOctets + Copy> ParsedName<R> {
     /// # Errors
     ///
     /// As `parse`.
+    #[inline(always)]
     pub fn parse_counted(
         parser: &mut Parser<R>,
         turns: &mut Turns,
@@ -123,37 +125,16 @@ impl<R: AsOctets + Copy> ParsedName<R> {
         ensures turns { turns.new ≤ turns.old + 255 }
         ensures some { turns.old + 1 ≤ turns.new }
     {
-        let mut ahead = *parser;
-        let mut behind = None;
-        let mut start = parser.pos();
-        let mut len = 1usize;
-        let mut pointers = 0usize;
-        'pieces: loop {
-            turns.tick();
-            match next_step(&mut ahead, start)? {
-                Step::Root => break,
-                Step::Label(label) => {
-                    len += 1 + label.remaining();
-                    if len > NAME_MAX {
-                        return Err(Malformed);
-                    }
-                }
-                Step::Pointer(to) => {
-                    pointers += 1;
-                    if pointers > POINTER_MAX {
-                        return Err(Malformed);
-                    }
-                    behind = Some(behind.unwrap_or(ahead.pos()));
-                    infallible(ahead.seek(to));
-                    start = to;
-                }
-            }
-        }
+        let octets = parser.octets_ref();
+        let (place, end) = (parser.pos(), parser.len());
+        let Some((after, len)) = name_end(octets.as_ref(), place, end, turns) else {
+            return Err(Malformed);
+        };
         let name = ParsedName {
             parser: *parser,
             len,
         };
-        infallible(parser.seek(behind.unwrap_or(ahead.pos())));
+        infallible(parser.seek(after));
         Ok(name)
     }
 

@@ -1,0 +1,131 @@
+//! Where the name at a place ends: its labels are passed, and then what its first pointer leads to.
+ghost use Rattle.std.specs.Prelude.{◌≡◌, ◌+◌, ◌<◌, ◌≤◌, ℕ, length, IsNone, IfSome};
+ghost use Rattle.octseq.specs.Window.{Window};
+ghost use Rattle.octseq_dns_name.specs.Name.{HasPointer};
+ghost use Rattle.octseq_dns_name.specs.Pass.{window_at, NoName, NoRest, PassesLabels, Rests, Ends};
+
+use crate::name::wire::LABEL_MAX;
+use crate::name::{NAME_MAX, POINTER_MAX};
+use octseq::utf8::Turns;
+
+/// Where the name at a place ends, and how many octets it has in wire form. It counts a turn for the root, for each
+/// label and for each pointer.
+#[inline(always)]
+pub(crate) fn name_end(
+    octets: &[u8],
+    place: usize,
+    end: usize,
+    turns: &mut Turns,
+) -> Option<(usize, usize)>
+    requires ordered { place ≤ end }
+    requires within { end ≤ length octets.now }
+    ensures some { IfSome result (λ found.
+        Ends (window_at octets.now place end) found.0 found.1 turns.old turns.new) }
+    ensures none { IsNone result → NoName (window_at octets.now place end) }
+    ensures turns { turns.new ≤ turns.old + 255 }
+    ensures least { turns.old + 1 ≤ turns.new }
+{
+    turns.tick();
+    let at = pass_labels(octets, place, end, turns)?;
+    let before = at - place + 1;
+    if octets[at] == 0 {
+        return Some((at + 1, before));
+    }
+    let to = pointer_at(octets, at, end, place)?;
+    turns.tick();
+    let len = pass_rest(octets, to, end, before, turns)?;
+    Some((at + 2, len))
+}
+
+/// Passes the labels at a place: where the first octet is that is no label's length, unless the name is too long.
+#[inline(always)]
+fn pass_labels(octets: &[u8], place: usize, end: usize, turns: &mut Turns) -> Option<usize>
+    requires ordered { place ≤ end }
+    requires within { end ≤ length octets.now }
+    ensures some { IfSome result (λ at. PassesLabels (window_at octets.now place end) at turns.old turns.new) }
+    ensures none { IsNone result → NoName (window_at octets.now place end) }
+    ensures turns { turns.new ≤ turns.old + 128 }
+    ensures least { turns.old ≤ turns.new }
+{
+    let limit = place + NAME_MAX.min(end - place);
+    let mut at = place;
+    'labels: while at < limit {
+        let size = usize::from(octets[at]);
+        if size == 0 || size > LABEL_MAX {
+            return Some(at);
+        }
+        turns.tick();
+        at += 1 + size;
+    }
+    None
+}
+
+/// Where the pointer at a place leads, if one is there that leads before `start`.
+#[inline(always)]
+fn pointer_at(octets: &[u8], at: usize, end: usize, start: usize) -> Option<usize>
+    requires ordered { at < end }
+    requires within { end ≤ length octets.now }
+    ensures some { IfSome result (λ to.
+        HasPointer start (window_at octets.now at end) to (window_at octets.now (at + 2) end)) }
+    ensures none { IsNone result → (to : ℕ) (v : Window) → ¬ HasPointer start (window_at octets.now at end) to v }
+{
+    let first = octets[at];
+    if first < 192 {
+        return None;
+    }
+    if end - at < 2 {
+        return None;
+    }
+    let to = usize::from(first - 192) * 256 + usize::from(octets[at + 1]);
+    if to >= start {
+        return None;
+    }
+    Some(to)
+}
+
+/// Passes the rest of a name, from where its first pointer leads on: how many octets the name has in wire form. So many
+/// of them are before the rest, the root's one counted.
+#[inline(always)]
+fn pass_rest(
+    octets: &[u8],
+    to: usize,
+    end: usize,
+    before: usize,
+    turns: &mut Turns,
+) -> Option<usize>
+    requires ordered { to ≤ end }
+    requires within { end ≤ length octets.now }
+    requires short { before ≤ 255 }
+    ensures some { IfSome result (λ len. Rests (window_at octets.now to end) before len turns.old turns.new) }
+    ensures none { IsNone result → NoRest (window_at octets.now to end) before }
+    ensures turns { turns.new + turns.new + before ≤ turns.old + turns.old + 507 }
+    ensures least { turns.old ≤ turns.new }
+{
+    let mut start = to;
+    let mut at = to;
+    let mut len = before;
+    let mut pointers = 1usize;
+    'pieces: while at < end {
+        let size = usize::from(octets[at]);
+        if size == 0 {
+            return Some(len);
+        }
+        if size <= LABEL_MAX {
+            at += 1 + size;
+            len += 1 + size;
+            if len > NAME_MAX {
+                return None;
+            }
+            turns.tick();
+            continue;
+        }
+        start = pointer_at(octets, at, end, start)?;
+        at = start;
+        pointers += 1;
+        if pointers > POINTER_MAX {
+            return None;
+        }
+        turns.tick();
+    }
+    None
+}
