@@ -27,30 +27,6 @@ pub none_after_name : {B : Type 0} (Second : Relation B) (w u : Window) (labels 
 none_after_name Second w u labels is none = none_second HasName Second w u (record { place = w; labels = labels })
     one_named (refl, is) none
 
--- ---- records
-
--- what comes after the owner of a record, as a format finds it
-abbrev pub IsAfterOwner : Relation (ℕ × (ℕ × (ℕ × Window)))
-IsAfterOwner = IsNumber 2 then IsNumber 2 then IsNumber 4 then Counted 2 0 IsRest
-
--- after a name it makes a record
-pub record_is : (w u v : Window) (r : Record) → HasName w r.owner u
-    → IsAfterOwner u (r.rtype, (r.class, (r.ttl, r.rdata))) v → IsRecord w r v
-record_is w u v r owner is =
-    let numbers = is.2.2 in
-    let kept = part_of_counted 2 numbers.0 r.rdata v numbers.2 in
-    (u, owner, (is.0, is.1, (is.2.0, is.2.1, (numbers.0, numbers.1, kept))))
-
--- and where it isn't, after a name, no record is
-pub no_record : (w u : Window) (labels : List (List ℕ)) → IsName w labels u → NoneAt IsAfterOwner u
-    → NoneAt IsRecord w
-no_record w u labels owner none r v is =
-    none_after_name (IsNumber 2 then IsNumber 2 then IsNumber 4 then IsData) w u labels owner (λ parts v is.
-    let numbers = is.2.2 in
-    let kept = counted_of_part 2 numbers.0 parts.1.1.1 v numbers.2 in
-    none parts v (is.0, is.1, (is.2.0, is.2.1, (numbers.0, numbers.1, kept))))
-    (r.owner, (r.rtype, (r.class, (r.ttl, r.rdata)))) v is
-
 -- ---- how many octets things take
 
 -- a question takes 5 octets at least

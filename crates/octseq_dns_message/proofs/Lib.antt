@@ -3,6 +3,7 @@ pub mod Asked
 pub mod Edns
 pub mod Formats
 pub mod Headers
+pub mod Known
 pub mod Limits
 pub mod MessageTexts
 pub mod Messages

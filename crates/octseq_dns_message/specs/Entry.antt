@@ -11,9 +11,13 @@ pub record Question : Type 0 where
   pub qtype : ℕ
   pub qclass : ℕ
 
--- a name, a type and a class
+-- what comes after the name of a question: a type and a class
+abbrev pub IsAfterName : Window → ℕ × ℕ → Window → Type 0
+IsAfterName = IsNumber 2 then IsNumber 2
+
+-- a name, and that after it
 abbrev pub IsQuestion : Window → Question → Window → Type 0
-IsQuestion w q v = (HasName then IsNumber 2 then IsNumber 2) w (q.qname, (q.qtype, q.qclass)) v
+IsQuestion w q v = (HasName then IsAfterName) w (q.qname, (q.qtype, q.qclass)) v
 
 -- A record: the name that it is of, its type and class, for how many seconds it may be kept, and the window of its data
 -- in the message.
@@ -24,7 +28,10 @@ pub record Record : Type 0 where
   pub ttl : ℕ
   pub rdata : Window
 
--- a name, a type, a class, a TTL, and data after its length
+-- what comes after the owner of a record: a type, a class, a TTL, and data after its length
+abbrev pub IsAfterOwner : Window → ℕ × (ℕ × (ℕ × Window)) → Window → Type 0
+IsAfterOwner = IsNumber 2 then IsNumber 2 then IsNumber 4 then IsData
+
+-- a name, and that after it
 abbrev pub IsRecord : Window → Record → Window → Type 0
-IsRecord w r v = (HasName then IsNumber 2 then IsNumber 2 then IsNumber 4 then IsData)
-    w (r.owner, (r.rtype, (r.class, (r.ttl, r.rdata)))) v
+IsRecord w r v = (HasName then IsAfterOwner) w (r.owner, (r.rtype, (r.class, (r.ttl, r.rdata)))) v

@@ -12,13 +12,13 @@ use Rattle.octseq_format.specs.Rest.{window_code}
 use Rattle.octseq_format.specs.Row.{Holds, held_once}
 
 -- what a question and a record have, one after another
-abbrev question_parts : Question → Name × (ℕ × ℕ)
+abbrev pub question_parts : Question → Name × (ℕ × ℕ)
 question_parts q = (q.qname, (q.qtype, q.qclass))
 
 abbrev question_from : Name × (ℕ × ℕ) → Question
 question_from q = record { qname = q.0; qtype = q.1.0; qclass = q.1.1 }
 
-abbrev record_parts : Record → Name × (ℕ × (ℕ × (ℕ × Window)))
+abbrev pub record_parts : Record → Name × (ℕ × (ℕ × (ℕ × Window)))
 record_parts r = (r.owner, (r.rtype, (r.class, (r.ttl, r.rdata))))
 
 abbrev record_from : Name × (ℕ × (ℕ × (ℕ × Window))) → Record

@@ -1,5 +1,6 @@
 pub mod Comparisons
 pub mod Fronts
+pub mod Known
 pub mod LabelItems
 pub mod LabelLaws
 pub mod Names

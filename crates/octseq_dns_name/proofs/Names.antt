@@ -1,17 +1,15 @@
 -- How a name is read piece by piece: what was read, what is ahead, and when there is no name.
 use Rattle.std.proofs.Common.{◌≡◌, ℕ, suc, ◌+◌, ◌<◌, ◌≤◌, List, [], ◌∷◌, ◌++◌, length, Option, Some, None, refl, sym}
-use Rattle.std.proofs.Common.{ap, ◌∙◌, subst, append_assoc, length-append, arith, IfSome}
+use Rattle.std.proofs.Common.{ap, ◌∙◌, subst, append_assoc, length-append, arith}
 use Rattle.std.proofs.Math.Logic.{∥∥₁_prop, ∥∥₁_elim}
 use Rattle.std.specs.Coded.{le_prop}
-use Rattle.std.specs.Option.{unwrap_or}
 use Rattle.std.proofs.lemmas.List.{append-nil}
 use Rattle.octseq.specs.Window.{Window, left, at}
 use Rattle.octseq_dns_name.specs.Name.{HasRoot, HasLabel, HasPointer, Stands, IsName, wire_length}
 use Rattle.octseq_dns_name.specs.NameFormat.{stands_takes}
-use Rattle.octseq_dns_name.specs.NameTurns.{name_turns}
 use Rattle.octseq_dns_name.specs.OneName.{at_label, at_pointer, one_standing, one_labels, one_name, Named, Ahead}
 use Rattle.octseq_dns_name.specs.OneName.{ahead_once}
-use Rattle.octseq_dns_name.specs.Pass.{GoesOn, LeadsTo, Reading}
+use Rattle.octseq_dns_name.specs.Pass.{LeadsTo, Reading}
 use Rattle.octseq_dns_name.specs.Piece.{Piece, HasPiece, end_of}
 
 -- ---- what is ahead

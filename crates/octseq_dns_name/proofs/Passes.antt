@@ -1,12 +1,12 @@
 -- How a name is passed by the octets that it is in.
-use Rattle.std.proofs.Common.{◌≡◌, ℕ, suc, ◌+◌, ◌-◌, ◌*◌, ◌<◌, ◌≤◌, List, [], ◌∷◌, ◌++◌, length, take, drop, get_or}
+use Rattle.std.proofs.Common.{◌≡◌, ℕ, ◌+◌, ◌-◌, ◌*◌, ◌<◌, ◌≤◌, List, ◌++◌, length, take, drop, get_or}
 use Rattle.std.proofs.Common.{inl, inr, min, None, Option, Some, refl, sym, ap, ◌∙◌, subst, arith, length-append, length-take}
 use Rattle.std.proofs.Common.{length-drop}
 use Rattle.std.proofs.lemmas.Bool.{cases_lt}
 use Rattle.std.proofs.lemmas.List.{drop_more}
 use Rattle.octseq.specs.Integer.{be}
 use Rattle.octseq.specs.Window.{Window, left, next, at, past}
-use Rattle.octseq_dns_name.specs.Name.{HasRoot, HasLabel, HasPointer, Stands, IsName, octet, wire_length}
+use Rattle.octseq_dns_name.specs.Name.{HasRoot, HasLabel, HasPointer, IsName, octet, wire_length}
 use Rattle.octseq_dns_name.specs.NameFormat.{be_one}
 use Rattle.octseq_dns_name.specs.NameTurns.{name_turns}
 use Rattle.octseq_dns_name.specs.OneName.{one_standing}
@@ -245,11 +245,13 @@ module _ (octets : List ℕ) (on end start to before len pointers old between : 
         → RestsTo octets on end next next before len (pointers + 1) old new
     rests_pointer next new some has tick =
         let u = window_at octets (to + 2) end in
-        let same : pointers - 1 + 1 ≡ pointers + 1 - 1 = omega (arith, some) in
-        (Some (end_of so_far.0 u), subst (λ n. Reading (window_at octets on end) next (window_at octets next end)
-        (len + 1 - before) n (Some (end_of so_far.0 u)) old new) same
-        (with_pointer (window_at octets on end) start (window_at octets to end) u (len + 1 - before) (pointers - 1)
-        so_far.0 next old between new so_far.1 has tick))
+        let same : pointers - 1 + 1 ≡ pointers + 1 - 1 = omega (arith, some) in (
+          Some (end_of so_far.0 u),
+          subst (λ n. Reading (window_at octets on end) next (window_at octets next end)
+              (len + 1 - before) n (Some (end_of so_far.0 u)) old new) same
+              (with_pointer (window_at octets on end) start (window_at octets to end) u (len + 1 - before) (pointers - 1)
+              so_far.0 next old between new so_far.1 has tick),
+        )
 
     module _ (size : ℕ) (within : end ≤ length octets) (room : to < end) (is : get_or octets to 0 ≡ size) where
       -- a label more, where it is whole
@@ -257,10 +259,12 @@ module _ (octets : List ℕ) (on end start to before len pointers old between : 
           → RestsTo octets on end start (to + (1 + size)) before (len + (1 + size)) pointers old new
       rests_label new some short tick whole =
           let has = label_at octets to end size within room is some short whole in
-          let long = has.1 in
-          (so_far.0, with_label (window_at octets on end) start (window_at octets to end)
-          (window_at octets (to + (1 + size)) end) (len + 1 - before) (len + (1 + size) + 1 - before) (pointers - 1)
-          so_far.0 has.0 old between new so_far.1 has.2 (omega (arith, long, fewer)) tick)
+          let long = has.1 in (
+            so_far.0,
+            with_label (window_at octets on end) start (window_at octets to end)
+                (window_at octets (to + (1 + size)) end) (len + 1 - before) (len + (1 + size) + 1 - before) (pointers - 1)
+                so_far.0 has.0 old between new so_far.1 has.2 (omega (arith, long, fewer)) tick,
+          )
 
       -- and no rest, where it isn't, or where it is too long
       pub cuts_rest : 1 ≤ size → size ≤ 63 → end < to + (1 + size) → NoRest (window_at octets on end) before
@@ -385,10 +389,10 @@ pub long_label : (octets : List ℕ) (on end start to before len pointers old be
 long_label octets on end start to before len pointers old between size so_far fewer within room is some short long =
     elim (cases_lt end (to + (1 + size))) [
       | inl cut ↦ cuts_rest octets on end start to before len pointers old between so_far fewer size within room is some
-        short cut
+          short cut
       | inr whole ↦ long_rest octets on end start (to + (1 + size)) before (len + (1 + size)) pointers old (between + 1)
-        (rests_label octets on end start to before len pointers old between so_far fewer size within room is
-        (between + 1) some short refl whole) (omega (arith, fewer)) long
+          (rests_label octets on end start to before len pointers old between so_far fewer size within room is
+          (between + 1) some short refl whole) (omega (arith, fewer)) long
     ]
 
 -- nothing is past the end
@@ -399,7 +403,7 @@ ended_rest octets on end start to before len pointers old between fewer over ins
     elim (cases_lt end to) [
       | inl past ↦ outside past
       | inr within ↦ no_rest octets on end start to before len pointers old between (inside within) fewer
-        (none_at_end start (window_at octets to end) (omega (arith, over)))
+          (none_at_end start (window_at octets to end) (omega (arith, over)))
     ]
 
 -- ---- what a parser reads

@@ -1,7 +1,7 @@
 -- What is passed of a name: the labels and pointers that were read, and what is ahead of them.
 use Rattle.std.specs.Prelude.{◌≡◌, ℕ, ◌+◌, ◌-◌, ◌<◌, ◌≤◌, List, ◌++◌, length, Option, None}
 use Rattle.octseq.specs.Window.{Window, at}
-use Rattle.octseq_dns_name.specs.Name.{HasPointer, IsName, Stands, octet, wire_length}
+use Rattle.octseq_dns_name.specs.Name.{IsName, Stands, octet, wire_length}
 use Rattle.octseq_dns_name.specs.NameTurns.{name_turns}
 use Rattle.octseq_dns_name.specs.Piece.{end_of}
 

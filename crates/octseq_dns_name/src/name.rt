@@ -1,5 +1,6 @@
 //! Domain names in messages, with their compression pointers.
-ghost use Rattle.std.specs.Prelude.{◌≡◌, ℕ, List};
+ghost use Rattle.std.specs.Prelude.{◌≡◌, ℕ, List, IfSome};
+ghost use Rattle.std.proofs.Props.{props};
 ghost use Rattle.octseq.specs.Parser.{window};
 ghost use Rattle.octseq.specs.Window.{Window};
 ghost use Rattle.octseq_dns_name.specs.Name.{IsName, wire_length};
@@ -7,6 +8,8 @@ ghost use Rattle.octseq_dns_name.specs.OneName.{Named, named_once};
 
 use crate::error::Malformed;
 use crate::name::pass::name_end;
+use crate::name::step::pass_known;
+use crate::name::wire::wire_len;
 use octseq::builder::infallible;
 use octseq::utf8::Turns;
 use octseq::{AsOctets, Parser};
@@ -50,9 +53,10 @@ pub fn one_name_at_a_place()
 #[derive(Debug)]
 pub struct ParsedName<R: AsOctets> {
     parser: Parser<R>,
-    len: usize,
+    // How many octets it has in wire form, where that was counted.
+    len: Option<usize>,
     ghost named: { Named (window parser) } by { named_once (window parser) },
-    ghost measured: { len ≡ wire_length named.0 },
+    ghost measured: { IfSome len (λ len. len ≡ wire_length named.0) } by { Prim.hlevel props },
 }
 
 impl<R: AsOctets + Copy> Copy for ParsedName<R> {}
@@ -132,10 +136,27 @@ impl<R: AsOctets + Copy> ParsedName<R> {
         };
         let name = ParsedName {
             parser: *parser,
-            len,
+            len: Some(len),
         };
         infallible(parser.seek(after));
         Ok(name)
+    }
+
+    /// Takes the next name of a message where a name is known to be, as in a message that was checked. The parser is
+    /// then where [`parse`](Self::parse) leaves it, but no pointer was followed.
+    #[inline(always)]
+    pub fn parse_known(parser: &mut Parser<R>) -> ParsedName<R>
+        requires { Named (window parser.old) }
+        ensures place { place_of result ≡ window parser.old }
+        ensures name { ∥ IsName (window parser.old) (labels_of result) (window parser.new) ∥₁ }
+        ensures same { sequence parser.new ≡ sequence parser.old }
+    {
+        let name = ParsedName {
+            parser: *parser,
+            len: None,
+        };
+        pass_known(parser);
+        name
     }
 
     /// The parser of the message, at the name's place.
@@ -165,13 +186,16 @@ impl<R: AsOctets + Copy> ParsedName<R> {
         ensures len { result ≡ wire_length (labels_of self.now) }
         ensures most { result ≤ 255 }
     {
-        self.len
+        match self.len {
+            Some(len) => len,
+            None => wire_len(self.labels()),
+        }
     }
 
     /// Whether it is the root, which has no label.
     pub fn is_root(&self) -> bool
         ensures { IsTrue result ↔ (labels_of self.now ≡ []) }
     {
-        self.len == 1
+        self.labels().next().is_none()
     }
 }

@@ -2,16 +2,15 @@
 ghost use Rattle.std.specs.Prelude.{◌≡◌, ◌+◌, ◌≤◌, IsErr, IfOk, OnOk, OnErr, ⊤};
 ghost use Rattle.octseq.specs.Parser.{sequence, window};
 ghost use Rattle.octseq.specs.Window.{Window};
+ghost use Rattle.octseq_dns_message.specs.Entry.{IsAfterName};
+ghost use Rattle.octseq_format.specs.Laws.{NoneAt};
 
+use octseq::builder::infallible;
 use octseq::utf8::Turns;
 use octseq::{AsOctets, Parser};
 use octseq_dns_data::{Class, Rtype};
 use octseq_dns_name::{Malformed, ParsedName};
-use octseq_format::{Format, U16Be};
 use std::alloc::AllocError;
-
-/// What comes after the name of a question: a type and a class.
-type AfterName = (U16Be, U16Be);
 
 /// A question of a message: the name that is asked for, and which type and class.
 #[derive(Debug)]
@@ -79,13 +78,28 @@ impl<R: AsOctets + Copy> Question<R> {
     {
         let mut ahead = *parser;
         let qname = ParsedName::parse_counted(&mut ahead, turns)?;
-        let (qtype, qclass) = AfterName::parse(&mut ahead)?;
+        let (qtype, qclass) = parse_after_name(&mut ahead)?;
         *parser = ahead;
         Ok(Question {
             qname,
             qtype,
             qclass,
         })
+    }
+
+    /// Takes the next question of a message that was checked, where one is known to be. No pointer is followed.
+    #[inline(always)]
+    pub(crate) fn parse_known(parser: &mut Parser<R>) -> Question<R>
+        requires { ∥ (question : said.Question) × (v : Window) × IsQuestion (window parser.old) question v ∥₁ }
+        ensures question { ∥ IsQuestion (window parser.old) (question_of result) (window parser.new) ∥₁ }
+    {
+        let qname = ParsedName::parse_known(parser);
+        let (qtype, qclass) = infallible(parse_after_name(parser));
+        Question {
+            qname,
+            qtype,
+            qclass,
+        }
     }
 
     /// The name that is asked for.
@@ -108,4 +122,15 @@ impl<R: AsOctets + Copy> Question<R> {
     {
         Class::from_int(self.qclass)
     }
+}
+
+/// Takes what comes after the name of a question: a type and a class, which are read at once.
+#[inline(always)]
+fn parse_after_name<R: AsOctets + Copy>(parser: &mut Parser<R>) -> Result<(u16, u16), Malformed>
+    ensures value { IfOk result (λ found. IsAfterName (window parser.old) (found.0, found.1) (window parser.new)) }
+    ensures malformed { IsErr result → NoneAt IsAfterName (window parser.old) }
+    ensures same { sequence parser.new ≡ sequence parser.old }
+{
+    let numbers = parser.parse_u32_be()?;
+    Ok(((numbers >> 16) as u16, numbers as u16))
 }

@@ -2,7 +2,9 @@
 ghost use Rattle.std.specs.Prelude.{◌≡◌, ◌+◌, ◌≤◌, IsErr, IfOk, OnOk, OnErr, ⊤};
 ghost use Rattle.octseq.specs.Parser.{sequence, window};
 ghost use Rattle.octseq.specs.Window.{Window};
+ghost use Rattle.octseq_dns_message.specs.Entry.{IsAfterOwner};
 ghost use Rattle.octseq_dns_name.specs.Read.{place_of};
+ghost use Rattle.octseq_format.specs.Laws.{NoneAt};
 
 use crate::ttl::Ttl;
 use octseq::builder::infallible;
@@ -10,11 +12,7 @@ use octseq::utf8::Turns;
 use octseq::{AsOctets, Parser};
 use octseq_dns_data::{Class, Data, Rtype};
 use octseq_dns_name::{Malformed, ParsedName};
-use octseq_format::{Counted, Format, Rest, U16Be, U32Be};
 use std::alloc::AllocError;
-
-/// What comes after the owner of a record: a type, a class, a TTL, and data after its length.
-type AfterOwner = (U16Be, U16Be, U32Be, Counted<u16, Rest, 0>);
 
 /// A record of a message: the name that it is of, its type, its class, for how many seconds it may be kept, and where
 /// its data is. [`data`](Self::data) tells what the data says.
@@ -89,7 +87,7 @@ impl<R: AsOctets + Copy> Record<R> {
     {
         let mut ahead = *parser;
         let owner = ParsedName::parse_counted(&mut ahead, turns)?;
-        let (rtype, class, ttl, rdata) = AfterOwner::parse(&mut ahead)?;
+        let (rtype, class, ttl, rdata) = parse_after_owner(&mut ahead)?;
         *parser = ahead;
         Ok(Record {
             owner,
@@ -98,6 +96,23 @@ impl<R: AsOctets + Copy> Record<R> {
             ttl,
             rdata,
         })
+    }
+
+    /// Takes the next record of a message that was checked, where one is known to be. No pointer is followed.
+    #[inline(always)]
+    pub(crate) fn parse_known(parser: &mut Parser<R>) -> Record<R>
+        requires { ∥ (entry : said.Record) × (v : Window) × IsRecord (window parser.old) entry v ∥₁ }
+        ensures entry { ∥ IsRecord (window parser.old) (record_of result) (window parser.new) ∥₁ }
+    {
+        let owner = ParsedName::parse_known(parser);
+        let (rtype, class, ttl, rdata) = infallible(parse_after_owner(parser));
+        Record {
+            owner,
+            rtype,
+            class,
+            ttl,
+            rdata,
+        }
     }
 
     /// The name that it is of.
@@ -164,4 +179,21 @@ impl<R: AsOctets + Copy> Record<R> {
             Err(_) => Data::Unknown(rtype, self.rdata),
         }
     }
+}
+
+/// Takes what comes after the owner of a record: a type, a class, a TTL, and data after its length. The three numbers are
+/// read at once.
+#[inline(always)]
+fn parse_after_owner<R: AsOctets + Copy>(
+    parser: &mut Parser<R>,
+) -> Result<(u16, u16, u32, Parser<R>), Malformed>
+    ensures value { IfOk result (λ found. IsAfterOwner (window parser.old)
+        (found.0, (found.1, (found.2, window found.3))) (window parser.new)) }
+    ensures malformed { IsErr result → NoneAt IsAfterOwner (window parser.old) }
+    ensures same { sequence parser.new ≡ sequence parser.old }
+{
+    let numbers = parser.parse_u64_be()?;
+    let rdata = parser.parse_part_u16_be()?;
+    let (rtype, class) = ((numbers >> 48) as u16, (numbers >> 32) as u16);
+    Ok((rtype, class, numbers as u32, rdata))
 }

@@ -59,14 +59,10 @@ impl<R: AsOctets + Copy> Iterator for Questions<R> {
             return None;
         }
         let mut parser = self.parser;
-        match Question::parse(&mut parser) {
-            Ok(entry) => {
-                let left = self.left - 1;
-                *self = Questions { parser, left };
-                Some(entry)
-            }
-            Err(_) => None,
-        }
+        let entry = Question::parse_known(&mut parser);
+        let left = self.left - 1;
+        *self = Questions { parser, left };
+        Some(entry)
     }
 }
 
@@ -119,13 +115,9 @@ impl<R: AsOctets + Copy> Iterator for Records<R> {
             return None;
         }
         let mut parser = self.parser;
-        match Record::parse(&mut parser) {
-            Ok(entry) => {
-                let left = self.left - 1;
-                *self = Records { parser, left };
-                Some(entry)
-            }
-            Err(_) => None,
-        }
+        let entry = Record::parse_known(&mut parser);
+        let left = self.left - 1;
+        *self = Records { parser, left };
+        Some(entry)
     }
 }

@@ -102,7 +102,7 @@ impl<R: AsOctets + Copy> ParsedName<R> {
     pub fn name_eq<S: AsOctets + Copy>(&self, other: &ParsedName<S>) -> bool
         ensures { IsTrue result ↔ (lower_labels (labels_of self.now) ≡ lower_labels (labels_of other.now)) }
     {
-        self.len() == other.len() && labels_eq(self.labels(), other.labels())
+        labels_eq(self.labels(), other.labels())
     }
 
     /// How it compares with another name in the canonical order: RFC 4034, 6.1. The last labels that differ decide,

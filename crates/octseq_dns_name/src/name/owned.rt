@@ -35,7 +35,7 @@ impl<B: AsOctets> Name<B> {
         let octets = self.octets.as_ref();
         ParsedName {
             parser: Parser::from_ref(octets),
-            len: octets.len(),
+            len: Some(octets.len()),
         }
     }
 

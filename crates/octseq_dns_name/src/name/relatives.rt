@@ -20,9 +20,8 @@ impl<R: AsOctets + Copy> ParsedName<R> {
     {
         let mut parser = self.parser;
         let mut start = parser.pos();
-        let label = next_label(&mut parser, &mut start)?;
-        let len = self.len - (1 + label.remaining());
-        Some(ParsedName { parser, len })
+        next_label(&mut parser, &mut start)?;
+        Some(ParsedName { parser, len: None })
     }
 
     /// The name, its parent, and so on to the root: at most 128 names.

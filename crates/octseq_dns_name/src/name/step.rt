@@ -2,8 +2,9 @@
 ghost use Rattle.std.specs.Prelude.{◌≡◌, ◌≤◌, ℕ, List, [], ◌∷◌, IsErr, IfOk, IsNone, IfSome};
 ghost use Rattle.octseq.specs.Parser.{sequence, window};
 ghost use Rattle.octseq.specs.Window.{Window, rest};
-ghost use Rattle.octseq_dns_name.specs.Name.{Stands};
+ghost use Rattle.octseq_dns_name.specs.Name.{IsName, Stands};
 ghost use Rattle.octseq_dns_name.specs.NextLabel.{NextLabel};
+ghost use Rattle.octseq_dns_name.specs.OneName.{Ahead, Named};
 ghost use Rattle.octseq_dns_name.specs.Piece.{Piece, HasPiece, piece, IsPlaced, IsShort, IsShortLabel};
 
 use crate::error::Malformed;
@@ -53,13 +54,15 @@ pub(crate) fn next_step<R: AsOctets + Copy>(
     Ok(Step::Pointer(to))
 }
 
-/// Takes the next label of a name, and all pointers before it. The part of the name that is ahead began at `start`.
+/// Takes the next label of a name that was read, and all pointers before it. The part of the name that is ahead began at
+/// `start`.
 #[inline(always)]
 pub(crate) fn next_label<R: AsOctets + Copy>(
     parser: &mut Parser<R>,
     start: &mut usize,
 ) -> Option<Parser<R>>
-    requires { start.old ≤ (window parser.old).position }
+    requires ordered { start.old ≤ (window parser.old).position }
+    requires known { Ahead start.old (window parser.old) }
     ensures some { IfSome result (λ label. (labels : List (List ℕ)) (pointers : ℕ) (end : Window)
         → Stands start.old (window parser.old) labels pointers end
         → (more : List (List ℕ)) × (fewer : ℕ) × (last : Window)
@@ -72,14 +75,31 @@ pub(crate) fn next_label<R: AsOctets + Copy>(
         NextLabel start.old (window parser.old) (window label) start.new (window parser.new)) }
 {
     'pointers: loop {
-        match next_step(parser, *start) {
-            Ok(Step::Label(label)) => return Some(label),
-            Ok(Step::Pointer(to)) => {
+        match infallible(next_step(parser, *start)) {
+            Step::Label(label) => return Some(label),
+            Step::Pointer(to) => {
                 infallible(parser.seek(to));
                 *start = to;
             }
-            Ok(Step::Root) => return None,
-            Err(_) => return None,
+            Step::Root => return None,
+        }
+    }
+}
+
+/// Passes a name that was read: up to the root, or to its first pointer, which it doesn't follow.
+#[inline(always)]
+pub(crate) fn pass_known<R: AsOctets + Copy>(parser: &mut Parser<R>)
+    requires { Named (window parser.old) }
+    ensures end { (labels : List (List ℕ)) (end : Window) → IsName (window parser.old) labels end
+        → end ≡ window parser.new }
+    ensures same { sequence parser.new ≡ sequence parser.old }
+{
+    let start = parser.pos();
+    'labels: loop {
+        match infallible(next_step(parser, start)) {
+            Step::Label(_) => {}
+            Step::Root => return,
+            Step::Pointer(_) => return,
         }
     }
 }

@@ -16,6 +16,17 @@ use std::alloc::AllocError;
 /// How many octets a label may have: RFC 1035, 2.3.4.
 pub(crate) const LABEL_MAX: usize = 63;
 
+/// How many octets labels have in wire form: each after its length, and one octet for the root.
+pub(crate) fn wire_len<R: AsOctets + Copy>(labels: Labels<R>) -> usize
+    ensures { result ≡ wire_length (labels_left labels) }
+{
+    let mut len = 1usize;
+    for label in labels {
+        len += 1 + label.len();
+    }
+    len
+}
+
 /// Appends labels in plain wire form to a builder that has room for them.
 pub(crate) fn append_labels<B: OctetsBuilder, R: AsOctets + Copy>(
     octets: &mut B,

@@ -1,6 +1,4 @@
-use Rattle.std.proofs.Common.{◌≡◌, ◌+◌, ◌-◌, ◌<◌, ◌≤◌, inl, inr, length, get_or, rules, arith}
-use Rattle.octseq_dns_name.specs.Name.{octet}
-use Rattle.octseq_dns_name.specs.Pass.{window_at}
+use Rattle.std.proofs.Common.{◌≡◌, ◌<◌, ◌≤◌, get_or, rules, arith}
 use Rattle.octseq_dns_name.proofs.Passes.{octet_at, reads_none, reads_label, cuts_label, no_more}
 use Rattle.octseq_dns_name.proofs.name.pass.pass_labels.Goals as goal
 

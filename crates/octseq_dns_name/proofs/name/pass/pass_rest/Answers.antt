@@ -1,4 +1,4 @@
-use Rattle.std.proofs.Common.{◌≡◌, ◌+◌, ◌<◌, ◌≤◌, get_or, refl, rules, arith}
+use Rattle.std.proofs.Common.{◌≡◌, ◌+◌, ◌≤◌, get_or, refl, rules, arith}
 use Rattle.octseq_dns_name.proofs.Passes.{ended_rest, long_label, none_pointed, cuts_rest, rests_none, no_rest}
 use Rattle.octseq_dns_name.proofs.Passes.{many_pointers, rests_pointer, rests_label, rests_root}
 use Rattle.octseq_dns_name.proofs.name.pass.pass_rest.Goals as goal

@@ -1,5 +1,5 @@
-use Rattle.std.proofs.Common.{◌≡◌, ◌+◌, ◌-◌, ◌*◌, get_or, ap, ◌∙◌, arith}
-use Rattle.octseq_dns_name.proofs.Passes.{place_in, pointer_there, none_marked, none_paired, none_before}
+use Rattle.std.proofs.Common.{◌+◌, ◌*◌, ap, arith}
+use Rattle.octseq_dns_name.proofs.Passes.{pointer_there, none_marked, none_paired, none_before}
 use Rattle.octseq_dns_name.proofs.name.pass.pointer_at.Goals as goal
 
 pub returns-then-first-lt192-clause-none : goal.returns-then-first-lt192-clause-none

@@ -1,9 +1,8 @@
 use Rattle.std.proofs.Common.{refl}
 use Rattle.octseq.specs.Parser.{window}
-use Rattle.octseq_dns_data.specs.Format.{IsNumber}
+use Rattle.octseq_dns_message.specs.Entry.{IsAfterName}
 use Rattle.octseq_dns_name.specs.Read.{labels_of}
 use Rattle.octseq_dns_message.proofs.Formats.{none_after_name}
-use Rattle.octseq_format.specs.Pair.{◌then◌}
 use Rattle.octseq_dns_message.proofs.message.question.Question.parse_counted.Goals as goal
 
 pub returns-in_err-qname-clause-malformed : goal.returns-in_err-qname-clause-malformed
@@ -12,6 +11,6 @@ returns-in_err-qname-clause-malformed g c = λ _ q v is.
 
 pub returns-in_err-qtype-clause-malformed : goal.returns-in_err-qtype-clause-malformed
 returns-in_err-qtype-clause-malformed g c = λ _ q v is.
-    none_after_name (IsNumber 2 then IsNumber 2) (window c.args.parser.now) (window c.parse_counted.new.parser)
+    none_after_name IsAfterName (window c.args.parser.now) (window c.parse_counted.new.parser)
     (labels_of c.in_ok-qname.qname) c.in_ok-qname.ensures.name (c.in_err-qtype.ensures.malformed refl)
     (q.qname, (q.qtype, q.qclass)) v is

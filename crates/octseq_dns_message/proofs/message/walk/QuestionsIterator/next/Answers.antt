@@ -3,7 +3,8 @@ use Rattle.octseq.specs.Parser.{window}
 use Rattle.octseq_dns_message.specs.Entry.{IsQuestion}
 use Rattle.octseq_dns_message.specs.OneEntry.{one_question, question_code}
 use Rattle.octseq_dns_message.specs.Said.{question_of}
-use Rattle.octseq_format.proofs.RowSteps.{held_none, held_not, held_more, held_then, fewer}
+use Rattle.octseq_dns_message.proofs.Known.{known_first, known_more, known_then}
+use Rattle.octseq_format.proofs.RowSteps.{held_none, fewer}
 use Rattle.octseq_dns_message.proofs.message.walk.QuestionsIterator.next.Goals as goal
 
 pub returns-then-self-eq0-clause-steps : goal.returns-then-self-eq0-clause-steps
@@ -12,30 +13,32 @@ returns-then-self-eq0-clause-steps g c =
     let none = held_none question_code IsQuestion (window self.parser) self.left self.ahead (search rules) in
     (none, none)
 
-pub returns-in-Err-clause-steps : goal.returns-in-Err-clause-steps
-returns-in-Err-clause-steps g c =
+pub parse_known-requires : goal.parse_known-requires
+parse_known-requires g c =
     let self = c.args.self.now in
-    absurd (held_not IsQuestion (window self.parser) self.left self.ahead (omega arith)
-    (c.in-Err.ensures.malformed refl))
+    let some = c.if-self-eq0.false in
+    known_first IsQuestion (window self.parser) self.left self.ahead (omega (arith, some))
 
 pub invariant_of-self : goal.invariant_of-self
 invariant_of-self g c =
     let self = c.args.self.now in
-    let entry = question_of c.in-Ok.entry in
+    let some = c.if-self-eq0.false in
     record {
-      ahead = held_more question_code IsQuestion one_question (window self.parser) (window c.parse.new.parser)
-          entry self.left (self.left - 1) self.ahead c.in-Ok.ensures.question (omega arith);
+      ahead = known_more question_code IsQuestion one_question (window self.parser) (window c.parse_known.new.parser)
+          (question_of c.parse_known.result) self.left (self.left - 1) self.ahead c.parse_known.ensures.question
+          (omega (arith, some));
     }
 
-pub returns-in-Ok-clause-steps : goal.returns-in-Ok-clause-steps
-returns-in-Ok-clause-steps g c =
+pub returns-clause-steps : goal.returns-clause-steps
+returns-clause-steps g c =
     let self = c.args.self.now in
-    let entry = question_of c.in-Ok.entry in
-    held_then question_code IsQuestion one_question (window self.parser) (window c.parse.new.parser) entry self.left
-    (self.left - 1) self.ahead c.self-1.given.0 c.in-Ok.ensures.question (omega arith)
+    let some = c.if-self-eq0.false in
+    known_then question_code IsQuestion one_question (window self.parser) (window c.parse_known.new.parser)
+    (question_of c.parse_known.result) self.left (self.left - 1) self.ahead c.parse_known.ensures.question (omega (arith, some))
+    c.self-1.given.0
 
-pub returns-in-Ok-clause-goes : goal.returns-in-Ok-clause-goes
-returns-in-Ok-clause-goes g c =
-    let less = fewer (question_of c.in-Ok.entry) c.args.self.now.ahead.0 c.self-1.given.0.0
-    (returns-in-Ok-clause-steps g c) in
+pub returns-clause-goes : goal.returns-clause-goes
+returns-clause-goes g c =
+    let less = fewer (question_of c.parse_known.result) c.args.self.now.ahead.0 c.self-1.given.0.0
+    (returns-clause-steps g c) in
     record { on = λ finite. (tt, finite, less); keeps = tt; rests = λ _. tt }
