@@ -1,7 +1,8 @@
 -- At most one header is at a place: its flags and numbers can be told from their sum.
-use Rattle.std.proofs.Common.{◌≡◌, ℕ, ◌+◌, ◌*◌, ◌<◌, Bool, true, false, List, ◌∷◌, refl, sym, ap, ◌∙◌, arith}
+use Rattle.std.proofs.Common.{◌≡◌, ℕ, zero, suc, ◌+◌, ◌*◌, ◌/◌, ◌%◌, ◌<◌, Bool, true, false, nat_eq, List, ◌∷◌, refl, sym}
+use Rattle.std.proofs.Common.{ap, ◌∙◌, arith}
 use Rattle.octseq.specs.Window.{Window}
-use Rattle.octseq_dns_message.specs.Flag.{flag}
+use Rattle.octseq_dns_message.specs.Flag.{flag, flags_in, is_set}
 use Rattle.octseq_dns_data.specs.Format.{IsNumber}
 use Rattle.octseq_dns_message.specs.Header.{IsHeader, flag_bits, header_numbers}
 use Rattle.octseq_dns_data.specs.Format.{one_number}
@@ -131,3 +132,26 @@ one_header w h k counts others u v a b =
       },
       same.1,
     )
+
+-- ---- the flags in a number
+
+flag_digit : (n weight : ℕ) → n < 2 → flag (nat_eq n 1) weight ≡ n * weight
+flag_digit zero weight few = omega arith
+flag_digit (suc zero) weight few = omega arith
+flag_digit (suc (suc n)) weight few = absurd (omega (arith, few))
+
+-- the number is what they count, with the opcode and the response code
+pub bits_of : (id bits : ℕ) → bits < 65536
+    → flag_bits (record { id = id; flags = flags_in bits; opcode = bits / 2048 % 16; rcode = bits % 16 }) ≡ bits
+bits_of id bits small =
+    let flag_in : (weight : ℕ) → flag (is_set bits weight) weight ≡ bits / weight % 2 * weight =
+    λ weight. flag_digit (bits / weight % 2) weight (omega arith) in
+    let qr = flag_in 32768 in
+    let aa = flag_in 1024 in
+    let tc = flag_in 512 in
+    let rd = flag_in 256 in
+    let ra = flag_in 128 in
+    let z = flag_in 64 in
+    let ad = flag_in 32 in
+    let cd = flag_in 16 in
+    omega (arith, small, qr, aa, tc, rd, ra, z, ad, cd)

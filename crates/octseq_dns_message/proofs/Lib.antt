@@ -1,5 +1,6 @@
 pub mod Aliases
 pub mod Asked
+pub mod Digits
 pub mod Edns
 pub mod Formats
 pub mod Headers

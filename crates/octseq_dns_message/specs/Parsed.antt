@@ -1,20 +1,21 @@
 -- What contracts see of a message that was read.
-use Rattle.std.specs.Prelude.{ℕ, ◌+◌, List}
+use Rattle.std.specs.Prelude.{ℕ, ◌+◌, ◌/◌, ◌%◌, List}
 use Rattle.octseq.specs.declared.AsOctets.{Ghosts}
 use Rattle.octseq_dns_message.specs.Entry.{Question, Record}
 use Rattle.octseq_dns_message.specs.EntryTurns.{questions_turns, records_turns}
+use Rattle.octseq_dns_message.specs.Flag.{flags_in}
 use Rattle.octseq_dns_message.specs.declared.message.Message.{Message}
-use Rattle.octseq_dns_message.specs.declared.message.Numbers.{Numbers}
 use Rattle.octseq_dns_message.specs.declared.header.Header.{Header}
 use Rattle.octseq_dns_message.specs.declared.header.HeaderCounts.{HeaderCounts}
+use Rattle.octseq_dns_message.specs.declared.header.Numbers.{Numbers}
 
 -- the header that numbers are of
 abbrev pub fields_of : Numbers → Header
 fields_of numbers = record {
   id = numbers.id;
-  flags = numbers.flags;
-  opcode = numbers.opcode;
-  rcode = numbers.rcode;
+  flags = flags_in numbers.bits;
+  opcode = numbers.bits / 2048 % 16;
+  rcode = numbers.bits % 16;
 }
 
 -- its header

@@ -2,7 +2,7 @@
 ghost use Rattle.std.specs.Prelude.{◌≡◌, ◌*◌, ◌/◌, ◌%◌, ◌<◌, IsErr, IfOk, OnErr};
 ghost use Rattle.octseq.specs.Parser.{sequence, window};
 ghost use Rattle.octseq.specs.Window.{Window};
-ghost use Rattle.octseq_dns_message.specs.Flag.{flag};
+ghost use Rattle.octseq_dns_message.specs.Flag.{is_set, flags_in};
 
 use octseq::{AsOctets, Parser};
 use octseq_dns_data::{Opcode, Rcode};
@@ -58,7 +58,7 @@ pub struct HeaderCounts {
 /// Whether the bit that counts `weight` is set.
 fn is_set(bits: u16, weight: u16) -> bool
     requires { 0 < weight }
-    ensures { flag result weight ≡ bits / weight % 2 * weight }
+    ensures { result ≡ is_set bits weight }
 {
     bits / weight % 2 == 1
 }
@@ -66,14 +66,7 @@ fn is_set(bits: u16, weight: u16) -> bool
 impl Flags {
     /// The flags in the second number of a header.
     fn from_bits(bits: u16) -> Self
-        ensures qr { flag result.qr 32768 ≡ bits / 32768 % 2 * 32768 }
-        ensures aa { flag result.aa 1024 ≡ bits / 1024 % 2 * 1024 }
-        ensures tc { flag result.tc 512 ≡ bits / 512 % 2 * 512 }
-        ensures rd { flag result.rd 256 ≡ bits / 256 % 2 * 256 }
-        ensures ra { flag result.ra 128 ≡ bits / 128 % 2 * 128 }
-        ensures z { flag result.z 64 ≡ bits / 64 % 2 * 64 }
-        ensures ad { flag result.ad 32 ≡ bits / 32 % 2 * 32 }
-        ensures cd { flag result.cd 16 ≡ bits / 16 % 2 * 16 }
+        ensures { result ≡ flags_in bits }
     {
         Flags {
             qr: is_set(bits, 32768),
@@ -102,6 +95,57 @@ fn rcode_in(bits: u16) -> Rcode
     Rcode::from_int((bits % 16) as u8)
 }
 
+/// The numbers of a header as they are in a message: what they say is told when it is asked for.
+#[derive(Clone, Copy, Debug)]
+pub(crate) struct Numbers {
+    id: u16,
+    bits: u16,
+    pub(crate) counts: HeaderCounts,
+}
+
+impl Numbers {
+    ghost use Rattle.octseq_dns_message.specs.Header.{IsHeader};
+    ghost use Rattle.octseq_dns_message.specs.Parsed.{fields_of};
+
+    /// Takes the numbers of a header: 12 octets.
+    pub(crate) fn parse<R: AsOctets + Copy>(parser: &mut Parser<R>) -> Result<Numbers, Malformed>
+        ensures header { IfOk result (λ numbers.
+            IsHeader (window parser.old) (fields_of numbers) numbers.counts (window parser.new)) }
+        ensures malformed { IsErr result → (header : Header) (counts : HeaderCounts) (v : Window)
+            → ¬ IsHeader (window parser.old) header counts v }
+        ensures kept { OnErr result (window parser.new ≡ window parser.old) }
+        ensures same { sequence parser.new ≡ sequence parser.old }
+    {
+        let mut ahead = *parser;
+        let id = ahead.parse_u16_be()?;
+        let bits = ahead.parse_u16_be()?;
+        let qdcount = ahead.parse_u16_be()?;
+        let ancount = ahead.parse_u16_be()?;
+        let nscount = ahead.parse_u16_be()?;
+        let arcount = ahead.parse_u16_be()?;
+        *parser = ahead;
+        let counts = HeaderCounts {
+            qdcount,
+            ancount,
+            nscount,
+            arcount,
+        };
+        Ok(Numbers { id, bits, counts })
+    }
+
+    /// The header that they are of.
+    pub(crate) fn header(self) -> Header
+        ensures { result ≡ fields_of self }
+    {
+        Header {
+            id: self.id,
+            flags: Flags::from_bits(self.bits),
+            opcode: opcode_in(self.bits),
+            rcode: rcode_in(self.bits),
+        }
+    }
+}
+
 impl Header {
     ghost use Rattle.octseq_dns_message.specs.Header.{IsHeader};
 
@@ -119,26 +163,7 @@ impl Header {
         ensures kept { OnErr result (window parser.new ≡ window parser.old) }
         ensures same { sequence parser.new ≡ sequence parser.old }
     {
-        let mut ahead = *parser;
-        let id = ahead.parse_u16_be()?;
-        let bits = ahead.parse_u16_be()?;
-        let qdcount = ahead.parse_u16_be()?;
-        let ancount = ahead.parse_u16_be()?;
-        let nscount = ahead.parse_u16_be()?;
-        let arcount = ahead.parse_u16_be()?;
-        *parser = ahead;
-        let header = Header {
-            id,
-            flags: Flags::from_bits(bits),
-            opcode: opcode_in(bits),
-            rcode: rcode_in(bits),
-        };
-        let counts = HeaderCounts {
-            qdcount,
-            ancount,
-            nscount,
-            arcount,
-        };
-        Ok((header, counts))
+        let numbers = Numbers::parse(parser)?;
+        Ok((numbers.header(), numbers.counts))
     }
 }

@@ -9,11 +9,10 @@ ghost use Rattle.octseq_dns_message.specs.declared.header.Header.{Header as Fiel
 ghost use Rattle.octseq_dns_message.specs.declared.header.HeaderCounts.{HeaderCounts as Counts};
 ghost use Rattle.octseq_format.specs.Row.{Holds};
 
-use crate::header::{Flags, Header, HeaderCounts};
+use crate::header::{Header, HeaderCounts, Numbers};
 use crate::message::sections::{pass_questions, pass_records};
 use octseq::utf8::Turns;
 use octseq::{AsOctets, Parser};
-use octseq_dns_data::{Opcode, Rcode};
 use octseq_dns_name::Malformed;
 use std::alloc::AllocError;
 
@@ -48,57 +47,6 @@ pub fn one_message()
         (a b d x y z : List said.Record) → IsMessage octets h q a b d → IsMessage octets k others x y z
         → (h ≡ k) × (q ≡ others) × (a ≡ x) × (b ≡ y) × (d ≡ z) }
 {}
-
-/// The numbers of a header, and its counts. A `?` on a result that holds a reference beside a type with a model, as
-/// `Opcode`, isn't proved, so a message has its header's numbers plain.
-#[derive(Clone, Copy, Debug)]
-struct Numbers {
-    id: u16,
-    flags: Flags,
-    opcode: u8,
-    rcode: u8,
-    counts: HeaderCounts,
-    ghost opcodes: { opcode < 16 },
-    ghost rcodes: { rcode < 16 },
-}
-
-impl Numbers {
-    ghost use Rattle.std.specs.Prelude.{IsErr, IfOk};
-    ghost use Rattle.octseq.specs.Parser.{sequence};
-    ghost use Rattle.octseq.specs.Window.{Window};
-    ghost use Rattle.octseq_dns_message.specs.Header.{IsHeader};
-    ghost use Rattle.octseq_dns_message.specs.Parsed.{fields_of};
-
-    /// Takes the header of a message, as `Header::parse`.
-    fn parse<R: AsOctets + Copy>(parser: &mut Parser<R>) -> Result<Numbers, Malformed>
-        ensures header { IfOk result (λ numbers.
-            IsHeader (window parser.old) (fields_of numbers) numbers.counts (window parser.new)) }
-        ensures malformed { IsErr result → (header : Fields) (counts : Counts) (v : Window)
-            → ¬ IsHeader (window parser.old) header counts v }
-        ensures same { sequence parser.new ≡ sequence parser.old }
-    {
-        let (header, counts) = Header::parse(parser)?;
-        Ok(Numbers {
-            id: header.id,
-            flags: header.flags,
-            opcode: header.opcode.to_int(),
-            rcode: header.rcode.to_int(),
-            counts,
-        })
-    }
-
-    /// The header that they are of.
-    fn header(self) -> Header
-        ensures { result ≡ fields_of self }
-    {
-        Header {
-            id: self.id,
-            flags: self.flags,
-            opcode: Opcode::from_int(self.opcode),
-            rcode: Rcode::from_int(self.rcode),
-        }
-    }
-}
 
 /// A message: its header, and where its sections begin. It copies no octet of them.
 #[derive(Debug)]

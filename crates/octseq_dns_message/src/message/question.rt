@@ -90,7 +90,7 @@ impl<R: AsOctets + Copy> Question<R> {
     /// Takes the next question of a message that was checked, where one is known to be. No pointer is followed.
     #[inline(always)]
     pub(crate) fn parse_known(parser: &mut Parser<R>) -> Question<R>
-        requires { ∥ (question : said.Question) × (v : Window) × IsQuestion (window parser.old) question v ∥₁ }
+        requires { ∥ ((question : said.Question) × (v : Window) × IsQuestion (window parser.old) question v) ∥₁ }
         ensures question { ∥ IsQuestion (window parser.old) (question_of result) (window parser.new) ∥₁ }
     {
         let qname = ParsedName::parse_known(parser);
@@ -132,5 +132,5 @@ fn parse_after_name<R: AsOctets + Copy>(parser: &mut Parser<R>) -> Result<(u16, 
     ensures same { sequence parser.new ≡ sequence parser.old }
 {
     let numbers = parser.parse_u32_be()?;
-    Ok(((numbers >> 16) as u16, numbers as u16))
+    Ok(((numbers >> 16) as u16, (numbers % 65_536) as u16))
 }

@@ -101,7 +101,7 @@ impl<R: AsOctets + Copy> Record<R> {
     /// Takes the next record of a message that was checked, where one is known to be. No pointer is followed.
     #[inline(always)]
     pub(crate) fn parse_known(parser: &mut Parser<R>) -> Record<R>
-        requires { ∥ (entry : said.Record) × (v : Window) × IsRecord (window parser.old) entry v ∥₁ }
+        requires { ∥ ((entry : said.Record) × (v : Window) × IsRecord (window parser.old) entry v) ∥₁ }
         ensures entry { ∥ IsRecord (window parser.old) (record_of result) (window parser.new) ∥₁ }
     {
         let owner = ParsedName::parse_known(parser);
@@ -194,6 +194,8 @@ fn parse_after_owner<R: AsOctets + Copy>(
 {
     let numbers = parser.parse_u64_be()?;
     let rdata = parser.parse_part_u16_be()?;
-    let (rtype, class) = ((numbers >> 48) as u16, (numbers >> 32) as u16);
-    Ok((rtype, class, numbers as u32, rdata))
+    let rtype = (numbers >> 48) as u16;
+    let class = ((numbers >> 32) % 65_536) as u16;
+    let ttl = (numbers % 4_294_967_296) as u32;
+    Ok((rtype, class, ttl, rdata))
 }

@@ -25,7 +25,9 @@ invariant_of-result g c =
       ttl = c.in_ok-rtype.ttl;
       rdata = window c.in_ok-rtype.rdata;
     } in
-    let within = record_of_window (window c.args.parser.now) (window c.parse_after_owner.new.parser) entry
-    (window c.parse_counted.new.parser, (c.in_ok-owner.ensures.place, c.in_ok-owner.ensures.name),
-    c.in_ok-rtype.ensures.value) in
+    let within = record_of_window (window c.args.parser.now) (window c.parse_after_owner.new.parser) entry (
+      window c.parse_counted.new.parser,
+      (c.in_ok-owner.ensures.place, c.in_ok-owner.ensures.name),
+      c.in_ok-rtype.ensures.value,
+    ) in
     record { octets = within.0; within = within.1 }

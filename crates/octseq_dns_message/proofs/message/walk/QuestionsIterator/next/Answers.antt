@@ -13,8 +13,8 @@ returns-then-self-eq0-clause-steps g c =
     let none = held_none question_code IsQuestion (window self.parser) self.left self.ahead (search rules) in
     (none, none)
 
-pub parse_known-requires : goal.parse_known-requires
-parse_known-requires g c =
+pub parse_known-entry-requires : goal.parse_known-entry-requires
+parse_known-entry-requires g c =
     let self = c.args.self.now in
     let some = c.if-self-eq0.false in
     known_first IsQuestion (window self.parser) self.left self.ahead (omega (arith, some))
@@ -24,8 +24,8 @@ invariant_of-self g c =
     let self = c.args.self.now in
     let some = c.if-self-eq0.false in
     record {
-      ahead = known_more question_code IsQuestion one_question (window self.parser) (window c.parse_known.new.parser)
-          (question_of c.parse_known.result) self.left (self.left - 1) self.ahead c.parse_known.ensures.question
+      ahead = known_more question_code IsQuestion one_question (window self.parser) (window c.parse_known-entry.new.parser)
+          (question_of c.parse_known-entry.result) self.left (self.left - 1) self.ahead c.parse_known-entry.ensures.question
           (omega (arith, some));
     }
 
@@ -33,12 +33,12 @@ pub returns-clause-steps : goal.returns-clause-steps
 returns-clause-steps g c =
     let self = c.args.self.now in
     let some = c.if-self-eq0.false in
-    known_then question_code IsQuestion one_question (window self.parser) (window c.parse_known.new.parser)
-    (question_of c.parse_known.result) self.left (self.left - 1) self.ahead c.parse_known.ensures.question (omega (arith, some))
+    known_then question_code IsQuestion one_question (window self.parser) (window c.parse_known-entry.new.parser)
+    (question_of c.parse_known-entry.result) self.left (self.left - 1) self.ahead c.parse_known-entry.ensures.question (omega (arith, some))
     c.self-1.given.0
 
 pub returns-clause-goes : goal.returns-clause-goes
 returns-clause-goes g c =
-    let less = fewer (question_of c.parse_known.result) c.args.self.now.ahead.0 c.self-1.given.0.0
+    let less = fewer (question_of c.parse_known-entry.result) c.args.self.now.ahead.0 c.self-1.given.0.0
     (returns-clause-steps g c) in
     record { on = λ finite. (tt, finite, less); keeps = tt; rests = λ _. tt }
