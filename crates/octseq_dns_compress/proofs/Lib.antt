@@ -11,11 +11,13 @@ pub mod KeptNames
 pub mod KeptSoFar
 pub mod Keys
 pub mod Marked
+pub mod Limits
 pub mod MoreNames
 pub mod Over
 pub mod Pieces
 pub mod PlainForm
 pub mod PlainLabels
+pub mod Places
 pub mod Searched
 pub mod Standing
 pub mod Steps

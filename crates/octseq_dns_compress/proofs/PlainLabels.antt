@@ -1,29 +1,15 @@
--- Labels in plain form, and where each begins.
+-- Labels, each after its length, and where they are.
 use Rattle.std.specs.Prelude.{slice_index_or}
 use Rattle.std.proofs.Common.{◌≡◌, ℕ, zero, suc, ◌+◌, ◌-◌, ◌<◌, ◌≤◌, List, [], ◌∷◌, ◌++◌, length, take, drop, refl}
 use Rattle.std.proofs.Common.{sym, ap}
-use Rattle.std.proofs.Common.{◌∙◌, arith, append_assoc, append-nil, length-append}
-use Rattle.std.proofs.lemmas.Grind.{flat_map-append}
-use Rattle.std.proofs.lemmas.List.{drop_more}
+use Rattle.std.proofs.Common.{◌∙◌, arith, append_assoc, length-append}
+use Rattle.std.proofs.lemmas.List.{drop_more, flat_map_more, get_or-map, length-drop, length-map, length-take}
+use Rattle.std.proofs.lemmas.List.{take_more, take-take}
 use Rattle.std.proofs.Math.Seq.{take-append_seam, drop-append_seam, get_or-append_seam}
 use Rattle.octseq_dns_name.specs.Name.{wire_length}
+use Rattle.octseq_dns_compress.specs.Key.{label_at, IsWhole}
 use Rattle.octseq_dns_compress.specs.Names.{unrooted}
-use Rattle.octseq_dns_compress.specs.PlainName.{Labeled, labeled_once, starts_of}
-
--- each label has a beginning
-pub count_starts : (start : ℕ) (labels : List (List ℕ)) → length (starts_of start labels) ≡ length labels
-count_starts start [] = refl
-count_starts start (label ∷ labels) =
-    let more = count_starts (start + (1 + length label)) labels in omega (arith, more)
-
--- after the octets of those before it
-pub start_after : (start : ℕ) (labels : List (List ℕ)) (index d : ℕ) → index < length labels
-    → slice_index_or (starts_of start labels) index d ≡ start + length (unrooted (take index labels))
-start_after start [] index d within = absurd (omega (arith, within))
-start_after start (label ∷ labels) zero d within = omega arith
-start_after start (label ∷ labels) (suc index) d within =
-    let more = start_after (start + (1 + length label)) labels index d (omega (arith, within)) in
-    let long = length-append label (unrooted (take index labels)) in omega (arith, more, long)
+use Rattle.octseq_dns_compress.specs.PlainName.{label_of, labels_at, AreWhole}
 
 -- the octets are those of the first labels and then those of the others
 pub front_and_rest : (index : ℕ) (labels : List (List ℕ))
@@ -60,116 +46,6 @@ module _ (octets front label back : List ℕ) (is : octets ≡ front ++ (length 
       ∙ ap (take (1 + length label)) (drop-append_seam front (length label ∷ label ++ back))
       ∙ ap (λ n. take n ((length label ∷ label) ++ back)) more ∙ take-append_seam (length label ∷ label) back
 
--- where a label is among those of a name
-pub label_of_labels : (octets : List ℕ) (labels : List (List ℕ)) (index : ℕ) (label : List ℕ) (rest : List (List ℕ))
-    → octets ≡ unrooted labels → drop index labels ≡ label ∷ rest
-    → octets ≡ unrooted (take index labels) ++ (length label ∷ label ++ unrooted rest)
-label_of_labels octets labels index label rest are is =
-    are ∙ front_and_rest index labels ∙ ap (λ more. unrooted (take index labels) ++ unrooted more) is
-
--- so the octets of a label are there, whatever place is read
-module _ (octets : List ℕ) (labels : List (List ℕ)) (index start len : ℕ) (are : octets ≡ unrooted labels)
-    (is : start ≡ length (unrooted (take index labels))) (len_is : len ≡ slice_index_or octets start 0) where
-  len_of : (label : List ℕ) (rest : List (List ℕ)) → drop index labels ≡ label ∷ rest → len ≡ length label
-  len_of label rest here =
-      len_is ∙ ap (λ n. slice_index_or octets n 0) is
-      ∙ length_there octets (unrooted (take index labels)) label (unrooted rest)
-      (label_of_labels octets labels index label rest are here)
-
-  pub label_within : index < length labels → start + 1 + len ≤ length octets
-  label_within within =
-      let label = slice_index_or labels index [] in
-      let rest = drop (index + 1) labels in
-      let here : drop index labels ≡ label ∷ rest = drop_more labels index [] within in
-      let long = len_of label rest here in
-      let whole = whole_there octets (unrooted (take index labels)) label (unrooted rest)
-      (label_of_labels octets labels index label rest are here) in
-      omega (arith, long, whole, is)
-
-  pub label_read : (label : List ℕ) (rest : List (List ℕ)) → drop index labels ≡ label ∷ rest
-      → take (start + 1 + len - start) (drop start octets) ≡ length label ∷ label
-  label_read label rest here =
-      let long = len_of label rest here in
-      let more : start + 1 + len - start ≡ 1 + length label = omega (arith, long) in
-      ap (λ n. take n (drop start octets)) more ∙ ap (λ n. take (1 + length label) (drop n octets)) is
-      ∙ label_there octets (unrooted (take index labels)) label (unrooted rest)
-      (label_of_labels octets labels index label rest are here)
-
--- the octets of the first labels are as long as what they are a front of
-pub front_fits : (octets : List ℕ) (labels : List (List ℕ)) (index : ℕ) → octets ≡ unrooted labels
-    → length (unrooted (take index labels)) ≤ length octets
-front_fits octets labels index are =
-    let all = ap length (are ∙ front_and_rest index labels)
-    ∙ length-append (unrooted (take index labels)) (unrooted (drop index labels)) in
-    omega (arith, all)
-
-pub front_taken : (octets : List ℕ) (labels : List (List ℕ)) (index start : ℕ) → octets ≡ unrooted labels
-    → start ≡ length (unrooted (take index labels)) → take start octets ≡ unrooted (take index labels)
-front_taken octets labels index start are is =
-    ap (λ n. take n octets) is ∙ ap (take (length (unrooted (take index labels)))) (are ∙ front_and_rest index labels)
-    ∙ take-append_seam (unrooted (take index labels)) (unrooted (drop index labels))
-
--- so the others are one fewer
-pub plain_short : (octets : List ℕ) (labels : List (List ℕ)) → octets ≡ unrooted labels → wire_length labels ≤ 255
-    → length octets ≤ 254
-plain_short octets labels are short =
-    let same = ap length are in
-    let wire = wire_of_unrooted labels in omega (arith, same, wire, short)
-
--- ---- one label more
-
--- labels have an octet more than twice as many as they are
-module _ (done : List (List ℕ)) (label : List ℕ) (rest : List (List ℕ)) (all : List (List ℕ))
-    (are : all ≡ done ++ label ∷ rest) (short : wire_length all ≤ 255) where
-  pub room_for_label : length (unrooted done) + (1 + length label) ≤ 254
-  room_for_label =
-      let long = sym (wire_of_unrooted all) in
-      let whole = ap (λ labels. length (unrooted labels)) are
-      ∙ ap length (flat_map-append (λ l. length l ∷ l) done (label ∷ rest))
-      ∙ length-append (unrooted done) (unrooted (label ∷ rest)) in
-      let more = length-append label (unrooted rest) in
-      omega (arith, short, long, whole, more)
-
--- the plain form of one label more
-one_more_label : (done : List (List ℕ)) (label : List ℕ)
-    → unrooted (done ++ label ∷ []) ≡ (unrooted done ++ length label ∷ []) ++ label
-one_more_label done label =
-    flat_map-append (λ l. length l ∷ l) done (label ∷ [])
-    ∙ ap (λ o. unrooted done ++ length label ∷ o) (append-nil label)
-    ∙ sym (append_assoc (unrooted done) (length label ∷ []) label)
-
-one_more_start : (start : ℕ) (done : List (List ℕ)) (label : List ℕ)
-    → starts_of start (done ++ label ∷ []) ≡ starts_of start done ++ (start + length (unrooted done)) ∷ []
-one_more_start start [] label = ap (λ n. n ∷ []) (omega arith)
-one_more_start start (first ∷ done) label =
-    let long = length-append first (unrooted done) in
-    ap (λ starts. start ∷ starts)
-    (one_more_start (start + (1 + length first)) done label
-    ∙ ap (λ n. starts_of (start + (1 + length first)) done ++ n ∷ []) (omega (arith, long)))
-
-pub label_appended : (done : List (List ℕ)) (label old mid new slice : List ℕ) → old ≡ unrooted done
-    → slice ≡ label → mid ≡ old ++ length slice ∷ [] → new ≡ mid ++ slice → new ≡ unrooted (done ++ label ∷ [])
-label_appended done label old mid new slice are same one other =
-    other ∙ ap (λ o. o ++ slice) (one ∙ ap (λ o. o ++ length slice ∷ []) are)
-    ∙ ap (λ l. (unrooted done ++ length l ∷ []) ++ l) same ∙ sym (one_more_label done label)
-
-pub start_pushed : (done : List (List ℕ)) (label octets old new : List ℕ) (start : ℕ) → octets ≡ unrooted done
-    → old ≡ starts_of 0 done → start ≡ length octets → new ≡ old ++ start ∷ []
-    → new ≡ starts_of 0 (done ++ label ∷ [])
-start_pushed done label octets old new start are starts is one =
-    let len : start ≡ 0 + length (unrooted done) = is ∙ ap length are ∙ omega arith in
-    one ∙ ap (λ starts. starts ++ start ∷ []) starts ∙ ap (λ n. starts_of 0 done ++ n ∷ []) len
-    ∙ sym (one_more_start 0 done label)
-
--- and those are all once none is left
-pub all_done : (all done rest : List (List ℕ)) → all ≡ done ++ rest → rest ≡ [] → all ≡ done
-all_done all done rest are none = are ∙ ap (λ more. done ++ more) none ∙ append-nil done
-
--- the labels that octets have are those that they are made of
-pub labels_are : (octets : List ℕ) (has : Labeled octets) (labels : List (List ℕ)) → octets ≡ unrooted labels
-    → has.0 ≡ labels
-labels_are octets has labels are = ap (λ labeled. labeled.0) (labeled_once octets has (labels, are))
-
 -- labels after their lengths have an octet each at least
 pub unrooted_longer : (labels : List (List ℕ)) → length labels ≤ length (unrooted labels)
 unrooted_longer [] = omega arith
@@ -177,3 +53,73 @@ unrooted_longer (label ∷ labels) =
     let more = unrooted_longer labels in
     let both = length-append (length label ∷ label) (unrooted labels) in
     omega (arith, more, both)
+
+-- ---- by index
+
+-- the octets of a label that is whole are its length and its own
+module _ (octets : List ℕ) (at : ℕ) (whole : IsWhole octets at) where
+  label_taken : label_at octets at ≡ slice_index_or octets at 0 ∷ take (slice_index_or octets at 0) (drop (at + 1) octets)
+  unfolding label_at
+  label_taken =
+      let len = slice_index_or octets at 0 in
+      let one : 1 + len ≡ suc len = omega arith in
+      ap (λ n. take n (drop at octets)) one ∙ ap (take (suc len)) (drop_more octets at 0 (omega (arith, whole)))
+
+  pub label_of_taken : label_of octets at ≡ take (slice_index_or octets at 0) (drop (at + 1) octets)
+  label_of_taken = ap (drop 1) label_taken
+
+  pub whole_label : label_at octets at ≡ length (label_of octets at) ∷ label_of octets at
+  whole_label =
+      let len = slice_index_or octets at 0 in
+      let taken = length-take len (drop (at + 1) octets) in
+      let left = length-drop (at + 1) octets in
+      let size : len ≡ length (take len (drop (at + 1) octets)) = omega (arith, whole, taken, left) in
+      label_taken ∙ ap (λ n. n ∷ take len (drop (at + 1) octets)) size ∙ ap (λ l. length l ∷ l) (sym label_of_taken)
+
+-- a label of a name is read at its place
+pub label_read : (octets starts : List ℕ) (index start : ℕ) (label : List ℕ) (rest : List (List ℕ))
+    → AreWhole octets starts → index < length (labels_at octets starts) → start ≡ slice_index_or starts index 0
+    → drop index (labels_at octets starts) ≡ label ∷ rest → label_at octets start ≡ length label ∷ label
+label_read octets starts index start label rest whole within is here =
+    let inside : index < length starts = (let size = length-map starts (label_of octets) in omega (arith, within, size))
+    in
+    let found : slice_index_or (labels_at octets starts) index [] ≡ label_of octets start =
+    get_or-map (label_of octets) starts index 0 [] inside ∙ ap (label_of octets) (sym is) in
+    let first = ap (λ labels. slice_index_or labels 0 [])
+    (sym (drop_more (labels_at octets starts) index [] within) ∙ here) in
+    whole_label octets start (whole_at (whole index 0 inside)) ∙ ap (λ l. length l ∷ l) (sym found ∙ first) where
+      whole_at : IsWhole octets (slice_index_or starts index 0) → IsWhole octets start
+      whole_at it = let same = is in
+          let len = ap (λ n. slice_index_or octets n 0) is in omega (arith, it, same, len)
+
+-- the first labels have as many octets more as the next one has with its length
+module _ (labels : List (List ℕ)) (count : ℕ) (read : List ℕ) (within : count < length labels)
+    (is : (label : List ℕ) (rest : List (List ℕ)) → drop count labels ≡ label ∷ rest → read ≡ length label ∷ label)
+  where
+    pub one_label_more : unrooted (take (count + 1) labels) ≡ unrooted (take count labels) ++ read
+    one_label_more =
+        ap (λ labels. unrooted labels) (take_more labels count [] within)
+        ∙ sym (flat_map_more (λ l. length l ∷ l) [] (take count labels) (slice_index_or labels count []))
+        ∙ ap (λ o. unrooted (take count labels) ++ o)
+        (sym (is (slice_index_or labels count []) (drop (count + 1) labels) (drop_more labels count [] within)))
+
+    pub one_label_longer : length (unrooted (take (count + 1) labels)) ≡ length (unrooted (take count labels)) + length read
+    one_label_longer = ap length one_label_more ∙ length-append (unrooted (take count labels)) read
+
+-- so the last of the first labels has as many of their octets
+pub last_label : (labels : List (List ℕ)) (count : ℕ) (read : List ℕ) → 0 < count → count ≤ length labels
+    → ((label : List ℕ) (rest : List (List ℕ)) → drop (count - 1) labels ≡ label ∷ rest → read ≡ length label ∷ label)
+    → length (unrooted (take count labels)) ≡ length (unrooted (take (count - 1) labels)) + length read
+last_label labels count read some within is =
+    let same : count ≡ count - 1 + 1 = omega (arith, some) in
+    ap (λ n. length (unrooted (take n labels))) same
+    ∙ one_label_longer labels (count - 1) read (omega (arith, some, within)) is
+
+-- fewer of the first labels have no more octets
+pub fewer_shorter : (labels : List (List ℕ)) (few many : ℕ) → few ≤ many
+    → length (unrooted (take few labels)) ≤ length (unrooted (take many labels))
+fewer_shorter labels few many less =
+    let both = front_and_rest few (take many labels) in
+    let long = ap length both ∙ length-append (unrooted (take few (take many labels))) (unrooted (drop few (take many labels))) in
+    let same = ap (λ l. length (unrooted l)) (take-take few many labels less) in
+    omega (arith, long, same)

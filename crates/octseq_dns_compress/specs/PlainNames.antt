@@ -1,7 +1,8 @@
--- What contracts see of a name in plain form.
+-- What contracts see of a name as its labels.
 use Rattle.std.specs.Prelude.{ℕ, List}
+use Rattle.octseq_dns_compress.specs.PlainName.{labels_at}
 use Rattle.octseq_dns_compress.specs.declared.plain.PlainName.{PlainName}
 
 -- its labels
 abbrev pub plain_labels : PlainName → List (List ℕ)
-plain_labels name = name.labeled.0
+plain_labels name = labels_at name.octets.now name.starts.now

@@ -1,5 +1,5 @@
 //! Octets and names appended to a message, or written over octets that it has.
-ghost use Rattle.std.specs.Prelude.{◌≡◌, ◌≤◌, ◌+◌, ◌*◌, ◌++◌, ◌⊎◌, length, take, drop, true, nat_lt, OnOk, OnErr};
+ghost use Rattle.std.specs.Prelude.{◌≡◌, ◌≤◌, ◌+◌, ◌*◌, ◌++◌, ◌⊎◌, ◌↔◌, length, take, drop, true, nat_lt, IsTrue, OnOk, OnErr};
 ghost use Rattle.std.specs.List.{filter};
 ghost use Rattle.octseq.specs.Appends.{Appends};
 ghost use Rattle.octseq.specs.Limit.{IsWithin};
@@ -10,9 +10,9 @@ ghost use Rattle.octseq_dns_compress.specs.Known.{Known};
 ghost use Rattle.octseq_dns_compress.specs.Named.{AppendsName};
 ghost use Rattle.octseq_dns_name.specs.Read.{labels_of};
 
-use crate::encode::encode;
+use crate::encode::append_encoded;
 use crate::keep::keep;
-use crate::plain::PlainName;
+use crate::plain::{LABELS_MAX, PlainName, place_labels};
 use crate::search::search;
 use crate::table::Compressor;
 use octseq::builder::AsOctetsMut;
@@ -41,6 +41,21 @@ pub(crate) fn append<B: OctetsBuilder>(octets: &mut B, slice: &[u8]) -> Result<(
     octets.append_slice(slice)
 }
 
+/// Whether a message is within its limit with so many octets more.
+pub(crate) fn has_room<B: OctetsBuilder>(octets: &B, len: usize) -> bool
+    requires { length (B.content octets.now) ≤ 65535 }
+    ensures { IsTrue result ↔ IsWithin (message_limit B.limit) (length (B.content octets.now) + len) }
+{
+    let before = octets.len();
+    if len > MESSAGE_MAX - before {
+        return false;
+    }
+    match octets.max_len() {
+        Some(limit) => before + len <= limit,
+        None => true,
+    }
+}
+
 /// Appends the octets of a value, as a format says it, to a message, which stays within its limit.
 pub(crate) fn append_value<B: OctetsBuilder + Truncate, R: AsOctets + Copy, F: Format<R>>(
     octets: &mut B,
@@ -57,14 +72,8 @@ pub(crate) fn append_value<B: OctetsBuilder + Truncate, R: AsOctets + Copy, F: F
     let Some(len) = F::compose_len(value) else {
         return Err(AppendError::Short(ShortBuf));
     };
-    let before = octets.len();
-    if len > MESSAGE_MAX - before {
+    if !has_room(octets, len) {
         return Err(AppendError::Short(ShortBuf));
-    }
-    if let Some(limit) = octets.max_len() {
-        if before + len > limit {
-            return Err(AppendError::Short(ShortBuf));
-        }
     }
     match F::put(octets, value) {
         Ok(()) => Ok(()),
@@ -109,11 +118,15 @@ pub(crate) fn append_name<B: OctetsBuilder + Truncate, T: Compressor, R: AsOctet
         ≤ turns.new + length (B.content octets.new)) }
 {
     a_name_has_labels(name);
-    let plain = PlainName::new(name.labels());
+    let parser = name.parser();
+    let _within = parser.len();
+    let source = parser.octets_ref();
+    let mut starts = [0; LABELS_MAX];
+    let count = place_labels(&mut starts, name.labels());
+    let plain = PlainName::new(source.as_ref(), &starts[..count], name.len() - 1);
     let ending = search(octets.as_ref(), table.as_slice(), &plain, turns);
     let start = octets.len();
-    let encoded = encode(&plain, ending);
-    if let Err(error) = append(octets, encoded.as_ref()) {
+    if let Err(error) = append_encoded(octets, &plain, ending) {
         return Err(error);
     }
     if let Err(AllocError) = keep(table, &plain, ending, start, turns) {

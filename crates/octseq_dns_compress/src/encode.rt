@@ -1,26 +1,96 @@
 //! The octets of a name: RFC 1035, 4.1.4.
-ghost use Rattle.std.specs.Prelude.{◌≡◌, ◌≤◌, ◌+◌, ◌++◌, length, take};
+ghost use Rattle.std.specs.Prelude.{◌≡◌, ◌≤◌, ◌+◌, ◌++◌, List, ℕ, length, take, true, OnOk, OnErr};
+ghost use Rattle.octseq.specs.Appends.{Appends};
+ghost use Rattle.octseq.specs.Limit.{IsWithin};
+ghost use Rattle.octseq.specs.Refusal.{IsShort, IsMemory, append_error};
+ghost use Rattle.octseq_dns_compress.specs.Composed.{message_limit};
 ghost use Rattle.octseq_dns_compress.specs.Ended.{ended};
 ghost use Rattle.octseq_dns_compress.specs.Names.{unrooted};
 ghost use Rattle.octseq_dns_compress.specs.PlainNames.{plain_labels};
 
-use crate::plain::{PlainName, append};
+use crate::append::has_room;
+use crate::plain::PlainName;
 use crate::search::Ending;
-use octseq::Array;
+use octseq::{AppendError, AsOctets, OctetsBuilder, ShortBuf, Truncate};
 
-/// The labels of a name that are written, and the root or a pointer after them.
-pub(crate) fn encode(name: &PlainName, ending: Ending) -> Array<256>
-    requires written { ending.written ≤ length (plain_labels name.now) }
-    requires next { ending.next ≤ 16383 }
-    ensures { result.content ≡ unrooted (take ending.written (plain_labels name.now)) ++ ended ending.next }
+/// Appends the first labels of a name to octets that have room for them. Where a request for memory is refused, some of
+/// them may then be there.
+fn append_labels<B: OctetsBuilder>(
+    octets: &mut B,
+    name: &PlainName<'_>,
+    count: usize,
+) -> Result<(), AppendError>
+    requires count { count ≤ length (plain_labels name.now) }
+    requires room { IsWithin B.limit (length (B.content octets.old)
+        + length (unrooted (take count (plain_labels name.now)))) }
+    ensures ok { OnOk result (B.content octets.new
+        ≡ B.content octets.old ++ unrooted (take count (plain_labels name.now))) }
+    ensures err { OnErr result ((more : List ℕ) × (B.content octets.new ≡ B.content octets.old ++ more)) }
+    ensures short { ¬ IsShort append_error result }
+    ensures memory { IsMemory append_error result → B.asks ≡ true }
+    ensures borrows { B.borrows octets.new ≡ B.borrows octets.old }
 {
-    let mut octets = Array::new();
-    append(&mut octets, name.first(ending.written));
-    if ending.next == 0 {
-        append(&mut octets, &[0]);
-    } else {
-        let mark = 192 + (ending.next / 256) as u8;
-        append(&mut octets, &[mark, (ending.next % 256) as u8]);
+    let mut index = 0;
+    'labels: while index < count {
+        if let Err(error) = octets.append_slice(name.label(index)) {
+            return Err(error);
+        }
+        index += 1;
     }
-    octets
+    Ok(())
+}
+
+/// Appends what comes after the first labels of a name: the root, or a pointer to a place.
+fn append_end<B: OctetsBuilder>(octets: &mut B, next: u16) -> Result<(), AppendError>
+    requires { next ≤ 16383 }
+    ensures appended { Appends B.limit B.asks result (ended next) (B.content octets.old) (B.content octets.new) }
+    ensures borrows { B.borrows octets.new ≡ B.borrows octets.old }
+{
+    if next == 0 {
+        octets.append_slice(&[0])
+    } else {
+        let mark = 192 + (next / 256) as u8;
+        octets.append_slice(&[mark, (next % 256) as u8])
+    }
+}
+
+/// How many octets that has.
+fn end_len(next: u16) -> usize
+    ensures len { result ≡ length (ended next) }
+    ensures most { result ≤ 2 }
+{
+    if next == 0 { 1 } else { 2 }
+}
+
+/// Appends the labels of a name that are written, and the root or a pointer after them, or leaves a message as it is.
+pub(crate) fn append_encoded<B: OctetsBuilder + Truncate>(
+    octets: &mut B,
+    name: &PlainName<'_>,
+    ending: Ending,
+) -> Result<(), AppendError>
+    requires written { ending.written ≤ length (plain_labels name.now) }
+    requires len { ending.len ≡ length (unrooted (take ending.written (plain_labels name.now))) }
+    requires few { ending.len ≤ 254 }
+    requires next { ending.next ≤ 16383 }
+    requires short { length (B.content octets.old) ≤ 65535 }
+    ensures appended { Appends (message_limit B.limit) B.asks result
+        (unrooted (take ending.written (plain_labels name.now)) ++ ended ending.next)
+        (B.content octets.old) (B.content octets.new) }
+    ensures most { length (B.content octets.new) ≤ 65535 }
+    ensures within { OnOk result (IsWithin (message_limit B.limit) (length (B.content octets.new))) }
+    ensures borrows { B.borrows octets.new ≡ B.borrows octets.old }
+{
+    let before = octets.len();
+    if !has_room(octets, ending.len + end_len(ending.next)) {
+        return Err(AppendError::Short(ShortBuf));
+    }
+    if let Err(error) = append_labels(octets, name, ending.written) {
+        octets.truncate(before);
+        return Err(error);
+    }
+    if let Err(error) = append_end(octets, ending.next) {
+        octets.truncate(before);
+        return Err(error);
+    }
+    Ok(())
 }

@@ -1,9 +1,9 @@
 //! The labels of a name that was written, kept in a table.
-ghost use Rattle.std.specs.Prelude.{◌≡◌, ◌≤◌, ◌+◌, ℕ, List, length, nat_lt, true, OnOk, OnErr};
+ghost use Rattle.std.specs.Prelude.{◌≡◌, ◌≤◌, ◌+◌, ℕ, List, length, take, nat_lt, true, OnOk, OnErr};
 ghost use Rattle.std.specs.List.{filter};
 ghost use Rattle.octseq_dns_compress.specs.Agrees.{Agrees};
 ghost use Rattle.octseq_dns_compress.specs.Ending.{IsEnding};
-ghost use Rattle.octseq_dns_compress.specs.Names.{Names, names_with};
+ghost use Rattle.octseq_dns_compress.specs.Names.{Names, names_with, unrooted};
 ghost use Rattle.octseq_dns_compress.specs.PlainNames.{plain_labels};
 ghost use Rattle.octseq_dns_compress.specs.Written.{IsWritten};
 
@@ -27,13 +27,15 @@ const POINTERS_MAX: u8 = 126;
 /// `AllocError` where a request for memory was refused. Some of the labels may then be kept.
 pub(crate) fn keep<T: Compressor>(
     table: &mut T,
-    name: &PlainName,
+    name: &PlainName<'_>,
     ending: Ending,
     start: usize,
     turns: &mut Turns,
 ) -> Result<(), AllocError>
     requires few { length (T.held table.old) ≤ T.most }
     requires written { ending.written ≤ length (plain_labels name.now) }
+    requires len { ending.len ≡ length (unrooted (take ending.written (plain_labels name.now))) }
+    requires short { ending.len ≤ 254 }
     requires position { ending.position ≤ length (T.held table.old) }
     requires start { start ≤ 65535 }
     ensures kept { (octets : List ℕ) (names : Names) → Agrees octets (T.held table.old) names
@@ -53,11 +55,12 @@ pub(crate) fn keep<T: Compressor>(
     }
     let older = table.as_slice().len();
     let mut left = ending.written;
+    let mut end = start + ending.len;
     let mut next = ending.next;
     let mut position = ending.position;
     'labels: while left > 0 {
         turns.tick();
-        let at = start + name.start(left - 1);
+        let at = end - name.label(left - 1).len();
         if at > PLACE_MAX || table.is_full() {
             return Ok(());
         }
@@ -70,6 +73,7 @@ pub(crate) fn keep<T: Compressor>(
             },
         )?;
         left -= 1;
+        end = at;
         next = at as u16;
         position = older + 1;
     }

@@ -1,43 +1,44 @@
-//! Names in plain form, with the place of each label.
-ghost use Rattle.std.specs.Prelude.{◌≡◌, ◌≤◌, ◌+◌, ◌++◌, length};
+//! Names as their labels, without pointers.
+ghost use Rattle.std.specs.Prelude.{◌≡◌, ◌≤◌, ◌*◌, length, take};
 ghost use Rattle.octseq_dns_name.specs.Name.{wire_length};
-ghost use Rattle.octseq_dns_compress.specs.PlainName.{Labeled, labeled_once, starts_of};
+ghost use Rattle.octseq_dns_name.specs.NextLabel.{ahead_of};
+ghost use Rattle.octseq_dns_name.specs.Read.{labels_left};
+ghost use Rattle.octseq_dns_compress.specs.Names.{unrooted};
+ghost use Rattle.octseq_dns_compress.specs.PlainName.{AreWhole, labels_at, whole_once};
 
-use arrayvec::ArrayVec;
-use octseq::builder::infallible;
-use octseq::{Array, AsOctets, OctetsBuilder};
+use octseq::AsOctets;
 use octseq_dns_name::name::Labels;
 
-/// The labels of a name, each after its length, and where each begins.
+/// How many labels a name has at most: of 255 octets, each label takes two, and the root one.
+pub(crate) const LABELS_MAX: usize = 127;
+
+/// The labels of a name, each where it is among the octets that it was read from.
 #[derive(Drop)]
-pub(crate) struct PlainName {
-    octets: Array<255>,
-    starts: ArrayVec<u8, 127>,
-    ghost labeled: { Labeled octets.content } by { labeled_once octets.content },
-    ghost started: { starts.items ≡ starts_of 0 labeled.0 },
-    ghost short: { wire_length labeled.0 ≤ 255 },
+pub(crate) struct PlainName<'a> {
+    octets: &'a [u8],
+    starts: &'a [usize],
+    len: usize,
+    ghost whole: { AreWhole octets.now starts.now } by { whole_once octets.now starts.now },
+    ghost measured: { len ≡ length (unrooted (labels_at octets.now starts.now)) },
+    ghost short: { len ≤ 254 },
 }
 
-impl PlainName {
-    ghost use Rattle.std.specs.Prelude.{ℕ, List, ◌<◌, ◌∷◌, take, drop};
-    ghost use Rattle.octseq_dns_name.specs.Read.{labels_left};
-    ghost use Rattle.octseq_dns_compress.specs.Names.{unrooted};
+impl<'a> PlainName<'a> {
+    ghost use Rattle.std.specs.Prelude.{List, ℕ, ◌<◌, ◌∷◌, drop};
     ghost use Rattle.octseq_dns_compress.specs.PlainNames.{plain_labels};
 
-    /// The labels that are left of a name.
-    pub fn new<R: AsOctets + Copy>(labels: Labels<R>) -> PlainName
-        requires { wire_length (labels_left labels) ≤ 255 }
-        ensures { plain_labels result ≡ labels_left labels }
+    /// The labels that begin at these places, each with its length, of so many octets in all.
+    pub fn new(octets: &'a [u8], starts: &'a [usize], len: usize) -> PlainName<'a>
+        requires whole { AreWhole octets.now starts.now }
+        requires measured { len ≡ length (unrooted (labels_at octets.now starts.now)) }
+        requires short { len ≤ 254 }
+        ensures { plain_labels result ≡ labels_at octets.now starts.now }
     {
-        let mut octets = Array::new();
-        let mut starts = ArrayVec::new();
-        'labels: for label in labels {
-            let slice = label.as_slice();
-            starts.push(octets.len() as u8);
-            append(&mut octets, &[slice.len() as u8]);
-            append(&mut octets, slice);
+        PlainName {
+            octets,
+            starts,
+            len,
         }
-        PlainName { octets, starts }
     }
 
     /// How many labels it has.
@@ -47,13 +48,12 @@ impl PlainName {
         self.starts.len()
     }
 
-    /// Where a label begins.
-    pub fn start(&self, index: usize) -> usize
-        requires { index < length (plain_labels self.now) }
-        ensures start { result ≡ length (unrooted (take index (plain_labels self.now))) }
-        ensures most { result ≤ 255 }
+    /// How many octets its labels have, each with its length.
+    pub fn len(&self) -> usize
+        ensures len { result ≡ length (unrooted (plain_labels self.now)) }
+        ensures most { result ≤ 254 }
     {
-        usize::from(self.starts[index])
+        self.len
     }
 
     /// A label, after its length.
@@ -62,31 +62,27 @@ impl PlainName {
         ensures { (label : List ℕ) (rest : List (List ℕ)) → drop index (plain_labels self.now) ≡ label ∷ rest
             → result.now ≡ length label ∷ label }
     {
-        let start = self.start(index);
-        let octets = self.octets.as_ref();
+        let (octets, start) = (self.octets, self.starts[index]);
         let len = usize::from(octets[start]);
         &octets[start..start + 1 + len]
     }
-
-    /// The first labels, each after its length.
-    pub fn first(&self, count: usize) -> &[u8]
-        requires { count ≤ length (plain_labels self.now) }
-        ensures octets { result.now ≡ unrooted (take count (plain_labels self.now)) }
-        ensures most { length result.now ≤ 254 }
-    {
-        let octets = self.octets.as_ref();
-        if count == self.label_count() {
-            octets
-        } else {
-            &octets[..self.start(count)]
-        }
-    }
 }
 
-/// Appends octets for which there is room.
-pub(crate) fn append<const N: usize>(octets: &mut Array<N>, slice: &[u8])
-    requires { length octets.old.content + length slice.now ≤ N }
-    ensures { octets.new.content ≡ octets.old.content ++ slice.now }
+/// Puts where each label is that is left of a name, and answers how many are.
+pub(crate) fn place_labels<R: AsOctets + Copy>(
+    starts: &mut [usize; LABELS_MAX],
+    labels: Labels<R>,
+) -> usize
+    requires short { wire_length (labels_left labels) ≤ 255 }
+    requires within { (ahead_of labels).end ≤ length (ahead_of labels).octets }
+    ensures most { result ≤ 127 }
+    ensures whole { AreWhole (ahead_of labels).octets (take result starts.new) }
+    ensures labels { labels_at (ahead_of labels).octets (take result starts.new) ≡ labels_left labels }
 {
-    infallible(octets.append_slice(slice));
+    let mut count = 0;
+    'labels: for label in labels {
+        starts[count] = label.pos() - 1;
+        count += 1;
+    }
+    count
 }

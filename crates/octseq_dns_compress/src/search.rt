@@ -1,9 +1,9 @@
 //! Where a label is among targets, which are in the order of their keys.
-ghost use Rattle.std.specs.Prelude.{◌≡◌, ◌≤◌, ◌+◌, ◌↔◌, ◌∷◌, length, IsTrue, IsErr, IfOk, IfErr};
+ghost use Rattle.std.specs.Prelude.{◌≡◌, ◌≤◌, ◌+◌, ◌↔◌, ◌∷◌, length, take, IsTrue, IsErr, IfOk, IfErr};
 ghost use Rattle.std.specs.Prelude.{◌*◌, ◌-◌, ◌^◌};
 ghost use Rattle.octseq_dns_compress.specs.Agrees.{Agrees};
 ghost use Rattle.octseq_dns_compress.specs.Ending.{IsEnding};
-ghost use Rattle.octseq_dns_compress.specs.Names.{Names};
+ghost use Rattle.octseq_dns_compress.specs.Names.{Names, unrooted};
 ghost use Rattle.octseq_dns_compress.specs.PlainNames.{plain_labels};
 ghost use Rattle.octseq_dns_compress.specs.Key.{label_at, IsWhole, key_cmp, AreTargets, IsPosition, HasKeyAt, HasNoKey};
 
@@ -17,6 +17,8 @@ use std::cmp::Ordering;
 pub(crate) struct Ending {
     /// How many labels are written.
     pub written: usize,
+    /// How many octets those have, each with its length.
+    pub len: usize,
     /// The place of the labels after them, or 0 where the root comes next.
     pub next: u16,
     /// How many pointers are followed from each label that is written.
@@ -29,7 +31,7 @@ pub(crate) struct Ending {
 pub(crate) fn search(
     octets: &[u8],
     targets: &[Target],
-    name: &PlainName,
+    name: &PlainName<'_>,
     turns: &mut Turns,
 ) -> Ending
     requires targets { AreTargets octets.now targets.now }
@@ -37,6 +39,8 @@ pub(crate) fn search(
     ensures ending { (names : Names) → Agrees octets.now targets.now names
         → IsEnding octets.now targets.now names (plain_labels name.now) result }
     ensures written { result.written ≤ length (plain_labels name.now) }
+    ensures len { result.len ≡ length (unrooted (take result.written (plain_labels name.now))) }
+    ensures short { result.len ≤ 254 }
     ensures next { result.next ≤ 16383 }
     ensures pointers { result.pointers ≤ 127 }
     ensures position { result.position ≤ length targets.now }
@@ -45,6 +49,7 @@ pub(crate) fn search(
 {
     let mut ending = Ending {
         written: name.label_count(),
+        len: name.len(),
         next: 0,
         pointers: 0,
         position: 0,
@@ -56,6 +61,7 @@ pub(crate) fn search(
             Ok(index) => {
                 let target = targets[index];
                 ending.written -= 1;
+                ending.len -= label.len();
                 ending.next = target.at;
                 ending.pointers = target.pointers + 1;
                 hint = index.saturating_sub(1);

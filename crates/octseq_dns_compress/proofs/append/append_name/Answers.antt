@@ -1,8 +1,11 @@
-use Rattle.std.proofs.Common.{◌≡◌, ◌++◌, take, ap, ◌∙◌, sym, subst, length, arith}
+use Rattle.std.proofs.Common.{◌≡◌, ◌++◌, refl, take, ap, ◌∙◌, sym, subst, length, arith}
 use Rattle.std.proofs.lemmas.List.{length-take}
 use Rattle.std.proofs.Common.{length-append}
-use Rattle.octseq_dns_compress.proofs.PlainLabels.{unrooted_longer}
-use Rattle.octseq_dns_name.specs.Read.{labels_of}
+use Rattle.octseq_dns_compress.proofs.PlainLabels.{unrooted_longer, wire_of_unrooted}
+use Rattle.octseq_dns_compress.proofs.Places.{read_labels, source_is}
+use Rattle.octseq_dns_compress.specs.PlainName.{labels_at}
+use Rattle.octseq_dns_name.specs.NextLabel.{ahead_of}
+use Rattle.octseq_dns_name.specs.Read.{labels_left, labels_of, place_of}
 use Rattle.octseq_dns_compress.specs.Composed.{message_limit, before}
 use Rattle.octseq_dns_compress.specs.Key.{AreTargets}
 use Rattle.octseq_dns_compress.specs.Ended.{ended}
@@ -18,9 +21,25 @@ use Rattle.octseq_dns_compress.proofs.append.append_name.Goals as goal
 pub search-ending-requires-clause-targets : goal.search-ending-requires-clause-targets
 search-ending-requires-clause-targets g c =
     let octets = g.B.AsOctets.content c.args.octets.now in
-    subst (λ o. AreTargets o c.as_slice.result.now) (sym c.as_ref.ensures.value)
+    subst (λ o. AreTargets o c.as_slice.result.now) (sym c.as_ref-2.ensures.value)
     (subst (AreTargets octets) (sym c.as_slice.ensures)
     (known_targets octets (g.T.Compressor.held c.args.table.now) c.requires.known))
+
+pub new-plain-requires-clause-measured : goal.new-plain-requires-clause-measured
+new-plain-requires-clause-measured g c =
+    let octets = c.as_ref.result.now in
+    let starts = take c.place_labels-count.result c.place_labels-count.new.starts in
+    let labels = labels_at octets starts in
+    let same = read_labels octets (ahead_of c.labels.result).octets starts labels (labels_left c.labels.result)
+    (labels_of c.args.name.now)
+    (source_is octets c.octets_ref-source.result c.parser-parser.result
+    (place_of c.args.name.now) (ahead_of c.labels.result) c.as_ref.ensures.value c.octets_ref-source.ensures
+    c.parser-parser.ensures c.labels.ensures.ahead)
+    refl c.place_labels-count.ensures.labels c.labels.ensures.labels in
+    let wire = wire_of_unrooted (labels_of c.args.name.now) in
+    let len = c.len.ensures.len in
+    let size = ap (λ labels. length (unrooted labels)) same in
+    omega (arith, wire, len, size)
 
 pub returns-in-Err-clause-named : goal.returns-in-Err-clause-named
 returns-in-Err-clause-named g c known =
@@ -28,12 +47,18 @@ returns-in-Err-clause-named g c known =
     let targets = g.T.Compressor.held c.args.table.now in
     let end = c.search-ending.result in
     let labels = plain_labels c.new-plain.result in
-    let is = ending_of c.as_ref.result.now octets c.as_slice.result.now targets labels end c.as_ref.ensures.value
+    let same = read_labels c.as_ref.result.now (ahead_of c.labels.result).octets _ labels (labels_left c.labels.result)
+    (labels_of c.args.name.now)
+    (source_is c.as_ref.result.now c.octets_ref-source.result c.parser-parser.result
+    (place_of c.args.name.now) (ahead_of c.labels.result) c.as_ref.ensures.value c.octets_ref-source.ensures
+    c.parser-parser.ensures c.labels.ensures.ahead)
+    c.new-plain.ensures c.place_labels-count.ensures.labels c.labels.ensures.labels in
+    let written = unrooted (take end.written labels) ++ ended end.next in
+    let is = ending_of c.as_ref-2.result.now octets c.as_slice.result.now targets labels end c.as_ref-2.ensures.value
     c.as_slice.ensures c.search-ending.ensures.ending in
     name_refused (message_limit g.B.AsOctets.limit) g.B.AsOctets.asks g.T.Compressor.most (labels_of c.args.name.now)
-    octets (g.B.AsOctets.content c.append.new.octets) c.as_ref-2.result.now targets known
-    (c.as_ref-2.ensures.value ∙ c.encode-encoded.ensures ∙ octets_known octets targets known labels end is
-    ∙ ap (name_octets known.0) (c.new-plain.ensures ∙ c.labels.ensures.labels))
+    octets (g.B.AsOctets.content c.append_encoded.new.octets) written targets known
+    (octets_known octets targets known labels end is ∙ ap (name_octets known.0) same)
     c.in-Err.error c.in-Err.ensures.appended
 
 pub returns-in-Err-clause-before : goal.returns-in-Err-clause-before
@@ -46,20 +71,26 @@ pub returns-in-Err-keep-clause-named : goal.returns-in-Err-keep-clause-named
 returns-in-Err-keep-clause-named g c known =
     let octets = g.B.AsOctets.content c.args.octets.now in
     let targets = g.T.Compressor.held c.args.table.now in
-    let new = g.B.AsOctets.content c.append.new.octets in
+    let new = g.B.AsOctets.content c.append_encoded.new.octets in
     let held = g.T.Compressor.held c.keep.new.table in
     let kept = g.T.Compressor.held c.keep_before.new.self in
     let undone = g.B.AsOctets.content c.truncate.new.self in
     let end = c.search-ending.result in
     let labels = plain_labels c.new-plain.result in
-    let is = ending_of c.as_ref.result.now octets c.as_slice.result.now targets labels end c.as_ref.ensures.value
+    let same = read_labels c.as_ref.result.now (ahead_of c.labels.result).octets _ labels (labels_left c.labels.result)
+    (labels_of c.args.name.now)
+    (source_is c.as_ref.result.now c.octets_ref-source.result c.parser-parser.result
+    (place_of c.args.name.now) (ahead_of c.labels.result) c.as_ref.ensures.value c.octets_ref-source.ensures
+    c.parser-parser.ensures c.labels.ensures.ahead)
+    c.new-plain.ensures c.place_labels-count.ensures.labels c.labels.ensures.labels in
+    let written = unrooted (take end.written labels) ++ ended end.next in
+    let is = ending_of c.as_ref-2.result.now octets c.as_slice.result.now targets labels end c.as_ref-2.ensures.value
     c.as_slice.ensures c.search-ending.ensures.ending in
     let are = known_targets octets targets known in
-    let grows = appended_grows c.append.result c.append.ensures.appended in
+    let grows = appended_grows c.append_encoded.result c.append_encoded.ensures.appended in
     name_taken_back (message_limit g.B.AsOctets.limit) g.B.AsOctets.asks g.T.Compressor.most
-    (labels_of c.args.name.now) octets new c.as_ref-2.result.now targets known
-    (c.as_ref-2.ensures.value ∙ c.encode-encoded.ensures ∙ octets_known octets targets known labels end is
-    ∙ ap (name_octets known.0) (c.new-plain.ensures ∙ c.labels.ensures.labels))
+    (labels_of c.args.name.now) octets new written targets known
+    (octets_known octets targets known labels end is ∙ ap (name_octets known.0) same)
     c.in_default.field-0 undone kept c.in_default.ensures.appended
     (octets_back octets targets are new held kept c.len-start.result undone c.len-start.ensures.content grows
     c.keep.ensures.before c.keep_before.ensures c.truncate.ensures.content)
@@ -71,10 +102,10 @@ returns-in-Err-keep-clause-before g c =
     let octets = g.B.AsOctets.content c.args.octets.now in
     let targets = g.T.Compressor.held c.args.table.now in
     let are = known_targets octets targets c.requires.known in
-    ap (before (length octets)) (held_back octets targets are (g.B.AsOctets.content c.append.new.octets)
+    ap (before (length octets)) (held_back octets targets are (g.B.AsOctets.content c.append_encoded.new.octets)
     (g.T.Compressor.held c.keep.new.table) (g.T.Compressor.held c.keep_before.new.self) c.len-start.result
     (g.B.AsOctets.content c.truncate.new.self) c.len-start.ensures.content
-    (appended_grows c.append.result c.append.ensures.appended) c.keep.ensures.before c.keep_before.ensures
+    (appended_grows c.append_encoded.result c.append_encoded.ensures.appended) c.keep.ensures.before c.keep_before.ensures
     c.truncate.ensures.content)
     ∙ before_all octets targets are
 
@@ -89,22 +120,26 @@ pub returns-clause-named : goal.returns-clause-named
 returns-clause-named g c known =
     let octets = g.B.AsOctets.content c.args.octets.now in
     let targets = g.T.Compressor.held c.args.table.now in
-    let new = g.B.AsOctets.content c.append.new.octets in
+    let new = g.B.AsOctets.content c.append_encoded.new.octets in
     let held = g.T.Compressor.held c.keep.new.table in
     let end = c.search-ending.result in
     let labels = plain_labels c.new-plain.result in
-    let is = ending_of c.as_ref.result.now octets c.as_slice.result.now targets labels end c.as_ref.ensures.value
+    let is = ending_of c.as_ref-2.result.now octets c.as_slice.result.now targets labels end c.as_ref-2.ensures.value
     c.as_slice.ensures c.search-ending.ensures.ending in
-    let same = c.new-plain.ensures ∙ c.labels.ensures.labels in
+    let same = read_labels c.as_ref.result.now (ahead_of c.labels.result).octets _ labels (labels_left c.labels.result)
+    (labels_of c.args.name.now)
+    (source_is c.as_ref.result.now c.octets_ref-source.result c.parser-parser.result
+    (place_of c.args.name.now) (ahead_of c.labels.result) c.as_ref.ensures.value c.octets_ref-source.ensures
+    c.parser-parser.ensures c.labels.ensures.ahead)
+    c.new-plain.ensures c.place_labels-count.ensures.labels c.labels.ensures.labels in
     let most = g.T.Compressor.most in
-    let appended : new ≡ octets ++ (unrooted (take end.written labels) ++ ended end.next) =
-    c.in_default.ensures.appended.ok ∙ ap (λ o. octets ++ o) (c.as_ref-2.ensures.value ∙ c.encode-encoded.ensures) in
+    let written = unrooted (take end.written labels) ++ ended end.next in
+    let appended : new ≡ octets ++ written = c.in_default.ensures.appended.ok in
     let now = known_more octets targets known labels end is new held c.len-start.result most appended
     c.len-start.ensures.content c.requires.header c.in_default-keep.ensures.kept in
     name_appended (message_limit g.B.AsOctets.limit) g.B.AsOctets.asks most (labels_of c.args.name.now) octets new
-    c.as_ref-2.result.now targets known
-    (c.as_ref-2.ensures.value ∙ c.encode-encoded.ensures ∙ octets_known octets targets known labels end is
-    ∙ ap (name_octets known.0) same)
+    written targets known
+    (octets_known octets targets known labels end is ∙ ap (name_octets known.0) same)
     held c.in_default.field-0 c.in_default.ensures.appended c.in_default.ensures.within now
     (names_more octets targets known labels end is new held c.len-start.result most appended
     c.len-start.ensures.content c.requires.header c.in_default-keep.ensures.kept now
@@ -126,8 +161,7 @@ returns-clause-least g c =
     let end = c.search-ending.result in
     let labels = plain_labels c.new-plain.result in
     let first = unrooted (take end.written labels) in
-    let is = c.in_default.ensures.appended.ok ∙ ap (λ o. octets ++ o) (c.as_ref-2.ensures.value ∙
-    c.encode-encoded.ensures) in
+    let is = c.in_default.ensures.appended.ok in
     let long = ap length is ∙ length-append octets (first ++ ended end.next) in
     let both = length-append first (ended end.next) in
     let each = unrooted_longer (take end.written labels) in
@@ -135,5 +169,11 @@ returns-clause-least g c =
     let within = c.search-ending.ensures.written in
     let found = c.search-ending.ensures.least in
     let kept = c.keep.ensures.on in
-    let same = ap length (c.new-plain.ensures ∙ c.labels.ensures.labels) in
+    let all = read_labels c.as_ref.result.now (ahead_of c.labels.result).octets _ labels (labels_left c.labels.result)
+    (labels_of c.args.name.now)
+    (source_is c.as_ref.result.now c.octets_ref-source.result c.parser-parser.result
+    (place_of c.args.name.now) (ahead_of c.labels.result) c.as_ref.ensures.value c.octets_ref-source.ensures
+    c.parser-parser.ensures c.labels.ensures.ahead)
+    c.new-plain.ensures c.place_labels-count.ensures.labels c.labels.ensures.labels in
+    let same = ap length all in
     omega (arith, long, both, each, taken, within, found, kept, same)

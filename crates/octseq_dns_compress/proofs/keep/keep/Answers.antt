@@ -1,10 +1,11 @@
-use Rattle.std.proofs.Common.{◌≤◌, ◌<◌, ◌+◌, ap, ◌∙◌, refl, sym, length, arith}
+use Rattle.std.proofs.Common.{◌≤◌, ◌<◌, ◌-◌, ap, ◌∙◌, refl, sym, length, arith}
 use Rattle.std.proofs.Math.Bool.{true≢false}
 use Rattle.std.specs.Prelude.{nat_lt}
 use Rattle.std.specs.List.{filter}
 use Rattle.std.proofs.lemmas.List.Edits.{length-insert}
 use Rattle.octseq_dns_compress.specs.PlainNames.{plain_labels}
 use Rattle.octseq_dns_compress.proofs.Keeping.{none_before, kept_none, kept_yet, kept_at, kept_far, kept_full, kept_all}
+use Rattle.octseq_dns_compress.proofs.PlainLabels.{last_label}
 use Rattle.octseq_dns_compress.proofs.keep.keep.Goals as goal
 use Rattle.octseq_dns_compress.proofs.keep.keep.Goals.{then-at-gt-PLACE_MAX-via-then-at-gt-PLACE_MAX}
 use Rattle.octseq_dns_compress.proofs.keep.keep.Goals.{then-at-gt-PLACE_MAX-via-else-at-gt-PLACE_MAX+then-is_full}
@@ -14,11 +15,25 @@ returns-then-ending-gt-POINTERS_MAX-clause-kept g c octets names agrees ends wri
     kept_none g.T.Compressor.most octets (g.T.Compressor.held c.args.table.now) names (plain_labels c.args.name.now)
     c.args.start c.args.ending agrees ends c.requires.written written c.if-ending-gt-POINTERS_MAX.true
 
+pub overflow_add-end : goal.overflow_add-end
+overflow_add-end g c = let start = c.requires.start in let short = c.requires.short in omega (arith, start, short)
+
+pub overflow_sub-at : goal.overflow_sub-at
+overflow_sub-at g c =
+    let so_far = c.labels.invariant in
+    let within = so_far.within in
+    let all = c.requires.written in
+    let begin = last_label (plain_labels c.args.name.now) c.labels.left c.label.result.now
+    (omega (arith, c.labels-test.true)) (omega (arith, within, all)) c.label.ensures in
+    let end = so_far.end in
+    omega (arith, begin, end)
+
 pub labels-init : goal.labels-init
 labels-init g c =
     let all = ap length c.as_slice-older.ensures in
     record {
       within = omega arith;
+      end = (let len = c.requires.len in omega (arith, len));
       position = c.requires.position;
       more = omega (arith, all);
       few = c.requires.few;
@@ -36,14 +51,16 @@ returns-then-at-gt-PLACE_MAX-clause-kept g c octets names agrees ends written =
     let so_far = c.labels.invariant in
     let kept = so_far.kept octets names agrees ends written in
     let some : 0 < c.labels.left = omega (arith, c.labels-test.true) in
-    let begin = c.start.ensures.start in
+    let begin = last_label (plain_labels c.args.name.now) c.labels.left c.label.result.now some
+    (let within = so_far.within in let all = c.requires.written in omega (arith, within, all)) c.label.ensures in
+    let end = so_far.end in
     elim c.then-at-gt-PLACE_MAX.branch [
       | then-at-gt-PLACE_MAX-via-then-at-gt-PLACE_MAX w ↦
           kept_far g.T.Compressor.most octets (g.T.Compressor.held c.args.table.now) names
           (plain_labels c.args.name.now) c.args.start c.args.ending agrees ends c.requires.written written
           (g.T.Compressor.held c.labels.table) (length c.as_slice-older.result.now) c.labels.left c.labels.next
           c.labels.position kept some so_far.within
-          (let far = w.if-at-gt-PLACE_MAX.true in omega (arith, far, begin))
+          (let far = w.if-at-gt-PLACE_MAX.true in omega (arith, far, begin, end))
       | then-at-gt-PLACE_MAX-via-else-at-gt-PLACE_MAX+then-is_full w ↦
           kept_full g.T.Compressor.most octets (g.T.Compressor.held c.args.table.now) names
           (plain_labels c.args.name.now) c.args.start c.args.ending agrees ends c.requires.written written
@@ -63,11 +80,14 @@ labels-preserved g c =
     let few = so_far.few in
     let tick = c.tick.ensures in
     let room : ¬ (g.T.Compressor.most ≤ length held) = λ full. true≢false (sym (c.if-is_full.ensures.1 full)) in
-    let begin = c.start.ensures.start in
+    let begin = last_label (plain_labels c.args.name.now) c.labels.left c.label.result.now
+    (omega (arith, c.labels-test.true)) (let all = c.requires.written in omega (arith, within, all)) c.label.ensures in
+    let end = so_far.end in
     let few_pointers = c.if-ending-gt-POINTERS_MAX.false in
     let near = c.if-at-gt-PLACE_MAX.false in
     record {
       within = omega (arith, within);
+      end = omega (arith, begin, end);
       position = omega (arith, long, more);
       more = omega (arith, long, more);
       few = omega (arith, long, room);
@@ -75,12 +95,13 @@ labels-preserved g c =
       least = (let least = so_far.least in omega (arith, least, long, tick));
       on = (let on = so_far.on in omega (arith, on, tick));
       before = ap (filter (λ t. nat_lt t.at c.args.start)) inserted
-          ∙ none_before c.args.start held c.labels.position _ (omega arith) ∙ so_far.before;
+          ∙ none_before c.args.start held c.labels.position _ (omega (arith, begin, end)) ∙ so_far.before;
       kept = λ octets names agrees ends written. kept_at g.T.Compressor.most octets
           (g.T.Compressor.held c.args.table.now) names (plain_labels c.args.name.now) c.args.start c.args.ending
           agrees ends c.requires.written written held (length c.as_slice-older.result.now) c.labels.left c.labels.next
           c.labels.position (so_far.kept octets names agrees ends written) (omega (arith, c.labels-test.true)) within
-          (c.args.start + c.start.result) (g.T.Compressor.held c.insert.new.self) (omega (arith, begin)) inserted
+          (c.labels.end - length c.label.result.now) (g.T.Compressor.held c.insert.new.self)
+          (omega (arith, begin, end)) inserted
           (omega (arith, near)) (omega (arith, few_pointers)) room;
     }
 

@@ -1,10 +1,10 @@
 -- The labels after those that are left are kept.
 use Rattle.std.specs.Prelude.{nat_lt}
 use Rattle.std.specs.List.{filter}
-use Rattle.std.proofs.Common.{◌≡◌, ◌≤◌, ◌+◌, ℕ, List, length, drop}
+use Rattle.std.proofs.Common.{◌≡◌, ◌≤◌, ◌+◌, ℕ, List, length, drop, take}
 use Rattle.octseq_dns_compress.specs.Agrees.{Agrees}
 use Rattle.octseq_dns_compress.specs.Ending.{IsEnding}
-use Rattle.octseq_dns_compress.specs.Names.{Names, with_labels}
+use Rattle.octseq_dns_compress.specs.Names.{Names, unrooted, with_labels}
 use Rattle.octseq_dns_compress.specs.PlainNames.{plain_labels}
 use Rattle.octseq_dns_compress.specs.Written.{IsWritten}
 use Rattle.octseq_dns_compress.proofs.KeptSoFar.{KeptSoFar, place_after}
@@ -13,6 +13,7 @@ use Rattle.octseq_dns_compress.proofs.keep.keep.Given as goal
 abbrev pub invariant-labels : goal.invariant-labels
 invariant-labels g l = record {
   within : l.left ≤ l.fn.ending.written;
+  end : l.end ≡ l.fn.start + length (unrooted (take l.left (plain_labels l.name)));
   position : l.position ≤ length (g.T.Compressor.held l.table);
   more : l.older ≤ length (g.T.Compressor.held l.table);
   few : length (g.T.Compressor.held l.table) ≤ g.T.Compressor.most;

@@ -2,8 +2,17 @@ use Rattle.std.proofs.Common.{◌∷◌, refl, subst, arith}
 use Rattle.octseq_dns_compress.specs.Key.{IsPosition}
 use Rattle.octseq_dns_compress.specs.PlainNames.{plain_labels}
 use Rattle.octseq_dns_compress.specs.declared.table.Target.{Target}
+use Rattle.octseq_dns_compress.proofs.PlainLabels.{last_label}
 use Rattle.octseq_dns_compress.proofs.Searched.{ends_at, none_at, ending_is}
 use Rattle.octseq_dns_compress.proofs.search.search.Goals as goal
+
+pub overflow_sub-ending-in-Ok-2 : goal.overflow_sub-ending-in-Ok-2
+overflow_sub-ending-in-Ok-2 c =
+    let so_far = c.labels.invariant in
+    let len = so_far.len in
+    let last = last_label (plain_labels c.args.name.now) c.labels.ending.written c.label-label.result.now
+    (omega (arith, c.labels-test.true)) so_far.within c.label-label.ensures in
+    omega (arith, len, last)
 
 pub labels-preserved : goal.labels-preserved
 labels-preserved c =
@@ -19,6 +28,11 @@ labels-preserved c =
     let d : Target = record { at = 0; next = 0; pointers = 0 } in
     record {
       within = omega (arith, within);
+      len = (let len = so_far.len in
+          let last = last_label labels c.labels.ending.written c.label-label.result.now
+          (omega (arith, c.labels-test.true)) within c.label-label.ensures in
+          omega (arith, len, last));
+      short = (let short = so_far.short in omega (arith, short));
       position = so_far.position;
       near = c.requires.targets.near c.in-Ok.index d index;
       few = (let few = c.requires.targets.few c.in-Ok.index d index in omega (arith, few));

@@ -1,14 +1,16 @@
 -- The labels after those that are left are there.
-use Rattle.std.proofs.Common.{◌≤◌, ◌+◌, ◌*◌, length, drop}
+use Rattle.std.proofs.Common.{◌≡◌, ◌≤◌, ◌+◌, ◌*◌, length, drop, take}
 use Rattle.octseq_dns_compress.specs.Agrees.{Agrees}
 use Rattle.octseq_dns_compress.specs.Ending.{Ends}
-use Rattle.octseq_dns_compress.specs.Names.{Names}
+use Rattle.octseq_dns_compress.specs.Names.{Names, unrooted}
 use Rattle.octseq_dns_compress.specs.PlainNames.{plain_labels}
 use Rattle.octseq_dns_compress.proofs.search.search.Given as goal
 
 abbrev pub invariant-labels : goal.invariant-labels
 invariant-labels l = record {
   within : l.ending.written ≤ length (plain_labels l.name);
+  len : l.ending.len ≡ length (unrooted (take l.ending.written (plain_labels l.name)));
+  short : l.ending.len ≤ 254;
   position : l.ending.position ≤ length l.targets;
   near : l.ending.next ≤ 16383;
   few : l.ending.pointers ≤ 127;

@@ -1,0 +1,37 @@
+use Rattle.std.proofs.Common.{◌+◌, ◌++◌, ap, ◌∙◌, sym, length, length-append, take, arith, append_assoc}
+use Rattle.octseq_dns_compress.specs.Names.{unrooted}
+use Rattle.octseq_dns_compress.specs.PlainNames.{plain_labels}
+use Rattle.octseq_dns_compress.proofs.Limits.{within_fewer}
+use Rattle.octseq_dns_compress.proofs.PlainLabels.{one_label_more, one_label_longer, fewer_shorter}
+use Rattle.octseq_dns_compress.proofs.encode.append_labels.Goals as goal
+
+pub returns-in-Err-clause-short : goal.returns-in-Err-clause-short
+returns-in-Err-clause-short g c short =
+    let so_far = c.labels.invariant in
+    let labels = plain_labels c.args.name.now in
+    let index = c.labels.index in
+    let less = c.labels-test.true in
+    let count = c.requires.count in
+    let long = ap length so_far.content
+    ∙ length-append (g.B.AsOctets.content c.args.octets.now) (unrooted (take index labels)) in
+    let one = one_label_longer labels index c.label.result.now (omega (arith, less, count)) c.label.ensures in
+    let few = fewer_shorter labels (index + 1) c.args.count (omega (arith, less)) in
+    within_fewer g.B.AsOctets.limit _ _ c.requires.room (omega (arith, long, one, few))
+    (c.in-Err.ensures.appended.short.0 short)
+
+pub labels-preserved : goal.labels-preserved
+labels-preserved g c =
+    let so_far = c.labels.invariant in
+    let labels = plain_labels c.args.name.now in
+    let index = c.labels.index in
+    let less = c.labels-test.true in
+    let count = c.requires.count in
+    let old = g.B.AsOctets.content c.args.octets.now in
+    record {
+      within = omega (arith, less);
+      content = c.in_default.ensures.appended.ok ∙ ap (λ o. o ++ c.label.result.now) so_far.content
+          ∙ append_assoc old (unrooted (take index labels)) c.label.result.now
+          ∙ ap (λ o. old ++ o) (sym (one_label_more labels index c.label.result.now (omega (arith, less, count))
+          c.label.ensures));
+      borrows = c.in_default.ensures.borrows ∙ so_far.borrows;
+    }
