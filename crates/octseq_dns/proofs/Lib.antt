@@ -7,9 +7,12 @@ pub mod Framing
 pub mod HeaderRead
 pub mod Limited
 pub mod Moving
+pub mod Onward
 pub mod OptRead
 pub mod Pushed
 pub mod RdataRead
 pub mod ReadBack
 pub mod Spelled
 pub mod Stages
+pub mod Told
+pub mod WrittenWhole

@@ -1,10 +1,9 @@
 -- A message section by section, and that a message that was read is written in one way.
-use Rattle.std.proofs.Common.{◌≡◌, ℕ, Option, Some, None, List, [], ◌∷◌, ◌++◌, length, map}
+use Rattle.std.proofs.Common.{◌≡◌, ℕ, Option, List, [], ◌∷◌, ◌++◌, length, map}
 use Rattle.std.proofs.Common.{refl, sym, ap}
-use Rattle.std.proofs.Common.{◌∙◌, subst, arith, append_assoc, append-nil}
+use Rattle.std.proofs.Common.{◌∙◌, subst, append_assoc, append-nil}
 use Rattle.std.specs.List.{AllZip}
 use Rattle.octseq.specs.Limit.{IsPast}
-use Rattle.octseq_dns_compress.specs.Composed.{message_limit}
 use Rattle.octseq_dns_compress.proofs.Fields.{past_longer}
 use Rattle.octseq_dns_message.specs.Entry as entry
 use Rattle.octseq_dns_message.specs.declared.header.Header.{Header}
@@ -12,10 +11,8 @@ use Rattle.octseq_dns_message.proofs.RecordData.{one_said}
 use Rattle.octseq_dns.specs.Contents.{Question, Record, Message, octets_of}
 use Rattle.octseq_dns.specs.ReadBack.{bare}
 use Rattle.octseq_dns.specs.Rewritten.{IsMessageOf, IsQuestionOf, IsRecordOf, record_of_parsed}
-use Rattle.octseq_dns.specs.Sections.{takes_answers, takes_authorities, takes_additionals}
 use Rattle.octseq_dns.specs.Writes.{Building, Writes}
-use Rattle.octseq_dns.specs.Writes.{all_more, more_questions, more_answers, more_authorities, more_additionals}
-use Rattle.octseq_dns.proofs.Anew.{all_longer}
+use Rattle.octseq_dns.specs.Writes.{all_more, more_questions}
 use Rattle.octseq_dns.proofs.Pushed.{twelve_first}
 
 -- a message of these sections
@@ -31,27 +28,6 @@ all_questions h first (one ∷ q) a n d =
     all_questions h (first ++ one ∷ []) q a n d
     ∙ ap (λ q. of_sections h q a n d) (append_assoc first (one ∷ []) q)
 
-pub all_answers : (h : Header) (q : List Question) (first a n d : List Record)
-    → all_more more_answers (of_sections h q first n d) a ≡ of_sections h q (first ++ a) n d
-all_answers h q first [] n d = ap (λ a. of_sections h q a n d) (sym (append-nil first))
-all_answers h q first (one ∷ a) n d =
-    all_answers h q (first ++ one ∷ []) a n d
-    ∙ ap (λ a. of_sections h q a n d) (append_assoc first (one ∷ []) a)
-
-pub all_authorities : (h : Header) (q : List Question) (a first n d : List Record)
-    → all_more more_authorities (of_sections h q a first d) n ≡ of_sections h q a (first ++ n) d
-all_authorities h q a first [] d = ap (λ n. of_sections h q a n d) (sym (append-nil first))
-all_authorities h q a first (one ∷ n) d =
-    all_authorities h q a (first ++ one ∷ []) n d
-    ∙ ap (λ n. of_sections h q a n d) (append_assoc first (one ∷ []) n)
-
-pub all_additionals : (h : Header) (q : List Question) (a n first d : List Record)
-    → all_more more_additionals (of_sections h q a n first) d ≡ of_sections h q a n (first ++ d)
-all_additionals h q a n first [] = ap (λ d. of_sections h q a n d) (sym (append-nil first))
-all_additionals h q a n first (one ∷ d) =
-    all_additionals h q a n (first ++ one ∷ []) d
-    ∙ ap (λ d. of_sections h q a n d) (append_assoc first (one ∷ []) d)
-
 -- ---- the first sections of a message
 
 abbrev pub begun : Message → Message
@@ -60,55 +36,11 @@ begun m = of_sections m.header [] [] [] []
 abbrev pub asked : Message → Message
 asked m = of_sections m.header m.questions [] [] []
 
-abbrev pub answered : Message → Message
-answered m = of_sections m.header m.questions m.answers [] []
+-- ---- a message has its header
 
-abbrev pub authorized : Message → Message
-authorized m = of_sections m.header m.questions m.answers m.authorities []
-
--- ---- a message is no shorter than they are
-
-module _ (limit : Option ℕ) (most : ℕ) (m : Message) where
-  pub past_additionals : IsPast limit (length (octets_of most (all_more more_additionals (authorized m) m.additionals)))
-      → IsPast limit (length (octets_of most m))
-  past_additionals past = subst (λ m. IsPast limit (length (octets_of most m)))
-      (all_additionals m.header m.questions m.answers m.authorities [] m.additionals) past
-
-  pub past_authorities : IsPast limit (length (octets_of most (all_more more_authorities (answered m) m.authorities)))
-      → IsPast limit (length (octets_of most m))
-  past_authorities past =
-      let less = all_longer most takes_additionals (authorized m) m.additionals tt in
-      let same = ap (λ m. length (octets_of most m))
-      (all_authorities m.header m.questions m.answers [] m.authorities []) in
-      past_additionals (past_longer limit
-      (length (octets_of most (all_more more_authorities (answered m) m.authorities)))
-      (length (octets_of most (all_more more_additionals (authorized m) m.additionals))) (omega (arith, less, same))
-      past)
-
-  pub past_answers : IsPast limit (length (octets_of most (all_more more_answers (asked m) m.answers)))
-      → IsPast limit (length (octets_of most m))
-  past_answers past =
-      let less = all_longer most takes_authorities (answered m) m.authorities refl in
-      let same = ap (λ m. length (octets_of most m)) (all_answers m.header m.questions [] m.answers [] []) in
-      past_authorities (past_longer limit (length (octets_of most (all_more more_answers (asked m) m.answers)))
-      (length (octets_of most (all_more more_authorities (answered m) m.authorities))) (omega (arith, less, same))
-      past)
-
-  pub past_questions : IsPast limit (length (octets_of most (all_more more_questions (begun m) m.questions)))
-      → IsPast limit (length (octets_of most m))
-  past_questions past =
-      let less = all_longer most takes_answers (asked m) m.answers (refl, refl) in
-      let same = ap (λ m. length (octets_of most m)) (all_questions m.header [] m.questions [] [] []) in
-      past_answers (past_longer limit (length (octets_of most (all_more more_questions (begun m) m.questions)))
-      (length (octets_of most (all_more more_answers (asked m) m.answers))) (omega (arith, less, same)) past)
-
-  pub past_twelve : IsPast limit 12 → IsPast limit (length (octets_of most m))
-  past_twelve past = past_longer limit 12 (length (octets_of most m)) (twelve_first most m) past
-
--- what passes a builder's limit passes that of a message
-pub past_message : (limit : Option ℕ) (n : ℕ) → IsPast limit n → IsPast (message_limit limit) n
-past_message None n past = absurd past
-past_message (Some limit) n past = omega (arith, past)
+pub past_twelve : (limit : Option ℕ) (most : ℕ) (m : Message) → IsPast limit 12
+    → IsPast limit (length (octets_of most m))
+past_twelve limit most m past = past_longer limit 12 (length (octets_of most m)) (twelve_first most m) past
 
 -- ---- one message is written of one that was read
 
@@ -159,27 +91,11 @@ module _ {B T : Type 0} (most : ℕ) (b then : Building B T) (m : Message) where
   none_pushed h is same next = stage_next most b then (of_sections h [] [] [] []) (begun m) is
       (ap (λ h. of_sections h [] [] [] []) same) next
 
-  -- then the questions are, and so on
+  -- then the questions are
   pub questions_pushed : WritesIn most (all_more more_questions (begun m) m.questions) b → then ≡ b
       → WritesIn most (asked m) then
   questions_pushed is next = stage_next most b then (all_more more_questions (begun m) m.questions) (asked m) is
       (all_questions m.header [] m.questions [] [] []) next
-
-  pub answers_pushed : WritesIn most (all_more more_answers (asked m) m.answers) b → then ≡ b
-      → WritesIn most (answered m) then
-  answers_pushed is next = stage_next most b then (all_more more_answers (asked m) m.answers) (answered m) is
-      (all_answers m.header m.questions [] m.answers [] []) next
-
-  pub authorities_pushed : WritesIn most (all_more more_authorities (answered m) m.authorities) b → then ≡ b
-      → WritesIn most (authorized m) then
-  authorities_pushed is next = stage_next most b then (all_more more_authorities (answered m) m.authorities)
-      (authorized m) is (all_authorities m.header m.questions m.answers [] m.authorities []) next
-
-  -- at last the message is whole
-  pub additionals_pushed : WritesIn most (all_more more_additionals (authorized m) m.additionals) b → then ≡ b
-      → WritesIn most m then
-  additionals_pushed is next = stage_next most b then (all_more more_additionals (authorized m) m.additionals) m is
-      (all_additionals m.header m.questions m.answers m.authorities [] m.additionals) next
 
 pub zip_questions : (left questions : List entry.Question) (written : List Question) → left ≡ questions
     → written ≡ map bare questions → AllZip IsQuestionOf left written

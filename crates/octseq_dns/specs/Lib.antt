@@ -14,6 +14,7 @@ pub mod RewriteShown
 pub mod Rewritten
 pub mod Sections
 pub mod TxtWritten
+pub mod Whole
 pub mod Writes
 pub use Rattle.octseq_dns_compress.specs.Composed
 pub use Rattle.octseq_dns_compress.specs.Fields

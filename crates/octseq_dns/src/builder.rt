@@ -17,6 +17,7 @@ use octseq_dns_compress::{Composer, Compressor};
 use octseq_dns_message::{Header, HeaderCounts};
 use std::marker::{Model, PhantomData};
 
+pub(crate) mod anew;
 mod answering;
 mod entry;
 mod header;

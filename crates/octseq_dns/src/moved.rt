@@ -3,6 +3,8 @@ ghost use Rattle.std.specs.List.{AllByRecursion};
 ghost use Rattle.std.specs.Prelude.{◌≡◌, ◌↔◌, IsTrue};
 ghost use Rattle.octseq_dns.specs.Moved.{may_have_names, CanMoveRecord, CanMove};
 ghost use Rattle.octseq_dns_message.specs.Parsed.{answers_of, authorities_of, additionals_of};
+ghost use Rattle.octseq_dns_data.specs.Typed.{rdata_of};
+ghost use Rattle.octseq_dns_message.specs.RecordData.{IsDataOf};
 ghost use Rattle.octseq_dns_message.specs.Said.{record_of};
 ghost use Rattle.octseq_dns_message.specs.Walk.{records_left};
 
@@ -32,9 +34,17 @@ pub fn data_may_have_names(rtype: Rtype, class: Class) -> bool
 pub fn can_move_record<R: AsOctets + Copy>(entry: &Record<R>) -> bool
     ensures { IsTrue result ↔ CanMoveRecord (record_of entry.now) }
 {
-    match entry.data() {
+    is_movable(entry, &entry.data())
+}
+
+/// Whether a record can be moved whose data says this.
+pub(crate) fn is_movable<R: AsOctets + Copy>(entry: &Record<R>, found: &Data<R>) -> bool
+    requires { IsDataOf (record_of entry.now) (rdata_of found.now) }
+    ensures { IsTrue result ↔ CanMoveRecord (record_of entry.now) }
+{
+    match found {
         Data::Unknown(rtype, octets) => {
-            octets.remaining() == 0 || !data_may_have_names(rtype, entry.class())
+            octets.remaining() == 0 || !data_may_have_names(*rtype, entry.class())
         }
         _ => true,
     }

@@ -1,19 +1,23 @@
 //! Answers to messages that were read: RFC 1035, 4.1.1.
-ghost use Rattle.std.specs.Prelude.{◌≡◌, ◌⊎◌, length, true, IfOk};
+ghost use Rattle.std.specs.Prelude.{◌≡◌, ◌≤◌, ◌+◌, ◌*◌, ◌⊎◌, List, length, true, IfOk};
+ghost use Rattle.std.specs.List.{AllZip, sum_by};
 ghost use Rattle.octseq.specs.Limit.{IsPast, IsWithin};
 ghost use Rattle.octseq.specs.Refusal.{IsShort, IsMemory, append_error};
 ghost use Rattle.octseq_dns_compress.specs.Composed.{message_limit};
 ghost use Rattle.octseq_dns.specs.Answering.{answer_header, answer_to};
-ghost use Rattle.octseq_dns.specs.Contents.{octets_of};
-ghost use Rattle.octseq_dns.specs.Writes.{Writes, least_limit};
+ghost use Rattle.octseq_dns.specs.Contents.{Message as Contents, Question as Asked, octets_of};
+ghost use Rattle.octseq_dns.specs.Labels.{question_labels};
+ghost use Rattle.octseq_dns.specs.Rewritten.{IsQuestionOf};
+ghost use Rattle.octseq_dns.specs.Writes.{Writes, all_more, least_limit, more_questions};
+ghost use Rattle.octseq_dns_message.specs.Walk.{questions_left};
 
-use crate::builder::{AnswerBuilder, MessageBuilder};
-use crate::rewriting::push_questions;
+use crate::builder::{AnswerBuilder, MessageBuilder, QuestionBuilder};
 use octseq::builder::AsOctetsMut;
 use octseq::utf8::Turns;
 use octseq::{AppendError, AsOctets, OctetsBuilder, Truncate};
 use octseq_dns_compress::Compressor;
 use octseq_dns_data::Rcode;
+use octseq_dns_message::message::Questions;
 use octseq_dns_message::{Flags, Header, Message};
 
 impl<B: OctetsBuilder + Truncate + AsOctetsMut, T: Compressor> MessageBuilder<B, T> {
@@ -83,4 +87,45 @@ fn answer_header(asked: &Header, rcode: Rcode) -> Header
         opcode: asked.opcode,
         rcode,
     }
+}
+
+/// Pushes the questions that a message has left.
+fn push_questions<B: OctetsBuilder + Truncate + AsOctetsMut, T: Compressor, R: AsOctets + Copy>(
+    builder: QuestionBuilder<B, T>,
+    questions: Questions<R>,
+    turns: &mut Turns,
+) -> Result<QuestionBuilder<B, T>, AppendError>
+    requires { builder.counts.qdcount + length (questions_left questions) ≤ 65535 }
+    ensures written { IfOk result (λ b. (m : Contents) (written : List Asked)
+        → Writes T.most m builder.state builder.header builder.counts
+        → AllZip IsQuestionOf (questions_left questions) written
+        → Writes T.most (all_more more_questions m written) b.state b.header b.counts) }
+    ensures fits { let limit = least_limit builder.push_limit (message_limit B.limit) in
+        IfOk result (λ b. IsWithin limit (length builder.state.octets) → IsWithin limit (length b.state.octets)) }
+    ensures short { IsShort append_error result → (m : Contents) (written : List Asked)
+        → Writes T.most m builder.state builder.header builder.counts
+        → AllZip IsQuestionOf (questions_left questions) written
+        → IsPast (least_limit builder.push_limit (message_limit B.limit))
+        (length (octets_of T.most (all_more more_questions m written))) }
+    ensures memory { IsMemory append_error result → (B.asks ≡ true) ⊎ (T.asks ≡ true) }
+    ensures push_limit { IfOk result (λ b. b.push_limit ≡ builder.push_limit) }
+    ensures has_opt { IfOk result (λ b. b.has_opt ≡ builder.has_opt) }
+    ensures borrows { IfOk result (λ b. B.borrows b.octets ≡ B.borrows builder.octets) }
+    ensures turns { (m : Contents) (written : List Asked)
+        → Writes T.most m builder.state builder.header builder.counts
+        → AllZip IsQuestionOf (questions_left questions) written
+        → turns.new ≤ turns.old + 17 * sum_by question_labels written }
+    ensures least { IfOk result (λ b. (m : Contents) (written : List Asked)
+        → Writes T.most m builder.state builder.header builder.counts
+        → AllZip IsQuestionOf (questions_left questions) written → turns.old + sum_by question_labels written
+        + length builder.state.octets ≤ turns.new + length b.state.octets) }
+{
+    let mut message = builder;
+    for question in questions {
+        let (qtype, qclass) = (question.qtype(), question.qclass());
+        if let Err(error) = message.push_question_counted(&question.qname(), qtype, qclass, turns) {
+            return Err(error);
+        }
+    }
+    Ok(message)
 }

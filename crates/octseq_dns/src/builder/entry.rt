@@ -50,7 +50,11 @@ fn record_middle(rtype: Rtype, class: Class, ttl: Ttl) -> [u8; 8]
 }
 
 /// Appends the parts of a question.
-fn compose_question<B: OctetsBuilder + Truncate + AsOctetsMut, T: Compressor, R: AsOctets + Copy>(
+pub(super) fn compose_question<
+    B: OctetsBuilder + Truncate + AsOctetsMut,
+    T: Compressor,
+    R: AsOctets + Copy,
+>(
     message: &mut Composer<B, T>,
     qname: &ParsedName<R>,
     qtype: Rtype,
@@ -103,7 +107,7 @@ fn append_data<B: OctetsBuilder + Truncate + AsOctetsMut, T: Compressor, D: Comp
 }
 
 /// Appends the parts of a record.
-fn compose_record<
+pub(super) fn compose_record<
     B: OctetsBuilder + Truncate + AsOctetsMut,
     T: Compressor,
     R: AsOctets + Copy,

@@ -9,7 +9,7 @@ use Rattle.octseq_dns.specs.Labels.{question_labels}
 use Rattle.octseq_dns.specs.Rewritten.{IsQuestionOf}
 use Rattle.octseq_dns.specs.Writes.{Writes, least_limit, more_questions}
 use Rattle.octseq_dns.proofs.Anew.{Ahead}
-use Rattle.octseq_dns.proofs.rewriting.push_questions.Given as goal
+use Rattle.octseq_dns.proofs.builder.answering.push_questions.Given as goal
 
 abbrev pub invariant-loop-question : goal.invariant-loop-question
 invariant-loop-question g l = record {

@@ -1,4 +1,4 @@
-use Rattle.std.proofs.Common.{◌≡◌, ◌+◌, ◌≤◌, ℕ, length, refl, sym, ap, ◌∙◌, subst, arith, inl}
+use Rattle.std.proofs.Common.{◌+◌, ◌≤◌, length, refl, sym, ap, ◌∙◌, subst, arith, inl}
 use Rattle.std.proofs.Common.{inr}
 use Rattle.std.specs.List.{AllZip}
 use Rattle.octseq.specs.Limit.{IsPast, IsWithin}
@@ -6,22 +6,15 @@ use Rattle.octseq_dns_compress.specs.Composed.{message_limit}
 use Rattle.octseq_dns_compress.specs.State.{with_entry}
 use Rattle.octseq_dns_message.specs.Said.{question_of}
 use Rattle.octseq_dns_message.specs.Walk.{questions_left}
-use Rattle.octseq_dns_name.specs.Name.{Name}
-use Rattle.octseq_dns.specs.Contents.{Question, question_entry}
+use Rattle.octseq_dns.specs.Contents.{question_entry}
 use Rattle.octseq_dns.specs.Labels.{question_labels}
 use Rattle.octseq_dns.specs.Pushed.{asked}
 use Rattle.octseq_dns.specs.Rewritten.{IsQuestionOf}
 use Rattle.octseq_dns.specs.Sections.{takes_questions}
 use Rattle.octseq_dns.specs.Writes.{least_limit, more_questions}
 use Rattle.octseq_dns.proofs.Anew.{Ahead, ahead_first, ahead_next, ahead_none, ahead_past, ahead_turns}
-use Rattle.octseq_dns.proofs.rewriting.push_questions.Goals as goal
-
--- what is asked is what was read
-same_asked : {name other : Name} {qtype t qclass c : ℕ} → name ≡ other → qtype ≡ t → qclass ≡ c
-    → ◌≡◌ {A = Question} (record { labels = name.labels; qtype = qtype; qclass = qclass })
-    (record { labels = other.labels; qtype = t; qclass = c })
-same_asked names qtypes qclasses =
-    λ i. record { labels = (names i).labels; qtype = qtypes i; qclass = qclasses i }
+use Rattle.octseq_dns.proofs.Told.{same_asked}
+use Rattle.octseq_dns.proofs.builder.answering.push_questions.Goals as goal
 
 pub loop-question-init : goal.loop-question-init
 loop-question-init g c = record {

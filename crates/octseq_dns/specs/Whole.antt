@@ -1,0 +1,10 @@
+-- Whether the entries of a message fit.
+use Rattle.std.specs.List.{AllByRecursion}
+use Rattle.octseq_dns.specs.Contents.{FitsQuestion, FitsRecord, Message}
+
+-- Those of all sections do.
+pub record FitEntries (m : Message) : Type 0 where
+  pub questions : AllByRecursion FitsQuestion m.questions
+  pub answers : AllByRecursion FitsRecord m.answers
+  pub authorities : AllByRecursion FitsRecord m.authorities
+  pub additionals : AllByRecursion FitsRecord m.additionals
