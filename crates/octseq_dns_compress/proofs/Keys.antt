@@ -8,10 +8,10 @@ use Rattle.std.proofs.Math.Decide.{dec_le}
 use Rattle.std.proofs.Math.Nat.{eq-or-lt_of_le, lt_of_not-le, mul_assoc, mul-le-mul_left, mul-le-mul_right}
 use Rattle.std.proofs.Math.Nat.{pow-le-pow_right, pow-suc}
 use Rattle.std.specs.Cmp.Lexicographic.{slice_cmp}
-use Rattle.std.specs.Ordering.{nat_cmp, is_lt, ordering_reverse}
+use Rattle.std.specs.Ordering.{nat_cmp, is_eq, is_lt, ordering_reverse}
 use Rattle.std.specs.Prelude.{slice_index_or}
 use Rattle.std.specs.declared.cmp.Ordering.{Ordering}
-use Rattle.octseq_dns_compress.specs.Key.{key_of, key_cmp, AreTargets, IsPosition, HasKeyAt, HasNoKey}
+use Rattle.octseq_dns_compress.specs.Key.{key_of, key_cmp, AreTargets, HasKeyAt, HasNoKey}
 use Rattle.octseq_dns_compress.specs.declared.table.Target.{Target}
 
 -- what is in the list is so whatever the default is
@@ -20,6 +20,14 @@ pub same_index : (xs : List Target) (i : ℕ) (d e : Target) → i < length xs
 same_index [] i d e inside = absurd (omega (arith, inside))
 same_index (x ∷ xs) zero d e inside = refl
 same_index (x ∷ xs) (suc i) d e inside = same_index xs i d e (omega (arith, inside))
+
+pub greater_told : (told : Ordering) → is_lt told ≡ false → is_eq told ≡ false → told ≡ Ordering.Greater
+greater_told Ordering.Less other differ = absurd (true≢false other)
+greater_told Ordering.Equal other differ = absurd (true≢false differ)
+greater_told Ordering.Greater other differ = refl
+
+pub greater_not_less : (told : Ordering) → told ≡ Ordering.Greater → ¬ (told ≡ Ordering.Less)
+greater_not_less told greater less = true≢false (sym (ap is_lt less) ∙ ap is_lt greater)
 
 pub less_told : (told : Ordering) → is_lt told ≡ true → told ≡ Ordering.Less
 less_told Ordering.Less lt = refl
@@ -44,23 +52,25 @@ module _ (octets : List ℕ) (targets : List Target) (key : List ℕ) (sorted : 
         nat_list_cmp_total.trans (key_of octets (slice_index_or targets k e))
         (key_of octets (slice_index_or targets mid e)) key (sorted.less k mid e below inside) there
 
-  -- and what is after one that isn't isn't either
+  -- and what is after one that is after the key is after it too
   pub after_more : (mid : ℕ) (d : Target) (told : Ordering) → mid < length targets
-      → told ≡ key_cmp octets (slice_index_or targets mid d) key → is_lt told ≡ false
+      → told ≡ key_cmp octets (slice_index_or targets mid d) key → is_lt told ≡ false → is_eq told ≡ false
       → (k : ℕ) (e : Target) → mid ≤ k → k < length targets
-      → ¬ (key_cmp octets (slice_index_or targets k e) key ≡ Ordering.Less)
-  after_more mid d told inside is ge k e from within less = at_least (eq-or-lt_of_le from) where
-    other : ¬ (key_cmp octets (slice_index_or targets mid d) key ≡ Ordering.Less)
-    other same = true≢false (sym (ap is_lt (is ∙ same)) ∙ ge)
+      → key_cmp octets (slice_index_or targets k e) key ≡ Ordering.Greater
+  after_more mid d told inside is other differ k e from within = at_least (eq-or-lt_of_le from) where
+    greater : key_cmp octets (slice_index_or targets mid e) key ≡ Ordering.Greater
+    greater = subst (λ t. key_cmp octets t key ≡ Ordering.Greater) (same_index targets mid d e inside)
+        (sym is ∙ greater_told told other differ)
 
-    at_least : (mid ≡ k) ⊎ (mid < k) → ⊥
+    at_least : (mid ≡ k) ⊎ (mid < k) → key_cmp octets (slice_index_or targets k e) key ≡ Ordering.Greater
     at_least (inl same) =
-        other (subst (λ t. key_cmp octets t key ≡ Ordering.Less)
-        (ap (λ k. slice_index_or targets k e) (sym same) ∙ same_index targets mid e d inside) less)
+        subst (λ t. key_cmp octets t key ≡ Ordering.Greater) (ap (λ k. slice_index_or targets k e) same) greater
     at_least (inr above) =
-        other (subst (λ t. key_cmp octets t key ≡ Ordering.Less) (same_index targets mid e d inside)
-        (nat_list_cmp_total.trans (key_of octets (slice_index_or targets mid e))
-        (key_of octets (slice_index_or targets k e)) key (sorted.less mid k e above within) less))
+        let here = key_of octets (slice_index_or targets mid e) in
+        let there = key_of octets (slice_index_or targets k e) in
+        let less = nat_list_cmp_total.antisymm key here ∙ ap ordering_reverse greater in
+        let beyond = nat_list_cmp_total.trans key here there less (sorted.less mid k e above within) in
+        nat_list_cmp_total.antisymm there key ∙ ap ordering_reverse beyond
 
 -- halves of at most 16,384 are 15
 pub halved : (ticks more left fewer all : ℕ) → more ≡ ticks + 1 → fewer ≤ left / 2 → 2 ^ ticks * left ≤ all
@@ -105,14 +115,13 @@ pub key_equal : (octets : List ℕ) (targets : List Target) (key : List ℕ) (in
 key_equal octets targets key index d has =
     subst (λ k. slice_cmp nat_cmp k key ≡ Ordering.Equal) (sym (has.is d)) (same_key key)
 
-not_less : (told : Ordering) → told ≡ Ordering.Equal → told ≡ Ordering.Less → ⊥
-not_less told equal less = true≢false (sym (ap is_lt less) ∙ ap is_lt equal)
-
--- where it isn't at its position it is nowhere
-pub nowhere : (octets : List ℕ) (targets : List Target) (key : List ℕ) (position : ℕ) → AreTargets octets targets
-    → IsPosition octets targets key position → ¬ HasKeyAt octets targets key position
+-- a key that some targets come before, and all others after, is nowhere
+pub nowhere : (octets : List ℕ) (targets : List Target) (key : List ℕ) (position : ℕ)
+    → ((k : ℕ) (d : Target) → k < position → key_cmp octets (slice_index_or targets k d) key ≡ Ordering.Less)
+    → ((k : ℕ) (d : Target) → position ≤ k → k < length targets
+    → key_cmp octets (slice_index_or targets k d) key ≡ Ordering.Greater)
     → HasNoKey octets targets key
-nowhere octets targets key position sorted is none index has = below (lt_or_ge (dec_le position index)) where
+nowhere octets targets key position before after index has = below (lt_or_ge (dec_le position index)) where
   d : Target
   d = record { at = 0; next = 0; pointers = 0 }
 
@@ -121,18 +130,11 @@ nowhere octets targets key position sorted is none index has = below (lt_or_ge (
 
   lt_or_ge : Dec (position ≤ index) → (index < position) ⊎ (position ≤ index)
   lt_or_ge (yes from) = inr from
-  lt_or_ge (no before) = inl (lt_of_not-le before)
-
-  past : (position ≡ index) ⊎ (position < index) → ⊥
-  past (inl same) = none (subst (HasKeyAt octets targets key) (sym same) has)
-  past (inr before) =
-      is.after position d (omega arith) (omega (arith, before, has.within))
-      (subst (λ k. slice_cmp nat_cmp (key_of octets (slice_index_or targets position d)) k ≡ Ordering.Less) (has.is d)
-      (sorted.less position index d before has.within))
+  lt_or_ge (no less) = inl (lt_of_not-le less)
 
   below : (index < position) ⊎ (position ≤ index) → ⊥
-  below (inl before) = not_less (key_cmp octets (slice_index_or targets index d) key) equal (is.before index d before)
-  below (inr from) = past (eq-or-lt_of_le from)
+  below (inl less) = true≢false (sym (ap is_lt (before index d less)) ∙ ap is_lt equal)
+  below (inr from) = true≢false (sym (ap is_eq equal) ∙ ap is_eq (after index d from has.within))
 
 -- at least half of what was left is left, so as many turns leave the last of them
 pub halves_left : (ticks more left less total : ℕ) → more ≡ ticks + 1 → left + 2 ≤ 2 * (less + 2)

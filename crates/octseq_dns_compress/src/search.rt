@@ -96,13 +96,21 @@ fn compare(octets: &[u8], target: &Target, next: u16, label: &[u8]) -> Ordering
     }
 }
 
-/// How many of the targets come before a label that others follow at a place.
-fn position(octets: &[u8], targets: &[Target], next: u16, label: &[u8], turns: &mut Turns) -> usize
+/// The target of a label that others follow at a place, or how many come before it where there is none.
+fn find_by_halves(
+    octets: &[u8],
+    targets: &[Target],
+    next: u16,
+    label: &[u8],
+    turns: &mut Turns,
+) -> Result<usize, usize>
     requires targets { AreTargets octets.now targets.now }
     requires few { length targets.now ≤ 16384 }
-    ensures position { IsPosition octets.now targets.now (next ∷ label.now) result }
+    ensures found { IfOk result (HasKeyAt octets.now targets.now (next ∷ label.now)) }
+    ensures position { IfErr result (IsPosition octets.now targets.now (next ∷ label.now)) }
+    ensures none { IsErr result → HasNoKey octets.now targets.now (next ∷ label.now) }
     ensures turns { turns.new ≤ turns.old + 15 }
-    ensures least { length targets.now + 2 ≤ 2 * 2 ^ (turns.new - turns.old) }
+    ensures least { IsErr result → length targets.now + 2 ≤ 2 * 2 ^ (turns.new - turns.old) }
     ensures on { turns.old ≤ turns.new }
 {
     let mut from = 0;
@@ -110,14 +118,18 @@ fn position(octets: &[u8], targets: &[Target], next: u16, label: &[u8], turns: &
     'halves: while left > 0 {
         turns.tick();
         let half = left / 2;
-        if compare(octets, &targets[from + half], next, label).is_lt() {
+        let order = compare(octets, &targets[from + half], next, label);
+        if order.is_eq() {
+            return Ok(from + half);
+        }
+        if order.is_lt() {
             from += half + 1;
             left -= half + 1;
         } else {
             left = half;
         }
     }
-    from
+    Err(from)
 }
 
 /// The target of a label that others follow at a place, or how many come before it where there is none. It is often the
@@ -142,11 +154,7 @@ fn find(
     if is_at(octets, targets, hint, next, label) {
         return Ok(hint);
     }
-    let place = position(octets, targets, next, label, turns);
-    if is_at(octets, targets, place, next, label) {
-        return Ok(place);
-    }
-    Err(place)
+    find_by_halves(octets, targets, next, label, turns)
 }
 
 /// Whether a target is that of a label that others follow at a place.

@@ -3,7 +3,7 @@ use Rattle.std.proofs.Common.{◌≡◌, ◌+◌, ◌*◌, ◌^◌, ◌-◌, ◌
 use Rattle.std.specs.declared.cmp.Ordering.{Ordering}
 use Rattle.octseq_dns_compress.specs.Key.{key_cmp}
 use Rattle.octseq_dns_compress.specs.declared.table.Target.{Target}
-use Rattle.octseq_dns_compress.proofs.search.position.Given as goal
+use Rattle.octseq_dns_compress.proofs.search.find_by_halves.Given as goal
 
 abbrev pub invariant-halves : goal.invariant-halves
 invariant-halves l =
@@ -14,7 +14,7 @@ invariant-halves l =
       within : l.from + l.left ≤ length targets;
       before : (k : ℕ) (d : Target) → k < l.from → key_cmp octets (slice_index_or targets k d) key ≡ Ordering.Less;
       after : (k : ℕ) (d : Target) → l.from + l.left ≤ k → k < length targets
-          → ¬ (key_cmp octets (slice_index_or targets k d) key ≡ Ordering.Less);
+          → key_cmp octets (slice_index_or targets k d) key ≡ Ordering.Greater;
       some : l.fn.turns ≤ l.turns;
       halved : 2 ^ (l.turns - l.fn.turns) * l.left ≤ length targets;
       least : length targets + 2 ≤ (l.left + 2) * 2 ^ (l.turns - l.fn.turns);
