@@ -113,9 +113,15 @@ impl<B: OctetsBuilder + Truncate + AsOctetsMut, T: Compressor, S: Section> Secti
     /// # Examples
     ///
     /// ```
-    /// // crates/octseq_dns_tests/src/tests/dns_answers.rt
-    /// answers.set_push_limit(20);
-    /// assert_equal!(&rt, push_answer(&mut answers, &[5, 6, 7, 8])?, SHORT);
+    /// // crates/octseq_examples/src/dns.rt
+    /// answers.set_push_limit(64);
+    /// for address in addresses {
+    ///     let data = Data::<&[u8]>::A(*address);
+    ///     let pushed = answers.push_record(&name.parsed(), Class::IN, Ttl::from_secs(300), &data);
+    ///     if pushed.is_err() {
+    ///         break; // with this record the message would have more than 64 octets
+    ///     }
+    /// }
     /// ```
     pub fn set_push_limit(&mut self, limit: usize)
         ensures { self.new ≡ record self.old { push_limit = Some limit } }

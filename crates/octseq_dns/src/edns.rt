@@ -17,8 +17,7 @@ ghost use Rattle.octseq_dns.specs.Writes.{PushesAs, Writes, least_limit, more_ad
 use crate::builder::AdditionalBuilder;
 use crate::rdata::ComposeRecordData;
 use octseq::builder::AsOctetsMut;
-use octseq::utf8::Turns;
-use octseq::{AppendError, OctetsBuilder, Parser, ShortBuf, Truncate};
+use octseq::{AppendError, OctetsBuilder, Parser, ShortBuf, Truncate, Turns};
 use octseq_dns_compress::{Composer, Compressor};
 use octseq_dns_data::{Class, Rtype};
 use octseq_dns_message::Ttl;
@@ -134,14 +133,15 @@ impl<B: OctetsBuilder + Truncate + AsOctetsMut, T: Compressor> AdditionalBuilder
     /// # Examples
     ///
     /// ```
-    /// // crates/octseq_dns_tests/src/tests/dns_answers.rt
+    /// // crates/octseq_examples/src/dns.rt
+    /// let mut additionals = message.question().answer().authority().additional();
     /// additionals.push_opt(&OptData {
     ///     udp_payload_size: 1232,
-    ///     extended_rcode: 1,
+    ///     extended_rcode: 0,
     ///     version: 0,
     ///     dnssec_ok: true,
-    ///     options,
-    /// })
+    ///     options: &[],
+    /// })?;
     /// ```
     pub fn push_opt(&mut self, opt: &OptData<'_>) -> Result<(), PushOptError>
         ensures pushed { PushesAs push_opt_error (least_limit self.old.push_limit (message_limit B.limit))

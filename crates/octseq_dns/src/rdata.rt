@@ -11,8 +11,7 @@ ghost use Rattle.octseq_dns_data.specs.Local.{LocalType};
 ghost use Rattle.octseq_dns_data.specs.Typed.{rdata_of, mx_of, rrsig_of, soa_of, srv_of};
 
 use octseq::builder::{AsOctetsMut, infallible};
-use octseq::utf8::Turns;
-use octseq::{AppendError, Array, AsOctets, OctetsBuilder, Truncate};
+use octseq::{AppendError, Array, AsOctets, OctetsBuilder, Truncate, Turns};
 use octseq_dns_compress::{Composer, Compressor};
 use octseq_dns_data::data::{
     Caa, Dnskey, Ds, Hinfo, Mx, Naptr, Nsec, Nsec3, Nsec3param, PlainName, Rrsig, Soa, Srv, Sshfp,

@@ -27,11 +27,11 @@ const STRING_MAX: usize = 255;
 /// # Examples
 ///
 /// ```
-/// // crates/octseq_dns_tests/src/tests/dns_answers.rt
-/// let mut octets = Array::<6>::new();
-/// append_strings(&mut octets, &[b"a".as_slice(), b"", b"bc"])?;
-/// assert_equal!(&rt, octets.as_slice(), b"\x01a\0\x02bc".as_slice());
+/// // crates/octseq_examples/src/dns.rt
+/// let mut octets = Array::<16>::new();
+/// append_strings(&mut octets, &[b"mail".as_slice(), b"web"])?; // "\x04mail\x03web"
 /// let txt = Txt::from_octets(octets.as_slice())?;
+/// let text = format!(in alloc; "{txt}")?; // "mail" "web"
 /// ```
 pub fn append_strings<B: OctetsBuilder + Truncate>(
     octets: &mut B,
@@ -69,11 +69,13 @@ pub fn append_strings<B: OctetsBuilder + Truncate>(
 /// # Examples
 ///
 /// ```
-/// // crates/octseq_dns_tests/src/tests/dns_answers.rt
-/// let mut octets = Array::<700>::new();
-/// append_text(&mut octets, text)?;
-/// assert_equal!(rt, octets.len(), len + wanted.len());
-/// let txt = Txt::from_octets(octets.as_slice())?;
+/// // crates/octseq_examples/src/dns.rt
+/// let mut octets = Array::<512>::new();
+/// append_text(&mut octets, &[b'a'; 300])?;
+/// let mut lens = Vec::new(alloc);
+/// for string in Txt::from_octets(octets.as_slice())?.strings() {
+///     lens.push(string.as_slice().len())?; // 255, and then 45
+/// }
 /// ```
 pub fn append_text<B: OctetsBuilder + Truncate>(
     octets: &mut B,

@@ -10,7 +10,7 @@ ghost use Rattle.octseq_dns_compress.specs.Written.{IsWritten};
 use crate::plain::PlainName;
 use crate::search::Ending;
 use crate::table::{Compressor, Target};
-use octseq::utf8::Turns;
+use octseq::Turns;
 use std::alloc::AllocError;
 
 /// The last place that a pointer can say: RFC 1035, 4.1.4.

@@ -9,7 +9,7 @@ ghost use Rattle.octseq_dns_compress.specs.Key.{label_at, IsWhole, key_cmp, AreT
 
 use crate::plain::PlainName;
 use crate::table::Target;
-use octseq::utf8::Turns;
+use octseq::Turns;
 use std::cmp::Ordering;
 
 /// What of a name is written where its last labels are in the message.

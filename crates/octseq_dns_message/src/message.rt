@@ -11,8 +11,7 @@ ghost use Rattle.octseq_format.specs.Row.{Holds};
 
 use crate::header::{Header, HeaderCounts, Numbers};
 use crate::message::sections::{pass_questions, pass_records};
-use octseq::utf8::Turns;
-use octseq::{AsOctets, Parser};
+use octseq::{AsOctets, Parser, Turns};
 use octseq_dns_name::Malformed;
 use std::alloc::AllocError;
 
@@ -89,13 +88,13 @@ impl<R: AsOctets + Copy> Message<R> {
     /// # Examples
     ///
     /// ```
-    /// // crates/octseq_dns_tests/src/tests/dns_message.rt
-    /// let mut text = StrBuilder::<Vec<u8>>::new(alloc)?;
-    /// match Message::parse(octets) {
-    ///     Ok(message) => message.append_text(&mut text)?,
-    ///     Err(Malformed) => text.try_push_str("malformed\n")?,
+    /// // crates/octseq_examples/src/dns.rt
+    /// let message = Message::parse(octets)?;
+    /// let header = message.header();
+    /// if !header.flags.qr || header.rcode != Rcode::NOERROR {
+    ///     return Ok(None);
     /// }
-    /// Ok(text)
+    /// Ok(Some(message.header_counts().ancount))
     /// ```
     pub fn parse(octets: R) -> Result<Message<R>, Malformed>
         ensures message { IfOk result (λ message. IsMessage (R.content octets) (header_of message)
@@ -171,11 +170,11 @@ impl<R: AsOctets + Copy> Message<R> {
     /// # Examples
     ///
     /// ```
-    /// // crates/octseq_dns_tests/src/tests/dns.rt
+    /// // crates/octseq_examples/src/dns.rt
+    /// let message = Message::parse(octets)?;
+    /// let mut lines = String::new(alloc);
     /// for question in message.questions() {
-    ///     let typed = (question.qtype(), question.qclass());
-    ///     assert_equal!(rt, typed, (Rtype::A, Class::IN));
-    ///     assert_equal!(rt, question.qname().parser().pos(), 12);
+    ///     writeln!(lines, "{} {}", question.qname(), question.qtype())?;
     /// }
     /// ```
     pub fn questions(&self) -> Questions<R>
@@ -189,14 +188,14 @@ impl<R: AsOctets + Copy> Message<R> {
     /// # Examples
     ///
     /// ```
-    /// // crates/octseq_dns_tests/src/tests/dns_text.rt
+    /// // crates/octseq_examples/src/dns.rt
     /// let message = Message::parse(octets)?;
-    /// let mut text = String::new(alloc);
+    /// let mut addresses = Vec::new(alloc);
     /// for answer in message.answers() {
-    ///     let found = answer.data();
-    ///     write!(text, "{found}")?;
+    ///     if let Data::A(address) = answer.data() {
+    ///         addresses.push(address)?;
+    ///     }
     /// }
-    /// Ok(text)
     /// ```
     pub fn answers(&self) -> Records<R>
         ensures { records_left result ≡ answers_of self.now }

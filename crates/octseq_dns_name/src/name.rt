@@ -11,8 +11,7 @@ use crate::name::pass::name_end;
 use crate::name::step::pass_known;
 use crate::name::wire::wire_len;
 use octseq::builder::infallible;
-use octseq::utf8::Turns;
-use octseq::{AsOctets, Parser};
+use octseq::{AsOctets, Parser, Turns};
 use std::alloc::AllocError;
 
 mod compare;
@@ -89,13 +88,10 @@ impl<R: AsOctets + Copy> ParsedName<R> {
     /// # Examples
     ///
     /// ```
-    /// // crates/octseq_dns_tests/src/tests/dns.rt
-    /// let mut parser = Parser::from_ref(octets);
-    /// parser.seek(place).ok()?;
-    /// match ParsedName::parse(&mut parser) {
-    ///     Ok(name) => Some((parser.pos(), name.len())),
-    ///     Err(Malformed) => None,
-    /// }
+    /// // crates/octseq_examples/src/dns.rt
+    /// let mut parser = Parser::from_static(b"\x07example\x03com\x00\x03www\xC0\x00");
+    /// let domain = ParsedName::parse(&mut parser)?; // "example.com."
+    /// let host = ParsedName::parse(&mut parser)?; // "www.example.com."
     /// ```
     pub fn parse(parser: &mut Parser<R>) -> Result<ParsedName<R>, Malformed>
         ensures place { IfOk result (λ name. place_of name ≡ window parser.old) }

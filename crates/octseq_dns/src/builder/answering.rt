@@ -13,8 +13,7 @@ ghost use Rattle.octseq_dns_message.specs.Walk.{questions_left};
 
 use crate::builder::{AnswerBuilder, MessageBuilder, QuestionBuilder};
 use octseq::builder::AsOctetsMut;
-use octseq::utf8::Turns;
-use octseq::{AppendError, AsOctets, OctetsBuilder, Truncate};
+use octseq::{AppendError, AsOctets, OctetsBuilder, Truncate, Turns};
 use octseq_dns_compress::Compressor;
 use octseq_dns_data::Rcode;
 use octseq_dns_message::message::Questions;
@@ -33,11 +32,12 @@ impl<B: OctetsBuilder + Truncate + AsOctetsMut, T: Compressor> MessageBuilder<B,
     /// # Examples
     ///
     /// ```
-    /// // crates/octseq_dns_tests/src/tests/dns_answers.rt
+    /// // crates/octseq_examples/src/dns.rt
     /// let request = Message::parse(request)?;
-    /// let message = MessageBuilder::from_builder(Array::<64>::new(), Table::new())?;
-    /// let answers = message.start_answer(&request, rcode)?;
-    /// Ok(answers.authority().additional().finish().0)
+    /// let table = StaticCompressor::<8>::new();
+    /// let message = MessageBuilder::from_builder(Array::<512>::new(), table)?;
+    /// let answers = message.start_answer(&request, Rcode::REFUSED)?;
+    /// let (octets, _) = answers.authority().additional().finish();
     /// ```
     pub fn start_answer<R: AsOctets + Copy>(
         self,

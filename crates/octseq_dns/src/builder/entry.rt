@@ -14,8 +14,7 @@ ghost use Rattle.octseq_dns.specs.Writes.{Appends, least_limit};
 
 use crate::rdata::ComposeRecordData;
 use octseq::builder::AsOctetsMut;
-use octseq::utf8::Turns;
-use octseq::{AppendError, AsOctets, OctetsBuilder, ShortBuf, Truncate};
+use octseq::{AppendError, AsOctets, OctetsBuilder, ShortBuf, Truncate, Turns};
 use octseq_dns_compress::{Composer, Compressor};
 use octseq_dns_data::{Class, Rtype};
 use octseq_dns_message::Ttl;

@@ -26,17 +26,13 @@ impl<B: OctetsBuilder + Truncate + AsOctetsMut, T: Compressor> MessageBuilder<B,
     /// # Examples
     ///
     /// ```
-    /// // crates/octseq_dns_tests/src/tests/dns_writing.rt
-    /// let name = Name::from_text("example.com.")?;
-    /// let mut message = MessageBuilder::from_builder(octets, table)?;
-    /// message.set_header(header());
+    /// // crates/octseq_examples/src/dns.rt
+    /// let table = StaticCompressor::<8>::new();
+    /// let mut message = MessageBuilder::from_builder(Array::<512>::new(), table)?;
+    /// message.set_header(header);
     /// let mut questions = message.question();
     /// questions.push_question(&name.parsed(), Rtype::A, Class::IN)?;
-    /// let mut answers = questions.answer();
-    /// let (ttl, address) = (Ttl::from_secs(300), [1, 2, 3, 4]);
-    /// let rdata = UnknownRecordData::new(Rtype::A, &address);
-    /// answers.push_record(&name.parsed(), Class::IN, ttl, &rdata)?;
-    /// Ok(answers.authority().additional().finish())
+    /// let (octets, _) = questions.answer().authority().additional().finish();
     /// ```
     pub fn from_builder(octets: B, table: T) -> Result<Self, AppendError>
         ensures written { IfOk result (λ m. Writes T.most blank_message m.state m.header m.counts) }

@@ -12,8 +12,7 @@ use crate::builder::entry::append_question;
 use crate::builder::header::octets_of;
 use crate::builder::{AnswerBuilder, QuestionBuilder};
 use octseq::builder::AsOctetsMut;
-use octseq::utf8::Turns;
-use octseq::{AppendError, AsOctets, OctetsBuilder, ShortBuf, Truncate};
+use octseq::{AppendError, AsOctets, OctetsBuilder, ShortBuf, Truncate, Turns};
 use octseq_dns_compress::Compressor;
 use octseq_dns_data::{Class, Rtype};
 use octseq_dns_name::ParsedName;
@@ -29,13 +28,11 @@ impl<B: OctetsBuilder + Truncate + AsOctetsMut, T: Compressor> QuestionBuilder<B
     /// # Examples
     ///
     /// ```
-    /// // crates/octseq_dns_tests/src/tests/dns_writing.rt
-    /// let mut questions = MessageBuilder::from_builder(octets, table)?.question();
-    /// for text in names {
-    ///     let name = Name::from_text(text)?;
-    ///     questions.push_question(&name.parsed(), Rtype::A, Class::IN)?;
-    /// }
-    /// Ok(questions.answer().authority().additional().finish())
+    /// // crates/octseq_examples/src/dns.rt
+    /// let name = Name::from_text("example.com.")?;
+    /// let mut questions = message.question();
+    /// questions.push_question(&name.parsed(), Rtype::A, Class::IN)?; // 17 octets
+    /// questions.push_question(&name.parsed(), Rtype::AAAA, Class::IN)?; // 6 octets: the name is a pointer
     /// ```
     pub fn push_question<R: AsOctets + Copy>(
         &mut self,

@@ -14,8 +14,7 @@ use crate::builder::section::RecordSection;
 use crate::builder::{AdditionalBuilder, AnswerBuilder, AuthorityBuilder, SectionBuilder};
 use crate::rdata::ComposeRecordData;
 use octseq::builder::AsOctetsMut;
-use octseq::utf8::Turns;
-use octseq::{AppendError, AsOctets, OctetsBuilder, ShortBuf, Truncate};
+use octseq::{AppendError, AsOctets, OctetsBuilder, ShortBuf, Truncate, Turns};
 use octseq_dns_compress::Compressor;
 use octseq_dns_data::{Class, Rtype};
 use octseq_dns_message::Ttl;
@@ -37,11 +36,11 @@ impl<B: OctetsBuilder + Truncate + AsOctetsMut, T: Compressor, S: RecordSection>
     /// # Examples
     ///
     /// ```
-    /// // crates/octseq_dns_tests/src/tests/dns_round_trips.rt
-    /// let (class, ttl) = (entry.class(), entry.ttl());
-    /// let message = MessageBuilder::from_builder(builder, ArrayVec::<Target, 8>::new())?;
+    /// // crates/octseq_examples/src/dns.rt
+    /// let name = Name::from_text("example.com.")?;
+    /// let address = Data::<&[u8]>::A([192, 0, 2, 1]);
     /// let mut answers = message.question().answer();
-    /// answers.push_record(&owner, class, ttl, &data)?;
+    /// answers.push_record(&name.parsed(), Class::IN, Ttl::from_secs(300), &address)?;
     /// ```
     pub fn push_record<R: AsOctets + Copy, D: ComposeRecordData>(
         &mut self,

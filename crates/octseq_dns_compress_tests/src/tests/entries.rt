@@ -1,6 +1,6 @@
 //! Entries that are taken back, data after the number of its octets, and headers.
 use crate::tests::name_of;
-use octseq::utf8::Turns;
+use octseq::Turns;
 use octseq_asserts::assert_equal;
 use octseq_dns_compress::{Composer, Target};
 use std::test::Fail;

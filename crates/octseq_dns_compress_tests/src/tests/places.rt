@@ -1,7 +1,6 @@
 //! The last place that a pointer can say is 16,383: RFC 1035, 4.1.4.
 use crate::tests::name_of;
-use octseq::AsOctets;
-use octseq::utf8::Turns;
+use octseq::{AsOctets, Turns};
 use octseq_asserts::assert_equal;
 use octseq_dns_compress::{Composer, Target};
 use std::alloc::AllocGlobal;

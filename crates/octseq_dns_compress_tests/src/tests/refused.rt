@@ -3,8 +3,7 @@
 //! `.ci/refused` runs these tests with their n-th request refused, for each n up to the last of them. A refusal
 //! ends a test by the error that it was answered with, once the test has looked at what is there.
 use crate::tests::name_of;
-use octseq::AppendError;
-use octseq::utf8::Turns;
+use octseq::{AppendError, Turns};
 use octseq_asserts::assert_equal;
 use octseq_dns_compress::{Composer, Target};
 use std::test::Fail;

@@ -1,8 +1,7 @@
 //! The example of RFC 1035, 4.1.4: F.ISI.ARPA at place 20, FOO.F.ISI.ARPA at 40, ARPA at 64 and the root at 92.
 use crate::tests::name_of;
 use arrayvec::ArrayVec;
-use octseq::utf8::Turns;
-use octseq::{AppendError, Array, AsOctets, OctetsBuilder, Truncate};
+use octseq::{AppendError, Array, AsOctets, OctetsBuilder, Truncate, Turns};
 use octseq_asserts::assert_equal;
 use octseq_dns_compress::{Composer, Compressor, Target};
 use std::process::Abort;

@@ -8,8 +8,7 @@ ghost use Rattle.octseq_dns_name.specs.Name as named;
 ghost use Rattle.octseq_dns_name.specs.Read.{name_of};
 
 use crate::message::{Message, Record, Records};
-use octseq::AsOctets;
-use octseq::utf8::Turns;
+use octseq::{AsOctets, Turns};
 use octseq_dns_data::{Class, Data, Rtype};
 use octseq_dns_name::ParsedName;
 

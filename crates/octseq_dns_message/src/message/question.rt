@@ -6,8 +6,7 @@ ghost use Rattle.octseq_dns_message.specs.Entry.{IsAfterName};
 ghost use Rattle.octseq_format.specs.Laws.{NoneAt};
 
 use octseq::builder::infallible;
-use octseq::utf8::Turns;
-use octseq::{AsOctets, Parser};
+use octseq::{AsOctets, Parser, Turns};
 use octseq_dns_data::{Class, Rtype};
 use octseq_dns_name::{Malformed, ParsedName};
 use std::alloc::AllocError;

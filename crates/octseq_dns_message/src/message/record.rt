@@ -8,8 +8,7 @@ ghost use Rattle.octseq_format.specs.Laws.{NoneAt};
 
 use crate::ttl::Ttl;
 use octseq::builder::infallible;
-use octseq::utf8::Turns;
-use octseq::{AsOctets, Parser};
+use octseq::{AsOctets, Parser, Turns};
 use octseq_dns_data::{Class, Data, Rtype};
 use octseq_dns_name::{Malformed, ParsedName};
 use std::alloc::AllocError;

@@ -9,8 +9,7 @@ ghost use Rattle.octseq_format.specs.Row.{Many};
 
 use crate::message::question::Question;
 use crate::message::record::Record;
-use octseq::utf8::Turns;
-use octseq::{AsOctets, Parser};
+use octseq::{AsOctets, Parser, Turns};
 use octseq_dns_name::Malformed;
 
 /// Takes as many questions as `count` says.

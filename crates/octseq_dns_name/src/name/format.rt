@@ -12,8 +12,7 @@ use crate::error::Malformed;
 use crate::name::ParsedName;
 use crate::name::wire::append_labels;
 use octseq::builder::infallible;
-use octseq::utf8::Turns;
-use octseq::{Array, AsOctets, OctetsBuilder, Parser, Truncate};
+use octseq::{Array, AsOctets, OctetsBuilder, Parser, Truncate, Turns};
 use octseq_format::{Delimited, Format, Moving};
 use std::alloc::AllocError;
 

@@ -6,7 +6,7 @@ ghost use Rattle.octseq_dns_name.specs.Pass.{window_at, NoName, NoRest, PassesLa
 
 use crate::name::wire::LABEL_MAX;
 use crate::name::{NAME_MAX, POINTER_MAX};
-use octseq::utf8::Turns;
+use octseq::Turns;
 
 /// Where the name at a place ends, and how many octets it has in wire form. It counts a turn for the root, for each
 /// label and for each pointer.

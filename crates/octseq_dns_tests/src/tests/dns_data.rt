@@ -1,6 +1,6 @@
 //! What the data of records says.
+use octseq::Turns;
 use octseq::octets::Octets;
-use octseq::utf8::Turns;
 use octseq_asserts::{Case, assert_equal, assert_true, over_each};
 use octseq_dns::data::{Soa, Srv, Txt};
 use octseq_dns::opt::Opt;

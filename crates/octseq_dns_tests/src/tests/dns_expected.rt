@@ -1,7 +1,7 @@
 //! What users of a DNS library expect of a message that was read: its question, the records of one type, its canonical
 //! name, its record of EDNS, and what the options of that say.
+use octseq::Turns;
 use octseq::octets::Octets;
-use octseq::utf8::Turns;
 use octseq_asserts::{Case, assert_equal, assert_true, over_each};
 use octseq_dns::message::NotOneQuestion;
 use octseq_dns::opt::{EdnsOption, OptionData};

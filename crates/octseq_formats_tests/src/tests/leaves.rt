@@ -1,7 +1,6 @@
 //! Each format once: octets, and what they say.
 use octseq::compose::ComposeError;
-use octseq::utf8::Turns;
-use octseq::{Array, AsOctets, Malformed, Parser};
+use octseq::{Array, AsOctets, Malformed, Parser, Turns};
 use octseq_asserts::assert_equal;
 use octseq_format::{
     Bits, Case, Counted, Either, Exactly, Flag, Format, I8, I16Be, I16Le, I32Be, I32Le, I64Be,

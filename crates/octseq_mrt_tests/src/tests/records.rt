@@ -1,6 +1,5 @@
 //! Records by their octets: where they end, and how many turns reading them takes.
-use octseq::utf8::Turns;
-use octseq::{AsOctets, Parser};
+use octseq::{AsOctets, Parser, Turns};
 use octseq_asserts::{assert_equal, assert_true};
 use octseq_bgp::{Afi, SessionConfig};
 use octseq_mrt::{

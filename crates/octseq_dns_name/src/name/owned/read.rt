@@ -34,12 +34,10 @@ impl Name<Array<255>> {
     /// # Examples
     ///
     /// ```
-    /// // crates/octseq_dns_tests/src/tests/dns_writing.rt
-    /// let name = Name::from_text("example.com.")?;
-    /// let mut message = MessageBuilder::from_builder(octets, table)?;
-    /// message.set_header(header());
-    /// let mut questions = message.question();
-    /// questions.push_question(&name.parsed(), Rtype::A, Class::IN)?;
+    /// // crates/octseq_examples/src/dns.rt
+    /// let host = Name::from_text("www.example.com.")?;
+    /// let domain = Name::from_text("example.com.")?;
+    /// let is_within = host.ends_with(&domain.parsed()); // true
     /// ```
     pub fn from_text(text: &str) -> Result<Self, FromTextError>
         ensures ok { IfOk result (λ name. SpellsName (owned_labels name) text.now) }

@@ -10,7 +10,7 @@ use octseq::builder::{
 };
 use octseq::cow::CowOctets;
 use octseq::str::{Command, LossyPieces, Reply, Str, StrBuilder, run};
-use octseq::utf8::Turns;
+use octseq::Turns;
 use octseq_asserts::{assert_equal, assert_true};
 use smallvec::SmallVec;
 use std::alloc::{AllocError, Global};

@@ -4,7 +4,7 @@ use crate::tests::is_text_or_short;
 use octseq::array::Array;
 use octseq::builder::{AppendError, EmptyBuilder};
 use octseq::str::StrBuilder;
-use octseq::utf8::Turns;
+use octseq::Turns;
 use std::alloc::Global;
 use std::process::Abort;
 use std::test::Fail;

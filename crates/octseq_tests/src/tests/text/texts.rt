@@ -9,7 +9,7 @@ use octseq::builder::{
 use octseq::cow::CowOctets;
 use octseq::octets::OctetsFrom;
 use octseq::str::{Command, Reply, Str, StrBuilder, boundary, last_char, run};
-use octseq::utf8::Turns;
+use octseq::Turns;
 use octseq_asserts::{assert_equal, assert_true};
 use smallvec::SmallVec;
 use std::alloc::Global;
