@@ -1,6 +1,5 @@
--- The octets of a reader are fed until its end.
-use Rattle.std.proofs.Common.{◌≡◌, ℕ, List, [], ◌++◌, Option, Some, None, refl, sym, ap, ◌∙◌, append_assoc}
-use Rattle.std.proofs.lemmas.List.{append-nil}
+-- A reader's octets are fed until its end.
+use Rattle.std.proofs.Common.{ℕ, List, [], ◌++◌, Option, Some, None, refl, sym, ap, ◌∙◌, append_assoc}
 use Rattle.std.specs.Io.KnownBytes.{Consumes, Keeps}
 use Rattle.octseq_program.specs.declared.status.Status.{Status}
 use Rattle.octseq_tool.specs.Out.{Made, Makes}

@@ -1,3 +1,4 @@
 pub mod Feeding
+pub mod Lines
 pub mod OneAnswer
 pub mod Records

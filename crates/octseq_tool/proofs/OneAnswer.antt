@@ -1,10 +1,13 @@
 -- What is written is a function of the word and the input.
 use Rattle.std.proofs.Common.{◌≡◌, ◌∙◌, ◌∷◌, ◌++◌}
 use Rattle.std.proofs.Common.{inl, inr, refl, sym, ap, subst, arith, List, [], length, codes, ℕ}
+use Rattle.std.proofs.Common.{append_assoc}
 use Rattle.std.proofs.lemmas.List.{append-nil}
-use Rattle.octseq_tool.proofs.Records.{IsRest, one_reading}
+use Rattle.octseq_tool.proofs.Records.{no_record, one_reading}
+use Rattle.octseq_tool.specs.Lines.{IsRest, IsReadTo}
 use Rattle.octseq.specs.Fault.{Fault, IsFault, fault_text}
-use Rattle.octseq.specs.Parts.{Part, Splits, text}
+use Rattle.octseq.proofs.Codes.{halves}
+use Rattle.octseq.specs.Parts.{IsFront, Part, Splits, text}
 use Rattle.octseq.specs.Text.{IsWellFormed}
 use Rattle.octseq_program.proofs.Naming.{other_first, other_length}
 use Rattle.octseq_tool.specs.Out.{name_of, HasText, records_of, IsCut, HasLines, Made, Out}
@@ -119,3 +122,35 @@ module _
   one_output c input x y e f s t (p, none) (q, also) =
       let same = one_made c input x y s t p q in
       (same.0, none ∙ sym also, same.1)
+
+  -- the lines of records are a front of those of all records that begin with them
+  lines_front : (parts others : List (List ℕ)) (x y lines all : List ℕ) → IsRest y
+      → records_of parts ++ x ≡ records_of others ++ y → HasLines parts lines → HasLines others all → IsFront lines all
+  lines_front [] others x y lines all is e none has = (all, sym (ap (λ l. l ++ all) none))
+  lines_front (a ∷ parts) [] x y lines all is e h has =
+      no_record y a (records_of parts ++ x) is (sym e ∙ ap (λ r. length a ∷ r) (append_assoc a (records_of parts) x))
+  lines_front (a ∷ parts) (b ∷ others) x y lines all is e (line, more, h, hs, f) (other, rest, k, ks, g) =
+      let long : length a ≡ length b = cc in
+      let behind : (a ++ records_of parts) ++ x ≡ (b ++ records_of others) ++ y = cc in
+      let both = halves a b (records_of parts ++ x) (records_of others ++ y) long
+      (sym (append_assoc a (records_of parts) x) ∙ behind ∙ append_assoc b (records_of others) y) in
+      let same : line ≡ other = one_text b line other (subst (λ p. HasText p line) both.0 h) k in
+      let next = lines_front parts others x y more rest is both.1 hs ks in (
+        next.0,
+        g ∙ ap (λ l. l ++ codes "\n" ++ rest) (sym same) ∙ ap (λ r. line ++ codes "\n" ++ r) next.1
+            ∙ sym (append_assoc (line ++ codes "\n") more next.0) ∙ ap (λ l. l ++ next.0) (sym f),
+      )
+
+  pub front_of_lines : (octets rest lines more output : List ℕ) (status : Status) → IsReadTo octets rest lines
+      → Made Records (octets ++ more) output status → IsFront lines output
+  front_of_lines octets rest lines more output Fine r (others, e, has) =
+      lines_front r.parts others (rest ++ more) [] lines output (inl refl)
+      (sym (ap (λ o. o ++ more) r.whole ∙ append_assoc (records_of r.parts) rest more) ∙ e ∙ sym (append-nil _)) r.lines has
+  front_of_lines octets rest lines more output Refused r (others, other, begin, e, c, has, o) =
+      let front = lines_front r.parts others (rest ++ more) other lines begin (inr c)
+      (sym (ap (λ o. o ++ more) r.whole ∙ append_assoc (records_of r.parts) rest more) ∙ e) r.lines has in (
+        front.0 ++ codes "unexpected end of input\n",
+        o ∙ ap (λ l. l ++ codes "unexpected end of input\n") front.1
+            ∙ append_assoc lines front.0 (codes "unexpected end of input\n"),
+      )
+  front_of_lines octets rest lines more output Usage r p = absurd p

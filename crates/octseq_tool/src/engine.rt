@@ -3,29 +3,28 @@ ghost use Rattle.std.specs.Prelude.{◌≡◌, ◌≢◌, ◌<◌, ◌∷◌, �
 ghost use Rattle.std.specs.Prelude.{ℕ, [], length, codes, Some, List, Option};
 ghost use Rattle.std.specs.Prelude.{IfOk, IfErr, IfSome, OnOk, OnErr, ◌-◌};
 ghost use Rattle.std.specs.Io.KnownBytes.{Consumes, IsAtEnd};
-ghost use Rattle.octseq.specs.Parser.{window};
-ghost use Rattle.octseq.specs.Window.{left, rest};
-ghost use Rattle.octseq.specs.Pieces.{StandsFor};
-ghost use Rattle.octseq_program.specs.Run.{IsNamed};
+ghost use Rattle.octseq.specs.Parts.{IsFront};
+ghost use Rattle.octseq_program.specs.Run.{IsNamed, Answers, BreaksOff};
 ghost use Rattle.octseq_program.specs.declared.status.Status.{Status};
 ghost use Rattle.octseq_program.specs.declared.status.Status.TheVariants.{Refused};
-ghost use Rattle.octseq_tool.specs.Out.{name_of, HasText, IsCut, Made, Makes, Out};
+ghost use Rattle.octseq_tool.specs.Lines.{IsReadTo};
+ghost use Rattle.octseq_tool.specs.Out.{name_of, Made, Makes, Out};
 ghost use Rattle.octseq_tool.specs.declared.engine.Command.{Command};
 ghost use Rattle.octseq_tool.specs.declared.engine.Command.TheVariants.{Check, Lossy, Lossy64, Records};
 
 use feeding::{Searched, feed_all};
+use lines::write_records;
 use octseq::array::Array;
 use octseq::builder::{AppendError, ShortBuf};
-use octseq::parse::{self, Parser, ShortInput};
 use octseq::str::{LossyPieces, StrBuilder};
 use octseq::utf8;
-use octseq_program::engine::cut_off;
 use octseq_program::streams::{read_all, write_all};
 use octseq_program::{Answer, Commands, ProgramFault, Status};
 use std::alloc::{AllocError, Global};
 use std::io::{Read, Write};
 
 mod feeding;
+mod lines;
 #[cfg(test)]
 mod tests;
 
@@ -77,6 +76,10 @@ pub fn one_answer()
         → IsNamed name_of word c → IsNamed name_of word d → c ≡ d }
     ensures output { (c : Command) (input x y e f : List ℕ) (s t : Status)
         → Out c input x e s → Out c input y f t → (x ≡ y) × (e ≡ f) × (s ≡ t) }
+
+    // The lines of some records are a front of what is written for every input that begins with them.
+    ensures lines { (octets rest lines more output : List ℕ) (status : Status) → IsReadTo octets rest lines
+        → Made Records (octets ++ more) output status → IsFront lines output }
 {
     utf8::one_fault();
     utf8::one_splitting();
@@ -126,8 +129,20 @@ fn lossy<R: Read>(alloc: Global, reader: &mut R) -> Result<Answer, ProgramFault>
     })
 }
 
+/// The lossy text of all that the reader has left, where an array of 64 octets can hold it.
+#[tactic(auto, using(crate::proofs::Feeding::makes))]
+fn lossy64<R: Read>(alloc: Global, reader: &mut R) -> Result<Answer, ProgramFault>
+    ensures ok { IfOk result (λ answer. Makes Lossy64 (R.remaining reader.old) (R.remaining reader.new)
+        answer.output.items answer.status) }
+    ensures end { OnOk result (IsAtEnd (R.remaining reader.new)) }
+    ensures err { OnErr result ((read : List ℕ) × Consumes (R.remaining reader.old) (R.remaining reader.new) read) }
+{
+    let input = read_all(alloc, reader)?;
+    Ok(lossy_in_64(alloc, input.as_slice())?)
+}
+
 /// The lossy text of the octets, where an array of 64 octets can hold it.
-fn lossy64(alloc: Global, input: &[u8]) -> Result<Answer, AllocError>
+fn lossy_in_64(alloc: Global, input: &[u8]) -> Result<Answer, AllocError>
     ensures { IfOk result (λ answer. Made Lossy64 input.now answer.output.items answer.status) }
 {
     match StrBuilder::<Array<64>>::try_copy_lossy(alloc, input) {
@@ -151,65 +166,18 @@ fn too_long(alloc: Global) -> Result<Answer, AllocError>
     })
 }
 
-/// Reads the next record. Returns its octets.
-fn next_part<'a>(parser: &mut Parser<&'a [u8]>) -> Result<Parser<&'a [u8]>, ShortInput>
-    ensures ok { IfOk result (λ part. rest (window parser.old)
-        ≡ length (rest (window part)) ∷ rest (window part) ++ rest (window parser.new)) }
-    ensures less { OnOk result (left (window parser.new) < left (window parser.old)) }
-    ensures err { OnErr result (0 < left (window parser.old) → IsCut (rest (window parser.old))) }
+/// Writes what a command made of all that the reader had left.
+fn write_answer<W: Write>(writer: &mut W, answer: &Answer) -> Result<Status, ProgramFault>
+    ensures ok { IfOk result (λ status. (command : Command) (given left noted : Option (List ℕ))
+        → Makes command given left answer.now.output.items answer.now.status → IsAtEnd left
+        → Answers (Out command) given (W.contents writer.old) (W.contents writer.new) noted noted status) }
+    ensures broke { OnErr result ((command : Command) (given left noted : Option (List ℕ))
+        → Makes command given left answer.now.output.items answer.now.status → IsAtEnd left
+        → BreaksOff (Out command) given left (W.contents writer.old) (W.contents writer.new) noted noted) }
 {
-    parse::nothing_is_lost();
-    parser.parse_part_u8()
-}
-
-/// Appends the lossy text of the octets, and a newline.
-fn push_line(output: &mut StrBuilder<Vec<u8>>, octets: &[u8]) -> Result<(), AllocError>
-    ensures { OnOk result ((line : List ℕ) × HasText octets.now line
-        × (output.new.items ≡ output.old.items ++ (line ++ codes "\n"))) }
-{
-    // (a vector has no limit, so all that it refuses is for want of memory)
-    let Ok(()) = output.try_push_lossy(octets) else {
-        return Err(AllocError);
-    };
-    output.push_str("\n")
-}
-
-/// Returns the lossy text of each record on a line. A line is at least as long as its record, so there is room for all
-/// of them if no part is ill-formed.
-fn records(alloc: Global, input: &[u8]) -> Result<Answer, AllocError>
-    ensures { IfOk result (λ answer. Made Records input.now answer.output.items answer.status) }
-{
-    let mut parser = Parser::from_static(input);
-    let mut output = StrBuilder::<Vec<u8>>::with_capacity(alloc, input.len())?;
-    while parser.remaining() > 0 {
-        match next_part(&mut parser) {
-            Ok(part) => push_line(&mut output, part.peek_all())?,
-            Err(short) => return cut_off(output, short),
-        }
-    }
-    Ok(Answer {
-        output: output.into_octets_builder(),
-        status: Status::Fine,
-    })
-}
-
-impl Command {
-    /// Returns what a command makes of all that the reader has left.
-    #[tactic(auto, using(crate::proofs::Feeding::makes))]
-    fn answer<R: Read>(self, alloc: Global, reader: &mut R) -> Result<Answer, ProgramFault>
-        ensures ok { IfOk result (λ answer. Makes self (R.remaining reader.old) (R.remaining reader.new)
-            answer.output.items answer.status) }
-        ensures end { OnOk result (IsAtEnd (R.remaining reader.new)) }
-        ensures err { OnErr result ((read : List ℕ)
-            × Consumes (R.remaining reader.old) (R.remaining reader.new) read) }
-    {
-        match self {
-            Command::Check => check(alloc, reader),
-            Command::Lossy => lossy(alloc, reader),
-            Command::Lossy64 => Ok(lossy64(alloc, read_all(alloc, reader)?.as_slice())?),
-            Command::Records => Ok(records(alloc, read_all(alloc, reader)?.as_slice())?),
-        }
-    }
+    one_answer();
+    write_all(writer, answer.output.as_slice())?;
+    Ok(answer.status)
 }
 
 impl Commands for Command {
@@ -248,9 +216,11 @@ impl Commands for Command {
         writer: &mut W,
         _errors: &mut E,
     ) -> Result<Status, ProgramFault> {
-        one_answer();
-        let answer = self.answer(alloc, reader)?;
-        write_all(writer, answer.output.as_slice())?;
-        Ok(answer.status)
+        match self {
+            Command::Check => write_answer(writer, &check(alloc, reader)?),
+            Command::Lossy => write_answer(writer, &lossy(alloc, reader)?),
+            Command::Lossy64 => write_answer(writer, &lossy64(alloc, reader)?),
+            Command::Records => write_records(alloc, reader, writer),
+        }
     }
 }

@@ -11,8 +11,8 @@ use octseq_program::streams::failed_read;
 use std::alloc::Global;
 use std::io::{ErrorKind, Read};
 
-/// The number of octets that a read asks for.
-const PIECE: usize = 64 * 1024;
+/// How many octets a read asks for.
+pub const PIECE: usize = 64 * 1024;
 
 /// A consumer of octets that come in pieces.
 pub trait Feed {

@@ -5,7 +5,7 @@ use Rattle.octseq_tool.specs.Out.{Made}
 use Rattle.octseq_program.specs.declared.engine.Answer.{Answer}
 use Rattle.octseq_tool.specs.declared.engine.Command.TheVariants.{Lossy64}
 use Rattle.octseq_program.specs.declared.status.Status.TheVariants.{Refused}
-use Rattle.octseq_tool.proofs.engine.lossy64.Goals as goal
+use Rattle.octseq_tool.proofs.engine.lossy_in_64.Goals as goal
 
 -- octets whose text is too long are refused
 refused : {E : Type 0} (r : Result Answer E) (input : List ℕ) (parts : List Part) → Splits input parts
