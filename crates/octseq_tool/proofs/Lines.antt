@@ -17,7 +17,7 @@ use Rattle.octseq_tool.specs.Out.{records_of, IsCut, Made, Out}
 use Rattle.octseq_tool.specs.declared.engine.Command.{Command}
 use Rattle.octseq_tool.specs.declared.engine.Command.TheVariants.{Records}
 
--- where nothing is written of octets, they are their own rest
+-- if nothing is written of octets, they are their own rest
 pub unwritten : (octets : List ℕ) (writer : Option (List ℕ)) → (rest : List ℕ) × (lines : List ℕ) × (output : List ℕ)
     × IsReadTo octets rest lines × IsFront output lines × Appends writer writer output
 unwritten octets writer = (octets, [], [], read_nothing octets, ([], refl), appends_none writer)

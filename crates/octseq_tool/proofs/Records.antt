@@ -13,7 +13,7 @@ use Rattle.octseq.proofs.Codes.{halves}
 use Rattle.octseq_tool.specs.Lines.{IsRest, IsReadTo}
 use Rattle.octseq_tool.specs.Out.{HasText, records_of, IsCut, HasLines}
 
--- where none is at the front, no record is there
+-- if no whole record is at the front, none is there
 pub no_record : {P : Type 0} (rest part more : List ℕ) → IsRest rest → rest ≡ length part ∷ (part ++ more) → P
 no_record [] part more h e = absurd (cc)
 no_record (n ∷ octets) part more (inl none) e = absurd (cc)

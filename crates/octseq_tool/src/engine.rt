@@ -119,7 +119,7 @@ fn lossy<R: Read>(alloc: Global, reader: &mut R) -> Result<Answer, ProgramFault>
 {
     let mut pieces = LossyPieces::new(alloc)?;
     feed_all(alloc, reader, &mut pieces)?;
-    // (a vector has no limit, so all that it refuses is for want of memory)
+    // (a vector has no limit, so it refuses only for lack of memory)
     let Ok(text) = pieces.finish() else {
         return Err(ProgramFault::Memory);
     };
@@ -129,7 +129,7 @@ fn lossy<R: Read>(alloc: Global, reader: &mut R) -> Result<Answer, ProgramFault>
     })
 }
 
-/// The lossy text of all that the reader has left, where an array of 64 octets can hold it.
+/// The lossy text of all that the reader has left, if an array of 64 octets can hold it.
 #[tactic(auto, using(crate::proofs::Feeding::makes))]
 fn lossy64<R: Read>(alloc: Global, reader: &mut R) -> Result<Answer, ProgramFault>
     ensures ok { IfOk result (λ answer. Makes Lossy64 (R.remaining reader.old) (R.remaining reader.new)
@@ -141,7 +141,7 @@ fn lossy64<R: Read>(alloc: Global, reader: &mut R) -> Result<Answer, ProgramFaul
     Ok(lossy_in_64(alloc, input.as_slice())?)
 }
 
-/// The lossy text of the octets, where an array of 64 octets can hold it.
+/// The lossy text of the octets, if an array of 64 octets can hold it.
 fn lossy_in_64(alloc: Global, input: &[u8]) -> Result<Answer, AllocError>
     ensures { IfOk result (λ answer. Made Lossy64 input.now answer.output.items answer.status) }
 {

@@ -37,14 +37,14 @@ fn push_line(output: &mut StrBuilder<Vec<u8>>, octets: &[u8]) -> Result<(), Allo
     ensures { OnOk result ((line : List ℕ) × HasText octets.now line
         × (output.new.items ≡ output.old.items ++ (line ++ codes "\n"))) }
 {
-    // (a vector has no limit, so all that it refuses is for want of memory)
+    // (a vector has no limit, so it refuses only for lack of memory)
     let Ok(()) = output.try_push_lossy(octets) else {
         return Err(AllocError);
     };
     output.push_str("\n")
 }
 
-/// The lines of some records, and how many octets are left after these.
+/// The lines of some records, and the number of octets after them.
 #[derive(Drop)]
 struct Lines {
     text: StrBuilder<Vec<u8>>,
@@ -52,7 +52,7 @@ struct Lines {
 }
 
 /// The lines of the whole records at the front: the lossy text of each, and a newline. A line is at least as long as
-/// its record, so there is room for all of them at once where no part is ill-formed.
+/// its record, so there is room for all of them at once if no part is ill-formed.
 fn lines_of(alloc: Global, octets: &[u8]) -> Result<Lines, AllocError>
     ensures within { IfOk result (λ lines. lines.left ≤ length octets.now) }
     ensures read { IfOk result (λ lines.
@@ -75,7 +75,7 @@ fn lines_of(alloc: Global, octets: &[u8]) -> Result<Lines, AllocError>
     Ok(Lines { text, left: 0 })
 }
 
-/// Writes the lines of the whole records that the octets held and the piece begin with, and holds what is left.
+/// Writes the lines of the whole records at the front of the held octets and the piece, and holds what is left.
 fn write_lines<W: Write>(
     alloc: Global,
     writer: &mut W,
@@ -96,7 +96,7 @@ fn write_lines<W: Write>(
     Ok(())
 }
 
-/// Writes the lines of the records that one read makes whole, and tells whether there may be more.
+/// Writes the lines of the records that one read completes. Returns whether there may be more.
 fn write_next<R: Read, W: Write>(
     alloc: Global,
     reader: &mut R,
@@ -124,7 +124,7 @@ fn write_next<R: Read, W: Write>(
     }
 }
 
-/// Writes the lines of all whole records that the reader has left, as they are read, and answers the octets after them.
+/// Writes the lines of all whole records that the reader has left, as they are read. Returns the octets after them.
 fn write_all_lines<R: Read, W: Write>(
     alloc: Global,
     reader: &mut R,
@@ -148,11 +148,11 @@ fn write_all_lines<R: Read, W: Write>(
     Err(ProgramFault::Read)
 }
 
-/// Writes a line for each record that the reader has left, as they are read, and a refusal where the last one is cut.
+/// Writes a line for each record that the reader has left, as they are read, and a refusal if the last one is cut off.
 ///
 /// # Errors
 ///
-/// `Memory` where a request for memory was refused, `Read` where a read failed, `Write` where a write failed.
+/// `Memory` if a request for memory was refused, `Read` if a read failed, `Write` if a write failed.
 pub fn write_records<R: Read, W: Write>(
     alloc: Global,
     reader: &mut R,
