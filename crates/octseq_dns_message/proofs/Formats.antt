@@ -3,17 +3,13 @@ use Rattle.std.proofs.Common.{ℕ, ◌+◌, ◌≤◌, List, refl}
 use Rattle.octseq.specs.Integer.{be}
 use Rattle.octseq.specs.Window.{Window, left}
 use Rattle.octseq_dns_message.specs.Entry.{Question, Record, IsQuestion, IsRecord}
-use Rattle.octseq_dns_data.specs.Format.{IsNumber, IsData}
 use Rattle.octseq_dns_name.specs.Name.{HasName, IsName}
 use Rattle.octseq_dns_name.specs.NameFormat.{one_named, onward_name}
-use Rattle.octseq_format.specs.Counted.{Counted}
 use Rattle.octseq_format.specs.Fixed.{onward_fixed}
 use Rattle.octseq_format.specs.Laws.{Relation, NoneAt}
 use Rattle.octseq_format.specs.Pair.{◌then◌, ◌onward_then◌}
 use Rattle.octseq_format.specs.Part.{onward_part}
-use Rattle.octseq_format.specs.Rest.{IsRest}
 use Rattle.octseq_format.proofs.Nones.{none_second}
-use Rattle.octseq_format.proofs.Parts.{part_of_counted, counted_of_part}
 
 -- ---- where there are none
 

@@ -1,4 +1,4 @@
-use Rattle.std.proofs.Common.{◌<◌, ◌∙◌, refl, rules, arith}
+use Rattle.std.proofs.Common.{◌∙◌, refl, rules, arith}
 use Rattle.octseq.specs.Parser.{window}
 use Rattle.octseq_dns_message.proofs.Headers.{bits_of}
 use Rattle.octseq_dns_message.proofs.header.Numbers.parse.Goals as goal

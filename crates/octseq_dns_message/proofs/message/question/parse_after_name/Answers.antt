@@ -1,4 +1,4 @@
-use Rattle.std.proofs.Common.{◌<◌, refl, sym, rules}
+use Rattle.std.proofs.Common.{refl, sym, rules}
 use Rattle.std.proofs.Math.Bool.{true≢false}
 use Rattle.octseq.specs.Parser.{window}
 use Rattle.octseq_dns_message.proofs.Digits.{two_numbers, no_two_numbers}
