@@ -90,14 +90,11 @@ module _ (octets starts : List ℕ) (count place : ℕ) (within : count < length
       ∙ ap (λ l. labels_at octets (take count starts) ++ (l ∷ left)) is ∙ are
 
 -- the octets that a name is read from are those of its window
-pub source_is : {R : Type 0} {g : Ghosts R} (octets : List ℕ) (source : R) (parser : Parser R g) (w v : Window)
-    → octets ≡ g.content source → source ≡ sequence parser → window parser ≡ w → v ≡ w
-    → octets ≡ v.octets
-source_is {g = g} octets source parser w v is from at here =
-    is ∙ ap g.content from ∙ ap (λ w. w.octets) (at ∙ sym here)
+pub source_is : {R : Type 0} {g : Ghosts R} (octets : List ℕ) (source : R) (parser : Parser R g) (w : Window)
+    → octets ≡ g.content source → source ≡ sequence parser → window parser ≡ w → octets ≡ w.octets
+source_is {g = g} octets source parser w is from at = is ∙ ap g.content from ∙ ap (λ w. w.octets) at
 
 -- the labels at their places are those of the name
-pub read_labels : (octets others starts : List ℕ) (plain left labels : List (List ℕ)) → octets ≡ others
-    → plain ≡ labels_at octets starts → labels_at others starts ≡ left → left ≡ labels → plain ≡ labels
-read_labels octets others starts plain left labels same is placed are =
-    is ∙ ap (λ o. labels_at o starts) same ∙ placed ∙ are
+pub read_labels : (octets others starts : List ℕ) (plain labels : List (List ℕ)) → octets ≡ others
+    → plain ≡ labels_at octets starts → labels_at others starts ≡ labels → plain ≡ labels
+read_labels octets others starts plain labels same is are = is ∙ ap (λ o. labels_at o starts) same ∙ are

@@ -8,7 +8,8 @@ ghost use Rattle.octseq_dns_compress.specs.Composed.{message_limit};
 ghost use Rattle.octseq_dns_compress.specs.Fits.{NameFits};
 ghost use Rattle.octseq_dns_compress.specs.Known.{Known};
 ghost use Rattle.octseq_dns_compress.specs.Named.{AppendsName};
-ghost use Rattle.octseq_dns_name.specs.Read.{labels_of};
+ghost use Rattle.octseq_dns_compress.specs.PlainName.{AreWhole, labels_at};
+ghost use Rattle.octseq_dns_name.specs.Read.{labels_of, place_of};
 
 use crate::encode::append_encoded;
 use crate::keep::keep;
@@ -24,6 +25,9 @@ use std::alloc::AllocError;
 
 /// How many octets a message may have: RFC 1035, 4.2.2.
 const MESSAGE_MAX: usize = 65535;
+
+/// How many labels most names have at most: room for the places of so many takes no time to make.
+const LABELS_FEW: usize = 16;
 
 /// Appends a slice to a message, which stays within its limit.
 pub(crate) fn append<B: OctetsBuilder>(octets: &mut B, slice: &[u8]) -> Result<(), AppendError>
@@ -90,6 +94,85 @@ pub(crate) fn write_over<B: AsOctetsMut>(octets: &mut B, at: usize, slice: &[u8]
     octets.as_mut()[at..at + slice.len()].copy_from_slice(slice);
 }
 
+/// Appends a name whose labels are at these places, and keeps its labels in the table, or leaves both as they are.
+fn append_name_at<B: OctetsBuilder + Truncate, T: Compressor, R: AsOctets + Copy>(
+    octets: &mut B,
+    table: &mut T,
+    name: &ParsedName<R>,
+    starts: &[usize],
+    turns: &mut Turns,
+) -> Result<(), AppendError>
+    requires whole { AreWhole (place_of name.now).octets starts.now }
+    requires labels { labels_at (place_of name.now).octets starts.now ≡ labels_of name.now }
+    requires known { Known (B.content octets.old) (T.held table.old) }
+    requires few { length (T.held table.old) ≤ T.most }
+    requires header { 12 ≤ length (B.content octets.old) }
+    requires short { length (B.content octets.old) ≤ 65535 }
+    ensures named { (known : Known (B.content octets.old) (T.held table.old))
+        → AppendsName (message_limit B.limit) T.most result (labels_of name.now)
+        (B.content octets.old) (B.content octets.new) (T.held table.old) (T.held table.new) known }
+    ensures before { filter (λ t. nat_lt t.at (length (B.content octets.old))) (T.held table.new)
+        ≡ T.held table.old }
+    ensures fits { NameFits (labels_of name.now) }
+    ensures few { length (T.held table.new) ≤ T.most }
+    ensures longer { length (B.content octets.old) ≤ length (B.content octets.new) }
+    ensures size { length (B.content octets.new) ≤ 65535 }
+    ensures memory { IsMemory append_error result → (B.asks ≡ true) ⊎ (T.asks ≡ true) }
+    ensures borrows { B.borrows octets.new ≡ B.borrows octets.old }
+    ensures turns { turns.new ≤ turns.old + 17 * length (labels_of name.now) }
+    ensures least { OnOk result (turns.old + length (labels_of name.now) + length (B.content octets.old)
+        ≤ turns.new + length (B.content octets.new)) }
+{
+    a_name_has_labels(name);
+    let parser = name.parser();
+    let source = parser.octets_ref();
+    let plain = PlainName::new(source.as_ref(), starts, name.len() - 1);
+    let ending = search(octets.as_ref(), table.as_slice(), &plain, turns);
+    let start = octets.len();
+    if let Err(error) = append_encoded(octets, &plain, ending) {
+        return Err(error);
+    }
+    if let Err(AllocError) = keep(table, &plain, ending, start, turns) {
+        octets.truncate(start);
+        table.keep_before(start);
+        return Err(AppendError::Memory);
+    }
+    Ok(())
+}
+
+/// Appends a name of any number of labels, as [`append_name`].
+fn append_long_name<B: OctetsBuilder + Truncate, T: Compressor, R: AsOctets + Copy>(
+    octets: &mut B,
+    table: &mut T,
+    name: &ParsedName<R>,
+    turns: &mut Turns,
+) -> Result<(), AppendError>
+    requires known { Known (B.content octets.old) (T.held table.old) }
+    requires few { length (T.held table.old) ≤ T.most }
+    requires header { 12 ≤ length (B.content octets.old) }
+    requires short { length (B.content octets.old) ≤ 65535 }
+    ensures named { (known : Known (B.content octets.old) (T.held table.old))
+        → AppendsName (message_limit B.limit) T.most result (labels_of name.now)
+        (B.content octets.old) (B.content octets.new) (T.held table.old) (T.held table.new) known }
+    ensures before { filter (λ t. nat_lt t.at (length (B.content octets.old))) (T.held table.new)
+        ≡ T.held table.old }
+    ensures fits { NameFits (labels_of name.now) }
+    ensures few { length (T.held table.new) ≤ T.most }
+    ensures longer { length (B.content octets.old) ≤ length (B.content octets.new) }
+    ensures size { length (B.content octets.new) ≤ 65535 }
+    ensures memory { IsMemory append_error result → (B.asks ≡ true) ⊎ (T.asks ≡ true) }
+    ensures borrows { B.borrows octets.new ≡ B.borrows octets.old }
+    ensures turns { turns.new ≤ turns.old + 17 * length (labels_of name.now) }
+    ensures least { OnOk result (turns.old + length (labels_of name.now) + length (B.content octets.old)
+        ≤ turns.new + length (B.content octets.new)) }
+{
+    let mut starts = [0; LABELS_MAX];
+    match place_labels(&mut starts, name) {
+        Some(count) => append_name_at(octets, table, name, &starts[..count], turns),
+        None => unreachable!(),
+    }
+}
+
 /// Appends a name to a message, and keeps its labels in the table, or leaves both as they are.
 pub(crate) fn append_name<B: OctetsBuilder + Truncate, T: Compressor, R: AsOctets + Copy>(
     octets: &mut B,
@@ -116,22 +199,9 @@ pub(crate) fn append_name<B: OctetsBuilder + Truncate, T: Compressor, R: AsOctet
     ensures least { OnOk result (turns.old + length (labels_of name.now) + length (B.content octets.old)
         ≤ turns.new + length (B.content octets.new)) }
 {
-    a_name_has_labels(name);
-    let parser = name.parser();
-    let _within = parser.len();
-    let source = parser.octets_ref();
-    let mut starts = [0; LABELS_MAX];
-    let count = place_labels(&mut starts, name.labels());
-    let plain = PlainName::new(source.as_ref(), &starts[..count], name.len() - 1);
-    let ending = search(octets.as_ref(), table.as_slice(), &plain, turns);
-    let start = octets.len();
-    if let Err(error) = append_encoded(octets, &plain, ending) {
-        return Err(error);
+    let mut starts = [0; LABELS_FEW];
+    match place_labels(&mut starts, name) {
+        Some(count) => append_name_at(octets, table, name, &starts[..count], turns),
+        None => append_long_name(octets, table, name, turns),
     }
-    if let Err(AllocError) = keep(table, &plain, ending, start, turns) {
-        octets.truncate(start);
-        table.keep_before(start);
-        return Err(AppendError::Memory);
-    }
-    Ok(())
 }

@@ -1,13 +1,11 @@
 //! Names as their labels, without pointers.
-ghost use Rattle.std.specs.Prelude.{◌≡◌, ◌≤◌, ◌*◌, length, take};
-ghost use Rattle.octseq_dns_name.specs.Name.{wire_length};
-ghost use Rattle.octseq_dns_name.specs.NextLabel.{ahead_of};
-ghost use Rattle.octseq_dns_name.specs.Read.{labels_left};
+ghost use Rattle.std.specs.Prelude.{◌≡◌, ◌≤◌, ◌<◌, length, take, IfSome, IsNone};
+ghost use Rattle.octseq_dns_name.specs.Read.{labels_of, place_of};
 ghost use Rattle.octseq_dns_compress.specs.Names.{unrooted};
 ghost use Rattle.octseq_dns_compress.specs.PlainName.{AreWhole, labels_at, whole_once};
 
 use octseq::AsOctets;
-use octseq_dns_name::name::Labels;
+use octseq_dns_name::ParsedName;
 
 /// How many labels a name has at most: of 255 octets, each label takes two, and the root one.
 pub(crate) const LABELS_MAX: usize = 127;
@@ -68,21 +66,27 @@ impl<'a> PlainName<'a> {
     }
 }
 
-/// Puts where each label is that is left of a name, and answers how many are.
-pub(crate) fn place_labels<R: AsOctets + Copy>(
-    starts: &mut [usize; LABELS_MAX],
-    labels: Labels<R>,
-) -> usize
-    requires short { wire_length (labels_left labels) ≤ 255 }
-    requires within { (ahead_of labels).end ≤ length (ahead_of labels).octets }
-    ensures most { result ≤ 127 }
-    ensures whole { AreWhole (ahead_of labels).octets (take result starts.new) }
-    ensures labels { labels_at (ahead_of labels).octets (take result starts.new) ≡ labels_left labels }
+/// Puts where each label of a name is, and answers how many there are, or none where there is no room for them all.
+pub(crate) fn place_labels<const N: usize, R: AsOctets + Copy>(
+    starts: &mut [usize; N],
+    name: &ParsedName<R>,
+) -> Option<usize>
+    ensures most { IfSome result (λ count. count ≤ N) }
+    ensures whole { IfSome result (λ count. AreWhole (place_of name.now).octets (take count starts.new)) }
+    ensures labels { IfSome result (λ count.
+        labels_at (place_of name.now).octets (take count starts.new) ≡ labels_of name.now) }
+    ensures none { IsNone result → N < 127 }
 {
+    let _len = name.len();
+    let parser = name.parser();
+    let _end = parser.len();
     let mut count = 0;
-    'labels: for label in labels {
+    'places: for label in name.labels() {
+        if count == N {
+            return None;
+        }
         starts[count] = label.pos() - 1;
         count += 1;
     }
-    count
+    Some(count)
 }

@@ -3,9 +3,8 @@ use Rattle.std.proofs.lemmas.List.{length-take}
 use Rattle.std.proofs.Common.{length-append}
 use Rattle.octseq_dns_compress.proofs.PlainLabels.{unrooted_longer, wire_of_unrooted}
 use Rattle.octseq_dns_compress.proofs.Places.{read_labels, source_is}
-use Rattle.octseq_dns_compress.specs.PlainName.{labels_at}
-use Rattle.octseq_dns_name.specs.NextLabel.{ahead_of}
-use Rattle.octseq_dns_name.specs.Read.{labels_left, labels_of, place_of}
+use Rattle.octseq_dns_compress.specs.PlainName.{AreWhole, labels_at}
+use Rattle.octseq_dns_name.specs.Read.{labels_of, place_of}
 use Rattle.octseq_dns_compress.specs.Composed.{message_limit, before}
 use Rattle.octseq_dns_compress.specs.Key.{AreTargets}
 use Rattle.octseq_dns_compress.specs.Ended.{ended}
@@ -16,7 +15,7 @@ use Rattle.octseq_dns_compress.proofs.Composing.{known_targets, octets_known, oc
 use Rattle.octseq_dns_compress.proofs.Composing.{names_more}
 use Rattle.octseq_dns_compress.proofs.Composing.{ending_of, name_refused, name_appended, name_taken_back}
 use Rattle.octseq_dns_compress.proofs.Marked.{before_all, before_fewer}
-use Rattle.octseq_dns_compress.proofs.append.append_name.Goals as goal
+use Rattle.octseq_dns_compress.proofs.append.append_name_at.Goals as goal
 
 pub search-ending-requires-clause-targets : goal.search-ending-requires-clause-targets
 search-ending-requires-clause-targets g c =
@@ -25,17 +24,20 @@ search-ending-requires-clause-targets g c =
     (subst (AreTargets octets) (sym c.as_slice.ensures)
     (known_targets octets (g.T.Compressor.held c.args.table.now) c.requires.known))
 
+pub new-plain-requires-clause-whole : goal.new-plain-requires-clause-whole
+new-plain-requires-clause-whole g c =
+    subst (λ o. AreWhole o c.args.starts.now)
+    (sym (source_is c.as_ref.result.now c.octets_ref-source.result c.parser-parser.result (place_of c.args.name.now)
+    c.as_ref.ensures.value c.octets_ref-source.ensures c.parser-parser.ensures)) c.requires.whole
+
 pub new-plain-requires-clause-measured : goal.new-plain-requires-clause-measured
 new-plain-requires-clause-measured g c =
     let octets = c.as_ref.result.now in
-    let starts = take c.place_labels-count.result c.place_labels-count.new.starts in
+    let starts = c.args.starts.now in
     let labels = labels_at octets starts in
-    let same = read_labels octets (ahead_of c.labels.result).octets starts labels (labels_left c.labels.result)
-    (labels_of c.args.name.now)
-    (source_is octets c.octets_ref-source.result c.parser-parser.result
-    (place_of c.args.name.now) (ahead_of c.labels.result) c.as_ref.ensures.value c.octets_ref-source.ensures
-    c.parser-parser.ensures c.labels.ensures.ahead)
-    refl c.place_labels-count.ensures.labels c.labels.ensures.labels in
+    let same = read_labels octets (place_of c.args.name.now).octets starts labels (labels_of c.args.name.now)
+    (source_is octets c.octets_ref-source.result c.parser-parser.result (place_of c.args.name.now)
+    c.as_ref.ensures.value c.octets_ref-source.ensures c.parser-parser.ensures) refl c.requires.labels in
     let wire = wire_of_unrooted (labels_of c.args.name.now) in
     let len = c.len.ensures.len in
     let size = ap (λ labels. length (unrooted labels)) same in
@@ -47,12 +49,10 @@ returns-in-Err-clause-named g c known =
     let targets = g.T.Compressor.held c.args.table.now in
     let end = c.search-ending.result in
     let labels = plain_labels c.new-plain.result in
-    let same = read_labels c.as_ref.result.now (ahead_of c.labels.result).octets _ labels (labels_left c.labels.result)
-    (labels_of c.args.name.now)
-    (source_is c.as_ref.result.now c.octets_ref-source.result c.parser-parser.result
-    (place_of c.args.name.now) (ahead_of c.labels.result) c.as_ref.ensures.value c.octets_ref-source.ensures
-    c.parser-parser.ensures c.labels.ensures.ahead)
-    c.new-plain.ensures c.place_labels-count.ensures.labels c.labels.ensures.labels in
+    let same = read_labels c.as_ref.result.now (place_of c.args.name.now).octets _ labels (labels_of c.args.name.now)
+    (source_is c.as_ref.result.now c.octets_ref-source.result c.parser-parser.result (place_of c.args.name.now)
+    c.as_ref.ensures.value c.octets_ref-source.ensures c.parser-parser.ensures)
+    c.new-plain.ensures c.requires.labels in
     let written = unrooted (take end.written labels) ++ ended end.next in
     let is = ending_of c.as_ref-2.result.now octets c.as_slice.result.now targets labels end c.as_ref-2.ensures.value
     c.as_slice.ensures c.search-ending.ensures.ending in
@@ -77,12 +77,10 @@ returns-in-Err-keep-clause-named g c known =
     let undone = g.B.AsOctets.content c.truncate.new.self in
     let end = c.search-ending.result in
     let labels = plain_labels c.new-plain.result in
-    let same = read_labels c.as_ref.result.now (ahead_of c.labels.result).octets _ labels (labels_left c.labels.result)
-    (labels_of c.args.name.now)
-    (source_is c.as_ref.result.now c.octets_ref-source.result c.parser-parser.result
-    (place_of c.args.name.now) (ahead_of c.labels.result) c.as_ref.ensures.value c.octets_ref-source.ensures
-    c.parser-parser.ensures c.labels.ensures.ahead)
-    c.new-plain.ensures c.place_labels-count.ensures.labels c.labels.ensures.labels in
+    let same = read_labels c.as_ref.result.now (place_of c.args.name.now).octets _ labels (labels_of c.args.name.now)
+    (source_is c.as_ref.result.now c.octets_ref-source.result c.parser-parser.result (place_of c.args.name.now)
+    c.as_ref.ensures.value c.octets_ref-source.ensures c.parser-parser.ensures)
+    c.new-plain.ensures c.requires.labels in
     let written = unrooted (take end.written labels) ++ ended end.next in
     let is = ending_of c.as_ref-2.result.now octets c.as_slice.result.now targets labels end c.as_ref-2.ensures.value
     c.as_slice.ensures c.search-ending.ensures.ending in
@@ -126,12 +124,10 @@ returns-clause-named g c known =
     let labels = plain_labels c.new-plain.result in
     let is = ending_of c.as_ref-2.result.now octets c.as_slice.result.now targets labels end c.as_ref-2.ensures.value
     c.as_slice.ensures c.search-ending.ensures.ending in
-    let same = read_labels c.as_ref.result.now (ahead_of c.labels.result).octets _ labels (labels_left c.labels.result)
-    (labels_of c.args.name.now)
-    (source_is c.as_ref.result.now c.octets_ref-source.result c.parser-parser.result
-    (place_of c.args.name.now) (ahead_of c.labels.result) c.as_ref.ensures.value c.octets_ref-source.ensures
-    c.parser-parser.ensures c.labels.ensures.ahead)
-    c.new-plain.ensures c.place_labels-count.ensures.labels c.labels.ensures.labels in
+    let same = read_labels c.as_ref.result.now (place_of c.args.name.now).octets _ labels (labels_of c.args.name.now)
+    (source_is c.as_ref.result.now c.octets_ref-source.result c.parser-parser.result (place_of c.args.name.now)
+    c.as_ref.ensures.value c.octets_ref-source.ensures c.parser-parser.ensures)
+    c.new-plain.ensures c.requires.labels in
     let most = g.T.Compressor.most in
     let written = unrooted (take end.written labels) ++ ended end.next in
     let appended : new ≡ octets ++ written = c.in_default.ensures.appended.ok in
@@ -169,11 +165,9 @@ returns-clause-least g c =
     let within = c.search-ending.ensures.written in
     let found = c.search-ending.ensures.least in
     let kept = c.keep.ensures.on in
-    let all = read_labels c.as_ref.result.now (ahead_of c.labels.result).octets _ labels (labels_left c.labels.result)
-    (labels_of c.args.name.now)
-    (source_is c.as_ref.result.now c.octets_ref-source.result c.parser-parser.result
-    (place_of c.args.name.now) (ahead_of c.labels.result) c.as_ref.ensures.value c.octets_ref-source.ensures
-    c.parser-parser.ensures c.labels.ensures.ahead)
-    c.new-plain.ensures c.place_labels-count.ensures.labels c.labels.ensures.labels in
+    let all = read_labels c.as_ref.result.now (place_of c.args.name.now).octets _ labels (labels_of c.args.name.now)
+    (source_is c.as_ref.result.now c.octets_ref-source.result c.parser-parser.result (place_of c.args.name.now)
+    c.as_ref.ensures.value c.octets_ref-source.ensures c.parser-parser.ensures)
+    c.new-plain.ensures c.requires.labels in
     let same = ap length all in
     omega (arith, long, both, each, taken, within, found, kept, same)
