@@ -19,7 +19,7 @@ moved x y n Less is = nat_cmp_is (x + n) (y + n) Less (omega (arith, is))
 moved x y n Equal is = nat_cmp_is (x + n) (y + n) Equal (omega (arith, is))
 moved x y n Greater is = nat_cmp_is (x + n) (y + n) Greater (omega (arith, is))
 
--- both with as much more
+-- both numbers, with n added
 pub nat_cmp_moved : (x y n : ℕ) → nat_cmp x y ≡ nat_cmp (x + n) (y + n)
 nat_cmp_moved x y n = moved x y n (nat_cmp x y) (ranks x y)
 
@@ -37,7 +37,7 @@ lesser a b i is = (omega (arith, is), omega (arith, is), which (zero_or_more (a 
 
 -- ---- labels
 
--- where one of them ends their lengths decide
+-- if one of them is empty, their lengths decide
 nothing_left : (xs ys : List ℕ) → (length xs ≡ 0) ⊎ (length ys ≡ 0) → label_cmp xs ys ≡ nat_cmp (length xs) (length ys)
 nothing_left [] [] is = nat_cmp_is 0 0 Equal refl
 nothing_left [] (y ∷ ys) is = nat_cmp_is 0 (length (y ∷ ys)) Less (omega arith)
@@ -45,7 +45,7 @@ nothing_left (x ∷ xs) [] is = nat_cmp_is (length (x ∷ xs)) 0 Greater (omega 
 nothing_left (x ∷ xs) (y ∷ ys) (inl is) = absurd (omega (arith, is))
 nothing_left (x ∷ xs) (y ∷ ys) (inr is) = absurd (omega (arith, is))
 
--- from where the shorter of two labels ends on, they compare as their lengths do
+-- from the end of the shorter of two labels on, they compare as their lengths do
 pub label_cmp_end : (xs ys : List ℕ) (i : ℕ) → i ≡ min (length xs) (length ys)
     → label_cmp (drop i xs) (drop i ys) ≡ nat_cmp (length xs) (length ys)
 label_cmp_end xs ys i least =
@@ -76,7 +76,7 @@ then_equal Less = refl
 then_equal Equal = refl
 then_equal Greater = refl
 
--- fronts of one length decide, or what is after them
+-- fronts of one length decide, or what follows them
 fronts : {X : Type 0} (R : X → X → Ordering) (xs ys more others : List X) → length xs ≡ length ys
     → slice_cmp R (xs ++ more) (ys ++ others) ≡ ordering_then (slice_cmp R xs ys) (slice_cmp R more others)
 fronts R [] [] more others same = refl
@@ -109,7 +109,7 @@ pub name_cmp_last : (xs ys : List (List ℕ)) (x y : List ℕ)
 name_cmp_last xs ys x y = name_cmp_append xs ys (x ∷ []) (y ∷ []) refl
     ∙ ap (λ o. ordering_then o (name_cmp xs ys)) (then_equal (label_cmp x y))
 
--- where one has no label their lengths decide
+-- if one has no label, their lengths decide
 no_labels : (xs ys : List (List ℕ)) → (length xs ≡ 0) ⊎ (length ys ≡ 0)
     → slice_cmp (slice_cmp nat_cmp) xs ys ≡ nat_cmp (length xs) (length ys)
 no_labels [] [] is = nat_cmp_is 0 0 Equal refl
@@ -133,7 +133,7 @@ name_cmp_none xs ys is =
 parts : (m : ℕ) (xs : List (List ℕ)) → length (take m xs) + length (drop m xs) ≡ length xs
 parts m xs = sym (length-append (take m xs) (drop m xs)) ∙ ap length (take-append-drop m xs)
 
--- Of two names the last labels, as many as both have, decide, or how many labels they have.
+-- The last labels of two names, as many as both have, decide, or else how many labels they have.
 pub name_cmp_lasts : (xs ys : List (List ℕ)) (m n : ℕ) → m ≡ length xs - length ys → n ≡ length ys - length xs
     → name_cmp xs ys ≡ ordering_then (name_cmp (drop m xs) (drop n ys)) (nat_cmp (length xs) (length ys))
 name_cmp_lasts xs ys m n m_is n_is =
@@ -157,13 +157,13 @@ name_cmp_lasts xs ys m n m_is n_is =
 
 -- ---- equality
 
--- labels in lower case are as long
+-- labels in lower case have the same length
 pub lower_length : (labels : List (List ℕ)) → wire_length (lower_labels labels) ≡ wire_length labels
 lower_length [] = refl
 lower_length (label ∷ labels) = let more = lower_length labels in let is = length-map label to_ascii_lowercase in
     omega (arith, more, is)
 
--- so equal names are
+-- so equal names do
 pub equal_length : (labels others : List (List ℕ)) → lower_labels labels ≡ lower_labels others
     → wire_length labels ≡ wire_length others
 equal_length labels others same = sym (lower_length labels) ∙ ap wire_length same ∙ lower_length others
@@ -177,7 +177,7 @@ drop_one (suc i) [] = sym (drop_all (suc i + 1) [] (omega arith))
 drop_one (suc i) (x ∷ xs) = let same : suc (i + 1) ≡ suc i + 1 = omega arith in drop_one i xs
     ∙ ap (λ k. drop k (x ∷ xs)) same
 
--- what an iterator has left past an item more, or at its end
+-- what an iterator has left after one more item, or at its end
 pub passes : {A : Type 0} (view : A → List ℕ) (xs ys all : List (List ℕ)) (i : ℕ) (r : Option A)
     → MatchOption r ((xs ≡ []) × (ys ≡ [])) (λ x. xs ≡ view x ∷ ys)
     → xs ≡ drop i all → ys ≡ drop (i + 1) all

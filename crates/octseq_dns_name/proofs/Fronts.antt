@@ -8,11 +8,11 @@ use Rattle.octseq_dns_name.specs.Relatives.{EndsWith, StartsWith}
 
 -- ---- the first labels
 
--- all labels begin with none
+-- any labels begin with no labels
 pub starts_none : (labels : List (List ℕ)) → StartsWith labels []
 starts_none labels = (lower_labels labels, refl)
 
--- with equal labels before both they begin as before
+-- with equal labels in front of both, nothing changes
 pub starts_more : (label other : List ℕ) (labels others : List (List ℕ)) → lower_label label ≡ lower_label other
     → StartsWith labels others ↔ StartsWith (label ∷ labels) (other ∷ others)
 starts_more label other labels others same = (
@@ -22,7 +22,7 @@ starts_more label other labels others same = (
 
 -- ---- the last labels
 
--- labels end with others exactly where those that are left, of as many as the others, are equal to them
+-- labels end with others if and only if the last ones, as many as the others, are equal to them
 pub ends_as : (labels others : List (List ℕ)) (k : ℕ) → length labels ≡ k + length others
     → (lower_labels (drop k labels) ≡ lower_labels others) ↔ EndsWith labels others
 ends_as labels others k size = (

@@ -12,7 +12,7 @@ pub ok_unless : {T E : Type 0} (result : Result T E) → (IsErr result → ⊥) 
 ok_unless (Ok value) none = refl
 ok_unless (Err e) none = absurd (none refl)
 
--- a name is ahead of its start
+-- the labels of a name are ahead at its start
 pub ahead_of : (w : Window) (start : ℕ) → start ≡ w.position → Named w → Ahead start w
 ahead_of w start is named = (
   named.0,
@@ -20,11 +20,11 @@ ahead_of w start is named = (
       (ahead_of_name w named).0,
 )
 
--- something is at a window's position
+-- labels are at a window's position
 abbrev pub Something : ℕ → Window → Type 0
 Something start w = (labels : List (List ℕ)) × (pointers : ℕ) × (end : Window) × Stands start w labels pointers end
 
--- So does a step to the next piece, where it is only refused if there is none, and what is known leads there.
+-- A step to the next piece succeeds if it is only refused when there is none, and what is known leads there.
 pub ok_where_known : {T E : Type 0} (result : Result T E) (first : ℕ) (w : Window) (start : ℕ) (v : Window)
     → Ahead first w
     → ((labels : List (List ℕ)) (pointers : ℕ) (end : Window) → Stands first w labels pointers end → Something start v)

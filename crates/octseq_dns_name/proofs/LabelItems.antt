@@ -1,4 +1,4 @@
--- An iterator over labels gives those that it has left, so what std says of `count`, `map` and others is of those.
+-- An iterator over labels yields those that are left, so what std says of `count`, `map` and others holds of them.
 use Rattle.std.proofs.Common.{None, Some, ap, length}
 use Rattle.std.proofs.lemmas.Iterator.{YieldsList}
 use Rattle.std.proofs.lemmas.Iterator.Consumers.{YieldsList-from_shown}

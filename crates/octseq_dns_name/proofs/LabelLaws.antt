@@ -34,7 +34,7 @@ label_length w u l within has =
     let taken = length-take (from + octet w - from) (drop from w.octets) in
     omega (arith, size, whole, some, within, taken, length-drop from w.octets)
 
--- the labels that are at a window's position
+-- the labels at a window's position
 standing_labels : (start : ℕ) (w v : Window) (labels : List (List ℕ)) (pointers : ℕ) → w.end ≤ length w.octets
     → Stands start w labels pointers v → AreLabels labels
 standing_labels start w v labels pointers within (Stands.root has) = tt
@@ -63,7 +63,7 @@ pub named_labels : (w : Window) (named : Named w) → w.end ≤ length w.octets 
 named_labels w named within = ∥∥₁_elim named.1 (labels_prop named.0) (λ x.
     standing_labels w.position w x.0 named.0 x.1.pointers within x.1.stands)
 
--- and their octets, where the window's are octets
+-- and their octets, if those of the window are octets
 pub named_octets : (w : Window) (named : Named w) → AreOctets w.octets → AreOctetLabels named.0
 named_octets w named each = ∥∥₁_elim named.1 (octet_labels_prop named.0) (λ x.
     standing_octets w.position w x.0 named.0 x.1.pointers each x.1.stands)

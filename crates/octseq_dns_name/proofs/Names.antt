@@ -14,7 +14,7 @@ use Rattle.octseq_dns_name.specs.Piece.{Piece, HasPiece, end_of}
 
 -- ---- what is ahead
 
--- where no piece is, no labels are
+-- if there is no piece, there are no labels
 pub no_piece : (start : ℕ) (w x : Window) (labels : List (List ℕ)) (pointers : ℕ)
     → ((p : Piece) (v : Window) → HasPiece start w p v → ⊥) → Stands start w labels pointers x → ⊥
 no_piece start w x labels pointers none (Stands.root has) = none Piece.root x has
@@ -37,7 +37,7 @@ leads_none start w = record {
   };
 }
 
--- one label more
+-- one more label
 pub leads_past_label : (first : ℕ) (w : Window) (start : ℕ) (v u : Window) (labels : List (List ℕ)) (pointers : ℕ)
     (l : List ℕ) (behind : Option Window)
     → LeadsTo first w start v labels pointers behind → HasLabel v l u
@@ -60,7 +60,7 @@ leads_past_label first w start v u labels pointers l behind so_far has = record 
       };
 }
 
--- one pointer more: the first one says where the name ends
+-- one more pointer: the first one says where the name ends
 pub leads_past_pointer : (first : ℕ) (w : Window) (start : ℕ) (v u : Window) (labels : List (List ℕ)) (pointers : ℕ)
     (to : ℕ) (behind : Option Window)
     → LeadsTo first w start v labels pointers behind → HasPointer start v to u
@@ -86,7 +86,7 @@ leads_past_pointer first w start v u labels pointers to behind so_far has = reco
       };
 }
 
--- at the root it ends
+-- it ends at the root
 pub leads_to_root : (first : ℕ) (w : Window) (start : ℕ) (v u : Window) (labels : List (List ℕ)) (pointers : ℕ)
     (behind : Option Window)
     → LeadsTo first w start v labels pointers behind → HasRoot v u → Stands first w labels pointers (end_of behind u)
@@ -98,7 +98,7 @@ leads_to_root first w start v u labels pointers behind so_far has =
 
 -- ---- lengths
 
--- the wire length of labels and of more after them, which have one root between them
+-- the wire length of labels followed by more, which share one root
 pub wire_append : (labels more : List (List ℕ))
     → wire_length (labels ++ more) + 1 ≡ wire_length labels + wire_length more
 wire_append [] more = omega arith
@@ -109,7 +109,7 @@ pub wire_some : (labels : List (List ℕ)) → 1 ≤ wire_length labels
 wire_some [] = omega arith
 wire_some (l ∷ labels) = let some = wire_some labels in omega (arith, some)
 
--- and no label where there is no more
+-- and no label, if there is nothing more
 pub wire_root : (labels : List (List ℕ)) → wire_length labels ≡ 1 → labels ≡ []
 wire_root [] is = refl
 wire_root (l ∷ labels) is = let some = wire_some labels in absurd (omega (arith, is, some))
@@ -119,7 +119,7 @@ pub label_count : (labels : List (List ℕ)) → length labels + 1 ≤ wire_leng
 label_count [] = omega arith
 label_count (l ∷ labels) = let so_far = label_count labels in omega (arith, so_far)
 
--- a name takes an octet at least
+-- a name takes at least one octet
 pub name_takes : (w v : Window) (labels : List (List ℕ)) → IsName w labels v → left v + 1 ≤ left w
 name_takes w v labels name = stands_takes w.position w v labels name.pointers name.stands
 
@@ -141,7 +141,7 @@ with_label w start v u size made pointers behind l old before new so_far has is 
   counted = let counted = so_far.counted in omega (arith, length-append so_far.labels (l ∷ []), counted, tick);
 }
 
--- the reading goes on where a pointer leads, with one pointer more, and no octet more
+-- the reading goes on where a pointer leads, with one more pointer and no more octets
 pub with_pointer : (w : Window) (start : ℕ) (v u : Window) (size pointers : ℕ) (behind : Option Window) (to : ℕ)
     (old before new : ℕ) → Reading w start v size pointers behind old before
     → HasPointer start v to u → new ≡ before + 1
@@ -197,7 +197,7 @@ more_ahead start w on v l ahead takes =
 pub shorter : (l : List ℕ) (labels more : List (List ℕ)) → labels ≡ l ∷ more → length more < length labels
 shorter l labels more is = let lengths = ap length is in omega (arith, lengths)
 
--- the labels of a name are ahead of its start
+-- the labels of a name are ahead at its start
 pub ahead_of_name : (w : Window) → (named : Named w)
     → ∥ ((pointers : ℕ) × (end : Window) × Stands w.position w named.0 pointers end) ∥₁ × (wire_length named.0 ≤ 255)
 ahead_of_name w named = (

@@ -1,4 +1,4 @@
--- A text that is read with an origin spells one name at most, or is refused for one reason.
+-- A text that is read with an origin spells at most one name, or is refused for one reason.
 use Rattle.std.proofs.Common.{◌≡◌, ◌⊎◌, inl, inr, ℕ, ◌+◌, ◌<◌, ◌≤◌, List, [], ◌∷◌, ◌++◌, length, get_or, refl, sym}
 use Rattle.std.proofs.Common.{ap, ◌∙◌, subst, append_assoc, Result, Err, IsErrOf, IfOk, IfErr, Option, Some, None}
 use Rattle.std.proofs.Common.{IfSome, IsNone, ◌↔◌, arith}
@@ -53,7 +53,7 @@ at_refused = (
 
 -- ---- relative names
 
--- with a full stop at its end the text of a relative name spells its labels
+-- with a full stop at its end, the text of a relative name spells its labels
 pub relative_spells : (labels : List (List ℕ)) (label text : List ℕ) → SpellsRelative labels label text
     → SpellsLabels (labels ++ label ∷ []) (text ++ 46 ∷ [])
 relative_spells labels label text (first, last, is, are, one, some) =
@@ -61,14 +61,14 @@ relative_spells labels label text (first, last, is, are, one, some) =
     (sym (ap (λ l. l ++ 46 ∷ []) is ∙ append_assoc first last (46 ∷ [])))
     (labels_more labels first label last are one)
 
--- so it spells them alone
+-- so it spells only them
 relative_once : (labels others : List (List ℕ)) (label other text : List ℕ) → SpellsRelative labels label text
     → SpellsRelative others other text → labels ++ label ∷ [] ≡ others ++ other ∷ []
 relative_once labels others label other text one two =
     labels_once (labels ++ label ∷ []) (others ++ other ∷ []) (text ++ 46 ∷ []) (relative_spells labels label text one)
     (relative_spells others other text two)
 
--- and so does that with the labels of an origin
+-- the same with the labels of an origin
 pub with_origin : (labels : List (List ℕ)) (label : List ℕ) (origin : List (List ℕ))
     → labels ++ label ∷ origin ≡ labels ++ label ∷ [] ++ origin
 with_origin labels label origin = sym (append_assoc labels (label ∷ []) origin)
@@ -165,7 +165,7 @@ plain_reason origin fault text (inl is) = (fault, is.1, inl refl)
 plain_reason origin fault text (inr (inl is)) = (FromTextError.UnexpectedEnd, empty_refused text is.1, inr refl)
 plain_reason origin fault text (inr (inr is)) = (FromTextError.UnexpectedEnd, long_refused origin text is.1, inr refl)
 
--- and for one reason here
+-- and for one reason with it
 pub one_reason_with_origin : (origin : List (List ℕ)) (fault other : FromTextError) (text : List ℕ)
     → IsRefusedWithOrigin origin fault text → IsRefusedWithOrigin origin other text → fault ≡ other
 one_reason_with_origin origin fault other text one two = both (refusal origin fault text one)
@@ -190,9 +190,9 @@ one_reason_with_origin origin fault other text one two = both (refusal origin fa
     both (inr (inl is)) (inr (inr also)) = absurd (not_both is.1 also.1)
     both (inr (inr is)) (inr (inl also)) = absurd (not_both also.1 is.1)
 
--- ---- no name is where something is wrong
+-- ---- there is no name where something is wrong
 
--- the labels before an origin, and the last of them, may be labels; and so may the origin's
+-- the labels before an origin have 1 to 63 octets each, and so do the last of them and the origin's
 own_labels : (labels : List (List ℕ)) (label : List ℕ) (origin : List (List ℕ)) → AreLabels (labels ++ label ∷ origin)
     → AreLabels labels
 own_labels [] label origin are = tt
@@ -233,7 +233,7 @@ at_not_refused origin fault text refused alone = by_reason (refusal origin fault
         (long_refused origin text is.1) (alone_refused text alone) in
         cc
 
--- a text that is refused for a reason spells no name
+-- a text that is refused spells no name
 pub no_name_with_origin : (origin : List (List ℕ)) (fault : FromTextError) (text : List ℕ)
     → IsRefusedWithOrigin origin fault text → (labels : List (List ℕ)) → AreLabels labels → wire_length labels ≤ 255
     → ¬ SpellsWithOrigin origin labels text
@@ -305,9 +305,9 @@ name_once_with_origin origin labels others text are short others_are others_shor
     by_form (inr (inr one)) (inr (inr two)) =
         one.3 ∙ relative_names one.0 two.0 origin one.1 two.1 text one.2 two.2 ∙ sym two.3
 
--- ---- what a call answers
+-- ---- what a call returns
 
--- a call that was refused for a reason was refused for no other one
+-- a call that was refused for a reason was refused for no other
 pub told_with_origin : {T : Type 0} (origin : List (List ℕ)) (result : Result T FromTextError) (fault : FromTextError)
     (text : List ℕ) → result ≡ Err fault → IsRefusedWithOrigin origin fault text
     → (other : FromTextError) → IsErrOf result other ↔ IsRefusedWithOrigin origin other text
@@ -323,12 +323,12 @@ wire_after : (done more : List (List ℕ)) → wire (done ++ more) ≡ bodies do
 wire_after done more = ap (λ l. l ++ 0 ∷ []) (flat_map-append (λ label. length label ∷ label) done more)
     ∙ append_assoc (bodies done) (bodies more) (0 ∷ [])
 
--- labels after others may be labels
+-- labels followed by others have 1 to 63 octets each if both do
 more_labels : (labels more : List (List ℕ)) → AreLabels labels → AreLabels more → AreLabels (labels ++ more)
 more_labels [] more are others = others
 more_labels (label ∷ labels) more are others = (are.0, are.1, more_labels labels more are.2 others)
 
--- how many octets a relative name has with an origin
+-- the number of octets of a relative name with an origin
 relative_length : (content : List ℕ) (labels : List (List ℕ)) (label : List ℕ) (origin : List (List ℕ))
     → content ≡ bodies labels
     → wire_length (labels ++ label ∷ origin) ≡ length content + 1 + length label + wire_length origin
@@ -338,7 +338,7 @@ relative_length content labels label origin appended =
     let size = ap length appended in
     omega (arith, both, is, size)
 
--- What was made of a text is the wire form of a name that the text spells with an origin.
+-- What was made from a text is the wire form of a name that the text spells with an origin.
 abbrev pub IsMade : List (List ℕ) → List ℕ → List ℕ → Type 0
 IsMade origin text octets = (labels : List (List ℕ)) × (octets ≡ wire labels) × AreLabels labels
     × (wire_length labels ≤ 255) × SpellsWithOrigin origin labels text
@@ -381,7 +381,7 @@ refused_within origin FromTextError.LongName text alone within refused = inl ref
 refused_within origin FromTextError.IllegalEscape text alone within refused = refused
 refused_within origin FromTextError.IllegalOctet text alone within refused = (alone, refused)
 
--- what follows of the value in an `Ok` that was made of a `Some`
+-- what holds of the value of an `Ok` that was made from a `Some`
 pub made_or : {T : Type 0} (result : Result T FromTextError) (made : Option T) (fault : FromTextError)
     {P Q : T → Type 0} → result ≡ ok_or made fault → IfSome made P → ((all : T) → P all → Q all) → IfOk result Q
 made_or {T} result None fault {P} {Q} is some follows = let Family : Result T FromTextError → Type 0 = λ r. IfOk r Q in
@@ -389,7 +389,7 @@ made_or {T} result None fault {P} {Q} is some follows = let Family : Result T Fr
 made_or {T} result (Some all) fault {P} {Q} is some follows =
     let Family : Result T FromTextError → Type 0 = λ r. IfOk r Q in subst Family (sym is) (follows all some)
 
--- and of the error where there was none
+-- and of the error if there was none
 pub refused_or : {T : Type 0} (result : Result T FromTextError) (made : Option T) (fault : FromTextError)
     (Q : FromTextError → Type 0) → result ≡ ok_or made fault → (IsNone made → Q fault) → IfErr result Q
 refused_or {T} result None fault Q is none = let Family : Result T FromTextError → Type 0 = λ r. IfErr r Q in

@@ -1,4 +1,4 @@
--- The parent of a name: what is there after its first label is a name.
+-- The parent of a name: what follows its first label is a name.
 use Rattle.std.proofs.Common.{◌≡◌, ℕ, ◌<◌, ◌≤◌, List, [], ◌∷◌, sym, ap, ◌∙◌, subst, arith, ◌+◌, length, refl}
 use Rattle.std.proofs.Math.Logic.{∥∥₁_elim}
 use Rattle.octseq.specs.Window.{Window, at}
@@ -9,7 +9,7 @@ use Rattle.octseq_dns_name.specs.Relatives.{suffixes}
 use Rattle.octseq_dns_name.specs.Wire.{AreLabels}
 use Rattle.octseq_dns_name.proofs.Names.{Taken, named_as}
 
--- what is there as a part that began here is there as one that began later
+-- what is there in a part that began here is there in one that began later
 wider : (start later : ℕ) (w v : Window) (labels : List (List ℕ)) (pointers : ℕ) → start ≤ later
     → Stands start w labels pointers v → Stands later w labels pointers v
 wider start later w v labels pointers le (Stands.root has) = Stands.root has
@@ -21,7 +21,7 @@ wider start later w v labels pointers le (Stands.pointer {to = to} {u = u} has r
     Stands.pointer
     (record { room = has.room; mark = has.mark; place = has.place; before = before_later; behind = has.behind }) rest
 
--- no more pointers lead on after the next label than before it
+-- the rest after the next label has no more pointers than the whole
 few_after : (start : ℕ) (w place : Window) (began : ℕ) (on end last : Window) (labels more : List (List ℕ))
     (pointers fewer : ℕ) → NextLabel start w place began on → Stands start w labels pointers end
     → Stands began on more fewer last → fewer ≤ pointers
@@ -36,7 +36,7 @@ few_after start w place began on end last labels more pointers fewer
     let few = few_after to (at to w) place began on led.1 last labels more led.0 fewer next led.4 rest in
     omega (arith, is, few)
 
--- what is there after the first label of a name is a name, of the labels after the first one
+-- what follows the first label of a name is a name, with the labels after the first one
 name_after : (w place : Window) (began : ℕ) (on end : Window) (l : List ℕ) (labels : List (List ℕ))
     → NextLabel w.position w place began on → Taken w.position w began on l → began ≤ on.position → IsName w labels end
     → (more : List (List ℕ)) × (last : Window) × (labels ≡ l ∷ more) × IsName on more last
@@ -58,14 +58,14 @@ name_after w place began on end l labels next takes ordered name =
       },
     )
 
--- The next label of the name at a window's position is in the window `place`, and the rest of the name is at that of
--- `on`, as a part that began at `began`.
+-- The next label of the name at a window's position is in the window `place`, and the rest of the name is at the
+-- position of `on`, in a part that began at `began`.
 pub record Passes (w place : Window) (began : ℕ) (on : Window) (l : List ℕ) : Type 0 where
   pub next : NextLabel w.position w place began on
   pub takes : Taken w.position w began on l
   pub ordered : began ≤ on.position
 
--- so it is where the reading began at the window's position
+-- so it is if the reading began at the window's position
 pub passes_from : (w place : Window) (start began : ℕ) (on : Window) (l : List ℕ) → start ≡ w.position
     → NextLabel start w place began on → Taken start w began on l → began ≤ on.position → Passes w place began on l
 passes_from w place start began on l is next takes ordered = record {
@@ -81,7 +81,7 @@ parent_named w place began on l named passes = ∥∥₁_elim named.1 (named_onc
     let after = name_after w place began on x.0 l named.0 passes.next passes.takes passes.ordered x.1 in
     (after.0, ∣ (after.1, after.3) ∣₁))
 
--- and they are those after the first one
+-- and they are the labels after the first one
 pub parent_labels : (w place : Window) (began : ℕ) (on : Window) (l : List ℕ) (named : Named w) (parent : Named on)
     → Passes w place began on l → named.0 ≡ l ∷ parent.0
 parent_labels w place began on l named parent passes =
@@ -89,7 +89,7 @@ parent_labels w place began on l named parent passes =
     let after = name_after w place began on x.0 l named.0 passes.next passes.takes passes.ordered x.1 in
     after.2 ∙ ap (λ more. l ∷ more) (named_as on after.1 after.0 parent after.3))
 
--- where no label is next there is none
+-- if no label is next, there is none
 pub parent_none : (w : Window) (start : ℕ) (named : Named w) → start ≡ w.position
     → ((labels : List (List ℕ)) (pointers : ℕ) (end : Window) → Stands start w labels pointers end → labels ≡ [])
     → named.0 ≡ []
@@ -99,18 +99,18 @@ parent_none w start named is none = ∥∥₁_elim named.1 (one_labels named.0 [
 
 -- ---- suffixes
 
--- a label has an octet and one of its length
+-- a label has an octet, and one for its length
 few_labels : (labels : List (List ℕ)) → AreLabels labels → length labels + length labels + 1 ≤ wire_length labels
 few_labels [] are = omega arith
 few_labels (label ∷ labels) are =
     let some = are.0 in let so_far = few_labels labels are.2 in omega (arith, some, so_far)
 
--- a name ends with as many as it has labels, and the root
+-- a name has as many suffixes as labels, and the root
 suffix_count : (labels : List (List ℕ)) → length (suffixes labels) ≡ length labels + 1
 suffix_count [] = refl
 suffix_count (label ∷ labels) = let so_far = suffix_count labels in omega (arith, so_far)
 
--- so with at most 128
+-- so at most 128
 pub few_suffixes : (labels : List (List ℕ)) → AreLabels labels → wire_length labels ≤ 255
     → length (suffixes labels) ≤ 128
 few_suffixes labels are short =

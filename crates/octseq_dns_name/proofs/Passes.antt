@@ -1,4 +1,4 @@
--- How a name is passed by the octets that it is in.
+-- How a name is passed by its octets.
 use Rattle.std.proofs.Common.{◌≡◌, ℕ, ◌+◌, ◌-◌, ◌*◌, ◌<◌, ◌≤◌, List, ◌++◌, length, take, drop, get_or}
 use Rattle.std.proofs.Common.{inl, inr, min, None, Option, Some, refl, sym, ap, ◌∙◌, subst, arith, length-append, length-take}
 use Rattle.std.proofs.Common.{length-drop}
@@ -25,7 +25,7 @@ octet_at octets place end within =
     ap (λ n. be (take n (drop place octets))) one ∙ ap (λ ahead. be (take 1 ahead)) (drop_more octets place 0 within)
     ∙ be_one (get_or octets place 0)
 
--- so many octets are next where so many are there
+-- n octets are next if n octets are there
 pub next_long : (octets : List ℕ) (place end n : ℕ) → place + n ≤ length octets
     → length (next n (window_at octets place end)) ≡ n
 next_long octets place end n within =
@@ -62,7 +62,7 @@ module _ (octets : List ℕ) (place end size : ℕ) (within : end ≤ length oct
           },
         )
 
-    -- no piece, where a label isn't whole
+    -- no piece, if a label isn't whole
     pub none_whole : (start : ℕ) → 1 ≤ size → size ≤ 63 → end < place + (1 + size) → (p : Piece) (v : Window)
         → HasPiece start (window_at octets place end) p v → ⊥
     none_whole start some short cut Piece.root v has = let zero = has.zero in let said = size_at in
@@ -72,7 +72,7 @@ module _ (octets : List ℕ) (place end size : ℕ) (within : end ≤ length oct
     none_whole start some short cut (Piece.pointer to) v has = let mark = has.mark in let said = size_at in
         omega (arith, mark, said, short)
 
-    -- and none, where no pointer is
+    -- and none, if there is no pointer
     pub none_pointed : (start : ℕ) → 63 < size
         → ((to : ℕ) (v : Window) → HasPointer start (window_at octets place end) to v → ⊥) → (p : Piece) (v : Window)
         → HasPiece start (window_at octets place end) p v → ⊥
@@ -133,7 +133,7 @@ none_at_end start w none (Piece.pointer to) v has = let room = has.room in omega
 
 -- ---- the labels
 
--- labels that are too long are no name, however they go on
+-- labels that are too long are not a name, whatever follows
 too_long : (w : Window) (start : ℕ) (v : Window) (size pointers : ℕ) (behind : Option Window) (old new : ℕ)
     → Reading w start v size pointers behind old new → 255 < size → NoName w
 too_long w start v size pointers behind old new so_far long labels end name =
@@ -153,7 +153,7 @@ no_next w start v size pointers behind old new so_far none labels end name =
     let on = so_far.read.backward labels name.pointers end name.stands in
     no_piece start v on.u on.more on.fewer none on.stands
 
--- labels led from a place to another
+-- labels lead from a place to another
 abbrev pub ReadsTo : List ℕ → ℕ → ℕ → ℕ → ℕ → ℕ → Type 0
 ReadsTo octets place end to old new =
     Reading (window_at octets place end) place (window_at octets to end) (to + 1 - place) 0 None old new
@@ -168,7 +168,7 @@ module _ (octets : List ℕ) (place end to size old before new : ℕ) (within : 
     (room : to < end) (is : get_or octets to 0 ≡ size) (some : 1 ≤ size) (short : size ≤ 63)
     (so_far : ReadsTo octets place end to old before)
   where
-    -- one label more, where it is whole
+    -- one more label, if it is whole
     pub reads_label : new ≡ before + 1 → to + (1 + size) ≤ end → ReadsTo octets place end (to + (1 + size)) old new
     reads_label tick whole =
         let has = label_at octets to end size within room is some short whole in
@@ -177,13 +177,13 @@ module _ (octets : List ℕ) (place end to size old before new : ℕ) (within : 
         (to + 1 - place) (to + (1 + size) + 1 - place) 0 None has.0 old before new so_far has.2
         (omega (arith, long, ordered)) tick
 
-    -- and no name, where it isn't
+    -- and no name, if it isn't
     pub cuts_label : end < to + (1 + size) → NoName (window_at octets place end)
     cuts_label cut = no_next (window_at octets place end) place (window_at octets to end) (to + 1 - place) 0 None old before
         so_far
         (none_whole octets to end size within room is place some short cut)
 
--- labels that reach the end of the octets, or that are too long, are no name
+-- labels that reach the end of the octets, or are too long, are not a name
 pub no_more : (octets : List ℕ) (place end to old new : ℕ) → place ≤ to → place + min 255 (end - place) ≤ to
     → (to ≤ end → ReadsTo octets place end to old new) → (end < to → NoName (window_at octets place end))
     → NoName (window_at octets place end)
@@ -201,7 +201,7 @@ no_more octets place end to old new ordered over inside outside =
 
 -- ---- the rest of a name, from where its first pointer leads
 
--- labels and pointers led from the place of the rest to another; what is before the rest is counted too
+-- labels and pointers lead from the place of the rest to another; what is before the rest is counted too
 abbrev pub RestsTo : List ℕ → ℕ → ℕ → ℕ → ℕ → ℕ → ℕ → ℕ → ℕ → ℕ → Type 0
 RestsTo octets on end start to before len pointers old new = (behind : Option Window)
     × Reading (window_at octets on end) start (window_at octets to end) (len + 1 - before) (pointers - 1) behind old new
@@ -215,14 +215,14 @@ rests_none octets on end before old =
 module _ (octets : List ℕ) (on end start to before len pointers old between : ℕ)
     (so_far : RestsTo octets on end start to before len pointers old between) (fewer : before ≤ len)
   where
-    -- no rest, where no piece is next
+    -- no rest, if no piece is next
     pub no_rest : ((p : Piece) (v : Window) → HasPiece start (window_at octets to end) p v → ⊥)
         → NoRest (window_at octets on end) before
     no_rest none labels count end stands short few =
         let after = so_far.1.read.backward labels count end stands in
         no_piece start (window_at octets to _) after.u after.more after.fewer none after.stands
 
-    -- nor where it is too long
+    -- nor if it is too long
     pub long_rest : 255 < len → NoRest (window_at octets on end) before
     long_rest long labels count end stands short few =
         let after = so_far.1.read.backward labels count end stands in
@@ -239,7 +239,7 @@ module _ (octets : List ℕ) (on end start to before len pointers old between : 
         let is = after.pointers_are in
         omega (arith, is, few, many)
 
-    -- a pointer more
+    -- one more pointer
     pub rests_pointer : (next new : ℕ) → 1 ≤ pointers
         → HasPointer start (window_at octets to end) next (window_at octets (to + 2) end) → new ≡ between + 1
         → RestsTo octets on end next next before len (pointers + 1) old new
@@ -254,7 +254,7 @@ module _ (octets : List ℕ) (on end start to before len pointers old between : 
         )
 
     module _ (size : ℕ) (within : end ≤ length octets) (room : to < end) (is : get_or octets to 0 ≡ size) where
-      -- a label more, where it is whole
+      -- one more label, if it is whole
       pub rests_label : (new : ℕ) → 1 ≤ size → size ≤ 63 → new ≡ between + 1 → to + (1 + size) ≤ end
           → RestsTo octets on end start (to + (1 + size)) before (len + (1 + size)) pointers old new
       rests_label new some short tick whole =
@@ -266,7 +266,7 @@ module _ (octets : List ℕ) (on end start to before len pointers old between : 
                 so_far.0 has.0 old between new so_far.1 has.2 (omega (arith, long, fewer)) tick,
           )
 
-      -- and no rest, where it isn't, or where it is too long
+      -- and no rest, if it isn't, or if it is too long
       pub cuts_rest : 1 ≤ size → size ≤ 63 → end < to + (1 + size) → NoRest (window_at octets on end) before
       cuts_rest some short cut = no_rest (none_whole octets to end size within room is start some short cut)
 
@@ -338,7 +338,7 @@ module _ (octets : List ℕ) (place end to old before between : ℕ) (within : e
         led = leads_past_pointer place (window_at octets place end) place (window_at octets to end)
             (window_at octets (to + 2) end) passes.reading.labels 0 on None passes.reading.read has
 
-        -- where the pointer leads is the rest
+        -- the rest is where the pointer leads
         pub ends_pointed : (len new : ℕ) → Rests (window_at octets on end) (to - place + 1) len later new
             → Ends (window_at octets place end) (to + 2) len old new
         ends_pointed len new rests =
@@ -366,7 +366,7 @@ module _ (octets : List ℕ) (place end to old before between : ℕ) (within : e
               counted = omega (arith, length-append so_far.labels rests.labels, counted, more, tick, tock);
             }
 
-        -- or no name is there
+        -- or there is no name
         pub no_end : NoRest (window_at octets on end) (to - place + 1) → NoName (window_at octets place end)
         no_end none labels end name =
             let so_far = passes.reading in
@@ -408,12 +408,12 @@ ended_rest octets on end start to before len pointers old between fewer over ins
 
 -- ---- what a parser reads
 
--- a window on its octets, from its position to its end, is its own
+-- a window on its octets, from its position to its end, is that window
 pub own_window : (w : Window) (octets : List ℕ) (place end : ℕ) → octets ≡ w.octets → place ≡ w.position → end ≡ w.end
     → window_at octets place end ≡ w
 own_window w octets place end same begins ends i = record { octets = same i; position = begins i; end = ends i }
 
--- however a name is read, those are its turns
+-- a name has the same turns however it is read
 pub ends_counted : (w : Window) (place len old new : ℕ) → Ends w place len old new → (labels : List (List ℕ))
     (end : Window) (name : IsName w labels end) → new ≡ old + name_turns name
 ends_counted w place len old new ends labels end name =

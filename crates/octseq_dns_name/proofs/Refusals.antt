@@ -1,4 +1,4 @@
--- A text is refused for one reason, and where it is refused it spells no name.
+-- A text is refused for one reason, and a refused text spells no name.
 use Rattle.std.proofs.Common.{◌≡◌, ◌⊎◌, inl, inr, ℕ, zero, suc, ◌<◌, ◌≤◌, false}
 use Rattle.std.proofs.Common.{if◌then◌else◌, nat_eq, List, [], ◌∷◌, ◌++◌, length, refl, sym, ap, ◌∙◌, subst}
 use Rattle.std.proofs.Common.{append_assoc}
@@ -13,7 +13,7 @@ use Rattle.octseq_dns_name.proofs.Names.{wire_append, wire_some}
 use Rattle.octseq_dns_name.proofs.Spellings.{octet_once, no_full_stop, label_once}
 use Rattle.octseq_dns_name.proofs.SpellingSteps.{spelled, later, spelling_long}
 
--- ---- two runs of octets at one text's front
+-- ---- two runs of octets at the front of one text
 
 -- after the shorter one an octet is spelled
 longer_run : (label other s t xs ys : List ℕ) → SpellsLabel label s → SpellsLabel other t → s ++ xs ≡ t ++ ys
@@ -65,7 +65,7 @@ ordered (suc a) (suc b) = next (ordered a b)
     next (inr (inl same)) = inr (inl (omega (arith, same)))
     next (inr (inr more)) = inr (inr (omega (arith, more)))
 
--- and two such are the same
+-- and two such runs are the same
 one_run : (text label xs other ys : List ℕ) → Reads text label xs → Reads text other ys → SpellsNone xs
     → SpellsNone ys → (label ≡ other) × (xs ≡ ys)
 one_run text label xs other ys one two none other_none = by_size (ordered (length label) (length other))
@@ -76,7 +76,7 @@ one_run text label xs other ys one two none other_none = by_size (ordered (lengt
     by_size (inr (inl size)) = same_run label other one.0 two.0 xs ys one.2 two.2 (sym one.1 ∙ two.1) size
     by_size (inr (inr more)) = absurd (none_longer text other ys label xs two one other_none more)
 
--- ---- where no octet is spelled
+-- ---- if no octet is spelled
 
 none_at_end : SpellsNone []
 none_at_end = λ octet first rest is one.
@@ -89,19 +89,19 @@ none_at_stop rest = λ octet first more is one. no_full_stop octet first more re
 
 -- ---- the reason
 
--- what a full stop after the octets of a label tells
+-- the fault at a full stop after the octets of a label
 abbrev at_stop : List ℕ → FromTextError
 at_stop [] = FromTextError.EmptyLabel
 at_stop (octet ∷ label) = FromTextError.LongName
 
--- and what comes after them where no octet is spelled
+-- and at what follows them, if no octet is spelled there
 abbrev told : List ℕ → List ℕ → FromTextError
 told label [] = FromTextError.UnexpectedEnd
 told label (octet ∷ rest) =
     if nat_eq octet 46 then at_stop label else
     (if nat_eq octet 92 then FromTextError.IllegalEscape else FromTextError.IllegalOctet)
 
--- the octets of a label that were read, and what they and what is after them tell
+-- the octets of a label that were read, and the fault that they and what follows them give
 abbrev Stops : FromTextError → List ℕ → Type 0
 Stops fault text = (label rest : List ℕ) × Reads text label rest
     × (((length label ≡ 64) × (fault ≡ FromTextError.LongLabel))
@@ -146,7 +146,7 @@ one_stop fault other_fault text (label, xs, one, inr is) (other, ys, two, inr ot
     let same = one_run text label xs other ys one two is.1 other_is.1 in
     is.2 ∙ ap (λ l. told l xs) same.0 ∙ ap (told other) same.1 ∙ sym other_is.2
 
--- ---- no label is where something is wrong
+-- ---- there is no label where something is wrong
 
 stopped_name : (fault : FromTextError) (text label rest : List ℕ) → Stops fault text → Reads text label (46 ∷ rest)
     → 1 ≤ length label → length label ≤ 63 → fault ≡ FromTextError.LongName
@@ -168,14 +168,14 @@ no_label_here fault labels text label rest is one some short fits =
     let past = long.5 in
     absurd (omega (arith, all, past, fits))
 
--- ---- whole labels at one text's front
+-- ---- whole labels at the front of one text
 
 -- the second ones go on after the first ones
 abbrev GoOn : List (List ℕ) → List (List ℕ) → List ℕ → Type 0
 GoOn xs ys ahead = (label : List ℕ) × (more : List (List ℕ)) × (rest : List ℕ)
     × (ys ≡ xs ++ label ∷ more) × Reads ahead label (46 ∷ rest)
 
--- one label more at the front of both
+-- one more label in front of both
 both_more : (label : List ℕ) (xs ys : List (List ℕ)) (ahead : List ℕ) (x y : List ℕ) → x ≡ label → y ≡ label
     → GoOn xs ys ahead → GoOn (x ∷ xs) (y ∷ ys) ahead
 both_more label xs ys ahead x y x_is y_is on =
@@ -255,7 +255,7 @@ one_reason fault other text one two =
         (stops other two.1 two.2 two.4)
     by_place (inr (inr on)) = absurd (none_go_on other two.1 one.1 two.2 two.4 one.3.3 one.3.4 on)
 
--- no octets are read in a text of nothing
+-- no octets are read in an empty text
 nothing_read : (label rest : List ℕ) → Reads [] label rest → length label ≡ 0
 nothing_read [] rest one = refl
 nothing_read (octet ∷ label) rest one =
@@ -268,7 +268,7 @@ no_octet : (octet : ℕ) (rest first : List ℕ) → ¬ ([] ≡ first ++ octet �
 no_octet octet rest first is =
     let e = ap length is ∙ length-append first (octet ∷ rest) in absurd (omega (arith, e))
 
--- so what is wrong there is that it ends, with no label before it
+-- so the fault there is that it ends, with no label before it
 ended : (fault : FromTextError) (labels : List (List ℕ)) → IsFault fault labels [] → labels ≡ []
 ended FromTextError.UnexpectedEnd labels (label, one, short, inl none) = none
 ended FromTextError.UnexpectedEnd labels (label, one, short, inr some) =
@@ -281,7 +281,7 @@ ended FromTextError.LongName labels is =
 ended FromTextError.IllegalEscape labels is = absurd (no_octet 92 is.1 is.2.0 is.2.1)
 ended FromTextError.IllegalOctet labels is = absurd (no_octet is.0 is.2 is.3.0 is.3.1)
 
--- a text that is refused for a reason spells no name
+-- a text that is refused spells no name
 pub no_name : (fault : FromTextError) (text : List ℕ) → IsRefused fault text → (labels : List (List ℕ))
     → AreLabels labels
     → wire_length labels ≤ 255 → ¬ SpellsName labels text
@@ -297,7 +297,7 @@ no_name fault text is labels are short spells =
         is.0 (subst (λ l. SpellsName l text) (sym same.0 ∙ none) spells)
     by_place (inr (inr on)) = no_octet 46 on.2 on.4.0 on.4.1
 
--- ---- what a call answers
+-- ---- what a call returns
 
 abbrev pub error_or : {T E : Type 0} → Result T E → E → E
 error_or (Ok value) e = e
@@ -307,16 +307,16 @@ abbrev is_error : {T E : Type 0} → Result T E → Type 0
 is_error (Ok value) = ⊥
 is_error (Err e) = Unit {0}
 
--- a call that answered a value answered no error
+-- a call that returned a value returned no error
 pub ok_no_err : {T E : Type 0} (result : Result T E) (value : T) (e : E) → result ≡ Ok value → ¬ (result ≡ Err e)
 ok_no_err result value e is told = subst is_error (sym told ∙ is) tt
 
--- what holds of an error holds where a call answered it
+-- what holds of an error holds if a call returned it
 pub refused_by : {T E : Type 0} (result : Result T E) (fault : E) → result ≡ Err fault → (P : E → Type 0) → P fault
     → IfErr result P
 refused_by result fault is P holds = subst (λ r. IfErr r P) (sym is) holds
 
--- a call that was refused for a reason was refused for no other one
+-- a call that was refused for a reason was refused for no other
 pub told_of : {T : Type 0} (result : Result T FromTextError) (fault : FromTextError) (text : List ℕ)
     → result ≡ Err fault
     → IsRefused fault text → (other : FromTextError) → IsErrOf result other ↔ IsRefused other text

@@ -1,4 +1,4 @@
--- How a text is read octet by octet and label by label: what was read, and what is after it.
+-- How a text is read octet by octet and label by label: what was read, and what follows it.
 use Rattle.std.proofs.Common.{◌≡◌, inr, ℕ, ◌≤◌, List, [], ◌∷◌, ◌++◌, length, get_or}
 use Rattle.std.proofs.Common.{refl, sym, ap, ◌∙◌, subst, append_assoc, arith}
 use Rattle.std.proofs.lemmas.List.{append-nil}
@@ -15,7 +15,7 @@ use Rattle.octseq_dns_name.proofs.Wires.{one_more}
 first_is : {a b : ℕ} {xs ys : List ℕ} → a ∷ xs ≡ b ∷ ys → a ≡ b
 first_is {a = a} same = ap (λ l. get_or l 0 a) same
 
--- a text of no length is empty
+-- a text of length 0 is empty
 pub none_left : (text : List ℕ) → length text ≡ 0 → text ≡ []
 none_left [] none = refl
 none_left (x ∷ text) none = absurd (omega (arith, none))
@@ -25,7 +25,7 @@ pub some_long : (text : List ℕ) → ¬ (text ≡ []) → 1 ≤ length text
 some_long [] some = absurd (some refl)
 some_long (x ∷ text) some = omega arith
 
--- an octet takes a place in the text
+-- an octet takes at least one place in the text
 pub spelling_long : (octet : ℕ) (text : List ℕ) → SpellsOctet octet text → 1 ≤ length text
 spelling_long octet text (SpellsOctet.plain bare seen) = omega arith
 spelling_long octet text (SpellsOctet.quoted letter) = omega arith
@@ -48,7 +48,7 @@ octet_more (x ∷ label) first octet s so_far one = (
   octet_more label so_far.1 octet s so_far.4 one,
 )
 
--- one octet more
+-- one more octet
 pub read_octet : (text label ahead s rest : List ℕ) (octet : ℕ) → Reads text label ahead → ahead ≡ s ++ rest
     → SpellsOctet octet s → Reads text (label ++ octet ∷ []) rest
 read_octet text label ahead s rest octet so_far here one = (
@@ -57,13 +57,13 @@ read_octet text label ahead s rest octet so_far here one = (
   octet_more label so_far.0 octet s so_far.2 one,
 )
 
--- from a text that isn't empty octets were read where nothing is ahead
+-- if nothing is ahead in a text that isn't empty, octets were read
 pub some_read : (text label : List ℕ) → Reads text label [] → 1 ≤ length text → 1 ≤ length label
 some_read text [] so_far some =
     let none = ap length (so_far.1 ∙ ap (λ l. l ++ []) so_far.2) in absurd (omega (arith, none, some))
 some_read text (octet ∷ label) so_far some = omega arith
 
--- the text ends within the label
+-- the text ends in the label
 pub unended : (labels : List (List ℕ)) (text label ahead : List ℕ) → Reads text label ahead → ahead ≡ []
     → 1 ≤ length text → length label ≤ 63 → IsFault FromTextError.UnexpectedEnd labels text
 unended labels text label ahead so_far end some short =
@@ -95,7 +95,7 @@ octet_fault FromTextError.IllegalOctet labels text label ahead octet rest so_far
   subst SpellsNone begins.2 none,
 )
 
--- where the text goes on it doesn't end too soon
+-- if the text goes on, it doesn't end too soon
 pub octet_within : (fault : FromTextError) (ahead : List ℕ) (octet : ℕ) (rest : List ℕ) → ahead ≡ octet ∷ rest
     → BeginsWith fault ahead → ¬ (fault ≡ FromTextError.UnexpectedEnd)
 octet_within fault ahead octet rest here begins ended =
@@ -103,7 +103,7 @@ octet_within fault ahead octet rest here begins ended =
 
 -- ---- labels
 
--- none was read yet
+-- no label was read yet
 pub read_no_label : (text : List ℕ) → ReadsLabels text [] text
 read_no_label text = ([], refl, refl, tt, omega arith)
 
@@ -118,7 +118,7 @@ labels_more (x ∷ labels) first label s so_far one = (
   labels_more labels so_far.1 label s so_far.4 one,
 )
 
--- one label more
+-- one more label
 pub read_label : (text : List ℕ) (labels : List (List ℕ)) (ahead label rest : List ℕ) → ReadsLabels text labels ahead
     → Reads ahead label (46 ∷ rest) → 1 ≤ length label → length label ≤ 63 → wire_length (labels ++ label ∷ []) ≤ 255
     → ReadsLabels text (labels ++ label ∷ []) rest
@@ -131,7 +131,7 @@ read_label text labels ahead label rest so_far one some short fits = (
   fits,
 )
 
--- at the text's end the name is whole
+-- at the end of the text the name is whole
 pub whole_name : (text : List ℕ) (labels : List (List ℕ)) (ahead : List ℕ) → ReadsLabels text labels ahead → ahead ≡ []
     → 1 ≤ length text → SpellsName labels text
 whole_name text [] ahead so_far end some =
@@ -147,7 +147,7 @@ pub spelled : (labels : List (List ℕ)) (text : List ℕ) → ¬ (text ≡ 46 �
 spelled [] text other spells = absurd (other spells)
 spelled (label ∷ labels) text other spells = spells
 
--- each label may be one
+-- each of the labels has 1 to 63 octets
 pub later : (done : List (List ℕ)) (label : List ℕ) (more : List (List ℕ)) → AreLabels (done ++ label ∷ more)
     → (1 ≤ length label) × (length label ≤ 63)
 later [] label more are = (are.0, are.1)

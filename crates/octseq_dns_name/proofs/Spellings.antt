@@ -1,4 +1,4 @@
--- A text spells one name at most, and the text that is printed spells its name.
+-- A text spells at most one name, and the printed text of a name spells it.
 use Rattle.std.proofs.Common.{◌≡◌, ℕ, ◌+◌, ◌/◌, ◌%◌, ◌<◌, ◌≤◌, Bool, true, false, if◌then◌else◌, List, [], ◌∷◌, ◌++◌}
 use Rattle.std.proofs.Common.{length, get_or, drop, refl, sym, ap, ◌∙◌, subst, append_assoc, arith, rules}
 use Rattle.std.proofs.Math.Bool.{true≢false}
@@ -26,7 +26,7 @@ numbers : (a b : ℕ) → 48 + a / 100 ≡ 48 + b / 100 → 48 + a / 10 % 10 ≡
     → a ≡ b
 numbers a b first second third = omega (arith, first, second, third)
 
--- a spelling of an octet tells it, and what is after it
+-- a spelling of an octet determines it, and what follows it
 pub octet_once : (a b : ℕ) (s t xs ys : List ℕ) → SpellsOctet a s → SpellsOctet b t → s ++ xs ≡ t ++ ys
     → (a ≡ b) × (xs ≡ ys)
 octet_once a b s t xs ys (SpellsOctet.plain bare seen) (SpellsOctet.plain other_bare other_seen) same =
@@ -57,7 +57,7 @@ no_full_stop a s xs ys (SpellsOctet.numbered few) same = let e = head same in ab
 
 -- ---- labels
 
--- a spelling of a label with a full stop after it tells the label, and what is after the full stop
+-- a spelling of a label followed by a full stop determines the label, and what follows the full stop
 pub label_once : (label other s t xs ys : List ℕ) → SpellsLabel label s → SpellsLabel other t
     → s ++ 46 ∷ xs ≡ t ++ 46 ∷ ys → (label ≡ other) × (xs ≡ ys)
 label_once [] [] s t xs ys one two same =
@@ -98,7 +98,7 @@ not_root (a ∷ label) labels some spells =
     no_full_stop a first.0 (first.1 ++ 46 ∷ spells.1) [] first.3 (sym (append_assoc first.0 first.1 (46 ∷ spells.1))
     ∙ ap (λ l. l ++ 46 ∷ spells.1) (sym first.2) ∙ sym spells.2)
 
--- a text spells one name at most
+-- a text spells at most one name
 pub name_once : (labels others : List (List ℕ)) (text : List ℕ) → AreLabels labels → AreLabels others
     → SpellsName labels text → SpellsName others text → labels ≡ others
 name_once [] [] text are others_are one two = refl
@@ -111,7 +111,7 @@ name_once (label ∷ labels) (other ∷ others) text are others_are one two =
 
 -- ---- what is printed
 
--- a backslash is before no digit
+-- an octet that needs a backslash isn't a digit
 letters : (octet : ℕ) → is_quoted octet ≡ true → is_ascii_digit octet ≡ false
 letters octet told = search rules
 
@@ -139,7 +139,7 @@ labels_spelled (label ∷ labels) are = (
   labels_spelled labels are.1,
 )
 
--- the text that is printed of a name spells that name
+-- the printed text of a name spells that name
 pub name_spelled : (labels : List (List ℕ)) → AreOctetLabels labels → SpellsName labels (name_text labels)
 name_spelled [] are = refl
 name_spelled (label ∷ labels) are = labels_spelled (label ∷ labels) are

@@ -1,4 +1,4 @@
--- The first label that is wrong is one, and where one is wrong they aren't all right.
+-- There is one first wrong label, and if a label is wrong, they aren't all right.
 use Rattle.std.proofs.Common.{◌≡◌, ◌≢◌, ◌↔◌, ◌⊎◌, inl, inr, Option, ℕ, ◌+◌, ◌<◌, ◌≤◌, List, [], ◌∷◌, ◌++◌, length}
 use Rattle.std.proofs.Common.{Bor, Result, Err, IsErrOf, map, get_or, take, drop, refl, sym, ap, ◌∙◌, subst}
 use Rattle.std.proofs.Common.{append_assoc, arith}
@@ -14,7 +14,7 @@ use Rattle.octseq_dns_name.proofs.SpellingSteps.{later}
 
 -- ---- two labels of a list
 
--- the label after the first ones is among the second ones
+-- the label after the first ones is one of the second ones
 abbrev Before : List (List ℕ) → List ℕ → List (List ℕ) → Type 0
 Before xs x ys = (rest : List (List ℕ)) × (ys ≡ xs ++ x ∷ rest)
 
@@ -42,9 +42,9 @@ placed (a ∷ xs) [] x y more others same = inr (inr (xs, ap (λ l. l ∷ xs) (f
 placed (a ∷ xs) (b ∷ ys) x y more others same =
     placed_more a b x y xs ys (first_label same) (placed xs ys x y more others (other_labels same))
 
--- ---- a label that is wrong
+-- ---- a wrong label
 
--- is among none that are right
+-- it isn't among labels that are right
 none_right : (fault : FromLabelsError) (before : List (List ℕ)) (label : List ℕ) (labels : List (List ℕ))
     → IsWrong fault before label → Before before label labels → AreLabels labels → wire_length labels ≤ 255 → ⊥
 none_right fault before label labels wrong (rest, is) are short =
@@ -62,7 +62,7 @@ none_right fault before label labels wrong (rest, is) are short =
     by_fault FromLabelsError.Short wrong some few fits = wrong
     by_fault FromLabelsError.Memory wrong some few fits = wrong
 
--- is so in one way
+-- it is wrong in one way
 one_way : (fault other : FromLabelsError) (before : List (List ℕ)) (label : List ℕ) → IsWrong fault before label
     → IsWrong other before label → fault ≡ other
 one_way FromLabelsError.EmptyLabel FromLabelsError.EmptyLabel before label one two = refl
@@ -122,7 +122,7 @@ pub taken : (xs : List (Bor (List ℕ))) (i : ℕ) (d : Bor (List ℕ)) → i < 
 taken xs i d few =
     ap contents (take_more xs i d few) ∙ map-append (λ slice. slice.now) (take i xs) (get_or xs i d ∷ [])
 
--- ---- what a call answers
+-- ---- what a call returns
 
 unfit : (limit : Option ℕ) (fault : FromLabelsError) (labels : List (List ℕ)) → HasWrong fault labels
     → AreUnfit limit fault labels
@@ -172,7 +172,7 @@ short_told result limit labels is are short past other no_memory = (
     back (inl wrong) = absurd (all_right other labels wrong are short)
     back (inr also) = is ∙ ap Err (sym also.0)
 
--- nothing was wrong but that memory was refused
+-- nothing was wrong, except that memory was refused
 pub fit_told : {T : Type 0} (result : Result T FromLabelsError) (limit : Option ℕ) (labels : List (List ℕ))
     → ((other : FromLabelsError) → IsErrOf result other → other ≡ FromLabelsError.Memory) → AreLabels labels
     → wire_length labels ≤ 255 → ¬ IsPast limit (wire_length labels)

@@ -13,7 +13,7 @@ use Rattle.octseq_dns_name.proofs.Names.{wire_append}
 
 -- ---- lengths
 
--- labels, each after its length, have as many octets as their wire form, but for that of the root
+-- labels, each after its length, have as many octets as their wire form without the root
 pub bodies_length : (labels : List (List ℕ)) → length (bodies labels) + 1 ≡ wire_length labels
 bodies_length [] = refl
 bodies_length (label ∷ labels) =
@@ -27,7 +27,7 @@ wire_has labels = length-append (bodies labels) (0 ∷ []) ∙ bodies_length lab
 
 -- ---- a name
 
--- octets that are the wire form of labels are the name that has them
+-- octets that are the wire form of labels are the name with those labels
 pub wire_named : (octets : List ℕ) (labels : List (List ℕ)) → octets ≡ wire labels → AreLabels labels
     → wire_length labels ≤ 255
     → ∥ ((end : Window) × IsName (whole octets) labels end) ∥₁
@@ -41,7 +41,7 @@ wire_named octets labels are each short =
 
 -- ---- the writer
 
--- where labels have 1 to 63 octets each, they still do with one more such label after them
+-- labels with 1 to 63 octets each still have them when followed by one more such label
 pub one_more : (labels : List (List ℕ)) (label : List ℕ) → AreLabels labels → 1 ≤ length label → length label ≤ 63
     → AreLabels (labels ++ label ∷ [])
 one_more [] label are some short = (some, short, tt)
@@ -59,7 +59,7 @@ room_ahead limit content before labels done ahead n appended labels_are few room
     room (past_more limit (length content + n) (length before + wire_length labels)
     (omega (arith, few, both, is, size, all)) past)
 
--- one label more was appended: its length, and its octets
+-- one more label was appended: its length, and its octets
 pub appended_more : (before content one two : List ℕ) (done : List (List ℕ)) (label : List ℕ)
     → content ≡ before ++ bodies done → one ≡ content ++ length label ∷ [] → two ≡ one ++ label
     → two ≡ before ++ bodies (done ++ label ∷ [])

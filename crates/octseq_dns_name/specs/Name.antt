@@ -13,7 +13,7 @@ pub record HasRoot (w v : Window) : Type 0 where
   pub zero : octet w ≡ 0
   pub behind : v ≡ past 1 w
 
--- A label: an octet of 1 to 63, and as many octets as it says.
+-- A label: an octet of 1 to 63, followed by that number of octets.
 pub record HasLabel (w : Window) (label : List ℕ) (v : Window) : Type 0 where
   pub room : 1 ≤ left w
   pub some : 1 ≤ octet w
@@ -22,8 +22,8 @@ pub record HasLabel (w : Window) (label : List ℕ) (v : Window) : Type 0 where
   pub octets : label ≡ next (octet w) (past 1 w)
   pub behind : v ≡ past (octet w) (past 1 w)
 
--- A pointer: an octet of 192 or more, and one more. What they say above 192 * 256 is a place, counted from the
--- message's first octet. It is before `start`.
+-- A pointer: an octet of 192 or more, followed by another one. Their number less 192 * 256 is a place, counted from the
+-- first octet of the message. It is before `start`.
 pub record HasPointer (start : ℕ) (w : Window) (to : ℕ) (v : Window) : Type 0 where
   pub room : 2 ≤ left w
   pub mark : 192 ≤ octet w
@@ -31,10 +31,9 @@ pub record HasPointer (start : ℕ) (w : Window) (to : ℕ) (v : Window) : Type 
   pub before : to < start
   pub behind : v ≡ past 2 w
 
--- The labels that are at a window's position, how many pointers lead on, and the window after them all. They end
--- with the root; or a label is there, and after it the rest; or a pointer is, and where it points the rest.
--- Reading goes on after the first pointer. A pointer points before the place where the part of the name that has it
--- began, which is `start`.
+-- The labels at a window's position, the number of pointers that lead on, and the window after them. There is the root;
+-- or a label, followed by the rest; or a pointer, and the rest is where it points. Reading goes on after the first
+-- pointer. A pointer points before `start`, the place where the part of the name that has it began.
 pub data Stands : ℕ → Window → List (List ℕ) → ℕ → Window → Type 0 where
   root : {start : ℕ} {w v : Window} → HasRoot w v → Stands start w [] 0 v
   label : {start pointers : ℕ} {w u v : Window} {l : List ℕ} {labels : List (List ℕ)}
@@ -42,13 +41,13 @@ pub data Stands : ℕ → Window → List (List ℕ) → ℕ → Window → Type
   pointer : {start to pointers : ℕ} {w u v : Window} {labels : List (List ℕ)}
       → HasPointer start w to v → Stands to (at to w) labels pointers u → Stands start w labels (suc pointers) v
 
--- how many octets the labels have in wire form: each after an octet of its length, and one for the root
+-- the number of octets of labels in wire form: each after an octet of its length, and one for the root
 abbrev pub wire_length : List (List ℕ) → ℕ
 wire_length [] = 1
 wire_length (l ∷ labels) = 1 + length l + wire_length labels
 
--- A name is at a window's position: its labels, of at most 255 octets in wire form, through at most 127 pointers;
--- and the window after it.
+-- A name is at a window's position: its labels, of at most 255 octets in wire form, with at most 127 pointers; and the
+-- window after it.
 pub record IsName (w : Window) (labels : List (List ℕ)) (v : Window) : Type 0 where
   pub pointers : ℕ
   pub stands : Stands w.position w labels pointers v

@@ -1,5 +1,5 @@
--- A domain name as a format: one is at a place at most, what is past it, and the octets that say it. They are its plain
--- wire form; a name that is read may have pointers.
+-- A domain name as a format: at most one is at a place, what is past it, and its octets. They are its plain wire form;
+-- a name that is read may have pointers.
 use Rattle.std.specs.Prelude.{◌≡◌, ℕ, ◌+◌, ◌≤◌, List, [], ◌∷◌, ◌++◌, length, refl}
 use Rattle.std.proofs.Common.{sym, ap, ◌∙◌, subst, arith, length-append, append_assoc}
 use Rattle.std.specs.Coded.{Coded, code_by, coded_list, coded×, coded_ℕ}
@@ -17,18 +17,18 @@ use Rattle.octseq_dns_name.specs.Wire.{wire, AreLabels}
 abbrev pub name_labels : Name → List (List ℕ)
 name_labels name = name.labels
 
--- The labels of a name: 1 to 63 octets each, and at most 255 in all.
+-- The labels of a name: 1 to 63 octets each, and at most 255 octets in wire form.
 pub record NameFits (labels : List (List ℕ)) : Type 0 where
   pub each : AreLabels labels
   pub short : wire_length labels ≤ 255
 
--- a turn for the root, and one for each label. Each pointer takes one more
+-- a turn for the root, and one for each label; each pointer takes one more
 abbrev pub least_turns : Name → ℕ
 least_turns name = 1 + length name.labels
 
 -- ---- one name
 
--- the name of a place and labels
+-- the name with a place and labels
 name_from : Window → List (List ℕ) → Name
 name_from place labels = record { place = place; labels = labels }
 
@@ -40,7 +40,7 @@ one_named = record {
       (ap (λ place. name_from place a.labels) (is.0 ∙ sym other.0) ∙ ap (name_from b.place) labels.0, labels.1);
 }
 
--- names are equal in one way at most
+-- names are equal in at most one way
 abbrev pub name_code : Coded Name
 name_code = code_by (Window × List (List ℕ)) (coded× window_code (coded_list (coded_list coded_ℕ)))
     (λ n. (n.place, n.labels))
@@ -48,11 +48,11 @@ name_code = code_by (Window × List (List ℕ)) (coded× window_code (coded_list
 
 -- ---- what is past a name
 
--- one window is another at some position
+-- a window is another one at some position
 abbrev pub IsOf : Window → Window → Type 0
 IsOf w v = (v.octets ≡ w.octets) × (v.end ≡ w.end)
 
--- it is of the same octets, with the same end
+-- the window past labels is of the same octets, with the same end
 stands_of : (start : ℕ) (w v : Window) (labels : List (List ℕ)) (pointers : ℕ) → Stands start w labels pointers v
     → IsOf w v
 stands_of start w v labels pointers (Stands.root has) = (ap (λ v. v.octets) has.behind, ap (λ v. v.end) has.behind)
@@ -62,7 +62,7 @@ stands_of start w v labels pointers (Stands.label {u = u} {labels = more} has re
 stands_of start w v labels pointers (Stands.pointer has rest) =
     (ap (λ v. v.octets) has.behind, ap (λ v. v.end) has.behind)
 
--- and within its end
+-- and within that end
 stands_within : (start : ℕ) (w v : Window) (labels : List (List ℕ)) (pointers : ℕ) → Stands start w labels pointers v
     → v.position ≤ v.end
 stands_within start w v labels pointers (Stands.root has) =
@@ -78,7 +78,7 @@ stands_within start w v labels pointers (Stands.pointer has rest) =
     let room = has.room in
     omega (arith, position, end, room)
 
--- a name takes an octet at least
+-- a name takes at least one octet
 pub stands_takes : (start : ℕ) (w v : Window) (labels : List (List ℕ)) (pointers : ℕ) → Stands start w labels pointers v
     → left v + 1 ≤ left w
 stands_takes start w v labels pointers (Stands.root has) = let room = has.room in let is = ap left has.behind in
@@ -122,7 +122,7 @@ pub wire_more : (label : List ℕ) (labels : List (List ℕ))
     → wire (label ∷ labels) ≡ length label ∷ (label ++ wire labels)
 wire_more label labels = ap (λ l. length label ∷ l) (append_assoc label (bodies labels) (0 ∷ []))
 
--- where the wire form of labels comes next, they are there, and what comes after them is past them
+-- if the wire form of labels comes next, they are there, and what follows them is past them
 pub wire_stands : (start : ℕ) (w : Window) (labels : List (List ℕ)) (more : List ℕ) → AreLabels labels
     → rest w ≡ wire labels ++ more → Stands start w labels 0 (past (length (wire labels)) w)
 wire_stands start w [] more are is =

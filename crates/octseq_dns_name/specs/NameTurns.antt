@@ -1,4 +1,4 @@
--- How many turns the reading of a name takes.
+-- How many loop turns the reading of a name takes.
 use Rattle.std.specs.Prelude.{◌≡◌, ℕ, ◌+◌, List, length}
 use Rattle.octseq.specs.Window.{Window}
 use Rattle.octseq_dns_name.specs.Name.{IsName}

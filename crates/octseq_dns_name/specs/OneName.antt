@@ -1,4 +1,4 @@
--- At most one name is at a place, with one end: so a value may keep its labels as a fact.
+-- At most one name is at a place, with one end, so a value may keep its labels as a fact.
 use Rattle.std.specs.Prelude.{◌≡◌, ℕ, suc, List, [], ◌∷◌, refl}
 use Rattle.std.proofs.Common.{sym, ap, ◌∙◌, subst, arith}
 use Rattle.std.specs.Coded.{Coded-set, coded_list, coded_ℕ}
@@ -7,7 +7,7 @@ use mathlib.Core.HLevel.{Σ_prop_path}
 use Rattle.octseq.specs.Window.{Window, at}
 use Rattle.octseq_dns_name.specs.Name.{HasRoot, HasLabel, HasPointer, Stands, IsName}
 
--- the octet tells which of the three is there
+-- the octet decides which of the three is there
 pub no_label_at_root : {w u v : Window} {l : List ℕ} → HasRoot w u → HasLabel w l v → ⊥
 no_label_at_root here other = let zero = here.zero in let some = other.some in omega (arith, zero, some)
 
@@ -17,7 +17,7 @@ no_pointer_at_root here other = let zero = here.zero in let mark = other.mark in
 pub no_pointer_at_label : {start to : ℕ} {w u v : Window} {l : List ℕ} → HasLabel w l u → HasPointer start w to v → ⊥
 no_pointer_at_label here other = let short = here.short in let mark = other.mark in omega (arith, short, mark)
 
--- where the root is there are no labels
+-- there are no labels at the root
 pub at_root : (start : ℕ) (w u x : Window) (labels : List (List ℕ)) (pointers : ℕ) → HasRoot w u
     → Stands start w labels pointers x
     → (labels ≡ []) × (pointers ≡ 0) × (x ≡ u)
@@ -25,7 +25,7 @@ at_root start w u x labels pointers has (Stands.root other) = (refl, refl, other
 at_root start w u x labels pointers has (Stands.label other rest) = absurd (no_label_at_root has other)
 at_root start w u x labels pointers has (Stands.pointer other rest) = absurd (no_pointer_at_root has other)
 
--- after a label the name goes on
+-- the name goes on after a label
 pub at_label : (start : ℕ) (w u x : Window) (l : List ℕ) (labels : List (List ℕ)) (pointers : ℕ) → HasLabel w l u
     → Stands start w labels pointers x
     → (more : List (List ℕ)) × (labels ≡ l ∷ more) × Stands start u more pointers x
@@ -51,7 +51,7 @@ at_pointer start w u x to labels pointers has (Stands.pointer {pointers = fewer}
   subst (λ on. Stands on (at on w) labels fewer v) (other.place ∙ sym has.place) rest,
 )
 
--- what is at a place is one
+-- at most one list of labels is at a place, with one end
 pub one_standing : (start : ℕ) (w u v : Window) (labels others : List (List ℕ)) (pointers count : ℕ)
     → Stands start w labels pointers u → Stands start w others count v
     → (labels ≡ others) × (pointers ≡ count) × (u ≡ v)
@@ -67,14 +67,14 @@ one_standing start w u v labels others pointers count
     let same = one_standing to (at to w) x on.1 labels others fewer on.0 rest on.4 in
     (same.0, ap suc same.1 ∙ sym on.2, sym on.3)
 
--- one name, with one end
+-- at most one name, with one end
 pub one_name : (w u v : Window) (labels others : List (List ℕ)) → IsName w labels u → IsName w others v
     → (labels ≡ others) × (u ≡ v)
 one_name w u v labels others name other =
     let same = one_standing w.position w u v labels others name.pointers other.pointers name.stands other.stands in
     (same.0, same.2)
 
--- equal labels are equal in one way
+-- labels are equal in at most one way
 pub one_labels : (labels others : List (List ℕ)) → IsProp (labels ≡ others)
 one_labels = Coded-set (coded_list (coded_list coded_ℕ))
 
@@ -88,7 +88,7 @@ named_once w a b = Σ_prop_path (λ labels. ∥∥₁_prop)
     (∥∥₁_elim a.1 (one_labels a.0 b.0) (λ x. ∥∥₁_elim b.1 (one_labels a.0 b.0) (λ y.
     (one_name w x.0 y.0 a.0 b.0 x.1 y.1).0)))
 
--- the labels that are at a window's position, of a part of a name that began at `start`
+-- the labels at a window's position, in a part of a name that began at `start`
 abbrev pub Ahead : ℕ → Window → Type 0
 Ahead start w = (labels : List (List ℕ)) × ∥ ((pointers : ℕ) × (end : Window) × Stands start w labels pointers end) ∥₁
 

@@ -1,4 +1,4 @@
--- How names compare. ASCII letters of either case are one: RFC 4343. The order is the canonical one: RFC 4034, 6.1.
+-- How names compare. ASCII case is ignored: RFC 4343. The order is the canonical one: RFC 4034, 6.1.
 use Rattle.std.specs.Prelude.{ℕ, Bool, nat_eq, List, [], ◌++◌, map, reverse}
 use Rattle.std.specs.Char.{to_ascii_lowercase}
 use Rattle.std.specs.Cmp.Lexicographic.{pointwise, slice_cmp}
@@ -8,11 +8,11 @@ use Rattle.std.specs.List.{flat_map}
 use Rattle.std.specs.declared.cmp.Ordering.{Ordering}
 use Rattle.std.specs.Ordering.{nat_cmp, on}
 
--- a label with small letters in the place of capital ones
+-- a label in lower case
 abbrev pub lower_label : List ℕ → List ℕ
 lower_label = map to_ascii_lowercase
 
--- so each label of a name
+-- each label of a name in lower case
 abbrev pub lower_labels : List (List ℕ) → List (List ℕ)
 lower_labels = map lower_label
 
@@ -27,15 +27,15 @@ label_eq = on lower_label (pointwise nat_eq)
 abbrev pub name_eq : List (List ℕ) → List (List ℕ) → Bool
 name_eq = on lower_labels (pointwise (pointwise nat_eq))
 
--- The order of labels is that of their octets, and that of names is that of their labels from the last one on: the
--- first two that differ decide, and a list comes before one that goes on after it.
+-- Labels are ordered by their octets, and names by their labels from the last one on: the first two that differ decide,
+-- and a list comes before a longer one that begins with it.
 abbrev pub label_cmp : List ℕ → List ℕ → Ordering
 label_cmp = on lower_label (slice_cmp nat_cmp)
 
 abbrev pub name_cmp : List (List ℕ) → List (List ℕ) → Ordering
 name_cmp = on canonical (slice_cmp (slice_cmp nat_cmp))
 
--- What a label is hashed as: a slice of octets, in lower case. A name is each label, and the root as an empty one.
+-- A label is hashed as a slice of its octets in lower case, and a name as its labels, with an empty one for the root.
 abbrev pub label_writes : List ℕ → HashWrites
 label_writes label = fed.slice fed.u8 (lower_label label)
 

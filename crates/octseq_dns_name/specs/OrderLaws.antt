@@ -1,5 +1,4 @@
--- The laws of comparisons: names are equal exactly where the order doesn't tell them apart, and equal names are hashed
--- alike.
+-- The laws of comparisons: names are equal if and only if they compare as equal, and equal names are hashed alike.
 use Rattle.std.specs.Prelude.{◌≡◌, ℕ, IsTrue, nat_eq, List, [], ◌∷◌, ◌++◌, reverse}
 use Rattle.std.proofs.Common.{refl, sym, ap, ◌∙◌}
 use Rattle.std.proofs.lemmas.List.{reverse-reverse}
@@ -13,11 +12,11 @@ use Rattle.std.specs.Ordering.{nat_cmp, is_eq}
 use Rattle.octseq_dns_name.specs.Order.{canonical, lower_label, lower_labels, label_eq, label_writes, name_eq, name_cmp}
 use Rattle.octseq_dns_name.specs.Order.{name_writes}
 
--- the tests of equal labels tell equal lists
+-- the test of equal labels decides whether lists are equal
 labels_decide : (xs ys : List (List ℕ)) → Decides (pointwise (pointwise nat_eq) xs ys) (xs ≡ ys)
 labels_decide = pointwise_decides bytes_decides
 
--- what is equal backwards is equal
+-- lists that are equal in reverse are equal
 reversed : (xs ys : List (List ℕ)) → reverse xs ≡ reverse ys → xs ≡ ys
 reversed xs ys same = sym (reverse-reverse xs) ∙ ap reverse same ∙ reverse-reverse ys
 

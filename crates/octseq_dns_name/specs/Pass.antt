@@ -1,11 +1,11 @@
--- What is passed of a name: the labels and pointers that were read, and what is ahead of them.
+-- What was passed of a name: the labels and pointers that were read, and what follows them.
 use Rattle.std.specs.Prelude.{◌≡◌, ℕ, ◌+◌, ◌-◌, ◌<◌, ◌≤◌, List, ◌++◌, length, Option, None}
 use Rattle.octseq.specs.Window.{Window, at}
 use Rattle.octseq_dns_name.specs.Name.{IsName, Stands, octet, wire_length}
 use Rattle.octseq_dns_name.specs.NameTurns.{name_turns}
 use Rattle.octseq_dns_name.specs.Piece.{end_of}
 
--- the window at a place of octets, with an end
+-- the window of octets at a place, with an end
 abbrev pub window_at : List ℕ → ℕ → ℕ → Window
 window_at octets place end = record { octets = octets; position = place; end = end }
 
@@ -13,7 +13,7 @@ window_at octets place end = record { octets = octets; position = place; end = e
 abbrev pub NoName : Window → Type 0
 NoName w = (labels : List (List ℕ)) (end : Window) → IsName w labels end → ⊥
 
--- A name at a first window is these labels and pointers, and then what is at a second one.
+-- A name at a first window is these labels and pointers, followed by what is at a second one.
 pub record GoesOn (start : ℕ) (v : Window) (labels : List (List ℕ)) (pointers : ℕ) (behind : Option Window)
     (all : List (List ℕ)) (count : ℕ) (x : Window) : Type 0 where
   pub more : List (List ℕ)
@@ -24,8 +24,8 @@ pub record GoesOn (start : ℕ) (v : Window) (labels : List (List ℕ)) (pointer
   pub pointers_are : count ≡ pointers + fewer
   pub end_is : x ≡ end_of behind u
 
--- These labels and pointers lead from a first window to a second one: a name is at the one exactly where the rest
--- of it is at the other.
+-- These labels and pointers lead from a first window to a second one: a name is at the first if and only if the rest of
+-- it is at the second.
 pub record LeadsTo (first : ℕ) (w : Window) (start : ℕ) (v : Window) (labels : List (List ℕ)) (pointers : ℕ)
     (behind : Option Window) : Type 0 where
   pub forward : (more : List (List ℕ)) (fewer : ℕ) (u : Window) → Stands start v more fewer u
@@ -33,8 +33,8 @@ pub record LeadsTo (first : ℕ) (w : Window) (start : ℕ) (v : Window) (labels
   pub backward : (all : List (List ℕ)) (count : ℕ) (x : Window) → Stands first w all count x
       → GoesOn start v labels pointers behind all count x
 
--- What was read so far of the name at a window: its labels, with their wire length, and how many pointers led on. There
--- was a turn for each.
+-- What was read so far of the name at a window: its labels, their wire length, and the number of pointers. There was a
+-- turn for each.
 pub record Reading (w : Window) (start : ℕ) (v : Window) (size pointers : ℕ) (behind : Option Window) (old new : ℕ)
     : Type 0 where
   pub labels : List (List ℕ)
@@ -42,7 +42,7 @@ pub record Reading (w : Window) (start : ℕ) (v : Window) (size pointers : ℕ)
   pub size_is : size ≡ wire_length labels
   pub counted : new ≡ old + (length labels + pointers)
 
--- The labels at a window's position were passed, up to an octet that is no label's length. They are short enough.
+-- The labels at a window's position were passed, up to an octet that isn't a label's length. They are short enough.
 pub record PassesLabels (w : Window) (place old new : ℕ) : Type 0 where
   pub reading : Reading w w.position (at place w) (place + 1 - w.position) 0 None old new
   pub ordered : w.position ≤ place
@@ -51,8 +51,8 @@ pub record PassesLabels (w : Window) (place old new : ℕ) : Type 0 where
   pub few : new + new + w.position ≤ old + old + place
   pub other : (1 ≤ octet (at place w)) → 63 < octet (at place w)
 
--- The rest of a name is at a window's position, where its first pointer leads: so many octets of it are before, and so
--- many it has.
+-- The rest of a name is at a window's position, where its first pointer leads. The name has `len` octets in wire form:
+-- `before` of them, the root's one included, are before the rest.
 pub record Rests (w : Window) (before len old new : ℕ) : Type 0 where
   pub labels : List (List ℕ)
   pub pointers : ℕ
@@ -63,12 +63,12 @@ pub record Rests (w : Window) (before len old new : ℕ) : Type 0 where
   pub few : pointers ≤ 126
   pub counted : new ≡ old + (length labels + pointers)
 
--- the rest of no name is
+-- no rest of a name is at a window's position
 abbrev pub NoRest : Window → ℕ → Type 0
 NoRest w before = (labels : List (List ℕ)) (pointers : ℕ) (end : Window) → Stands w.position w labels pointers end
     → before + wire_length labels ≤ 256 → pointers ≤ 126 → ⊥
 
--- The name at a window's position ends at a place, and has so many octets. A count rose by its turns.
+-- The name at a window's position ends at `place`, and has `len` octets in wire form. A count rose by its turns.
 pub record Ends (w : Window) (place len old new : ℕ) : Type 0 where
   pub labels : List (List ℕ)
   pub name : IsName w labels (at place w)

@@ -1,4 +1,4 @@
--- What the readers of a name share: the piece that is at a place, and where the name ends.
+-- What the readers of a name share: the piece at a place, and where the name ends.
 use Rattle.std.specs.Prelude.{◌≡◌, ℕ, ◌≤◌, List, Option, Some, None}
 use Rattle.octseq.specs.declared.AsOctets.{Ghosts}
 use Rattle.octseq.specs.Parser.{window}
@@ -9,7 +9,7 @@ use Rattle.octseq_dns_name.specs.Name.{HasRoot, HasLabel, HasPointer}
 use Rattle.octseq_dns_name.specs.declared.name.step.Step.{Step}
 use Rattle.octseq_dns_name.specs.declared.name.step.Step.TheVariants as step
 
--- one of the three things that may be at a place of a name
+-- one of the three pieces that may be at a place of a name
 pub data Piece : Type 0 where
   root : Piece
   label : List ℕ → Piece
@@ -31,7 +31,7 @@ piece (step.Pointer to) = Piece.pointer to
 abbrev pub IsShort : {R : Type 0} {g : Ghosts R} → Parser R g → Type 0
 IsShort parser = (1 ≤ left (window parser)) × (left (window parser) ≤ 63)
 
--- a label that was taken is one
+-- a label that was taken has 1 to 63 octets
 abbrev pub IsShortLabel : {R : Type 0} {g : Ghosts R} → Step R g → Type 0
 IsShortLabel (step.Label l) = IsShort l
 IsShortLabel _ = Unit {0}
@@ -46,7 +46,7 @@ abbrev pub end_of : Option Window → Window → Window
 end_of None u = u
 end_of (Some v) u = v
 
--- the window at a place that was kept, if one was
+-- the window at a place, if one was kept
 abbrev pub kept_at : Window → Option ℕ → Option Window
 kept_at w None = None
 kept_at w (Some place) = Some (at place w)

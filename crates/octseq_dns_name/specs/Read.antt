@@ -16,11 +16,11 @@ labels_of name = name.named.0
 abbrev pub place_of : {R : Type 0} {g : Ghosts R} → ParsedName R g → Window
 place_of name = window name.parser
 
--- both
+-- its place and its labels
 abbrev pub name_of : {R : Type 0} {g : Ghosts R} → ParsedName R g → Name
 name_of name = record { place = place_of name; labels = labels_of name }
 
--- the labels that an iterator has left
+-- the labels that are left
 abbrev pub labels_left : {R : Type 0} {g : Ghosts R} → Labels R g → List (List ℕ)
 labels_left labels = labels.ahead.0
 

@@ -1,34 +1,34 @@
--- Why a text is refused as that of a name. It is read from the left, and the first thing wrong decides.
+-- Why a text is refused as a name. It is read from the left, and the first fault decides.
 use Rattle.std.specs.Prelude.{◌≡◌, ◌⊎◌, ℕ, ◌<◌, ◌≤◌, List, [], ◌∷◌, ◌++◌, length}
 use Rattle.octseq_dns_name.specs.Name.{wire_length}
 use Rattle.octseq_dns_name.specs.Spelling.{SpellsOctet, SpellsLabel, SpellsLabels}
 use Rattle.octseq_dns_name.specs.Wire.{AreLabels}
 use Rattle.octseq_dns_name.specs.declared.error.FromTextError.{FromTextError}
 
--- the octets of a label, or of a part of it, are spelled at a text's front, and this is after them
+-- a text begins with the spelling of a label, or of a part of it, followed by `rest`
 abbrev pub Reads : List ℕ → List ℕ → List ℕ → Type 0
 Reads text label rest = (first : List ℕ) × (text ≡ first ++ rest) × SpellsLabel label first
 
--- whole labels are, each with the full stop after it, of no more octets than a name may have
+-- a text begins with whole labels, each followed by a full stop, of no more octets than a name may have
 abbrev pub ReadsLabels : List ℕ → List (List ℕ) → List ℕ → Type 0
 ReadsLabels text labels rest =
     (first : List ℕ) × (text ≡ first ++ rest) × SpellsLabels labels first × AreLabels labels
     × (wire_length labels ≤ 255)
 
--- no octet is spelled at a text's front
+-- a text doesn't begin with the spelling of an octet
 abbrev pub SpellsNone : List ℕ → Type 0
 SpellsNone text = (octet : ℕ) (first rest : List ℕ) → text ≡ first ++ rest → ¬ SpellsOctet octet first
 
--- what such a text begins with, where an octet of a label was to come
+-- what such a text begins with, if an octet of a label is to come next
 abbrev pub BeginsWith : FromTextError → List ℕ → Type 0
 BeginsWith FromTextError.UnexpectedEnd text = text ≡ []
 BeginsWith FromTextError.IllegalEscape text = (rest : List ℕ) × (text ≡ 92 ∷ rest)
 BeginsWith FromTextError.IllegalOctet text = (octet : ℕ) × (rest : List ℕ) × (text ≡ octet ∷ rest) × ¬ (octet ≡ 92)
 BeginsWith _ text = ⊥
 
--- What is wrong with the label that comes after whole ones, in the rest of the text. The text ends within it, or there
--- is no text; a full stop (46) is at its front; a 64th octet belongs to it; the name has more than 255 octets with it;
--- a backslash (92) spells no octet; or another octet of the text doesn't.
+-- What is wrong with the label after whole ones, in the rest of the text: the text ends in it, or is empty; it has a
+-- full stop (46) at its front; it has a 64th octet; the name has more than 255 octets with it; a backslash (92) spells
+-- no octet; or another octet of the text spells none.
 abbrev pub IsFault : FromTextError → List (List ℕ) → List ℕ → Type 0
 IsFault FromTextError.UnexpectedEnd labels text =
     (label : List ℕ) × Reads text label [] × (length label ≤ 63) × ((labels ≡ []) ⊎ (1 ≤ length label))
@@ -43,7 +43,7 @@ IsFault FromTextError.IllegalOctet labels text =
     (octet : ℕ) × (label rest : List ℕ) × Reads text label (octet ∷ rest) × (length label ≤ 63)
     × ¬ (octet ≡ 46) × ¬ (octet ≡ 92) × SpellsNone (octet ∷ rest)
 
--- Whole labels are at a text's front, and this is wrong after them. The full stop of the root is a name.
+-- A text begins with whole labels, and this is wrong after them. The full stop of the root is a name.
 abbrev pub IsRefused : FromTextError → List ℕ → Type 0
 IsRefused fault text =
     ¬ (text ≡ 46 ∷ []) × (labels : List (List ℕ)) × (rest : List ℕ) × ReadsLabels text labels rest

@@ -3,7 +3,7 @@ use Rattle.std.specs.Prelude.{ℕ, ◌+◌, ◌/◌, ◌%◌, Bool, if◌then◌
 use Rattle.std.specs.Char.{char_set_contains, is_ascii_graphic}
 use Rattle.std.specs.List.{flat_map}
 
--- whether a backslash is before the octet
+-- whether an octet is written after a backslash, as itself
 abbrev pub is_quoted : ℕ → Bool
 is_quoted = char_set_contains (codes "\"().;\\@$")
 
@@ -11,7 +11,7 @@ is_quoted = char_set_contains (codes "\"().;\\@$")
 abbrev pub three_digits : ℕ → List ℕ
 three_digits n = (48 + n / 100) ∷ (48 + n / 10 % 10) ∷ (48 + n % 10) ∷ []
 
--- An octet: after a backslash, as itself where it is visible ASCII, or as a backslash (92) and its number.
+-- An octet: after a backslash, as itself if it is visible ASCII, or as a backslash (92) and its number.
 abbrev pub octet_text : ℕ → List ℕ
 octet_text octet = if is_quoted octet then 92 ∷ octet ∷ [] else
     (if is_ascii_graphic octet then octet ∷ [] else 92 ∷ three_digits octet)
@@ -20,7 +20,7 @@ octet_text octet = if is_quoted octet then 92 ∷ octet ∷ [] else
 abbrev pub label_text : List ℕ → List ℕ
 label_text = flat_map octet_text
 
--- each label, and a full stop (46) after it
+-- each label, followed by a full stop (46)
 abbrev pub labels_text : List (List ℕ) → List ℕ
 labels_text = flat_map (λ label. label_text label ++ 46 ∷ [])
 

@@ -1,4 +1,4 @@
--- Names in plain wire form, with no pointers: RFC 1035, 3.1.
+-- Names in plain wire form, without pointers: RFC 1035, 3.1.
 use Rattle.std.specs.Prelude.{ℕ, ◌≤◌, List, [], ◌∷◌, ◌++◌, length}
 use Rattle.std.specs.List.{flat_map}
 
@@ -6,7 +6,7 @@ use Rattle.std.specs.List.{flat_map}
 abbrev pub wire : List (List ℕ) → List ℕ
 wire labels = flat_map (λ label. length label ∷ label) labels ++ 0 ∷ []
 
--- labels may have 1 to 63 octets
+-- labels have 1 to 63 octets each
 abbrev pub AreLabels : List (List ℕ) → Type 0
 AreLabels [] = Unit {0}
 AreLabels (label ∷ labels) = (1 ≤ length label) × (length label ≤ 63) × AreLabels labels

@@ -1,4 +1,4 @@
-//! Why octets were not read.
+//! Errors: why a name was not read or made.
 ghost use Rattle.std.specs.Prelude.{◌≡◌, Some, codes};
 
 pub use octseq::error::Malformed;
@@ -6,21 +6,20 @@ use std::alloc::AllocError;
 use std::error::Error;
 use std::fmt;
 
-/// Why a text spells no name. It is read from the left, and the first thing wrong decides.
+/// Why a text doesn't spell a name. It is read from the left, and the first fault decides.
 #[derive(Clone, Copy, Debug, PartialEq, Eq)]
 pub enum FromTextError {
     /// The text ends without a full stop, or is empty.
     UnexpectedEnd,
-    /// A label has no octet.
+    /// A label is empty.
     EmptyLabel,
     /// A label has more than 63 octets.
     LongLabel,
     /// The name has more than 255 octets in wire form.
     LongName,
-    /// A backslash is the last octet of the text, or no number of three digits up to 255 follows it though a
-    /// digit does.
+    /// A backslash is the last octet of the text, or a digit follows it, but not three digits of a number up to 255.
     IllegalEscape,
-    /// An octet is in the text that has to be after a backslash, or isn't visible ASCII.
+    /// An octet isn't visible ASCII, or needs a backslash before it.
     IllegalOctet,
 }
 
@@ -43,10 +42,10 @@ impl fmt::Display for FromTextError {
     }
 }
 
-/// Why no name was made of labels.
+/// Why a name was not made from labels.
 #[derive(Clone, Copy, Debug, PartialEq, Eq)]
 pub enum FromLabelsError {
-    /// A label has no octet.
+    /// A label is empty.
     EmptyLabel,
     /// A label has more than 63 octets.
     LongLabel,

@@ -1,7 +1,7 @@
-//! Domain names: where they are in a message, as values that own their octets, and as text.
+//! Domain names: in a message, as values that own their octets, and as text.
 //!
-//! A name of a message is its place there, with its compression pointers. Nothing is copied but into a
-//! name that owns its octets.
+//! A name of a message is its place there, compression pointers included. Octets are copied only into a name that owns
+//! them.
 #![tactic(auto)]
 
 pub mod error;

@@ -34,25 +34,25 @@ pub use crate::name::text::{
     one_name_of_a_text_with_origin,
 };
 
-/// How many octets a name may have in wire form: RFC 1035, 2.3.4.
+/// The maximum number of octets of a name in wire form: RFC 1035, 2.3.4.
 pub const NAME_MAX: usize = 255;
 
-/// How many pointers a name may have. No RFC has a limit; a name without pointers has at most 127 labels.
+/// The maximum number of pointers of a name. No RFC sets one; a name without pointers has at most 127 labels.
 pub const POINTER_MAX: usize = 127;
 
 /// At most one name is at a place, with one end.
 ///
-/// It does nothing. A caller that calls it has the law in its proof.
+/// It does nothing. Calling it brings the law into the caller's proof.
 pub fn one_name_at_a_place()
     ensures { (w end last : Window) (labels others : List (List ℕ)) → IsName w labels end → IsName w others last
         → (labels ≡ others) × (end ≡ last) }
 {}
 
-/// A name in a message: the place where it is, as a parser of the message. It copies no octet.
+/// A name in a message: a parser of the message at the name's place. No octet is copied.
 #[derive(Debug)]
 pub struct ParsedName<R: AsOctets> {
     parser: Parser<R>,
-    // How many octets it has in wire form, where that was counted.
+    // The number of octets in wire form, if it was counted.
     len: Option<usize>,
     ghost named: { Named (window parser) } by { named_once (window parser) },
     ghost measured: { IfSome len (λ len. len ≡ wire_length named.0) } by { Prim.hlevel props },
@@ -79,11 +79,11 @@ impl<R: AsOctets + Copy> ParsedName<R> {
     ghost use Rattle.octseq_dns_name.specs.NextLabel.{ahead_of};
     ghost use Rattle.octseq_dns_name.specs.Read.{place_of, labels_of, labels_left};
 
-    /// Takes the next name of a message. The parser is then after it: after its first pointer, if it has one.
+    /// Reads the next name of a message. The parser is then after it: after its first pointer, if it has one.
     ///
     /// # Errors
     ///
-    /// `Malformed` where no name comes next. The parser is then as it was.
+    /// `Malformed` if no name comes next. The parser is then unchanged.
     ///
     /// # Examples
     ///
@@ -104,7 +104,7 @@ impl<R: AsOctets + Copy> ParsedName<R> {
         ParsedName::parse_counted(parser, &mut Turns::new())
     }
 
-    /// Takes the next name as [`parse`](Self::parse), and counts a turn for the root, for each label and for each
+    /// Reads the next name as [`parse`](Self::parse) does, and counts a turn for the root, for each label and for each
     /// pointer.
     ///
     /// # Errors
@@ -138,8 +138,8 @@ impl<R: AsOctets + Copy> ParsedName<R> {
         Ok(name)
     }
 
-    /// Takes the next name of a message where a name is known to be, as in a message that was checked. The parser is
-    /// then where [`parse`](Self::parse) leaves it, but no pointer was followed.
+    /// Reads the next name of a message in which a name is known to be there, as in a checked message. The parser is
+    /// then where [`parse`](Self::parse) leaves it, but no pointer is followed.
     #[inline(always)]
     pub fn parse_known(parser: &mut Parser<R>) -> ParsedName<R>
         requires { Named (window parser.old) }
@@ -155,14 +155,14 @@ impl<R: AsOctets + Copy> ParsedName<R> {
         name
     }
 
-    /// The parser of the message, at the name's place.
+    /// Returns a parser of the message, at the name's place.
     pub fn parser(&self) -> Parser<R>
         ensures { window result ≡ place_of self.now }
     {
         self.parser
     }
 
-    /// Its labels, from the first one on.
+    /// Returns an iterator over the labels, from the first one on.
     pub fn labels(&self) -> Labels<R>
         ensures labels { labels_left result ≡ labels_of self.now }
         ensures ahead { ahead_of result ≡ place_of self.now }
@@ -170,14 +170,14 @@ impl<R: AsOctets + Copy> ParsedName<R> {
         Labels::at(self.parser)
     }
 
-    /// How many labels it has, the root left out.
+    /// Returns the number of labels, without the root.
     pub fn label_count(&self) -> usize
         ensures { result ≡ length (labels_of self.now) }
     {
         self.labels().count()
     }
 
-    /// How many octets it has in wire form: each label after its length, and one octet for the root.
+    /// Returns the number of octets in wire form: each label after its length, and one octet for the root.
     pub fn len(&self) -> usize
         ensures len { result ≡ wire_length (labels_of self.now) }
         ensures most { result ≤ 255 }
@@ -188,7 +188,7 @@ impl<R: AsOctets + Copy> ParsedName<R> {
         }
     }
 
-    /// Whether it is the root, which has no label.
+    /// Whether it is the root, which has no labels.
     pub fn is_root(&self) -> bool
         ensures { IsTrue result ↔ (labels_of self.now ≡ []) }
     {

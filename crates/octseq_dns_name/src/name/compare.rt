@@ -1,4 +1,4 @@
-//! Names and labels compared, with ASCII letters of either case as one: RFC 4343.
+//! Comparisons of names and labels, which ignore ASCII case: RFC 4343.
 ghost use Rattle.std.specs.Prelude.{◌≡◌, ◌↔◌, ◌≤◌, length, drop, IsTrue};
 ghost use Rattle.std.specs.Cmp.{on_equiv, on_total, partial_equiv_from_equiv};
 ghost use Rattle.std.specs.Cmp.{partial_order_from_own_ties, partial_order_from_total};
@@ -16,14 +16,14 @@ use std::cmp::Ordering;
 use std::hash::{Hash, Hasher};
 
 impl<R: AsOctets> Label<R> {
-    /// Whether it equals another label.
+    /// Whether it equals another label, ignoring ASCII case.
     pub fn label_eq<S: AsOctets>(&self, other: &Label<S>) -> bool
         ensures { IsTrue result ↔ (lower_label (label_octets self.now) ≡ lower_label (label_octets other.now)) }
     {
         self.as_slice().eq_ignore_ascii_case(other.as_slice())
     }
 
-    /// How it compares with another label, by its octets in lower case.
+    /// Compares it with another label by the octets in lower case.
     pub fn label_cmp<S: AsOctets>(&self, other: &Label<S>) -> Ordering
         ensures { result ≡ label_cmp (label_octets self.now) (label_octets other.now) }
     {
@@ -31,7 +31,7 @@ impl<R: AsOctets> Label<R> {
     }
 }
 
-/// How octets compare in lower case.
+/// Compares octets in lower case.
 fn lowercase_cmp(one: &[u8], other: &[u8]) -> Ordering
     ensures { result ≡ label_cmp one.now other.now }
 {
@@ -98,15 +98,15 @@ impl<R: AsOctets> Hash for Label<R> {
 }
 
 impl<R: AsOctets + Copy> ParsedName<R> {
-    /// Whether it equals another name, label by label.
+    /// Whether it equals another name, label by label, ignoring ASCII case.
     pub fn name_eq<S: AsOctets + Copy>(&self, other: &ParsedName<S>) -> bool
         ensures { IsTrue result ↔ (lower_labels (labels_of self.now) ≡ lower_labels (labels_of other.now)) }
     {
         labels_eq(self.labels(), other.labels())
     }
 
-    /// How it compares with another name in the canonical order: RFC 4034, 6.1. The last labels that differ decide,
-    /// and a name comes before one with further labels before its own.
+    /// Compares it with another name in the canonical order: RFC 4034, 6.1. The last labels that differ decide, and a
+    /// name comes before the names below it.
     pub fn name_cmp<S: AsOctets + Copy>(&self, other: &ParsedName<S>) -> Ordering
         ensures { result ≡ name_cmp (labels_of self.now) (labels_of other.now) }
     {
@@ -117,7 +117,7 @@ impl<R: AsOctets + Copy> ParsedName<R> {
     }
 }
 
-/// Whether labels equal others.
+/// Whether labels equal others, ignoring ASCII case.
 pub(crate) fn labels_eq<R: AsOctets + Copy, S: AsOctets + Copy>(
     labels: Labels<R>,
     others: Labels<S>,
@@ -138,7 +138,7 @@ pub(crate) fn labels_eq<R: AsOctets + Copy, S: AsOctets + Copy>(
     ahead.next().is_none()
 }
 
-/// Labels without the first ones of them.
+/// Returns the labels without the first `count` ones.
 pub(crate) fn passed<R: AsOctets + Copy>(labels: Labels<R>, count: usize) -> Labels<R>
     ensures { labels_left result ≡ drop count (labels_left labels) }
 {
@@ -149,7 +149,7 @@ pub(crate) fn passed<R: AsOctets + Copy>(labels: Labels<R>, count: usize) -> Lab
     ahead
 }
 
-/// How labels compare with as many others from the last one on.
+/// Compares labels with as many others, from the last one on.
 fn labels_cmp<R: AsOctets + Copy, S: AsOctets + Copy>(
     labels: Labels<R>,
     others: Labels<S>,

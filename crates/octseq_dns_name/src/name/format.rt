@@ -16,7 +16,7 @@ use octseq::{Array, AsOctets, OctetsBuilder, Parser, Truncate, Turns};
 use octseq_format::{Delimited, Format, Moving};
 use std::alloc::AllocError;
 
-/// A domain name, with its compression pointers where it is read, and plain where it is written.
+/// A domain name: read with its compression pointers, and written without any.
 #[derive(Debug)]
 pub struct DomainName;
 

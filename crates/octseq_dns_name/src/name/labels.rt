@@ -1,4 +1,4 @@
-//! The labels of a name, one at a time.
+//! The labels of a name.
 ghost use Rattle.std.specs.Prelude.{◌≡◌, ◌≤◌, ⊤};
 ghost use Rattle.octseq.specs.Parser.{window};
 ghost use Rattle.octseq.specs.Window.{left};
@@ -9,7 +9,7 @@ use crate::name::step::next_label;
 use octseq::{AsOctets, Parser};
 use std::alloc::AllocError;
 
-/// A label of a name: 1 to 63 octets of a message, where they are.
+/// A label of a name: 1 to 63 octets, where they are in the message.
 #[derive(Debug)]
 pub struct Label<R: AsOctets> {
     parser: Parser<R>,
@@ -33,7 +33,7 @@ impl<R: AsOctets> Label<R> {
     ghost use Rattle.std.specs.Prelude.{length};
     ghost use Rattle.octseq_dns_name.specs.Read.{label_place, label_octets};
 
-    /// Its octets.
+    /// Returns the octets.
     pub fn as_slice(&self) -> &[u8]
         ensures octets { result.now ≡ label_octets self.now }
         ensures some { 1 ≤ length result.now }
@@ -42,14 +42,14 @@ impl<R: AsOctets> Label<R> {
         self.parser.peek_all()
     }
 
-    /// How many octets it has.
+    /// Returns the number of octets.
     pub fn len(&self) -> usize
         ensures { result ≡ length (label_octets self.now) }
     {
         self.parser.remaining()
     }
 
-    /// The place of its first octet, counted from the first octet of the message.
+    /// Returns the place of the first octet, counted from the first octet of the message.
     pub fn pos(&self) -> usize
         ensures { result ≡ (label_place self.now).position }
     {
@@ -57,7 +57,7 @@ impl<R: AsOctets> Label<R> {
     }
 }
 
-/// The labels that a name has left, from the first one on.
+/// An iterator over the labels of a name, from the first one on.
 #[derive(Debug)]
 pub struct Labels<R: AsOctets> {
     parser: Parser<R>,
@@ -83,7 +83,7 @@ impl<R: AsOctets + Copy> Labels<R> {
     ghost use Rattle.octseq_dns_name.specs.NextLabel.{ahead_of};
     ghost use Rattle.octseq_dns_name.specs.Read.{labels_left};
 
-    /// The labels of the name that is at the position of a parser.
+    /// Returns the labels of the name at a parser's position.
     pub(crate) fn at(parser: Parser<R>) -> Labels<R>
         requires { Named (window parser) }
         ensures labels { (named : Named (window parser)) → labels_left result ≡ named.0 }

@@ -16,7 +16,7 @@ mod compare;
 mod read;
 mod relatives;
 
-/// A name that owns its octets: its plain wire form, with no pointers, in a builder.
+/// A name that owns its octets: its plain wire form, without pointers, in a builder.
 #[derive(Debug, Drop)]
 pub struct Name<B: AsOctets> {
     octets: B,
@@ -28,7 +28,7 @@ impl<B: AsOctets> Name<B> {
     ghost use Rattle.octseq_dns_name.specs.Owned.{owned_labels};
     ghost use Rattle.octseq_dns_name.specs.Read.{labels_of, labels_left};
 
-    /// The name as one that was read from its own octets.
+    /// Returns the name as one that was read from its own octets.
     pub fn parsed(&self) -> ParsedName<&[u8]>
         ensures { labels_of result ≡ owned_labels self.now }
     {
@@ -39,21 +39,21 @@ impl<B: AsOctets> Name<B> {
         }
     }
 
-    /// Its labels, from the first one on.
+    /// Returns an iterator over the labels, from the first one on.
     pub fn labels(&self) -> Labels<&[u8]>
         ensures { labels_left result ≡ owned_labels self.now }
     {
         self.parsed().labels()
     }
 
-    /// Its octets in plain wire form: each label after its length, and the root.
+    /// Returns the plain wire form: each label after its length, and the root.
     pub fn as_slice(&self) -> &[u8]
         ensures { result.now ≡ wire (owned_labels self.now) }
     {
         self.octets.as_ref()
     }
 
-    /// How many octets it has in wire form.
+    /// Returns the number of octets in wire form.
     pub fn len(&self) -> usize
         ensures len { result ≡ wire_length (owned_labels self.now) }
         ensures most { result ≤ 255 }
@@ -61,28 +61,28 @@ impl<B: AsOctets> Name<B> {
         self.parsed().len()
     }
 
-    /// How many labels it has, the root left out.
+    /// Returns the number of labels, without the root.
     pub fn label_count(&self) -> usize
         ensures { result ≡ length (owned_labels self.now) }
     {
         self.parsed().label_count()
     }
 
-    /// Whether it is the root, which has no label.
+    /// Whether it is the root, which has no labels.
     pub fn is_root(&self) -> bool
         ensures { IsTrue result ↔ (owned_labels self.now ≡ []) }
     {
         self.parsed().is_root()
     }
 
-    /// Gives back the builder, with the plain wire form.
+    /// Returns the builder, which holds the plain wire form.
     pub fn into_octets(self) -> B
         ensures { B.content result ≡ wire (owned_labels self) }
     {
         self.octets
     }
 
-    /// A copy of a name whose wire form is within the limit.
+    /// Copies a name whose wire form is within the limit.
     fn copied<R: AsOctets + Copy>(
         alloc: Global,
         name: &ParsedName<R>,
@@ -103,12 +103,12 @@ impl<R: AsOctets + Copy> ParsedName<R> {
     ghost use Rattle.octseq_dns_name.specs.Owned.{owned_labels};
     ghost use Rattle.octseq_dns_name.specs.Read.{labels_of};
 
-    /// A copy of the name that owns its octets.
+    /// Returns a copy of the name that owns its octets.
     ///
     /// # Errors
     ///
-    /// `Short` where the wire form passes the limit of the builder's type, and else `Memory` where a request for
-    /// memory was refused.
+    /// `Short` if the wire form passes the limit of the builder's type, otherwise `Memory` if a request for memory was
+    /// refused.
     pub fn try_to_name<B: EmptyBuilder>(&self, alloc: Global) -> Result<Name<B>, AppendError>
         ensures ok { IfOk result (λ name. owned_labels name ≡ labels_of self.now) }
         ensures short { IsShort append_error result ↔ IsPast B.limit (wire_length (labels_of self.now)) }

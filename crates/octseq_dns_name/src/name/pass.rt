@@ -1,4 +1,4 @@
-//! Where the name at a place ends: its labels are passed, and then what its first pointer leads to.
+//! The end of the name at a place: its labels are passed, and then what its first pointer leads to.
 ghost use Rattle.std.specs.Prelude.{◌≡◌, ◌+◌, ◌<◌, ◌≤◌, ℕ, length, IsNone, IfSome};
 ghost use Rattle.octseq.specs.Window.{Window};
 ghost use Rattle.octseq_dns_name.specs.Name.{HasPointer};
@@ -8,8 +8,8 @@ use crate::name::wire::LABEL_MAX;
 use crate::name::{NAME_MAX, POINTER_MAX};
 use octseq::Turns;
 
-/// Where the name at a place ends, and how many octets it has in wire form. It counts a turn for the root, for each
-/// label and for each pointer.
+/// Returns where the name at a place ends, and its number of octets in wire form. It counts a turn for the root, for
+/// each label and for each pointer.
 #[inline(always)]
 pub(crate) fn name_end(
     octets: &[u8],
@@ -37,7 +37,8 @@ pub(crate) fn name_end(
     Some((at + 2, len))
 }
 
-/// Passes the labels at a place: where the first octet is that is no label's length, unless the name is too long.
+/// Passes the labels at a place. Returns the place of the first octet that isn't a label's length, or `None` if there
+/// is no name: the labels reach the end, or are too long.
 #[inline(always)]
 fn pass_labels(octets: &[u8], place: usize, end: usize, turns: &mut Turns) -> Option<usize>
     requires ordered { place ≤ end }
@@ -60,7 +61,7 @@ fn pass_labels(octets: &[u8], place: usize, end: usize, turns: &mut Turns) -> Op
     None
 }
 
-/// Where the pointer at a place leads, if one is there that leads before `start`.
+/// Returns where the pointer at `at` leads, if there is one that leads before `start`.
 #[inline(always)]
 fn pointer_at(octets: &[u8], at: usize, end: usize, start: usize) -> Option<usize>
     requires ordered { at < end }
@@ -83,8 +84,8 @@ fn pointer_at(octets: &[u8], at: usize, end: usize, start: usize) -> Option<usiz
     Some(to)
 }
 
-/// Passes the rest of a name, from where its first pointer leads on: how many octets the name has in wire form. So many
-/// of them are before the rest, the root's one counted.
+/// Passes the rest of a name, from where its first pointer leads. Returns the number of octets of the name in wire
+/// form, given the number before the rest, the root's one included.
 #[inline(always)]
 fn pass_rest(
     octets: &[u8],

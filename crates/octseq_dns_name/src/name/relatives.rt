@@ -1,4 +1,4 @@
-//! Names beside others: the parent of a name, the names that it ends with, and those that it begins with.
+//! Relations between names: the parent of a name, the names that it ends with, and those that it begins with.
 ghost use Rattle.std.specs.Prelude.{◌≡◌, ◌≤◌, ◌↔◌, ⊤, [], length, drop, IsTrue, IsNone, IfSome};
 ghost use Rattle.octseq_dns_name.specs.Read.{labels_of, labels_left, place_of};
 ghost use Rattle.octseq_dns_name.specs.Relatives.{EndsWith, StartsWith, FirstEndsAt, suffixes};
@@ -12,7 +12,8 @@ use std::alloc::AllocError;
 impl<R: AsOctets + Copy> ParsedName<R> {
     ghost use Rattle.octseq_dns_name.specs.Suffixes.{suffixes_left};
 
-    /// The name without its first label, or `None` of the root. It is in the same octets: where the first label ends.
+    /// Returns the name without its first label, or `None` for the root. It is in the same octets, where the first
+    /// label ends.
     pub fn parent(&self) -> Option<ParsedName<R>>
         ensures root { IsNone result ↔ (labels_of self.now ≡ []) }
         ensures labels { IfSome result (λ parent. labels_of parent ≡ drop 1 (labels_of self.now)) }
@@ -24,7 +25,7 @@ impl<R: AsOctets + Copy> ParsedName<R> {
         Some(ParsedName { parser, len: None })
     }
 
-    /// The name, its parent, and so on to the root: at most 128 names.
+    /// Returns an iterator over the name, its parent, and so on to the root: at most 128 names.
     pub fn iter_suffixes(&self) -> Suffixes<R>
         ensures suffixes { suffixes_left result ≡ suffixes (labels_of self.now) }
         ensures most { length (suffixes_left result) ≤ 128 }
@@ -33,7 +34,7 @@ impl<R: AsOctets + Copy> ParsedName<R> {
         Suffixes { name: Some(*self) }
     }
 
-    /// Whether its last labels are those of another name, as those of the root always are.
+    /// Whether its last labels are those of `base`, ignoring ASCII case. Every name ends with the root.
     pub fn ends_with<S: AsOctets + Copy>(&self, base: &ParsedName<S>) -> bool
         ensures { IsTrue result ↔ EndsWith (labels_of self.now) (labels_of base.now) }
     {
@@ -44,7 +45,8 @@ impl<R: AsOctets + Copy> ParsedName<R> {
         labels_eq(passed(self.labels(), count - others), base.labels())
     }
 
-    /// Whether its first labels are those of another name. The root of the other, which is no label, is left aside.
+    /// Whether its first labels are those of `base`, ignoring ASCII case. The root of `base`, which isn't a label,
+    /// doesn't count.
     pub fn starts_with<S: AsOctets + Copy>(&self, base: &ParsedName<S>) -> bool
         ensures { IsTrue result ↔ StartsWith (labels_of self.now) (labels_of base.now) }
     {
@@ -52,7 +54,7 @@ impl<R: AsOctets + Copy> ParsedName<R> {
     }
 }
 
-/// Whether the first labels are others.
+/// Whether labels begin with others, ignoring ASCII case.
 fn labels_start_with<R: AsOctets + Copy, S: AsOctets + Copy>(
     labels: Labels<R>,
     others: Labels<S>,
@@ -73,7 +75,7 @@ fn labels_start_with<R: AsOctets + Copy, S: AsOctets + Copy>(
     true
 }
 
-/// A name, its parent, and so on to the root, one at a time.
+/// An iterator over a name, its parent, and so on to the root.
 #[derive(Debug)]
 pub struct Suffixes<R: AsOctets> {
     name: Option<ParsedName<R>>,

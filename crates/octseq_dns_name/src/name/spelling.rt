@@ -18,7 +18,7 @@ use crate::name::wire::{
 use octseq::builder::infallible;
 use octseq::{Array, AsOctets, OctetsBuilder};
 
-/// The plain wire form of the name that a text spells.
+/// Returns the plain wire form of the name that a text spells.
 pub(crate) fn wire_of(text: &[u8]) -> Result<Array<255>, FromTextError>
     ensures ok { IfOk result (λ octets. (labels : List (List ℕ)) × (octets.content ≡ wire labels)
         × AreLabels labels × (wire_length labels ≤ 255) × SpellsName labels text.now) }
@@ -44,7 +44,7 @@ pub(crate) fn wire_of(text: &[u8]) -> Result<Array<255>, FromTextError>
     Ok(with_root(octets))
 }
 
-/// The plain wire form of the name that a text spells with an origin.
+/// Returns the plain wire form of the name that a text spells with an origin.
 pub(crate) fn wire_with_origin<R: AsOctets + Copy>(
     text: &[u8],
     origin: &ParsedName<R>,
@@ -92,8 +92,8 @@ pub(crate) fn next_label(text: &[u8]) -> Result<(Array<63>, &[u8]), FromTextErro
     }
 }
 
-/// Takes a label from the front of a text, and the full stop after it, with what is after that; or with nothing where
-/// the text ends with the label.
+/// Takes a label from the front of a text, and the full stop after it. Returns the label with what follows the full
+/// stop, or with `None` if the text ends with the label.
 fn next_part(text: &[u8]) -> Result<(Array<63>, Option<&[u8]>), FromTextError>
     requires { 1 ≤ length text.now }
     ensures ok { IfOk result (λ taken. MatchOption taken.1 (Reads text.now taken.0.content [])
@@ -143,7 +143,7 @@ fn next_octet(text: &[u8]) -> Result<(u8, &[u8]), FromTextError>
     Ok((*first, rest))
 }
 
-/// Takes what is after the backslash of an octet from the front of a text.
+/// Takes what follows the backslash of an octet from the front of a text.
 fn next_escaped(text: &[u8]) -> Option<(u8, &[u8])>
     ensures some { IfSome result (λ taken. (first : List ℕ) × (text.now ≡ first ++ taken.1.now)
         × SpellsOctet taken.0 (92 ∷ first)) }
@@ -156,7 +156,7 @@ fn next_escaped(text: &[u8]) -> Option<(u8, &[u8])>
     next_number(text)
 }
 
-/// Takes a number of three decimal digits, of 255 at most, from the front of a text.
+/// Takes a number up to 255, in three decimal digits, from the front of a text.
 fn next_number(text: &[u8]) -> Option<(u8, &[u8])>
     ensures some { IfSome result (λ taken. (taken.0 < 256) × (text.now ≡ three_digits taken.0 ++ taken.1.now)) }
     ensures none { IsNone result → (number : ℕ) (rest : List ℕ) → number < 256

@@ -1,4 +1,4 @@
-//! The pieces of a name.
+//! The pieces of a name: the root, labels and pointers.
 ghost use Rattle.std.specs.Prelude.{◌≡◌, ◌≤◌, ℕ, List, [], ◌∷◌, IsErr, IfOk, IsNone, IfSome};
 ghost use Rattle.octseq.specs.Parser.{sequence, window};
 ghost use Rattle.octseq.specs.Window.{Window, rest};
@@ -11,18 +11,18 @@ use crate::error::Malformed;
 use octseq::builder::infallible;
 use octseq::{AsOctets, Parser};
 
-/// What is at a place of a name.
+/// A piece of a name.
 #[derive(Drop)]
 pub(crate) enum Step<R: AsOctets> {
     /// The root.
     Root,
     /// A label: a parser of its octets.
     Label(Parser<R>),
-    /// The place where the name goes on.
+    /// A pointer: the place where the name goes on.
     Pointer(usize),
 }
 
-/// Takes the next piece of a name. A pointer points before `start`.
+/// Takes the next piece of a name. A pointer has to lead before `start`.
 #[inline(always)]
 pub(crate) fn next_step<R: AsOctets + Copy>(
     parser: &mut Parser<R>,
@@ -86,7 +86,7 @@ pub(crate) fn next_label<R: AsOctets + Copy>(
     }
 }
 
-/// Passes a name that was read: up to the root, or to its first pointer, which it doesn't follow.
+/// Passes a name that was read, through the root or its first pointer, which it doesn't follow.
 #[inline(always)]
 pub(crate) fn pass_known<R: AsOctets + Copy>(parser: &mut Parser<R>)
     requires { Named (window parser.old) }

@@ -13,33 +13,33 @@ use octseq::AsOctets;
 use octseq_format::are_octets;
 use std::fmt;
 
-/// A text spells one name at most.
+/// A text spells at most one name.
 ///
-/// It does nothing. A caller that calls it has the law in its proof.
+/// It does nothing. Calling it brings the law into the caller's proof.
 pub fn one_name_of_a_text()
     ensures { (labels others : List (List ℕ)) (text : List ℕ) → AreLabels labels → AreLabels others
         → SpellsName labels text → SpellsName others text → labels ≡ others }
 {}
 
-/// A text spells one name at most with an origin.
+/// A text spells at most one name with an origin.
 ///
-/// It does nothing. A caller that calls it has the law in its proof.
+/// It does nothing. Calling it brings the law into the caller's proof.
 pub fn one_name_of_a_text_with_origin()
     ensures { (origin labels others : List (List ℕ)) (text : List ℕ) → AreLabels labels → wire_length labels ≤ 255
         → AreLabels others → wire_length others ≤ 255 → SpellsWithOrigin origin labels text
         → SpellsWithOrigin origin others text → labels ≡ others }
 {}
 
-/// The text that is printed spells its name, so that it is read back as that name.
+/// The printed text of a name spells it, so it is read back as that name.
 ///
-/// It does nothing. A caller that calls it has the law in its proof.
+/// It does nothing. Calling it brings the law into the caller's proof.
 pub fn a_name_is_spelled_by_its_text()
     ensures { (labels : List (List ℕ)) → AreOctetLabels labels → SpellsName labels (name_text labels) }
 {}
 
-/// The labels of a name have 1 to 63 octets each, so the text that is printed of it reads back as that name.
+/// The labels of a name have 1 to 63 octets each, so its printed text is read back as that name.
 ///
-/// It does nothing but look where the name is. A caller that calls it has the law in its proof.
+/// It only borrows the octets. Calling it brings the law into the caller's proof.
 pub fn a_name_has_labels<R: AsOctets + Copy>(name: &ParsedName<R>)
     ensures labels { AreLabels (labels_of name.now) }
     ensures octets { AreOctetLabels (labels_of name.now) }
@@ -48,8 +48,8 @@ pub fn a_name_has_labels<R: AsOctets + Copy>(name: &ParsedName<R>)
     are_octets(sequence.as_ref());
 }
 
-/// Prints the octets of the label: each of `"().;\@$` after a backslash, each other one of 21 to 7E (hexadecimal) as
-/// itself, and any other as a backslash and three decimal digits.
+/// Prints the octets of the label: each of `"().;\@$` after a backslash, other visible ASCII (21 to 7E, hexadecimal) as
+/// itself, and any other octet as a backslash and three decimal digits.
 impl<R: AsOctets> fmt::Display for Label<R> {
     ghost output = { λ label. Some (label_text (label_octets label)) };
 
@@ -61,7 +61,7 @@ impl<R: AsOctets> fmt::Display for Label<R> {
     }
 }
 
-/// Prints each label with a full stop after it, and the root as `.` alone.
+/// Prints each label followed by a full stop, and the root as `.`.
 impl<R: AsOctets + Copy> fmt::Display for ParsedName<R> {
     ghost output = { λ name. Some (name_text (labels_of name)) };
 
@@ -91,7 +91,7 @@ fn write_octet<W: fmt::Write>(f: &mut fmt::Formatter<W>, octet: u8) -> fmt::Resu
     write_digits(f, octet)
 }
 
-/// Whether an octet that is visible is written after a backslash.
+/// Whether a visible octet is written after a backslash.
 pub(crate) fn needs_backslash(octet: u8) -> bool
     ensures { result ≡ is_quoted octet }
 {
@@ -101,7 +101,7 @@ pub(crate) fn needs_backslash(octet: u8) -> bool
     )
 }
 
-/// Writes a number in three decimal digits, as they are after the backslash of an escape.
+/// Writes a number as three decimal digits, as they follow the backslash of an escape.
 pub fn write_digits<W: fmt::Write>(f: &mut fmt::Formatter<W>, number: u8) -> fmt::Result
     ensures { WritesOnOk W.write_str_gives f.old result (three_digits number) f.new }
 {

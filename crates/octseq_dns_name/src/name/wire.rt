@@ -13,10 +13,10 @@ use octseq::builder::infallible;
 use octseq::{AppendError, Array, AsOctets, OctetsBuilder};
 use std::alloc::AllocError;
 
-/// How many octets a label may have: RFC 1035, 2.3.4.
+/// The maximum number of octets of a label: RFC 1035, 2.3.4.
 pub(crate) const LABEL_MAX: usize = 63;
 
-/// How many octets labels have in wire form: each after its length, and one octet for the root.
+/// Returns the number of octets of labels in wire form: each after its length, and one octet for the root.
 pub(crate) fn wire_len<R: AsOctets + Copy>(labels: Labels<R>) -> usize
     ensures { result ≡ wire_length (labels_left labels) }
 {
@@ -58,7 +58,7 @@ pub(crate) fn append<B: OctetsBuilder>(octets: &mut B, slice: &[u8]) -> Result<(
     }
 }
 
-/// The plain wire form of the name that has these labels.
+/// Returns the plain wire form of the name with these labels.
 pub(crate) fn wire_of_labels(labels: &[&[u8]]) -> Result<Array<255>, FromLabelsError>
     ensures ok { IfOk result (λ octets. (octets.content ≡ wire (map (λ label. label.now) labels.now))
         × AreLabels (map (λ label. label.now) labels.now)
@@ -81,7 +81,7 @@ pub(crate) fn wire_of_labels(labels: &[&[u8]]) -> Result<Array<255>, FromLabelsE
     Ok(with_root(octets))
 }
 
-/// Whether there is room for one label more, and the root.
+/// Whether there is room for one more label, and the root.
 pub(crate) fn has_room(octets: &Array<255>, label: &[u8]) -> bool
     requires { length label.now ≤ 63 }
     ensures { IsTrue result ↔ (length octets.now.content + 1 + length label.now + 1 ≤ 255) }
@@ -99,7 +99,7 @@ pub(crate) fn append_label(octets: &mut Array<255>, label: &[u8])
     infallible(octets.append_slice(label));
 }
 
-/// The octets with the root after them.
+/// Returns the octets followed by the root.
 pub(crate) fn with_root(octets: Array<255>) -> Array<255>
     requires { length octets.content + 1 ≤ 255 }
     ensures { result.content ≡ octets.content ++ 0 ∷ [] }
@@ -109,7 +109,7 @@ pub(crate) fn with_root(octets: Array<255>) -> Array<255>
     all
 }
 
-/// The octets with a name after them.
+/// Returns the octets followed by a name.
 pub(crate) fn with_name<R: AsOctets + Copy>(octets: Array<255>, name: &ParsedName<R>) -> Array<255>
     requires { length octets.content + wire_length (labels_of name.now) ≤ 255 }
     ensures content { result.content ≡ octets.content ++ wire (labels_of name.now) }
@@ -120,7 +120,7 @@ pub(crate) fn with_name<R: AsOctets + Copy>(octets: Array<255>, name: &ParsedNam
     all
 }
 
-/// The octets with a label and a name after them, if there is room.
+/// Returns the octets followed by a label and a name, if there is room.
 pub(crate) fn with_label_and_name<R: AsOctets + Copy>(
     octets: Array<255>,
     label: &[u8],

@@ -1,4 +1,4 @@
-//! Names that own their octets, compared and shown as those that were read.
+//! Names that own their octets: their comparisons and text.
 ghost use Rattle.std.specs.Prelude.{Some};
 ghost use Rattle.std.proofs.Common.{refl};
 ghost use Rattle.std.specs.Cmp.{on_equiv, on_total, partial_equiv_from_equiv};
@@ -15,7 +15,7 @@ use std::cmp::Ordering;
 use std::fmt;
 use std::hash::{Hash, Hasher};
 
-/// Prints each label with a full stop after it, and the root as `.` alone.
+/// Prints each label followed by a full stop, and the root as `.`.
 impl<B: AsOctets> fmt::Display for Name<B> {
     ghost output = { λ name. Some (name_text (owned_labels name)) };
 

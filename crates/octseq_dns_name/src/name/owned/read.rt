@@ -1,4 +1,4 @@
-//! Names made of text, and of labels.
+//! Names made from text, and from labels.
 ghost use Rattle.std.specs.Prelude.{◌≡◌, ◌≢◌, ◌≤◌, ◌↔◌, true, ℕ, List, map, length};
 ghost use Rattle.std.specs.Prelude.{IsErr, IsErrOf, IfOk, OnErr};
 ghost use Rattle.octseq.specs.Limit.{IsPast};
@@ -20,16 +20,16 @@ use octseq::{Array, AsOctets, EmptyBuilder};
 use std::alloc::{AllocError, Global};
 
 impl Name<Array<255>> {
-    /// Reads the text of a name, with a full stop after each label: RFC 1035, 5.1. An octet of a label is there
-    /// as itself where it is visible ASCII and none of `"().;\@$`, after a backslash where it is no digit, or as a
-    /// backslash and its number in three decimal digits. It requests no memory.
+    /// Reads the text of a name, with a full stop after each label: RFC 1035, 5.1. An octet of a label is written as
+    /// itself if it is visible ASCII and none of `"().;\@$`, after a backslash if it isn't a digit, or as a backslash
+    /// and its number in three decimal digits. It requests no memory.
     ///
     /// # Errors
     ///
-    /// The text is read from the left, and the first thing wrong decides: `UnexpectedEnd` where it ends without a full
-    /// stop or is empty, `EmptyLabel`, `LongLabel` at the 64th octet of a label, `LongName` at the full stop of the
-    /// label with which the name has more than 255 octets, `IllegalEscape` at a backslash that spells no octet,
-    /// `IllegalOctet` at another octet that doesn't.
+    /// The text is read from the left, and the first fault decides: `UnexpectedEnd` if it ends without a full stop or
+    /// is empty, `EmptyLabel`, `LongLabel` at the 64th octet of a label, `LongName` at the full stop of the label with
+    /// which the name has more than 255 octets, `IllegalEscape` at a backslash that spells no octet, `IllegalOctet` at
+    /// another octet that spells none.
     ///
     /// # Examples
     ///
@@ -50,13 +50,13 @@ impl Name<Array<255>> {
     }
 
     /// Reads the text of a name that may be relative to an origin: RFC 1035, 5.1. It is read as by
-    /// [`from_text`](Self::from_text), but text without a full stop at its end has the origin's labels after its own,
-    /// and `@` alone is the origin. It requests no memory.
+    /// [`from_text`](Self::from_text), except that the labels of a text without a full stop at its end are followed by
+    /// the origin's, and `@` alone is the origin. It requests no memory.
     ///
     /// # Errors
     ///
-    /// As `from_text`, but `UnexpectedEnd` only where the text is empty; and `LongName` also at the end of a relative
-    /// name that has more than 255 octets with the origin.
+    /// As `from_text`, but `UnexpectedEnd` only if the text is empty, and `LongName` also at the end of a relative name
+    /// that has more than 255 octets with the origin.
     pub fn from_text_with_origin<R: AsOctets + Copy>(
         text: &str,
         origin: &ParsedName<R>,
@@ -73,14 +73,13 @@ impl Name<Array<255>> {
 }
 
 impl<B: EmptyBuilder> Name<B> {
-    /// Makes the name that has these labels: the octets of each, from the first one on. The root has none, and isn't
-    /// among them.
+    /// Makes a name from its labels: the octets of each, from the first one on, without the root.
     ///
     /// # Errors
     ///
-    /// The labels are read from the left, and the first one that is wrong decides: `EmptyLabel`, `LongLabel` where it
-    /// has more than 63 octets, `LongName` where the name has more than 255 with it. Where none is wrong, `Short` where
-    /// the wire form passes the limit of the builder's type, and else `Memory` where a request for memory was refused.
+    /// The labels are checked in order, and the first wrong one decides: `EmptyLabel`, `LongLabel` if it has more than
+    /// 63 octets, `LongName` if the name has more than 255 with it. If none is wrong, `Short` if the wire form passes
+    /// the limit of the builder's type, otherwise `Memory` if a request for memory was refused.
     pub fn from_labels(alloc: Global, labels: &[&[u8]]) -> Result<Self, FromLabelsError>
         ensures ok { IfOk result (λ name. owned_labels name ≡ map (λ label. label.now) labels.now) }
         ensures refused { (fault : FromLabelsError) → fault ≢ FromLabelsError.Memory
@@ -94,7 +93,7 @@ impl<B: EmptyBuilder> Name<B> {
         }
     }
 
-    /// The name that has this plain wire form, which is within the limit.
+    /// Makes the name with this plain wire form, which is within the limit.
     fn held(alloc: Global, octets: &[u8]) -> Result<Self, AllocError>
         requires room { ¬ IsPast B.limit (length octets.now) }
         requires plain { (labels : List (List ℕ)) × (octets.now ≡ wire labels) × AreLabels labels

@@ -1,4 +1,4 @@
--- The labels are equal exactly where those ahead are.
+-- The labels are equal if and only if those ahead are.
 use Rattle.std.proofs.Common.{◌≡◌, ◌↔◌}
 use Rattle.octseq_dns_name.specs.Order.{lower_labels}
 use Rattle.octseq_dns_name.specs.Read.{labels_left}

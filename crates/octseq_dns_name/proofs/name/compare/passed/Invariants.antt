@@ -1,4 +1,4 @@
--- As many labels were passed as the counter says.
+-- The counter says how many labels were passed.
 use Rattle.std.proofs.Common.{◌≡◌, drop}
 use Rattle.octseq_dns_name.specs.Read.{labels_left}
 use Rattle.octseq_dns_name.proofs.name.compare.passed.Given as goal

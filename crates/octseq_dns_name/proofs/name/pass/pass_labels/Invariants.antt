@@ -1,4 +1,4 @@
--- The labels so far are read, up to a place that is past the end where the last one isn't whole: then no name is there.
+-- The labels so far are read, up to a place that is past the end if the last one isn't whole: then there is no name.
 use Rattle.std.proofs.Common.{◌-◌, ◌+◌, ◌<◌, ◌≤◌}
 use Rattle.octseq_dns_name.specs.Pass.{window_at, NoName}
 use Rattle.octseq_dns_name.proofs.Passes.{ReadsTo}

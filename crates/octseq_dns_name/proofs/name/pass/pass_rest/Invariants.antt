@@ -1,4 +1,4 @@
--- The rest is read up to a place that is past the end where the last label isn't whole: then there is no rest.
+-- The rest is read up to a place that is past the end if the last label isn't whole: then there is no rest.
 use Rattle.std.proofs.Common.{◌-◌, ◌+◌, ◌<◌, ◌≤◌}
 use Rattle.octseq_dns_name.specs.Pass.{window_at, NoRest}
 use Rattle.octseq_dns_name.proofs.Passes.{RestsTo}

@@ -1,4 +1,4 @@
--- The labels begin with the others exactly where those ahead do.
+-- The labels begin with the others if and only if those ahead do.
 use Rattle.std.proofs.Common.{◌↔◌}
 use Rattle.octseq_dns_name.specs.Read.{labels_left}
 use Rattle.octseq_dns_name.specs.Relatives.{StartsWith}

@@ -1,4 +1,4 @@
--- The octets so far are read, and what is ahead is after them.
+-- The octets so far are read, and what is ahead follows them.
 use Rattle.std.proofs.Common.{◌≤◌, length}
 use Rattle.octseq_dns_name.specs.Refused.{Reads}
 use Rattle.octseq_dns_name.proofs.name.spelling.next_part.Given as goal

@@ -1,4 +1,4 @@
--- The labels so far are read, and appended, and what is ahead is after them.
+-- The labels so far are read and appended, and what is ahead follows them.
 use Rattle.std.proofs.Common.{◌≡◌, ◌+◌, ◌≤◌, ℕ, List, length}
 use Rattle.octseq_dns_name.specs.Refused.{ReadsLabels}
 use Rattle.octseq_dns_name.specs.NameFormat.{bodies}

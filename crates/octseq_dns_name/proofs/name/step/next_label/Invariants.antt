@@ -1,4 +1,4 @@
--- What was where the loop began is, after its pointers, where it is now; each pointer brings the place down.
+-- What was where the loop began is, after its pointers, where it is now; each pointer lowers the place.
 use Rattle.std.proofs.Common.{◌≤◌, ℕ, List}
 use Rattle.octseq.specs.Parser.{window}
 use Rattle.octseq.specs.Window.{Window}

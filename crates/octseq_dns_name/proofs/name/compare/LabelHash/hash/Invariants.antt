@@ -1,4 +1,4 @@
--- What was written is the length and the octets so far.
+-- The length and the octets so far were written.
 use Rattle.std.proofs.Common.{◌≡◌, fold, take, flat_map, ◌++◌, length}
 use Rattle.std.specs.Hash as fed
 use Rattle.octseq_dns_name.specs.Order.{lower_label}

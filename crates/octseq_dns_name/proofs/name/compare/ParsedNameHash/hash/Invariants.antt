@@ -1,4 +1,4 @@
--- What was written are the labels so far.
+-- The labels so far were written.
 use Rattle.std.proofs.Common.{◌≡◌, ℕ, List, ◌++◌, fold, flat_map}
 use Rattle.octseq_dns_name.specs.Order.{label_writes}
 use Rattle.octseq_dns_name.specs.Read.{labels_of, labels_left}

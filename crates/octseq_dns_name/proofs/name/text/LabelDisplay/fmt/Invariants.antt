@@ -1,4 +1,4 @@
--- What is written is the text of the octets so far.
+-- The text of the octets so far is written.
 use Rattle.std.proofs.Common.{take}
 use Rattle.std.specs.Fmt.{HasWritten, IsPlainFormatter}
 use Rattle.octseq_dns_name.specs.Text.{label_text}

@@ -1,4 +1,4 @@
--- What is written, and the text of the labels ahead, are the text of the name.
+-- What is written, followed by the text of the labels ahead, is the text of the name.
 use Rattle.std.proofs.Common.{◌≡◌, ℕ, List, ◌++◌}
 use Rattle.std.specs.Fmt.{HasWritten, IsPlainFormatter}
 use Rattle.octseq_dns_name.specs.Read.{labels_of, labels_left}
