@@ -1,4 +1,4 @@
--- A target more, of a name more.
+-- Another target, of another name.
 use Rattle.std.specs.Prelude.{slice_index_or}
 use Rattle.std.proofs.Common.{◌≡◌, ◌⊎◌, inl, inr, ℕ, ◌+◌, ◌-◌, ◌<◌, ◌≤◌, List, length, refl, sym, ap, ◌∙◌, subst, arith}
 use Rattle.std.proofs.Math.Decide.{dec_le}
@@ -14,7 +14,7 @@ use Rattle.octseq_dns_compress.specs.declared.table.Target.{Target}
 
 -- ---- elements of a list with one more
 
--- where an index is, beside a position
+-- where an index is, relative to a position
 pub data Beside : ℕ → ℕ → Type 0 where
   below_it : {index position : ℕ} → index < position → Beside index position
   here_it : {index position : ℕ} → index ≡ position → Beside index position
@@ -49,7 +49,7 @@ module _ (octets : List ℕ) (targets : List Target) (target : Target) (position
       ap (λ i. slice_index_or (insert targets position target) i d) next
       ∙ get_or-insert_above targets position target d index' from within
 
-  -- what is so of the old ones and of the new one is so of all
+  -- what holds of the old targets and of the new one holds of all
   pub each_of : (P : Target → Type 0) → ((index : ℕ) (d : Target) → index < length targets
       → P (slice_index_or targets index d)) → P target
       → (index : ℕ) (d : Target) → index < length (insert targets position target)

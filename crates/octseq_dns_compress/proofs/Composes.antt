@@ -1,4 +1,4 @@
--- What calls do to a message that is composed, by what they answer.
+-- What calls do to a composed message, by their results.
 use Rattle.std.proofs.Common.{◌≡◌, Bool, true, ℕ, Option, Ok, Err, List, []}
 use Rattle.std.proofs.Common.{length, take}
 use Rattle.std.proofs.Common.{sym, ap, ◌∙◌, subst, append-nil, length-append, Result}
@@ -17,7 +17,7 @@ use Rattle.octseq_dns_compress.proofs.Fields.{fields_grow, one_state, past_longe
 use Rattle.octseq_dns_compress.proofs.Steps.{Grows, grown_length}
 use Rattle.octseq_dns_compress.proofs.Marked.{same_names}
 
--- where the entry begins stays
+-- the part before the entry doesn't change
 pub begun_stays : (octets new : List ℕ) (held kept : List Target) (start : ℕ) → take start new ≡ take start octets
     → before start kept ≡ before start held → (begun : Known (take start octets) (before start held))
     (now : Known (take start new) (before start kept))
@@ -27,21 +27,21 @@ begun_stays octets new held kept start same alike begun now =
     one_state same
     (same_names (take start octets) (take start new) (before start held) (before start kept) same alike begun now)
 
--- a slice that was refused leaves the octets and the names
+-- a refused slice changes neither octets nor names
 pub slice_kept : {limit : Option ℕ} {asks : Bool} (result : Result (Unit {0}) AppendError) (slice new : List ℕ)
     (now : Names) (old : State) → Appends limit asks result slice old.octets new → now ≡ old.names
     → OnErr result (◌≡◌ {A = State} (record { octets = new; names = now }) old)
 slice_kept (Ok u) slice new now old appends names = tt
 slice_kept (Err e) slice new now old appends names = one_state appends.err names
 
--- octets come after those that were there, whatever the append of a name answers
+-- the octets that were there stay in front, whatever appending a name returns
 pub named_grows : {limit : Option ℕ} {most : ℕ} {labels : List (List ℕ)} {old new : List ℕ} {held kept : List Target}
     {known : Known old held} (result : Result (Unit {0}) AppendError)
     → AppendsName limit most result labels old new held kept known → Grows old new
 named_grows {labels = labels} {known = known} (Ok u) named = (name_octets known.0 labels, named.ok.0)
 named_grows {old = old} (Err e) named = ([], named.err.0 ∙ sym (append-nil old))
 
--- a name that was refused leaves the octets and the names
+-- a refused name changes neither octets nor names
 pub name_kept : {limit : Option ℕ} {most : ℕ} {labels : List (List ℕ)} {octets new : List ℕ} {held kept : List Target}
     {known : Known octets held} (result : Result (Unit {0}) AppendError) (now : Names) (old : State)
     → (named : AppendsName limit most result labels octets new held kept known)
@@ -50,7 +50,7 @@ pub name_kept : {limit : Option ℕ} {most : ℕ} {labels : List (List ℕ)} {oc
 name_kept (Ok u) now old named is now_is = tt
 name_kept (Err e) now old named is now_is = one_state named.err.0 (now_is ∙ named.err.1) ∙ is
 
--- a name that passes the limit is refused
+-- a name that would exceed the limit is refused
 pub name_past : {limit : Option ℕ} {most : ℕ} {labels : List (List ℕ)} {octets new : List ℕ} {held kept : List Target}
     {known : Known octets held} (result : Result (Unit {0}) AppendError) (old : State)
     → AppendsName limit most result labels octets new held kept known
@@ -60,7 +60,7 @@ name_past {limit = limit} {most = most} {labels = labels} {octets = octets} {kno
     named.past (subst (IsPast limit) (ap (λ s. length (with_name most s labels).octets) (sym is)
     ∙ length-append octets (name_octets known.0 labels)) past)
 
--- what passes a limit passes it with more fields
+-- what exceeds a limit exceeds it with more fields
 past_fields : (limit : Option ℕ) (most : ℕ) (s : State) (fields : List Field) → IsPast limit (length s.octets)
     → IsPast limit (length (with_fields most s fields).octets)
 past_fields limit most s fields past =
@@ -122,7 +122,7 @@ module _ {B T : Type 0} (limit : Option ℕ) where
         data_start = data_start;
       }
 
-  -- with more that may be refused for memory
+  -- the same, with more reasons for a refusal of memory
   pub composes_or : {Asks More : Type 0} (result : Result (Unit {0}) AppendError) (wanted : State) (old new : Composed
       B T)
       → (Asks → More) → Composes limit Asks result wanted old new → Composes limit More result wanted old new
@@ -137,7 +137,7 @@ module _ {B T : Type 0} (limit : Option ℕ) where
 
   -- ---- one field after another
 
-  -- a call that was refused, before others
+  -- a refused call, followed by others
   pub composes_refused : {Asks : Type 0} (most : ℕ) (e : AppendError) (wanted : State) (fields : List Field)
       (old new : Composed B T) → Composes limit Asks (Err e) wanted old new
       → Composes limit Asks (Err e) (with_fields most wanted fields) old new
@@ -150,7 +150,7 @@ module _ {B T : Type 0} (limit : Option ℕ) where
     data_start = composes.data_start;
   }
 
-  -- a call that was answered, and others
+  -- a successful call, followed by others
   pub composes_then : {Asks : Type 0} (most : ℕ) (u : Unit {0}) (result : Result (Unit {0}) AppendError) (wanted :
       State)
       (fields : List Field) (old then new : Composed B T) → Composes limit Asks (Ok u) wanted old then

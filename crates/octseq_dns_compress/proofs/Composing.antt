@@ -1,4 +1,4 @@
--- A name appended to a message, whose targets are those of names.
+-- Appending a name to a message, whose targets are those of names.
 use Rattle.std.specs.Prelude.{slice_index_or, nat_lt, cond, if◌then◌else◌, ◌/◌, ◌%◌}
 use Rattle.std.proofs.Common.{◌≡◌, Bool, true, ℕ, suc, ◌+◌, ◌<◌, ◌≤◌, Option, Some, None, List, [], ◌∷◌, ◌++◌}
 use Rattle.std.proofs.Common.{length, take}
@@ -32,7 +32,7 @@ use Rattle.octseq_dns_compress.proofs.Marked.{before_all, known_same, same_names
 use Rattle.octseq_dns_compress.proofs.Keys.{less_told}
 use Rattle.octseq_dns_compress.proofs.Steps.{Grows}
 
--- ---- targets of names that are known
+-- ---- targets of known names
 
 module _ (octets : List ℕ) (targets : List Target) (known : Known octets targets) where
   pub known_targets : AreTargets octets targets
@@ -48,12 +48,12 @@ module _ (octets : List ℕ) (targets : List Target) (known : Known octets targe
 
 -- ---- the octets of a name
 
--- a place after the header isn't the root's
+-- an offset after the header isn't 0
 pointed : (n : ℕ) → 12 ≤ n → ended n ≡ (192 + n / 256) ∷ (n % 256) ∷ []
 pointed n late =
     ap (λ b. if b then 0 ∷ [] else (192 + n / 256) ∷ (n % 256) ∷ []) (ne_eqb n 0 (λ same. omega (arith, same, late)))
 
--- the root or a pointer, by the place of what follows
+-- the root or a pointer, by the offset of what follows
 ended_is : (octets : List ℕ) (targets : List Target) (names : Names) → Agrees octets targets names
     → (labels : List (List ℕ)) (end : Ending) → IsEnding octets targets names labels end
     → ended end.next ≡ ending (last_place names labels)
@@ -83,7 +83,7 @@ module _ (octets : List ℕ) (targets : List Target) (known : Known octets targe
       ∙ ap (λ o. unrooted (first_labels known.0 labels) ++ o)
       (ended_is octets targets known.0 agrees labels end ends))
 
--- ---- the names once it is written
+-- ---- the names after it is written
 
 position_stays : (octets more : List ℕ) (targets : List Target) → AreTargets octets targets → (key : List ℕ)
     (position : ℕ) → IsPosition octets targets key position → IsPosition (octets ++ more) targets key position
@@ -109,7 +109,7 @@ ending_stays octets more targets names agrees labels end is = record {
       (end.next ∷ length label ∷ label) end.position (is.position label rest some here);
 }
 
--- names that were there are before what is written
+-- the names that were there are before what is written
 after_names : (octets : List ℕ) (targets : List Target) (names : Names) → Agrees octets targets names
     → (labels : List (List ℕ)) (place : Place) → get names labels ≡ Some place → place.at < length octets
 after_names octets targets names agrees [] place found = absurd (true≢false (ap is_some (sym found ∙ agrees.root)))
@@ -130,9 +130,9 @@ is_written octets targets names agrees labels written start back begin header = 
       let less = after_names octets targets names agrees others place found in omega (arith, less, begin);
 }
 
--- ---- the append of a name
+-- ---- appending a name
 
--- what is looked for is where it is
+-- a search in equal octets and targets has the same result
 pub ending_of : (octets content : List ℕ) (targets held : List Target) (labels : List (List ℕ)) (end : Ending)
     → octets ≡ content → targets ≡ held
     → ((names : Names) → Agrees octets targets names → IsEnding octets targets names labels end)
@@ -141,7 +141,7 @@ ending_of octets content targets held labels end same alike is =
     subst (λ o. (names : Names) → Agrees o held names → IsEnding o held names labels end) same
     (subst (λ t. (names : Names) → Agrees octets t names → IsEnding octets t names labels end) alike is)
 
--- what was written and kept is taken back
+-- what was written and kept is removed
 module _ (octets : List ℕ) (targets : List Target) (are : AreTargets octets targets) (new : List ℕ)
     (held kept : List Target) (start : ℕ) (undone : List ℕ) (begin : start ≡ length octets) (grows : Grows octets new)
     (same : before start held ≡ before start targets) (kept_are : kept ≡ before start held)
@@ -177,7 +177,7 @@ module _ (octets : List ℕ) (targets : List Target) (known : Known octets targe
   unfolding known_more
   names_more now = ap (λ known. known.0) (known_once new held now known_more)
 
--- what the append of a name does, by what it answers
+-- what appending a name does, by its result
 module _ (limit : Option ℕ) (asks : Bool) (most : ℕ) (labels : List (List ℕ)) (octets new name : List ℕ)
     (targets : List Target) (known : Known octets targets) (name_is : name ≡ name_octets known.0 labels) where
   fits : length octets + length name ≡ length octets + length (name_octets known.0 labels)
@@ -241,7 +241,7 @@ none_agree octets held none = subst (λ t. Agrees octets t empty) (sym none) (re
       absurd (true≢false (ap is_some (sym found ∙ get-empty labels_cmp labels)));
 })
 
--- no target is before the first place
+-- no target is before offset 0
 pub none_first : (targets : List Target) → filter (λ t. nat_lt t.at 0) targets ≡ []
 none_first [] = refl
 none_first (target ∷ targets) =

@@ -1,5 +1,5 @@
--- Names stay at their places as fields and entries are appended. Data after their number are fields too: that number
--- is one of them.
+-- Names stay at their places as fields and entries are appended. Data after its length is fields too: the length is one
+-- of them.
 use Rattle.std.proofs.Common.{◌≡◌, ℕ, ◌+◌, Option, Some, None, IfSome, List, [], ◌∷◌, ◌++◌, length, drop}
 use Rattle.std.proofs.Common.{sym, ap, ◌∙◌, subst, arith, append_assoc, append-nil, length-append}
 use Rattle.std.proofs.lemmas.List.{drop_at}
@@ -36,7 +36,7 @@ fields_named most s [] sound fit = sound
 fields_named most s (field ∷ fields) sound fit =
     fields_named most (with_field most s field) fields (field_named most s field sound fit.0) fit.1
 
--- ---- what fields add to a message depends on its names and on how many octets it has
+-- ---- what fields add to a message depends on its names and its length
 
 abbrev added_octets : ℕ → Names → ℕ → List Field → List ℕ
 added_octets most names start [] = []
@@ -55,7 +55,7 @@ added_names most names start (Field.octets more ∷ fields) = added_names most n
 abbrev state_of : List ℕ → Names → State
 state_of octets names = record { octets = octets; names = names }
 
--- what comes after more, counted from before it
+-- what follows more octets, counted from before them
 regrouped : (octets more : List ℕ) (added : ℕ → List ℕ) (names : ℕ → Names)
     → state_of ((octets ++ more) ++ added (length (octets ++ more))) (names (length (octets ++ more)))
     ≡ state_of (octets ++ (more ++ added (length octets + length more))) (names (length octets + length more))
@@ -78,14 +78,14 @@ fields_add most s (Field.octets more ∷ fields) =
     fields_add most (with_octets s more) fields
     ∙ regrouped s.octets more (λ n. added_octets most s.names n fields) (λ n. added_names most s.names n fields)
 
--- ---- data after their number
+-- ---- data after its length
 
 -- the octets of data
 abbrev pub data_octets : ℕ → State → List Field → List ℕ
 data_octets most s fields =
     drop (length s.octets + 2) (with_fields most (with_octets s (0 ∷ 0 ∷ [])) fields).octets
 
--- they are those of fields after their number
+-- data with its length is fields, the first of which is the length
 pub counted_is : (most : ℕ) (s : State) (fields : List Field)
     → with_counted most s fields
     ≡ with_fields most (with_octets s (octets_be 2 (length (data_octets most s fields)))) fields
@@ -107,7 +107,7 @@ counted_is most s fields =
     let names = ap (λ (t : State). t.names) from ∙ ap (λ m. added_names most s.names m fields) same in
     (λ i. state_of (octets i) (names i)) ∙ sym (fields_add most (with_octets s count) fields)
 
--- and there are so many of them
+-- its number of octets
 pub counted_size : (most : ℕ) (s : State) (fields : List Field)
     → length (with_counted most s fields).octets ≡ length s.octets + (2 + length (data_octets most s fields))
 counted_size most s fields =

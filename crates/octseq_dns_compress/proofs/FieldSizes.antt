@@ -1,4 +1,4 @@
--- Fields and entries take no more octets than where no name is compressed.
+-- Fields and entries take no more octets than without compression.
 use Rattle.std.proofs.Common.{◌≡◌, ℕ, ◌+◌, ◌≤◌, Option, Some, None, List, [], ◌∷◌, ◌++◌, length, refl, sym, ap, ◌∙◌}
 use Rattle.std.proofs.Common.{subst, arith, length-append}
 use Rattle.std.proofs.lemmas.List.Sums.{sum_by-cons}
@@ -12,7 +12,7 @@ use Rattle.octseq_dns_compress.proofs.PlainForm.{name_shorter, plain_octets, pla
 use Rattle.octseq_dns_name.specs.Name.{wire_length}
 use Rattle.octseq_dns_name.proofs.Wires.{wire_has}
 
--- how many octets a field takes where no name is compressed
+-- the number of octets of a field without compression
 abbrev field_size : Field → ℕ
 field_size (Field.name labels) = wire_length labels
 field_size (Field.octets more) = length more
@@ -68,9 +68,9 @@ entries_shorter most s (entry ∷ entries) =
     let more = entries_shorter most (with_entry most s entry) entries in
     omega (arith, sum, one, more)
 
--- ---- and as many where no name is kept
+-- ---- and as many if no name is kept
 
--- so many octets come after a message, and it has no names
+-- a message has this many more octets, and no names
 record IsLonger (octets : List ℕ) (size : ℕ) (s : State) : Type 0 where
   pub long : length s.octets ≡ length octets + size
   pub none : s.names ≡ empty
@@ -93,7 +93,7 @@ field_plain octets (Field.name labels) = record {
 }
 field_plain octets (Field.octets more) = record { long = length-append octets more; none = refl }
 
--- a message with no names is its octets alone
+-- a message without names is its octets
 as_bare : (s : State) → s.names ≡ empty → s ≡ bare s.octets
 as_bare s none = λ i. record { octets = s.octets; names = none i }
 
@@ -143,9 +143,9 @@ entries_plain octets (entry ∷ entries) =
     (subst (λ s. IsLonger then.octets (sum_by entry_size entries) (with_entries 0 s entries))
     (sym (as_bare then one.none)) (entries_plain then.octets entries)))
 
--- ---- so
+-- ---- the results
 
--- an entry takes no more octets than where no name is compressed
+-- an entry takes no more octets than without compression
 pub entry_never_longer : (most : ℕ) (s : State) (entry : Entry) → length (with_entry most s entry).octets
     ≤ length (with_entry 0 (record { octets = s.octets; names = empty }) entry).octets
 entry_never_longer most s entry =
@@ -154,7 +154,7 @@ entry_never_longer most s entry =
     let long = plain.long in
     omega (arith, shorter, long)
 
--- and neither do entries
+-- nor do entries
 pub entries_never_longer : (most : ℕ) (s : State) (entries : List Entry) → length (with_entries most s entries).octets
     ≤ length (with_entries 0 (record { octets = s.octets; names = empty }) entries).octets
 entries_never_longer most s entries =

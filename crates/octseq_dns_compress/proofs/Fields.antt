@@ -1,4 +1,4 @@
--- What fields and entries add to a message: octets come after those that it has, and another header leaves them.
+-- What fields and entries add to a message: octets after those that it has. They don't depend on its header.
 use Rattle.std.proofs.Common.{◌≡◌, ℕ, ◌+◌, ◌-◌, ◌≤◌, Option, Some, None, List, [], ◌∷◌, ◌++◌, length, take, drop}
 use Rattle.std.proofs.Common.{refl, sym, ap, ◌∙◌}
 use Rattle.std.proofs.Common.{arith, append_assoc, append-nil, length-append, length-drop}
@@ -58,7 +58,7 @@ entries_grow most s (entry ∷ entries) =
     grows_on s.octets then.octets (with_entries most then entries).octets (entry_grows most s entry)
     (entries_grow most then entries)
 
--- as many octets as data say, and the two of their number
+-- writing the length of data doesn't change the number of octets
 pub counted_length : (most : ℕ) (s : State) (fields : List Field)
     → length (with_counted most s fields).octets
     ≡ length (with_fields most (with_octets s (0 ∷ 0 ∷ [])) fields).octets
@@ -74,12 +74,12 @@ counted_length most s fields =
     let two = length_be 2 (length data_octets) in
     omega (arith, outer, left, first, less, inner, two)
 
--- what passes a limit passes it with more
+-- what exceeds a limit exceeds it with more
 pub past_longer : (limit : Option ℕ) (n m : ℕ) → n ≤ m → IsPast limit n → IsPast limit m
 past_longer (Some limit) n m less past = omega (arith, less, past)
 past_longer None n m less past = past
 
--- states of the same octets and names are the same
+-- states with equal octets and names are equal
 pub one_state : {octets others : List ℕ} {names more : Names} → octets ≡ others → names ≡ more
     → ◌≡◌ {A = State} (record { octets = octets; names = names }) (record { octets = others; names = more })
 one_state octets names = λ i. record { octets = octets i; names = names i }
@@ -160,19 +160,19 @@ module _ (header : List ℕ) (twelve : length header ≡ 12) where
       ap (λ s. with_entries most s entries) (headed_entry most s entry late)
       ∙ headed_entries most then entries (omega (arith, late, longer))
 
--- an entry after others
+-- entries after other entries
 pub entries_more : (most : ℕ) (s : State) (entries others : List Entry)
     → with_entries most s (entries ++ others) ≡ with_entries most (with_entries most s entries) others
 entries_more most s [] others = refl
 entries_more most s (entry ∷ entries) others = entries_more most (with_entry most s entry) entries others
 
--- fields after others
+-- fields after other fields
 pub fields_more : (most : ℕ) (s : State) (fields others : List Field)
     → with_fields most s (fields ++ others) ≡ with_fields most (with_fields most s fields) others
 fields_more most s [] others = refl
 fields_more most s (field ∷ fields) others = fields_more most (with_field most s field) fields others
 
--- data that were composed after two octets for their number, once that is put in their place
+-- data that is composed after two octets, which then become its length
 module _ (most : ℕ) (s : State) (fields : List Field) where
   from : State
   from = with_octets s (0 ∷ 0 ∷ [])

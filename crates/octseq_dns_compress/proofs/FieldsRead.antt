@@ -1,4 +1,4 @@
--- Fields that were appended to a message are read, whatever its header says and whatever comes after it.
+-- Fields that were appended to a message are read, whatever its header says and whatever follows it.
 use Rattle.std.proofs.Common.{◌≡◌, ℕ, ◌+◌, ◌≤◌, List, [], ◌∷◌, ◌++◌, length, refl, sym, ap, ◌∙◌, subst, arith}
 use Rattle.std.proofs.Common.{length-append}
 use Rattle.std.proofs.Math.Seq.{drop-append_seam}
@@ -14,7 +14,7 @@ use Rattle.octseq_dns_compress.proofs.FieldNames.{field_named}
 use Rattle.octseq_dns_compress.proofs.Fields.{fields_grow}
 use Rattle.octseq_dns_compress.proofs.Standing.{all_of, all_grown, rest_at, name_is_read}
 
--- octets come after a message
+-- octets that were appended to a message come next
 octets_are_read : (octets more header after : List ℕ) → 12 ≤ length octets → length header ≡ 12
     → let w = at (length octets) (whole (all_of header (octets ++ more) after)) in
     (length more ≤ left w) × (next (length more) w ≡ more)
@@ -26,7 +26,7 @@ octets_are_read octets more header after headed long =
     ∙ ap (λ front. front ++ after) (drop-append_seam octets more)) refl in
     (come.0, come.1)
 
--- a field is read before others
+-- a field is read, followed by others
 field_is_read : (most : ℕ) (s : State) (field : Field) → IsWellNamed s → FitsField field
     → (header after : List ℕ) → length header ≡ 12 → (fields : List Field) (v : Window)
     → let octets = (with_field most s field).octets in
@@ -44,7 +44,7 @@ field_is_read most s (Field.octets more) sound fits header after long fields v a
     let read = octets_are_read s.octets more header after sound.headed long in
     (read.0, read.1, subst (λ p. AreFields (at p all) fields v) (length-append s.octets more) are)
 
--- so are all
+-- all fields are read
 pub fields_are_read : (most : ℕ) (s : State) (fields : List Field) → IsWellNamed s → AllByRecursion FitsField fields
     → (header after : List ℕ) → length header ≡ 12
     → let octets = (with_fields most s fields).octets in

@@ -13,7 +13,7 @@ use Rattle.octseq_dns_compress.specs.Known.{Known, known_once}
 use Rattle.octseq_dns_compress.specs.Names.{Names}
 use Rattle.octseq_dns_compress.specs.declared.table.Target.{Target}
 
--- two messages have one label at a place
+-- two messages have the same label at an offset
 abbrev pub IsAlike : List ℕ → List ℕ → ℕ → Type 0
 IsAlike old new at = (slice_index_or new at 0 ≡ slice_index_or old at 0) × (label_at new at ≡ label_at old at)
 
@@ -38,7 +38,7 @@ module _ (old new : List ℕ) (targets : List Target) (long : length old ≤ len
         ∙ are.less i j d before within;
   }
 
-  -- they are those of the same names
+  -- the targets are those of the same names
   agrees_alike : (names : Names) → Agrees old targets names → Agrees new targets names
   agrees_alike names agrees = record {
     targets_are = targets_alike agrees.targets_are;

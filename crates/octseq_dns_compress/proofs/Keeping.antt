@@ -1,4 +1,4 @@
--- Each step in which labels of a name are kept.
+-- Each step of keeping the labels of a name.
 use Rattle.std.specs.Prelude.{slice_index_or, IsTrue, if◌then◌else◌, nat_lt, cond}
 use Rattle.std.proofs.Common.{◌≡◌, inl, false, ℕ, zero, suc, ◌+◌, ◌-◌, ◌<◌, ◌≤◌, None, List, []}
 use Rattle.std.proofs.Common.{◌∷◌, ◌++◌, length, take, drop, sym, ap, ◌∙◌, subst, arith, is_some, take-append-drop}
@@ -20,7 +20,7 @@ use Rattle.octseq_dns_compress.proofs.KeptNames.{with_stopped}
 use Rattle.octseq_dns_compress.proofs.KeptNames.{unkept_far, unkept_full}
 use Rattle.octseq_dns_compress.proofs.KeptSoFar.{KeptSoFar, place_after, further, so_far_kept, whole_here, label_here}
 
--- a target that isn't before a place doesn't count among those that are
+-- a target that isn't before an offset doesn't count among those that are
 pub none_before : (start : ℕ) (held : List Target) (position : ℕ) (target : Target) → start ≤ target.at
     → filter (λ t. nat_lt t.at start) (insert held position target) ≡ filter (λ t. nat_lt t.at start) held
 none_before start held position target late =
@@ -59,11 +59,11 @@ module _ (most : ℕ) (octets : List ℕ) (held : List Target) (names : Names) (
     (ending : Ending) (agrees : Agrees octets held names) (ends : IsEnding octets held names labels ending)
     (within : ending.written ≤ length labels)
     (written : IsWritten octets names start labels ending.written) where
-  -- as many pointers are followed as from what ends it
+  -- the number of pointers is that of what ends the name
   same_pointers : ending.pointers ≡ pointers_from (last_place names labels)
   same_pointers = ends.ends.pointers_are ∙ ap pointers_from ends.last
 
-  -- the names with those that are kept of the name from a label on
+  -- the names, with those of this name that are kept from a label on
   abbrev now : ℕ → Names
   now left = with_labels most ending.pointers names (place_after start labels left) (drop left labels)
 
@@ -74,11 +74,11 @@ module _ (most : ℕ) (octets : List ℕ) (held : List Target) (names : Names) (
       subst (Agrees octets after)
       (sym same ∙ ap (λ p. with_labels most p names start labels) same_pointers) agrees
 
-  -- too many pointers
+  -- there are too many pointers
   pub kept_none : 126 < ending.pointers → Agrees octets held (names_with most names start labels)
   kept_none many = agrees_with held names agrees (with_many most ending.pointers names start labels many)
 
-  -- names that were there are before it
+  -- the names that were there are before it
   before_start : (others : List (List ℕ)) → IsTrue (is_there names others) → place_of names others < start
   before_start [] there =
       let zero = ap at_or_zero agrees.root in
@@ -88,7 +88,7 @@ module _ (most : ℕ) (octets : List ℕ) (held : List Target) (names : Names) (
       let at = ap at_or_zero place.1 in
       let less = written.after_names (label ∷ others) place.0 place.1 in omega (arith, at, less)
 
-  -- nothing yet
+  -- nothing is kept yet
   pub kept_yet : (older : ℕ) → older ≡ length held → ending.position ≤ length held
       → KeptSoFar octets held (now ending.written) labels start older ending.written ending.next ending.position
   kept_yet older all inside =
@@ -147,7 +147,7 @@ module _ (most : ℕ) (octets : List ℕ) (held : List Target) (names : Names) (
         same
         ∙ ap (λ n. with_labels most ending.pointers names (place_after start labels left) (drop n labels)) next_one
 
-    -- the label before those that are kept is new
+    -- the label before the kept ones is new
     still_new : get (now left) (label ∷ rest) ≡ None
     still_new =
         ap (λ m. get m (label ∷ rest)) (sym up)
@@ -199,7 +199,7 @@ module _ (most : ℕ) (octets : List ℕ) (held : List Target) (names : Names) (
         (now (left - 1)) labels start older (left - 1) n (older + 1)) (sym same)
         (kept_more (omega (arith, near, same)) few room))
 
-    -- where no more is kept these are all
+    -- if no more are kept, these are all
     kept_stopped : is_kept most (now left) rest (record {
       at = place_after start labels (left - 1);
       pointers = ending.pointers;
@@ -230,7 +230,7 @@ module _ (most : ℕ) (octets : List ℕ) (held : List Target) (names : Names) (
           pointers = ending.pointers;
         }) (omega (arith, full, count)))
 
-  -- all are
+  -- all are kept
   pub kept_all : (after : List Target) (older left next position : ℕ)
       → KeptSoFar octets after (now left) labels start older left next position → left ≡ 0
       → Agrees octets after (names_with most names start labels)

@@ -1,4 +1,4 @@
--- The names once labels are written, of which the last ones are kept first.
+-- The names after labels are written, of which the last ones are kept first.
 use Rattle.std.specs.Prelude.{IsTrue, if◌then◌else◌, nat_le, nat_lt, ◌&&◌}
 use Rattle.std.proofs.Common.{◌≡◌, Bool, true, false, ℕ, zero, suc, ◌+◌, ◌<◌, ◌≤◌, None, List, []}
 use Rattle.std.proofs.Common.{◌∷◌, length, length-append, length-drop, take, drop, refl, sym, ap, ◌∙◌, arith, is_some}
@@ -8,7 +8,7 @@ use Rattle.std.specs.FinMap.{get, len, insert, contains_key}
 use Rattle.octseq_dns_compress.specs.FoundNames.{get_other}
 use Rattle.octseq_dns_compress.specs.Names.{Names, Place, is_there, is_kept, with_labels, unrooted}
 
--- what isn't there and isn't the root
+-- labels that aren't found, and aren't the root, aren't there
 absent : (names : Names) (labels : List (List ℕ)) → 0 < length labels → get names labels ≡ None
     → is_there names labels ≡ false
 absent names [] some none = absurd (omega (arith, some))
@@ -17,7 +17,7 @@ absent names (label ∷ labels) some none = ap is_some none
 -- ---- labels that aren't kept
 
 module _ (most : ℕ) (names : Names) (rest : List (List ℕ)) (place : Place) where
-  -- a pointer can't say their place
+  -- a pointer can't express their offset
   pub unkept_far : 16383 < place.at → is_kept most names rest place ≡ false
   unkept_far far =
       ap (λ b. b && (nat_le place.pointers 126 && (nat_lt (len names) most && is_there names rest)))
@@ -39,7 +39,7 @@ module _ (most : ℕ) (names : Names) (rest : List (List ℕ)) (place : Place) w
       ∙ ap (λ b. nat_le place.at 16383 && b) (and-false (nat_le place.pointers 126))
       ∙ and-false (nat_le place.at 16383)
 
--- what is found of longer labels, whatever was tested
+-- the lookup of longer labels, whatever the tests are
 longer : (more names : Names) (labels others : List (List ℕ)) (place : Place) (known kept : Bool)
     → length labels < length others → get more others ≡ get names others
     → get (if known then names else (if kept then insert more labels place else more)) others ≡ get names others
@@ -49,7 +49,7 @@ longer more names labels others place false true less same =
 longer more names labels others place false false less same = same
 
 module _ (most pointers : ℕ) (names : Names) where
-  -- longer rows of labels than those that are written are as they were
+  -- the lookup of more labels than are written doesn't change
   pub with_other : (start : ℕ) (labels others : List (List ℕ)) → length labels < length others
       → get (with_labels most pointers names start labels) others ≡ get names others
   with_other start [] others less = refl
@@ -70,7 +70,7 @@ module _ (most pointers : ℕ) (names : Names) where
       let place : Place = record { at = start; pointers = pointers } in
       if is_kept most more labels place then insert more (label ∷ labels) place else more)) there
 
-  -- a label more that isn't kept
+  -- another label that isn't kept
   pub with_unkept : (start : ℕ) (label : List ℕ) (labels : List (List ℕ)) (more : Names)
       → with_labels most pointers names (start + (1 + length label)) labels ≡ more
       → get names (label ∷ labels) ≡ None
@@ -105,7 +105,7 @@ module _ (most pointers : ℕ) (names : Names) where
       then insert more (label ∷ labels) place else more) (lt-ltb (len more) most room)
       ∙ ap (λ b. if b then insert more (label ∷ labels) place else more) there
 
-  -- no label is kept from which too many pointers are followed
+  -- no label is kept if too many pointers are followed from it
   pub with_many : (start : ℕ) (labels : List (List ℕ)) → 126 < pointers
       → with_labels most pointers names start labels ≡ names
   with_many start [] many = refl
@@ -127,7 +127,7 @@ module _ (most pointers : ℕ) (names : Names) where
             (and-false (nat_le start 16383))
             ∙ same
 
-  -- where labels aren't kept none before them is
+  -- if labels aren't kept, none before them is
   pub with_stopped : (start : ℕ) (labels : List (List ℕ)) (left : ℕ) (more : Names) → left ≤ length labels
       → with_labels most pointers names (start + length (unrooted (take left labels))) (drop left labels) ≡ more
       → is_there more (drop left labels) ≡ false

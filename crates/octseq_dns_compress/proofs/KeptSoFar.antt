@@ -1,4 +1,4 @@
--- The names while the labels of one are kept, the last one first.
+-- The names while the labels of a name are kept, the last one first.
 use Rattle.std.specs.Prelude.{slice_index_or, IsTrue}
 use Rattle.std.proofs.Common.{◌≡◌, ◌⊎◌, inl, inr, ℕ, zero, suc, ◌+◌, ◌-◌, ◌<◌, ◌≤◌, Some, None, List, [], ◌∷◌}
 use Rattle.std.proofs.Common.{◌++◌, length}
@@ -21,11 +21,11 @@ use Rattle.octseq_dns_compress.proofs.Added.{Beside, below_it, here_it, above_it
 use Rattle.octseq_dns_compress.proofs.MoreNames.{MayBeKept, agrees_added}
 use Rattle.octseq_dns_compress.proofs.PlainLabels.{length_there, whole_there, label_there}
 
--- where the label begins that comes after so many
+-- the offset of the label after this many
 abbrev pub place_after : ℕ → List (List ℕ) → ℕ → ℕ
 place_after start labels count = start + length (unrooted (take count labels))
 
--- One label is longer.
+-- it is one label further
 pub further : (start : ℕ) (labels : List (List ℕ)) (v : ℕ) (label : List ℕ) (rest : List (List ℕ))
     → drop v labels ≡ label ∷ rest → place_after start labels (suc v) ≡ place_after start labels v + (1 + length label)
 further start [] zero label rest is = absurd (omega (arith, ap length is))
@@ -41,7 +41,7 @@ further start (l ∷ labels) (suc v) label rest is =
 
 -- ---- a label in the octets
 
--- the labels before one, and those from it on, of the first ones
+-- the labels before one, and those from it on, among the first ones
 first_of : (labels : List (List ℕ)) (v written : ℕ) (label : List ℕ) (rest : List (List ℕ)) → v < written
     → drop v labels ≡ label ∷ rest
     → unrooted (take written labels)
@@ -101,7 +101,7 @@ module _ (octets : List ℕ) (names : Names) (start : ℕ) (labels : List (List 
 
 -- ---- the last position
 
--- what comes after fewer than as many targets as come before it by the place that follows
+-- the position of a label if no target is followed by the same offset
 module _ (octets : List ℕ) (held : List Target) (next position : ℕ) (label : List ℕ)
     (within : position ≤ length held)
     (low : (k : ℕ) (d : Target) → k < position → (slice_index_or held k d).next < next)
@@ -122,14 +122,15 @@ module _ (octets : List ℕ) (held : List Target) (next position : ℕ) (label :
 
 -- ---- the names so far
 
--- The first label that is kept comes among the older targets, and each other one after them and after the first.
+-- The target of the first label that is kept is inserted among the older targets, and each other one after them and
+-- after the first.
 abbrev pub IsPhase : List Target → List (List ℕ) → ℕ → ℕ → ℕ → ℕ → ℕ → Type 0
 IsPhase held labels start older left next position = ((position ≤ older) × (length held ≡ older) × (next < start))
     ⊎ ((position ≡ older + 1) × (older + 1 ≤ length held) × (next ≡ place_after start labels left))
 
--- Labels of a name are kept from the last one on: `left` of those that are written aren't yet, and `next` is the place
--- of what follows them. The targets from the index after `older` on are those of the labels that are kept, but for the
--- last one.
+-- Labels of a name are kept, the last one first: `left` of those that are written aren't kept yet, and `next` is the
+-- offset of what follows them. The targets after the index `older` are those of the labels that are kept, except the
+-- first one kept.
 pub record KeptSoFar (octets : List ℕ) (held : List Target) (now : Names) (labels : List (List ℕ))
     (start older left next position : ℕ) : Type 0 where
   pub agrees : Agrees octets held now
@@ -247,12 +248,12 @@ module _ (octets : List ℕ) (held : List Target) (now : Names) (labels : List (
         subst (λ t. place_after start labels v < t.next)
         (sym (old_at octets held target position within k k' d one from)) (omega (arith, more, n, longer))
 
-  -- there is one more than the older ones
+  -- there is one target more than the older ones
   more_than : IsPhase held labels start older left next position → older + 1 ≤ length (insert held position target)
   more_than (inl first) = let all = first.1 in omega (arith, all, grown)
   more_than (inr later) = let all = later.1 in omega (arith, all, grown)
 
-  -- with the label more
+  -- with one more label
   pub so_far_kept : KeptSoFar octets (insert held position target) (put now (label ∷ rest) place) labels start older v
       (place_after start labels v) (older + 1)
   so_far_kept = record {

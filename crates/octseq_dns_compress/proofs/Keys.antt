@@ -1,4 +1,4 @@
--- Targets in their order, searched by halves.
+-- Binary search among targets in their order.
 use Rattle.std.proofs.Common.{◌≡◌, ◌⊎◌, inl, inr, true, false, ℕ, zero, suc, ◌+◌, ◌*◌, ◌/◌, ◌^◌, ◌<◌, ◌≤◌}
 use Rattle.std.proofs.Common.{List, [], ◌∷◌, length, refl, sym, ap, ◌∙◌, subst, arith}
 use Rattle.std.proofs.lemmas.Cmp.{nat_list_cmp_total}
@@ -14,7 +14,7 @@ use Rattle.std.specs.declared.cmp.Ordering.{Ordering}
 use Rattle.octseq_dns_compress.specs.Key.{key_of, key_cmp, AreTargets, HasKeyAt, HasNoKey}
 use Rattle.octseq_dns_compress.specs.declared.table.Target.{Target}
 
--- what is in the list is so whatever the default is
+-- an element of a list doesn't depend on the default
 pub same_index : (xs : List Target) (i : ℕ) (d e : Target) → i < length xs
     → slice_index_or xs i d ≡ slice_index_or xs i e
 same_index [] i d e inside = absurd (omega (arith, inside))
@@ -35,7 +35,7 @@ less_told Ordering.Equal lt = absurd (true≢false (sym lt))
 less_told Ordering.Greater lt = absurd (true≢false (sym lt))
 
 module _ (octets : List ℕ) (targets : List Target) (key : List ℕ) (sorted : AreTargets octets targets) where
-  -- what is before one that is before the key is before it too
+  -- what is before a target that is before the key is before it too
   pub before_more : (mid : ℕ) (d : Target) (told : Ordering) → mid < length targets
       → told ≡ key_cmp octets (slice_index_or targets mid d) key → is_lt told ≡ true
       → (k : ℕ) (e : Target) → k < mid + 1 → key_cmp octets (slice_index_or targets k e) key ≡ Ordering.Less
@@ -52,7 +52,7 @@ module _ (octets : List ℕ) (targets : List Target) (key : List ℕ) (sorted : 
         nat_list_cmp_total.trans (key_of octets (slice_index_or targets k e))
         (key_of octets (slice_index_or targets mid e)) key (sorted.less k mid e below inside) there
 
-  -- and what is after one that is after the key is after it too
+  -- and what is after a target that is after the key is after it too
   pub after_more : (mid : ℕ) (d : Target) (told : Ordering) → mid < length targets
       → told ≡ key_cmp octets (slice_index_or targets mid d) key → is_lt told ≡ false → is_eq told ≡ false
       → (k : ℕ) (e : Target) → mid ≤ k → k < length targets
@@ -72,7 +72,7 @@ module _ (octets : List ℕ) (targets : List Target) (key : List ℕ) (sorted : 
         let beyond = nat_list_cmp_total.trans key here there less (sorted.less mid k e above within) in
         nat_list_cmp_total.antisymm there key ∙ ap ordering_reverse beyond
 
--- halves of at most 16,384 are 15
+-- each step at least halves what is left
 pub halved : (ticks more left fewer all : ℕ) → more ≡ ticks + 1 → fewer ≤ left / 2 → 2 ^ ticks * left ≤ all
     → 2 ^ more * fewer ≤ all
 halved ticks more left fewer all next half few =
@@ -93,7 +93,7 @@ few_halves ticks left some few = lt_or_ge (dec_le 15 ticks) where
 
 -- ---- keys that are there
 
--- a key is neither before itself nor after
+-- a key compares as equal to itself
 same_key : (key : List ℕ) → slice_cmp nat_cmp key key ≡ Ordering.Equal
 same_key key = alike (slice_cmp nat_cmp key key) (nat_list_cmp_total.antisymm key key) where
   alike : (told : Ordering) → told ≡ ordering_reverse told → told ≡ Ordering.Equal
@@ -115,7 +115,7 @@ pub key_equal : (octets : List ℕ) (targets : List Target) (key : List ℕ) (in
 key_equal octets targets key index d has =
     subst (λ k. slice_cmp nat_cmp k key ≡ Ordering.Equal) (sym (has.is d)) (same_key key)
 
--- a key that some targets come before, and all others after, is nowhere
+-- no target has a key that some targets come before, and all others after
 pub nowhere : (octets : List ℕ) (targets : List Target) (key : List ℕ) (position : ℕ)
     → ((k : ℕ) (d : Target) → k < position → key_cmp octets (slice_index_or targets k d) key ≡ Ordering.Less)
     → ((k : ℕ) (d : Target) → position ≤ k → k < length targets
@@ -136,7 +136,7 @@ nowhere octets targets key position before after index has = below (lt_or_ge (de
   below (inl less) = true≢false (sym (ap is_lt (before index d less)) ∙ ap is_lt equal)
   below (inr from) = true≢false (sym (ap is_eq equal) ∙ ap is_eq (after index d from has.within))
 
--- at least half of what was left is left, so as many turns leave the last of them
+-- at least half of what was left is left, which bounds the number of turns from below
 pub halves_left : (ticks more left less total : ℕ) → more ≡ ticks + 1 → left + 2 ≤ 2 * (less + 2)
     → total + 2 ≤ (left + 2) * 2 ^ ticks → total + 2 ≤ (less + 2) * 2 ^ more
 halves_left ticks more left less total next half all =

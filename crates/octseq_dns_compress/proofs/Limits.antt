@@ -1,4 +1,4 @@
--- Fewer octets than those that are within a limit don't pass it.
+-- Fewer octets than those that are within a limit don't exceed it.
 use Rattle.std.proofs.Common.{ℕ, ◌≤◌, Option, Some, None, arith}
 use Rattle.octseq.specs.Limit.{IsPast, IsWithin}
 

@@ -1,4 +1,4 @@
--- A message in which an entry begins at a place, and data at another: what is before them stays.
+-- A message in which an entry begins at one offset, and data at another: what is before them stays.
 use Rattle.std.specs.Prelude.{not, slice_index_or, nat_lt, cond}
 use Rattle.std.proofs.Common.{◌≡◌, Bool, true, false, ℕ, suc, ◌+◌, ◌<◌, ◌≤◌, List, [], ◌∷◌, ◌++◌, length}
 use Rattle.std.proofs.Common.{take, refl, sym, ap, ◌∙◌, subst, arith}
@@ -18,9 +18,9 @@ use Rattle.octseq_dns_compress.specs.declared.table.Target.{Target}
 use Rattle.octseq_dns_compress.proofs.Grown.{octet_stays}
 use Rattle.octseq_dns_compress.proofs.Steps.{Grows}
 
--- ---- targets before a place
+-- ---- targets before an offset
 
--- of two tests of which one is stronger, that one decides
+-- of two tests, the stronger one decides
 pub before_twice : (near far : ℕ) → near ≤ far → (targets : List Target)
     → before near (before far targets) ≡ before near targets
 before_twice near far less [] = refl
@@ -40,7 +40,7 @@ before_fewer place targets =
     let both = length-filter_both (λ t. nat_lt t.at place) (λ t. not (nat_lt t.at place)) (λ t. refl) targets in
     omega (arith, both)
 
--- what is true of those before a place, and of each that isn't, is true of all
+-- what holds of the targets before an offset, and of all others, holds of all
 all_by_before : (place : ℕ) (P : Target → Type 0) → ((t : Target) → place ≤ t.at → P t) → (targets : List Target)
     → All P (before place targets) → All P targets
 all_by_before place P past [] each = All-nil P
@@ -57,7 +57,7 @@ all_by_before place P past (target ∷ targets) each =
 
 -- ---- where an entry begins
 
--- known names are known of other octets and targets that are the same
+-- the names of equal octets and targets are known too
 pub known_same : (old new : List ℕ) (held kept : List Target) → new ≡ old → kept ≡ held → Known old held
     → Known new kept
 known_same old new held kept same alike known = (
@@ -72,7 +72,7 @@ unfolding known_same
 same_names old new held kept same alike known now =
     ap (λ k. k.0) (known_once new kept now (known_same old new held kept same alike known))
 
--- octets before a place stay where others come after them
+-- the octets before an offset stay as others are appended
 pub take_grown : (octets new : List ℕ) (start : ℕ) → Grows octets new → start ≤ length octets
     → take start new ≡ take start octets
 take_grown octets new start grows within =
@@ -122,7 +122,7 @@ module _ (octets new : List ℕ) (place : ℕ) (grows : Grows octets new) (withi
       ∙ octet_stays octets grows.0 target.at (omega (arith, near, within)) in
       omega (arith, ends, same)
 
-  -- labels are still apart where others come after the octets
+  -- labels are still apart after more octets are appended
   pub still_apart : (targets : List Target) → AreApart octets place targets → AreApart new place targets
   still_apart targets are = All-weaker (IsApart octets place) (IsApart new place) apart_grown targets are
 
@@ -132,7 +132,7 @@ module _ (octets new : List ℕ) (place : ℕ) (grows : Grows octets new) (withi
       all_by_before (length octets) (IsApart new place) (λ t past near. absurd (omega (arith, past, near, within))) kept
       (subst (All (IsApart new place)) (sym same) (still_apart held are))
 
--- whole labels are apart from two octets that come after them
+-- whole labels are apart from two octets that are appended after them
 pub data_apart : (octets new more : List ℕ) (place : ℕ) (targets : List Target) → AreTargets octets targets
     → new ≡ octets ++ more → place ≡ length octets + 2 → AreApart new place targets
 data_apart octets new more place targets are grown end i d within near =

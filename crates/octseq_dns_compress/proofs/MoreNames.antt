@@ -16,8 +16,8 @@ use Rattle.octseq_dns_compress.specs.Names.{Names, Place, is_there}
 use Rattle.octseq_dns_compress.specs.declared.table.Target.{Target}
 use Rattle.octseq_dns_compress.proofs.Added.{targets_added, each_of}
 
--- A name that isn't there may be kept: its first label is at its place, which a pointer can say and no other name has,
--- and what follows is there.
+-- A name that isn't there may be kept: its first label is at its place, which a pointer can express and no other name
+-- has, and what follows is there.
 pub record MayBeKept (octets : List ℕ) (names : Names) (label : List ℕ) (rest : List (List ℕ)) (place : Place)
     : Type 0 where
   pub new : get names (label ∷ rest) ≡ None

@@ -1,4 +1,4 @@
--- Targets in a message of which some octets are written over: labels before them and after them stay.
+-- Targets in a message some of whose octets are overwritten: labels before and after them stay.
 use Rattle.std.specs.Prelude.{slice_index_or, nat_lt}
 use Rattle.std.proofs.lemmas.Bool.{ltb-false, ltb-true}
 use Rattle.std.proofs.Common.{Bool, true, false, refl}
@@ -14,15 +14,15 @@ use Rattle.octseq_dns_compress.specs.declared.table.Target.{Target}
 use Rattle.octseq_dns_compress.proofs.Marked.{after_header}
 use Rattle.octseq_dns_compress.proofs.Grown.{IsAlike, octet_stays, label_stays, known_alike, alike_names}
 
--- octets have as many octets after a change
+-- octets, overwritten from an offset on
 abbrev pub put_over : List ℕ → ℕ → List ℕ → List ℕ
 put_over octets at put = take at octets ++ (put ++ drop (at + length put) octets)
 
--- a label is before what is written over, or after it
+-- a label is before what is overwritten, or after it
 abbrev pub IsClear : List ℕ → ℕ → ℕ → ℕ → Type 0
 IsClear octets from to at = (at + (1 + slice_index_or octets at 0) ≤ from) ⊎ (to ≤ at)
 
--- with one front
+-- with the same front
 alike_front : (front x y : List ℕ) (at : ℕ) → at + (1 + slice_index_or (front ++ x) at 0) ≤ length front
     → IsAlike (front ++ x) (front ++ y) at
 alike_front front x y at within =
@@ -32,7 +32,7 @@ alike_front front x y at within =
     let whole : IsWhole front at = omega (arith, within, one) in
     (other ∙ sym one, label_stays front y at whole ∙ sym (label_stays front x at whole))
 
--- with one back
+-- with the same back
 alike_back : (old new : List ℕ) (at : ℕ) → drop at new ≡ drop at old → IsAlike old new at
 unfolding label_at
 alike_back old new at same =
@@ -50,7 +50,7 @@ module _ (octets put : List ℕ) (at : ℕ) (room : at + length put ≤ length o
       let inner = length-append put (drop (at + length put) octets) in
       omega (arith, room, front, back, outer, inner)
 
-  -- past what is written over
+  -- after what is overwritten
   over_drop : (n : ℕ) → at + length put ≤ n → drop n (put_over octets at put) ≡ drop n octets
   over_drop n past =
       let front = length-take at octets in
@@ -70,7 +70,7 @@ module _ (octets put : List ℕ) (at : ℕ) (room : at + length put ≤ length o
       (omega (arith, before, front, room))))
   over_alike place (inr after) = alike_back octets (put_over octets at put) place (over_drop place after)
 
--- octets that are others with some written over
+-- octets of which some are overwritten
 module _ (octets put new : List ℕ) (at : ℕ) (room : at + length put ≤ length octets)
     (new_is : new ≡ put_over octets at put) (targets : List Target)
     (clear : (i : ℕ) (d : Target) → i < length targets
@@ -97,9 +97,9 @@ module _ (octets put new : List ℕ) (at : ℕ) (room : at + length put ≤ leng
       let same = (stay_alike i d within).0 in
       omega (arith, ends, same)
 
--- ---- a header, and the number of octets of data
+-- ---- a header, and the length of data
 
--- octets before a place, with a header written over
+-- octets before an offset, with the header overwritten
 pub take_headed : (octets header : List ℕ) (start : ℕ) → length header ≤ start
     → take start (put_over octets 0 header) ≡ put_over (take start octets) 0 header
 take_headed octets header start late =
@@ -134,7 +134,7 @@ count_clear octets put place targets two room apart i d within =
       by_test false is =
           let past = ltb-false (slice_index_or targets i d).at place is in inr (omega (arith, past, two, room))
 
--- octets before a place before what is written over
+-- the octets before what is overwritten don't change
 pub take_before : (octets put : List ℕ) (at start : ℕ) → start ≤ at → at ≤ length octets
     → take start (put_over octets at put) ≡ take start octets
 take_before octets put at start less within =

@@ -1,4 +1,4 @@
--- A name that comes next in a window, where it was written with the names that pointers may lead to.
+-- Reading a name that was written with the names that pointers may lead to.
 use Rattle.std.specs.Prelude.{if◌then◌else◌}
 use Rattle.std.proofs.Common.{◌≡◌, ℕ, suc, ◌+◌, ◌/◌, ◌%◌, ◌<◌, ◌≤◌, Option, Some, None, List, [], ◌∷◌, ◌++◌}
 use Rattle.std.proofs.Common.{length, length-append, append_assoc, is_some, refl, sym, ap, ◌∙◌, subst, arith}
@@ -59,12 +59,12 @@ pointer_next start w place after before is =
 
 -- ---- names
 
--- the octets of a name, by what is found of it
+-- the octets of a name, by the result of its lookup
 abbrev pub octets_by : Names → List ℕ → List (List ℕ) → Option Place → List ℕ
 octets_by names label labels found = unrooted (if is_some found then [] else label ∷ first_labels names labels)
     ++ ending (option_or found (last_place names labels))
 
--- where it isn't there its first label is written, and the others as they are alone
+-- if it isn't there, its first label is written, followed by the other labels as a name
 pub octets_new : (names : Names) (label : List ℕ) (labels : List (List ℕ))
     → octets_by names label labels None ≡ length label ∷ (label ++ name_octets names labels)
 octets_new names label labels =
@@ -77,7 +77,7 @@ pub record AreBefore (names : Names) (start : ℕ) (w : Window) : Type 0 where
   pub there : (labels : List (List ℕ)) (place : Place) → get names labels ≡ Some place
       → (v : Window) × Stands place.at (at place.at w) labels place.pointers v
 
--- where the octets of a name come next, its labels are there
+-- if the octets of a name come next, its labels are there
 pub name_next : (names : Names) (start : ℕ) (w : Window) (labels : List (List ℕ)) (after : List ℕ)
     → AreBefore names start w → AreLabels labels → rest w ≡ name_octets names labels ++ after
     → Stands start w labels (pointers_from (last_place names labels)) (past (length (name_octets names labels)) w)

@@ -1,4 +1,4 @@
--- Where the labels of a name are that are left, one after another.
+-- Where the labels that are left of a name are, one after another.
 use Rattle.std.specs.Prelude.{slice_index_or, slice_set}
 use Rattle.std.proofs.Common.{◌≡◌, ℕ, zero, suc, ◌+◌, ◌-◌, ◌<◌, ◌≤◌, List, [], ◌∷◌, ◌++◌, length, take, drop}
 use Rattle.std.proofs.Common.{sym, ap, ◌∙◌, subst, arith, append_assoc}
@@ -17,7 +17,7 @@ use Rattle.octseq_dns_name.specs.Name.{HasLabel, octet}
 use Rattle.octseq_dns_name.specs.NameFormat.{be_one}
 use Rattle.octseq_dns_name.specs.NextLabel.{NextLabel}
 
--- The octets of a window's message before a label's place are the label's length, and the label is whole.
+-- The octet before a label's octets is its length, and the label is whole.
 pub record IsPlace (w place on : Window) : Type 0 where
   pub octets : on.octets ≡ w.octets
   pub end : on.end ≡ w.end
@@ -34,7 +34,7 @@ octet_is w within =
     ap be (ap (λ n. take n (drop p w.octets)) one ∙ ap (take 1) (drop_more w.octets p 0 within))
     ∙ be_one (slice_index_or w.octets p 0)
 
--- so it is of a label that is here
+-- so is the octet before a label that is here
 here_is : (w on : Window) (l : List ℕ) → w.end ≤ length w.octets → HasLabel w l on → IsPlace w (part 1 w) on
 here_is w on l within has =
     let p = w.position in
@@ -58,7 +58,7 @@ here_is w on l within has =
       some = omega (arith, size, left, taken, whole, len, some);
     }
 
--- and of the next one, wherever it is
+-- and before the next label, wherever it is
 pub next_place : (start : ℕ) (w place on : Window) (began : ℕ) → w.end ≤ length w.octets
     → NextLabel start w place began on → IsPlace w place on
 next_place start w place on began within (NextLabel.here {l = l} has is) =
@@ -67,7 +67,7 @@ next_place start w place on began within (NextLabel.pointed {to = to} has more) 
     let it = next_place to (at to w) place on began within more in
     record { octets = it.octets; end = it.end; after = it.after; whole = it.whole; label_is = it.label_is; some = it.some }
 
--- one more of them is known
+-- one more offset is known
 module _ (octets starts : List ℕ) (count place : ℕ) (within : count < length starts) where
   more_set : take (count + 1) (slice_set starts count place) ≡ take count starts ++ place ∷ []
   more_set = take_more_set starts count place within
@@ -89,12 +89,12 @@ module _ (octets starts : List ℕ) (count place : ℕ) (within : count < length
       ∙ append_assoc (labels_at octets (take count starts)) (label_of octets place ∷ []) left
       ∙ ap (λ l. labels_at octets (take count starts) ++ (l ∷ left)) is ∙ are
 
--- the octets that a name is read from are those of its window
+-- a name is read from the octets of its window
 pub source_is : {R : Type 0} {g : Ghosts R} (octets : List ℕ) (source : R) (parser : Parser R g) (w : Window)
     → octets ≡ g.content source → source ≡ sequence parser → window parser ≡ w → octets ≡ w.octets
 source_is {g = g} octets source parser w is from at = is ∙ ap g.content from ∙ ap (λ w. w.octets) at
 
--- the labels at their places are those of the name
+-- the labels at their offsets are those of the name
 pub read_labels : (octets others starts : List ℕ) (plain labels : List (List ℕ)) → octets ≡ others
     → plain ≡ labels_at octets starts → labels_at others starts ≡ labels → plain ≡ labels
 read_labels octets others starts plain labels same is are = is ∙ ap (λ o. labels_at o starts) same ∙ are

@@ -1,4 +1,4 @@
--- A name is no longer than in plain form, in which it is written where there are no names.
+-- A name is no longer than without compression, and isn't compressed if there are no names.
 use Rattle.std.proofs.Common.{◌≡◌, ℕ, ◌+◌, ◌≤◌, Option, Some, None, List, [], ◌∷◌, ◌++◌, length, refl, sym}
 use Rattle.std.proofs.Common.{ap, ◌∙◌, arith, length-append}
 use Rattle.std.specs.FinMap.{get, empty, get-empty}
@@ -23,7 +23,7 @@ name_shorter names (label ∷ labels) = by_found (get names (label ∷ labels)) 
       let both = length-append label (name_octets names labels) in
       omega (arith, size, both, shorter)
 
--- Where there are no names it is its wire form,
+-- if there are no names, it is its wire form
 pub plain_octets : (labels : List (List ℕ)) → name_octets empty labels ≡ wire labels
 plain_octets [] = refl
 plain_octets (label ∷ labels) =
@@ -37,6 +37,6 @@ labels_plain pointers start (label ∷ labels) =
     (get-empty labels_cmp (label ∷ labels))
     (unkept_full 0 empty labels (record { at = start; pointers = pointers }) (omega arith))
 
--- and where none may be kept there are none after it.
+-- and if none may be kept, there are none after it
 pub plain_names : (start : ℕ) (labels : List (List ℕ)) → names_with 0 empty start labels ≡ empty
 plain_names start labels = labels_plain (pointers_from (last_place empty labels)) start labels

@@ -1,4 +1,4 @@
--- Labels, each after its length, and where they are.
+-- Labels with their length octets, and their offsets.
 use Rattle.std.specs.Prelude.{slice_index_or}
 use Rattle.std.proofs.Common.{◌≡◌, ℕ, zero, suc, ◌+◌, ◌-◌, ◌<◌, ◌≤◌, List, [], ◌∷◌, ◌++◌, length, take, drop, refl}
 use Rattle.std.proofs.Common.{sym, ap}
@@ -11,7 +11,7 @@ use Rattle.octseq_dns_compress.specs.Key.{label_at, IsWhole}
 use Rattle.octseq_dns_compress.specs.Names.{unrooted}
 use Rattle.octseq_dns_compress.specs.PlainName.{label_of, labels_at, AreWhole}
 
--- the octets are those of the first labels and then those of the others
+-- the octets are those of the first labels, followed by those of the others
 pub front_and_rest : (index : ℕ) (labels : List (List ℕ))
     → unrooted labels ≡ unrooted (take index labels) ++ unrooted (drop index labels)
 front_and_rest zero labels = refl
@@ -20,7 +20,7 @@ front_and_rest (suc index) (label ∷ labels) =
     ap (λ o. length label ∷ (label ++ o)) (front_and_rest index labels)
     ∙ sym (append_assoc (length label ∷ label) (unrooted (take index labels)) (unrooted (drop index labels)))
 
--- in wire form the root is one more
+-- the wire form has one more octet, the root
 pub wire_of_unrooted : (labels : List (List ℕ)) → wire_length labels ≡ 1 + length (unrooted labels)
 wire_of_unrooted [] = refl
 wire_of_unrooted (label ∷ labels) =
@@ -28,7 +28,7 @@ wire_of_unrooted (label ∷ labels) =
     let long = length-append label (unrooted labels) in omega (arith, more, long)
 
 module _ (octets front label back : List ℕ) (is : octets ≡ front ++ (length label ∷ label ++ back)) where
-  -- the octet of a label's length
+  -- the length octet of a label
   pub length_there : slice_index_or octets (length front) 0 ≡ length label
   length_there = ap (λ o. slice_index_or o (length front) 0) is ∙ get_or-append_seam front (length label) (label ++
       back) 0
@@ -46,7 +46,7 @@ module _ (octets front label back : List ℕ) (is : octets ≡ front ++ (length 
       ∙ ap (take (1 + length label)) (drop-append_seam front (length label ∷ label ++ back))
       ∙ ap (λ n. take n ((length label ∷ label) ++ back)) more ∙ take-append_seam (length label ∷ label) back
 
--- labels after their lengths have an octet each at least
+-- labels with their length octets have at least one octet each
 pub unrooted_longer : (labels : List (List ℕ)) → length labels ≤ length (unrooted labels)
 unrooted_longer [] = omega arith
 unrooted_longer (label ∷ labels) =
@@ -56,7 +56,7 @@ unrooted_longer (label ∷ labels) =
 
 -- ---- by index
 
--- the octets of a label that is whole are its length and its own
+-- the octets of a whole label are its length octet and its own
 module _ (octets : List ℕ) (at : ℕ) (whole : IsWhole octets at) where
   label_taken : label_at octets at ≡ slice_index_or octets at 0 ∷ take (slice_index_or octets at 0) (drop (at + 1) octets)
   unfolding label_at
@@ -76,7 +76,7 @@ module _ (octets : List ℕ) (at : ℕ) (whole : IsWhole octets at) where
       let size : len ≡ length (take len (drop (at + 1) octets)) = omega (arith, whole, taken, left) in
       label_taken ∙ ap (λ n. n ∷ take len (drop (at + 1) octets)) size ∙ ap (λ l. length l ∷ l) (sym label_of_taken)
 
--- a label of a name is read at its place
+-- a label of a name is read at its offset
 pub label_read : (octets starts : List ℕ) (index start : ℕ) (label : List ℕ) (rest : List (List ℕ))
     → AreWhole octets starts → index < length (labels_at octets starts) → start ≡ slice_index_or starts index 0
     → drop index (labels_at octets starts) ≡ label ∷ rest → label_at octets start ≡ length label ∷ label
@@ -92,7 +92,7 @@ label_read octets starts index start label rest whole within is here =
       whole_at it = let same = is in
           let len = ap (λ n. slice_index_or octets n 0) is in omega (arith, it, same, len)
 
--- the first labels have as many octets more as the next one has with its length
+-- one more of the first labels adds its octets and its length octet
 module _ (labels : List (List ℕ)) (count : ℕ) (read : List ℕ) (within : count < length labels)
     (is : (label : List ℕ) (rest : List (List ℕ)) → drop count labels ≡ label ∷ rest → read ≡ length label ∷ label)
   where
@@ -106,7 +106,7 @@ module _ (labels : List (List ℕ)) (count : ℕ) (read : List ℕ) (within : co
     pub one_label_longer : length (unrooted (take (count + 1) labels)) ≡ length (unrooted (take count labels)) + length read
     one_label_longer = ap length one_label_more ∙ length-append (unrooted (take count labels)) read
 
--- so the last of the first labels has as many of their octets
+-- so the last of the first labels adds its own
 pub last_label : (labels : List (List ℕ)) (count : ℕ) (read : List ℕ) → 0 < count → count ≤ length labels
     → ((label : List ℕ) (rest : List (List ℕ)) → drop (count - 1) labels ≡ label ∷ rest → read ≡ length label ∷ label)
     → length (unrooted (take count labels)) ≡ length (unrooted (take (count - 1) labels)) + length read
@@ -115,7 +115,7 @@ last_label labels count read some within is =
     ap (λ n. length (unrooted (take n labels))) same
     ∙ one_label_longer labels (count - 1) read (omega (arith, some, within)) is
 
--- fewer of the first labels have no more octets
+-- fewer of the first labels don't have more octets
 pub fewer_shorter : (labels : List (List ℕ)) (few many : ℕ) → few ≤ many
     → length (unrooted (take few labels)) ≤ length (unrooted (take many labels))
 fewer_shorter labels few many less =

@@ -1,4 +1,4 @@
--- The labels of a name looked for from the last one on.
+-- Searching for the labels of a name, the last one first.
 use Rattle.std.specs.Prelude.{slice_index_or, IsTrue, if◌then◌else◌}
 use Rattle.std.proofs.Common.{◌≡◌, ℕ, zero, suc, ◌+◌, ◌-◌, ◌<◌, ◌≤◌, None, List, [], ◌∷◌, length, take, drop, refl, sym}
 use Rattle.std.proofs.Common.{ap, ◌∙◌, subst, arith, is_some, drop_of_length-le}
@@ -26,7 +26,7 @@ module _ {octets : List ℕ} {targets : List Target} (names : Names) (agrees : A
         pointers_are = sym (ap pointers_from agrees.root);
       })
 
-  -- a label more that is there
+  -- one more label is there
   pub ends_before : (label : List ℕ) (rest : List (List ℕ)) (next pointers index : ℕ) (d : Target)
       → Ends names rest next pointers → HasKeyAt octets targets (next ∷ length label ∷ label) index
       → Ends names (label ∷ rest) (slice_index_or targets index d).at ((slice_index_or targets index d).pointers + 1)
@@ -39,13 +39,13 @@ module _ {octets : List ℕ} {targets : List Target} (names : Names) (agrees : A
         pointers_are = ap (λ t. t.pointers + 1) it.2 ∙ sym (ap pointers_from it.1);
       }
 
-  -- or isn't
+  -- or it isn't
   pub none_before : (label : List ℕ) (rest : List (List ℕ)) (next pointers : ℕ) → Ends names rest next pointers
       → HasNoKey octets targets (next ∷ length label ∷ label) → get names (label ∷ rest) ≡ None
   none_before label rest next pointers ends none =
       missing agrees label rest (subst (λ n. HasNoKey octets targets (n ∷ length label ∷ label)) ends.next_is none)
 
-  -- what isn't there has no labels before it that are
+  -- labels whose suffix isn't there aren't there
   not_there : (labels : List (List ℕ)) (k : ℕ) → k < length labels → get names (drop k labels) ≡ None
       → get names labels ≡ None
   not_there labels zero within none = none
@@ -80,7 +80,7 @@ module _ {octets : List ℕ} {targets : List Target} (names : Names) (agrees : A
 
 -- ---- by index
 
--- one label more of those of a name, where it is read after its length
+-- one more label of a name, read with its length octet
 pub ends_at : (octets : List ℕ) (targets : List Target) (names : Names) → Agrees octets targets names
     → (labels : List (List ℕ)) (written : ℕ) (octets_read : List ℕ) (next pointers index : ℕ) (d : Target)
     → 0 < written → written ≤ length labels
@@ -104,7 +104,7 @@ ends_at octets targets names agrees labels written octets_read next pointers ind
     (subst (λ n. Ends names (drop n labels) next pointers) (sym same) ends)
     (subst (λ o. HasKeyAt octets targets (next ∷ o) index) (read label rest here) has))
 
--- and where no target has its key it isn't there
+-- and if no target has its key, it isn't there
 pub none_at : (octets : List ℕ) (targets : List Target) (names : Names) → Agrees octets targets names
     → (labels : List (List ℕ)) (written v : ℕ) (octets_read : List ℕ) (next pointers : ℕ)
     → written ≡ suc v → written ≤ length labels

@@ -1,4 +1,4 @@
--- Names that were written are read as them, and so are those that pointers may then lead to.
+-- A name that was written is read as such, and so are the names that pointers may lead to after it.
 use Rattle.std.specs.Prelude.{nat_le, nat_lt, ◌&&◌, if◌then◌else◌, IsTrue}
 use Rattle.std.proofs.Common.{◌≡◌, ◌⊎◌, inl, inr, Bool, true, false, ℕ, ◌+◌, ◌-◌, ◌<◌, ◌≤◌, Option, Some, None, List}
 use Rattle.std.proofs.Common.{[], ◌∷◌, ◌++◌, length, drop, replicate, is_some, refl, sym, ap, ◌∙◌, subst, arith}
@@ -22,13 +22,13 @@ use Rattle.octseq_dns_name.specs.Name.{Stands, IsName}
 use Rattle.octseq_dns_name.specs.NameFormat.{stands_takes}
 use Rattle.octseq_dns_name.specs.Wire.{AreLabels}
 
--- a message under another header, with more after it
+-- a message with another header, followed by more
 abbrev pub all_of : List ℕ → List ℕ → List ℕ → List ℕ
 all_of header octets more = header ++ (drop 12 octets ++ more)
 
--- ---- none
+-- ---- no names
 
--- nothing is found of no names
+-- nothing is found among no names
 pub none_named : (octets : List ℕ) → AreNamed octets empty
 none_named octets = record {
   there = λ labels place found. absurd (never labels place found);
@@ -40,7 +40,7 @@ none_named octets = record {
 
 -- ---- as the message changes
 
--- names are at their places in another message where labels stay at theirs
+-- names are at their places in another message if labels stay at theirs
 named_by : (octets new : List ℕ) (names : Names)
     → ((place : ℕ) (labels : List (List ℕ)) (pointers : ℕ) → AreAt octets place labels pointers
     → AreAt new place labels pointers)
@@ -51,7 +51,7 @@ named_by octets new names stay named = record {
   few = named.few;
 }
 
--- a message that grows, with more after it
+-- a message that grows, followed by more
 all_grows : (header octets more after : List ℕ) → 12 ≤ length octets
     → all_of header octets (more ++ after) ≡ all_of header (octets ++ more) after
 all_grows header octets more after headed =
@@ -111,7 +111,7 @@ named_before octets names headed named labels place found =
     let fewer = length-drop 12 octets in
     omega (arith, room, long, more, fewer, headed, twelve)
 
--- what is left at a place after the header, whatever comes after the message
+-- what is left at an offset after the header, whatever follows the message
 pub rest_at : (header octets more : List ℕ) (place : ℕ) → length header ≡ 12 → 12 ≤ place → place ≤ length octets
     → rest (at place (whole (all_of header octets more))) ≡ drop place octets ++ more
 rest_at header octets more place headed late within =
@@ -125,7 +125,7 @@ rest_at header octets more place headed late within =
     ∙ drop-append-le place (header ++ drop 12 octets) more inside
     ∙ ap (λ rest. rest ++ more) (drop-append-drop 12 octets header place late headed)
 
--- the octets of a name are at a place, which is after those of the names
+-- the octets of a name are at an offset, after the names
 record IsWrittenAt (octets : List ℕ) (names : Names) (place : ℕ) (labels : List (List ℕ)) : Type 0 where
   pub each : AreLabels labels
   pub late : 12 ≤ place
@@ -148,7 +148,7 @@ labels_at octets names place labels named written header more headed =
     (rest_at header octets more place headed written.late written.within
     ∙ ap (λ front. front ++ more) written.octets_are)
 
--- so it is where a name is written after a message
+-- and so they are if the name is written after a message
 written_at : (octets : List ℕ) (names : Names) (labels : List (List ℕ)) → 12 ≤ length octets → AreNamed octets names
     → AreLabels labels → IsWrittenAt (octets ++ name_octets names labels) names (length octets) labels
 written_at octets names labels headed named each = record {
@@ -159,7 +159,7 @@ written_at octets names labels headed named each = record {
   octets_are = drop-append_seam octets (name_octets names labels);
 }
 
--- as many pointers are followed as a name may have
+-- at most as many pointers are followed as a name may have
 few_from : (octets : List ℕ) (names : Names) → AreNamed octets names → (labels : List (List ℕ))
     → pointers_from (last_place names labels) ≤ 127
 few_from octets names named [] = omega arith
@@ -171,7 +171,7 @@ few_from octets names named (label ∷ labels) =
       by_found (Some place) found others = let few = named.few (label ∷ labels) place found in omega (arith, few)
       by_found None found others = others
 
--- A name that is written after a message is read as that name, whatever its header says and whatever comes after it.
+-- A name that is written after a message is read as that name, whatever its header says and whatever follows it.
 pub name_is_read : (octets : List ℕ) (names : Names) (labels : List (List ℕ)) → 12 ≤ length octets
     → AreNamed octets names → NameFits labels → (header more : List ℕ) → length header ≡ 12
     → let all = header ++ (drop 12 (octets ++ name_octets names labels) ++ more) in
@@ -186,9 +186,9 @@ name_is_read octets names labels headed named fits header more long = record {
   few = few_from octets names named labels;
 }
 
--- ---- the names once it is written
+-- ---- the names after it is written
 
--- one name more
+-- one more name
 named_put : (octets : List ℕ) (names : Names) (labels : List (List ℕ)) (place : Place) → AreNamed octets names
     → AreAt octets place.at labels place.pointers → place.at ≤ 16383 → place.pointers ≤ 126
     → AreNamed octets (insert names labels place)
@@ -197,7 +197,7 @@ named_put octets names labels place named are near few = record {
   near = each (λ others other. other.at ≤ 16383) near named.near;
   few = each (λ others other. other.pointers ≤ 126) few named.few;
 } where
-  -- what is so of it and of the others is so of all
+  -- what holds of it and of the others holds of all
   each : (P : List (List ℕ) → Place → Type 0) → P labels place
       → ((others : List (List ℕ)) (other : Place) → get names others ≡ Some other → P others other)
       → (others : List (List ℕ)) (other : Place) → get (insert names labels place) others ≡ Some other → P others other
@@ -209,7 +209,7 @@ named_put octets names labels place named are near few = record {
         subst (λ p. P others p) one (subst (λ l. P l place) (sym same) new)
     by_name (inr apart) = old others other (sym (get_other names labels others place apart) ∙ found)
 
--- what is kept has a near place, from where few pointers are followed
+-- a name that is kept is at an offset that a pointer can express, from which few pointers are followed
 kept_near : (most : ℕ) (names : Names) (labels : List (List ℕ)) (place : Place)
     → IsTrue (is_kept most names labels place) → (place.at ≤ 16383) × (place.pointers ≤ 126)
 kept_near most names labels place kept = by (nat_le place.at 16383) (nat_le place.pointers 126) refl refl kept where
@@ -229,7 +229,7 @@ named_kept octets most names label labels place true is named are =
     named_put octets names (label ∷ labels) place named are near.0 near.1
 named_kept octets most names label labels place false is named are = named
 
--- the labels that follow a new one are written after it
+-- the labels after a new one are written after it
 written_more : (octets : List ℕ) (names : Names) (place : ℕ) (label : List ℕ) (labels : List (List ℕ))
     → IsWrittenAt octets names place (label ∷ labels) → get names (label ∷ labels) ≡ None
     → IsWrittenAt octets names (place + (1 + length label)) labels
@@ -280,7 +280,7 @@ labels_named octets most names start (label ∷ labels) named written =
           let place : Place = record { at = start; pointers = pointers } in
           named_kept octets most more label labels place (is_kept most more labels place) refl (others found) are
 
--- The names once a name is written after a message are at their places.
+-- After a name is written after a message, the names are at their places.
 pub named_with : (most : ℕ) (octets : List ℕ) (names : Names) (labels : List (List ℕ)) → 12 ≤ length octets
     → AreNamed octets names → NameFits labels
     → AreNamed (octets ++ name_octets names labels) (names_with most names (length octets) labels)

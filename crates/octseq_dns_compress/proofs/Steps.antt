@@ -1,4 +1,4 @@
--- What each call leaves of a message that is composed.
+-- What each call does to a composed message.
 use Rattle.std.proofs.Common.{◌≡◌, ℕ, ◌+◌, ◌≤◌, Bool, Option, Ok, Err, List, [], ◌++◌, length, length-append, sym}
 use Rattle.std.proofs.Common.{ap, ◌∙◌}
 use Rattle.std.proofs.Common.{subst, arith, append-nil, Result}
@@ -14,7 +14,7 @@ use Rattle.octseq_dns_compress.proofs.Grown.{agrees_grown}
 abbrev pub Grows : List ℕ → List ℕ → Type 0
 Grows old new = (more : List ℕ) × (new ≡ old ++ more)
 
--- as they do after an append, whatever it answers
+-- as after an append, whatever it returns
 pub appended_grows : {limit : Option ℕ} {asks : Bool} {octets old new : List ℕ} (result : Result (Unit {0}) AppendError)
     → Appends limit asks result octets old new → Grows old new
 appended_grows {octets = octets} (Ok _) appends = (octets, appends.ok)

@@ -1,24 +1,24 @@
--- Targets in a message, and the names that they are of.
+-- The targets in a message, and the names that they belong to.
 use Rattle.std.specs.Prelude.{◌≡◌, ℕ, ◌<◌, ◌≤◌, Option, Some, None, List, [], ◌∷◌, length, slice_index_or, IsTrue}
 use Rattle.std.specs.FinMap.{get, len}
 use Rattle.octseq_dns_compress.specs.Key.{label_at, IsWhole, AreTargets}
 use Rattle.octseq_dns_compress.specs.Names.{Names, Place, is_there}
 use Rattle.octseq_dns_compress.specs.declared.table.Target.{Target}
 
--- the place of a name, or 0 where there is none
+-- the offset of a place, or 0 if there is none
 abbrev pub at_or_zero : Option Place → ℕ
 at_or_zero None = 0
 at_or_zero (Some place) = place.at
 
--- the place of labels, or 0 for the root
+-- the offset of labels, or 0 if they are the root or have no place
 abbrev pub place_of : Names → List (List ℕ) → ℕ
 place_of names labels = at_or_zero (get names labels)
 
--- the target of a label at a place, which others follow
+-- the target of a label at a place, followed by `rest`
 abbrev pub target_of : Names → List (List ℕ) → Place → Target
 target_of names rest place = record { at = place.at; next = place_of names rest; pointers = place.pointers }
 
--- A target is that of a label and of those that follow it.
+-- A target belongs to one of the names: to a label and those that follow it.
 pub record IsOfName (octets : List ℕ) (names : Names) (target : Target) : Type 0 where
   pub label : List ℕ
   pub rest : List (List ℕ)
@@ -26,7 +26,7 @@ pub record IsOfName (octets : List ℕ) (names : Names) (target : Target) : Type
   pub there : get names (label ∷ rest) ≡ Some place
   pub target_is : target ≡ target_of names rest place
 
--- A name has a target: its first label is at its place, and what follows is there too.
+-- A name has a target: its first label is at its place, and what follows it is there too.
 pub record HasTarget (octets : List ℕ) (targets : List Target) (names : Names) (label : List ℕ)
     (rest : List (List ℕ)) (place : Place) : Type 0 where
   pub label_is : label_at octets place.at ≡ length label ∷ label
@@ -37,7 +37,7 @@ pub record HasTarget (octets : List ℕ) (targets : List Target) (names : Names)
   pub within : index < length targets
   pub target_is : (d : Target) → slice_index_or targets index d ≡ target_of names rest place
 
--- Targets are those of names, no two of which are at one place.
+-- The targets are those of the names, no two of which are at one offset.
 pub record Agrees (octets : List ℕ) (targets : List Target) (names : Names) : Type 0 where
   pub targets_are : AreTargets octets targets
   pub count : length targets ≡ len names

@@ -1,4 +1,4 @@
--- What a message is while it is composed.
+-- A message that is being composed, as contracts see it.
 use Rattle.std.specs.Prelude.{◌≡◌, ℕ, Option, Some, None, List, length, min, nat_lt, Result, OnOk}
 use Rattle.std.specs.List.{filter}
 use Rattle.octseq.specs.Limit.{IsPast, IsWithin}
@@ -7,8 +7,8 @@ use Rattle.octseq.specs.declared.AppendError.{AppendError}
 use Rattle.octseq_dns_compress.specs.State.{State}
 use Rattle.octseq_dns_compress.specs.declared.table.Target.{Target}
 
--- The builder of its octets and the table of its targets; its octets, and the names that pointers may lead to; both as
--- they were where its last entry begins; and where the octets begin whose number is put when it is known, or 0.
+-- The builder and the table; the octets, with the names that pointers may lead to; the same for the part before the
+-- last entry; and the offset of data whose length isn't written yet, or 0.
 pub record Composed (B T : Type 0) : Type 0 where
   pub octets : B
   pub table : T
@@ -16,17 +16,18 @@ pub record Composed (B T : Type 0) : Type 0 where
   pub begun : State
   pub data_start : ℕ
 
--- the greatest length of a message: 65,535 octets, or the limit of the builder where that is less
+-- the greatest length of a message: 65,535 octets, or the limit of the builder if that is less
 abbrev pub message_limit : Option ℕ → Option ℕ
 message_limit None = Some 65535
 message_limit (Some limit) = Some (min limit 65535)
 
--- the targets before a place
+-- the targets before an offset
 abbrev pub before : ℕ → List Target → List Target
 before place targets = filter (λ target. nat_lt target.at place) targets
 
--- A call makes a message what is wanted. It is refused as short only where the octets that are wanted pass the limit,
--- and for memory only where a request for memory may be refused. Where the entry begins stays as it was.
+-- A call changes the state of a message to the wanted one. It fails with `Short` only if the wanted octets exceed the
+-- limit, and with `Memory` only if a request for memory may be refused. The part before the last entry and the offset
+-- of data don't change.
 pub record Composes {B T : Type 0} (limit : Option ℕ) (Asks : Type 0) (result : Result (Unit {0}) AppendError)
     (wanted : State) (old new : Composed B T) : Type 0 where
   pub ok : OnOk result (new.state ≡ wanted)

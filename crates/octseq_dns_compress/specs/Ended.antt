@@ -1,6 +1,6 @@
--- What ends a name that is written.
+-- The end of a name that is written.
 use Rattle.std.specs.Prelude.{ℕ, ◌+◌, ◌/◌, ◌%◌, ◌==◌, List, [], ◌∷◌, if◌then◌else◌}
 
--- the root where the place is 0, and else the two octets of a pointer to it
+-- the root if the offset is 0, otherwise the two octets of a pointer to it
 abbrev pub ended : ℕ → List ℕ
 ended next = if next == 0 then 0 ∷ [] else (192 + next / 256) ∷ (next % 256) ∷ []

@@ -1,4 +1,4 @@
--- Where a name ends among names that are kept.
+-- How a name ends among names that are kept.
 use Rattle.std.specs.Prelude.{◌≡◌, ℕ, ◌-◌, ◌<◌, List, ◌∷◌, length, take, drop, IsTrue}
 use Rattle.std.specs.FinMap.{get}
 use Rattle.octseq_dns_compress.specs.Agrees.{place_of}
@@ -7,13 +7,14 @@ use Rattle.octseq_dns_compress.specs.Names.{Names, is_there, first_labels, last_
 use Rattle.octseq_dns_compress.specs.declared.search.Ending.{Ending}
 use Rattle.octseq_dns_compress.specs.declared.table.Target.{Target}
 
--- Labels are there, at a place, and as many pointers are followed from a label that is written before them.
+-- Labels are there, at the offset `next`, and `pointers` pointers are followed from a label that is written before
+-- them.
 pub record Ends (names : Names) (labels : List (List ℕ)) (next pointers : ℕ) : Type 0 where
   pub there : IsTrue (is_there names labels)
   pub next_is : next ≡ place_of names labels
   pub pointers_are : pointers ≡ pointers_from (get names labels)
 
--- As many labels of a name are written as come before those that are there, and the target of the last one comes at a
+-- The labels that are written are those before the ones that are there, and the target of the last of them belongs at a
 -- position.
 pub record IsEnding (octets : List ℕ) (targets : List Target) (names : Names) (labels : List (List ℕ))
     (ending : Ending) : Type 0 where

@@ -1,4 +1,4 @@
--- Tables hold no more targets than there are places that a pointer can say.
+-- Tables hold at most one target for each offset that a pointer can express.
 use Rattle.std.specs.Prelude.{ℕ, ◌≤◌, min}
 use Rattle.std.proofs.Common.{arith}
 

@@ -1,4 +1,4 @@
--- What is found among names that are kept.
+-- Looking up labels among names that are kept.
 use Rattle.std.specs.Prelude.{◌≡◌, ℕ, Bool, true, false, cond, Option, Some, None, List, [], ◌∷◌, refl, IsTrue}
 use Rattle.std.specs.Prelude.{is_some}
 use Rattle.std.proofs.Common.{◌⊎◌, inl, inr, sym, ap, ◌∙◌}
@@ -16,21 +16,21 @@ labels_total = lists_total nat_list_cmp_total
 pub labels_alike : IsAntisymmetric labels_cmp
 labels_alike = slice_cmp-IsAntisymmetric (slice_cmp-IsAntisymmetric nat_cmp-IsAntisymmetric)
 
--- labels that are tested to be others are those
+-- labels don't test as equal to others
 tested : (labels others : List (List ℕ)) (told : Bool) → eq_by_cmp labels_cmp labels others ≡ told
     → ¬ (labels ≡ others) → told ≡ false
 tested labels others true is other =
     absurd (other (labels_alike labels others ((Equal-is (labels_cmp labels others)).0 is)))
 tested labels others false is other = refl
 
--- a name that was put there
+-- a name that was inserted is found
 pub get_new : (names : Names) (labels : List (List ℕ)) (place : Place)
     → get (insert names labels place) labels ≡ Some place
 get_new names labels place =
     get-insert labels_total names labels place labels
     ∙ ap (λ told. cond told (Some place) (get names labels)) ((eq_by_cmp_equiv labels_total).refl labels)
 
--- leaves the others
+-- the lookups of others don't change
 pub get_other : (names : Names) (labels others : List (List ℕ)) (place : Place) → ¬ (others ≡ labels)
     → get (insert names labels place) others ≡ get names others
 get_other names labels others place other =
@@ -40,7 +40,7 @@ get_other names labels others place other =
 
 -- ---- whether labels are there
 
--- by what is found of them
+-- by the result of a lookup
 abbrev there_by : List (List ℕ) → Option Place → Bool
 there_by [] found = true
 there_by (label ∷ labels) found = is_some found
@@ -49,7 +49,7 @@ there_is : (names : Names) (labels : List (List ℕ)) → is_there names labels 
 there_is names [] = refl
 there_is names (label ∷ labels) = refl
 
--- names in which the same is found of labels have them alike
+-- labels with the same lookup in two tables are there in both or in neither
 pub alike_there : (names others : Names) (labels : List (List ℕ)) → get names labels ≡ get others labels
     → is_there names labels ≡ is_there others labels
 alike_there names others labels same =
@@ -64,29 +64,29 @@ pub place_there : (names : Names) (label : List ℕ) (labels : List (List ℕ)) 
     → (place : Place) × (get names (label ∷ labels) ≡ Some place)
 place_there names label labels there = found_place (get names (label ∷ labels)) there
 
--- and those with a place are there
+-- and labels with a place are there
 pub there_found : (names : Names) (labels : List (List ℕ)) (place : Place) → get names labels ≡ Some place
     → IsTrue (is_there names labels)
 there_found names [] place found = refl
 there_found names (label ∷ labels) place found = ap is_some found
 
--- what is found in one as in another is found alike
+-- lookups that find the same places are equal
 pub found_alike : (a b : Option Place) → ((place : Place) → a ≡ Some place → b ≡ Some place)
     → ((place : Place) → b ≡ Some place → a ≡ Some place) → a ≡ b
 found_alike (Some place) b on back = sym (on place refl)
 found_alike None (Some place) on back = back place refl
 found_alike None None on back = refl
 
--- nothing is found where nothing can be
+-- a lookup that can find nothing finds nothing
 pub none_found : (a : Option Place) → ((place : Place) → ¬ (a ≡ Some place)) → a ≡ None
 none_found (Some place) never = absurd (never place refl)
 none_found None never = refl
 
--- what is found is not nothing
+-- a lookup that finds a place isn't `None`
 pub some_or_none : (a : Option Place) (place : Place) → a ≡ Some place → ¬ (a ≡ None)
 some_or_none a place some none = true≢false (ap is_some (sym some ∙ none))
 
--- labels are others or they aren't
+-- labels are equal or they differ
 pub same_or_other : (labels others : List (List ℕ)) → (labels ≡ others) ⊎ ¬ (labels ≡ others)
 same_or_other labels others = by_test (eq_by_cmp labels_cmp labels others) refl where
   by_test : (told : Bool) → eq_by_cmp labels_cmp labels others ≡ told → (labels ≡ others) ⊎ ¬ (labels ≡ others)
@@ -94,7 +94,7 @@ same_or_other labels others = by_test (eq_by_cmp labels_cmp labels others) refl 
   by_test false is = inr (λ same. true≢false
       (sym (ap (eq_by_cmp labels_cmp labels) (sym same) ∙ (eq_by_cmp_equiv labels_total).refl labels) ∙ is))
 
--- the place that was found, or another
+-- the place that was found, or a given one
 place_or : Place → Option Place → Place
 place_or other (Some place) = place
 place_or other None = other

@@ -1,28 +1,28 @@
--- Targets in their order: by the place of what follows their label, and then by the label.
+-- The order of targets: by the offset of what follows their label, and then by the label.
 use Rattle.std.specs.Prelude.{◌≡◌, ℕ, ◌+◌, ◌<◌, ◌≤◌, List, ◌∷◌, length, take, drop, slice_index_or}
 use Rattle.std.specs.Cmp.Lexicographic.{slice_cmp}
 use Rattle.std.specs.Ordering.{nat_cmp}
 use Rattle.std.specs.declared.cmp.Ordering.{Ordering}
 use Rattle.octseq_dns_compress.specs.declared.table.Target.{Target}
 
--- the label at a place, after its length
+-- the label at an offset, with its length octet
 unfoldable pub label_at : List ℕ → ℕ → List ℕ
 label_at octets at = take (1 + slice_index_or octets at 0) (drop at octets)
 
--- it is whole
+-- the label is whole
 abbrev pub IsWhole : List ℕ → ℕ → Type 0
 IsWhole octets at = at + (1 + slice_index_or octets at 0) ≤ length octets
 
--- what a target is found by: the place of what follows its label, and the label
+-- the key of a target: the offset of what follows its label, and the label with its length octet
 abbrev pub key_of : List ℕ → Target → List ℕ
 key_of octets target = target.next ∷ label_at octets target.at
 
--- how it compares
+-- how a target compares with a key
 abbrev pub key_cmp : List ℕ → Target → List ℕ → Ordering
 key_cmp octets target key = slice_cmp nat_cmp (key_of octets target) key
 
--- Each target has a whole label, at a place that a pointer can say and from where no more than 126 pointers are
--- followed, and comes before those after it.
+-- Each target has a whole label, at an offset that a pointer can express and from which at most 126 pointers are
+-- followed, and comes before the targets after it.
 pub record AreTargets (octets : List ℕ) (targets : List Target) : Type 0 where
   pub whole : (i : ℕ) (d : Target) → i < length targets → IsWhole octets (slice_index_or targets i d).at
   pub near : (i : ℕ) (d : Target) → i < length targets → (slice_index_or targets i d).at ≤ 16383
@@ -30,7 +30,7 @@ pub record AreTargets (octets : List ℕ) (targets : List Target) : Type 0 where
   pub less : (i j : ℕ) (d : Target) → i < j → j < length targets
       → key_cmp octets (slice_index_or targets i d) (key_of octets (slice_index_or targets j d)) ≡ Ordering.Less
 
--- As many as the position of the first come before a key, and the others don't.
+-- The targets before the position come before a key, and the others don't.
 pub record IsPosition (octets : List ℕ) (targets : List Target) (key : List ℕ) (position : ℕ) : Type 0 where
   pub within : position ≤ length targets
   pub before : (k : ℕ) (d : Target) → k < position
@@ -43,6 +43,6 @@ pub record HasKeyAt (octets : List ℕ) (targets : List Target) (key : List ℕ)
   pub within : index < length targets
   pub is : (d : Target) → key_of octets (slice_index_or targets index d) ≡ key
 
--- none has it
+-- no target has the key
 abbrev pub HasNoKey : List ℕ → List Target → List ℕ → Type 0
 HasNoKey octets targets key = (index : ℕ) → ¬ HasKeyAt octets targets key index

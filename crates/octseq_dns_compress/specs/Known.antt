@@ -1,4 +1,4 @@
--- The names that targets are of: a name is found by its key, so they are those of one table of names alone.
+-- The names that targets belong to. A name is found by its key, so there is only one table of these names.
 use Rattle.std.specs.Prelude.{◌≡◌, ℕ, Some, None, List, [], ◌∷◌, length, drop, slice_index_or}
 use Rattle.std.specs.Prelude.{IsTrue, refl}
 use Rattle.std.proofs.Common.{sym, ap, ◌∙◌, subst, arith}
@@ -13,11 +13,11 @@ use Rattle.octseq_dns_compress.specs.Key.{key_of, HasKeyAt, HasNoKey}
 use Rattle.octseq_dns_compress.specs.Names.{Names, Place, is_there}
 use Rattle.octseq_dns_compress.specs.declared.table.Target.{Target}
 
--- what a name is found by: the place of what follows its first label, and that label after its length
+-- the key of a name: the offset of what follows its first label, and that label with its length octet
 abbrev pub name_key : Names → List ℕ → List (List ℕ) → List ℕ
 name_key names label rest = place_of names rest ∷ length label ∷ label
 
--- so is a target that is its own
+-- the target of a name has its key
 pub key_there : (octets : List ℕ) (targets : List Target) (names : Names) (label : List ℕ) (rest : List (List ℕ))
     (place : Place) (has : HasTarget octets targets names label rest place)
     → HasKeyAt octets targets (name_key names label rest) has.index
@@ -27,7 +27,7 @@ key_there octets targets names label rest place has = record {
 }
 
 module _ {octets : List ℕ} {targets : List Target} {names : Names} (agrees : Agrees octets targets names) where
-  -- names that are there at one place, or the root, are one
+  -- names that are there at one offset, or the root, are equal
   one_rest : (labels others : List (List ℕ)) → IsTrue (is_there names labels) → IsTrue (is_there names others)
       → place_of names labels ≡ place_of names others → labels ≡ others
   one_rest [] [] there here same = refl
@@ -49,7 +49,7 @@ module _ {octets : List ℕ} {targets : List Target} {names : Names} (agrees : A
       agrees.once (label ∷ labels) (other ∷ others) place.0 found.0 place.1 found.1
       (sym (ap at_or_zero place.1) ∙ same ∙ ap at_or_zero found.1)
 
-  -- a target with a name's key is that of the name
+  -- a target with the key of a name is the name's target
   pub found : (label : List ℕ) (rest : List (List ℕ)) (index : ℕ) (d : Target) → IsTrue (is_there names rest)
       → HasKeyAt octets targets (name_key names label rest) index
       → (place : Place) × (get names (label ∷ rest) ≡ Some place)
@@ -68,7 +68,7 @@ module _ {octets : List ℕ} {targets : List Target} {names : Names} (agrees : A
         held.target_is ∙ ap (λ r. target_of names r held.place) same_rest,
       )
 
-  -- and where no target has its key the name isn't there
+  -- if no target has its key, the name isn't there
   pub missing : (label : List ℕ) (rest : List (List ℕ)) → HasNoKey octets targets (name_key names label rest)
       → get names (label ∷ rest) ≡ None
   missing label rest none =
@@ -85,12 +85,12 @@ place_code = code_by (ℕ × ℕ) (coded× coded_ℕ coded_ℕ) (λ p. (p.at, p.
 pub names_code : Coded Names
 names_code = code (coded_list (coded_list coded_ℕ)) place_code
 
--- equal names are equal in one way
+-- names are equal in at most one way
 names_once : (names others : Names) → IsProp (names ≡ others)
 names_once = Coded-set names_code
 
 module _ {octets : List ℕ} {targets : List Target} where
-  -- a name of one table is one of the other, where what follows its first label is alike
+  -- a name of one table is in the other, if what follows its first label has the same place in both
   carried : {names others : Names} → Agrees octets targets names → Agrees octets targets others
       → (label : List ℕ) (rest : List (List ℕ)) (place : Place) → get names rest ≡ get others rest
       → get names (label ∷ rest) ≡ Some place → get others (label ∷ rest) ≡ Some place
@@ -120,7 +120,7 @@ module _ {octets : List ℕ} {targets : List Target} where
   one_table {names = names} {others = others} agrees other =
       same_map labels_total labels_alike names others (same_found agrees other)
 
--- the names that targets are of
+-- the names that targets belong to
 abbrev pub Known : List ℕ → List Target → Type 0
 Known octets targets = (names : Names) × ∥ Agrees octets targets names ∥₁
 

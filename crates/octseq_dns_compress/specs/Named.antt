@@ -1,4 +1,4 @@
--- What the append of a name does to a message and to its targets.
+-- What appending a name does to a message and its targets.
 use Rattle.std.specs.Prelude.{◌≡◌, ℕ, ◌+◌, ◌++◌, Option, List, length, Result, OnOk, OnErr}
 use Rattle.octseq.specs.Limit.{IsPast, IsWithin}
 use Rattle.octseq.specs.Refusal.{IsShort, append_error}
@@ -8,7 +8,7 @@ use Rattle.octseq_dns_compress.specs.Names.{name_octets, names_with}
 use Rattle.octseq_dns_compress.specs.declared.table.Target.{Target}
 
 -- The octets of a name come after those of a message, and the targets are those of the names that are then there; or
--- both stay. It is refused as short exactly where the message would pass its limit.
+-- neither changes. It fails with `Short` exactly if the message would exceed its limit.
 pub record AppendsName (limit : Option ℕ) (most : ℕ) (result : Result (Unit {0}) AppendError)
     (labels : List (List ℕ)) (old new : List ℕ) (held kept : List Target) (known : Known old held) : Type 0 where
   pub now : Known new kept

@@ -1,4 +1,4 @@
--- Names of a message that pointers may lead to, and how a name is written with them: RFC 1035, 4.1.4.
+-- The names of a message that pointers may lead to, and how a name is written with them: RFC 1035, 4.1.4.
 use Rattle.std.specs.Prelude.{ℕ, ◌+◌, ◌/◌, ◌%◌, Bool, true, ◌&&◌, Option, Some, None, List, [], ◌∷◌, ◌++◌, length}
 use Rattle.std.specs.Prelude.{if◌then◌else◌, nat_le, nat_lt}
 use Rattle.std.specs.Cmp.Lexicographic.{slice_cmp}
@@ -8,7 +8,7 @@ use Rattle.std.specs.Option.{option_or}
 use Rattle.std.specs.Ordering.{nat_cmp}
 use Rattle.std.specs.declared.cmp.Ordering.{Ordering}
 
--- A place of a message, and how many pointers are followed from there.
+-- A place in a message: its offset, and the number of pointers that are followed from there.
 pub record Place : Type 0 where
   pub at : ℕ
   pub pointers : ℕ
@@ -23,18 +23,18 @@ Names = FinMap labels_cmp Place
 
 -- ---- how a name is written
 
--- where the most of a name's last labels are
+-- the place of the longest suffix of a name that is there
 abbrev pub last_place : Names → List (List ℕ) → Option Place
 last_place names [] = None
 last_place names (label ∷ labels) = option_or (get names (label ∷ labels)) (last_place names labels)
 
--- the labels before those
+-- the labels before this suffix
 abbrev pub first_labels : Names → List (List ℕ) → List (List ℕ)
 first_labels names [] = []
 first_labels names (label ∷ labels) =
     if contains_key names (label ∷ labels) then [] else label ∷ first_labels names labels
 
--- each label after its length
+-- labels with their length octets
 abbrev pub unrooted : List (List ℕ) → List ℕ
 unrooted labels = flat_map (λ label. length label ∷ label) labels
 
@@ -43,30 +43,30 @@ abbrev pub ending : Option Place → List ℕ
 ending None = 0 ∷ []
 ending (Some place) = (192 + place.at / 256) ∷ (place.at % 256) ∷ []
 
--- The octets of a name: its first labels, and a pointer to where the most of its last ones are. It ends with the root
--- where none of them is anywhere.
+-- The octets of a name: its first labels, followed by a pointer to its longest suffix that is there, or by the root if
+-- there is none.
 abbrev pub name_octets : Names → List (List ℕ) → List ℕ
 name_octets names labels = unrooted (first_labels names labels) ++ ending (last_place names labels)
 
--- ---- what pointers may lead to once it is written
+-- ---- the names that pointers may lead to after it is written
 
--- how many pointers are followed from each label that is written
+-- the number of pointers that are followed from each label that is written
 abbrev pub pointers_from : Option Place → ℕ
 pointers_from None = 0
 pointers_from (Some place) = place.pointers + 1
 
--- labels are there, or there are none
+-- labels are there, or are the root
 abbrev pub is_there : Names → List (List ℕ) → Bool
 is_there names [] = true
 is_there names (label ∷ labels) = contains_key names (label ∷ labels)
 
--- A name is kept where a pointer can say its place, at most 126 pointers are followed from there, fewer names than
--- `most` are there, and what follows its first label is one of them.
+-- A name is kept if a pointer can express its offset, at most 126 pointers are followed from there, fewer than `most`
+-- names are there, and what follows its first label is there or is the root.
 abbrev pub is_kept : ℕ → Names → List (List ℕ) → Place → Bool
 is_kept most names rest place =
     nat_le place.at 16383 && (nat_le place.pointers 126 && (nat_lt (len names) most && is_there names rest))
 
--- the names with those of labels that are written from `start` on, of which the last ones come first
+-- the names, with those of the labels that are written from `start` on; the last labels are kept first
 abbrev pub with_labels : ℕ → ℕ → Names → ℕ → List (List ℕ) → Names
 with_labels most pointers names start [] = names
 with_labels most pointers names start (label ∷ labels) =
@@ -75,6 +75,6 @@ with_labels most pointers names start (label ∷ labels) =
     let place : Place = record { at = start; pointers = pointers } in
     if is_kept most more labels place then insert more (label ∷ labels) place else more
 
--- the names, of which at most so many are kept, once a name is written from `start` on
+-- the names after a name is written from `start` on; at most `most` of them are kept
 abbrev pub names_with : ℕ → Names → ℕ → List (List ℕ) → Names
 names_with most names start labels = with_labels most (pointers_from (last_place names labels)) names start labels

@@ -1,4 +1,4 @@
--- What contracts see of a name as its labels.
+-- A name as its labels, as contracts see it.
 use Rattle.std.specs.Prelude.{ℕ, List}
 use Rattle.octseq_dns_compress.specs.PlainName.{labels_at}
 use Rattle.octseq_dns_compress.specs.declared.plain.PlainName.{PlainName}

@@ -1,4 +1,4 @@
--- Names that are at their places in a message, whatever comes after it.
+-- Names that are at their places in a message, whatever follows it.
 use Rattle.std.specs.Prelude.{◌≡◌, ℕ, ◌≤◌, Some, List, ◌++◌, length, drop}
 use Rattle.std.specs.FinMap.{get}
 use Rattle.octseq.specs.Window.{Window, at, whole}
@@ -6,13 +6,13 @@ use Rattle.octseq_dns_compress.specs.Names.{Names, Place}
 use Rattle.octseq_dns_compress.specs.State.{State}
 use Rattle.octseq_dns_name.specs.Name.{Stands}
 
--- Labels are at a place after the header of a message, through as many pointers, whatever the header says and whatever
--- comes after the message.
+-- Labels are at an offset after the header of a message, through this many pointers, whatever the header says and
+-- whatever follows the message.
 abbrev pub AreAt : List ℕ → ℕ → List (List ℕ) → ℕ → Type 0
 AreAt octets place labels pointers = (12 ≤ place) × ((header more : List ℕ) → length header ≡ 12
     → (v : Window) × Stands place (at place (whole (header ++ (drop 12 octets ++ more)))) labels pointers v)
 
--- Each of the names is at its place, which a pointer can say and from where no more than 126 pointers are followed.
+-- Each name is at its place, which a pointer can express and from which at most 126 pointers are followed.
 pub record AreNamed (octets : List ℕ) (names : Names) : Type 0 where
   pub there : (labels : List (List ℕ)) (place : Place) → get names labels ≡ Some place
       → AreAt octets place.at labels place.pointers

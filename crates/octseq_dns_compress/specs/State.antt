@@ -1,4 +1,4 @@
--- What is appended to a message, as a function of what it has: fields, entries of fields, and rows of entries.
+-- What a message becomes when fields, entries of fields, or lists of entries are appended.
 use Rattle.std.specs.Prelude.{ℕ, ◌+◌, Option, Some, None, List, [], ◌∷◌, ◌++◌, length, drop, refl}
 use Rattle.std.specs.List.{sum_by}
 use Rattle.std.specs.Coded.{Coded, code_by, coded×, coded_list, coded_ℕ}
@@ -6,52 +6,52 @@ use Rattle.octseq.specs.Part.{part_of}
 use Rattle.octseq_dns_compress.specs.Known.{names_code}
 use Rattle.octseq_dns_compress.specs.Names.{Names, name_octets, names_with}
 
--- The octets of a message so far, and the names in them that pointers may lead to.
+-- The octets of a message so far, and the names in it that pointers may lead to.
 pub record State : Type 0 where
   pub octets : List ℕ
   pub names : Names
 
--- equal states are equal in one way
+-- states are equal in at most one way
 abbrev pub state_code : Coded State
 state_code = code_by (List ℕ × Names) (coded× (coded_list coded_ℕ) names_code) (λ s. (s.octets, s.names))
     (λ c. record { octets = c.0; names = c.1 }) (λ _. refl)
 
--- A field: the labels of a name, which may be compressed, or octets as they are.
+-- A field: the labels of a name, which may be compressed, or other octets.
 pub data Field : Type 0 where
   name : List (List ℕ) → Field
   octets : List ℕ → Field
 
 -- ---- what a message becomes
 
--- with octets more
+-- with more octets
 abbrev pub with_octets : State → List ℕ → State
 with_octets state more = record { octets = state.octets ++ more; names = state.names }
 
--- with a name more, where at most so many names are kept
+-- with another name; at most `most` names are kept
 abbrev pub with_name : ℕ → State → List (List ℕ) → State
 with_name most state labels = record {
   octets = state.octets ++ name_octets state.names labels;
   names = names_with most state.names (length state.octets) labels;
 }
 
--- with a field more
+-- with another field
 abbrev pub with_field : ℕ → State → Field → State
 with_field most state (Field.name labels) = with_name most state labels
 with_field most state (Field.octets more) = with_octets state more
 
--- with fields more, one after another
+-- with more fields, one after another
 abbrev pub with_fields : ℕ → State → List Field → State
 with_fields most state [] = state
 with_fields most state (field ∷ fields) = with_fields most (with_field most state field) fields
 
--- with the number of octets in the place of the two that have it
+-- with the length of the data written into the two octets before it
 abbrev pub count_put : State → State → State
 count_put before after = record {
   octets = before.octets ++ part_of 2 (drop (length before.octets + 2) after.octets);
   names = after.names;
 }
 
--- with fields more, after the number of their octets, which has two octets
+-- with more fields, after their length of two octets
 abbrev pub with_counted : ℕ → State → List Field → State
 with_counted most state fields = count_put state (with_fields most (with_octets state (0 ∷ 0 ∷ [])) fields)
 
@@ -59,31 +59,31 @@ with_counted most state fields = count_put state (with_fields most (with_octets 
 abbrev pub with_header : State → List ℕ → State
 with_header state header = record { octets = header ++ drop 12 state.octets; names = state.names }
 
--- An entry: fields, and others after the number of their octets, or none.
+-- An entry: fields, followed by other fields after their length, or by nothing.
 pub record Entry : Type 0 where
   pub head : List Field
   pub data_fields : Option (List Field)
 
--- with those others more
+-- with those other fields, if any
 abbrev pub with_data : ℕ → State → Option (List Field) → State
 with_data most state None = state
 with_data most state (Some fields) = with_counted most state fields
 
--- with an entry more
+-- with another entry
 abbrev pub with_entry : ℕ → State → Entry → State
 with_entry most state entry = with_data most (with_fields most state entry.head) entry.data_fields
 
--- with entries more, one after another
+-- with more entries, one after another
 abbrev pub with_entries : ℕ → State → List Entry → State
 with_entries most state [] = state
 with_entries most state (entry ∷ entries) = with_entries most (with_entry most state entry) entries
 
--- ---- how many labels
+-- ---- the number of labels
 
 abbrev pub field_labels : Field → ℕ
 field_labels (Field.name labels) = length labels
 field_labels (Field.octets more) = 0
 
--- those of the names among fields
+-- the labels of the names among fields
 abbrev pub label_count : List Field → ℕ
 label_count fields = sum_by field_labels fields

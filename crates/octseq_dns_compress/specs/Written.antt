@@ -1,9 +1,9 @@
--- Labels of a name that are in a message after the names that it had.
+-- The labels of a name that are written in a message, after the names that it had.
 use Rattle.std.specs.Prelude.{◌≡◌, ℕ, ◌<◌, ◌≤◌, List, Some, ◌++◌, length, take}
 use Rattle.std.specs.FinMap.{get}
 use Rattle.octseq_dns_compress.specs.Names.{Names, Place, unrooted}
 
--- As many labels are written from `start` on, after the header and after every name that was there.
+-- The first labels, as many as are written, are at `start`, after the header and after every name that was there.
 pub record IsWritten (octets : List ℕ) (names : Names) (start : ℕ) (labels : List (List ℕ)) (written : ℕ)
     : Type 0 where
   pub front : List ℕ

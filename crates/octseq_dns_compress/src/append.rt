@@ -1,4 +1,4 @@
-//! Octets and names appended to a message, or written over octets that it has.
+//! Appending octets and names to a message, and overwriting its octets.
 ghost use Rattle.std.specs.Prelude.{◌≡◌, ◌≤◌, ◌+◌, ◌*◌, ◌++◌, ◌⊎◌, ◌↔◌, length, take, drop, true, nat_lt, IsTrue, OnOk, OnErr};
 ghost use Rattle.std.specs.List.{filter};
 ghost use Rattle.octseq.specs.Appends.{Appends};
@@ -23,13 +23,13 @@ use octseq_dns_name::name::a_name_has_labels;
 use octseq_format::Format;
 use std::alloc::AllocError;
 
-/// How many octets a message may have: RFC 1035, 4.2.2.
+/// The greatest length of a message: RFC 1035, 4.2.2.
 const MESSAGE_MAX: usize = 65535;
 
-/// How many labels most names have at most: room for the places of so many takes no time to make.
+/// Most names have no more labels: room for their offsets takes no time to make.
 const LABELS_FEW: usize = 16;
 
-/// Appends a slice to a message, which stays within its limit.
+/// Appends a slice to a message, within its limit.
 pub(crate) fn append<B: OctetsBuilder>(octets: &mut B, slice: &[u8]) -> Result<(), AppendError>
     requires { length (B.content octets.old) ≤ 65535 }
     ensures appended { Appends (message_limit B.limit) B.asks result slice.now
@@ -44,7 +44,7 @@ pub(crate) fn append<B: OctetsBuilder>(octets: &mut B, slice: &[u8]) -> Result<(
     octets.append_slice(slice)
 }
 
-/// Whether a message is within its limit with so many octets more.
+/// Whether a message stays within its limit with `len` more octets.
 pub(crate) fn has_room<B: OctetsBuilder>(octets: &B, len: usize) -> bool
     requires { length (B.content octets.now) ≤ 65535 }
     ensures { IsTrue result ↔ IsWithin (message_limit B.limit) (length (B.content octets.now) + len) }
@@ -59,7 +59,7 @@ pub(crate) fn has_room<B: OctetsBuilder>(octets: &B, len: usize) -> bool
     }
 }
 
-/// Appends the octets of a value, as a format says it, to a message, which stays within its limit.
+/// Appends the octets of a value in a format to a message, within its limit.
 pub(crate) fn append_value<B: OctetsBuilder + Truncate, R: AsOctets + Copy, F: Format<R>>(
     octets: &mut B,
     value: &F::Value,
@@ -84,7 +84,7 @@ pub(crate) fn append_value<B: OctetsBuilder + Truncate, R: AsOctets + Copy, F: F
     }
 }
 
-/// Writes a slice over as many octets from a place on.
+/// Overwrites the octets from `at` on with a slice.
 pub(crate) fn write_over<B: AsOctetsMut>(octets: &mut B, at: usize, slice: &[u8])
     requires { at + length slice.now ≤ length (B.content octets.old) }
     ensures content { B.content octets.new ≡ take at (B.content octets.old)
@@ -94,7 +94,7 @@ pub(crate) fn write_over<B: AsOctetsMut>(octets: &mut B, at: usize, slice: &[u8]
     octets.as_mut()[at..at + slice.len()].copy_from_slice(slice);
 }
 
-/// Appends a name whose labels are at these places, and keeps its labels in the table, or leaves both as they are.
+/// Appends a name whose labels are at these offsets, and keeps its labels in the table. An error leaves both unchanged.
 fn append_name_at<B: OctetsBuilder + Truncate, T: Compressor, R: AsOctets + Copy>(
     octets: &mut B,
     table: &mut T,
@@ -140,7 +140,7 @@ fn append_name_at<B: OctetsBuilder + Truncate, T: Compressor, R: AsOctets + Copy
     Ok(())
 }
 
-/// Appends a name of any number of labels, as [`append_name`].
+/// As [`append_name`], with room for any number of labels.
 fn append_long_name<B: OctetsBuilder + Truncate, T: Compressor, R: AsOctets + Copy>(
     octets: &mut B,
     table: &mut T,
@@ -173,7 +173,7 @@ fn append_long_name<B: OctetsBuilder + Truncate, T: Compressor, R: AsOctets + Co
     }
 }
 
-/// Appends a name to a message, and keeps its labels in the table, or leaves both as they are.
+/// Appends a name to a message, and keeps its labels in the table. An error leaves both unchanged.
 pub(crate) fn append_name<B: OctetsBuilder + Truncate, T: Compressor, R: AsOctets + Copy>(
     octets: &mut B,
     table: &mut T,

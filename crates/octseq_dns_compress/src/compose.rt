@@ -1,4 +1,4 @@
-//! Messages that are composed of octets and of names, which are compressed.
+//! Messages composed of octets and of names, which are compressed.
 ghost use Rattle.std.specs.Prelude.{◌≡◌, ◌≤◌, ◌+◌, ◌*◌, ◌⊎◌, length, take, true, OnErr};
 ghost use Rattle.octseq.specs.Limit.{IsPast, IsWithin};
 ghost use Rattle.octseq.specs.Refusal.{IsShort, append_error};
@@ -14,13 +14,13 @@ use octseq_dns_name::ParsedName;
 use octseq_format::Format;
 use std::marker::Model;
 
-/// How many octets a header has: RFC 1035, 4.1.1.
+/// The length of a header: RFC 1035, 4.1.1.
 const HEADER_LEN: usize = 12;
 
-/// How many octets have the number of those of data: RFC 1035, 4.1.3.
+/// The length of an RDLENGTH field: RFC 1035, 4.1.3.
 const COUNT_LEN: usize = 2;
 
-/// Octets of a message, and the targets of the names in them.
+/// A message that is being composed: its octets, and a table of the labels that pointers may lead to.
 #[derive(Drop)]
 pub struct Composer<B: AsOctets, T: Compressor> {
     octets: B,
@@ -61,14 +61,14 @@ impl<B: AsOctets, T: Compressor> Model for Composer<B, T> {
 impl<B: OctetsBuilder, T: Compressor> Composer<B, T> {
     ghost use Rattle.octseq_dns_compress.specs.State.{with_octets};
 
-    /// The octets so far.
+    /// Returns the octets so far.
     pub fn as_slice(&self) -> &[u8]
         ensures { result.now ≡ self.now.state.octets }
     {
         self.octets.as_ref()
     }
 
-    /// The builder and the table, which may serve for another message.
+    /// Returns the builder and the table, which can be used for another message.
     pub fn finish(self) -> (B, T)
         ensures octets { result.0 ≡ self.octets }
         ensures table { result.1 ≡ self.table }
@@ -81,8 +81,8 @@ impl<B: OctetsBuilder, T: Compressor> Composer<B, T> {
     ///
     /// # Errors
     ///
-    /// `Short` exactly where the message would pass the limit of the builder's type or 65,535 octets, and `Memory`
-    /// where a request for memory was refused. The octets are then as they were.
+    /// `Short` if the message would exceed the limit of the builder's type or 65,535 octets, and `Memory` if a request
+    /// for memory was refused. The octets are then unchanged.
     pub fn append_slice(&mut self, slice: &[u8]) -> Result<(), AppendError>
         ensures composed { Composes (message_limit B.limit) (B.asks ≡ true) result
             (with_octets self.old.state slice.now) self.old self.new }
@@ -103,12 +103,12 @@ impl<B: OctetsBuilder + Truncate, T: Compressor> Composer<B, T> {
     ghost use Rattle.octseq_dns_compress.specs.State.{with_name, with_octets};
     ghost use Rattle.octseq_dns_name.specs.Read.{labels_of};
 
-    /// Appends the octets of a value, as a format says it.
+    /// Appends the octets of a value in a format.
     ///
     /// # Errors
     ///
-    /// `Short` exactly where the message would pass the limit of the builder's type or 65,535 octets, and `Memory`
-    /// where a request for memory was refused. The octets are then as they were.
+    /// `Short` if the message would exceed the limit of the builder's type or 65,535 octets, and `Memory` if a request
+    /// for memory was refused. The octets are then unchanged.
     pub fn append_value<R: AsOctets + Copy, F: Format<R>>(
         &mut self,
         value: &F::Value,
@@ -125,12 +125,12 @@ impl<B: OctetsBuilder + Truncate, T: Compressor> Composer<B, T> {
         append_value::<B, R, F>(&mut self.octets, value)
     }
 
-    /// A message that has a header of zeros and nothing else, in place of what the builder and the table have.
+    /// Returns a message that is a header of zeros. What the builder and the table hold is removed.
     ///
     /// # Errors
     ///
-    /// `Short` exactly where the builder's type has a limit below 12 octets, and `Memory` where a request for memory
-    /// was refused. The builder and the table are then dropped.
+    /// `Short` if the limit of the builder's type is below 12 octets, and `Memory` if a request for memory was refused.
+    /// The builder and the table are then dropped.
     pub fn from_builder(octets: B, table: T) -> Result<Composer<B, T>, AppendError>
         ensures state { IfOk result (λ c. c.state ≡ record { octets = replicate 12 0; names = empty }) }
         ensures short { IsShort append_error result ↔ IsPast B.limit 12 }
@@ -150,13 +150,12 @@ impl<B: OctetsBuilder + Truncate, T: Compressor> Composer<B, T> {
         })
     }
 
-    /// Appends a name. Where the most of its last labels are in the message already, a pointer to the place of them
-    /// comes after the others.
+    /// Appends a name. A pointer replaces its longest suffix that is in the table.
     ///
     /// # Errors
     ///
-    /// `Short` exactly where the message would pass the limit of the builder's type or 65,535 octets, and `Memory`
-    /// where a request for memory was refused. The octets and the names are then as they were.
+    /// `Short` if the message would exceed the limit of the builder's type or 65,535 octets, and `Memory` if a request
+    /// for memory was refused. The octets and the names are then unchanged.
     pub fn append_name<R: AsOctets + Copy>(
         &mut self,
         name: &ParsedName<R>,
@@ -176,7 +175,7 @@ impl<B: OctetsBuilder + Truncate, T: Compressor> Composer<B, T> {
         append_name(&mut self.octets, &mut self.table, name, turns)
     }
 
-    /// Begins an entry: what is appended from now on can be taken back.
+    /// Begins an entry: what is appended from now on can be removed.
     pub fn begin_entry(&mut self)
         ensures state { self.new.state ≡ self.old.state }
         ensures begun { self.new.begun ≡ self.old.state }
@@ -187,7 +186,7 @@ impl<B: OctetsBuilder + Truncate, T: Compressor> Composer<B, T> {
         self.data_start = 0;
     }
 
-    /// Takes back what was appended since the last entry began.
+    /// Removes what was appended since the last entry began.
     pub fn take_back(&mut self)
         ensures state { self.new.state ≡ self.old.begun }
         ensures begun { self.new.begun ≡ self.old.begun }
@@ -207,7 +206,7 @@ impl<B: OctetsBuilder + Truncate + AsOctetsMut, T: Compressor> Composer<B, T> {
     ghost use Rattle.octseq_dns_compress.specs.Fits.{FitsField};
     ghost use Rattle.octseq_dns_compress.specs.State.{with_octets, with_counted, with_header, label_count};
 
-    /// Writes a header over that of the message.
+    /// Overwrites the header of the message.
     pub fn put_header(&mut self, header: &[u8; 12])
         ensures state { self.new.state ≡ with_header self.old.state header.now }
         ensures begun { self.new.begun ≡ with_header self.old.begun header.now }
@@ -216,13 +215,12 @@ impl<B: OctetsBuilder + Truncate + AsOctetsMut, T: Compressor> Composer<B, T> {
         write_over(&mut self.octets, 0, header);
     }
 
-    /// Begins data: appends two octets for the number of those that come after them, up to
-    /// [`end_data`](Self::end_data).
+    /// Begins data: appends two octets for the length of what is appended up to [`end_data`](Self::end_data).
     ///
     /// # Errors
     ///
-    /// `Short` where the message would pass the limit of the builder's type or 65,535 octets, and `Memory` where a
-    /// request for memory was refused. The octets are then as they were.
+    /// `Short` if the message would exceed the limit of the builder's type or 65,535 octets, and `Memory` if a request
+    /// for memory was refused. The octets are then unchanged.
     pub fn begin_data(&mut self) -> Result<(), AppendError>
         ensures ok { OnOk result (self.new.state ≡ with_octets self.old.state (0 ∷ 0 ∷ [])) }
         ensures data_start { OnOk result (self.new.data_start ≡ length self.new.state.octets) }
@@ -241,7 +239,7 @@ impl<B: OctetsBuilder + Truncate + AsOctetsMut, T: Compressor> Composer<B, T> {
         Ok(())
     }
 
-    /// Ends data: writes how many octets came after the two that are for their number.
+    /// Ends data: writes its length into the two octets before it.
     pub fn end_data(&mut self)
         requires { length self.old.begun.octets + 2 ≤ self.old.data_start }
         ensures octets { self.new.state.octets ≡ take (self.old.data_start - 2) self.old.state.octets

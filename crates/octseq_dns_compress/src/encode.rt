@@ -13,8 +13,8 @@ use crate::plain::PlainName;
 use crate::search::Ending;
 use octseq::{AppendError, AsOctets, OctetsBuilder, ShortBuf, Truncate};
 
-/// Appends the first labels of a name to octets that have room for them. Where a request for memory is refused, some of
-/// them may then be there.
+/// Appends the first labels of a name. There must be room for them. If a request for memory is refused, some of them
+/// may have been appended.
 fn append_labels<B: OctetsBuilder>(
     octets: &mut B,
     name: &PlainName<'_>,
@@ -40,7 +40,7 @@ fn append_labels<B: OctetsBuilder>(
     Ok(())
 }
 
-/// Appends what comes after the first labels of a name: the root, or a pointer to a place.
+/// Appends what comes after the first labels of a name: the root, or a pointer to an offset.
 fn append_end<B: OctetsBuilder>(octets: &mut B, next: u16) -> Result<(), AppendError>
     requires { next ≤ 16383 }
     ensures appended { Appends B.limit B.asks result (ended next) (B.content octets.old) (B.content octets.new) }
@@ -54,7 +54,7 @@ fn append_end<B: OctetsBuilder>(octets: &mut B, next: u16) -> Result<(), AppendE
     }
 }
 
-/// How many octets that has.
+/// Returns the number of octets that this takes.
 fn end_len(next: u16) -> usize
     ensures len { result ≡ length (ended next) }
     ensures most { result ≤ 2 }
@@ -62,7 +62,8 @@ fn end_len(next: u16) -> usize
     if next == 0 { 1 } else { 2 }
 }
 
-/// Appends the labels of a name that are written, and the root or a pointer after them, or leaves a message as it is.
+/// Appends the labels of a name that are written, followed by the root or a pointer. An error leaves the message
+/// unchanged.
 pub(crate) fn append_encoded<B: OctetsBuilder + Truncate>(
     octets: &mut B,
     name: &PlainName<'_>,

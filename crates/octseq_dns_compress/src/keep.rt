@@ -1,4 +1,4 @@
-//! The labels of a name that was written, kept in a table.
+//! Keeping the labels of a written name in a table.
 ghost use Rattle.std.specs.Prelude.{◌≡◌, ◌≤◌, ◌+◌, ℕ, List, length, take, nat_lt, true, OnOk, OnErr};
 ghost use Rattle.std.specs.List.{filter};
 ghost use Rattle.octseq_dns_compress.specs.Agrees.{Agrees};
@@ -13,18 +13,19 @@ use crate::table::{Compressor, Target};
 use octseq::Turns;
 use std::alloc::AllocError;
 
-/// The last place that a pointer can say: RFC 1035, 4.1.4.
+/// The last offset that a pointer can express: RFC 1035, 4.1.4.
 const PLACE_MAX: usize = 16383;
 
-/// How many pointers may be followed from where a pointer leads.
+/// The greatest number of pointers that may be followed from a target.
 const POINTERS_MAX: u8 = 126;
 
-/// Keeps the labels of a name that were written from `start` on, from the last one on: as many as have a place that a
-/// pointer can say, and as the table has room for.
+/// Keeps the labels of a name that were written from `start` on, the last one first: as many as begin at an offset that
+/// a pointer can express, and as the table has room for. It keeps none if too many pointers would be followed from
+/// them.
 ///
 /// # Errors
 ///
-/// `AllocError` where a request for memory was refused. Some of the labels may then be kept.
+/// `AllocError` if a request for memory was refused. Some of the labels may then be kept.
 pub(crate) fn keep<T: Compressor>(
     table: &mut T,
     name: &PlainName<'_>,

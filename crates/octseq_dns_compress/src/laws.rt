@@ -1,5 +1,5 @@
-//! What holds of names that are compressed. Each law is the contract of a function that does nothing: a caller that
-//! calls it has the law in its proof.
+//! Laws of compressed names. Each law is the contract of a function that does nothing: calling it brings the law into
+//! the caller's proof.
 ghost use Rattle.std.specs.Prelude.{◌≡◌, ◌+◌, ◌≤◌, ℕ, List, ◌++◌, length, drop};
 ghost use Rattle.octseq.specs.Window.{at, whole};
 ghost use Rattle.octseq_dns_compress.specs.Fits.{NameFits};
@@ -8,7 +8,7 @@ ghost use Rattle.octseq_dns_compress.specs.Standing.{AreNamed};
 ghost use Rattle.octseq_dns_name.specs.Name.{IsName, wire_length};
 
 /// A name that is written after a message is read as that name, label for label, whatever the header says and whatever
-/// comes after it, where each of the names that pointers may lead to is at its place.
+/// follows it, if each of the names that pointers may lead to is at its place.
 pub fn a_compressed_name_is_read()
     ensures { (octets : List ℕ) (names : Names) (labels : List (List ℕ)) → 12 ≤ length octets
         → AreNamed octets names → NameFits labels → (header more : List ℕ) → length header ≡ 12
@@ -17,7 +17,7 @@ pub fn a_compressed_name_is_read()
         (at (length octets + length (name_octets names labels)) (whole all)) }
 {}
 
-/// A name takes no more octets than in plain form.
+/// A name takes no more octets than without compression.
 pub fn never_longer_than_plain()
     ensures { (names : Names) (labels : List (List ℕ)) → length (name_octets names labels) ≤ wire_length labels }
 {}

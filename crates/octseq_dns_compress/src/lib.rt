@@ -1,8 +1,8 @@
-//! Octets of DNS messages with their names compressed: RFC 1035, 4.1.4.
+//! DNS messages with compressed names: RFC 1035, 4.1.4.
 //!
-//! A [`Composer`] writes the octets of a message into a builder. The last labels of a name that are in the message
-//! already become a pointer. Where labels are is kept in a table of [`Target`]s, which is searched by halves, so that a
-//! name takes at most a constant of work for each of its labels, whatever names came before it.
+//! A [`Composer`] writes the octets of a message into a builder, and replaces the longest known suffix of each name
+//! with a pointer. A table of [`Target`]s, in an order for binary search, holds where the known labels are, so a name
+//! takes at most 17 turns for each of its labels, whatever names came before it.
 #![tactic(auto)]
 
 mod append;

@@ -7,10 +7,10 @@ ghost use Rattle.octseq_dns_compress.specs.PlainName.{AreWhole, labels_at, whole
 use octseq::AsOctets;
 use octseq_dns_name::ParsedName;
 
-/// How many labels a name has at most: of 255 octets, each label takes two, and the root one.
+/// The greatest number of labels of a name: of its 255 octets, each label takes at least two, and the root takes one.
 pub(crate) const LABELS_MAX: usize = 127;
 
-/// The labels of a name, each where it is among the octets that it was read from.
+/// The labels of a name, by their offsets in the octets that it was read from.
 #[derive(Drop)]
 pub(crate) struct PlainName<'a> {
     octets: &'a [u8],
@@ -25,7 +25,7 @@ impl<'a> PlainName<'a> {
     ghost use Rattle.std.specs.Prelude.{List, ℕ, ◌<◌, ◌∷◌, drop};
     ghost use Rattle.octseq_dns_compress.specs.PlainNames.{plain_labels};
 
-    /// The labels that begin at these places, each with its length, of so many octets in all.
+    /// The labels whose length octets are at these offsets. With their length octets, they have `len` octets.
     pub fn new(octets: &'a [u8], starts: &'a [usize], len: usize) -> PlainName<'a>
         requires whole { AreWhole octets.now starts.now }
         requires measured { len ≡ length (unrooted (labels_at octets.now starts.now)) }
@@ -39,14 +39,14 @@ impl<'a> PlainName<'a> {
         }
     }
 
-    /// How many labels it has.
+    /// Returns the number of labels.
     pub fn label_count(&self) -> usize
         ensures { result ≡ length (plain_labels self.now) }
     {
         self.starts.len()
     }
 
-    /// How many octets its labels have, each with its length.
+    /// Returns the number of octets of its labels with their length octets.
     pub fn len(&self) -> usize
         ensures len { result ≡ length (unrooted (plain_labels self.now)) }
         ensures most { result ≤ 254 }
@@ -54,7 +54,7 @@ impl<'a> PlainName<'a> {
         self.len
     }
 
-    /// A label, after its length.
+    /// Returns a label with its length octet.
     pub fn label(&self, index: usize) -> &[u8]
         requires { index < length (plain_labels self.now) }
         ensures { (label : List ℕ) (rest : List (List ℕ)) → drop index (plain_labels self.now) ≡ label ∷ rest
@@ -66,7 +66,7 @@ impl<'a> PlainName<'a> {
     }
 }
 
-/// Puts where each label of a name is, and answers how many there are, or none where there is no room for them all.
+/// Writes the offset of each label of a name. Returns their number, or `None` if there is no room for them all.
 pub(crate) fn place_labels<const N: usize, R: AsOctets + Copy>(
     starts: &mut [usize; N],
     name: &ParsedName<R>,

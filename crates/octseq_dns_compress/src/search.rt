@@ -1,4 +1,4 @@
-//! Where a label is among targets, which are in the order of their keys.
+//! Searching for a label among targets, which are in the order of their keys.
 ghost use Rattle.std.specs.Prelude.{◌≡◌, ◌≤◌, ◌+◌, ◌↔◌, ◌∷◌, length, take, IsTrue, IsErr, IfOk, IfErr};
 ghost use Rattle.std.specs.Prelude.{◌*◌, ◌-◌, ◌^◌};
 ghost use Rattle.octseq_dns_compress.specs.Agrees.{Agrees};
@@ -12,22 +12,22 @@ use crate::table::Target;
 use octseq::Turns;
 use std::cmp::Ordering;
 
-/// What of a name is written where its last labels are in the message.
+/// How a name is written: its first labels, and a pointer to where the others are, or the root.
 #[derive(Clone, Copy)]
 pub(crate) struct Ending {
-    /// How many labels are written.
+    /// The number of labels that are written.
     pub written: usize,
-    /// How many octets those have, each with its length.
+    /// The number of their octets, with their length octets.
     pub len: usize,
-    /// The place of the labels after them, or 0 where the root comes next.
+    /// The offset of the labels after them, or 0 if the root comes next.
     pub next: u16,
-    /// How many pointers are followed from each label that is written.
+    /// The number of pointers that are followed from each label that is written.
     pub pointers: u8,
-    /// The index in the table for the target of the last label that is written.
+    /// The index in the table at which the target of the last written label belongs.
     pub position: usize,
 }
 
-/// Looks for the labels of a name from the last one on, up to the first that isn't there.
+/// Searches for the labels of a name, the last one first, up to the first one that isn't there.
 pub(crate) fn search(
     octets: &[u8],
     targets: &[Target],
@@ -75,7 +75,7 @@ pub(crate) fn search(
     ending
 }
 
-/// The label at a place, after its length.
+/// Returns the label at an offset, with its length octet.
 fn label_at(octets: &[u8], at: u16) -> &[u8]
     requires { IsWhole octets.now at }
     ensures { result.now ≡ label_at octets.now at }
@@ -85,7 +85,7 @@ fn label_at(octets: &[u8], at: u16) -> &[u8]
     &octets[at..at + 1 + len]
 }
 
-/// How a target compares with a label, after its length, that others follow at a place.
+/// Compares a target with a label, given with its length octet, that is followed by what is at `next`.
 fn compare(octets: &[u8], target: &Target, next: u16, label: &[u8]) -> Ordering
     requires { IsWhole octets.now target.now.at }
     ensures { result ≡ key_cmp octets.now target.now (next ∷ label.now) }
@@ -96,7 +96,8 @@ fn compare(octets: &[u8], target: &Target, next: u16, label: &[u8]) -> Ordering
     }
 }
 
-/// The target of a label that others follow at a place, or how many come before it where there is none.
+/// Returns the index of the target of a label, given with its length octet, that is followed by what is at `next`. If
+/// there is none, the error is the number of targets that come before it.
 fn find_by_halves(
     octets: &[u8],
     targets: &[Target],
@@ -132,8 +133,7 @@ fn find_by_halves(
     Err(from)
 }
 
-/// The target of a label that others follow at a place, or how many come before it where there is none. It is often the
-/// one at `hint`.
+/// Does the same, but first tries the target at `hint`, which is often the one.
 fn find(
     octets: &[u8],
     targets: &[Target],
@@ -157,7 +157,7 @@ fn find(
     find_by_halves(octets, targets, next, label, turns)
 }
 
-/// Whether a target is that of a label that others follow at a place.
+/// Whether the target at an index is that of a label that is followed by what is at `next`.
 fn is_at(octets: &[u8], targets: &[Target], index: usize, next: u16, label: &[u8]) -> bool
     requires { AreTargets octets.now targets.now }
     ensures { IsTrue result ↔ HasKeyAt octets.now targets.now (next ∷ label.now) index }

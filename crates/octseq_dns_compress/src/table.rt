@@ -9,49 +9,49 @@ mod vector;
 
 pub use crate::table::fixed::{StaticCompressor, Uncompressed};
 
-/// How many targets a table has use for: as many as there are places that a pointer can say.
+/// The greatest number of targets in a table: one for each offset that a pointer can express.
 pub(crate) const TARGETS_MAX: usize = 16384;
 
-/// A place of a message where labels of a name are: one, and those at the next place, or the root.
+/// Where labels of a name are in a message: the first one's offset, and that of the others or the root.
 #[derive(Clone, Copy, Debug, Default, PartialEq, Eq)]
 pub struct Target {
-    /// The place of the label's length, counted from the message's first octet.
+    /// The offset of the label's length octet, from the first octet of the message.
     pub at: u16,
-    /// The place of the labels after it, or 0 where the root comes next.
+    /// The offset of the labels after it, or 0 if the root comes next.
     pub next: u16,
-    /// How many pointers are followed from there.
+    /// The number of pointers that are followed from there.
     pub pointers: u8,
 }
 
-/// A table of targets, in an order that its user keeps.
+/// A table of targets, in an order that its user maintains.
 pub trait Compressor: Drop {
     ghost use Rattle.octseq_dns_compress.specs.declared.table.Target.{Target};
 
-    // The targets that it holds, in their order.
+    // The targets, in their order.
     ghost held: { Self → List Target };
 
-    // How many it may hold.
+    // The greatest number of targets.
     ghost most: { ℕ };
 
-    // No more than there are places that a pointer can say.
+    // At most one target for each offset that a pointer can express.
     ghost few: { most ≤ 16384 };
 
     // Whether it requests memory.
     ghost asks: { Bool };
 
-    /// The targets that it holds.
+    /// Returns the targets.
     fn as_slice(&self) -> &[Target]
         ensures { result.now ≡ held self.now };
 
-    /// Whether it may hold no more.
+    /// Whether it can hold no more targets.
     fn is_full(&self) -> bool
         ensures { IsTrue result ↔ (most ≤ length (held self.now)) };
 
-    /// Adds a target at an index.
+    /// Inserts a target at an index.
     ///
     /// # Errors
     ///
-    /// `AllocError` where a request for memory was refused. The table is then as it was.
+    /// `AllocError` if a request for memory was refused. The table is then unchanged.
     fn insert(&mut self, index: usize, target: Target) -> Result<(), AllocError>
         requires index { index ≤ length (held self.old) }
         requires room { length (held self.old) < most }
@@ -59,7 +59,7 @@ pub trait Compressor: Drop {
         ensures err { OnErr result (held self.new ≡ held self.old) }
         ensures memory { OnErr result (asks ≡ true) };
 
-    /// Keeps the targets that are before a place of the message.
+    /// Keeps only the targets at offsets before `place`.
     fn keep_before(&mut self, place: usize)
         ensures { held self.new ≡ filter (λ target. nat_lt target.at place) (held self.old) };
 }

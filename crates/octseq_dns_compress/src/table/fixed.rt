@@ -1,4 +1,4 @@
-//! An array as a table of targets: it requests no memory.
+//! An array as a table of targets. It requests no memory.
 ghost use Rattle.std.specs.Prelude.{false, min};
 ghost use Rattle.octseq_dns_compress.specs.Few.{array_few};
 
@@ -9,7 +9,7 @@ use std::alloc::AllocError;
 /// A table of at most `N` targets, in an array.
 pub type StaticCompressor<const N: usize> = ArrayVec<Target, N>;
 
-/// A table of no target: names are written plain.
+/// A table that holds no targets: names are written without compression.
 pub type Uncompressed = ArrayVec<Target, 0>;
 
 impl<const N: usize> Compressor for ArrayVec<Target, N> {

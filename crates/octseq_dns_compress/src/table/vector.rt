@@ -1,4 +1,4 @@
-//! A vector as a table of targets: it requests memory as it grows.
+//! A vector as a table of targets. It requests memory as it grows.
 ghost use Rattle.std.specs.Prelude.{true};
 ghost use Rattle.octseq_dns_compress.specs.Few.{vector_few};
 

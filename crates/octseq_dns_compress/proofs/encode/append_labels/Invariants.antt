@@ -1,4 +1,4 @@
--- So many labels are there.
+-- This many labels are appended.
 use Rattle.std.proofs.Common.{◌-◌, ◌≡◌, ◌≤◌, ◌++◌, take}
 use Rattle.octseq_dns_compress.specs.Names.{unrooted}
 use Rattle.octseq_dns_compress.specs.PlainNames.{plain_labels}

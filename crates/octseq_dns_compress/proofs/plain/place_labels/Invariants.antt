@@ -1,4 +1,4 @@
--- So many labels have their places, and the others are left.
+-- This many labels have their offsets, and the others are left.
 use Rattle.std.proofs.Common.{◌≡◌, ◌≤◌, ◌*◌, ◌+◌, ◌++◌, length, take}
 use Rattle.octseq_dns_name.specs.Name.{wire_length}
 use Rattle.octseq_dns_name.specs.NextLabel.{ahead_of}
