@@ -1,4 +1,4 @@
--- Lists of things that are pushed to a message, one after another, each of one that was read.
+-- Pushing lists of entries to a message, each one for an entry that was read.
 use Rattle.std.proofs.Common.{◌≡◌, ℕ, ◌+◌, ◌*◌, ◌≤◌, Option, List, [], ◌∷◌, length, refl, sym, ap, ◌∙◌, subst}
 use Rattle.std.proofs.Common.{arith}
 use Rattle.std.proofs.lemmas.List.Sums.{sum_by-cons}
@@ -14,9 +14,8 @@ use Rattle.octseq_dns.specs.Writes.{Takes, Writes, all_more}
 use Rattle.octseq_dns.proofs.HeaderRead.{header_length}
 use Rattle.octseq_dns.proofs.Pushed.{composed_more, twelve_first}
 
--- What is pushed of things that were read, where some of them are left: a message so far, which becomes the whole by
--- what is written of those that are left. `turns` were taken of those that the whole may take, and each label took a
--- turn or an octet.
+-- Some of the entries that were read are left. The message so far becomes the whole one when what is written for those
+-- that are left is pushed. `turns` are among those that the whole may take, and each label took a turn or an octet.
 pub record Ahead {A I : Type 0} (Of : I → A → Type 0) (labels : A → ℕ) (more : Message → A → Message) (most : ℕ)
     (m : Message) (written : List A) (left : List I) (state : State) (header : Header) (counts : HeaderCounts)
     (turns from first : ℕ) : Type 0 where
@@ -31,7 +30,7 @@ pub record Ahead {A I : Type 0} (Of : I → A → Type 0) (labels : A → ℕ) (
 module _ {A : Type 0} {entry : A → Entry} {FitsOne : A → Type 0} {Reaches : HeaderCounts → Type 0}
     {count : HeaderCounts → ℕ} {counted : HeaderCounts → ℕ → HeaderCounts} {more : Message → A → Message} (most : ℕ)
     (takes : Takes A entry FitsOne Reaches count counted more) where
-  -- a message with a thing more has its octets, and those of its entry
+  -- a message with one more entry has its octets and those of the entry
   pushed_length : (m : Message) (one : A) → Reaches (counts_of m)
       → length (octets_of most (more m one)) ≡ length (with_entry most (composed most m) (entry one)).octets
   pushed_length m one reaches =
@@ -43,7 +42,7 @@ module _ {A : Type 0} {entry : A → Entry} {FitsOne : A → Type 0} {Reaches : 
       ap (λ s. length s.octets) (composed_more takes most m one reaches)
       ∙ headed_length (header_octets m.header counts) (header_length m.header counts) then (omega (arith, late, longer))
 
-  -- so it has no fewer with more
+  -- so it doesn't have fewer octets with more entries
   pub all_longer : (m : Message) (rest : List A) → Reaches (counts_of m)
       → length (octets_of most m) ≤ length (octets_of most (all_more more m rest))
   all_longer m [] reaches = omega arith
@@ -57,7 +56,7 @@ module _ {A : Type 0} {entry : A → Entry} {FitsOne : A → Type 0} {Reaches : 
       omega (arith, here, longer, more_long)
 
 module _ {A I : Type 0} {Of : I → A → Type 0} {labels : A → ℕ} {more : Message → A → Message} (most : ℕ) where
-  -- at first all are left
+  -- at first, all are left
   pub ahead_first : (m : Message) (written : List A) (left : List I) (state : State) (header : Header)
       (counts : HeaderCounts) (from : ℕ) → Writes most m state header counts → AllZip Of left written
       → Ahead Of labels more most m written left state header counts from from (length state.octets)
@@ -71,7 +70,7 @@ module _ {A I : Type 0} {Of : I → A → Type 0} {labels : A → ℕ} {more : M
     took = omega arith;
   }
 
-  -- at last none is
+  -- at last, none is left
   pub ahead_none : (m : Message) (written : List A) (state : State) (header : Header) (counts : HeaderCounts)
       (turns from first : ℕ) → Ahead {I = I} Of labels more most m written [] state header counts turns from first
       → Writes most (all_more more m written) state header counts × (turns ≤ from + 17 * sum_by labels written)
@@ -133,7 +132,7 @@ module _ {A I : Type 0} {Of : I → A → Type 0} {labels : A → ℕ} {more : M
           let sum_is = sum_by-cons labels other rest in
           omega (arith, turned, few, labels_are, sum_is)
 
-    -- as the whole passes a limit where the message with it does
+    -- the whole exceeds a limit if the message with this entry does
     pub ahead_past : {entry : A → Entry} {FitsOne : A → Type 0} {Reaches : HeaderCounts → Type 0}
         {count : HeaderCounts → ℕ} {counted : HeaderCounts → ℕ → HeaderCounts} (limit : Option ℕ)
         → Takes A entry FitsOne Reaches count counted more → Reaches counts

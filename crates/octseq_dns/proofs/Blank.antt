@@ -9,14 +9,14 @@ use Rattle.octseq_dns.specs.Contents.{Message, composed}
 use Rattle.octseq_dns.specs.Writes.{IsBuilt, NothingYet, Writes}
 use Rattle.octseq_dns.proofs.Stages.{of_sections}
 
--- a list of no length is that of nothing
+-- a list of length 0 is empty
 as_none : {A : Type 0} (row : List A) → length row ≡ 0 → [] ≡ row
 as_none [] none = refl
 as_none (x ∷ row) none = absurd (omega (arith, none))
 
 module _ (most : ℕ) (state : State) (header : Header) (counts : HeaderCounts)
     (built : IsBuilt most state header counts NothingYet) where
-  -- it has its header alone
+  -- it has only its header
   only : (m : Message) → Writes most m state header counts → m ≡ of_sections header [] [] [] []
   only m is =
       let none = built.1 in

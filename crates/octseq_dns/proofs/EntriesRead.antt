@@ -1,4 +1,4 @@
--- Entries that were appended to a message are read: questions, records, and rows of them.
+-- Entries that were appended to a message are read: questions, records, and lists of them.
 use Rattle.std.proofs.Common.{◌≡◌, ℕ, ◌+◌, ◌≤◌, ◌<◌, List, [], ◌∷◌, ◌++◌, length, map, drop, refl, sym, ap, ◌∙◌}
 use Rattle.std.proofs.Common.{subst, arith, length-append, length-drop}
 use Rattle.std.specs.List.{AllZip, AllByRecursion}
@@ -37,7 +37,7 @@ question_at w v q fits are =
       refl,
     )
 
--- the data of a record come after their number, and end where it says
+-- the data of a record follows its length, and ends where this says
 record_at : (w : Window) (p q n : ℕ) (r : Record) → FitsRecord r → n < 65536 → q ≡ p + 2 + n → q ≤ w.end
     → AreFields w (record_entry r).head (at p w) → AreFields (at p w) (Field.octets (octets_be 2 n) ∷ r.fields) (at q w)
     → (it : entry.Record) × IsRecord w it (at q w) × IsAsWritten it r
@@ -93,7 +93,7 @@ record_at w p q n r fits small end within head data_are =
 
 -- ---- in a message
 
--- what a message has is no longer than all with its header and with what comes after it
+-- octets aren't longer than they are with another header and followed by more
 all_length : (header octets after : List ℕ) → length header ≡ 12 → length octets ≤ length (all_of header octets after)
 all_length header octets after twelve =
     let outer = length-append header (drop 12 octets ++ after) in
@@ -101,7 +101,7 @@ all_length header octets after twelve =
     let left = length-drop 12 octets in
     omega (arith, outer, inner, left, twelve)
 
--- fields are read in octets that are those of a message with them
+-- fields are read in the octets of a message with them
 fields_read_in : (most : ℕ) (s : State) (fields : List Field) → IsWellNamed s → AllByRecursion FitsField fields
     → (header after all octets : List ℕ) → length header ≡ 12 → (with_fields most s fields).octets ≡ octets
     → all_of header octets after ≡ all
@@ -112,7 +112,7 @@ fields_read_in most s fields named fit header after all octets twelve same is =
     (at (length octets) (whole (all_of header octets after)))) same
     (fields_are_read most s fields named fit header after twelve))
 
--- Each thing that fits is read where its entry comes after a message.
+-- Each value that fits is read if its entry follows a message.
 pub record IsRead {A B : Type 0} (Is : Relation A) (IsAs : A → B → Type 0) (to_entry : B → Entry)
     (FitsOne : B → Type 0) : Type 0 where
   pub fits : (b : B) → FitsOne b → FitsEntry (to_entry b)
@@ -165,9 +165,9 @@ record_is_read = record {
   read = record_read;
 }
 
--- ---- rows of entries
+-- ---- lists of entries
 
--- As many things as others are in a row, each as the other says.
+-- A list is read as another: as many values, each as the other's.
 pub record AreRead {A B : Type 0} (Is : Relation A) (IsAs : A → B → Type 0) (w : Window) (row : List B) (v : Window)
     : Type 0 where
   pub them : List A

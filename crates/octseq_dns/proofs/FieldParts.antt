@@ -1,4 +1,4 @@
--- Parts of fields that are read: a name, a number, octets with others after them.
+-- Fields that are read in parts: a name, a number, octets followed by others.
 use Rattle.std.proofs.Common.{◌≡◌, ℕ, ◌≤◌, ◌<◌, ◌^◌, List, ◌∷◌, ◌++◌, length, refl, sym, ap, ◌∙◌, subst, arith}
 use Rattle.std.proofs.Common.{append_assoc, length-append}
 use Rattle.octseq.specs.Integer.{be, octets_be}
@@ -12,13 +12,13 @@ use Rattle.octseq_dns_data.specs.Format.{IsNumber}
 use Rattle.octseq_dns_name.specs.Name.{HasName, IsName}
 use Rattle.octseq_dns_name.specs.NameFormat.{name_of_window}
 
--- what is left begins with octets that come next
+-- what is left begins with the octets that come next
 pub octets_first : (w : Window) (octets : List ℕ) → length octets ≤ left w → next (length octets) w ≡ octets
     → rest w ≡ octets ++ rest (past (length octets) w)
 octets_first w octets room is =
     sym (next_and_rest w (length octets) room) ∙ ap (λ front. front ++ rest (past (length octets) w)) is
 
--- octets with others after them are two fields
+-- octets followed by others are two fields
 pub octets_apart : (w v : Window) (octets more : List ℕ) (fields : List Field)
     → AreFields w (Field.octets (octets ++ more) ∷ fields) v
     → AreFields w (Field.octets octets ∷ Field.octets more ∷ fields) v
@@ -41,14 +41,14 @@ number_last k n w v fields fits are =
     sym (ap be (ap (λ m. next m w) (sym wide) ∙ are.1) ∙ value_be k n fits) in
     ((omega (arith, room, wide), value, refl), subst (λ m. AreFields (past m w) fields v) wide are.2)
 
--- and one with octets after it
+-- and a number followed by octets
 pub number_first : (k n : ℕ) (more : List ℕ) (w v : Window) (fields : List Field) → n < 256 ^ k
     → AreFields w (Field.octets (octets_be k n ++ more) ∷ fields) v
     → IsNumber k w n (past k w) × AreFields (past k w) (Field.octets more ∷ fields) v
 number_first k n more w v fields fits are =
     number_last k n w v (Field.octets more ∷ fields) fits (octets_apart w v (octets_be k n) more fields are)
 
--- the window past a name is another at a position
+-- the window past a name is this window at another position
 pub name_first : (w v : Window) (labels : List (List ℕ)) (fields : List Field)
     → AreFields w (Field.name labels ∷ fields) v
     → (p : ℕ) × HasName w (record { place = w; labels = labels }) (at p w) × AreFields (at p w) fields v

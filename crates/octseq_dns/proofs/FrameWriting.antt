@@ -1,4 +1,4 @@
--- A frame is written until all of it is, or a write fails.
+-- A frame is written until it is complete, or a write fails.
 use Rattle.std.proofs.Common.{◌≡◌, ℕ, List, ◌++◌, length, take, drop, Option, sym, ap, ◌∙◌, append_assoc}
 use Rattle.std.proofs.KnownBytes.{Appends-trans}
 use Rattle.std.proofs.lemmas.List.{take-append-drop, length-drop}
@@ -9,13 +9,13 @@ use Rattle.octseq.specs.Integer.{octets_be}
 use Rattle.octseq.specs.Part.{part_of}
 use Rattle.octseq.specs.Parts.{IsFront}
 
--- A front of the octets went out, and this is left of them.
+-- A front of the octets was written, and the rest is left.
 pub record IsWritten (before now : Option (List ℕ)) (octets rest : List ℕ) : Type 0 where
   pub front : List ℕ
   pub whole : octets ≡ front ++ rest
   pub written : Appends before now front
 
--- so many octets more were written
+-- this many more octets were written
 pub written_more : (before mid after : Option (List ℕ)) (octets rest : List ℕ) (n : ℕ)
     → IsWritten before mid octets rest
     → Appends mid after (take n rest) → IsWritten before after octets (slice_range rest n (length rest))
@@ -37,7 +37,7 @@ pub front_of_length : (message front : List ℕ) → IsFront front (octets_be 2 
 front_of_length message front (rest, e) =
     (rest ++ message, ap (λ h. h ++ message) e ∙ append_assoc front rest message)
 
--- the length of a message went out, and then a front of the message
+-- the length of a message was written, followed by a front of the message
 pub front_of_message : (before mid after : Option (List ℕ)) (message : List ℕ)
     → Appends before mid (octets_be 2 (length message))
     → ((front : List ℕ) × IsFront front message × Appends mid after front)

@@ -1,4 +1,4 @@
--- Streams are read from the front, and in one way.
+-- Streams are read from the front, in one way.
 use Rattle.std.proofs.Common.{◌≡◌, ◌+◌, ◌<◌, ◌≤◌, ◌∷◌, ◌++◌, ◌∙◌}
 use Rattle.std.proofs.Common.{ℕ, List, [], length, take, drop, Option, Result, Ok, Err, refl, sym, ap, subst}
 use Rattle.std.proofs.Common.{append_assoc, take-append-drop, arith}
@@ -18,22 +18,22 @@ use Rattle.octseq.specs.Part.{part_of}
 use Rattle.octseq.specs.Window.{Window, left, next, past}
 use Rattle.octseq_dns.specs.Frames.{FitsStream, IsCut, stream_of}
 
--- the next octets are as many as they were asked for
+-- as many octets come next as are requested
 pub length_next : (w : Window) (n : ℕ) → n ≤ left w → w.end ≤ length w.octets → length (next n w) ≡ n
 length_next w n room within = omega (arith, length-take {A = ℕ}, length-drop {A = ℕ})
 
--- a message after its length has octets
+-- a message with its length has octets
 pub some_octets : HasOctets (part_of 2)
 some_octets message = let all = length_part 2 message in omega arith
 
--- no message stands at the front of no octets
+-- no message is at the front of no octets
 pub none_in_nothing : ¬ HasFront FitsStream (part_of 2) []
 none_in_nothing (message, more, fits, e) =
     let some = some_octets message in
     let none : 0 ≡ length (part_of 2 message) + length more = ap length e ∙ length-append (part_of 2 message) more in
     omega arith
 
--- where no message stands at the front of either rest, octets are those of one list of messages and one rest
+-- if no message is at the front of either rest, octets are one list of messages and one rest
 pub one_reading : (messages others : List (List ℕ)) (x y : List ℕ)
     → AllByRecursion FitsStream messages → AllByRecursion FitsStream others
     → ¬ HasFront FitsStream (part_of 2) x → ¬ HasFront FitsStream (part_of 2) y
@@ -52,14 +52,14 @@ one_reading (a ∷ messages) (b ∷ others) x y (fits, each) (suits, all) none a
     let rest : (messages ≡ others) × (x ≡ y) = one_reading messages others x y each all none also first.1 in
     (ap (λ a. a ∷ messages) first.0 ∙ ap (λ messages. b ∷ messages) rest.0, rest.1)
 
--- a stream with one message more
+-- a stream with one more message
 pub stream_more : (messages : List (List ℕ)) (message : List ℕ)
     → stream_of messages ++ part_of 2 message ≡ stream_of (messages ++ message ∷ [])
 stream_more messages message =
     sym (flat_map-append (part_of 2) messages (message ∷ [])
     ∙ ap (λ x. stream_of messages ++ x) (append-nil (part_of 2 message)))
 
--- where messages stand at the front of a stream, its messages begin with them, and what follows them is a stream
+-- if messages are at the front of a stream, its messages begin with them, and what follows them is a stream
 pub begins_with : (messages others : List (List ℕ)) (x y : List ℕ)
     → AllByRecursion FitsStream messages → AllByRecursion FitsStream others
     → ¬ HasFront FitsStream (part_of 2) y
@@ -76,7 +76,7 @@ begins_with (a ∷ messages) (b ∷ others) x y (fits, each) (suits, all) none e
     let rest = begins_with messages others x y each all none first.1 in
     (rest.0, ap (λ c. c ∷ others) (sym first.0) ∙ ap (λ l. a ∷ l) rest.1)
 
--- fewer than 2 octets begin with no message
+-- fewer than two octets don't begin with a message
 pub no_head : (octets : List ℕ) → length octets < 2 → ¬ HasFront FitsStream (part_of 2) octets
 no_head octets few (message, more, fits, e) =
     let long = length_part 2 message in
@@ -86,7 +86,7 @@ no_head octets few (message, more, fits, e) =
 
 -- ---- readers
 
--- what holds whatever the result is holds where it is a refusal
+-- what always holds also holds of an error
 pub on_err : {T E P : Type 0} (result : Result T E) → P → OnErr result P
 on_err (Ok value) p = tt
 on_err (Err e) p = p
@@ -99,27 +99,27 @@ take_more xs ys f n room fits same =
     ∙ ap (λ l. l ++ drop f (take (f + n) ys)) (take-take f (f + n) ys (omega arith) ∙ same)
     ∙ ap (λ l. take f xs ++ l) (drop-take f n ys)
 
--- what was read in two steps
+-- what was consumed in two steps
 pub consumed_more : (a b c : Option (List ℕ)) (xs ys : List ℕ) (f n : ℕ) → f ≤ length xs → f + n ≤ length ys
     → take f ys ≡ take f xs → Consumes a b (take f xs) → Consumes b c (take n (drop f ys))
     → Consumes a c (take (f + n) ys)
 consumed_more a b c xs ys f n room fits same first second =
     subst (Consumes a c) (sym (take_more xs ys f n room fits same)) (Consumes-trans a b c _ _ first second)
 
--- what was read before nothing was
+-- what was consumed before nothing was
 pub consumed_same : (a b c : Option (List ℕ)) (xs ys : List ℕ) (f : ℕ) → take f ys ≡ take f xs
     → Consumes a b (take f xs) → Consumes b c [] → Consumes a c (take f ys)
 consumed_same a b c xs ys f same first second =
     subst (Consumes a c) (append-nil (take f xs) ∙ sym same) (Consumes-trans a b c _ _ first second)
 
--- fewer octets are left of a window that is further on
+-- a window that is further on has fewer octets left
 pub left_less : (w v u : Window) (n : ℕ) → 2 ≤ left w → v ≡ past 2 w → u ≡ past n v → left u < left w
 left_less w v u n room e f =
     let a : left v ≡ left (past 2 w) = ap left e in
     let b : left u ≡ left (past n v) = ap left f in
     omega (arith, a, b)
 
--- a length and fewer octets than it tells begin with no message
+-- a length and fewer octets than it says don't begin with a message
 pub no_whole : (len : ℕ) (read : List ℕ) → len < 65536 → length read < len
     → ¬ HasFront FitsStream (part_of 2) (octets_be 2 len ++ read)
 no_whole len read fits few (message, more, suits, e) =

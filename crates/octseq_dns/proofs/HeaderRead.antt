@@ -1,4 +1,4 @@
--- The 12 octets of a header are read as that header with its counts.
+-- The 12 octets of a header are read as that header and its counts.
 use Rattle.std.proofs.Common.{◌≡◌, ℕ, ◌≤◌, ◌<◌, Bool, true, false, List, [], ◌∷◌, ◌++◌, length, refl, ap}
 use Rattle.std.proofs.Common.{arith}
 use Rattle.octseq.specs.Integer.{octets_be}
@@ -20,7 +20,7 @@ pub header_length : (h : Header) (counts : HeaderCounts) → length (header_octe
 unfolding octets_be
 header_length h counts = refl
 
--- what a flag counts is at most its weight
+-- a flag adds at most its weight
 flag_most : (f : Bool) (weight : ℕ) → flag f weight ≤ weight
 flag_most true weight = omega arith
 flag_most false weight = omega arith
@@ -37,7 +37,7 @@ bits_small h opcode rcode =
     let cd = flag_most h.flags.cd 16 in
     omega (arith, opcode, rcode, qr, aa, tc, rd, ra, z, ad, cd)
 
--- counts fit 2 octets
+-- counts fit in two octets
 pub record FitCounts (counts : HeaderCounts) : Type 0 where
   pub qdcount : counts.qdcount < 65536
   pub ancount : counts.ancount < 65536

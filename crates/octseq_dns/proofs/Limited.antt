@@ -1,9 +1,9 @@
--- The least of a limit and of another that is set.
+-- The smaller of two limits.
 use Rattle.std.proofs.Common.{ℕ, Option, Some, None, arith}
 use Rattle.octseq.specs.Limit.{IsPast, IsWithin}
 use Rattle.octseq_dns.specs.Writes.{least_limit}
 
--- what passes one of them passes it
+-- what exceeds one of them exceeds it
 pub past_least : (push limit : Option ℕ) (n : ℕ) → IsPast limit n → IsPast (least_limit push limit) n
 past_least None limit n past = past
 past_least (Some most) None n past = absurd past

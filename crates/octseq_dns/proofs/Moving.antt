@@ -9,7 +9,7 @@ use Rattle.octseq_dns_data.specs.Typed.{rdata_of}
 use Rattle.octseq_dns_data.specs.declared.data.Data.{Data}
 use Rattle.octseq_dns_data.specs.declared.data.Data.TheVariants as kind
 
--- data that isn't told as unknown has its form
+-- data that isn't reported as unknown has its form
 typed_by : {R : Type 0} {g : Ghosts R} (r : Record) (found : Data R g)
     → ((rtype : ℕ) (octets : Parser R g) → found ≡ kind.Unknown rtype octets → ⊥) → IsDataOf r (rdata_of found)
     → IsTyped r (rdata_of found)

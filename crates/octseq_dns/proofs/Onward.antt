@@ -1,4 +1,4 @@
--- Lists of things that are appended to a message, one after another, each of one that was read.
+-- Appending lists of entries to a message, each one for an entry that was read.
 use Rattle.std.proofs.Common.{◌≡◌, ℕ, ◌+◌, ◌*◌, ◌≤◌, Option, List, [], ◌∷◌, ◌++◌, length, map, refl, sym, ap, ◌∙◌}
 use Rattle.std.proofs.Common.{subst, arith}
 use Rattle.std.proofs.lemmas.List.{map-append}
@@ -10,9 +10,9 @@ use Rattle.octseq_dns_compress.proofs.Fields.{entries_grow, entries_more, past_l
 use Rattle.octseq_dns_compress.proofs.Steps.{grown_length}
 use Rattle.octseq_dns.specs.Contents.{Message, entries_of, question_entry, record_entry}
 
--- What is appended of things that were read, where some of them are left: the state so far becomes that of the whole by
--- what is written of those that are left. `turns` were taken of those that the whole may take, and each label took a
--- turn or an octet.
+-- Some of the entries that were read are left. The state so far becomes that of the whole when what is written for
+-- those that are left is appended. `turns` are among those that the whole may take, and each label took a turn or an
+-- octet.
 pub record Onward {A I : Type 0} (Of : I → A → Type 0) (entry : A → Entry) (labels : A → ℕ) (FitsOne : A → Type 0)
     (most : ℕ) (written : List A) (left : List I) (first now : State) (from turns : ℕ) : Type 0 where
   pub rest : List A
@@ -22,7 +22,7 @@ pub record Onward {A I : Type 0} (Of : I → A → Type 0) (entry : A → Entry)
   pub turned : turns + 17 * sum_by labels rest ≤ from + 17 * sum_by labels written
   pub took : from + sum_by labels written + length first.octets ≤ turns + sum_by labels rest + length now.octets
 
--- it has no fewer octets with more entries
+-- a state doesn't have fewer octets with more entries
 pub entries_longer : (most : ℕ) (s : State) (entries : List Entry)
     → length s.octets ≤ length (with_entries most s entries).octets
 entries_longer most s entries =
@@ -30,7 +30,7 @@ entries_longer most s entries =
 
 module _ {A I : Type 0} {Of : I → A → Type 0} {entry : A → Entry} {labels : A → ℕ} {FitsOne : A → Type 0} (most : ℕ)
     (written : List A) (first : State) (from : ℕ) where
-  -- at first all are left
+  -- at first, all are left
   pub onward_first : (left : List I) → AllZip Of left written
       → Onward Of entry labels FitsOne most written left first first from from
   onward_first left are = record {
@@ -42,7 +42,7 @@ module _ {A I : Type 0} {Of : I → A → Type 0} {entry : A → Entry} {labels 
     took = omega arith;
   }
 
-  -- at last none is
+  -- at last, none is left
   pub onward_none : (now : State) (turns : ℕ)
       → Onward {I = I} Of entry labels FitsOne most written [] first now from turns
       → (now ≡ with_entries most first (map entry written)) × AllByRecursion FitsOne written
@@ -102,7 +102,7 @@ module _ {A I : Type 0} {Of : I → A → Type 0} {entry : A → Entry} {labels 
           let sum_is = sum_by-cons labels other rest in
           omega (arith, turned, few, labels_are, sum_is)
 
-    -- as the whole passes a limit where the message with it does
+    -- the whole exceeds a limit if the message with this entry does
     pub onward_past : (limit : Option ℕ) → IsPast limit (length (with_entry most now (entry one)).octets)
         → IsPast limit (length (with_entries most first (map entry written)).octets)
     onward_past limit past = by_rest on.rest on.are on.same where
@@ -126,7 +126,7 @@ module _ {A I : Type 0} {Of : I → A → Type 0} {entry : A → Entry} {labels 
 
 -- ---- all sections
 
--- a message once its sections were appended, one after another
+-- a message after its sections were appended, one after another
 module _ (most : ℕ) (m : Message) (first : State) where
   abbrev pub once_asked : State
   once_asked = with_entries most first (map question_entry m.questions)

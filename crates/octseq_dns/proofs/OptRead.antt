@@ -1,4 +1,4 @@
--- A record of EDNS that was written is read as what was written.
+-- An OPT record that was written is read as what was written.
 use Rattle.std.proofs.Common.{◌≡◌, ℕ, ◌+◌, ◌≤◌, List, [], ◌∷◌, ◌++◌, length, refl, sym, ap, ◌∙◌}
 use Rattle.std.proofs.Common.{subst, arith, append_assoc, append-nil, length-append}
 use Rattle.octseq.specs.Integer.{be, octets_be}
@@ -20,7 +20,7 @@ use Rattle.octseq_dns.specs.declared.edns.OptData.{OptData}
 abbrev pub read_option : EdnsOption → ℕ × List ℕ
 read_option option = (option.code, rest option.octets)
 
--- an option is there where its octets come next
+-- an option is there if its octets come next
 pub option_next : IsDelimited HasOption read_option option_octets FitsOption
 option_next = record {
   next = λ w option more fits is.
@@ -51,7 +51,7 @@ option_next = record {
       };
 }
 
--- the octets of data that has one field
+-- the octets of data with one field
 pub one_field : (r : Record) (octets : List ℕ) → HasFields r (Field.octets octets ∷ [])
     → (rest r.rdata ≡ octets) × (r.rdata.position + length octets ≡ r.rdata.end)
 one_field r octets has =

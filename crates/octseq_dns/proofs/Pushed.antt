@@ -1,4 +1,4 @@
--- A message with an entry more, as one that is written.
+-- A message with one more entry, as one that is written.
 use Rattle.std.proofs.Common.{◌≡◌, ℕ, ◌+◌, ◌<◌, ◌≤◌, List, [], ◌∷◌, ◌++◌, length, drop, refl, sym, ap, ◌∙◌}
 use Rattle.std.proofs.Common.{subst, arith}
 use Rattle.std.proofs.Common.{append-nil}
@@ -24,7 +24,7 @@ use Rattle.octseq_dns.specs.Contents.{Message, FitsHeader, composed, octets_of, 
 use Rattle.octseq_dns.specs.Contents.{headed, header_octets}
 use Rattle.octseq_dns.specs.Writes.{IsBuilt, Takes, Writes}
 
--- a header in the place of another
+-- a header in place of another
 pub headed_anew : (h k : Header) (counts others : HeaderCounts)
     → headed k others ≡ with_header (headed h counts) (header_octets k others)
 headed_anew h k counts others =
@@ -72,7 +72,7 @@ module _ {A : Type 0} {entry : A → Entry} {FitsOne : A → Type 0} {Reaches : 
       (headed_entries put long most old (entries_of m) (omega (arith, twelve)))
       ∙ headed_entry put long most (composed most m) (entry one) late
 
-  -- an entry more
+  -- one more entry
   pub pushed : (most : ℕ) (m : Message) (one : A) (state then new : State) (header : Header) (counts now : HeaderCounts)
       (put : List ℕ) → Writes most m state header counts → Reaches counts → FitsOne one → count counts < 65535
       → now ≡ counted counts (count counts + 1) → then ≡ with_entry most state (entry one)
@@ -121,7 +121,7 @@ header_written most m state new header other counts put is fits put_is new_is =
       };
     }
 
--- the message that begins
+-- a message at its start
 pub blank_written : (most : ℕ) (state : State) (header : Header)
     → state ≡ record { octets = replicate 12 0; names = empty } → header ≡ blank_header
     → Writes most blank_message state header (record { qdcount = 0; ancount = 0; nscount = 0; arcount = 0 })
@@ -143,7 +143,7 @@ blank_written most state header is header_is = record {
   };
 }
 
--- what is built begins with its header
+-- a message that is built begins with its header
 pub twelve_built : (most : ℕ) (state : State) (header : Header) (counts : HeaderCounts) (Reaches : HeaderCounts → Type
     0)
     → IsBuilt most state header counts Reaches → 12 ≤ length state.octets
@@ -162,7 +162,7 @@ headed_long most state new header other counts now Reaches put built put_is new_
     ∙ headed_length put (ap length put_is ∙ header_length other now) state
     (twelve_built most state header counts Reaches built)
 
--- and what fits with an entry fits with its count
+-- and what fits with an entry fits with its count too
 pub pushed_within : (limit : Option ℕ) (most : ℕ) (state then new : State) (header : Header)
     (counts now : HeaderCounts) (Reaches : HeaderCounts → Type 0) (put : List ℕ) (entry : Entry)
     → IsBuilt most state header counts Reaches → IsWithin limit (length (with_entry most state entry).octets)
@@ -176,7 +176,7 @@ pushed_within limit most state then new header counts now Reaches put entry buil
     subst (IsWithin limit) (sym (ap (λ s. length s.octets) new_is ∙ same
     ∙ headed_length put (ap length put_is ∙ header_length header now) wanted (omega (arith, late, longer)))) within
 
--- a header fits where a builder takes it
+-- a header fits if the builder accepts it
 pub begun_within : (limit : Option ℕ) (octets : List ℕ) → ¬ IsPast limit 12 → length octets ≡ 12
     → IsWithin (message_limit limit) (length octets)
 begun_within None octets fits long = omega (arith, long)

@@ -27,12 +27,12 @@ use Rattle.octseq_dns.proofs.FieldParts.{octets_first, octets_apart, number_firs
 
 -- ---- fields
 
--- so many octets
+-- this many octets
 octets_last : (n : ℕ) (octets : List ℕ) (w v : Window) → length octets ≡ n → AreFields w (Field.octets octets ∷ []) v
     → HasOctets n w octets v
 octets_last n octets w v many are = subst (λ n. HasOctets n w octets v) many (are.0, sym are.1, are.2)
 
--- the name of a place
+-- the name at a place
 abbrev named : Window → List (List ℕ) → Name
 named w labels = record { place = w; labels = labels }
 
@@ -109,11 +109,11 @@ soa_last mname rname serial refresh retry expire minimum w v fits are =
 
 -- ---- data
 
--- what is read says the same
+-- it is read as data with the same values
 abbrev pub IsReadAs : Record → Rdata → Type 0
 IsReadAs r said = (parsed : ParsedRdata) × (bare_rdata parsed ≡ said) × IsDataOf r parsed
 
--- typed data is read
+-- data of a known type is read
 typed : (r : Record) (said : Rdata) (has : HasFields r (rdata_fields said)) (parsed : ParsedRdata)
     → bare_rdata parsed ≡ said → HasRdata r.rtype r.class (at r.rdata.position r.owner.place) parsed has.end
     → IsReadAs r said
@@ -124,7 +124,7 @@ typed r said has parsed same is = (
       (record { end = has.end; rdata_is = is; ends = has.ends })),
 )
 
--- octets that take the data whole are the data
+-- octets that fill the data are the data
 octets_whole : (r : Record) (octets : List ℕ) → HasFields r (Field.octets octets ∷ [])
     → (rest r.rdata ≡ octets) × (r.rdata.position + length octets ≡ r.rdata.end)
 octets_whole r octets has =
@@ -137,7 +137,7 @@ octets_whole r octets has =
       ends,
     )
 
--- data that takes its window whole is read by itself
+-- data that fills its window is read by itself
 local_read : (r : Record) (k : LocalType) (octets : List ℕ) → HasFields r (Field.octets octets ∷ [])
     → FitsRdata (Rdata.local k octets) → r.rtype ≡ local_number k → IsOfClass k r.class
     → IsReadAs r (Rdata.local k octets)
@@ -157,7 +157,7 @@ local_read r k octets has fits rtype class =
       }),
     )
 
--- a naming authority pointer
+-- NAPTR data
 naptr_read : (r : Record) (said : naptr_form.Said) → HasFields r (Field.octets (naptr_form.octets said) ∷ [])
     → naptr_form.Fits said → r.rtype ≡ 35 → r.class ≡ 1 → IsReadAs r (Rdata.naptr said)
 naptr_read r said has fits rtype class =
@@ -168,7 +168,7 @@ naptr_read r said has fits rtype class =
     typed r (Rdata.naptr said) has (ParsedRdata.naptr (naptr_from taken.it)) (ap Rdata.naptr taken.tells)
     (rtype, class, subst (λ v. naptr_form.Is w taken.it v) (sym are.2) taken.is)
 
--- Data that was written is read as that data, where the record's type and class are those that it is of.
+-- Data that was written is read as that data, if its record has the type and the class of the data.
 pub data_is_read : (r : Record) (said : Rdata) → HasFields r (rdata_fields said) → FitsRdata said → IsOfType r said
     → IsReadAs r said
 data_is_read r (Rdata.a address) has fits of =

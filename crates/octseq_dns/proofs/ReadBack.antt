@@ -18,11 +18,11 @@ use Rattle.octseq_dns.proofs.EntriesRead.{IsRead, AreRead, question_is_read, rec
 use Rattle.octseq_dns.proofs.EntriesRead.{rows_are_read}
 use Rattle.octseq_dns.proofs.HeaderRead.{header_length, header_is_read}
 
--- a message takes no more octets than where no name is compressed
+-- a message takes no more octets than without compression
 pub never_longer : (most : ℕ) (m : Message) → length (octets_of most m) ≤ length (octets_of 0 m)
 never_longer most m = entries_never_longer most (headed m.header (counts_of m)) (entries_of m)
 
--- what is so of each of one list and of the other is what it is mapped to
+-- a list that has the image of each element of another is its image
 zip_mapped : {A B : Type 0} (f : A → B) (them : List A) (row : List B) → AllZip (λ a b. f a ≡ b) them row
     → map f them ≡ row
 zip_mapped f [] [] zip = refl
@@ -30,7 +30,7 @@ zip_mapped f [] (b ∷ row) zip = absurd zip
 zip_mapped f (a ∷ them) [] zip = absurd zip
 zip_mapped f (a ∷ them) (b ∷ row) zip = λ i. zip.0 i ∷ zip_mapped f them row zip.1 i
 
--- a section is read where others come after it
+-- a section is read, followed by others
 section_is_read : {A B : Type 0} {Is : Relation A} {IsAs : A → B → Type 0} {to_entry : B → Entry}
     {FitsOne : B → Type 0} → IsRead Is IsAs to_entry FitsOne → (most : ℕ) (s : State) (row : List B)
     → AllByRecursion FitsOne row → IsWellNamed s → (header last : List ℕ) → length header ≡ 12
@@ -69,7 +69,7 @@ composed_is most m =
     ∙ ap (with_entries most (with_answers most m)) (map-append record_entry m.authorities m.additionals)
     ∙ entries_more most (with_answers most m) (map record_entry m.authorities) (map record_entry m.additionals)
 
--- all of the octets, as those with the header
+-- all the octets, as a message with its header
 all_is : (most : ℕ) (m : Message)
     → all_of (header_octets m.header (counts_of m)) (with_additionals most m).octets [] ≡ octets_of most m
 all_is most m =
@@ -148,7 +148,7 @@ read_all most m fits few all_few =
       additionals_are = fourth.as_said;
     }
 
--- What was written is read back.
+-- A message that was written is read back.
 pub is_read_back : (most : ℕ) (m : Message) → Fits m → length (octets_of most m) ≤ 65535
     → ReadsBack (octets_of most m) m
 is_read_back most m fits few =

@@ -21,12 +21,12 @@ use Rattle.octseq_format.specs.Laws.{IsDelimited}
 use Rattle.octseq_format.specs.Row.{Row, row_next}
 use Rattle.octseq_dns.specs.TxtWritten.{AreStrings, cut_after, strings_of_text}
 
--- what passes a limit passes it where there is more
+-- what exceeds a limit exceeds it with more
 pub past_more : (limit : Option ℕ) (m n : ℕ) → m ≤ n → IsPast limit m → IsPast limit n
 past_more None m n less past = absurd past
 past_more (Some most) m n less past = omega (arith, less, past)
 
--- a string that passes a limit passes it with those after it
+-- a string that exceeds a limit exceeds it with those after it
 pub past_string : (limit : Option ℕ) (now part rest old all : List ℕ) → now ++ (part ++ rest) ≡ old ++ all
     → IsPast limit (length now + length part) → IsPast limit (length old + length all)
 past_string limit now part rest old all same past =
@@ -51,7 +51,7 @@ grown_more now part old new grown is =
 abbrev pub contents : List (Bor (List ℕ)) → List (List ℕ)
 contents strings = map (λ string. string.now) strings
 
--- the first of those that are left
+-- the first string that is left
 pub left_first : (strings : List (Bor (List ℕ))) (i : ℕ) (default : Bor (List ℕ)) → i < length strings
     → spelling (contents (drop i strings))
     ≡ part_of 1 (get_or strings i default).now ++ spelling (contents (drop (i + 1) strings))
@@ -60,14 +60,14 @@ left_first strings i default less =
     ∙ flat_map-cons (part_of 1) (get_or strings i default).now (contents (drop (suc i) strings))
     ∙ ap (λ (n : ℕ). part_of 1 (get_or strings i default).now ++ spelling (contents (drop n strings))) (sym (add-one i))
 
--- each of them is short
+-- each string has at most 255 octets
 pub one_short : (strings : List (Bor (List ℕ))) (i : ℕ) (default : Bor (List ℕ)) → i < length strings
     → AreStrings (contents strings) → length (get_or strings i default).now ≤ 255
 one_short strings i default less are =
     subst (λ (s : List ℕ). length s ≤ 255) (get_or-map (λ (s : Bor (List ℕ)). s.now) strings i default)
     (are.1 i default.now (subst (λ n. i < n) (sym (length-map strings (λ (s : Bor (List ℕ)). s.now))) less))
 
--- one more is short
+-- one more string has at most 255 octets
 pub more_short : (strings : List (Bor (List ℕ))) (i : ℕ) (default : Bor (List ℕ)) → i < length strings
     → All (λ (s : List ℕ). length s ≤ 255) (contents (take i strings)) → length (get_or strings i default).now ≤ 255
     → All (λ (s : List ℕ). length s ≤ 255) (contents (take (i + 1) strings))
@@ -78,7 +78,7 @@ more_short strings i default less so_far short =
     (subst (All (λ (s : List ℕ). length s ≤ 255)) (sym (take-map (λ (s : Bor (List ℕ)). s.now) i strings)) so_far)
     (subst (λ (s : List ℕ). length s ≤ 255) (sym (get_or-map (λ (s : Bor (List ℕ)). s.now) strings i default)) short))
 
--- at last all are
+-- at last, all do
 pub each_short : (strings : List (Bor (List ℕ))) (i : ℕ) → length strings ≤ i
     → All (λ (s : List ℕ). length s ≤ 255) (contents (take i strings))
     → All (λ (s : List ℕ). length s ≤ 255) (contents strings)
@@ -95,13 +95,13 @@ cut_first text long =
     let one : (length text - 1) / 255 ≡ suc ((length (drop 255 text) - 1) / 255) = omega (arith, left, long) in
     ap (λ n. cut_after n text) one
 
--- another is one string
+-- another text is one string
 pub cut_last : (text : List ℕ) → length text ≤ 255 → strings_of_text text ≡ text ∷ []
 cut_last text short =
     let none : (length text - 1) / 255 ≡ 0 = omega (arith, short) in
     ap (λ n. cut_after n text) none
 
--- so are their octets
+-- and the same for their octets
 pub spelled_first : (text : List ℕ) → 255 < length text
     → spelling (strings_of_text text) ≡ part_of 1 (take 255 text) ++ spelling (strings_of_text (drop 255 text))
 spelled_first text long =
@@ -110,7 +110,7 @@ spelled_first text long =
 pub spelled_last : (text : List ℕ) → length text ≤ 255 → spelling (strings_of_text text) ≡ part_of 1 text ++ []
 spelled_last text short = ap spelling (cut_last text short) ∙ flat_map-cons (part_of 1) text []
 
--- each string is short
+-- each string has at most 255 octets
 cut_short : (more : ℕ) (text : List ℕ) → length text ≤ 255 * more + 255
     → All (λ (string : List ℕ). length string ≤ 255) (cut_after more text)
 cut_short zero text short = All-cons (λ (string : List ℕ). length string ≤ 255) text [] (omega (arith, short))
@@ -133,7 +133,7 @@ text_strings text = (
 
 -- ---- read back
 
--- a string is there where its octets come next
+-- a string is there if its octets come next
 string_next : IsDelimited HasString (λ string. string) (part_of 1) (λ (string : List ℕ). length string ≤ 255)
 string_next = record {
   next = λ w string more fits is.

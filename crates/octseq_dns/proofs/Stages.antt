@@ -1,4 +1,4 @@
--- A message section by section, and that a message that was read is written in one way.
+-- Messages section by section; a message that was read is rewritten in one way.
 use Rattle.std.proofs.Common.{◌≡◌, ℕ, Option, List, [], ◌∷◌, ◌++◌, length, map}
 use Rattle.std.proofs.Common.{refl, sym, ap}
 use Rattle.std.proofs.Common.{◌∙◌, subst, append_assoc, append-nil}
@@ -19,7 +19,7 @@ use Rattle.octseq_dns.proofs.Pushed.{twelve_first}
 abbrev pub of_sections : Header → List Question → List Record → List Record → List Record → Message
 of_sections h q a n d = record { header = h; questions = q; answers = a; authorities = n; additionals = d }
 
--- ---- all of a section is pushed
+-- ---- all entries of a section are pushed
 
 pub all_questions : (h : Header) (first q : List Question) (a n d : List Record)
     → all_more more_questions (of_sections h first a n d) q ≡ of_sections h (first ++ q) a n d
@@ -42,7 +42,7 @@ pub past_twelve : (limit : Option ℕ) (most : ℕ) (m : Message) → IsPast lim
     → IsPast limit (length (octets_of most m))
 past_twelve limit most m past = past_longer limit 12 (length (octets_of most m)) (twelve_first most m) past
 
--- ---- one message is written of one that was read
+-- ---- only one message is written for one that was read
 
 pub zip_bare : (questions : List entry.Question) → AllZip IsQuestionOf questions (map bare questions)
 zip_bare [] = tt

@@ -1,4 +1,4 @@
--- What is told of an entry that was read is what is written of it, and nothing else is.
+-- What is said of an entry that was read is what is written for it, and nothing else is.
 use Rattle.std.proofs.Common.{◌≡◌, ℕ, sym, ap, ◌∙◌}
 use Rattle.octseq_dns_data.specs.Data.{ParsedRdata}
 use Rattle.octseq_dns_message.specs.RecordData.{IsDataOf}

@@ -1,4 +1,4 @@
--- A message that answers another: RFC 1035, 4.1.1.
+-- Answers to messages: RFC 1035, 4.1.1.
 use Rattle.std.specs.Prelude.{ℕ, true, false, List, [], map}
 use Rattle.octseq.specs.declared.AsOctets.{Ghosts}
 use Rattle.octseq_dns_message.specs.Entry as entry
@@ -8,8 +8,8 @@ use Rattle.octseq_dns_message.specs.declared.message.Message.{Message as Parsed}
 use Rattle.octseq_dns.specs.Contents.{Message}
 use Rattle.octseq_dns.specs.ReadBack.{bare}
 
--- The header of an answer: the number, the kind of question and the wish for recursion of what it answers, that it is a
--- response, and a response code. No other flag is set.
+-- The header of an answer: the ID, the opcode and the RD flag of the message that it answers, the QR flag, and a
+-- response code. No other flag is set.
 abbrev pub answer_header : Header → ℕ → Header
 answer_header asked rcode = record {
   id = asked.id;
@@ -27,7 +27,7 @@ answer_header asked rcode = record {
   rcode = rcode;
 }
 
--- with the questions, and no record yet
+-- with the questions, and no records yet
 abbrev pub answer_with : Header → List entry.Question → ℕ → Message
 answer_with asked questions rcode = record {
   header = answer_header asked rcode;
@@ -37,6 +37,6 @@ answer_with asked questions rcode = record {
   additionals = [];
 }
 
--- the answer that begins to a message that was read
+-- an answer to a message that was read, before its records
 abbrev pub answer_to : {R : Type 0} {g : Ghosts R} → Parsed R g → ℕ → Message
 answer_to message rcode = answer_with (header_of message) (questions_of message) rcode

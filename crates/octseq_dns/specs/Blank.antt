@@ -1,4 +1,4 @@
--- A message of zeros: a header in which nothing is set, and no entry.
+-- A message of zeros: a header in which nothing is set, and no entries.
 use Rattle.std.specs.Prelude.{false, []}
 use Rattle.octseq_dns_message.specs.declared.header.Header.{Header}
 use Rattle.octseq_dns.specs.Contents.{Message}
@@ -11,7 +11,7 @@ blank_header = record {
   rcode = 0;
 }
 
--- the message that begins
+-- a message at its start
 abbrev pub blank_message : Message
 blank_message =
     record { header = blank_header; questions = []; answers = []; authorities = []; additionals = [] }

@@ -1,4 +1,4 @@
--- A message that is written, as a value without places, and its octets as a function of it: RFC 1035, 4.1.
+-- A message as a value without places, and its octets as a function of it: RFC 1035, 4.1.
 use Rattle.std.specs.Prelude.{ℕ, ◌<◌, ◌≤◌, Some, None, List, [], ◌∷◌, ◌++◌, length, map}
 use Rattle.std.specs.FinMap.{empty}
 use Rattle.std.specs.List.{AllByRecursion}
@@ -15,8 +15,7 @@ pub record Question : Type 0 where
   pub qtype : ℕ
   pub qclass : ℕ
 
--- A record: the labels of the name that it is of, its type and class, for how many seconds it may be kept, and the
--- fields of its data.
+-- A record: the labels of its owner name, its type, class and TTL, and the fields of its data.
 pub record Record : Type 0 where
   pub labels : List (List ℕ)
   pub rtype : ℕ
@@ -24,7 +23,7 @@ pub record Record : Type 0 where
   pub ttl : ℕ
   pub fields : List Field
 
--- A message: its header, its questions, and its records of three sections.
+-- A message: its header, its questions, and the records of its other three sections.
 pub record Message : Type 0 where
   pub header : Header
   pub questions : List Question
@@ -34,7 +33,7 @@ pub record Message : Type 0 where
 
 -- ---- its octets
 
--- how many entries each section has
+-- the number of entries of each section
 abbrev pub counts_of : Message → HeaderCounts
 counts_of m = record {
   qdcount = length m.questions;
@@ -55,7 +54,7 @@ question_entry q = record {
   data_fields = None;
 }
 
--- a record as one: its name, its type, class and TTL, and its data after their length
+-- a record as an entry: its name, its type, class and TTL, and its data, preceded by its length
 abbrev pub record_entry : Record → Entry
 record_entry r = record {
   head = Field.name r.labels
@@ -63,23 +62,23 @@ record_entry r = record {
   data_fields = Some r.fields;
 }
 
--- all entries, one section after another
+-- all entries, section by section
 abbrev pub entries_of : Message → List Entry
 entries_of m =
     map question_entry m.questions ++ map record_entry (m.answers ++ (m.authorities ++ m.additionals))
 
--- a header, and no name that a pointer may lead to
+-- a header, with no names that pointers may lead to
 abbrev pub headed : Header → HeaderCounts → State
 headed h counts = record { octets = header_octets h counts; names = empty }
 
--- A message's octets, and the names in them that pointers may lead to, where at most so many are kept.
+-- The octets of a message, and the names in it that pointers may lead to; at most `most` names are kept.
 abbrev pub composed : ℕ → Message → State
 composed most m = with_entries most (headed m.header (counts_of m)) (entries_of m)
 
 abbrev pub octets_of : ℕ → Message → List ℕ
 octets_of most m = (composed most m).octets
 
--- ---- whether they say it
+-- ---- whether the values fit
 
 -- The name and the numbers of a question fit their octets.
 pub record FitsQuestion (q : Question) : Type 0 where
@@ -87,7 +86,7 @@ pub record FitsQuestion (q : Question) : Type 0 where
   pub qtype : q.qtype < 65536
   pub qclass : q.qclass < 65536
 
--- So do those of a record, and the names in its data.
+-- The same for a record, and for the names in its data.
 pub record FitsRecord (r : Record) : Type 0 where
   pub name : NameFits r.labels
   pub rtype : r.rtype < 65536
@@ -101,7 +100,7 @@ pub record FitsHeader (h : Header) : Type 0 where
   pub opcode : h.opcode < 16
   pub rcode : h.rcode < 16
 
--- All of a message does, and no section has more entries than its count can say.
+-- All values of a message fit, and no section has more entries than its count can express.
 pub record Fits (m : Message) : Type 0 where
   pub header : FitsHeader m.header
   pub questions : AllByRecursion FitsQuestion m.questions

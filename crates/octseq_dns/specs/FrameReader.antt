@@ -1,4 +1,4 @@
--- What contracts see of a `FrameReader`.
+-- A `FrameReader`, as contracts see it.
 use Rattle.std.specs.Prelude.{ℕ, List, Bool}
 use Rattle.octseq_dns.specs.declared.frames.reader.FrameReader.{FrameReader}
 
@@ -6,10 +6,10 @@ use Rattle.octseq_dns.specs.declared.frames.reader.FrameReader.{FrameReader}
 abbrev pub reader_of : {R : Type 0} → FrameReader R → R
 reader_of frames = frames.reader
 
--- the octets of the message that it read last
+-- the octets of the message that was read last
 abbrev pub frame_of : {R : Type 0} → FrameReader R → List ℕ
 frame_of frames = frames.frame.items
 
--- whether it has told the end, or an error, so that no frame follows
+-- whether the end or an error was reported, so that no frame follows
 abbrev pub is_over : {R : Type 0} → FrameReader R → Bool
 is_over frames = frames.is_over

@@ -1,4 +1,4 @@
--- How many labels the names of a message have, by which the work of writing them is bounded.
+-- The number of labels of the names of a message, which bounds the turns of writing them.
 use Rattle.std.specs.Prelude.{ℕ, ◌+◌, length}
 use Rattle.std.specs.List.{sum_by}
 use Rattle.octseq_dns_compress.specs.State.{label_count}
@@ -7,7 +7,7 @@ use Rattle.octseq_dns.specs.Contents.{Question, Record, Message}
 abbrev pub question_labels : Question → ℕ
 question_labels q = length q.labels
 
--- those of the name that it is of, and of the names in its data that may be compressed
+-- the labels of the owner name, and of the names in the data that may be compressed
 abbrev pub record_labels : Record → ℕ
 record_labels r = length r.labels + label_count r.fields
 

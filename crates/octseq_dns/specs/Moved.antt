@@ -1,5 +1,5 @@
--- Whether a message can be written anew in other octets. Data that isn't read may have pointers, which would point
--- elsewhere there.
+-- Whether a message can be rewritten. Data that isn't parsed may have pointers, which would point elsewhere in another
+-- message.
 use Rattle.std.specs.List.{AllByRecursion, list_any}
 use Rattle.std.specs.Prelude.{ℕ, ◌<◌, Bool, ◌||◌, ◌&&◌, nat_eq, List, [], ◌∷◌, IsTrue}
 use Rattle.octseq.specs.Window.{left}
@@ -14,16 +14,16 @@ abbrev pub types_with_names : List ℕ
 types_with_names =
     2 ∷ 3 ∷ 4 ∷ 5 ∷ 6 ∷ 7 ∷ 8 ∷ 9 ∷ 12 ∷ 14 ∷ 15 ∷ 17 ∷ 18 ∷ 21 ∷ 24 ∷ 26 ∷ 30 ∷ 35 ∷ 39 ∷ 46 ∷ 47 ∷ []
 
--- whether data of a type and a class may have names: SRV (RFC 2782), SVCB and HTTPS (RFC 9460) in the class IN do too
+-- whether data of a type and a class may have names: SRV (RFC 2782), SVCB and HTTPS (RFC 9460) do too, in class IN
 abbrev pub may_have_names : ℕ → ℕ → Bool
 may_have_names rtype class = list_any (λ t. nat_eq t rtype) types_with_names
     || (list_any (λ t. nat_eq t rtype) (33 ∷ 64 ∷ 65 ∷ []) && nat_eq class 1)
 
--- a record's data isn't of its type's form, or its type has no form that is known here
+-- a record's data doesn't have the form of its type, or the type has no known form
 abbrev pub IsUnknown : Record → Type 0
 IsUnknown r = (rdata : ParsedRdata) → ¬ IsTyped r rdata
 
--- a record can be moved: where its data is unknown, the data has no octet, or is of a type without names
+-- a record can be moved if its data is parsed, is empty, or is of a type without names
 abbrev pub CanMoveRecord : Record → Type 0
 CanMoveRecord r = IsUnknown r → 0 < left r.rdata → ¬ IsTrue (may_have_names r.rtype r.class)
 

@@ -1,4 +1,4 @@
--- The text of a refusal to push a record of EDNS.
+-- The text of a `PushOptError`.
 use Rattle.std.specs.Prelude.{ℕ, List, codes}
 use Rattle.octseq_dns.specs.declared.edns.PushOptError.{PushOptError}
 

@@ -1,4 +1,4 @@
--- What is pushed to a message, of names that were read.
+-- What is pushed to a message, with names that were read.
 use Rattle.std.specs.Prelude.{ℕ, List}
 use Rattle.octseq.specs.declared.AsOctets.{Ghosts}
 use Rattle.octseq_dns_compress.specs.State.{Field}

@@ -1,4 +1,4 @@
--- What data says without the places where its names are, and the fields by which it is written.
+-- The values of data without the places of its names, and the fields that are written for it.
 use Rattle.std.specs.Prelude.{◌≡◌, ℕ, ◌<◌, ◌≤◌, List, [], ◌∷◌, ◌++◌, length}
 use Rattle.std.specs.List.{All, flat_map}
 use Rattle.octseq.specs.Integer.{octets_be}
@@ -13,9 +13,9 @@ use Rattle.octseq_dns_message.specs.RecordData.{IsTyped}
 use Rattle.octseq_dns_message.specs.Entry.{Record}
 use Rattle.octseq_dns_name.specs.Wire.{wire}
 
--- Of a mail exchange the preference and the labels, of the start of a zone the labels of both names and the five
--- numbers, of a service the three numbers and the labels, of a naming authority pointer its parts; of data that is read
--- by itself the octets; of a type that isn't known here its number and the octets.
+-- The preference and the labels of MX data, the labels of both names and the five numbers of SOA data, the three
+-- numbers and the labels of SRV data, and the parts of NAPTR data; the octets of data that is read by itself; the
+-- number of an unknown type, and the octets.
 pub data Rdata : Type 0 where
   a : List ℕ → Rdata
   aaaa : List ℕ → Rdata
@@ -30,7 +30,7 @@ pub data Rdata : Type 0 where
   local : LocalType → List ℕ → Rdata
   unknown : ℕ → List ℕ → Rdata
 
--- what data that was read says
+-- the values of data that was read
 abbrev pub bare_rdata : ParsedRdata → Rdata
 bare_rdata (ParsedRdata.a octets) = Rdata.a octets
 bare_rdata (ParsedRdata.aaaa octets) = Rdata.aaaa octets
@@ -46,7 +46,7 @@ bare_rdata (ParsedRdata.naptr it) = Rdata.naptr (naptr_form.says (naptr_parts it
 bare_rdata (ParsedRdata.local k found) = Rdata.local k ((form k).octets ((form k).says found))
 bare_rdata (ParsedRdata.unknown rtype octets) = Rdata.unknown rtype (rest octets)
 
--- the type that it is of
+-- its type
 abbrev pub rtype_of : Rdata → ℕ
 rtype_of (Rdata.a _) = 1
 rtype_of (Rdata.aaaa _) = 28
@@ -61,7 +61,7 @@ rtype_of (Rdata.naptr _) = 35
 rtype_of (Rdata.local k _) = local_number k
 rtype_of (Rdata.unknown rtype _) = rtype
 
--- Its fields. Names are compressed in the types of RFC 1035 alone: RFC 3597, 4.
+-- Its fields. Only names in the types of RFC 1035 are compressed: RFC 3597, 4.
 abbrev pub rdata_fields : Rdata → List Field
 rdata_fields (Rdata.a address) = Field.octets address ∷ []
 rdata_fields (Rdata.aaaa address) = Field.octets address ∷ []
@@ -97,7 +97,7 @@ FitsRdata (Rdata.naptr said) = naptr_form.Fits said
 FitsRdata (Rdata.local k octets) = (said : (form k).Said) × (form k).Fits said × (octets ≡ (form k).octets said)
 FitsRdata (Rdata.unknown rtype octets) = rtype < 65536
 
--- addresses, places of services and naming authority pointers are of the class IN alone
+-- A, AAAA, SRV and NAPTR data is of class IN only; data that is read by itself has the classes of its type
 abbrev pub IsOfClass : ℕ → Rdata → Type 0
 IsOfClass class (Rdata.a _) = class ≡ 1
 IsOfClass class (Rdata.aaaa _) = class ≡ 1
@@ -106,7 +106,7 @@ IsOfClass class (Rdata.naptr _) = class ≡ 1
 IsOfClass class (Rdata.local k _) = IsLocalClass k class
 IsOfClass class _ = Unit {0}
 
--- A record's type and class are those that the data is of; where its type isn't known, the record's data has no form.
+-- A record has the type and the class of the data. If the type is unknown, the record's data has no known form.
 abbrev pub IsOfType : Record → Rdata → Type 0
 IsOfType r (Rdata.unknown rtype octets) = (r.rtype ≡ rtype) × ((parsed : ParsedRdata) → ¬ IsTyped r parsed)
 IsOfType r said = (r.rtype ≡ rtype_of said) × IsOfClass r.class said

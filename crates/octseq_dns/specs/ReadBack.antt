@@ -1,4 +1,4 @@
--- What is read of a message that was written.
+-- Reading a message that was written.
 use Rattle.std.specs.Prelude.{◌≡◌, ℕ, List, map}
 use Rattle.std.specs.List.{AllZip}
 use Rattle.octseq.specs.Window.{Window, at}
@@ -12,15 +12,15 @@ use Rattle.octseq_dns.specs.Contents.{Question, Record, Message}
 abbrev pub bare : entry.Question → Question
 bare q = record { labels = q.qname.labels; qtype = q.qtype; qclass = q.qclass }
 
--- The data of a record has these fields, and nothing else. They are in the message that its owner is in, so that names
--- may have pointers.
+-- The data of a record is these fields, and nothing else. They are in the same message as its owner name, so names may
+-- have pointers.
 pub record HasFields (r : entry.Record) (fields : List Field) : Type 0 where
   pub in_message : r.rdata.octets ≡ r.owner.place.octets
   pub end : Window
   pub fields_are : AreFields (at r.rdata.position r.owner.place) fields end
   pub ends : end.position ≡ r.rdata.end
 
--- A record is one that was written.
+-- A record that was read is one that was written.
 pub record IsAsWritten (r : entry.Record) (written : Record) : Type 0 where
   pub labels : r.owner.labels ≡ written.labels
   pub rtype : r.rtype ≡ written.rtype

@@ -1,4 +1,4 @@
--- The text of a refusal to write a message anew.
+-- The text of a `RewriteError`.
 use Rattle.std.specs.Prelude.{ℕ, List, codes}
 use Rattle.octseq_dns.specs.declared.rewriting.RewriteError.{RewriteError}
 

@@ -14,7 +14,7 @@ use Rattle.octseq_dns.specs.Contents.{Question, Record, Message}
 use Rattle.octseq_dns.specs.Rdata.{bare_rdata, rdata_fields}
 use Rattle.octseq_dns.specs.ReadBack.{bare}
 
--- a record that was read, whose data says this
+-- the record that is written for one that was read with this data
 abbrev pub record_of_parsed : entry.Record → ParsedRdata → Record
 record_of_parsed r parsed = record {
   labels = r.owner.labels;
@@ -24,11 +24,11 @@ record_of_parsed r parsed = record {
   fields = rdata_fields (bare_rdata parsed);
 }
 
--- a question is written of one that was read
+-- a question is the one that is written for one that was read
 abbrev pub IsQuestionOf : entry.Question → Question → Type 0
 IsQuestionOf q written = written ≡ bare q
 
--- A record is written of one that was read, by what its data says.
+-- A record is the one that is written for one that was read, given its data.
 pub record IsRecordOf (r : entry.Record) (written : Record) : Type 0 where
   pub parsed : ParsedRdata
   pub data_is : IsDataOf r parsed
@@ -43,12 +43,12 @@ pub record IsMessageOf (header : Header) (questions : List entry.Question)
   pub authorities_are : AllZip IsRecordOf authorities m.authorities
   pub additionals_are : AllZip IsRecordOf additionals m.additionals
 
--- so it is of a message that was read, as contracts see that
+-- the same for a message that was read, as contracts see it
 abbrev pub IsContentsOf : {R : Type 0} {g : Ghosts R} → Parsed R g → Message → Type 0
 IsContentsOf parsed m = IsMessageOf (header_of parsed) (questions_of parsed) (answers_of parsed)
     (authorities_of parsed) (additionals_of parsed) m
 
--- why a message was not written anew
+-- why a message wasn't rewritten
 abbrev pub rewrite_error : RewriteError → Refusal
 rewrite_error RewriteError.Immovable = Refusal.malformed
 rewrite_error (RewriteError.Short e) = Refusal.short

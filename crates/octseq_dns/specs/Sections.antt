@@ -1,4 +1,4 @@
--- Each section takes its things.
+-- Each section takes its entries.
 use Rattle.std.specs.Prelude.{◌≡◌, ◌+◌, ◌<◌, ◌≤◌, List, [], ◌∷◌, ◌++◌, length, map, refl}
 use Rattle.std.specs.List.{AllByRecursion}
 use Rattle.std.proofs.Common.{sym, ap, ◌∙◌, arith, append_assoc, append-nil}
@@ -8,26 +8,26 @@ use Rattle.octseq_dns.specs.Contents.{question_entry, record_entry}
 use Rattle.octseq_dns.specs.Writes.{Takes, TakesRecords, UpToQuestions, UpToAnswers, UpToAuthorities, UpToAdditionals}
 use Rattle.octseq_dns.specs.Writes.{more_questions, more_answers, more_authorities, more_additionals}
 
--- a list is one longer
+-- a list with one more element
 one_longer : {A : Type 0} (row : List A) (one : A) → length (row ++ one ∷ []) ≡ length row + 1
 one_longer row one = length-append row (one ∷ [])
 
--- a list of no length is that of nothing
+-- a list of length 0 is empty
 as_none : {A : Type 0} (row : List A) → length row ≡ 0 → row ≡ []
 as_none [] none = refl
 as_none (x ∷ row) none = absurd (omega (arith, none))
 
--- what is true of all is true of one more
+-- what holds of all elements, and of one more, holds of all with it
 one_fits : {A : Type 0} (P : A → Type 0) (row : List A) (one : A) → AllByRecursion P row → P one
     → AllByRecursion P (row ++ one ∷ [])
 one_fits P [] one all fits = (fits, tt)
 one_fits P (x ∷ row) one all fits = (all.0, one_fits P row one all.1 fits)
 
--- and there is room for it
+-- and there is room for one more
 one_counted : {A : Type 0} (row : List A) (one : A) → length row < 65535 → length (row ++ one ∷ []) ≤ 65535
 one_counted row one less = let longer = one_longer row one in omega (arith, longer, less)
 
--- questions are taken
+-- the question section takes questions
 pub takes_questions : Takes Question question_entry FitsQuestion UpToQuestions (λ c. c.qdcount)
     (λ c n. record c { qdcount = n }) more_questions
 takes_questions = record {
@@ -70,7 +70,7 @@ one_more m records one is =
     ∙ ap (λ es. questions ++ es) (map-append record_entry rest (one ∷ []))
     ∙ sym (append_assoc questions (map record_entry rest) (record_entry one ∷ []))
 
--- answers are taken
+-- the answer section takes records
 pub takes_answers : TakesRecords UpToAnswers (λ c. c.ancount) (λ c n. record c { ancount = n }) more_answers
 takes_answers = record {
   header = λ m one. refl;
@@ -98,7 +98,7 @@ takes_answers = record {
   };
 }
 
--- records of authorities are taken
+-- the authority section takes records
 pub takes_authorities : TakesRecords UpToAuthorities (λ c. c.nscount) (λ c n. record c { nscount = n })
     more_authorities
 takes_authorities = record {
@@ -127,7 +127,7 @@ takes_authorities = record {
   };
 }
 
--- additional records are taken
+-- the additional section takes records
 pub takes_additionals : TakesRecords UpToAdditionals (λ c. c.arcount) (λ c n. record c { arcount = n })
     more_additionals
 takes_additionals = record {

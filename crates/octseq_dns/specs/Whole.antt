@@ -2,7 +2,7 @@
 use Rattle.std.specs.List.{AllByRecursion}
 use Rattle.octseq_dns.specs.Contents.{FitsQuestion, FitsRecord, Message}
 
--- Those of all sections do.
+-- The entries of all sections fit.
 pub record FitEntries (m : Message) : Type 0 where
   pub questions : AllByRecursion FitsQuestion m.questions
   pub answers : AllByRecursion FitsRecord m.answers

@@ -1,4 +1,4 @@
--- What a message is while it is written, and what a push does to it.
+-- A message while it is written, and what a push does to it.
 use Rattle.std.specs.Prelude.{◌≡◌, ℕ, ◌+◌, ◌<◌, ◌≤◌, ◌⊎◌, Bool, Option, Some, None, List, [], ◌∷◌, ◌++◌, length}
 use Rattle.std.specs.Prelude.{min, Result, OnOk, OnErr}
 use Rattle.octseq.specs.Limit.{IsPast, IsWithin}
@@ -11,8 +11,7 @@ use Rattle.octseq_dns.specs.Contents.{Question, Record, Message, FitsRecord, Fit
 use Rattle.octseq_dns.specs.Contents.{entries_of, record_entry}
 
 -- A message that is being written: the builder of its octets, the table, its octets with the names in them, its header,
--- how many entries each section has, the limit that is set for pushes, if one is, and whether a record of type OPT was
--- pushed.
+-- the number of entries of each section, the push limit, and whether it has an OPT record.
 pub record Building (B T : Type 0) : Type 0 where
   pub octets : B
   pub table : T
@@ -22,65 +21,65 @@ pub record Building (B T : Type 0) : Type 0 where
   pub push_limit : Option ℕ
   pub has_opt : Bool
 
--- It is this message, composed with at most so many names.
+-- It is this message, with at most `most` names kept.
 pub record Writes (most : ℕ) (m : Message) (state : State) (header : Header) (counts : HeaderCounts) : Type 0 where
   pub state_is : state ≡ composed most m
   pub header_is : header ≡ m.header
   pub counts_are : counts ≡ counts_of m
   pub fits : Fits m
 
--- it is one, which reaches no further than its section
+-- it is a message that has nothing after its section
 abbrev pub IsBuilt : ℕ → State → Header → HeaderCounts → (HeaderCounts → Type 0) → Type 0
 IsBuilt most state header counts Reaches =
     ∥ ((m : Message) × Writes most m state header counts) ∥₁ × Reaches counts
 
--- ---- how far it reaches
+-- ---- up to which section it is written
 
--- it has its header alone
+-- it has only its header
 abbrev pub NothingYet : HeaderCounts → Type 0
 NothingYet counts = (counts.qdcount ≡ 0) × (counts.ancount ≡ 0) × (counts.nscount ≡ 0) × (counts.arcount ≡ 0)
 
--- questions and nothing after them
+-- it has nothing after its questions
 abbrev pub UpToQuestions : HeaderCounts → Type 0
 UpToQuestions counts = (counts.ancount ≡ 0) × (counts.nscount ≡ 0) × (counts.arcount ≡ 0)
 
--- nothing after its answers
+-- it has nothing after its answers
 abbrev pub UpToAnswers : HeaderCounts → Type 0
 UpToAnswers counts = (counts.nscount ≡ 0) × (counts.arcount ≡ 0)
 
--- nothing after its records of authorities
+-- it has nothing after its authority records
 abbrev pub UpToAuthorities : HeaderCounts → Type 0
 UpToAuthorities counts = counts.arcount ≡ 0
 
--- or anything
+-- it may have anything
 abbrev pub UpToAdditionals : HeaderCounts → Type 0
 UpToAdditionals counts = Unit {0}
 
 -- ---- one more
 
--- with a question more
+-- with another question
 abbrev pub more_questions : Message → Question → Message
 more_questions m one = record m { questions = m.questions ++ one ∷ [] }
 
--- with an answer more
+-- with another answer
 abbrev pub more_answers : Message → Record → Message
 more_answers m one = record m { answers = m.answers ++ one ∷ [] }
 
--- with a record of an authority more
+-- with another authority record
 abbrev pub more_authorities : Message → Record → Message
 more_authorities m one = record m { authorities = m.authorities ++ one ∷ [] }
 
--- with an additional record more
+-- with another additional record
 abbrev pub more_additionals : Message → Record → Message
 more_additionals m one = record m { additionals = m.additionals ++ one ∷ [] }
 
--- with as many things more
+-- with more entries, one after another
 abbrev pub all_more : {A : Type 0} → (Message → A → Message) → Message → List A → Message
 all_more more m [] = m
 all_more more m (one ∷ rest) = all_more more (more m one) rest
 
--- A section takes things, as entries, and a header has a count of them. Where a message reaches no further than the
--- section, one thing more is its last entry, and it still reaches no further.
+-- A section takes values as entries, and a header has their count. If a message has nothing after the section, one more
+-- value becomes its last entry, and it still has nothing after the section.
 pub record Takes (A : Type 0) (entry : A → Entry) (FitsOne : A → Type 0) (Reaches : HeaderCounts → Type 0)
     (count : HeaderCounts → ℕ) (counted : HeaderCounts → ℕ → HeaderCounts) (more : Message → A → Message)
     : Type 0 where
@@ -99,14 +98,14 @@ TakesRecords Reaches count counted more = Takes Record record_entry FitsRecord R
 
 -- ---- what a push does
 
--- the least of a limit and of another, where that is set
+-- the smaller of two limits; `None` is no limit
 abbrev pub least_limit : Option ℕ → Option ℕ → Option ℕ
 least_limit None limit = limit
 least_limit (Some most) None = Some most
 least_limit (Some most) (Some limit) = Some (min most limit)
 
--- A call makes a message what is wanted, or leaves it as it is. It is refused as short only where the octets that are
--- wanted pass the limit, and for memory only where a request for memory may be refused.
+-- A call changes a message to the wanted state, or leaves it unchanged. It fails with `Short` only if the wanted octets
+-- exceed the limit, and with `Memory` only if a request for memory may be refused.
 pub record Appends (limit : Option ℕ) (Asks : Type 0) (result : Result (Unit {0}) AppendError)
     (wanted old new : State) : Type 0 where
   pub ok : OnOk result (new ≡ wanted)
@@ -115,8 +114,8 @@ pub record Appends (limit : Option ℕ) (Asks : Type 0) (result : Result (Unit {
   pub short : IsShort append_error result → IsPast limit (length wanted.octets)
   pub memory : IsMemory append_error result → Asks
 
--- A call pushes an entry, with which a message is what is wanted under a header, or leaves the message as it is. It is
--- refused as short only where the octets with the entry pass the limit, or the section has 65,535 entries.
+-- A call pushes an entry: it changes a message to the wanted state with a header, or leaves it unchanged. It fails with
+-- `Short` only if the octets with the entry exceed the limit, or the section has 65,535 entries.
 pub record PushesAs {E : Type 0} (refusal : E → Refusal) (limit : Option ℕ) (Asks : Type 0)
     (result : Result (Unit {0}) E) (wanted : State) (header : List ℕ) (count : ℕ) (old new : State) : Type 0 where
   pub ok : OnOk result (new ≡ with_header wanted header)
@@ -125,6 +124,6 @@ pub record PushesAs {E : Type 0} (refusal : E → Refusal) (limit : Option ℕ) 
   pub short : IsShort refusal result → IsPast limit (length wanted.octets) ⊎ (65535 ≤ count)
   pub memory : IsMemory refusal result → Asks
 
--- a call that is refused as an append is
+-- a call with the errors of an append
 abbrev pub Pushes : Option ℕ → Type 0 → Result (Unit {0}) AppendError → State → List ℕ → ℕ → State → State → Type 0
 Pushes = PushesAs append_error

@@ -1,8 +1,8 @@
-//! Messages that are written: RFC 1035, 4.1.
+//! Building messages: RFC 1035, 4.1.
 //!
-//! A message begins with a header, followed by its sections: questions, answers, records of authorities, additional
-//! records. Each has a type of builder of its own, which the one before it turns into, so that nothing is pushed after
-//! a later section. What is pushed is pushed whole or not at all, and the octets are a message at all times.
+//! A message is a header followed by its sections: question, answer, authority and additional. Each section has a
+//! builder type of its own, which turns into that of the next, so nothing can be pushed to an earlier section. Each
+//! push appends a whole entry or nothing, and the octets are a message at all times.
 ghost use Rattle.std.specs.Prelude.{◌≡◌, ◌≤◌, ℕ, length};
 ghost use Rattle.octseq_dns.specs.Contents.{Fits, Message, header_octets, octets_of};
 ghost use Rattle.octseq_dns.specs.ReadBack.{ReadsBack};
@@ -27,7 +27,7 @@ mod records;
 pub mod section;
 
 /// A message that is written up to a section: its octets, and a table of the names in them. Contracts see both, the
-/// header, how many entries each section has, the limit of pushes, and whether a record of type OPT was pushed.
+/// header, the number of entries of each section, the push limit, and whether the message has an OPT record.
 #[derive(Drop)]
 pub struct SectionBuilder<B: AsOctets, T: Compressor, S: Section> {
     message: Composer<B, T>,
@@ -60,37 +60,37 @@ impl<B: AsOctets, T: Compressor, S: Section> Model for SectionBuilder<B, T, S> {
     ghost invariant = { λ m. IsBuilt T.most m.message.state m.header m.counts S.reaches };
 }
 
-/// A message that has its header alone.
+/// A message that has only its header.
 pub type MessageBuilder<B, T> = SectionBuilder<B, T, NoSection>;
 
-/// A message to which questions are pushed.
+/// Builds the question section of a message.
 pub type QuestionBuilder<B, T> = SectionBuilder<B, T, Questions>;
 
-/// A message to which answers are pushed.
+/// Builds the answer section of a message.
 pub type AnswerBuilder<B, T> = SectionBuilder<B, T, Answers>;
 
-/// A message to which records of authorities are pushed.
+/// Builds the authority section of a message.
 pub type AuthorityBuilder<B, T> = SectionBuilder<B, T, Authorities>;
 
-/// A message to which additional records are pushed.
+/// Builds the additional section of a message.
 pub type AdditionalBuilder<B, T> = SectionBuilder<B, T, Additionals>;
 
 impl<B: OctetsBuilder + Truncate + AsOctetsMut, T: Compressor, S: Section> SectionBuilder<B, T, S> {
-    /// Its header.
+    /// Returns the header.
     pub fn header(&self) -> Header
         ensures { result ≡ self.now.header }
     {
         self.header
     }
 
-    /// How many entries each section has.
+    /// Returns the number of entries of each section.
     pub fn header_counts(&self) -> HeaderCounts
         ensures { result ≡ self.now.counts }
     {
         self.counts
     }
 
-    /// Sets the header. The counts of the message stay.
+    /// Sets the header. The counts don't change.
     pub fn set_header(&mut self, header: Header)
         ensures header { self.new.header ≡ header }
         ensures counts { self.new.counts ≡ self.old.counts }
@@ -107,8 +107,8 @@ impl<B: OctetsBuilder + Truncate + AsOctetsMut, T: Compressor, S: Section> Secti
             .put_header(&octets_of(&self.header, &self.counts));
     }
 
-    /// Limits pushes from now on: one that would make the message longer than so many octets is refused as short. What
-    /// is there already stays, also where it is longer. The limit holds for later sections too.
+    /// Limits pushes from now on: a push that would make the message longer than `limit` octets fails with `Short`.
+    /// What is there already stays, even if it is longer. The limit holds for later sections too.
     ///
     /// # Examples
     ///
@@ -129,42 +129,42 @@ impl<B: OctetsBuilder + Truncate + AsOctetsMut, T: Compressor, S: Section> Secti
         self.push_limit = Some(limit);
     }
 
-    /// Takes the limit of pushes away: they are limited by the builder's type and by 65,535 octets alone.
+    /// Removes the push limit. Pushes are then limited only by the builder's type and by 65,535 octets.
     pub fn clear_push_limit(&mut self)
         ensures { self.new ≡ record self.old { push_limit = None } }
     {
         self.push_limit = None;
     }
 
-    /// The limit that is set for pushes, if one is.
+    /// Returns the push limit, if one is set.
     pub fn push_limit(&self) -> Option<usize>
         ensures { result ≡ self.now.push_limit }
     {
         self.push_limit
     }
 
-    /// Whether a record of type OPT was pushed.
+    /// Whether the message has an OPT record.
     pub fn has_opt(&self) -> bool
         ensures { result ≡ self.now.has_opt }
     {
         self.has_opt
     }
 
-    /// The message so far.
+    /// Returns the message so far.
     pub fn as_slice(&self) -> &[u8]
         ensures { result.now ≡ self.now.state.octets }
     {
         self.message.as_slice()
     }
 
-    /// It is a message that reaches no further than its section. The call does nothing.
+    /// The message has nothing after its section. The call does nothing.
     fn is_built(&self)
         ensures { IsBuilt T.most self.now.state self.now.header self.now.counts S.reaches }
     {
         let _header = self.header;
     }
 
-    /// Goes on with a later section.
+    /// Continues with a later section.
     fn next_section<N: Section>(self) -> SectionBuilder<B, T, N>
         requires { S.reaches self.counts → N.reaches self.counts }
         ensures { result ≡ self }

@@ -1,4 +1,4 @@
-//! The record of EDNS that is written: RFC 6891, 6.1.
+//! Writing OPT records: RFC 6891, 6.1.
 ghost use Rattle.std.specs.Prelude.{◌≡◌, ◌≤◌, ◌<◌, ◌+◌, ◌⊎◌, ◌↔◌, ◌++◌, [], length, true, OnOk, OnErr, Some};
 ghost use Rattle.octseq.specs.Integer.{octets_be};
 ghost use Rattle.octseq.specs.Limit.{IsWithin};
@@ -29,32 +29,32 @@ use std::fmt;
 /// The octets of the root: RFC 1035, 3.1.
 const ROOT: [u8; 1] = [0];
 
-/// An option of EDNS that is written: RFC 6891, 6.1.2.
+/// An EDNS option to write: RFC 6891, 6.1.2.
 #[derive(Clone, Copy, Debug)]
 pub struct UnknownOptData<'a> {
-    /// Its code.
+    /// The option code.
     pub code: u16,
-    /// Its octets.
+    /// The option data.
     pub octets: &'a [u8],
 }
 
-/// What a record of EDNS says that is written. Its options are the record's data: RFC 6891, 6.1.2 and 6.1.3.
+/// An OPT record to write. Its options are the record data: RFC 6891, 6.1.2 and 6.1.3.
 #[derive(Clone, Copy, Debug)]
 pub struct OptData<'a> {
-    /// How many octets of a UDP payload the sender takes.
+    /// The number of octets of the largest UDP payload that the sender accepts.
     pub udp_payload_size: u16,
-    /// The upper eight bits of a response code of twelve. The lower four are those of the header.
+    /// The upper eight bits of the extended response code, which has twelve. The lower four are in the header.
     pub extended_rcode: u8,
-    /// The version of EDNS.
+    /// The EDNS version.
     pub version: u8,
-    /// Whether the sender takes records of DNSSEC: the bit DO of RFC 3225, 3.
+    /// Whether the sender accepts DNSSEC records: the DO bit of RFC 3225, 3.
     pub dnssec_ok: bool,
-    /// Its options, in their order.
+    /// The options, in their order.
     pub options: &'a [UnknownOptData<'a>],
 }
 
 impl<'a> OptData<'a> {
-    /// The bits that the record has in place of a TTL: RFC 6891, 6.1.3.
+    /// Returns the bits that the record has in place of a TTL: RFC 6891, 6.1.3.
     fn ttl(&self) -> Ttl
         ensures { result ≡ opt_ttl self.now }
     {
@@ -82,13 +82,13 @@ impl<'a> ComposeRecordData for OptData<'a> {
     }
 }
 
-/// Why a record of EDNS was not pushed.
+/// Why an OPT record wasn't pushed.
 #[derive(Clone, Copy, Debug, PartialEq, Eq)]
 pub enum PushOptError {
-    /// A record of type OPT was pushed before.
+    /// The message already has an OPT record.
     AlreadyPushed,
-    /// The message would have passed the limit of pushes, that of the builder's type or 65,535 octets, or it has 65,535
-    /// additional records.
+    /// The message would have exceeded the push limit, the limit of the builder's type or 65,535 octets, or it already
+    /// has 65,535 additional records.
     Short(ShortBuf),
     /// A request for memory was refused.
     Memory,
@@ -110,9 +110,9 @@ impl fmt::Display for PushOptError {
     }
 }
 
-/// A record of EDNS that was written is read as what was written: [`Opt::from_record`] answers what says the same.
+/// An OPT record that was written is read as what was written: [`Opt::from_record`] returns the same values.
 ///
-/// It does nothing. A caller that calls it has the law in its proof.
+/// It does nothing. Calling it brings the law into the caller's proof.
 ///
 /// [`Opt::from_record`]: octseq_dns_message::opt::Opt::from_record
 pub fn an_opt_is_read_as_written()
@@ -121,14 +121,14 @@ pub fn an_opt_is_read_as_written()
 {}
 
 impl<B: OctetsBuilder + Truncate + AsOctetsMut, T: Compressor> AdditionalBuilder<B, T> {
-    /// Pushes the record of EDNS, whole or not at all: its name is the root, its class the size of a payload, and its
-    /// data the options.
+    /// Pushes the OPT record, whole or not at all. Its name is the root, its class is the UDP payload size, and its
+    /// data is the options.
     ///
     /// # Errors
     ///
-    /// `AlreadyPushed` exactly where a record of type OPT was pushed to the message before: RFC 6891, 6.1.1. Else
-    /// `Short` where the message would pass the limit of pushes, that of the builder's type or 65,535 octets, or has
-    /// 65,535 additional records, and `Memory` where a request for memory was refused. The message is then as it was.
+    /// `AlreadyPushed` exactly if the message already has an OPT record: RFC 6891, 6.1.1. Otherwise `Short` if the
+    /// message would exceed the push limit, the limit of the builder's type or 65,535 octets, or already has 65,535
+    /// additional records, and `Memory` if a request for memory was refused. The message is then unchanged.
     ///
     /// # Examples
     ///
@@ -177,7 +177,7 @@ impl<B: OctetsBuilder + Truncate + AsOctetsMut, T: Compressor> AdditionalBuilder
     }
 }
 
-/// The root, as a name of a message of its own.
+/// Returns the root, as a name in a message of its own.
 fn root() -> ParsedName<&'static [u8]>
     ensures { labels_of result ≡ [] }
 {
@@ -189,7 +189,8 @@ fn root() -> ParsedName<&'static [u8]>
     }
 }
 
-/// Appends options, one after another. The last append, of nothing, tells of a message without room for no option.
+/// Appends options, one after another. The last append, of no octets, fails if the message exceeds its limit even
+/// without options.
 fn append_options<B: OctetsBuilder + Truncate + AsOctetsMut, T: Compressor>(
     message: &mut Composer<B, T>,
     options: &[UnknownOptData<'_>],
@@ -206,7 +207,7 @@ fn append_options<B: OctetsBuilder + Truncate + AsOctetsMut, T: Compressor>(
     message.append_slice(&[])
 }
 
-/// Appends an option: its code, and its octets after their number.
+/// Appends an option: its code, its length and its data.
 fn append_option<B: OctetsBuilder + Truncate + AsOctetsMut, T: Compressor>(
     message: &mut Composer<B, T>,
     option: &UnknownOptData<'_>,
@@ -225,7 +226,7 @@ fn append_option<B: OctetsBuilder + Truncate + AsOctetsMut, T: Compressor>(
     message.append_slice(option.octets)
 }
 
-/// The code of an option, and the number of its octets.
+/// Returns the octets of the code and the length of an option.
 #[tactic(auto, using(octseq::proofs::Written::written_2))]
 fn option_head(code: u16, len: u16) -> [u8; 4]
     ensures { result ≡ octets_be 2 code ++ octets_be 2 len }

@@ -1,4 +1,4 @@
-//! Streams of messages, each after its length in 2 octets: RFC 1035, 4.2.2.
+//! Streams of messages, each preceded by its length in two octets: RFC 1035, 4.2.2.
 ghost use Rattle.std.specs.Prelude.{◌≡◌, ◌+◌, ◌<◌, ◌≤◌, ◌++◌, ℕ, true, false, Some, None, List, [], length, take, drop};
 ghost use Rattle.std.specs.Prelude.{IfSome, IfNone, IfOk, OnOk, OnErr, Ok, Err};
 ghost use Rattle.std.specs.Io.{ReadsAtMost};
@@ -24,10 +24,10 @@ mod writer;
 pub use crate::frames::reader::FrameReader;
 pub use crate::frames::writer::{WriteFrameError, write_frame};
 
-/// Octets are those of one list of messages, and of one rest that begins with none: what was written as a stream is
-/// read back as those messages.
+/// Octets are one list of messages, followed by one rest that doesn't begin with a message: what was written as a
+/// stream is read back as those messages.
 ///
-/// It does nothing. A caller that calls it has the law in its proof.
+/// It does nothing. Calling it brings the law into the caller's proof.
 pub fn one_stream()
     ensures { (messages others : List (List ℕ)) (more less : List ℕ) → AllByRecursion FitsStream messages
         → AllByRecursion FitsStream others → ¬ HasFront FitsStream (part_of 2) more
@@ -35,11 +35,11 @@ pub fn one_stream()
         → stream_of messages ++ more ≡ stream_of others ++ less → (messages ≡ others) × (more ≡ less) }
 {}
 
-/// Takes the next message of a stream, and gives a parser of its octets, or `None` at the end.
+/// Takes the next message of a stream, and returns a parser of its octets, or `None` at the end.
 ///
 /// # Errors
 ///
-/// `ShortInput` where the octets end inside a frame. The parser then stays where it was.
+/// `ShortInput` if the octets end inside a frame. The parser is then unchanged.
 pub fn next_frame<R: AsOctets + Copy>(
     parser: &mut Parser<R>,
 ) -> Result<Option<Parser<R>>, ShortInput>
@@ -114,13 +114,13 @@ impl From<io::Error> for FrameError {
     }
 }
 
-/// Reads the next message of a stream into a vector, in place of what that holds, and answers whether there is one: not
-/// at the end of the input. The vector has room for one message at most.
+/// Reads the next message of a stream into a vector, in place of its content. It returns `false` at the end of the
+/// input. The vector holds at most one message.
 ///
 /// # Errors
 ///
-/// `Short` where the input ends inside a frame, `Memory` where a request for memory was refused, `Read` where a read
-/// failed. The reader may then be inside a frame.
+/// `Short` if the input ends inside a frame, `Memory` if a request for memory was refused, `Read` if a read failed. The
+/// reader may then be inside a frame.
 pub fn read_frame<R: Read>(reader: &mut R, frame: &mut Vec<u8>) -> Result<bool, FrameError>
     ensures frame { result ≡ Ok true → FitsStream frame.new.items
         × Consumes (R.remaining reader.old) (R.remaining reader.new) (part_of 2 frame.new.items) }
@@ -138,7 +138,7 @@ pub fn read_frame<R: Read>(reader: &mut R, frame: &mut Vec<u8>) -> Result<bool, 
     Ok(true)
 }
 
-/// Reads the length of the next message of a stream, or answers `None` at the end of the input.
+/// Reads the length of the next message of a stream, or returns `None` at the end of the input.
 fn read_length<R: Read>(reader: &mut R) -> Result<Option<u16>, FrameError>
     ensures length { IfOk result (λ len. IfSome len (λ len.
         Consumes (R.remaining reader.old) (R.remaining reader.new) (octets_be 2 len))) }
@@ -157,7 +157,7 @@ fn read_length<R: Read>(reader: &mut R) -> Result<Option<u16>, FrameError>
     Ok(Some(Parser::from_static(&head[..count]).parse_u16_be()?))
 }
 
-/// Reads the octets of a message into a vector, in place of what that holds.
+/// Reads the octets of a message into a vector, in place of its content.
 fn read_octets<R: Read>(reader: &mut R, octets: &mut Vec<u8>, len: usize) -> Result<(), FrameError>
     ensures len { OnOk result (length octets.new.items ≡ len) }
     ensures ok { OnOk result (Consumes (R.remaining reader.old) (R.remaining reader.new) octets.new.items) }
@@ -176,7 +176,7 @@ fn read_octets<R: Read>(reader: &mut R, octets: &mut Vec<u8>, len: usize) -> Res
     Ok(())
 }
 
-/// Reads until the octets are full, or the input is at its end, and gives how many it read.
+/// Reads until the octets are full or the input ends, and returns the number of octets read.
 fn fill<R: Read>(reader: &mut R, octets: &mut [u8]) -> io::Result<usize>
     ensures count { IfOk result (λ n. n ≤ length octets.new) }
     ensures ok { IfOk result (λ n. Consumes (R.remaining reader.old) (R.remaining reader.new) (take n octets.new)) }
@@ -198,7 +198,7 @@ fn fill<R: Read>(reader: &mut R, octets: &mut [u8]) -> io::Result<usize>
     Err(io::Error::from(ErrorKind::TimedOut))
 }
 
-/// One read into what follows the first octets, and how many octets it gave.
+/// Reads once into what follows the first octets, and returns the number of octets read.
 fn read_at<R: Read>(reader: &mut R, octets: &mut [u8], filled: usize) -> io::Result<usize>
     requires { filled < length octets.old }
     ensures front { take filled octets.new ≡ take filled octets.old }
@@ -211,7 +211,7 @@ fn read_at<R: Read>(reader: &mut R, octets: &mut [u8], filled: usize) -> io::Res
     read_once(reader, &mut octets[filled..])
 }
 
-/// One read, and how many octets it gave. One that was interrupted is tried again.
+/// Reads once, and returns the number of octets read. An interrupted read is tried again.
 fn read_once<R: Read>(reader: &mut R, room: &mut [u8]) -> io::Result<usize>
     ensures bound { ReadsAtMost result room.new }
     ensures ok { IfOk result (λ n. Consumes (R.remaining reader.old) (R.remaining reader.new) (take n room.new)) }

@@ -1,4 +1,5 @@
-//! What is read of messages that were written. Each law is the contract of a function that does nothing.
+//! Laws of written messages. Each law is the contract of a function that does nothing: calling it brings the law into
+//! the caller's proof.
 ghost use Rattle.std.specs.Prelude.{◌≡◌, ◌≤◌, ℕ, List, length};
 ghost use Rattle.octseq_dns_data.specs.Data.{ParsedRdata};
 ghost use Rattle.octseq_dns_message.specs.RecordData.{IsDataOf};
@@ -9,26 +10,25 @@ ghost use Rattle.octseq_dns.specs.Rdata.{Rdata, FitsRdata, IsOfType, bare_rdata,
 ghost use Rattle.octseq_dns.specs.ReadBack.{HasFields, ReadsBack};
 ghost use Rattle.octseq_dns.specs.Rewritten.{IsMessageOf};
 
-/// What was written is read back: the octets are a message, with that header, those questions and those records in
-/// their order, names octet for octet.
+/// A message that was written is read back: the octets are a message with that header, those questions and those
+/// records in their order, with their names octet for octet.
 pub fn a_written_message_is_read()
     ensures { (most : ℕ) (m : Message) → Fits m → length (octets_of most m) ≤ 65535 → ReadsBack (octets_of most m) m }
 {}
 
-/// A message takes no more octets than where no name is compressed.
+/// A message takes no more octets than without compression.
 pub fn never_longer_than_uncompressed()
     ensures { (most : ℕ) (m : Message) → length (octets_of most m) ≤ length (octets_of 0 m) }
 {}
 
-/// Data that was written is read as that data, where the type and the class of its record are those that it is of:
-/// [`Record::data`](crate::Record::data) answers what says the same. Data of a type that isn't known is
-/// read as those octets.
+/// Data that was written is read as that data, if its record has the type and the class of the data:
+/// [`Record::data`](crate::Record::data) returns the same values. Data of an unknown type is read as its octets.
 pub fn data_is_read_as_written()
     ensures { (r : Entry) (said : Rdata) → HasFields r (rdata_fields said) → FitsRdata said → IsOfType r said
         → (parsed : ParsedRdata) × (bare_rdata parsed ≡ said) × IsDataOf r parsed }
 {}
 
-/// A message that was read is written as one message alone.
+/// A message that was read is rewritten as one message only.
 pub fn one_message_of()
     ensures { (header : Fields) (questions : List Asked) (answers authorities additionals : List Entry)
         (m n : Message) → IsMessageOf header questions answers authorities additionals m

@@ -1,11 +1,11 @@
-//! Domain names and DNS messages: read from one buffer with nothing copied, and written.
+//! Domain names and DNS messages: reading them from one buffer without copying, and writing them.
 //!
-//! A message is octets that anyone may have sent. [`Message::parse`] takes every message of RFC 1035 and no other
-//! octets, requests no memory, and answers a value that says where everything is: its header, and walks over its
-//! sections that can't fail any more. A name is the place where it is in the message, with its compression pointers.
+//! A message is octets that anyone may have sent. [`Message::parse`] accepts every message of RFC 1035 and nothing
+//! else, and requests no memory. It returns a value that says where everything is: the header, and iterators over the
+//! sections that can't fail. A name is its place in the message, with its compression pointers.
 //!
-//! A message is written by [`MessageBuilder`], section by section, into a builder of octets. Names are compressed by a
-//! table of the names that are in the message. What was written is read back, as that message.
+//! [`MessageBuilder`] writes a message, section by section, into an octets builder. A table of the names in the message
+//! is used for compression. What was written is read back as that message.
 #![tactic(auto)]
 
 pub mod builder;

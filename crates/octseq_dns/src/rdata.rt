@@ -1,4 +1,4 @@
-//! Data of records as it is written: RFC 1035, 3.3, and RFC 3597.
+//! Writing record data: RFC 1035, 3.3, and RFC 3597.
 ghost use Rattle.std.specs.Prelude.{◌≡◌, ◌≤◌, ◌+◌, ◌*◌, ◌⊎◌, ◌++◌, [], ◌∷◌, length, true, OnOk};
 ghost use Rattle.std.specs.List.{AllByRecursion};
 ghost use Rattle.octseq.specs.Integer.{octets_be};
@@ -22,7 +22,7 @@ use octseq_dns_name::DomainName;
 use octseq_dns_name::name::a_name_has_labels;
 use octseq_format::{Format, Of};
 
-/// Data of a record that can be written: its type, and its fields, each of which is a name that may be compressed, or
+/// Record data that can be written: its type, and its fields, each of which is a name that may be compressed, or
 /// octets.
 pub trait ComposeRecordData {
     ghost use Rattle.std.specs.Prelude.{ℕ, List};
@@ -33,7 +33,7 @@ pub trait ComposeRecordData {
     // Its fields.
     ghost fields: { Self → List Field };
 
-    /// Its type.
+    /// Returns its type.
     fn rtype(&self) -> Rtype
         ensures { result ≡ rtype_of self.now };
 
@@ -41,8 +41,8 @@ pub trait ComposeRecordData {
     ///
     /// # Errors
     ///
-    /// `Short` where the message would pass the limit of the builder's type or 65,535 octets, and `Memory` where a
-    /// request for memory was refused. Some of its octets may then be there.
+    /// `Short` if the message would exceed the limit of the builder's type or 65,535 octets, and `Memory` if a request
+    /// for memory was refused. Some of the octets may then have been appended.
     fn compose<B: OctetsBuilder + Truncate + AsOctetsMut, T: Compressor>(
         &self,
         message: &mut Composer<B, T>,
@@ -57,7 +57,7 @@ pub trait ComposeRecordData {
             ≤ turns.new + length message.new.state.octets) };
 }
 
-/// Data of a type by its number, as octets that mean nothing here: RFC 3597.
+/// Data of a type given by its number, as opaque octets: RFC 3597.
 #[derive(Clone, Copy, Debug)]
 pub struct UnknownRecordData<'a> {
     rtype: Rtype,
@@ -65,7 +65,7 @@ pub struct UnknownRecordData<'a> {
 }
 
 impl<'a> UnknownRecordData<'a> {
-    /// Data of a type, which are these octets.
+    /// Returns data of a type with these octets.
     pub fn new(rtype: Rtype, octets: &'a [u8]) -> Self
         ensures rtype { result.rtype ≡ rtype }
         ensures octets { result.octets.now ≡ octets.now }
@@ -140,7 +140,7 @@ impl<R: AsOctets + Copy> ComposeRecordData for Data<R> {
     }
 }
 
-/// Appends the parts of a mail exchange: RFC 1035, 3.3.9.
+/// Appends the fields of MX data: RFC 1035, 3.3.9.
 fn compose_mx<B: OctetsBuilder + Truncate + AsOctetsMut, T: Compressor, R: AsOctets + Copy>(
     message: &mut Composer<B, T>,
     mx: &Mx<R>,
@@ -162,7 +162,7 @@ fn compose_mx<B: OctetsBuilder + Truncate + AsOctetsMut, T: Compressor, R: AsOct
     message.append_name(&mx.exchange, turns)
 }
 
-/// The five numbers of the start of a zone.
+/// Returns the octets of the five numbers of SOA data.
 #[tactic(auto, using(octseq::proofs::Written::written_4))]
 fn soa_numbers<R: AsOctets>(soa: &Soa<R>) -> [u8; 20]
     ensures { result ≡ octets_be 4 soa.now.serial ++ (octets_be 4 soa.now.refresh ++ (octets_be 4 soa.now.retry
@@ -180,7 +180,7 @@ fn soa_numbers<R: AsOctets>(soa: &Soa<R>) -> [u8; 20]
     ]
 }
 
-/// Appends the parts of the start of a zone: RFC 1035, 3.3.13.
+/// Appends the fields of SOA data: RFC 1035, 3.3.13.
 fn compose_soa<B: OctetsBuilder + Truncate + AsOctetsMut, T: Compressor, R: AsOctets + Copy>(
     message: &mut Composer<B, T>,
     soa: &Soa<R>,
@@ -206,7 +206,7 @@ fn compose_soa<B: OctetsBuilder + Truncate + AsOctetsMut, T: Compressor, R: AsOc
     message.append_slice(&soa_numbers(soa))
 }
 
-/// Appends the parts of a signature: RFC 4034, 3.1.
+/// Appends the fields of RRSIG data: RFC 4034, 3.1.
 fn compose_rrsig<B: OctetsBuilder + Truncate + AsOctetsMut, T: Compressor, R: AsOctets + Copy>(
     message: &mut Composer<B, T>,
     sig: &Rrsig<R>,
@@ -220,7 +220,7 @@ fn compose_rrsig<B: OctetsBuilder + Truncate + AsOctetsMut, T: Compressor, R: As
     message.append_value::<R, Of<Rrsig<R>>>(sig)
 }
 
-/// The three numbers of the place of a service.
+/// Returns the octets of the three numbers of SRV data.
 #[tactic(auto, using(octseq::proofs::Written::written_2))]
 fn srv_numbers<R: AsOctets>(srv: &Srv<R>) -> [u8; 6]
     ensures { result ≡ octets_be 2 srv.now.priority ++ (octets_be 2 srv.now.weight ++ octets_be 2 srv.now.port) }
@@ -238,7 +238,7 @@ fn srv_numbers<R: AsOctets>(srv: &Srv<R>) -> [u8; 6]
     ]
 }
 
-/// Appends the parts of the place of a service. Its name is never compressed: RFC 2782.
+/// Appends the fields of SRV data. Its name is never compressed: RFC 2782.
 fn compose_srv<B: OctetsBuilder + Truncate + AsOctetsMut, T: Compressor, R: AsOctets + Copy>(
     message: &mut Composer<B, T>,
     srv: &Srv<R>,

@@ -1,4 +1,4 @@
-//! Messages that are written anew: RFC 1035, 4.1.
+//! Rewriting messages: RFC 1035, 4.1.
 ghost use Rattle.std.specs.Prelude.{◌≡◌, ◌≤◌, ◌+◌, ◌*◌, ◌⊎◌, ◌↔◌, length, true, Some, IfOk};
 ghost use Rattle.octseq.specs.Limit.{IsPast, IsWithin};
 ghost use Rattle.octseq.specs.Refusal.{IsShort, IsMemory, IsMalformed};
@@ -20,12 +20,12 @@ use octseq_dns_message::Message;
 use std::error::Error;
 use std::fmt;
 
-/// Why a message was not written anew.
+/// Why a message wasn't rewritten.
 #[derive(Clone, Copy, Debug, PartialEq, Eq)]
 pub enum RewriteError {
-    /// Data that isn't read as its type's may hold pointers, which would point elsewhere in another message.
+    /// Data that isn't parsed as its type's may have pointers, which would point elsewhere in another message.
     Immovable,
-    /// The message would have passed the limit of the builder's type, or 65,535 octets.
+    /// The message would have exceeded the limit of the builder's type or 65,535 octets.
     Short(ShortBuf),
     /// A request for memory was refused.
     Memory,
@@ -47,17 +47,16 @@ impl fmt::Display for RewriteError {
     }
 }
 
-/// Writes a message anew, in place of what a builder and a table have: its header, its questions, and its records in
-/// their order, each with what its data says.
+/// Rewrites a message, in place of what a builder and a table hold: its header, its questions, and its records in their
+/// order, each with its parsed data.
 ///
-/// Names are compressed with the table alone, so that a message without pointers comes out with them, and one of
-/// `Uncompressed` without. Data of a type that isn't known is written as the octets that it has. No limit is set for
-/// pushes.
+/// Names are compressed with the table, whether or not they have pointers in the message read. With a table of
+/// `Uncompressed`, no name has pointers. Data of an unknown type is written as its octets. No push limit is set.
 ///
 /// # Errors
 ///
-/// `Immovable` exactly where the message can't be moved: [`can_move`]. Else `Short` where the message so written would
-/// pass the limit of the builder's type or 65,535 octets, and `Memory` where a request for memory was refused. The
+/// `Immovable` exactly if the message can't be rewritten: [`can_move`]. Otherwise `Short` if the rewritten message
+/// would exceed the limit of the builder's type or 65,535 octets, and `Memory` if a request for memory was refused. The
 /// builder and the table are then dropped.
 ///
 /// # Examples
@@ -95,8 +94,8 @@ pub fn rewrite<B: OctetsBuilder + Truncate + AsOctetsMut, T: Compressor, R: AsOc
     rewrite_counted(message, octets, table, &mut Turns::new())
 }
 
-/// Writes a message anew as [`rewrite`], and counts the turns that its names take: 17 at most for each label of each
-/// name, whatever names the message has. The turns and the octets that are written are together at least as many as the
+/// Rewrites a message as [`rewrite`] does, and counts turns: at most 17 for each label of the names that may be
+/// compressed, whatever names the message has. The turns and the written octets are together at least as many as these
 /// labels.
 ///
 /// # Errors

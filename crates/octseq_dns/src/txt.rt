@@ -1,4 +1,4 @@
-//! Data of type TXT that is made of strings, or of one text: RFC 1035, 3.3 and 3.3.14.
+//! Writing TXT data, from strings or from one text: RFC 1035, 3.3 and 3.3.14.
 ghost use Rattle.std.specs.Prelude.{◌≡◌, ◌↔◌, ℕ, ◌+◌, ◌++◌, ◌≤◌, true, List, length, map, IsTrue, OnOk, OnErr};
 ghost use Rattle.octseq.specs.Appends.{Appends};
 ghost use Rattle.octseq.specs.Limit.{IsPast};
@@ -13,16 +13,16 @@ use octseq::compose::{ComposeError, append_part_u8};
 use octseq::error::WriteError;
 use octseq::{AppendError, OctetsBuilder, ShortBuf, Truncate};
 
-/// How many octets a string may have: RFC 1035, 3.3.
+/// The greatest length of a string: RFC 1035, 3.3.
 const STRING_MAX: usize = 255;
 
-/// Appends data of type TXT that is these strings, whole or not at all: each after its length, which has one octet.
+/// Appends TXT data with these strings, whole or not at all. Each string is preceded by its length in one octet.
 /// [`Txt::from_octets`](octseq_dns_data::data::Txt::from_octets) reads them.
 ///
 /// # Errors
 ///
-/// `Malformed` exactly where there is no string, or one has more than 255 octets. Else `Short` where the content would
-/// pass the limit of its type, and `Memory` where a request for memory was refused. The content is then as it was.
+/// `Malformed` exactly if there is no string, or one has more than 255 octets. Otherwise `Short` if the content would
+/// exceed the limit of its type, and `Memory` if a request for memory was refused. The content is then unchanged.
 ///
 /// # Examples
 ///
@@ -58,13 +58,13 @@ pub fn append_strings<B: OctetsBuilder + Truncate>(
     }
 }
 
-/// Appends data of type TXT that is a text: strings of 255 octets, and one of what is left. A text of no octet is an
-/// empty string. [`Txt::from_octets`](octseq_dns_data::data::Txt::from_octets) reads them.
+/// Appends TXT data with a text: strings of 255 octets, followed by one with the rest. An empty text is one empty
+/// string. [`Txt::from_octets`](octseq_dns_data::data::Txt::from_octets) reads them.
 ///
 /// # Errors
 ///
-/// `Short` where the content would pass the limit of its type, and `Memory` where a request for memory was refused. The
-/// content is then as it was.
+/// `Short` if the content would exceed the limit of its type, and `Memory` if a request for memory was refused. The
+/// content is then unchanged.
 ///
 /// # Examples
 ///
@@ -109,15 +109,15 @@ pub fn append_text<B: OctetsBuilder + Truncate>(
     Ok(())
 }
 
-/// Strings that were written are read as those strings: `Txt::from_octets` answers them.
+/// Strings that were written are read as those strings: `Txt::from_octets` returns them.
 ///
-/// It does nothing. A caller that calls it has the law in its proof.
+/// It does nothing. Calling it brings the law into the caller's proof.
 pub fn strings_are_read_as_written()
     ensures { (strings : List (List ℕ)) → AreStrings strings → (end : Window)
         × HasStrings (whole (spelling strings)) strings end × (end.position ≡ length (spelling strings)) }
 {}
 
-/// Whether strings are data of type TXT.
+/// Whether strings are TXT data.
 fn are_strings(strings: &[&[u8]]) -> bool
     ensures { IsTrue result ↔ AreStrings (map (λ string. string.now) strings.now) }
 {
@@ -132,7 +132,7 @@ fn are_strings(strings: &[&[u8]]) -> bool
     true
 }
 
-/// Appends strings that are data of type TXT, whole or not at all.
+/// Appends strings that are TXT data, whole or not at all.
 fn append_each<B: OctetsBuilder + Truncate>(
     octets: &mut B,
     strings: &[&[u8]],
@@ -158,7 +158,7 @@ fn append_each<B: OctetsBuilder + Truncate>(
     Ok(())
 }
 
-/// Appends a string after its length.
+/// Appends a string, preceded by its length.
 fn append_string<B: OctetsBuilder + Truncate>(
     octets: &mut B,
     string: &[u8],

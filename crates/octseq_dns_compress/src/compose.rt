@@ -81,8 +81,8 @@ impl<B: OctetsBuilder, T: Compressor> Composer<B, T> {
     ///
     /// # Errors
     ///
-    /// `Short` if the message would exceed the limit of the builder's type or 65,535 octets, and `Memory` if a request
-    /// for memory was refused. The octets are then unchanged.
+    /// `Short` exactly if the message would exceed the limit of the builder's type or 65,535 octets, and `Memory` if a
+    /// request for memory was refused. The octets are then unchanged.
     pub fn append_slice(&mut self, slice: &[u8]) -> Result<(), AppendError>
         ensures composed { Composes (message_limit B.limit) (B.asks ≡ true) result
             (with_octets self.old.state slice.now) self.old self.new }
@@ -107,8 +107,8 @@ impl<B: OctetsBuilder + Truncate, T: Compressor> Composer<B, T> {
     ///
     /// # Errors
     ///
-    /// `Short` if the message would exceed the limit of the builder's type or 65,535 octets, and `Memory` if a request
-    /// for memory was refused. The octets are then unchanged.
+    /// `Short` exactly if the message would exceed the limit of the builder's type or 65,535 octets, and `Memory` if a
+    /// request for memory was refused. The octets are then unchanged.
     pub fn append_value<R: AsOctets + Copy, F: Format<R>>(
         &mut self,
         value: &F::Value,
@@ -129,8 +129,8 @@ impl<B: OctetsBuilder + Truncate, T: Compressor> Composer<B, T> {
     ///
     /// # Errors
     ///
-    /// `Short` if the limit of the builder's type is below 12 octets, and `Memory` if a request for memory was refused.
-    /// The builder and the table are then dropped.
+    /// `Short` exactly if the limit of the builder's type is below 12 octets, and `Memory` if a request for memory was
+    /// refused. The builder and the table are then dropped.
     pub fn from_builder(octets: B, table: T) -> Result<Composer<B, T>, AppendError>
         ensures state { IfOk result (λ c. c.state ≡ record { octets = replicate 12 0; names = empty }) }
         ensures short { IsShort append_error result ↔ IsPast B.limit 12 }
@@ -154,8 +154,8 @@ impl<B: OctetsBuilder + Truncate, T: Compressor> Composer<B, T> {
     ///
     /// # Errors
     ///
-    /// `Short` if the message would exceed the limit of the builder's type or 65,535 octets, and `Memory` if a request
-    /// for memory was refused. The octets and the names are then unchanged.
+    /// `Short` exactly if the message would exceed the limit of the builder's type or 65,535 octets, and `Memory` if a
+    /// request for memory was refused. The octets and the names are then unchanged.
     pub fn append_name<R: AsOctets + Copy>(
         &mut self,
         name: &ParsedName<R>,

@@ -1,4 +1,4 @@
-//! The entries of a message that was read, composed one after another.
+//! Rewriting the entries of a message, one after another.
 ghost use Rattle.std.specs.Prelude.{◌≡◌, ◌≤◌, ◌+◌, ◌*◌, ◌⊎◌, List, length, map, true, None, IfOk, OnOk};
 ghost use Rattle.std.specs.List.{AllByRecursion, AllZip, sum_by};
 ghost use Rattle.octseq.specs.Limit.{IsPast, IsWithin};
@@ -29,7 +29,7 @@ use octseq_dns_message::message::{Questions, Records};
 use octseq_dns_message::{Header, HeaderCounts, Message};
 use std::marker::PhantomData;
 
-/// Why a message isn't written, where an entry was refused.
+/// Why a message isn't rewritten, given the error of an entry.
 fn refused(error: AppendError) -> RewriteError
     ensures { rewrite_error result ≡ append_error error }
 {
@@ -39,7 +39,7 @@ fn refused(error: AppendError) -> RewriteError
     }
 }
 
-/// A message that has this header, whose counts are of entries that are yet to come.
+/// Begins a message with this header and the counts of the entries that will follow.
 fn begin<B: OctetsBuilder + Truncate + AsOctetsMut, T: Compressor>(
     octets: B,
     table: T,
@@ -62,7 +62,7 @@ fn begin<B: OctetsBuilder + Truncate + AsOctetsMut, T: Compressor>(
     Ok(message)
 }
 
-/// Appends the questions that a message has left.
+/// Appends the questions that are left.
 fn append_questions<B: OctetsBuilder + Truncate + AsOctetsMut, T: Compressor, R: AsOctets + Copy>(
     message: &mut Composer<B, T>,
     questions: Questions<R>,
@@ -94,8 +94,8 @@ fn append_questions<B: OctetsBuilder + Truncate + AsOctetsMut, T: Compressor, R:
     Ok(())
 }
 
-/// Appends the records that a message has left, each with what its data says, up to the first that can't be moved.
-/// `has_opt` is set where one is of type OPT.
+/// Appends the records that are left, each with its parsed data, up to the first that can't be moved. It sets `has_opt`
+/// if one of them is an OPT record.
 fn append_records<B: OctetsBuilder + Truncate + AsOctetsMut, T: Compressor, R: AsOctets + Copy>(
     message: &mut Composer<B, T>,
     records: Records<R>,
@@ -176,7 +176,7 @@ fn append_all<B: OctetsBuilder + Truncate + AsOctetsMut, T: Compressor, R: AsOct
     Ok(())
 }
 
-/// Writes a message, up to the first record that can't be moved.
+/// Rewrites a message, up to the first record that can't be moved.
 pub(crate) fn compose_anew<
     B: OctetsBuilder + Truncate + AsOctetsMut,
     T: Compressor,

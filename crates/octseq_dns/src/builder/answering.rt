@@ -1,4 +1,4 @@
-//! Answers to messages that were read: RFC 1035, 4.1.1.
+//! Answering messages: RFC 1035, 4.1.1.
 ghost use Rattle.std.specs.Prelude.{◌≡◌, ◌≤◌, ◌+◌, ◌*◌, ◌⊎◌, List, length, true, IfOk};
 ghost use Rattle.std.specs.List.{AllZip, sum_by};
 ghost use Rattle.octseq.specs.Limit.{IsPast, IsWithin};
@@ -20,14 +20,14 @@ use octseq_dns_message::message::Questions;
 use octseq_dns_message::{Flags, Header, Message};
 
 impl<B: OctetsBuilder + Truncate + AsOctetsMut, T: Compressor> MessageBuilder<B, T> {
-    /// Begins an answer to a message, and goes on with its answers. The header has the message's number, its opcode and
-    /// its flag RD, the flag QR, the response code and no other flag: RFC 1035, 4.1.1. The questions are those of the
-    /// message, with their names octet for octet.
+    /// Starts an answer to a message, and continues with the answer section. The header has the ID, the opcode and the
+    /// RD flag of the message, the QR flag, the response code, and no other flag: RFC 1035, 4.1.1. The questions are
+    /// those of the message, with their names octet for octet.
     ///
     /// # Errors
     ///
-    /// `Short` where the message with its questions would pass the limit of pushes, that of the builder's type or
-    /// 65,535 octets, and `Memory` where a request for memory was refused. The builder is then dropped.
+    /// `Short` if the message with its questions would exceed the push limit, the limit of the builder's type or 65,535
+    /// octets, and `Memory` if a request for memory was refused. The builder is then dropped.
     ///
     /// # Examples
     ///
@@ -68,7 +68,7 @@ impl<B: OctetsBuilder + Truncate + AsOctetsMut, T: Compressor> MessageBuilder<B,
     }
 }
 
-/// The header of an answer.
+/// Returns the header of an answer.
 fn answer_header(asked: &Header, rcode: Rcode) -> Header
     ensures { result ≡ answer_header asked.now rcode }
 {
@@ -89,7 +89,7 @@ fn answer_header(asked: &Header, rcode: Rcode) -> Header
     }
 }
 
-/// Pushes the questions that a message has left.
+/// Pushes the questions that are left.
 fn push_questions<B: OctetsBuilder + Truncate + AsOctetsMut, T: Compressor, R: AsOctets + Copy>(
     builder: QuestionBuilder<B, T>,
     questions: Questions<R>,

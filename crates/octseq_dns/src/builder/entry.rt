@@ -1,4 +1,4 @@
-//! Entries appended to a message: RFC 1035, 4.1.2 and 4.1.3.
+//! Appending entries to a message: RFC 1035, 4.1.2 and 4.1.3.
 ghost use Rattle.std.specs.Prelude.{◌≡◌, ◌<◌, ◌≤◌, ◌+◌, ◌*◌, ◌⊎◌, ◌++◌, length, true, IsTrue, OnOk};
 ghost use Rattle.octseq.specs.Integer.{octets_be};
 ghost use Rattle.octseq.specs.Limit.{IsPast, IsWithin};
@@ -20,7 +20,7 @@ use octseq_dns_data::{Class, Rtype};
 use octseq_dns_message::Ttl;
 use octseq_dns_name::ParsedName;
 
-/// The type and the class of a question.
+/// Returns the octets of the type and the class of a question.
 #[tactic(auto, using(octseq::proofs::Written::written_2))]
 fn question_end(qtype: Rtype, qclass: Class) -> [u8; 4]
     ensures octets { result ≡ octets_be 2 qtype ++ octets_be 2 qclass }
@@ -32,7 +32,7 @@ fn question_end(qtype: Rtype, qclass: Class) -> [u8; 4]
     [qtype[0], qtype[1], qclass[0], qclass[1]]
 }
 
-/// The type, the class and the TTL of a record.
+/// Returns the octets of the type, the class and the TTL of a record.
 #[tactic(auto, using(octseq::proofs::Written::written_2, octseq::proofs::Written::written_4))]
 fn record_middle(rtype: Rtype, class: Class, ttl: Ttl) -> [u8; 8]
     ensures octets { result ≡ octets_be 2 rtype ++ (octets_be 2 class ++ octets_be 4 ttl) }
@@ -48,7 +48,7 @@ fn record_middle(rtype: Rtype, class: Class, ttl: Ttl) -> [u8; 8]
     ]
 }
 
-/// Appends the parts of a question.
+/// Appends the fields of a question.
 pub(super) fn compose_question<
     B: OctetsBuilder + Truncate + AsOctetsMut,
     T: Compressor,
@@ -76,7 +76,7 @@ pub(super) fn compose_question<
     message.append_slice(&end)
 }
 
-/// Appends data, after the number of its octets.
+/// Appends record data, preceded by its length.
 fn append_data<B: OctetsBuilder + Truncate + AsOctetsMut, T: Compressor, D: ComposeRecordData>(
     message: &mut Composer<B, T>,
     rdata: &D,
@@ -105,7 +105,7 @@ fn append_data<B: OctetsBuilder + Truncate + AsOctetsMut, T: Compressor, D: Comp
     Ok(())
 }
 
-/// Appends the parts of a record.
+/// Appends the fields of a record.
 pub(super) fn compose_record<
     B: OctetsBuilder + Truncate + AsOctetsMut,
     T: Compressor,
@@ -144,7 +144,7 @@ pub(super) fn compose_record<
     append_data(message, rdata, turns)
 }
 
-/// Whether so many octets pass a limit, where one is set.
+/// Whether `len` octets exceed a limit, if there is one.
 fn is_past(limit: Option<usize>, len: usize) -> bool
     ensures past { IsTrue result → IsPast limit len }
     ensures within { ¬ IsTrue result → IsWithin limit len }
@@ -155,7 +155,7 @@ fn is_past(limit: Option<usize>, len: usize) -> bool
     }
 }
 
-/// Appends a question, or leaves the message as it is.
+/// Appends a question. An error leaves the message unchanged.
 pub(super) fn append_question<
     B: OctetsBuilder + Truncate + AsOctetsMut,
     T: Compressor,
@@ -190,7 +190,7 @@ pub(super) fn append_question<
     Ok(())
 }
 
-/// Appends a record, or leaves the message as it is.
+/// Appends a record. An error leaves the message unchanged.
 pub(super) fn append_record<
     B: OctetsBuilder + Truncate + AsOctetsMut,
     T: Compressor,

@@ -6,7 +6,7 @@ ghost use Rattle.octseq_dns.specs.Contents.{FitsHeader, header_octets};
 
 use octseq_dns_message::{Header, HeaderCounts};
 
-/// What a flag counts in the second number of a header.
+/// Returns the weight of a flag if it is set, otherwise 0.
 fn weight_of(set: bool, weight: u16) -> u16
     ensures value { result ≡ flag set weight }
     ensures most { result ≤ weight }
@@ -14,7 +14,7 @@ fn weight_of(set: bool, weight: u16) -> u16
     if set { weight } else { 0 }
 }
 
-/// The second number of a header.
+/// Returns the second number of a header: its flags, its opcode and its response code.
 fn bits_of(header: &Header) -> u16
     ensures bits { result ≡ flag_bits header.now }
     ensures opcode { header.now.opcode < 16 }
@@ -28,7 +28,7 @@ fn bits_of(header: &Header) -> u16
     first + answer + recursion + last + u16::from(header.rcode.to_int())
 }
 
-/// The octets of a header.
+/// Returns the octets of a header.
 #[tactic(auto, using(octseq::proofs::Written::written_2))]
 pub(super) fn octets_of(header: &Header, counts: &HeaderCounts) -> [u8; 12]
     ensures octets { result ≡ header_octets header.now counts.now }

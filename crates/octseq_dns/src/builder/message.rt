@@ -1,4 +1,4 @@
-//! A message begins.
+//! Starting a message.
 ghost use Rattle.std.specs.Prelude.{◌≡◌, true, false, IfOk, ◌↔◌, length};
 ghost use Rattle.octseq.specs.Limit.{IsPast, IsWithin};
 ghost use Rattle.octseq.specs.Refusal.{IsShort, IsMemory, append_error};
@@ -15,13 +15,13 @@ use octseq_dns_message::{Flags, Header, HeaderCounts};
 use std::marker::PhantomData;
 
 impl<B: OctetsBuilder + Truncate + AsOctetsMut, T: Compressor> MessageBuilder<B, T> {
-    /// A message with a header of zeros, in place of what the builder and the table have. A table that served for
-    /// another message is cleared and keeps its room. No limit is set for pushes.
+    /// Starts a message with a header of zeros, in place of what the builder and the table hold. A table that was used
+    /// for another message is cleared and keeps its capacity. No push limit is set.
     ///
     /// # Errors
     ///
-    /// `Short` where the limit of the builder's type is less than the 12 octets of a header, and else `Memory` where a
-    /// request for memory was refused. The builder and the table are then dropped.
+    /// `Short` exactly if the limit of the builder's type is less than the 12 octets of a header, otherwise `Memory` if
+    /// a request for memory was refused. The builder and the table are then dropped.
     ///
     /// # Examples
     ///
@@ -62,7 +62,7 @@ impl<B: OctetsBuilder + Truncate + AsOctetsMut, T: Compressor> MessageBuilder<B,
         })
     }
 
-    /// Goes on with the questions.
+    /// Continues with the question section.
     pub fn question(self) -> QuestionBuilder<B, T>
         ensures { result ≡ self }
     {
@@ -70,7 +70,7 @@ impl<B: OctetsBuilder + Truncate + AsOctetsMut, T: Compressor> MessageBuilder<B,
     }
 }
 
-/// A header of zeros.
+/// Returns a header of zeros.
 fn blank_header() -> Header
     ensures { result ≡ blank_header }
 {

@@ -1,4 +1,4 @@
-//! The section of questions.
+//! The question section.
 ghost use Rattle.std.specs.Prelude.{◌≡◌, ◌≤◌, ◌+◌, ◌*◌, ◌⊎◌, length, true, OnOk, OnErr};
 ghost use Rattle.octseq.specs.Limit.{IsWithin};
 ghost use Rattle.octseq_dns_compress.specs.Composed.{message_limit};
@@ -22,8 +22,8 @@ impl<B: OctetsBuilder + Truncate + AsOctetsMut, T: Compressor> QuestionBuilder<B
     ///
     /// # Errors
     ///
-    /// `Short` where the message would pass the limit of pushes, that of the builder's type or 65,535 octets, or has
-    /// 65,535 questions, and `Memory` where a request for memory was refused. The message is then as it was.
+    /// `Short` if the message would exceed the push limit, the limit of the builder's type or 65,535 octets, or already
+    /// has 65,535 questions, and `Memory` if a request for memory was refused. The message is then unchanged.
     ///
     /// # Examples
     ///
@@ -62,8 +62,8 @@ impl<B: OctetsBuilder + Truncate + AsOctetsMut, T: Compressor> QuestionBuilder<B
         self.push_question_counted(qname, qtype, qclass, &mut Turns::new())
     }
 
-    /// Pushes a question as [`push_question`](Self::push_question), and counts the turns that this takes: 17 at most
-    /// for each label of its name, whatever names came before it.
+    /// Pushes a question as [`push_question`](Self::push_question) does, and counts turns: at most 17 for each label of
+    /// its name, whatever names came before it.
     ///
     /// # Errors
     ///
@@ -110,7 +110,7 @@ impl<B: OctetsBuilder + Truncate + AsOctetsMut, T: Compressor> QuestionBuilder<B
         Ok(())
     }
 
-    /// Goes on with the answers.
+    /// Continues with the answer section.
     pub fn answer(self) -> AnswerBuilder<B, T>
         ensures { result ≡ self }
     {

@@ -25,13 +25,14 @@ impl<B: OctetsBuilder + Truncate + AsOctetsMut, T: Compressor, S: RecordSection>
     T,
     S,
 > {
-    /// Pushes a record, whole or not at all. Its type is that of its data. Its name is compressed, and so are the names
-    /// in data of NS, CNAME, PTR, MX and SOA: RFC 3597, 4.
+    /// Pushes a record, whole or not at all. Its type is that of its data. Its owner name is compressed, and so are the
+    /// names in NS, CNAME, PTR, MX and SOA data: RFC 3597, 4.
     ///
     /// # Errors
     ///
-    /// `Short` where the message would pass the limit of pushes, that of the builder's type or 65,535 octets, or its
-    /// section has 65,535 records, and `Memory` where a request for memory was refused. The message is then as it was.
+    /// `Short` if the message would exceed the push limit, the limit of the builder's type or 65,535 octets, or its
+    /// section already has 65,535 records, and `Memory` if a request for memory was refused. The message is then
+    /// unchanged.
     ///
     /// # Examples
     ///
@@ -74,8 +75,8 @@ impl<B: OctetsBuilder + Truncate + AsOctetsMut, T: Compressor, S: RecordSection>
         self.push_record_counted(owner, class, ttl, rdata, &mut Turns::new())
     }
 
-    /// Pushes a record as [`push_record`](Self::push_record), and counts the turns that this takes: 17 at most for each
-    /// label of its names, whatever names came before them.
+    /// Pushes a record as [`push_record`](Self::push_record) does, and counts turns: at most 17 for each label of its
+    /// names that may be compressed, whatever names came before them.
     ///
     /// # Errors
     ///
@@ -138,7 +139,7 @@ impl<B: OctetsBuilder + Truncate + AsOctetsMut, T: Compressor, S: RecordSection>
 }
 
 impl<B: OctetsBuilder + Truncate + AsOctetsMut, T: Compressor> AnswerBuilder<B, T> {
-    /// Goes on with the records of authorities.
+    /// Continues with the authority section.
     pub fn authority(self) -> AuthorityBuilder<B, T>
         ensures { result ≡ self }
     {
@@ -147,7 +148,7 @@ impl<B: OctetsBuilder + Truncate + AsOctetsMut, T: Compressor> AnswerBuilder<B, 
 }
 
 impl<B: OctetsBuilder + Truncate + AsOctetsMut, T: Compressor> AuthorityBuilder<B, T> {
-    /// Goes on with the additional records.
+    /// Continues with the additional section.
     pub fn additional(self) -> AdditionalBuilder<B, T>
         ensures { result ≡ self }
     {
@@ -156,7 +157,7 @@ impl<B: OctetsBuilder + Truncate + AsOctetsMut, T: Compressor> AuthorityBuilder<
 }
 
 impl<B: OctetsBuilder + Truncate + AsOctetsMut, T: Compressor> AdditionalBuilder<B, T> {
-    /// The builder of octets, with the message in it, and the table, which may serve for another message.
+    /// Returns the octets builder, which holds the message, and the table, which can be used for another message.
     pub fn finish(self) -> (B, T)
         ensures octets { result.0 ≡ self.octets }
         ensures table { result.1 ≡ self.table }

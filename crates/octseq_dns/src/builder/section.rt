@@ -1,13 +1,14 @@
-//! The sections of a message, by which the type of its builder says what may be pushed next: RFC 1035, 4.1.
+//! The sections of a message. The builder's type says which one is being written, and so what may be pushed next: RFC
+//! 1035, 4.1.
 ghost use Rattle.std.specs.Prelude.{◌≡◌, ◌+◌, ◌<◌, ◌≤◌, IfSome, IsNone};
 
 use octseq_dns_message::HeaderCounts;
 
-/// A section to which a message is written so far.
+/// A section up to which a message is written.
 pub trait Section {
     ghost use Rattle.octseq_dns_message.specs.declared.header.HeaderCounts.{HeaderCounts};
 
-    // Of the counts of a message: it has nothing after the section.
+    // The counts of a message have nothing after the section.
     ghost reaches: { HeaderCounts → Type 0 };
 }
 
@@ -18,16 +19,16 @@ pub trait RecordSection: Section {
     ghost use Rattle.octseq_dns.specs.Writes.{TakesRecords};
     ghost use Rattle.octseq_dns_message.specs.declared.header.HeaderCounts.{HeaderCounts};
 
-    // How many records the section has.
+    // The number of records in the section.
     ghost count: { HeaderCounts → ℕ };
 
-    // The counts with another number for the section.
+    // The counts with another number of records in the section.
     ghost counted: { HeaderCounts → ℕ → HeaderCounts };
 
-    // The message with a record more in the section.
+    // The message with one more record in the section.
     ghost more: { Message → Record → Message };
 
-    /// The counts with one record more, or none where there are 65,535.
+    /// Returns the counts with one more record, or `None` if there are 65,535 already.
     fn count_one_more(counts: HeaderCounts) -> Option<HeaderCounts>
         ensures some { IfSome result (λ c. (c ≡ counted counts (count counts + 1)) × (count counts < 65535)) }
         ensures none { IsNone result → 65535 ≤ count counts };
@@ -35,7 +36,7 @@ pub trait RecordSection: Section {
     ghost takes_records: { TakesRecords Self.reaches count counted more };
 }
 
-/// No section yet: the message has its header alone.
+/// No section yet: the message has only its header.
 #[derive(Clone, Copy)]
 pub enum NoSection {}
 
@@ -45,7 +46,7 @@ impl Section for NoSection {
     ghost reaches = { NothingYet };
 }
 
-/// The questions.
+/// The question section.
 #[derive(Clone, Copy)]
 pub enum Questions {}
 
@@ -55,7 +56,7 @@ impl Section for Questions {
     ghost reaches = { UpToQuestions };
 }
 
-/// The answers.
+/// The answer section.
 #[derive(Clone, Copy)]
 pub enum Answers {}
 
@@ -83,7 +84,7 @@ impl RecordSection for Answers {
     ghost takes_records = { takes_answers };
 }
 
-/// The records of authorities.
+/// The authority section.
 #[derive(Clone, Copy)]
 pub enum Authorities {}
 
@@ -111,7 +112,7 @@ impl RecordSection for Authorities {
     ghost takes_records = { takes_authorities };
 }
 
-/// The additional records.
+/// The additional section.
 #[derive(Clone, Copy)]
 pub enum Additionals {}
 

@@ -10,7 +10,7 @@ use crate::frames::{FrameError, read_frame};
 use std::alloc::Global;
 use std::io::Read;
 
-/// The messages of a stream, read one at a time. It holds the octets of one message.
+/// Reads the messages of a stream, one at a time. It holds the octets of one message.
 #[derive(Drop)]
 pub struct FrameReader<R> {
     reader: R,
@@ -19,7 +19,7 @@ pub struct FrameReader<R> {
 }
 
 impl<R: Read> FrameReader<R> {
-    /// The messages of all that a reader has left.
+    /// Returns a reader of the messages that `reader` has left.
     pub fn new(alloc: Global, reader: R) -> FrameReader<R>
         ensures reader { reader_of result ≡ reader }
         ensures frame { frame_of result ≡ [] }
@@ -32,13 +32,13 @@ impl<R: Read> FrameReader<R> {
         }
     }
 
-    /// Reads the next message, in place of the last one, and answers whether there is one: not at the end of the input,
-    /// and not after an error.
+    /// Reads the next message, in place of the last one. It returns `false` at the end of the input, and after an
+    /// error.
     ///
     /// # Errors
     ///
-    /// `Short` where the input ends inside a frame, `Memory` where a request for memory was refused, `Read` where a
-    /// read failed. The reader may then be inside a frame, so no frame follows.
+    /// `Short` if the input ends inside a frame, `Memory` if a request for memory was refused, `Read` if a read failed.
+    /// The reader may then be inside a frame, so later calls return `false`.
     pub fn read_next(&mut self) -> Result<bool, FrameError>
         ensures frame { result ≡ Ok true → FitsStream (frame_of self.new) × Consumes (R.remaining (reader_of self.old))
             (R.remaining (reader_of self.new)) (part_of 2 (frame_of self.new)) }
@@ -60,14 +60,14 @@ impl<R: Read> FrameReader<R> {
         found
     }
 
-    /// The octets of the message that was read last.
+    /// Returns the octets of the message that was read last.
     pub fn frame(&self) -> &[u8]
         ensures { result.now ≡ frame_of self.now }
     {
         self.frame.as_slice()
     }
 
-    /// What it reads from.
+    /// Returns what it reads from.
     pub fn get_ref(&self) -> &R
         ensures { result.now ≡ reader_of self.now }
     {

@@ -39,11 +39,11 @@ impl From<io::Error> for WriteFrameError {
     }
 }
 
-/// Writes a message after its length in 2 octets.
+/// Writes a message, preceded by its length in two octets.
 ///
 /// # Errors
 ///
-/// `TooLong` where the message has more than 65,535 octets: nothing is then written. Else `Write` where a write failed:
+/// `TooLong` if the message has more than 65,535 octets: nothing is then written. Otherwise `Write` if a write failed:
 /// a front of the length and the message may then be written.
 #[tactic(auto, using(octseq::proofs::Written::written_2))]
 pub fn write_frame<W: Write>(writer: &mut W, message: &[u8]) -> Result<(), WriteFrameError>
@@ -62,7 +62,7 @@ pub fn write_frame<W: Write>(writer: &mut W, message: &[u8]) -> Result<(), Write
     Ok(())
 }
 
-/// Writes all of the octets. What it wrote before a failure stays.
+/// Writes all the octets. What was written before a failure stays.
 fn write_octets<W: Write>(writer: &mut W, octets: &[u8]) -> io::Result<()>
     ensures ok { OnOk result (Appends (W.contents writer.old) (W.contents writer.new) octets.now) }
     ensures front { (front : List ℕ) × IsFront front octets.now
@@ -79,7 +79,7 @@ fn write_octets<W: Write>(writer: &mut W, octets: &[u8]) -> io::Result<()>
     Err(io::Error::from(ErrorKind::TimedOut))
 }
 
-/// How many of the octets one write took, none where it was interrupted.
+/// Writes once, and returns the number of octets written: 0 if the write was interrupted.
 fn write_once<W: Write>(writer: &mut W, octets: &[u8]) -> io::Result<usize>
     ensures ok { IfOk result (λ count. (count ≤ length octets.now)
         × Appends (W.contents writer.old) (W.contents writer.new) (take count octets.now)) }

@@ -1,4 +1,4 @@
--- What the reader lost are the octets that are filled.
+-- What was consumed from the reader is what was filled.
 use Rattle.std.proofs.Common.{◌<◌, length, take}
 use Rattle.std.specs.Io.KnownBytes.{Consumes}
 use Rattle.octseq_dns.proofs.frames.fill.Given as goal

@@ -1,4 +1,4 @@
--- All records can be moved exactly where those ahead can.
+-- All records can be moved exactly if those ahead can.
 use Rattle.std.specs.List.{AllByRecursion}
 use Rattle.std.specs.Prelude.{◌↔◌}
 use Rattle.octseq_dns_message.specs.Walk.{records_left}

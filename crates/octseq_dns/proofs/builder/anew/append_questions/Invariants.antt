@@ -1,4 +1,4 @@
--- Whatever is written of the questions, the message so far becomes it by what is written of those that are left.
+-- Whatever is written for the questions, the message so far becomes it with what is written for those that are left.
 use Rattle.std.proofs.Common.{◌≡◌, List, length}
 use Rattle.std.specs.List.{AllZip}
 use Rattle.octseq.specs.Limit.{IsWithin}

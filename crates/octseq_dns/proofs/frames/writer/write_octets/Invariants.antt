@@ -1,4 +1,4 @@
--- What went out is a front of the octets, and the rest is what is left of them.
+-- What was written is a front of the octets, and the rest is what is left.
 use Rattle.octseq_dns.proofs.FrameWriting.{IsWritten}
 use Rattle.octseq_dns.proofs.frames.writer.write_octets.Given as goal
 
