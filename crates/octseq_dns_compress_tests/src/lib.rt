@@ -1,4 +1,4 @@
-//! Tests of names that are compressed: what no proof sees.
+//! Tests of compressed names: what no proof covers.
 #![tactic(auto)]
 
 #[cfg(test)]

@@ -5,12 +5,12 @@ use std::fmt::Debug;
 use std::process::Abort;
 use std::test::Fail;
 
-/// What an assertion calls: it ends the test where two values differ.
+/// Called by an assertion: ends the test if two values differ.
 fn equal<T: PartialEq + Debug + Drop>(rt: &impl Abort, what: &str, left: T, right: T) {
     assert_eq!(rt; left, right, "{what}");
 }
 
-/// The name that octets begin with.
+/// Reads the name that octets begin with.
 fn name_of(octets: &[u8]) -> Result<ParsedName<&[u8]>, Fail> {
     let mut parser = Parser::from_ref(octets);
     Ok(ParsedName::parse(&mut parser)?)

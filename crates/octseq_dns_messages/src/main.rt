@@ -1,10 +1,10 @@
-//! Shows each message of standard input, each after its length in two octets, and an empty line after it. What is no
-//! message shows as `malformed`. Then a line for each message of at most 512 octets says what becomes of it where it is
-//! cut off at each length, and where each octet in turn is changed to each of six others: how many that are, how many
-//! of them are malformed, and a digest of all that they show as.
+//! Shows each message of standard input, each of which is preceded by its length in two octets, followed by an empty
+//! line. What isn't a message is shown as `malformed`. Then a line for each message of at most 512 octets reports what
+//! is read if it is truncated to each length, and if each octet in turn is changed to each of six others: how many
+//! readings there are, how many of them are malformed, and a digest of all that they show.
 //!
-//! It is a test of `octseq_dns`: `stdin` has 483 messages of real traffic, and after them 137 that were made, with
-//! types of data that the traffic lacks; `stdout` is what the readers of dnspython make of them.
+//! It is a test of `octseq_dns`: `stdin` has 483 messages of real traffic, followed by 137 that were made, with types
+//! of data that the traffic lacks; `stdout` is what the readers of dnspython make of them.
 #![tactic(auto)]
 
 use crate::variants::{Shown, read_changes, read_cuts};
@@ -19,16 +19,16 @@ use std::process::ExitCode;
 
 mod variants;
 
-/// Longer messages are neither cut off nor changed, as that would take most of the time.
+/// Longer messages are neither truncated nor changed, as that would take most of the time.
 const LONGEST: usize = 512;
 
-/// The first message of a stream, and what is after it.
+/// Returns the first message of a stream, and what follows it.
 fn split_message(stream: &[u8]) -> Option<(&[u8], &[u8])> {
     let (len, after) = stream.split_first_chunk::<2>()?;
     after.split_at_checked(usize::from(u16::from_be_bytes(*len)))
 }
 
-/// Appends the text of a message and an empty line, and answers whether it is one.
+/// Appends the text of a message and an empty line, and returns whether it is one.
 fn append_message<R: Octets + Copy>(
     text: &mut StrBuilder<Vec<u8>>,
     octets: R,
@@ -60,7 +60,7 @@ fn append_messages(text: &mut StrBuilder<Vec<u8>>, stream: &[u8]) -> Result<(), 
     Ok(())
 }
 
-/// The line of a message, about what becomes of it.
+/// The line that reports on a message.
 #[derive(Drop)]
 struct Line {
     cuts: Shown,
@@ -74,7 +74,7 @@ impl fmt::Display for Line {
     }
 }
 
-/// The line of a message, which is shown in a text of no use after it.
+/// Returns the line for a message. The readings are shown in `shown`, whose content is overwritten.
 fn line_of(
     alloc: Global,
     shown: &mut StrBuilder<Vec<u8>>,
@@ -109,12 +109,12 @@ fn append_lines(
     Ok(())
 }
 
-/// A text that is empty.
+/// Returns an empty text.
 fn new_text(alloc: Global) -> Result<StrBuilder<Vec<u8>>, DisplayError> {
     Ok(StrBuilder::new(alloc).map_err(|_| AppendError::Memory)?)
 }
 
-/// All that is said of a stream.
+/// Returns the whole output for a stream.
 fn text_of(alloc: Global, stream: &[u8]) -> Result<StrBuilder<Vec<u8>>, DisplayError> {
     let mut text = new_text(alloc)?;
     append_messages(&mut text, stream)?;

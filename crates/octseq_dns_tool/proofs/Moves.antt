@@ -1,4 +1,4 @@
--- A message that isn't one that can't be moved can be moved.
+-- A message can be moved if it isn't one that can't be.
 use Rattle.std.proofs.Common.{List, [], ◌∷◌}
 use Rattle.std.specs.List.{AllByRecursion}
 use Rattle.octseq_dns.specs.Moved.{CanMoveRecord, CanMove}

@@ -29,7 +29,7 @@ same_name Rewrite Stream e = other_length _ _ (omega arith) e
 same_name Message Rewrite e = other_first _ _ (omega arith) e
 same_name Rewrite Message e = other_first _ _ (omega arith) e
 
--- one thing is made of a rest
+-- a rest makes one piece
 pub one_end : (c : Messages) (number : ℕ) (rest x y e f : List ℕ) (a b : Bool) → IsEnd c number rest a x e
     → IsEnd c number rest b y f → (a ≡ b) × (x ≡ y) × (e ≡ f)
 one_end c number = one_plain_end IsCut (λ octets cut. cut.0) (ending_of c)
@@ -39,7 +39,7 @@ pub none_at_end : (c : Messages) (number : ℕ) (octets written note : List ℕ)
     → IsEnd c number octets is_fine written note → ¬ HasFront FitsStream (part_of 2) octets
 none_at_end c number = none_at_plain IsCut FitsStream (part_of 2) none_in_nothing (λ octets cut. cut.1) (ending_of c)
 
--- by the laws: one thing is made of an input, and of a message
+-- by the laws: an input makes one piece, and so does a message
 module _ (one_message_piece : (number : ℕ) (octets x y e f : List ℕ) (a b : Bool) → IsMessagePiece number octets a x e
     → IsMessagePiece number octets b y f → (a ≡ b) × (x ≡ y) × (e ≡ f))
     (one_piece : (c : Messages) (number : ℕ) (octets x y e f : List ℕ) (a b : Bool)

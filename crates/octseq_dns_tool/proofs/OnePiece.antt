@@ -1,4 +1,4 @@
--- What is made of a message is a function of it.
+-- What is made of a message is a function of the message.
 use Rattle.std.proofs.Common.{◌≡◌, ◌++◌, ◌∙◌}
 use Rattle.std.proofs.Common.{ℕ, inl, inr, Bool, true, false, List, length, codes, refl, sym, ap, subst, arith}
 use Rattle.octseq.specs.Part.{part_of}
@@ -17,14 +17,14 @@ use Rattle.octseq_dns_tool.specs.declared.engine.stream.Messages.{Messages}
 use Rattle.octseq_dns_tool.specs.declared.engine.stream.Messages.TheVariants.{Shown, Rewritten}
 use Rattle.octseq_program.specs.Frames.{stop_line}
 
--- of octets that are no message one thing is told
+-- octets that aren't a message have one note
 pub one_note : (number : ℕ) (octets x y : List ℕ) (b : Bool) → IsNote number octets b x → IsNote number octets b y
     → x ≡ y
 one_note number octets x y true p q = p ∙ sym q
 one_note number octets x y false (here, is, e) (there, it, f) =
     e ∙ ap (stop_line (codes "message") number) (one_stop octets here there is it) ∙ sym f
 
--- by what the laws of messages say: octets are a message in one way, and a message has one text
+-- by the laws of messages: octets are a message in one way, and a message has one text
 module _ (one_message : (octets : List ℕ) (h k : Header) (q others : List Question) (a b d x y z : List Record)
     → IsMessage octets h q a b d → IsMessage octets k others x y z
     → (h ≡ k) × (q ≡ others) × (a ≡ x) × (b ≡ y) × (d ≡ z))
@@ -45,7 +45,7 @@ module _ (one_message : (octets : List ℕ) (h k : Header) (q others : List Ques
       let e = subst (λ l. IsMessageText q.header q.questions q.answers q.authorities l x) same.4 d in
       one_text q.header q.questions q.answers q.authorities q.additionals x y e q.is_text
 
-  -- of octets one thing is shown
+  -- octets are shown in one way
   pub one_shown : (octets x y : List ℕ) (b c : Bool) → IsShown octets b x → IsShown octets c y → (x ≡ y) × (b ≡ c)
   one_shown octets x y true true p q = (same_text octets x y p q, refl)
   one_shown octets x y false false p q = (p.1 ∙ sym q.1, refl)
@@ -54,15 +54,15 @@ module _ (one_message : (octets : List ℕ) (h k : Header) (q others : List Ques
   one_shown octets x y false true p q =
       absurd (p.0 q.header q.questions q.answers q.authorities q.additionals q.is_message)
 
-  -- one thing is made of an input
+  -- an input makes one piece
   pub one_message_piece : (number : ℕ) (octets x y e f : List ℕ) (a b : Bool) → IsMessagePiece number octets a x e
       → IsMessagePiece number octets b y f → (a ≡ b) × (x ≡ y) × (e ≡ f)
   one_message_piece number octets x y e f a b (p, n) (q, m) =
       let same = one_shown octets x y a b p q in
       (same.1, same.0, one_note number octets e f b (subst (λ a. IsNote number octets a e) same.1 n) m)
 
--- by what the laws of messages say: octets are a message in one way, and one message is written of it; and by the law
--- that one thing is shown of octets
+-- by the laws of messages: octets are a message in one way, and one message is written for it; and by the law that
+-- octets are shown in one way
 module _ (one_message : (octets : List ℕ) (h k : Header) (q others : List Question) (a b d x y z : List Record)
     → IsMessage octets h q a b d → IsMessage octets k others x y z
     → (h ≡ k) × (q ≡ others) × (a ≡ x) × (b ≡ y) × (d ≡ z))
@@ -80,7 +80,7 @@ module _ (one_message : (octets : List ℕ) (h k : Header) (q others : List Ques
       (subst (λ l. P k others x l d) same.3
       (subst (λ l. P k others l b d) same.2 (subst (λ l. P k l a b d) same.1 (subst (λ h. P h q a b d) same.0 p))))
 
-  -- octets are written anew in one way
+  -- octets are rewritten in one way
   one_anew : (octets x y : List ℕ) → IsAnew octets x → IsAnew octets y → x ≡ y
   one_anew octets x y p q =
       let one =
@@ -100,7 +100,7 @@ module _ (one_message : (octets : List ℕ) (h k : Header) (q others : List Ques
   stuck_is_message octets p malformed =
       malformed p.header p.questions p.answers p.authorities p.additionals p.is_message
 
-  -- octets that are written anew can be written
+  -- octets that are rewritten can be rewritten
   not_stuck : (octets x : List ℕ) → IsAnew octets x → IsStuck octets → ⊥
   not_stuck octets x p q =
       let is = p.is_written in
@@ -145,7 +145,7 @@ module _ (one_message : (octets : List ℕ) (h k : Header) (q others : List Ques
       (stuck_is_message octets stuck bad)
   one_moved number octets x y e f false false (inr (stuck, n), w) (inr (also, m), v) = (refl, w ∙ sym v, n ∙ sym m)
 
-  -- one thing is made of a message
+  -- a message makes one piece
   pub one_piece : (c : Messages) (number : ℕ) (octets x y e f : List ℕ) (a b : Bool)
       → IsPiece c number octets a x e → IsPiece c number octets b y f → (a ≡ b) × (x ≡ y) × (e ≡ f)
   one_piece Shown = one_block

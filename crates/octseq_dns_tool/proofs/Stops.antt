@@ -10,7 +10,7 @@ use Rattle.octseq_dns.specs.declared.header.Header.{Header}
 use Rattle.octseq_dns.specs.declared.header.HeaderCounts.{HeaderCounts}
 use Rattle.octseq_dns_tool.specs.Stop.{IsStop, QuestionsStop, RecordsStop}
 
--- a record more was passed
+-- one more record was skipped
 pub record_step : (left count place : ℕ) (w v : Window) (r : Record) → left ≡ suc count → IsRecord w r v
     → RecordsStop count v place → RecordsStop left w place
 record_step left count place w v r e is stop = subst (λ n. RecordsStop n w place) (sym e) (inl (r, v, is, stop))
@@ -20,7 +20,7 @@ pub record_stop : (left count : ℕ) (w : Window) → left ≡ suc count → ((r
     → RecordsStop left w w.position
 record_stop left count w e none = subst (λ n. RecordsStop n w w.position) (sym e) (inr (none, refl))
 
--- a question more was passed
+-- one more question was skipped
 pub question_step : (left count records place : ℕ) (w v : Window) (q : Question) → left ≡ suc count → IsQuestion w q v
     → QuestionsStop count records v place → QuestionsStop left records w place
 question_step left count records place w v q e is stop =
@@ -51,12 +51,12 @@ one_questions (suc count) records w x y (inl (r, v, is, p)) (inr (none, e)) = ab
 one_questions (suc count) records w x y (inr (none, e)) (inl (r, v, is, p)) = absurd (none r v is)
 one_questions (suc count) records w x y (inr (none, e)) (inr (also, f)) = e ∙ sym f
 
--- how many questions and records a list of six numbers counts
+-- the number of questions and of records that a list of six numbers counts
 counted : List ℕ → ℕ × ℕ
 counted (a ∷ b ∷ c ∷ d ∷ e ∷ f ∷ more) = (c, d + e + f)
 counted _ = (0, 0)
 
--- a header counts so many questions and records, and ends, in one way
+-- a header counts its questions and its records, and ends, in one way
 one_counts : (w u v : Window) (h k : Header) (c d : HeaderCounts) → IsHeader w h c u → IsHeader w k d v
     → (c.qdcount ≡ d.qdcount) × (c.ancount + c.nscount + c.arcount ≡ d.ancount + d.nscount + d.arcount) × (u ≡ v)
 unfolding counted

@@ -11,13 +11,13 @@ use Rattle.octseq_dns_tool.specs.declared.engine.stream.Messages.TheVariants.{Sh
 use Rattle.octseq_program.specs.Frames.{IsStreamOut, IsWholeOut}
 use Rattle.octseq_program.specs.declared.status.Status.{Status}
 
--- the word that names a command
+-- the name of a command
 abbrev pub name_of : Command → List ℕ
 name_of Message = codes "message"
 name_of Stream = codes "stream"
 name_of Rewrite = codes "rewrite"
 
--- what is written for a command that takes messages, each after its length in 2 octets
+-- what is written for a command that takes messages, each preceded by its length in two octets
 abbrev pub MessagesOut : Messages → List ℕ → List ℕ → List ℕ → Status → Type 0
 MessagesOut c = IsStreamOut FitsStream (part_of 2) (IsPiece c) (IsEnd c)
 

@@ -1,4 +1,4 @@
--- Messages that are written anew.
+-- Messages that are rewritten.
 use Rattle.std.specs.Prelude.{◌≡◌, ℕ, ◌<◌, ◌≤◌, ◌⊎◌, Bool, true, false, List, length}
 use Rattle.octseq_dns.specs.Contents.{octets_of}
 use Rattle.octseq_dns.specs.Contents.{Message as Contents}
@@ -8,8 +8,8 @@ use Rattle.octseq_dns.specs.Entry.{Question, Record}
 use Rattle.octseq_dns.specs.Message.{IsMessage}
 use Rattle.octseq_dns.specs.declared.header.Header.{Header}
 
--- A message that was read can be moved, and these are its octets, written anew with as many names kept as there are
--- places that a pointer can say: at most 65,535.
+-- A message that was read can be moved, and these are its octets when it is rewritten with at most one name kept for
+-- each offset that a pointer can express: at most 65,535.
 pub record IsWritten (header : Header) (questions : List Question) (answers authorities additionals : List Record)
     (anew : List ℕ) : Type 0 where
   pub moves : CanMove answers authorities additionals
@@ -18,20 +18,20 @@ pub record IsWritten (header : Header) (questions : List Question) (answers auth
   pub written : anew ≡ octets_of 16384 contents
   pub size : length anew ≤ 65535
 
--- a message that was read can't be moved, or takes more than 65,535 octets where it is written anew
+-- a message that was read can't be moved, or takes more than 65,535 octets when it is rewritten
 abbrev pub CannotBeWritten : Header → List Question → List Record → List Record → List Record → Type 0
 CannotBeWritten header questions answers authorities additionals = ¬ CanMove answers authorities additionals
     ⊎ ((m : Contents) → IsMessageOf header questions answers authorities additionals m
     → 65535 < length (octets_of 16384 m))
 
--- whether a message that was read is written anew, and its octets where it is
+-- whether a message that was read is rewritten, and its octets if it is
 abbrev pub IsRewriting : Header → List Question → List Record → List Record → List Record → Bool → List ℕ → Type 0
 IsRewriting header questions answers authorities additionals true anew =
     IsWritten header questions answers authorities additionals anew
 IsRewriting header questions answers authorities additionals false anew =
     CannotBeWritten header questions answers authorities additionals
 
--- Octets are a message, and these are the octets of it written anew.
+-- Octets are a message, and these are its octets when it is rewritten.
 pub record IsAnew (octets anew : List ℕ) : Type 0 where
   pub header : Header
   pub questions : List Question
@@ -41,7 +41,7 @@ pub record IsAnew (octets anew : List ℕ) : Type 0 where
   pub is_message : IsMessage octets header questions answers authorities additionals
   pub is_written : IsWritten header questions answers authorities additionals anew
 
--- Octets are a message that can't be written anew.
+-- Octets are a message that can't be rewritten.
 pub record IsStuck (octets : List ℕ) : Type 0 where
   pub header : Header
   pub questions : List Question

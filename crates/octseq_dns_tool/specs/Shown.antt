@@ -1,4 +1,4 @@
--- What the program shows of octets that may be a message.
+-- What the program shows of octets that may be a message, and its note about them.
 use Rattle.std.specs.Prelude.{◌≡◌, ℕ, List, [], Bool, true, false, codes}
 use Rattle.octseq_dns.specs.Entry.{Question, Record}
 use Rattle.octseq_dns.specs.Message.{IsMessage}
@@ -17,17 +17,17 @@ pub record HasText (octets text : List ℕ) : Type 0 where
   pub is_message : IsMessage octets header questions answers authorities additionals
   pub is_text : IsMessageText header questions answers authorities additionals text
 
--- octets are no message
+-- octets aren't a message
 abbrev pub IsMalformed : List ℕ → Type 0
 IsMalformed octets = (header : Header) (questions : List Question) (answers authorities additionals : List Record)
     → ¬ IsMessage octets header questions answers authorities additionals
 
--- what is shown of octets: the text of the message, where they are one, and else `malformed`
+-- what is shown of octets: the text of the message, if they are one, otherwise `malformed`
 abbrev pub IsShown : List ℕ → Bool → List ℕ → Type 0
 IsShown octets true shown = HasText octets shown
 IsShown octets false shown = IsMalformed octets × (shown ≡ codes "malformed\n")
 
--- what is told of octets on standard error: where they are no message, the number of the message and the place where
+-- the note about octets on standard error: if they aren't a message, the number of the message and the place where
 -- reading stopped
 abbrev pub IsNote : ℕ → List ℕ → Bool → List ℕ → Type 0
 IsNote number octets true note = note ≡ []

@@ -9,25 +9,24 @@ use Rattle.octseq_dns_tool.specs.declared.engine.stream.Messages.TheVariants.{Sh
 use Rattle.octseq_program.specs.Frames.{IsPlainEnd, IsPlainRest}
 use Rattle.octseq_program.specs.declared.frames.Ending.{Ending}
 
--- what is written of a message that is shown: that, and an empty line
+-- the output for a message that is shown: what is shown of it, and an empty line
 abbrev pub IsBlock : ℕ → List ℕ → Bool → List ℕ → List ℕ → Type 0
 IsBlock number octets is_fine written note = (is_message : Bool) × (shown : List ℕ) × IsShown octets is_message shown
     × IsNote number octets is_message note × (is_fine ≡ true) × (written ≡ shown ++ codes "\n")
 
--- what is written of a message that is written anew: that, after its length, or nothing where it is left out
+-- the output for a message that is rewritten: its octets, preceded by their length, or nothing if it is left out
 abbrev pub IsMoved : ℕ → List ℕ → Bool → List ℕ → List ℕ → Type 0
 IsMoved number octets true written note =
     (anew : List ℕ) × IsAnew octets anew × (written ≡ part_of 2 anew) × (note ≡ [])
 IsMoved number octets false written note =
     ((IsMalformed octets × IsNote number octets false note) ⊎ (IsStuck octets × (note ≡ []))) × (written ≡ [])
 
--- what is made of the message of this number: whether it is as it is to be, what is written of it, and what is told of
--- it on standard error
+-- what is made of the message of this number: whether it is fine, the output for it, and the note about it
 abbrev pub IsPiece : Messages → ℕ → List ℕ → Bool → List ℕ → List ℕ → Type 0
 IsPiece Shown number octets is_fine written note = IsBlock number octets is_fine written note
 IsPiece Rewritten number octets is_fine written note = IsMoved number octets is_fine written note
 
--- what is written where a stream ends inside a message
+-- the output if a stream ends inside a message
 abbrev pub ending_of : Messages → List ℕ
 ending_of Shown = codes "unexpected end of input\n"
 ending_of Rewritten = []
@@ -36,6 +35,6 @@ ending_of Rewritten = []
 abbrev pub IsRest : Ending → List ℕ → Type 0
 IsRest = IsPlainRest IsCut
 
--- what is made of it
+-- what is made of the rest
 abbrev pub IsEnd : Messages → ℕ → List ℕ → Bool → List ℕ → List ℕ → Type 0
 IsEnd c number = IsPlainEnd IsCut (ending_of c)

@@ -18,7 +18,7 @@ mod stream;
 #[cfg(test)]
 mod tests;
 
-/// What the program tells of itself.
+/// The help text of the program.
 const HELP: &str = "\
 octseq_dns_tool reads DNS messages, and shows them as text or writes them anew.
 
@@ -46,20 +46,20 @@ status:
   4  a read or a write failed
 ";
 
-/// What the program can do.
+/// The commands of the program.
 #[derive(Clone, Copy, Debug, PartialEq, Eq)]
 pub enum Command {
     /// Write the text of the input as one message.
     Message,
-    /// Write the text of each message of the input, which comes after its length in 2 octets.
+    /// Write the text of each message of the input, each of which is preceded by its length in two octets.
     Stream,
-    /// Write each message of such a stream anew, with its names compressed, as a stream.
+    /// Rewrite each message of such a stream, with its names compressed, as a stream.
     Rewrite,
 }
 
-/// A word names one command at most, and a command has one output, on standard output and on standard error, and one
+/// A word names at most one command, and a command has one output, on standard output and on standard error, and one
 /// status for an input: what the program writes is a function of both. The law is on a function that does nothing, so
-/// that a check asks for its proof.
+/// that a check proves it.
 pub fn one_answer()
     ensures command { (word : List ℕ) (c d : Option Command)
         → IsNamed name_of word c → IsNamed name_of word d → c ≡ d }

@@ -1,8 +1,8 @@
-//! Builders of octets, and the sequences that they become.
+//! Octets builders, and the sequences that they become.
 use octseq::{Array, CowOctets, EmptyBuilder, FreezeBuilder, OctetsBuilder, Truncate};
 use std::alloc::Global;
 
-/// An array that is shortened, and then shows hidden octets again.
+/// Returns an array that is truncated, and then shows hidden octets again.
 pub fn lengthened() -> anyhow::Result<Array<4>> {
     let mut array = Array::<4>::new();
     array.append_slice(b"abcd")?;
@@ -11,7 +11,7 @@ pub fn lengthened() -> anyhow::Result<Array<4>> {
     Ok(array)
 }
 
-/// A name with a zero after it, in a builder of any type.
+/// Returns a name followed by a zero, in a builder of any type.
 pub fn c_string<B: EmptyBuilder>(alloc: Global, name: &str) -> anyhow::Result<B> {
     let mut octets = B::empty(alloc)?;
     octets.append_slice(name.as_bytes())?;
@@ -19,14 +19,14 @@ pub fn c_string<B: EmptyBuilder>(alloc: Global, name: &str) -> anyhow::Result<B>
     Ok(octets)
 }
 
-/// A greeting that no longer grows.
+/// Returns a greeting that no longer grows.
 pub fn greeting<B: EmptyBuilder + FreezeBuilder>(alloc: Global) -> anyhow::Result<B::Octets> {
     let mut builder = B::empty(alloc)?;
     builder.append_slice(b"hello")?;
     Ok(builder.freeze()?)
 }
 
-/// Octets that are borrowed until more are appended.
+/// Returns octets that are borrowed until more are appended.
 pub fn extended(alloc: Global) -> anyhow::Result<CowOctets<'static>> {
     let mut greeting = CowOctets::borrowed(alloc, b"hello world");
     greeting.truncate(5); // "hello", still borrowed

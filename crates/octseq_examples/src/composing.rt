@@ -1,8 +1,8 @@
-//! Octets, composed of integers and parts.
+//! Composing integers and parts.
 use octseq::Array;
 use octseq::compose::{append_i32_le, append_part_u8, append_u16_be};
 
-/// An account: its number, its name after the length of that, and its balance.
+/// Returns an account: its number, its name, preceded by its length, and its balance.
 pub fn account() -> anyhow::Result<Array<16>> {
     let mut account = Array::<16>::new();
     append_u16_be(&mut account, 0x1234)?;

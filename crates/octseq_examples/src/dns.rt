@@ -1,4 +1,4 @@
-//! DNS names and messages, read and written.
+//! Reading and writing DNS names and messages.
 use octseq::{Array, Parser};
 use octseq_dns::data::Txt;
 use octseq_dns::txt::{append_strings, append_text};
@@ -17,7 +17,7 @@ pub fn is_within() -> anyhow::Result<bool> {
     Ok(is_within)
 }
 
-/// Two names, the second of which ends with a pointer to the first.
+/// Reads two names, the second of which ends with a pointer to the first.
 pub fn two_names() -> anyhow::Result<[ParsedName<&'static [u8]>; 2]> {
     let mut parser = Parser::from_static(b"\x07example\x03com\x00\x03www\xC0\x00");
     let domain = ParsedName::parse(&mut parser)?; // "example.com."
@@ -25,7 +25,7 @@ pub fn two_names() -> anyhow::Result<[ParsedName<&'static [u8]>; 2]> {
     Ok([domain, host])
 }
 
-/// How many answers a response has, or `None` for a query or an error.
+/// Returns the number of answers of a response, or `None` for a query or an error.
 pub fn answer_count(octets: &[u8]) -> anyhow::Result<Option<u16>> {
     let message = Message::parse(octets)?;
     let header = message.header();
@@ -35,7 +35,7 @@ pub fn answer_count(octets: &[u8]) -> anyhow::Result<Option<u16>> {
     Ok(Some(message.header_counts().ancount))
 }
 
-/// A line for each question: its name and its type.
+/// Returns a line for each question: its name and its type.
 pub fn asked(alloc: Global, octets: &[u8]) -> anyhow::Result<String> {
     let message = Message::parse(octets)?;
     let mut lines = String::new(alloc);
@@ -45,7 +45,7 @@ pub fn asked(alloc: Global, octets: &[u8]) -> anyhow::Result<String> {
     Ok(lines)
 }
 
-/// The IPv4 addresses among the answers.
+/// Returns the IPv4 addresses among the answers.
 pub fn addresses(alloc: Global, octets: &[u8]) -> anyhow::Result<Vec<[u8; 4]>> {
     let message = Message::parse(octets)?;
     let mut addresses = Vec::new(alloc);
@@ -57,7 +57,7 @@ pub fn addresses(alloc: Global, octets: &[u8]) -> anyhow::Result<Vec<[u8; 4]>> {
     Ok(addresses)
 }
 
-/// A message with one question.
+/// Returns a message with one question.
 pub fn query(header: Header, name: &Name<Array<255>>) -> anyhow::Result<Array<512>> {
     let table = StaticCompressor::<8>::new();
     let mut message = MessageBuilder::from_builder(Array::<512>::new(), table)?;
@@ -68,7 +68,7 @@ pub fn query(header: Header, name: &Name<Array<255>>) -> anyhow::Result<Array<51
     Ok(octets)
 }
 
-/// A message with two questions of the same name.
+/// Returns a message with two questions of the same name.
 pub fn two_questions() -> anyhow::Result<Array<512>> {
     let table = StaticCompressor::<8>::new();
     let message = MessageBuilder::from_builder(Array::<512>::new(), table)?;
@@ -80,7 +80,7 @@ pub fn two_questions() -> anyhow::Result<Array<512>> {
     Ok(octets)
 }
 
-/// A message with one answer.
+/// Returns a message with one answer.
 pub fn answer() -> anyhow::Result<Array<512>> {
     let table = StaticCompressor::<8>::new();
     let message = MessageBuilder::from_builder(Array::<512>::new(), table)?;
@@ -92,7 +92,7 @@ pub fn answer() -> anyhow::Result<Array<512>> {
     Ok(octets)
 }
 
-/// The response that refuses a request.
+/// Returns the response that refuses a request.
 pub fn refusal(request: &[u8]) -> anyhow::Result<Array<512>> {
     let request = Message::parse(request)?;
     let table = StaticCompressor::<8>::new();
@@ -102,7 +102,7 @@ pub fn refusal(request: &[u8]) -> anyhow::Result<Array<512>> {
     Ok(octets)
 }
 
-/// A message with as many of these addresses as 64 octets have room for.
+/// Returns a message with as many of these addresses as 64 octets have room for.
 pub fn within_limit(name: &Name<Array<255>>, addresses: &[[u8; 4]]) -> anyhow::Result<Array<512>> {
     let table = StaticCompressor::<8>::new();
     let message = MessageBuilder::from_builder(Array::<512>::new(), table)?;
@@ -119,7 +119,7 @@ pub fn within_limit(name: &Name<Array<255>>, addresses: &[[u8; 4]]) -> anyhow::R
     Ok(octets)
 }
 
-/// A message that says by EDNS that a UDP payload may have 1232 octets.
+/// Returns a message with an OPT record for UDP payloads of at most 1232 octets.
 pub fn with_edns() -> anyhow::Result<Array<512>> {
     let table = StaticCompressor::<8>::new();
     let message = MessageBuilder::from_builder(Array::<512>::new(), table)?;
@@ -135,7 +135,7 @@ pub fn with_edns() -> anyhow::Result<Array<512>> {
     Ok(octets)
 }
 
-/// Two strings as data of type TXT, and as text.
+/// Returns the text of TXT data with two strings.
 pub fn strings_text(alloc: Global) -> anyhow::Result<String> {
     let mut octets = Array::<16>::new();
     append_strings(&mut octets, &[b"mail".as_slice(), b"web"])?; // "\x04mail\x03web"
@@ -144,7 +144,7 @@ pub fn strings_text(alloc: Global) -> anyhow::Result<String> {
     Ok(text)
 }
 
-/// How long the strings are that a text of 300 octets becomes as data of type TXT.
+/// Returns the lengths of the strings of TXT data with a text of 300 octets.
 pub fn string_lens(alloc: Global) -> anyhow::Result<Vec<usize>> {
     let mut octets = Array::<512>::new();
     append_text(&mut octets, &[b'a'; 300])?;

@@ -1,7 +1,7 @@
-//! Octets, parsed.
+//! Parsing octets.
 use octseq::Parser;
 
-/// The number of an account, a parser of its name, and its balance.
+/// Reads the number of an account, a parser of its name, and its balance.
 pub fn account() -> anyhow::Result<(u16, Parser<&'static [u8]>, i32)> {
     let mut parser = Parser::from_static(b"\x12\x34\x03abc\xFE\xFF\xFF\xFF");
     let number = parser.parse_u16_be()?; // 0x1234
@@ -10,7 +10,7 @@ pub fn account() -> anyhow::Result<(u16, Parser<&'static [u8]>, i32)> {
     Ok((number, name, balance))
 }
 
-/// A key, and the value whose position comes before the key.
+/// Reads a key, and the value whose position comes before the key.
 pub fn entry() -> anyhow::Result<(&'static [u8], u16)> {
     let mut parser = Parser::from_static(b"\x03ab\x01\x02");
     let value_pos = parser.parse_u8()?; // 3
@@ -21,7 +21,7 @@ pub fn entry() -> anyhow::Result<(&'static [u8], u16)> {
     Ok((key, value))
 }
 
-/// The first two numbers of a record, and the octet after all of the record.
+/// Reads the first two numbers of a record, and the octet after the record.
 pub fn record() -> anyhow::Result<(u16, u16, u8)> {
     let mut parser = Parser::from_static(b"\x06\x00\x01\x00\x02zz\x09");
     let len = parser.parse_u8()?; // 6

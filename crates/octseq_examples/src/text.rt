@@ -5,7 +5,7 @@ use octseq::{Array, StrBuilder};
 use std::alloc::Global;
 use std::fmt::Write;
 
-/// The text of octets, with a question mark for each part that isn't UTF-8.
+/// Returns the text of octets, with a question mark for each part that isn't UTF-8.
 pub fn marked(alloc: Global, octets: &[u8]) -> anyhow::Result<String> {
     let mut text = String::new(alloc);
     for chunk in chunks(octets) {
@@ -17,7 +17,7 @@ pub fn marked(alloc: Global, octets: &[u8]) -> anyhow::Result<String> {
     Ok(text)
 }
 
-/// The first fault of octets that come in two pieces.
+/// Returns the first fault of octets that come in two pieces.
 pub fn first_fault() -> Option<Utf8Fault> {
     let mut search = FaultPieces::new();
     search.feed(b"caf\xC3"); // ends with the first octet of "é"
@@ -25,14 +25,14 @@ pub fn first_fault() -> Option<Utf8Fault> {
     search.finish() // a fault at index 6
 }
 
-/// How many octets an address has when it is printed.
+/// Returns the number of octets of an address when it is printed.
 pub fn printed_len(host: &str, port: u16) -> anyhow::Result<usize> {
     let mut counter = Counter { count: 0 };
     write!(counter, "{host}:{port}")?;
     Ok(counter.count)
 }
 
-/// A text that grows.
+/// Returns a text that grows.
 pub fn coffee(alloc: Global) -> anyhow::Result<StrBuilder<Vec<u8>>> {
     let mut text = StrBuilder::<Vec<u8>>::new(alloc)?;
     text.push_str("caf")?;
@@ -40,7 +40,7 @@ pub fn coffee(alloc: Global) -> anyhow::Result<StrBuilder<Vec<u8>>> {
     Ok(text)
 }
 
-/// A text that begins with octets, which are UTF-8.
+/// Returns a text that begins with octets, which are UTF-8.
 pub fn priced(alloc: Global) -> anyhow::Result<StrBuilder<Vec<u8>>> {
     let octets = b"caf\xC3\xA9".to_vec(alloc)?;
     let mut text = StrBuilder::from_utf8(octets)?;
@@ -48,7 +48,7 @@ pub fn priced(alloc: Global) -> anyhow::Result<StrBuilder<Vec<u8>>> {
     Ok(text)
 }
 
-/// A text of at most four octets.
+/// Returns a text of at most four octets.
 pub fn short(alloc: Global) -> anyhow::Result<StrBuilder<Array<4>>> {
     let mut text = StrBuilder::<Array<4>>::new(alloc)?;
     text.try_push_str("abc")?;
@@ -58,7 +58,7 @@ pub fn short(alloc: Global) -> anyhow::Result<StrBuilder<Array<4>>> {
     Ok(text)
 }
 
-/// A text of octets that are UTF-8 only in part.
+/// Returns a text of octets that are UTF-8 only in part.
 pub fn repaired(alloc: Global) -> anyhow::Result<StrBuilder<Vec<u8>>> {
     let octets = b"caf\xE9".to_vec(alloc)?; // "café" in Latin-1
     let mut text = StrBuilder::try_from_utf8_lossy(alloc, octets)?;
@@ -66,7 +66,7 @@ pub fn repaired(alloc: Global) -> anyhow::Result<StrBuilder<Vec<u8>>> {
     Ok(text)
 }
 
-/// A text of octets that come in two pieces.
+/// Returns a text of octets that come in two pieces.
 pub fn price_in_pieces(alloc: Global) -> anyhow::Result<StrBuilder<Vec<u8>>> {
     let mut pieces = LossyPieces::<Vec<u8>>::new(alloc)?;
     pieces.feed(b"5 \xE2\x82")?; // ends with two of the three octets of "€"
@@ -75,7 +75,7 @@ pub fn price_in_pieces(alloc: Global) -> anyhow::Result<StrBuilder<Vec<u8>>> {
     Ok(text)
 }
 
-/// The text of octets that come in pieces, in at most 16 octets.
+/// Returns the text of octets that come in pieces, in at most 16 octets.
 pub fn received_text(alloc: Global, received: &[&[u8]]) -> anyhow::Result<StrBuilder<Array<16>>> {
     let mut pieces = LossyPieces::new(alloc)?;
     for piece in received {

@@ -1,8 +1,8 @@
-//! A DNS message, read.
+//! Reading a DNS message.
 use octseq_dns::{Data, Message, Rtype};
 use std::alloc::Global;
 
-/// The IPv4 addresses of the name that was asked for, or of the name that it is an alias of.
+/// Returns the IPv4 addresses of the name that was asked for, or of the name that it is an alias of.
 pub fn addresses(alloc: Global, octets: &[u8]) -> anyhow::Result<Vec<[u8; 4]>> {
     let mut addresses = Vec::new(alloc);
     let answer = Message::parse(octets)?;

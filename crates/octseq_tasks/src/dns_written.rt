@@ -1,10 +1,10 @@
-//! A DNS message, written.
+//! Writing a DNS message.
 use octseq::Array;
 use octseq_dns::{
     Class, Flags, Header, MessageBuilder, Name, Opcode, Rcode, Rtype, StaticCompressor,
 };
 
-/// A query for the addresses of a name, in a buffer of 512 octets. Names are compressed by a table of eight places.
+/// Returns a query for the addresses of a name, in a buffer of 512 octets. A table of eight targets compresses names.
 pub fn query(id: u16, name: &str) -> anyhow::Result<Array<512>> {
     let name = Name::from_text(name)?;
     let table = StaticCompressor::<8>::new();

@@ -1,9 +1,9 @@
-//! A format, read and written.
+//! Reading and writing a format.
 use octseq::Array;
 use octseq_format::{Counted, Format, Text, U16Be};
 use std::alloc::Global;
 
-/// A number in two octets, followed by a text after its length in one octet.
+/// A number in two octets, followed by a text that is preceded by its length in one octet.
 type Packet = (U16Be, Counted<u8, Text, 0>);
 
 /// Reads a packet, and writes one with the next number and the same text.

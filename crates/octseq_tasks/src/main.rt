@@ -1,4 +1,4 @@
-//! Six tasks, a caller of a few lines each. `docs/CALLING.md` shows them, and what they print.
+//! Six tasks, a few lines each. `docs/CALLING.md` shows them, and what they print.
 #![tactic(auto)]
 
 mod bgp_read;

@@ -2,7 +2,7 @@
 use octseq::{Str, StrBuilder};
 use std::alloc::Global;
 
-/// The octets as text, in quotes. What isn't UTF-8 is replaced by U+FFFD.
+/// Returns the octets as text, in quotes. U+FFFD replaces what isn't UTF-8.
 pub fn shown(alloc: Global, octets: &[u8]) -> anyhow::Result<StrBuilder<Vec<u8>>> {
     let mut shown = StrBuilder::new(alloc)?;
     shown.push('"')?;

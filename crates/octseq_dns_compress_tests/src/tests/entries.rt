@@ -1,4 +1,4 @@
-//! Entries that are taken back, data after the number of its octets, and headers.
+//! Entries that are removed, data after its length, and headers.
 use crate::tests::name_of;
 use octseq::Turns;
 use octseq_asserts::assert_equal;

@@ -1,4 +1,4 @@
-//! The last place that a pointer can say is 16,383: RFC 1035, 4.1.4.
+//! The last offset that a pointer can express is 16,383: RFC 1035, 4.1.4.
 use crate::tests::name_of;
 use octseq::{AsOctets, Turns};
 use octseq_asserts::assert_equal;
@@ -7,7 +7,7 @@ use std::alloc::AllocGlobal;
 use std::process::Abort;
 use std::test::Fail;
 
-/// Writes a name at a place, and again after it: what is there from the second one on.
+/// Writes `a` at an offset, followed by `b.a`, and checks what is there from the second name on.
 fn twice(rt: &(impl AllocGlobal + Abort), place: usize, wanted: &[u8]) -> Result<(), Fail> {
     let mut turns = Turns::new();
     let octets = Vec::<u8>::new(rt.alloc());

@@ -1,4 +1,5 @@
-//! The example of RFC 1035, 4.1.4: F.ISI.ARPA at place 20, FOO.F.ISI.ARPA at 40, ARPA at 64 and the root at 92.
+//! The names of the example of RFC 1035, 4.1.4, the first two at its offsets: F.ISI.ARPA at 20 and FOO.F.ISI.ARPA at
+//! 40. ARPA and the root come right after them.
 use crate::tests::name_of;
 use arrayvec::ArrayVec;
 use octseq::{AppendError, Array, AsOctets, OctetsBuilder, Truncate, Turns};
@@ -15,7 +16,7 @@ const LAST: &[u8] = b"\x04ARPA\x00";
 
 const ROOT: &[u8] = b"\x00";
 
-/// Writes the four names, with zeros up to their places: what is there from place 40 on.
+/// Writes the four names, and checks what is there from offset 40 on.
 fn compose<B: OctetsBuilder + Truncate, T: Compressor>(
     rt: &impl Abort,
     octets: B,

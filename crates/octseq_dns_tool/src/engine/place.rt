@@ -1,4 +1,4 @@
-//! The place where reading stops in octets that are no message.
+//! The place where reading stops in octets that aren't a message.
 ghost use Rattle.std.specs.Prelude.{◌≡◌, ℕ, IsTrue, IsFalse};
 ghost use Rattle.octseq.specs.Parser.{window};
 ghost use Rattle.octseq_dns_tool.specs.Stop.{IsStop, QuestionsStop, RecordsStop};
@@ -7,8 +7,9 @@ use octseq::Parser;
 use octseq_dns::message::MESSAGE_MAX;
 use octseq_dns::{Header, Question, Record};
 
-/// The place of the first thing that isn't there: the header, or a question or a record that it counts; else of what
-/// follows the last of them, or the most octets that a message may have.
+/// Returns the place of the first part that isn't there: the header, or a question or a record that it counts. If all
+/// are there, it is the place after the last of them. Of more octets than a message may have, it is the place after
+/// those.
 pub(super) fn place_of_fault(octets: &[u8]) -> usize
     ensures { IsStop octets.now result }
 {
@@ -26,7 +27,7 @@ pub(super) fn place_of_fault(octets: &[u8]) -> usize
     parser.pos()
 }
 
-/// Passes so many questions, up to the first that isn't one, and answers whether all were passed.
+/// Skips `count` questions, up to the first that isn't one. Returns whether all were skipped.
 fn pass_questions(parser: &mut Parser<&[u8]>, count: u16) -> bool
     ensures passed { IsTrue result → (records place : ℕ) → RecordsStop records (window parser.new) place
         → QuestionsStop count records (window parser.old) place }
@@ -43,7 +44,7 @@ fn pass_questions(parser: &mut Parser<&[u8]>, count: u16) -> bool
     true
 }
 
-/// Passes so many records, up to the first that isn't one.
+/// Skips `count` records, up to the first that isn't one.
 fn pass_records(parser: &mut Parser<&[u8]>, count: u32)
     ensures { RecordsStop count (window parser.old) (window parser.new).position }
 {

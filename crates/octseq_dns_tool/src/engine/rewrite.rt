@@ -1,4 +1,4 @@
-//! Messages written anew.
+//! Rewriting messages.
 ghost use Rattle.std.specs.Prelude.{IfOk};
 ghost use Rattle.octseq_dns.specs.Parsed.{header_of, questions_of, answers_of, authorities_of, additionals_of};
 ghost use Rattle.octseq_dns_tool.specs.Rewritten.{IsRewriting};
@@ -7,7 +7,7 @@ use octseq_dns::{Message, RewriteError, Target, rewrite};
 use std::alloc::{AllocError, Global};
 use std::mem;
 
-/// What writes one message after another: the octets of the last one, and a table that serves for each.
+/// Rewrites one message after another. It holds the octets of the last one, and a table that is used for each.
 #[derive(Drop)]
 pub(super) struct Writer {
     pub(super) octets: Vec<u8>,
@@ -15,7 +15,7 @@ pub(super) struct Writer {
 }
 
 impl Writer {
-    /// A writer that has no room yet.
+    /// Returns a writer that holds no memory yet.
     pub(super) fn new(alloc: Global) -> Writer {
         Writer {
             octets: Vec::new(alloc),
@@ -23,7 +23,7 @@ impl Writer {
         }
     }
 
-    /// Writes a message anew, with its names compressed, in place of the last one. Answers whether it is written.
+    /// Rewrites a message with its names compressed, in place of the last one. Returns whether it was written.
     pub(super) fn rewrite(
         &mut self,
         alloc: Global,

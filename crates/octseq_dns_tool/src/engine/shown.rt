@@ -1,4 +1,4 @@
-//! What is shown of a message, and what is told of it.
+//! What is shown of a message, and the note about it.
 ghost use Rattle.std.specs.Prelude.{◌≡◌, ◌++◌, ℕ, List, Bool, IfOk, ⊤};
 ghost use Rattle.octseq_dns_tool.specs.Shown.{IsMessagePiece, IsNote, IsShown};
 
@@ -8,9 +8,9 @@ use octseq_dns::message::{self, Message};
 use octseq_program::{FrameCommand, Piece, stop_line};
 use std::alloc::{AllocError, Global};
 
-/// One thing is shown and told of octets.
+/// Octets make one output and one note.
 ///
-/// It does nothing. A caller that calls it has the law in its proof.
+/// It does nothing. Calling it brings the law into the caller's proof.
 pub(super) fn one_message_piece()
     ensures shown { (octets x y : List ℕ) (b c : Bool) → IsShown octets b x → IsShown octets c y
         → (x ≡ y) × (b ≡ c) }
@@ -21,13 +21,13 @@ pub(super) fn one_message_piece()
     message::one_text_of_a_message();
 }
 
-/// Appends the text of a message, or `malformed` where the octets are none, and answers whether they are one.
+/// Appends the text of a message, or `malformed` if the octets aren't one. Returns whether they are.
 pub(super) fn push_shown(text: &mut StrBuilder<Vec<u8>>, octets: &[u8]) -> Result<bool, AllocError>
     ensures { IfOk result (λ is_message. (shown : List ℕ) × IsShown octets.now is_message shown
         × (text.new.items ≡ text.old.items ++ shown)) }
 {
     match Message::parse(octets) {
-        // (a vector has no limit, so all that it refuses is for want of memory)
+        // (a vector has no limit, so it refuses only for lack of memory)
         Ok(message) => match message.append_text(text) {
             Ok(()) => Ok(true),
             Err(_) => Err(AllocError),
@@ -39,7 +39,7 @@ pub(super) fn push_shown(text: &mut StrBuilder<Vec<u8>>, octets: &[u8]) -> Resul
     }
 }
 
-/// What is told of a message on standard error: nothing, or the line with its number and the place where reading
+/// Returns the note about a message on standard error: nothing, or the line with its number and the place where reading
 /// stopped.
 pub(super) fn note_on(
     alloc: Global,

@@ -1,4 +1,4 @@
-//! Streams of messages, each after its length in 2 octets.
+//! Streams of messages, each preceded by its length in two octets.
 ghost use Rattle.std.specs.Prelude.{◌≡◌, ℕ, List, [], Bool, false, IfOk};
 ghost use Rattle.octseq.specs.Part.{part_of};
 ghost use Rattle.octseq_dns.specs.Frames.{FitsStream};
@@ -17,9 +17,9 @@ use octseq_program::{Ending, FrameCommand, Next, Piece, ProgramFault, StreamComm
 use std::alloc::{AllocError, Global};
 use std::io::Read;
 
-/// One thing is made of a message and of a rest.
+/// A message makes one piece, and so does a rest.
 ///
-/// It does nothing. A caller that calls it has the law in its proof.
+/// It does nothing. Calling it brings the law into the caller's proof.
 pub(super) fn one_stream_piece()
     ensures piece { (c : Messages) (number : ℕ) (octets x y e f : List ℕ) (a b : Bool)
         → IsPiece c number octets a x e → IsPiece c number octets b y f → (a ≡ b) × (x ≡ y) × (e ≡ f) }
@@ -31,16 +31,16 @@ pub(super) fn one_stream_piece()
     laws::one_message_of();
 }
 
-/// The messages of a stream: shown, or written anew.
+/// How the messages of a stream are processed: shown, or rewritten.
 #[derive(Clone, Copy)]
 pub(super) enum Messages {
-    /// The text of each.
+    /// The text of each message.
     Shown,
-    /// Each with its names compressed, after its length.
+    /// Each message with its names compressed, preceded by its length.
     Rewritten,
 }
 
-/// What is shown of a message, and an empty line.
+/// Returns the text of a message, and an empty line.
 fn shown_piece(alloc: Global, number: u64, octets: &[u8]) -> Result<Piece, AllocError>
     ensures { IfOk result (λ piece.
         IsPiece messages.Shown number octets.now piece.is_fine piece.output.items piece.note.items) }
@@ -56,7 +56,7 @@ fn shown_piece(alloc: Global, number: u64, octets: &[u8]) -> Result<Piece, Alloc
     })
 }
 
-/// A message written anew after its length, or nothing where it is left out.
+/// Returns a rewritten message, preceded by its length, or nothing if it is left out.
 fn moved_piece(
     alloc: Global,
     writer: &mut Writer,
@@ -74,7 +74,7 @@ fn moved_piece(
         return Ok(left_out(alloc, Vec::new(alloc)));
     }
     let mut output = Vec::new(alloc);
-    // (a vector has no limit, and the octets are at most 65,535: all that is refused is for want of memory)
+    // (a vector has no limit, and there are at most 65,535 octets, so it refuses only for lack of memory)
     match append_part_u16_be(&mut output, writer.octets.as_slice()) {
         Ok(()) => Ok(Piece {
             output,
@@ -85,7 +85,7 @@ fn moved_piece(
     }
 }
 
-/// A message that is left out, of which this is told.
+/// Returns nothing for a message that is left out, with this note.
 fn left_out(alloc: Global, note: Vec<u8>) -> Piece
     ensures output { result.output.items ≡ [] }
     ensures note { result.note.items ≡ note.items }

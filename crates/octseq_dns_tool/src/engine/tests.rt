@@ -7,14 +7,14 @@ use std::io::{self, Read, Write};
 use std::process::Abort;
 use std::test::Fail;
 
-/// Ends the test where two values differ. A call is proved in a tenth of the time of an `assert_eq!`.
+/// Ends the test if two values differ. A call is proved in a tenth of the time of an `assert_eq!`.
 macro_rules! assert_equal {
     ($rt:expr, $left:expr, $right:expr $(,)?) => {
         crate::engine::tests::equal($rt, stringify!($left), $left, $right)
     };
 }
 
-/// Ends the test where this doesn't hold.
+/// Ends the test if the condition is false.
 macro_rules! assert_true {
     ($rt:expr, $holds:expr $(,)?) => {
         crate::engine::tests::equal($rt, stringify!($holds), $holds, true)
@@ -29,7 +29,7 @@ mod hostile;
 mod refused;
 mod rewritten;
 
-/// The reply to a question of `example.com.`, whose answer's name is a pointer to that of the question.
+/// The reply to a question about `example.com.`. The owner name of its answer is a pointer to the name of the question.
 const REPLY: [u8; 45] = [
     0x12, 0x34, 0x85, 0x80, 0, 1, 0, 1, 0, 0, 0, 0, 7, 0x65, 0x78, 0x61, 0x6D, 0x70, 0x6C, 0x65, 3,
     0x63, 0x6F, 0x6D, 0, 0, 1, 0, 1, 0xC0, 0x0C, 0, 1, 0, 1, 0, 0, 1, 0x2C, 0, 4, 1, 2, 3, 4,
@@ -43,7 +43,7 @@ const REPLY_TEXT: &str = "id 4660 opcode 0 rcode 0 flags QR AA RD RA\n\
 /// The text of a header of zeros.
 const BLANK_TEXT: &str = "id 0 opcode 0 rcode 0 flags\n";
 
-/// Runs the program over a reader and a writer. What is told on standard error is dropped.
+/// Runs the program over a reader and a writer. Its notes on standard error are dropped.
 fn engine<R: Read, W: Write>(
     alloc: Global,
     word: &str,
@@ -53,7 +53,7 @@ fn engine<R: Read, W: Write>(
     octseq_program::engine::engine::<Command, _, _, _>(alloc, word, reader, writer, &mut io::sink())
 }
 
-/// What a command answers and writes for octets that come one a read.
+/// Returns what a command returns and writes for octets that come one at a time.
 fn ran(alloc: Global, word: &str, octets: &[u8]) -> (Result<Status, ProgramFault>, Vec<u8>) {
     let mut reader = Drip {
         rest: octets,
@@ -90,7 +90,8 @@ fn message_is_shown(rt: HostRuntime) {
     }
 }
 
-/// What a word writes for octets, on standard output and on standard error, with so many reads.
+/// Returns what a word writes for octets, on standard output and on standard error, if reads fail after the first
+/// `reads`.
 fn told(
     alloc: Global,
     word: &str,
@@ -149,8 +150,7 @@ fn another_word_is_told_on_standard_error(rt: HostRuntime) {
 #[test]
 fn malformed_messages_are_told_by_number_and_place(rt: HostRuntime) -> Result<(), Fail> {
     let alloc = rt.alloc();
-    // (a header that isn't there, a message, one with a question too few, one with an octet too many, and an answer
-    // that isn't one after a question)
+    // (part of a header, a message, a question that is missing, an extra octet, and part of an answer after a question)
     let stream = joined(
         alloc,
         &[
@@ -190,7 +190,7 @@ fn a_live_source_shows_at_once(rt: HostRuntime) -> Result<(), Fail> {
     let alloc = rt.alloc();
     let first = joined(alloc, &[&[0, 12], &[0; 12]])?;
     let stream = joined(alloc, &[first.as_slice(), &[0, 45], &REPLY])?;
-    // (two reads give the first message, and the third fails)
+    // (two reads yield the first message, and the third one fails)
     for (command, output) in [
         ("stream", "id 0 opcode 0 rcode 0 flags\n\n".as_bytes()),
         ("rewrite", first.as_slice()),
@@ -245,8 +245,7 @@ fn stream_of_no_messages_shows_nothing(rt: HostRuntime) {
 #[test]
 fn stream_tells_that_it_is_cut_off(rt: HostRuntime) -> Result<(), Fail> {
     let alloc = rt.alloc();
-    // (a length of which one octet is there, one that says more octets than are, and one that would be 12 if its
-    // octets stood the other way round)
+    // (part of a length, lengths of more octets than there are, and one that would be 12 with its octets swapped)
     let rests = [
         [0].as_slice(),
         &[0, 1],

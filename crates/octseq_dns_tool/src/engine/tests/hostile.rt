@@ -7,7 +7,7 @@ use std::io::ErrorKind;
 use std::process::Abort;
 use std::test::Fail;
 
-/// A message of zeros after its length.
+/// A message of zeros, preceded by its length.
 const BLANK: [u8; 14] = [0, 12, 0, 0, 0, 0, 0, 0, 0, 0, 0, 0, 0, 0];
 
 /// What each command writes for `BLANK`.
@@ -17,7 +17,7 @@ const OUTPUTS: [(&str, Status, &str); 3] = [
     ("rewrite", Status::Fine, "\0\x0C\0\0\0\0\0\0\0\0\0\0\0\0"),
 ];
 
-/// How often the command's reading fails, where the reader fails after no read, after one, and so on.
+/// Runs a command over readers that fail after no read, after one, and so on. Returns after how many reads it succeeds.
 fn failed_reads(
     rt: &impl Abort,
     alloc: Global,
@@ -38,7 +38,7 @@ fn failed_reads(
             return reads;
         }
         assert_equal!(rt, answer, Err(ProgramFault::Read));
-        // (all of a message is written once it was read, and nothing before that)
+        // (the whole message is written after it was read, and nothing before that)
         assert_true!(
             rt,
             written.is_empty() || written.as_slice() == output.as_bytes()
@@ -131,8 +131,8 @@ fn output_is_the_same_however_octets_are_read(rt: HostRuntime) -> Result<(), Fai
     Ok(())
 }
 
-/// A message of so many octets: a header of zeros that counts one answer, which is of the root, of type 10 and class 1,
-/// and whose data has the rest of the octets, zeros too.
+/// Makes a message of `size` octets: a header of zeros that counts one answer, which is of the root, of type 10 and
+/// class 1, and whose data is the rest of the octets, zeros too.
 fn message_of(alloc: Global, size: usize) -> Result<Vec<u8>, Fail> {
     let head = [
         0, 0, 0, 0, 0, 0, 0, 1, 0, 0, 0, 0, 0, 0, 10, 0, 1, 0, 0, 0, 0,

@@ -1,7 +1,7 @@
 //! Refused requests for memory.
 //!
-//! `.ci/refused` runs these tests with their n-th request refused, for each n up to the last of them. A refusal
-//! ends a test by the error that it was answered with, once the test has seen that a front of the output was written.
+//! `.ci/refused` runs these tests with their n-th request refused, for each n up to the last of them. A refusal ends a
+//! test with its error, once the test has checked that a front of the output was written.
 use super::{REPLY, REPLY_TEXT, engine};
 use crate::engine::Command;
 use octseq::array::Array;
@@ -12,7 +12,7 @@ use std::io;
 use std::process::Abort;
 use std::test::Fail;
 
-/// Runs a command, which writes its whole output, or a front of it where memory is refused.
+/// Runs a command, which writes its whole output, or a front of it if memory is refused.
 fn is_told(
     rt: &impl Abort,
     alloc: Global,

@@ -1,23 +1,23 @@
-//! Messages of streams, written anew.
+//! Rewriting streams of messages.
 use super::{REPLY, joined, ran};
 use octseq_program::Status;
 use std::alloc::Global;
 use std::process::Abort;
 use std::test::Fail;
 
-/// A header that counts so many answers.
+/// Returns a header that counts this many answers.
 fn header_of(answers: u8) -> [u8; 12] {
     [0, 0, 0, 0, 0, 0, 0, answers, 0, 0, 0, 0]
 }
 
-/// A message with one answer, which is of the root, of a type, a class and data.
+/// Makes a message with one answer, of the root, with this type, class and data.
 fn message_of(alloc: Global, rtype: u8, class: u8, rdata: &[u8]) -> Result<Vec<u8>, Fail> {
     let len = u8::try_from(rdata.len()).unwrap_or(0);
     let fields = [0, 0, rtype, 0, class, 0, 0, 0, 0, 0, len];
     joined(alloc, &[&header_of(1), &fields, rdata])
 }
 
-/// Messages, each after its length.
+/// Makes a stream of messages, each preceded by its length.
 fn stream_of(alloc: Global, messages: &[&[u8]]) -> Result<Vec<u8>, Fail> {
     let mut stream = Vec::new(alloc);
     for message in messages {
@@ -28,7 +28,7 @@ fn stream_of(alloc: Global, messages: &[&[u8]]) -> Result<Vec<u8>, Fail> {
     Ok(stream)
 }
 
-/// Asserts what is written of messages: others, and the status.
+/// Checks that messages are rewritten as others, and the status.
 fn is_rewritten(
     rt: &impl Abort,
     alloc: Global,
@@ -47,7 +47,7 @@ fn is_rewritten(
 #[test]
 fn names_are_compressed(rt: HostRuntime) -> Result<(), Fail> {
     let alloc = rt.alloc();
-    // (the reply, with the name of its answer written out)
+    // (the reply, with the name of its answer uncompressed)
     let plain = joined(alloc, &[&REPLY[..29], &REPLY[12..25], &REPLY[31..]])?;
     let messages = [plain.as_slice(), &REPLY, &[0; 12]];
     is_rewritten(
@@ -68,7 +68,7 @@ fn what_is_malformed_is_left_out(rt: HostRuntime) -> Result<(), Fail> {
 #[test]
 fn data_that_may_have_pointers_is_left_out(rt: HostRuntime) -> Result<(), Fail> {
     let alloc = rt.alloc();
-    // (types whose data has names, with data that isn't of their form)
+    // (types whose data has names, with data that doesn't have their form)
     for (rtype, class) in [
         (2, 1),
         (5, 3),
@@ -89,7 +89,7 @@ fn data_that_may_have_pointers_is_left_out(rt: HostRuntime) -> Result<(), Fail> 
 #[test]
 fn other_data_is_kept(rt: HostRuntime) -> Result<(), Fail> {
     let alloc = rt.alloc();
-    // (types without names, a service of another class, and data of no octets)
+    // (types without names, SRV data of another class, and empty data)
     for (rtype, class, rdata) in [
         (1, 1, [1, 0x61].as_slice()),
         (10, 1, &[1, 0x61]),
@@ -105,8 +105,8 @@ fn other_data_is_kept(rt: HostRuntime) -> Result<(), Fail> {
     Ok(())
 }
 
-/// A message of 65,535 octets with two answers: the first is of the root, and a name stands in its data; the name of
-/// the second is a pointer to that.
+/// Makes a message of 65,535 octets with two answers: the first is of the root, and its data begins with a name; the
+/// owner name of the second is a pointer to this name.
 fn longest(alloc: Global, name: &[u8]) -> Result<Vec<u8>, Fail> {
     let first = [0, 0, 10, 0, 1, 0, 0, 0, 0, 0xFF, 0xDC];
     let second = [0xC0, 23, 0, 10, 0, 1, 0, 0, 0, 0, 0, 0];
@@ -130,7 +130,7 @@ fn what_would_pass_65535_octets_is_left_out(rt: HostRuntime) -> Result<(), Fail>
     Ok(())
 }
 
-/// Asserts that of the reply and a rest that is cut off the reply is written.
+/// Checks that only the reply is written of a stream of the reply and this rest, which is cut off.
 fn is_cut(rt: &impl Abort, alloc: Global, rest: &[u8]) -> Result<(), Fail> {
     let whole = stream_of(alloc, &[&REPLY])?;
     let stream = joined(alloc, &[whole.as_slice(), rest])?;

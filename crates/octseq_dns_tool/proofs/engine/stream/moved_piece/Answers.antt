@@ -3,7 +3,7 @@ use Rattle.octseq_dns_tool.specs.Shown.{IsMalformed, IsNote}
 use Rattle.octseq_dns_tool.specs.Taken.{IsMoved}
 use Rattle.octseq_dns_tool.proofs.engine.stream.moved_piece.Goals as goal
 
--- octets that are no message are left out
+-- octets that aren't a message are left out
 left_malformed : (number : ℕ) (octets : List ℕ) (b : Bool) (written line note : List ℕ) → b ≡ false → written ≡ []
     → line ≡ note → IsMalformed octets → IsNote number octets false note → IsMoved number octets b written line
 left_malformed number octets b written line note e f h bad is =
