@@ -114,7 +114,7 @@ take_headed octets header start late =
     ∙ ap (λ m. header ++ drop n (take m octets)) (sym both)
     ∙ ap (λ m. header ++ drop m (take start octets)) (sym zero)
 
--- every label is after the header,
+-- every label is after the header
 pub header_clear : (octets put : List ℕ) (targets : List Target) → length put ≡ 12 → Known octets targets → (i : ℕ)
     (d : Target) → i < length targets → IsClear octets 0 (0 + length put) (slice_index_or targets i d).at
 header_clear octets put targets twelve known i d within =

@@ -1,4 +1,4 @@
-//! The octets of a name: RFC 1035, 4.1.4.
+//! Writing the octets of a name: RFC 1035, 4.1.4.
 ghost use Rattle.std.specs.Prelude.{◌≡◌, ◌≤◌, ◌+◌, ◌++◌, List, ℕ, length, take, true, OnOk, OnErr};
 ghost use Rattle.octseq.specs.Appends.{Appends};
 ghost use Rattle.octseq.specs.Limit.{IsWithin};
