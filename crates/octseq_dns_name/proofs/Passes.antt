@@ -10,7 +10,7 @@ use Rattle.octseq_dns_name.specs.Name.{HasRoot, HasLabel, HasPointer, IsName, oc
 use Rattle.octseq_dns_name.specs.NameFormat.{be_one}
 use Rattle.octseq_dns_name.specs.NameTurns.{name_turns}
 use Rattle.octseq_dns_name.specs.OneName.{one_standing}
-use Rattle.octseq_dns_name.specs.Pass.{window_at, NoName, NoRest, LeadsTo, Reading, PassesLabels, Rests, Ends}
+use Rattle.octseq_dns_name.specs.Pass.{window_at, place_in, NoName, NoRest, LeadsTo, Reading, PassesLabels, Rests, Ends}
 use Rattle.octseq_dns_name.specs.Piece.{Piece, HasPiece, end_of}
 use Rattle.octseq_dns_name.proofs.Names.{begun, no_piece, leads_past_pointer, leads_to_root, with_label}
 use Rattle.octseq_dns_name.proofs.Names.{with_pointer, wire_append, wire_some}
@@ -81,10 +81,6 @@ module _ (octets : List ℕ) (place end size : ℕ) (within : end ≤ length oct
     none_pointed start long none (Piece.label l) v has = let short = has.short in let said = size_at in
         omega (arith, short, said, long)
     none_pointed start long none (Piece.pointer to) v has = none to v has
-
--- what a pointer says
-abbrev pub place_in : List ℕ → ℕ → ℕ
-place_in octets place = (get_or octets place 0 - 192) * 256 + get_or octets (place + 1) 0
 
 module _ (octets : List ℕ) (place end start : ℕ) (within : end ≤ length octets) (room : place < end)
   where

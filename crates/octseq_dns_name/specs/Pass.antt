@@ -1,5 +1,5 @@
 -- What was passed of a name: the labels and pointers that were read, and what follows them.
-use Rattle.std.specs.Prelude.{◌≡◌, ℕ, ◌+◌, ◌-◌, ◌<◌, ◌≤◌, List, ◌++◌, length, Option, None}
+use Rattle.std.specs.Prelude.{◌≡◌, ℕ, ◌+◌, ◌-◌, ◌*◌, ◌<◌, ◌≤◌, List, ◌++◌, length, slice_index, Option, None}
 use Rattle.octseq.specs.Window.{Window, at}
 use Rattle.octseq_dns_name.specs.Name.{IsName, Stands, octet, wire_length}
 use Rattle.octseq_dns_name.specs.NameTurns.{name_turns}
@@ -8,6 +8,10 @@ use Rattle.octseq_dns_name.specs.Piece.{end_of}
 -- the window of octets at a place, with an end
 abbrev pub window_at : List ℕ → ℕ → ℕ → Window
 window_at octets place end = record { octets = octets; position = place; end = end }
+
+-- where a pointer leads that is at a place of octets
+abbrev pub place_in : List ℕ → ℕ → ℕ
+place_in octets place = (slice_index octets place - 192) * 256 + slice_index octets (place + 1)
 
 -- no name is at a window's position
 abbrev pub NoName : Window → Type 0

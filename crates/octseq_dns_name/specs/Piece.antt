@@ -4,7 +4,7 @@ use Rattle.octseq.specs.declared.AsOctets.{Ghosts}
 use Rattle.octseq.specs.Parser.{window}
 use Rattle.octseq.specs.Part.{part}
 use Rattle.octseq.specs.declared.parse.Parser.{Parser}
-use Rattle.octseq.specs.Window.{Window, left, rest, at}
+use Rattle.octseq.specs.Window.{Window, left, rest}
 use Rattle.octseq_dns_name.specs.Name.{HasRoot, HasLabel, HasPointer}
 use Rattle.octseq_dns_name.specs.declared.name.step.Step.{Step}
 use Rattle.octseq_dns_name.specs.declared.name.step.Step.TheVariants as step
@@ -45,8 +45,3 @@ IsPlaced w _ = Unit {0}
 abbrev pub end_of : Option Window → Window → Window
 end_of None u = u
 end_of (Some v) u = v
-
--- the window at a place, if one was kept
-abbrev pub kept_at : Window → Option ℕ → Option Window
-kept_at w None = None
-kept_at w (Some place) = Some (at place w)

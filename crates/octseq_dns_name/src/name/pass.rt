@@ -1,8 +1,9 @@
 //! The end of the name at a place: its labels are passed, and then what its first pointer leads to.
-ghost use Rattle.std.specs.Prelude.{◌≡◌, ◌+◌, ◌<◌, ◌≤◌, ℕ, length, IsNone, IfSome};
+ghost use Rattle.std.specs.Prelude.{◌≡◌, ◌+◌, ◌<◌, ◌≤◌, ℕ, length, slice_index};
+ghost use Rattle.std.specs.Prelude.{IsTrue, IsFalse, IsNone, IfSome};
 ghost use Rattle.octseq.specs.Window.{Window};
 ghost use Rattle.octseq_dns_name.specs.Name.{HasPointer};
-ghost use Rattle.octseq_dns_name.specs.Pass.{window_at, NoName, NoRest, PassesLabels, Rests, Ends};
+ghost use Rattle.octseq_dns_name.specs.Pass.{window_at, place_in, NoName, NoRest, PassesLabels, Rests, Ends};
 
 use crate::name::wire::LABEL_MAX;
 use crate::name::{NAME_MAX, POINTER_MAX};
@@ -31,7 +32,10 @@ pub(crate) fn name_end(
     if octets[at] == 0 {
         return Some((at + 1, before));
     }
-    let to = pointer_at(octets, at, end, place)?;
+    if !points_before(octets, at, end, place) {
+        return None;
+    }
+    let to = place_at(octets, at);
     turns.tick();
     let len = pass_rest(octets, to, end, before, turns)?;
     Some((at + 2, len))
@@ -61,27 +65,34 @@ fn pass_labels(octets: &[u8], place: usize, end: usize, turns: &mut Turns) -> Op
     None
 }
 
-/// Returns where the pointer at `at` leads, if there is one that leads before `start`.
+/// Whether a pointer is at a place that leads before `start`.
 #[inline(always)]
-fn pointer_at(octets: &[u8], at: usize, end: usize, start: usize) -> Option<usize>
+fn points_before(octets: &[u8], at: usize, end: usize, start: usize) -> bool
     requires ordered { at < end }
     requires within { end ≤ length octets.now }
-    ensures some { IfSome result (λ to.
-        HasPointer start (window_at octets.now at end) to (window_at octets.now (at + 2) end)) }
-    ensures none { IsNone result → (to : ℕ) (v : Window) → ¬ HasPointer start (window_at octets.now at end) to v }
+    ensures whole { IsTrue result → at + 1 < length octets.now }
+    ensures mark { IsTrue result → 192 ≤ slice_index octets.now at }
+    ensures some { IsTrue result → HasPointer start (window_at octets.now at end) (place_in octets.now at)
+        (window_at octets.now (at + 2) end) }
+    ensures none { IsFalse result → (to : ℕ) (v : Window) → ¬ HasPointer start (window_at octets.now at end) to v }
 {
-    let first = octets[at];
-    if first < 192 {
-        return None;
+    if octets[at] < 192 {
+        return false;
     }
     if end - at < 2 {
-        return None;
+        return false;
     }
-    let to = usize::from(first - 192) * 256 + usize::from(octets[at + 1]);
-    if to >= start {
-        return None;
-    }
-    Some(to)
+    place_at(octets, at) < start
+}
+
+/// Where the pointer at a place leads.
+#[inline(always)]
+fn place_at(octets: &[u8], at: usize) -> usize
+    requires whole { at + 1 < length octets.now }
+    requires mark { 192 ≤ slice_index octets.now at }
+    ensures { result ≡ place_in octets.now at }
+{
+    usize::from(octets[at] - 192) * 256 + usize::from(octets[at + 1])
 }
 
 /// Passes the rest of a name, from where its first pointer leads. Returns the number of octets of the name in wire
@@ -120,7 +131,10 @@ fn pass_rest(
             turns.tick();
             continue;
         }
-        start = pointer_at(octets, at, end, start)?;
+        if !points_before(octets, at, end, start) {
+            return None;
+        }
+        start = place_at(octets, at);
         at = start;
         pointers += 1;
         if pointers > POINTER_MAX {

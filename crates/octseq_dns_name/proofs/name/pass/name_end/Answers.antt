@@ -1,4 +1,5 @@
-use Rattle.std.proofs.Common.{refl}
+use Rattle.std.proofs.Common.{◌+◌, ◌-◌, refl, subst}
+use Rattle.octseq_dns_name.specs.Pass.{place_in, window_at, NoRest, Rests}
 use Rattle.octseq_dns_name.proofs.Passes.{ends_plain, no_pointer, ends_pointed, no_end}
 use Rattle.octseq_dns_name.proofs.name.pass.name_end.Goals as goal
 
@@ -10,20 +11,28 @@ returns-then-octets-at-eq0-clause-some c =
     ends_plain c.args.octets.now c.args.place c.args.end c.in_ok-at.at c.args.turns.now c.tick.new.self
     c.pass_labels.new.turns c.requires.within c.in_ok-at.ensures.some c.tick.ensures c.if-octets-at-eq0.true
 
-pub returns-in_err-to-clause-none : goal.returns-in_err-to-clause-none
-returns-in_err-to-clause-none c = λ _.
+pub returns-then-not-points_before-clause-none : goal.returns-then-not-points_before-clause-none
+returns-then-not-points_before-clause-none c = λ _.
     no_pointer c.args.octets.now c.args.place c.args.end c.in_ok-at.at c.args.turns.now c.tick.new.self
     c.pass_labels.new.turns c.requires.within c.in_ok-at.ensures.some c.tick.ensures c.if-octets-at-eq0.false
-    (c.in_err-to.ensures.none refl)
+    (c.points_before.ensures.none c.if-not-points_before.true)
 
 pub returns-in_err-len-clause-none : goal.returns-in_err-len-clause-none
 returns-in_err-len-clause-none c = λ _.
-    no_end c.args.octets.now c.args.place c.args.end c.in_ok-at.at c.args.turns.now c.tick.new.self
-    c.pass_labels.new.turns c.requires.within c.in_ok-at.ensures.some c.tick.ensures c.in_ok-to.to c.tick-2.new.self
-    c.tick-2.ensures c.in_ok-to.ensures.some (c.in_err-len.ensures.none refl)
+    let octets = c.args.octets.now in
+    let at = c.in_ok-at.at in
+    let rest = subst (λ to. NoRest (window_at octets to c.args.end) (at - c.args.place + 1)) c.place_at-to.ensures
+    (c.in_err-len.ensures.none refl) in
+    no_end octets c.args.place c.args.end at c.args.turns.now c.tick.new.self c.pass_labels.new.turns c.requires.within
+    c.in_ok-at.ensures.some c.tick.ensures (place_in octets at) c.tick-2.new.self c.tick-2.ensures
+    (c.points_before.ensures.some c.if-not-points_before.false) rest
 
 pub returns-clause-some : goal.returns-clause-some
 returns-clause-some c =
-    ends_pointed c.args.octets.now c.args.place c.args.end c.in_ok-at.at c.args.turns.now c.tick.new.self
-    c.pass_labels.new.turns c.requires.within c.in_ok-at.ensures.some c.tick.ensures c.in_ok-to.to c.tick-2.new.self
-    c.tick-2.ensures c.in_ok-to.ensures.some c.in_ok-len.len c.pass_rest.new.turns c.in_ok-len.ensures.some
+    let octets = c.args.octets.now in
+    let at = c.in_ok-at.at in
+    let rest = subst (λ to. Rests (window_at octets to c.args.end) (at - c.args.place + 1) c.in_ok-len.len
+    c.tick-2.new.self c.pass_rest.new.turns) c.place_at-to.ensures c.in_ok-len.ensures.some in
+    ends_pointed octets c.args.place c.args.end at c.args.turns.now c.tick.new.self c.pass_labels.new.turns
+    c.requires.within c.in_ok-at.ensures.some c.tick.ensures (place_in octets at) c.tick-2.new.self c.tick-2.ensures
+    (c.points_before.ensures.some c.if-not-points_before.false) c.in_ok-len.len c.pass_rest.new.turns rest

@@ -1,3 +1,6 @@
+use Rattle.std.proofs.Common.{sym, subst}
+use Rattle.octseq_dns_name.specs.Name.{HasPointer}
+use Rattle.octseq_dns_name.specs.Pass.{place_in, window_at}
 use Rattle.std.proofs.Common.{◌≡◌, ◌+◌, ◌≤◌, get_or, refl, rules, arith}
 use Rattle.octseq_dns_name.proofs.Passes.{ended_rest, long_label, none_pointed, cuts_rest, rests_none, no_rest}
 use Rattle.octseq_dns_name.proofs.Passes.{many_pointers, rests_pointer, rests_label, rests_root}
@@ -67,9 +70,14 @@ pieces-preserved-then-size-le-LABEL_MAX c =
 
 pub pieces-preserved : goal.pieces-preserved
 pieces-preserved c =
+    let octets = c.args.octets.now in
+    let end = c.args.end in
+    let to = c.place_at-start.result in
     let so_far = c.pieces.invariant in
     let room = c.pieces-test.true in
-    let has = c.in_ok-start.ensures.some in
+    let has = subst (λ to. HasPointer c.pieces.start (window_at octets c.pieces.at end) to
+    (window_at octets (c.pieces.at + 2) end)) (sym c.place_at-start.ensures)
+    (c.points_before.ensures.some c.if-not-points_before.false) in
     let turns = so_far.turns in
     let least = so_far.least in
     let some = so_far.some in
@@ -77,9 +85,9 @@ pieces-preserved c =
     let before = has.before in
     let tick = c.tick-in-pieces.ensures in
     record {
-      inside = λ _. rests_pointer c.args.octets.now c.args.to c.args.end c.pieces.start c.pieces.at c.args.before
-          c.pieces.len c.pieces.pointers c.args.turns.now c.pieces.turns (so_far.inside (omega (arith, room)))
-          so_far.more c.in_ok-start.start c.tick-in-pieces.new.self some has tick;
+      inside = λ _. rests_pointer octets c.args.to end c.pieces.start c.pieces.at c.args.before c.pieces.len
+          c.pieces.pointers c.args.turns.now c.pieces.turns (so_far.inside (omega (arith, room))) so_far.more to
+          c.tick-in-pieces.new.self some has tick;
       outside = λ over. absurd (omega (arith, over, before, ordered));
       ordered = omega (arith, before, ordered);
       more = so_far.more;
@@ -90,8 +98,8 @@ pieces-preserved c =
       least = omega (arith, least, tick);
     }
 
-pub returns-in_err-start-clause-none : goal.returns-in_err-start-clause-none
-returns-in_err-start-clause-none c = λ _.
+pub returns-then-not-points_before-clause-none : goal.returns-then-not-points_before-clause-none
+returns-then-not-points_before-clause-none c = λ _.
     let so_far = c.pieces.invariant in
     let room = c.pieces-test.true in
     let other = c.if-size-le-LABEL_MAX.false in
@@ -99,18 +107,18 @@ returns-in_err-start-clause-none c = λ _.
     no_rest c.args.octets.now c.args.to c.args.end c.pieces.start c.pieces.at c.args.before c.pieces.len
     c.pieces.pointers c.args.turns.now c.pieces.turns (so_far.inside (omega (arith, room))) so_far.more
     (none_pointed c.args.octets.now c.pieces.at c.args.end (get_or c.args.octets.now c.pieces.at 0) c.requires.within
-    room refl c.pieces.start (omega (arith, other, size)) (c.in_err-start.ensures.none refl))
+    room refl c.pieces.start (omega (arith, other, size)) (c.points_before.ensures.none c.if-not-points_before.true))
 
 pub returns-then-pointers-gt-POINTER_MAX-clause-none : goal.returns-then-pointers-gt-POINTER_MAX-clause-none
 returns-then-pointers-gt-POINTER_MAX-clause-none c = λ _.
     let so_far = c.pieces.invariant in
     let room = c.pieces-test.true in
+    let to = place_in c.args.octets.now c.pieces.at in
     let read = rests_pointer c.args.octets.now c.args.to c.args.end c.pieces.start c.pieces.at c.args.before
-    c.pieces.len c.pieces.pointers c.args.turns.now c.pieces.turns (so_far.inside (omega (arith, room))) so_far.more
-    c.in_ok-start.start (c.pieces.turns + 1) so_far.some c.in_ok-start.ensures.some refl in
-    many_pointers c.args.octets.now c.args.to c.args.end c.in_ok-start.start c.in_ok-start.start c.args.before
-    c.pieces.len (c.pieces.pointers + 1) c.args.turns.now (c.pieces.turns + 1) read so_far.more
-    c.if-pointers-gt-POINTER_MAX.true
+    c.pieces.len c.pieces.pointers c.args.turns.now c.pieces.turns (so_far.inside (omega (arith, room))) so_far.more to
+    (c.pieces.turns + 1) so_far.some (c.points_before.ensures.some c.if-not-points_before.false) refl in
+    many_pointers c.args.octets.now c.args.to c.args.end to to c.args.before c.pieces.len (c.pieces.pointers + 1)
+    c.args.turns.now (c.pieces.turns + 1) read so_far.more c.if-pointers-gt-POINTER_MAX.true
 
 pub returns-clause-none : goal.returns-clause-none
 returns-clause-none c = λ _.
