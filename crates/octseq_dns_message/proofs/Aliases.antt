@@ -1,4 +1,4 @@
--- Aliases, and the chains of them.
+-- Aliases, and chains of them.
 use Rattle.std.proofs.Common.{◌≡◌, ℕ, zero, suc, ◌+◌, ◌*◌, ◌≤◌, inl, inr, List, [], ◌∷◌, Some, None, refl, sym, ap, ◌∙◌}
 use Rattle.std.proofs.Common.{subst, arith}
 use Rattle.std.proofs.lemmas.Option.{none-some, same_Some}
@@ -18,7 +18,7 @@ cname_in : Name → ParsedRdata → Name
 cname_in none (ParsedRdata.cname name) = name
 cname_in none _ = none
 
--- a record has one target at most
+-- a record has at most one target
 pub one_alias : (class : ℕ) (name : Name) (r : Record) (a b : Name) → IsAlias class name r a → IsAlias class name r b
     → a ≡ b
 unfolding cname_in
@@ -34,7 +34,7 @@ one_target class (r ∷ records) name a b (inl x) (inr y) = absurd (y.0 a x)
 one_target class (r ∷ records) name a b (inr x) (inl y) = absurd (x.0 b y)
 one_target class (r ∷ records) name a b (inr x) (inr y) = one_target class records name a b x.1 y.1
 
--- a chain from a name with a target is one more than the chain from the target
+-- a chain from a name with a target is one longer than the chain from the target
 pub chain_more : (class : ℕ) (records : List Record) (n : ℕ) (name target last : Name)
     → LeadsTo class records name target → Chain class records n name last
     → (m : ℕ) × (n ≡ m + 1) × Chain class records m target last
@@ -45,7 +45,7 @@ chain_more class records (suc n) name target last leads is = (
   subst (λ x. Chain class records n x last) (one_target class records name is.0 target is.1 leads) is.2,
 )
 
--- a chain has one end, and one length
+-- a chain has at most one end
 pub one_chain : (class : ℕ) (records : List Record) (n m : ℕ) (name a b : Name)
     → Chain class records n name a → Chain class records m name b → a ≡ b
 one_chain class records zero zero name a b x y = x.0 ∙ sym y.0
@@ -60,14 +60,14 @@ pub one_canonical : (questions : List Question) (answers : List Record) (a b : N
 one_canonical [] answers a b x y = absurd x
 one_canonical (q ∷ questions) answers a b x y = one_chain q.qclass answers x.0 y.0 q.qname a b x.2 y.2
 
--- what leads from a name after a record that makes it no alias
+-- a record that doesn't make the name an alias can be passed over
 pub passed_over : (class : ℕ) (r : Record) (records : List Record) (name target : Name)
     → ((other : Name) → IsAlias class name r other → ⊥) → LeadsTo class (r ∷ records) name target
     → LeadsTo class records name target
 passed_over class r records name target none (inl x) = absurd (none target x)
 passed_over class r records name target none (inr x) = x.1
 
--- data that is read as the data of a CNAME is that
+-- data that says a CNAME is `Cname`
 pub cname_named : {R : Type 0} {g : Ghosts R} (found : Data R g) (target : Name)
     → rdata_of found ≡ ParsedRdata.cname target → (name : ParsedName R g) × (found ≡ kind.Cname name)
 cname_named (kind.Cname name) target same = (name, refl)
@@ -95,7 +95,7 @@ pub no_canonical : (questions : List Question) (answers : List Record) (last : N
 no_canonical [] answers last first is = is
 no_canonical (x ∷ questions) answers last first is = none-some x first
 
--- the turns of one alias more
+-- the turns of one more alias
 pub more_turns : (followed each start before after : ℕ) → before ≤ start + followed * each → after ≤ before + each
     → after ≤ start + (followed + 1) * each
 more_turns followed each start before after most more =

@@ -11,7 +11,7 @@ alone q [] first one = absurd (omega (arith, one))
 alone q (x ∷ []) first one = ap (λ x. x ∷ []) (sym (same_Some q x first))
 alone q (x ∷ y ∷ more) first one = absurd (omega (arith, one))
 
--- where there is one, the first is it
+-- if there is only one, it is the first
 pub sole : {A Q E : Type 0} (view : A → Q) (questions : List Q) (first : Option A) (found : Result A E)
     → option_map view first ≡ slice_get questions 0 → length questions ≡ 1 → first ≡ result_ok found
     → IfOk found (λ q. questions ≡ view q ∷ [])
@@ -22,7 +22,7 @@ some_first : {Q : Type 0} (questions : List Q) → None ≡ slice_get questions 
 some_first [] first one = omega (arith, one)
 some_first (x ∷ questions) first one = none-some x first
 
--- and there is a first
+-- and there is a first one
 pub sole_refused : {A Q E : Type 0} (view : A → Q) (questions : List Q) (first : Option A) (found : Result A E)
     → option_map view first ≡ slice_get questions 0 → first ≡ result_ok found → IsErr found
     → length questions ≡ 1 → ⊥

@@ -1,4 +1,4 @@
--- Numbers that are read at once: each is some digits of their sum.
+-- Numbers that are read at once: each is some digits of one number.
 use Rattle.std.proofs.Common.{◌≡◌, ℕ, ◌+◌, ◌-◌, ◌*◌, ◌/◌, ◌%◌, ◌<◌, ◌≤◌, [], ◌∷◌, take, drop, refl, sym, ap, ◌∙◌}
 use Rattle.std.proofs.Common.{subst, arith}
 use Rattle.std.proofs.lemmas.List.{take-take, drop-take, drop-drop}
@@ -32,7 +32,7 @@ part_of k i n w few =
     ∙ sym (take-take n (k - i) (drop i ahead) (omega (arith, few))) ∙ ap (take n) (sym (drop-take i (k - i) ahead))
     ∙ ap (λ m. take n (drop i (take m ahead))) (sym all)
 
--- Two numbers of two octets are there, where four octets are.
+-- If there are four octets, there are two numbers of two octets.
 pub two_numbers : (w v : Window) (n : ℕ) → 4 ≤ left w → n < 4294967296 → octets_be 4 n ≡ next 4 w → v ≡ past 4 w
     → IsAfterName w (n / 65536, n % 65536) v
 unfolding octets_be
@@ -45,7 +45,7 @@ two_numbers w v n room small is after =
       (omega (arith, room), omega (arith, second), after ∙ ap (λ p. at p w) there),
     )
 
--- and else they aren't
+-- otherwise there aren't
 pub no_two_numbers : (w : Window) → ¬ (4 ≤ left w) → NoneAt IsAfterName w
 no_two_numbers w short numbers v is =
     let first = is.1.0 in
@@ -53,7 +53,7 @@ no_two_numbers w short numbers v is =
     let second = is.2.0 in
     omega (arith, short, first, there, second)
 
--- So are two of two octets and one of four, where eight octets are, and then data.
+-- If there are eight octets, followed by data, there are two numbers of two octets, one of four, and the data.
 pub three_numbers : (w u v rdata : Window) (n : ℕ) → 8 ≤ left w → n < 18446744073709551616 → octets_be 8 n ≡ next 8 w
     → u ≡ past 8 w → IsData u rdata v
     → IsAfterOwner w (n / 281474976710656, (n / 4294967296 % 65536, (n % 4294967296, rdata))) v
@@ -74,7 +74,7 @@ three_numbers w u v rdata n room small is after kept =
       ),
     )
 
--- and else they aren't: where fewer octets are left, or no data is after them
+-- otherwise there aren't: fewer octets are left, or no data follows them
 pub no_three_numbers : (w : Window) → ¬ (8 ≤ left w) → NoneAt IsAfterOwner w
 no_three_numbers w short numbers v is =
     let first = is.1.0 in

@@ -1,4 +1,4 @@
--- A record of EDNS says one thing.
+-- An OPT record says one thing.
 use Rattle.std.proofs.Common.{◌≡◌, ℕ, ◌+◌, ◌*◌, ◌<◌, Bool, true, false, List, [], ◌∷◌, Option, Some, None, refl, sym}
 use Rattle.std.proofs.Common.{ap, ◌∙◌, subst, arith}
 use Rattle.octseq_dns_message.specs.Entry.{Record}
@@ -13,7 +13,7 @@ use Rattle.octseq_dns_message.specs.Opt.{EdnsOption, Opt, HasOption, IsOpt}
 abbrev made_of : ℕ → ℕ → Bool → ℕ → ℕ
 made_of rcode version marked z = rcode * 16777216 + version * 65536 + flag marked 32768 + z
 
--- has them in one way
+-- such a TTL has them in one way
 same_parts : (marked other : Bool) (rcode version z code number y : ℕ) → version < 256 → number < 256 → z < 32768
     → y < 32768
     → made_of rcode version marked z ≡ made_of code number other y → (rcode ≡ code) × (version ≡ number)
@@ -29,7 +29,7 @@ opt_from : ℕ → ℕ → ℕ → Bool → List EdnsOption → Opt
 opt_from size rcode version marked options =
     record { udp_payload_size = size; extended_rcode = rcode; version = version; dnssec_ok = marked; options = options }
 
--- a record says one thing at most as a record of EDNS
+-- a record says at most one thing as an OPT record
 pub one_opt : (r : Record) (opt other : Opt) → IsOpt r opt → IsOpt r other → opt ≡ other
 unfolding opt_from
 one_opt r opt other a b =
@@ -43,13 +43,13 @@ one_opt r opt other a b =
     ∙ ap (λ n. opt_from other.udp_payload_size other.extended_rcode other.version n opt.options) parts.2
     ∙ ap (λ n. opt_from other.udp_payload_size other.extended_rcode other.version other.dnssec_ok n) options
 
--- ---- the record of EDNS of a message
+-- ---- the OPT record of a message
 
 first_record : Record → List Record → Record
 first_record other [] = other
 first_record other (r ∷ records) = r
 
--- where the first record of type OPT says nothing as one of EDNS, neither do the records
+-- if the first record of type OPT says nothing as an OPT record, the records say nothing either
 pub no_opt : (additionals more : List Record) (r : Record) → of_type 41 additionals ≡ r ∷ more
     → ((opt : Opt) → IsOpt r opt → ⊥) → (found : Option Opt) → HaveOpt additionals found → ⊥
 unfolding first_record

@@ -13,24 +13,24 @@ use Rattle.octseq_format.proofs.Nones.{none_second}
 
 -- ---- where there are none
 
--- where no labels are, no name is
+-- if there are no labels, there is no name
 pub no_name : (w : Window) → ((labels : List (List ℕ)) (end : Window) → IsName w labels end → ⊥) → NoneAt HasName w
 no_name w none name v is = none name.labels v is.1
 
--- nor a name and something else, where what comes after the name isn't that
+-- nor a name followed by something else, if that isn't what follows the name
 pub none_after_name : {B : Type 0} (Second : Relation B) (w u : Window) (labels : List (List ℕ))
     → IsName w labels u → NoneAt Second u → NoneAt (HasName then Second) w
 none_after_name Second w u labels is none = none_second HasName Second w u (record { place = w; labels = labels })
     one_named (refl, is) none
 
--- ---- how many octets things take
+-- ---- how many octets entries take
 
--- a question takes 5 octets at least
+-- a question takes at least 5 octets
 pub question_takes : (w v : Window) (q : Question) → IsQuestion w q v → left v + 5 ≤ left w
 question_takes w v q is =
     (onward_name onward_then onward_fixed 2 be onward_then onward_fixed 2 be).less w (q.qname, (q.qtype, q.qclass)) v is
 
--- a record takes 11
+-- a record takes at least 11
 pub record_takes : (w v : Window) (r : Record) → IsRecord w r v → left v + 11 ≤ left w
 record_takes w v r is =
     (onward_name onward_then onward_fixed 2 be onward_then onward_fixed 2 be onward_then onward_fixed 4 be

@@ -1,4 +1,4 @@
--- At most one header is at a place: its flags and numbers can be told from their sum.
+-- At most one header is at a place: its flags and numbers are determined by their sum.
 use Rattle.std.proofs.Common.{◌≡◌, ℕ, zero, suc, ◌+◌, ◌*◌, ◌/◌, ◌%◌, ◌<◌, Bool, true, false, nat_eq, List, ◌∷◌, refl, sym}
 use Rattle.std.proofs.Common.{ap, ◌∙◌, arith}
 use Rattle.octseq.specs.Window.{Window}
@@ -25,7 +25,7 @@ same_flag true false is = absurd (omega (arith, is))
 same_flag false true is = absurd (omega (arith, is))
 same_flag false false is = refl
 
--- the lowest digit can be told from a sum, and what is above it
+-- a sum determines its lowest digit, and what is above it
 low_16 : (a b x y : ℕ) → a < 16 → b < 16 → a + 16 * x ≡ b + 16 * y → (a ≡ b) × (x ≡ y)
 low_16 a b x y fits also is = (omega (arith, fits, also, is), omega (arith, fits, also, is))
 
@@ -90,7 +90,7 @@ same_bits h k o p r s is =
       rcode = rcode.0;
     }
 
--- a number of a list of six
+-- the six numbers of a list
 sixth : List ℕ → ℕ × (ℕ × (ℕ × (ℕ × (ℕ × ℕ))))
 sixth (a ∷ b ∷ c ∷ d ∷ e ∷ f ∷ more) = (a, (b, (c, (d, (e, f)))))
 sixth _ = (0, (0, (0, (0, (0, 0)))))

@@ -1,4 +1,4 @@
--- Entries of a message that was checked are known to be there.
+-- The entries of a checked message are known to be there.
 use Rattle.std.proofs.Common.{◌≡◌, ℕ, ◌+◌, ◌<◌, List, [], ◌∷◌, length, subst, arith}
 use Rattle.std.proofs.Math.Logic.{∥∥₁_prop, ∥∥₁_elim}
 use Rattle.std.specs.Coded.{Coded, Coded-set, coded_list}
@@ -10,19 +10,19 @@ use Rattle.octseq_format.specs.Pair.{◌then◌}
 use Rattle.octseq_format.specs.Row.{Row, Holds, held_once}
 use Rattle.octseq_format.proofs.RowSteps.{held_more, held_then}
 
--- ---- a name, and what comes after it
+-- ---- a name, and what follows it
 
 -- it is known what is at a window's position
 abbrev pub Known : {A : Type 0} → Relation A → Window → Type 0
 Known {A} Is w = ∥ ((a : A) × (v : Window) × Is w a v) ∥₁
 
--- so a name is
+-- a name is known to be there
 pub known_name : {A B : Type 0} (parts : A → Name × B) (After : Relation B) (w : Window)
     → Known (λ w a v. (HasName then After) w (parts a) v) w → Named w
 known_name parts After w known =
     ∥∥₁_elim known (named_once w) (λ x. ((parts x.0).0.labels, ∣ (x.2.0, x.2.1.1) ∣₁))
 
--- and what comes after it is there
+-- and what follows it is there
 pub known_after : {A B : Type 0} (parts : A → Name × B) (After : Relation B) (w u : Window) (labels : List (List ℕ))
     → Known (λ w a v. (HasName then After) w (parts a) v) w → ∥ IsName w labels u ∥₁ → NoneAt After u → ⊥
 known_after parts After w u labels known name none = ∥∥₁_elim known (λ a b. absurd a) (λ x.

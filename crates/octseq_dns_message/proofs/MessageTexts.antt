@@ -1,4 +1,4 @@
--- The lines of a message, joined; and that it has one text.
+-- The lines of a message, joined. A message has one text.
 use Rattle.std.proofs.Common.{◌≡◌, ℕ, inl, inr, List, [], ◌∷◌, ◌++◌, length, drop, Result, Ok, Err, IsErr, OnOk}
 use Rattle.std.proofs.Common.{OnErr, codes, refl, ap, sym, ◌∙◌, append_assoc, arith, ◌≤◌}
 use Rattle.std.proofs.Math.Seq.{drop-append_seam}
@@ -21,13 +21,13 @@ then_more old t u x y e f = f ∙ ap (λ z. z ++ y) e ∙ append_assoc old x y
 pub front_on : (a b c : List ℕ) → IsFront a b → IsFront b c → IsFront a c
 front_on a b c f g = (f.0 ++ g.0, then_more a b c f.0 g.0 f.1 g.1)
 
--- a header's line begins with `i`, and so does what goes on after it
+-- a header's line begins with `i`, and so does a text that it is a front of
 pub at_line : (old shown now : List ℕ) (header : Header) → shown ≡ old ++ header_line header → IsFront shown now
     → BeginsAtLine old now
 at_line old shown now header e f =
     let all = then_more old shown now (header_line header) f.0 e f.1 in inr (_, all)
 
--- where a text ended before lines were appended, it can be cut
+-- the text can be cut where it ended before lines were appended
 pub cut_there : (old now : List ℕ) → IsWellFormed now → BeginsAtLine old now → IsBoundary now (length old)
 cut_there old now good (inl same) =
     let size : length old ≤ length now = omega (arith, ap length same) in
@@ -83,7 +83,7 @@ text_of_parts header questions answers authorities additionals a b c first secon
   whole = refl;
 }
 
--- and so they are where they were appended to what was there
+-- the same if they were appended to other text
 pub message_text : (header : Header) (questions : List Question) (answers authorities additionals : List Record)
     (old now a b c : List ℕ) → IsRecordsText (codes "answer") answers a
     → IsRecordsText (codes "authority") authorities b → IsRecordsText (codes "additional") additionals c
@@ -92,12 +92,12 @@ pub message_text : (header : Header) (questions : List Question) (answers author
 message_text header questions answers authorities additionals old now a b c first second third whole =
     (_, text_of_parts header questions answers authorities additionals a b c first second third, whole)
 
--- what can't be an answer is a refusal
+-- what can't succeed is refused
 pub refused_unless : {T E P : Type 0} (r : Result T E) → OnOk r P → (P → ⊥) → IsErr r
 refused_unless (Ok x) p n = absurd (n p)
 refused_unless (Err e) p n = refl
 
--- and what a refusal leaves is left where it is one
+-- and what a refusal ensures then holds
 pub left_by : {T E P : Type 0} (r : Result T E) → IsErr r → OnErr r P → P
 left_by (Ok x) h p = absurd (cc)
 left_by (Err e) h p = p

@@ -18,17 +18,17 @@ abbrev pub Refuses : List ℕ → Type 0
 Refuses octets = (header : Header) (questions : List Question) (answers authorities additionals : List Record)
     → IsMessage octets header questions answers authorities additionals → ⊥
 
--- ---- the sections that are at a place are one
+-- ---- at most one list of sections is at a place
 
 one_records : (n : ℕ) → IsOne (Many n IsRecord)
 one_records n = one_many n IsRecord one_record
 
--- the sections that a header counts are at a place in one way at most, with one end
+-- the sections that a header counts are at a place in at most one way, with one end
 pub one_sections : (counts : HeaderCounts) → IsOne (AreSections counts)
 one_sections counts = one_many counts.qdcount IsQuestion one_question one_then one_records counts.ancount
     one_then one_records counts.nscount one_then one_records counts.arcount
 
--- a message's sections are after the header that is at its front, as many as that counts
+-- the sections of a message follow the header at its front, and are as many as it counts
 same_sections : (octets : List ℕ) (h k : Header) (counts : HeaderCounts) (q : List Question) (a b d : List Record)
     (v : Window) → IsHeader (whole octets) h counts v → (m : IsMessage octets k q a b d)
     → AreSections counts v (q, (a, (b, d))) m.past_sections
@@ -37,7 +37,7 @@ same_sections octets h k counts q a b d v is m =
     subst (λ u. AreSections counts u (q, (a, (b, d))) m.past_sections) same.2
     (subst (λ n. AreSections n m.past_header (q, (a, (b, d))) m.past_sections) same.1 m.sections_are)
 
--- ---- what is no message
+-- ---- what isn't a message
 
 -- no header with its counts is at a window's position
 abbrev pub NoHeader : Window → Type 0
@@ -101,7 +101,7 @@ some_after octets h counts v end s is are some k q a b d m =
     let none = m.nothing_after in
     omega (arith, left_is, none, some)
 
--- ---- octets are a message in one way at most
+-- ---- octets are a message in at most one way
 
 -- readings of octets as a message agree on the header, and on the entries of each section
 pub said_once : (octets : List ℕ) (h k : Header) (q others : List Question) (a b d x y z : List Record)

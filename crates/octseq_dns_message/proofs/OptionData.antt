@@ -1,4 +1,4 @@
--- What options of EDNS say: one thing, and which one by a few octets.
+-- An EDNS option says one thing, which its octets determine.
 use Rattle.std.proofs.Common.{◌≡◌, ℕ, zero, suc, ◌+◌, ◌-◌, ◌*◌, ◌/◌, ◌%◌, ◌^◌, ◌<◌, inl, inr, List, [], ◌∷◌, ◌++◌}
 use Rattle.std.proofs.Common.{length, sym, ap, ◌∙◌, subst, arith, length-append, drop}
 use Rattle.std.proofs.Math.Nat.{pow-suc, mul_assoc}
@@ -35,7 +35,7 @@ subnet_is w v a b is y =
     ap subnet_from (one.same w (b.family, (b.source_prefix_len, (b.scope_prefix_len, b.address)))
     (a.family, (a.source_prefix_len, (a.scope_prefix_len, a.address))) y.end v y.parts is).0
 
--- so a window has one at most
+-- so a window has at most one
 one_subnet : (w : Window) (a b : ClientSubnet) → IsClientSubnet w a → IsClientSubnet w b → a ≡ b
 one_subnet w a b x y = subnet_is w y.end b a y.parts x
 
@@ -50,11 +50,11 @@ cookie_is w v a b is y =
     let one = one_fixed 8 (λ octets. octets) one_then one_rest in
     ap cookie_from (one.same w (b.client, b.server) (a.client, a.server) y.end v y.parts is).0
 
--- so a window has one cookie
+-- so a window has at most one cookie
 one_cookie : (w : Window) (a b : Cookie) → IsCookie w a → IsCookie w b → a ≡ b
 one_cookie w a b x y = cookie_is w y.end b a y.parts x
 
--- what is left of octets without a 0 at their end
+-- octets have one text without a 0 at its end
 one_text : (octets a b : List ℕ) → IsWithoutZero octets a → IsWithoutZero octets b → a ≡ b
 one_text octets a b (inl x) (inl y) = append_cancel_right a b (0 ∷ []) (sym x ∙ y)
 one_text octets a b (inl x) (inr y) = absurd (y.1 a x)
@@ -76,11 +76,11 @@ error_is w v extra a b is shown y =
     ap (λ code. error_from code b.text) (ap (λ (parts : ℕ × Window). parts.0) same)
     ∙ ap (error_from a.code) (one_text (rest extra) b.text a.text text shown)
 
--- so there is one
+-- so there is at most one
 one_error : (w : Window) (a b : ExtendedError) → IsExtendedError w a → IsExtendedError w b → a ≡ b
 one_error w a b x y = error_is w y.end y.extra b a y.parts y.text x
 
--- so an option has one form at most
+-- so an option has at most one form
 pub one_typed : (option : EdnsOption) (a b : OptionData) → IsTypedOption option a → IsTypedOption option b → a ≡ b
 one_typed option (OptionData.unknown code octets) b x y = absurd x
 one_typed option a (OptionData.unknown code octets) x y = absurd y
@@ -103,7 +103,7 @@ one_said option a b (inr x) (inr y) = x.0 ∙ sym y.0
 
 -- ---- the bits at the end of octets
 
--- the last of big-endian octets counts itself
+-- the number of big-endian octets is a multiple of 256, and the last octet
 pub be_last : (front : List ℕ) (last : ℕ) → (high : ℕ) × (be (front ++ last ∷ []) ≡ high * 256 + last)
 be_last [] last = (0, be_cons last [] ∙ omega (arith, be_nil))
 be_last (x ∷ front) last =
@@ -118,7 +118,7 @@ be_last (x ∷ front) last =
           ∙ omega (arith, scaled, more.1),
     )
 
--- octets above the last one don't count in fewer than eight bits
+-- fewer than eight of the lowest bits are those of the last octet
 pub low_bits : (bits high last : ℕ) → bits < 8 → (high * 256 + last) % 2 ^ bits ≡ last % 2 ^ bits
 low_bits zero high last small = omega arith
 low_bits (suc zero) high last small = omega arith
@@ -147,7 +147,7 @@ same_last (x ∷ front) (y ∷ other) a b same = same_last front other a b (ap (
 
 -- ---- the bits of an address
 
--- those after the first ones are in the last octet
+-- the bits after the first ones are in the last octet
 pub low_end : (octets front : List ℕ) (last bits weight : ℕ) → octets ≡ front ++ last ∷ []
     → length octets ≡ (bits + 7) / 8 → weight ≡ 2 ^ (8 * length octets - bits)
     → be octets % 2 ^ (8 * length octets - bits) ≡ last % weight

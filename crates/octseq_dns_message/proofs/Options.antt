@@ -25,7 +25,7 @@ pub option_found : (w : Window) (option : EdnsOption) (v : Window) → HasOption
     → IsFound w (option_parts option) v
 option_found w option v is = (is.0, is.1, counted_of_part 2 is.0 option.octets v is.2)
 
--- so are those up to the end of a window
+-- the same for those up to the end of a window
 pub options_are : (w : Window) (found : List (ℕ × Window)) (v : Window) → RowTo (Moved IsFound) w found v
     → Row HasOption w (map option_from found) v
 options_are w found v is =

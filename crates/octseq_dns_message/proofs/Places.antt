@@ -1,10 +1,10 @@
--- What is at a place and after it lies in the same octets, with the same end.
+-- What is at a place, and what follows it, is in the same octets, with the same end.
 use Rattle.std.proofs.Common.{◌≡◌, ◌≤◌, ap, sym, ◌∙◌, arith}
 use Rattle.octseq.specs.Window.{Window}
 use Rattle.octseq_dns_message.specs.Entry.{Record, IsRecord}
 use Rattle.octseq_dns_name.specs.NameFormat.{name_of_window}
 
--- the data of a record lies in the octets that its name is in, and ends within them
+-- the data of a record is in the same octets as its owner, and ends within them
 pub record_of_window : (w v : Window) (r : Record) → IsRecord w r v → (r.rdata.octets ≡ r.owner.place.octets)
     × (r.rdata.end ≤ r.owner.place.end)
 record_of_window w v r is =

@@ -1,4 +1,4 @@
--- The canonical name of the name in a message's question: RFC 1034, 3.6.2.
+-- The canonical name for the qname of a message: RFC 1034, 3.6.2.
 use Rattle.std.specs.Prelude.{◌≡◌, ℕ, zero, suc, ◌≤◌, ◌⊎◌, List, [], ◌∷◌}
 use Rattle.octseq_dns_data.specs.Data.{ParsedRdata}
 use Rattle.octseq_dns_message.specs.Entry.{Question, Record}
@@ -6,26 +6,26 @@ use Rattle.octseq_dns_message.specs.RecordData.{IsTyped}
 use Rattle.octseq_dns_name.specs.Name.{Name}
 use Rattle.octseq_dns_name.specs.Order.{lower_labels}
 
--- A record makes a name an alias of its target: it is of the class and of that name, where ASCII letters of either case
--- are one (RFC 4343), and its data is the target, as the data of a CNAME.
+-- A record makes a name an alias of its target: it has this class, its owner is the name, ignoring ASCII case (RFC
+-- 4343), and its data is the target, as CNAME data.
 pub record IsAlias (class : ℕ) (name : Name) (r : Record) (target : Name) : Type 0 where
   pub of_class : r.class ≡ class
   pub of_name : lower_labels r.owner.labels ≡ lower_labels name.labels
   pub data_is : IsTyped r (ParsedRdata.cname target)
 
--- the first of the records that makes the name an alias has the target
+-- the first record that makes the name an alias has the target
 abbrev pub LeadsTo : ℕ → List Record → Name → Name → Type 0
 LeadsTo class [] name target = ⊥
 LeadsTo class (r ∷ records) name target = IsAlias class name r target
     ⊎ ((other : Name) → ¬ IsAlias class name r other) × LeadsTo class records name target
 
--- As many aliases as a number says lead from a name to the last one, which is no alias.
+-- The given number of aliases lead from a name to the last one, which isn't an alias.
 abbrev pub Chain : ℕ → List Record → ℕ → Name → Name → Type 0
 Chain class records zero name last = (last ≡ name) × ((target : Name) → ¬ LeadsTo class records name target)
 Chain class records (suc n) name last =
     (target : Name) × LeadsTo class records name target × Chain class records n target last
 
--- at most 15 aliases lead there, in the answers, from the name of the first question, in its class
+-- at most 15 aliases lead there, in the answers, from the qname of the first question, in its class
 abbrev pub IsCanonical : List Question → List Record → Name → Type 0
 IsCanonical [] answers last = ⊥
 IsCanonical (q ∷ questions) answers last = (n : ℕ) × (n ≤ 15) × Chain q.qclass answers n q.qname last

@@ -1,4 +1,4 @@
--- What contracts see of a record of EDNS that was read.
+-- What contracts see of an OPT record that was read.
 use Rattle.std.specs.Prelude.{List}
 use Rattle.octseq.specs.declared.AsOctets.{Ghosts}
 use Rattle.octseq.specs.Parser.{window}
@@ -11,7 +11,7 @@ use Rattle.octseq_dns_message.specs.declared.opt.Options.{Options}
 abbrev pub option_of : {R : Type 0} {g : Ghosts R} → EdnsOption R g → said.EdnsOption
 option_of option = record { code = option.code; octets = window option.octets }
 
--- the options that an iterator has left
+-- the options that are left
 abbrev pub options_left : {R : Type 0} {g : Ghosts R} → Options R g → List said.EdnsOption
 options_left options = options.ahead.0
 

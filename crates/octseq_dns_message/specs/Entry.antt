@@ -5,22 +5,21 @@ use Rattle.octseq_dns_data.specs.Format.{IsNumber, IsData}
 use Rattle.octseq_dns_name.specs.Name.{Name, HasName}
 use Rattle.octseq_format.specs.Pair.{◌then◌}
 
--- A question: the name that is asked for, and which type and class.
+-- A question: the name, the type and the class that are asked for.
 pub record Question : Type 0 where
   pub qname : Name
   pub qtype : ℕ
   pub qclass : ℕ
 
--- what comes after the name of a question: a type and a class
+-- what follows the name of a question: a type and a class
 abbrev pub IsAfterName : Window → ℕ × ℕ → Window → Type 0
 IsAfterName = IsNumber 2 then IsNumber 2
 
--- a name, and that after it
+-- a name, followed by that
 abbrev pub IsQuestion : Window → Question → Window → Type 0
 IsQuestion w q v = (HasName then IsAfterName) w (q.qname, (q.qtype, q.qclass)) v
 
--- A record: the name that it is of, its type and class, for how many seconds it may be kept, and the window of its data
--- in the message.
+-- A record: its owner, type, class and TTL, and the window of its data in the message.
 pub record Record : Type 0 where
   pub owner : Name
   pub rtype : ℕ
@@ -28,10 +27,10 @@ pub record Record : Type 0 where
   pub ttl : ℕ
   pub rdata : Window
 
--- what comes after the owner of a record: a type, a class, a TTL, and data after its length
+-- what follows the owner of a record: a type, a class, a TTL, and data after its length
 abbrev pub IsAfterOwner : Window → ℕ × (ℕ × (ℕ × Window)) → Window → Type 0
 IsAfterOwner = IsNumber 2 then IsNumber 2 then IsNumber 4 then IsData
 
--- a name, and that after it
+-- a name, followed by that
 abbrev pub IsRecord : Window → Record → Window → Type 0
 IsRecord w r v = (HasName then IsAfterOwner) w (r.owner, (r.rtype, (r.class, (r.ttl, r.rdata)))) v

@@ -1,13 +1,13 @@
--- What a flag of a header counts in its number, and which flags a number has.
+-- The flags of a header, as bits of a number.
 use Rattle.std.specs.Prelude.{ℕ, ◌/◌, ◌%◌, Bool, true, false, nat_eq}
 use Rattle.octseq_dns_message.specs.declared.header.Flags.{Flags}
 
--- so much where it is set
+-- the weight of a flag that is set
 abbrev pub flag : Bool → ℕ → ℕ
 flag true weight = weight
 flag false weight = 0
 
--- whether the bit is set that counts so much
+-- whether the bit of this weight is set
 abbrev pub is_set : ℕ → ℕ → Bool
 is_set bits weight = nat_eq (bits / weight % 2) 1
 

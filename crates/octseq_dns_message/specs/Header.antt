@@ -7,8 +7,8 @@ use Rattle.octseq_dns_message.specs.declared.header.Header.{Header}
 use Rattle.octseq_dns_message.specs.declared.header.HeaderCounts.{HeaderCounts}
 use Rattle.octseq_format.specs.Row.{Row}
 
--- The second number of a header, from its highest bit: QR, four bits of opcode, AA, TC, RD, RA, a bit of no meaning,
--- AD, CD, and four bits of rcode.
+-- The second number of a header, from its highest bit: QR, four bits of opcode, AA, TC, RD, RA, a reserved bit, AD, CD,
+-- and four bits of rcode.
 abbrev pub flag_bits : Header → ℕ
 flag_bits h = flag h.flags.qr 32768 + h.opcode * 2048 + flag h.flags.aa 1024 + flag h.flags.tc 512 + flag h.flags.rd 256
     + flag h.flags.ra 128 + flag h.flags.z 64 + flag h.flags.ad 32 + flag h.flags.cd 16 + h.rcode

@@ -12,13 +12,13 @@ abbrev pub flag_text : Bool → List ℕ → List ℕ
 flag_text true name = 32 ∷ name
 flag_text false name = []
 
--- those that are set, from the highest bit to the lowest; the bit of no meaning isn't shown
+-- the flags that are set, from the highest bit to the lowest; the reserved bit isn't shown
 abbrev pub flags_text : Flags → List ℕ
 flags_text flags = flag_text flags.qr (codes "QR") ++ flag_text flags.aa (codes "AA") ++ flag_text flags.tc (codes "TC")
     ++ flag_text flags.rd (codes "RD") ++ flag_text flags.ra (codes "RA") ++ flag_text flags.ad (codes "AD")
     ++ flag_text flags.cd (codes "CD")
 
--- its number, its opcode and its response code, and the flags
+-- the identifier, the opcode, the response code, and the flags
 abbrev pub header_text : Header → List ℕ
 header_text h = codes "id " ++ decimal h.id ++ codes " opcode " ++ decimal h.opcode ++ codes " rcode "
     ++ decimal h.rcode

@@ -1,4 +1,4 @@
--- Messages: RFC 1035, 4.1, and 4.2.2 for how many octets one may have.
+-- Which octets are a message: RFC 1035, 4.1, and 4.2.2 for their number.
 use Rattle.std.specs.Prelude.{◌≡◌, ℕ, ◌≤◌, List, length}
 use Rattle.octseq.specs.Window.{Window, left, whole}
 use Rattle.octseq_dns_message.specs.Entry.{Question, Record, IsQuestion, IsRecord}
@@ -8,16 +8,16 @@ use Rattle.octseq_dns_message.specs.declared.header.HeaderCounts.{HeaderCounts}
 use Rattle.octseq_format.specs.Pair.{◌then◌}
 use Rattle.octseq_format.specs.Row.{Many}
 
--- questions, and the records of answers, of authorities, and additional ones
+-- the questions, and the answer, authority and additional records
 abbrev pub Entries : Type 0
 Entries = List Question × (List Record × (List Record × List Record))
 
--- as many of each as a header counts, one section after another
+-- as many entries of each section as a header counts, one section after another
 abbrev pub AreSections : HeaderCounts → Window → Entries → Window → Type 0
 AreSections counts = Many counts.qdcount IsQuestion then Many counts.ancount IsRecord
     then Many counts.nscount IsRecord then Many counts.arcount IsRecord
 
--- The octets are a message, of at most 65,535 octets: a header with its counts, the sections, and nothing after them.
+-- The octets are a message of at most 65,535 octets: a header with its counts, the sections, and nothing after them.
 pub record IsMessage (octets : List ℕ) (header : Header) (questions : List Question)
     (answers authorities additionals : List Record) : Type 0 where
   pub size : length octets ≤ 65535

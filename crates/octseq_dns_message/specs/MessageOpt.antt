@@ -1,11 +1,11 @@
--- The record of EDNS of a message: RFC 6891, 6.1.1.
+-- The OPT record of a message: RFC 6891, 6.1.1.
 use Rattle.std.specs.Prelude.{◌≡◌, List, [], ◌∷◌, Option, Some, None}
 use Rattle.octseq_dns_message.specs.Entry.{Record}
 use Rattle.octseq_dns_message.specs.OfType.{of_type}
 use Rattle.octseq_dns_message.specs.Opt.{Opt, IsOpt}
 
--- What the additional records of a message say as EDNS: nothing, where none is of type OPT; or what the one of them
--- says that is, which is of the root.
+-- What the OPT record among the additional records of a message says: nothing, if none is of type OPT; or what the only
+-- one says, whose owner is the root.
 abbrev pub HaveOpt : List Record → Option Opt → Type 0
 HaveOpt additionals None = of_type 41 additionals ≡ []
 HaveOpt additionals (Some opt) =

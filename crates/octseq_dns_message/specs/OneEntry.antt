@@ -11,7 +11,7 @@ use Rattle.octseq_format.specs.Pair.{◌one_then◌}
 use Rattle.octseq_format.specs.Rest.{window_code}
 use Rattle.octseq_format.specs.Row.{Holds, held_once}
 
--- what a question and a record have, one after another
+-- the parts of a question and of a record, one after another
 abbrev pub question_parts : Question → Name × (ℕ × ℕ)
 question_parts q = (q.qname, (q.qtype, q.qclass))
 
@@ -31,7 +31,7 @@ pub one_record : IsOne IsRecord
 one_record = one_by record_parts record_from (λ _. refl)
     (one_named one_then one_number 2 one_then one_number 2 one_then one_number 4 one_then one_data)
 
--- codes of what a message has, so that lists of them are equal in one way
+-- codes of entries, so that lists of them are equal in at most one way
 abbrev pub question_code : Coded Question
 question_code = code_by (Name × (ℕ × ℕ)) (coded× name_code (coded× coded_ℕ coded_ℕ))
     (λ q. (q.qname, (q.qtype, q.qclass)))

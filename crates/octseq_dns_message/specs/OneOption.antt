@@ -1,4 +1,4 @@
--- At most one row of options of EDNS is at a place and ends at another: so a value may keep it as a fact.
+-- At most one row of options is at a place and ends at another, so a value may keep it as a fact.
 use Rattle.std.specs.Prelude.{ℕ, refl}
 use Rattle.std.proofs.Common.{ap, ◌∙◌, arith}
 use Rattle.std.specs.Coded.{Coded, code_by, coded×, coded_ℕ}
@@ -10,7 +10,7 @@ use Rattle.octseq_format.specs.Laws.{IsOne, one_by}
 use Rattle.octseq_format.specs.Pair.{◌one_then◌}
 use Rattle.octseq_format.specs.Rest.{window_code}
 
--- options of EDNS
+-- EDNS options
 abbrev pub option_code : Coded EdnsOption
 option_code = code_by (ℕ × Window) (coded× coded_ℕ window_code) (λ o. (o.code, o.octets))
     (λ c. record { code = c.0; octets = c.1 }) (λ _. refl)

@@ -1,4 +1,4 @@
--- The record of EDNS: RFC 6891, 6.1.2 and 6.1.3.
+-- OPT records: RFC 6891, 6.1.2 and 6.1.3.
 use Rattle.std.specs.Prelude.{◌≡◌, ℕ, ◌+◌, ◌*◌, ◌<◌, Bool, List}
 use Rattle.octseq.specs.Window.{Window}
 use Rattle.octseq_dns_message.specs.Entry.{Record}
@@ -12,11 +12,11 @@ pub record EdnsOption : Type 0 where
   pub code : ℕ
   pub octets : Window
 
--- a number, and octets after their length
+-- a code, and octets after their length
 abbrev pub HasOption : Window → EdnsOption → Window → Type 0
 HasOption w option v = (IsNumber 2 then IsData) w (option.code, option.octets) v
 
--- What a record of EDNS says.
+-- What an OPT record says.
 pub record Opt : Type 0 where
   pub udp_payload_size : ℕ
   pub extended_rcode : ℕ
@@ -24,8 +24,8 @@ pub record Opt : Type 0 where
   pub dnssec_ok : Bool
   pub options : List EdnsOption
 
--- A record says it: its type is OPT, its class is the size, and its TTL has, from the highest bit, eight bits of a
--- response code, eight of a version, the bit DO, and fifteen that mean nothing. Its data is options, one after
+-- A record says this: its type is OPT, its class is the payload size, and its TTL has, from the highest bit, eight bits
+-- of a response code, eight of a version, the DO bit, and fifteen reserved bits. Its data is options, one after
 -- another, up to its end.
 pub record IsOpt (r : Record) (opt : Opt) : Type 0 where
   pub rtype : r.rtype ≡ 41

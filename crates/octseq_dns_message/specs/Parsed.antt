@@ -9,7 +9,7 @@ use Rattle.octseq_dns_message.specs.declared.header.Header.{Header}
 use Rattle.octseq_dns_message.specs.declared.header.HeaderCounts.{HeaderCounts}
 use Rattle.octseq_dns_message.specs.declared.header.Numbers.{Numbers}
 
--- the header that numbers are of
+-- the header with these numbers
 abbrev pub fields_of : Numbers → Header
 fields_of numbers = record {
   id = numbers.id;
@@ -22,7 +22,7 @@ fields_of numbers = record {
 abbrev pub header_of : {R : Type 0} {g : Ghosts R} → Message R g → Header
 header_of message = fields_of message.header
 
--- how many entries its header counts in each section
+-- the number of entries in each section, as the header counts them
 abbrev pub counts_of : {R : Type 0} {g : Ghosts R} → Message R g → HeaderCounts
 counts_of message = message.header.counts
 
@@ -34,7 +34,7 @@ questions_of message = message.asked.0
 abbrev pub answers_of : {R : Type 0} {g : Ghosts R} → Message R g → List Record
 answers_of message = message.answered.0
 
--- its records of authorities
+-- its authority records
 abbrev pub authorities_of : {R : Type 0} {g : Ghosts R} → Message R g → List Record
 authorities_of message = message.authorized.0
 

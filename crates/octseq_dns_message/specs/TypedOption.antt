@@ -1,4 +1,4 @@
--- What contracts see of an option of EDNS that was read.
+-- What contracts see of an EDNS option that was read.
 use Rattle.octseq.specs.declared.AsOctets.{Ghosts}
 use Rattle.octseq.specs.Parser.{window}
 use Rattle.octseq.specs.Window.{rest}

@@ -11,17 +11,17 @@ use octseq_dns_name::Malformed;
 /// The bits of a header that have names of their own.
 #[derive(Clone, Copy, Debug, Default, PartialEq, Eq, Hash)]
 pub struct Flags {
-    /// It is a response.
+    /// The message is a response.
     pub qr: bool,
     /// The answer is authoritative.
     pub aa: bool,
-    /// It was cut off.
+    /// The message is truncated.
     pub tc: bool,
     /// Recursion is desired.
     pub rd: bool,
     /// Recursion is available.
     pub ra: bool,
-    /// The bit of no meaning, which is kept.
+    /// The reserved bit, which is kept.
     pub z: bool,
     /// The data is authentic: RFC 4035, 3.1.6.
     pub ad: bool,
@@ -29,33 +29,33 @@ pub struct Flags {
     pub cd: bool,
 }
 
-/// The header of a message: what it says of itself. [`HeaderCounts`] has its counts.
+/// The header of a message, without its counts, which [`HeaderCounts`] has.
 #[derive(Clone, Copy, Debug, PartialEq, Eq, Hash)]
 pub struct Header {
-    /// The number of the message.
+    /// The identifier of the message.
     pub id: u16,
-    /// Its flags.
+    /// The flags.
     pub flags: Flags,
-    /// What kind of question it is.
+    /// The kind of query.
     pub opcode: Opcode,
-    /// What a response tells of its success.
+    /// The response code.
     pub rcode: Rcode,
 }
 
-/// How many entries each section of a message has, as its header counts them.
+/// The number of entries in each section of a message, as its header counts them.
 #[derive(Clone, Copy, Debug, PartialEq, Eq, Hash)]
 pub struct HeaderCounts {
-    /// How many questions there are.
+    /// The number of questions.
     pub qdcount: u16,
-    /// How many answers there are.
+    /// The number of answers.
     pub ancount: u16,
-    /// How many records of authorities there are.
+    /// The number of authority records.
     pub nscount: u16,
-    /// How many additional records there are.
+    /// The number of additional records.
     pub arcount: u16,
 }
 
-/// Whether the bit that counts `weight` is set.
+/// Whether the bit of this weight is set.
 fn is_set(bits: u16, weight: u16) -> bool
     requires { 0 < weight }
     ensures { result ≡ is_set bits weight }
@@ -64,7 +64,7 @@ fn is_set(bits: u16, weight: u16) -> bool
 }
 
 impl Flags {
-    /// The flags in the second number of a header.
+    /// Returns the flags in the second number of a header.
     fn from_bits(bits: u16) -> Self
         ensures { result ≡ flags_in bits }
     {
@@ -81,21 +81,21 @@ impl Flags {
     }
 }
 
-/// The opcode in the second number of a header.
+/// Returns the opcode in the second number of a header.
 fn opcode_in(bits: u16) -> Opcode
     ensures { result ≡ bits / 2048 % 16 }
 {
     Opcode::from_int((bits / 2048 % 16) as u8)
 }
 
-/// The response code in the second number of a header.
+/// Returns the response code in the second number of a header.
 fn rcode_in(bits: u16) -> Rcode
     ensures { result ≡ bits % 16 }
 {
     Rcode::from_int((bits % 16) as u8)
 }
 
-/// The numbers of a header as they are in a message: what they say is told when it is asked for.
+/// The numbers of a header as they are in a message. What they say is decoded when it is needed.
 #[derive(Clone, Copy, Debug)]
 pub(crate) struct Numbers {
     id: u16,
@@ -107,7 +107,7 @@ impl Numbers {
     ghost use Rattle.octseq_dns_message.specs.Header.{IsHeader};
     ghost use Rattle.octseq_dns_message.specs.Parsed.{fields_of};
 
-    /// Takes the numbers of a header: 12 octets.
+    /// Reads the numbers of a header: 12 octets.
     pub(crate) fn parse<R: AsOctets + Copy>(parser: &mut Parser<R>) -> Result<Numbers, Malformed>
         ensures header { IfOk result (λ numbers.
             IsHeader (window parser.old) (fields_of numbers) numbers.counts (window parser.new)) }
@@ -133,7 +133,7 @@ impl Numbers {
         Ok(Numbers { id, bits, counts })
     }
 
-    /// The header that they are of.
+    /// Returns the header with these numbers.
     pub(crate) fn header(self) -> Header
         ensures { result ≡ fields_of self }
     {
@@ -149,11 +149,11 @@ impl Numbers {
 impl Header {
     ghost use Rattle.octseq_dns_message.specs.Header.{IsHeader};
 
-    /// Takes the header of a message, with its counts: 12 octets.
+    /// Reads the header of a message, with its counts: 12 octets.
     ///
     /// # Errors
     ///
-    /// `Malformed` where fewer octets are left. The parser is then as it was.
+    /// `Malformed` if fewer octets are left. The parser is then unchanged.
     pub fn parse<R: AsOctets + Copy>(
         parser: &mut Parser<R>,
     ) -> Result<(Header, HeaderCounts), Malformed>

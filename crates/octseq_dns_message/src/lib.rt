@@ -1,5 +1,5 @@
-//! DNS messages, read from one buffer with nothing copied: header, questions, records, what their data says, and the
-//! text of all of it.
+//! DNS messages, read from one buffer without copying: the header, questions, records, their data, and the text of all
+//! of these.
 #![tactic(auto)]
 
 pub mod header;

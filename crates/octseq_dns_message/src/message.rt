@@ -35,19 +35,19 @@ pub use crate::message::record::Record;
 pub use crate::message::text::one_text_of_a_message;
 pub use crate::message::walk::{Questions, Records};
 
-/// How many octets a message may have: RFC 1035, 4.2.2.
+/// The maximum number of octets of a message: RFC 1035, 4.2.2.
 pub const MESSAGE_MAX: usize = 65535;
 
-/// Octets are a message in one way at most.
+/// Octets are a message in at most one way.
 ///
-/// It does nothing. A caller that calls it has the law in its proof.
+/// It does nothing. Calling it brings the law into the caller's proof.
 pub fn one_message()
     ensures { (octets : List ℕ) (h k : Fields) (q others : List said.Question)
         (a b d x y z : List said.Record) → IsMessage octets h q a b d → IsMessage octets k others x y z
         → (h ≡ k) × (q ≡ others) × (a ≡ x) × (b ≡ y) × (d ≡ z) }
 {}
 
-/// A message: its header, and where its sections begin. It copies no octet of them.
+/// A message: its header, and where its sections begin. No octet of them is copied.
 #[derive(Debug)]
 pub struct Message<R: AsOctets> {
     header: Numbers,
@@ -79,11 +79,11 @@ impl<R: AsOctets + Copy> Message<R> {
     ghost use Rattle.octseq_dns_message.specs.Parsed.{authorities_of, additionals_of, message_turns};
     ghost use Rattle.octseq_dns_message.specs.Walk.{questions_left, records_left};
 
-    /// Reads all of the octets as a message. It requests no memory.
+    /// Reads all the octets as a message. It requests no memory.
     ///
     /// # Errors
     ///
-    /// `Malformed` where they are no message.
+    /// `Malformed` if they aren't a message.
     ///
     /// # Examples
     ///
@@ -106,7 +106,7 @@ impl<R: AsOctets + Copy> Message<R> {
         Message::parse_counted(octets, &mut Turns::new())
     }
 
-    /// Reads all of the octets as [`parse`](Self::parse), and counts the turns that all of its names take.
+    /// Reads all the octets as [`parse`](Self::parse) does, and counts the turns that all the names take.
     ///
     /// # Errors
     ///
@@ -147,14 +147,14 @@ impl<R: AsOctets + Copy> Message<R> {
         })
     }
 
-    /// Its header.
+    /// Returns the header.
     pub fn header(&self) -> Header
         ensures { result ≡ header_of self.now }
     {
         self.header.header()
     }
 
-    /// How many entries its header counts in each section: as many as there are.
+    /// Returns the number of entries in each section, as the header counts them.
     pub fn header_counts(&self) -> HeaderCounts
         ensures counts { result ≡ counts_of self.now }
         ensures qdcount { result.qdcount ≡ length (questions_of self.now) }
@@ -165,7 +165,7 @@ impl<R: AsOctets + Copy> Message<R> {
         self.header.counts
     }
 
-    /// Its questions, from the first one on.
+    /// Returns an iterator over the questions, from the first one on.
     ///
     /// # Examples
     ///
@@ -183,7 +183,7 @@ impl<R: AsOctets + Copy> Message<R> {
         Questions::at(self.questions, self.header.counts.qdcount)
     }
 
-    /// Its answers, from the first one on.
+    /// Returns an iterator over the answers, from the first one on.
     ///
     /// # Examples
     ///
@@ -203,14 +203,14 @@ impl<R: AsOctets + Copy> Message<R> {
         Records::at(self.answers, self.header.counts.ancount)
     }
 
-    /// Its records of authorities, from the first one on.
+    /// Returns an iterator over the authority records, from the first one on.
     pub fn authorities(&self) -> Records<R>
         ensures { records_left result ≡ authorities_of self.now }
     {
         Records::at(self.authorities, self.header.counts.nscount)
     }
 
-    /// Its additional records, from the first one on.
+    /// Returns an iterator over the additional records, from the first one on.
     pub fn additionals(&self) -> Records<R>
         ensures { records_left result ≡ additionals_of self.now }
     {

@@ -1,4 +1,4 @@
-//! The record of EDNS and its options: RFC 6891, 6.1.
+//! OPT records and their options: RFC 6891, 6.1.
 ghost use Rattle.std.specs.Prelude.{◌≡◌, ◌+◌, ◌*◌, ◌/◌, ◌%◌, ◌<◌, IsErr, ⊤};
 ghost use Rattle.octseq.specs.Parser.{window};
 ghost use Rattle.octseq_dns_message.specs.Entry.{Record as Entry};
@@ -21,19 +21,19 @@ pub use crate::opt::typed::{
     ClientSubnet, Cookie, ExtendedError, OptionData, one_reading_of_an_option,
 };
 
-/// A record of EDNS says one thing at most.
+/// An OPT record says at most one thing.
 ///
-/// It does nothing. A caller that calls it has the law in its proof.
+/// It does nothing. Calling it brings the law into the caller's proof.
 pub fn one_opt()
     ensures { (entry : Entry) (opt other : said.Opt) → IsOpt entry opt → IsOpt entry other → opt ≡ other }
 {}
 
-/// An option of EDNS: RFC 6891, 6.1.2.
+/// An EDNS option: RFC 6891, 6.1.2.
 #[derive(Debug)]
 pub struct EdnsOption<R: AsOctets> {
-    /// Its code.
+    /// The code.
     pub code: u16,
-    /// The place of its octets: a parser of the message that begins and ends with them.
+    /// The octets, as a parser of the message limited to them.
     pub octets: Parser<R>,
 }
 
@@ -64,7 +64,7 @@ impl<R: AsOctets + Copy> Fields<R> for EdnsOption<R> {
     }
 }
 
-/// What a record of EDNS says of who sent the message: RFC 6891, 6.1.2 and 6.1.3.
+/// What an OPT record says of the sender of a message: RFC 6891, 6.1.2 and 6.1.3.
 #[derive(Debug)]
 pub struct Opt<R: AsOctets> {
     udp_payload_size: u16,
@@ -96,8 +96,7 @@ impl<R: AsOctets + Copy> Opt<R> {
     ///
     /// # Errors
     ///
-    /// `Malformed` where the record is of another type, or where its data isn't options one after another up to its
-    /// end.
+    /// `Malformed` if the record is of another type, or if its data isn't options one after another up to its end.
     pub fn from_record(entry: &Record<R>) -> Result<Opt<R>, Malformed>
         ensures opt { IfOk result (λ opt. IsOpt (record_of entry.now) (opt_of opt)) }
         ensures malformed { IsErr result → (opt : said.Opt) → ¬ IsOpt (record_of entry.now) opt }
@@ -118,21 +117,21 @@ impl<R: AsOctets + Copy> Opt<R> {
         })
     }
 
-    /// How many octets of a UDP payload the sender takes.
+    /// Returns the number of octets of a UDP payload that the sender takes.
     pub fn udp_payload_size(&self) -> u16
         ensures { result ≡ (opt_of self.now).udp_payload_size }
     {
         self.udp_payload_size
     }
 
-    /// The upper eight bits of a response code of twelve. The lower four are those of the header.
+    /// Returns the upper eight bits of a twelve-bit response code. The lower four are in the header.
     pub fn extended_rcode(&self) -> u8
         ensures { result ≡ (opt_of self.now).extended_rcode }
     {
         self.extended_rcode
     }
 
-    /// The response code of the message, of twelve bits: the record's eight above the four of the header.
+    /// Returns the twelve-bit response code of the message: the eight bits of this record above the four of the header.
     pub fn rcode(&self, header: Header) -> u16
         ensures rcode { result ≡ (opt_of self.now).extended_rcode * 16 + header.rcode }
         ensures most { result < 4096 }
@@ -140,21 +139,21 @@ impl<R: AsOctets + Copy> Opt<R> {
         u16::from(self.extended_rcode) * 16 + u16::from(header.rcode.to_int())
     }
 
-    /// The version of EDNS.
+    /// Returns the version of EDNS.
     pub fn version(&self) -> u8
         ensures { result ≡ (opt_of self.now).version }
     {
         self.version
     }
 
-    /// Whether the sender takes records of DNSSEC: the bit DO of RFC 3225, 3.
+    /// Whether the sender takes DNSSEC records: the DO bit of RFC 3225, 3.
     pub fn dnssec_ok(&self) -> bool
         ensures { result ≡ (opt_of self.now).dnssec_ok }
     {
         self.dnssec_ok
     }
 
-    /// Its options, from the first one on.
+    /// Returns an iterator over the options, from the first one on.
     pub fn options(&self) -> Options<R>
         ensures { options_left result ≡ (opt_of self.now).options }
     {
@@ -164,7 +163,7 @@ impl<R: AsOctets + Copy> Opt<R> {
     }
 }
 
-/// The options that a record of EDNS has left, from the first one on.
+/// An iterator over the options of an OPT record, from the first one on.
 #[derive(Debug)]
 pub struct Options<R: AsOctets> {
     parser: Parser<R>,
@@ -208,7 +207,7 @@ impl<R: AsOctets + Copy> Iterator for Options<R> {
     }
 }
 
-/// Whether the bit DO is set.
+/// Whether the DO bit is set.
 fn is_dnssec_ok(bits: u32) -> bool
     ensures { flag result 32768 ≡ bits / 32768 % 2 * 32768 }
 {

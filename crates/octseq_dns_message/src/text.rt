@@ -1,4 +1,4 @@
-//! The text of TTLs, of headers and of questions.
+//! The text of TTLs, headers and questions.
 ghost use Rattle.std.specs.Prelude.{Some, ◌++◌, codes};
 ghost use Rattle.std.specs.Fmt.{WritesOnOk, decimal};
 ghost use Rattle.octseq_dns_message.specs.HeaderText.{flag_text, flags_text, header_text, question_text};
@@ -20,7 +20,7 @@ impl fmt::Display for Ttl {
     }
 }
 
-/// Prints the number of the message, its opcode, its response code, and its flags that are set, as
+/// Prints the identifier of the message, the opcode, the response code, and the flags that are set, as
 /// `id 4660 opcode 0 rcode 0 flags QR AA RD`.
 impl fmt::Display for Header {
     ghost output = { λ header. Some (header_text header) };
@@ -37,7 +37,7 @@ impl fmt::Display for Header {
     }
 }
 
-/// Writes each flag that is set after a space, from the highest bit to the lowest, but for the one of no meaning.
+/// Writes a space and the name of each flag that is set, from the highest bit to the lowest, except the reserved one.
 fn write_flags<W: fmt::Write>(f: &mut fmt::Formatter<W>, flags: Flags) -> fmt::Result
     ensures { WritesOnOk W.write_str_gives f.old result (flags_text flags) f.new }
 {
@@ -47,7 +47,7 @@ fn write_flags<W: fmt::Write>(f: &mut fmt::Formatter<W>, flags: Flags) -> fmt::R
     write_low_flags(f, flags)
 }
 
-/// Writes those of the four lowest bits that have names.
+/// Writes those of the four lowest flags with names: RD, RA, AD and CD.
 fn write_low_flags<W: fmt::Write>(f: &mut fmt::Formatter<W>, flags: Flags) -> fmt::Result
     ensures { WritesOnOk W.write_str_gives f.old result
         (flag_text flags.rd (codes "RD") ++ flag_text flags.ra (codes "RA")
@@ -59,7 +59,7 @@ fn write_low_flags<W: fmt::Write>(f: &mut fmt::Formatter<W>, flags: Flags) -> fm
     write_flag(f, flags.cd, "CD")
 }
 
-/// Writes the name of a flag that is set after a space.
+/// Writes a space and the name of a flag, if it is set.
 fn write_flag<W: fmt::Write>(f: &mut fmt::Formatter<W>, is_set: bool, name: &str) -> fmt::Result
     ensures { WritesOnOk W.write_str_gives f.old result (flag_text is_set name.now) f.new }
 {

@@ -1,9 +1,9 @@
-//! How long a record may be kept.
+//! The time to live of records.
 ghost use Rattle.std.specs.Prelude.{◌≡◌};
 
 use std::marker::Model;
 
-/// For how many seconds a record may be kept: RFC 1035, 4.1.3; unsigned, with all of its 32 bits. Contracts see the
+/// For how many seconds a record may be cached: RFC 1035, 4.1.3; unsigned, with all of its 32 bits. Contracts see the
 /// number of seconds.
 #[derive(Clone, Copy, Debug, PartialEq, Eq, PartialOrd, Ord, Hash)]
 pub struct Ttl {
@@ -21,14 +21,14 @@ impl Model for Ttl {
 }
 
 impl Ttl {
-    /// A number of seconds.
+    /// Makes the TTL of a number of seconds.
     pub fn from_secs(secs: u32) -> Self
         ensures { result ≡ secs }
     {
         Ttl { secs }
     }
 
-    /// How many seconds.
+    /// Returns the number of seconds.
     pub fn as_secs(self) -> u32
         ensures { result ≡ self }
     {

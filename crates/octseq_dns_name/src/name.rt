@@ -138,8 +138,8 @@ impl<R: AsOctets + Copy> ParsedName<R> {
         Ok(name)
     }
 
-    /// Reads the next name of a message in which a name is known to be there, as in a checked message. The parser is
-    /// then where [`parse`](Self::parse) leaves it, but no pointer is followed.
+    /// Reads the next name of a message, which is known to be there, as in a checked message. The parser is then where
+    /// [`parse`](Self::parse) leaves it, but no pointer is followed.
     #[inline(always)]
     pub fn parse_known(parser: &mut Parser<R>) -> ParsedName<R>
         requires { Named (window parser.old) }

@@ -24,18 +24,18 @@ impl fmt::Display for NotOneQuestion {
 impl<R: AsOctets + Copy> Message<R> {
     ghost use Rattle.octseq_dns_message.specs.Parsed.{questions_of};
 
-    /// Its first question, if it has one.
+    /// Returns the first question, if there is one.
     pub fn first_question(&self) -> Option<Question<R>>
         ensures { option_map question_of result ≡ slice_get (questions_of self.now) 0 }
     {
         self.questions().next()
     }
 
-    /// Its question, where it has exactly one.
+    /// Returns the question, if there is exactly one.
     ///
     /// # Errors
     ///
-    /// `NotOneQuestion` where it has none, or more than one.
+    /// `NotOneQuestion` if there is none, or more than one.
     pub fn sole_question(&self) -> Result<Question<R>, NotOneQuestion>
         ensures sole { IfOk result (λ question. questions_of self.now ≡ question_of question ∷ []) }
         ensures refused { IsErr result → length (questions_of self.now) ≢ 1 }

@@ -1,4 +1,4 @@
-//! The canonical name of the name in the question of a message: RFC 1034, 3.6.2.
+//! The canonical name for the qname of a message: RFC 1034, 3.6.2.
 ghost use Rattle.std.specs.Prelude.{◌≡◌, ◌+◌, ◌*◌, ◌≤◌, List, length, IsSome, IsNone, IfSome};
 ghost use Rattle.octseq_dns_message.specs.Canonical.{IsAlias, LeadsTo, IsCanonical};
 ghost use Rattle.octseq_dns_message.specs.Entry as said;
@@ -12,12 +12,12 @@ use octseq::{AsOctets, Turns};
 use octseq_dns_data::{Class, Data, Rtype};
 use octseq_dns_name::ParsedName;
 
-/// How many aliases are followed at most from the name of a question.
+/// The maximum number of aliases that are followed from the qname.
 pub const ALIAS_MAX: usize = 15;
 
-/// A message has one canonical name at most.
+/// A message has at most one canonical name.
 ///
-/// It does nothing. A caller that calls it has the law in its proof.
+/// It does nothing. Calling it brings the law into the caller's proof.
 pub fn one_canonical_name()
     ensures { (questions : List said.Question) (answers : List said.Record) (name other : named.Name)
         → IsCanonical questions answers name → IsCanonical questions answers other → name ≡ other }
@@ -26,11 +26,11 @@ pub fn one_canonical_name()
 impl<R: AsOctets + Copy> Message<R> {
     ghost use Rattle.octseq_dns_message.specs.Parsed.{questions_of, answers_of};
 
-    /// The name of its first question, or where the answers make that an alias, the name that the aliases lead to.
+    /// Returns the qname of the first question, or, if the answers make it an alias, the name that the aliases lead to.
     ///
-    /// While an answer of type CNAME, of the question's class, has the name, the name in the data of the first such
-    /// answer takes its place; an answer whose data isn't a name isn't counted. There is none where the message has no
-    /// question, nor where more than 15 aliases follow one another, as in a loop of them.
+    /// As long as the name owns an answer of type CNAME and of the question's class, the target of the first such
+    /// answer takes its place. An answer whose data isn't a name is left out. Returns `None` if the message has no
+    /// question, or if more than 15 aliases follow one another, as in a loop.
     pub fn canonical_name(&self) -> Option<ParsedName<R>>
         ensures canonical { IfSome result (λ name.
             IsCanonical (questions_of self.now) (answers_of self.now) (name_of name)) }
@@ -40,8 +40,8 @@ impl<R: AsOctets + Copy> Message<R> {
         self.canonical_name_counted(&mut Turns::new())
     }
 
-    /// The same as [`canonical_name`](Self::canonical_name). It counts a turn for each answer that it looks at, and the
-    /// turns that the names in data take.
+    /// Returns the same as [`canonical_name`](Self::canonical_name), and counts a turn for each answer that it looks
+    /// at, and the turns that the names in data take.
     pub fn canonical_name_counted(&self, turns: &mut Turns) -> Option<ParsedName<R>>
         ensures canonical { IfSome result (λ name.
             IsCanonical (questions_of self.now) (answers_of self.now) (name_of name)) }
@@ -62,7 +62,7 @@ impl<R: AsOctets + Copy> Message<R> {
     }
 }
 
-/// The target of the first of the records that make a name an alias.
+/// Returns the target of the first record that makes a name an alias.
 fn alias_target<R: AsOctets + Copy>(
     records: Records<R>,
     class: Class,
@@ -84,7 +84,7 @@ fn alias_target<R: AsOctets + Copy>(
     None
 }
 
-/// The target of a record, where it makes a name an alias.
+/// Returns the target of a record, if it makes a name an alias.
 fn target_in<R: AsOctets + Copy>(
     entry: &Record<R>,
     class: Class,

@@ -1,4 +1,4 @@
-//! The entries of a message in lists.
+//! The entries of a message, as lists.
 ghost use Rattle.std.specs.Prelude.{◌≡◌, map, IfOk};
 ghost use Rattle.octseq_dns_message.specs.Said.{question_of, record_of};
 ghost use Rattle.octseq_dns_message.specs.Walk.{questions_left, records_left};
@@ -7,14 +7,14 @@ use crate::message::{Message, Question, Questions, Record, Records};
 use octseq::AsOctets;
 use std::alloc::{AllocError, Global};
 
-/// The entries of a message, a list for each section.
+/// The entries of a message: a list for each section.
 #[derive(Debug, Drop)]
 pub struct Sections<R: AsOctets> {
     /// The questions, from the first one on.
     pub questions: Vec<Question<R>>,
     /// The answers.
     pub answers: Vec<Record<R>>,
-    /// The records of authorities.
+    /// The authority records.
     pub authorities: Vec<Record<R>>,
     /// The additional records.
     pub additionals: Vec<Record<R>>,
@@ -23,11 +23,11 @@ pub struct Sections<R: AsOctets> {
 impl<R: AsOctets + Copy> Message<R> {
     ghost use Rattle.octseq_dns_message.specs.Parsed.{questions_of, answers_of, authorities_of, additionals_of};
 
-    /// All entries of the message, in lists. No octet of the message is copied.
+    /// Returns all entries of the message, as lists. No octet of the message is copied.
     ///
     /// # Errors
     ///
-    /// `AllocError` where a request for memory was refused.
+    /// `AllocError` if a request for memory was refused.
     pub fn collect(&self, alloc: Global) -> Result<Sections<R>, AllocError>
         ensures questions { IfOk result (λ sections.
             map question_of sections.questions.items ≡ questions_of self.now) }
@@ -51,7 +51,7 @@ impl<R: AsOctets + Copy> Message<R> {
     }
 }
 
-/// The questions that a walk has left.
+/// Collects the questions that are left.
 fn collect_questions<R: AsOctets + Copy>(
     alloc: Global,
     questions: Questions<R>,
@@ -61,7 +61,7 @@ fn collect_questions<R: AsOctets + Copy>(
     questions.collect(alloc)
 }
 
-/// The records that a walk has left.
+/// Collects the records that are left.
 fn collect_records<R: AsOctets + Copy>(
     alloc: Global,
     records: Records<R>,

@@ -1,4 +1,4 @@
-//! The record of EDNS of a message.
+//! The OPT record of a message.
 ghost use Rattle.std.specs.Prelude.{Option, IsErr, IfOk, option_map};
 ghost use Rattle.octseq_dns_message.specs.Edns.{opt_of};
 ghost use Rattle.octseq_dns_message.specs.MessageOpt.{HaveOpt};
@@ -13,12 +13,12 @@ use octseq_dns_name::Malformed;
 impl<R: AsOctets + Copy> Message<R> {
     ghost use Rattle.octseq_dns_message.specs.Parsed.{additionals_of};
 
-    /// What its record of EDNS says: the additional record of type OPT, if there is one. RFC 6891, 6.1.1.
+    /// Reads the additional record of type OPT, if there is one: RFC 6891, 6.1.1.
     ///
     /// # Errors
     ///
-    /// `Malformed` where more than one additional record is of type OPT, where the one isn't of the root, or where its
-    /// data isn't options one after another up to its end.
+    /// `Malformed` if more than one additional record is of type OPT, if the owner of the only one isn't the root, or
+    /// if its data isn't options one after another up to its end.
     pub fn opt(&self) -> Result<Option<Opt<R>>, Malformed>
         ensures opt { IfOk result (λ found. HaveOpt (additionals_of self.now) (option_map opt_of found)) }
         ensures malformed { IsErr result → (opt : Option said.Opt) → ¬ HaveOpt (additionals_of self.now) opt }

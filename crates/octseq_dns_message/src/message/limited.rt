@@ -6,7 +6,7 @@ use octseq::AsOctets;
 use octseq_dns_data::Rtype;
 use std::alloc::AllocError;
 
-/// The records of one type that a section has left, in their order.
+/// An iterator over the records of one type in a section, in their order.
 #[derive(Debug)]
 pub struct RecordsOfType<R: AsOctets> {
     records: Records<R>,
@@ -30,7 +30,7 @@ impl<R: AsOctets + Copy> Records<R> {
     ghost use Rattle.octseq_dns_message.specs.OfType.{of_type};
     ghost use Rattle.octseq_dns_message.specs.Walk.{records_left};
 
-    /// Those of one type, in their order.
+    /// Returns an iterator over the records of one type, in their order.
     pub fn limit_to(self, rtype: Rtype) -> RecordsOfType<R>
         ensures { limited_left result ≡ of_type rtype (records_left self) }
     {

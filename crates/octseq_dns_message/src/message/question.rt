@@ -11,7 +11,7 @@ use octseq_dns_data::{Class, Rtype};
 use octseq_dns_name::{Malformed, ParsedName};
 use std::alloc::AllocError;
 
-/// A question of a message: the name that is asked for, and which type and class.
+/// A question of a message: the name, the type and the class that are asked for.
 #[derive(Debug)]
 pub struct Question<R: AsOctets> {
     qname: ParsedName<R>,
@@ -38,11 +38,11 @@ impl<R: AsOctets + Copy> Question<R> {
     ghost use Rattle.octseq_dns_name.specs.NameTurns.{CountsName};
     ghost use Rattle.octseq_dns_name.specs.Read.{name_of};
 
-    /// Takes the next question of a message.
+    /// Reads the next question of a message.
     ///
     /// # Errors
     ///
-    /// `Malformed` where no question comes next. The parser is then as it was.
+    /// `Malformed` if no question comes next. The parser is then unchanged.
     #[inline(always)]
     pub fn parse(parser: &mut Parser<R>) -> Result<Question<R>, Malformed>
         ensures question { IfOk result (λ question.
@@ -55,7 +55,7 @@ impl<R: AsOctets + Copy> Question<R> {
         Question::parse_counted(parser, &mut Turns::new())
     }
 
-    /// Takes the next question as [`parse`](Self::parse), and counts the turns that its name takes.
+    /// Reads the next question as [`parse`](Self::parse) does, and counts the turns that its name takes.
     ///
     /// # Errors
     ///
@@ -86,7 +86,7 @@ impl<R: AsOctets + Copy> Question<R> {
         })
     }
 
-    /// Takes the next question of a message that was checked, where one is known to be. No pointer is followed.
+    /// Reads the next question of a checked message, which is known to be there. No pointer is followed.
     #[inline(always)]
     pub(crate) fn parse_known(parser: &mut Parser<R>) -> Question<R>
         requires { ∥ ((question : said.Question) × (v : Window) × IsQuestion (window parser.old) question v) ∥₁ }
@@ -101,21 +101,21 @@ impl<R: AsOctets + Copy> Question<R> {
         }
     }
 
-    /// The name that is asked for.
+    /// Returns the name that is asked for.
     pub fn qname(&self) -> ParsedName<R>
         ensures { name_of result ≡ (question_of self.now).qname }
     {
         self.qname
     }
 
-    /// Which type of records.
+    /// Returns the type that is asked for.
     pub fn qtype(&self) -> Rtype
         ensures { result ≡ (question_of self.now).qtype }
     {
         Rtype::from_int(self.qtype)
     }
 
-    /// Which class.
+    /// Returns the class that is asked for.
     pub fn qclass(&self) -> Class
         ensures { result ≡ (question_of self.now).qclass }
     {
@@ -123,7 +123,7 @@ impl<R: AsOctets + Copy> Question<R> {
     }
 }
 
-/// Takes what comes after the name of a question: a type and a class, which are read at once.
+/// Reads what follows the name of a question: a type and a class, which are read at once.
 #[inline(always)]
 fn parse_after_name<R: AsOctets + Copy>(parser: &mut Parser<R>) -> Result<(u16, u16), Malformed>
     ensures value { IfOk result (λ found. IsAfterName (window parser.old) (found.0, found.1) (window parser.new)) }

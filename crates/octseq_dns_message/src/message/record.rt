@@ -13,8 +13,7 @@ use octseq_dns_data::{Class, Data, Rtype};
 use octseq_dns_name::{Malformed, ParsedName};
 use std::alloc::AllocError;
 
-/// A record of a message: the name that it is of, its type, its class, for how many seconds it may be kept, and where
-/// its data is. [`data`](Self::data) tells what the data says.
+/// A record of a message: its owner, type, class and TTL, and where its data is. [`data`](Self::data) reads the data.
 #[derive(Debug)]
 pub struct Record<R: AsOctets> {
     owner: ParsedName<R>,
@@ -50,11 +49,11 @@ impl<R: AsOctets + Copy> Record<R> {
     ghost use Rattle.octseq_dns_message.specs.Said.{record_of};
     ghost use Rattle.octseq_dns_data.specs.Typed.{rdata_of, IsAt};
 
-    /// Takes the next record of a message.
+    /// Reads the next record of a message.
     ///
     /// # Errors
     ///
-    /// `Malformed` where no record comes next. The parser is then as it was.
+    /// `Malformed` if no record comes next. The parser is then unchanged.
     #[inline(always)]
     pub fn parse(parser: &mut Parser<R>) -> Result<Record<R>, Malformed>
         ensures entry { IfOk result (λ entry.
@@ -67,7 +66,7 @@ impl<R: AsOctets + Copy> Record<R> {
         Record::parse_counted(parser, &mut Turns::new())
     }
 
-    /// Takes the next record as [`parse`](Self::parse), and counts the turns that its name takes.
+    /// Reads the next record as [`parse`](Self::parse) does, and counts the turns that its owner takes.
     ///
     /// # Errors
     ///
@@ -97,7 +96,7 @@ impl<R: AsOctets + Copy> Record<R> {
         })
     }
 
-    /// Takes the next record of a message that was checked, where one is known to be. No pointer is followed.
+    /// Reads the next record of a checked message, which is known to be there. No pointer is followed.
     #[inline(always)]
     pub(crate) fn parse_known(parser: &mut Parser<R>) -> Record<R>
         requires { ∥ ((entry : said.Record) × (v : Window) × IsRecord (window parser.old) entry v) ∥₁ }
@@ -114,35 +113,35 @@ impl<R: AsOctets + Copy> Record<R> {
         }
     }
 
-    /// The name that it is of.
+    /// Returns the owner.
     pub fn owner(&self) -> ParsedName<R>
         ensures { name_of result ≡ (record_of self.now).owner }
     {
         self.owner
     }
 
-    /// Its type.
+    /// Returns the type.
     pub fn rtype(&self) -> Rtype
         ensures { result ≡ (record_of self.now).rtype }
     {
         Rtype::from_int(self.rtype)
     }
 
-    /// Its class.
+    /// Returns the class.
     pub fn class(&self) -> Class
         ensures { result ≡ (record_of self.now).class }
     {
         Class::from_int(self.class)
     }
 
-    /// For how many seconds it may be kept.
+    /// Returns the TTL.
     pub fn ttl(&self) -> Ttl
         ensures { result ≡ (record_of self.now).ttl }
     {
         Ttl::from_secs(self.ttl)
     }
 
-    /// The place of its data: a parser of the message that begins and ends with the data.
+    /// Returns a parser of the message limited to the data.
     pub fn rdata(&self) -> Parser<R>
         ensures place { window result ≡ (record_of self.now).rdata }
         ensures octets { (window result).octets ≡ (record_of self.now).owner.place.octets }
@@ -151,9 +150,9 @@ impl<R: AsOctets + Copy> Record<R> {
         self.rdata
     }
 
-    /// What its data says, by its type and class. Names in it are read in the message, with their pointers, and the
-    /// data ends exactly where its form does. Data that isn't of its type's form is unknown, and so is the data of a
-    /// type that has no form here.
+    /// Reads the data, by the record's type and class. Names in it are read in the message, with their pointers, and
+    /// its form has to end exactly where the data does. Data that doesn't have the form of its type is unknown, and so
+    /// is data of a type without a form here.
     pub fn data(&self) -> Data<R>
         ensures rdata { IsDataOf (record_of self.now) (rdata_of result) }
         ensures place { IsAt (at (record_of self.now).rdata.position (record_of self.now).owner.place) result }
@@ -161,8 +160,9 @@ impl<R: AsOctets + Copy> Record<R> {
         self.data_counted(&mut Turns::new())
     }
 
-    /// What its data says, as [`data`](Self::data), and counts the turns that this takes: for each of two names at most
-    /// the root, each label and each pointer, and for strings, a set of types or parameters at most one for each octet.
+    /// Reads the data as [`data`](Self::data) does, and counts the turns that this takes: for each of at most two
+    /// names, one for the root, each label and each pointer; and for strings, a set of types or parameters, at most one
+    /// for each octet.
     pub fn data_counted(&self, turns: &mut Turns) -> Data<R>
         ensures rdata { IsDataOf (record_of self.now) (rdata_of result) }
         ensures place { IsAt (at (record_of self.now).rdata.position (record_of self.now).owner.place) result }
@@ -180,7 +180,7 @@ impl<R: AsOctets + Copy> Record<R> {
     }
 }
 
-/// Takes what comes after the owner of a record: a type, a class, a TTL, and data after its length. The three numbers are
+/// Reads what follows the owner of a record: a type, a class, a TTL, and data after its length. The three numbers are
 /// read at once.
 #[inline(always)]
 fn parse_after_owner<R: AsOctets + Copy>(

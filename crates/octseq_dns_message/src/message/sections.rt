@@ -1,4 +1,4 @@
-//! The sections of a message, as they are passed for the first time.
+//! The sections of a message, when they are passed for the first time.
 ghost use Rattle.std.specs.Prelude.{◌≡◌, ◌+◌, ◌*◌, ◌≤◌, ℕ, List, IsErr, OnOk};
 ghost use Rattle.octseq.specs.Parser.{sequence, window};
 ghost use Rattle.octseq.specs.Window.{Window, left};
@@ -12,7 +12,7 @@ use crate::message::record::Record;
 use octseq::{AsOctets, Parser, Turns};
 use octseq_dns_name::Malformed;
 
-/// Takes as many questions as `count` says.
+/// Passes `count` questions.
 #[inline(always)]
 pub(crate) fn pass_questions<R: AsOctets + Copy>(
     parser: &mut Parser<R>,
@@ -37,7 +37,7 @@ pub(crate) fn pass_questions<R: AsOctets + Copy>(
     Ok(())
 }
 
-/// Takes as many records as `count` says.
+/// Passes `count` records.
 #[inline(always)]
 pub(crate) fn pass_records<R: AsOctets + Copy>(
     parser: &mut Parser<R>,

@@ -24,9 +24,9 @@ use octseq::{AsOctets, OctetsBuilder, StrBuilder, Truncate};
 use octseq_dns_data::Data;
 use std::fmt;
 
-/// A message has one text at most.
+/// A message has at most one text.
 ///
-/// It does nothing. A caller that calls it has the law in its proof.
+/// It does nothing. Calling it brings the law into the caller's proof.
 pub fn one_text_of_a_message()
     ensures { (header : Header) (questions : List said.Question) (answers authorities additionals : List said.Record)
         (text other : List ℕ) → IsMessageText header questions answers authorities additionals text
@@ -63,7 +63,7 @@ impl<R: AsOctets + Copy> fmt::Display for QuestionLine<R> {
     }
 }
 
-/// The line of a record, after the word of its section.
+/// The line of a record, after the word for its section.
 #[derive(Drop)]
 struct RecordLine<'a, R: AsOctets> {
     word: &'a str,
@@ -82,8 +82,7 @@ impl<'a, R: AsOctets + Copy> fmt::Display for RecordLine<'a, R> {
     }
 }
 
-/// Prints the owner, the time to live, the class, the type and what the data says, as
-/// `example.com. 300 IN A 1.2.3.4`.
+/// Prints the owner, the TTL, the class, the type and the data, as `example.com. 300 IN A 1.2.3.4`.
 impl<R: AsOctets + Copy> fmt::Display for Record<R> {
     ghost output = { λ _. None };
 
@@ -96,7 +95,7 @@ impl<R: AsOctets + Copy> fmt::Display for Record<R> {
     }
 }
 
-/// Writes a record with what its data says.
+/// Writes a record with its data.
 fn write_record<W: fmt::Write, R: AsOctets + Copy>(
     f: &mut fmt::Formatter<W>,
     entry: &Record<R>,
@@ -110,7 +109,7 @@ fn write_record<W: fmt::Write, R: AsOctets + Copy>(
     write!(f, "{owner} {ttl} {class} {rtype} {rdata}")
 }
 
-/// Prints the text of the message as [`append_text`](Message::append_text) appends it: a line for its header, and one
+/// Prints the text of the message as [`append_text`](Message::append_text) appends it: a line for the header, and one
 /// for each question and each record.
 impl<R: AsOctets + Copy> fmt::Display for Message<R> {
     ghost output = { λ _. None };
@@ -144,7 +143,7 @@ fn write_questions<W: fmt::Write, R: AsOctets + Copy>(
     Ok(())
 }
 
-/// Writes a line for each record, after the word of its section.
+/// Writes a line for each record, after the word for its section.
 fn write_records<W: fmt::Write, R: AsOctets + Copy>(
     f: &mut fmt::Formatter<W>,
     word: &str,
@@ -165,15 +164,15 @@ impl<R: AsOctets + Copy> Message<R> {
     ghost use Rattle.octseq_dns_message.specs.Parsed.{header_of, questions_of, answers_of, authorities_of};
     ghost use Rattle.octseq_dns_message.specs.Parsed.{additionals_of};
 
-    /// Appends the text of the message, or nothing: a line for its header, as
+    /// Appends the text of the message, or nothing: a line for the header, as
     /// `id 4660 opcode 0 rcode 0 flags QR AA RD`; one for each question, as `question example.com. IN A`; and one for
-    /// each record after the word of its section, as `answer example.com. 300 IN A 1.2.3.4`. Each ends with a line
+    /// each record after the word for its section, as `answer example.com. 300 IN A 1.2.3.4`. Each ends with a line
     /// feed.
     ///
     /// # Errors
     ///
-    /// `Short` where the text would pass the limit of its type, `Memory` where a request for memory was refused. The
-    /// text is then as it was. (`Display` is never answered, though no contract says so: by std's, a `fmt` may always
+    /// `Short` if the text would pass the limit of its type, `Memory` if a request for memory was refused. The text is
+    /// then unchanged. (`Display` is never returned, though no contract says so: by std's contract, a `fmt` may always
     /// fail.)
     pub fn append_text<B: OctetsBuilder + Truncate>(
         &self,
@@ -201,7 +200,7 @@ impl<R: AsOctets + Copy> Message<R> {
     }
 }
 
-/// Appends the text of a message, or nothing. A part of it may be refused as short, though the whole would fit.
+/// Appends the text of a message, or nothing. A part of it may be refused as short though the whole would fit.
 fn append_whole<B: OctetsBuilder + Truncate, R: AsOctets + Copy>(
     text: &mut StrBuilder<B>,
     message: &Message<R>,
@@ -219,7 +218,7 @@ fn append_whole<B: OctetsBuilder + Truncate, R: AsOctets + Copy>(
 {
     let len = text.len();
     let answer = append_lines(text, message);
-    // What is lent is well formed, as the cut asks, and within the limit.
+    // What is lent is well formed, as the cut requires, and within the limit.
     let _lent = text.as_slice();
     if answer.is_err() {
         text.truncate(len);
@@ -227,7 +226,7 @@ fn append_whole<B: OctetsBuilder + Truncate, R: AsOctets + Copy>(
     answer
 }
 
-/// Whether the text of a message that follows `len` octets passes a limit. It doesn't where it can't be shown.
+/// Whether the text of a message, after `len` octets, passes a limit. Returns `false` if it can't be shown.
 fn passes<R: AsOctets + Copy>(limit: Option<usize>, len: usize, message: &Message<R>) -> bool
     ensures { result ≡ true → (lines : List ℕ) → IsMessageText (header_of message.now) (questions_of message.now)
         (answers_of message.now) (authorities_of message.now) (additionals_of message.now) lines
@@ -263,7 +262,7 @@ fn append_lines<B: OctetsBuilder + Truncate, R: AsOctets + Copy>(
     append_records(text, "additional", message.additionals())
 }
 
-/// Appends a line for each question. A refusal leaves some.
+/// Appends a line for each question. A refusal leaves some of them.
 fn append_questions<B: OctetsBuilder + Truncate, R: AsOctets + Copy>(
     text: &mut StrBuilder<B>,
     questions: Questions<R>,
@@ -281,7 +280,7 @@ fn append_questions<B: OctetsBuilder + Truncate, R: AsOctets + Copy>(
     Ok(())
 }
 
-/// Appends a line for each record, after the word of its section. A refusal leaves some.
+/// Appends a line for each record, after the word for its section. A refusal leaves some of them.
 fn append_records<B: OctetsBuilder + Truncate, R: AsOctets + Copy>(
     text: &mut StrBuilder<B>,
     word: &str,

@@ -1,4 +1,4 @@
-//! Walks over the sections of a message, one entry at a time. They can't fail: the message was read before.
+//! Iterators over the sections of a message. They can't fail: the message was checked before.
 ghost use Rattle.std.specs.Prelude.{◌≡◌, ⊤};
 ghost use Rattle.octseq.specs.Parser.{window};
 ghost use Rattle.octseq_dns_message.specs.Entry.{IsQuestion, IsRecord};
@@ -10,7 +10,7 @@ use crate::message::record::Record;
 use octseq::{AsOctets, Parser};
 use std::alloc::AllocError;
 
-/// The questions that a message has left, from the first one on.
+/// An iterator over the questions of a message, from the first one on.
 #[derive(Debug)]
 pub struct Questions<R: AsOctets> {
     parser: Parser<R>,
@@ -33,7 +33,7 @@ impl<R: AsOctets + Copy> Clone for Questions<R> {
 impl<R: AsOctets + Copy> Questions<R> {
     ghost use Rattle.octseq_dns_message.specs.Walk.{questions_left};
 
-    /// As many as `left` says, which are at the position of a parser.
+    /// Returns an iterator over the `left` entries at a parser's position.
     pub(crate) fn at(parser: Parser<R>, left: u16) -> Questions<R>
         requires { Holds IsQuestion (window parser) left }
         ensures { (held : Holds IsQuestion (window parser) left) → questions_left result ≡ held.0 }
@@ -66,7 +66,7 @@ impl<R: AsOctets + Copy> Iterator for Questions<R> {
     }
 }
 
-/// The records that a section has left, from the first one on.
+/// An iterator over the records of a section, from the first one on.
 #[derive(Debug)]
 pub struct Records<R: AsOctets> {
     parser: Parser<R>,
@@ -89,7 +89,7 @@ impl<R: AsOctets + Copy> Clone for Records<R> {
 impl<R: AsOctets + Copy> Records<R> {
     ghost use Rattle.octseq_dns_message.specs.Walk.{records_left};
 
-    /// As many as `left` says, which are at the position of a parser.
+    /// Returns an iterator over the `left` entries at a parser's position.
     pub(crate) fn at(parser: Parser<R>, left: u16) -> Records<R>
         requires { Holds IsRecord (window parser) left }
         ensures { (held : Holds IsRecord (window parser) left) → records_left result ≡ held.0 }

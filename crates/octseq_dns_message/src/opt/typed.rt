@@ -1,4 +1,4 @@
-//! What options of EDNS say, by their codes.
+//! The data of EDNS options, by their codes.
 ghost use Rattle.std.specs.Prelude.{◌≡◌, ◌+◌, ◌/◌, ◌^◌, ◌<◌, ◌≤◌, ◌↔◌, ℕ, length, IsTrue, IsNone, IfSome, ⊤};
 ghost use Rattle.std.specs.Str.{IsUtf8};
 ghost use Rattle.octseq.specs.Parser.{window};
@@ -15,44 +15,45 @@ use octseq::{AsOctets, Parser};
 use octseq_format::{Format, Octets, Rest, U8, U16Be};
 use std::alloc::AllocError;
 
-/// What a name server tells of itself: RFC 5001, 4.1.
+/// The name server identifier: RFC 5001, 4.1.
 const NSID: u16 = 3;
-/// The subnet of who asked: RFC 7871, 6.
+/// The client subnet: RFC 7871, 6.
 const CLIENT_SUBNET: u16 = 8;
 /// A cookie: RFC 7873, 4.
 const COOKIE: u16 = 10;
-/// Octets that only fill the message: RFC 7830, 3.
+/// Padding: RFC 7830, 3.
 const PADDING: u16 = 12;
 /// An extended error: RFC 8914, 2.
 const EXTENDED_ERROR: u16 = 15;
 
-/// An option of EDNS says one thing at most.
+/// An EDNS option says at most one thing.
 ///
-/// It does nothing. A caller that calls it has the law in its proof.
+/// It does nothing. Calling it brings the law into the caller's proof.
 pub fn one_reading_of_an_option()
     ensures { (option : Found) (one other : said.OptionData) → IsOptionData option one → IsOptionData option other
         → one ≡ other }
 {}
 
-/// The subnet of who asked: RFC 7871, 6.
+/// The client subnet: RFC 7871, 6.
 #[derive(Debug)]
 pub struct ClientSubnet<R: AsOctets> {
     /// The family of the address: 1 for IPv4, 2 for IPv6.
     pub family: u16,
-    /// How many bits of the address are given.
+    /// The source prefix length: the number of bits of the address that are given.
     pub source_prefix_len: u8,
-    /// For how many bits of the address an answer is. A question has 0.
+    /// The scope prefix length: the number of bits of the address that an answer is for. It is 0 in a query.
     pub scope_prefix_len: u8,
-    /// The place of the address: as few octets as hold the bits that are given. The bits after those are 0.
+    /// The address, as a parser of the message limited to it: as few octets as hold the bits that are given. The bits
+    /// after those are 0.
     pub address: Parser<R>,
 }
 
 /// A cookie: RFC 7873, 4.
 #[derive(Debug)]
 pub struct Cookie<R: AsOctets> {
-    /// The cookie of the client.
+    /// The client cookie.
     pub client: [u8; 8],
-    /// The place of the cookie of the server: 8 to 32 octets, or none.
+    /// The server cookie, as a parser of the message limited to it: 8 to 32 octets, or none.
     pub server: Parser<R>,
 }
 
@@ -64,20 +65,20 @@ pub struct ExtendedError<R: AsOctets> {
     ghost utf8: { ∥ IsUtf8 (rest (window text)) ∥₁ },
 }
 
-/// What an option of EDNS says.
+/// The data of an EDNS option.
 #[derive(Debug)]
 pub enum OptionData<R: AsOctets> {
-    /// What a name server tells of itself, any octets: RFC 5001, 2.3.
+    /// The name server identifier, any octets: RFC 5001, 2.3.
     Nsid(Parser<R>),
-    /// The subnet of who asked.
+    /// The client subnet.
     ClientSubnet(ClientSubnet<R>),
     /// A cookie.
     Cookie(Cookie<R>),
-    /// Octets that only fill the message, any: RFC 7830, 3.
+    /// Padding, any octets: RFC 7830, 3.
     Padding(Parser<R>),
     /// An extended error.
     ExtendedError(ExtendedError<R>),
-    /// Anything else: the code, and the place of the octets.
+    /// Data of an unknown form: the code, and a parser of the message limited to the octets.
     Unknown(u16, Parser<R>),
 }
 
@@ -133,8 +134,8 @@ impl<R: AsOctets + Copy> EdnsOption<R> {
     ghost use Rattle.octseq_dns_message.specs.Edns.{option_of};
     ghost use Rattle.octseq_dns_message.specs.TypedOption.{option_data_of};
 
-    /// What it says, by its code. Octets that aren't of their code's form are unknown, and so is an option of a code
-    /// that has no form here.
+    /// Reads the data by the code. Octets that don't have the form of their code are unknown, and so is an option of a
+    /// code without a form here.
     pub fn data(&self) -> OptionData<R>
         ensures { IsOptionData (option_of self.now) (option_data_of result) }
     {
@@ -144,7 +145,7 @@ impl<R: AsOctets + Copy> EdnsOption<R> {
         }
     }
 
-    /// What it says, where it has the form of its code.
+    /// Reads the data, if it has the form of its code.
     fn typed(&self) -> Option<OptionData<R>>
         ensures typed { IfSome result (λ found. IsTypedOption (option_of self.now) (option_data_of found)) }
         ensures none { IsNone result → (found : said.OptionData) → ¬ IsTypedOption (option_of self.now) found }
@@ -163,7 +164,7 @@ impl<R: AsOctets + Copy> EdnsOption<R> {
 impl<R: AsOctets + Copy> ClientSubnet<R> {
     ghost use Rattle.octseq_dns_message.specs.TypedOption.{client_subnet_of};
 
-    /// The client subnet in octets.
+    /// Reads a client subnet.
     fn read(octets: Parser<R>) -> Option<ClientSubnet<R>>
         ensures subnet { IfSome result (λ it. IsClientSubnet (window octets) (client_subnet_of it)) }
         ensures none { IsNone result → (it : said.ClientSubnet) → ¬ IsClientSubnet (window octets) it }
@@ -185,7 +186,8 @@ impl<R: AsOctets + Copy> ClientSubnet<R> {
         Some(subnet)
     }
 
-    /// Whether it gives no more bits than its address has, in as few octets as hold them, and none after them.
+    /// Whether neither prefix is longer than an address of the family, and the address is as few octets as hold the
+    /// source prefix, with zero bits after it.
     fn is_prefix(&self) -> bool
         ensures { IsTrue result ↔ IsPrefix (client_subnet_of self.now) }
     {
@@ -200,7 +202,7 @@ impl<R: AsOctets + Copy> ClientSubnet<R> {
     }
 }
 
-/// How many bits the addresses of a family have.
+/// Returns the number of bits of the addresses of a family.
 fn bits_of_family(family: u16) -> Option<u8>
     ensures some { IfSome result (HasAddressesOf family) }
     ensures none { IsNone result → (bits : ℕ) → ¬ HasAddressesOf family bits }
@@ -212,7 +214,7 @@ fn bits_of_family(family: u16) -> Option<u8>
     }
 }
 
-/// Whether octets are as few as hold a number of bits, and the bits after those are 0. Those are in the last octet.
+/// Whether octets are as few as hold a number of bits, and the bits after those, in the last octet, are 0.
 fn holds_bits(octets: &[u8], bits: u8) -> bool
     ensures { IsTrue result ↔ HoldsBits bits octets.now }
 {
@@ -225,7 +227,7 @@ fn holds_bits(octets: &[u8], bits: u8) -> bool
     }
 }
 
-/// What a bit of an octet counts, by how many are below it.
+/// Returns the weight of a bit of an octet, by the number of bits below it.
 fn weight(below: usize) -> u8
     requires { below < 8 }
     ensures { result ≡ 2 ^ below }
@@ -236,7 +238,7 @@ fn weight(below: usize) -> u8
 impl<R: AsOctets + Copy> Cookie<R> {
     ghost use Rattle.octseq_dns_message.specs.TypedOption.{cookie_of};
 
-    /// The cookie in octets.
+    /// Reads a cookie.
     fn read(octets: Parser<R>) -> Option<Cookie<R>>
         ensures cookie { IfSome result (λ it. IsCookie (window octets) (cookie_of it)) }
         ensures none { IsNone result → (it : said.Cookie) → ¬ IsCookie (window octets) it }
@@ -257,7 +259,7 @@ impl<R: AsOctets + Copy> Cookie<R> {
 impl<R: AsOctets + Copy> ExtendedError<R> {
     ghost use Rattle.octseq_dns_message.specs.TypedOption.{extended_error_of};
 
-    /// The extended error in octets.
+    /// Reads an extended error.
     fn read(octets: Parser<R>) -> Option<ExtendedError<R>>
         ensures extended_error { IfSome result (λ it. IsExtendedError (window octets) (extended_error_of it)) }
         ensures none { IsNone result → (it : said.ExtendedError) → ¬ IsExtendedError (window octets) it }
@@ -274,14 +276,14 @@ impl<R: AsOctets + Copy> ExtendedError<R> {
         }
     }
 
-    /// Its code: RFC 8914, 4.
+    /// Returns the code: RFC 8914, 4.
     pub fn code(&self) -> u16
         ensures { result ≡ (extended_error_of self.now).code }
     {
         self.code
     }
 
-    /// The text that says more, for people: a 0 at its end is left away.
+    /// Returns the extra text, for people, without a 0 at its end.
     pub fn text(&self) -> &str
         ensures { result.now ≡ (extended_error_of self.now).text }
     {
@@ -292,7 +294,7 @@ impl<R: AsOctets + Copy> ExtendedError<R> {
     }
 }
 
-/// Octets without a 0 at their end, if there is one.
+/// Returns the octets without a 0 at their end, if there is one.
 fn without_zero<R: AsOctets + Copy>(octets: Parser<R>) -> Parser<R>
     ensures { IsWithoutZero (rest (window octets)) (rest (window result)) }
 {

@@ -1,4 +1,4 @@
--- As many aliases were followed as the counter says.
+-- The counter says how many aliases were followed.
 use Rattle.std.proofs.Common.{◌≡◌, ℕ, ◌+◌, ◌*◌, ◌≤◌, length}
 use Rattle.octseq_dns_message.specs.Canonical.{Chain}
 use Rattle.octseq_dns_message.specs.Parsed.{answers_of}

@@ -1,4 +1,4 @@
--- What was passed makes the name no alias.
+-- What was passed doesn't make the name an alias.
 use Rattle.std.proofs.Common.{◌+◌, ◌*◌, ◌≤◌, length}
 use Rattle.octseq_dns_message.specs.Canonical.{LeadsTo}
 use Rattle.octseq_dns_message.specs.Walk.{records_left}

@@ -1,4 +1,4 @@
--- As many were passed as the counter says.
+-- The counter says how many were passed.
 use Rattle.std.proofs.Common.{◌≡◌, ◌+◌, ◌*◌, ◌≤◌, List}
 use Rattle.octseq.specs.Parser.{sequence, window}
 use Rattle.octseq.specs.Window.{left}

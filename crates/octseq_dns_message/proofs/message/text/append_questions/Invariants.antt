@@ -1,4 +1,4 @@
--- What was appended, and the text of the questions ahead, are the text of the questions.
+-- What was appended, followed by the text of the questions ahead, is the text of the questions.
 use Rattle.std.proofs.Common.{◌≡◌, ◌++◌, ℕ, List}
 use Rattle.octseq_dns_message.specs.MessageText.{questions_text}
 use Rattle.octseq_dns_message.specs.Walk.{questions_left}

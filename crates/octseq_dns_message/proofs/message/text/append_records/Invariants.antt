@@ -1,4 +1,4 @@
--- What was appended, and any text of the records ahead, are a text of the records.
+-- What was appended, followed by any text of the records ahead, is a text of the records.
 use Rattle.std.proofs.Common.{◌≡◌, ◌++◌, ℕ, List}
 use Rattle.octseq_dns_message.specs.MessageText.{IsRecordsText}
 use Rattle.octseq_dns_message.specs.Walk.{records_left}

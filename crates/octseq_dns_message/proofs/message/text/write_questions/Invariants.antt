@@ -1,4 +1,4 @@
--- What is written, and the text of the questions ahead, are the text of the questions.
+-- What is written, followed by the text of the questions ahead, is the text of the questions.
 use Rattle.std.proofs.Common.{◌≡◌, ◌++◌, ℕ, List}
 use Rattle.std.specs.Fmt.{HasWritten, IsPlainFormatter}
 use Rattle.octseq_dns_message.specs.MessageText.{questions_text}

@@ -1,4 +1,4 @@
--- What is written, and any text of the records ahead, are a text of the records.
+-- What is written, followed by any text of the records ahead, is a text of the records.
 use Rattle.std.proofs.Common.{◌++◌, ℕ, List}
 use Rattle.std.specs.Fmt.{HasWritten, IsPlainFormatter}
 use Rattle.octseq_dns_message.specs.MessageText.{IsRecordsText}
