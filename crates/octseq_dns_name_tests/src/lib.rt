@@ -1,4 +1,4 @@
-//! Tests of domain names: what no proof sees.
+//! Tests of domain names: what no proof covers.
 #![tactic(auto)]
 
 #[cfg(test)]

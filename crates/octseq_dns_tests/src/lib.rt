@@ -1,7 +1,7 @@
-//! Tests of names and messages of DNS: what no proof sees.
+//! Tests of DNS names and messages: what no proof covers.
 //!
-//! A crate with tests is proved twice, with them and without. So they stand in a crate of their own, on the public
-//! calls alone.
+//! A crate with tests is proved twice, with and without them. So they have a crate of their own, which uses the public
+//! calls only.
 #![tactic(auto)]
 
 #[cfg(test)]

@@ -1,7 +1,7 @@
 use std::fmt::Debug;
 use std::process::Abort;
 
-/// What an assertion calls: it ends the test where two values differ.
+/// Called by an assertion: ends the test if two values differ.
 fn equal<T: PartialEq + Debug + Drop>(rt: &impl Abort, what: &str, left: T, right: T) {
     assert_eq!(rt; left, right, "{what}");
 }

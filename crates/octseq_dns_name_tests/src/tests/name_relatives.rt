@@ -1,4 +1,4 @@
-//! Names of DNS beside others: parents, suffixes, first and last labels, and texts with an origin.
+//! Relations between domain names: parents, suffixes, first and last labels, and texts with an origin.
 use octseq::{Array, Octets, Parser};
 use octseq_asserts::{Case, assert_equal, over_each};
 use octseq_dns_name::error::FromTextError;
@@ -7,7 +7,7 @@ use std::alloc::{AllocGlobal, Global};
 use std::process::Abort;
 use std::test::Fail;
 
-/// The name at a place of a message.
+/// Reads the name at a place of a message.
 fn name_at<R: Octets + Copy>(octets: R, place: usize) -> Result<ParsedName<R>, Fail> {
     let mut parser = Parser::from_ref(octets);
     parser.seek(place)?;
@@ -18,7 +18,7 @@ fn name_at<R: Octets + Copy>(octets: R, place: usize) -> Result<ParsedName<R>, F
 /// 24.
 const MESSAGE: &[u8] = b"\x00\x03COM\x00\x07example\xC0\x01\x03WWW\xC0\x06\xC0\x10\xC0\x00";
 
-/// A name has a parent of this text, or none.
+/// Checks that a name has a parent of this text, or none.
 fn has_parent<R: Octets + Copy>(
     rt: &(impl Abort + AllocGlobal),
     name: &ParsedName<R>,
@@ -35,7 +35,7 @@ fn has_parent<R: Octets + Copy>(
     Ok(())
 }
 
-/// The place of the parent of the name at a place.
+/// Returns the place of the parent of the name at a place.
 fn parent_place<R: Octets + Copy>(octets: R, place: usize) -> Result<Option<usize>, Fail> {
     match name_at(octets, place)?.parent() {
         Some(parent) => Ok(Some(parent.parser().pos())),
@@ -43,7 +43,7 @@ fn parent_place<R: Octets + Copy>(octets: R, place: usize) -> Result<Option<usiz
     }
 }
 
-/// A name has suffixes of these texts.
+/// Checks that a name has suffixes of these texts.
 fn has_suffixes<R: Octets + Copy>(
     rt: &(impl Abort + AllocGlobal),
     name: &ParsedName<R>,
@@ -123,7 +123,7 @@ fn suffixes_go_on_to_the_root(rt: HostRuntime) -> Result<(), Fail> {
     over_each(&rt, &HasSuffixes, MESSAGE)
 }
 
-/// Whether a name ends and begins with the one that a text spells.
+/// Whether a name ends with the name that a text spells, and whether it begins with it.
 fn relation_of<R: Octets + Copy>(name: &ParsedName<R>, text: &str) -> Result<(bool, bool), Fail> {
     let base = Name::from_text(text)?;
     let (ends, starts) = (
@@ -202,7 +202,7 @@ fn a_name_of_its_own_has_relatives_too(rt: HostRuntime) -> Result<(), Fail> {
     Ok(())
 }
 
-/// The text of labels of these lengths, each with a full stop after it.
+/// Returns the text of labels of these lengths, each followed by a full stop.
 fn text_of(alloc: Global, lengths: &[usize]) -> Result<String, Fail> {
     let mut text = String::new(alloc);
     for len in lengths {
@@ -249,7 +249,7 @@ fn a_name_of_255_octets_has_relatives(rt: HostRuntime) -> Result<(), Fail> {
     Ok(())
 }
 
-/// The text of the name that a text spells with an origin, or why it spells none.
+/// Returns the text of the name that a text spells with an origin, or why it doesn't spell one.
 fn with_origin<R: Octets + Copy>(
     alloc: Global,
     text: &str,
@@ -324,7 +324,8 @@ fn a_text_with_an_origin_is_refused_by_reason(rt: HostRuntime) -> Result<(), Fai
     Ok(())
 }
 
-/// Why labels of these lengths spell no name with an origin of 17 octets, where the last one has no full stop after it.
+/// Returns why labels of these lengths, without a full stop after the last one, don't spell a name with an origin of 17
+/// octets.
 fn relative_refusal(alloc: Global, lengths: &[usize]) -> Result<Option<FromTextError>, Fail> {
     let origin = name_at(MESSAGE, 16)?;
     let mut text = text_of(alloc, lengths)?;

@@ -1,4 +1,4 @@
-//! Names of DNS as text, and how they compare.
+//! The text of domain names, and how they compare.
 use octseq::{AppendError, Array, AsOctets, EmptyBuilder, Octets, Parser, ShortBuf};
 use octseq_asserts::{Case, assert_equal, over_each};
 use octseq_dns_name::error::{FromLabelsError, FromTextError};
@@ -9,7 +9,7 @@ use std::hash::{DefaultHasher, Hash, Hasher};
 use std::process::Abort;
 use std::test::Fail;
 
-/// The text of the name at the octets' front.
+/// Returns the text of the name at the front of octets.
 fn text_of(alloc: Global, octets: &[u8]) -> Result<String, Fail> {
     let name = ParsedName::parse(&mut Parser::from_ref(octets))?;
     Ok(format!(in alloc; "{name}")?)
@@ -33,7 +33,7 @@ fn a_name_shows_with_escapes(rt: HostRuntime) -> Result<(), Fail> {
     Ok(())
 }
 
-/// How two names compare, and whether they are equal.
+/// Compares two names, and tests whether they are equal.
 fn compared(one: &[u8], other: &[u8]) -> Result<(Ordering, bool), Fail> {
     let name = ParsedName::parse(&mut Parser::from_ref(one))?;
     let other_name = ParsedName::parse(&mut Parser::from_ref(other))?;
@@ -81,14 +81,14 @@ fn ascii_letters_alone_have_two_cases(rt: HostRuntime) -> Result<(), Fail> {
     Ok(())
 }
 
-/// What a name is hashed to.
+/// Returns the hash of a value.
 fn hash_of<T: Hash>(value: &T) -> u64 {
     let mut hasher = DefaultHasher::new();
     value.hash(&mut hasher);
     hasher.finish()
 }
 
-/// The labels of two names are equal, and have one hash.
+/// Checks that the labels of two names are equal, and have equal hashes.
 fn have_equal_labels<R: Octets + Copy>(
     rt: &impl Abort,
     name: &ParsedName<R>,
@@ -136,7 +136,7 @@ fn names_of_one_message_compare(rt: HostRuntime) -> Result<(), Fail> {
     )
 }
 
-/// A copy of a name has its octets in plain form.
+/// Checks that a copy of a name has its octets in plain form.
 fn has_its_octets<R: Octets + Copy>(
     rt: &(impl Abort + AllocGlobal),
     name: &ParsedName<R>,
@@ -152,7 +152,7 @@ fn has_its_octets<R: Octets + Copy>(
     Ok(())
 }
 
-/// A copy of a name compares, is hashed and shows as the name does.
+/// Checks that a copy of a name compares, is hashed and is shown as the name is.
 fn is_as_the_name<R: Octets + Copy>(
     rt: &(impl Abort + AllocGlobal),
     name: &ParsedName<R>,
@@ -165,7 +165,7 @@ fn is_as_the_name<R: Octets + Copy>(
     Ok(())
 }
 
-/// Copies of two names compare as these do.
+/// Checks that copies of two names compare as the names do.
 fn is_before<R: Octets + Copy>(
     rt: &(impl Abort + AllocGlobal),
     first: &ParsedName<R>,
@@ -181,7 +181,7 @@ fn is_before<R: Octets + Copy>(
     Ok(())
 }
 
-/// A copy of a name stands in an array that has room for it, and in no smaller one.
+/// Checks that a copy of a name fits an array that has room for it, and no smaller one.
 fn is_held<R: Octets + Copy>(
     rt: &(impl Abort + AllocGlobal),
     name: &ParsedName<R>,
@@ -193,7 +193,7 @@ fn is_held<R: Octets + Copy>(
     Ok(())
 }
 
-/// A copy of the root is the root.
+/// Checks that a copy of the root is the root.
 fn is_root<R: Octets + Copy>(
     rt: &(impl Abort + AllocGlobal),
     name: &ParsedName<R>,
@@ -225,7 +225,7 @@ fn a_name_is_copied_with_its_octets(rt: HostRuntime) -> Result<(), Fail> {
     over_each(&rt, &IsCopied, b"\x00\x07example\x00\x03www\xC0\x01")
 }
 
-/// The plain wire form of the name that a text spells, or why it spells none.
+/// Returns the plain wire form of the name that a text spells, or why it doesn't spell one.
 fn wire_of(alloc: Global, text: &str) -> Result<Result<Vec<u8>, FromTextError>, Fail> {
     match Name::from_text(text) {
         Ok(name) => Ok(Ok(name.as_slice().to_vec(alloc)?)),
@@ -324,7 +324,7 @@ fn the_text_of_a_name_has_its_limits(rt: HostRuntime) -> Result<(), Fail> {
     Ok(())
 }
 
-/// The plain wire form of the name that is made of labels, in a builder of this type.
+/// Returns the plain wire form of the name made from labels, in a builder of this type.
 fn made_of<B: EmptyBuilder>(alloc: Global, labels: &[&[u8]]) -> Result<Vec<u8>, Fail> {
     let name = Name::<B>::from_labels(alloc, labels)?;
     Ok(name.into_octets().as_ref().to_vec(alloc)?)
@@ -343,7 +343,7 @@ fn a_name_is_made_of_labels(rt: HostRuntime) -> Result<(), Fail> {
     Ok(())
 }
 
-/// Why labels make no name in a builder of this type.
+/// Returns why labels don't make a name in a builder of this type.
 fn refusal_of<B: EmptyBuilder>(alloc: Global, labels: &[&[u8]]) -> Option<FromLabelsError> {
     Name::<B>::from_labels(alloc, labels).err()
 }

@@ -1,4 +1,4 @@
-//! Names and messages of DNS.
+//! DNS names and messages.
 use octseq::{AsOctets, Octets, Parser, ReadError};
 use octseq_asserts::{Case, assert_equal, assert_true, over_each};
 use octseq_dns::header::Flags;
@@ -7,7 +7,7 @@ use std::alloc::{AllocGlobal, Global};
 use std::process::Abort;
 use std::test::Fail;
 
-/// Where reading goes on behind the name at a place of the octets, and the name's wire length.
+/// Returns the place after the name at a place of octets, and the wire length of the name.
 fn name_at(octets: &[u8], place: usize) -> Option<(usize, usize)> {
     let mut parser = Parser::from_ref(octets);
     parser.seek(place).ok()?;
@@ -17,7 +17,7 @@ fn name_at(octets: &[u8], place: usize) -> Option<(usize, usize)> {
     }
 }
 
-/// The labels of the name at a place are these.
+/// Checks the labels of the name at a place.
 fn has_labels(rt: &impl Abort, octets: &[u8], place: usize, wanted: &[&[u8]]) -> Result<(), Fail> {
     let mut parser = Parser::from_ref(octets);
     parser.seek(place)?;
@@ -94,7 +94,7 @@ fn a_name_has_255_octets_at_most(rt: HostRuntime) -> Result<(), Fail> {
     Ok(())
 }
 
-/// A root, and behind it so many pointers, each to the one before it and the first to the root.
+/// Makes a root followed by this many pointers: the first one points to the root, and each other to the one before it.
 fn chain(alloc: Global, pointers: u8) -> Result<Vec<u8>, Fail> {
     let mut octets = Vec::new(alloc);
     octets.push(0)?;
@@ -125,7 +125,7 @@ impl<H: Abort + AllocGlobal> Case<H> for IsRead {
         let header = message.header();
         assert_equal!(rt, (header.id, header.flags.qr), (4660, true));
         let copy = message.clone()?;
-        // (the header's counts bound those of the walks)
+        // (the header's counts bound those of the iterators)
         let _counts = copy.header_counts();
         let counts = (
             copy.questions().count(),
@@ -191,7 +191,7 @@ impl<H: Abort + AllocGlobal> Case<H> for EveryField {
     }
 }
 
-/// The test on octets as they are.
+/// Runs the test on a slice.
 fn has_every_field<H: Abort + AllocGlobal>(rt: &H, octets: &[u8]) -> Result<(), Fail> {
     EveryField.holds(rt, octets)
 }
@@ -206,7 +206,7 @@ fn every_field_of_a_message_is_read(rt: HostRuntime) -> Result<(), Fail> {
     has_labels(&rt, octets, 29, &[b"example", b"com"])
 }
 
-/// The header of a message.
+/// Returns the header of a message.
 fn header_of<R: Octets + Copy>(octets: R) -> Result<Header, Malformed> {
     Ok(Message::parse(octets)?.header())
 }
@@ -299,7 +299,7 @@ fn what_is_no_message_is_malformed(rt: HostRuntime) -> Result<(), Fail> {
     Ok(())
 }
 
-/// A message of two records of the root, the first of which has so much data that the second ends at 65537.
+/// Makes a message of two records of the root. The first one has so much data that the second ends at 65537.
 fn too_long(alloc: Global) -> Result<Vec<u8>, Fail> {
     let mut octets = Vec::new(alloc);
     octets.extend_from_slice(b"\x00\x00\x00\x00\x00\x00\x00\x00\x00\x00\x00\x02")?;

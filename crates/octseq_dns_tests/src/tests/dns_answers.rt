@@ -1,5 +1,5 @@
-//! Answers that are written: to a message that was read, within a limit of pushes, and with a record of EDNS. Data of
-//! type TXT that is made of strings.
+//! Answers that are written: to a message that was read, within a push limit, and with an OPT record. TXT data made
+//! from strings.
 use arrayvec::ArrayVec;
 use octseq::builder::AsOctetsMut;
 use octseq::error::WriteError;
@@ -16,13 +16,13 @@ use octseq_dns::{
 use std::process::Abort;
 use std::test::Fail;
 
-/// A table of few targets.
+/// A table of a few targets.
 type Table = ArrayVec<Target, 8>;
 
-/// The refusal of what passes a limit.
+/// The refusal of what exceeds a limit.
 const SHORT: Result<(), AppendError> = Err(AppendError::Short(ShortBuf));
 
-/// The answer to a request, in so many octets, with no record.
+/// Makes the answer to a request, without records, in an array of 64 octets.
 fn answer_to(request: &[u8], rcode: Rcode) -> Result<Array<64>, Fail> {
     let request = Message::parse(request)?;
     let message = MessageBuilder::from_builder(Array::<64>::new(), Table::new())?;
@@ -72,7 +72,7 @@ fn an_answer_is_refused_where_its_questions_pass_a_limit(rt: HostRuntime) -> Res
     Ok(())
 }
 
-/// A question and two answers, whose names are pointers to it.
+/// A question and two answers, whose owners are pointers to the qname.
 const MESSAGE: &[u8] = b"\0\0\0\0\0\x01\0\x02\0\0\0\0\x07example\x03com\0\0\x01\0\x01\
 \xC0\x0C\0\x01\0\x01\0\0\x01\x2C\0\x04\x01\x02\x03\x04\
 \xC0\x0C\0\x01\0\x01\0\0\x01\x2C\0\x04\x05\x06\x07\x08";
@@ -95,7 +95,7 @@ fn push_answer<B: OctetsBuilder + Truncate + AsOctetsMut>(
     Ok(answers.push_record(&name.parsed(), Class::IN, Ttl::from_secs(300), &rdata))
 }
 
-/// What is pushed of the question and the answers within a limit, up to the first that is refused: how many octets.
+/// Pushes the question and the answers within a limit, until one is refused. Returns the number of octets.
 fn pushed_within(rt: &impl Abort, limit: usize) -> Result<usize, Fail> {
     let mut message = MessageBuilder::from_builder(Array::<61>::new(), Table::new())?;
     message.set_push_limit(limit);
@@ -157,7 +157,7 @@ fn a_builder_has_its_own_limit_too(rt: HostRuntime) -> Result<(), Fail> {
     Ok(())
 }
 
-/// A record of EDNS with a cookie of RFC 7873, 4, alone in a message.
+/// A message with only an OPT record, which has a cookie: RFC 7873, 4.
 const WITH_OPT: &[u8] = b"\0\0\0\0\0\0\0\0\0\0\0\x01\0\0\x29\x04\xD0\x01\0\x80\0\0\x0C\
 \0\x0A\0\x08\x01\x02\x03\x04\x05\x06\x07\x08";
 
@@ -167,7 +167,7 @@ const COOKIE: UnknownOptData<'static> = UnknownOptData {
     octets: b"\x01\x02\x03\x04\x05\x06\x07\x08",
 };
 
-/// A message to which additional records are pushed.
+/// Makes a message to which additional records are pushed.
 fn additionals<B: OctetsBuilder + Truncate + AsOctetsMut>(
     octets: B,
 ) -> Result<AdditionalBuilder<B, Table>, Fail> {
@@ -175,7 +175,7 @@ fn additionals<B: OctetsBuilder + Truncate + AsOctetsMut>(
     Ok(message.question().answer().authority().additional())
 }
 
-/// Pushes a record of EDNS with options.
+/// Pushes an OPT record with options.
 pub(super) fn push_opt<B: OctetsBuilder + Truncate + AsOctetsMut, T: Compressor>(
     additionals: &mut AdditionalBuilder<B, T>,
     options: &[UnknownOptData<'_>],
@@ -308,7 +308,7 @@ fn what_is_no_string_is_refused(rt: HostRuntime) -> Result<(), Fail> {
     Ok(())
 }
 
-/// The strings of a text of so many octets.
+/// Checks the lengths of the strings of a text of this many octets.
 fn lengths_of_strings(rt: &impl Abort, len: usize, wanted: &[usize]) -> Result<(), Fail> {
     let text = [b'x'; 600];
     let text = text.get(..len).ok_or("a long text")?;

@@ -9,11 +9,11 @@ use std::alloc::{AllocError, AllocGlobal, Global};
 use std::process::Abort;
 use std::test::Fail;
 
-/// A question for `example.com.`, at place 12, and the owner of an answer, which points to it.
+/// A question for `example.com.` at place 12, and the owner of an answer, which points to it.
 const FRONT: &[u8] =
     b"\x12\x34\x85\x80\x00\x01\x00\x01\x00\x00\x00\x00\x07example\x03com\x00\x00\x01\x00\x01\xC0\x0C";
 
-/// A message with one answer of a type, a class and data.
+/// Makes a message with one answer of a type, a class and data.
 fn answer(alloc: Global, rtype: u8, class: u8, rdata: &[u8]) -> Result<Vec<u8>, Fail> {
     let mut octets = Vec::new(alloc);
     octets.extend_from_slice(FRONT)?;
@@ -23,7 +23,7 @@ fn answer(alloc: Global, rtype: u8, class: u8, rdata: &[u8]) -> Result<Vec<u8>, 
     Ok(octets)
 }
 
-/// Appends each label with a full stop behind it.
+/// Appends each label, followed by a full stop.
 fn push_name<R: Octets + Copy>(text: &mut Vec<u8>, name: &ParsedName<R>) -> Result<(), AllocError> {
     for label in name.labels() {
         text.extend_from_slice(label.as_slice())?;
@@ -48,7 +48,7 @@ fn push_named<R: Octets + Copy>(
     push_name(text, name)
 }
 
-/// Appends the start of a zone: two names and five numbers.
+/// Appends a start of authority: two names and five numbers.
 fn push_soa<R: Octets + Copy>(text: &mut Vec<u8>, soa: &Soa<R>) -> Result<(), AllocError> {
     push_named(text, b"soa ", &soa.mname)?;
     push_name(text, &soa.rname)?;
@@ -58,7 +58,7 @@ fn push_soa<R: Octets + Copy>(text: &mut Vec<u8>, soa: &Soa<R>) -> Result<(), Al
     Ok(())
 }
 
-/// Appends strings, each with a bar behind it.
+/// Appends strings, each followed by a bar.
 fn push_txt<R: Octets + Copy>(text: &mut Vec<u8>, txt: &Txt<R>) -> Result<(), AllocError> {
     text.extend_from_slice(b"txt ")?;
     for string in txt.strings() {
@@ -68,7 +68,7 @@ fn push_txt<R: Octets + Copy>(text: &mut Vec<u8>, txt: &Txt<R>) -> Result<(), Al
     Ok(())
 }
 
-/// Appends the place of a service: three numbers and a name.
+/// Appends a service record: three numbers and a name.
 fn push_srv<R: Octets + Copy>(text: &mut Vec<u8>, srv: &Srv<R>) -> Result<(), AllocError> {
     text.extend_from_slice(b"srv ")?;
     for number in [srv.priority, srv.weight, srv.port] {
@@ -77,7 +77,7 @@ fn push_srv<R: Octets + Copy>(text: &mut Vec<u8>, srv: &Srv<R>) -> Result<(), Al
     push_name(text, &srv.target)
 }
 
-/// Appends a word for the form, and its parts: addresses and numbers as octets, a bar behind each string.
+/// Appends a word for the form, and its parts: addresses and numbers as octets, and strings each followed by a bar.
 fn push_data<R: Octets + Copy>(text: &mut Vec<u8>, found: &Data<R>) -> Result<(), AllocError> {
     match found {
         Data::A(octets) => push_octets(text, b"a ", octets),
@@ -97,7 +97,7 @@ fn push_data<R: Octets + Copy>(text: &mut Vec<u8>, found: &Data<R>) -> Result<()
     }
 }
 
-/// What the data of the answers of a message says.
+/// Returns what the data of the answers of a message says.
 fn said<R: Octets + Copy>(alloc: Global, octets: R) -> Result<Vec<u8>, Fail> {
     let message = Message::parse(octets)?;
     let mut text = Vec::new(alloc);
@@ -197,7 +197,7 @@ fn a_zone_begins_with_two_names_and_five_numbers(rt: HostRuntime) -> Result<(), 
     Ok(())
 }
 
-/// Behind the data `\x01a` of a name server stands the octet 0, with which a record of the root begins.
+/// The data `\x01a` of a name server is followed by the octet 0, with which a record of the root begins.
 #[test]
 fn a_name_ends_where_its_data_does(rt: HostRuntime) -> Result<(), Fail> {
     let octets = b"\x00\x00\x80\x00\x00\x00\x00\x02\x00\x00\x00\x00\
@@ -264,10 +264,11 @@ fn strings_stand_in_the_message(rt: HostRuntime) -> Result<(), Fail> {
     over_each(&rt, &StringsStandInTheMessage, octets.as_slice())
 }
 
-/// What a record says of EDNS: the size, the response code, the version and the bit DO.
+/// What an OPT record says: the payload size, the response code, the version and the DO bit.
 type Edns = Option<(u16, u8, u8, bool)>;
 
-/// What the additional record of a message says of EDNS. Each option is appended, its code before its octets.
+/// Returns what the additional record of a message says as an OPT record. Appends each option: its code, and its
+/// octets.
 fn edns<R: Octets + Copy>(options: &mut Vec<u8>, octets: R) -> Result<Edns, Fail> {
     for entry in Message::parse(octets)?.additionals() {
         return match Opt::from_record(&entry) {

@@ -1,5 +1,5 @@
 //! What users of a DNS library expect of a message that was read: its question, the records of one type, its canonical
-//! name, its record of EDNS, and what the options of that say.
+//! name, its OPT record, and the data of its options.
 use octseq::Turns;
 use octseq::octets::Octets;
 use octseq_asserts::{Case, assert_equal, assert_true, over_each};
@@ -13,7 +13,7 @@ use std::test::Fail;
 /// A question for `example.com.` of class IN, at place 12.
 const QUESTION: &[u8] = b"\x07example\x03com\x00\x00\x01\x00\x01";
 
-/// A header with counts.
+/// Appends a header with counts.
 fn header(octets: &mut Vec<u8>, counts: [u8; 4]) -> Result<(), AllocError> {
     octets.extend_from_slice(b"\x12\x34\x81\x87")?;
     for count in counts {
@@ -22,7 +22,7 @@ fn header(octets: &mut Vec<u8>, counts: [u8; 4]) -> Result<(), AllocError> {
     Ok(())
 }
 
-/// Appends each label of a name with a full stop after it.
+/// Appends each label of a name, followed by a full stop.
 fn push_name<R: Octets + Copy>(text: &mut Vec<u8>, name: &ParsedName<R>) -> Result<(), AllocError> {
     for label in name.labels() {
         text.extend_from_slice(label.as_slice())?;
@@ -31,7 +31,7 @@ fn push_name<R: Octets + Copy>(text: &mut Vec<u8>, name: &ParsedName<R>) -> Resu
     Ok(())
 }
 
-/// A message with as many questions as a number says, each for `example.com.`.
+/// Makes a message of `count` questions for `example.com.`.
 fn asked(alloc: Global, count: u8) -> Result<Vec<u8>, Fail> {
     let mut octets = Vec::new(alloc);
     header(&mut octets, [count, 0, 0, 0])?;
@@ -41,7 +41,7 @@ fn asked(alloc: Global, count: u8) -> Result<Vec<u8>, Fail> {
     Ok(octets)
 }
 
-/// Where the first question of a message is, and the only one.
+/// Returns the places of the first question of a message, and of its sole question.
 fn places<R: Octets + Copy>(octets: R) -> Result<(Option<usize>, Option<usize>), Malformed> {
     let message = Message::parse(octets)?;
     let first = message
@@ -81,7 +81,7 @@ fn a_message_has_a_first_question_and_a_sole_one(rt: HostRuntime) -> Result<(), 
     )
 }
 
-/// The times to live of the answers of a type.
+/// Returns the TTLs of the answers of a type.
 fn times(alloc: Global, octets: &[u8], rtype: Rtype) -> Result<Vec<u32>, Fail> {
     let mut found = Vec::new(alloc);
     for entry in Message::parse(octets)?.answers().limit_to(rtype) {
@@ -118,8 +118,8 @@ fn push_alias(octets: &mut Vec<u8>, owner: &[u8], target: &[u8]) -> Result<(), F
     Ok(())
 }
 
-/// A message that asks for `a.`, and has a chain of aliases as long as a number says: from `a.` to `b.`, and so on. Its
-/// answers are from the last alias to the first.
+/// Makes a message that asks for `a.`, with a chain of `length` aliases: from `a.` to `b.`, and so on. The last alias
+/// is the first answer.
 fn chain(alloc: Global, length: u8) -> Result<Vec<u8>, Fail> {
     let mut octets = Vec::new(alloc);
     header(&mut octets, [1, length, 0, 0])?;
@@ -132,7 +132,7 @@ fn chain(alloc: Global, length: u8) -> Result<Vec<u8>, Fail> {
     Ok(octets)
 }
 
-/// The canonical name of a message, if it has one.
+/// Returns the canonical name of a message, if it has one.
 fn canonical<R: Octets + Copy>(alloc: Global, octets: R) -> Result<Option<Vec<u8>>, Fail> {
     let message = Message::parse(octets)?;
     let mut text = Vec::new(alloc);
@@ -161,7 +161,7 @@ fn fifteen_aliases_are_followed_and_no_more(rt: HostRuntime) -> Result<(), Fail>
     Ok(())
 }
 
-/// A message that asks for `a.`, and its answers.
+/// Makes a message that asks for `a.`, with answers.
 fn answered(alloc: Global, count: u8, answers: &[u8]) -> Result<Vec<u8>, Fail> {
     let mut octets = Vec::new(alloc);
     header(&mut octets, [1, count, 0, 0])?;
@@ -173,7 +173,7 @@ fn answered(alloc: Global, count: u8, answers: &[u8]) -> Result<Vec<u8>, Fail> {
 #[test]
 fn the_first_alias_of_a_name_is_followed(rt: HostRuntime) -> Result<(), Fail> {
     for (count, answers, wanted) in [
-        // the first of two, and letters of either case as one
+        // the first of two, without regard to ASCII case
         (
             2u8,
             b"\x01A\x00\x00\x05\x00\x01\x00\x00\x00\x00\x00\x03\x01b\x00\
@@ -181,7 +181,7 @@ fn the_first_alias_of_a_name_is_followed(rt: HostRuntime) -> Result<(), Fail> {
                 .as_slice(),
             Some(b"b.".as_slice()),
         ),
-        // another class, and then data that is no name
+        // another class, and then data that isn't a name
         (
             1,
             b"\x01a\x00\x00\x05\x00\x03\x00\x00\x00\x00\x00\x03\x01b\x00",
@@ -231,8 +231,8 @@ fn a_chain_that_is_too_long_is_counted_too(rt: HostRuntime) -> Result<(), Fail> 
     Ok(())
 }
 
-/// What a message says of EDNS: its size, its response code, its version, the bit DO and how many options it has; or
-/// nothing; or a refusal.
+/// What the OPT record of a message says: the payload size, the response code, the version, the DO bit and the number
+/// of options; or `None` without one; or a refusal.
 type Edns = Result<Option<(u16, u16, u8, bool, usize)>, Malformed>;
 
 fn edns<R: Octets + Copy>(octets: R) -> Result<Edns, Malformed> {
@@ -272,7 +272,7 @@ fn a_message_has_one_record_of_edns(rt: HostRuntime) -> Result<(), Fail> {
         (&[ADDRESS, OPT, ADDRESS], some),
         (&[OPT, OPT], Err(Malformed)),
         (&[OPT, ADDRESS, OPT], Err(Malformed)),
-        // of another name than the root
+        // an owner other than the root
         (
             &[b"\x01a\x00\x00\x29\x10\x00\x00\x00\x00\x00\x00\x00"],
             Err(Malformed),
@@ -299,7 +299,7 @@ fn a_message_has_one_record_of_edns(rt: HostRuntime) -> Result<(), Fail> {
     Ok(())
 }
 
-/// A real message that tells of a bad cookie.
+/// A real message that reports a bad cookie.
 const BAD_COOKIE: &[u8] = b"\xF6\xAB\x81\x87\x00\x01\x00\x00\x00\x00\x00\x01\x00\x00\x06\x00\x01\
 \x00\x00\x29\x10\x00\x01\x00\x00\x00\x00\x1C\x00\x0A\x00\x18\
 \x36\xBF\x11\x1F\xEF\x2E\x01\x09\x7D\x8F\xFE\x06\x5C\x63\x6F\xFB\x14\x2D\x76\x74\x94\x40\x7A\x73";
@@ -372,7 +372,7 @@ fn push_option<R: Octets + Copy>(
     }
 }
 
-/// What the one option of a message with a code and octets says.
+/// Returns what the only option of a message, with a code and octets, says.
 fn said(alloc: Global, code: u8, octets: &[u8]) -> Result<Vec<u8>, Fail> {
     let mut message = Vec::new(alloc);
     header(&mut message, [0, 0, 0, 1])?;
@@ -420,7 +420,7 @@ fn options_are_typed_where_they_have_the_form(rt: HostRuntime) -> Result<(), Fai
         (12, b"\x00\x01", b"padding \x00\x01"),
         (12, b"", b"padding "),
         (4, b"any", b"unknown \x00\x04any"),
-        // client subnets of each family, and of no bits
+        // client subnets of each family, and one of no bits
         (
             8,
             b"\x00\x01\x18\x00\xC0\x00\x02",
@@ -437,7 +437,7 @@ fn options_are_typed_where_they_have_the_form(rt: HostRuntime) -> Result<(), Fai
             b"\x00\x01\x20\x20\x01\x02\x03\x04",
             b"subnet \x00\x01\x20\x20\x01\x02\x03\x04",
         ),
-        // a bit after those that are given, an octet too many, one too few
+        // a set bit after those that are given, an octet too many, one too few
         (
             8,
             b"\x00\x01\x17\x00\xC0\x00\x01",
@@ -453,7 +453,7 @@ fn options_are_typed_where_they_have_the_form(rt: HostRuntime) -> Result<(), Fai
             b"\x00\x01\x19\x00\xC0\x00\x02",
             b"unknown \x00\x08\x00\x01\x19\x00\xC0\x00\x02",
         ),
-        // more bits than the address has, another family, and too short
+        // more bits than the address has, another family, and octets that are too short
         (
             8,
             b"\x00\x01\x21\x00\x01\x02\x03\x04\x00",
@@ -462,7 +462,7 @@ fn options_are_typed_where_they_have_the_form(rt: HostRuntime) -> Result<(), Fai
         (8, b"\x00\x01\x00\x21", b"unknown \x00\x08\x00\x01\x00\x21"),
         (8, b"\x00\x03\x00\x00", b"unknown \x00\x08\x00\x03\x00\x00"),
         (8, b"\x00\x01\x00", b"unknown \x00\x08\x00\x01\x00"),
-        // extended errors without a text, with one, with one 0 and with two, and text that isn't well formed
+        // extended errors without a text, with one, with one 0 and with two, and a text that isn't well formed
         (15, b"\x00\x12", b"error \x00\x12"),
         (15, b"\x00\x12no", b"error \x00\x12no"),
         (15, b"\x00\x12no\x00", b"error \x00\x12no"),

@@ -13,7 +13,7 @@ use std::test::Fail;
 /// 4.1.4.
 const EXCHANGE: &[u8] = b"\x01F\x03ISI\x04ARPA\0\0\x0A\x03FOO\xC0\0";
 
-/// Reads what is at a place, and tells where it ends and how it is written.
+/// Reads the value at a place. Returns where it ends, and how it is written.
 fn written<R: AsOctets + Copy, F: Format<R>, B: EmptyBuilder + Truncate>(
     alloc: Global,
     octets: R,
@@ -25,7 +25,7 @@ fn written<R: AsOctets + Copy, F: Format<R>, B: EmptyBuilder + Truncate>(
     Ok((parser.pos(), F::compose_whole(alloc, &value)))
 }
 
-/// A name.
+/// Does this for a name.
 fn name<R: AsOctets + Copy, B: EmptyBuilder + Truncate>(
     alloc: Global,
     octets: R,
@@ -63,7 +63,7 @@ fn a_name_is_written_where_it_fits(rt: HostRuntime) -> Result<(), Fail> {
     Ok(())
 }
 
-/// A mail exchange.
+/// Does this for a mail exchange.
 fn mx<R: AsOctets + Copy>(
     alloc: Global,
     octets: R,
@@ -85,7 +85,7 @@ fn a_mail_exchange_is_written_plain(rt: HostRuntime) -> Result<(), Fail> {
     Ok(())
 }
 
-/// Mail exchanges up to the end.
+/// Does this for mail exchanges up to the end.
 fn mxs<R: AsOctets + Copy>(
     alloc: Global,
     octets: R,
@@ -95,7 +95,7 @@ fn mxs<R: AsOctets + Copy>(
     Ok((end, octets?))
 }
 
-/// They aren't the octets that they were read from.
+/// Their octets aren't the ones they were read from.
 #[test]
 fn mail_exchanges_are_written_plain(rt: HostRuntime) -> Result<(), Fail> {
     let packed = b"\x01F\x03ISI\x04ARPA\0\0\x0A\x03FOO\xC0\0\0\x14\x03BAR\xC0\x02".as_slice();
@@ -106,7 +106,7 @@ fn mail_exchanges_are_written_plain(rt: HostRuntime) -> Result<(), Fail> {
     Ok(())
 }
 
-/// The start of a zone.
+/// Does this for a start of authority.
 fn soa<R: AsOctets + Copy>(alloc: Global, octets: R) -> Result<(usize, Vec<u8>), Fail> {
     let (end, octets) = written::<R, Of<Soa<R>>, Vec<u8>>(alloc, octets, 0)?;
     Ok((end, octets?))
@@ -124,7 +124,7 @@ fn the_start_of_a_zone_is_written_plain(rt: HostRuntime) -> Result<(), Fail> {
     Ok(())
 }
 
-/// The place of a service.
+/// Does this for a service record.
 fn srv<R: AsOctets + Copy>(alloc: Global, octets: R) -> Result<(usize, Vec<u8>), Fail> {
     let (end, octets) = written::<R, Of<Srv<R>>, Vec<u8>>(alloc, octets, 0)?;
     Ok((end, octets?))
@@ -143,7 +143,7 @@ fn the_place_of_a_service_is_written(rt: HostRuntime) -> Result<(), Fail> {
     Ok(())
 }
 
-/// An option of EDNS.
+/// Does this for an EDNS option.
 fn option<R: AsOctets + Copy>(alloc: Global, octets: R) -> Result<(usize, Vec<u8>), Fail> {
     let (end, octets) = written::<R, Of<EdnsOption<R>>, Vec<u8>>(alloc, octets, 0)?;
     Ok((end, octets?))

@@ -10,7 +10,7 @@ use std::test::Fail;
 /// Three messages: of two octets, of none, of one.
 const STREAM: &[u8] = b"\0\x02ab\0\0\0\x01c";
 
-/// A source that gives one octet at a time, stalls before each, and fails at its end where it is to.
+/// A source that gives one octet at a time, stalls before each, and may fail at its end.
 #[derive(Drop)]
 struct Slow<'a> {
     rest: &'a [u8],
@@ -32,7 +32,7 @@ impl Read for Slow<'_> {
     }
 }
 
-/// A sink that takes one octet at a time, and none past the number that it has room for.
+/// A sink that takes one octet at a time, and refuses those beyond its room.
 #[derive(Drop)]
 struct Narrow {
     taken: Vec<u8>,
@@ -101,7 +101,7 @@ fn a_source_that_stalls_is_read(rt: HostRuntime) -> Result<(), Fail> {
     Ok(())
 }
 
-/// How a reading of a stream ends after as many messages as a number says.
+/// Checks that reading a stream that is cut off fails after `messages` messages.
 fn ends_short(rt: &(impl Abort + AllocGlobal), stream: &[u8], messages: usize) -> Result<(), Fail> {
     let mut reader = FrameReader::new(rt.alloc(), stream);
     for _ in 0..messages {

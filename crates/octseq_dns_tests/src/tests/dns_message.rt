@@ -8,7 +8,7 @@ use std::alloc::{AllocGlobal, Global};
 use std::process::Abort;
 use std::test::Fail;
 
-/// How many of the answers have an address of the name that is asked for.
+/// Returns how many of the answers have an address of the name that is asked for.
 fn count_addresses<R: AsOctets + Copy>(octets: R) -> Result<usize, Malformed> {
     let message = Message::parse(octets)?;
     let mut count: usize = 0;
@@ -25,13 +25,13 @@ fn count_addresses<R: AsOctets + Copy>(octets: R) -> Result<usize, Malformed> {
     Ok(count)
 }
 
-/// The type that the first question of a message in a slice asks for.
+/// Returns the type that the first question of a message in a slice asks for.
 fn first_qtype(octets: &[u8]) -> Result<Option<Rtype>, Malformed> {
     let message = Message::parse(octets)?;
     Ok(message.questions().next().map(|asked| asked.qtype()))
 }
 
-/// The time to live of the record at a place of a message in a slice.
+/// Returns the TTL of the record at a place of a message in a slice.
 fn ttl_at(octets: &[u8], place: usize) -> Result<Ttl, Malformed> {
     let mut parser = Parser::from_ref(octets);
     parser.seek(place)?;
@@ -39,7 +39,7 @@ fn ttl_at(octets: &[u8], place: usize) -> Result<Ttl, Malformed> {
     Ok(entry.ttl())
 }
 
-/// What a message shows as.
+/// Returns the text of a message.
 fn shown<R: Octets + Copy>(alloc: Global, octets: R) -> Result<StrBuilder<Vec<u8>>, Fail> {
     let mut text = StrBuilder::<Vec<u8>>::new(alloc)?;
     match Message::parse(octets) {
@@ -49,7 +49,7 @@ fn shown<R: Octets + Copy>(alloc: Global, octets: R) -> Result<StrBuilder<Vec<u8
     Ok(text)
 }
 
-/// What is appended of a message to a text in an array, and the text behind it.
+/// Appends a message to a text in an array.
 fn appended<R: Octets + Copy>(
     octets: R,
     text: &mut StrBuilder<Array<64>>,
@@ -63,7 +63,7 @@ const ANSWERED: &[u8] =
     b"\x12\x34\x85\x80\x00\x01\x00\x01\x00\x00\x00\x00\x07example\x03com\x00\x00\x01\x00\x01\
 \xC0\x0C\x00\x01\x00\x01\x00\x00\x01\x2C\x00\x04\x01\x02\x03\x04";
 
-/// An update that takes all addresses of a name away.
+/// An update that removes all addresses of a name.
 const UPDATE: &[u8] =
     b"\x00\x01\x28\x00\x00\x00\x00\x00\x00\x01\x00\x00\x07example\x03com\x00\x00\x01\x00\xFF\
 \x00\x00\x00\x00\x00\x00";
@@ -134,7 +134,7 @@ const ANSWERED_TWICE: &[u8] =
 \xC0\x0C\x00\x01\x00\x01\x00\x00\x01\x2C\x00\x04\x01\x02\x03\x04\
 \x03www\xC0\x0C\x00\x01\x00\x01\x00\x00\x00\x3C\x00\x04\x05\x06\x07\x08";
 
-/// The record is of a name with these labels, and has this address.
+/// Checks that the record has an owner with these labels, and this address.
 fn has_address<R: Octets + Copy>(
     rt: &impl Abort,
     entry: &Record<R>,
@@ -153,7 +153,7 @@ fn has_address<R: Octets + Copy>(
     }
 }
 
-/// In lists the message has one question, two addresses as answers, and nothing else.
+/// Checks that the lists of the message have one question, two addresses as answers, and nothing else.
 fn lists_entries<R: Octets + Copy>(rt: &(impl Abort + AllocGlobal), octets: R) -> Result<(), Fail> {
     let sections = Message::parse(octets)?.collect(rt.alloc())?;
     match sections.answers.as_slice() {
@@ -174,7 +174,7 @@ fn entries_are_listed(rt: HostRuntime) -> Result<(), Fail> {
     lists_entries(&rt, ANSWERED_TWICE)
 }
 
-/// What a message shows as by itself, and then each of its authorities.
+/// Returns what a message prints, followed by what each of its authority records prints.
 fn displayed<R: Octets + Copy>(alloc: Global, octets: R) -> Result<String, Fail> {
     let message = Message::parse(octets)?;
     let mut text = format!(in alloc; "{message}")?;

@@ -1,4 +1,4 @@
-//! A query that is made, and an answer that is read.
+//! Making a query, and reading an answer.
 use octseq::{Array, AsOctets};
 use octseq_asserts::assert_equal;
 use octseq_dns::header::Flags;
@@ -9,7 +9,7 @@ use octseq_dns::{
 use std::alloc::Global;
 use std::test::Fail;
 
-/// A query for the IPv4 addresses of a name. Who asks takes 1,232 octets, and records of DNSSEC.
+/// Makes a query for the IPv4 addresses of a name. The sender takes 1,232 octets, and DNSSEC records.
 fn query(id: u16, name: &str) -> Result<Array<512>, Fail> {
     let name = Name::from_text(name)?;
     let table = StaticCompressor::<8>::new();
@@ -36,7 +36,7 @@ fn query(id: u16, name: &str) -> Result<Array<512>, Fail> {
     Ok(additionals.finish().0)
 }
 
-/// The IPv4 addresses that an answer has of the name that was asked for, by way of its aliases.
+/// Returns the IPv4 addresses in an answer of the name that was asked for, through its aliases.
 fn addresses<R: AsOctets + Copy>(alloc: Global, octets: R) -> Result<Vec<[u8; 4]>, Fail> {
     let mut found = Vec::new(alloc);
     let answer = Message::parse(octets)?;
@@ -62,7 +62,8 @@ fn a_query_is_made(rt: HostRuntime) -> Result<(), Fail> {
     Ok(())
 }
 
-/// A question for `www.example.com.`, an alias of `example.com.`, and the address of that and of another name.
+/// A question for `www.example.com.`, which is an alias of `example.com.`, and the addresses of another name and of
+/// that one.
 const ANSWER: &[u8] = b"\x12\x34\x81\x80\0\x01\0\x03\0\0\0\0\x03www\x07example\x03com\0\0\x01\0\x01\
 \xC0\x0C\0\x05\0\x01\0\0\x01\x2C\0\x02\xC0\x10\
 \0\0\x01\0\x01\0\0\x01\x2C\0\x04\x05\x06\x07\x08\

@@ -1,4 +1,4 @@
-//! Messages with data of every type, read and written anew: with compression pointers and without.
+//! Messages with data of every type, read and rewritten: with compression pointers and without.
 use arrayvec::ArrayVec;
 use octseq::builder::AsOctetsMut;
 use octseq::octets::Octets;
@@ -11,7 +11,7 @@ use std::alloc::AllocGlobal;
 use std::process::Abort;
 use std::test::Fail;
 
-/// A question for `example.com.` and ten answers, with no pointer: A, NS, MX, CNAME, PTR, SOA, TXT, SRV, AAAA, and
+/// A question for `example.com.` and ten answers, without pointers: A, NS, MX, CNAME, PTR, SOA, TXT, SRV, AAAA, and
 /// data of type 99, which is unknown. The octets are laid out by hand: RFC 1035, 4.1.
 pub(super) const PLAIN: &[u8] = b"\x12\x34\x84\0\0\x01\0\x0A\0\0\0\0\
 \x07example\x03com\0\0\xFF\0\x01\
@@ -27,8 +27,8 @@ pub(super) const PLAIN: &[u8] = b"\x12\x34\x84\0\0\x01\0\x0A\0\0\0\0\
 \x07example\x03com\0\0\x1C\0\x01\0\0\x01\x2C\0\x10\x20\x01\x0D\xB8\0\0\0\0\0\0\0\0\0\0\0\x01\
 \x07example\x03com\0\0\x63\0\x01\0\0\x01\x2C\0\x03\xC0\x0C\x01";
 
-/// The same with pointers: `example.com.` is at 12, `ns` at 57, in the data of NS, and `www` at 83. The name in the
-/// data of SRV is plain (RFC 2782), and unknown data stays.
+/// The same with pointers: `example.com.` is at 12, `ns` at 57, in the NS data, and `www` at 83. The name in the SRV
+/// data is plain (RFC 2782), and unknown data is unchanged.
 pub(super) const COMPRESSED: &[u8] = b"\x12\x34\x84\0\0\x01\0\x0A\0\0\0\0\
 \x07example\x03com\0\0\xFF\0\x01\
 \xC0\x0C\0\x01\0\x01\0\0\x01\x2C\0\x04\x01\x02\x03\x04\
@@ -43,7 +43,7 @@ pub(super) const COMPRESSED: &[u8] = b"\x12\x34\x84\0\0\x01\0\x0A\0\0\0\0\
 \xC0\x0C\0\x1C\0\x01\0\0\x01\x2C\0\x10\x20\x01\x0D\xB8\0\0\0\0\0\0\0\0\0\0\0\x01\
 \xC0\x0C\0\x63\0\x01\0\0\x01\x2C\0\x03\xC0\x0C\x01";
 
-/// A message is written anew as these octets.
+/// Checks that a message is rewritten as these octets.
 fn is_rewritten<R: Octets + Copy, B: OctetsBuilder + Truncate + AsOctetsMut, T: Compressor>(
     rt: &impl Abort,
     octets: R,
@@ -96,7 +96,7 @@ fn names_are_written_plain_anew(rt: HostRuntime) -> Result<(), Fail> {
     )
 }
 
-/// What a message is refused as that is written anew.
+/// Rewrites a message, and returns the error, if there is one.
 fn refusal<R: Octets + Copy, B: OctetsBuilder + Truncate + AsOctetsMut>(
     octets: R,
     builder: B,
@@ -115,10 +115,10 @@ fn a_message_that_passes_the_limit_is_refused(rt: HostRuntime) -> Result<(), Fai
     Ok(())
 }
 
-/// An answer of the root, of type NS, whose data is a front of a pointer. It can't be moved.
+/// An answer of the root, of type NS, whose data is the front of a pointer. It can't be moved.
 const IMMOVABLE: &[u8] = b"\0\0\0\0\0\0\0\x01\0\0\0\0\0\0\x02\0\x01\0\0\0\x3C\0\x01\xC0";
 
-/// The same answer with no octet of data, which can be moved.
+/// The same answer without data, which can be moved.
 const EMPTY: &[u8] = b"\0\0\0\0\0\0\0\x01\0\0\0\0\0\0\x02\0\x01\0\0\0\x3C\0\0";
 
 /// Whether a message can be moved.
@@ -142,7 +142,7 @@ fn a_message_that_cant_be_moved_is_refused(rt: HostRuntime) -> Result<(), Fail> 
     )
 }
 
-/// Pushes a record that was read to each section of records of a new message in turn, and answers its octets.
+/// Pushes a record that was read to each section of records of a new message in turn. Returns the octets.
 fn in_each_section<R: Octets + Copy, B: OctetsBuilder + Truncate + AsOctetsMut>(
     builder: B,
     entry: &Record<R>,
@@ -159,13 +159,14 @@ fn in_each_section<R: Octets + Copy, B: OctetsBuilder + Truncate + AsOctetsMut>(
     Ok(additionals.finish().0)
 }
 
-/// An MX of `example.com.` in each section. The name of its exchange is in data, and is pointed to from there on.
+/// An MX record of `example.com.` in each section. The name of the exchange is in the first data, and the others point
+/// to it.
 const EXCHANGES: &[u8] = b"\0\0\0\0\0\0\0\x01\0\x01\0\x01\
 \x07example\x03com\0\0\x0F\0\x01\0\0\x01\x2C\0\x09\0\x0A\x04mail\xC0\x0C\
 \xC0\x0C\0\x0F\0\x01\0\0\x01\x2C\0\x04\0\x0A\xC0\x25\
 \xC0\x0C\0\x0F\0\x01\0\0\x01\x2C\0\x04\0\x0A\xC0\x25";
 
-/// The third answer is an MX, which is pushed to each section.
+/// Pushes the third answer, an MX record, to each section, and checks the octets.
 fn is_pushed_to_each_section<R: Octets + Copy>(
     rt: &(impl Abort + AllocGlobal),
     octets: R,

@@ -1,4 +1,4 @@
-//! How the data of records shows.
+//! What the data of records shows.
 use octseq::octets::Octets;
 use octseq_asserts::assert_equal;
 use octseq_dns::Message;
@@ -6,11 +6,11 @@ use std::alloc::{AllocGlobal, Global};
 use std::fmt::Write;
 use std::test::Fail;
 
-/// A question for `example.com.`, at place 12, and the owner of an answer, which points to it.
+/// A question for `example.com.` at place 12, and the owner of an answer, which points to it.
 const FRONT: &[u8] =
     b"\x12\x34\x85\x80\x00\x01\x00\x01\x00\x00\x00\x00\x07example\x03com\x00\x00\x01\x00\x01\xC0\x0C";
 
-/// A message with one answer of class IN, of a type and data.
+/// Makes a message with one answer of class IN, of a type and data.
 fn answered(alloc: Global, rtype: u8, rdata: &[u8]) -> Result<Vec<u8>, Fail> {
     let mut octets = Vec::new(alloc);
     octets.extend_from_slice(FRONT)?;
@@ -20,7 +20,7 @@ fn answered(alloc: Global, rtype: u8, rdata: &[u8]) -> Result<Vec<u8>, Fail> {
     Ok(octets)
 }
 
-/// What the data of the answers of a message shows.
+/// Returns what the data of the answers of a message shows.
 fn shown<R: Octets + Copy>(alloc: Global, octets: R) -> Result<String, Fail> {
     let message = Message::parse(octets)?;
     let mut text = String::new(alloc);

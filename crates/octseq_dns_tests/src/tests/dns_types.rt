@@ -1,4 +1,4 @@
-//! Data of the types that came after RFC 1035, of class IN: what it says, and that it is written as it was read.
+//! Data of the types that are later than RFC 1035, of class IN: what it says, and that it is written as it was read.
 use octseq::str::StrBuilder;
 use octseq_asserts::assert_equal;
 use octseq_dns::{Message, Target, rewrite};
@@ -6,11 +6,11 @@ use std::alloc::{AllocGlobal, Global};
 use std::process::Abort;
 use std::test::Fail;
 
-/// A question for `example.com.`, at place 12, and the owner of an answer, which points to it.
+/// A question for `example.com.` at place 12, and the owner of an answer, which points to it.
 const FRONT: &[u8] =
     b"\x12\x34\x85\x80\x00\x01\x00\x01\x00\x00\x00\x00\x07example\x03com\x00\x00\x01\x00\x01\xC0\x0C";
 
-/// Data of a type, the data that is written of it, and its text.
+/// Data of a type as it is read, as it is written, and its text.
 struct Row {
     rtype: u16,
     read: &'static [u8],
@@ -18,7 +18,7 @@ struct Row {
     text: &'static str,
 }
 
-/// One of each type. Only the name of NAPTR may have a pointer where it is read, and none has one where it is written.
+/// One of each type. Only the name of NAPTR may have a pointer when it is read, and no name has one when it is written.
 static ROWS: [Row; 18] = [
     Row {
         rtype: 13,
@@ -130,7 +130,7 @@ static ROWS: [Row; 18] = [
     },
 ];
 
-/// A message with one answer of a type and data.
+/// Makes a message with one answer of a type and data.
 fn answer(alloc: Global, rtype: u16, rdata: &[u8]) -> Result<Vec<u8>, Fail> {
     let mut octets = Vec::new(alloc);
     octets.extend_from_slice(FRONT)?;
@@ -141,7 +141,7 @@ fn answer(alloc: Global, rtype: u16, rdata: &[u8]) -> Result<Vec<u8>, Fail> {
     Ok(octets)
 }
 
-/// The answer of a message shows so, and is of the type.
+/// Checks what the answer of a message shows, and its type.
 fn shows(rt: &(impl Abort + AllocGlobal), octets: &[u8], row: &Row) -> Result<(), Fail> {
     let message = Message::parse(octets)?;
     for answer in message.answers() {
@@ -163,7 +163,7 @@ fn data_of_each_type_shows(rt: HostRuntime) -> Result<(), Fail> {
     Ok(())
 }
 
-/// A message is written anew as these octets.
+/// Checks that a message is rewritten as these octets.
 fn is_rewritten(rt: &(impl Abort + AllocGlobal), octets: &[u8], wanted: &[u8]) -> Result<(), Fail> {
     let alloc = rt.alloc();
     let message = Message::parse(octets)?;

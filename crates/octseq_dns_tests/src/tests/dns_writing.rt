@@ -1,4 +1,4 @@
-//! Messages of DNS that are written.
+//! DNS messages that are written.
 use arrayvec::ArrayVec;
 use bytes::BytesMut;
 use octseq::builder::AsOctetsMut;
@@ -17,10 +17,10 @@ use std::alloc::{AllocError, Global};
 use std::process::Abort;
 use std::test::Fail;
 
-/// The refusal of what passes a limit.
+/// The refusal of what exceeds a limit.
 const SHORT: Result<(), AppendError> = Err(AppendError::Short(ShortBuf));
 
-/// A table that holds nothing, so that names are written plain.
+/// A table without room, so that names are written plain.
 type Uncompressed = ArrayVec<Target, 0>;
 
 /// The header of an answer.
@@ -39,17 +39,17 @@ fn header() -> Header {
     }
 }
 
-/// That header and nothing more.
+/// That header alone.
 const NOTHING: &[u8] = b"\x12\x34\x85\x80\0\0\0\0\0\0\0\0";
 
 /// A question for `example.com.`.
 const ASKED: &[u8] = b"\x12\x34\x85\x80\0\x01\0\0\0\0\0\0\x07example\x03com\0\0\x01\0\x01";
 
-/// That question, and an answer whose name is a pointer to it.
+/// That question, and an answer whose owner is a pointer to the qname.
 const ANSWERED: &[u8] = b"\x12\x34\x85\x80\0\x01\0\x01\0\0\0\0\x07example\x03com\0\0\x01\0\x01\
 \xC0\x0C\0\x01\0\x01\0\0\x01\x2C\0\x04\x01\x02\x03\x04";
 
-/// The same with no pointer.
+/// The same without a pointer.
 const PLAIN: &[u8] = b"\x12\x34\x85\x80\0\x01\0\x01\0\0\0\0\x07example\x03com\0\0\x01\0\x01\
 \x07example\x03com\0\0\x01\0\x01\0\0\x01\x2C\0\x04\x01\x02\x03\x04";
 
@@ -70,7 +70,8 @@ fn answered<B: OctetsBuilder + Truncate + AsOctetsMut, T: Compressor>(
     Ok(answers.authority().additional().finish())
 }
 
-/// A table holds targets at these places, from which as many pointers are followed, and no others.
+/// Checks that a table has targets at these places, from which the given numbers of pointers are followed, and no
+/// others.
 pub(super) fn has_targets<T: Compressor>(rt: &impl Abort, table: &T, wanted: &[(u16, u8)]) {
     let targets = table.as_slice();
     assert_equal!(rt, targets.len(), wanted.len());
@@ -80,7 +81,7 @@ pub(super) fn has_targets<T: Compressor>(rt: &impl Abort, table: &T, wanted: &[(
     }
 }
 
-/// They are written with a pointer, and the places of the question's labels are known.
+/// Checks that they are written with a pointer, and that the places of the question's labels are known.
 fn is_answered<B: OctetsBuilder + Truncate + AsOctetsMut, T: Compressor>(
     rt: &impl Abort,
     octets: B,
@@ -210,10 +211,10 @@ fn a_full_table_compresses_less(rt: HostRuntime) -> Result<(), Fail> {
     Ok(())
 }
 
-/// How many entries each section of a message has.
+/// Returns the number of entries in each section of a message.
 fn counts_of<R: Octets + Copy>(octets: R) -> Result<(usize, usize, usize, usize), Malformed> {
     let message = Message::parse(octets)?;
-    // (the header's counts bound those of the walks)
+    // (the header's counts bound those of the iterators)
     let _counts = message.header_counts();
     Ok((
         message.questions().count(),
@@ -223,13 +224,13 @@ fn counts_of<R: Octets + Copy>(octets: R) -> Result<(usize, usize, usize, usize)
     ))
 }
 
-/// What a push answers.
+/// Returns the expected result of a push.
 fn pushed(fits: bool) -> Result<(), AppendError> {
     if fits { Ok(()) } else { SHORT }
 }
 
-/// A question and its answer are pushed to a message that has room for `entries` of both. A refused one leaves the
-/// message as it was, and it is read.
+/// Pushes a question and its answer to a message with room for `entries` of the two. A refused one leaves the message
+/// unchanged.
 fn has_room<B: OctetsBuilder + Truncate + AsOctetsMut>(
     rt: &impl Abort,
     octets: B,
@@ -248,7 +249,7 @@ fn has_room<B: OctetsBuilder + Truncate + AsOctetsMut>(
     Ok(())
 }
 
-/// The answer is pushed where the message has room for both.
+/// Checks that the answer is pushed if the message has room for both.
 fn has_room_for_an_answer<B: OctetsBuilder + Truncate + AsOctetsMut>(
     rt: &impl Abort,
     mut answers: AnswerBuilder<B, ArrayVec<Target, 8>>,
@@ -287,7 +288,7 @@ fn what_passes_the_limit_is_refused(rt: HostRuntime) -> Result<(), Fail> {
     has_room(&rt, Array::<45>::new(), 2)
 }
 
-/// Pushes an answer of a name that is given as text, of type A and with a TTL of zero.
+/// Pushes an answer with this owner, of type A and with a TTL of zero.
 fn push_answer<B: OctetsBuilder + Truncate + AsOctetsMut, T: Compressor>(
     answers: &mut AnswerBuilder<B, T>,
     owner: &str,
@@ -318,7 +319,7 @@ fn a_refused_record_leaves_no_target(rt: HostRuntime) -> Result<(), Fail> {
     Ok(())
 }
 
-/// A question and an answer of one name.
+/// Makes a question and an answer of one name.
 fn in_two_sections(alloc: Global) -> Result<AnswerBuilder<Vec<u8>, ArrayVec<Target, 8>>, Fail> {
     let name = Name::from_text("example.com.")?;
     let message = MessageBuilder::from_builder(Vec::new(alloc), ArrayVec::<Target, 8>::new())?;
@@ -331,7 +332,7 @@ fn in_two_sections(alloc: Global) -> Result<AnswerBuilder<Vec<u8>, ArrayVec<Targ
     Ok(answers)
 }
 
-/// A question, an answer, an authority and an additional record, with names that end like the ones before them.
+/// Makes a question, an answer, an authority and an additional record, with names that end like those before them.
 fn in_each_section(alloc: Global) -> Result<Vec<u8>, Fail> {
     let (root, end) = (Name::from_text(".")?, Name::from_text("com.")?);
     let mut authorities = in_two_sections(alloc)?.authority();
@@ -353,7 +354,7 @@ fn in_each_section(alloc: Global) -> Result<Vec<u8>, Fail> {
     Ok(additionals.finish().0)
 }
 
-/// The record is of a name with these labels, and has this type, class, TTL and data.
+/// Checks that the record has an owner with these labels, and this type, class, TTL and data.
 fn is_record<R: Octets + Copy>(
     rt: &impl Abort,
     entry: &Record<R>,
@@ -370,7 +371,7 @@ fn is_record<R: Octets + Copy>(
     assert_equal!(rt, entry.rdata().peek_all(), rdata);
 }
 
-/// These are the entries of the message.
+/// Checks the entries of the message.
 fn are_read<R: Octets + Copy>(rt: &impl Abort, octets: R) -> Result<(), Malformed> {
     let message = Message::parse(octets)?;
     for entry in message.questions() {
@@ -407,7 +408,7 @@ fn entries_of_each_section_are_read(rt: HostRuntime) -> Result<(), Fail> {
     Ok(are_read(&rt, octets.as_slice())?)
 }
 
-/// Questions and answers of the root, one and two of them.
+/// Makes one question and two answers of the root.
 fn one_and_two(root: &ParsedName<&[u8]>) -> Result<AnswerBuilder<Array<128>, Uncompressed>, Fail> {
     let message = MessageBuilder::from_builder(Array::<128>::new(), Uncompressed::new())?;
     let mut questions = message.question();
@@ -452,19 +453,19 @@ fn each_section_has_its_count(rt: HostRuntime) -> Result<(), Fail> {
     Ok(())
 }
 
-/// The header of an answer was sent with this id.
+/// Checks that the header of an answer was written with this id.
 fn is_sent(rt: &impl Abort, octets: &[u8], found: Header, id: u8) {
     let wanted = [0, id, 0x85, 0x80, 0, 0, 0, 0, 0, 0, 0, 0];
     assert_equal!(rt, octets, wanted.as_slice());
     assert_equal!(rt, (found.id, found.flags), (u16::from(id), header().flags));
 }
 
-/// The header of an answer with this id.
+/// Makes the header of an answer with this id.
 fn sent(id: u16) -> Header {
     Header { id, ..header() }
 }
 
-/// The builders of records set the header.
+/// Checks that the builders of records set the header.
 fn is_set_in_records(rt: &impl Abort, mut answers: AnswerBuilder<Array<12>, Uncompressed>) {
     answers.set_header(sent(3));
     is_sent(rt, answers.as_slice(), answers.header(), 3);
@@ -529,7 +530,7 @@ fn codes_of_a_header_are_written(rt: HostRuntime) -> Result<(), Fail> {
     Ok(())
 }
 
-/// An answer of the root with this data is pushed, or refused, and the message has as many octets as `len` says.
+/// Pushes an answer of the root with this data, which fits or is refused. The message then has `len` octets.
 fn is_pushed<B: OctetsBuilder + Truncate + AsOctetsMut, T: Compressor>(
     rt: &impl Abort,
     answers: &mut AnswerBuilder<B, T>,
@@ -569,7 +570,7 @@ fn push_three<B: OctetsBuilder + Truncate + AsOctetsMut, T: Compressor>(
     Ok(push_answer(answers, "com.", b"")??)
 }
 
-/// What is written after a record of the root with as many octets of data as `len` says: two records of one name.
+/// Returns what is written after a record of the root with `len` octets of data: two records of one name.
 fn written_after(alloc: Global, len: usize) -> Result<Vec<u8>, Fail> {
     let rdata = Vec::from_elem(alloc, 0, len)?;
     let message = MessageBuilder::from_builder(Vec::new(alloc), Vec::new(alloc))?;
@@ -590,7 +591,7 @@ fn a_pointer_says_a_place_up_to_16383(rt: HostRuntime) -> Result<(), Fail> {
     Ok(())
 }
 
-/// An empty table takes targets until it is full, and then keeps those before a place.
+/// Checks that an empty table takes targets until it is full, and then keeps those before a place.
 fn keeps<T: Compressor>(rt: &impl Abort, mut table: T, most: usize) -> Result<(), AllocError> {
     for at in [12, 14, 16] {
         if !table.is_full() {
@@ -619,7 +620,7 @@ fn tables_keep_targets(rt: HostRuntime) -> Result<(), Fail> {
     Ok(())
 }
 
-/// A message with one answer, which is of the root and of this text.
+/// Makes a message with one answer, which is of the root and of this text.
 fn with_text<R: Octets + Copy>(txt: Txt<R>) -> Result<Array<64>, Fail> {
     let root = Name::from_text(".")?;
     let message = MessageBuilder::from_builder(Array::<64>::new(), Uncompressed::new())?;

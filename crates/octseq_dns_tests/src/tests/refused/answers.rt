@@ -1,5 +1,5 @@
-//! Answers to messages, records of EDNS and data of type TXT. What is refused leaves what was there, so that the same
-//! call after it writes what it would have written before.
+//! Answers to messages, OPT records and TXT data. What is refused leaves what was there unchanged, so the same call
+//! afterwards writes what it would have written.
 use super::super::dns_answers::push_opt;
 use octseq::AppendError;
 use octseq::error::WriteError;
@@ -21,7 +21,7 @@ fn an_answer_begins_or_not_at_all(rt: HostRuntime) -> Result<(), Fail> {
     Ok(())
 }
 
-/// A record of EDNS with padding of 40 octets, alone in a message.
+/// A message with only an OPT record, which has padding of 40 octets.
 const PADDED: &[u8] = b"\0\0\0\0\0\0\0\0\0\0\0\x01\0\0\x29\x04\xD0\x01\0\x80\0\0\x2C\0\x0C\0\x28\
 \0\0\0\0\0\0\0\0\0\0\0\0\0\0\0\0\0\0\0\0\0\0\0\0\0\0\0\0\0\0\0\0\0\0\0\0\0\0\0\0";
 

@@ -7,12 +7,12 @@ use std::alloc::{AllocError, AllocGlobal};
 use std::process::Abort;
 use std::test::Fail;
 
-/// Two questions for the root, an answer and an additional record of it.
+/// Two questions for the root, and an answer and an additional record of it.
 const ENTRIES: &[u8] =
     b"\x00\x01\x80\x00\x00\x02\x00\x01\x00\x00\x00\x01\x00\x00\x01\x00\x01\x00\x00\x1C\x00\x01\
 \x00\x00\x01\x00\x01\x00\x00\x00\x3C\x00\x04\x01\x02\x03\x04\x00\x00\x29\x02\x00\x00\x00\x00\x00\x00\x00";
 
-/// Lists the entries. A refused list leaves the message as it is.
+/// Lists the entries. A refused list leaves the message unchanged.
 fn lists<R: Octets + Copy>(rt: &(impl Abort + AllocGlobal), octets: R) -> Result<(), Fail> {
     let message = Message::parse(octets)?;
     let sections: Result<Sections<R>, AllocError> = message.collect(rt.alloc());

@@ -1,4 +1,4 @@
-//! Names of labels.
+//! Names made from labels.
 use octseq_asserts::assert_equal;
 use octseq_dns::Name;
 use octseq_dns::error::FromLabelsError;

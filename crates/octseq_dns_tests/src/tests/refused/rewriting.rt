@@ -1,4 +1,5 @@
-//! Messages written anew: a refused request for memory leaves the message that was read, and is answered.
+//! Messages that are rewritten: a refused request for memory is returned, and leaves the message that was read
+//! unchanged.
 use super::super::dns_round_trips::{COMPRESSED, PLAIN};
 use octseq::octets::Octets;
 use octseq_asserts::assert_equal;
@@ -7,7 +8,7 @@ use std::alloc::AllocGlobal;
 use std::process::Abort;
 use std::test::Fail;
 
-/// Writes a message anew, or answers what was refused.
+/// Rewrites a message, or returns what was refused.
 fn is_written_anew<R: Octets + Copy>(
     rt: &(impl Abort + AllocGlobal),
     octets: R,

@@ -1,5 +1,5 @@
-//! Messages that are written. A push that is refused leaves the message and the table as they were, so that the same
-//! push after it writes what it would have written before.
+//! Messages that are written. A refused push leaves the message and the table unchanged, so the same push afterwards
+//! writes what it would have written.
 use super::super::dns_writing::has_targets;
 use arrayvec::ArrayVec;
 use bytes::BytesMut;
@@ -37,7 +37,7 @@ fn ask<B: OctetsBuilder + Truncate + AsOctetsMut, T: Compressor>(
     Ok(pushed)
 }
 
-/// Writes the questions, one of which at most is refused at first.
+/// Writes the questions, of which at most one is refused at first.
 fn asks<B: OctetsBuilder + Truncate + AsOctetsMut, T: Compressor>(
     rt: &impl Abort,
     octets: B,
