@@ -1,6 +1,6 @@
--- Parameters and capabilities: RFC 5492, 4, RFC 4760, 8 (multiprotocol extensions), RFC 2918, 2 (route refresh), RFC
--- 8654, 3 (extended messages), RFC 4724, 3 (graceful restart), RFC 6793, 3 (four-octet AS numbers), RFC 7911, 4
--- (additional paths), RFC 7313, 3.1 (enhanced route refresh).
+-- The values of parameters and capabilities, by their type or code: RFC 5492, 4, RFC 4760, 8 (multiprotocol
+-- extensions), RFC 2918, 2 (route refresh), RFC 8654, 3 (extended messages), RFC 4724, 3 (graceful restart), RFC 6793,
+-- 3 (four-octet AS numbers), RFC 7911, 4 (additional paths), RFC 7313, 3.1 (enhanced route refresh).
 use Rattle.std.specs.Prelude.{◌≡◌, ℕ, ◌/◌, ◌%◌, ◌≤◌, Bool, nat_eq, ◌⊎◌, List, [], ◌∷◌}
 use Rattle.octseq.specs.Window.{Window, left}
 use Rattle.octseq_format.specs.Fixed.{IsFixed}

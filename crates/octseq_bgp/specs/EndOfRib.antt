@@ -1,4 +1,4 @@
--- End-of-RIB markers: RFC 4724, 2.
+-- Which UPDATEs are End-of-RIB markers: RFC 4724, 2.
 use Rattle.std.specs.Prelude.{◌≡◌, ◌⊎◌, List, [], ◌∷◌, length}
 use Rattle.octseq_bgp.specs.Entry.{Entry}
 use Rattle.octseq_bgp.specs.Update.{Update}

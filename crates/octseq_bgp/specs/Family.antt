@@ -1,4 +1,4 @@
--- Address families: RFC 4760, 5 and 6.
+-- The AFI and the SAFI of each address family: RFC 4760, 5 and 6.
 use Rattle.std.specs.Prelude.{ℕ}
 use Rattle.octseq_bgp.specs.declared.family.Afi.{Afi}
 use Rattle.octseq_bgp.specs.declared.family.Afi.TheVariants as addresses

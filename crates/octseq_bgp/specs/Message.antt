@@ -1,4 +1,5 @@
--- Messages: RFC 4271, 4, RFC 2918, 3 (ROUTE-REFRESH), and RFC 8654 for the maximum length.
+-- Which octets are a BGP message, and what it says: RFC 4271, 4, RFC 2918, 3 (ROUTE-REFRESH), and RFC 8654 for the
+-- maximum length.
 use Rattle.std.specs.Prelude.{◌≡◌, ◌≢◌, ℕ, ◌≤◌, ◌⊎◌, List, length, IsTrue}
 use Rattle.octseq.specs.Window.{Window, left, whole}
 use Rattle.octseq_format.specs.Laws.{Relation}

@@ -1,4 +1,5 @@
--- Next hops: RFC 4760, 3, RFC 2545, 3 (link-local addresses), and RFC 8950, 3 (IPv6 next hops of IPv4 prefixes).
+-- Which octets are next hops of an address family: RFC 4760, 3, RFC 2545, 3 (link-local addresses), and RFC 8950, 3
+-- (IPv6 next hops of IPv4 prefixes).
 use Rattle.std.specs.Prelude.{◌≡◌, ℕ, List}
 use Rattle.octseq.specs.Window.{Window}
 use Rattle.octseq_format.specs.Fixed.{IsFixed}

@@ -1,4 +1,4 @@
--- Texts that are unique.
+-- What holds of at most one text.
 use Rattle.std.specs.Prelude.{◌≡◌, ℕ, List}
 
 -- this holds of at most one text

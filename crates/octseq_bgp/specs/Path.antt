@@ -1,4 +1,5 @@
--- AS paths: RFC 4271, 4.3, RFC 5065, 3, and RFC 6793 for the number of octets of an AS number.
+-- The AS numbers and the segments of AS paths: RFC 4271, 4.3, RFC 5065, 3, and RFC 6793 for the number of octets of an
+-- AS number.
 use Rattle.std.specs.Prelude.{Bool, ℕ, if◌then◌else◌}
 use Rattle.std.specs.Coded.{coded_ℕ}
 use Rattle.octseq.specs.Window.{Window}

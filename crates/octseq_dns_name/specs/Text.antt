@@ -11,7 +11,8 @@ is_quoted = char_set_contains (codes "\"().;\\@$")
 abbrev pub three_digits : ℕ → List ℕ
 three_digits n = (48 + n / 100) ∷ (48 + n / 10 % 10) ∷ (48 + n % 10) ∷ []
 
--- An octet: after a backslash, as itself if it is visible ASCII, or as a backslash (92) and its number.
+-- An octet: after a backslash, if it needs one; as itself, if it is visible ASCII; or as a backslash (92) and its
+-- number.
 abbrev pub octet_text : ℕ → List ℕ
 octet_text octet = if is_quoted octet then 92 ∷ octet ∷ [] else
     (if is_ascii_graphic octet then octet ∷ [] else 92 ∷ three_digits octet)

@@ -1,4 +1,4 @@
--- Messages and state changes: RFC 6396, 4.4 and 4.5 (BGP4MP_ET), and RFC 8050, 3 (path ids).
+-- The messages and state changes of BGP4MP records: RFC 6396, 4.4 and 4.5 (BGP4MP_ET), and RFC 8050, 3 (path ids).
 use Rattle.std.specs.Prelude.{◌≡◌, Bool, true, false, ℕ, Option}
 use Rattle.octseq.specs.Window.{Window}
 use Rattle.octseq_format.specs.Laws.{Relation}

@@ -1,4 +1,4 @@
--- Records: RFC 6396, 2.
+-- The header of a record, and which octets are a record: RFC 6396, 2.
 use Rattle.octseq.specs.Window.{Window}
 use Rattle.octseq_format.specs.Laws.{Relation}
 use Rattle.octseq_format.specs.Pair.{◌then◌}

@@ -1,4 +1,4 @@
--- MRT files: records, one after another: RFC 6396, 2.
+-- Whether octets are a record, begin with one, or are cut off, as in an MRT file: RFC 6396, 2.
 use Rattle.std.specs.Prelude.{ℕ, ◌<◌, List, length, slice_range}
 use Rattle.octseq.specs.Code.{HasFront}
 use Rattle.octseq.specs.Integer.{be}

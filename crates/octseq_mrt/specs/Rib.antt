@@ -1,4 +1,5 @@
--- RIBs: RFC 6396, 4.3.2 and 4.3.4, and RFC 8050, 4 (path ids).
+-- What the RIB of a prefix says, and the attributes of its entries: RFC 6396, 4.3.2 and 4.3.4, and RFC 8050, 4 (path
+-- ids).
 use Rattle.std.specs.Prelude.{◌≡◌, ◌⊎◌, Bool, true, false, ℕ, Option, Some, None, List}
 use Rattle.octseq.specs.Window.{Window, left}
 use Rattle.octseq_format.specs.Laws.{Relation}
