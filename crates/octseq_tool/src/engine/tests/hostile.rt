@@ -134,9 +134,64 @@ fn failed_reads(
             return reads;
         }
         assert_equal!(rt, answer, Err(ProgramFault::Read));
-        assert_true!(rt, written.is_empty());
+        // (`records` writes as it reads)
+        assert_true!(rt, written.is_empty() || command == "records");
     }
     16
+}
+
+#[test]
+fn records_writes_the_lines_before_a_failed_read(rt: HostRuntime) {
+    let cases = [(0, ""), (1, "a\n"), (2, "a\nbc\n"), (3, "a\nbc\nd\n")];
+    for (reads, lines) in cases {
+        let mut reader = Drip {
+            rest: b"\x01a\x02bc\x01d\x05",
+            at_once: 3,
+            reads,
+        };
+        let mut written = Vec::new(rt.alloc());
+        let answer = engine(rt.alloc(), "records", &mut reader, &mut written);
+        assert_equal!(&rt, answer, Err(ProgramFault::Read));
+        assert_equal!(&rt, written.as_slice(), lines.as_bytes());
+    }
+}
+
+#[test]
+fn records_reads_more_than_a_piece(rt: HostRuntime) -> Result<(), Fail> {
+    let alloc = rt.alloc();
+    // (records of 100 octets, so that one is cut where a read of 65,536 ends)
+    let octets = repeated(alloc, &[(99, 1), (b'a', 99)])?.repeat(alloc, 1000)?;
+    let lines = repeated(alloc, &[(b'a', 99), (b'\n', 1)])?.repeat(alloc, 1000)?;
+    let mut written = Vec::new(alloc);
+    let answer = engine(alloc, "records", &mut octets.as_slice(), &mut written);
+    assert_equal!(&rt, answer, Ok(Status::Fine));
+    assert_equal!(&rt, written.as_slice(), lines.as_slice());
+    Ok(())
+}
+
+#[test]
+fn check_searches_more_than_a_piece(rt: HostRuntime) -> Result<(), Fail> {
+    let alloc = rt.alloc();
+    // (characters of three octets, so that one is cut at each place where a read of 65,536 may end)
+    let mut octets = "€".as_bytes().repeat(alloc, 50_000)?;
+    for (line, status) in [
+        ("well formed: 150000 octets\n", Status::Fine),
+        (
+            "incomplete utf-8 byte sequence from index 150000\n",
+            Status::Refused,
+        ),
+        (
+            "invalid utf-8 sequence of 1 bytes from index 150000\n",
+            Status::Refused,
+        ),
+    ] {
+        let mut written = Vec::new(alloc);
+        let answer = engine(alloc, "check", &mut octets.as_slice(), &mut written);
+        assert_equal!(&rt, answer, Ok(status));
+        assert_equal!(&rt, written.as_slice(), line.as_bytes());
+        octets.push(0xE2)?;
+    }
+    Ok(())
 }
 
 #[test]
@@ -154,8 +209,9 @@ fn a_failed_read_writes_nothing(rt: HostRuntime) {
 fn a_failed_write_is_told(rt: HostRuntime) {
     for (command, status, output) in OUTPUTS {
         for at_once in [1, 7, usize::MAX] {
-            // (each write that is needed, and a flush)
-            let needed = output.len().div_ceil(at_once) + 1;
+            // (each write that is needed, and a call to flush, which `records` makes after each read)
+            let flushes = if command == "records" { 2 } else { 1 };
+            let needed = output.len().div_ceil(at_once) + flushes;
             for calls in 0..=needed {
                 let mut writer = Narrow {
                     taken: Vec::new(rt.alloc()),

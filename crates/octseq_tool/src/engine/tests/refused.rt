@@ -54,10 +54,26 @@ fn lossy_tells_all_or_nothing(rt: HostRuntime) -> Result<(), Fail> {
 }
 
 #[test]
-fn records_tells_all_or_nothing(rt: HostRuntime) -> Result<(), Fail> {
-    let lines = b"a\xEF\xBF\xBDb\n\nunexpected end of input\n";
-    is_told(&rt, rt.alloc(), "records", b"\x03a\xFFb\0\x02a", lines)?;
-    Ok(())
+fn records_tells_a_front(rt: HostRuntime) -> Result<(), Fail> {
+    let lines = b"a\xEF\xBF\xBDb\n\nunexpected end of input\n".as_slice();
+    let mut writer = Fixed::<64> {
+        taken: Array::new(),
+    };
+    let mut octets = b"\x03a\xFFb\0\x02a".as_slice();
+    let answer = engine(rt.alloc(), "records", &mut octets, &mut writer);
+    let taken = writer.taken.as_slice();
+    match answer {
+        Ok(status) => {
+            assert_equal!(&rt, status, Status::Refused);
+            assert_equal!(&rt, taken, lines);
+            Ok(())
+        }
+        Err(fault) => {
+            assert_equal!(&rt, fault, ProgramFault::Memory);
+            assert_equal!(&rt, lines.get(..taken.len()), Some(taken));
+            Err(Fail::from(AllocError))
+        }
+    }
 }
 
 #[test]
