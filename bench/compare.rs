@@ -276,7 +276,8 @@ fn lossy(bench: &mut Bench, pages: &[Pages]) {
         ("`try_from_utf8_lossy` of a copy", octseq_lossy_len, octseq_lossy_digest, true),
     ];
     for &(reading, call, digest, copies) in readings {
-        for (given, texts) in lossy_inputs(pages) {
+        // (of a copy it is the same reading, so a size is enough)
+        for (given, texts) in lossy_inputs(pages).into_iter().filter(|(given, _)| !copies || given.ends_with("64 KiB")) {
             let mut section = Section::new("lossy reading", reading, &given, LOSSY);
             for (name, octets) in texts {
                 let text = dns::messages::digest(String::from_utf8_lossy(&octets).as_bytes());

@@ -110,10 +110,13 @@ impl Section {
         format!("{:.2}{}", mean(&self.ratios()), rest.unwrap_or_default())
     }
 
-    /// The ratio of each input, where there is more than one.
+    /// The ratio of each input, if there is more than one. Of lengths, the greatest alone.
     fn each(&self) -> String {
         if self.inputs.len() == 1 {
             return String::new();
+        }
+        if self.inputs.iter().all(|input| input.name.parse::<usize>().is_ok()) {
+            return format!("greatest {:.2}", greatest(&self.ratios()));
         }
         let each = self.inputs.iter().map(|input| format!("{} {:.2}", input.name, input.ratio()));
         each.collect::<Vec<_>>().join(", ")
