@@ -41,7 +41,9 @@ impl Feed for LossyPieces<Vec<u8>> {
 /// A search for the first fault, and the number of octets it was fed.
 #[derive(Drop)]
 pub struct Searched {
+    /// The search.
     pub search: FaultPieces,
+    /// How many octets there were.
     pub len: u64,
 }
 

@@ -205,6 +205,39 @@ fn a_failed_read_writes_nothing(rt: HostRuntime) {
     }
 }
 
+/// A reader of one octet at a time, which is interrupted before each read.
+#[derive(Drop)]
+struct Restless<'a> {
+    rest: &'a [u8],
+    is_ready: bool,
+}
+
+impl Read for Restless<'_> {
+    fn read(&mut self, buf: &mut [u8]) -> io::Result<usize> {
+        let is_ready = self.is_ready;
+        self.is_ready = !is_ready;
+        if !is_ready {
+            return Err(Error::from(ErrorKind::Interrupted));
+        }
+        let count = buf.len().min(1);
+        self.rest.read(&mut buf[..count])
+    }
+}
+
+#[test]
+fn an_interrupted_read_is_tried_again(rt: HostRuntime) {
+    for (command, status, output) in OUTPUTS {
+        let mut reader = Restless {
+            rest: b"\x03a\xFFb",
+            is_ready: false,
+        };
+        let mut written = Vec::new(rt.alloc());
+        let answer = engine(rt.alloc(), command, &mut reader, &mut written);
+        assert_equal!(&rt, answer, Ok(status));
+        assert_equal!(&rt, written.as_slice(), output.as_bytes());
+    }
+}
+
 #[test]
 fn a_failed_write_is_told(rt: HostRuntime) {
     for (command, status, output) in OUTPUTS {
