@@ -3,6 +3,7 @@ ghost use Rattle.std.specs.Prelude.{◌≡◌, None};
 
 use arrayvec::ArrayVec;
 use bytes::{Bytes, BytesMut};
+use octseq::Turns;
 use octseq::array::Array;
 use octseq::builder::{
     AppendError, AsOctets, CloneOctets, EmptyBuilder, FreezeBuilder, FromBuilder, OctetsBuilder,
@@ -10,7 +11,6 @@ use octseq::builder::{
 };
 use octseq::cow::CowOctets;
 use octseq::str::{Command, LossyPieces, Reply, Str, StrBuilder, run};
-use octseq::Turns;
 use octseq_asserts::{assert_equal, assert_true};
 use smallvec::SmallVec;
 use std::alloc::{AllocError, Global};

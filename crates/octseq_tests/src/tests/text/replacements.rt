@@ -1,10 +1,10 @@
 //! Lossy reading with any character as the replacement.
 use super::filled;
 use crate::tests::is_text_or_short;
+use octseq::Turns;
 use octseq::array::Array;
 use octseq::builder::{AppendError, EmptyBuilder};
 use octseq::str::StrBuilder;
-use octseq::Turns;
 use std::alloc::Global;
 use std::process::Abort;
 use std::test::Fail;

@@ -1,6 +1,7 @@
 //! Whole texts: constructors, views, truncation, comparisons, and lists of commands over each representation.
 use arrayvec::ArrayVec;
 use bytes::BytesMut;
+use octseq::Turns;
 use octseq::array::Array;
 use octseq::builder::{
     AppendError, AsOctets, CloneOctets, EmptyBuilder, OctetsBuilder, OctetsLimit, ShortBuf,
@@ -9,7 +10,6 @@ use octseq::builder::{
 use octseq::cow::CowOctets;
 use octseq::octets::OctetsFrom;
 use octseq::str::{Command, Reply, Str, StrBuilder, boundary, last_char, run};
-use octseq::Turns;
 use octseq_asserts::{assert_equal, assert_true};
 use smallvec::SmallVec;
 use std::alloc::Global;
