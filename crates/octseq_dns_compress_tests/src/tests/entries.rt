@@ -63,3 +63,23 @@ fn a_header_is_written_over(rt: HostRuntime) -> Result<(), Fail> {
     );
     Ok(())
 }
+
+#[test]
+fn a_name_of_more_than_sixteen_labels_is_compressed(rt: HostRuntime) -> Result<(), Fail> {
+    let mut turns = Turns::new();
+    let octets = Vec::<u8>::new(rt.alloc());
+    let mut composer = Composer::from_builder(octets, Vec::<Target>::new(rt.alloc()))?;
+    let twenty =
+        b"\x01a\x01b\x01c\x01d\x01e\x01f\x01g\x01h\x01i\x01j\x01k\x01l\x01m\x01n\x01o\x01p\x01q\x01r\x01s\x01t\x00";
+    composer.append_name(&name_of(twenty)?, &mut turns)?;
+    composer.append_name(
+        &name_of(
+            b"\x01x\x01a\x01b\x01c\x01d\x01e\x01f\x01g\x01h\x01i\x01j\x01k\x01l\x01m\x01n\x01o\x01p\x01q\x01r\x01s\x01t\x00",
+        )?,
+        &mut turns,
+    )?;
+    let written = composer.as_slice().get(12..).unwrap_or(b"");
+    assert_equal!(&rt, written.get(..41), Some(twenty.as_slice()));
+    assert_equal!(&rt, written.get(41..), Some(b"\x01x\xC0\x0C".as_slice()));
+    Ok(())
+}
