@@ -12,11 +12,12 @@ use Rattle.octseq_dns.specs.Writes.{Writes, least_limit}
 use Rattle.octseq_dns.proofs.Anew.{all_longer}
 use Rattle.octseq_dns.proofs.HeaderRead.{header_length}
 use Rattle.octseq_dns.proofs.Pushed.{header_set, twelve_first}
-use Rattle.octseq_dns.proofs.Stages.{of_sections, past_answers}
+use Rattle.octseq_dns.proofs.Stages.{of_sections}
 use Rattle.octseq_dns_compress.proofs.Fields.{headed_length}
 use Rattle.octseq_dns_message.specs.declared.header.Header.{Header}
 use Rattle.octseq_dns_message.specs.declared.header.HeaderCounts.{HeaderCounts}
 use Rattle.octseq_c.specs.Made.{without_records}
+use Rattle.octseq_c.proofs.Sections.{past_answers}
 
 -- what follows if a call returns `Ok`
 pub on_ok : {T E P Q : Type 0} (r : Result T E) → (P → Q) → OnOk r P → OnOk r Q

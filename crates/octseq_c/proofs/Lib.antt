@@ -12,6 +12,7 @@ pub mod Placed
 pub mod Puts
 pub mod Readings
 pub mod RowsPushed
+pub mod Sections
 pub mod SettledTexts
 pub mod Told
 pub mod Wholes

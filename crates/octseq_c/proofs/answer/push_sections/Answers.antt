@@ -1,8 +1,9 @@
 use Rattle.std.proofs.Common.{Some, [], ap, refl, arith}
-use Rattle.octseq_dns.proofs.Stages.{additionals_pushed, answered, answers_pushed, asked, authorities_pushed}
-use Rattle.octseq_dns.proofs.Stages.{authorized, of_sections, past_additionals, past_answers, past_authorities}
+use Rattle.octseq_dns.proofs.Stages.{asked, of_sections}
 use Rattle.octseq_c.specs.Made.{places_kept}
 use Rattle.octseq_c.proofs.AnswerBegun.{if_ok, on_ok}
+use Rattle.octseq_c.proofs.Sections.{additionals_pushed, answered, answers_pushed, authorities_pushed, authorized}
+use Rattle.octseq_c.proofs.Sections.{past_additionals, past_answers, past_authorities}
 use Rattle.octseq_c.proofs.answer.push_sections.Goals as goal
 
 pub returns-in_err-answered-clause-short : goal.returns-in_err-answered-clause-short
