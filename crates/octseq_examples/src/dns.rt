@@ -18,11 +18,11 @@ pub fn is_within() -> anyhow::Result<bool> {
 }
 
 /// Reads two names, the second of which ends with a pointer to the first.
-pub fn two_names() -> anyhow::Result<[ParsedName<&'static [u8]>; 2]> {
+pub fn two_names() -> anyhow::Result<(ParsedName<&'static [u8]>, ParsedName<&'static [u8]>)> {
     let mut parser = Parser::from_static(b"\x07example\x03com\x00\x03www\xC0\x00");
     let domain = ParsedName::parse(&mut parser)?; // "example.com."
     let host = ParsedName::parse(&mut parser)?; // "www.example.com."
-    Ok([domain, host])
+    Ok((domain, host))
 }
 
 /// Returns the number of answers of a response, or `None` for a query or an error.

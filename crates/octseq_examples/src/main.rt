@@ -63,7 +63,7 @@ fn print_parsing(rt: &impl Print) -> anyhow::Result<()> {
 
 fn print_dns_read(rt: &impl Print, alloc: Global) -> anyhow::Result<()> {
     println!(rt; "{}", dns::is_within()?)?;
-    let [domain, host] = dns::two_names()?;
+    let (domain, host) = dns::two_names()?;
     println!(rt; "{domain} {host}")?;
     println!(rt; "{:?}", dns::answer_count(RESPONSE)?)?;
     print!(rt; "{}", dns::asked(alloc, RESPONSE)?)?;
