@@ -116,7 +116,7 @@ impl<B: OctetsBuilder + Truncate + AsOctetsMut, T: Compressor, S: Section> Secti
     /// // crates/octseq_examples/src/dns.rt
     /// answers.set_push_limit(64);
     /// for address in addresses {
-    ///     let data = Data::<&[u8]>::A(*address);
+    ///     let data = Data::<R>::A(*address);
     ///     let pushed = answers.push_record(&name.parsed(), Class::IN, Ttl::from_secs(300), &data);
     ///     if pushed.is_err() {
     ///         break; // with this record the message would have more than 64 octets

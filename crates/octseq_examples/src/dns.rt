@@ -1,5 +1,5 @@
 //! Reading and writing DNS names and messages.
-use octseq::{Array, Parser};
+use octseq::{Array, AsOctets, Parser};
 use octseq_dns::data::Txt;
 use octseq_dns::txt::{append_strings, append_text};
 use octseq_dns::{
@@ -81,11 +81,11 @@ pub fn two_questions() -> anyhow::Result<Array<512>> {
 }
 
 /// Returns a message with one answer.
-pub fn answer() -> anyhow::Result<Array<512>> {
+pub fn answer<R: AsOctets + Copy>() -> anyhow::Result<Array<512>> {
     let table = StaticCompressor::<8>::new();
     let message = MessageBuilder::from_builder(Array::<512>::new(), table)?;
     let name = Name::from_text("example.com.")?;
-    let address = Data::<&[u8]>::A([192, 0, 2, 1]);
+    let address = Data::<R>::A([192, 0, 2, 1]);
     let mut answers = message.question().answer();
     answers.push_record(&name.parsed(), Class::IN, Ttl::from_secs(300), &address)?;
     let (octets, _) = answers.authority().additional().finish();
@@ -103,13 +103,16 @@ pub fn refusal(request: &[u8]) -> anyhow::Result<Array<512>> {
 }
 
 /// Returns a message with as many of these addresses as 64 octets have room for.
-pub fn within_limit(name: &Name<Array<255>>, addresses: &[[u8; 4]]) -> anyhow::Result<Array<512>> {
+pub fn within_limit<R: AsOctets + Copy>(
+    name: &Name<Array<255>>,
+    addresses: &[[u8; 4]],
+) -> anyhow::Result<Array<512>> {
     let table = StaticCompressor::<8>::new();
     let message = MessageBuilder::from_builder(Array::<512>::new(), table)?;
     let mut answers = message.question().answer();
     answers.set_push_limit(64);
     for address in addresses {
-        let data = Data::<&[u8]>::A(*address);
+        let data = Data::<R>::A(*address);
         let pushed = answers.push_record(&name.parsed(), Class::IN, Ttl::from_secs(300), &data);
         if pushed.is_err() {
             break; // with this record the message would have more than 64 octets

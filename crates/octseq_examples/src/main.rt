@@ -85,12 +85,15 @@ fn print_dns_written(rt: &impl Print, alloc: Global) -> anyhow::Result<()> {
     let query = dns::query(header, &name)?;
     print!(rt; "{}", Message::parse(query.as_slice())?)?;
     print!(rt; "{}", Message::parse(dns::two_questions()?.as_slice())?)?;
-    print!(rt; "{}", Message::parse(dns::answer()?.as_slice())?)?;
+    print!(rt; "{}", Message::parse(dns::answer::<&[u8]>()?.as_slice())?)?;
     print!(rt;
         "{}",
         Message::parse(dns::refusal(query.as_slice())?.as_slice())?
     )?;
-    let limited = dns::within_limit(&name, &[[192, 0, 2, 1], [192, 0, 2, 2], [192, 0, 2, 3]])?;
+    let limited = dns::within_limit::<&[u8]>(
+        &name,
+        &[[192, 0, 2, 1], [192, 0, 2, 2], [192, 0, 2, 3]],
+    )?;
     print!(rt; "{}", Message::parse(limited.as_slice())?)?;
     if let Some(opt) = Message::parse(dns::with_edns()?.as_slice())?.opt()? {
         println!(rt; "{} {}", opt.udp_payload_size(), opt.dnssec_ok())?;

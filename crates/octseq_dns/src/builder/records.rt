@@ -39,7 +39,7 @@ impl<B: OctetsBuilder + Truncate + AsOctetsMut, T: Compressor, S: RecordSection>
     /// ```
     /// // crates/octseq_examples/src/dns.rt
     /// let name = Name::from_text("example.com.")?;
-    /// let address = Data::<&[u8]>::A([192, 0, 2, 1]);
+    /// let address = Data::<R>::A([192, 0, 2, 1]);
     /// let mut answers = message.question().answer();
     /// answers.push_record(&name.parsed(), Class::IN, Ttl::from_secs(300), &address)?;
     /// ```
