@@ -67,9 +67,9 @@ pair_code Fits code Suits spelling first second (a, b) (c, d) x y (fits, suits) 
     (same_pair a c b d one.0 two.0, two.1)
 
 -- both were read
-pub pair_front : (whole between behind first second : List ℕ) → whole ≡ first ++ between → between ≡ second ++ behind
-    → whole ≡ (first ++ second) ++ behind
-pair_front whole between behind first second e f = e ∙ ap (λ x. first ++ x) f ∙ sym (append_assoc first second behind)
+pub pair_front : (whole between after first second : List ℕ) → whole ≡ first ++ between → between ≡ second ++ after
+    → whole ≡ (first ++ second) ++ after
+pair_front whole between after first second e f = e ∙ ap (λ x. first ++ x) f ∙ sym (append_assoc first second after)
 
 -- the first one isn't there
 pub no_first : {A B : Type 0} (Fits : A → Type 0) (code : A → List ℕ) (Suits : B → Type 0) (spelling : B
@@ -80,11 +80,11 @@ no_first Fits code Suits spelling octets none (p, more, fits, e) =
 
 -- the first one was read, and the second one doesn't follow it
 pub no_second : {A B : Type 0} (Fits : A → Type 0) (code : A → List ℕ) (Suits : B → Type 0) (spelling : B
-    → List ℕ) (octets behind : List ℕ) (a : A) → IsCode Fits code → Fits a
-    → octets ≡ code a ++ behind → ¬ HasFront Suits spelling behind
+    → List ℕ) (octets after : List ℕ) (a : A) → IsCode Fits code → Fits a
+    → octets ≡ code a ++ after → ¬ HasFront Suits spelling after
     → ¬ HasFront {A = A × B} (λ p. Fits p.0 × Suits p.1) (λ p. code p.0 ++ spelling p.1) octets
-no_second Fits code Suits spelling octets behind a told fits read none (p, more, here, e) =
-    let one = told a p.0 behind (spelling p.1 ++ more) fits here.0
+no_second Fits code Suits spelling octets after a reported fits read none (p, more, here, e) =
+    let one = reported a p.0 after (spelling p.1 ++ more) fits here.0
     (sym read ∙ e ∙ append_assoc (code p.0) (spelling p.1) more) in
     none (p.1, more, here.1, one.1)
 
@@ -146,10 +146,10 @@ no_signed w k few =
     omega arith) few
 
 -- a part was read
-pub part_front : (octets between behind value : List ℕ) (k n : ℕ) → octets ≡ octets_be k n ++ between
-    → between ≡ value ++ behind → length value ≡ n → octets ≡ part_of k value ++ behind
-part_front octets between behind value k n e f long =
-    pair_front octets between behind (octets_be k (length value)) value
+pub part_front : (octets between after value : List ℕ) (k n : ℕ) → octets ≡ octets_be k n ++ between
+    → between ≡ value ++ after → length value ≡ n → octets ≡ part_of k value ++ after
+part_front octets between after value k n e f long =
+    pair_front octets between after (octets_be k (length value)) value
     (e ∙ ap (λ n. octets_be k n ++ between) (sym long)) f
 
 -- no part: too few octets for its length
@@ -186,8 +186,8 @@ no_fixed Fits octets w n long few = too_few Fits (λ _. octets) w n (λ _. omega
 pub no_fixed_value : {A : Type 0} (Fits : A → Type 0) (fixed octets found more : List ℕ) → octets ≡ found ++ more
     → length found ≡ length fixed → (found ≡ fixed → ⊥)
     → ¬ HasFront Fits (λ _. fixed) octets
-no_fixed_value Fits fixed octets found more read long other (a, behind, fits, e) =
-    other (halves found fixed more behind long (sym read ∙ e)).0
+no_fixed_value Fits fixed octets found more read long other (a, after, fits, e) =
+    other (halves found fixed more after long (sym read ∙ e)).0
 
 -- integers that fit in k octets are equal if their octets are
 pub same_integer : (k m n : ℕ) → m < 256 ^ k → n < 256 ^ k → octets_be k m ≡ octets_be k n → m ≡ n
@@ -204,10 +204,10 @@ no_fixed_integer Fits k fixed n octets more fits also read other =
 -- a thing after fixed octets
 pub marked_code : {A : Type 0} (Fits : A → Type 0) (code : A → List ℕ) (mark : List ℕ) → IsCode Fits code
     → IsCode Fits (λ a. mark ++ code a)
-marked_code Fits code mark told a b x y fits also e =
+marked_code Fits code mark reported a b x y fits also e =
     let apart : mark ++ (code a ++ x) ≡ mark ++ (code b ++ y) = sym (append_assoc mark (code a) x) ∙ e
     ∙ append_assoc mark (code b) y in
-    told a b x y fits also (halves mark mark (code a ++ x) (code b ++ y) refl apart).1
+    reported a b x y fits also (halves mark mark (code a ++ x) (code b ++ y) refl apart).1
 
 -- the fixed octets aren't there
 pub no_mark : {A : Type 0} (Fits : A → Type 0) (code : A → List ℕ) (mark octets : List ℕ)
@@ -217,15 +217,15 @@ no_mark Fits code mark octets none (a, more, fits, e) =
     none (tt, code a ++ more, tt, e ∙ append_assoc mark (code a) more)
 
 -- the fixed octets were read, and the thing doesn't follow them
-pub no_marked : {A : Type 0} (Fits : A → Type 0) (code : A → List ℕ) (mark octets behind : List ℕ)
-    → octets ≡ mark ++ behind → ¬ HasFront Fits code behind
+pub no_marked : {A : Type 0} (Fits : A → Type 0) (code : A → List ℕ) (mark octets after : List ℕ)
+    → octets ≡ mark ++ after → ¬ HasFront Fits code after
     → ¬ HasFront Fits (λ a. mark ++ code a) octets
-no_marked Fits code mark octets behind read none (a, more, fits, e) =
+no_marked Fits code mark octets after read none (a, more, fits, e) =
     none (
       a,
       more,
       fits,
-      (halves mark mark behind (code a ++ more) refl (sym read ∙ e ∙ append_assoc mark (code a) more)).1,
+      (halves mark mark after (code a ++ more) refl (sym read ∙ e ∙ append_assoc mark (code a) more)).1,
     )
 
 -- octets of a known length are their own code
@@ -264,12 +264,12 @@ no_chained_first Fits code Suits spelling octets none (p, more, fits, e) =
 
 -- the first one was read, and the second one, in the form that the first decides, doesn't follow it
 pub no_chained_second : {A B : Type 0} (Fits : A → Type 0) (code : A → List ℕ) (Suits : A → B → Type 0) (spelling : A
-    → B → List ℕ) (octets behind : List ℕ) (a : A)
-    → IsCode Fits code → Fits a → octets ≡ code a ++ behind → ¬ HasFront (Suits a) (spelling a) behind
+    → B → List ℕ) (octets after : List ℕ) (a : A)
+    → IsCode Fits code → Fits a → octets ≡ code a ++ after → ¬ HasFront (Suits a) (spelling a) after
     → ¬ HasFront {A = A × B} (λ p. Fits p.0 × Suits p.0 p.1) (λ p. code p.0 ++ spelling p.0 p.1) octets
-no_chained_second Fits code Suits spelling octets behind a told fits read none (p, more, here, e) =
-    let one : (a ≡ p.0) × (behind ≡ spelling p.0 p.1 ++ more) =
-    told a p.0 behind (spelling p.0 p.1 ++ more) fits here.0
+no_chained_second Fits code Suits spelling octets after a reported fits read none (p, more, here, e) =
+    let one : (a ≡ p.0) × (after ≡ spelling p.0 p.1 ++ more) =
+    reported a p.0 after (spelling p.0 p.1 ++ more) fits here.0
     (sym read ∙ e ∙ append_assoc (code p.0) (spelling p.0 p.1) more) in
     let back : p.0 ≡ a = sym one.0 in
     none (p.1, more, subst (λ c. Suits c p.1) back here.1, one.1 ∙ ap (λ c. spelling c p.1 ++ more) back)
@@ -277,8 +277,8 @@ no_chained_second Fits code Suits spelling octets behind a told fits read none (
 -- octets whose length was read before, wherever that was
 pub counted_code : {A : Type 0} (Fits : A → Type 0) (code : A → List ℕ) (count : A → ℕ) → IsCode Fits code
     → IsCode {A = A × List ℕ} (λ p. Fits p.0 × (length p.1 ≡ count p.0)) (λ p. code p.0 ++ p.1)
-counted_code Fits code count told = chained_code Fits code (λ a octets. length octets ≡ count a) (λ _ octets. octets)
-    told (λ a _. octets_code (count a))
+counted_code Fits code count reported = chained_code Fits code (λ a octets. length octets ≡ count a) (λ _ octets. octets)
+    reported (λ a _. octets_code (count a))
 
 -- what gives their length isn't there
 pub no_counted_first : {A : Type 0} (Fits : A → Type 0) (code : A → List ℕ) (count : A → ℕ) (octets : List ℕ)
@@ -292,6 +292,6 @@ pub no_counted_octets : {A : Type 0} (Fits : A → Type 0) (code : A → List �
     (w : Window) (a : A) → IsCode Fits code → Fits a → octets ≡ code a ++ rest w
     → left w < count a → ¬ HasFront {A = A × List ℕ} (λ p. Fits p.0 × (length p.1 ≡ count p.0)) (λ p. code p.0 ++ p.1)
     octets
-no_counted_octets Fits code count octets w a told fits read few =
-    no_chained_second Fits code (λ a octets. length octets ≡ count a) (λ _ octets. octets) octets (rest w) a told fits
+no_counted_octets Fits code count octets w a reported fits read few =
+    no_chained_second Fits code (λ a octets. length octets ≡ count a) (λ _ octets. octets) octets (rest w) a reported fits
     read (no_octets w (count a) (λ room. omega arith))

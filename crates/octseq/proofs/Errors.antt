@@ -14,56 +14,56 @@ use Rattle.octseq.specs.declared.parse.error.ParseOctetsError.{ParseOctetsError}
 -- a parser's refusal that is reported as malformed was for lack of octets
 pub short_of : (T : Type 0) (e : ParseOctetsError) → read_error_of e ≡ ReadError.Malformed
     → IsShort {T = T} parse_octets_error (Err e)
-short_of T (ParseOctetsError.Short e) told = tt
-short_of T ParseOctetsError.Memory told = absurd (cc)
+short_of T (ParseOctetsError.Short e) reported = tt
+short_of T ParseOctetsError.Memory reported = absurd (cc)
 
 -- a refusal that is reported as memory was for lack of memory
 pub memory_of : (T : Type 0) (e : ParseOctetsError) → read_error_of e ≡ ReadError.Memory
     → IsMemory {T = T} parse_octets_error (Err e)
-memory_of T (ParseOctetsError.Short e) told = absurd (cc)
-memory_of T ParseOctetsError.Memory told = tt
+memory_of T (ParseOctetsError.Short e) reported = absurd (cc)
+memory_of T ParseOctetsError.Memory reported = tt
 
 -- ---- of a composer
 
 -- a refusal that is reported as malformed was for an integer or a length that doesn't fit its octets
 pub too_long_of : (e : ComposeError) → write_error_of e ≡ WriteError.Malformed
     → IsTooLong {T = Unit {0}} compose_error (Err e)
-too_long_of ComposeError.TooLong told = tt
-too_long_of ComposeError.Short told = absurd (cc)
-too_long_of ComposeError.Memory told = absurd (cc)
+too_long_of ComposeError.TooLong reported = tt
+too_long_of ComposeError.Short reported = absurd (cc)
+too_long_of ComposeError.Memory reported = absurd (cc)
 
 -- a refusal that is reported as short was for lack of room
 pub part_short_of : (e : ComposeError) → write_error_of e ≡ WriteError.Short
     → IsShort {T = Unit {0}} compose_error (Err e)
-part_short_of ComposeError.TooLong told = absurd (cc)
-part_short_of ComposeError.Short told = tt
-part_short_of ComposeError.Memory told = absurd (cc)
+part_short_of ComposeError.TooLong reported = absurd (cc)
+part_short_of ComposeError.Short reported = tt
+part_short_of ComposeError.Memory reported = absurd (cc)
 
 -- a refusal that is reported as memory was for lack of memory
 pub part_memory_of : (e : ComposeError) → write_error_of e ≡ WriteError.Memory
     → IsMemory {T = Unit {0}} compose_error (Err e)
-part_memory_of ComposeError.TooLong told = absurd (cc)
-part_memory_of ComposeError.Short told = absurd (cc)
-part_memory_of ComposeError.Memory told = tt
+part_memory_of ComposeError.TooLong reported = absurd (cc)
+part_memory_of ComposeError.Short reported = absurd (cc)
+part_memory_of ComposeError.Memory reported = tt
 
 -- ---- of a builder
 
 -- a builder's refusal is never reported as malformed
 pub append_not_malformed : (e : AppendError) → write_error_of (refusal_of e) ≡ WriteError.Malformed → ⊥
-append_not_malformed (AppendError.Short e) told = cc
-append_not_malformed AppendError.Memory told = cc
+append_not_malformed (AppendError.Short e) reported = cc
+append_not_malformed AppendError.Memory reported = cc
 
 -- a refusal that is reported as short was for lack of room
 pub append_short_of : (T : Type 0) (e : AppendError) → write_error_of (refusal_of e) ≡ WriteError.Short
     → IsShort {T = T} append_error (Err e)
-append_short_of T (AppendError.Short e) told = tt
-append_short_of T AppendError.Memory told = absurd (cc)
+append_short_of T (AppendError.Short e) reported = tt
+append_short_of T AppendError.Memory reported = absurd (cc)
 
 -- a refusal that is reported as memory was for lack of memory
 pub append_memory_of : (T : Type 0) (e : AppendError) → write_error_of (refusal_of e) ≡ WriteError.Memory
     → IsMemory {T = T} append_error (Err e)
-append_memory_of T (AppendError.Short e) told = absurd (cc)
-append_memory_of T AppendError.Memory told = tt
+append_memory_of T (AppendError.Short e) reported = absurd (cc)
+append_memory_of T AppendError.Memory reported = tt
 
 -- ---- passed on unchanged
 

@@ -1,4 +1,4 @@
-pub mod Behind
+pub mod WindowsAfter
 pub mod Boundaries
 pub mod Bridge
 pub mod ByChunk

@@ -25,23 +25,23 @@ none_of_some code a more some e =
 pub one_list : {A : Type 0} (Fits : A → Type 0) (code : A → List ℕ) → IsCode Fits code → HasOctets code
     → (things others : List A) → AllByRecursion Fits things → AllByRecursion Fits others
     → flat_map code things ≡ flat_map code others → things ≡ others
-one_list Fits code told some [] [] each all e = refl
-one_list Fits code told some [] (b ∷ others) each all e =
+one_list Fits code reported some [] [] each all e = refl
+one_list Fits code reported some [] (b ∷ others) each all e =
     absurd (none_of_some code b (flat_map code others) some (sym e))
-one_list Fits code told some (a ∷ things) [] each all e = absurd (none_of_some code a (flat_map code things) some e)
-one_list Fits code told some (a ∷ things) (b ∷ others) (fits, each) (also, all) e =
-    let first = told a b (flat_map code things) (flat_map code others) fits also e in
+one_list Fits code reported some (a ∷ things) [] each all e = absurd (none_of_some code a (flat_map code things) some e)
+one_list Fits code reported some (a ∷ things) (b ∷ others) (fits, each) (also, all) e =
+    let first = reported a b (flat_map code things) (flat_map code others) fits also e in
     ap (λ a. a ∷ things) first.0
-    ∙ ap (λ things. b ∷ things) (one_list Fits code told some things others each all first.1)
+    ∙ ap (λ things. b ∷ things) (one_list Fits code reported some things others each all first.1)
 
 -- if all octets are whole, so is what is left after a thing
-whole_behind : {A : Type 0} (Fits : A → Type 0) (code : A → List ℕ) → IsCode Fits code → HasOctets code
+whole_after : {A : Type 0} (Fits : A → Type 0) (code : A → List ℕ) → IsCode Fits code → HasOctets code
     → (octets more : List ℕ) (a : A) → Fits a → octets ≡ code a ++ more → IsWhole Fits code octets
     → IsWhole Fits code more
-whole_behind Fits code told some octets more a fits front ([], each, all) =
+whole_after Fits code reported some octets more a fits front ([], each, all) =
     absurd (none_of_some code a more some (sym front ∙ all))
-whole_behind Fits code told some octets more a fits front ((b ∷ others), (here, each), all) =
-    (others, each, (told a b more (flat_map code others) fits here (sym front ∙ all)).1)
+whole_after Fits code reported some octets more a fits front ((b ∷ others), (here, each), all) =
+    (others, each, (reported a b more (flat_map code others) fits here (sym front ∙ all)).1)
 
 -- octets that are whole have a thing at their front
 has_front : {A : Type 0} (Fits : A → Type 0) (code : A → List ℕ) (octets : List ℕ) → 0 < length octets
@@ -60,19 +60,19 @@ pub record IsReadTo {A : Type 0} (Fits : A → Type 0) (code : A → List ℕ) (
     0 where
   pub each : AllByRecursion Fits things
   pub front : octets ≡ flat_map code things ++ rest
-  pub behind : IsWhole Fits code octets → IsWhole Fits code rest
+  pub keeps_whole : IsWhole Fits code octets → IsWhole Fits code rest
 
 -- before the first thing is read, all octets are left
 pub read_none : {A : Type 0} (Fits : A → Type 0) (code : A → List ℕ) (octets : List ℕ)
     → IsReadTo Fits code octets octets []
-read_none Fits code octets = record { each = tt; front = refl; behind = λ all. all }
+read_none Fits code octets = record { each = tt; front = refl; keeps_whole = λ all. all }
 
 -- one more thing was read, and what followed it is left
 pub read_more : {A : Type 0} (Fits : A → Type 0) (code : A → List ℕ) → IsCode Fits code → HasOctets code
     → (octets before after : List ℕ) (things made : List A) (a : A) → IsReadTo Fits code octets before things → Fits a
     → before ≡ code a ++ after
     → made ≡ things ++ a ∷ [] → IsReadTo Fits code octets after made
-read_more Fits code told some octets before after things made a so_far fits front is =
+read_more Fits code reported some octets before after things made a so_far fits front is =
     let joined : flat_map code made ≡ flat_map code things ++ code a =
     ap (flat_map code) is ∙ flat_map-append code things (a ∷ []) ∙ ap (λ x. flat_map code things ++ x)
     (append-nil (code a)) in
@@ -80,7 +80,7 @@ read_more Fits code told some octets before after things made a so_far fits fron
       each = subst (AllByRecursion Fits) (sym is) (each_snoc Fits things a so_far.each fits);
       front = so_far.front ∙ ap (λ x. flat_map code things ++ x) front
           ∙ sym (append_assoc (flat_map code things) (code a) after) ∙ ap (λ x. x ++ after) (sym joined);
-      behind = λ all. whole_behind Fits code told some before after a fits front (so_far.behind all);
+      keeps_whole = λ all. whole_after Fits code reported some before after a fits front (so_far.keeps_whole all);
     }
 
 -- all was read
@@ -94,4 +94,4 @@ read_all Fits code octets (x ∷ rest) things so_far none = absurd (omega arith)
 pub read_cut : {A : Type 0} (Fits : A → Type 0) (code : A → List ℕ) (octets rest : List ℕ) (things : List A)
     → IsReadTo Fits code octets rest things → 0 < length rest
     → ¬ HasFront Fits code rest → ¬ IsWhole Fits code octets
-read_cut Fits code octets rest things so_far some cut all = cut (has_front Fits code rest some (so_far.behind all))
+read_cut Fits code octets rest things so_far some cut all = cut (has_front Fits code rest some (so_far.keeps_whole all))

@@ -22,14 +22,14 @@ pub step_of : {P : Type 0} (view : P → Window) (asks : Bool) (command : Parser
     })
     → new ≡ slice_set ps command.parser after ++ made
     → WindowStep asks (map view ps) command reply (map view new)
-step_of view asks command count ps new made before after reply counted within read does behind =
+step_of view asks command count ps new made before after reply counted within read does new_is =
     let done : Outcome = record { reply = reply; window = view after; added = map view made } in
     let found : slice_get (map view ps) command.parser ≡ Some (view before) =
     slice_get-map view ps command.parser
     ∙ ap (option_map view) (slice_get_read ps count command.parser before counted within read) in
     let all : count ≡ length (map view ps) = counted ∙ sym (length-map ps view) in
     let left : map view new ≡ slice_set (map view ps) command.parser (view after) ++ map view made =
-    ap (map view) behind ∙ map-append view _ _ ∙ ap (λ windows. windows ++ map view made)
+    ap (map view) new_is ∙ map-append view _ _ ∙ ap (λ windows. windows ++ map view made)
     (map-set view ps command.parser after) in
     let D : ℕ → Type 0 = λ n. Does asks (view before) (outcome n (view before) command.call) done in
     let S : Option Window → Type 0 = λ w. StepOn w asks (map view ps) command reply (map view new) in

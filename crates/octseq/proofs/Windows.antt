@@ -16,20 +16,20 @@ next_of_rest octets position end n within =
 pub next_and_rest : (w : Window) (n : ℕ) → n ≤ left w → next n w ++ rest (past n w) ≡ rest w
 next_and_rest w n within =
     let ahead = drop w.position w.octets in
-    let behind = w.end - (w.position + n) in
+    let after = w.end - (w.position + n) in
     let one : w.position + n - w.position ≡ n = omega arith in
-    let all : n + behind ≡ w.end - w.position = omega arith in
-    ap (λ k. take k ahead ++ take behind (drop (w.position + n) w.octets)) one
-    ∙ ap (λ octets. take n ahead ++ take behind octets) (sym (drop-drop n w.position w.octets))
-    ∙ sym (take-add n behind ahead) ∙ ap (λ k. take k ahead) all
+    let all : n + after ≡ w.end - w.position = omega arith in
+    ap (λ k. take k ahead ++ take after (drop (w.position + n) w.octets)) one
+    ∙ ap (λ octets. take n ahead ++ take after octets) (sym (drop-drop n w.position w.octets))
+    ∙ sym (take-add n after ahead) ∙ ap (λ k. take k ahead) all
 
 -- what is left after a call is what was left before, without the octets that the call took
 pub rest_past : (w v : Window) (n : ℕ) → n ≤ left w → v ≡ past n w → drop n (rest w) ≡ rest v
 rest_past w v n within moved =
     let ahead = drop w.position w.octets in
-    let behind = w.end - (w.position + n) in
-    let all : left w ≡ n + behind = omega arith in
-    ap (λ k. drop n (take k ahead)) all ∙ drop-take n behind ahead ∙ ap (take behind) (drop-drop n w.position w.octets)
+    let after = w.end - (w.position + n) in
+    let all : left w ≡ n + after = omega arith in
+    ap (λ k. drop n (take k ahead)) all ∙ drop-take n after ahead ∙ ap (take after) (drop-drop n w.position w.octets)
     ∙ ap rest (sym moved)
 
 -- ---- windows cut from another

@@ -50,5 +50,5 @@ window_of_range octets bounds = record {
 }
 
 -- the window on what follows a front
-abbrev pub behind : List ℕ → List ℕ → Window
-behind front rest = at (length front) (whole (front ++ rest))
+abbrev pub window_after : List ℕ → List ℕ → Window
+window_after front rest = at (length front) (whole (front ++ rest))

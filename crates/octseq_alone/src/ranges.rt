@@ -42,7 +42,7 @@ pub fn onward<O: Octets>(octets: &O, at: usize) -> Result<Option<O::Range>, Allo
 }
 
 /// Returns a parser of the octets after the first two.
-pub fn behind_two<R: AsOctets>(octets: R) -> Parser<R>
+pub fn after_two<R: AsOctets>(octets: R) -> Parser<R>
     requires { 2 ≤ length (R.content octets) }
     ensures sequence { sequence result ≡ octets }
     ensures rest { rest (window result) ≡ drop 2 (R.content octets) }

@@ -306,7 +306,7 @@ impl<R: AsOctets + Copy> Entries<R> {
                 *self = Entries { parser, form, left };
                 Some(entry)
             }
-            Err(_) => None,
+            Err(_) => unreachable!(),
         }
     }
 }

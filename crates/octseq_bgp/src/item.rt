@@ -122,7 +122,7 @@ impl<R: AsOctets + Copy, T: Item> Iterator for Items<R, T> {
                 };
                 Some(item)
             }
-            Err(_) => None,
+            Err(_) => unreachable!(),
         }
     }
 }

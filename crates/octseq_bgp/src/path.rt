@@ -141,7 +141,7 @@ impl<R: AsOctets + Copy> Iterator for Asns<R> {
                 *self = Asns { parser, left, wide };
                 Some(asn)
             }
-            Err(_) => None,
+            Err(_) => unreachable!(),
         }
     }
 }

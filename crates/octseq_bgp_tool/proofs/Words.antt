@@ -16,21 +16,21 @@ abbrev begins_with_t : List ℕ → Bool
 begins_with_t words = nat_eq (get_or words 1 0) 116
 
 -- the options of words: `,t` begins the first one, `,a` the second, and only the third ends with `d`
-abbrev told_by : List ℕ → Options
-told_by words =
+abbrev reported_by : List ℕ → Options
+reported_by words =
     options (begins_with_t words)
     (nat_eq (get_or (if begins_with_t words then drop 10 words else words) 1 0) 97)
     (nat_eq (get_or words (length words - 1) 0) 100)
 
-told_again : (a b c : Bool) → told_by (words_of (options a b c)) ≡ options a b c
-told_again false false false = refl
-told_again false false true = refl
-told_again false true false = refl
-told_again false true true = refl
-told_again true false false = refl
-told_again true false true = refl
-told_again true true false = refl
-told_again true true true = refl
+reported_again : (a b c : Bool) → reported_by (words_of (options a b c)) ≡ options a b c
+reported_again false false false = refl
+reported_again false false true = refl
+reported_again false true false = refl
+reported_again false true true = refl
+reported_again true false false = refl
+reported_again true false true = refl
+reported_again true true false = refl
+reported_again true true true = refl
 
 -- the words of options don't begin with `s`
 not_an_s : (a b c : Bool) → nat_eq (get_or (words_of (options a b c)) 0 0) 115 ≡ false
@@ -44,20 +44,20 @@ not_an_s true true false = refl
 not_an_s true true true = refl
 
 -- the command of a name: by its first letter, its second one, and what follows `message`
-abbrev command_told : List ℕ → Command
-command_told word =
-    if nat_eq (get_or word 0 0) 115 then Stream (told_by (drop 6 word))
+abbrev command_reported : List ℕ → Command
+command_reported word =
+    if nat_eq (get_or word 0 0) 115 then Stream (reported_by (drop 6 word))
     else (if nat_eq (get_or word 1 0) 114 then Mrt
-    else (if nat_eq (get_or word 7 0) 115 then Messages else Message (told_by (drop 7 word))))
+    else (if nat_eq (get_or word 7 0) 115 then Messages else Message (reported_by (drop 7 word))))
 
-command_again : (c : Command) → command_told (name_of c) ≡ c
+command_again : (c : Command) → command_reported (name_of c) ≡ c
 command_again Mrt = refl
 command_again Messages = refl
-command_again (Stream o) = ap Stream (told_again o.two_octet o.add_path o.extended)
+command_again (Stream o) = ap Stream (reported_again o.two_octet o.add_path o.extended)
 command_again (Message o) =
-    ap (λ is. if is then Messages else Message (told_by (words_of o))) (not_an_s o.two_octet o.add_path o.extended)
-    ∙ ap Message (told_again o.two_octet o.add_path o.extended)
+    ap (λ is. if is then Messages else Message (reported_by (words_of o))) (not_an_s o.two_octet o.add_path o.extended)
+    ∙ ap Message (reported_again o.two_octet o.add_path o.extended)
 
 -- no two commands have one name
 pub same_name : (c d : Command) → name_of c ≡ name_of d → c ≡ d
-same_name c d e = sym (command_again c) ∙ ap command_told e ∙ command_again d
+same_name c d e = sym (command_again c) ∙ ap command_reported e ∙ command_again d

@@ -14,7 +14,7 @@ append_fits (Ok done) does fits = refl
 append_fits (Err (AppendError.Short e)) does fits =
     let past = does.short.0 tt in
     absurd (omega (arith, past, fits))
-append_fits (Err AppendError.Memory) does fits = absurd (let told = does.memory tt in cc)
+append_fits (Err AppendError.Memory) does fits = absurd (let reported = does.memory tt in cc)
 
 -- the octets are at the end if it wasn't refused
 pub append_done : {limit : Option ℕ} {asks : Bool} {old new octets : List ℕ} {result : Result (Unit {0}) AppendError}

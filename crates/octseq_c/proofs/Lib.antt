@@ -14,5 +14,5 @@ pub mod Readings
 pub mod RowsPushed
 pub mod Sections
 pub mod SettledTexts
-pub mod Told
+pub mod Reported
 pub mod Wholes

@@ -57,10 +57,10 @@ no_counts : HeaderCounts
 no_counts = record { qdcount = 0; ancount = 0; nscount = 0; arcount = 0 }
 
 -- the flags and the response code follow from their number
-one_told : (a b : Header) → a.opcode < 16 → b.opcode < 16 → a.rcode < 16 → b.rcode < 16 → flag_bits a ≡ flag_bits b
+one_meant : (a b : Header) → a.opcode < 16 → b.opcode < 16 → a.rcode < 16 → b.rcode < 16 → flag_bits a ≡ flag_bits b
     → ◌≡◌ {A = Header} (record a { id = 0 }) (record b { id = 0 })
 unfolding no_counts
-one_told a b o p r s is =
+one_meant a b o p r s is =
     let h : Header = record a { id = 0 } in
     let k : Header = record b { id = 0 } in
     let same : header_octets k no_counts ≡ header_octets h no_counts =
@@ -80,7 +80,7 @@ one_told a b o p r s is =
 pub one_answer_header : (asked : Header) (flags : ℕ) (a b : Header) → IsAnswerHeader asked flags a
     → IsAnswerHeader asked flags b → a ≡ b
 one_answer_header asked flags a b is other =
-    let same = one_told is.told other.told is.opcode other.opcode is.rcode other.rcode
+    let same = one_meant is.meant other.meant is.opcode other.opcode is.rcode other.rcode
     (is.flags_are ∙ sym other.flags_are) in
     is.is
     ∙ (λ i. record {

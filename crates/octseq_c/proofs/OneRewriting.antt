@@ -55,5 +55,5 @@ stable answers authorities additionals nn = (
 pub no_memory : {A : Type 0} (e : RewriteError) → e ≡ RewriteError.Memory → (A → ⊥)
     → A ⊎ (Is Refusal.malformed (rewrite_error e) ⊎ Is Refusal.short (rewrite_error e)) → ⊥
 no_memory e is never (inl a) = never a
-no_memory e is never (inr (inl told)) = subst (λ e. Is Refusal.malformed (rewrite_error e)) is told
-no_memory e is never (inr (inr told)) = subst (λ e. Is Refusal.short (rewrite_error e)) is told
+no_memory e is never (inr (inl reported)) = subst (λ e. Is Refusal.malformed (rewrite_error e)) is reported
+no_memory e is never (inr (inr reported)) = subst (λ e. Is Refusal.short (rewrite_error e)) is reported

@@ -69,9 +69,9 @@ open_at_front q fault size test f e same t =
     )
 
 -- octets with a fault after well-formed ones aren't a beginning
-pub open_behind : (q : List ℕ) (fault : Fault) (place : ℕ) → IsFault q fault → place ≡ fault.place → place ≢ 0
+pub open_after : (q : List ℕ) (fault : Fault) (place : ℕ) → IsFault q fault → place ≡ fault.place → place ≢ 0
     → IsTrue (place == 0) ↔ ((q ≡ []) ⊎ IsBeginning q)
-open_behind q fault place f e n = (
+open_after q fault place f e n = (
   λ t. absurd (n (eqb-true place 0 t)),
   λ b. absurd (n (e ∙ ap (λ fault. fault.place) (begins_by q fault f b))),
 )

@@ -11,9 +11,9 @@ pub placed_more : {A : Type 0} (old mid new front more : List A) (place : ℕ) �
 placed_more old mid new front more place l m e =
     let before : take place mid ≡ front = ap (λ k. take k mid) (sym l) ∙ ap (take (length front)) m
     ∙ take-append_seam front (drop place old) in
-    let behind : drop (place + length more) mid ≡ drop (place + length more) old =
+    let kept : drop (place + length more) mid ≡ drop (place + length more) old =
     ap (drop (place + length more)) m ∙ drop-append-drop place old front (place + length more) (omega arith) l in
-    e ∙ ap (λ y. (y ++ more) ++ drop (place + length more) mid) before ∙ ap (λ y. (front ++ more) ++ y) behind
+    e ∙ ap (λ y. (y ++ more) ++ drop (place + length more) mid) before ∙ ap (λ y. (front ++ more) ++ y) kept
 
 -- the same, if the place after it is given
 pub placed_after : {A : Type 0} (old mid new front more : List A) (place after : ℕ) → length front ≡ place

@@ -8,8 +8,8 @@ module _ {A : Type 0} (Is : List A → Type 0) {old new : List A} {count : ℕ}
   -- items were written
   pub puts_ok : (items : List A) → Is items → length items ≤ length old → count ≡ length items
       → Fills items old new → Puts Is 0 old new count
-  puts_ok items is within told fills = record {
-    ok = λ e. (items, is, within, told, fills);
+  puts_ok items is within reported fills = record {
+    ok = λ e. (items, is, within, reported, fills);
     no_room = λ e. absurd (omega arith);
     nothing = λ e. absurd (e refl);
     one = one;
@@ -18,9 +18,9 @@ module _ {A : Type 0} (Is : List A → Type 0) {old new : List A} {count : ℕ}
   -- there is no room for them
   pub puts_no_room : (items : List A) → Is items → length old < length items → count ≡ length items
       → Puts Is 1 old new count
-  puts_no_room items is short told = record {
+  puts_no_room items is short reported = record {
     ok = λ e. absurd (omega arith);
-    no_room = λ e. (items, is, short, told);
+    no_room = λ e. (items, is, short, reported);
     nothing = λ e n. absurd (n refl);
     one = one;
   }
@@ -49,20 +49,20 @@ puts_as into one p = record {
 
 -- a status that is returned exactly if a fact holds
 
-pub told : {P : Type 0} (status : ℕ) → P → (status ≡ status) ↔ P
-told status p = (λ e. p, λ p. refl)
+pub reported : {P : Type 0} (status : ℕ) → P → (status ≡ status) ↔ P
+reported status p = (λ e. p, λ p. refl)
 
-pub not_told : {P : Type 0} (status other : ℕ) → status ≢ other → ¬ P → (status ≡ other) ↔ P
-not_told status other n refuted = (λ e. absurd (n e), λ p. absurd (refuted p))
+pub not_reported : {P : Type 0} (status other : ℕ) → status ≢ other → ¬ P → (status ≡ other) ↔ P
+not_reported status other n refuted = (λ e. absurd (n e), λ p. absurd (refuted p))
 
 -- a call that copies items to the front of a buffer, or none
 pub puts_copied : {A : Type 0} (Is : List A → Type 0) {status count : ℕ} {old new : List A}
     → ((items others : List A) → Is items → Is others → items ≡ others) → (items : List A) → Is items
     → count ≡ length items → (status ≡ 0 → (length items ≤ length old) × Fills items old new)
     → (status ≢ 0 → (status ≡ 1) × (length old < length items) × (new ≡ old)) → Puts Is status old new count
-puts_copied Is one items is told ok not = record {
-  ok = λ e. (items, is, (ok e).0, told, (ok e).1);
-  no_room = λ e. (items, is, (not (λ z. omega (arith, e, z))).1, told);
+puts_copied Is one items is reported ok not = record {
+  ok = λ e. (items, is, (ok e).0, reported, (ok e).1);
+  no_room = λ e. (items, is, (not (λ z. omega (arith, e, z))).1, reported);
   nothing = λ m n. absurd (n (not m).0);
   one = one;
 }

@@ -31,13 +31,13 @@ to_more more s r e = record {
 }
 
 -- after a chunk with an invalid part that isn't an open end, U+FFFD is read
-pub read_mark : (x : List ℕ) (chunk : Chunk) (behind : List ℕ) → IsFirstChunk x chunk behind
+pub read_mark : (x : List ℕ) (chunk : Chunk) (after : List ℕ) → IsFirstChunk x chunk after
     → (cut : Bool) → cut ≡ chunk.incomplete → cut ≡ false
     → (bad : List ℕ) (none : Bool) → bad ≡ chunk.invalid → none ≡ (length bad == 0) → none ≡ false
-    → (a : List ℕ) → IsRead (chunk.invalid ++ behind) behind a (a ++ 0xEF ∷ 0xBF ∷ 0xBD ∷ [])
-read_mark x chunk behind c cut e uncut bad none same test some a =
-    subst (λ y. IsRead (chunk.invalid ++ behind) behind a (a ++ y)) replacement_is
-    (read_invalid x chunk behind c (not_so chunk.incomplete cut e uncut) (some_of chunk.invalid bad none same test some) a)
+    → (a : List ℕ) → IsRead (chunk.invalid ++ after) after a (a ++ 0xEF ∷ 0xBF ∷ 0xBD ∷ [])
+read_mark x chunk after c cut e uncut bad none same test some a =
+    subst (λ y. IsRead (chunk.invalid ++ after) after a (a ++ y)) replacement_is
+    (read_invalid x chunk after c (not_so chunk.incomplete cut e uncut) (some_of chunk.invalid bad none same test some) a)
 
 -- what was read is no longer than what is settled
 to_within : {x y : List ℕ} {before a : ℕ} → ReadsTo x y before a → (settled : List Part) (end : List ℕ)

@@ -6,9 +6,9 @@ use Rattle.octseq.specs.Pieces.{Settles}
 use Rattle.octseq_c.specs.declared.pieces.LossyState.{LossyState}
 
 -- the size of a fault as C sees it: 0 if the octets end within a character
-abbrev pub size_told : ℕ → Option ℕ
-size_told zero = None
-size_told (suc n) = Some (suc n)
+abbrev pub size_reported : ℕ → Option ℕ
+size_reported zero = None
+size_reported (suc n) = Some (suc n)
 
 -- the lossy text of octets
 abbrev pub IsLossyText : List ℕ → List ℕ → Type 0

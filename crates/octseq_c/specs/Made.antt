@@ -96,15 +96,15 @@ in_section section rows = filter (λ row. nat_eq row.section section) rows
 -- The header of an answer has the id, the opcode and the flag RD of the query, the flag QR, and of `flags` the response
 -- code and all other flags.
 pub record IsAnswerHeader (asked : Header) (flags : ℕ) (header : Header) : Type 0 where
-  pub told : Header
-  pub flags_are : flag_bits told ≡ flags
-  pub opcode : told.opcode < 16
-  pub rcode : told.rcode < 16
+  pub meant : Header
+  pub flags_are : flag_bits meant ≡ flags
+  pub opcode : meant.opcode < 16
+  pub rcode : meant.rcode < 16
   pub is : header ≡ record {
     id = asked.id;
-    flags = record told.flags { qr = true; rd = asked.flags.rd };
+    flags = record meant.flags { qr = true; rd = asked.flags.rd };
     opcode = asked.opcode;
-    rcode = told.rcode;
+    rcode = meant.rcode;
   }
 
 -- A message has the records of the rows, each in its section, in order.

@@ -15,19 +15,19 @@ IsSomeMessage octets = (header : Header) × (questions : List Question) × (answ
     × IsMessage octets header questions answers authorities additionals
 
 -- The octets are a message, and this is its header.
-pub record HasHeader (octets : List ℕ) (told : DnsHeader) : Type 0 where
+pub record HasHeader (octets : List ℕ) (row : DnsHeader) : Type 0 where
   pub header : Header
   pub questions : List Question
   pub answers : List Record
   pub authorities : List Record
   pub additionals : List Record
   pub message : IsMessage octets header questions answers authorities additionals
-  pub id : told.id ≡ header.id
-  pub flags : told.flags ≡ flag_bits header
-  pub qdcount : told.qdcount ≡ length questions
-  pub ancount : told.ancount ≡ length answers
-  pub nscount : told.nscount ≡ length authorities
-  pub arcount : told.arcount ≡ length additionals
+  pub id : row.id ≡ header.id
+  pub flags : row.flags ≡ flag_bits header
+  pub qdcount : row.qdcount ≡ length questions
+  pub ancount : row.ancount ≡ length answers
+  pub nscount : row.nscount ≡ length authorities
+  pub arcount : row.arcount ≡ length additionals
 
 -- the row of a question: section 0, and no data
 abbrev pub row_of_question : Question → Row

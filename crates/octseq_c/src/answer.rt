@@ -162,16 +162,16 @@ fn begin_answer<'a>(
 fn answer_header(asked: &Header, flags: u16) -> Header
     ensures { IsAnswerHeader asked.now flags result }
 {
-    let told = header_from(asked.id, flags);
+    let header = header_from(asked.id, flags);
     Header {
         id: asked.id,
         flags: Flags {
             qr: true,
             rd: asked.flags.rd,
-            ..told.flags
+            ..header.flags
         },
         opcode: asked.opcode,
-        rcode: told.rcode,
+        rcode: header.rcode,
     }
 }
 

@@ -37,7 +37,7 @@ pub extern "C" fn octseq_dns_message_header(octets: &[u8], header: &mut DnsHeade
 {
     match Message::parse(octets) {
         Ok(message) => {
-            *header = header_told(&message);
+            *header = header_reported(&message);
             OK
         }
         Err(Malformed) => MALFORMED,
@@ -45,7 +45,7 @@ pub extern "C" fn octseq_dns_message_header(octets: &[u8], header: &mut DnsHeade
 }
 
 /// Returns the header of a message as numbers.
-fn header_told(message: &Message<&[u8]>) -> DnsHeader
+fn header_reported(message: &Message<&[u8]>) -> DnsHeader
     ensures id { result.id ≡ (header_of message.now).id }
     ensures flags { result.flags ≡ flag_bits (header_of message.now) }
     ensures qdcount { result.qdcount ≡ length (questions_of message.now) }

@@ -2,7 +2,7 @@
 ghost use Rattle.std.specs.Prelude.{◌≡◌, ◌≢◌, ◌↔◌, ◌<◌, ◌^◌, ◌-◌, ◌⊎◌, ℕ, List, length, IfSome, IfNone};
 ghost use Rattle.octseq.specs.Fault.{IsFault};
 ghost use Rattle.octseq.specs.Text.{IsWellFormed};
-ghost use Rattle.octseq_c.specs.LossyText.{size_told};
+ghost use Rattle.octseq_c.specs.LossyText.{size_reported};
 ghost use Rattle.octseq_c.specs.Status.{status_ok, status_fault};
 
 use crate::status::{FAULT, OK};
@@ -30,7 +30,7 @@ pub extern "C" fn octseq_utf8_fault(
     ensures well_formed { (result ≡ status_ok) ↔ IsWellFormed octets.now }
     ensures all { result ≡ status_ok → (valid_up_to.new ≡ length octets.now) × (error_len.new ≡ 0) }
     ensures fault { result ≢ status_ok → (result ≡ status_fault)
-        × IsFault octets.now (record { place = valid_up_to.new; size = size_told error_len.new }) }
+        × IsFault octets.now (record { place = valid_up_to.new; size = size_reported error_len.new }) }
 {
     match find_fault(octets) {
         None => {

@@ -5,7 +5,7 @@ use Rattle.std.proofs.Common.{subst}
 use Rattle.std.proofs.Math.Seq.{take-append_seam}
 
 -- n octets are the first n of themselves followed by others
-pub taken_whole : (octets behind : List ℕ) (n : ℕ) → length octets ≡ n → take n (octets ++ behind) ≡ octets
-taken_whole octets behind n same =
-    let Front : ℕ → Type 0 = λ m. take m (octets ++ behind) ≡ octets in
-    subst Front same (take-append_seam octets behind)
+pub taken_whole : (octets after : List ℕ) (n : ℕ) → length octets ≡ n → take n (octets ++ after) ≡ octets
+taken_whole octets after n same =
+    let Front : ℕ → Type 0 = λ m. take m (octets ++ after) ≡ octets in
+    subst Front same (take-append_seam octets after)

@@ -6,13 +6,13 @@ use Rattle.octseq.specs.Integer.{octets_be}
 use Rattle.octseq.specs.Window.{Window, past, nested, at, whole}
 use Rattle.octseq_dns_compress.specs.Fields.{AreFields}
 use Rattle.octseq_dns_compress.specs.Fits.{FitsField}
-use Rattle.octseq_dns_compress.specs.Standing.{IsWellNamed}
+use Rattle.octseq_dns_compress.specs.LabelsThere.{IsWellNamed}
 use Rattle.octseq_dns_compress.specs.State.{State, Field, Entry, with_fields, with_counted, with_entry, with_entries}
 use Rattle.octseq_dns_compress.proofs.FieldNames.{FitsEntry, data_octets, counted_is, counted_size}
 use Rattle.octseq_dns_compress.proofs.FieldNames.{fields_named, entry_named}
 use Rattle.octseq_dns_compress.proofs.Fields.{counted_grows, entries_grow}
 use Rattle.octseq_dns_compress.proofs.FieldsRead.{fields_are_read}
-use Rattle.octseq_dns_compress.proofs.Standing.{all_of, all_grown}
+use Rattle.octseq_dns_compress.proofs.LabelsThere.{all_of, all_grown}
 use Rattle.octseq_dns_compress.proofs.Steps.{grown_length}
 use Rattle.octseq_dns_message.specs.Entry as entry
 use Rattle.octseq_dns_message.specs.Entry.{IsQuestion, IsRecord}

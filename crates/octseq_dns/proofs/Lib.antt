@@ -14,5 +14,5 @@ pub mod RdataRead
 pub mod ReadBack
 pub mod Spelled
 pub mod Stages
-pub mod Told
+pub mod OnlyRecord
 pub mod WrittenWhole

@@ -182,6 +182,6 @@ pub begun_within : (limit : Option ℕ) (octets : List ℕ) → ¬ IsPast limit 
 begun_within None octets fits long = omega (arith, long)
 begun_within (Some limit) octets fits long =
     by_test (nat_lt limit 12) refl where
-      by_test : (told : Bool) → nat_lt limit 12 ≡ told → length octets ≤ min limit 65535
+      by_test : (reported : Bool) → nat_lt limit 12 ≡ reported → length octets ≤ min limit 65535
       by_test true is = absurd (fits (ltb-true limit 12 is))
       by_test false is = let late = ltb-false limit 12 is in omega (arith, late, long)

@@ -18,7 +18,7 @@ use Rattle.octseq_dns_data.proofs.Rdata.{in_message, naptr_from}
 use Rattle.octseq_dns_message.specs.Entry.{Record}
 use Rattle.octseq_dns_data.specs.Format.{IsNumber}
 use Rattle.octseq_dns_name.specs.Name.{Name, HasName, IsName}
-use Rattle.octseq_dns_name.specs.NameFormat.{wire_stands}
+use Rattle.octseq_dns_name.specs.NameFormat.{wire_has_labels}
 use Rattle.octseq_dns_name.specs.Wire.{wire}
 use Rattle.octseq_format.specs.Row.{Row}
 use Rattle.octseq_dns.specs.Rdata.{Rdata, bare_rdata, rdata_fields, rtype_of, FitsRdata, IsOfType}
@@ -49,7 +49,7 @@ plain_last labels w v fits are =
       refl,
       subst (IsName w labels) (sym are.2) (record {
         pointers = 0;
-        stands = wire_stands w.position w labels (rest u) fits.each all;
+        has_labels = wire_has_labels w.position w labels (rest u) fits.each all;
         short = fits.short;
         few = omega arith;
       }),

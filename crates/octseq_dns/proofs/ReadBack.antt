@@ -4,11 +4,11 @@ use Rattle.std.proofs.Common.{append-nil}
 use Rattle.std.proofs.lemmas.List.{drop_at, map-append}
 use Rattle.std.specs.List.{AllZip, AllByRecursion}
 use Rattle.octseq.specs.Window.{at, whole}
-use Rattle.octseq_dns_compress.specs.Standing.{IsWellNamed}
+use Rattle.octseq_dns_compress.specs.LabelsThere.{IsWellNamed}
 use Rattle.octseq_dns_compress.specs.State.{State, Entry, with_entries}
 use Rattle.octseq_dns_compress.proofs.FieldSizes.{entries_never_longer}
 use Rattle.octseq_dns_compress.proofs.Fields.{entries_grow, entries_more, grows_on}
-use Rattle.octseq_dns_compress.proofs.Standing.{all_of, all_grown, none_named}
+use Rattle.octseq_dns_compress.proofs.LabelsThere.{all_of, all_grown, none_named}
 use Rattle.octseq_dns_compress.proofs.Steps.{Grows, grown_length}
 use Rattle.octseq_format.specs.Laws.{Relation}
 use Rattle.octseq_dns.specs.Contents.{Message, Fits, counts_of, header_octets, headed}

@@ -7,12 +7,12 @@ use Rattle.octseq_dns_name.specs.declared.name.ParsedName.{ParsedName}
 use Rattle.octseq_dns.specs.Contents.{Question, Record}
 
 -- a question
-abbrev pub asked : {R : Type 0} {g : Ghosts R} → ParsedName R g → ℕ → ℕ → Question
-asked name qtype qclass = record { labels = labels_of name; qtype = qtype; qclass = qclass }
+abbrev pub pushed_question : {R : Type 0} {g : Ghosts R} → ParsedName R g → ℕ → ℕ → Question
+pushed_question name qtype qclass = record { labels = labels_of name; qtype = qtype; qclass = qclass }
 
 -- a record
-abbrev pub told : {R : Type 0} {g : Ghosts R} → ParsedName R g → ℕ → ℕ → ℕ → List Field → Record
-told owner rtype class ttl fields = record {
+abbrev pub pushed_record : {R : Type 0} {g : Ghosts R} → ParsedName R g → ℕ → ℕ → ℕ → List Field → Record
+pushed_record owner rtype class ttl fields = record {
   labels = labels_of owner;
   rtype = rtype;
   class = class;

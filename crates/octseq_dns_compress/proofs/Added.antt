@@ -67,15 +67,15 @@ module _ (octets : List ℕ) (targets : List Target) (target : Target) (position
       (few : target.pointers ≤ 126)
       (is : IsPosition octets targets (key_of octets target) position)
       (none : HasNoKey octets targets (key_of octets target)) where
-    comes_after : (k : ℕ) (d : Target) (told : Ordering) → position ≤ k → k < length targets
-        → key_cmp octets (slice_index_or targets k d) (key_of octets target) ≡ told
+    comes_after : (k : ℕ) (d : Target) (reported : Ordering) → position ≤ k → k < length targets
+        → key_cmp octets (slice_index_or targets k d) (key_of octets target) ≡ reported
         → key_cmp octets target (key_of octets (slice_index_or targets k d)) ≡ Ordering.Less
-    comes_after k d Ordering.Less from inside told = absurd (is.after k d from inside told)
-    comes_after k d Ordering.Equal from inside told =
-        absurd (none k (key_there octets targets (key_of octets target) k d inside told))
-    comes_after k d Ordering.Greater from inside told =
+    comes_after k d Ordering.Less from inside reported = absurd (is.after k d from inside reported)
+    comes_after k d Ordering.Equal from inside reported =
+        absurd (none k (key_there octets targets (key_of octets target) k d inside reported))
+    comes_after k d Ordering.Greater from inside reported =
         nat_list_cmp_total.antisymm (key_of octets target) (key_of octets (slice_index_or targets k d))
-        ∙ ap ordering_reverse told
+        ∙ ap ordering_reverse reported
 
     ordered : (i j : ℕ) (d x y : Target) → slice_index_or (insert targets position target) i d ≡ x
         → slice_index_or (insert targets position target) j d ≡ y

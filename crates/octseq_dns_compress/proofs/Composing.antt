@@ -29,7 +29,7 @@ use Rattle.octseq_dns_compress.specs.Composed.{before}
 use Rattle.octseq_dns_compress.specs.Named.{AppendsName}
 use Rattle.octseq_dns_compress.proofs.Grown.{agrees_grown, key_stays}
 use Rattle.octseq_dns_compress.proofs.Marked.{before_all, known_same, same_names}
-use Rattle.octseq_dns_compress.proofs.Keys.{less_told}
+use Rattle.octseq_dns_compress.proofs.Keys.{less_reported}
 use Rattle.octseq_dns_compress.proofs.Steps.{Grows}
 
 -- ---- targets of known names
@@ -41,8 +41,8 @@ module _ (octets : List ℕ) (targets : List Target) (known : Known octets targe
     near = λ i d within. ∥∥₁_elim known.1 le_prop (λ agrees. agrees.targets_are.near i d within);
     few = λ i d within. ∥∥₁_elim known.1 le_prop (λ agrees. agrees.targets_are.few i d within);
     less = λ i j d before within.
-        let told = key_cmp octets (slice_index_or targets i d) (key_of octets (slice_index_or targets j d)) in
-        less_told told (∥∥₁_elim known.1 (Coded-set coded_bool (is_lt told) true)
+        let reported = key_cmp octets (slice_index_or targets i d) (key_of octets (slice_index_or targets j d)) in
+        less_reported reported (∥∥₁_elim known.1 (Coded-set coded_bool (is_lt reported) true)
         (λ agrees. ap is_lt (agrees.targets_are.less i j d before within)));
   }
 
@@ -92,8 +92,8 @@ position_stays octets more targets are key position is = record {
   before = λ k d less.
       let within = is.within in
       same (slice_index_or targets k d) (are.whole k d (omega (arith, less, within))) ∙ is.before k d less;
-  after = λ k d from inside told.
-      is.after k d from inside (sym (same (slice_index_or targets k d) (are.whole k d inside)) ∙ told);
+  after = λ k d from inside reported.
+      is.after k d from inside (sym (same (slice_index_or targets k d) (are.whole k d inside)) ∙ reported);
 } where
   same : (t : Target) → IsWhole octets t.at → key_cmp (octets ++ more) t key ≡ key_cmp octets t key
   same t whole = ap (λ k. slice_cmp nat_cmp k key) (key_stays octets more t whole)

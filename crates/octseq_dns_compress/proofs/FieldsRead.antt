@@ -8,11 +8,11 @@ use Rattle.octseq.proofs.Behind.{front_comes_next}
 use Rattle.octseq_dns_compress.specs.Fields.{AreFields}
 use Rattle.octseq_dns_compress.specs.Fits.{FitsField}
 use Rattle.octseq_dns_compress.specs.Names.{name_octets}
-use Rattle.octseq_dns_compress.specs.Standing.{IsWellNamed}
+use Rattle.octseq_dns_compress.specs.LabelsThere.{IsWellNamed}
 use Rattle.octseq_dns_compress.specs.State.{State, Field, with_field, with_fields}
 use Rattle.octseq_dns_compress.proofs.FieldNames.{field_named}
 use Rattle.octseq_dns_compress.proofs.Fields.{fields_grow}
-use Rattle.octseq_dns_compress.proofs.Standing.{all_of, all_grown, rest_at, name_is_read}
+use Rattle.octseq_dns_compress.proofs.LabelsThere.{all_of, all_grown, rest_at, name_is_read}
 
 -- octets that were appended to a message come next
 octets_are_read : (octets more header after : List ℕ) → 12 ≤ length octets → length header ≡ 12

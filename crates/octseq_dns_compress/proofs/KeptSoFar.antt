@@ -111,12 +111,12 @@ module _ (octets : List ℕ) (held : List Target) (next position : ℕ) (label :
     within = within;
     before = λ k d less.
         let t = slice_index_or held k d in
-        ap (λ told. ordering_then told (slice_cmp nat_cmp (label_at octets t.at) label))
+        ap (λ reported. ordering_then reported (slice_cmp nat_cmp (label_at octets t.at) label))
         (sym (nat_cmp_is t.next next Ordering.Less (low k d less)));
     after = λ k d from inside is.
         let t = slice_index_or held k d in
         true≢false (ap is_lt (sym is
-        ∙ ap (λ told. ordering_then told (slice_cmp nat_cmp (label_at octets t.at) label))
+        ∙ ap (λ reported. ordering_then reported (slice_cmp nat_cmp (label_at octets t.at) label))
         (sym (nat_cmp_is t.next next Ordering.Greater (high k d from inside)))));
   }
 

@@ -21,27 +21,27 @@ same_index [] i d e inside = absurd (omega (arith, inside))
 same_index (x ∷ xs) zero d e inside = refl
 same_index (x ∷ xs) (suc i) d e inside = same_index xs i d e (omega (arith, inside))
 
-pub greater_told : (told : Ordering) → is_lt told ≡ false → is_eq told ≡ false → told ≡ Ordering.Greater
-greater_told Ordering.Less other differ = absurd (true≢false other)
-greater_told Ordering.Equal other differ = absurd (true≢false differ)
-greater_told Ordering.Greater other differ = refl
+pub greater_reported : (reported : Ordering) → is_lt reported ≡ false → is_eq reported ≡ false → reported ≡ Ordering.Greater
+greater_reported Ordering.Less other differ = absurd (true≢false other)
+greater_reported Ordering.Equal other differ = absurd (true≢false differ)
+greater_reported Ordering.Greater other differ = refl
 
-pub greater_not_less : (told : Ordering) → told ≡ Ordering.Greater → ¬ (told ≡ Ordering.Less)
-greater_not_less told greater less = true≢false (sym (ap is_lt less) ∙ ap is_lt greater)
+pub greater_not_less : (reported : Ordering) → reported ≡ Ordering.Greater → ¬ (reported ≡ Ordering.Less)
+greater_not_less reported greater less = true≢false (sym (ap is_lt less) ∙ ap is_lt greater)
 
-pub less_told : (told : Ordering) → is_lt told ≡ true → told ≡ Ordering.Less
-less_told Ordering.Less lt = refl
-less_told Ordering.Equal lt = absurd (true≢false (sym lt))
-less_told Ordering.Greater lt = absurd (true≢false (sym lt))
+pub less_reported : (reported : Ordering) → is_lt reported ≡ true → reported ≡ Ordering.Less
+less_reported Ordering.Less lt = refl
+less_reported Ordering.Equal lt = absurd (true≢false (sym lt))
+less_reported Ordering.Greater lt = absurd (true≢false (sym lt))
 
 module _ (octets : List ℕ) (targets : List Target) (key : List ℕ) (sorted : AreTargets octets targets) where
   -- what is before a target that is before the key is before it too
-  pub before_more : (mid : ℕ) (d : Target) (told : Ordering) → mid < length targets
-      → told ≡ key_cmp octets (slice_index_or targets mid d) key → is_lt told ≡ true
+  pub before_more : (mid : ℕ) (d : Target) (reported : Ordering) → mid < length targets
+      → reported ≡ key_cmp octets (slice_index_or targets mid d) key → is_lt reported ≡ true
       → (k : ℕ) (e : Target) → k < mid + 1 → key_cmp octets (slice_index_or targets k e) key ≡ Ordering.Less
-  before_more mid d told inside is lt k e before = at_most (eq-or-lt_of_le (omega (arith, before))) where
+  before_more mid d reported inside is lt k e before = at_most (eq-or-lt_of_le (omega (arith, before))) where
     less : key_cmp octets (slice_index_or targets mid d) key ≡ Ordering.Less
-    less = sym is ∙ less_told told lt
+    less = sym is ∙ less_reported reported lt
 
     at_most : (k ≡ mid) ⊎ (k < mid) → key_cmp octets (slice_index_or targets k e) key ≡ Ordering.Less
     at_most (inl same) =
@@ -53,14 +53,14 @@ module _ (octets : List ℕ) (targets : List Target) (key : List ℕ) (sorted : 
         (key_of octets (slice_index_or targets mid e)) key (sorted.less k mid e below inside) there
 
   -- and what is after a target that is after the key is after it too
-  pub after_more : (mid : ℕ) (d : Target) (told : Ordering) → mid < length targets
-      → told ≡ key_cmp octets (slice_index_or targets mid d) key → is_lt told ≡ false → is_eq told ≡ false
+  pub after_more : (mid : ℕ) (d : Target) (reported : Ordering) → mid < length targets
+      → reported ≡ key_cmp octets (slice_index_or targets mid d) key → is_lt reported ≡ false → is_eq reported ≡ false
       → (k : ℕ) (e : Target) → mid ≤ k → k < length targets
       → key_cmp octets (slice_index_or targets k e) key ≡ Ordering.Greater
-  after_more mid d told inside is other differ k e from within = at_least (eq-or-lt_of_le from) where
+  after_more mid d reported inside is other differ k e from within = at_least (eq-or-lt_of_le from) where
     greater : key_cmp octets (slice_index_or targets mid e) key ≡ Ordering.Greater
     greater = subst (λ t. key_cmp octets t key ≡ Ordering.Greater) (same_index targets mid d e inside)
-        (sym is ∙ greater_told told other differ)
+        (sym is ∙ greater_reported reported other differ)
 
     at_least : (mid ≡ k) ⊎ (mid < k) → key_cmp octets (slice_index_or targets k e) key ≡ Ordering.Greater
     at_least (inl same) =
@@ -96,7 +96,7 @@ few_halves ticks left some few = lt_or_ge (dec_le 15 ticks) where
 -- a key compares as equal to itself
 same_key : (key : List ℕ) → slice_cmp nat_cmp key key ≡ Ordering.Equal
 same_key key = alike (slice_cmp nat_cmp key key) (nat_list_cmp_total.antisymm key key) where
-  alike : (told : Ordering) → told ≡ ordering_reverse told → told ≡ Ordering.Equal
+  alike : (reported : Ordering) → reported ≡ ordering_reverse reported → reported ≡ Ordering.Equal
   alike Ordering.Less same = absurd (true≢false (ap is_lt same))
   alike Ordering.Equal same = refl
   alike Ordering.Greater same = absurd (true≢false (sym (ap is_lt same)))
@@ -104,10 +104,10 @@ same_key key = alike (slice_cmp nat_cmp key key) (nat_list_cmp_total.antisymm ke
 pub key_there : (octets : List ℕ) (targets : List Target) (key : List ℕ) (index : ℕ) (d : Target)
     → index < length targets → key_cmp octets (slice_index_or targets index d) key ≡ Ordering.Equal
     → HasKeyAt octets targets key index
-key_there octets targets key index d within told = record {
+key_there octets targets key index d within reported = record {
   within = within;
   is = λ e. ap (key_of octets) (same_index targets index e d within)
-      ∙ exact_bytes (key_of octets (slice_index_or targets index d)) key told;
+      ∙ exact_bytes (key_of octets (slice_index_or targets index d)) key reported;
 }
 
 pub key_equal : (octets : List ℕ) (targets : List Target) (key : List ℕ) (index : ℕ) (d : Target)

@@ -19,5 +19,5 @@ pub mod PlainForm
 pub mod PlainLabels
 pub mod Places
 pub mod Searched
-pub mod Standing
+pub mod LabelsThere
 pub mod Steps

@@ -26,13 +26,13 @@ pub before_twice : (near far : ℕ) → near ≤ far → (targets : List Target)
 before_twice near far less [] = refl
 before_twice near far less (target ∷ targets) =
     by_test (nat_lt target.at far) refl (before_twice near far less targets) where
-      by_test : (told : Bool) → nat_lt target.at far ≡ told → before near (before far targets) ≡ before near targets
-          → before near (cond told (target ∷ before far targets) (before far targets))
+      by_test : (reported : Bool) → nat_lt target.at far ≡ reported → before near (before far targets) ≡ before near targets
+          → before near (cond reported (target ∷ before far targets) (before far targets))
           ≡ before near (target ∷ targets)
       by_test true is more = ap (λ more. cond (nat_lt target.at near) (target ∷ more) more) more
       by_test false is more =
           let past = ltb-false target.at far is in
-          more ∙ sym (ap (λ told. cond told (target ∷ before near targets) (before near targets))
+          more ∙ sym (ap (λ reported. cond reported (target ∷ before near targets) (before near targets))
           (le-ltb target.at near (omega (arith, past, less))))
 
 pub before_fewer : (place : ℕ) (targets : List Target) → length (before place targets) ≤ length targets
@@ -46,8 +46,8 @@ all_by_before : (place : ℕ) (P : Target → Type 0) → ((t : Target) → plac
 all_by_before place P past [] each = All-nil P
 all_by_before place P past (target ∷ targets) each =
     by_test (nat_lt target.at place) refl each (all_by_before place P past targets) where
-      by_test : (told : Bool) → nat_lt target.at place ≡ told
-          → All P (cond told (target ∷ before place targets) (before place targets))
+      by_test : (reported : Bool) → nat_lt target.at place ≡ reported
+          → All P (cond reported (target ∷ before place targets) (before place targets))
           → (All P (before place targets) → All P targets) → All P (target ∷ targets)
       by_test true is each more =
           All-cons P target targets (All-head P target (before place targets) each)

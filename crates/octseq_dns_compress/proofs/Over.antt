@@ -126,7 +126,7 @@ pub count_clear : (octets put : List ℕ) (place : ℕ) (targets : List Target) 
     → IsClear octets (place - 2) (place - 2 + length put) (slice_index_or targets i d).at
 count_clear octets put place targets two room apart i d within =
     by_test (nat_lt (slice_index_or targets i d).at place) refl where
-      by_test : (told : Bool) → nat_lt (slice_index_or targets i d).at place ≡ told
+      by_test : (reported : Bool) → nat_lt (slice_index_or targets i d).at place ≡ reported
           → IsClear octets (place - 2) (place - 2 + length put) (slice_index_or targets i d).at
       by_test true is =
           let ends = apart i d within (ltb-true (slice_index_or targets i d).at place is) in

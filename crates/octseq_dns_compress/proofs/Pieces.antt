@@ -9,7 +9,7 @@ use Rattle.octseq.specs.Window.{Window, rest, next, past, at}
 use Rattle.octseq.proofs.Behind.{front_comes_next}
 use Rattle.octseq_dns_compress.specs.Names.{Names, Place, first_labels, last_place, unrooted, ending, name_octets}
 use Rattle.octseq_dns_compress.specs.Names.{pointers_from}
-use Rattle.octseq_dns_name.specs.Name.{HasRoot, HasLabel, HasPointer, Stands, octet}
+use Rattle.octseq_dns_name.specs.Name.{HasRoot, HasLabel, HasPointer, HasLabels, octet}
 use Rattle.octseq_dns_name.specs.NameFormat.{be_one}
 use Rattle.octseq_dns_name.specs.Wire.{AreLabels}
 
@@ -18,7 +18,7 @@ use Rattle.octseq_dns_name.specs.Wire.{AreLabels}
 root_next : (w : Window) (after : List ℕ) → rest w ≡ 0 ∷ after → HasRoot w (past 1 w)
 root_next w after is =
     let one = front_comes_next w (0 ∷ []) after 1 is refl in
-    record { room = one.0; zero = ap be one.1 ∙ be_one 0; behind = refl }
+    record { room = one.0; zero = ap be one.1 ∙ be_one 0; after = refl }
 
 label_next : (w : Window) (label after : List ℕ) → 1 ≤ length label → length label ≤ 63
     → rest w ≡ length label ∷ (label ++ after)
@@ -35,7 +35,7 @@ label_next w label after some short is =
         short = omega (arith, said, short);
         whole = omega (arith, said, room);
         octets = sym (ap (λ n. next n (past 1 w)) said ∙ two.1);
-        behind = ap (λ p. at p w) (omega (arith, said));
+        after = ap (λ p. at p w) (omega (arith, said));
       },
       ap (λ p. rest (at p w)) (sym both) ∙ two.2,
     )
@@ -54,7 +54,7 @@ pointer_next start w place after before is =
       mark = omega (arith, first);
       place = omega (arith, first, second);
       before = before;
-      behind = refl;
+      after = refl;
     }
 
 -- ---- names
@@ -75,13 +75,13 @@ octets_new names label labels =
 pub record AreBefore (names : Names) (start : ℕ) (w : Window) : Type 0 where
   pub before : (labels : List (List ℕ)) (place : Place) → get names labels ≡ Some place → place.at < start
   pub there : (labels : List (List ℕ)) (place : Place) → get names labels ≡ Some place
-      → (v : Window) × Stands place.at (at place.at w) labels place.pointers v
+      → (v : Window) × HasLabels place.at (at place.at w) labels place.pointers v
 
 -- if the octets of a name come next, its labels are there
 pub name_next : (names : Names) (start : ℕ) (w : Window) (labels : List (List ℕ)) (after : List ℕ)
     → AreBefore names start w → AreLabels labels → rest w ≡ name_octets names labels ++ after
-    → Stands start w labels (pointers_from (last_place names labels)) (past (length (name_octets names labels)) w)
-name_next names start w [] after are each is = Stands.root (root_next w after is)
+    → HasLabels start w labels (pointers_from (last_place names labels)) (past (length (name_octets names labels)) w)
+name_next names start w [] after are each is = HasLabels.root (root_next w after is)
 name_next names start w (label ∷ labels) after are each is =
     let u = past (1 + length label) w in
     by_found (get names (label ∷ labels)) refl is (λ next.
@@ -89,14 +89,14 @@ name_next names start w (label ∷ labels) after are each is =
       by_found : (found : Option Place) → get names (label ∷ labels) ≡ found
           → rest w ≡ octets_by names label labels found ++ after
           → (rest (past (1 + length label) w) ≡ name_octets names labels ++ after
-          → Stands start (past (1 + length label) w) labels (pointers_from (last_place names labels))
+          → HasLabels start (past (1 + length label) w) labels (pointers_from (last_place names labels))
           (past (length (name_octets names labels)) (past (1 + length label) w)))
-          → Stands start w (label ∷ labels) (pointers_from (option_or found (last_place names labels)))
+          → HasLabels start w (label ∷ labels) (pointers_from (option_or found (last_place names labels)))
           (past (length (octets_by names label labels found)) w)
       by_found (Some place) found is others =
           let one : suc place.pointers ≡ place.pointers + 1 = omega arith in
-          subst (λ n. Stands start w (label ∷ labels) n (past 2 w)) one
-          (Stands.pointer (pointer_next start w place after (are.before (label ∷ labels) place found) is)
+          subst (λ n. HasLabels start w (label ∷ labels) n (past 2 w)) one
+          (HasLabels.pointer (pointer_next start w place after (are.before (label ∷ labels) place found) is)
           (are.there (label ∷ labels) place found).1)
       by_found None found is others =
           let more = name_octets names labels in
@@ -106,5 +106,5 @@ name_next names start w (label ∷ labels) after are each is =
           let next = label_next w label (more ++ after) each.0 each.1 all in
           let long = ap length new in
           let both = length-append label more in
-          subst (λ p. Stands start w (label ∷ labels) (pointers_from (last_place names labels)) (at p w))
-          (omega (arith, long, both)) (Stands.label next.0 (others next.1))
+          subst (λ p. HasLabels start w (label ∷ labels) (pointers_from (last_place names labels)) (at p w))
+          (omega (arith, long, both)) (HasLabels.label next.0 (others next.1))

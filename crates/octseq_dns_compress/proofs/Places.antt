@@ -50,8 +50,8 @@ here_is w on l within has =
     let size = length-take (p + 1 + octet w - (p + 1)) (drop (p + 1) w.octets) in
     let left = length-drop (p + 1) w.octets in
     record {
-      octets = ap (λ v. v.octets) has.behind;
-      end = ap (λ v. v.end) has.behind;
+      octets = ap (λ v. v.octets) has.after;
+      end = ap (λ v. v.end) has.after;
       after = omega arith;
       whole = subst (IsWhole w.octets) (sym same) whole;
       label_is = ap (label_of w.octets) same ∙ is;

@@ -17,8 +17,8 @@ pub labels_alike : IsAntisymmetric labels_cmp
 labels_alike = slice_cmp-IsAntisymmetric (slice_cmp-IsAntisymmetric nat_cmp-IsAntisymmetric)
 
 -- labels don't test as equal to others
-tested : (labels others : List (List ℕ)) (told : Bool) → eq_by_cmp labels_cmp labels others ≡ told
-    → ¬ (labels ≡ others) → told ≡ false
+tested : (labels others : List (List ℕ)) (reported : Bool) → eq_by_cmp labels_cmp labels others ≡ reported
+    → ¬ (labels ≡ others) → reported ≡ false
 tested labels others true is other =
     absurd (other (labels_alike labels others ((Equal-is (labels_cmp labels others)).0 is)))
 tested labels others false is other = refl
@@ -28,14 +28,14 @@ pub get_new : (names : Names) (labels : List (List ℕ)) (place : Place)
     → get (insert names labels place) labels ≡ Some place
 get_new names labels place =
     get-insert labels_total names labels place labels
-    ∙ ap (λ told. cond told (Some place) (get names labels)) ((eq_by_cmp_equiv labels_total).refl labels)
+    ∙ ap (λ reported. cond reported (Some place) (get names labels)) ((eq_by_cmp_equiv labels_total).refl labels)
 
 -- the lookups of others don't change
 pub get_other : (names : Names) (labels others : List (List ℕ)) (place : Place) → ¬ (others ≡ labels)
     → get (insert names labels place) others ≡ get names others
 get_other names labels others place other =
     get-insert labels_total names labels place others
-    ∙ ap (λ told. cond told (Some place) (get names others))
+    ∙ ap (λ reported. cond reported (Some place) (get names others))
     (tested others labels (eq_by_cmp labels_cmp others labels) refl other)
 
 -- ---- whether labels are there
@@ -89,7 +89,7 @@ some_or_none a place some none = true≢false (ap is_some (sym some ∙ none))
 -- labels are equal or they differ
 pub same_or_other : (labels others : List (List ℕ)) → (labels ≡ others) ⊎ ¬ (labels ≡ others)
 same_or_other labels others = by_test (eq_by_cmp labels_cmp labels others) refl where
-  by_test : (told : Bool) → eq_by_cmp labels_cmp labels others ≡ told → (labels ≡ others) ⊎ ¬ (labels ≡ others)
+  by_test : (reported : Bool) → eq_by_cmp labels_cmp labels others ≡ reported → (labels ≡ others) ⊎ ¬ (labels ≡ others)
   by_test true is = inl (labels_alike labels others ((Equal-is (labels_cmp labels others)).0 is))
   by_test false is = inr (λ same. true≢false
       (sym (ap (eq_by_cmp labels_cmp labels) (sym same) ∙ (eq_by_cmp_equiv labels_total).refl labels) ∙ is))

@@ -13,6 +13,6 @@ pub mod Named
 pub mod Names
 pub mod PlainName
 pub mod PlainNames
-pub mod Standing
+pub mod LabelsThere
 pub mod State
 pub mod Written

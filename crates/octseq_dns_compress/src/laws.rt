@@ -4,7 +4,7 @@ ghost use Rattle.std.specs.Prelude.{◌≡◌, ◌+◌, ◌≤◌, ℕ, List, �
 ghost use Rattle.octseq.specs.Window.{at, whole};
 ghost use Rattle.octseq_dns_compress.specs.Fits.{NameFits};
 ghost use Rattle.octseq_dns_compress.specs.Names.{Names, name_octets};
-ghost use Rattle.octseq_dns_compress.specs.Standing.{AreNamed};
+ghost use Rattle.octseq_dns_compress.specs.LabelsThere.{AreNamed};
 ghost use Rattle.octseq_dns_name.specs.Name.{IsName, wire_length};
 
 /// A name that is written after a message is read as that name, label for label, whatever the header says and whatever

@@ -68,8 +68,8 @@ not_among (named ∷ more) text name n is spelled among =
     let here = none_here named more text (str_eq_ignore_ascii_case text named.1) is in
     elim (first_or_later named (n, name) more among) [
       | inl same ↦
-          let told = (spells text named.1).1 (subst (λ w. Spells text w) (ap (λ (x : ℕ × List ℕ). x.1) same) spelled) in
-          absurd (cc (told, here.0))
+          let reported = (spells text named.1).1 (subst (λ w. Spells text w) (ap (λ (x : ℕ × List ℕ). x.1) same) spelled) in
+          absurd (cc (reported, here.0))
       | inr later ↦ not_among more text name n here.1 spelled later
     ]
 
@@ -179,15 +179,15 @@ among_distinct (named ∷ more) text name n good spelled among =
     let none = not_some (number_in more named.1) (not-true _ parts.0) in
     elim (first_or_later named (n, name) more among) [
       | inl same ↦
-          let told = (spells text named.1).1 (subst (λ w. Spells text w) (ap (λ (x : ℕ × List ℕ). x.1) same) spelled) in
-          rw told (ap (λ (x : ℕ × List ℕ). Some x.0) (sym same))
+          let reported = (spells text named.1).1 (subst (λ w. Spells text w) (ap (λ (x : ℕ × List ℕ). x.1) same) spelled) in
+          rw reported (ap (λ (x : ℕ × List ℕ). Some x.0) (sym same))
       | inr later ↦ elim (cases_Bool (str_eq_ignore_ascii_case text named.1)) [
-        | inl told ↦ absurd (number_in_none more named.1 none n (record {
+        | inl reported ↦ absurd (number_in_none more named.1 none n (record {
           name = name;
           named = later;
-          spelled = sym ((spells text named.1).0 told) ∙ spelled;
+          spelled = sym ((spells text named.1).0 reported) ∙ spelled;
         }))
-        | inr untold ↦ rw untold (among_distinct more text name n parts.1 spelled later)
+        | inr unreported ↦ rw unreported (among_distinct more text name n parts.1 spelled later)
       ]
     ]
 
@@ -211,9 +211,9 @@ no_name_begins word (named ∷ more) name n good among spelled =
     elim (first_or_later named (n, name) more among) [
       | inl same ↦
           let begins = subst (λ w. Spells (take (length word) w) word) (ap (λ (x : ℕ × List ℕ). x.1) same) spelled in
-          let told = (spells (take (length word) named.1) word).1 begins in
-          let untold = not-true _ parts.0 in
-          absurd (cc (told, untold))
+          let reported = (spells (take (length word) named.1) word).1 begins in
+          let unreported = not-true _ parts.0 in
+          absurd (cc (reported, unreported))
       | inr later ↦ no_name_begins word more name n parts.1 later spelled
     ]
 

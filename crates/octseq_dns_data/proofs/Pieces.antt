@@ -139,10 +139,10 @@ module _ {X S : Type 0} (split : Split X) (octets_of : X → List ℕ) (Check : 
 -- ---- the kinds of pieces
 
 -- a test and its result
-pub told_some : {A : Type 0} (test : Bool) (a b : A) → (let given : Option A = if test then Some a else None in given)
+pub reported_some : {A : Type 0} (test : Bool) (a b : A) → (let given : Option A = if test then Some a else None in given)
     ≡ Some b → (test ≡ true) × (a ≡ b)
-told_some true a b is = (refl, same_Some a b is)
-told_some false a b is = absurd (none-some b is)
+reported_some true a b is = (refl, same_Some a b is)
+reported_some false a b is = absurd (none-some b is)
 
 -- the results of one step and the next
 pub both_some : {A B : Type 0} (next : A → Option B) (given : Option A) (b : B) → option_and_then next given ≡ Some b
@@ -184,7 +184,7 @@ octets_back : (k : ℕ) (octets : List ℕ) (piece : List ℕ × List ℕ) → s
     → (octets ≡ piece.0 ++ piece.1) × (length piece.0 ≡ k)
 octets_back k octets piece is =
     let taken : List ℕ × List ℕ = (take k octets, drop k octets) in
-    let found = told_some (nat_le k (length octets)) taken piece is in (
+    let found = reported_some (nat_le k (length octets)) taken piece is in (
       sym (take-append-drop k octets) ∙ ap (λ (p : List ℕ × List ℕ). p.0 ++ p.1) found.1,
       ap (λ (p : List ℕ × List ℕ). length p.0) (sym found.1)
           ∙ length-take-le k octets (leb-true k (length octets) found.0),
@@ -194,7 +194,7 @@ number_back : (k : ℕ) (octets : List ℕ) (piece : ℕ × List ℕ) → AreOct
     → (octets ≡ octets_be k piece.0 ++ piece.1) × (piece.0 < 256 ^ k)
 number_back k octets piece each is =
     let taken : ℕ × List ℕ = (be (take k octets), drop k octets) in
-    let found = told_some (nat_le k (length octets)) taken piece is in
+    let found = reported_some (nat_le k (length octets)) taken piece is in
     let long = length-take-le k octets (leb-true k (length octets) found.0) in
     let front = each_taken k octets each in (
       sym (take-append-drop k octets) ∙ ap (λ front. front ++ drop k octets) (sym (as_be k (take k octets) long front))
@@ -212,7 +212,7 @@ is_number k some = record {
   moving = record {
     less = λ octets piece is.
         let taken : ℕ × List ℕ = (be (take k octets), drop k octets) in
-        let found = told_some (nat_le k (length octets)) taken piece is in
+        let found = reported_some (nat_le k (length octets)) taken piece is in
         let within = leb-true k (length octets) found.0 in
         let long = ap (λ (p : ℕ × List ℕ). length p.1) found.1 in
         let dropped = length-drop k octets in

@@ -325,14 +325,14 @@ apart rtype class w inside rdata k is there =
 -- nor is data that is read in the message read in its own window
 pub none_by_itself : (rtype class : ℕ) (inside : Window) → is_in_message rtype ≡ true → (k : LocalType)
     (found : (form k).Found) → IsLocal rtype class inside k found → ⊥
-none_by_itself rtype class inside told k found is =
-    true≢false (sym told ∙ ap is_in_message is.rtype_is ∙ not_in_message k)
+none_by_itself rtype class inside reported k found is =
+    true≢false (sym reported ∙ ap is_in_message is.rtype_is ∙ not_in_message k)
 
 pub none_in_message : (rtype class : ℕ) (w inside : Window) → is_in_message rtype ≡ false → (rdata : ParsedRdata)
     → IsInMessage rtype class w inside rdata → ⊥
-none_in_message rtype class w inside told rdata is =
+none_in_message rtype class w inside reported rdata is =
     let found = shape_of rtype class w is.end rdata is.rdata_is in
-    true≢false (sym (kind_in_message found.0) ∙ ap is_in_message (sym found.1) ∙ told)
+    true≢false (sym (kind_in_message found.0) ∙ ap is_in_message (sym found.1) ∙ reported)
 
 -- if there is none of a type, there is none of any other
 pub none_local : (k : LocalType) (rtype class : ℕ) (inside : Window) → rtype ≡ local_number k
@@ -393,20 +393,20 @@ in_message rtype class w inside (ParsedRdata.unknown other x) is = is
 pub none_typed : (rtype class : ℕ) (w inside : Window) (end : ℕ) → is_in_message rtype ≡ true → end ≡ inside.end
     → ((rdata : ParsedRdata) (v : Window) → HasRdata rtype class w rdata v → v.position ≡ end → ⊥)
     → (rdata : ParsedRdata) → IsTypedData rtype class w inside rdata → ⊥
-none_typed rtype class w inside end told same none rdata is = apart_from (either rtype class w inside rdata is)
+none_typed rtype class w inside end reported same none rdata is = apart_from (either rtype class w inside rdata is)
   where
     apart_from : IsEither rtype class w inside rdata → ⊥
     apart_from (inl a) = none rdata a.end a.rdata_is (a.ends ∙ sym same)
-    apart_from (inr b) = none_by_itself rtype class inside told b.0 b.1 b.3
+    apart_from (inr b) = none_by_itself rtype class inside reported b.0 b.1 b.3
 
 -- nor of any other type if there is none in its own window
 pub none_typed_local : (rtype class : ℕ) (w inside : Window) → is_in_message rtype ≡ false
     → ((k : LocalType) (found : (form k).Found) → IsLocal rtype class inside k found → ⊥)
     → (rdata : ParsedRdata) → IsTypedData rtype class w inside rdata → ⊥
-none_typed_local rtype class w inside told none rdata is = apart_from (either rtype class w inside rdata is)
+none_typed_local rtype class w inside reported none rdata is = apart_from (either rtype class w inside rdata is)
   where
     apart_from : IsEither rtype class w inside rdata → ⊥
-    apart_from (inl a) = none_in_message rtype class w inside told rdata a
+    apart_from (inl a) = none_in_message rtype class w inside reported rdata a
     apart_from (inr b) = none b.0 b.1 b.3
 
 -- data has at most one form
@@ -450,14 +450,14 @@ said_rtype rtype class w inside rdata (inr is) = ap rtype_of is.0
 pub one_end : (rtype class : ℕ) (w u v : Window) (rdata other : ParsedRdata) → (rtype ≡ 16 → ⊥)
     → HasRdata rtype class w rdata u
     → HasRdata rtype class w other v → u ≡ v
-one_end rtype class w u v rdata other untold a b =
+one_end rtype class w u v rdata other unreported a b =
     let found = shape_of rtype class w u rdata a in
-    ((one_shape found.0 (λ is. untold (found.1 ∙ is))).same w rdata other u v found.2
+    ((one_shape found.0 (λ is. unreported (found.1 ∙ is))).same w rdata other u v found.2
     (shape_by found.0 rtype class w v other found.1 b)).1
 
 -- if the value that is there doesn't end at a place, none does
 pub none_ends : (rtype class : ℕ) (w u v : Window) (rdata other : ParsedRdata) (end : ℕ) → (rtype ≡ 16 → ⊥)
     → HasRdata rtype class w rdata u → (u.position ≡ end → ⊥)
     → HasRdata rtype class w other v → v.position ≡ end → ⊥
-none_ends rtype class w u v rdata other end untold a elsewhere b ends =
-    elsewhere (ap (λ v. v.position) (one_end rtype class w u v rdata other untold a b) ∙ ends)
+none_ends rtype class w u v rdata other end unreported a elsewhere b ends =
+    elsewhere (ap (λ v. v.position) (one_end rtype class w u v rdata other unreported a b) ∙ ends)

@@ -5,7 +5,7 @@ use Rattle.std.proofs.lemmas.List.Concat.{flat_map-cons}
 use Rattle.std.specs.List.{flat_map}
 use Rattle.octseq_dns_data.specs.DataText.{string_octet_text}
 use Rattle.octseq_dns_data.specs.Pieces.{Split, pieces}
-use Rattle.octseq_dns_data.specs.SvcParamsText.{ids_text, listed_octet, value_behind, value_text, with_commas}
+use Rattle.octseq_dns_data.specs.SvcParamsText.{ids_text, listed_octet, value_after, value_text, with_commas}
 use Rattle.octseq_dns_data.proofs.Pieces.{IsMoving, more_pieces}
 
 -- the text of the pieces of octets, from the first one and those after it
@@ -24,13 +24,13 @@ more_text split moving text octets x more found =
 
 -- ---- commas are octets of a string as they are
 
-behind_commas : {X : Type 0} (text : X → List ℕ) (xs : List X)
+after_commas : {X : Type 0} (text : X → List ℕ) (xs : List X)
     → flat_map string_octet_text (flat_map (λ x. 44 ∷ text x) xs)
     ≡ flat_map (λ x. 44 ∷ flat_map string_octet_text (text x)) xs
-behind_commas text [] = refl
-behind_commas text (x ∷ xs) =
+after_commas text [] = refl
+after_commas text (x ∷ xs) =
     flat_map-append string_octet_text (44 ∷ text x) (flat_map (λ x. 44 ∷ text x) xs)
-    ∙ ap (λ more. 44 ∷ flat_map string_octet_text (text x) ++ more) (behind_commas text xs)
+    ∙ ap (λ more. 44 ∷ flat_map string_octet_text (text x) ++ more) (after_commas text xs)
 
 -- the text of an id of a list
 abbrev pub id_text : List ℕ → List ℕ
@@ -41,11 +41,11 @@ ids_text_is [] = refl
 ids_text_is (id ∷ ids) =
     let listed = flat_map listed_octet in
     flat_map-append string_octet_text (listed id) (flat_map (λ id. 44 ∷ listed id) ids)
-    ∙ ap (λ more. id_text id ++ more) (behind_commas listed ids)
+    ∙ ap (λ more. id_text id ++ more) (after_commas listed ids)
 
 -- ---- a value that has octets
 
 pub value_some : (key : ℕ) (octets : List ℕ) → 0 < length octets
-    → codes "=\"" ++ (value_text key octets ++ 34 ∷ []) ≡ value_behind key octets
+    → codes "=\"" ++ (value_text key octets ++ 34 ∷ []) ≡ value_after key octets
 value_some key [] some = absurd (omega (arith, some))
 value_some key (octet ∷ octets) some = refl

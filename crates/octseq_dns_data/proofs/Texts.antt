@@ -12,9 +12,9 @@ use Rattle.octseq_dns_data.specs.DataText.{is_compatible}
 
 -- ---- the first longest run of zero groups
 
-not_told : (told : Bool) → (told ≡ true → ⊥) → told ≡ false
-not_told true never = absurd (never refl)
-not_told false never = refl
+not_true : (reported : Bool) → (reported ≡ true → ⊥) → reported ≡ false
+not_true true never = absurd (never refl)
+not_true false never = refl
 
 zeros_at_front : (xs : List ℕ) → take (zero_run xs) xs ≡ replicate (zero_run xs) 0
 zeros_at_front [] = refl
@@ -22,7 +22,7 @@ zeros_at_front (zero ∷ xs) =
     let one_more : suc (zero_run xs) ≡ 1 + zero_run xs = omega arith in
     subst (λ n. take n (0 ∷ xs) ≡ replicate n 0) one_more (ap (λ zeros. 0 ∷ zeros) (zeros_at_front xs))
 zeros_at_front (suc x ∷ xs) =
-    let other = not_told (suc x == 0) (λ told. let is = (Decides-eqb (suc x) 0).0 told in omega (arith, is)) in
+    let other = not_true (suc x == 0) (λ reported. let is = (Decides-eqb (suc x) 0).0 reported in omega (arith, is)) in
     subst (λ zero. take (if zero then 1 + zero_run xs else 0) (suc x ∷ xs)
     ≡ replicate (if zero then 1 + zero_run xs else 0) 0) (sym other) refl
 
@@ -40,36 +40,36 @@ none_in_none (suc other) size is = most_at_front [] size is
 -- a run at the front that is as long as any after it
 at_front : (x : ℕ) (xs : List ℕ) (start len : ℕ) → IsFirstLongest xs start len → len ≤ zero_run (x ∷ xs)
     → IsFirstLongest (x ∷ xs) 0 (zero_run (x ∷ xs))
-at_front x xs start len behind long =
+at_front x xs start len after long =
     record { zeros = zeros_at_front (x ∷ xs); longest = longest; first = λ other is. omega arith }
   where
     longest : (other size : ℕ) → AreZero (x ∷ xs) other size → size ≤ zero_run (x ∷ xs)
     longest zero size is = most_at_front (x ∷ xs) size is
-    longest (suc other) size is = let most = behind.longest other size is in omega (arith, long, most)
+    longest (suc other) size is = let most = after.longest other size is in omega (arith, long, most)
 
 -- and a longer one after it
 further : (x : ℕ) (xs : List ℕ) (start len : ℕ) → IsFirstLongest xs start len → zero_run (x ∷ xs) < len
     → IsFirstLongest (x ∷ xs) (start + 1) len
-further x xs start len behind short =
-    record { zeros = subst (λ n. AreZero (x ∷ xs) n len) one_more behind.zeros; longest = longest; first = first }
+further x xs start len after short =
+    record { zeros = subst (λ n. AreZero (x ∷ xs) n len) one_more after.zeros; longest = longest; first = first }
   where
     one_more : suc start ≡ start + 1
     one_more = omega arith
 
     longest : (other size : ℕ) → AreZero (x ∷ xs) other size → size ≤ len
     longest zero size is = let most = most_at_front (x ∷ xs) size is in omega (arith, short, most)
-    longest (suc other) size is = behind.longest other size is
+    longest (suc other) size is = after.longest other size is
 
     first : (other : ℕ) → AreZero (x ∷ xs) other len → start + 1 ≤ other
     first zero is = let most = most_at_front (x ∷ xs) len is in absurd (omega (arith, short, most))
-    first (suc other) is = let before = behind.first other is in omega (arith, before)
+    first (suc other) is = let before = after.first other is in omega (arith, before)
 
 chosen : (x : ℕ) (xs : List ℕ) (later : ℕ × ℕ) → IsFirstLongest xs later.0 later.1 → (at_once : Bool)
     → (at_once ≡ true → later.1 ≤ zero_run (x ∷ xs)) → (at_once ≡ false → zero_run (x ∷ xs) < later.1)
     → let run : ℕ × ℕ = if at_once then (0, zero_run (x ∷ xs)) else (later.0 + 1, later.1) in
     IsFirstLongest (x ∷ xs) run.0 run.1
-chosen x xs later behind true long short = at_front x xs later.0 later.1 behind (long refl)
-chosen x xs later behind false long short = further x xs later.0 later.1 behind (short refl)
+chosen x xs later after true long short = at_front x xs later.0 later.1 after (long refl)
+chosen x xs later after false long short = further x xs later.0 later.1 after (short refl)
 
 first_longest : (xs : List ℕ) → IsFirstLongest xs (longest_zero_run xs).0 (longest_zero_run xs).1
 first_longest [] = record { zeros = refl; longest = none_in_none; first = λ other is. omega arith }
@@ -103,8 +103,8 @@ groups_are_text : (groups : List ℕ) → IsGroupsText groups (hex_groups_text g
 unfolding hex_groups_text
 groups_are_text groups =
     let run = longest_zero_run groups in
-    compressed groups run (first_longest groups) (nat_lt 1 run.1) (λ told. omega (arith, leb-true 2 run.1 told))
-    (λ told. omega (arith, leb-false 2 run.1 told))
+    compressed groups run (first_longest groups) (nat_lt 1 run.1) (λ reported. omega (arith, leb-true 2 run.1 reported))
+    (λ reported. omega (arith, leb-false 2 run.1 reported))
 
 -- an IPv6 address that isn't shown with an IPv4 address is shown as the text of its groups
 pub address_is_text : (octets : List ℕ) → (is_compatible octets ≡ true → ⊥) → (IsIpv4Mapped (segments_of octets) → ⊥)
@@ -113,7 +113,7 @@ unfolding ipv6_text
 address_is_text octets compatible mapped =
     let groups = segments_of octets in
     let front = 0 ∷ 0 ∷ 0 ∷ 0 ∷ 0 ∷ 0xffff ∷ [] in
-    let no_tail = not_told (is_compatible octets) compatible in
-    let no_front = not_told (bytes_eq (take 6 groups) front) (λ told. mapped
-    ((bytes_eq-Decides (take 6 groups) front).0 told)) in
+    let no_tail = not_true (is_compatible octets) compatible in
+    let no_front = not_true (bytes_eq (take 6 groups) front) (λ reported. mapped
+    ((bytes_eq-Decides (take 6 groups) front).0 reported)) in
     rw (no_tail, no_front) (groups_are_text groups)

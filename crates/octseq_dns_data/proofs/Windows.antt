@@ -58,9 +58,9 @@ no_number_at k w long many =
 -- what is left after a number
 long_past : (k : ℕ) (w : Window) → length (rest w) ≡ left w → k ≤ left w → length (rest (past k w)) ≡ left (past k w)
 long_past k w long few =
-    let behind = ap length (rest_past w (past k w) k few refl) in
+    let after = ap length (rest_past w (past k w) k few refl) in
     let dropped = length-drop k (rest w) in
-    omega (arith, behind, dropped, long)
+    omega (arith, after, dropped, long)
 
 pub part_at : (k : ℕ) (w inside v : Window) → length (rest w) ≡ left w → HasPart k w → inside ≡ part k w
     → v ≡ past_part k w → split_part k (rest w) ≡ Some (rest inside, rest v)
@@ -76,9 +76,9 @@ no_part_at k w long none =
     let step : Option (ℕ × List ℕ) → Option (List ℕ × List ℕ) =
     option_and_then (λ many. split_octets many.0 many.1) in
     elim (leb_tells k (left w)) as (λ _. split_part k (rest w) ≡ None) [
-      | inl (told, few) ↦ ap step (number_at k w (past k w) n long few refl refl)
+      | inl (reported, few) ↦ ap step (number_at k w (past k w) n long few refl refl)
           ∙ no_octets_at n (past k w) (long_past k w long few) (lt_of_not-le (λ room. none (few, room)))
-      | inr (told, many) ↦ ap step (no_number_at k w long many)
+      | inr (reported, many) ↦ ap step (no_number_at k w long many)
     ]
 
 module _ {X Y : Type 0} (first : Split X) (second : Split Y) where

@@ -59,26 +59,26 @@ abbrev pub string_text : List ℕ → List ℕ
 string_text octets = 34 ∷ flat_map string_octet_text octets ++ 34 ∷ []
 
 -- strings, each after a space (32)
-abbrev pub strings_behind : List (List ℕ) → List ℕ
-strings_behind = flat_map (λ string. 32 ∷ string_text string)
+abbrev pub strings_after : List (List ℕ) → List ℕ
+strings_after = flat_map (λ string. 32 ∷ string_text string)
 
 -- strings, separated by spaces
 abbrev pub strings_text : List (List ℕ) → List ℕ
 strings_text [] = []
-strings_text (string ∷ strings) = string_text string ++ strings_behind strings
+strings_text (string ∷ strings) = string_text string ++ strings_after strings
 
 -- two lower-case hexadecimal digits
 abbrev pub hex_text : ℕ → List ℕ
 hex_text octet = digit_char (octet / 16) ∷ digit_char (octet % 16) ∷ []
 
 -- octets in hexadecimal, after a space if there are any
-abbrev pub octets_behind : List ℕ → List ℕ
-octets_behind [] = []
-octets_behind (octet ∷ octets) = 32 ∷ flat_map hex_text (octet ∷ octets)
+abbrev pub octets_after : List ℕ → List ℕ
+octets_after [] = []
+octets_after (octet ∷ octets) = 32 ∷ flat_map hex_text (octet ∷ octets)
 
 -- the number of octets, and the octets
 abbrev pub unknown_text : List ℕ → List ℕ
-unknown_text octets = codes "\\# " ++ decimal (length octets) ++ octets_behind octets
+unknown_text octets = codes "\\# " ++ decimal (length octets) ++ octets_after octets
 
 abbrev pub mx_text : Mx → List ℕ
 mx_text mx = decimal mx.preference ++ 32 ∷ name_text mx.exchange.labels

@@ -2,15 +2,15 @@
 use Rattle.std.specs.Prelude.{◌≡◌, ℕ, ◌≤◌, List, refl}
 use Rattle.std.proofs.Common.{arith}
 use Rattle.octseq.specs.Window.{Window}
-use Rattle.octseq_dns_name.specs.Name.{Name, HasName, Stands, wire_length}
-use Rattle.octseq_dns_name.specs.NameFormat.{NameFits, name_labels, one_named, onward_name, wire_stands}
+use Rattle.octseq_dns_name.specs.Name.{Name, HasName, HasLabels, wire_length}
+use Rattle.octseq_dns_name.specs.NameFormat.{NameFits, name_labels, one_named, onward_name, wire_has_labels}
 use Rattle.octseq_dns_name.specs.Wire.{wire}
 use Rattle.octseq_format.specs.Laws.{Relation, IsOne, IsOnward, IsReadBack, IsDelimited, back_of}
 
 -- A name without pointers is at a window's position: its labels, of at most 255 octets in wire form; and the window
 -- after it.
 pub record IsPlainName (w : Window) (labels : List (List ℕ)) (v : Window) : Type 0 where
-  pub stands : Stands w.position w labels 0 v
+  pub has_labels : HasLabels w.position w labels 0 v
   pub short : wire_length labels ≤ 255
 
 abbrev pub HasPlainName : Relation Name
@@ -18,7 +18,7 @@ HasPlainName w name v = (name.place ≡ w) × IsPlainName w name.labels v
 
 -- it is a name
 pub named : (w v : Window) (name : Name) → HasPlainName w name v → HasName w name v
-named w v name is = (is.0, record { pointers = 0; stands = is.1.stands; short = is.1.short; few = omega arith })
+named w v name is = (is.0, record { pointers = 0; has_labels = is.1.has_labels; short = is.1.short; few = omega arith })
 
 pub one_plain : IsOne HasPlainName
 one_plain = record { same = λ w a b u v is other. one_named.same w a b u v (named w u a is) (named w v b other) }
@@ -34,7 +34,7 @@ delimited_plain = record {
   next = λ w labels more fits is. record {
     it = record { place = w; labels = labels };
     tells = refl;
-    is = (refl, record { stands = wire_stands w.position w labels more fits.each is; short = fits.short });
+    is = (refl, record { has_labels = wire_has_labels w.position w labels more fits.each is; short = fits.short });
   };
 }
 

@@ -48,13 +48,13 @@ value_text key value = if key == 0 then with_commas key_text (keys_of value)
     else flat_map string_octet_text value)))))
 
 -- `=` (61) and the value in quotation marks (34), if it has an octet
-abbrev pub value_behind : ℕ → List ℕ → List ℕ
-value_behind key [] = []
-value_behind key (octet ∷ octets) = 61 ∷ 34 ∷ value_text key (octet ∷ octets) ++ 34 ∷ []
+abbrev pub value_after : ℕ → List ℕ → List ℕ
+value_after key [] = []
+value_after key (octet ∷ octets) = 61 ∷ 34 ∷ value_text key (octet ∷ octets) ++ 34 ∷ []
 
 -- a parameter
 abbrev pub param_text : Param → List ℕ
-param_text param = key_text param.0 ++ value_behind param.0 param.1
+param_text param = key_text param.0 ++ value_after param.0 param.1
 
 -- parameters, each after a space (32)
 abbrev pub svc_params_text : List ℕ → List ℕ

@@ -202,7 +202,7 @@ impl<R: AsOctets + Copy> Iterator for Options<R> {
                 *self = Options { parser };
                 Some(option)
             }
-            Err(_) => None,
+            Err(_) => unreachable!(),
         }
     }
 }

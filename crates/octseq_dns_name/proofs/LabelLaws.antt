@@ -5,7 +5,7 @@ use Rattle.std.proofs.Math.Logic.{∥∥₁_elim}
 use Rattle.std.specs.Coded.{le_prop, ×_prop, Unit-prop}
 use mathlib.Core.HLevel.{×₃_prop}
 use Rattle.octseq.specs.Window.{Window, next, past, at}
-use Rattle.octseq_dns_name.specs.Name.{HasLabel, Stands, octet}
+use Rattle.octseq_dns_name.specs.Name.{HasLabel, HasLabels, octet}
 use Rattle.octseq_dns_name.specs.OneName.{Named}
 use Rattle.octseq_dns_name.specs.Spelling.{AreOctetLabels}
 use Rattle.octseq_dns_name.specs.Wire.{AreLabels}
@@ -35,35 +35,35 @@ label_length w u l within has =
     omega (arith, size, whole, some, within, taken, length-drop from w.octets)
 
 -- the labels at a window's position
-standing_labels : (start : ℕ) (w v : Window) (labels : List (List ℕ)) (pointers : ℕ) → w.end ≤ length w.octets
-    → Stands start w labels pointers v → AreLabels labels
-standing_labels start w v labels pointers within (Stands.root has) = tt
-standing_labels start w v labels pointers within (Stands.label {u = u} {l = l} {labels = more} has rest) =
+labels_are : (start : ℕ) (w v : Window) (labels : List (List ℕ)) (pointers : ℕ) → w.end ≤ length w.octets
+    → HasLabels start w labels pointers v → AreLabels labels
+labels_are start w v labels pointers within (HasLabels.root has) = tt
+labels_are start w v labels pointers within (HasLabels.label {u = u} {l = l} {labels = more} has rest) =
     let size = label_length w u l within has in
     let some = has.some in
     let short = has.short in
-    let inside : u.end ≤ length u.octets = subst (λ u. u.end ≤ length u.octets) (sym has.behind) within in
-    (omega (arith, size, some), omega (arith, size, short), standing_labels start u v more pointers inside rest)
-standing_labels start w v labels pointers within (Stands.pointer {to = to} {pointers = fewer} {u = u} has rest) =
-    standing_labels to (at to w) u labels fewer within rest
+    let inside : u.end ≤ length u.octets = subst (λ u. u.end ≤ length u.octets) (sym has.after) within in
+    (omega (arith, size, some), omega (arith, size, short), labels_are start u v more pointers inside rest)
+labels_are start w v labels pointers within (HasLabels.pointer {to = to} {pointers = fewer} {u = u} has rest) =
+    labels_are to (at to w) u labels fewer within rest
 
-standing_octets : (start : ℕ) (w v : Window) (labels : List (List ℕ)) (pointers : ℕ) → AreOctets w.octets
-    → Stands start w labels pointers v → AreOctetLabels labels
-standing_octets start w v labels pointers each (Stands.root has) = tt
-standing_octets start w v labels pointers each (Stands.label {u = u} {l = l} {labels = more} has rest) =
-    let inside : AreOctets u.octets = subst (λ u. AreOctets u.octets) (sym has.behind) each in (
+octets_are : (start : ℕ) (w v : Window) (labels : List (List ℕ)) (pointers : ℕ) → AreOctets w.octets
+    → HasLabels start w labels pointers v → AreOctetLabels labels
+octets_are start w v labels pointers each (HasLabels.root has) = tt
+octets_are start w v labels pointers each (HasLabels.label {u = u} {l = l} {labels = more} has rest) =
+    let inside : AreOctets u.octets = subst (λ u. AreOctets u.octets) (sym has.after) each in (
       subst AreOctets (sym has.octets) (each_taken _ _ (each_dropped _ _ each)),
-      standing_octets start u v more pointers inside rest,
+      octets_are start u v more pointers inside rest,
     )
-standing_octets start w v labels pointers each (Stands.pointer {to = to} {pointers = fewer} {u = u} has rest) =
-    standing_octets to (at to w) u labels fewer each rest
+octets_are start w v labels pointers each (HasLabels.pointer {to = to} {pointers = fewer} {u = u} has rest) =
+    octets_are to (at to w) u labels fewer each rest
 
 -- the labels of a name
 pub named_labels : (w : Window) (named : Named w) → w.end ≤ length w.octets → AreLabels named.0
 named_labels w named within = ∥∥₁_elim named.1 (labels_prop named.0) (λ x.
-    standing_labels w.position w x.0 named.0 x.1.pointers within x.1.stands)
+    labels_are w.position w x.0 named.0 x.1.pointers within x.1.has_labels)
 
 -- and their octets, if those of the window are octets
 pub named_octets : (w : Window) (named : Named w) → AreOctets w.octets → AreOctetLabels named.0
 named_octets w named each = ∥∥₁_elim named.1 (octet_labels_prop named.0) (λ x.
-    standing_octets w.position w x.0 named.0 x.1.pointers each x.1.stands)
+    octets_are w.position w x.0 named.0 x.1.pointers each x.1.has_labels)

@@ -308,11 +308,11 @@ name_once_with_origin origin labels others text are short others_are others_shor
 -- ---- what a call returns
 
 -- a call that was refused for a reason was refused for no other
-pub told_with_origin : {T : Type 0} (origin : List (List ℕ)) (result : Result T FromTextError) (fault : FromTextError)
+pub reported_with_origin : {T : Type 0} (origin : List (List ℕ)) (result : Result T FromTextError) (fault : FromTextError)
     (text : List ℕ) → result ≡ Err fault → IsRefusedWithOrigin origin fault text
     → (other : FromTextError) → IsErrOf result other ↔ IsRefusedWithOrigin origin other text
-told_with_origin origin result fault text is refused other = (
-  λ told. subst (λ f. IsRefusedWithOrigin origin f text) (ap (λ r. error_or r fault) (sym is ∙ told)) refused,
+reported_with_origin origin result fault text is refused other = (
+  λ reported. subst (λ f. IsRefusedWithOrigin origin f text) (ap (λ r. error_or r fault) (sym is ∙ reported)) refused,
   λ same. is ∙ ap Err (one_reason_with_origin origin fault other text refused same),
 )
 

@@ -2,36 +2,36 @@
 use Rattle.std.proofs.Common.{◌≡◌, ℕ, ◌<◌, ◌≤◌, List, [], ◌∷◌, sym, ap, ◌∙◌, subst, arith, ◌+◌, length, refl}
 use Rattle.std.proofs.Math.Logic.{∥∥₁_elim}
 use Rattle.octseq.specs.Window.{Window, at}
-use Rattle.octseq_dns_name.specs.Name.{Stands, IsName, wire_length}
+use Rattle.octseq_dns_name.specs.Name.{HasLabels, IsName, wire_length}
 use Rattle.octseq_dns_name.specs.NextLabel.{NextLabel}
-use Rattle.octseq_dns_name.specs.OneName.{at_label, at_pointer, one_standing, one_labels, Named, named_once}
+use Rattle.octseq_dns_name.specs.OneName.{at_label, at_pointer, one_has_labels, one_labels, Named, named_once}
 use Rattle.octseq_dns_name.specs.Relatives.{suffixes}
 use Rattle.octseq_dns_name.specs.Wire.{AreLabels}
 use Rattle.octseq_dns_name.proofs.Names.{Taken, named_as}
 
 -- what is there in a part that began here is there in one that began later
 wider : (start later : ℕ) (w v : Window) (labels : List (List ℕ)) (pointers : ℕ) → start ≤ later
-    → Stands start w labels pointers v → Stands later w labels pointers v
-wider start later w v labels pointers le (Stands.root has) = Stands.root has
-wider start later w v labels pointers le (Stands.label {u = u} {labels = more} has rest) =
-    Stands.label has (wider start later u v more pointers le rest)
-wider start later w v labels pointers le (Stands.pointer {to = to} {u = u} has rest) =
+    → HasLabels start w labels pointers v → HasLabels later w labels pointers v
+wider start later w v labels pointers le (HasLabels.root has) = HasLabels.root has
+wider start later w v labels pointers le (HasLabels.label {u = u} {labels = more} has rest) =
+    HasLabels.label has (wider start later u v more pointers le rest)
+wider start later w v labels pointers le (HasLabels.pointer {to = to} {u = u} has rest) =
     let before = has.before in
     let before_later : to < later = omega (arith, before, le) in
-    Stands.pointer
-    (record { room = has.room; mark = has.mark; place = has.place; before = before_later; behind = has.behind }) rest
+    HasLabels.pointer
+    (record { room = has.room; mark = has.mark; place = has.place; before = before_later; after = has.after }) rest
 
 -- the rest after the next label has no more pointers than the whole
 few_after : (start : ℕ) (w place : Window) (began : ℕ) (on end last : Window) (labels more : List (List ℕ))
-    (pointers fewer : ℕ) → NextLabel start w place began on → Stands start w labels pointers end
-    → Stands began on more fewer last → fewer ≤ pointers
-few_after start w place began on end last labels more pointers fewer (NextLabel.here {l = l} has is) stands rest =
-    let taken = at_label start w on end l labels pointers has stands in
-    let same = (one_standing start on last end more taken.0 fewer pointers rest taken.2).1 in
+    (pointers fewer : ℕ) → NextLabel start w place began on → HasLabels start w labels pointers end
+    → HasLabels began on more fewer last → fewer ≤ pointers
+few_after start w place began on end last labels more pointers fewer (NextLabel.here {l = l} has is) has_labels rest =
+    let taken = at_label start w on end l labels pointers has has_labels in
+    let same = (one_has_labels start on last end more taken.0 fewer pointers rest taken.2).1 in
     omega (arith, same)
 few_after start w place began on end last labels more pointers fewer
-    (NextLabel.pointed {to = to} {v = v} has next) stands rest =
-    let led = at_pointer start w v end to labels pointers has stands in
+    (NextLabel.pointed {to = to} {v = v} has next) has_labels rest =
+    let led = at_pointer start w v end to labels pointers has has_labels in
     let is = led.2 in
     let few = few_after to (at to w) place began on led.1 last labels more led.0 fewer next led.4 rest in
     omega (arith, is, few)
@@ -41,10 +41,10 @@ name_after : (w place : Window) (began : ℕ) (on end : Window) (l : List ℕ) (
     → NextLabel w.position w place began on → Taken w.position w began on l → began ≤ on.position → IsName w labels end
     → (more : List (List ℕ)) × (last : Window) × (labels ≡ l ∷ more) × IsName on more last
 name_after w place began on end l labels next takes ordered name =
-    let taken = takes labels name.pointers end name.stands in
+    let taken = takes labels name.pointers end name.has_labels in
     let size = ap wire_length taken.3 in
     let short = name.short in
-    let few = few_after w.position w place began on end taken.2 labels taken.0 name.pointers taken.1 next name.stands
+    let few = few_after w.position w place began on end taken.2 labels taken.0 name.pointers taken.1 next name.has_labels
     taken.4 in
     let most = name.few in (
       taken.0,
@@ -52,7 +52,7 @@ name_after w place began on end l labels next takes ordered name =
       taken.3,
       record {
         pointers = taken.1;
-        stands = wider began on.position on taken.2 taken.0 taken.1 ordered taken.4;
+        has_labels = wider began on.position on taken.2 taken.0 taken.1 ordered taken.4;
         short = omega (arith, size, short);
         few = omega (arith, few, most);
       },
@@ -91,11 +91,11 @@ parent_labels w place began on l named parent passes =
 
 -- if no label is next, there is none
 pub parent_none : (w : Window) (start : ℕ) (named : Named w) → start ≡ w.position
-    → ((labels : List (List ℕ)) (pointers : ℕ) (end : Window) → Stands start w labels pointers end → labels ≡ [])
+    → ((labels : List (List ℕ)) (pointers : ℕ) (end : Window) → HasLabels start w labels pointers end → labels ≡ [])
     → named.0 ≡ []
 parent_none w start named is none = ∥∥₁_elim named.1 (one_labels named.0 []) (λ x.
     none named.0 x.1.pointers x.0
-    (subst (λ s. Stands s w named.0 x.1.pointers x.0) (sym is) x.1.stands))
+    (subst (λ s. HasLabels s w named.0 x.1.pointers x.0) (sym is) x.1.has_labels))
 
 -- ---- suffixes
 

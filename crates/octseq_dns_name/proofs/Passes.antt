@@ -9,7 +9,7 @@ use Rattle.octseq.specs.Window.{Window, left, next, at, past}
 use Rattle.octseq_dns_name.specs.Name.{HasRoot, HasLabel, HasPointer, IsName, octet, wire_length}
 use Rattle.octseq_dns_name.specs.NameFormat.{be_one}
 use Rattle.octseq_dns_name.specs.NameTurns.{name_turns}
-use Rattle.octseq_dns_name.specs.OneName.{one_standing}
+use Rattle.octseq_dns_name.specs.OneName.{one_has_labels}
 use Rattle.octseq_dns_name.specs.Pass.{window_at, place_in, NoName, NoRest, LeadsTo, Reading, PassesLabels, Rests, Ends}
 use Rattle.octseq_dns_name.specs.Piece.{Piece, HasPiece, end_of}
 use Rattle.octseq_dns_name.proofs.Names.{begun, no_piece, leads_past_pointer, leads_to_root, with_label}
@@ -41,7 +41,7 @@ module _ (octets : List ℕ) (place end size : ℕ) (within : end ≤ length oct
 
     -- the root
     pub root_at : size ≡ 0 → HasRoot (window_at octets place end) (window_at octets (place + 1) end)
-    root_at none = record { room = omega (arith, room); zero = size_at ∙ none; behind = refl }
+    root_at none = record { room = omega (arith, room); zero = size_at ∙ none; after = refl }
 
     -- a label, which is whole
     pub label_at : 1 ≤ size → size ≤ 63 → place + (1 + size) ≤ end → (l : List ℕ) × (length l ≡ size)
@@ -57,7 +57,7 @@ module _ (octets : List ℕ) (place end size : ℕ) (within : end ≤ length oct
             short = omega (arith, said, short);
             whole = omega (arith, said, whole);
             octets = ap (λ n. next n (window_at octets (place + 1) end)) (sym said);
-            behind = ap (λ p. window_at octets p end) (sym after)
+            after = ap (λ p. window_at octets p end) (sym after)
                 ∙ ap (λ n. window_at octets (place + 1 + n) end) (sym said);
           },
         )
@@ -99,7 +99,7 @@ module _ (octets : List ℕ) (place end start : ℕ) (within : end ≤ length oc
               ∙ ap (λ n. (octet (window_at octets place end) - 192) * 256 + n)
               (sym (octet_at octets (place + 1) end (omega (arith, whole, within))));
           before = before;
-          behind = refl;
+          after = refl;
         }
 
     -- and none: another octet is there
@@ -130,10 +130,10 @@ none_at_end start w none (Piece.pointer to) v has = let room = has.room in omega
 -- ---- the labels
 
 -- labels that are too long are not a name, whatever follows
-too_long : (w : Window) (start : ℕ) (v : Window) (size pointers : ℕ) (behind : Option Window) (old new : ℕ)
-    → Reading w start v size pointers behind old new → 255 < size → NoName w
-too_long w start v size pointers behind old new so_far long labels end name =
-    let on = so_far.read.backward labels name.pointers end name.stands in
+too_long : (w : Window) (start : ℕ) (v : Window) (size pointers : ℕ) (after : Option Window) (old new : ℕ)
+    → Reading w start v size pointers after old new → 255 < size → NoName w
+too_long w start v size pointers after old new so_far long labels end name =
+    let on = so_far.read.backward labels name.pointers end name.has_labels in
     let both = wire_append so_far.labels on.more in
     let some = wire_some on.more in
     let all = ap wire_length on.labels_are in
@@ -142,12 +142,12 @@ too_long w start v size pointers behind old new so_far long labels end name =
     omega (arith, both, some, all, is, short, long)
 
 -- nor is what has no next piece
-no_next : (w : Window) (start : ℕ) (v : Window) (size pointers : ℕ) (behind : Option Window) (old new : ℕ)
-    → Reading w start v size pointers behind old new
+no_next : (w : Window) (start : ℕ) (v : Window) (size pointers : ℕ) (after : Option Window) (old new : ℕ)
+    → Reading w start v size pointers after old new
     → ((p : Piece) (u : Window) → HasPiece start v p u → ⊥) → NoName w
-no_next w start v size pointers behind old new so_far none labels end name =
-    let on = so_far.read.backward labels name.pointers end name.stands in
-    no_piece start v on.u on.more on.fewer none on.stands
+no_next w start v size pointers after old new so_far none labels end name =
+    let on = so_far.read.backward labels name.pointers end name.has_labels in
+    no_piece start v on.u on.more on.fewer none on.has_labels
 
 -- labels lead from a place to another
 abbrev pub ReadsTo : List ℕ → ℕ → ℕ → ℕ → ℕ → ℕ → Type 0
@@ -199,8 +199,8 @@ no_more octets place end to old new ordered over inside outside =
 
 -- labels and pointers lead from the place of the rest to another; what is before the rest is counted too
 abbrev pub RestsTo : List ℕ → ℕ → ℕ → ℕ → ℕ → ℕ → ℕ → ℕ → ℕ → ℕ → Type 0
-RestsTo octets on end start to before len pointers old new = (behind : Option Window)
-    × Reading (window_at octets on end) start (window_at octets to end) (len + 1 - before) (pointers - 1) behind old new
+RestsTo octets on end start to before len pointers old new = (after : Option Window)
+    × Reading (window_at octets on end) start (window_at octets to end) (len + 1 - before) (pointers - 1) after old new
 
 -- nothing was read yet
 pub rests_none : (octets : List ℕ) (on end before old : ℕ) → RestsTo octets on end on on before before 1 old old
@@ -214,14 +214,14 @@ module _ (octets : List ℕ) (on end start to before len pointers old between : 
     -- no rest, if no piece is next
     pub no_rest : ((p : Piece) (v : Window) → HasPiece start (window_at octets to end) p v → ⊥)
         → NoRest (window_at octets on end) before
-    no_rest none labels count end stands short few =
-        let after = so_far.1.read.backward labels count end stands in
-        no_piece start (window_at octets to _) after.u after.more after.fewer none after.stands
+    no_rest none labels count end has_labels short few =
+        let after = so_far.1.read.backward labels count end has_labels in
+        no_piece start (window_at octets to _) after.u after.more after.fewer none after.has_labels
 
     -- nor if it is too long
     pub long_rest : 255 < len → NoRest (window_at octets on end) before
-    long_rest long labels count end stands short few =
-        let after = so_far.1.read.backward labels count end stands in
+    long_rest long labels count end has_labels short few =
+        let after = so_far.1.read.backward labels count end has_labels in
         let both = wire_append so_far.1.labels after.more in
         let some = wire_some after.more in
         let all = ap wire_length after.labels_are in
@@ -230,8 +230,8 @@ module _ (octets : List ℕ) (on end start to before len pointers old between : 
 
     -- or has too many pointers
     pub many_pointers : 127 < pointers → NoRest (window_at octets on end) before
-    many_pointers many labels count end stands short few =
-        let after = so_far.1.read.backward labels count end stands in
+    many_pointers many labels count end has_labels short few =
+        let after = so_far.1.read.backward labels count end has_labels in
         let is = after.pointers_are in
         omega (arith, is, few, many)
 
@@ -276,7 +276,7 @@ module _ (octets : List ℕ) (on end start to before len pointers old between : 
             labels = read.labels;
             pointers = pointers - 1;
             end = end_of so_far.0 u;
-            stands = leads_to_root on (window_at octets on end) start (window_at octets to end) u read.labels
+            has_labels = leads_to_root on (window_at octets on end) start (window_at octets to end) u read.labels
                 (pointers - 1) so_far.0 read.read (root_at octets to end size within room is none);
             size = omega (arith, made, fewer);
             short = short;
@@ -302,7 +302,7 @@ module _ (octets : List ℕ) (place end to old before between : ℕ) (within : e
           labels = so_far.labels;
           name = record {
             pointers = 0;
-            stands = leads_to_root place (window_at octets place end) place (window_at octets to end)
+            has_labels = leads_to_root place (window_at octets place end) place (window_at octets to end)
                 (window_at octets (to + 1) end) so_far.labels 0 None so_far.read
                 (root_at octets to end 0 within room zero refl);
             short = omega (arith, is, near, ordered);
@@ -353,7 +353,7 @@ module _ (octets : List ℕ) (place end to old before between : ℕ) (within : e
               labels = so_far.labels ++ rests.labels;
               name = record {
                 pointers = 1 + rests.pointers;
-                stands = led.forward rests.labels rests.pointers rests.end rests.stands;
+                has_labels = led.forward rests.labels rests.pointers rests.end rests.has_labels;
                 short = omega (arith, sum, short);
                 few = omega (arith, few);
               };
@@ -367,14 +367,14 @@ module _ (octets : List ℕ) (place end to old before between : ℕ) (within : e
         no_end none labels end name =
             let so_far = passes.reading in
             let ordered = passes.ordered in
-            let after = led.backward labels name.pointers end name.stands in
+            let after = led.backward labels name.pointers end name.has_labels in
             let both = wire_append so_far.labels after.more in
             let all = ap wire_length after.labels_are in
             let is = so_far.size_is in
             let short = name.short in
             let few = name.few in
             let count = after.pointers_are in
-            none after.more after.fewer after.u after.stands (omega (arith, both, all, is, short, ordered))
+            none after.more after.fewer after.u after.has_labels (omega (arith, both, all, is, short, ordered))
             (omega (arith, few, count))
 
 -- a label that makes the rest too long
@@ -413,7 +413,7 @@ own_window w octets place end same begins ends i = record { octets = same i; pos
 pub ends_counted : (w : Window) (place len old new : ℕ) → Ends w place len old new → (labels : List (List ℕ))
     (end : Window) (name : IsName w labels end) → new ≡ old + name_turns name
 ends_counted w place len old new ends labels end name =
-    let same = one_standing w.position w (at place w) end ends.labels labels ends.name.pointers name.pointers
-    ends.name.stands name.stands in
+    let same = one_has_labels w.position w (at place w) end ends.labels labels ends.name.pointers name.pointers
+    ends.name.has_labels name.has_labels in
     let counted = ends.counted in
     omega (arith, ap length same.0, same.1, counted)

@@ -95,9 +95,9 @@ at_stop [] = FromTextError.EmptyLabel
 at_stop (octet ∷ label) = FromTextError.LongName
 
 -- and at what follows them, if no octet is spelled there
-abbrev told : List ℕ → List ℕ → FromTextError
-told label [] = FromTextError.UnexpectedEnd
-told label (octet ∷ rest) =
+abbrev reported : List ℕ → List ℕ → FromTextError
+reported label [] = FromTextError.UnexpectedEnd
+reported label (octet ∷ rest) =
     if nat_eq octet 46 then at_stop label else
     (if nat_eq octet 92 then FromTextError.IllegalEscape else FromTextError.IllegalOctet)
 
@@ -105,14 +105,14 @@ told label (octet ∷ rest) =
 abbrev Stops : FromTextError → List ℕ → Type 0
 Stops fault text = (label rest : List ℕ) × Reads text label rest
     × (((length label ≡ 64) × (fault ≡ FromTextError.LongLabel))
-    ⊎ ((length label ≤ 63) × SpellsNone rest × (fault ≡ told label rest)))
+    ⊎ ((length label ≤ 63) × SpellsNone rest × (fault ≡ reported label rest)))
 
-stopped_long : (label rest : List ℕ) → 1 ≤ length label → FromTextError.LongName ≡ told label (46 ∷ rest)
+stopped_long : (label rest : List ℕ) → 1 ≤ length label → FromTextError.LongName ≡ reported label (46 ∷ rest)
 stopped_long [] rest some = absurd (omega (arith, some))
 stopped_long (octet ∷ label) rest some = refl
 
 illegal : (octet : ℕ) (label rest : List ℕ) → ¬ (octet ≡ 46) → ¬ (octet ≡ 92)
-    → FromTextError.IllegalOctet ≡ told label (octet ∷ rest)
+    → FromTextError.IllegalOctet ≡ reported label (octet ∷ rest)
 illegal octet label rest no_stop no_backslash =
     let first : nat_eq octet 46 ≡ false = search rules in
     let second : nat_eq octet 92 ≡ false = search rules in
@@ -144,7 +144,7 @@ one_stop fault other_fault text (label, xs, one, inr is) (other, ys, two, inl ot
     absurd (none_longer text label xs other ys one two is.1 (omega (arith, long, short)))
 one_stop fault other_fault text (label, xs, one, inr is) (other, ys, two, inr other_is) =
     let same = one_run text label xs other ys one two is.1 other_is.1 in
-    is.2 ∙ ap (λ l. told l xs) same.0 ∙ ap (told other) same.1 ∙ sym other_is.2
+    is.2 ∙ ap (λ l. reported l xs) same.0 ∙ ap (reported other) same.1 ∙ sym other_is.2
 
 -- ---- there is no label where something is wrong
 
@@ -155,7 +155,7 @@ stopped_name fault text label rest (other, ys, two, inl is) one some short =
     absurd (none_longer text label (46 ∷ rest) other ys one two (none_at_stop rest) (omega (arith, long, short)))
 stopped_name fault text label rest (other, ys, two, inr is) one some short =
     let same = one_run text label (46 ∷ rest) other ys one two (none_at_stop rest) is.1 in
-    is.2 ∙ ap (told other) (sym same.1) ∙ ap (λ l. told l (46 ∷ rest)) (sym same.0) ∙ sym (stopped_long label rest some)
+    is.2 ∙ ap (reported other) (sym same.1) ∙ ap (λ l. reported l (46 ∷ rest)) (sym same.0) ∙ sym (stopped_long label rest some)
 
 no_label_here : (fault : FromTextError) (labels : List (List ℕ)) (text label rest : List ℕ) → IsFault fault labels text
     → Reads text label (46 ∷ rest) → 1 ≤ length label → length label ≤ 63 → wire_length (labels ++ label ∷ []) ≤ 255 → ⊥
@@ -309,7 +309,7 @@ is_error (Err e) = Unit {0}
 
 -- a call that returned a value returned no error
 pub ok_no_err : {T E : Type 0} (result : Result T E) (value : T) (e : E) → result ≡ Ok value → ¬ (result ≡ Err e)
-ok_no_err result value e is told = subst is_error (sym told ∙ is) tt
+ok_no_err result value e is reported = subst is_error (sym reported ∙ is) tt
 
 -- what holds of an error holds if a call returned it
 pub refused_by : {T E : Type 0} (result : Result T E) (fault : E) → result ≡ Err fault → (P : E → Type 0) → P fault
@@ -317,10 +317,10 @@ pub refused_by : {T E : Type 0} (result : Result T E) (fault : E) → result ≡
 refused_by result fault is P holds = subst (λ r. IfErr r P) (sym is) holds
 
 -- a call that was refused for a reason was refused for no other
-pub told_of : {T : Type 0} (result : Result T FromTextError) (fault : FromTextError) (text : List ℕ)
+pub reported_of : {T : Type 0} (result : Result T FromTextError) (fault : FromTextError) (text : List ℕ)
     → result ≡ Err fault
     → IsRefused fault text → (other : FromTextError) → IsErrOf result other ↔ IsRefused other text
-told_of result fault text is refused other = (
-  λ told. subst (λ f. IsRefused f text) (ap (λ r. error_or r fault) (sym is ∙ told)) refused,
+reported_of result fault text is refused other = (
+  λ reported. subst (λ f. IsRefused f text) (ap (λ r. error_or r fault) (sym is ∙ reported)) refused,
   λ same. is ∙ ap Err (one_reason fault other text refused same),
 )

@@ -113,13 +113,13 @@ name_once (label ∷ labels) (other ∷ others) text are others_are one two =
 
 -- an octet that needs a backslash isn't a digit
 letters : (octet : ℕ) → is_quoted octet ≡ true → is_ascii_digit octet ≡ false
-letters octet told = search rules
+letters octet reported = search rules
 
 by_case : (octet : ℕ) (a b : Bool) → is_quoted octet ≡ a → is_ascii_graphic octet ≡ b → octet < 256
     → SpellsOctet octet (if a then 92 ∷ octet ∷ [] else (if b then octet ∷ [] else 92 ∷ three_digits octet))
-by_case octet true b told seen few = SpellsOctet.quoted (letters octet told)
-by_case octet false true told seen few = SpellsOctet.plain told seen
-by_case octet false false told seen few = SpellsOctet.numbered few
+by_case octet true b reported seen few = SpellsOctet.quoted (letters octet reported)
+by_case octet false true reported seen few = SpellsOctet.plain reported seen
+by_case octet false false reported seen few = SpellsOctet.numbered few
 
 octet_spelled : (octet : ℕ) → octet < 256 → SpellsOctet octet (octet_text octet)
 octet_spelled octet few = by_case octet (is_quoted octet) (is_ascii_graphic octet) refl refl few

@@ -142,11 +142,11 @@ wrong_or_short limit FromLabelsError.Short labels is = inr (refl, is.0, is.1, is
 wrong_or_short limit FromLabelsError.Memory labels is = inl is
 
 -- a label was wrong
-pub wrong_told : {T : Type 0} (result : Result T FromLabelsError) (limit : Option ℕ) (fault : FromLabelsError)
+pub wrong_reported : {T : Type 0} (result : Result T FromLabelsError) (limit : Option ℕ) (fault : FromLabelsError)
     (labels : List (List ℕ)) → result ≡ Err fault → HasWrong fault labels
     → (other : FromLabelsError) → other ≢ FromLabelsError.Memory → IsErrOf result other ↔ AreUnfit limit other labels
-wrong_told result limit fault labels is wrong other no_memory = (
-  λ told. subst (λ f. AreUnfit limit f labels) (ap (λ r. error_or r fault) (sym is ∙ told))
+wrong_reported result limit fault labels is wrong other no_memory = (
+  λ reported. subst (λ f. AreUnfit limit f labels) (ap (λ r. error_or r fault) (sym is ∙ reported))
       (unfit limit fault labels wrong),
   λ refused. back (wrong_or_short limit other labels refused),
 )
@@ -157,12 +157,12 @@ wrong_told result limit fault labels is wrong other no_memory = (
     back (inr short) = absurd (all_right fault labels wrong short.1 short.2)
 
 -- the name passed the limit
-pub short_told : {T : Type 0} (result : Result T FromLabelsError) (limit : Option ℕ) (labels : List (List ℕ))
+pub short_reported : {T : Type 0} (result : Result T FromLabelsError) (limit : Option ℕ) (labels : List (List ℕ))
     → result ≡ Err FromLabelsError.Short → AreLabels labels → wire_length labels ≤ 255
     → IsPast limit (wire_length labels)
     → (other : FromLabelsError) → other ≢ FromLabelsError.Memory → IsErrOf result other ↔ AreUnfit limit other labels
-short_told result limit labels is are short past other no_memory = (
-  λ told. subst (λ f. AreUnfit limit f labels) (ap (λ r. error_or r FromLabelsError.Short) (sym is ∙ told))
+short_reported result limit labels is are short past other no_memory = (
+  λ reported. subst (λ f. AreUnfit limit f labels) (ap (λ r. error_or r FromLabelsError.Short) (sym is ∙ reported))
       (are, short, past),
   λ refused. back (wrong_or_short limit other labels refused),
 )
@@ -173,12 +173,12 @@ short_told result limit labels is are short past other no_memory = (
     back (inr also) = is ∙ ap Err (sym also.0)
 
 -- nothing was wrong, except that memory was refused
-pub fit_told : {T : Type 0} (result : Result T FromLabelsError) (limit : Option ℕ) (labels : List (List ℕ))
+pub fit_reported : {T : Type 0} (result : Result T FromLabelsError) (limit : Option ℕ) (labels : List (List ℕ))
     → ((other : FromLabelsError) → IsErrOf result other → other ≡ FromLabelsError.Memory) → AreLabels labels
     → wire_length labels ≤ 255 → ¬ IsPast limit (wire_length labels)
     → (other : FromLabelsError) → other ≢ FromLabelsError.Memory → IsErrOf result other ↔ AreUnfit limit other labels
-fit_told result limit labels only are short room other no_memory =
-    (λ told. absurd (no_memory (only other told)), λ refused. back (wrong_or_short limit other labels refused))
+fit_reported result limit labels only are short room other no_memory =
+    (λ reported. absurd (no_memory (only other reported)), λ refused. back (wrong_or_short limit other labels refused))
   where
     back : HasWrong other labels ⊎ ((other ≡ FromLabelsError.Short) × AreLabels labels × (wire_length labels ≤ 255)
         × IsPast limit (wire_length labels)) → IsErrOf result other

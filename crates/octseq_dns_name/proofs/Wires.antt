@@ -7,7 +7,7 @@ use Rattle.octseq.specs.Window.{Window, past, rest, whole}
 use Rattle.octseq.proofs.Codes.{rest_whole}
 use Rattle.octseq.proofs.Limits.{past_more}
 use Rattle.octseq_dns_name.specs.Name.{IsName, wire_length}
-use Rattle.octseq_dns_name.specs.NameFormat.{bodies, wire_stands}
+use Rattle.octseq_dns_name.specs.NameFormat.{bodies, wire_has_labels}
 use Rattle.octseq_dns_name.specs.Wire.{wire, AreLabels}
 use Rattle.octseq_dns_name.proofs.Names.{wire_append}
 
@@ -33,10 +33,10 @@ pub wire_named : (octets : List ℕ) (labels : List (List ℕ)) → octets ≡ w
     → ∥ ((end : Window) × IsName (whole octets) labels end) ∥₁
 wire_named octets labels are each short =
     let all : rest (whole octets) ≡ octets = rest_whole octets in
-    let stands = wire_stands 0 (whole octets) labels [] each (all ∙ are ∙ sym (append-nil (wire labels))) in
+    let has_labels = wire_has_labels 0 (whole octets) labels [] each (all ∙ are ∙ sym (append-nil (wire labels))) in
     ∣ (
       past (length (wire labels)) (whole octets),
-      record { pointers = 0; stands = stands; short = short; few = omega arith },
+      record { pointers = 0; has_labels = has_labels; short = short; few = omega arith },
     ) ∣₁
 
 -- ---- the writer

@@ -11,7 +11,7 @@ octet w = be (next 1 w)
 pub record HasRoot (w v : Window) : Type 0 where
   pub room : 1 ≤ left w
   pub zero : octet w ≡ 0
-  pub behind : v ≡ past 1 w
+  pub after : v ≡ past 1 w
 
 -- A label: an octet of 1 to 63, followed by that number of octets.
 pub record HasLabel (w : Window) (label : List ℕ) (v : Window) : Type 0 where
@@ -20,7 +20,7 @@ pub record HasLabel (w : Window) (label : List ℕ) (v : Window) : Type 0 where
   pub short : octet w ≤ 63
   pub whole : octet w ≤ left (past 1 w)
   pub octets : label ≡ next (octet w) (past 1 w)
-  pub behind : v ≡ past (octet w) (past 1 w)
+  pub after : v ≡ past (octet w) (past 1 w)
 
 -- A pointer: an octet of 192 or more, followed by another one. Their number less 192 * 256 is a place, counted from the
 -- first octet of the message. It is before `start`.
@@ -29,17 +29,17 @@ pub record HasPointer (start : ℕ) (w : Window) (to : ℕ) (v : Window) : Type 
   pub mark : 192 ≤ octet w
   pub place : to ≡ (octet w - 192) * 256 + octet (past 1 w)
   pub before : to < start
-  pub behind : v ≡ past 2 w
+  pub after : v ≡ past 2 w
 
 -- The labels at a window's position, the number of pointers that lead on, and the window after them. There is the root;
 -- or a label, followed by the rest; or a pointer, and the rest is where it points. Reading goes on after the first
 -- pointer. A pointer points before `start`, the place where the part of the name that has it began.
-pub data Stands : ℕ → Window → List (List ℕ) → ℕ → Window → Type 0 where
-  root : {start : ℕ} {w v : Window} → HasRoot w v → Stands start w [] 0 v
+pub data HasLabels : ℕ → Window → List (List ℕ) → ℕ → Window → Type 0 where
+  root : {start : ℕ} {w v : Window} → HasRoot w v → HasLabels start w [] 0 v
   label : {start pointers : ℕ} {w u v : Window} {l : List ℕ} {labels : List (List ℕ)}
-      → HasLabel w l u → Stands start u labels pointers v → Stands start w (l ∷ labels) pointers v
+      → HasLabel w l u → HasLabels start u labels pointers v → HasLabels start w (l ∷ labels) pointers v
   pointer : {start to pointers : ℕ} {w u v : Window} {labels : List (List ℕ)}
-      → HasPointer start w to v → Stands to (at to w) labels pointers u → Stands start w labels (suc pointers) v
+      → HasPointer start w to v → HasLabels to (at to w) labels pointers u → HasLabels start w labels (suc pointers) v
 
 -- the number of octets of labels in wire form: each after an octet of its length, and one for the root
 abbrev pub wire_length : List (List ℕ) → ℕ
@@ -50,7 +50,7 @@ wire_length (l ∷ labels) = 1 + length l + wire_length labels
 -- window after it.
 pub record IsName (w : Window) (labels : List (List ℕ)) (v : Window) : Type 0 where
   pub pointers : ℕ
-  pub stands : Stands w.position w labels pointers v
+  pub has_labels : HasLabels w.position w labels pointers v
   pub short : wire_length labels ≤ 255
   pub few : pointers ≤ 127
 

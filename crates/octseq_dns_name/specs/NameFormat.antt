@@ -9,7 +9,7 @@ use Rattle.octseq.specs.Window.{Window, left, next, rest, at, past}
 use Rattle.octseq.proofs.Behind.{front_comes_next}
 use Rattle.octseq_format.specs.Laws.{IsOne, IsOnward, IsReadBack, IsDelimited, back_of}
 use Rattle.octseq_format.specs.Rest.{window_code}
-use Rattle.octseq_dns_name.specs.Name.{Name, HasName, IsName, HasLabel, Stands, octet, wire_length}
+use Rattle.octseq_dns_name.specs.Name.{Name, HasName, IsName, HasLabel, HasLabels, octet, wire_length}
 use Rattle.octseq_dns_name.specs.OneName.{one_name}
 use Rattle.octseq_dns_name.specs.Wire.{wire, AreLabels}
 
@@ -53,57 +53,57 @@ abbrev pub IsOf : Window → Window → Type 0
 IsOf w v = (v.octets ≡ w.octets) × (v.end ≡ w.end)
 
 -- the window past labels is of the same octets, with the same end
-stands_of : (start : ℕ) (w v : Window) (labels : List (List ℕ)) (pointers : ℕ) → Stands start w labels pointers v
+has_labels_of : (start : ℕ) (w v : Window) (labels : List (List ℕ)) (pointers : ℕ) → HasLabels start w labels pointers v
     → IsOf w v
-stands_of start w v labels pointers (Stands.root has) = (ap (λ v. v.octets) has.behind, ap (λ v. v.end) has.behind)
-stands_of start w v labels pointers (Stands.label {u = u} {labels = more} has rest) =
-    let on = stands_of start u v more pointers rest in
-    (on.0 ∙ ap (λ v. v.octets) has.behind, on.1 ∙ ap (λ v. v.end) has.behind)
-stands_of start w v labels pointers (Stands.pointer has rest) =
-    (ap (λ v. v.octets) has.behind, ap (λ v. v.end) has.behind)
+has_labels_of start w v labels pointers (HasLabels.root has) = (ap (λ v. v.octets) has.after, ap (λ v. v.end) has.after)
+has_labels_of start w v labels pointers (HasLabels.label {u = u} {labels = more} has rest) =
+    let on = has_labels_of start u v more pointers rest in
+    (on.0 ∙ ap (λ v. v.octets) has.after, on.1 ∙ ap (λ v. v.end) has.after)
+has_labels_of start w v labels pointers (HasLabels.pointer has rest) =
+    (ap (λ v. v.octets) has.after, ap (λ v. v.end) has.after)
 
 -- and within that end
-stands_within : (start : ℕ) (w v : Window) (labels : List (List ℕ)) (pointers : ℕ) → Stands start w labels pointers v
+has_labels_within : (start : ℕ) (w v : Window) (labels : List (List ℕ)) (pointers : ℕ) → HasLabels start w labels pointers v
     → v.position ≤ v.end
-stands_within start w v labels pointers (Stands.root has) =
-    let position = ap (λ v. v.position) has.behind in
-    let end = ap (λ v. v.end) has.behind in
+has_labels_within start w v labels pointers (HasLabels.root has) =
+    let position = ap (λ v. v.position) has.after in
+    let end = ap (λ v. v.end) has.after in
     let room = has.room in
     omega (arith, position, end, room)
-stands_within start w v labels pointers (Stands.label {u = u} {labels = more} has rest) =
-    stands_within start u v more pointers rest
-stands_within start w v labels pointers (Stands.pointer has rest) =
-    let position = ap (λ v. v.position) has.behind in
-    let end = ap (λ v. v.end) has.behind in
+has_labels_within start w v labels pointers (HasLabels.label {u = u} {labels = more} has rest) =
+    has_labels_within start u v more pointers rest
+has_labels_within start w v labels pointers (HasLabels.pointer has rest) =
+    let position = ap (λ v. v.position) has.after in
+    let end = ap (λ v. v.end) has.after in
     let room = has.room in
     omega (arith, position, end, room)
 
 -- a name takes at least one octet
-pub stands_takes : (start : ℕ) (w v : Window) (labels : List (List ℕ)) (pointers : ℕ) → Stands start w labels pointers v
+pub has_labels_takes : (start : ℕ) (w v : Window) (labels : List (List ℕ)) (pointers : ℕ) → HasLabels start w labels pointers v
     → left v + 1 ≤ left w
-stands_takes start w v labels pointers (Stands.root has) = let room = has.room in let is = ap left has.behind in
+has_labels_takes start w v labels pointers (HasLabels.root has) = let room = has.room in let is = ap left has.after in
     omega (arith, room, is)
-stands_takes start w v labels pointers (Stands.label {u = u} {labels = more} has rest) =
+has_labels_takes start w v labels pointers (HasLabels.label {u = u} {labels = more} has rest) =
     let room = has.room in
-    let is = ap left has.behind in
-    let less = stands_takes start u v more pointers rest in
+    let is = ap left has.after in
+    let less = has_labels_takes start u v more pointers rest in
     omega (arith, room, is, less)
-stands_takes start w v labels pointers (Stands.pointer has rest) = let room = has.room in let is = ap left has.behind in
+has_labels_takes start w v labels pointers (HasLabels.pointer has rest) = let room = has.room in let is = ap left has.after in
     omega (arith, room, is)
 
 -- the window past a name is of the same octets, with the same end
 pub name_of_window : (w v : Window) (labels : List (List ℕ)) → IsName w labels v → IsOf w v
-name_of_window w v labels name = stands_of w.position w v labels name.pointers name.stands
+name_of_window w v labels name = has_labels_of w.position w v labels name.pointers name.has_labels
 
 pub onward_name : IsOnward 1 HasName
 onward_name = record {
   on = λ w name v ordered is.
       let of = name_of_window w v name.labels is.1 in
-      let within = stands_within w.position w v name.labels is.1.pointers is.1.stands in
-      let less = stands_takes w.position w v name.labels is.1.pointers is.1.stands in
+      let within = has_labels_within w.position w v name.labels is.1.pointers is.1.has_labels in
+      let less = has_labels_takes w.position w v name.labels is.1.pointers is.1.has_labels in
       let end = of.1 in
       (of.0, of.1, omega (arith, ordered, within, less, end), within);
-  less = λ w name v is. stands_takes w.position w v name.labels is.1.pointers is.1.stands;
+  less = λ w name v is. has_labels_takes w.position w v name.labels is.1.pointers is.1.has_labels;
 }
 
 -- ---- its octets
@@ -123,12 +123,12 @@ pub wire_more : (label : List ℕ) (labels : List (List ℕ))
 wire_more label labels = ap (λ l. length label ∷ l) (append_assoc label (bodies labels) (0 ∷ []))
 
 -- if the wire form of labels comes next, they are there, and what follows them is past them
-pub wire_stands : (start : ℕ) (w : Window) (labels : List (List ℕ)) (more : List ℕ) → AreLabels labels
-    → rest w ≡ wire labels ++ more → Stands start w labels 0 (past (length (wire labels)) w)
-wire_stands start w [] more are is =
+pub wire_has_labels : (start : ℕ) (w : Window) (labels : List (List ℕ)) (more : List ℕ) → AreLabels labels
+    → rest w ≡ wire labels ++ more → HasLabels start w labels 0 (past (length (wire labels)) w)
+wire_has_labels start w [] more are is =
     let root = front_comes_next w (0 ∷ []) more 1 is refl in
-    Stands.root (record { room = root.0; zero = ap be root.1 ∙ be_one 0; behind = refl })
-wire_stands start w (label ∷ labels) more are is =
+    HasLabels.root (record { room = root.0; zero = ap be root.1 ∙ be_one 0; after = refl })
+wire_has_labels start w (label ∷ labels) more are is =
     let after = wire labels ++ more in
     let all : rest w ≡ length label ∷ (label ++ after) = is ∙ ap (λ octets. octets ++ more) (wire_more label labels)
     ∙ ap (λ octets. length label ∷ octets) (append_assoc label (wire labels) more) in
@@ -145,12 +145,12 @@ wire_stands start w (label ∷ labels) more are is =
       short = omega (arith, said, short);
       whole = omega (arith, said, room);
       octets = sym (ap (λ n. next n (past 1 w)) said ∙ second.1);
-      behind = ap (λ n. past n (past 1 w)) (sym said);
+      after = ap (λ n. past n (past 1 w)) (sym said);
     } in
     let more_long = ap length (wire_more label labels) in
     let both = length-append label (wire labels) in
-    subst (Stands start w (label ∷ labels) 0) (ap (λ p. at p w) (omega (arith, more_long, both)))
-    (Stands.label has (wire_stands start u labels more are.2 second.2))
+    subst (HasLabels start w (label ∷ labels) 0) (ap (λ p. at p w) (omega (arith, more_long, both)))
+    (HasLabels.label has (wire_has_labels start u labels more are.2 second.2))
 
 pub delimited_name : IsDelimited HasName name_labels wire NameFits
 delimited_name = record {
@@ -161,7 +161,7 @@ delimited_name = record {
       refl,
       record {
         pointers = 0;
-        stands = wire_stands w.position w labels more fits.each is;
+        has_labels = wire_has_labels w.position w labels more fits.each is;
         short = fits.short;
         few = omega arith;
       },

@@ -29,7 +29,7 @@ lists_tie : (xs ys : List (List ℕ))
 lists_tie xs ys =
     one_answer (pointwise (pointwise nat_eq) xs ys) (pointwise (pointwise nat_eq) (reverse xs) (reverse ys))
     (labels_decide xs ys) (
-      λ told. reversed xs ys ((labels_decide (reverse xs) (reverse ys)).0 told),
+      λ reported. reversed xs ys ((labels_decide (reverse xs) (reverse ys)).0 reported),
       λ same. (labels_decide (reverse xs) (reverse ys)).1 (ap reverse same),
     )
     ∙ lists_ties (slice_cmp nat_cmp) texts_ties (reverse xs) (reverse ys)
@@ -51,10 +51,10 @@ writes_lower (label ∷ labels) = ap (λ more. label_writes label ++ more) (writ
 
 pub names_alike : (labels others : List (List ℕ)) → IsTrue (name_eq labels others)
     → name_writes labels ≡ name_writes others
-names_alike labels others told =
-    let same = (labels_decide (lower_labels labels) (lower_labels others)).0 told in
+names_alike labels others reported =
+    let same = (labels_decide (lower_labels labels) (lower_labels others)).0 reported in
     ap (λ writes. writes ++ label_writes []) (writes_lower labels ∙ ap (flat_map (fed.slice fed.u8)) same
     ∙ sym (writes_lower others))
 
 pub labels_alike : (label other : List ℕ) → IsTrue (label_eq label other) → label_writes label ≡ label_writes other
-labels_alike label other told = ap (fed.slice fed.u8) ((bytes_decides (lower_label label) (lower_label other)).0 told)
+labels_alike label other reported = ap (fed.slice fed.u8) ((bytes_decides (lower_label label) (lower_label other)).0 reported)

@@ -1,7 +1,7 @@
 -- What was passed of a name: the labels and pointers that were read, and what follows them.
 use Rattle.std.specs.Prelude.{◌≡◌, ℕ, ◌+◌, ◌-◌, ◌*◌, ◌<◌, ◌≤◌, List, ◌++◌, length, slice_index, Option, None}
 use Rattle.octseq.specs.Window.{Window, at}
-use Rattle.octseq_dns_name.specs.Name.{IsName, Stands, octet, wire_length}
+use Rattle.octseq_dns_name.specs.Name.{IsName, HasLabels, octet, wire_length}
 use Rattle.octseq_dns_name.specs.NameTurns.{name_turns}
 use Rattle.octseq_dns_name.specs.Piece.{end_of}
 
@@ -18,31 +18,31 @@ abbrev pub NoName : Window → Type 0
 NoName w = (labels : List (List ℕ)) (end : Window) → IsName w labels end → ⊥
 
 -- A name at a first window is these labels and pointers, followed by what is at a second one.
-pub record GoesOn (start : ℕ) (v : Window) (labels : List (List ℕ)) (pointers : ℕ) (behind : Option Window)
+pub record GoesOn (start : ℕ) (v : Window) (labels : List (List ℕ)) (pointers : ℕ) (after : Option Window)
     (all : List (List ℕ)) (count : ℕ) (x : Window) : Type 0 where
   pub more : List (List ℕ)
   pub fewer : ℕ
   pub u : Window
-  pub stands : Stands start v more fewer u
+  pub has_labels : HasLabels start v more fewer u
   pub labels_are : all ≡ labels ++ more
   pub pointers_are : count ≡ pointers + fewer
-  pub end_is : x ≡ end_of behind u
+  pub end_is : x ≡ end_of after u
 
 -- These labels and pointers lead from a first window to a second one: a name is at the first if and only if the rest of
 -- it is at the second.
 pub record LeadsTo (first : ℕ) (w : Window) (start : ℕ) (v : Window) (labels : List (List ℕ)) (pointers : ℕ)
-    (behind : Option Window) : Type 0 where
-  pub forward : (more : List (List ℕ)) (fewer : ℕ) (u : Window) → Stands start v more fewer u
-      → Stands first w (labels ++ more) (pointers + fewer) (end_of behind u)
-  pub backward : (all : List (List ℕ)) (count : ℕ) (x : Window) → Stands first w all count x
-      → GoesOn start v labels pointers behind all count x
+    (after : Option Window) : Type 0 where
+  pub forward : (more : List (List ℕ)) (fewer : ℕ) (u : Window) → HasLabels start v more fewer u
+      → HasLabels first w (labels ++ more) (pointers + fewer) (end_of after u)
+  pub backward : (all : List (List ℕ)) (count : ℕ) (x : Window) → HasLabels first w all count x
+      → GoesOn start v labels pointers after all count x
 
 -- What was read so far of the name at a window: its labels, their wire length, and the number of pointers. There was a
 -- turn for each.
-pub record Reading (w : Window) (start : ℕ) (v : Window) (size pointers : ℕ) (behind : Option Window) (old new : ℕ)
+pub record Reading (w : Window) (start : ℕ) (v : Window) (size pointers : ℕ) (after : Option Window) (old new : ℕ)
     : Type 0 where
   pub labels : List (List ℕ)
-  pub read : LeadsTo w.position w start v labels pointers behind
+  pub read : LeadsTo w.position w start v labels pointers after
   pub size_is : size ≡ wire_length labels
   pub counted : new ≡ old + (length labels + pointers)
 
@@ -61,7 +61,7 @@ pub record Rests (w : Window) (before len old new : ℕ) : Type 0 where
   pub labels : List (List ℕ)
   pub pointers : ℕ
   pub end : Window
-  pub stands : Stands w.position w labels pointers end
+  pub has_labels : HasLabels w.position w labels pointers end
   pub size : len + 1 ≡ before + wire_length labels
   pub short : len ≤ 255
   pub few : pointers ≤ 126
@@ -69,7 +69,7 @@ pub record Rests (w : Window) (before len old new : ℕ) : Type 0 where
 
 -- no rest of a name is at a window's position
 abbrev pub NoRest : Window → ℕ → Type 0
-NoRest w before = (labels : List (List ℕ)) (pointers : ℕ) (end : Window) → Stands w.position w labels pointers end
+NoRest w before = (labels : List (List ℕ)) (pointers : ℕ) (end : Window) → HasLabels w.position w labels pointers end
     → before + wire_length labels ≤ 256 → pointers ≤ 126 → ⊥
 
 -- The name at a window's position ends at `place`, and has `len` octets in wire form. A count rose by its turns.

@@ -75,7 +75,7 @@ sound_on onward w a v sound is =
 -- nothing follows if the encoding isn't known to be unique
 pub not_one_way : {A S : Type 0} {Is : Relation A} {says : A → S} {octets : S → List ℕ} {Fits : S → Type 0}
     → IsTrue false → IsCanonical Is says octets Fits
-not_one_way told = absurd (true≢false (sym told))
+not_one_way reported = absurd (true≢false (sym reported))
 
 pub both_ways : (a b : Bool) → IsTrue (a && b) → IsTrue a × IsTrue b
 both_ways true b both = (refl, both)

@@ -56,9 +56,9 @@ module _ {A : Type 0} {k : ℕ} {reading : List ℕ → A} {octets : A → List 
   canonical_fixed are = record {
     once = are.once;
     written = λ w a v sound is.
-        let told = are.written (next k w) (many_next k w sound is.0) (each_next k w sound) in (
-          subst Fits (sym is.1) told.0,
-          sym (next_and_rest w k is.0) ∙ ap (λ o. o ++ rest (past k w)) (sym told.1 ∙ ap octets (sym is.1))
+        let reported = are.written (next k w) (many_next k w sound is.0) (each_next k w sound) in (
+          subst Fits (sym is.1) reported.0,
+          sym (next_and_rest w k is.0) ∙ ap (λ o. o ++ rest (past k w)) (sym reported.1 ∙ ap octets (sym is.1))
               ∙ ap (λ v. octets a ++ rest v) (sym is.2),
         );
     on = sound_on (onward_fixed k reading);

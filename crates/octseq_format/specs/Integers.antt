@@ -68,9 +68,9 @@ are_signed k {reading} {octets} are = record {
       ap (signed k) (are.back (unsigned k z) sum.0) ∙ sum.1;
   once = signed_once k;
   written = λ xs many each.
-      let told = are.written xs many each in
-      let sum = signed_written k (reading xs) told.0 in
-      (sum.0, ap octets sum.1 ∙ told.1);
+      let reported = are.written xs many each in
+      let sum = signed_written k (reading xs) reported.0 in
+      (sum.0, ap octets sum.1 ∙ reported.1);
 }
 
 -- unsigned integers of k octets

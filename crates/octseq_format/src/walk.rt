@@ -129,7 +129,7 @@ impl<R: AsOctets + Copy, F: Format<R>> Iterator for Walk<R, F> {
                 };
                 Some(item)
             }
-            Err(_) => None,
+            Err(_) => unreachable!(),
         }
     }
 }

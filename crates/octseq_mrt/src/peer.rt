@@ -111,7 +111,7 @@ impl<R: AsOctets + Copy> Iterator for Peers<R> {
                 *self = Peers { parser };
                 Some(peer)
             }
-            Err(_) => None,
+            Err(_) => unreachable!(),
         }
     }
 }

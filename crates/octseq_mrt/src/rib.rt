@@ -147,7 +147,7 @@ impl<R: AsOctets + Copy> Iterator for RibEntries<R> {
                     attributes,
                 })
             }
-            Err(_) => None,
+            Err(_) => unreachable!(),
         }
     }
 }

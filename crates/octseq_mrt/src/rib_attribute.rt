@@ -116,7 +116,7 @@ impl<R: AsOctets + Copy> Iterator for RibAttributes<R> {
                 *self = RibAttributes { parser };
                 Some(attribute)
             }
-            Err(_) => None,
+            Err(_) => unreachable!(),
         }
     }
 }

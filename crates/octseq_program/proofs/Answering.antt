@@ -37,8 +37,8 @@ front_nil octets = (octets, refl)
 module _ {C : Type 0} (out : C → List ℕ → List ℕ → List ℕ → Status → Type 0) (help : List ℕ)
     (given before after noted : Option (List ℕ)) where
   -- the help text was written
-  pub told_help : Appends before after help → Answers (Writes out help Help) given before after noted noted Fine
-  told_help written = record {
+  pub reported_help : Appends before after help → Answers (Writes out help Help) given before after noted noted Fine
+  reported_help written = record {
     input = unwrap_or given [];
     whole = known given;
     output = help;
@@ -49,8 +49,8 @@ module _ {C : Type 0} (out : C → List ℕ → List ℕ → List ℕ → Status
   }
 
   -- the help text was written to standard error
-  pub told_usage : Appends before after help → Answers (Writes out help Unknown) given noted noted before after Usage
-  told_usage written = record {
+  pub reported_usage : Appends before after help → Answers (Writes out help Unknown) given noted noted before after Usage
+  reported_usage written = record {
     input = unwrap_or given [];
     whole = known given;
     output = [];

@@ -44,14 +44,14 @@ module _ (IsPiece : Makes) where
         ap (λ l. l ++ note) n ∙ sym (append-nil note),
       )
   pieces_more number (m ∷ frames) all output errors octets is_fine written note
-      (b, first, told, others, more, notes, is, rest, e, o, n) piece =
+      (b, first, reported, others, more, notes, is, rest, e, o, n) piece =
       let on : number + length (m ∷ frames) ≡ number + 1 + length frames = omega arith in
       let after =
       pieces_more (number + 1) frames others more notes octets is_fine written note rest
       (subst (λ k. IsPiece k octets is_fine written note) on piece) in (
         b,
         first,
-        told,
+        reported,
         others && is_fine,
         more ++ written,
         notes ++ note,
@@ -59,7 +59,7 @@ module _ (IsPiece : Makes) where
         after,
         ap (λ all. all && is_fine) e ∙ sym (both_assoc b others is_fine),
         ap (λ l. l ++ written) o ∙ append_assoc first more written,
-        ap (λ l. l ++ note) n ∙ append_assoc told notes note,
+        ap (λ l. l ++ note) n ∙ append_assoc reported notes note,
       )
 
   module _ (one_piece : IsOne IsPiece) where
@@ -68,9 +68,9 @@ module _ (IsPiece : Makes) where
         (output errors all notes : List ℕ)
         → HavePieces IsPiece number frames a output errors
         → HavePieces IsPiece number (frames ++ others) b all notes
-        → (c : Bool) × (more : List ℕ) × (told : List ℕ)
-        × HavePieces IsPiece (number + length frames) others c more told
-        × (all ≡ output ++ more) × (notes ≡ errors ++ told)
+        → (c : Bool) × (more : List ℕ) × (reported : List ℕ)
+        × HavePieces IsPiece (number + length frames) others c more reported
+        × (all ≡ output ++ more) × (notes ≡ errors ++ reported)
     pieces_split number [] others a b output errors all notes (e, o, n) pieces =
         let here : number ≡ number + 0 = omega arith in (
           b,
@@ -81,9 +81,9 @@ module _ (IsPiece : Makes) where
           ap (λ l. l ++ notes) (sym n),
         )
     pieces_split number (m ∷ frames) others a b output errors all notes
-        (x, first, note, xs, rest, told, is, has, e, o, n) (y, one, line, ys, more, lines, it, also, f, p, q) =
+        (x, first, note, xs, rest, reported, is, has, e, o, n) (y, one, line, ys, more, lines, it, also, f, p, q) =
         let same = one_piece number m first one note line x y is it in
-        let split = pieces_split (number + 1) frames others xs ys rest told more lines has also in
+        let split = pieces_split (number + 1) frames others xs ys rest reported more lines has also in
         let on : number + 1 + length frames ≡ number + length (m ∷ frames) = omega arith in (
           split.0,
           split.1,
@@ -92,7 +92,7 @@ module _ (IsPiece : Makes) where
           p ∙ ap (λ l. l ++ more) (sym same.1) ∙ ap (λ l. first ++ l) split.4
               ∙ sym (append_assoc first rest split.1) ∙ ap (λ l. l ++ split.1) (sym o),
           q ∙ ap (λ l. l ++ lines) (sym same.2) ∙ ap (λ l. note ++ l) split.5
-              ∙ sym (append_assoc note told split.2) ∙ ap (λ l. l ++ split.2) (sym n),
+              ∙ sym (append_assoc note reported split.2) ∙ ap (λ l. l ++ split.2) (sym n),
         )
 
     -- a list of frames has one output
@@ -101,10 +101,10 @@ module _ (IsPiece : Makes) where
         → (a ≡ b) × (output ≡ all) × (errors ≡ notes)
     one_pieces number [] a b output errors all notes (e, o, n) (f, p, q) = (e ∙ sym f, o ∙ sym p, n ∙ sym q)
     one_pieces number (m ∷ frames) a b output errors all notes
-        (x, first, note, xs, rest, told, is, has, e, o, n) (y, one, line, ys, more, lines, it, also, f, p, q) =
+        (x, first, note, xs, rest, reported, is, has, e, o, n) (y, one, line, ys, more, lines, it, also, f, p, q) =
         let same = one_piece number m first one note line x y is it in
-        let after = one_pieces (number + 1) frames xs ys rest told more lines has also in (
+        let after = one_pieces (number + 1) frames xs ys rest reported more lines has also in (
           e ∙ ap (λ x. x && xs) same.0 ∙ ap (λ xs. y && xs) after.0 ∙ sym f,
           o ∙ ap (λ l. l ++ rest) same.1 ∙ ap (λ l. one ++ l) after.1 ∙ sym p,
-          n ∙ ap (λ l. l ++ told) same.2 ∙ ap (λ l. line ++ l) after.2 ∙ sym q,
+          n ∙ ap (λ l. l ++ reported) same.2 ∙ ap (λ l. line ++ l) after.2 ∙ sym q,
         )

@@ -40,13 +40,13 @@ front_all octets = ([], sym (append-nil octets))
 
 -- For an input that was read whole, fronts of its output were written.
 pub broke_whole : (out : List ℕ → List ℕ → List ℕ → Status → Type 0)
-    (given left before after noted told : Option (List ℕ)) (input output errors : List ℕ)
+    (given left before after noted reported : Option (List ℕ)) (input output errors : List ℕ)
     → Consumes given left input → IsAtEnd left
     → ((all notes : List ℕ) (status : Status) → out input all notes status → (all ≡ output) × (notes ≡ errors))
     → ((front : List ℕ) × (line : List ℕ) × IsFront front output × IsFront line errors × Appends before after front
-    × Appends noted told line)
-    → BreaksOff out given left before after noted told
-broke_whole out given left before after noted told input output errors consumed end only
+    × Appends noted reported line)
+    → BreaksOff out given left before after noted reported
+broke_whole out given left before after noted reported input output errors consumed end only
     (front, line, is, it, more, lines) =
     record {
       read = input;
@@ -57,8 +57,8 @@ broke_whole out given left before after noted told input output errors consumed 
       errors = line;
       written = more;
       noted = lines;
-      fronts = λ behind all notes status nothing is_out.
-          let none : input ++ behind ≡ input = ap (λ l. input ++ l) (nothing refl) ∙ append-nil input in
+      fronts = λ later all notes status nothing is_out.
+          let none : input ++ later ≡ input = ap (λ l. input ++ l) (nothing refl) ∙ append-nil input in
           let same = only all notes status (subst (λ input. out input all notes status) none is_out) in
           (subst (IsFront front) (sym same.0) is, subst (IsFront line) (sym same.1) it);
     }
@@ -74,7 +74,7 @@ one_whole Is one input x y e f s t p q =
 
 module _ (Fits : List ℕ → Type 0) (code : List ℕ → List ℕ) (IsPiece IsEnd : Makes) where
   -- Of what was read, these frames were processed, and what was made of them was written.
-  pub record IsTakenSo (given left before now noted told : Option (List ℕ)) (count : ℕ) (all : Bool) : Type 0 where
+  pub record IsTakenSo (given left before now noted reported : Option (List ℕ)) (count : ℕ) (all : Bool) : Type 0 where
     pub frames : List (List ℕ)
     pub fit : AllByRecursion Fits frames
     pub many : length frames ≡ count
@@ -83,7 +83,7 @@ module _ (Fits : List ℕ → Type 0) (code : List ℕ → List ℕ) (IsPiece Is
     pub errors : List ℕ
     pub pieces : HavePieces IsPiece 1 frames all output errors
     pub written : Appends before now output
-    pub lines : Appends noted told errors
+    pub lines : Appends noted reported errors
 
   -- nothing was read
   pub taken_none : (given before noted : Option (List ℕ)) → IsTakenSo given given before before noted noted 0 true
@@ -99,12 +99,12 @@ module _ (Fits : List ℕ → Type 0) (code : List ℕ → List ℕ) (IsPiece Is
     lines = appends_none noted;
   }
 
-  module _ (given left before now noted told : Option (List ℕ)) (count : ℕ) (all : Bool)
-      (so_far : IsTakenSo given left before now noted told count all) where
+  module _ (given left before now noted reported : Option (List ℕ)) (count : ℕ) (all : Bool)
+      (so_far : IsTakenSo given left before now noted reported count all) where
     -- one more frame
     pub taken_more : (rest after line : Option (List ℕ)) (is_fine : Bool) (octets written note : List ℕ)
         → Fits octets → Consumes left rest (code octets) → IsPiece (count + 1) octets is_fine written note
-        → Appends now after written → Appends told line note
+        → Appends now after written → Appends reported line note
         → IsTakenSo given rest before after noted line (count + 1) (all && is_fine)
     taken_more rest after line is_fine octets written note fits read piece more lines =
         let number : count + 1 ≡ 1 + length so_far.frames = let many = so_far.many in omega arith in
@@ -120,7 +120,7 @@ module _ (Fits : List ℕ → Type 0) (code : List ℕ → List ℕ) (IsPiece Is
               pieces_more IsPiece 1 so_far.frames all so_far.output so_far.errors octets is_fine written note
               so_far.pieces (subst (λ n. IsPiece n octets is_fine written note) number piece);
           written = Appends-trans before now after so_far.output written so_far.written more;
-          lines = Appends-trans noted told line so_far.errors note so_far.lines lines;
+          lines = Appends-trans noted reported line so_far.errors note so_far.lines lines;
         }
 
     -- what is made of a stream of these frames and a rest
@@ -150,7 +150,7 @@ module _ (Fits : List ℕ → Type 0) (code : List ℕ → List ℕ) (IsPiece Is
     -- the stream was processed to its end
     pub taken_all : (after after_end line : Option (List ℕ)) (rest : List ℕ) (is_fine : Bool) (ending note : List ℕ)
         (status : Status) → Consumes left after rest → IsAtEnd after → IsEnd (count + 1) rest is_fine ending note
-        → Appends now after_end ending → Appends told line note → status ≡ ends_as (all && is_fine)
+        → Appends now after_end ending → Appends reported line note → status ≡ ends_as (all && is_fine)
         → Answers (IsStreamOut Fits code IsPiece IsEnd) given before after_end noted line status
     taken_all after after_end line rest is_fine ending note status read end ends more lines is =
         let input = flat_map code so_far.frames ++ rest in
@@ -163,7 +163,7 @@ module _ (Fits : List ℕ → Type 0) (code : List ℕ → List ℕ) (IsPiece Is
           answered = subst (IsStreamOut Fits code IsPiece IsEnd input (so_far.output ++ ending) (so_far.errors ++ note))
               (sym is) (stream_out rest is_fine ending note ends);
           written = Appends-trans before now after_end so_far.output ending so_far.written more;
-          noted = Appends-trans noted told line so_far.errors note so_far.lines lines;
+          noted = Appends-trans noted reported line so_far.errors note so_far.lines lines;
         }
 
   -- by the laws
@@ -191,13 +191,13 @@ module _ (Fits : List ℕ → Type 0) (code : List ℕ → List ℕ) (IsPiece Is
         )
 
     -- what is made of frames at the front of a stream comes first
-    fronts_read : (frames : List (List ℕ)) (a : Bool) (output errors behind all notes : List ℕ) (status : Status)
+    fronts_read : (frames : List (List ℕ)) (a : Bool) (output errors later all notes : List ℕ) (status : Status)
         → AllByRecursion Fits frames → HavePieces IsPiece 1 frames a output errors
-        → IsStreamOut Fits code IsPiece IsEnd (flat_map code frames ++ behind) all notes status
+        → IsStreamOut Fits code IsPiece IsEnd (flat_map code frames ++ later) all notes status
         → IsFront output all × IsFront errors notes
-    fronts_read frames a output errors behind all notes status fit pieces out =
+    fronts_read frames a output errors later all notes status fit pieces out =
         let none_out = none (1 + length out.frames) out.rest out.ending out.note out.is_fine out.ends in
-        let begins = begins_with Fits code apart frames out.frames behind out.rest fit out.fit none_out out.whole in
+        let begins = begins_with Fits code apart frames out.frames later out.rest fit out.fit none_out out.whole in
         let split =
         pieces_split IsPiece one_piece 1 frames begins.0 a out.all output errors out.text out.notes pieces
         (subst (λ frames. HavePieces IsPiece 1 frames out.all out.text out.notes) begins.1 out.pieces) in (
@@ -206,17 +206,17 @@ module _ (Fits : List ℕ → Type 0) (code : List ℕ → List ℕ) (IsPiece Is
         )
 
     -- a front of what can be made of the next frame follows it
-    fronts_next : (frames : List (List ℕ)) (octets : List ℕ) (a : Bool) (output errors behind front told : List ℕ)
+    fronts_next : (frames : List (List ℕ)) (octets : List ℕ) (a : Bool) (output errors later front reported : List ℕ)
         (all notes : List ℕ) (status : Status)
         → AllByRecursion Fits frames → Fits octets → HavePieces IsPiece 1 frames a output errors
         → ((is_fine : Bool) (written note : List ℕ) → IsPiece (1 + length frames) octets is_fine written note
-        → IsFront front written × IsFront told note)
-        → IsStreamOut Fits code IsPiece IsEnd (flat_map code (frames ++ octets ∷ []) ++ behind) all notes status
-        → IsFront (output ++ front) all × IsFront (errors ++ told) notes
-    fronts_next frames octets a output errors behind front told all notes status fit fits pieces next out =
+        → IsFront front written × IsFront reported note)
+        → IsStreamOut Fits code IsPiece IsEnd (flat_map code (frames ++ octets ∷ []) ++ later) all notes status
+        → IsFront (output ++ front) all × IsFront (errors ++ reported) notes
+    fronts_next frames octets a output errors later front reported all notes status fit fits pieces next out =
         let none_out = none (1 + length out.frames) out.rest out.ending out.note out.is_fine out.ends in
         let begins =
-        begins_with Fits code apart (frames ++ octets ∷ []) out.frames behind out.rest
+        begins_with Fits code apart (frames ++ octets ∷ []) out.frames later out.rest
         (each_snoc Fits frames octets fit fits) out.fit none_out out.whole in
         let are : out.frames ≡ frames ++ (octets ∷ begins.0) =
         begins.1 ∙ append_assoc frames (octets ∷ []) begins.0 in
@@ -227,17 +227,17 @@ module _ (Fits : List ℕ → Type 0) (code : List ℕ → List ℕ) (IsPiece Is
         let both = next piece.0 piece.1 piece.2 piece.6 in
         let shown = front_after output front split.1 out.text split.4
         (front_of front piece.1 piece.4 split.1 piece.9 both.0) in
-        let noted = front_after errors told split.2 out.notes split.5
-        (front_of told piece.2 piece.5 split.2 piece.10 both.1) in (
+        let noted = front_after errors reported split.2 out.notes split.5
+        (front_of reported piece.2 piece.5 split.2 piece.10 both.1) in (
           front_of (output ++ front) out.text out.ending all out.written shown,
-          front_of (errors ++ told) out.notes out.note notes out.noted noted,
+          front_of (errors ++ reported) out.notes out.note notes out.noted noted,
         )
 
-    module _ (given left rest before now noted told : Option (List ℕ)) (count : ℕ) (all : Bool)
-        (so_far : IsTakenSo given left before now noted told count all) where
+    module _ (given left rest before now noted reported : Option (List ℕ)) (count : ℕ) (all : Bool)
+        (so_far : IsTakenSo given left before now noted reported count all) where
       -- reading failed, and nothing more was written
       pub stopped_reading : ((read : List ℕ) × Consumes left rest read)
-          → BreaksOff (IsStreamOut Fits code IsPiece IsEnd) given rest before now noted told
+          → BreaksOff (IsStreamOut Fits code IsPiece IsEnd) given rest before now noted reported
       stopped_reading lost = record {
         read = flat_map code so_far.frames ++ lost.0;
         consumed =
@@ -260,7 +260,7 @@ module _ (Fits : List ℕ → Type 0) (code : List ℕ → List ℕ) (IsPiece Is
           → Consumes left rest (code octets)
           → ((is_fine : Bool) (written lines : List ℕ) → IsPiece (count + 1) octets is_fine written lines
           → IsFront front written × IsFront note lines)
-          → Appends now after front → Appends told line note
+          → Appends now after front → Appends reported line note
           → BreaksOff (IsStreamOut Fits code IsPiece IsEnd) given rest before after noted line
       stopped_writing after line octets front note fits lost next more lines =
           let number : 1 + length so_far.frames ≡ count + 1 = let many = so_far.many in omega arith in
@@ -274,9 +274,9 @@ module _ (Fits : List ℕ → Type 0) (code : List ℕ → List ℕ) (IsPiece Is
             output = so_far.output ++ front;
             errors = so_far.errors ++ note;
             written = Appends-trans before now after so_far.output front so_far.written more;
-            noted = Appends-trans noted told line so_far.errors note so_far.lines lines;
-            fronts = λ behind output notes status nothing is_out.
-                fronts_next so_far.frames octets all so_far.output so_far.errors behind front note output notes status
+            noted = Appends-trans noted reported line so_far.errors note so_far.lines lines;
+            fronts = λ later output notes status nothing is_out.
+                fronts_next so_far.frames octets all so_far.output so_far.errors later front note output notes status
                 so_far.fit fits so_far.pieces
                 (λ is_fine written lines piece. next is_fine written lines
                 (subst (λ n. IsPiece n octets is_fine written lines) number piece)) is_out;
@@ -284,13 +284,13 @@ module _ (Fits : List ℕ → Type 0) (code : List ℕ → List ℕ) (IsPiece Is
 
       -- what is made of the rest was written in part
       pub stopped_ending : (after line : Option (List ℕ)) (octets : List ℕ) (is_fine : Bool)
-          (ending note front told_front : List ℕ)
+          (ending note front reported_front : List ℕ)
           → Consumes left rest octets → IsAtEnd rest → IsEnd (count + 1) octets is_fine ending note
-          → IsFront front ending → IsFront told_front note → Appends now after front → Appends told line told_front
+          → IsFront front ending → IsFront reported_front note → Appends now after front → Appends reported line reported_front
           → BreaksOff (IsStreamOut Fits code IsPiece IsEnd) given rest before after noted line
-      stopped_ending after line octets is_fine ending note front told_front lost end ends is it more lines =
+      stopped_ending after line octets is_fine ending note front reported_front lost end ends is it more lines =
           let input = flat_map code so_far.frames ++ octets in
-          let known = stream_out given left before now noted told count all so_far octets is_fine ending note ends in
+          let known = stream_out given left before now noted reported count all so_far octets is_fine ending note ends in
           broke_whole (IsStreamOut Fits code IsPiece IsEnd) given rest before after noted line input
           (so_far.output ++ ending) (so_far.errors ++ note)
           (Consumes-trans given left rest (flat_map code so_far.frames) octets so_far.consumed lost) end
@@ -299,9 +299,9 @@ module _ (Fits : List ℕ → Type 0) (code : List ℕ → List ℕ) (IsPiece Is
           (ends_as (all && is_fine)) is_out known in
           (same.0, same.1)) (
             so_far.output ++ front,
-            so_far.errors ++ told_front,
+            so_far.errors ++ reported_front,
             front_after so_far.output front ending (so_far.output ++ ending) refl is,
-            front_after so_far.errors told_front note (so_far.errors ++ note) refl it,
+            front_after so_far.errors reported_front note (so_far.errors ++ note) refl it,
             Appends-trans before now after so_far.output front so_far.written more,
-            Appends-trans noted told line so_far.errors told_front so_far.lines lines,
+            Appends-trans noted reported line so_far.errors reported_front so_far.lines lines,
           )

@@ -47,7 +47,7 @@ module _ (p s r : List ℕ) (b : IsBadPart (p ++ s) p) (settled : ¬ (IsBeginnin
       → (fitting (p ++ (s ++ r)) ≤ length p) ⊎ (length p < fitting (p ++ (s ++ r))) → fitting (p ++ (s ++ r)) ≤ length p
   no_longer g here wide (inl h) = h
   no_longer g here wide (inr h) =
-      let behind : 1 ≤ length s = nil_or_some s (λ e. settled (g, e)) in
+      let after : 1 ≤ length s = nil_or_some s (λ e. settled (g, e)) in
       let all = fitting_fits (p ++ (s ++ r)) (omega (arith, length-append p (s ++ r), some)) wide in
       let one = fits_fewer (p ++ (s ++ r)) (length p + 1) (fitting (p ++ (s ++ r))) (omega arith) (omega arith) all in
       let left = fits_less (p ++ s) r (length p + 1) (omega (arith, length-append p s))

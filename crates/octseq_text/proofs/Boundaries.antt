@@ -50,11 +50,11 @@ within_at [] h i y lt = absurd (omega arith)
 within_at (b ∷ more) h zero y lt = h.0
 within_at (b ∷ more) h (suc i) y lt = within_at more h.1 i y (omega arith)
 
-within_behind : (first : ℕ) (more : List ℕ) → AllByRecursion (λ b. is_in_range 0x80 0xBF b ≡ true) more
+within_after : (first : ℕ) (more : List ℕ) → AllByRecursion (λ b. is_in_range 0x80 0xBF b ≡ true) more
     → (n : ℕ) (y : List ℕ) → 0 < n → n < length (first ∷ more)
     → begins_within (drop n (first ∷ more) ++ y) ≡ true
-within_behind first more h zero y some lt = absurd (omega arith)
-within_behind first more h (suc i) y some lt = within_at more h i y (omega arith)
+within_after first more h zero y some lt = absurd (omega arith)
+within_after first more h (suc i) y some lt = within_at more h i y (omega arith)
 
 within_encoding : {e : List ℕ} → IsEncoding e → (n : ℕ) (y : List ℕ) → 0 < n → n < length e
     → begins_within (drop n (e ++ y)) ≡ true
@@ -62,7 +62,7 @@ within_encoding {e} p n y some lt =
     let l = led p in
     let long : length e ≡ length (l.first ∷ l.more) = ap length l.whole in
     ap begins_within (drop-append-le n e y (omega arith)) ∙ ap (λ z. begins_within (drop n z ++ y)) l.whole
-    ∙ within_behind l.first l.more l.within n y some (omega arith)
+    ∙ within_after l.first l.more l.within n y some (omega arith)
 
 -- Encodings in two groups, of which the first is n octets.
 record IsCut (es : List (List ℕ)) (n : ℕ) : Type 0 where
@@ -71,8 +71,8 @@ record IsCut (es : List (List ℕ)) (n : ℕ) : Type 0 where
   joined : es ≡ front ++ back
   long : length (concat front) ≡ n
 
-cut_behind : (e : List ℕ) (es : List (List ℕ)) (n : ℕ) → length e ≤ n → IsCut es (n - length e) → IsCut (e ∷ es) n
-cut_behind e es n ge c =
+cut_after : (e : List ℕ) (es : List (List ℕ)) (n : ℕ) → length e ≤ n → IsCut es (n - length e) → IsCut (e ∷ es) n
+cut_after e es n ge c =
     let long = c.long in
     record {
       front = e ∷ c.front;
@@ -81,8 +81,8 @@ cut_behind e es n ge c =
       long = omega (arith, length-append e (concat c.front));
     }
 
-drop_behind : (e y : List ℕ) (n : ℕ) → length e ≤ n → drop n (e ++ y) ≡ drop (n - length e) y
-drop_behind e y n ge =
+drop_after : (e y : List ℕ) (n : ℕ) → length e ≤ n → drop n (e ++ y) ≡ drop (n - length e) y
+drop_after e y n ge =
     let sum : n ≡ length e + (n - length e) = omega arith in
     ap (λ k. drop k (e ++ y)) sum ∙ drop-append-add e y (n - length e)
 
@@ -93,8 +93,8 @@ cut_where (e ∷ es) h n le begins =
     ⊎_elim
     (λ some. ⊎_elim
     (λ lt. let within = within_encoding h.0 n (concat es) some lt in absurd (cc))
-    (λ ge. cut_behind e es n ge (cut_where es h.1 (n - length e) (omega (arith, length-append e (concat es)))
-    (sym (ap begins_within (drop_behind e (concat es) n ge)) ∙ begins)))
+    (λ ge. cut_after e es n ge (cut_where es h.1 (n - length e) (omega (arith, length-append e (concat es)))
+    (sym (ap begins_within (drop_after e (concat es) n ge)) ∙ begins)))
     (cases_lt n (length e)))
     (λ none. record { front = []; back = e ∷ es; joined = refl; long = omega arith })
     (cases_lt 0 n)

@@ -56,16 +56,16 @@ pub passed_none : (all old : ℕ) → all + old ≤ old + all
 passed_none all old = omega arith
 
 -- after a chunk fewer octets are left
-pub fewer_left : (x : List ℕ) (chunk : Chunk) (behind : List ℕ) → IsFirstChunk x chunk behind
-    → length behind < length x
-fewer_left x chunk behind c = go c.bad
+pub fewer_left : (x : List ℕ) (chunk : Chunk) (after : List ℕ) → IsFirstChunk x chunk after
+    → length after < length x
+fewer_left x chunk after c = go c.bad
   where
-    long : length x ≡ length chunk.valid + (length chunk.invalid + length behind)
-    long = ap length c.whole ∙ length-append chunk.valid (chunk.invalid ++ behind)
-        ∙ ap (λ n. length chunk.valid + n) (length-append chunk.invalid behind)
+    long : length x ≡ length chunk.valid + (length chunk.invalid + length after)
+    long = ap length c.whole ∙ length-append chunk.valid (chunk.invalid ++ after)
+        ∙ ap (λ n. length chunk.valid + n) (length-append chunk.invalid after)
 
-    go : ((chunk.invalid ≡ []) × (behind ≡ [])) ⊎ IsBadPart (chunk.invalid ++ behind) chunk.invalid
-        → length behind < length x
+    go : ((chunk.invalid ≡ []) × (after ≡ [])) ⊎ IsBadPart (chunk.invalid ++ after) chunk.invalid
+        → length after < length x
     go (inl none) = let some = nil_or_some x c.some in omega (arith, ap length none.1)
     go (inr bad) = let some = (bad_some bad).0 in omega (arith, long)
 
@@ -164,8 +164,8 @@ pub turns_kept : (passed old new : ℕ) → passed + 16 * old ≤ 16 * new → o
 turns_kept passed old new h = omega arith
 
 -- there is an octet after a beginning
-pub octet_behind : (b seen : List ℕ) (o : ℕ) → seen ≡ b ++ o ∷ [] → 1 ≤ length seen
-octet_behind b seen o e = omega (arith, ap length e, length-append b (o ∷ []))
+pub octet_after : (b seen : List ℕ) (o : ℕ) → seen ≡ b ++ o ∷ [] → 1 ≤ length seen
+octet_after b seen o e = omega (arith, ap length e, length-append b (o ∷ []))
 
 -- a fault ends after at least one octet
 pub fault_end_some : (x : List ℕ) (fault : Fault) → IsFault x fault → 1 ≤ fault_end x fault

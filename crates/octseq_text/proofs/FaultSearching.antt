@@ -53,8 +53,8 @@ fault_stays {fault = fault} f n more =
     }
 
 -- a fault with a size is found, whatever follows
-pub settled_here : (n : ℕ) {x : List ℕ} {fault told : Fault} → IsFault x fault → fault.size ≢ None
-    → told ≡ fault_after n fault → SettlesAfter n x told
+pub settled_here : (n : ℕ) {x : List ℕ} {fault reported : Fault} → IsFault x fault → fault.size ≢ None
+    → reported ≡ fault_after n fault → SettlesAfter n x reported
 settled_here n {fault = fault} f some e = λ more. record { fault = fault; is_fault = fault_stays f some more; same = e }
 
 -- a fault of none leaves a beginning
@@ -85,9 +85,9 @@ turns_to_fault x old new fault f h = let few = turns_few x fault f in omega (ari
 
 -- after well-formed octets
 
-behind_good : (good : List ℕ) {x : List ℕ} {fault : Fault} → IsWellFormed good → IsFault x fault
+after_good : (good : List ℕ) {x : List ℕ} {fault : Fault} → IsWellFormed good → IsFault x fault
     → IsFault (good ++ x) (record { place = length good + fault.place; size = fault.size })
-behind_good good {fault = fault} w f = record {
+after_good good {fault = fault} w f = record {
   before = good ++ f.before;
   bad = f.bad;
   after = f.after;
@@ -103,35 +103,35 @@ saturated_on n g p = omega arith
 
 -- n octets come before well-formed ones, and m before what is after those
 module _ (n m : ℕ) (good : List ℕ) (w : IsWellFormed good) (passed : m ≡ saturated (n + length good)) where
-  saturated_behind : (p : ℕ) → saturated (m + p) ≡ saturated (n + (length good + p))
-  saturated_behind p = ap (λ k. saturated (k + p)) passed ∙ saturated_on n (length good) p
+  saturated_after : (p : ℕ) → saturated (m + p) ≡ saturated (n + (length good + p))
+  saturated_after p = ap (λ k. saturated (k + p)) passed ∙ saturated_on n (length good) p
 
-  pub tells_behind : {x : List ℕ} {told : Fault} → ReportsAfter m x told → ReportsAfter n (good ++ x) told
-  tells_behind t = record {
+  pub tells_after : {x : List ℕ} {reported : Fault} → ReportsAfter m x reported → ReportsAfter n (good ++ x) reported
+  tells_after t = record {
     fault = record { place = length good + t.fault.place; size = t.fault.size };
-    is_fault = behind_good good w t.is_fault;
-    same = t.same ∙ ap (λ k. record { place = k; size = t.fault.size }) (saturated_behind t.fault.place);
+    is_fault = after_good good w t.is_fault;
+    same = t.same ∙ ap (λ k. record { place = k; size = t.fault.size }) (saturated_after t.fault.place);
   }
 
-  pub settles_behind : (x : List ℕ) (told : Fault) → SettlesAfter m x told → SettlesAfter n (good ++ x) told
-  settles_behind x told s =
-      λ more. subst (λ y. ReportsAfter n y told) (sym (append_assoc good x more)) (tells_behind (s more))
+  pub settles_after : (x : List ℕ) (reported : Fault) → SettlesAfter m x reported → SettlesAfter n (good ++ x) reported
+  settles_after x reported s =
+      λ more. subst (λ y. ReportsAfter n y reported) (sym (append_assoc good x more)) (tells_after (s more))
 
-  pub passes_behind : {x : List ℕ} {place : ℕ} {end : List ℕ} → PassesAfter m x place end
+  pub passes_after : {x : List ℕ} {place : ℕ} {end : List ℕ} → PassesAfter m x place end
       → PassesAfter n (good ++ x) place end
-  passes_behind {end = end} p = record {
+  passes_after {end = end} p = record {
     good = good ++ p.good;
     well_formed = well_formed-append good p.good w p.well_formed;
     whole = ap (λ y. good ++ y) p.whole ∙ sym (append_assoc good p.good end);
     open_end = p.open_end;
-    passed = p.passed ∙ saturated_behind (length p.good)
+    passed = p.passed ∙ saturated_after (length p.good)
         ∙ ap (λ k. saturated (n + k)) (sym (length-append good p.good));
   }
 
 -- what is settled of octets is settled of them and others
-pub settles_more : (n : ℕ) (x y : List ℕ) (told : Fault) → SettlesAfter n x told → SettlesAfter n (x ++ y) told
-settles_more n x y told s =
-    λ more. subst (λ z. ReportsAfter n z told) (sym (append_assoc x y more)) (s (y ++ more))
+pub settles_more : (n : ℕ) (x y : List ℕ) (reported : Fault) → SettlesAfter n x reported → SettlesAfter n (x ++ y) reported
+settles_more n x y reported s =
+    λ more. subst (λ z. ReportsAfter n z reported) (sym (append_assoc x y more)) (s (y ++ more))
 
 -- a beginning, and what is well formed of it and others
 
@@ -184,9 +184,9 @@ module _ (x begun more : List ℕ) (begins : IsBeginning begun) (same : x ≡ be
       → new ≤ old + length (chars (take fault.place x)) + 1
       → (new ≤ old + length more + 1) × (length left ≤ length more → new + length left ≤ old + length more + 1)
   few_to_fault fault f place here left e old new turns =
-      let behind : left ≡ drop fault.place x = e ∙ rest_of x place ∙ ap (λ k. drop k x) here in
+      let cut : left ≡ drop fault.place x = e ∙ rest_of x place ∙ ap (λ k. drop k x) here in
       few_turns (take fault.place x) left
-      (sym (ap (λ y. take fault.place x ++ y) behind ∙ take-append-drop fault.place x))
+      (sym (ap (λ y. take fault.place x ++ y) cut ∙ take-append-drop fault.place x))
       (subst IsWellFormed (sym (front_is x fault f)) f.good) old new turns
 
 encodings_some : (x : List ℕ) (es : List (List ℕ)) → concat es ≡ x → 1 ≤ length x → 1 ≤ length es
@@ -212,8 +212,8 @@ module _ (b piece good left : List ℕ) (t : ℕ) (within : t ≤ length piece) 
       (encodings_some good w.1.encodings w.1.joined some) in
       omega (arith, lengths)
 
-  pub left_behind : length left ≤ t → b ++ piece ≡ good ++ drop (t - length left) piece
-  left_behind few =
+  pub left_after : length left ≤ t → b ++ piece ≡ good ++ drop (t - length left) piece
+  left_after few =
       let k : ℕ = t - length left in
       let long : length good ≡ length b + k = omega (arith, lengths) in
       let front : good ≡ b ++ take k piece =
@@ -237,13 +237,13 @@ begins_by end seen test h e f t =
 
 -- An open end joined with octets of a piece.
 module _ (b piece joined : List ℕ) (same : joined ≡ b ++ take (4 - length b) piece) where
-  pub joined_settles : (n : ℕ) (told : Fault) → SettlesAfter n joined told → SettlesAfter n (b ++ piece) told
-  joined_settles n told s =
+  pub joined_settles : (n : ℕ) (reported : Fault) → SettlesAfter n joined reported → SettlesAfter n (b ++ piece) reported
+  joined_settles n reported s =
       let k : ℕ = 4 - length b in
       let all : joined ++ drop k piece ≡ b ++ piece =
       ap (λ y. y ++ drop k piece) same ∙ append_assoc b (take k piece) (drop k piece)
       ∙ ap (λ y. b ++ y) (take-append-drop k piece) in
-      subst (λ y. SettlesAfter n y told) all (settles_more n joined (drop k piece) told s)
+      subst (λ y. SettlesAfter n y reported) all (settles_more n joined (drop k piece) reported s)
 
   -- where octets of the piece are left, those that make four are taken, and what is open of them is among those
   module _ (begins : IsBeginning b) (taken : ℕ) (taken_is : taken ≡ length joined - length b)
@@ -275,21 +275,21 @@ module _ (b piece joined : List ℕ) (same : joined ≡ b ++ take (4 - length b)
     abbrev rest : List ℕ
     rest = let from : ℕ = taken - length seen in take (length piece - from) (drop from piece)
 
-    rest_behind : p.good ++ rest ≡ b ++ piece
-    rest_behind =
+    rest_after : p.good ++ rest ≡ b ++ piece
+    rest_after =
         let from : taken - length seen ≡ 4 - length b - length left = omega (arith, four, ap length seen_is) in
         ap (λ y. p.good ++ y) (rest_of piece (taken - length seen) ∙ ap (λ k. drop k piece) from)
-        ∙ sym (left_behind b piece p.good left (4 - length b) room p.well_formed (sym same ∙ p.whole) among)
+        ∙ sym (left_after b piece p.good left (4 - length b) room p.well_formed (sym same ∙ p.whole) among)
 
     pub passes_all : (next : ℕ) (end : List ℕ) → PassesAfter place rest next end
         → PassesAfter n (b ++ piece) next end
     passes_all next end q =
-        subst (λ y. PassesAfter n y next end) rest_behind (passes_behind n place p.good p.well_formed p.passed q)
+        subst (λ y. PassesAfter n y next end) rest_after (passes_after n place p.good p.well_formed p.passed q)
 
-    pub settles_all : (told : Fault) → SettlesAfter place rest told → SettlesAfter n (b ++ piece) told
-    settles_all told s =
-        subst (λ y. SettlesAfter n y told) rest_behind
-        (settles_behind n place p.good p.well_formed p.passed rest told s)
+    pub settles_all : (reported : Fault) → SettlesAfter place rest reported → SettlesAfter n (b ++ piece) reported
+    settles_all reported s =
+        subst (λ y. SettlesAfter n y reported) rest_after
+        (settles_after n place p.good p.well_formed p.passed rest reported s)
 
     -- what is looked at again takes no more turns than the octets of the piece that are taken
     pub turns_all : (old mid new : ℕ)
@@ -316,15 +316,15 @@ module _ (b piece joined : List ℕ) (same : joined ≡ b ++ take (4 - length b)
 -- what a search tells of all octets
 
 -- a fault that is reported is the fault, if 64 bits count the octets
-pub told_fault : (x : List ℕ) (told : Fault) → ReportsAfter 0 x told → length x < 2 ^ 64 → IsFault x told
-told_fault x told t h =
+pub reported_fault : (x : List ℕ) (reported : Fault) → ReportsAfter 0 x reported → length x < 2 ^ 64 → IsFault x reported
+reported_fault x reported t h =
     let bounds = end_bounds x t.fault t.is_fault in
     let place : saturated (0 + t.fault.place) ≡ t.fault.place = omega (arith, bounds.0, bounds.1) in
     subst (IsFault x) (sym (t.same ∙ ap (λ k. record { place = k; size = t.fault.size }) place)) t.is_fault
 
 -- and octets that have one aren't well formed
-pub told_refutes : {x : List ℕ} {told : Fault} → ReportsAfter 0 x told → ¬ IsWellFormed x
-told_refutes t = fault_refutes t.is_fault
+pub reported_refutes : {x : List ℕ} {reported : Fault} → ReportsAfter 0 x reported → ¬ IsWellFormed x
+reported_refutes t = fault_refutes t.is_fault
 
 completed : (good end : List ℕ) → IsWellFormed good → IsOpenEnd end → (more : List ℕ) × IsWellFormed ((good ++ end) ++ more)
 completed good [] w h =
@@ -381,15 +381,15 @@ module _ (held : Searched) (x : List ℕ) (s : HasSearched held x) (none : held.
     met = subst (λ o. IfSome o (SettlesAfter 0 (x ++ piece))) (sym e) tt;
     passed = subst (λ o. IfNone o (PassesAfter 0 (x ++ piece) next end)) (sym e)
         (subst (λ y. PassesAfter 0 y next end) (cut piece)
-        (passes_behind 0 held.passed passed_all.good passed_all.well_formed passed_all.passed p));
+        (passes_after 0 held.passed passed_all.good passed_all.well_formed passed_all.passed p));
   }
 
-  pub searched_to_fault : (piece end : List ℕ) (next : ℕ) (told : Fault)
-      → SettlesAfter held.passed (held.end ++ piece) told
-      → HasSearched (record { passed = next; end = end; fault = Some told }) (x ++ piece)
-  searched_to_fault piece end next told t = record {
-    met = subst (λ y. SettlesAfter 0 y told) (cut piece)
-        (settles_behind 0 held.passed passed_all.good passed_all.well_formed passed_all.passed (held.end ++ piece) told
+  pub searched_to_fault : (piece end : List ℕ) (next : ℕ) (reported : Fault)
+      → SettlesAfter held.passed (held.end ++ piece) reported
+      → HasSearched (record { passed = next; end = end; fault = Some reported }) (x ++ piece)
+  searched_to_fault piece end next reported t = record {
+    met = subst (λ y. SettlesAfter 0 y reported) (cut piece)
+        (settles_after 0 held.passed passed_all.good passed_all.well_formed passed_all.passed (held.end ++ piece) reported
         t);
     passed = tt;
   }
@@ -400,15 +400,15 @@ module _ (held : Searched) (x : List ℕ) (s : HasSearched held x) (none : held.
       subst IsWellFormed cut_end (well_formed-append passed_all.good held.end passed_all.well_formed w)
 
   -- and its fault is that of the open end
-  pub end_told : {fault told : Fault} → IsFault held.end fault → told ≡ fault_after held.passed fault
-      → ReportsAfter 0 x told
-  end_told {fault} {told} f e =
-      subst (λ y. ReportsAfter 0 y told) cut_end
-      (tells_behind 0 held.passed passed_all.good passed_all.well_formed passed_all.passed
+  pub end_reported : {fault reported : Fault} → IsFault held.end fault → reported ≡ fault_after held.passed fault
+      → ReportsAfter 0 x reported
+  end_reported {fault} {reported} f e =
+      subst (λ y. ReportsAfter 0 y reported) cut_end
+      (tells_after 0 held.passed passed_all.good passed_all.well_formed passed_all.passed
       (record { fault = fault; is_fault = f; same = e }))
 
 -- a fault that was found is reported
-pub met_told : (held : Searched) (x : List ℕ) (told : Fault) → HasSearched held x → held.fault ≡ Some told
-    → ReportsAfter 0 x told
-met_told held x told s e =
-    subst (λ y. ReportsAfter 0 y told) (append-nil x) (subst (λ o. IfSome o (SettlesAfter 0 x)) e s.met [])
+pub met_reported : (held : Searched) (x : List ℕ) (reported : Fault) → HasSearched held x → held.fault ≡ Some reported
+    → ReportsAfter 0 x reported
+met_reported held x reported s e =
+    subst (λ y. ReportsAfter 0 y reported) (append-nil x) (subst (λ o. IfSome o (SettlesAfter 0 x)) e s.met [])

@@ -38,9 +38,9 @@ less_or a b o h then =
     (cases_lt a b)
 
 -- equal fronts don't decide
-behind : (xs y z : List ℕ) → slice_cmp nat_cmp (xs ++ y) (xs ++ z) ≡ slice_cmp nat_cmp y z
-behind [] y z = refl
-behind (x ∷ xs) y z = ap (λ o. ordering_then o (slice_cmp nat_cmp (xs ++ y) (xs ++ z))) (nat_cmp_same x) ∙ behind xs y z
+after : (xs y z : List ℕ) → slice_cmp nat_cmp (xs ++ y) (xs ++ z) ≡ slice_cmp nat_cmp y z
+after [] y z = refl
+after (x ∷ xs) y z = ap (λ o. ordering_then o (slice_cmp nat_cmp (xs ++ y) (xs ++ z))) (nat_cmp_same x) ∙ after xs y z
 
 -- a lesser character has the lesser encoding, even if both have the same width
 
@@ -107,7 +107,7 @@ first_decides : (c d : ℕ) (y z : List ℕ) → slice_cmp nat_cmp (encoding_of 
     ≡ ordering_then (nat_cmp c d) (slice_cmp nat_cmp y z)
 first_decides c d y z =
     ⊎_elim
-    (λ e. ap (λ b. slice_cmp nat_cmp (encoding_of b ++ y) (encoding_of d ++ z)) e ∙ behind (encoding_of d) y z
+    (λ e. ap (λ b. slice_cmp nat_cmp (encoding_of b ++ y) (encoding_of d ++ z)) e ∙ after (encoding_of d) y z
     ∙ sym (ap (λ b. ordering_then (nat_cmp b d) (slice_cmp nat_cmp y z)) e
     ∙ ap (λ o. ordering_then o (slice_cmp nat_cmp y z)) (nat_cmp_same d)))
     (⊎_elim

@@ -15,7 +15,7 @@ use Rattle.octseq_utf8.specs.Chunk.{Chunk, IsFirstChunk}
 use Rattle.octseq_utf8.specs.Encoding.{IsEncoding, encoding_of}
 use Rattle.octseq_utf8.specs.Fault.{Fault, IsFault, IsFaultSize}
 use Rattle.octseq_utf8.specs.Parts.{IsFront, IsBeginning, IsBadPart, Part, Char, Bad, Splits, nothing, text}
-use Rattle.octseq_text.specs.Pieces.{Settles, open_end, no_end, Held, StandsFor, IsSound}
+use Rattle.octseq_text.specs.Pieces.{Settles, open_end, no_end, Held, HasRead, IsSound}
 use Rattle.octseq_utf8.specs.Reading.{width_of, width, parts_of}
 use Rattle.octseq_text.specs.Progress.{Reads, IsRead, IsTooLong, IsOpenEnd}
 use Rattle.octseq_utf8.specs.Text.{Spells, IsWellFormed}
@@ -87,28 +87,28 @@ pub read_last : (x a : List ℕ) → IsWellFormed x → IsRead x [] a (a ++ x)
 read_last x a w = subst (λ y. IsRead y [] a (a ++ x)) (append-nil x) (read_good [] a w.1)
 
 -- at a chunk
-module _ (x : List ℕ) (chunk : Chunk) (behind : List ℕ) (c : IsFirstChunk x chunk behind) where
+module _ (x : List ℕ) (chunk : Chunk) (after : List ℕ) (c : IsFirstChunk x chunk after) where
   -- what is valid is read
-  pub read_valid : (a : List ℕ) → IsRead x (chunk.invalid ++ behind) a (a ++ chunk.valid)
-  read_valid a = subst (λ y. IsRead y (chunk.invalid ++ behind) a (a ++ chunk.valid)) (sym c.whole)
-      (read_good (chunk.invalid ++ behind) a c.good.1)
+  pub read_valid : (a : List ℕ) → IsRead x (chunk.invalid ++ after) a (a ++ chunk.valid)
+  read_valid a = subst (λ y. IsRead y (chunk.invalid ++ after) a (a ++ chunk.valid)) (sym c.whole)
+      (read_good (chunk.invalid ++ after) a c.good.1)
 
   -- which is all of the chunk if it has no bad part
-  pub read_chunk : length chunk.invalid ≡ 0 → (a : List ℕ) → IsRead x behind a (a ++ chunk.valid)
+  pub read_chunk : length chunk.invalid ≡ 0 → (a : List ℕ) → IsRead x after a (a ++ chunk.valid)
   read_chunk none a =
-      subst (λ y. IsRead x y a (a ++ chunk.valid)) (ap (λ y. y ++ behind) (nil_from_length chunk.invalid none))
+      subst (λ y. IsRead x y a (a ++ chunk.valid)) (ap (λ y. y ++ after) (nil_from_length chunk.invalid none))
       (read_valid a)
 
   by_cases : ¬ IsTrue chunk.incomplete → 1 ≤ length chunk.invalid
-      → ((chunk.invalid ≡ []) × (behind ≡ [])) ⊎ IsBadPart (chunk.invalid ++ behind) chunk.invalid
-      → Reads (chunk.invalid ++ behind) behind (Bad chunk.invalid ∷ [])
+      → ((chunk.invalid ≡ []) × (after ≡ [])) ⊎ IsBadPart (chunk.invalid ++ after) chunk.invalid
+      → Reads (chunk.invalid ++ after) after (Bad chunk.invalid ∷ [])
   by_cases n some (inl none) = absurd (omega (arith, ap length none.0))
-  by_cases n some (inr bad) = reads_bad chunk.invalid behind bad (λ k. n (c.cut.1 k))
+  by_cases n some (inr bad) = reads_bad chunk.invalid after bad (λ k. n (c.cut.1 k))
 
   -- and the bad part, unless it is an open end
   pub read_invalid : ¬ IsTrue chunk.incomplete → 1 ≤ length chunk.invalid → (a : List ℕ)
-      → IsRead (chunk.invalid ++ behind) behind a (a ++ encoding_of 0xFFFD)
-  read_invalid n some a = read_bad chunk.invalid behind a (by_cases n some c.bad)
+      → IsRead (chunk.invalid ++ after) after a (a ++ encoding_of 0xFFFD)
+  read_invalid n some a = read_bad chunk.invalid after a (by_cases n some c.bad)
 
   -- an open end is left
   pub read_to_end : IsTrue chunk.incomplete → (a : List ℕ) → IsRead x chunk.invalid a (a ++ chunk.valid)
@@ -117,8 +117,8 @@ module _ (x : List ℕ) (chunk : Chunk) (behind : List ℕ) (c : IsFirstChunk x 
       ∙ append-nil chunk.invalid) (read_valid a)
 
 -- what a test shows
-pub not_so : (is told : Bool) → told ≡ is → told ≡ false → ¬ IsTrue is
-not_so is told e f t = let no : true ≡ false = sym t ∙ sym e ∙ f in absurd (cc)
+pub not_so : (is reported : Bool) → reported ≡ is → reported ≡ false → ¬ IsTrue is
+not_so is reported e f t = let no : true ≡ false = sym t ∙ sym e ∙ f in absurd (cc)
 
 -- what a test for emptiness shows of the octets it tested
 pub none_of : (x seen : List ℕ) (test : Bool) → seen ≡ x → test ≡ (length seen == 0) → test ≡ true → length x ≡ 0
@@ -190,7 +190,7 @@ module _ (b : List ℕ) (o : ℕ) (begins : IsBeginning b) (fault : Fault) (f : 
   refuted_by size n (inl k) r = absurd (n k.0)
   refuted_by size n (inr k) r =
       let more = bad_begins in
-      let behind : 1 ≤ length f.after = nil_or_some f.after (λ e. k.1 (more.0, e)) in
+      let after : 1 ≤ length f.after = nil_or_some f.after (λ e. k.1 (more.0, e)) in
       let long : length f.bad ≡ length b = let m = more.1 in
       omega (arith, ap length whole, length-append b (o ∷ []), length-append f.bad f.after) in
       let same : f.bad ≡ b = sym (take-append_seam f.bad f.after) ∙ ap (λ y. take (length f.bad) y) (sym whole)
@@ -246,7 +246,7 @@ module _ (q piece b : List ℕ) (i : ℕ) (h : i < length piece) (begun : b ≡ 
       ∙ ap (λ y. q ++ y) (sym (take-suc piece i 0 h) ∙ ap (λ k. take k piece) next)
 
 -- A piece after the octets that a reading stands for.
-module _ (held : Held) (x piece z new : List ℕ) (s : StandsFor held x)
+module _ (held : Held) (x piece z new : List ℕ) (s : HasRead held x)
     (r : IsRead (held.end ++ piece) z held.settled_text new) where
   all_read : Reads (x ++ piece) z (s.settled ++ r.parts)
   all_read = reads_then (x ++ piece) (held.end ++ piece) z s.settled r.parts
@@ -255,9 +255,9 @@ module _ (held : Held) (x piece z new : List ℕ) (s : StandsFor held x)
   all_text : new ≡ text (s.settled ++ r.parts)
   all_text = r.grown ∙ ap (λ y. y ++ text r.parts) s.same ∙ sym (text-append s.settled r.parts)
 
-  pub feed_stands : IsOpenEnd z → (refusal : Option AppendError) → refusal ≡ None
-      → StandsFor (record { settled_text = new; end = z; refusal = refusal }) (x ++ piece)
-  feed_stands e refusal n = record {
+  pub feed_has_read : IsOpenEnd z → (refusal : Option AppendError) → refusal ≡ None
+      → HasRead (record { settled_text = new; end = z; refusal = refusal }) (x ++ piece)
+  feed_has_read e refusal n = record {
     settled = s.settled ++ r.parts;
     settles = reads_settles (x ++ piece) z (s.settled ++ r.parts) all_read e;
     same = all_text;
@@ -275,7 +275,7 @@ module _ (held : Held) (x piece z new : List ℕ) (s : StandsFor held x)
       all_text ∙ ap text (one_settling (reads_settles (x ++ piece) z (s.settled ++ r.parts) all_read e) t).0
 
 -- if the open end and a piece are too long to be read, the text of what settles with the piece exceeds the limit
-pub feed_too_long : {limit : Option ℕ} (held : Held) (x piece : List ℕ) → StandsFor held x
+pub feed_too_long : {limit : Option ℕ} (held : Held) (x piece : List ℕ) → HasRead held x
     → IsTooLong limit (held.end ++ piece) held.settled_text
     → (q : List ℕ) (settled : List Part) → Settles (x ++ piece) settled q → IsPast limit (length (text settled))
 feed_too_long {limit} held x piece s t q settled u =
@@ -295,7 +295,7 @@ settled_all (open_end {end = q} {settled = settled} s b) t =
 settled_all (no_end s n) t = inl (refl, ap text (one_splitting s t))
 
 -- the held text followed by the text of the open end is the whole text
-module _ (held : Held) (x made : List ℕ) (s : StandsFor held x) (closed : held.end ≡ [] → made ≡ held.settled_text)
+module _ (held : Held) (x made : List ℕ) (s : HasRead held x) (closed : held.end ≡ [] → made ≡ held.settled_text)
     (replaced : held.end ≢ [] → made ≡ held.settled_text ++ encoding_of 0xFFFD) where
   pub finish_text : (parts : List Part) → Splits x parts → made ≡ text parts
   finish_text parts t =
@@ -308,7 +308,7 @@ module _ (held : Held) (x made : List ℕ) (s : StandsFor held x) (closed : held
       (text_well_formed 0xFFFD replacement_is_character (splits x))
 
 -- if the held text has no room for the replacement of its open end, the text of all parts exceeds the limit
-pub finish_too_long : (limit : Option ℕ) (held : Held) (x : List ℕ) (parts : List Part) → StandsFor held x
+pub finish_too_long : (limit : Option ℕ) (held : Held) (x : List ℕ) (parts : List Part) → HasRead held x
     → Splits x parts
     → held.end ≢ [] → IsPast limit (length held.settled_text + length (encoding_of 0xFFFD))
     → IsPast limit (length (text parts))
@@ -320,10 +320,10 @@ finish_too_long limit held x parts s t n p =
 -- A reading that met no refusal is sound, and so is one that met one.
 
 -- a reading that stands for octets is sound, if its text is within the limit
-pub sound_standing : (limit : Option ℕ) (asks : Bool) (held : Held) (x : List ℕ) → StandsFor held x
+pub sound_reading : (limit : Option ℕ) (asks : Bool) (held : Held) (x : List ℕ) → HasRead held x
     → IsWithin limit (length held.settled_text) → IsSound limit asks held
-sound_standing limit asks held x s w = record {
-  stands = λ none. (x, s);
+sound_reading limit asks held x s w = record {
+  has_read = λ none. (x, s);
   within = λ none. w;
   memory = λ met. let none = s.fine in absurd (cc);
 }
@@ -347,7 +347,7 @@ memory_met met Memory asks memory e h = memory e
 pub sound_met : (limit : Option ℕ) (asks : Bool) (held : Held) (refusal : AppendError) → held.refusal ≡ Some refusal
     → (Is Refusal.memory (append_error refusal) → asks ≡ true) → IsSound limit asks held
 sound_met limit asks held refusal met memory = record {
-  stands = λ none. absurd (not_met held.refusal refusal none met);
+  has_read = λ none. absurd (not_met held.refusal refusal none met);
   within = λ none. absurd (not_met held.refusal refusal none met);
   memory = λ m. memory (subst (λ r. Is Refusal.memory (append_error r)) (same_refusal held.refusal Memory refusal m met)
       tt);
@@ -358,8 +358,8 @@ within_none (Some n) = omega arith
 within_none None = tt
 
 -- a reading that holds nothing and met no refusal stands for an empty list of octets
-pub stands_nothing : (held : Held) → held.settled_text ≡ [] → held.end ≡ [] → held.refusal ≡ None → StandsFor held []
-stands_nothing held t e n = record {
+pub has_read_nothing : (held : Held) → held.settled_text ≡ [] → held.end ≡ [] → held.refusal ≡ None → HasRead held []
+has_read_nothing held t e n = record {
   settled = [];
   settles = subst (Settles [] []) (sym e) (no_end nothing (λ front q h b. snoc_some front (Bad q) (sym h)));
   same = t;
@@ -370,5 +370,5 @@ stands_nothing held t e n = record {
 pub sound_nothing : (limit : Option ℕ) (asks : Bool) (held : Held) → held.settled_text ≡ [] → held.end ≡ []
     → held.refusal ≡ None → IsSound limit asks held
 sound_nothing limit asks held t e n =
-    sound_standing limit asks held [] (stands_nothing held t e n)
+    sound_reading limit asks held [] (has_read_nothing held t e n)
     (subst (λ y. IsWithin limit (length y)) (sym t) (within_none limit))

@@ -39,18 +39,18 @@ pub front_then : (a b c : List ℕ) → IsFront a b → IsFront b c → IsFront 
 front_then a b c f g = (f.0 ++ g.0, g.1 ∙ ap (λ y. y ++ g.0) f.1 ∙ append_assoc a f.0 g.0)
 
 -- a text with one more chunk is no longer than the whole
-pub grown_short : (limit : Option ℕ) (w : ℕ) (x made all : List ℕ) (chunk : Chunk) (behind mark : List ℕ)
-    → made ++ text_with w (parts_of x) ≡ all → IsFirstChunk x chunk behind
+pub grown_short : (limit : Option ℕ) (w : ℕ) (x made all : List ℕ) (chunk : Chunk) (after mark : List ℕ)
+    → made ++ text_with w (parts_of x) ≡ all → IsFirstChunk x chunk after
     → mark ≡ encoding_of w → IsPast limit (length (made ++ (chunk.valid ++ mark_of mark chunk.invalid)))
     → IsPast limit (length all)
-grown_short limit w x made all chunk behind mark before c m past =
-    let whole = grown w x made (made ++ chunk_text w chunk) all chunk behind before c refl in
+grown_short limit w x made all chunk after mark before c m past =
+    let whole = grown w x made (made ++ chunk_text w chunk) all chunk after before c refl in
     past_more limit _ _
     (omega (
       arith,
       ap (λ y. length (made ++ (chunk.valid ++ mark_of y chunk.invalid))) m,
       ap length whole,
-      length-append (made ++ chunk_text w chunk) (text_with w (parts_of behind)),
+      length-append (made ++ chunk_text w chunk) (text_with w (parts_of after)),
     ))
     past
 

@@ -95,9 +95,9 @@ reads_open (bad_part {bad = p} {rest = r} {parts = parts} k s) [] q b h =
 reads_open (bad_part {bad = p} {rest = r} {parts = parts} k s) (a ∷ settled) q b h =
     let first : Bad p ≡ a = cc in
     let rest : parts ≡ settled ++ Bad q ∷ [] = cc in
-    let behind : ¬ (IsBeginning p × (r ≡ [])) = λ z. snoc_some settled (Bad q) (sym rest ∙ nil_splits s z.1) in
+    let after : ¬ (IsBeginning p × (r ≡ [])) = λ z. snoc_some settled (Bad q) (sym rest ∙ nil_splits s z.1) in
     subst (λ a. Reads (p ++ r) q (a ∷ settled)) first
-    (reads_then (p ++ r) r q (Bad p ∷ []) settled (reads_bad p r k behind) (reads_open s settled q b rest))
+    (reads_then (p ++ r) r q (Bad p ∷ []) settled (reads_bad p r k after) (reads_open s settled q b rest))
 
 reads_closed : {x : List ℕ} {parts : List Part} → Splits x parts
     → ((front : List Part) (q : List ℕ) → parts ≡ front ++ Bad q ∷ [] → ¬ IsBeginning q) → Reads x [] parts
@@ -106,8 +106,8 @@ reads_closed (encoding {e} {rest = r} {parts = parts} p s) h =
     reads_then (e ++ r) r [] (Char (number_of e) ∷ []) parts (reads_encoding p r)
     (reads_closed s (λ front q k. h (Char (number_of e) ∷ front) q (ap (λ ps. Char (number_of e) ∷ ps) k)))
 reads_closed (bad_part {bad = p} {rest = r} {parts = parts} b s) h =
-    let behind : ¬ (IsBeginning p × (r ≡ [])) = λ k. h [] p (ap (λ ps. Bad p ∷ ps) (nil_splits s k.1)) k.0 in
-    reads_then (p ++ r) r [] (Bad p ∷ []) parts (reads_bad p r b behind)
+    let after : ¬ (IsBeginning p × (r ≡ [])) = λ k. h [] p (ap (λ ps. Bad p ∷ ps) (nil_splits s k.1)) k.0 in
+    reads_then (p ++ r) r [] (Bad p ∷ []) parts (reads_bad p r b after)
     (reads_closed s (λ front q k. h (Bad p ∷ front) q (ap (λ ps. Bad p ∷ ps) k)))
 
 -- the settled parts of octets are read, and their open end is left

@@ -5,14 +5,14 @@ use Rattle.octseq_utf8.specs.Text.{IsWellFormed}
 use Rattle.octseq_text.specs.Progress.{IsOpenEnd}
 
 -- The fault of octets that come after n others, as a search of all reports it: its place counts those n too, in 64 bits.
-pub record ReportsAfter (n : ℕ) (octets : List ℕ) (told : Fault) : Type 0 where
+pub record ReportsAfter (n : ℕ) (octets : List ℕ) (reported : Fault) : Type 0 where
   pub fault : Fault
   pub is_fault : IsFault octets fault
-  pub same : told ≡ fault_after n fault
+  pub same : reported ≡ fault_after n fault
 
 -- And so it stays, whatever octets follow.
 abbrev pub SettlesAfter : ℕ → List ℕ → Fault → Type 0
-SettlesAfter n octets told = (more : List ℕ) → ReportsAfter n (octets ++ more) told
+SettlesAfter n octets reported = (more : List ℕ) → ReportsAfter n (octets ++ more) reported
 
 -- Octets after n others are well formed, up to an open end.
 pub record PassesAfter (n : ℕ) (octets : List ℕ) (place : ℕ) (end : List ℕ) : Type 0 where
@@ -24,7 +24,7 @@ pub record PassesAfter (n : ℕ) (octets : List ℕ) (place : ℕ) (end : List �
 
 -- The fault of octets, with its place in 64 bits.
 abbrev pub ReportsFault : List ℕ → Fault → Type 0
-ReportsFault octets told = ReportsAfter 0 octets told
+ReportsFault octets reported = ReportsAfter 0 octets reported
 
 -- What a search in pieces holds: the number of octets it passed, the open end after them, and the fault it found.
 pub record Searched : Type 0 where

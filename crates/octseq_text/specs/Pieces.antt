@@ -21,7 +21,7 @@ pub record Held : Type 0 where
   pub refusal : Option AppendError
 
 -- The reading stands for octets: it met no refusal, and holds the text of their settled parts and their open end.
-pub record StandsFor (held : Held) (octets : List ℕ) : Type 0 where
+pub record HasRead (held : Held) (octets : List ℕ) : Type 0 where
   pub settled : List Part
   pub settles : Settles octets settled held.end
   pub same : held.settled_text ≡ text settled
@@ -30,6 +30,6 @@ pub record StandsFor (held : Held) (octets : List ℕ) : Type 0 where
 -- The reading met a refusal, which is for memory only if the type requests memory, or it stands for some octets, with a
 -- text within the limit.
 pub record IsSound (limit : Option ℕ) (asks : Bool) (held : Held) : Type 0 where
-  pub stands : held.refusal ≡ None → (octets : List ℕ) × StandsFor held octets
+  pub has_read : held.refusal ≡ None → (octets : List ℕ) × HasRead held octets
   pub within : held.refusal ≡ None → IsWithin limit (length held.settled_text)
   pub memory : held.refusal ≡ Some Memory → asks ≡ true

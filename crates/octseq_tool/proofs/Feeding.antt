@@ -24,34 +24,34 @@ consumes_more (Some a) (Some b) (Some c) xs ys first second =
     first ∙ ap (λ r. xs ++ r) second ∙ sym (append_assoc xs ys c)
 
 -- The octets that were fed are those that the reader gave.
-pub record IsFed {F : Type 0} (stands_for : F → List ℕ → Type 0) (given left : Option (List ℕ)) (fed : F) : Type 0 where
+pub record IsFed {F : Type 0} (has_read : F → List ℕ → Type 0) (given left : Option (List ℕ)) (fed : F) : Type 0 where
   pub octets : List ℕ
   pub consumed : Consumes given left octets
-  pub stands : stands_for fed octets
+  pub has_read : has_read fed octets
 
-module _ {F : Type 0} (stands_for : F → List ℕ → Type 0) where
+module _ {F : Type 0} (has_read : F → List ℕ → Type 0) where
   -- at first no octets were fed, and the reader gave none
-  pub fed_nothing : (given : Option (List ℕ)) (fed : F) → stands_for fed [] → IsFed stands_for given given fed
-  fed_nothing given fed stands = record { octets = []; consumed = consumes_none given; stands = stands }
+  pub fed_nothing : (given : Option (List ℕ)) (fed : F) → has_read fed [] → IsFed has_read given given fed
+  fed_nothing given fed has_read = record { octets = []; consumed = consumes_none given; has_read = has_read }
 
   -- octets that are fed next are those that the reader gives next
-  pub fed_more : (given left now : Option (List ℕ)) (fed after : F) (octets : List ℕ) → IsFed stands_for given left fed
+  pub fed_more : (given left now : Option (List ℕ)) (fed after : F) (octets : List ℕ) → IsFed has_read given left fed
       → Consumes left now octets
-      → ((before : List ℕ) → stands_for fed before → stands_for after (before ++ octets))
-      → IsFed stands_for given now after
-  fed_more given left now fed after octets so_far consumed stands = record {
+      → ((before : List ℕ) → has_read fed before → has_read after (before ++ octets))
+      → IsFed has_read given now after
+  fed_more given left now fed after octets so_far consumed has_read = record {
     octets = so_far.octets ++ octets;
     consumed = consumes_more given left now so_far.octets octets so_far.consumed consumed;
-    stands = stands so_far.octets so_far.stands;
+    has_read = has_read so_far.octets so_far.has_read;
   }
 
   -- the octets that were fed are those that the reader gave
-  pub fed_all : (given left : Option (List ℕ)) (fed : F) → IsFed stands_for given left fed
-      → (input : List ℕ) × stands_for fed input × Consumes given left input
-  fed_all given left fed is_fed = (is_fed.octets, is_fed.stands, is_fed.consumed)
+  pub fed_all : (given left : Option (List ℕ)) (fed : F) → IsFed has_read given left fed
+      → (input : List ℕ) × has_read fed input × Consumes given left input
+  fed_all given left fed is_fed = (is_fed.octets, is_fed.has_read, is_fed.consumed)
 
   -- one more read was consumed
-  pub lost_more : (given left now : Option (List ℕ)) (fed : F) → IsFed stands_for given left fed
+  pub lost_more : (given left now : Option (List ℕ)) (fed : F) → IsFed has_read given left fed
       → ((read : List ℕ) × Consumes left now read) → (read : List ℕ) × Consumes given now read
   lost_more given left now fed is_fed (read, consumed) =
       (is_fed.octets ++ read, consumes_more given left now is_fed.octets read is_fed.consumed consumed)

@@ -131,9 +131,9 @@ module _
       no_record y a (records_of parts ++ x) is (sym e ∙ ap (λ r. length a ∷ r) (append_assoc a (records_of parts) x))
   lines_front (a ∷ parts) (b ∷ others) x y lines all is e (line, more, h, hs, f) (other, rest, k, ks, g) =
       let long : length a ≡ length b = cc in
-      let behind : (a ++ records_of parts) ++ x ≡ (b ++ records_of others) ++ y = cc in
+      let after : (a ++ records_of parts) ++ x ≡ (b ++ records_of others) ++ y = cc in
       let both = halves a b (records_of parts ++ x) (records_of others ++ y) long
-      (sym (append_assoc a (records_of parts) x) ∙ behind ∙ append_assoc b (records_of others) y) in
+      (sym (append_assoc a (records_of parts) x) ∙ after ∙ append_assoc b (records_of others) y) in
       let same : line ≡ other = one_text b line other (subst (λ p. HasText p line) both.0 h) k in
       let next = lines_front parts others x y more rest is both.1 hs ks in (
         next.0,

@@ -19,8 +19,8 @@ no_record [] part more h e = absurd (cc)
 no_record (n ∷ octets) part more (inl none) e = absurd (cc)
 no_record (n ∷ octets) part more (inr short) e =
     let first : n ≡ length part = cc in
-    let behind : octets ≡ part ++ more = cc in
-    let long : length octets ≡ length part + length more = ap length behind ∙ length-append part more in
+    let after : octets ≡ part ++ more = cc in
+    let long : length octets ≡ length part + length more = ap length after ∙ length-append part more in
     absurd (omega arith)
 
 -- octets are whole records, and a rest with none at its front, in at most one way
@@ -33,9 +33,9 @@ one_reading (a ∷ parts) [] x y h k e =
     no_record y a (records_of parts ++ x) k (sym e ∙ ap (λ r. length a ∷ r) (append_assoc a (records_of parts) x))
 one_reading (a ∷ parts) (b ∷ others) x y h k e =
     let long : length a ≡ length b = cc in
-    let behind : (a ++ records_of parts) ++ x ≡ (b ++ records_of others) ++ y = cc in
+    let after : (a ++ records_of parts) ++ x ≡ (b ++ records_of others) ++ y = cc in
     let both = halves a b (records_of parts ++ x) (records_of others ++ y) long
-    (sym (append_assoc a (records_of parts) x) ∙ behind ∙ append_assoc b (records_of others) y) in
+    (sym (append_assoc a (records_of parts) x) ∙ after ∙ append_assoc b (records_of others) y) in
     let rest = one_reading parts others x y h k both.1 in
     (ap (λ p. p ∷ parts) both.0 ∙ ap (λ ps. b ∷ ps) rest.0, rest.1)
 
@@ -48,9 +48,9 @@ one_octet b = omega arith
 first_octet : (w : Window) → 0 < left w → w.end ≤ length w.octets → rest w ≡ be (next 1 w) ∷ rest (past 1 w)
 first_octet w some within =
     let b = get_or w.octets w.position 0 in
-    let behind = drop (w.position + 1) w.octets in
+    let after = drop (w.position + 1) w.octets in
     let here : w.position < length w.octets = omega arith in
-    let ahead : drop w.position w.octets ≡ b ∷ behind = rw add-one (drop-cons w.octets w.position 0 here) in
+    let ahead : drop w.position w.octets ≡ b ∷ after = rw add-one (drop-cons w.octets w.position 0 here) in
     let one : w.position + 1 - w.position ≡ 1 = omega arith in
     let many : w.end - w.position ≡ suc (w.end - (w.position + 1)) = omega arith in
     let value : be (next 1 w) ≡ b =

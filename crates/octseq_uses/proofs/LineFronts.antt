@@ -5,8 +5,8 @@ use Rattle.octseq_uses.specs.Line.{IsLine, TakesLine}
 -- octets without a line feed have none after a front
 no_feed : (line other more : List ℕ) → IsLine other → other ≡ line ++ 10 ∷ more → ⊥
 no_feed [] (x ∷ other) more (here, is) e = let same : x ≡ 10 = cc in here same
-no_feed (y ∷ line) (x ∷ other) more (here, is) e = let behind : other ≡ line ++ 10 ∷ more =
-    cc in no_feed line other more is behind
+no_feed (y ∷ line) (x ∷ other) more (here, is) e = let after : other ≡ line ++ 10 ∷ more =
+    cc in no_feed line other more is after
 no_feed [] [] more is e = cc
 no_feed (y ∷ line) [] more is e = cc
 
@@ -17,8 +17,8 @@ same_line [] (y ∷ other) more rest is (here, other_is) e = let same : y ≡ 10
 same_line (x ∷ line) [] more rest (here, is) other_is e = let same : x ≡ 10 = cc in absurd (here same)
 same_line (x ∷ line) (y ∷ other) more rest (here, is) (there, other_is) e =
     let first : x ≡ y = cc in
-    let behind : line ++ 10 ∷ more ≡ other ++ 10 ∷ rest = cc in
-    let same = same_line line other more rest is other_is behind in
+    let after : line ++ 10 ∷ more ≡ other ++ 10 ∷ rest = cc in
+    let same = same_line line other more rest is other_is after in
     (ap (λ z. z ∷ line) first ∙ ap (λ octets. y ∷ octets) same.0, same.1)
 
 -- at most one line is at the front
@@ -42,8 +42,8 @@ pub some_line : (octets : List ℕ) → (line : List ℕ) × (more : List ℕ) �
 some_line [] = ([], [], (tt, inr (refl, refl)))
 some_line (x ∷ octets) =
     let feed_or : (x ≡ 10) ⊎ (x ≢ 10) = grind arith in
-    let behind = some_line octets in
+    let after = some_line octets in
     elim feed_or [
       | inl feed ↦ ([], octets, (tt, inl (ap (λ y. y ∷ octets) feed)))
-      | inr other ↦ (x ∷ behind.0, behind.1, line_more x octets behind.0 behind.1 other behind.2)
+      | inr other ↦ (x ∷ after.0, after.1, line_more x octets after.0 after.1 other after.2)
     ]

@@ -38,8 +38,8 @@ module _ (rest : List ℕ) (fault : Fault) (f : IsFault rest fault) where
   onward_is = ap (λ n. drop n rest) f.place ∙ ap (drop (length f.before)) f.whole
       ∙ drop-append_seam f.before (f.bad ++ f.after)
 
-  pub behind_is : drop (fault_end rest fault) rest ≡ f.after
-  behind_is =
+  pub after_is : drop (fault_end rest fault) rest ≡ f.after
+  after_is =
       let cut : rest ≡ (f.before ++ f.bad) ++ f.after = f.whole ∙ sym (append_assoc f.before f.bad f.after) in
       let long : fault_end rest fault ≡ length (f.before ++ f.bad) = let place = f.place in
       omega (arith, end_is, length-append f.before f.bad) in
@@ -53,7 +53,7 @@ module _ (rest : List ℕ) (fault : Fault) (f : IsFault rest fault) where
       let all : parts_of rest ≡ map Char f.good.0 ++ (Bad f.bad ∷ parts_of f.after) =
       ap parts_of f.whole ∙ parts_fault f.good.1 f.bad f.after f.first in
       let before : chars (take fault.place rest) ≡ f.good.0 = ap chars front_is ∙ chars_of f.good.1 in
-      let behind = ap (λ y. length (parts_of y)) behind_is in
+      let same = ap (λ y. length (parts_of y)) after_is in
       omega (
         arith,
         ap length all,

@@ -39,18 +39,18 @@ none_left (a ∷ x) h = absurd (omega arith)
 
 -- the chunk that ends with a fault
 module _ (x : List ℕ) (fault : Fault) (f : IsFault x fault) where
-  pub chunk_at_fault : (valid invalid behind : List ℕ) (incomplete : Bool) → valid ≡ f.before → invalid ≡ f.bad
-      → behind ≡ f.after
+  pub chunk_at_fault : (valid invalid after : List ℕ) (incomplete : Bool) → valid ≡ f.before → invalid ≡ f.bad
+      → after ≡ f.after
       → (IsTrue incomplete ↔ (fault.size ≡ None))
-      → IsFirstChunk x (record { valid = valid; invalid = invalid; incomplete = incomplete }) behind
-  chunk_at_fault valid invalid behind incomplete v i b cut =
+      → IsFirstChunk x (record { valid = valid; invalid = invalid; incomplete = incomplete }) after
+  chunk_at_fault valid invalid after incomplete v i b cut =
       let sized = no_size f.bad f.after fault.size f.size in
       record {
         whole = f.whole ∙ ap (λ y. y ++ (f.bad ++ f.after)) (sym v) ∙ ap (λ y. valid ++ (y ++ f.after)) (sym i)
             ∙ ap (λ y. valid ++ (invalid ++ y)) (sym b);
         some = λ nothing. let bounds = end_bounds x fault f in omega (arith, ap length nothing);
         good = subst IsWellFormed (sym v) f.good;
-        bad = inr (subst (λ y. IsBadPart (y ++ behind) y) (sym i)
+        bad = inr (subst (λ y. IsBadPart (y ++ after) y) (sym i)
             (subst (λ y. IsBadPart (f.bad ++ y) f.bad) (sym b) f.first));
         cut = (
           λ t. let k = sized.0 (cut.0 t) in (subst IsBeginning (sym i) k.0, b ∙ k.1),
@@ -88,113 +88,113 @@ parts_some [] h = absurd (omega arith)
 parts_some (b ∷ bad) h = refl
 
 -- the parts of octets are the parts of the first chunk followed by the parts of what is after it
-pub parts_at_chunk : (x : List ℕ) (chunk : Chunk) (behind : List ℕ) → IsFirstChunk x chunk behind
-    → parts_of x ≡ chunk_parts chunk ++ parts_of behind
-parts_at_chunk x chunk behind c = go c.bad
+pub parts_at_chunk : (x : List ℕ) (chunk : Chunk) (after : List ℕ) → IsFirstChunk x chunk after
+    → parts_of x ≡ chunk_parts chunk ++ parts_of after
+parts_at_chunk x chunk after c = go c.bad
   where
     front : map Char (chars chunk.valid) ≡ map Char c.good.0
     front = ap (map Char) (chars_of c.good.1)
 
-    go : ((chunk.invalid ≡ []) × (behind ≡ [])) ⊎ IsBadPart (chunk.invalid ++ behind) chunk.invalid
-        → parts_of x ≡ chunk_parts chunk ++ parts_of behind
+    go : ((chunk.invalid ≡ []) × (after ≡ [])) ⊎ IsBadPart (chunk.invalid ++ after) chunk.invalid
+        → parts_of x ≡ chunk_parts chunk ++ parts_of after
     go (inl none) =
-        let same : x ≡ chunk.valid = c.whole ∙ ap (λ y. chunk.valid ++ (y ++ behind)) none.0
+        let same : x ≡ chunk.valid = c.whole ∙ ap (λ y. chunk.valid ++ (y ++ after)) none.0
         ∙ ap (λ y. chunk.valid ++ y) none.1 ∙ append-nil chunk.valid in
         ap parts_of same ∙ parts_spelled c.good.1 ∙ sym front
         ∙ sym (ap (λ ps. chunk_parts chunk ++ ps) (ap parts_of none.1 ∙ parts_nil) ∙ append-nil (chunk_parts chunk)
         ∙ ap (λ y. map Char (chars chunk.valid) ++ bad_parts y) none.0 ∙ append-nil (map Char (chars chunk.valid)))
     go (inr bad) =
         let some = parts_some chunk.invalid (bad_some bad).0 in
-        ap parts_of c.whole ∙ parts_fault c.good.1 chunk.invalid behind bad
-        ∙ ap (λ ps. ps ++ (Bad chunk.invalid ∷ parts_of behind)) (sym front)
-        ∙ sym (ap (λ ps. (map Char (chars chunk.valid) ++ ps) ++ parts_of behind) some
-        ∙ append_assoc (map Char (chars chunk.valid)) (Bad chunk.invalid ∷ []) (parts_of behind))
+        ap parts_of c.whole ∙ parts_fault c.good.1 chunk.invalid after bad
+        ∙ ap (λ ps. ps ++ (Bad chunk.invalid ∷ parts_of after)) (sym front)
+        ∙ sym (ap (λ ps. (map Char (chars chunk.valid) ++ ps) ++ parts_of after) some
+        ∙ append_assoc (map Char (chars chunk.valid)) (Bad chunk.invalid ∷ []) (parts_of after))
 
 -- and their text is the text of the first chunk followed by the text of what is after it
-pub text_at_chunk : (w : ℕ) (x : List ℕ) (chunk : Chunk) (behind : List ℕ) → IsFirstChunk x chunk behind
-    → text_with w (parts_of x) ≡ chunk_text w chunk ++ text_with w (parts_of behind)
-text_at_chunk w x chunk behind c = go c.bad
+pub text_at_chunk : (w : ℕ) (x : List ℕ) (chunk : Chunk) (after : List ℕ) → IsFirstChunk x chunk after
+    → text_with w (parts_of x) ≡ chunk_text w chunk ++ text_with w (parts_of after)
+text_at_chunk w x chunk after c = go c.bad
   where
-    go : ((chunk.invalid ≡ []) × (behind ≡ [])) ⊎ IsBadPart (chunk.invalid ++ behind) chunk.invalid
-        → text_with w (parts_of x) ≡ chunk_text w chunk ++ text_with w (parts_of behind)
+    go : ((chunk.invalid ≡ []) × (after ≡ [])) ⊎ IsBadPart (chunk.invalid ++ after) chunk.invalid
+        → text_with w (parts_of x) ≡ chunk_text w chunk ++ text_with w (parts_of after)
     go (inl none) =
-        let same : x ≡ chunk.valid = c.whole ∙ ap (λ y. chunk.valid ++ (y ++ behind)) none.0
+        let same : x ≡ chunk.valid = c.whole ∙ ap (λ y. chunk.valid ++ (y ++ after)) none.0
         ∙ ap (λ y. chunk.valid ++ y) none.1 ∙ append-nil chunk.valid in
-        let nothing : mark_of (encoding_of w) chunk.invalid ++ text_with w (parts_of behind) ≡ [] =
-        ap (λ y. mark_of (encoding_of w) y ++ text_with w (parts_of behind)) none.0 ∙ ap (λ y. text_with w (parts_of y))
+        let nothing : mark_of (encoding_of w) chunk.invalid ++ text_with w (parts_of after) ≡ [] =
+        ap (λ y. mark_of (encoding_of w) y ++ text_with w (parts_of after)) none.0 ∙ ap (λ y. text_with w (parts_of y))
         none.1 ∙ text_spelled w spells_nothing in
         ap (λ y. text_with w (parts_of y)) same ∙ text_spelled w c.good.1
-        ∙ sym (append_assoc chunk.valid (mark_of (encoding_of w) chunk.invalid) (text_with w (parts_of behind))
+        ∙ sym (append_assoc chunk.valid (mark_of (encoding_of w) chunk.invalid) (text_with w (parts_of after))
         ∙ ap (λ y. chunk.valid ++ y) nothing ∙ append-nil chunk.valid)
     go (inr bad) =
-        ap (λ y. text_with w (parts_of y)) c.whole ∙ text_fault w c.good.1 chunk.invalid behind bad
-        ∙ ap (λ y. chunk.valid ++ (y ++ text_with w (parts_of behind)))
+        ap (λ y. text_with w (parts_of y)) c.whole ∙ text_fault w c.good.1 chunk.invalid after bad
+        ∙ ap (λ y. chunk.valid ++ (y ++ text_with w (parts_of after)))
         (sym (mark_some (encoding_of w) chunk.invalid (bad_some bad).0))
-        ∙ sym (append_assoc chunk.valid (mark_of (encoding_of w) chunk.invalid) (text_with w (parts_of behind)))
+        ∙ sym (append_assoc chunk.valid (mark_of (encoding_of w) chunk.invalid) (text_with w (parts_of after)))
 
 -- octets whose first chunk has no bad part are well formed
-pub whole_text : (x : List ℕ) (chunk : Chunk) (behind : List ℕ) → IsFirstChunk x chunk behind → length chunk.invalid ≡ 0
+pub whole_text : (x : List ℕ) (chunk : Chunk) (after : List ℕ) → IsFirstChunk x chunk after → length chunk.invalid ≡ 0
     → IsWellFormed x
-whole_text x chunk behind c none = go c.bad
+whole_text x chunk after c none = go c.bad
   where
-    go : ((chunk.invalid ≡ []) × (behind ≡ [])) ⊎ IsBadPart (chunk.invalid ++ behind) chunk.invalid → IsWellFormed x
+    go : ((chunk.invalid ≡ []) × (after ≡ [])) ⊎ IsBadPart (chunk.invalid ++ after) chunk.invalid → IsWellFormed x
     go (inl end) =
-        let same : x ≡ chunk.valid = c.whole ∙ ap (λ y. chunk.valid ++ (y ++ behind)) end.0
+        let same : x ≡ chunk.valid = c.whole ∙ ap (λ y. chunk.valid ++ (y ++ after)) end.0
         ∙ ap (λ y. chunk.valid ++ y) end.1 ∙ append-nil chunk.valid in
         subst IsWellFormed (sym same) c.good
     go (inr bad) = let some = (bad_some bad).0 in absurd (omega arith)
 
 -- and octets whose first chunk has one aren't
-pub no_whole_text : (x : List ℕ) (chunk : Chunk) (behind : List ℕ) → IsFirstChunk x chunk behind
+pub no_whole_text : (x : List ℕ) (chunk : Chunk) (after : List ℕ) → IsFirstChunk x chunk after
     → 1 ≤ length chunk.invalid → ¬ IsWellFormed x
-no_whole_text x chunk behind c some good = go c.bad
+no_whole_text x chunk after c some good = go c.bad
   where
-    go : ((chunk.invalid ≡ []) × (behind ≡ [])) ⊎ IsBadPart (chunk.invalid ++ behind) chunk.invalid → ⊥
+    go : ((chunk.invalid ≡ []) × (after ≡ [])) ⊎ IsBadPart (chunk.invalid ++ after) chunk.invalid → ⊥
     go (inl end) = absurd (omega (arith, ap length end.0))
-    go (inr bad) = no_bad c.good.0 good.0 chunk.invalid (parts_of behind)
-        (sym (ap parts_of c.whole ∙ parts_fault c.good.1 chunk.invalid behind bad) ∙ parts_spelled good.1)
+    go (inr bad) = no_bad c.good.0 good.0 chunk.invalid (parts_of after)
+        (sym (ap parts_of c.whole ∙ parts_fault c.good.1 chunk.invalid after bad) ∙ parts_spelled good.1)
 
 -- the chunks of octets are their one splitting
 
 -- octets split into the parts of their first chunk followed by a splitting of what is after it
-pub splits_at_chunk : (x : List ℕ) (chunk : Chunk) (behind : List ℕ) (parts : List Part) → IsFirstChunk x chunk behind
-    → Splits behind parts
+pub splits_at_chunk : (x : List ℕ) (chunk : Chunk) (after : List ℕ) (parts : List Part) → IsFirstChunk x chunk after
+    → Splits after parts
     → Splits x (chunk_parts chunk ++ parts)
-splits_at_chunk x chunk behind parts c s =
-    subst (Splits x) (parts_at_chunk x chunk behind c ∙ ap (λ ps. chunk_parts chunk ++ ps) (sym (only_parts s)))
+splits_at_chunk x chunk after parts c s =
+    subst (Splits x) (parts_at_chunk x chunk after c ∙ ap (λ ps. chunk_parts chunk ++ ps) (sym (only_parts s)))
     (splits x)
 
 -- octets split into the parts of all their chunks, one chunk after another
 pub chunks_split : {x : List ℕ} {chunks : List Chunk} → AreChunks x chunks → Splits x (flat_map chunk_parts chunks)
 chunks_split no_chunk = subst (Splits []) parts_nil (splits [])
-chunks_split (first_chunk {octets = x} {behind} {chunk} {chunks} c s) =
-    splits_at_chunk x chunk behind (flat_map chunk_parts chunks) c (chunks_split s)
+chunks_split (first_chunk {octets = x} {after} {chunk} {chunks} c s) =
+    splits_at_chunk x chunk after (flat_map chunk_parts chunks) c (chunks_split s)
 
 -- for any splittings, the parts of octets are the parts of the first chunk followed by the parts of what is after it
-pub parts_by_chunk : (x behind : List ℕ) (chunk : Chunk) (parts rest : List Part) → IsFirstChunk x chunk behind
-    → Splits x parts → Splits behind rest
+pub parts_by_chunk : (x after : List ℕ) (chunk : Chunk) (parts rest : List Part) → IsFirstChunk x chunk after
+    → Splits x parts → Splits after rest
     → parts ≡ chunk_parts chunk ++ rest
-parts_by_chunk x behind chunk parts rest c s t =
-    only_parts s ∙ parts_at_chunk x chunk behind c ∙ ap (λ ps. chunk_parts chunk ++ ps) (sym (only_parts t))
+parts_by_chunk x after chunk parts rest c s t =
+    only_parts s ∙ parts_at_chunk x chunk after c ∙ ap (λ ps. chunk_parts chunk ++ ps) (sym (only_parts t))
 
 -- and so is their text
-pub text_by_chunk : (x behind : List ℕ) (chunk : Chunk) (parts rest : List Part) (w : ℕ) → IsFirstChunk x chunk behind
-    → Splits x parts → Splits behind rest
+pub text_by_chunk : (x after : List ℕ) (chunk : Chunk) (parts rest : List Part) (w : ℕ) → IsFirstChunk x chunk after
+    → Splits x parts → Splits after rest
     → text_with w parts ≡ chunk_text w chunk ++ text_with w rest
-text_by_chunk x behind chunk parts rest w c s t =
-    ap (text_with w) (only_parts s) ∙ text_at_chunk w x chunk behind c ∙ ap (λ ps. chunk_text w chunk ++ text_with w ps)
+text_by_chunk x after chunk parts rest w c s t =
+    ap (text_with w) (only_parts s) ∙ text_at_chunk w x chunk after c ∙ ap (λ ps. chunk_text w chunk ++ text_with w ps)
     (sym (only_parts t))
 
 -- a text that grows by chunks is, followed by the text of what is left, the whole text
 
 -- after a chunk's text is added, what is made and the text of what is after the chunk are still the whole
-pub grown : (w : ℕ) (x made made' all : List ℕ) (chunk : Chunk) (behind : List ℕ)
-    → made ++ text_with w (parts_of x) ≡ all → IsFirstChunk x chunk behind
-    → made' ≡ made ++ chunk_text w chunk → made' ++ text_with w (parts_of behind) ≡ all
-grown w x made made' all chunk behind before c more =
-    ap (λ y. y ++ text_with w (parts_of behind)) more ∙ append_assoc made (chunk_text w chunk)
-    (text_with w (parts_of behind))
-    ∙ ap (λ y. made ++ y) (sym (text_at_chunk w x chunk behind c)) ∙ before
+pub grown : (w : ℕ) (x made made' all : List ℕ) (chunk : Chunk) (after : List ℕ)
+    → made ++ text_with w (parts_of x) ≡ all → IsFirstChunk x chunk after
+    → made' ≡ made ++ chunk_text w chunk → made' ++ text_with w (parts_of after) ≡ all
+grown w x made made' all chunk after before c more =
+    ap (λ y. y ++ text_with w (parts_of after)) more ∙ append_assoc made (chunk_text w chunk)
+    (text_with w (parts_of after))
+    ∙ ap (λ y. made ++ y) (sym (text_at_chunk w x chunk after c)) ∙ before
 
 -- if no octets are left, what is made is the whole text
 pub all_made : (w : ℕ) (made all x : List ℕ) → made ++ text_with w (parts_of x) ≡ all → x ≡ [] → made ≡ all

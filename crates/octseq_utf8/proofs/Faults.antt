@@ -172,29 +172,29 @@ fault_at x place old now size at front =
 -- what is found after a place is found in the whole
 
 -- if the octets from the finder's place on are well formed, so are all of them, and their characters join
-pub well_formed_behind : (x : List ℕ) (place old now : ℕ) → IsAt x place old now → IsWellFormed (drop place x)
+pub well_formed_after : (x : List ℕ) (place old now : ℕ) → IsAt x place old now → IsWellFormed (drop place x)
     → IsWellFormed x × (chars x ≡ chars (take place x) ++ chars (drop place x))
-well_formed_behind x place old now at w =
+well_formed_after x place old now at w =
     let before : IsWellFormed (take place x) = (at.characters, at.spelled) in
     let whole = take-append-drop place x in
     (subst IsWellFormed whole (well_formed-append _ _ before w), ap chars (sym whole) ∙ chars-append _ _ before w)
 
 -- if the well-formed rest takes at most one turn for each character, so does the whole
-pub turns_behind : (x : List ℕ) (place old mid now : ℕ) → IsAt x place old mid → IsWellFormed (drop place x)
+pub turns_after : (x : List ℕ) (place old mid now : ℕ) → IsAt x place old mid → IsWellFormed (drop place x)
     → now ≤ mid + length (chars (drop place x)) → now ≤ old + length (chars x)
-turns_behind x place old mid now at w turns =
+turns_after x place old mid now at w turns =
     let first = at.turns in
     let spelled : chars x ≡ at.characters ++ chars (drop place x) =
-    (well_formed_behind x place old mid at w).1 ∙ ap (λ cs. cs ++ chars (drop place x)) (chars_of at.spelled) in
+    (well_formed_after x place old mid at w).1 ∙ ap (λ cs. cs ++ chars (drop place x)) (chars_of at.spelled) in
     rw spelled (omega (arith, length-append at.characters (chars (drop place x))))
 
 -- the fault of the octets from the finder's place on is the fault of the whole, within the turns that the whole allows
-pub fault_behind : (x : List ℕ) (place old mid now : ℕ) (fault : Fault) → IsAt x place old mid
+pub fault_after : (x : List ℕ) (place old mid now : ℕ) (fault : Fault) → IsAt x place old mid
     → IsFault (drop place x) fault
     → now ≤ mid + length (chars (take fault.place (drop place x))) + 1
     → fault_end (drop place x) fault + 16 * mid ≤ 16 * now
     → IsFaultAt x old now (record { place = place + fault.place; size = fault.size })
-fault_behind x place old mid now fault at f turns passed =
+fault_after x place old mid now fault at f turns passed =
     let before : IsWellFormed (take place x) = (at.characters, at.spelled) in
     let in_x = at.within in
     let first = at.turns in
@@ -269,14 +269,14 @@ one_fault {x} {fault} {other} f g =
     let front : f.before ≡ g.before = sym (octets_of_spelled f.good.1) ∙ ap octets_of same.0
     ∙ octets_of_spelled g.good.1 in
     let place : fault.place ≡ other.place = f.place ∙ ap length front ∙ sym g.place in
-    let behind : f.after ≡ g.after =
+    let ends : f.after ≡ g.after =
     sym (drop-append_seam f.bad f.after)
     ∙ ap (λ y. drop (length f.bad) y) (sym (drop-append_seam f.before (f.bad ++ f.after))
     ∙ ap (λ y. drop (length f.before) y) (sym f.whole ∙ g.whole)
     ∙ ap (λ y. drop (length y) (g.before ++ (g.bad ++ g.after))) front ∙ drop-append_seam g.before (g.bad ++ g.after))
     ∙ ap (λ y. drop (length y) (g.bad ++ g.after)) same.1 ∙ drop-append_seam g.bad g.after in
     let long : IsFaultSize g.bad g.after fault.size =
-    subst (λ y. IsFaultSize g.bad y fault.size) behind
+    subst (λ y. IsFaultSize g.bad y fault.size) ends
     (subst (λ y. IsFaultSize y f.after fault.size) same.1 f.size) in
     let size : fault.size ≡ other.size = same_size g.bad g.after fault.size other.size long g.size in
     λ i. record { place = place i; size = size i }

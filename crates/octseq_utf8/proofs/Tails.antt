@@ -12,7 +12,7 @@ use Rattle.octseq_utf8.specs.Search.{IsAt, IsAfter, IsSearching, IsFaultAt, FewT
 use Rattle.octseq_utf8.specs.Text.{IsWellFormed, chars}
 use Rattle.octseq_utf8.specs.declared.finder.Front.TheVariants.{Encoding, Bad}
 use Rattle.octseq_utf8.proofs.Faults.{at_start, at_more, at_end, fault_at, fault_refutes}
-use Rattle.octseq_utf8.proofs.Faults.{fault_behind, spells_low, turns_behind, well_formed_behind}
+use Rattle.octseq_utf8.proofs.Faults.{fault_after, spells_low, turns_after, well_formed_after}
 use Rattle.octseq_utf8.proofs.Search.{wide_of, few_to_the_end, few_to_a_fault}
 use Rattle.octseq_utf8.proofs.Spelling.{chars_of}
 
@@ -21,16 +21,16 @@ drop_further x from place past =
     drop-drop (place - from) from x ∙ ap (λ k. drop k x) (let e : from + (place - from) ≡ place = omega arith in e)
 
 -- a search is at the place where it begins before its first turn
-pub behind_start : (x : List ℕ) (from t : ℕ) → IsAfter x from from t t
-behind_start x from t = record {
+pub after_start : (x : List ℕ) (from t : ℕ) → IsAfter x from from t t
+after_start x from t = record {
   past = omega arith;
   at = subst (λ k. IsAt (drop from x) k t t) (let e : 0 ≡ from - from = omega arith in e) (at_start (drop from x) t);
 }
 
 -- an encoding at the place of a search is passed in one turn
-pub behind_more : (x : List ℕ) (from place old now len : ℕ) → IsAfter x from place old now
+pub after_more : (x : List ℕ) (from place old now len : ℕ) → IsAfter x from place old now
     → IsAtFront (drop place x) (Encoding len) → IsAfter x from (place + len) old (now + 1)
-behind_more x from place old now len b front =
+after_more x from place old now len b front =
     let past = b.past in
     record {
       past = omega arith;
@@ -41,16 +41,16 @@ behind_more x from place old now len b front =
     }
 
 -- a search that reaches the end has passed well-formed octets, with at most one turn for each character
-pub behind_end : (x : List ℕ) (from place old now : ℕ) → IsAfter x from place old now → length x ≤ place
+pub after_end : (x : List ℕ) (from place old now : ℕ) → IsAfter x from place old now → length x ≤ place
     → IsWellFormed (drop from x) × (now ≤ old + length (chars (drop from x)))
-behind_end x from place old now b past =
+after_end x from place old now b past =
     at_end (drop from x) (place - from) old now b.at (omega (arith, length-drop from x))
 
 -- a bad part at the place of a search is the fault of the octets that it searches, found in one more turn
-pub behind_fault : (x : List ℕ) (from place old now : ℕ) (size : Option ℕ) → IsAfter x from place old now
+pub after_fault : (x : List ℕ) (from place old now : ℕ) (size : Option ℕ) → IsAfter x from place old now
     → IsAtFront (drop place x) (Bad size)
     → IsFaultAt (drop from x) old (now + 1) (fault_from from (record { place = place; size = size }))
-behind_fault x from place old now size b front =
+after_fault x from place old now size b front =
     fault_at (drop from x) (place - from) old now size b.at
     (subst (λ y. IsAtFront y (Bad size)) (sym (drop_further x from place b.past)) front)
 
@@ -63,15 +63,15 @@ low_well_formed y low = (
 )
 
 -- what is found from a place on, as found in the whole
-pub found_behind : (x : List ℕ) (place old mid now : ℕ) (fault : Fault) → IsAt x place old mid → place ≤ fault.place
+pub found_after : (x : List ℕ) (place old mid now : ℕ) (fault : Fault) → IsAt x place old mid → place ≤ fault.place
     → IsFault (drop place x) (fault_from place fault)
     → now ≤ mid + length (chars (take (fault.place - place) (drop place x))) + 1
     → fault_end (drop place x) (fault_from place fault) + 16 * mid ≤ 16 * now
     → IsFaultAt x old now fault
-found_behind x place old mid now fault at past f turns passed =
+found_after x place old mid now fault at past f turns passed =
     let same : place + (fault.place - place) ≡ fault.place = omega arith in
     subst (λ k. IsFaultAt x old now (record { place = k; size = fault.size })) same
-    (fault_behind x place old mid now (fault_from place fault) at f turns passed)
+    (fault_after x place old mid now (fault_from place fault) at f turns passed)
 
 -- and what must be shown of the whole search then
 
@@ -83,13 +83,13 @@ pub tail_fault : (x : List ℕ) (place old mid now : ℕ) (r : Option Fault) →
     → IfSome r (IsFaultAt x old now)
 tail_fault x place old mid now None at past f turns passed = past
 tail_fault x place old mid now (Some fault) at past f turns passed =
-    found_behind x place old mid now fault at past f turns passed
+    found_after x place old mid now fault at past f turns passed
 
 -- a search from a place on finds no fault exactly if the whole is well formed
 pub tail_none : (x : List ℕ) (place old mid now : ℕ) (r : Option Fault) → IsAt x place old mid
     → IsNone r ↔ IsWellFormed (drop place x) → IfSome r (IsFaultAt x old now) → IsNone r ↔ IsWellFormed x
 tail_none x place old mid now None at none fault =
-    (λ h. (well_formed_behind x place old mid at (none.0 refl)).0, λ w. refl)
+    (λ h. (well_formed_after x place old mid at (none.0 refl)).0, λ w. refl)
 tail_none x place old mid now (Some found) at none fault =
     (λ h. absurd (cc), λ w. absurd (fault_refutes fault.is_fault w))
 
@@ -97,7 +97,7 @@ tail_none x place old mid now (Some found) at none fault =
 pub tail_turns : (x : List ℕ) (place old mid now : ℕ) (r : Option Fault) → IsAt x place old mid
     → IsNone r ↔ IsWellFormed (drop place x) → IfNone r (now ≤ mid + length (chars (drop place x)))
     → IfNone r (now ≤ old + length (chars x))
-tail_turns x place old mid now None at none turns = turns_behind x place old mid now at (none.0 refl) turns
+tail_turns x place old mid now None at none turns = turns_after x place old mid now at (none.0 refl) turns
 tail_turns x place old mid now (Some found) at none turns = turns
 
 -- whether or not a search after the lanes finds a fault, the whole takes few turns

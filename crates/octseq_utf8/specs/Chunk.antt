@@ -11,23 +11,23 @@ pub record Chunk : Type 0 where
   pub incomplete : Bool
 
 -- The first chunk of octets, and what is left after it. Only the last chunk can have no bad part.
-pub record IsFirstChunk (octets : List ℕ) (chunk : Chunk) (behind : List ℕ) : Type 0 where
-  pub whole : octets ≡ chunk.valid ++ (chunk.invalid ++ behind)
+pub record IsFirstChunk (octets : List ℕ) (chunk : Chunk) (after : List ℕ) : Type 0 where
+  pub whole : octets ≡ chunk.valid ++ (chunk.invalid ++ after)
   pub some : octets ≢ []
   pub good : IsWellFormed chunk.valid
-  pub bad : ((chunk.invalid ≡ []) × (behind ≡ [])) ⊎ IsBadPart (chunk.invalid ++ behind) chunk.invalid
-  pub cut : IsTrue chunk.incomplete ↔ (IsBeginning chunk.invalid × (behind ≡ []))
+  pub bad : ((chunk.invalid ≡ []) × (after ≡ [])) ⊎ IsBadPart (chunk.invalid ++ after) chunk.invalid
+  pub cut : IsTrue chunk.incomplete ↔ (IsBeginning chunk.invalid × (after ≡ []))
 
 -- A call that started with these octets left returned a chunk, or none if nothing was left, and left those after it.
 abbrev pub GivesChunk : List ℕ → Option Chunk → List ℕ → Type 0
-GivesChunk octets result behind =
-    MatchOption result ((octets ≡ []) × (behind ≡ [])) (λ chunk. IsFirstChunk octets chunk behind)
+GivesChunk octets result after =
+    MatchOption result ((octets ≡ []) × (after ≡ [])) (λ chunk. IsFirstChunk octets chunk after)
 
 -- All chunks of octets, from the left.
 pub data AreChunks : List ℕ → List Chunk → Type 0 where
   no_chunk : AreChunks [] []
-  first_chunk : {octets behind : List ℕ} {chunk : Chunk} {chunks : List Chunk}
-      → IsFirstChunk octets chunk behind → AreChunks behind chunks → AreChunks octets (chunk ∷ chunks)
+  first_chunk : {octets after : List ℕ} {chunk : Chunk} {chunks : List Chunk}
+      → IsFirstChunk octets chunk after → AreChunks after chunks → AreChunks octets (chunk ∷ chunks)
 
 -- The parts of a chunk: its characters, and its bad part if it has one.
 abbrev pub bad_parts : List ℕ → List Part

@@ -6,12 +6,12 @@ use Rattle.octseq_utf8.specs.Parts.{IsBadPart}
 use Rattle.octseq_utf8.specs.declared.finder.Front.{Front}
 use Rattle.octseq_utf8.specs.declared.finder.Front.TheVariants.{Encoding, Bad}
 
--- the first len octets are the bad part, and `told` is its size as a fault
-pub record IsBadFront (octets : List ℕ) (told : Option ℕ) (len : ℕ) : Type 0 where
+-- the first len octets are the bad part, and `reported` is its size as a fault
+pub record IsBadFront (octets : List ℕ) (reported : Option ℕ) (len : ℕ) : Type 0 where
   pub within : len ≤ length octets
   pub few : len ≤ 3
   pub bad : IsBadPart octets (take len octets)
-  pub size : IsFaultSize (take len octets) (drop len octets) told
+  pub size : IsFaultSize (take len octets) (drop len octets) reported
 
 -- an encoding, or the bad part by its size as a fault
 abbrev pub IsAtFront : List ℕ → Front → Type 0

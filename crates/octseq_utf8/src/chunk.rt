@@ -6,7 +6,7 @@ ghost use Rattle.octseq_utf8.specs.Fault.{IsFault, fault_end};
 ghost use Rattle.octseq_utf8.specs.Parts.{Part, Splits};
 ghost use Rattle.octseq_utf8.specs.Text.{IsWellFormed, chars};
 
-use crate::fault::{Utf8Fault, before, behind, onward};
+use crate::fault::{Utf8Fault, before, after, onward};
 use crate::finder::{first_fault, is_continuation};
 use crate::turns::Turns;
 use std::marker::Model;
@@ -115,7 +115,7 @@ impl<'a> Utf8Chunks<'a> {
                 Some(last_chunk(octets))
             }
             Some(fault) => {
-                self.rest = behind(octets, &fault);
+                self.rest = after(octets, &fault);
                 Some(chunk_to(octets, &fault))
             }
         }

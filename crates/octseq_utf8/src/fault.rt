@@ -82,7 +82,7 @@ pub(crate) fn onward<'a>(octets: &'a [u8], fault: &Utf8Fault) -> &'a [u8]
 
 /// The octets after the fault.
 #[inline(always)]
-pub(crate) fn behind<'a>(octets: &'a [u8], fault: &Utf8Fault) -> &'a [u8]
+pub(crate) fn after<'a>(octets: &'a [u8], fault: &Utf8Fault) -> &'a [u8]
     requires place { fault.now.place ≤ length octets.now }
     requires end { fault_end octets.now fault.now ≤ length octets.now }
     ensures { result.now ≡ drop (fault_end octets.now fault.now) octets.now }

@@ -65,10 +65,10 @@ pub fn lossy_text()
 pub fn chunks_are_parts()
     ensures splits { (octets : List ℕ) (chunks : List Chunk)
         → AreChunks octets chunks → Splits octets (flat_map chunk_parts chunks) }
-    ensures first { (octets behind : List ℕ) (chunk : Chunk) (parts rest : List Part)
-        → IsFirstChunk octets chunk behind → Splits octets parts → Splits behind rest
+    ensures first { (octets after : List ℕ) (chunk : Chunk) (parts rest : List Part)
+        → IsFirstChunk octets chunk after → Splits octets parts → Splits after rest
         → parts ≡ chunk_parts chunk ++ rest }
-    ensures text { (octets behind : List ℕ) (chunk : Chunk) (parts rest : List Part) (w : ℕ)
-        → IsFirstChunk octets chunk behind → Splits octets parts → Splits behind rest
+    ensures text { (octets after : List ℕ) (chunk : Chunk) (parts rest : List Part) (w : ℕ)
+        → IsFirstChunk octets chunk after → Splits octets parts → Splits after rest
         → text_with w parts ≡ chunk_text w chunk ++ text_with w rest }
 {}

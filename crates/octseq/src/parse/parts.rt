@@ -20,10 +20,10 @@ impl<R: AsOctets + Copy> Parser<R> {
         ensures window { IfOk result (λ parser. window parser ≡ part 1 (window self.old)) }
         ensures sequence { IfOk result (λ parser. sequence parser ≡ sequence self.old) }
     {
-        let mut behind = *self;
-        let len = behind.parse_u8()?;
-        let part = behind.parse_parser(usize::from(len))?;
-        *self = behind;
+        let mut after = *self;
+        let len = after.parse_u8()?;
+        let part = after.parse_parser(usize::from(len))?;
+        *self = after;
         Ok(part)
     }
 
@@ -33,10 +33,10 @@ impl<R: AsOctets + Copy> Parser<R> {
         ensures window { IfOk result (λ parser. window parser ≡ part 2 (window self.old)) }
         ensures sequence { IfOk result (λ parser. sequence parser ≡ sequence self.old) }
     {
-        let mut behind = *self;
-        let len = behind.parse_u16_be()?;
-        let part = behind.parse_parser(usize::from(len))?;
-        *self = behind;
+        let mut after = *self;
+        let len = after.parse_u16_be()?;
+        let part = after.parse_parser(usize::from(len))?;
+        *self = after;
         Ok(part)
     }
 
@@ -46,10 +46,10 @@ impl<R: AsOctets + Copy> Parser<R> {
         ensures window { IfOk result (λ parser. window parser ≡ part 4 (window self.old)) }
         ensures sequence { IfOk result (λ parser. sequence parser ≡ sequence self.old) }
     {
-        let mut behind = *self;
-        let len = behind.parse_u32_be()?;
-        let part = behind.parse_parser(len as usize)?;
-        *self = behind;
+        let mut after = *self;
+        let len = after.parse_u32_be()?;
+        let part = after.parse_parser(len as usize)?;
+        *self = after;
         Ok(part)
     }
 }

@@ -114,7 +114,7 @@ fn ends(rt: &(impl Abort + AllocGlobal), all: &[u8], len: usize) -> Result<(), F
 }
 
 #[test]
-fn a_stream_that_is_cut_off_is_told(rt: HostRuntime) -> Result<(), Fail> {
+fn a_stream_that_is_cut_off_is_reported(rt: HostRuntime) -> Result<(), Fail> {
     let all = two(rt.alloc())?;
     assert_equal!(&rt, all.len(), 46);
     for len in 0..47 {
@@ -145,7 +145,7 @@ fn fails(rt: &(impl Abort + AllocGlobal), all: &[u8], len: usize) -> Result<(), 
 }
 
 #[test]
-fn a_read_that_fails_is_told(rt: HostRuntime) -> Result<(), Fail> {
+fn a_read_that_fails_is_reported(rt: HostRuntime) -> Result<(), Fail> {
     let all = two(rt.alloc())?;
     for len in 0..47 {
         fails(&rt, &all, len)?;

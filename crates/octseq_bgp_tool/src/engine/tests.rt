@@ -68,7 +68,7 @@ struct Outcome {
 }
 
 /// Returns what a word writes for octets that come at most `at_once` at a time, if reads fail after the first `reads`.
-fn told(alloc: Global, word: &str, octets: &[u8], at_once: usize, reads: usize) -> Outcome {
+fn reported(alloc: Global, word: &str, octets: &[u8], at_once: usize, reads: usize) -> Outcome {
     let mut reader = Drip {
         rest: octets,
         at_once,
@@ -94,7 +94,7 @@ fn shows(
     text: &str,
     lines: &str,
 ) {
-    let it = told(alloc, word, octets, 1, usize::MAX);
+    let it = reported(alloc, word, octets, 1, usize::MAX);
     assert_equal!(rt, it.answer, Ok(status));
     assert_equal!(rt, it.written.as_slice(), text.as_bytes());
     assert_equal!(rt, it.errors.as_slice(), lines.as_bytes());
@@ -159,7 +159,7 @@ fn message_is_shown(rt: HostRuntime) -> Result<(), Fail> {
 }
 
 #[test]
-fn a_malformed_message_is_told_with_its_place(rt: HostRuntime) -> Result<(), Fail> {
+fn a_malformed_message_is_reported_with_its_place(rt: HostRuntime) -> Result<(), Fail> {
     // (no octets, an unknown type, an extra octet, and prefixes that need path ids)
     let cases = [
         ("message", joined(rt.alloc(), &[])?, 0),
@@ -200,7 +200,7 @@ fn no_argument_is_message(rt: HostRuntime) -> Result<(), Fail> {
 
 #[test]
 fn help_tells_commands_and_statuses(rt: HostRuntime) -> Result<(), Fail> {
-    let it = told(rt.alloc(), "--help", b"a", 1, 0);
+    let it = reported(rt.alloc(), "--help", b"a", 1, 0);
     assert_equal!(&rt, it.answer, Ok(Status::Fine));
     assert_true!(&rt, it.errors.is_empty());
     let text = str::from_utf8(&it.written)?;
@@ -222,8 +222,8 @@ fn help_tells_commands_and_statuses(rt: HostRuntime) -> Result<(), Fail> {
 }
 
 #[test]
-fn another_word_is_told_on_standard_error(rt: HostRuntime) {
-    let help = told(rt.alloc(), "--help", b"a", 1, 0).written;
+fn another_word_is_reported_on_standard_error(rt: HostRuntime) {
+    let help = reported(rt.alloc(), "--help", b"a", 1, 0).written;
     for word in [
         "",
         "Stream",
@@ -235,7 +235,7 @@ fn another_word_is_told_on_standard_error(rt: HostRuntime) {
         "message,extended,extended",
         "messagetwo-octet",
     ] {
-        let it = told(rt.alloc(), word, b"a", 1, 0);
+        let it = reported(rt.alloc(), word, b"a", 1, 0);
         assert_eq!(rt; it.answer, Ok(Status::Usage), "{word}");
         assert_true!(&rt, it.written.is_empty());
         assert_equal!(&rt, it.errors.as_slice(), help.as_slice());

@@ -9,7 +9,7 @@ ghost use Rattle.std.specs.List.{AllByRecursion};
 ghost use Rattle.octseq_dns_compress.specs.Fits.{FitsField};
 ghost use Rattle.octseq_dns_name.specs.Read.{labels_of};
 ghost use Rattle.octseq_dns.specs.Contents.{FitsQuestion, FitsRecord, question_entry, record_entry};
-ghost use Rattle.octseq_dns.specs.Pushed.{asked, told};
+ghost use Rattle.octseq_dns.specs.Pushed.{pushed_question, pushed_record};
 ghost use Rattle.octseq_dns.specs.Writes.{Appends, least_limit};
 
 use crate::rdata::ComposeRecordData;
@@ -61,9 +61,9 @@ pub(super) fn compose_question<
     turns: &mut Turns,
 ) -> Result<(), AppendError>
     ensures composed { Composes (message_limit B.limit) ((B.asks ≡ true) ⊎ (T.asks ≡ true)) result
-        (with_entry T.most message.old.state (question_entry (asked qname.now qtype qclass)))
+        (with_entry T.most message.old.state (question_entry (pushed_question qname.now qtype qclass)))
         message.old message.new }
-    ensures fits { OnOk result (FitsQuestion (asked qname.now qtype qclass)) }
+    ensures fits { OnOk result (FitsQuestion (pushed_question qname.now qtype qclass)) }
     ensures borrows { B.borrows message.new.octets ≡ B.borrows message.old.octets }
     ensures turns { turns.new ≤ turns.old + 17 * length (labels_of qname.now) }
     ensures least { OnOk result (turns.old + length (labels_of qname.now) + length message.old.state.octets
@@ -120,14 +120,14 @@ pub(super) fn compose_record<
     turns: &mut Turns,
 ) -> Result<(), AppendError>
     ensures ok { OnOk result (message.new.state ≡ with_entry T.most message.old.state
-        (record_entry (told owner.now (D.rtype_of rdata.now) class ttl (D.fields rdata.now)))) }
+        (record_entry (pushed_record owner.now (D.rtype_of rdata.now) class ttl (D.fields rdata.now)))) }
     ensures within { OnOk result (IsWithin (message_limit B.limit) (length (with_entry T.most message.old.state
-        (record_entry (told owner.now (D.rtype_of rdata.now) class ttl (D.fields rdata.now)))).octets)) }
+        (record_entry (pushed_record owner.now (D.rtype_of rdata.now) class ttl (D.fields rdata.now)))).octets)) }
     ensures short { IsShort append_error result → IsPast (message_limit B.limit)
         (length (with_entry T.most message.old.state
-        (record_entry (told owner.now (D.rtype_of rdata.now) class ttl (D.fields rdata.now)))).octets) }
+        (record_entry (pushed_record owner.now (D.rtype_of rdata.now) class ttl (D.fields rdata.now)))).octets) }
     ensures memory { IsMemory append_error result → (B.asks ≡ true) ⊎ (T.asks ≡ true) }
-    ensures fits { OnOk result (FitsRecord (told owner.now (D.rtype_of rdata.now) class ttl (D.fields rdata.now))) }
+    ensures fits { OnOk result (FitsRecord (pushed_record owner.now (D.rtype_of rdata.now) class ttl (D.fields rdata.now))) }
     ensures borrows { B.borrows message.new.octets ≡ B.borrows message.old.octets }
     ensures turns { turns.new ≤ turns.old + 17 * (length (labels_of owner.now) + label_count (D.fields rdata.now)) }
     ensures least { OnOk result (turns.old + (length (labels_of owner.now) + label_count (D.fields rdata.now))
@@ -170,9 +170,9 @@ pub(super) fn append_question<
 ) -> Result<(), AppendError>
     ensures appended { Appends (least_limit push_limit (message_limit B.limit))
         ((B.asks ≡ true) ⊎ (T.asks ≡ true)) result
-        (with_entry T.most message.old.state (question_entry (asked qname.now qtype qclass)))
+        (with_entry T.most message.old.state (question_entry (pushed_question qname.now qtype qclass)))
         message.old.state message.new.state }
-    ensures fits { OnOk result (FitsQuestion (asked qname.now qtype qclass)) }
+    ensures fits { OnOk result (FitsQuestion (pushed_question qname.now qtype qclass)) }
     ensures borrows { B.borrows message.new.octets ≡ B.borrows message.old.octets }
     ensures turns { turns.new ≤ turns.old + 17 * length (labels_of qname.now) }
     ensures least { OnOk result (turns.old + length (labels_of qname.now) + length message.old.state.octets
@@ -208,9 +208,9 @@ pub(super) fn append_record<
     ensures appended { Appends (least_limit push_limit (message_limit B.limit))
         ((B.asks ≡ true) ⊎ (T.asks ≡ true)) result
         (with_entry T.most message.old.state
-        (record_entry (told owner.now (D.rtype_of rdata.now) class ttl (D.fields rdata.now))))
+        (record_entry (pushed_record owner.now (D.rtype_of rdata.now) class ttl (D.fields rdata.now))))
         message.old.state message.new.state }
-    ensures fits { OnOk result (FitsRecord (told owner.now (D.rtype_of rdata.now) class ttl (D.fields rdata.now))) }
+    ensures fits { OnOk result (FitsRecord (pushed_record owner.now (D.rtype_of rdata.now) class ttl (D.fields rdata.now))) }
     ensures borrows { B.borrows message.new.octets ≡ B.borrows message.old.octets }
     ensures turns { turns.new ≤ turns.old + 17 * (length (labels_of owner.now) + label_count (D.fields rdata.now)) }
     ensures least { OnOk result (turns.old + (length (labels_of owner.now) + label_count (D.fields rdata.now))

@@ -252,7 +252,7 @@ impl<R: AsOctets + Copy> Iterator for Strings<R> {
                 *self = Strings { parser: ahead, end };
                 Some(CharStr { parser })
             }
-            Err(_) => None,
+            Err(_) => unreachable!(),
         }
     }
 }

@@ -2,7 +2,7 @@
 ghost use Rattle.std.specs.Prelude.{◌≡◌, ◌≤◌, ℕ, List, [], ◌∷◌, IsErr, IfOk, IsNone, IfSome};
 ghost use Rattle.octseq.specs.Parser.{sequence, window};
 ghost use Rattle.octseq.specs.Window.{Window, rest};
-ghost use Rattle.octseq_dns_name.specs.Name.{IsName, Stands};
+ghost use Rattle.octseq_dns_name.specs.Name.{IsName, HasLabels};
 ghost use Rattle.octseq_dns_name.specs.NextLabel.{NextLabel};
 ghost use Rattle.octseq_dns_name.specs.OneName.{Ahead, Named};
 ghost use Rattle.octseq_dns_name.specs.Piece.{Piece, HasPiece, piece, IsPlaced, IsShort, IsShortLabel};
@@ -64,11 +64,11 @@ pub(crate) fn next_label<R: AsOctets + Copy>(
     requires ordered { start.old ≤ (window parser.old).position }
     requires known { Ahead start.old (window parser.old) }
     ensures some { IfSome result (λ label. (labels : List (List ℕ)) (pointers : ℕ) (end : Window)
-        → Stands start.old (window parser.old) labels pointers end
+        → HasLabels start.old (window parser.old) labels pointers end
         → (more : List (List ℕ)) × (fewer : ℕ) × (last : Window)
-        × (labels ≡ rest (window label) ∷ more) × Stands start.new (window parser.new) more fewer last) }
+        × (labels ≡ rest (window label) ∷ more) × HasLabels start.new (window parser.new) more fewer last) }
     ensures none { IsNone result → (labels : List (List ℕ)) (pointers : ℕ) (end : Window)
-        → Stands start.old (window parser.old) labels pointers end → labels ≡ [] }
+        → HasLabels start.old (window parser.old) labels pointers end → labels ≡ [] }
     ensures ordered { start.new ≤ (window parser.new).position }
     ensures short { IfSome result IsShort }
     ensures place { IfSome result (λ label.

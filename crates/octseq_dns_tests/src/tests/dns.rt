@@ -32,7 +32,7 @@ fn has_labels(rt: &impl Abort, octets: &[u8], place: usize, wanted: &[&[u8]]) ->
 }
 
 #[test]
-fn the_first_octet_tells_what_stands_there(rt: HostRuntime) -> Result<(), Fail> {
+fn the_first_octet_tells_what_is_there(rt: HostRuntime) -> Result<(), Fail> {
     for (octets, place, wanted) in [
         (b"\x00".as_slice(), 0, Some((1, 1))),
         (b"", 0, None),

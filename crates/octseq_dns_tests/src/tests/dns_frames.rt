@@ -113,7 +113,7 @@ fn ends_short(rt: &(impl Abort + AllocGlobal), stream: &[u8], messages: usize) -
 }
 
 #[test]
-fn a_stream_that_is_cut_off_is_told(rt: HostRuntime) -> Result<(), Fail> {
+fn a_stream_that_is_cut_off_is_reported(rt: HostRuntime) -> Result<(), Fail> {
     ends_short(&rt, &STREAM[..1], 0)?;
     ends_short(&rt, &STREAM[..2], 0)?;
     ends_short(&rt, &STREAM[..3], 0)?;

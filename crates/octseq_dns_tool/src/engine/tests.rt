@@ -92,7 +92,7 @@ fn message_is_shown(rt: HostRuntime) {
 
 /// Returns what a word writes for octets, on standard output and on standard error, if reads fail after the first
 /// `reads`.
-fn told(
+fn reported(
     alloc: Global,
     word: &str,
     octets: &[u8],
@@ -116,7 +116,7 @@ fn told(
 
 #[test]
 fn help_tells_commands_and_statuses(rt: HostRuntime) -> Result<(), Fail> {
-    let (answer, written, errors) = told(rt.alloc(), "--help", b"a", 0);
+    let (answer, written, errors) = reported(rt.alloc(), "--help", b"a", 0);
     assert_equal!(&rt, answer, Ok(Status::Fine));
     assert_true!(&rt, errors.is_empty());
     let text = str::from_utf8(&written)?;
@@ -137,10 +137,10 @@ fn help_tells_commands_and_statuses(rt: HostRuntime) -> Result<(), Fail> {
 }
 
 #[test]
-fn another_word_is_told_on_standard_error(rt: HostRuntime) {
-    let (_, help, _) = told(rt.alloc(), "--help", b"a", 0);
+fn another_word_is_reported_on_standard_error(rt: HostRuntime) {
+    let (_, help, _) = reported(rt.alloc(), "--help", b"a", 0);
     for word in ["", "mesage", "Stream", "-help"] {
-        let (answer, written, errors) = told(rt.alloc(), word, b"a", 0);
+        let (answer, written, errors) = reported(rt.alloc(), word, b"a", 0);
         assert_equal!(&rt, answer, Ok(Status::Usage));
         assert_true!(&rt, written.is_empty());
         assert_equal!(&rt, errors.as_slice(), help.as_slice());
@@ -148,7 +148,7 @@ fn another_word_is_told_on_standard_error(rt: HostRuntime) {
 }
 
 #[test]
-fn malformed_messages_are_told_by_number_and_place(rt: HostRuntime) -> Result<(), Fail> {
+fn malformed_messages_are_reported_by_number_and_place(rt: HostRuntime) -> Result<(), Fail> {
     let alloc = rt.alloc();
     // (part of a header, a message, a question that is missing, an extra octet, and part of an answer after a question)
     let stream = joined(
@@ -171,16 +171,16 @@ fn malformed_messages_are_told_by_number_and_place(rt: HostRuntime) -> Result<()
         message 4: malformed at octet 12\n\
         message 5: malformed at octet 29\n";
     for (command, status) in [("stream", Status::Fine), ("rewrite", Status::Refused)] {
-        let (answer, _, errors) = told(alloc, command, stream.as_slice(), usize::MAX);
+        let (answer, _, errors) = reported(alloc, command, stream.as_slice(), usize::MAX);
         assert_equal!(&rt, answer, Ok(status));
         assert_equal!(&rt, errors.as_slice(), lines.as_bytes());
     }
-    let (answer, written, errors) = told(alloc, "message", &REPLY[..44], usize::MAX);
+    let (answer, written, errors) = reported(alloc, "message", &REPLY[..44], usize::MAX);
     assert_equal!(&rt, answer, Ok(Status::Refused));
     assert_equal!(&rt, written.as_slice(), b"malformed\n".as_slice());
     let line = "message 1: malformed at octet 29\n";
     assert_equal!(&rt, errors.as_slice(), line.as_bytes());
-    let (_, _, errors) = told(alloc, "message", &REPLY, usize::MAX);
+    let (_, _, errors) = reported(alloc, "message", &REPLY, usize::MAX);
     assert_true!(&rt, errors.is_empty());
     Ok(())
 }
@@ -195,7 +195,7 @@ fn a_live_source_shows_at_once(rt: HostRuntime) -> Result<(), Fail> {
         ("stream", "id 0 opcode 0 rcode 0 flags\n\n".as_bytes()),
         ("rewrite", first.as_slice()),
     ] {
-        let (answer, written, errors) = told(alloc, command, stream.as_slice(), 2);
+        let (answer, written, errors) = reported(alloc, command, stream.as_slice(), 2);
         assert_equal!(&rt, answer, Err(ProgramFault::Read));
         assert_equal!(&rt, written.as_slice(), output);
         assert_true!(&rt, errors.is_empty());

@@ -83,7 +83,7 @@ fn ends_short(rt: &(impl Abort + AllocGlobal), len: usize) -> Result<(), Fail> {
 }
 
 #[test]
-fn a_file_that_is_cut_off_is_told(rt: HostRuntime) -> Result<(), Fail> {
+fn a_file_that_is_cut_off_is_reported(rt: HostRuntime) -> Result<(), Fail> {
     for len in 0..29 {
         ends_short(&rt, len)?;
     }
@@ -110,7 +110,7 @@ fn fails_after(rt: &(impl Abort + AllocGlobal), len: usize) -> Result<(), Fail> 
 }
 
 #[test]
-fn a_read_that_fails_is_told(rt: HostRuntime) -> Result<(), Fail> {
+fn a_read_that_fails_is_reported(rt: HostRuntime) -> Result<(), Fail> {
     for len in 0..29 {
         fails_after(&rt, len)?;
     }

@@ -263,7 +263,7 @@ fn a_reference_grows_what_it_refers_to(rt: HostRuntime) -> Result<(), Fail> {
 }
 
 /// Checks that octets are owned after an empty append.
-fn is_owned_behind_nothing(rt: &impl Abort, mut empty: CowOctets) -> Result<(), AppendError> {
+fn is_owned_after_nothing(rt: &impl Abort, mut empty: CowOctets) -> Result<(), AppendError> {
     empty.append_slice(b"")?;
     assert_true!(rt, !empty.is_borrowed());
     Ok(())
@@ -271,7 +271,7 @@ fn is_owned_behind_nothing(rt: &impl Abort, mut empty: CowOctets) -> Result<(), 
 
 #[test]
 fn borrowed_octets_are_copied_at_the_first_append(rt: HostRuntime) -> Result<(), Fail> {
-    is_owned_behind_nothing(&rt, CowOctets::borrowed(rt.alloc(), b""))?;
+    is_owned_after_nothing(&rt, CowOctets::borrowed(rt.alloc(), b""))?;
     let mut cow = CowOctets::borrowed(rt.alloc(), b"abc");
     cow.truncate(5);
     assert_equal!(&rt, cow.as_ref(), b"abc".as_slice());

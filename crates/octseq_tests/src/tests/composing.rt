@@ -193,7 +193,7 @@ fn is_appended(
 }
 
 #[test]
-fn parts_stand_behind_their_lengths(rt: HostRuntime) -> Result<(), Fail> {
+fn parts_come_after_their_lengths(rt: HostRuntime) -> Result<(), Fail> {
     let mut octets = Vec::new(rt.alloc());
     let appended = append_part_u8(&mut octets, b"");
     is_appended(&rt, appended, &octets, b"\0");

@@ -51,7 +51,7 @@ fn a_nested_parser_has_a_window_of_its_own(rt: HostRuntime) -> Result<(), Fail> 
 }
 
 /// Checks that a parser of "0123456789" is at a position, and shows what is left and no more.
-fn stands(rt: &impl Abort, parser: &Parser<&[u8]>, pos: usize) {
+fn is_at(rt: &impl Abort, parser: &Parser<&[u8]>, pos: usize) {
     let left = b"0123456789".get(pos..).unwrap_or(b"");
     assert_equal!(rt, (parser.pos(), parser.remaining()), (pos, left.len()));
     assert_equal!(rt, parser.peek_all(), left);
@@ -66,12 +66,12 @@ fn a_parser_moves_within_its_window(rt: HostRuntime) -> Result<(), Fail> {
     let mut parser = Parser::from_static(b"0123456789");
     for (place, pos) in [(0, 0), (2, 2), (10, 10), (11, 10)] {
         assert_equal!(&rt, parser.seek(place).is_ok(), place == pos);
-        stands(&rt, &parser, pos);
+        is_at(&rt, &parser, pos);
     }
     let mut parser = Parser::from_static(b"0123456789");
     for (len, is_moved, pos) in [(0, true, 0), (2, true, 2), (9, false, 2), (8, true, 10)] {
         assert_equal!(&rt, parser.advance(len).is_ok(), is_moved);
-        stands(&rt, &parser, pos);
+        is_at(&rt, &parser, pos);
     }
     let mut outer = Parser::from_static(b"0123456789");
     outer.advance(2)?;
@@ -79,7 +79,7 @@ fn a_parser_moves_within_its_window(rt: HostRuntime) -> Result<(), Fail> {
     assert_equal!(&rt, nested.peek_all(), b"2345".as_slice());
     nested.advance(2)?;
     assert_equal!(&rt, nested.peek_all(), b"45".as_slice());
-    stands(&rt, &outer, 6);
+    is_at(&rt, &outer, 6);
     Ok(())
 }
 

@@ -6,7 +6,7 @@ ghost use Rattle.octseq_core.specs.Refusal.{IsShort, IsMemory, append_error};
 ghost use Rattle.octseq_core.specs.declared.builder.AppendError.{AppendError};
 ghost use Rattle.octseq_utf8.specs.Encoding.{encoding_of};
 ghost use Rattle.octseq_utf8.specs.Parts.{IsBeginning, Part, Splits, text};
-ghost use Rattle.octseq_text.specs.Pieces.{Settles, StandsFor};
+ghost use Rattle.octseq_text.specs.Pieces.{Settles, HasRead};
 ghost use Rattle.octseq_text.specs.Progress.{IsOpenEnd, IsRead, IsTooLong};
 ghost use Rattle.octseq_utf8.specs.Text.{IsWellFormed};
 
@@ -51,7 +51,7 @@ impl<B: EmptyBuilder> LossyPieces<B> {
     ///
     /// `AllocError` if a request for memory was refused.
     pub fn new(alloc: Global) -> Result<Self, AllocError>
-        ensures stands { IfOk result (λ made. StandsFor made []) }
+        ensures has_read { IfOk result (λ made. HasRead made []) }
         ensures memory { OnErr result (B.asks ≡ true) }
     {
         let text = B::empty(alloc)?;
@@ -87,15 +87,15 @@ impl<B: EmptyBuilder> LossyPieces<B> {
             → (settled : List Part) × (end : List ℕ) × Settles octets settled end }
 
         // If the reading stood for octets, it now stands for them followed by the piece.
-        ensures stands { OnOk result ((octets : List ℕ)
-            → StandsFor self.old octets → StandsFor self.new (octets ++ piece.now)) }
+        ensures has_read { OnOk result ((octets : List ℕ)
+            → HasRead self.old octets → HasRead self.new (octets ++ piece.now)) }
 
         // If the text of their settled parts exceeds the limit, the call is refused; it is refused as short only then.
         ensures short { IsShort append_error result → (octets end : List ℕ) (settled : List Part)
-            → StandsFor self.old octets → Settles (octets ++ piece.now) settled end
+            → HasRead self.old octets → Settles (octets ++ piece.now) settled end
             → IsPast B.limit (length (text settled)) }
         ensures past { (octets end : List ℕ) (settled : List Part)
-            → StandsFor self.old octets → Settles (octets ++ piece.now) settled end
+            → HasRead self.old octets → Settles (octets ++ piece.now) settled end
             → IsPast B.limit (length (text settled)) → IsErr result }
         ensures memory { IsMemory append_error result → B.asks ≡ true }
 
@@ -123,15 +123,15 @@ impl<B: EmptyBuilder> LossyPieces<B> {
             → (settled : List Part) × (end : List ℕ) × Settles octets settled end }
 
         // If the reading stood for octets, it now stands for them followed by the piece.
-        ensures stands { OnOk result ((octets : List ℕ)
-            → StandsFor self.old octets → StandsFor self.new (octets ++ piece.now)) }
+        ensures has_read { OnOk result ((octets : List ℕ)
+            → HasRead self.old octets → HasRead self.new (octets ++ piece.now)) }
 
         // If the text of their settled parts exceeds the limit, the call is refused; it is refused as short only then.
         ensures short { IsShort append_error result → (octets end : List ℕ) (settled : List Part)
-            → StandsFor self.old octets → Settles (octets ++ piece.now) settled end
+            → HasRead self.old octets → Settles (octets ++ piece.now) settled end
             → IsPast B.limit (length (text settled)) }
         ensures past { (octets end : List ℕ) (settled : List Part)
-            → StandsFor self.old octets → Settles (octets ++ piece.now) settled end
+            → HasRead self.old octets → Settles (octets ++ piece.now) settled end
             → IsPast B.limit (length (text settled)) → IsErr result }
         ensures memory { IsMemory append_error result → B.asks ≡ true }
 
@@ -191,14 +191,14 @@ impl<B: EmptyBuilder> LossyPieces<B> {
 
         // The result is the text of all parts of the octets that the reading stands for.
         ensures text { IfOk result (λ made. (octets : List ℕ) (parts : List Part)
-            → StandsFor self octets → Splits octets parts → B.content made ≡ text parts) }
+            → HasRead self octets → Splits octets parts → B.content made ≡ text parts) }
         ensures well_formed { IfOk result (λ made. IsWellFormed (B.content made)) }
 
         // If that text exceeds the limit, the call is refused; it is refused as short only then.
         ensures short { IsShort append_error result → (octets : List ℕ) (parts : List Part)
-            → StandsFor self octets → Splits octets parts → IsPast B.limit (length (text parts)) }
+            → HasRead self octets → Splits octets parts → IsPast B.limit (length (text parts)) }
         ensures past { (octets : List ℕ) (parts : List Part)
-            → StandsFor self octets → Splits octets parts
+            → HasRead self octets → Splits octets parts
             → IsPast B.limit (length (text parts)) → IsErr result }
         ensures memory { IsMemory append_error result → B.asks ≡ true }
 

@@ -2,7 +2,7 @@
 ghost use Rattle.std.specs.Prelude.{◌≡◌, ℕ, ◌<◌, ◌^◌, List, [], ◌++◌, length, IsFalse, IfOk, OnOk, OnErr};
 ghost use Rattle.std.specs.Io.KnownBytes.{Consumes, IsAtEnd};
 ghost use Rattle.octseq.specs.FaultSearch.{HasSearched};
-ghost use Rattle.octseq.specs.Pieces.{StandsFor};
+ghost use Rattle.octseq.specs.Pieces.{HasRead};
 
 use octseq::str::LossyPieces;
 use octseq::utf8::FaultPieces;
@@ -17,7 +17,7 @@ pub const PIECE: usize = 64 * 1024;
 /// A consumer of octets that come in pieces.
 pub trait Feed {
     // what it is after these octets
-    ghost stands_for: { Self → List ℕ → Type 0 };
+    ghost has_read: { Self → List ℕ → Type 0 };
 
     /// Takes the next piece.
     ///
@@ -26,11 +26,11 @@ pub trait Feed {
     /// `Memory` if a request for memory was refused, `Read` if there are more octets than can be counted.
     fn take_in(&mut self, piece: &[u8]) -> Result<(), ProgramFault>
         ensures { OnOk result ((octets : List ℕ)
-            → stands_for self.old octets → stands_for self.new (octets ++ piece.now)) };
+            → has_read self.old octets → has_read self.new (octets ++ piece.now)) };
 }
 
 impl Feed for LossyPieces<Vec<u8>> {
-    ghost stands_for = { λ pieces octets. StandsFor pieces octets };
+    ghost has_read = { λ pieces octets. HasRead pieces octets };
 
     fn take_in(&mut self, piece: &[u8]) -> Result<(), ProgramFault> {
         // (a vector has no limit, so it refuses only for lack of memory)
@@ -61,7 +61,7 @@ impl Searched {
 }
 
 impl Feed for Searched {
-    ghost stands_for = { λ searched octets.
+    ghost has_read = { λ searched octets.
         HasSearched searched.search octets × (searched.len ≡ length octets) × (length octets < 2 ^ 64) };
 
     fn take_in(&mut self, piece: &[u8]) -> Result<(), ProgramFault> {
@@ -84,8 +84,8 @@ pub fn feed_all<R: Read, F: Feed>(
     reader: &mut R,
     fed: &mut F,
 ) -> Result<(), ProgramFault>
-    requires { F.stands_for fed.old [] }
-    ensures ok { OnOk result ((input : List ℕ) × F.stands_for fed.new input
+    requires { F.has_read fed.old [] }
+    ensures ok { OnOk result ((input : List ℕ) × F.has_read fed.new input
         × Consumes (R.remaining reader.old) (R.remaining reader.new) input) }
     ensures end { OnOk result (IsAtEnd (R.remaining reader.new)) }
     ensures err { OnErr result ((read : List ℕ) × Consumes (R.remaining reader.old) (R.remaining reader.new) read) }
@@ -109,7 +109,7 @@ fn feed_next<R: Read, F: Feed>(
     ensures room { length room.new ≡ length room.old }
     ensures fed { OnOk result ((octets : List ℕ)
         × Consumes (R.remaining reader.old) (R.remaining reader.new) octets
-        × ((before : List ℕ) → F.stands_for fed.old before → F.stands_for fed.new (before ++ octets))) }
+        × ((before : List ℕ) → F.has_read fed.old before → F.has_read fed.new (before ++ octets))) }
     ensures end { IfOk result (λ is_more. IsFalse is_more → IsAtEnd (R.remaining reader.new)) }
     ensures err { OnErr result ((read : List ℕ) × Consumes (R.remaining reader.old) (R.remaining reader.new) read) }
 {

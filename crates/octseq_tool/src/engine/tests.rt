@@ -102,7 +102,7 @@ fn one_argument_is_the_command(rt: HostRuntime) -> Result<(), Fail> {
 
 /// Returns the result of a word that isn't a command, and what it writes to standard output and standard error, without
 /// a read.
-fn told(alloc: Global, word: &str) -> (Result<Status, ProgramFault>, Vec<u8>, Vec<u8>) {
+fn reported(alloc: Global, word: &str) -> (Result<Status, ProgramFault>, Vec<u8>, Vec<u8>) {
     let mut reader = Drip {
         rest: b"a",
         at_once: 1,
@@ -121,7 +121,7 @@ fn told(alloc: Global, word: &str) -> (Result<Status, ProgramFault>, Vec<u8>, Ve
 
 #[test]
 fn help_tells_commands_and_statuses(rt: HostRuntime) -> Result<(), Fail> {
-    let (answer, written, errors) = told(rt.alloc(), "--help");
+    let (answer, written, errors) = reported(rt.alloc(), "--help");
     assert_equal!(&rt, answer, Ok(Status::Fine));
     assert_true!(&rt, errors.is_empty());
     let text = str::from_utf8(&written)?;
@@ -143,10 +143,10 @@ fn help_tells_commands_and_statuses(rt: HostRuntime) -> Result<(), Fail> {
 }
 
 #[test]
-fn another_word_is_told_on_standard_error(rt: HostRuntime) {
-    let (_, help, _) = told(rt.alloc(), "--help");
+fn another_word_is_reported_on_standard_error(rt: HostRuntime) {
+    let (_, help, _) = reported(rt.alloc(), "--help");
     for word in ["", "chek", "-help", "Check"] {
-        let (answer, written, errors) = told(rt.alloc(), word);
+        let (answer, written, errors) = reported(rt.alloc(), word);
         assert_equal!(&rt, answer, Ok(Status::Usage));
         assert_true!(&rt, written.is_empty());
         assert_equal!(&rt, errors.as_slice(), help.as_slice());

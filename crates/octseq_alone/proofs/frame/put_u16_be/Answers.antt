@@ -11,9 +11,9 @@ returns-clause-content g c =
     let old = g.B.AsOctets.content c.args.octets.now in
     let put = c.copy_from_slice.new.self in
     let same : put ≡ octets = c.copy_from_slice.ensures.after ∙ c.to_be_bytes.ensures ∙ made_be_2 c.args.value in
-    let behind : at + (at + 2 - at) ≡ at + 2 = omega arith in
+    let end : at + (at + 2 - at) ≡ at + 2 = omega arith in
     let all = ap (λ shown. take at shown ++ (put ++ drop (at + 2 - at) (drop at shown))) c.as_mut.ensures.value
-    ∙ ap (λ more. take at old ++ (put ++ more)) (drop-drop (at + 2 - at) at old ∙ ap (λ n. drop n old) behind)
+    ∙ ap (λ more. take at old ++ (put ++ more)) (drop-drop (at + 2 - at) at old ∙ ap (λ n. drop n old) end)
     ∙ ap (λ put. take at old ++ (put ++ drop (at + 2) old)) same in
     let long : length (take at old ++ (octets ++ drop (at + 2) old)) ≡ length old =
     omega (

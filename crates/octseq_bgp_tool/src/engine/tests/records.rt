@@ -1,5 +1,5 @@
 //! Files of records.
-use super::{KEEPALIVE, MARKER, joined, shows, told};
+use super::{KEEPALIVE, MARKER, joined, shows, reported};
 use octseq_program::{ProgramFault, Status};
 use std::alloc::{AllocError, Global};
 use std::process::Abort;
@@ -68,7 +68,7 @@ fn records_are_shown(rt: HostRuntime) -> Result<(), Fail> {
 #[test]
 fn messages_are_taken_as_they_are(rt: HostRuntime) -> Result<(), Fail> {
     let octets = file(rt.alloc())?;
-    let it = told(rt.alloc(), "messages", &octets, 7, usize::MAX);
+    let it = reported(rt.alloc(), "messages", &octets, 7, usize::MAX);
     assert_equal!(&rt, it.answer, Ok(Status::Fine));
     let stream = joined(rt.alloc(), &[&MARKER, &KEEPALIVE])?;
     assert_equal!(&rt, it.written.as_slice(), stream.as_slice());
@@ -77,7 +77,7 @@ fn messages_are_taken_as_they_are(rt: HostRuntime) -> Result<(), Fail> {
 }
 
 #[test]
-fn a_record_that_is_cut_off_is_told(rt: HostRuntime) -> Result<(), Fail> {
+fn a_record_that_is_cut_off_is_reported(rt: HostRuntime) -> Result<(), Fail> {
     let octets = joined(rt.alloc(), &[&header(5, 12), &OPAQUE])?;
     for len in 1..octets.len() {
         let front = &octets[..len];
@@ -100,7 +100,7 @@ fn a_record_that_is_cut_off_is_told(rt: HostRuntime) -> Result<(), Fail> {
 fn records_before_a_failed_read_are_shown(rt: HostRuntime) -> Result<(), Fail> {
     let octets = file(rt.alloc())?;
     // (a header and what follows it are read one after the other, and the third read fails)
-    let it = told(rt.alloc(), "mrt", &octets, usize::MAX, 2);
+    let it = reported(rt.alloc(), "mrt", &octets, usize::MAX, 2);
     assert_equal!(&rt, it.answer, Err(ProgramFault::Read));
     let text = file_text(rt.alloc())?;
     let first = text.as_bytes().get(..it.written.len());

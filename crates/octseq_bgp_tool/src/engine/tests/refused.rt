@@ -14,7 +14,7 @@ use std::process::Abort;
 use std::test::Fail;
 
 /// Runs a command, which writes its whole output, or a front of it if memory is refused.
-fn is_told(
+fn is_reported(
     rt: &impl Abort,
     alloc: Global,
     word: &str,
@@ -44,13 +44,13 @@ fn is_told(
 #[test]
 fn message_tells_all_or_nothing(rt: HostRuntime) -> Result<(), Fail> {
     let octets = messages(rt.alloc(), &[&UPDATE])?;
-    is_told(&rt, rt.alloc(), "message", &octets, UPDATE_TEXT.as_bytes())
+    is_reported(&rt, rt.alloc(), "message", &octets, UPDATE_TEXT.as_bytes())
 }
 
 #[test]
 fn stream_tells_a_front(rt: HostRuntime) -> Result<(), Fail> {
     let octets = messages(rt.alloc(), &[&KEEPALIVE, &[0, 19, 6]])?;
-    is_told(
+    is_reported(
         &rt,
         rt.alloc(),
         "stream",
@@ -63,7 +63,7 @@ fn stream_tells_a_front(rt: HostRuntime) -> Result<(), Fail> {
 fn records_tell_a_front(rt: HostRuntime) -> Result<(), Fail> {
     let octets = file(rt.alloc())?;
     let text = file_text(rt.alloc())?;
-    is_told(&rt, rt.alloc(), "mrt", &octets, text.as_bytes())
+    is_reported(&rt, rt.alloc(), "mrt", &octets, text.as_bytes())
 }
 
 #[test]

@@ -1,5 +1,5 @@
 //! Streams of messages.
-use super::{KEEPALIVE, MARKER, SHORT_TEXT, UPDATE, UPDATE_TEXT, joined, messages, shows, told};
+use super::{KEEPALIVE, MARKER, SHORT_TEXT, UPDATE, UPDATE_TEXT, joined, messages, shows, reported};
 use octseq::StrBuilder;
 use octseq_program::{ProgramFault, Status};
 use std::alloc::{AllocError, Global};
@@ -112,7 +112,7 @@ fn a_long_message_is_shown_where_it_may_be_long(rt: HostRuntime) -> Result<(), F
     // (65,512 prefixes of no bits)
     let mut octets = messages(rt.alloc(), &[&[0xFF, 0xFF, 2, 0, 0, 0, 0]])?;
     octets.resize(65_535, 0)?;
-    let it = told(
+    let it = reported(
         rt.alloc(),
         "stream,extended",
         &octets,
@@ -128,7 +128,7 @@ fn a_long_message_is_shown_where_it_may_be_long(rt: HostRuntime) -> Result<(), F
             .as_slice()
             .ends_with(b"/0\nannounced 0.0.0.0/0\n\n")
     );
-    let short = told(rt.alloc(), "stream", &octets, usize::MAX, usize::MAX);
+    let short = reported(rt.alloc(), "stream", &octets, usize::MAX, usize::MAX);
     assert_equal!(&rt, short.answer, Ok(Status::Refused));
     assert_equal!(&rt, short.written.as_slice(), b"malformed\n\n".as_slice());
     Ok(())
@@ -138,7 +138,7 @@ fn a_long_message_is_shown_where_it_may_be_long(rt: HostRuntime) -> Result<(), F
 fn a_live_source_shows_at_once(rt: HostRuntime) -> Result<(), Fail> {
     let octets = messages(rt.alloc(), &[&KEEPALIVE, &UPDATE])?;
     // (two reads yield the first message, and the third one fails)
-    let it = told(rt.alloc(), "stream", &octets, usize::MAX, 2);
+    let it = reported(rt.alloc(), "stream", &octets, usize::MAX, 2);
     assert_equal!(&rt, it.answer, Err(ProgramFault::Read));
     assert_equal!(&rt, it.written.as_slice(), b"keepalive\n\n".as_slice());
     assert_true!(&rt, it.errors.is_empty());

@@ -2,7 +2,7 @@ use Rattle.std.proofs.Common.{length, ◌∙◌, ap, refl, arith}
 use Rattle.octseq_dns.specs.Parsed.{additionals_of, answers_of, authorities_of, header_of, questions_of}
 use Rattle.octseq_c.specs.Made.{IsAnswer}
 use Rattle.octseq_c.proofs.OneAnswer.{answer_of, one_answer}
-use Rattle.octseq_c.proofs.Puts.{not_told, puts_copied, puts_none, told}
+use Rattle.octseq_c.proofs.Puts.{not_reported, puts_copied, puts_none, reported}
 use Rattle.octseq_c.proofs.answer.octseq_dns_answer.Goals as goal
 
 pub returns-in-Ok-answer-clause-puts : goal.returns-in-Ok-answer-clause-puts
@@ -51,14 +51,14 @@ returns-in-Err-clause-puts c = puts_none _ 2 (λ e. omega (arith, e)) (λ e. ome
 
 pub returns-in-Err-clause-malformed : goal.returns-in-Err-clause-malformed
 returns-in-Err-clause-malformed c =
-    told 2 (λ some. c.in-Err.ensures.malformed refl some.0 some.1 some.2 some.3 some.4 some.5)
+    reported 2 (λ some. c.in-Err.ensures.malformed refl some.0 some.1 some.2 some.3 some.4 some.5)
 
 pub returns-in-Err-clause-bad_row : goal.returns-in-Err-clause-bad_row
 returns-in-Err-clause-bad_row c =
-    not_told 2 6 (λ e. omega (arith, e))
+    not_reported 2 6 (λ e. omega (arith, e))
     (λ p. let some = p.0 in c.in-Err.ensures.malformed refl some.0 some.1 some.2 some.3 some.4 some.5)
 
 pub returns-in-Err-clause-immovable : goal.returns-in-Err-clause-immovable
 returns-in-Err-clause-immovable c =
-    not_told 2 4 (λ e. omega (arith, e))
+    not_reported 2 4 (λ e. omega (arith, e))
     (λ p. let some = p.0 in c.in-Err.ensures.malformed refl some.0 some.1 some.2 some.3 some.4 some.5)

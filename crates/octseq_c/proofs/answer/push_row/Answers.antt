@@ -1,6 +1,6 @@
 use Rattle.std.proofs.Common.{◌≡◌, inl, inr, ◌∙◌, refl}
 use Rattle.octseq.specs.Window.{at, nested, whole}
-use Rattle.octseq_dns.specs.Pushed.{told}
+use Rattle.octseq_dns.specs.Pushed.{pushed_record}
 use Rattle.octseq_dns.specs.Rdata.{bare_rdata, rdata_fields, rtype_of}
 use Rattle.octseq_dns.specs.Read.{labels_of}
 use Rattle.octseq_dns.specs.Typed.{rdata_of}
@@ -24,7 +24,7 @@ returns-clause-pushed g c =
     let rtypes : rtype_of (bare_rdata parsed) ≡ row.rtype = bare_rtype parsed
     ∙ said_rtype row.rtype row.class inside (nested row.data_len inside) parsed is.says in
     let went = c.push_record.ensures.pushed in (
-      told owner (rtype_of (bare_rdata parsed)) c.from_int-class.result c.from_secs-ttl.result fields,
+      pushed_record owner (rtype_of (bare_rdata parsed)) c.from_int-class.result c.from_secs-ttl.result fields,
       record {
         labels = labels_of owner;
         name = c.in-Ok.ensures.name;

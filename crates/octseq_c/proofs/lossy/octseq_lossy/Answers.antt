@@ -1,9 +1,9 @@
 use Rattle.std.proofs.Common.{arith, ◌∙◌, ◌++◌}
 use Rattle.octseq_utf8.specs.Parts.{text}
 use Rattle.octseq_c.specs.LossyText.{IsLossyText}
-use Rattle.octseq_c.proofs.Puts.{puts_ok, puts_no_room, puts_none, told, not_told}
-use Rattle.octseq_c.proofs.Told.{fills_both, fits}
-use Rattle.octseq_c.proofs.Told.{lossy_past, lossy_made, lossy_len, lossy_past_end}
+use Rattle.octseq_c.proofs.Puts.{puts_ok, puts_no_room, puts_none, reported, not_reported}
+use Rattle.octseq_c.proofs.Reported.{fills_both, fits}
+use Rattle.octseq_c.proofs.Reported.{lossy_past, lossy_made, lossy_len, lossy_past_end}
 use Rattle.octseq_c.proofs.Wholes.{one_lossy_text}
 use Rattle.octseq_c.proofs.lossy.octseq_lossy.Goals as goal
 
@@ -14,7 +14,7 @@ returns-in_default-clause-puts c =
     puts_none (IsLossyText c.args.octets.now) 5 (λ e. omega arith) (λ e. omega arith) (one_lossy_text _)
 
 pub returns-in_default-clause-too_long : goal.returns-in_default-clause-too_long
-returns-in_default-clause-too_long c = told 5 (lossy_past c.in_default.ensures.past)
+returns-in_default-clause-too_long c = reported 5 (lossy_past c.in_default.ensures.past)
 
 pub returns-in_default-checked_add-clause-puts : goal.returns-in_default-checked_add-clause-puts
 returns-in_default-checked_add-clause-puts c =
@@ -22,7 +22,7 @@ returns-in_default-checked_add-clause-puts c =
 
 pub returns-in_default-checked_add-clause-too_long : goal.returns-in_default-checked_add-clause-too_long
 returns-in_default-checked_add-clause-too_long c =
-    told 5 (lossy_past_end c.in-Some.ensures.measured _ c.replacement-end.ensures c.in_default-checked_add.ensures)
+    reported 5 (lossy_past_end c.in-Some.ensures.measured _ c.replacement-end.ensures c.in_default-checked_add.ensures)
 
 -- there is no room
 
@@ -38,7 +38,7 @@ pub returns-then-len-out-clause-too_long : goal.returns-then-len-out-clause-too_
 returns-then-len-out-clause-too_long c =
     let m = c.in-Some.ensures.measured in
     let end = c.replacement-end.result.now in
-    not_told 1 5 (λ e. omega arith)
+    not_reported 1 5 (λ e. omega arith)
     (fits {Is = IsLossyText c.args.octets.now} (one_lossy_text _) (text m.settled ++ end)
     (lossy_made m end c.replacement-end.ensures)
     (omega (arith, c.in-Some-checked_add.ensures.0, lossy_len m end)))
@@ -59,7 +59,7 @@ pub returns-clause-too_long : goal.returns-clause-too_long
 returns-clause-too_long c =
     let m = c.in-Some.ensures.measured in
     let end = c.replacement-end.result.now in
-    not_told 0 5 (λ e. omega arith)
+    not_reported 0 5 (λ e. omega arith)
     (fits {Is = IsLossyText c.args.octets.now} (one_lossy_text _) (text m.settled ++ end)
     (lossy_made m end c.replacement-end.ensures)
     (omega (arith, c.in-Some-checked_add.ensures.0, lossy_len m end)))

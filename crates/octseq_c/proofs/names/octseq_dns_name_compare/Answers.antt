@@ -3,7 +3,7 @@ use Rattle.octseq_dns_name.specs.Order.{name_cmp}
 use Rattle.octseq_dns_name.specs.Read.{labels_of}
 use Rattle.octseq_c.proofs.OneNames.{one_at}
 use Rattle.octseq_c.proofs.Orders.{stored}
-use Rattle.octseq_c.proofs.Puts.{told}
+use Rattle.octseq_c.proofs.Puts.{reported}
 use Rattle.octseq_c.proofs.names.octseq_dns_name_compare.Goals as goal
 
 pub returns-in-Ok-Ok-clause-ok : goal.returns-in-Ok-Ok-clause-ok
@@ -15,4 +15,4 @@ returns-in-Ok-Ok-clause-ok c = λ ok labels others one other.
 
 pub returns-in_default-2-clause-malformed : goal.returns-in_default-2-clause-malformed
 returns-in_default-2-clause-malformed c =
-    told 2 (λ labels others one other. c.in_default.ensures.malformed refl labels one)
+    reported 2 (λ labels others one other. c.in_default.ensures.malformed refl labels one)

@@ -4,7 +4,7 @@ use Rattle.octseq_dns_name.specs.Read.{labels_of}
 use Rattle.octseq_dns_name.specs.Text.{name_text}
 use Rattle.octseq_c.specs.Texts.{IsNameText}
 use Rattle.octseq_c.proofs.OneNames.{one_name_text}
-use Rattle.octseq_c.proofs.Puts.{puts_as, puts_none, told}
+use Rattle.octseq_c.proofs.Puts.{puts_as, puts_none, reported}
 use Rattle.octseq_c.proofs.names.octseq_dns_name_text.Goals as goal
 
 pub returns-in-Ok-clause-puts : goal.returns-in-Ok-clause-puts
@@ -24,4 +24,4 @@ returns-in-Err-clause-puts c =
     puts_none (IsNameText c.args.octets.now c.args.place) 2 (λ e. omega arith) (λ e. omega arith) (one_name_text c.args.octets.now c.args.place)
 
 pub returns-in-Err-clause-malformed : goal.returns-in-Err-clause-malformed
-returns-in-Err-clause-malformed c = told 2 (c.in-Err.ensures.malformed refl)
+returns-in-Err-clause-malformed c = reported 2 (c.in-Err.ensures.malformed refl)

@@ -2,7 +2,7 @@ use Rattle.std.proofs.Common.{◌∙◌, arith, refl}
 use Rattle.octseq_dns_name.specs.Read.{labels_of}
 use Rattle.octseq_c.specs.Texts.{IsNameWire}
 use Rattle.octseq_c.proofs.OneNames.{one_name_wire}
-use Rattle.octseq_c.proofs.Puts.{puts_copied, puts_none, told}
+use Rattle.octseq_c.proofs.Puts.{puts_copied, puts_none, reported}
 use Rattle.octseq_c.proofs.names.octseq_dns_name_wire.Goals as goal
 
 pub returns-in-Ok-clause-puts : goal.returns-in-Ok-clause-puts
@@ -17,4 +17,4 @@ returns-in-Err-clause-puts c =
     puts_none (IsNameWire c.args.octets.now c.args.place) 2 (λ e. omega arith) (λ e. omega arith) (one_name_wire c.args.octets.now c.args.place)
 
 pub returns-in-Err-clause-malformed : goal.returns-in-Err-clause-malformed
-returns-in-Err-clause-malformed c = told 2 (c.in-Err.ensures.malformed refl)
+returns-in-Err-clause-malformed c = reported 2 (c.in-Err.ensures.malformed refl)

@@ -1,5 +1,5 @@
 use Rattle.std.proofs.Common.{refl, sym, ◌∙◌}
-use Rattle.octseq_c.proofs.OpenEnds.{open_well_formed, open_at_front, open_behind}
+use Rattle.octseq_c.proofs.OpenEnds.{open_well_formed, open_at_front, open_after}
 use Rattle.octseq_c.proofs.pieces.is_open_end.Goals as goal
 
 pub returns-in-None : goal.returns-in-None
@@ -12,4 +12,4 @@ returns-then-valid_up_to-eq0 c =
 
 pub returns-else-valid_up_to-eq0 : goal.returns-else-valid_up_to-eq0
 returns-else-valid_up_to-eq0 c =
-    open_behind _ c.in-Some.fault _ c.in-Some.ensures.fault c.valid_up_to.ensures c.if-valid_up_to-eq0.false
+    open_after _ c.in-Some.fault _ c.in-Some.ensures.fault c.valid_up_to.ensures c.if-valid_up_to-eq0.false

@@ -2,9 +2,9 @@ use Rattle.std.proofs.Common.{arith, ap, ◌∙◌, ◌++◌, take, drop}
 use Rattle.octseq_utf8.specs.Parts.{text}
 use Rattle.octseq_c.specs.LossyText.{IsSettledText, held}
 use Rattle.octseq_c.proofs.Readings.{end_few}
-use Rattle.octseq_c.proofs.Puts.{puts_ok, puts_no_room, puts_none, not_told}
-use Rattle.octseq_c.proofs.Told.{fills_both, fits, state_left}
-use Rattle.octseq_c.proofs.Told.{one_settled_text, settled_made, settled_len}
+use Rattle.octseq_c.proofs.Puts.{puts_ok, puts_no_room, puts_none, not_reported}
+use Rattle.octseq_c.proofs.Reported.{fills_both, fits, state_left}
+use Rattle.octseq_c.proofs.Reported.{one_settled_text, settled_made, settled_len}
 use Rattle.octseq_c.proofs.pieces.octseq_lossy_piece.Goals as goal
 
 -- the text is too long
@@ -23,7 +23,7 @@ returns-then-reading-out-clause-puts c =
 pub returns-then-reading-out-clause-too_long : goal.returns-then-reading-out-clause-too_long
 returns-then-reading-out-clause-too_long c =
     let r = rw c.in-Some.ensures.some at c.in-Some-plan.ensures.some in
-    not_told 1 5 (λ e. omega arith)
+    not_reported 1 5 (λ e. omega arith)
     (λ p. fits {Is = IsSettledText (held c.args.state.now ++ c.args.piece.now)} (one_settled_text _)
     (text r.before ++ text r.more) (settled_made r) (omega (arith, settled_len r, r.fits)) p.1)
 
@@ -52,6 +52,6 @@ returns-clause-state c =
 pub returns-clause-too_long : goal.returns-clause-too_long
 returns-clause-too_long c =
     let r = rw c.in-Some.ensures.some at c.in-Some-plan.ensures.some in
-    not_told 0 5 (λ e. omega arith)
+    not_reported 0 5 (λ e. omega arith)
     (λ p. fits {Is = IsSettledText (held c.args.state.now ++ c.args.piece.now)} (one_settled_text _)
     (text r.before ++ text r.more) (settled_made r) (omega (arith, settled_len r)) p.1)

@@ -2,7 +2,7 @@ use Rattle.std.proofs.Common.{refl, arith}
 use Rattle.octseq_dns_message.specs.Parsed.{header_of, questions_of, answers_of, authorities_of, additionals_of}
 use Rattle.octseq_c.specs.Rows.{AreRowsOf, rows_of}
 use Rattle.octseq_c.proofs.OneMessages.{one_rows_of}
-use Rattle.octseq_c.proofs.Puts.{puts_ok, puts_no_room, puts_none, told}
+use Rattle.octseq_c.proofs.Puts.{puts_ok, puts_no_room, puts_none, reported}
 use Rattle.octseq_c.proofs.rows.octseq_dns_rows.Goals as goal
 
 pub returns-in-Err-clause-puts : goal.returns-in-Err-clause-puts
@@ -11,7 +11,7 @@ returns-in-Err-clause-puts c =
 
 pub returns-in-Err-clause-malformed : goal.returns-in-Err-clause-malformed
 returns-in-Err-clause-malformed c =
-    told 2 (λ (header, questions, answers, authorities, additionals, is).
+    reported 2 (λ (header, questions, answers, authorities, additionals, is).
     c.in-Err.ensures.malformed refl header questions answers authorities additionals is)
 
 pub returns-then-count-out-clause-puts : goal.returns-then-count-out-clause-puts

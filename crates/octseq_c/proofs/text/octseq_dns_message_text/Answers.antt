@@ -3,7 +3,7 @@ use Rattle.octseq_dns_message.specs.Parsed.{header_of, questions_of, answers_of,
 use Rattle.octseq_c.specs.Texts.{IsTextOf}
 use Rattle.octseq_dns_message.proofs.Messages.{said_once}
 use Rattle.octseq_c.proofs.OneMessages.{moved_text, one_text_of}
-use Rattle.octseq_c.proofs.Puts.{puts_as, puts_none, told}
+use Rattle.octseq_c.proofs.Puts.{puts_as, puts_none, reported}
 use Rattle.octseq_c.proofs.text.octseq_dns_message_text.Goals as goal
 
 pub returns-in-Ok-clause-puts : goal.returns-in-Ok-clause-puts
@@ -30,5 +30,5 @@ returns-in-Err-clause-puts c =
 
 pub returns-in-Err-clause-malformed : goal.returns-in-Err-clause-malformed
 returns-in-Err-clause-malformed c =
-    told 2 (λ (header, questions, answers, authorities, additionals, is).
+    reported 2 (λ (header, questions, answers, authorities, additionals, is).
     c.in-Err.ensures.malformed refl header questions answers authorities additionals is)

@@ -13,13 +13,13 @@ returns-in-Ok-clause-text g c = λ t.
     let shown = c.in-Ok.ensures.shown in
     let writer = c.into_inner-writer.result in
     let written = shown.2 c.new-f.ensures.plain in
-    let told = contents_after_writes _ (λ w. take w.len w.octets.now) (λ _ _ _ told. told) _ _ _ written.wrote in
+    let reported = contents_after_writes _ (λ w. take w.len w.octets.now) (λ _ _ _ reported. reported) _ _ _ written.wrote in
     let first = ap (λ w. take w.len w.octets.now) c.new-f.ensures.writer in
     let last = ap (λ w. take w.len w.octets.now) c.into_inner-writer.ensures in
     let none = ap (λ n. take n c.new.result.octets.now ++ shown.0) c.new.ensures.len in
     let long = ap length (one_message_text _ _ _ _ _ _ _ shown.1 c.requires.fits.1) in
     let whole = whole_front writer.len writer.octets.now shown.0 (omega (arith, writer.within, writer.room))
-    (last ∙ told ∙ ap (λ front. front ++ shown.0) first ∙ none)
+    (last ∙ reported ∙ ap (λ front. front ++ shown.0) first ∙ none)
     (omega (arith, long, c.requires.fits.2, writer.room, c.requires.room)) in
     subst (IsMessageText (header_of message) (questions_of message) (answers_of message) (authorities_of message)
     (additionals_of message)) (sym (c.into_octets.ensures.octets ∙ whole)) shown.1
@@ -29,11 +29,11 @@ returns-in-Ok-clause-utf8 g c = λ t.
     let shown = c.in-Ok.ensures.shown in
     let writer = c.into_inner-writer.result in
     let written = shown.2 c.new-f.ensures.plain in
-    let told = contents_after_writes _ (λ w. take w.len w.octets.now) (λ _ _ _ told. told) _ _ _ written.wrote in
+    let reported = contents_after_writes _ (λ w. take w.len w.octets.now) (λ _ _ _ reported. reported) _ _ _ written.wrote in
     let first = ap (λ w. take w.len w.octets.now) c.new-f.ensures.writer in
     let last = ap (λ w. take w.len w.octets.now) c.into_inner-writer.ensures in
     let none = ap (λ n. take n c.new.result.octets.now ++ shown.0) c.new.ensures.len in
-    let front = last ∙ told ∙ ap (λ front. front ++ shown.0) first ∙ none in
+    let front = last ∙ reported ∙ ap (λ front. front ++ shown.0) first ∙ none in
     let long = ap length (one_message_text _ _ _ _ _ _ _ shown.1 c.requires.fits.1) in
     let whole = whole_front writer.len writer.octets.now shown.0 (omega (arith, writer.within, writer.room)) front
     (omega (arith, long, c.requires.fits.2, writer.room, c.requires.room)) in

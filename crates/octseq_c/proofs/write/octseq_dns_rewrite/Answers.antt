@@ -5,7 +5,7 @@ use Rattle.octseq.specs.Refusal.{Is, Refusal}
 use Rattle.octseq_dns.specs.Rewritten.{rewrite_error}
 use Rattle.octseq_c.specs.Made.{IsRewritten}
 use Rattle.octseq_c.proofs.OneRewriting.{moved_can, moved_contents, no_memory, not_both, one_rewriting, stable}
-use Rattle.octseq_c.proofs.Puts.{not_told, puts_copied, puts_none, told}
+use Rattle.octseq_c.proofs.Puts.{not_reported, puts_copied, puts_none, reported}
 use Rattle.octseq_c.proofs.write.octseq_dns_rewrite.Goals as goal
 
 -- ---- it was written
@@ -67,7 +67,7 @@ returns-in-Err-Short c =
     record {
       puts = puts_none (IsRewritten c.args.octets.now) 5 (λ e. omega arith) (λ e. omega arith)
           (one_rewriting c.args.octets.now);
-      malformed = not_told 5 2 (λ e. omega arith) (λ not. not (
+      malformed = not_reported 5 2 (λ e. omega arith) (λ not. not (
         header_of message,
         questions_of message,
         answers_of message,
@@ -75,7 +75,7 @@ returns-in-Err-Short c =
         additionals_of message,
         c.in-Ok.ensures.message,
       ));
-      immovable = not_told 5 4 (λ e. omega arith) (λ is.
+      immovable = not_reported 5 4 (λ e. omega arith) (λ is.
           let same = said_once c.args.octets.now _ _ _ _ _ _ _ _ _ _ is.message c.in-Ok.ensures.message in
           let refused = c.in-Err-Short.ensures.immovable.1
           (λ can. is.stays (moved_can (sym same.2) (sym same.3) (sym same.4) can)) in
@@ -108,12 +108,12 @@ returns-in-Err-clause-puts c =
 
 pub returns-in-Err-clause-malformed : goal.returns-in-Err-clause-malformed
 returns-in-Err-clause-malformed c =
-    told 2 (λ (header, questions, answers, authorities, additionals, is).
+    reported 2 (λ (header, questions, answers, authorities, additionals, is).
     c.in-Err.ensures.malformed refl header questions answers authorities additionals is)
 
 pub returns-in-Err-clause-immovable : goal.returns-in-Err-clause-immovable
 returns-in-Err-clause-immovable c =
-    not_told 2 4 (λ e. omega arith) (λ is.
+    not_reported 2 4 (λ e. omega arith) (λ is.
     c.in-Err.ensures.malformed refl is.header is.questions is.answers is.authorities is.additionals is.message)
 
 pub returns-in-Err-clause-too_long : goal.returns-in-Err-clause-too_long

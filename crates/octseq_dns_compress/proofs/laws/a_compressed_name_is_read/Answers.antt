@@ -1,4 +1,4 @@
-use Rattle.octseq_dns_compress.proofs.Standing.{name_is_read}
+use Rattle.octseq_dns_compress.proofs.LabelsThere.{name_is_read}
 use Rattle.octseq_dns_compress.proofs.laws.a_compressed_name_is_read.Goals as goal
 
 pub returns : goal.returns

@@ -59,11 +59,11 @@ halves-preserved c =
 
 pub returns-then-is_eq-clause-found : goal.returns-then-is_eq-clause-found
 returns-then-is_eq-clause-found c =
-    let told = c.compare-order.result in
+    let reported = c.compare-order.result in
     key_there c.args.octets.now c.args.targets.now (c.args.next ∷ c.args.label.now)
     (c.halves.from + c.halves.left / 2) _ (let within = c.halves.invariant.within in
     omega (arith, within, c.halves-test.true))
-    (sym c.compare-order.ensures ∙ (Equal-is told).0 (sym c.is_eq.ensures ∙ c.if-is_eq.true))
+    (sym c.compare-order.ensures ∙ (Equal-is reported).0 (sym c.is_eq.ensures ∙ c.if-is_eq.true))
 
 pub returns-clause-position : goal.returns-clause-position
 returns-clause-position c =

@@ -60,7 +60,7 @@ fn a_failed_read_writes_what_was_read(rt: HostRuntime) {
 }
 
 #[test]
-fn a_failed_write_is_told(rt: HostRuntime) {
+fn a_failed_write_is_reported(rt: HostRuntime) {
     for (command, status, output) in OUTPUTS {
         for at_once in [1, 7, usize::MAX] {
             // (each write that is needed, and a call to flush)
@@ -88,7 +88,7 @@ fn a_failed_write_is_told(rt: HostRuntime) {
 }
 
 #[test]
-fn nothing_is_written_behind_a_failure(rt: HostRuntime) {
+fn nothing_is_written_after_a_failure(rt: HostRuntime) {
     let output = REPLY_TEXT.as_bytes();
     for failed in 1..=output.len() {
         for (kind, answer, taken) in [
@@ -104,8 +104,8 @@ fn nothing_is_written_behind_a_failure(rt: HostRuntime) {
                 until_failure: failed,
                 kind,
             };
-            let told = engine(rt.alloc(), "message", &mut REPLY.as_slice(), &mut writer);
-            assert_equal!(&rt, told, answer);
+            let reported = engine(rt.alloc(), "message", &mut REPLY.as_slice(), &mut writer);
+            assert_equal!(&rt, reported, answer);
             assert_equal!(&rt, writer.taken.as_slice(), taken);
         }
     }

@@ -13,7 +13,7 @@ use std::process::Abort;
 use std::test::Fail;
 
 /// Runs a command, which writes its whole output, or a front of it if memory is refused.
-fn is_told(
+fn is_reported(
     rt: &impl Abort,
     alloc: Global,
     command: &str,
@@ -41,8 +41,8 @@ fn is_told(
 #[test]
 fn message_tells_all_or_nothing(rt: HostRuntime) -> Result<(), Fail> {
     let alloc = rt.alloc();
-    is_told(&rt, alloc, "message", &REPLY, REPLY_TEXT.as_bytes())?;
-    is_told(&rt, alloc, "message", b"a", b"malformed\n")?;
+    is_reported(&rt, alloc, "message", &REPLY, REPLY_TEXT.as_bytes())?;
+    is_reported(&rt, alloc, "message", b"a", b"malformed\n")?;
     Ok(())
 }
 
@@ -51,7 +51,7 @@ fn stream_tells_a_front(rt: HostRuntime) -> Result<(), Fail> {
     let octets = b"\0\x0C\0\0\0\0\0\0\0\0\0\0\0\0\0\x01\0\0\0\x02a";
     let text =
         b"id 0 opcode 0 rcode 0 flags\n\nmalformed\n\nmalformed\n\nunexpected end of input\n";
-    is_told(&rt, rt.alloc(), "stream", octets, text)?;
+    is_reported(&rt, rt.alloc(), "stream", octets, text)?;
     Ok(())
 }
 
@@ -62,8 +62,8 @@ fn rewrite_tells_a_front(rt: HostRuntime) -> Result<(), Fail> {
     stream.extend_from_slice(&[0, 45])?;
     stream.extend_from_slice(&REPLY)?;
     let octets = stream.as_slice();
-    is_told(&rt, alloc, "rewrite", octets, octets)?;
-    is_told(&rt, alloc, "rewrite", b"\0\x01a", b"")?;
+    is_reported(&rt, alloc, "rewrite", octets, octets)?;
+    is_reported(&rt, alloc, "rewrite", b"\0\x01a", b"")?;
     Ok(())
 }
 

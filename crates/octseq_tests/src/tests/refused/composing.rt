@@ -19,15 +19,15 @@ fn grows<B: OctetsBuilder + Truncate>(rt: &impl Abort, mut builder: B) -> Result
     let appended = append_part_u8(&mut builder, b"abcdefghij");
     let len = if appended.is_ok() { 19 } else { 8 };
     assert_equal!(rt, Some(builder.as_ref()), whole.get(..len));
-    told(rt, appended)?;
+    reported(rt, appended)?;
     let appended = append_part_u16_be(&mut builder, b"abcdefghijabcdefghij");
     let len = if appended.is_ok() { 41 } else { 19 };
     assert_equal!(rt, Some(builder.as_ref()), whole.get(..len));
-    told(rt, appended)
+    reported(rt, appended)
 }
 
 /// Checks that the refusal of a part is for memory.
-fn told(rt: &impl Abort, appended: Result<(), ComposeError>) -> Result<(), Fail> {
+fn reported(rt: &impl Abort, appended: Result<(), ComposeError>) -> Result<(), Fail> {
     if let Err(error) = appended {
         assert_equal!(rt, error, ComposeError::Memory);
         return Err(Fail::from(AllocError));

@@ -4,7 +4,7 @@ use octseq_asserts::assert_equal;
 use std::test::Fail;
 
 /// A fault by its place and its length.
-fn told(fault: &Utf8Fault) -> (usize, Option<usize>) {
+fn reported(fault: &Utf8Fault) -> (usize, Option<usize>) {
     (fault.valid_up_to(), fault.error_len())
 }
 
@@ -49,7 +49,7 @@ fn each_cut_has_the_same_fault(rt: HostRuntime) -> Result<(), Fail> {
             for next in 0..=rest.len() {
                 let (middle, end) = rest.split_at(next);
                 let fault = fault_of(&[front, middle, end]);
-                assert_equal!(&rt, fault.as_ref().map(told), wanted);
+                assert_equal!(&rt, fault.as_ref().map(reported), wanted);
             }
         }
     }
@@ -63,21 +63,21 @@ fn octet_by_octet_the_fault_is_the_same(rt: HostRuntime) -> Result<(), Fail> {
         for octet in octets {
             search.feed(&[*octet]);
         }
-        assert_equal!(&rt, search.finish().as_ref().map(told), wanted);
+        assert_equal!(&rt, search.finish().as_ref().map(reported), wanted);
     }
     assert_equal!(&rt, FaultPieces::new().finish(), None);
     Ok(())
 }
 
 #[test]
-fn a_fault_is_told_once_no_octet_can_change_it(rt: HostRuntime) -> Result<(), Fail> {
+fn a_fault_is_reported_once_no_octet_can_change_it(rt: HostRuntime) -> Result<(), Fail> {
     let mut search = FaultPieces::new();
     search.feed(b"a\xE2\x82");
     assert_equal!(&rt, search.fault(), None);
     search.feed(b"");
     search.feed(b"A");
-    assert_equal!(&rt, search.fault().as_ref().map(told), Some((1, Some(2))));
+    assert_equal!(&rt, search.fault().as_ref().map(reported), Some((1, Some(2))));
     search.feed(b"\xFF");
-    assert_equal!(&rt, search.finish().as_ref().map(told), Some((1, Some(2))));
+    assert_equal!(&rt, search.finish().as_ref().map(reported), Some((1, Some(2))));
     Ok(())
 }

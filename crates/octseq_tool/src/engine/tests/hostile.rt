@@ -17,7 +17,7 @@ fn each_octet(alloc: Global) -> Result<Vec<u8>, Fail> {
 }
 
 #[test]
-fn each_octet_once_is_told_of(rt: HostRuntime) -> Result<(), Fail> {
+fn each_octet_once_is_reported_of(rt: HostRuntime) -> Result<(), Fail> {
     let alloc = rt.alloc();
     let octets = each_octet(alloc)?;
     let (answer, written) = ran(alloc, "check", octets.as_slice());
@@ -239,7 +239,7 @@ fn an_interrupted_read_is_tried_again(rt: HostRuntime) {
 }
 
 #[test]
-fn a_failed_write_is_told(rt: HostRuntime) {
+fn a_failed_write_is_reported(rt: HostRuntime) {
     for (command, status, output) in OUTPUTS {
         for at_once in [1, 7, usize::MAX] {
             // (each write that is needed, and a call to flush, which `records` makes after each read)
@@ -268,7 +268,7 @@ fn a_failed_write_is_told(rt: HostRuntime) {
 }
 
 #[test]
-fn nothing_is_written_behind_a_failure(rt: HostRuntime) {
+fn nothing_is_written_after_a_failure(rt: HostRuntime) {
     let output = b"a\xEF\xBF\xBDb".as_slice();
     for failed in 1..=output.len() {
         for (kind, answer, taken) in [
@@ -285,8 +285,8 @@ fn nothing_is_written_behind_a_failure(rt: HostRuntime) {
                 kind,
             };
             let octets = b"a\xFFb".as_slice();
-            let told = engine(rt.alloc(), "lossy", &mut { octets }, &mut writer);
-            assert_equal!(&rt, told, answer);
+            let reported = engine(rt.alloc(), "lossy", &mut { octets }, &mut writer);
+            assert_equal!(&rt, reported, answer);
             assert_equal!(&rt, writer.taken.as_slice(), taken);
         }
     }

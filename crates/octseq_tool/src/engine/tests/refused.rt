@@ -13,7 +13,7 @@ use std::process::Abort;
 use std::test::Fail;
 
 /// Runs a command, which writes its whole output, or nothing if memory is refused.
-fn is_told(
+fn is_reported(
     rt: &impl Abort,
     alloc: Global,
     command: &str,
@@ -40,16 +40,16 @@ fn is_told(
 #[test]
 fn check_tells_all_or_nothing(rt: HostRuntime) -> Result<(), Fail> {
     let line = "well formed: 3 octets\n".as_bytes();
-    is_told(&rt, rt.alloc(), "check", b"h\xC3\xA9", line)?;
+    is_reported(&rt, rt.alloc(), "check", b"h\xC3\xA9", line)?;
     let line = "invalid utf-8 sequence of 1 bytes from index 1\n".as_bytes();
-    is_told(&rt, rt.alloc(), "check", b"a\xC0", line)?;
+    is_reported(&rt, rt.alloc(), "check", b"a\xC0", line)?;
     Ok(())
 }
 
 #[test]
 fn lossy_tells_all_or_nothing(rt: HostRuntime) -> Result<(), Fail> {
-    is_told(&rt, rt.alloc(), "lossy", b"a\xFFb", b"a\xEF\xBF\xBDb")?;
-    is_told(&rt, rt.alloc(), "lossy64", b"a\xFFb", b"a\xEF\xBF\xBDb")?;
+    is_reported(&rt, rt.alloc(), "lossy", b"a\xFFb", b"a\xEF\xBF\xBDb")?;
+    is_reported(&rt, rt.alloc(), "lossy64", b"a\xFFb", b"a\xEF\xBF\xBDb")?;
     Ok(())
 }
 

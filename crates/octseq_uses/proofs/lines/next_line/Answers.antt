@@ -23,11 +23,11 @@ returns-clause-text g c =
     let v = window c.advance.new.self in
     let content : octets ≡ rest w = c.peek_all-octets.ensures.content in
     let fits : here.1 ≤ left w = omega (arith, c.first_line-len.ensures.within, c.peek_all-octets.ensures.length) in
-    let behind : drop here.1 octets ≡ rest v =
+    let after : drop here.1 octets ≡ rest v =
     ap (drop here.1) content ∙ rest_past w v here.1 fits (rw c.infallible.ensures at c.advance.ensures.ok) in (
       here.0.now,
       subst (λ o. TakesLine o here.0.now (rest v)) content
-          (subst (TakesLine octets here.0.now) behind c.first_line-len.ensures.line),
+          (subst (TakesLine octets here.0.now) after c.first_line-len.ensures.line),
       c.in_ok-text.ensures.answer.text,
     )
 

@@ -4,7 +4,7 @@ use octseq::str::{DisplayError, Str, StrBuilder};
 use octseq::{Array, Parser, WriteError};
 use octseq_alone::frame::append_frame;
 use octseq_alone::note::{append_note, kept, read_note};
-use octseq_alone::ranges::{behind_two, key, onward};
+use octseq_alone::ranges::{after_two, key, onward};
 use octseq_alone::shown::{push_number, write_number};
 use octseq_alone::views::{fourth, is_comment};
 use octseq_asserts::{assert_equal, assert_true};
@@ -56,7 +56,7 @@ fn ranges_of_any_octets_are_cut(rt: HostRuntime) -> Result<(), Fail> {
     assert_equal!(&rt, onward(&octets, 4)?, Some(b"".as_slice()));
     assert_equal!(&rt, onward(&octets, 5)?, None);
     if octets.len() >= 2 {
-        assert_equal!(&rt, behind_two(octets).peek_all(), b"cd".as_slice());
+        assert_equal!(&rt, after_two(octets).peek_all(), b"cd".as_slice());
     }
     Ok(())
 }

@@ -15,10 +15,10 @@ fn are_read<R: AsOctets, B: EmptyBuilder>(
     wanted: &[(&str, usize)],
 ) -> Result<(), Fail> {
     let mut parser = Parser::from_ref(octets);
-    for (line, behind) in wanted {
+    for (line, after) in wanted {
         let read: Option<StrBuilder<B>> = next_line(alloc, &mut parser)?;
         assert_equal!(rt, read.as_ref().map(|text| text.as_str()), Some(*line));
-        assert_equal!(rt, parser.pos(), *behind);
+        assert_equal!(rt, parser.pos(), *after);
     }
     let none: Option<StrBuilder<B>> = next_line(alloc, &mut parser)?;
     assert_true!(rt, none.is_none());

@@ -2,7 +2,7 @@ use Rattle.std.proofs.Common.{drop, refl, arith, length-drop}
 use Rattle.octseq_utf8.specs.Fault.{fault_from}
 use Rattle.octseq_utf8.specs.Search.{IsFaultAt}
 use Rattle.octseq_utf8.proofs.Faults.{fault_refutes}
-use Rattle.octseq_utf8.proofs.Tails.{behind_more, behind_end, behind_fault, low_well_formed}
+use Rattle.octseq_utf8.proofs.Tails.{after_more, after_end, after_fault, low_well_formed}
 use Rattle.octseq_utf8.proofs.finder.fault_by_parts.Goals as goal
 
 -- the octets that are left are few and all below 80
@@ -24,7 +24,7 @@ pub loop-at-preserved : goal.loop-at-preserved
 loop-at-preserved c =
     let few = c.loop-at.invariant.few in
     record {
-      after = rw c.tick.ensures (behind_more c.args.octets.now c.args.from c.loop-at.at c.args.turns.now c.loop-at.turns
+      after = rw c.tick.ensures (after_more c.args.octets.now c.args.from c.loop-at.at c.args.turns.now c.loop-at.turns
           c.in-Encoding.len c.loop-at.invariant.after c.in-Encoding.ensures);
       few = omega arith;
     }
@@ -35,7 +35,7 @@ owed : (c : goal.After-new)
     (fault_from c.args.from c.new.result)
 owed c =
     rw (c.new.ensures, c.tick.ensures)
-    (behind_fault c.args.octets.now c.args.from c.loop-at.at c.args.turns.now c.loop-at.turns c.in-Bad.size
+    (after_fault c.args.octets.now c.args.from c.loop-at.at c.args.turns.now c.loop-at.turns c.in-Bad.size
     c.loop-at.invariant.after c.in-Bad.ensures)
 
 -- a fault while four octets are left
@@ -54,5 +54,5 @@ returns-in-Bad-clause-turns_to_fault c = (owed c).turns
 
 pub returns-clause-turns : goal.returns-clause-turns
 returns-clause-turns c =
-    (behind_end c.args.octets.now c.args.from c.loop-at.at c.args.turns.now c.loop-at.turns c.loop-at.invariant.after
+    (after_end c.args.octets.now c.args.from c.loop-at.at c.args.turns.now c.loop-at.turns c.loop-at.invariant.after
     c.loop-at-test.false).1

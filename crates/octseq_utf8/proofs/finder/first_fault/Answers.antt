@@ -60,9 +60,9 @@ pub returns-in-Err-clause-mixed : goal.returns-in-Err-clause-mixed
 returns-in-Err-clause-mixed c = (owed c).few
 
 -- and of the last octets, those after the lanes
-behind : (c : goal.After-fault_by_parts)
+after : (c : goal.After-fault_by_parts)
     → IfSome c.fault_by_parts.result (IsFaultAt c.args.octets.now c.args.turns.now c.fault_by_parts.new.turns)
-behind c =
+after c =
     let tail = c.fault_by_parts.ensures in
     tail_fault c.args.octets.now c.loop-at.at c.args.turns.now c.loop-at.turns c.fault_by_parts.new.turns
     c.fault_by_parts.result c.loop-at.invariant.at tail.place tail.fault tail.turns_to_fault
@@ -71,13 +71,13 @@ behind c =
 pub returns-clause-none : goal.returns-clause-none
 returns-clause-none c = tail_none c.args.octets.now c.loop-at.at c.args.turns.now c.loop-at.turns
     c.fault_by_parts.new.turns c.fault_by_parts.result c.loop-at.invariant.at c.fault_by_parts.ensures.none
-    (behind c)
+    (after c)
 
 pub returns-clause-fault : goal.returns-clause-fault
-returns-clause-fault c = IfSome_then c.fault_by_parts.result (behind c) (λ fault h. h.is_fault)
+returns-clause-fault c = IfSome_then c.fault_by_parts.result (after c) (λ fault h. h.is_fault)
 
 pub returns-clause-turns_to_fault : goal.returns-clause-turns_to_fault
-returns-clause-turns_to_fault c = IfSome_then c.fault_by_parts.result (behind c) (λ fault h. h.turns)
+returns-clause-turns_to_fault c = IfSome_then c.fault_by_parts.result (after c) (λ fault h. h.turns)
 
 pub returns-clause-turns : goal.returns-clause-turns
 returns-clause-turns c =

@@ -1,4 +1,4 @@
-use Rattle.octseq.proofs.Behind.{be_comes_next, le_comes_next}
+use Rattle.octseq.proofs.WindowsAfter.{be_comes_next, le_comes_next}
 use Rattle.octseq.proofs.Written.{signed_unsigned}
 use Rattle.octseq.proofs.compose.laws.integers_are_read_back.Goals as goal
 

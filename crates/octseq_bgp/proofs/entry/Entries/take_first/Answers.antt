@@ -13,11 +13,11 @@ returns-then-self-eq0-clause-none g c = λ _.
     let none = held_none entry_code (IsEntry self.form) (window self.parser) self.left self.ahead (search rules) in
     (none, none)
 
-pub returns-in-Err-clause-none : goal.returns-in-Err-clause-none
-returns-in-Err-clause-none g c = λ _.
+pub unreachable-requires : goal.unreachable-requires
+unreachable-requires g c =
     let self = c.args.self.now in
-    absurd (held_not (IsEntry self.form) (window self.parser) self.left self.ahead (omega arith)
-    (subst (λ f. NoneAt (IsEntry f) (window self.parser)) c.requires (c.in-Err.ensures.malformed refl)))
+    held_not (IsEntry self.form) (window self.parser) self.left self.ahead (omega arith)
+    (subst (λ f. NoneAt (IsEntry f) (window self.parser)) c.requires (c.in-Err.ensures.malformed refl))
 
 pub invariant_of-self : goal.invariant_of-self
 invariant_of-self g c =

@@ -15,8 +15,8 @@ returns-clause-steps g c = (
       let none = c.in_default.ensures.none refl in
       let m = rank after.missing in
       let test = c.if-rank-eq0.false in
-      let told = c.rank-2.ensures in
-      let not : m ≢ 0 = λ zero. omega (arith, test, told, zero) in
+      let reported = c.rank-2.ensures in
+      let not : m ≢ 0 = λ zero. omega (arith, test, reported, zero) in
       let s = attributes_session now.attributes in
       c.attributes.invariant.left (record { place = None; rank = m } ∷ row) (λ before marks.
       let marked = subst (λ seen. Marks seen before) (sym none.2) marks in

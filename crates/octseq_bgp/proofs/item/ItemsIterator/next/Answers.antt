@@ -11,12 +11,12 @@ returns-then-self-eq0-clause-steps g c =
     let none = held_none t.found_code (IsFixed t.width t.reads) (window self.parser) self.left self.ahead (search rules) in
     (none, none)
 
-pub returns-in-Err-clause-steps : goal.returns-in-Err-clause-steps
-returns-in-Err-clause-steps g c =
+pub unreachable-requires : goal.unreachable-requires
+unreachable-requires g c =
     let self = c.args.self.now in
     let t = g.T.Item in
-    absurd (held_not (IsFixed t.width t.reads) (window self.parser) self.left self.ahead (omega arith)
-    (λ item v is. let short : false ≡ true = c.in-Err.ensures.taken.variant.1 is.0 in absurd (cc)))
+    held_not (IsFixed t.width t.reads) (window self.parser) self.left self.ahead (omega arith)
+    (λ item v is. let short : false ≡ true = c.in-Err.ensures.taken.variant.1 is.0 in absurd (cc))
 
 pub invariant_of-self : goal.invariant_of-self
 invariant_of-self g c =

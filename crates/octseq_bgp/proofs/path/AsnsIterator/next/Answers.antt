@@ -13,11 +13,11 @@ returns-then-self-eq0-clause-steps g c =
     let none = held_none coded_ℕ (IsNumber (asn_size self.wide)) (window self.parser) self.left self.ahead (search rules) in
     (none, none)
 
-pub returns-in-Err-clause-steps : goal.returns-in-Err-clause-steps
-returns-in-Err-clause-steps g c =
+pub unreachable-requires : goal.unreachable-requires
+unreachable-requires g c =
     let self = c.args.self.now in
-    absurd (held_not (IsNumber (asn_size self.wide)) (window self.parser) self.left self.ahead (omega arith)
-    (c.in-Err.ensures.malformed refl))
+    held_not (IsNumber (asn_size self.wide)) (window self.parser) self.left self.ahead (omega arith)
+    (c.in-Err.ensures.malformed refl)
 
 pub invariant_of-self : goal.invariant_of-self
 invariant_of-self g c =

@@ -20,10 +20,10 @@ returns-in-Ok-clause-ok g c =
     let shown = c.in-Ok.ensures.shown in
     let content = g.B.AsOctets.content in
     let written = shown.2 c.new-f.ensures.plain in
-    let told = contents_after_writes _ (λ s. content s.text.now) (λ _ _ _ t. t) _ _ _ written.wrote in
+    let reported = contents_after_writes _ (λ s. content s.text.now) (λ _ _ _ t. t) _ _ _ written.wrote in
     let first = ap (λ s. content s.text.now) c.new-f.ensures.writer in
     let last = ap (λ s. content s.text.now) c.into_inner-text.ensures in
-    (shown.0, shown.1, last ∙ told ∙ ap (λ x. x ++ shown.0) first)
+    (shown.0, shown.1, last ∙ reported ∙ ap (λ x. x ++ shown.0) first)
 
 -- what is borrowed is within the limit, so no text was appended that exceeds it
 pub returns-in-Ok-clause-past : goal.returns-in-Ok-clause-past

@@ -3,7 +3,7 @@ use Rattle.std.proofs.Math.Logic.{∥∥₁_map}
 use Rattle.octseq.specs.Limit.{IsWithin}
 use Rattle.octseq_dns_compress.specs.Composed.{message_limit}
 use Rattle.octseq_dns.specs.Contents.{record_entry}
-use Rattle.octseq_dns.specs.Pushed.{told}
+use Rattle.octseq_dns.specs.Pushed.{pushed_record}
 use Rattle.octseq_dns.specs.Writes.{IsBuilt, Writes, least_limit}
 use Rattle.octseq_dns.proofs.Pushed.{pushed, pushed_within}
 use Rattle.octseq_dns.proofs.builder.SectionBuilder.push_record_counted.Goals as goal
@@ -17,7 +17,7 @@ invariant_of-self g c =
 pub invariant_of-self-2 : goal.invariant_of-self-2
 invariant_of-self-2 g c =
     let in' = c.self.inside in
-    let one = told c.args.owner.now (g.D.ComposeRecordData.rtype_of c.args.rdata.now) c.args.class c.args.ttl
+    let one = pushed_record c.args.owner.now (g.D.ComposeRecordData.rtype_of c.args.rdata.now) c.args.class c.args.ttl
     (g.D.ComposeRecordData.fields c.args.rdata.now) in (
       ∥∥₁_map c.self.invariant.0 (λ w. (
         g.S.RecordSection.more w.0 one,
@@ -36,7 +36,7 @@ invariant_of-self-2 g c =
 pub returns-clause-written : goal.returns-clause-written
 returns-clause-written g c m is =
     let in' = c.self.inside in
-    let one = told c.args.owner.now (g.D.ComposeRecordData.rtype_of c.args.rdata.now) c.args.class c.args.ttl
+    let one = pushed_record c.args.owner.now (g.D.ComposeRecordData.rtype_of c.args.rdata.now) c.args.class c.args.ttl
     (g.D.ComposeRecordData.fields c.args.rdata.now) in
     pushed g.met.S.RecordSection.takes_records g.T.Compressor.most m one in'.message.state
     c.append_record.new.message.state
@@ -49,7 +49,7 @@ returns-clause-written g c m is =
 pub returns-clause-within : goal.returns-clause-within
 returns-clause-within g c =
     let in' = c.self.inside in
-    let one = told c.args.owner.now (g.D.ComposeRecordData.rtype_of c.args.rdata.now) c.args.class c.args.ttl
+    let one = pushed_record c.args.owner.now (g.D.ComposeRecordData.rtype_of c.args.rdata.now) c.args.class c.args.ttl
     (g.D.ComposeRecordData.fields c.args.rdata.now) in
     let limit = message_limit g.B.AsOctets.limit in
     subst (λ v. IsWithin (least_limit v.push_limit limit) (length c.put_header.new.self.state.octets)) c.self.view_is

@@ -6,10 +6,10 @@ use Rattle.octseq_dns_message.specs.Said.{question_of}
 use Rattle.octseq_dns_message.specs.Walk.{questions_left}
 use Rattle.octseq_dns.specs.Contents.{FitsQuestion, question_entry}
 use Rattle.octseq_dns.specs.Labels.{question_labels}
-use Rattle.octseq_dns.specs.Pushed.{asked}
+use Rattle.octseq_dns.specs.Pushed.{pushed_question}
 use Rattle.octseq_dns.specs.Rewritten.{IsQuestionOf}
 use Rattle.octseq_dns.proofs.Onward.{Onward, onward_first, onward_next, onward_none, onward_past, onward_turns}
-use Rattle.octseq_dns.proofs.Told.{same_asked}
+use Rattle.octseq_dns.proofs.OnlyRecord.{same_question}
 use Rattle.octseq_dns.proofs.builder.anew.append_questions.Goals as goal
 
 pub loop-question-init : goal.loop-question-init
@@ -26,14 +26,14 @@ loop-question-preserved g c =
     let so_far = c.loop-question.invariant in
     let most = g.T.Compressor.most in
     let went = c.in_default.ensures in
-    let one = asked c.qname.result c.qtype-qtype.result c.qclass-qclass.result in
+    let one = pushed_question c.qname.result c.qtype-qtype.result c.qclass-qclass.result in
     record {
       on = λ written are. onward_next most written _ _ (question_of c.in-Some.question)
           (questions_left c.next.new.self) c.loop-question.message.state c.loop-question.turns
           (subst (λ q. Onward IsQuestionOf question_entry question_labels FitsQuestion most written q
           c.args.message.now.state c.loop-question.message.state c.args.turns.now c.loop-question.turns)
           c.in-Some.ensures.steps (so_far.on written are))
-          one (λ other is. is ∙ sym (same_asked c.qname.ensures c.qtype-qtype.ensures c.qclass-qclass.ensures))
+          one (λ other is. is ∙ sym (same_question c.qname.ensures c.qtype-qtype.ensures c.qclass-qclass.ensures))
           c.compose_question.new.message.state c.compose_question.new.turns went.composed.ok went.fits went.turns
           went.least;
       within = subst (λ s. IsWithin (message_limit g.B.AsOctets.limit) (length s.octets)) (sym went.composed.ok)
@@ -48,8 +48,8 @@ returns-in-Err-clause-short g c short written are =
     (subst (λ q. Onward IsQuestionOf question_entry question_labels FitsQuestion g.T.Compressor.most written q
     c.args.message.now.state c.loop-question.message.state c.args.turns.now c.loop-question.turns)
     c.in-Some.ensures.steps (c.loop-question.invariant.on written are))
-    (asked c.qname.result c.qtype-qtype.result c.qclass-qclass.result)
-    (λ other is. is ∙ sym (same_asked c.qname.ensures c.qtype-qtype.ensures c.qclass-qclass.ensures))
+    (pushed_question c.qname.result c.qtype-qtype.result c.qclass-qclass.result)
+    (λ other is. is ∙ sym (same_question c.qname.ensures c.qtype-qtype.ensures c.qclass-qclass.ensures))
     (message_limit g.B.AsOctets.limit) (c.in-Err.ensures.composed.short short)
 
 pub returns-in-Err-clause-turns : goal.returns-in-Err-clause-turns
@@ -59,8 +59,8 @@ returns-in-Err-clause-turns g c written are =
     (subst (λ q. Onward IsQuestionOf question_entry question_labels FitsQuestion g.T.Compressor.most written q
     c.args.message.now.state c.loop-question.message.state c.args.turns.now c.loop-question.turns)
     c.in-Some.ensures.steps (c.loop-question.invariant.on written are))
-    (asked c.qname.result c.qtype-qtype.result c.qclass-qclass.result)
-    (λ other is. is ∙ sym (same_asked c.qname.ensures c.qtype-qtype.ensures c.qclass-qclass.ensures))
+    (pushed_question c.qname.result c.qtype-qtype.result c.qclass-qclass.result)
+    (λ other is. is ∙ sym (same_question c.qname.ensures c.qtype-qtype.ensures c.qclass-qclass.ensures))
     c.compose_question.new.turns c.in-Err.ensures.turns
 
 pub returns-clause-written : goal.returns-clause-written

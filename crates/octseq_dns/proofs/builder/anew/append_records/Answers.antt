@@ -10,12 +10,12 @@ use Rattle.octseq_dns_message.specs.Walk.{records_left}
 use Rattle.octseq_dns.specs.Contents.{FitsRecord, record_entry}
 use Rattle.octseq_dns.specs.Labels.{record_labels}
 use Rattle.octseq_dns.specs.Moved.{CanMoveRecord}
-use Rattle.octseq_dns.specs.Pushed.{told}
+use Rattle.octseq_dns.specs.Pushed.{pushed_record}
 use Rattle.octseq_dns.specs.Rdata.{bare_rdata, rdata_fields, rtype_of}
 use Rattle.octseq_dns.specs.Rewritten.{IsRecordOf, record_of_parsed}
 use Rattle.octseq_dns.proofs.Onward.{Onward, onward_first, onward_fewer, onward_next, onward_none, onward_past}
 use Rattle.octseq_dns.proofs.Onward.{onward_turns}
-use Rattle.octseq_dns.proofs.Told.{only_told}
+use Rattle.octseq_dns.proofs.OnlyRecord.{only_record}
 use Rattle.octseq_dns.proofs.builder.anew.append_records.Goals as goal
 
 pub loop-entry-init : goal.loop-entry-init
@@ -42,7 +42,7 @@ loop-entry-preserved g c =
     let i = record_of c.in-Some.entry in
     let steps = c.in-Some.ensures.steps in
     let parsed = rdata_of c.data-data.result in
-    let one = told c.owner.result (rtype_of (bare_rdata parsed)) c.class-class.result c.ttl-ttl.result
+    let one = pushed_record c.owner.result (rtype_of (bare_rdata parsed)) c.class-class.result c.ttl-ttl.result
     (rdata_fields (bare_rdata parsed)) in
     let moves = c.is_movable.ensures.0 (search rules) in
     let all = subst (λ q. AllByRecursion CanMoveRecord q ↔ AllByRecursion CanMoveRecord (records_left c.args.records))
@@ -53,13 +53,13 @@ loop-entry-preserved g c =
           (subst (λ q. Onward IsRecordOf record_entry record_labels FitsRecord most written q
           c.args.message.now.state c.loop-entry.message.state c.args.turns.now c.loop-entry.turns)
           steps (so_far.on written are))
-          one (only_told i parsed c.owner.ensures c.class-class.ensures c.ttl-ttl.ensures c.data-data.ensures.rdata)
+          one (only_record i parsed c.owner.ensures c.class-class.ensures c.ttl-ttl.ensures c.data-data.ensures.rdata)
           c.compose_record.new.message.state c.compose_record.new.turns went.ok went.fits went.turns went.least;
       exists = λ rest are. so_far.exists (one ∷ rest) (subst (λ q. AllZip IsRecordOf q (one ∷ rest)) (sym steps) (
         record {
           parsed = parsed;
           data_is = c.data-data.ensures.rdata;
-          is = sym (only_told i parsed c.owner.ensures c.class-class.ensures c.ttl-ttl.ensures
+          is = sym (only_record i parsed c.owner.ensures c.class-class.ensures c.ttl-ttl.ensures
               c.data-data.ensures.rdata (record_of_parsed i parsed)
               (record { parsed = parsed; data_is = c.data-data.ensures.rdata; is = refl }));
         },
@@ -77,9 +77,9 @@ returns-in-Err-clause-short g c short written are =
     (subst (λ q. Onward IsRecordOf record_entry record_labels FitsRecord g.T.Compressor.most written q
     c.args.message.now.state c.loop-entry.message.state c.args.turns.now c.loop-entry.turns)
     c.in-Some.ensures.steps (c.loop-entry.invariant.on written are))
-    (told c.owner.result (rtype_of (bare_rdata (rdata_of c.data-data.result))) c.class-class.result c.ttl-ttl.result
+    (pushed_record c.owner.result (rtype_of (bare_rdata (rdata_of c.data-data.result))) c.class-class.result c.ttl-ttl.result
     (rdata_fields (bare_rdata (rdata_of c.data-data.result))))
-    (only_told (record_of c.in-Some.entry) (rdata_of c.data-data.result) c.owner.ensures c.class-class.ensures
+    (only_record (record_of c.in-Some.entry) (rdata_of c.data-data.result) c.owner.ensures c.class-class.ensures
     c.ttl-ttl.ensures c.data-data.ensures.rdata)
     (message_limit g.B.AsOctets.limit) (c.in-Err.ensures.short (subst (Is Refusal.short) c.refused.ensures short))
 
@@ -90,9 +90,9 @@ returns-in-Err-clause-turns g c written are =
     (subst (λ q. Onward IsRecordOf record_entry record_labels FitsRecord g.T.Compressor.most written q
     c.args.message.now.state c.loop-entry.message.state c.args.turns.now c.loop-entry.turns)
     c.in-Some.ensures.steps (c.loop-entry.invariant.on written are))
-    (told c.owner.result (rtype_of (bare_rdata (rdata_of c.data-data.result))) c.class-class.result c.ttl-ttl.result
+    (pushed_record c.owner.result (rtype_of (bare_rdata (rdata_of c.data-data.result))) c.class-class.result c.ttl-ttl.result
     (rdata_fields (bare_rdata (rdata_of c.data-data.result))))
-    (only_told (record_of c.in-Some.entry) (rdata_of c.data-data.result) c.owner.ensures c.class-class.ensures
+    (only_record (record_of c.in-Some.entry) (rdata_of c.data-data.result) c.owner.ensures c.class-class.ensures
     c.ttl-ttl.ensures c.data-data.ensures.rdata)
     c.compose_record.new.turns c.in-Err.ensures.turns
 

@@ -8,12 +8,12 @@ use Rattle.octseq_dns_message.specs.Said.{question_of}
 use Rattle.octseq_dns_message.specs.Walk.{questions_left}
 use Rattle.octseq_dns.specs.Contents.{question_entry}
 use Rattle.octseq_dns.specs.Labels.{question_labels}
-use Rattle.octseq_dns.specs.Pushed.{asked}
+use Rattle.octseq_dns.specs.Pushed.{pushed_question}
 use Rattle.octseq_dns.specs.Rewritten.{IsQuestionOf}
 use Rattle.octseq_dns.specs.Sections.{takes_questions}
 use Rattle.octseq_dns.specs.Writes.{least_limit, more_questions}
 use Rattle.octseq_dns.proofs.Anew.{Ahead, ahead_first, ahead_next, ahead_none, ahead_past, ahead_turns}
-use Rattle.octseq_dns.proofs.Told.{same_asked}
+use Rattle.octseq_dns.proofs.OnlyRecord.{same_question}
 use Rattle.octseq_dns.proofs.builder.answering.push_questions.Goals as goal
 
 pub loop-question-init : goal.loop-question-init
@@ -38,7 +38,7 @@ loop-question-preserved g c =
     let i = question_of c.in-Some.question in
     let left = questions_left c.next.new.self in
     let steps = c.in-Some.ensures.steps in
-    let one = asked c.qname.result c.qtype-qtype.result c.qclass-qclass.result in
+    let one = pushed_question c.qname.result c.qtype-qtype.result c.qclass-qclass.result in
     let room = so_far.room in
     let long = ap length steps in
     let counted = ap (λ k. k.qdcount) went.counts in
@@ -48,7 +48,7 @@ loop-question-preserved g c =
           (subst (λ q. Ahead IsQuestionOf question_labels more_questions g.T.Compressor.most m written q now.state
           now.header now.counts c.loop-question.turns c.args.turns.now (length c.args.builder.state.octets)) steps
           (so_far.ahead m written is are))
-          one (λ other is. is ∙ sym (same_asked c.qname.ensures c.qtype-qtype.ensures c.qclass-qclass.ensures))
+          one (λ other is. is ∙ sym (same_question c.qname.ensures c.qtype-qtype.ensures c.qclass-qclass.ensures))
           new.state new.header new.counts c.push_question_counted.new.turns went.written went.turns went.least;
       fits = λ fits. subst (λ p. IsWithin (least_limit p (message_limit g.B.AsOctets.limit)) (length new.state.octets))
           so_far.push_limit went.within;
@@ -65,7 +65,7 @@ returns-in-Err-clause-short g c = λ short m written is are.
     let i = question_of c.in-Some.question in
     let left = questions_left c.next.new.self in
     let steps = c.in-Some.ensures.steps in
-    let one = asked c.qname.result c.qtype-qtype.result c.qclass-qclass.result in
+    let one = pushed_question c.qname.result c.qtype-qtype.result c.qclass-qclass.result in
     let ahead = subst (λ q. Ahead IsQuestionOf question_labels more_questions g.T.Compressor.most m written q now.state
     now.header now.counts c.loop-question.turns c.args.turns.now (length c.args.builder.state.octets)) steps
     (so_far.ahead m written is are) in
@@ -74,7 +74,7 @@ returns-in-Err-clause-short g c = λ short m written is are.
       | inl past ↦
           ahead_past g.T.Compressor.most m written i left now.state now.header now.counts c.loop-question.turns
           c.args.turns.now (length c.args.builder.state.octets) ahead one
-          (λ other is. is ∙ sym (same_asked c.qname.ensures c.qtype-qtype.ensures c.qclass-qclass.ensures))
+          (λ other is. is ∙ sym (same_question c.qname.ensures c.qtype-qtype.ensures c.qclass-qclass.ensures))
           limit takes_questions c.in-Err.ensures.reaches (subst (λ p. IsPast (least_limit p (message_limit
           g.B.AsOctets.limit)) (length (with_entry g.T.Compressor.most now.state (question_entry one)).octets))
           so_far.push_limit past)
@@ -89,14 +89,14 @@ returns-in-Err-clause-turns g c m written is are =
     let now = c.loop-question.message in
     let i = question_of c.in-Some.question in
     let left = questions_left c.next.new.self in
-    let one = asked c.qname.result c.qtype-qtype.result c.qclass-qclass.result in
+    let one = pushed_question c.qname.result c.qtype-qtype.result c.qclass-qclass.result in
     let ahead = subst (λ q. Ahead IsQuestionOf question_labels more_questions g.T.Compressor.most m written q now.state
     now.header now.counts c.loop-question.turns c.args.turns.now (length c.args.builder.state.octets))
     c.in-Some.ensures.steps
     (c.loop-question.invariant.ahead m written is are) in
     ahead_turns g.T.Compressor.most m written i left now.state now.header now.counts c.loop-question.turns
     c.args.turns.now (length c.args.builder.state.octets) ahead one
-    (λ other is. is ∙ sym (same_asked c.qname.ensures c.qtype-qtype.ensures c.qclass-qclass.ensures))
+    (λ other is. is ∙ sym (same_question c.qname.ensures c.qtype-qtype.ensures c.qclass-qclass.ensures))
     c.push_question_counted.new.turns c.in-Err.ensures.turns
 
 pub returns-clause-written : goal.returns-clause-written

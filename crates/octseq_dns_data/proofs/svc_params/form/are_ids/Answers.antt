@@ -45,7 +45,7 @@ ids-preserved c =
     }
 
 pub returns-clause-yes : goal.returns-clause-yes
-returns-clause-yes c = λ told.
+returns-clause-yes c = λ reported.
     let ahead = rest (window c.ids.ahead) in
     let test = c.ids-test.false in
     let long = c.remaining.ensures.rest in

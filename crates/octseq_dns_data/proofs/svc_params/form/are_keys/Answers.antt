@@ -48,7 +48,7 @@ keys-preserved c =
     }
 
 pub returns-clause-yes : goal.returns-clause-yes
-returns-clause-yes c = λ told.
+returns-clause-yes c = λ reported.
     let ahead = rest (window c.keys.ahead) in
     let test = c.keys-test.false in
     let long = c.remaining.ensures.rest in

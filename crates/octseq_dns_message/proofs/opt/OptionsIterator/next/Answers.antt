@@ -19,14 +19,14 @@ returns-then-remaining-eq0-clause-steps g c =
     (omega (arith, left, nothing, ordered)) in
     (none, none)
 
-pub returns-in-Err-clause-steps : goal.returns-in-Err-clause-steps
-returns-in-Err-clause-steps g c =
+pub unreachable-requires : goal.unreachable-requires
+unreachable-requires g c =
     let self = c.args.self.now in
     let left = c.remaining.ensures.left in
     let some = c.if-remaining-eq0.false in
     let w = window self.parser in
-    absurd (reached_not HasOption w w.end self.ahead (λ same. omega (arith, left, some, same))
-    (λ option v is. c.in-Err.ensures.malformed refl (option_parts option) v (option_found w option v is)))
+    reached_not HasOption w w.end self.ahead (λ same. omega (arith, left, some, same))
+    (λ option v is. c.in-Err.ensures.malformed refl (option_parts option) v (option_found w option v is))
 
 pub invariant_of-self : goal.invariant_of-self
 invariant_of-self g c =

@@ -17,6 +17,6 @@ returns g c =
     let ends = ends_as labels others (m - n) size in
     let left = ap lower_labels (c.passed.ensures ∙ ap (drop (m - n)) c.labels.ensures.labels) in
     let right = ap lower_labels c.labels-2.ensures.labels in (
-      λ told. ends.0 (sym left ∙ c.labels_eq.ensures.0 told ∙ right),
+      λ reported. ends.0 (sym left ∙ c.labels_eq.ensures.0 reported ∙ right),
       λ is. c.labels_eq.ensures.1 (left ∙ ends.1 is ∙ sym right),
     )

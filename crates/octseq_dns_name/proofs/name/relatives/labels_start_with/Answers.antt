@@ -5,10 +5,10 @@ use Rattle.octseq_dns_name.proofs.name.relatives.labels_start_with.Goals as goal
 
 pub loop-other-preserved : goal.loop-other-preserved
 loop-other-preserved g c =
-    let told : IsTrue c.label_eq.result = search rules in
+    let reported : IsTrue c.label_eq.result = search rules in
     starts_on (label_octets c.in-Some-next.label) (label_octets c.in-Some.other) (labels_left c.loop-other.ahead)
     (labels_left c.loop-other.other-iterator) (labels_left c.next-in-loop-other.new.self)
-    (labels_left c.next.new.self) c.in-Some-next.ensures.steps.0 c.in-Some.ensures.steps.0 (c.label_eq.ensures.0 told)
+    (labels_left c.next.new.self) c.in-Some-next.ensures.steps.0 c.in-Some.ensures.steps.0 (c.label_eq.ensures.0 reported)
     c.loop-other.invariant
 
 pub returns : goal.returns

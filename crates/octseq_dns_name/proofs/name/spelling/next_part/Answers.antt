@@ -26,8 +26,8 @@ returns-in_err-octet-clause-refused c =
     let fault = c.in_err-octet.field-0.0 in
     let here : ahead ≡ c.in-Some.first.now ∷ c.in-Some.rest.now = search rules in
     let other : ¬ (c.in-Some.first.now ≡ 46) = search rules in
-    let told : c.from_residual.result ≡ Err fault = search rules in
-    refused_by c.from_residual.result fault told (λ f. (labels : List (List ℕ)) → IsFault f labels c.args.text.now)
+    let reported : c.from_residual.result ≡ Err fault = search rules in
+    refused_by c.from_residual.result fault reported (λ f. (labels : List (List ℕ)) → IsFault f labels c.args.text.now)
     λ labels.
     octet_fault fault labels c.args.text.now c.octets.label.content ahead c.in-Some.first.now c.in-Some.rest.now
     c.octets.invariant.reads c.octets.invariant.short here other c.in_err-octet.ensures.none
@@ -38,8 +38,8 @@ returns-in_err-octet-clause-within c =
     let ahead = c.octets.ahead.now in
     let fault = c.in_err-octet.field-0.0 in
     let here : ahead ≡ c.in-Some.first.now ∷ c.in-Some.rest.now = search rules in
-    let told : c.from_residual.result ≡ Err fault = search rules in
-    refused_by c.from_residual.result fault told (λ f. ¬ (f ≡ FromTextError.UnexpectedEnd))
+    let reported : c.from_residual.result ≡ Err fault = search rules in
+    refused_by c.from_residual.result fault reported (λ f. ¬ (f ≡ FromTextError.UnexpectedEnd))
     (octet_within fault ahead c.in-Some.first.now c.in-Some.rest.now here c.in_err-octet.ensures.begins)
 
 pub returns-then-len-ge-LABEL_MAX-clause-refused : goal.returns-then-len-ge-LABEL_MAX-clause-refused

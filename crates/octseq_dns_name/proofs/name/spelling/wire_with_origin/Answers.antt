@@ -26,12 +26,12 @@ returns-in_err-label-clause-refused g c =
     let fault = c.in_err-label.field-0.0 in
     let text = c.args.text.now in
     let so_far = c.labels.invariant in
-    let told : c.from_residual.result ≡ Err fault = search rules in
+    let reported : c.from_residual.result ≡ Err fault = search rules in
     let root : ¬ (text ≡ 46 ∷ []) = search rules in
     let alone : ¬ (text ≡ 64 ∷ []) = search rules in
     let refused : IsRefused fault text =
     (root, so_far.done, c.labels.ahead.now, so_far.reads, c.in_err-label.ensures.refused so_far.done) in
-    refused_by c.from_residual.result fault told (λ f. IsRefusedWithOrigin origin f text)
+    refused_by c.from_residual.result fault reported (λ f. IsRefusedWithOrigin origin f text)
     (refused_within origin fault text alone c.in_err-label.ensures.within refused)
 
 pub returns-in_default-clause-ok : goal.returns-in_default-clause-ok

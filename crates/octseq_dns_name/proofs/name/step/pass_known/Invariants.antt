@@ -2,14 +2,14 @@
 use Rattle.std.proofs.Common.{◌≡◌, ℕ, List}
 use Rattle.octseq.specs.Parser.{sequence, window}
 use Rattle.octseq.specs.Window.{Window, left}
-use Rattle.octseq_dns_name.specs.Name.{Stands}
+use Rattle.octseq_dns_name.specs.Name.{HasLabels}
 use Rattle.octseq_dns_name.proofs.name.step.pass_known.Given as goal
 
 abbrev pub invariant-labels : goal.invariant-labels
 invariant-labels g l = record {
-  stands : (labels : List (List ℕ)) (pointers : ℕ) (end : Window)
-      → Stands l.start (window l.fn.parser) labels pointers end
-      → (more : List (List ℕ)) × Stands l.start (window l.parser) more pointers end;
+  has_labels : (labels : List (List ℕ)) (pointers : ℕ) (end : Window)
+      → HasLabels l.start (window l.fn.parser) labels pointers end
+      → (more : List (List ℕ)) × HasLabels l.start (window l.parser) more pointers end;
   same : sequence l.parser ≡ sequence l.fn.parser;
 }
 

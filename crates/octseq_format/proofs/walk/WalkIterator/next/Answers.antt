@@ -11,13 +11,13 @@ returns-then-self-eq0-clause-steps g c =
     (holds_of f.is_at (window self.parser) self.left self.end self.ahead) (search rules) in
     (none, none)
 
-pub returns-in-Err-clause-steps : goal.returns-in-Err-clause-steps
-returns-in-Err-clause-steps g c =
+pub unreachable-requires : goal.unreachable-requires
+unreachable-requires g c =
     let self = c.args.self.now in
     let f = g.F.Format in
-    absurd (held_not f.is_at (window self.parser) self.left
+    held_not f.is_at (window self.parser) self.left
     (holds_of f.is_at (window self.parser) self.left self.end self.ahead) (omega arith)
-    (c.in-Err.ensures.malformed refl))
+    (c.in-Err.ensures.malformed refl)
 
 pub invariant_of-self : goal.invariant_of-self
 invariant_of-self g c =

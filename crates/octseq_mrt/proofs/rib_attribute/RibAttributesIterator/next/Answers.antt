@@ -17,13 +17,13 @@ returns-then-remaining-eq0-clause-steps g c =
     self.ahead (omega (arith, here, zero)) in
     (none, none)
 
-pub returns-in-Err-clause-steps : goal.returns-in-Err-clause-steps
-returns-in-Err-clause-steps g c =
+pub unreachable-requires : goal.unreachable-requires
+unreachable-requires g c =
     let self = c.args.self.now in
     let here = c.remaining.ensures.left in
     let some = c.if-remaining-eq0.false in
-    absurd (ahead_not (IsEntry form.Attribute) (window self.parser) self.ahead (omega (arith, here, some))
-    (c.in-Err.ensures.malformed refl))
+    ahead_not (IsEntry form.Attribute) (window self.parser) self.ahead (omega (arith, here, some))
+    (c.in-Err.ensures.malformed refl)
 
 pub invariant_of-self : goal.invariant_of-self
 invariant_of-self g c =

@@ -63,9 +63,9 @@ more_passed : (x read after : List ℕ) (old mid new : ℕ) → read ≡ x
 more_passed x read after old mid new same passed later = omega (arith, ap length same)
 
 -- after a chunk with no bad part nothing is left
-none_behind : (x : List ℕ) (chunk : Chunk) (behind : List ℕ) → IsFirstChunk x chunk behind
-    → length chunk.invalid ≡ 0 → behind ≡ []
-none_behind x chunk behind c none =
+none_after : (x : List ℕ) (chunk : Chunk) (after : List ℕ) → IsFirstChunk x chunk after
+    → length chunk.invalid ≡ 0 → after ≡ []
+none_after x chunk after c none =
     ⊎_elim (λ h. h.1) (λ bad. let some = (bad_some bad).0 in absurd (omega arith)) c.bad
 
 -- no octets
@@ -229,7 +229,7 @@ returns-then-is_empty-clause-passed g c =
     let none = none_of c.in-Some.first.invalid c.invalid.result.now c.is_empty.result c.invalid.ensures c.is_empty.ensures
     c.if-is_empty.true in
     read_passed _ _ _ _ _ (c.chunks-chunks.ensures ∙ c.as_ref-content.ensures.value)
-    (none_behind _ c.in-Some.first _ c.in-Some.ensures.gives none) c.in-Some.ensures.passed
+    (none_after _ c.in-Some.first _ c.in-Some.ensures.gives none) c.in-Some.ensures.passed
 
 pub returns-then-is_empty-clause-kept : goal.returns-then-is_empty-clause-kept
 returns-then-is_empty-clause-kept g c = c.in-Some.ensures.kept

@@ -9,7 +9,7 @@ use Rattle.octseq_text.proofs.Piecewise.{closed_bad, still_begins, size_none, si
 use Rattle.octseq_text.proofs.CharacterAppends.{within_appended}
 use Rattle.octseq_text.proofs.Counting.{one_character, none_before_fault, one_more, one_to_fault, turns_next}
 use Rattle.octseq_text.proofs.Counting.{turns_inside, turns_to_rest, passed_to_rest, passed_still, passed_next}
-use Rattle.octseq_text.proofs.Counting.{turns_kept, octet_behind, fault_end_some}
+use Rattle.octseq_text.proofs.Counting.{turns_kept, octet_after, fault_end_some}
 use Rattle.octseq_text.proofs.str.pieces.close.Goals as goal
 
 -- a place of the piece
@@ -32,8 +32,8 @@ next_within size at h = omega arith
 place_within : (size at : ℕ) → at < size → at ≤ size
 place_within size at h = omega arith
 
-next_behind : (at : ℕ) → at ≤ at + 1
-next_behind at = omega arith
+next_after : (at : ℕ) → at ≤ at + 1
+next_after at = omega arith
 
 -- at the end of the piece all of it belongs to the beginning
 all_begun : (q piece b : List ℕ) (at : ℕ) → length piece ≤ at → b ≡ q ++ take at piece → b ≡ q ++ piece
@@ -269,14 +269,14 @@ pub returns-in-None-clause-turns_closed : goal.returns-in-None-clause-turns_clos
 returns-in-None-clause-turns_closed g c =
     let few = one_character _ _ _ c.loop-at.invariant.begins (c.as_slice.ensures.content ∙ c.push.ensures)
     (c.in-None.ensures.none.0 refl) in
-    turns_to_rest c.args.piece.now (c.loop-at.at + 1) c.loop-at.at _ _ _ (next_behind _)
+    turns_to_rest c.args.piece.now (c.loop-at.at + 1) c.loop-at.at _ _ _ (next_after _)
     (next_within _ _ c.loop-at-test.true) c.loop-at.invariant.turns (one_more _ _ _ c.in-None.ensures.turns few)
 
 pub returns-in-None-clause-passed_closed : goal.returns-in-None-clause-passed_closed
 returns-in-None-clause-passed_closed g c =
     passed_to_rest c.args.piece.now (c.loop-at.at + 1) _ _
     (passed_next _ _ _ _ _ c.loop-at.invariant.passed c.in-None.ensures.passed
-    (octet_behind _ _ _ (c.as_slice.ensures.content ∙ c.push.ensures)))
+    (octet_after _ _ _ (c.as_slice.ensures.content ∙ c.push.ensures)))
 
 pub returns-in_err-append_replacement-in-Some-clause-turns : goal.returns-in_err-append_replacement-in-Some-clause-turns
 returns-in_err-append_replacement-in-Some-clause-turns g c =

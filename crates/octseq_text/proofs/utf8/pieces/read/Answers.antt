@@ -38,10 +38,10 @@ pub returns-clause-fault : goal.returns-clause-fault
 returns-clause-fault c =
     let from = length c.as_slice-3.result.now - length c.as_slice-4.result.now - length c.as_slice-5.result.now in
     IfErr-weaker c.search-3.result
-    (λ told. SettlesAfter c.in_ok-reached.reached.passed
-    (take (length c.args.piece.now - from) (drop from c.args.piece.now)) told)
-    (λ told. SettlesAfter c.args.passed (c.args.end.now.content ++ c.args.piece.now) told)
-    (λ told s. settles_all _ _ _ c.join-joined.ensures
+    (λ reported. SettlesAfter c.in_ok-reached.reached.passed
+    (take (length c.args.piece.now - from) (drop from c.args.piece.now)) reported)
+    (λ reported. SettlesAfter c.args.passed (c.args.end.now.content ++ c.args.piece.now) reported)
+    (λ reported s. settles_all _ _ _ c.join-joined.ensures
     (begins_by _ _ _ c.requires c.as_slice.ensures.content c.is_empty.ensures c.if-is_empty.false) _
     (rw (c.as_slice-3.ensures.content, c.as_slice-4.ensures.content) refl) c.if-taken-piece.false _ _ _ _
     c.as_slice-5.ensures.content (rw c.as_slice-2.ensures.content at c.in_ok-reached.ensures.passed) _ s)

@@ -6,4 +6,4 @@ use Rattle.octseq_tool.proofs.engine.feeding.feed_all.Given as goal
 
 abbrev pub invariant-loop : goal.invariant-loop
 invariant-loop g l =
-    IsFed g.F.Feed.stands_for (g.R.Read.remaining l.fn.reader) (g.R.Read.remaining l.reader) l.fed × (0 < vec_len l.piece)
+    IsFed g.F.Feed.has_read (g.R.Read.remaining l.fn.reader) (g.R.Read.remaining l.reader) l.fed × (0 < vec_len l.piece)

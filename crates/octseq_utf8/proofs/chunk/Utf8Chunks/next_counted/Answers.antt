@@ -17,15 +17,15 @@ some_octets [] test e f = absurd (cc)
 some_octets (o ∷ x) test e f = λ none. cc
 
 -- after the last octet there is none
-nothing_behind : (x : List ℕ) → take (length x - length x) (drop (length x) x) ≡ []
-nothing_behind x = nil_from_length _ (omega (arith, length-take (length x - length x) (drop (length x) x)))
+nothing_after : (x : List ℕ) → take (length x - length x) (drop (length x) x) ≡ []
+nothing_after x = nil_from_length _ (omega (arith, length-take (length x - length x) (drop (length x) x)))
 
 -- octets that are well-formed text are their last chunk
 last_gives : (x : List ℕ) (chunk : Chunk) → x ≢ [] → IsWellFormed x
     → chunk ≡ record { valid = x; invalid = []; incomplete = false }
     → IsFirstChunk x chunk (take (length x - length x) (drop (length x) x))
 last_gives x chunk some good e =
-    subst (λ y. IsFirstChunk x chunk y) (sym (nothing_behind x))
+    subst (λ y. IsFirstChunk x chunk y) (sym (nothing_after x))
     (subst (λ y. IsFirstChunk x y []) (sym e) (chunk_at_end x some good))
 
 -- the turns for a text are at most its parts
@@ -33,7 +33,7 @@ last_turns : (x : List ℕ) (old new : ℕ) → IsWellFormed x → new ≤ old +
     → Splits x parts → Splits (take (length x - length x) (drop (length x) x)) rest
     → new + length rest ≤ old + length parts
 last_turns x old new good counted parts rest s t =
-    let none : length rest ≡ 0 = ap length (only_parts t) ∙ none_left _ (ap length (nothing_behind x)) in
+    let none : length rest ≡ 0 = ap length (only_parts t) ∙ none_left _ (ap length (nothing_after x)) in
     omega (arith, ap length (only_parts s), parts_well_formed x good)
 
 -- and the turns to a fault are at most the parts up to its end
@@ -72,11 +72,11 @@ passed_none passed old = omega arith
 pub last_chunk-requires : goal.last_chunk-requires
 last_chunk-requires c = c.in-None.ensures.none.0 refl
 
-pub behind-self-inside-requires-clause-place : goal.behind-self-inside-requires-clause-place
-behind-self-inside-requires-clause-place c = place_within _ _ c.in-Some.ensures.fault
+pub after-self-inside-requires-clause-place : goal.after-self-inside-requires-clause-place
+after-self-inside-requires-clause-place c = place_within _ _ c.in-Some.ensures.fault
 
-pub behind-self-inside-requires-clause-end : goal.behind-self-inside-requires-clause-end
-behind-self-inside-requires-clause-end c = (end_bounds _ _ c.in-Some.ensures.fault).1
+pub after-self-inside-requires-clause-end : goal.after-self-inside-requires-clause-end
+after-self-inside-requires-clause-end c = (end_bounds _ _ c.in-Some.ensures.fault).1
 
 pub chunk_to-requires : goal.chunk_to-requires
 chunk_to-requires c = c.in-Some.ensures.fault
@@ -106,16 +106,16 @@ pub returns-in-None-clause-kept : goal.returns-in-None-clause-kept
 returns-in-None-clause-kept c = turns_grow _ _ _ c.in-None.ensures.passed
 
 pub returns-in-Some-clause-gives : goal.returns-in-Some-clause-gives
-returns-in-Some-clause-gives c = rw (← c.self.view_is, c.behind-self-inside.ensures) c.chunk_to.ensures
+returns-in-Some-clause-gives c = rw (← c.self.view_is, c.after-self-inside.ensures) c.chunk_to.ensures
 
 pub returns-in-Some-clause-turns : goal.returns-in-Some-clause-turns
 returns-in-Some-clause-turns c =
-    rw (← c.self.view_is, c.behind-self-inside.ensures)
+    rw (← c.self.view_is, c.after-self-inside.ensures)
     (fault_turns c.self.inside.rest.now c.in-Some.fault _ _ c.in-Some.ensures.fault c.in-Some.ensures.turns_to_fault)
 
 pub returns-in-Some-clause-passed : goal.returns-in-Some-clause-passed
 returns-in-Some-clause-passed c =
-    rw (← c.self.view_is, c.behind-self-inside.ensures)
+    rw (← c.self.view_is, c.after-self-inside.ensures)
     (passed_to c.self.inside.rest.now _ _ _ c.in-Some.ensures.passed_to_fault)
 
 pub returns-in-Some-clause-kept : goal.returns-in-Some-clause-kept

@@ -3,7 +3,7 @@ use Rattle.std.proofs.Math.Logic.{∥∥₁_map}
 use Rattle.octseq.specs.Limit.{IsWithin}
 use Rattle.octseq_dns_compress.specs.Composed.{message_limit}
 use Rattle.octseq_dns.specs.Contents.{question_entry}
-use Rattle.octseq_dns.specs.Pushed.{asked}
+use Rattle.octseq_dns.specs.Pushed.{pushed_question}
 use Rattle.octseq_dns.specs.Sections.{takes_questions}
 use Rattle.octseq_dns.specs.Writes.{IsBuilt, UpToQuestions, Writes, least_limit, more_questions}
 use Rattle.octseq_dns.proofs.Pushed.{pushed, pushed_within}
@@ -18,7 +18,7 @@ invariant_of-self g c =
 pub invariant_of-self-2 : goal.invariant_of-self-2
 invariant_of-self-2 g c =
     let in' = c.self.inside in
-    let one = asked c.args.qname.now c.args.qtype c.args.qclass in
+    let one = pushed_question c.args.qname.now c.args.qtype c.args.qclass in
     let raised : c.in-Some.qdcount ≡ in'.counts.qdcount + 1 = search rules in
     let less : in'.counts.qdcount < 65535 = search rules in
     let now_is = ap (λ n. record in'.counts { qdcount = n }) raised in (
@@ -35,7 +35,7 @@ invariant_of-self-2 g c =
 pub returns-clause-written : goal.returns-clause-written
 returns-clause-written g c m is =
     let in' = c.self.inside in
-    let one = asked c.args.qname.now c.args.qtype c.args.qclass in
+    let one = pushed_question c.args.qname.now c.args.qtype c.args.qclass in
     let raised : c.in-Some.qdcount ≡ in'.counts.qdcount + 1 = search rules in
     let less : in'.counts.qdcount < 65535 = search rules in
     let now_is = ap (λ n. record in'.counts { qdcount = n }) raised in
@@ -48,7 +48,7 @@ returns-clause-written g c m is =
 pub returns-clause-within : goal.returns-clause-within
 returns-clause-within g c =
     let in' = c.self.inside in
-    let one = asked c.args.qname.now c.args.qtype c.args.qclass in
+    let one = pushed_question c.args.qname.now c.args.qtype c.args.qclass in
     let limit = message_limit g.B.AsOctets.limit in
     subst (λ v. IsWithin (least_limit v.push_limit limit) (length c.put_header.new.self.state.octets)) c.self.view_is
     (pushed_within (least_limit in'.push_limit limit) g.T.Compressor.most in'.message.state

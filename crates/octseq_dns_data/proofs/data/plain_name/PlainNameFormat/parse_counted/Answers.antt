@@ -19,7 +19,7 @@ returns-then-pos-len-clause-malformed g c = λ _ other end is.
     let here = one_named.same w (name_of c.in_ok-name.name) other (window c.parse_counted.new.parser) end
     c.in_ok-name.ensures.value (named w end other is) in
     let sound : IsSound w = record { each = search rules; ordered = search rules; within = search rules } in
-    let long = plain_long w.position w end other.labels 0 sound refl is.1.stands in
+    let long = plain_long w.position w end other.labels 0 sound refl is.1.has_labels in
     let labels = ap (λ (n : Name). wire_length n.labels) here.0 in
     let ends = ap (λ (v : Window). v.position) here.1 in
     let len = c.len.ensures.len in
@@ -39,8 +39,8 @@ returns-clause-value g c =
     let sound : IsSound w = record { each = search rules; ordered = search rules; within = search rules } in (
       is.0,
       record {
-        stands = plain_by_length w.position w (window c.parse_counted.new.parser) (labels_of c.in_ok-name.name)
-            is.1.pointers sound c.a_name_has_labels.ensures.labels is.1.stands
+        has_labels = plain_by_length w.position w (window c.parse_counted.new.parser) (labels_of c.in_ok-name.name)
+            is.1.pointers sound c.a_name_has_labels.ensures.labels is.1.has_labels
             (omega (arith, len, at, from, same_len));
         short = is.1.short;
       },

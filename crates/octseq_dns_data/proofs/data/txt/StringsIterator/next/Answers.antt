@@ -15,12 +15,12 @@ returns-then-pos-self-clause-steps g c =
     (omega (arith, is)) in
     ((none, none), tt)
 
-pub returns-in-Err-clause-steps : goal.returns-in-Err-clause-steps
-returns-in-Err-clause-steps g c =
+pub unreachable-requires : goal.unreachable-requires
+unreachable-requires g c =
     let self = c.args.self.now in
     let is = c.pos.ensures.position in
-    absurd (reached_not HasString (window self.parser) self.end self.ahead (λ same. omega (arith, is, same))
-    (c.in-Err.ensures.malformed refl))
+    reached_not HasString (window self.parser) self.end self.ahead (λ same. omega (arith, is, same))
+    (c.in-Err.ensures.malformed refl)
 
 pub invariant_of-self : goal.invariant_of-self
 invariant_of-self g c =

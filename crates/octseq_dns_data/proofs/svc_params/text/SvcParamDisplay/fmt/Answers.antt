@@ -2,7 +2,7 @@ use Rattle.std.proofs.Common.{◌∷◌, ◌++◌, [], codes, length, ◌<◌, a
 use Rattle.std.proofs.lemmas.Grind.{put_four}
 use Rattle.std.proofs.lemmas.Str.{encode_ascii}
 use Rattle.std.specs.Fmt.{HasWritten}
-use Rattle.octseq_dns_data.specs.SvcParamsText.{key_text, value_behind, value_text}
+use Rattle.octseq_dns_data.specs.SvcParamsText.{key_text, value_after, value_text}
 use Rattle.octseq_dns_data.proofs.SvcParamsTexts.{value_some}
 use Rattle.octseq_dns_data.proofs.svc_params.text.SvcParamDisplay.fmt.Goals as goal
 
@@ -19,4 +19,4 @@ returns-clause-writes g c = λ plain ok.
     (subst (λ text. HasWritten took c.write_value.new.f text c.write_char.new.self) (encode_ascii 34 (omega arith))
     (c.write_char.ensures.writes third.plain ok))
     (ap (λ more. key_text key ++ more)
-    (value_some key octets some ∙ ap (value_behind key) c.peek_all-octets.ensures.content))
+    (value_some key octets some ∙ ap (value_after key) c.peek_all-octets.ensures.content))

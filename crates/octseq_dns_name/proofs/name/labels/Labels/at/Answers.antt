@@ -1,7 +1,7 @@
 use Rattle.std.proofs.Common.{ℕ, sym, subst, arith}
 use Rattle.octseq.specs.Parser.{window}
 use Rattle.octseq.specs.Window.{Window}
-use Rattle.octseq_dns_name.specs.Name.{Stands}
+use Rattle.octseq_dns_name.specs.Name.{HasLabels}
 use Rattle.octseq_dns_name.specs.OneName.{one_ahead}
 use Rattle.octseq_dns_name.proofs.Names.{ahead_of_name}
 use Rattle.octseq_dns_name.proofs.name.labels.Labels.at.Goals as goal
@@ -14,7 +14,7 @@ invariant_of-result g c =
       ahead = (
         c.requires.0,
         subst (λ start. ∥
-            ((pointers : ℕ) × (end : Window) × Stands start (window c.args.parser) c.requires.0 pointers end) ∥₁)
+            ((pointers : ℕ) × (end : Window) × HasLabels start (window c.args.parser) c.requires.0 pointers end) ∥₁)
             (sym is) all.0,
       );
       ordered = omega (arith, is);
@@ -28,5 +28,5 @@ returns-clause-labels g c = λ named.
     one_ahead c.pos-start.result (window c.args.parser) c.result-1.given.0 (
       named.0,
       subst (λ start. ∥ ((pointers : ℕ) × (end : Window)
-          × Stands start (window c.args.parser) named.0 pointers end) ∥₁) (sym is) all.0,
+          × HasLabels start (window c.args.parser) named.0 pointers end) ∥₁) (sym is) all.0,
     )

@@ -2,7 +2,7 @@ use Rattle.std.proofs.Common.{◌++◌, length, refl, ap, sym, subst, Err}
 use Rattle.std.proofs.Math.Nat.{le_refl}
 use Rattle.octseq_core.specs.Limit.{IsPast}
 use Rattle.octseq_text.proofs.Counting.{one_turned}
-use Rattle.octseq_text.proofs.Piecewise.{feed_stands, feed_text, feed_too_long, sound_standing}
+use Rattle.octseq_text.proofs.Piecewise.{feed_has_read, feed_text, feed_too_long, sound_reading}
 use Rattle.octseq_text.proofs.Piecewise.{not_met, same_refusal, memory_met, sound_met}
 use Rattle.octseq_text.proofs.Settling.{one_settling, settling}
 use Rattle.octseq_core.proofs.Limits.{within_not_past}
@@ -10,17 +10,17 @@ use Rattle.octseq_text.proofs.str.pieces.LossyPieces.feed_counted.Goals as goal
 
 pub invariant_of-self : goal.invariant_of-self
 invariant_of-self g c =
-    let stands = c.self.invariant.stands c.in_default.is in
+    let has_read = c.self.invariant.has_read c.in_default.is in
     let read = rw c.replace-end.ensures.value at c.in-Ok.ensures.read in
-    sound_standing g.B.AsOctets.limit g.B.AsOctets.asks _ (stands.0 ++ c.args.piece.now)
-    (feed_stands _ stands.0 c.args.piece.now _ _ stands.1 read c.in-Ok.ensures.open_end c.self.inside.refusal
+    sound_reading g.B.AsOctets.limit g.B.AsOctets.asks _ (has_read.0 ++ c.args.piece.now)
+    (feed_has_read _ has_read.0 c.args.piece.now _ _ has_read.1 read c.in-Ok.ensures.open_end c.self.inside.refusal
     c.in_default.is) c.in-Ok.ensures.within
 
-pub returns-in-Ok-clause-stands : goal.returns-in-Ok-clause-stands
-returns-in-Ok-clause-stands g c =
+pub returns-in-Ok-clause-has_read : goal.returns-in-Ok-clause-has_read
+returns-in-Ok-clause-has_read g c =
     let read = rw c.replace-end.ensures.value at c.in-Ok.ensures.read in
     rw (← c.self.view_is)
-    (λ octets s. feed_stands _ octets c.args.piece.now _ _ s read c.in-Ok.ensures.open_end c.self.inside.refusal
+    (λ octets s. feed_has_read _ octets c.args.piece.now _ _ s read c.in-Ok.ensures.open_end c.self.inside.refusal
     c.in_default.is)
 
 pub returns-in-Ok-clause-past : goal.returns-in-Ok-clause-past

@@ -17,8 +17,8 @@ returns-in_err-append_end-clause-short g c =
 
 pub from_utf8_unchecked-requires : goal.from_utf8_unchecked-requires
 from_utf8_unchecked-requires g c =
-    let stands = c.self.invariant.stands c.in_default.is in
-    finish_well_formed _ stands.0 _ stands.1 c.in_ok-append_end.ensures.none c.in_ok-append_end.ensures.some
+    let has_read = c.self.invariant.has_read c.in_default.is in
+    finish_well_formed _ has_read.0 _ has_read.1 c.in_ok-append_end.ensures.none c.in_ok-append_end.ensures.some
 
 pub returns-clause-text : goal.returns-clause-text
 returns-clause-text g c =
@@ -99,6 +99,6 @@ returns-clause-again g c =
 
 pub returns-clause-well_formed : goal.returns-clause-well_formed
 returns-clause-well_formed g c =
-    let stands = c.self.invariant.stands c.in_default.is in
+    let has_read = c.self.invariant.has_read c.in_default.is in
     rw c.from_utf8_unchecked.ensures
-    (finish_well_formed _ stands.0 _ stands.1 c.in_ok-append_end.ensures.none c.in_ok-append_end.ensures.some)
+    (finish_well_formed _ has_read.0 _ has_read.1 c.in_ok-append_end.ensures.none c.in_ok-append_end.ensures.some)

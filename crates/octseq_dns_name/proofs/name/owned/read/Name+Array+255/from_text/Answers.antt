@@ -3,7 +3,7 @@ use Rattle.octseq.specs.Window.{whole}
 use Rattle.octseq_dns_name.specs.OneName.{Named, named_once}
 use Rattle.octseq_dns_name.specs.Refused.{IsRefused}
 use Rattle.octseq_dns_name.specs.Spelling.{SpellsName}
-use Rattle.octseq_dns_name.proofs.Refusals.{no_name, ok_no_err, told_of}
+use Rattle.octseq_dns_name.proofs.Refusals.{no_name, ok_no_err, reported_of}
 use Rattle.octseq_dns_name.proofs.Wires.{wire_named}
 use Rattle.octseq_dns_name.proofs.name.owned.read.Name+Array+255.from_text.Goals as goal
 
@@ -15,7 +15,7 @@ returns-in_err-octets-clause-malformed c = λ _.
 pub returns-in_err-octets-clause-refused : goal.returns-in_err-octets-clause-refused
 returns-in_err-octets-clause-refused c =
     let is = subst (IsRefused c.in_err-octets.field-0.0) c.as_bytes.ensures.value c.in_err-octets.ensures.refused in
-    told_of c.from_residual.result c.in_err-octets.field-0.0 c.args.text.now (search rules) is
+    reported_of c.from_residual.result c.in_err-octets.field-0.0 c.args.text.now (search rules) is
 
 pub invariant_of-result : goal.invariant_of-result
 invariant_of-result c =
@@ -37,7 +37,7 @@ returns-clause-ok c =
 pub returns-clause-refused : goal.returns-clause-refused
 returns-clause-refused c = λ fault.
     let made = c.in_ok-octets.ensures.ok in (
-      λ told. absurd (ok_no_err _ _ fault refl told),
+      λ reported. absurd (ok_no_err _ _ fault refl reported),
       λ is. absurd (no_name fault c.args.text.now is made.0 made.2 made.3
           (subst (SpellsName made.0) c.as_bytes.ensures.value made.4)),
     )

@@ -3,7 +3,7 @@ use Rattle.octseq.specs.Window.{whole}
 use Rattle.octseq_dns_name.specs.OneName.{Named, named_once}
 use Rattle.octseq_dns_name.specs.Origin.{IsRefusedWithOrigin, SpellsWithOrigin}
 use Rattle.octseq_dns_name.specs.Read.{labels_of}
-use Rattle.octseq_dns_name.proofs.Origins.{no_name_with_origin, told_with_origin}
+use Rattle.octseq_dns_name.proofs.Origins.{no_name_with_origin, reported_with_origin}
 use Rattle.octseq_dns_name.proofs.Refusals.{ok_no_err}
 use Rattle.octseq_dns_name.proofs.Wires.{wire_named}
 use Rattle.octseq_dns_name.proofs.name.owned.read.Name+Array+255.from_text_with_origin.Goals as goal
@@ -20,7 +20,7 @@ returns-in_err-octets-clause-refused g c =
     let origin = labels_of c.args.origin.now in
     let is = subst (IsRefusedWithOrigin origin c.in_err-octets.field-0.0) c.as_bytes.ensures.value
     c.in_err-octets.ensures.refused in
-    told_with_origin origin c.from_residual.result c.in_err-octets.field-0.0 c.args.text.now (search rules) is
+    reported_with_origin origin c.from_residual.result c.in_err-octets.field-0.0 c.args.text.now (search rules) is
 
 pub invariant_of-result : goal.invariant_of-result
 invariant_of-result g c =
@@ -45,7 +45,7 @@ pub returns-clause-refused : goal.returns-clause-refused
 returns-clause-refused g c = λ fault.
     let origin = labels_of c.args.origin.now in
     let made = c.in_ok-octets.ensures.ok in (
-      λ told. absurd (ok_no_err _ _ fault refl told),
+      λ reported. absurd (ok_no_err _ _ fault refl reported),
       λ is. absurd (no_name_with_origin origin fault c.args.text.now is made.0 made.2 made.3
           (subst (SpellsWithOrigin origin made.0) c.as_bytes.ensures.value made.4)),
     )

@@ -10,13 +10,13 @@ use Rattle.octseq_dns.specs.Rdata.{bare_rdata, rdata_fields, rtype_of}
 use Rattle.octseq_dns.specs.Rewritten.{IsRecordOf, record_of_parsed}
 use Rattle.octseq_dns.proofs.RdataRead.{bare_rtype}
 
-pub same_asked : {name other : Name} {qtype t qclass c : ℕ} → name ≡ other → qtype ≡ t → qclass ≡ c
+pub same_question : {name other : Name} {qtype t qclass c : ℕ} → name ≡ other → qtype ≡ t → qclass ≡ c
     → ◌≡◌ {A = Question} (record { labels = name.labels; qtype = qtype; qclass = qclass })
     (record { labels = other.labels; qtype = t; qclass = c })
-same_asked names qtypes qclasses =
+same_question names qtypes qclasses =
     λ i. record { labels = (names i).labels; qtype = qtypes i; qclass = qclasses i }
 
-pub only_told : {name : Name} {class ttl : ℕ} (r : entry.Record) (parsed : ParsedRdata) → name ≡ r.owner
+pub only_record : {name : Name} {class ttl : ℕ} (r : entry.Record) (parsed : ParsedRdata) → name ≡ r.owner
     → class ≡ r.class → ttl ≡ r.ttl → IsDataOf r parsed → (other : Record) → IsRecordOf r other
     → ◌≡◌ {A = Record} other (record {
       labels = name.labels;
@@ -25,7 +25,7 @@ pub only_told : {name : Name} {class ttl : ℕ} (r : entry.Record) (parsed : Par
       ttl = ttl;
       fields = rdata_fields (bare_rdata parsed);
     })
-only_told r parsed names classes ttls is other of =
+only_record r parsed names classes ttls is other of =
     let rtypes = bare_rtype parsed ∙ said_rtype r parsed is in
     of.is ∙ ap (record_of_parsed r) (one_said r of.parsed parsed of.data_is is)
     ∙ (λ i. record {

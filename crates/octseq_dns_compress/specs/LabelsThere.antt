@@ -4,13 +4,13 @@ use Rattle.std.specs.FinMap.{get}
 use Rattle.octseq.specs.Window.{Window, at, whole}
 use Rattle.octseq_dns_compress.specs.Names.{Names, Place}
 use Rattle.octseq_dns_compress.specs.State.{State}
-use Rattle.octseq_dns_name.specs.Name.{Stands}
+use Rattle.octseq_dns_name.specs.Name.{HasLabels}
 
 -- Labels are at an offset after the header of a message, through this many pointers, whatever the header says and
 -- whatever follows the message.
 abbrev pub AreAt : List ℕ → ℕ → List (List ℕ) → ℕ → Type 0
 AreAt octets place labels pointers = (12 ≤ place) × ((header more : List ℕ) → length header ≡ 12
-    → (v : Window) × Stands place (at place (whole (header ++ (drop 12 octets ++ more)))) labels pointers v)
+    → (v : Window) × HasLabels place (at place (whole (header ++ (drop 12 octets ++ more)))) labels pointers v)
 
 -- Each name is at its place, which a pointer can express and from which at most 126 pointers are followed.
 pub record AreNamed (octets : List ℕ) (names : Names) : Type 0 where

@@ -15,11 +15,11 @@ use Rattle.octseq_dns_compress.specs.Fits.{NameFits}
 use Rattle.octseq_dns_compress.specs.FoundNames.{get_new, get_other, one_place, same_or_other, some_or_none}
 use Rattle.octseq_dns_compress.specs.Names.{Names, Place, labels_cmp, last_place, name_octets, pointers_from}
 use Rattle.octseq_dns_compress.specs.Names.{is_there, is_kept, with_labels, names_with}
-use Rattle.octseq_dns_compress.specs.Standing.{AreAt, AreNamed}
+use Rattle.octseq_dns_compress.specs.LabelsThere.{AreAt, AreNamed}
 use Rattle.octseq_dns_compress.proofs.Pieces.{octets_by, octets_new, name_next}
 use Rattle.octseq_dns_compress.proofs.Steps.{Grows}
-use Rattle.octseq_dns_name.specs.Name.{Stands, IsName}
-use Rattle.octseq_dns_name.specs.NameFormat.{stands_takes}
+use Rattle.octseq_dns_name.specs.Name.{HasLabels, IsName}
+use Rattle.octseq_dns_name.specs.NameFormat.{has_labels_takes}
 use Rattle.octseq_dns_name.specs.Wire.{AreLabels}
 
 -- a message with another header, followed by more
@@ -68,7 +68,7 @@ at_grows : (octets more : List ℕ) (place : ℕ) (labels : List (List ℕ)) (po
     → AreAt octets place labels pointers → AreAt (octets ++ more) place labels pointers
 at_grows octets more place labels pointers headed are = (
   are.0,
-  λ header after long. subst (λ all. (v : Window) × Stands place (at place (whole all)) labels pointers v)
+  λ header after long. subst (λ all. (v : Window) × HasLabels place (at place (whole all)) labels pointers v)
       (all_grows header octets more after headed) (are.1 header (more ++ after) long),
 )
 
@@ -78,7 +78,7 @@ at_headed : (octets header : List ℕ) (place : ℕ) (labels : List (List ℕ)) 
 at_headed octets header place labels pointers headed are = (
   are.0,
   λ other after long.
-      subst (λ rest. (v : Window) × Stands place (at place (whole (other ++ (rest ++ after)))) labels pointers v)
+      subst (λ rest. (v : Window) × HasLabels place (at place (whole (other ++ (rest ++ after)))) labels pointers v)
       (sym (drop_at header (drop 12 octets) 12 headed)) (are.1 other after long),
 )
 
@@ -105,7 +105,7 @@ named_before octets names headed named labels place found =
     let twelve = length-replicate {A = ℕ} 12 0 in
     let all = all_of header octets [] in
     let here = (named.there labels place found).1 header [] twelve in
-    let room = stands_takes place.at (at place.at (whole all)) here.0 labels place.pointers here.1 in
+    let room = has_labels_takes place.at (at place.at (whole all)) here.0 labels place.pointers here.1 in
     let long = length-append header (drop 12 octets ++ []) in
     let more = length-append (drop 12 octets) [] in
     let fewer = length-drop 12 octets in
@@ -136,7 +136,7 @@ record IsWrittenAt (octets : List ℕ) (names : Names) (place : ℕ) (labels : L
 -- so its labels are there
 labels_at : (octets : List ℕ) (names : Names) (place : ℕ) (labels : List (List ℕ)) → AreNamed octets names
     → IsWrittenAt octets names place labels → (header more : List ℕ) → length header ≡ 12
-    → Stands place (at place (whole (all_of header octets more))) labels (pointers_from (last_place names labels))
+    → HasLabels place (at place (whole (all_of header octets more))) labels (pointers_from (last_place names labels))
     (at (place + length (name_octets names labels)) (whole (all_of header octets more)))
 labels_at octets names place labels named written header more headed =
     name_next names place (at place (whole (all_of header octets more))) labels more
@@ -179,7 +179,7 @@ pub name_is_read : (octets : List ℕ) (names : Names) (labels : List (List ℕ)
     (at (length octets + length (name_octets names labels)) (whole all))
 name_is_read octets names labels headed named fits header more long = record {
   pointers = pointers_from (last_place names labels);
-  stands = labels_at (octets ++ name_octets names labels) names (length octets) labels
+  has_labels = labels_at (octets ++ name_octets names labels) names (length octets) labels
       (named_grows octets (name_octets names labels) names headed named)
       (written_at octets names labels headed named fits.each) header more long;
   short = fits.short;
@@ -216,9 +216,9 @@ kept_near most names labels place kept = by (nat_le place.at 16383) (nat_le plac
   by : (near few : Bool) → nat_le place.at 16383 ≡ near → nat_le place.pointers 126 ≡ few
       → IsTrue (near && (few && (nat_lt (len names) most && is_there names labels)))
       → (place.at ≤ 16383) × (place.pointers ≤ 126)
-  by true true near few told = (leb-true place.at 16383 near, leb-true place.pointers 126 few)
-  by true false near few told = absurd (true≢false (sym told))
-  by false few near is told = absurd (true≢false (sym told))
+  by true true near few reported = (leb-true place.at 16383 near, leb-true place.pointers 126 few)
+  by true false near few reported = absurd (true≢false (sym reported))
+  by false few near is reported = absurd (true≢false (sym reported))
 
 named_kept : (octets : List ℕ) (most : ℕ) (names : Names) (label : List ℕ) (labels : List (List ℕ)) (place : Place)
     (kept : Bool) → is_kept most names labels place ≡ kept → AreNamed octets names

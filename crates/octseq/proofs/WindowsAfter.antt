@@ -5,32 +5,32 @@ use Rattle.std.proofs.Math.Seq.{take-append_seam, take-length, drop-append_seam}
 use Rattle.std.proofs.lemmas.List.{length-append}
 use Rattle.octseq.specs.Integer.{be, le, octets_be, octets_le}
 use Rattle.octseq.specs.Part.{part_of, part_length, HasPart, part, past_part}
-use Rattle.octseq.specs.Window.{Window, left, rest, next, past, at, whole, behind}
+use Rattle.octseq.specs.Window.{Window, left, rest, next, past, at, whole, window_after}
 use Rattle.octseq.proofs.Codes.{length_rest}
 use Rattle.octseq.proofs.Windows.{next_of_rest, rest_past}
 use Rattle.octseq.proofs.Written.{length_be, length_le, value_be, value_le}
 
 -- after a front, the number of octets left is the length of what follows it
-pub left_behind : (front xs : List ℕ) → left (behind front xs) ≡ length xs
-left_behind front xs = let all : length (front ++ xs) ≡ length front + length xs = length-append front xs in omega arith
+pub left_after : (front xs : List ℕ) → left (window_after front xs) ≡ length xs
+left_after front xs = let all : length (front ++ xs) ≡ length front + length xs = length-append front xs in omega arith
 
 -- and they are what follows it
-pub rest_behind : (front xs : List ℕ) → rest (behind front xs) ≡ xs
-rest_behind front xs =
-    ap (λ n. take n (drop (length front) (front ++ xs))) (left_behind front xs)
+pub rest_after : (front xs : List ℕ) → rest (window_after front xs) ≡ xs
+rest_after front xs =
+    ap (λ n. take n (drop (length front) (front ++ xs))) (left_after front xs)
     ∙ ap (take (length xs)) (drop-append_seam front xs) ∙ take-length xs
 
-next_behind : (front octets after : List ℕ) (k : ℕ) → length octets ≡ k
-    → next k (behind front (octets ++ after)) ≡ octets
-next_behind front octets after k many =
+next_after : (front octets after : List ℕ) (k : ℕ) → length octets ≡ k
+    → next k (window_after front (octets ++ after)) ≡ octets
+next_after front octets after k many =
     let count : length front + k - length front ≡ length octets = omega (arith, many) in
     ap (λ n. take n (drop (length front) (front ++ (octets ++ after)))) count
     ∙ ap (take (length octets)) (drop-append_seam front (octets ++ after)) ∙ take-append_seam octets after
 
 -- past the octets that follow, what is after them is left
-pub past_behind : (front octets after : List ℕ) (k : ℕ) → length octets ≡ k
-    → past k (behind front (octets ++ after)) ≡ behind (front ++ octets) after
-past_behind front octets after k many =
+pub past_after : (front octets after : List ℕ) (k : ℕ) → length octets ≡ k
+    → past k (window_after front (octets ++ after)) ≡ window_after (front ++ octets) after
+past_after front octets after k many =
     let long : length (front ++ octets) ≡ length front + length octets = length-append front octets in
     let place : length front + k ≡ length (front ++ octets) = omega (arith, many, long) in
     ap (λ p. at p (whole (front ++ (octets ++ after)))) place
@@ -53,7 +53,7 @@ front_comes_next w front more n is many =
     )
 
 -- a parser of all the octets that moved past a front of n octets is after that front
-pub past_whole : (front more : List ℕ) (n : ℕ) → length front ≡ n → past n (whole (front ++ more)) ≡ behind front more
+pub past_whole : (front more : List ℕ) (n : ℕ) → length front ≡ n → past n (whole (front ++ more)) ≡ window_after front more
 past_whole front more n many =
     let place : 0 + n ≡ length front = omega arith in
     ap (λ p. at p (whole (front ++ more))) place
@@ -62,58 +62,58 @@ past_whole front more n many =
 
 -- k octets come next, and others are left after them
 pub come_next : (front octets after : List ℕ) (k : ℕ) → length octets ≡ k
-    → (k ≤ left (behind front (octets ++ after))) × (next k (behind front (octets ++ after)) ≡ octets)
-    × (rest (past k (behind front (octets ++ after))) ≡ after)
+    → (k ≤ left (window_after front (octets ++ after))) × (next k (window_after front (octets ++ after)) ≡ octets)
+    × (rest (past k (window_after front (octets ++ after))) ≡ after)
 come_next front octets after k many =
     let all : length (octets ++ after) ≡ length octets + length after = length-append octets after in
-    let ahead : left (behind front (octets ++ after)) ≡ length (octets ++ after) =
-    left_behind front (octets ++ after) in (
+    let ahead : left (window_after front (octets ++ after)) ≡ length (octets ++ after) =
+    left_after front (octets ++ after) in (
       omega (arith, many, all, ahead),
-      next_behind front octets after k many,
-      ap rest (past_behind front octets after k many) ∙ rest_behind (front ++ octets) after,
+      next_after front octets after k many,
+      ap rest (past_after front octets after k many) ∙ rest_after (front ++ octets) after,
     )
 
 -- after a front, the octets of an integer, big-endian, come next and have its value, and others are left after them
-pub be_comes_next : (front after : List ℕ) (k n : ℕ) → n < 256 ^ k → (k ≤ left (behind front (octets_be k n ++ after)))
-    × (be (next k (behind front (octets_be k n ++ after))) ≡ n)
-    × (rest (past k (behind front (octets_be k n ++ after))) ≡ after)
+pub be_comes_next : (front after : List ℕ) (k n : ℕ) → n < 256 ^ k → (k ≤ left (window_after front (octets_be k n ++ after)))
+    × (be (next k (window_after front (octets_be k n ++ after))) ≡ n)
+    × (rest (past k (window_after front (octets_be k n ++ after))) ≡ after)
 be_comes_next front after k n fits =
     let come = come_next front (octets_be k n) after k (length_be k n) in
     (come.0, ap be come.1 ∙ value_be k n fits, come.2)
 
 -- and so do the octets of an integer, little-endian
-pub le_comes_next : (front after : List ℕ) (k n : ℕ) → n < 256 ^ k → (k ≤ left (behind front (octets_le k n ++ after)))
-    × (le (next k (behind front (octets_le k n ++ after))) ≡ n)
-    × (rest (past k (behind front (octets_le k n ++ after))) ≡ after)
+pub le_comes_next : (front after : List ℕ) (k n : ℕ) → n < 256 ^ k → (k ≤ left (window_after front (octets_le k n ++ after)))
+    × (le (next k (window_after front (octets_le k n ++ after))) ≡ n)
+    × (rest (past k (window_after front (octets_le k n ++ after))) ≡ after)
 le_comes_next front after k n fits =
     let come = come_next front (octets_le k n) after k (length_le k n) in
     (come.0, ap le come.1 ∙ value_le k n fits, come.2)
 
 part_comes_next_by : (front len octets after all : List ℕ) (k : ℕ) → length len ≡ k → be len ≡ length octets
     → all ≡ len ++ (octets ++ after)
-    → HasPart k (behind front all) × (rest (part k (behind front all)) ≡ octets)
-    × (rest (past_part k (behind front all)) ≡ after)
+    → HasPart k (window_after front all) × (rest (part k (window_after front all)) ≡ octets)
+    × (rest (past_part k (window_after front all)) ≡ after)
 part_comes_next_by front len octets after all k many value together =
-    let w = behind front all in
+    let w = window_after front all in
     let first = come_next front len (octets ++ after) k many in
     let second = come_next (front ++ len) octets after (length octets) refl in
-    let here : w ≡ behind front (len ++ (octets ++ after)) = ap (behind front) together in
+    let here : w ≡ window_after front (len ++ (octets ++ after)) = ap (window_after front) together in
     let count : part_length k w ≡ length octets = ap (λ w. be (next k w)) here ∙ ap be first.1 ∙ value in
-    let behind_length : past k w ≡ behind (front ++ len) (octets ++ after) =
-    ap (past k) here ∙ past_behind front len (octets ++ after) k many in (
+    let after_length : past k w ≡ window_after (front ++ len) (octets ++ after) =
+    ap (past k) here ∙ past_after front len (octets ++ after) k many in (
       (
         subst (λ w. k ≤ left w) (sym here) first.0,
-        subst (λ n. n ≤ left (past k w)) (sym count) (subst (λ w. length octets ≤ left w) (sym behind_length) second.0),
+        subst (λ n. n ≤ left (past k w)) (sym count) (subst (λ w. length octets ≤ left w) (sym after_length) second.0),
       ),
-      ap (λ n. next n (past k w)) count ∙ ap (next (length octets)) behind_length ∙ second.1,
-      ap (λ n. rest (past n (past k w))) count ∙ ap (λ w. rest (past (length octets) w)) behind_length ∙ second.2,
+      ap (λ n. next n (past k w)) count ∙ ap (next (length octets)) after_length ∙ second.1,
+      ap (λ n. rest (past n (past k w))) count ∙ ap (λ w. rest (past (length octets) w)) after_length ∙ second.2,
     )
 
 -- after a front, a whole part comes next with its own octets, and others are left after it
 pub part_comes_next : (front octets after : List ℕ) (k : ℕ) → length octets < 256 ^ k
-    → HasPart k (behind front (part_of k octets ++ after))
-    × (rest (part k (behind front (part_of k octets ++ after))) ≡ octets)
-    × (rest (past_part k (behind front (part_of k octets ++ after))) ≡ after)
+    → HasPart k (window_after front (part_of k octets ++ after))
+    × (rest (part k (window_after front (part_of k octets ++ after))) ≡ octets)
+    × (rest (past_part k (window_after front (part_of k octets ++ after))) ≡ after)
 part_comes_next front octets after k fits =
     let len = octets_be k (length octets) in
     part_comes_next_by front len octets after (part_of k octets ++ after) k (length_be k (length octets))
