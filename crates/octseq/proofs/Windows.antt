@@ -34,14 +34,6 @@ rest_past w v n within moved =
 
 -- ---- windows cut from another
 
--- a window of the next n octets alone has n left
-pub left_nested : (n : ℕ) (w : Window) → left (nested n w) ≡ n
-left_nested n w = omega arith
-
--- and they are what comes next
-pub rest_nested : (n : ℕ) (w : Window) → rest (nested n w) ≡ next n w
-rest_nested n w = refl
-
 -- after the next n octets, n fewer are left
 pub left_past : (n : ℕ) (w : Window) → left (past n w) ≡ left w - n
 left_past n w = omega arith

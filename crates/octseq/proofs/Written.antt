@@ -133,9 +133,6 @@ pub value_le : (k n : ℕ) → n < 256 ^ k → le (octets_le k n) ≡ n
 unfolding octets_le
 value_le k n fits = le_reverse (octets_be k n) ∙ value_be k n fits
 
-IsOctet : ℕ → Type 0
-IsOctet n = n < 256
-
 each_be : (k n : ℕ) → AllByRecursion (λ octet. octet < 256) (octets_be k n)
 unfolding octets_be
 each_be zero n = tt

@@ -53,9 +53,6 @@ lossy_past_end m written e past =
 pub one_settled_text : (x made other : List ℕ) → IsSettledText x made → IsSettledText x other → made ≡ other
 one_settled_text x made other (settled, end, s, e) (others, last, t, f) = e ∙ ap text (one_settling s t).0 ∙ sym f
 
-pub settled_past : {x : List ℕ} → IsPastSize x 0 → (made : List ℕ) × IsSettledText x made × (2 ^ 64 - 1 < length made)
-settled_past p = let past = p.past in (text p.settled, (p.settled, p.end, p.settles, refl), omega arith)
-
 pub settled_made : {x some others end : List ℕ} {len : ℕ} (r : IsReading x some others end len)
     → IsSettledText x (text r.before ++ text r.more)
 settled_made {end = end} r = (r.before ++ r.more, end, r.all, sym (text-append r.before r.more))

@@ -106,12 +106,6 @@ pub consumed_more : (a b c : Option (List ℕ)) (xs ys : List ℕ) (f n : ℕ) �
 consumed_more a b c xs ys f n room fits same first second =
     subst (Consumes a c) (sym (take_more xs ys f n room fits same)) (Consumes-trans a b c _ _ first second)
 
--- what was consumed before nothing was
-pub consumed_same : (a b c : Option (List ℕ)) (xs ys : List ℕ) (f : ℕ) → take f ys ≡ take f xs
-    → Consumes a b (take f xs) → Consumes b c [] → Consumes a c (take f ys)
-consumed_same a b c xs ys f same first second =
-    subst (Consumes a c) (append-nil (take f xs) ∙ sym same) (Consumes-trans a b c _ _ first second)
-
 -- a window that is further on has fewer octets left
 pub left_less : (w v u : Window) (n : ℕ) → 2 ≤ left w → v ≡ past 2 w → u ≡ past n v → left u < left w
 left_less w v u n room e f =

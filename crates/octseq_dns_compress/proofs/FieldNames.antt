@@ -137,9 +137,3 @@ pub entry_named : (most : ℕ) (s : State) (entry : Entry) → IsWellNamed s →
 entry_named most s entry sound fit =
     data_named most (with_fields most s entry.head) entry.data_fields (fields_named most s entry.head sound fit.head)
     fit.data_fit
-
-pub entries_named : (most : ℕ) (s : State) (entries : List Entry) → IsWellNamed s → AllByRecursion FitsEntry entries
-    → IsWellNamed (with_entries most s entries)
-entries_named most s [] sound fit = sound
-entries_named most s (entry ∷ entries) sound fit =
-    entries_named most (with_entry most s entry) entries (entry_named most s entry sound fit.0) fit.1

@@ -145,15 +145,6 @@ entries_plain octets (entry ∷ entries) =
 
 -- ---- the results
 
--- an entry takes no more octets than without compression
-pub entry_never_longer : (most : ℕ) (s : State) (entry : Entry) → length (with_entry most s entry).octets
-    ≤ length (with_entry 0 (record { octets = s.octets; names = empty }) entry).octets
-entry_never_longer most s entry =
-    let shorter = entry_shorter most s entry in
-    let plain = entry_plain s.octets entry in
-    let long = plain.long in
-    omega (arith, shorter, long)
-
 -- nor do entries
 pub entries_never_longer : (most : ℕ) (s : State) (entries : List Entry) → length (with_entries most s entries).octets
     ≤ length (with_entries 0 (record { octets = s.octets; names = empty }) entries).octets

@@ -166,12 +166,6 @@ pub entries_more : (most : ℕ) (s : State) (entries others : List Entry)
 entries_more most s [] others = refl
 entries_more most s (entry ∷ entries) others = entries_more most (with_entry most s entry) entries others
 
--- fields after other fields
-pub fields_more : (most : ℕ) (s : State) (fields others : List Field)
-    → with_fields most s (fields ++ others) ≡ with_fields most (with_fields most s fields) others
-fields_more most s [] others = refl
-fields_more most s (field ∷ fields) others = fields_more most (with_field most s field) fields others
-
 -- data that is composed after two octets, which then become its length
 module _ (most : ℕ) (s : State) (fields : List Field) where
   from : State

@@ -72,14 +72,6 @@ at_grows octets more place labels pointers headed are = (
       (all_grows header octets more after headed) (are.1 header (more ++ after) long),
 )
 
--- and as its header changes
-at_headed : (octets header : List ℕ) (place : ℕ) (labels : List (List ℕ)) (pointers : ℕ) → length header ≡ 12
-    → AreAt octets place labels pointers → AreAt (header ++ drop 12 octets) place labels pointers
-at_headed octets header place labels pointers headed are = (
-  are.0,
-  λ other after long.
-      subst (λ rest. (v : Window) × HasLabels place (at place (whole (other ++ (rest ++ after)))) labels pointers v)
-      (sym (drop_at header (drop 12 octets) 12 headed)) (are.1 other after long),
 )
 
 -- so do names
@@ -88,12 +80,6 @@ pub named_grows : (octets more : List ℕ) (names : Names) → 12 ≤ length oct
 named_grows octets more names headed =
     named_by octets (octets ++ more) names
     (λ place labels pointers. at_grows octets more place labels pointers headed)
-
-pub named_headed : (octets header : List ℕ) (names : Names) → length header ≡ 12 → AreNamed octets names
-    → AreNamed (header ++ drop 12 octets) names
-named_headed octets header names headed =
-    named_by octets (header ++ drop 12 octets) names
-    (λ place labels pointers. at_headed octets header place labels pointers headed)
 
 -- ---- a name that is read
 

@@ -15,16 +15,6 @@ use Rattle.octseq_dns_compress.specs.Names.{Names, is_there, first_labels, last_
 use Rattle.octseq_dns_compress.specs.declared.table.Target.{Target}
 
 module _ {octets : List ℕ} {targets : List Target} (names : Names) (agrees : Agrees octets targets names) where
-  -- the root follows the last label
-  pub ends_root : (labels : List (List ℕ)) (count : ℕ) → count ≡ length labels → Ends names (drop count labels) 0 0
-  ends_root labels count all =
-      subst (λ rest. Ends names rest 0 0)
-      (sym (ap (λ n. drop n labels) all ∙ drop_of_length-le labels (omega arith)))
-      (record {
-        there = refl;
-        next_is = sym (ap at_or_zero agrees.root);
-        pointers_are = sym (ap pointers_from agrees.root);
-      })
 
   -- one more label is there
   pub ends_before : (label : List ℕ) (rest : List (List ℕ)) (next pointers index : ℕ) (d : Target)

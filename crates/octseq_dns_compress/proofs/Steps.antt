@@ -20,13 +20,6 @@ pub appended_grows : {limit : Option ℕ} {asks : Bool} {octets old new : List �
 appended_grows {octets = octets} (Ok _) appends = (octets, appends.ok)
 appended_grows {old = old} (Err e) appends = ([], appends.err ∙ sym (append-nil old))
 
-pub appended_most : {limit : Option ℕ} {asks : Bool} {octets old new : List ℕ} (most : ℕ)
-    (result : Result (Unit {0}) AppendError) → Appends limit asks result octets old new
-    → length old + length octets ≤ most → length new ≤ most
-appended_most {octets = octets} {old = old} most (Ok _) appends fits =
-    let long = ap length appends.ok ∙ length-append old octets in omega (arith, long, fits)
-appended_most most (Err e) appends fits = let same = ap length appends.err in omega (arith, same, fits)
-
 pub grown_length : (old new : List ℕ) → Grows old new → length old ≤ length new
 grown_length old new grows =
     let long = ap length grows.1 ∙ length-append old grows.0 in omega (arith, long)

@@ -64,12 +64,6 @@ pub place_there : (names : Names) (label : List ℕ) (labels : List (List ℕ)) 
     → (place : Place) × (get names (label ∷ labels) ≡ Some place)
 place_there names label labels there = found_place (get names (label ∷ labels)) there
 
--- and labels with a place are there
-pub there_found : (names : Names) (labels : List (List ℕ)) (place : Place) → get names labels ≡ Some place
-    → IsTrue (is_there names labels)
-there_found names [] place found = refl
-there_found names (label ∷ labels) place found = ap is_some found
-
 -- lookups that find the same places are equal
 pub found_alike : (a b : Option Place) → ((place : Place) → a ≡ Some place → b ≡ Some place)
     → ((place : Place) → b ≡ Some place → a ≡ Some place) → a ≡ b

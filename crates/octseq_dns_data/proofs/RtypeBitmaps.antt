@@ -122,11 +122,6 @@ pub place_not : (bitmap : List ℕ) (place : ℕ) → place < 8 * length bitmap 
 place_not bitmap place within listed = place_then bitmap place within
     ∙ ap (λ b. cond b (place ∷ places_from bitmap (place + 1)) (places_from bitmap (place + 1))) listed
 
-pub no_places : (bitmap : List ℕ) (place : ℕ) → 8 * length bitmap ≤ place → places_from bitmap place ≡ []
-no_places bitmap place past =
-    let count : 8 * length bitmap - place ≡ 0 = omega (arith, past) in
-    ap (λ n. filter (is_listed bitmap) (range_with_len place n)) count
-
 -- ---- what an iterator has left
 
 -- nothing, if no place and no block is left

@@ -81,20 +81,6 @@ canonical_of [] answers q n last first few is = absurd (none-some q (sym first))
 canonical_of (x ∷ questions) answers q n last first few is =
     (n, few, subst (λ q. Chain q.qclass answers n q.qname last) (same_Some q x first) is)
 
--- and no other
-pub chain_of : (questions : List Question) (answers : List Record) (q : Question) (last : Name)
-    → Some q ≡ slice_get questions 0 → IsCanonical questions answers last
-    → (n : ℕ) × (n ≤ 15) × Chain q.qclass answers n q.qname last
-chain_of [] answers q last first is = absurd is
-chain_of (x ∷ questions) answers q last first is =
-    (is.0, is.1, subst (λ q. Chain q.qclass answers is.0 q.qname last) (sym (same_Some q x first)) is.2)
-
--- a message without a question has none
-pub no_canonical : (questions : List Question) (answers : List Record) (last : Name)
-    → None ≡ slice_get questions 0 → IsCanonical questions answers last → ⊥
-no_canonical [] answers last first is = is
-no_canonical (x ∷ questions) answers last first is = none-some x first
-
 -- the turns of one more alias
 pub more_turns : (followed each start before after : ℕ) → before ≤ start + followed * each → after ≤ before + each
     → after ≤ start + (followed + 1) * each

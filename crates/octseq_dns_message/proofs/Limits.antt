@@ -7,8 +7,3 @@ use Rattle.octseq_dns_message.specs.OfType.{of_type}
 pub of_type_first : (rtype : ℕ) (r : Record) (records : List Record) → (r.rtype == rtype) ≡ true
     → of_type rtype (r ∷ records) ≡ r ∷ of_type rtype records
 of_type_first rtype r records is = ap (λ b. cond b (r ∷ of_type rtype records) (of_type rtype records)) is
-
--- a record of another type is passed over
-pub of_type_passed : (rtype : ℕ) (r : Record) (records : List Record) → (r.rtype == rtype) ≡ false
-    → of_type rtype (r ∷ records) ≡ of_type rtype records
-of_type_passed rtype r records is = ap (λ b. cond b (r ∷ of_type rtype records) (of_type rtype records)) is

@@ -136,15 +136,7 @@ first_or : ℕ → List ℕ → ℕ
 first_or other [] = other
 first_or other (x ∷ xs) = x
 
-pub same_last : (front other : List ℕ) (a b : ℕ) → front ++ a ∷ [] ≡ other ++ b ∷ [] → a ≡ b
 unfolding first_or
-same_last [] [] a b same = ap (first_or a) same
-same_last [] (y ∷ other) a b same =
-    let long = ap length same in let more = length-append other (b ∷ []) in absurd (omega (arith, long, more))
-same_last (x ∷ front) [] a b same =
-    let long = ap length same in let more = length-append front (a ∷ []) in absurd (omega (arith, long, more))
-same_last (x ∷ front) (y ∷ other) a b same = same_last front other a b (ap (drop 1) same)
-
 -- ---- the bits of an address
 
 -- the bits after the first ones are in the last octet

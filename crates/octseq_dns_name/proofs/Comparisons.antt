@@ -157,17 +157,6 @@ name_cmp_lasts xs ys m n m_is n_is =
 
 -- ---- equality
 
--- labels in lower case have the same length
-pub lower_length : (labels : List (List ℕ)) → wire_length (lower_labels labels) ≡ wire_length labels
-lower_length [] = refl
-lower_length (label ∷ labels) = let more = lower_length labels in let is = length-map label to_ascii_lowercase in
-    omega (arith, more, is)
-
--- so equal names do
-pub equal_length : (labels others : List (List ℕ)) → lower_labels labels ≡ lower_labels others
-    → wire_length labels ≡ wire_length others
-equal_length labels others same = sym (lower_length labels) ∙ ap wire_length same ∙ lower_length others
-
 -- ---- walks
 
 -- a drop, and then one more

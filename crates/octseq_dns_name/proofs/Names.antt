@@ -109,11 +109,6 @@ pub wire_some : (labels : List (List ℕ)) → 1 ≤ wire_length labels
 wire_some [] = omega arith
 wire_some (l ∷ labels) = let some = wire_some labels in omega (arith, some)
 
--- and no label, if there is nothing more
-pub wire_root : (labels : List (List ℕ)) → wire_length labels ≡ 1 → labels ≡ []
-wire_root [] is = refl
-wire_root (l ∷ labels) is = let some = wire_some labels in absurd (omega (arith, is, some))
-
 -- a name has fewer labels than octets
 pub label_count : (labels : List (List ℕ)) → length labels + 1 ≤ wire_length labels
 label_count [] = omega arith

@@ -63,12 +63,6 @@ some_read text [] so_far some =
     let none = ap length (so_far.1 ∙ ap (λ l. l ++ []) so_far.2) in absurd (omega (arith, none, some))
 some_read text (octet ∷ label) so_far some = omega arith
 
--- the text ends in the label
-pub unended : (labels : List (List ℕ)) (text label ahead : List ℕ) → Reads text label ahead → ahead ≡ []
-    → 1 ≤ length text → length label ≤ 63 → IsFault FromTextError.UnexpectedEnd labels text
-unended labels text label ahead so_far end some short =
-    let read = subst (Reads text label) end so_far in (label, read, short, inr (some_read text label read some))
-
 -- no octet comes next
 pub octet_fault : (fault : FromTextError) (labels : List (List ℕ)) (text label ahead : List ℕ) (octet : ℕ)
     (rest : List ℕ)
@@ -130,14 +124,6 @@ read_label text labels ahead label rest so_far one some short fits = (
   one_more labels label so_far.3 some short,
   fits,
 )
-
--- at the end of the text the name is whole
-pub whole_name : (text : List ℕ) (labels : List (List ℕ)) (ahead : List ℕ) → ReadsLabels text labels ahead → ahead ≡ []
-    → 1 ≤ length text → SpellsName labels text
-whole_name text [] ahead so_far end some =
-    let none = ap length (so_far.1 ∙ ap (λ l. l ++ ahead) so_far.2 ∙ end) in absurd (omega (arith, none, some))
-whole_name text (label ∷ labels) ahead so_far end some =
-    subst (SpellsLabels (label ∷ labels)) (sym (so_far.1 ∙ ap (λ l. so_far.0 ++ l) end ∙ append-nil so_far.0)) so_far.2
 
 -- ---- names
 

@@ -176,9 +176,3 @@ pub turns_more : (base rate before after turns start more : ℕ) → after < bef
 turns_more base rate before after turns start more less tick took =
     let paid : (base + 1) * (after + 1) ≤ (base + 1) * before = mul-le-mul_left (base + 1) (omega (arith, less)) in
     omega (arith, paid, tick, took)
-
--- an item that is refused
-pub turns_most : (base rate before octets turns start more : ℕ)
-    → turns + (base + 1 + rate) * before ≤ start + (base + 1 + rate) * octets
-    → more ≤ turns + 1 + base + rate * before → more ≤ start + (base + 1) + (base + 1 + rate) * octets
-turns_most base rate before octets turns start more taken most = omega (arith, taken, most)

@@ -349,18 +349,6 @@ pub no_fault : (fault : Option Fault) (test : Bool) → test ≡ is_some fault �
 no_fault None test e f = refl
 no_fault (Some fault) test e f = absurd (let some : true ≡ false = sym e ∙ f in cc)
 
--- no octet is passed before the first
-pub searched_nothing : (held : Searched) → held.passed ≡ 0 → held.end ≡ [] → held.fault ≡ None → HasSearched held []
-searched_nothing held p e n = record {
-  met = subst (λ o. IfSome o (SettlesAfter 0 [])) (sym n) tt;
-  passed = subst (λ o. IfNone o (PassesAfter 0 [] held.passed held.end)) (sym n)
-      (record {
-        good = [];
-        well_formed = ([], spells_nothing);
-        whole = sym e;
-        open_end = λ some. absurd (some e);
-        passed = p;
-      });
 }
 
 -- A search that met no fault.

@@ -82,10 +82,6 @@ read_good {g} {cs} z a s = record {
   grown = ap (λ u. a ++ u) (sym (text-chars s));
 }
 
--- well-formed octets are read to their end
-pub read_last : (x a : List ℕ) → IsWellFormed x → IsRead x [] a (a ++ x)
-read_last x a w = subst (λ y. IsRead y [] a (a ++ x)) (append-nil x) (read_good [] a w.1)
-
 -- at a chunk
 module _ (x : List ℕ) (chunk : Chunk) (after : List ℕ) (c : IsFirstChunk x chunk after) where
   -- what is valid is read

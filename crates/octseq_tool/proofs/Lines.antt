@@ -147,16 +147,6 @@ module _ (given left before after : Option (List ℕ)) (rest : List ℕ) (w : Is
     noted = appends_none noted;
   }
 
-  -- no octet is left
-  pub all_lines : rest ≡ [] → (noted : Option (List ℕ)) → Answers (Out Records) given before after noted noted Fine
-  all_lines none =
-      answers after w.lines Fine (
-        w.takes.read.parts,
-        w.takes.read.whole ∙ ap (λ r. records_of w.takes.read.parts ++ r) none
-            ∙ append-nil (records_of w.takes.read.parts),
-        w.takes.read.lines,
-      ) w.written
-
   -- or a record is cut
   cut : IsCut rest → Made Records w.takes.octets (w.lines ++ codes "unexpected end of input\n") Refused
   cut is_cut = (w.takes.read.parts, rest, w.lines, w.takes.read.whole, is_cut, w.takes.read.lines, refl)

@@ -39,30 +39,10 @@ to_come_word show separator text between all others default i within so_far e =
     ∙ ap (λ x. text ++ x) (sym (append_assoc separator (show word) more))
     ∙ ap (λ ws. text ++ spread separator (map show ws)) (sym (drop-cons others i default within)) ∙ so_far
 
--- after a separator and the next word, those after it are still to come
-pub to_come_next : {W : Type 0} (show : W → List ℕ) (separator text between made all : List ℕ) (others : List W)
-    (default : W) (i next : ℕ) → i < length others → next ≡ suc i
-    → ToCome show separator others i text all → between ≡ text ++ separator
-    → made ≡ between ++ show (get_or others i default) → ToCome show separator others next made all
-to_come_next show separator text between made all others default i next within step so_far e f =
-    let word = get_or others i default in
-    let more = spread separator (map show (drop (suc i) others)) in
-    ap (λ n. made ++ spread separator (map show (drop n others))) step ∙ ap (λ t. t ++ more) f
-    ∙ append_assoc between (show word) more
-    ∙ to_come_word show separator text between all others default i within so_far e
-
 -- what always holds also holds of an error
 pub on_err : {T E : Type 0} {P : Type 0} (result : Result T E) → P → OnErr result P
 on_err (Ok value) p = tt
 on_err (Err e) p = p
-
--- if no word is still to come, the text is complete
-pub to_come_none : {W : Type 0} (show : W → List ℕ) (separator text all : List ℕ) (others : List W) (i : ℕ)
-    → length others ≤ i
-    → ToCome show separator others i text all → text ≡ all
-to_come_none show separator text all others i past so_far =
-    sym (append-nil text) ∙ ap (λ ws. text ++ spread separator (map show ws)) (sym (drop_of_length-le others past))
-    ∙ so_far
 
 -- ---- limits
 

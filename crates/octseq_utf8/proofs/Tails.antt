@@ -20,11 +20,6 @@ drop_further : (x : List ℕ) (from place : ℕ) → from ≤ place → drop (pl
 drop_further x from place past =
     drop-drop (place - from) from x ∙ ap (λ k. drop k x) (let e : from + (place - from) ≡ place = omega arith in e)
 
--- a search is at the place where it begins before its first turn
-pub after_start : (x : List ℕ) (from t : ℕ) → IsAfter x from from t t
-after_start x from t = record {
-  past = omega arith;
-  at = subst (λ k. IsAt (drop from x) k t t) (let e : 0 ≡ from - from = omega arith in e) (at_start (drop from x) t);
 }
 
 -- an encoding at the place of a search is passed in one turn
