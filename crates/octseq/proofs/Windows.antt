@@ -1,9 +1,9 @@
 -- What is left of a window, and the front of it.
-use Rattle.std.proofs.Common.{◌≡◌, ℕ, ◌+◌, ◌-◌, ◌≤◌, List, ◌++◌, take, drop, arith, refl, sym, ap, ◌∙◌}
+use Rattle.std.proofs.Common.{◌≡◌, ℕ, ◌+◌, ◌-◌, ◌≤◌, List, ◌++◌, take, drop, arith, sym, ap, ◌∙◌}
 use Rattle.std.proofs.lemmas.List.{take-take, drop-take, drop-drop}
 use Rattle.std.proofs.Math.Seq.{take-add}
 use Rattle.std.specs.Prelude.{slice_range}
-use Rattle.octseq.specs.Window.{Window, left, rest, next, past, nested}
+use Rattle.octseq.specs.Window.{Window, left, rest, next, past}
 
 -- the front of what is left is what comes next
 pub next_of_rest : (octets : List ℕ) (position end n : ℕ) → n ≤ end - position

@@ -5,7 +5,6 @@ pub mod FieldParts
 pub mod FrameWriting
 pub mod Framing
 pub mod HeaderRead
-pub mod Limited
 pub mod Moving
 pub mod Onward
 pub mod OptRead

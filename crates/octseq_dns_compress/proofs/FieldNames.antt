@@ -11,7 +11,7 @@ use Rattle.octseq_dns_compress.specs.Fits.{FitsField}
 use Rattle.octseq_dns_compress.specs.Names.{Names, name_octets, names_with}
 use Rattle.octseq_dns_compress.specs.LabelsThere.{AreNamed, IsWellNamed}
 use Rattle.octseq_dns_compress.specs.State.{State, Field, Entry, with_octets, with_name, with_field, with_fields}
-use Rattle.octseq_dns_compress.specs.State.{with_counted, with_data, with_entry, with_entries}
+use Rattle.octseq_dns_compress.specs.State.{with_counted, with_data, with_entry}
 use Rattle.octseq_dns_compress.proofs.Fields.{field_grows}
 use Rattle.octseq_dns_compress.proofs.Steps.{grown_length}
 use Rattle.octseq_dns_compress.proofs.LabelsThere.{named_grows, named_with}

@@ -1,7 +1,7 @@
 -- Searching for the labels of a name, the last one first.
 use Rattle.std.specs.Prelude.{slice_index_or, IsTrue, if◌then◌else◌}
 use Rattle.std.proofs.Common.{◌≡◌, ℕ, zero, suc, ◌+◌, ◌-◌, ◌<◌, ◌≤◌, None, List, [], ◌∷◌, length, take, drop, refl, sym}
-use Rattle.std.proofs.Common.{ap, ◌∙◌, subst, arith, is_some, drop_of_length-le}
+use Rattle.std.proofs.Common.{ap, ◌∙◌, subst, arith, is_some}
 use Rattle.std.proofs.Math.Bool.{true≢false}
 use Rattle.std.proofs.lemmas.List.{drop_more}
 use Rattle.std.specs.FinMap.{get}

@@ -1,6 +1,6 @@
 -- An EDNS option says one thing, which its octets determine.
 use Rattle.std.proofs.Common.{◌≡◌, ℕ, zero, suc, ◌+◌, ◌-◌, ◌*◌, ◌/◌, ◌%◌, ◌^◌, ◌<◌, inl, inr, List, [], ◌∷◌, ◌++◌}
-use Rattle.std.proofs.Common.{length, sym, ap, ◌∙◌, subst, arith, length-append, drop}
+use Rattle.std.proofs.Common.{length, sym, ap, ◌∙◌, subst, arith, length-append}
 use Rattle.std.proofs.Math.Nat.{pow-suc, mul_assoc}
 use Rattle.std.proofs.lemmas.List.{append_cancel_right}
 use Rattle.octseq.specs.Integer.{be}

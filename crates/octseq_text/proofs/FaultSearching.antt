@@ -16,7 +16,7 @@ use Rattle.octseq_utf8.proofs.Beginnings.{beginning_fits, beginning_short}
 use Rattle.octseq_utf8.proofs.Faults.{fault_refutes, rest_of}
 use Rattle.octseq_utf8.proofs.Fits.{get_left}
 use Rattle.octseq_utf8.proofs.Search.{spelled_few}
-use Rattle.octseq_utf8.proofs.Spelling.{chars_of, spells_nothing, spells_one}
+use Rattle.octseq_utf8.proofs.Spelling.{chars_of, spells_one}
 use Rattle.octseq_utf8.proofs.Splitting.{encoding_fitting}
 use Rattle.octseq_utf8.proofs.Texts.{well_formed-append}
 use Rattle.octseq_text.specs.FaultSearch.{ReportsAfter, SettlesAfter, PassesAfter, Searched, HasSearched}

@@ -9,11 +9,11 @@ use Rattle.octseq.specs.Parts.{IsFront}
 use Rattle.octseq_program.proofs.Answering.{appends_none, consumes_none, front_nil, broke_writing}
 use Rattle.octseq_program.specs.Run.{Answers, BreaksOff}
 use Rattle.octseq_program.specs.declared.status.Status.{Status}
-use Rattle.octseq_program.specs.declared.status.Status.TheVariants.{Fine, Refused}
+use Rattle.octseq_program.specs.declared.status.Status.TheVariants.{Refused}
 use Rattle.octseq_tool.proofs.Feeding.{keeps_consumes}
 use Rattle.octseq_tool.proofs.Records.{read_nothing, read_on}
 use Rattle.octseq_tool.specs.Lines.{IsRest, IsReadTo, Takes, WritesFront}
-use Rattle.octseq_tool.specs.Out.{records_of, IsCut, Made, Out}
+use Rattle.octseq_tool.specs.Out.{IsCut, Made, Out}
 use Rattle.octseq_tool.specs.declared.engine.Command.{Command}
 use Rattle.octseq_tool.specs.declared.engine.Command.TheVariants.{Records}
 
