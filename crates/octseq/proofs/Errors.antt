@@ -1,5 +1,6 @@
 -- Refusals that a reader or a writer passes on. These are laws for callers who return `ReadError` or `WriteError`.
-use Rattle.std.proofs.Common.{◌≡◌, ◌∙◌, sym, ap, subst, Result, Err}
+use Rattle.std.proofs.Common.{◌≡◌, ◌∙◌, sym, ap, subst, Result, Ok, Err}
+use Rattle.std.specs.Prelude.{OnErr}
 use Rattle.octseq_core.specs.declared.builder.AppendError.{AppendError}
 use Rattle.octseq.specs.Composer.{refusal_of}
 use Rattle.octseq.specs.Error.{read_error_of, write_error_of}
@@ -8,6 +9,11 @@ use Rattle.octseq.specs.declared.compose.ComposeError.{ComposeError}
 use Rattle.octseq.specs.declared.error.ReadError.{ReadError}
 use Rattle.octseq.specs.declared.error.WriteError.{WriteError}
 use Rattle.octseq.specs.declared.parse.error.ParseOctetsError.{ParseOctetsError}
+
+-- what always holds also holds of an error
+pub on_err : {T E P : Type 0} (result : Result T E) → P → OnErr result P
+on_err (Ok value) p = tt
+on_err (Err e) p = p
 
 -- ---- of a parser
 

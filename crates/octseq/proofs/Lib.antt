@@ -1,10 +1,11 @@
-pub mod WindowsAfter
 pub mod Boundaries
 pub mod Bridge
 pub mod ByChunk
 pub mod Codes
 pub mod Counts
+pub mod Edges
 pub mod Errors
+pub mod Fronts
 pub mod Limits
 pub mod LossyTexts
 pub mod OneWindowRun
@@ -18,5 +19,6 @@ pub mod Texts
 pub mod Values
 pub mod WindowSteps
 pub mod Windows
+pub mod WindowsAfter
 pub mod Written
 pub mod WrittenBack

@@ -97,19 +97,21 @@ le_reverse (x ∷ xs) =
 
 -- ---- the octets of an integer
 
-length_octets : (k n : ℕ) → length (octets_be k n) ≡ k
-unfolding octets_be
-length_octets zero n = refl
-length_octets (suc k) n = ap suc (length_octets k n)
+-- the number of one octet is that octet
+pub be_one : (n : ℕ) → be (n ∷ []) ≡ n
+unfolding be
+be_one n = omega arith
 
 -- a number has k big-endian octets
 pub length_be : (k n : ℕ) → length (octets_be k n) ≡ k
-length_be k n = length_octets k n
+unfolding octets_be
+length_be zero n = refl
+length_be (suc k) n = ap suc (length_be k n)
 
 -- a number has k little-endian octets
 pub length_le : (k n : ℕ) → length (octets_le k n) ≡ k
 unfolding octets_le
-length_le k n = length-reverse (octets_be k n) ∙ length_octets k n
+length_le k n = length-reverse (octets_be k n) ∙ length_be k n
 
 be_modulo : (k n : ℕ) → be (octets_be k n) ≡ n % 256 ^ k
 unfolding octets_be
@@ -120,7 +122,7 @@ be_modulo (suc k) n =
     let power : 256 ^ suc k ≡ 256 * 256 ^ k = pow-suc 256 k ∙ mul_comm (256 ^ k) 256 in
     let split : n % (256 * 256 ^ k) ≡ octet * 256 ^ k + n % 256 ^ k = mod-mul n (omega arith) (positive k) in
     let cons : be (octet ∷ octets_be k n) ≡ octet * 256 ^ k + be (octets_be k n) =
-    be_cons octet (octets_be k n) ∙ ap (λ e. octet * 256 ^ e + be (octets_be k n)) (length_octets k n) in
+    be_cons octet (octets_be k n) ∙ ap (λ e. octet * 256 ^ e + be (octets_be k n)) (length_be k n) in
     let sums : be (octet ∷ octets_be k n) ≡ n % (256 * 256 ^ k) = omega (arith, rest, split, cons) in
     sums ∙ ap (λ m. n % m) (sym power)
 

@@ -1,7 +1,6 @@
 pub mod Addresses
 pub mod Bodies
 pub mod Chunks
-pub mod Edges
 pub mod Families
 pub mod FaultsAre
 pub mod Marks

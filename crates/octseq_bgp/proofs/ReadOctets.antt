@@ -1,16 +1,11 @@
 -- Octets that are read come after those of a vector, and have a number.
-use Rattle.std.proofs.Common.{◌≡◌, ◌+◌, ◌-◌, ◌≤◌, ◌++◌, ◌∙◌, ℕ, List, length, take, drop, Option, Result, Ok, Err}
+use Rattle.std.proofs.Common.{◌≡◌, ◌+◌, ◌-◌, ◌≤◌, ◌++◌, ◌∙◌, ℕ, List, length, take, drop, Option}
 use Rattle.std.proofs.Common.{refl, sym, ap, subst, take-append-drop, arith}
 use Rattle.std.proofs.KnownBytes.{Consumes-trans}
 use Rattle.std.proofs.Math.Seq.{take-take}
 use Rattle.std.proofs.lemmas.List.{length-take, length-drop, drop-take, take_all, take-append-le, drop-append-le}
 use Rattle.std.specs.Io.KnownBytes.{Consumes}
-use Rattle.std.specs.Prelude.{OnErr, slice_range}
-
--- what always holds also holds of an error
-pub on_err : {T E P : Type 0} (result : Result T E) → P → OnErr result P
-on_err (Ok value) p = tt
-on_err (Err e) p = p
+use Rattle.std.specs.Prelude.{slice_range}
 
 -- a front of the octets grows by those that follow it
 take_more : (xs ys : List ℕ) (f n : ℕ) → take f ys ≡ take f xs → take (f + n) ys ≡ take f xs ++ take n (drop f ys)
@@ -34,10 +29,9 @@ appended old room xs ys f n m all grown same =
     ∙ take-append-le f old room (omega (arith, all)) ∙ take_all f old (omega (arith, all)) in
     take_more xs ys f n same ∙ ap (λ l. l ++ take n (drop f ys)) kept
 
--- a vector that was overwritten holds what was written
-pub written_back : (ys more : List ℕ) (len : ℕ) → len ≡ length ys → take len (ys ++ more) ≡ ys
-written_back ys more len all =
-    take-append-le len ys more (omega (arith, all)) ∙ take_all len ys (omega (arith, all))
+-- the first octets, as many as a list has, are its own, whatever follows
+pub take_front : (a x : List ℕ) (n : ℕ) → n ≡ length a → take n (a ++ x) ≡ a
+take_front a x n all = take-append-le n a x (omega (arith, all)) ∙ take_all n a (omega (arith, all))
 
 -- as many octets as were requested
 pub length_part : (ys : List ℕ) (f n : ℕ) → f + n ≤ length ys → length (take n (drop f ys)) ≡ n
@@ -51,10 +45,6 @@ range_in_front x y i j ordered fits =
     let rest = length-drop {A = ℕ} i x in
     ap (take (j - i)) (drop-append-le i x y (omega (arith, ordered, fits)))
     ∙ take-append-le (j - i) (drop i x) y (omega (arith, ordered, fits, rest))
-
--- the first octets, as many as a list has, are its own, whatever follows
-take_front : (a x : List ℕ) (n : ℕ) → n ≡ length a → take n (a ++ x) ≡ a
-take_front a x n all = take-append-le n a x (omega (arith, all)) ∙ take_all n a (omega (arith, all))
 
 -- octets that say their number, whatever follows them, are at the front of others in one way
 pub apart_by : (size : List ℕ → ℕ) (a b x y : List ℕ) → length a ≡ size a → length b ≡ size b

@@ -4,14 +4,14 @@ use mathlib.Core.Logic.{inl, inr}
 use Rattle.octseq.specs.Integer.{be}
 use Rattle.octseq.specs.Window.{Window}
 use Rattle.octseq_format.specs.Laws.{IsOne}
-use Rattle.octseq_format.specs.Pair.{◌then◌, ◌one_then◌}
+use Rattle.octseq_format.specs.Pair.{◌then◌, ◌one_then◌, same_pair}
 use Rattle.octseq_format.specs.Rest.{one_rest}
 use Rattle.octseq_format.specs.Where.{IsWhere, one_where}
 use Rattle.octseq_bgp.specs.AttributeType.{type_number}
 use Rattle.octseq_bgp.specs.Community.{large_community}
 use Rattle.octseq_bgp.specs.Entry.{IsNumber}
 use Rattle.octseq_bgp.specs.Fills.{Whole}
-use Rattle.octseq_bgp.specs.OneEntry.{same_pair, one_number, one_octets}
+use Rattle.octseq_bgp.specs.OneEntry.{one_number, one_octets}
 use Rattle.octseq_bgp.specs.Path.{path_form, asn_size}
 use Rattle.octseq_bgp.specs.NextHop.{IsNextHop}
 use Rattle.octseq_bgp.specs.Prefix.{Nlri, ArePrefixes}

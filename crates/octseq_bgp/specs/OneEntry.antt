@@ -1,6 +1,6 @@
 -- At most one entry of a form is at a place, with one end, and it takes at least one octet. So entries up to the end of
 -- a window are a fact.
-use Rattle.std.specs.Prelude.{◌≡◌, ℕ, ◌*◌, ◌≤◌, refl}
+use Rattle.std.specs.Prelude.{ℕ, ◌*◌, ◌≤◌, refl}
 use Rattle.std.proofs.Common.{sym, ap, ◌∙◌, subst, arith}
 use Rattle.std.specs.Coded.{Coded, code_by, coded×, coded_ℕ}
 use Rattle.octseq.specs.Integer.{be}
@@ -8,7 +8,7 @@ use Rattle.octseq.specs.Window.{Window, left}
 use Rattle.octseq_format.specs.Counted.{one_counted, onward_counted}
 use Rattle.octseq_format.specs.Fixed.{one_fixed, onward_fixed}
 use Rattle.octseq_format.specs.Laws.{Relation, IsOne, IsOnward, IsMoving, one_by, moving_of}
-use Rattle.octseq_format.specs.Pair.{◌then◌, ◌one_then◌, ◌onward_then◌}
+use Rattle.octseq_format.specs.Pair.{◌then◌, ◌one_then◌, ◌onward_then◌, same_pair}
 use Rattle.octseq_format.specs.Rest.{IsRest, one_rest, window_code}
 use Rattle.octseq_format.specs.Row.{Holds, held_once}
 use Rattle.octseq_format.specs.Where.{one_where, onward_where}
@@ -19,9 +19,6 @@ use Rattle.octseq_bgp.specs.declared.entry.Form.{Form}
 use Rattle.octseq_bgp.specs.declared.entry.Form.TheVariants as form
 
 -- ---- at most one
-
-pub same_pair : {A B : Type 0} {a c : A} {b d : B} → a ≡ c → b ≡ d → Path (A × B) (a, b) (c, d)
-same_pair {c = c} {b = b} first second = ap (λ a. (a, b)) first ∙ ap (λ b. (c, b)) second
 
 pub one_number : (k : ℕ) → IsOne (IsNumber k)
 one_number k = one_fixed k be
@@ -84,7 +81,7 @@ one_entry f = one_by entry_parts entry_from (λ _. refl) (one_parts f)
 
 -- ---- it takes at least one octet, and keeps the end of the window
 
-weaker : {A : Type 0} {Is : Relation A} {m n : ℕ} → n ≤ m → IsOnward m Is → IsOnward n Is
+pub weaker : {A : Type 0} {Is : Relation A} {m n : ℕ} → n ≤ m → IsOnward m Is → IsOnward n Is
 weaker fewer onward = record {
   on = onward.on;
   less = λ w a v is. let less = onward.less w a v is in omega (arith, less, fewer);
@@ -122,7 +119,7 @@ onward_deciding first second = record {
       omega (arith, one, two);
 }
 
-onward_number : (k : ℕ) → IsOnward k (IsNumber k)
+pub onward_number : (k : ℕ) → IsOnward k (IsNumber k)
 onward_number k = onward_fixed k be
 
 onward_octets : (k : ℕ) → IsOnward k (IsCounted k)

@@ -1,5 +1,4 @@
 pub mod Ends
-pub mod Mapped
 pub mod OneAnswer
 pub mod OnePiece
 pub mod OneRecord

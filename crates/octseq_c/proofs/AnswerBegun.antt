@@ -1,7 +1,7 @@
 -- An answer with its header and its questions.
 use Rattle.std.proofs.Common.{◌≡◌, ℕ, ◌<◌, true, false, ◌⊎◌, Option, Some, None, Result, Ok, Err, List, [], length, refl, sym, ap, ◌∙◌}
 use Rattle.std.proofs.Common.{subst, arith, inl, inr}
-use Rattle.std.specs.Prelude.{IfOk, IsErr, OnOk}
+use Rattle.std.specs.Prelude.{IsErr, OnOk}
 use Rattle.octseq.specs.Limit.{IsPast}
 use Rattle.octseq.specs.Refusal.{IsMemory, IsShort, append_error}
 use Rattle.octseq.specs.declared.AppendError.{AppendError}
@@ -23,11 +23,6 @@ use Rattle.octseq_c.proofs.Sections.{past_answers}
 pub on_ok : {T E P Q : Type 0} (r : Result T E) → (P → Q) → OnOk r P → OnOk r Q
 on_ok (Ok value) then is = then is
 on_ok (Err e) then is = tt
-
-pub if_ok : {T E : Type 0} {P Q : T → Type 0} (r : Result T E) → ((value : T) → P value → Q value) → IfOk r P
-    → IfOk r Q
-if_ok (Ok value) then is = then value is
-if_ok (Err e) then is = tt
 
 -- if no request for memory is refused, the error of a call is `Short`
 pub short_alone : {T : Type 0} (result : Result T AppendError) → IsErr result

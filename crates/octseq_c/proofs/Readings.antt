@@ -8,15 +8,11 @@ use Rattle.octseq_text.specs.Pieces.{Settles, open_end, no_end}
 use Rattle.octseq_text.specs.Progress.{Reads}
 use Rattle.octseq_text.proofs.Piecewise.{beginning_few}
 use Rattle.octseq_text.proofs.Settling.{reads_more, reads_then, settles_reads, settles_end, reads_settles, snoc_some}
+use Rattle.octseq_text.proofs.Settling.{nil_from_splits}
 use Rattle.octseq_text.proofs.Settling.{one_settling, settling, text-append, text_read}
 use Rattle.octseq_c.specs.Settled.{IsMeasured, IsPastSize, IsReading, joined_len}
 
 -- the open end of octets is what they end with
-
-nil_of : {x : List ℕ} {parts : List Part} → Splits x parts → parts ≡ [] → x ≡ []
-nil_of nothing e = refl
-nil_of (encoding p s) e = absurd (cc)
-nil_of (bad_part b s) e = absurd (cc)
 
 last_of : {x : List ℕ} {parts : List Part} → Splits x parts → (settled : List Part) (q : List ℕ)
     → parts ≡ settled ++ Bad q ∷ [] → (front : List ℕ) × (x ≡ front ++ q)
@@ -29,7 +25,7 @@ last_of (encoding {e} {rest = r} {parts = parts} p s) (a ∷ settled) q h =
 last_of (bad_part {bad = p} {rest = r} {parts = parts} b s) [] q h =
     let same : p ≡ q = cc in
     let none : parts ≡ [] = cc in
-    ([], ap (λ y. p ++ y) (nil_of s none) ∙ append-nil p ∙ same)
+    ([], ap (λ y. p ++ y) (nil_from_splits s none) ∙ append-nil p ∙ same)
 last_of (bad_part {bad = p} {rest = r} {parts = parts} b s) (a ∷ settled) q h =
     let rest : parts ≡ settled ++ Bad q ∷ [] = cc in
     let last = last_of s settled q rest in

@@ -2,7 +2,6 @@
 use Rattle.std.proofs.Common.{◌≡◌, ℕ, Option, List, [], ◌∷◌, ◌++◌, length, refl, sym, ap, ◌∙◌, subst, arith, append_assoc}
 use Rattle.std.proofs.Common.{append-nil}
 use Rattle.octseq.specs.Limit.{IsPast}
-use Rattle.octseq_dns_compress.proofs.Fields.{past_longer}
 use Rattle.octseq_dns_message.specs.declared.header.Header.{Header}
 use Rattle.octseq_dns.specs.Contents.{Question, Record, Message, octets_of}
 use Rattle.octseq_dns.specs.Sections.{takes_authorities, takes_additionals}
@@ -10,6 +9,7 @@ use Rattle.octseq_dns.specs.Writes.{Building}
 use Rattle.octseq_dns.specs.Writes.{all_more, more_answers, more_authorities, more_additionals}
 use Rattle.octseq_dns.proofs.Anew.{all_longer}
 use Rattle.octseq_dns.proofs.Stages.{WritesIn, asked, of_sections, stage_next}
+use Rattle.octseq.proofs.Limits.{past_more}
 
 -- ---- all records of a section are pushed
 
@@ -56,7 +56,7 @@ module _ (limit : Option ℕ) (most : ℕ) (m : Message) where
       let less = all_longer most takes_additionals (authorized m) m.additionals tt in
       let same = ap (λ m. length (octets_of most m))
       (all_authorities m.header m.questions m.answers [] m.authorities []) in
-      past_additionals (past_longer limit
+      past_additionals (past_more limit
       (length (octets_of most (all_more more_authorities (answered m) m.authorities)))
       (length (octets_of most (all_more more_additionals (authorized m) m.additionals))) (omega (arith, less, same))
       past)
@@ -66,7 +66,7 @@ module _ (limit : Option ℕ) (most : ℕ) (m : Message) where
   past_answers past =
       let less = all_longer most takes_authorities (answered m) m.authorities refl in
       let same = ap (λ m. length (octets_of most m)) (all_answers m.header m.questions [] m.answers [] []) in
-      past_authorities (past_longer limit (length (octets_of most (all_more more_answers (asked m) m.answers)))
+      past_authorities (past_more limit (length (octets_of most (all_more more_answers (asked m) m.answers)))
       (length (octets_of most (all_more more_authorities (answered m) m.authorities))) (omega (arith, less, same))
       past)
 

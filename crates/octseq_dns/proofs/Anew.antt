@@ -5,7 +5,7 @@ use Rattle.std.proofs.lemmas.List.Sums.{sum_by-cons}
 use Rattle.std.specs.List.{AllZip, sum_by}
 use Rattle.octseq.specs.Limit.{IsPast}
 use Rattle.octseq_dns_compress.specs.State.{State, Entry, with_entry}
-use Rattle.octseq_dns_compress.proofs.Fields.{entry_grows, headed_length, past_longer}
+use Rattle.octseq_dns_compress.proofs.Fields.{entry_grows, headed_length}
 use Rattle.octseq_dns_compress.proofs.Steps.{grown_length}
 use Rattle.octseq_dns_message.specs.declared.header.Header.{Header}
 use Rattle.octseq_dns_message.specs.declared.header.HeaderCounts.{HeaderCounts}
@@ -13,6 +13,7 @@ use Rattle.octseq_dns.specs.Contents.{Message, composed, octets_of, counts_of, h
 use Rattle.octseq_dns.specs.Writes.{Takes, Writes, all_more}
 use Rattle.octseq_dns.proofs.HeaderRead.{header_length}
 use Rattle.octseq_dns.proofs.Pushed.{composed_more, twelve_first}
+use Rattle.octseq.proofs.Limits.{past_more}
 
 -- Some of the entries that were read are left. The message so far becomes the whole one when what is written for those
 -- that are left is pushed. `turns` are among those that the whole may take, and each label took a turn or an octet.
@@ -156,6 +157,6 @@ module _ {A I : Type 0} {Of : I → A → Type 0} {labels : A → ℕ} {more : M
               let longer = all_longer most takes (more now one) rest there in
               let whole = ap (λ m. length (octets_of most m))
               (same ∙ ap (λ one. all_more more (more now one) rest) (only other are.0)) in
-              past_longer limit (length (with_entry most state (entry one)).octets)
+              past_more limit (length (with_entry most state (entry one)).octets)
               (length (octets_of most (all_more more m written))) (omega (arith, one_longer, state_is, longer, whole))
               past

@@ -1,11 +1,10 @@
 -- Streams are read from the front, in one way.
 use Rattle.std.proofs.Common.{◌≡◌, ◌+◌, ◌<◌, ◌≤◌, ◌∷◌, ◌++◌, ◌∙◌}
-use Rattle.std.proofs.Common.{ℕ, List, [], length, take, drop, Option, Result, Ok, Err, refl, sym, ap, subst}
+use Rattle.std.proofs.Common.{ℕ, List, [], length, take, drop, Option, refl, sym, ap, subst}
 use Rattle.std.proofs.Common.{append_assoc, take-append-drop, arith}
 use Rattle.std.proofs.KnownBytes.{Consumes-trans}
 use Rattle.std.proofs.Math.Seq.{take-take}
 use Rattle.std.specs.Io.KnownBytes.{Consumes, IsAtEnd}
-use Rattle.std.specs.Prelude.{OnErr}
 use Rattle.std.proofs.lemmas.List.{append-nil, length-append, length-take, length-drop, drop-take}
 use Rattle.std.proofs.lemmas.Grind.{flat_map-append}
 use Rattle.std.specs.List.{AllByRecursion}
@@ -85,11 +84,6 @@ no_head octets few (message, more, fits, e) =
     omega arith
 
 -- ---- readers
-
--- what always holds also holds of an error
-pub on_err : {T E P : Type 0} (result : Result T E) → P → OnErr result P
-on_err (Ok value) p = tt
-on_err (Err e) p = p
 
 -- a front of the octets grows by those that follow it
 pub take_more : (xs ys : List ℕ) (f n : ℕ) → f ≤ length xs → f + n ≤ length ys → take f ys ≡ take f xs

@@ -6,9 +6,10 @@ use Rattle.std.proofs.lemmas.List.Sums.{sum_by-cons}
 use Rattle.std.specs.List.{AllByRecursion, AllZip, sum_by}
 use Rattle.octseq.specs.Limit.{IsPast}
 use Rattle.octseq_dns_compress.specs.State.{State, Entry, with_entry, with_entries}
-use Rattle.octseq_dns_compress.proofs.Fields.{entries_grow, entries_more, past_longer}
+use Rattle.octseq_dns_compress.proofs.Fields.{entries_grow, entries_more}
 use Rattle.octseq_dns_compress.proofs.Steps.{grown_length}
 use Rattle.octseq_dns.specs.Contents.{Message, entries_of, question_entry, record_entry}
+use Rattle.octseq.proofs.Limits.{past_more}
 
 -- Some of the entries that were read are left. The state so far becomes that of the whole when what is written for
 -- those that are left is appended. `turns` are among those that the whole may take, and each label took a turn or an
@@ -115,7 +116,7 @@ module _ {A I : Type 0} {Of : I → A → Type 0} {entry : A → Entry} {labels 
           let longer = entries_longer most then (map entry rest) in
           let whole = ap (λ s. length s.octets)
           (same ∙ ap (λ o. with_entries most (with_entry most now (entry o)) (map entry rest)) (only other are.0)) in
-          past_longer limit (length then.octets) (length (with_entries most first (map entry written)).octets)
+          past_more limit (length then.octets) (length (with_entries most first (map entry written)).octets)
           (omega (arith, longer, whole)) past
 
   -- the turns so far are among those of the whole
@@ -156,15 +157,15 @@ module _ (most : ℕ) (m : Message) (first : State) where
 
     pub past_authorized : IsPast limit (length once_authorized.octets)
         → IsPast limit (length (with_entries most first (entries_of m)).octets)
-    past_authorized past = past_added (past_longer limit (length once_authorized.octets) (length once_added.octets)
+    past_authorized past = past_added (past_more limit (length once_authorized.octets) (length once_added.octets)
         (entries_longer most once_authorized (map record_entry m.additionals)) past)
 
     pub past_answered : IsPast limit (length once_answered.octets)
         → IsPast limit (length (with_entries most first (entries_of m)).octets)
-    past_answered past = past_authorized (past_longer limit (length once_answered.octets)
+    past_answered past = past_authorized (past_more limit (length once_answered.octets)
         (length once_authorized.octets) (entries_longer most once_answered (map record_entry m.authorities)) past)
 
     pub past_asked : IsPast limit (length once_asked.octets)
         → IsPast limit (length (with_entries most first (entries_of m)).octets)
-    past_asked past = past_answered (past_longer limit (length once_asked.octets) (length once_answered.octets)
+    past_asked past = past_answered (past_more limit (length once_asked.octets) (length once_answered.octets)
         (entries_longer most once_asked (map record_entry m.answers)) past)

@@ -1,20 +1,20 @@
 -- An OPT record that was written is read as what was written.
-use Rattle.std.proofs.Common.{◌≡◌, ℕ, ◌+◌, ◌≤◌, List, [], ◌∷◌, ◌++◌, length, refl, sym, ap, ◌∙◌}
+use Rattle.std.proofs.Common.{◌≡◌, ℕ, ◌+◌, ◌≤◌, List, [], ◌++◌, length, refl, sym, ap, ◌∙◌}
 use Rattle.std.proofs.Common.{subst, arith, append_assoc, append-nil, length-append}
 use Rattle.octseq.specs.Integer.{be, octets_be}
 use Rattle.octseq.specs.Part.{part, past_part}
-use Rattle.octseq.specs.Window.{Window, at, left, next, past, rest}
+use Rattle.octseq.specs.Window.{at, left, next, past, rest}
 use Rattle.octseq.proofs.Behind.{front_comes_next}
 use Rattle.octseq.proofs.Written.{length_be, value_be}
-use Rattle.octseq_dns_compress.specs.State.{Field}
 use Rattle.octseq_dns_message.specs.Entry.{Record}
 use Rattle.octseq_dns_message.specs.Opt.{EdnsOption, HasOption, IsOpt, Opt}
 use Rattle.octseq_format.specs.Laws.{IsDelimited}
 use Rattle.octseq_format.specs.Row.{row_next}
 use Rattle.octseq_dns.specs.OptWritten.{FitsOpt, FitsOption, SaysOpt, opt_record, option_octets, options_octets}
 use Rattle.octseq_dns.specs.OptWritten.{written_options}
-use Rattle.octseq_dns.specs.ReadBack.{HasFields, IsAsWritten}
+use Rattle.octseq_dns.specs.ReadBack.{IsAsWritten}
 use Rattle.octseq_dns.specs.declared.edns.OptData.{OptData}
+use Rattle.octseq_dns.proofs.RdataRead.{octets_whole}
 
 -- the code and the octets of an option that was read
 abbrev pub read_option : EdnsOption → ℕ × List ℕ
@@ -51,25 +51,11 @@ option_next = record {
       };
 }
 
--- the octets of data with one field
-pub one_field : (r : Record) (octets : List ℕ) → HasFields r (Field.octets octets ∷ [])
-    → (rest r.rdata ≡ octets) × (r.rdata.position + length octets ≡ r.rdata.end)
-one_field r octets has =
-    let is = has.fields_are in
-    let ends : r.rdata.position + length octets ≡ r.rdata.end = sym (ap (λ (v : Window). v.position) is.2) ∙ has.ends
-    in
-    let all = r.owner.place.octets in (
-      ap (λ o. rest (record { octets = o; position = r.rdata.position; end = r.rdata.end })) has.in_message
-          ∙ ap (λ end. rest (record { octets = all; position = r.rdata.position; end = end })) (sym ends)
-          ∙ is.1,
-      ends,
-    )
-
 pub opt_is_read : (r : Record) (opt : OptData) → IsAsWritten r (opt_record opt) → FitsOpt opt
     → (read : Opt) × IsOpt r read × SaysOpt read opt
 opt_is_read r opt is fits =
     let octets = options_octets opt.options.now in
-    let field = one_field r octets is.data_is in
+    let field = octets_whole r octets is.data_is in
     let row = row_next HasOption read_option option_octets FitsOption option_next r.rdata
     (written_options opt.options.now) [] fits.1 (field.0 ∙ sym (append-nil octets)) in (
       record {

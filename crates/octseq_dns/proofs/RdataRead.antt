@@ -125,7 +125,7 @@ typed r said has parsed same is = (
 )
 
 -- octets that fill the data are the data
-octets_whole : (r : Record) (octets : List ℕ) → HasFields r (Field.octets octets ∷ [])
+pub octets_whole : (r : Record) (octets : List ℕ) → HasFields r (Field.octets octets ∷ [])
     → (rest r.rdata ≡ octets) × (r.rdata.position + length octets ≡ r.rdata.end)
 octets_whole r octets has =
     let is = has.fields_are in

@@ -1,5 +1,5 @@
 -- Strings that are appended one after another.
-use Rattle.std.proofs.Common.{◌≡◌, ◌+◌, ◌-◌, ◌/◌, ◌<◌, ◌≤◌, ◌*◌, ℕ, Bor, List, [], ◌∷◌, ◌++◌, Option, Some, None}
+use Rattle.std.proofs.Common.{◌≡◌, ◌+◌, ◌-◌, ◌/◌, ◌<◌, ◌≤◌, ◌*◌, ℕ, Bor, List, [], ◌∷◌, ◌++◌, Option}
 use Rattle.std.proofs.Common.{suc, zero}
 use Rattle.std.proofs.Common.{length, map, take, drop, get_or, refl, sym, ap, ◌∙◌, subst, arith, append_assoc}
 use Rattle.std.proofs.Common.{length-append, length-drop, drop-cons, append-nil, add-one}
@@ -20,11 +20,7 @@ use Rattle.octseq_dns_data.specs.Strings.{spelling}
 use Rattle.octseq_format.specs.Laws.{IsDelimited}
 use Rattle.octseq_format.specs.Row.{Row, row_next}
 use Rattle.octseq_dns.specs.TxtWritten.{AreStrings, cut_after, strings_of_text}
-
--- what exceeds a limit exceeds it with more
-pub past_more : (limit : Option ℕ) (m n : ℕ) → m ≤ n → IsPast limit m → IsPast limit n
-past_more None m n less past = absurd past
-past_more (Some most) m n less past = omega (arith, less, past)
+use Rattle.octseq.proofs.Limits.{past_more}
 
 -- a string that exceeds a limit exceeds it with those after it
 pub past_string : (limit : Option ℕ) (now part rest old all : List ℕ) → now ++ (part ++ rest) ≡ old ++ all

@@ -4,7 +4,6 @@ use Rattle.std.proofs.Common.{refl, sym, ap}
 use Rattle.std.proofs.Common.{◌∙◌, subst, append_assoc, append-nil}
 use Rattle.std.specs.List.{AllZip}
 use Rattle.octseq.specs.Limit.{IsPast}
-use Rattle.octseq_dns_compress.proofs.Fields.{past_longer}
 use Rattle.octseq_dns_message.specs.Entry as entry
 use Rattle.octseq_dns_message.specs.declared.header.Header.{Header}
 use Rattle.octseq_dns_message.proofs.RecordData.{one_said}
@@ -14,6 +13,7 @@ use Rattle.octseq_dns.specs.Rewritten.{IsMessageOf, IsQuestionOf, IsRecordOf, re
 use Rattle.octseq_dns.specs.Writes.{Building, Writes}
 use Rattle.octseq_dns.specs.Writes.{all_more, more_questions}
 use Rattle.octseq_dns.proofs.Pushed.{twelve_first}
+use Rattle.octseq.proofs.Limits.{past_more}
 
 -- a message of these sections
 abbrev pub of_sections : Header → List Question → List Record → List Record → List Record → Message
@@ -40,7 +40,7 @@ asked m = of_sections m.header m.questions [] [] []
 
 pub past_twelve : (limit : Option ℕ) (most : ℕ) (m : Message) → IsPast limit 12
     → IsPast limit (length (octets_of most m))
-past_twelve limit most m past = past_longer limit 12 (length (octets_of most m)) (twelve_first most m) past
+past_twelve limit most m past = past_more limit 12 (length (octets_of most m)) (twelve_first most m) past
 
 -- ---- only one message is written for one that was read
 

@@ -1,27 +1,16 @@
 -- Each section takes its entries.
 use Rattle.std.specs.Prelude.{◌≡◌, ◌+◌, ◌<◌, ◌≤◌, List, [], ◌∷◌, ◌++◌, length, map, refl}
-use Rattle.std.specs.List.{AllByRecursion}
 use Rattle.std.proofs.Common.{sym, ap, ◌∙◌, arith, append_assoc, append-nil}
-use Rattle.std.proofs.lemmas.List.{length-append, map-append}
+use Rattle.std.proofs.lemmas.List.{length-append, map-append, nil_from_length}
 use Rattle.octseq_dns.specs.Contents.{Question, Record, Message, FitsQuestion, FitsRecord, counts_of, entries_of}
 use Rattle.octseq_dns.specs.Contents.{question_entry, record_entry}
 use Rattle.octseq_dns.specs.Writes.{Takes, TakesRecords, UpToQuestions, UpToAnswers, UpToAuthorities, UpToAdditionals}
 use Rattle.octseq_dns.specs.Writes.{more_questions, more_answers, more_authorities, more_additionals}
+use Rattle.octseq.proofs.Repeats.{each_snoc}
 
 -- a list with one more element
 one_longer : {A : Type 0} (row : List A) (one : A) → length (row ++ one ∷ []) ≡ length row + 1
 one_longer row one = length-append row (one ∷ [])
-
--- a list of length 0 is empty
-as_none : {A : Type 0} (row : List A) → length row ≡ 0 → row ≡ []
-as_none [] none = refl
-as_none (x ∷ row) none = absurd (omega (arith, none))
-
--- what holds of all elements, and of one more, holds of all with it
-one_fits : {A : Type 0} (P : A → Type 0) (row : List A) (one : A) → AllByRecursion P row → P one
-    → AllByRecursion P (row ++ one ∷ [])
-one_fits P [] one all fits = (fits, tt)
-one_fits P (x ∷ row) one all fits = (all.0, one_fits P row one all.1 fits)
 
 -- and there is room for one more
 one_counted : {A : Type 0} (row : List A) (one : A) → length row < 65535 → length (row ++ one ∷ []) ≤ 65535
@@ -34,9 +23,9 @@ takes_questions = record {
   header = λ m one. refl;
   counts = λ m one i. record (counts_of m) { qdcount = one_longer m.questions one i };
   entries = λ m one none.
-      let answers = as_none m.answers none.0 in
-      let authorities = as_none m.authorities none.1 in
-      let additionals = as_none m.additionals none.2 in
+      let answers = nil_from_length m.answers none.0 in
+      let authorities = nil_from_length m.authorities none.1 in
+      let additionals = nil_from_length m.additionals none.2 in
       let rest = m.answers ++ (m.authorities ++ m.additionals) in
       let nothing : rest ≡ [] = λ i. answers i ++ (authorities i ++ additionals i) in
       ap (λ more. map question_entry (m.questions ++ one ∷ []) ++ map record_entry more) nothing
@@ -48,7 +37,7 @@ takes_questions = record {
   reaches = λ counts n none. none;
   fits = λ m one fits is less. record {
     header = fits.header;
-    questions = one_fits FitsQuestion m.questions one fits.questions is;
+    questions = each_snoc FitsQuestion m.questions one fits.questions is;
     answers = fits.answers;
     authorities = fits.authorities;
     additionals = fits.additionals;
@@ -76,8 +65,8 @@ takes_answers = record {
   header = λ m one. refl;
   counts = λ m one i. record (counts_of m) { ancount = one_longer m.answers one i };
   entries = λ m one none.
-      let authorities = as_none m.authorities none.0 in
-      let additionals = as_none m.additionals none.1 in
+      let authorities = nil_from_length m.authorities none.0 in
+      let additionals = nil_from_length m.additionals none.1 in
       let nothing : m.authorities ++ m.additionals ≡ [] = λ i. authorities i ++ additionals i in
       one_more m ((m.answers ++ one ∷ []) ++ (m.authorities ++ m.additionals)) one
       (ap (λ more. (m.answers ++ one ∷ []) ++ more) nothing ∙ append-nil (m.answers ++ one ∷ [])
@@ -88,7 +77,7 @@ takes_answers = record {
   fits = λ m one fits is less. record {
     header = fits.header;
     questions = fits.questions;
-    answers = one_fits FitsRecord m.answers one fits.answers is;
+    answers = each_snoc FitsRecord m.answers one fits.answers is;
     authorities = fits.authorities;
     additionals = fits.additionals;
     qdcount = fits.qdcount;
@@ -105,7 +94,7 @@ takes_authorities = record {
   header = λ m one. refl;
   counts = λ m one i. record (counts_of m) { nscount = one_longer m.authorities one i };
   entries = λ m one none.
-      let nothing = as_none m.additionals none in
+      let nothing = nil_from_length m.additionals none in
       one_more m (m.answers ++ ((m.authorities ++ one ∷ []) ++ m.additionals)) one
       (ap (λ more. m.answers ++ ((m.authorities ++ one ∷ []) ++ more)) nothing
       ∙ ap (λ r. m.answers ++ r) (append-nil (m.authorities ++ one ∷ [])
@@ -118,7 +107,7 @@ takes_authorities = record {
     header = fits.header;
     questions = fits.questions;
     answers = fits.answers;
-    authorities = one_fits FitsRecord m.authorities one fits.authorities is;
+    authorities = each_snoc FitsRecord m.authorities one fits.authorities is;
     additionals = fits.additionals;
     qdcount = fits.qdcount;
     ancount = fits.ancount;
@@ -144,7 +133,7 @@ takes_additionals = record {
     questions = fits.questions;
     answers = fits.answers;
     authorities = fits.authorities;
-    additionals = one_fits FitsRecord m.additionals one fits.additionals is;
+    additionals = each_snoc FitsRecord m.additionals one fits.additionals is;
     qdcount = fits.qdcount;
     ancount = fits.ancount;
     nscount = fits.nscount;

@@ -13,9 +13,10 @@ use Rattle.octseq_dns_compress.specs.Named.{AppendsName}
 use Rattle.octseq_dns_compress.specs.Names.{Names, name_octets}
 use Rattle.octseq_dns_compress.specs.State.{State, Field, with_octets, with_name, with_fields}
 use Rattle.octseq_dns_compress.specs.declared.table.Target.{Target}
-use Rattle.octseq_dns_compress.proofs.Fields.{fields_grow, one_state, past_longer}
+use Rattle.octseq_dns_compress.proofs.Fields.{fields_grow, one_state}
 use Rattle.octseq_dns_compress.proofs.Steps.{Grows, grown_length}
 use Rattle.octseq_dns_compress.proofs.Marked.{same_names}
+use Rattle.octseq.proofs.Limits.{past_more}
 
 -- the part before the entry doesn't change
 pub begun_stays : (octets new : List ℕ) (held kept : List Target) (start : ℕ) → take start new ≡ take start octets
@@ -64,7 +65,7 @@ name_past {limit = limit} {most = most} {labels = labels} {octets = octets} {kno
 past_fields : (limit : Option ℕ) (most : ℕ) (s : State) (fields : List Field) → IsPast limit (length s.octets)
     → IsPast limit (length (with_fields most s fields).octets)
 past_fields limit most s fields past =
-    past_longer limit (length s.octets) (length (with_fields most s fields).octets)
+    past_more limit (length s.octets) (length (with_fields most s fields).octets)
     (grown_length s.octets (with_fields most s fields).octets (fields_grow most s fields)) past
 
 module _ {B T : Type 0} (limit : Option ℕ) where

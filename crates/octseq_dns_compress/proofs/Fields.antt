@@ -5,7 +5,6 @@ use Rattle.std.proofs.Common.{arith, append_assoc, append-nil, length-append, le
 use Rattle.std.proofs.Math.Seq.{take-append_seam}
 use Rattle.std.proofs.lemmas.List.{drop-append-le}
 use Rattle.std.proofs.lemmas.Slice.{drop-append-drop}
-use Rattle.octseq.specs.Limit.{IsPast}
 use Rattle.octseq.specs.Integer.{octets_be}
 use Rattle.octseq.specs.Part.{part_of}
 use Rattle.octseq.proofs.Written.{length_be}
@@ -73,11 +72,6 @@ counted_length most s fields =
     let inner = length-append (octets_be 2 (length data_octets)) data_octets in
     let two = length_be 2 (length data_octets) in
     omega (arith, outer, left, first, less, inner, two)
-
--- what exceeds a limit exceeds it with more
-pub past_longer : (limit : Option ℕ) (n m : ℕ) → n ≤ m → IsPast limit n → IsPast limit m
-past_longer (Some limit) n m less past = omega (arith, less, past)
-past_longer None n m less past = past
 
 -- states with equal octets and names are equal
 pub one_state : {octets others : List ℕ} {names more : Names} → octets ≡ others → names ≡ more

@@ -10,7 +10,7 @@ use Rattle.octseq.proofs.Behind.{front_comes_next}
 use Rattle.octseq_dns_compress.specs.Names.{Names, Place, first_labels, last_place, unrooted, ending, name_octets}
 use Rattle.octseq_dns_compress.specs.Names.{pointers_from}
 use Rattle.octseq_dns_name.specs.Name.{HasRoot, HasLabel, HasPointer, HasLabels, octet}
-use Rattle.octseq_dns_name.specs.NameFormat.{be_one}
+use Rattle.octseq.proofs.Written.{be_one}
 use Rattle.octseq_dns_name.specs.Wire.{AreLabels}
 
 -- ---- pieces

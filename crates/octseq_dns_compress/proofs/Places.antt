@@ -14,7 +14,7 @@ use Rattle.octseq_dns_compress.specs.Key.{IsWhole}
 use Rattle.octseq_dns_compress.specs.PlainName.{label_of, labels_at, AreWhole}
 use Rattle.octseq_dns_compress.proofs.PlainLabels.{label_of_taken}
 use Rattle.octseq_dns_name.specs.Name.{HasLabel, octet}
-use Rattle.octseq_dns_name.specs.NameFormat.{be_one}
+use Rattle.octseq.proofs.Written.{be_one}
 use Rattle.octseq_dns_name.specs.NextLabel.{NextLabel}
 
 -- The octet before a label's octets is its length, and the label is whole.

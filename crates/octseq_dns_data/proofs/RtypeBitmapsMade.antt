@@ -4,7 +4,7 @@ use Rattle.std.proofs.Common.{inl, inr, Bool, true, false, ◌||◌, ◌==◌, i
 use Rattle.std.proofs.Common.{length, get_or, refl, sym, ap, ◌∙◌, subst, arith, append_assoc, length-append}
 use Rattle.std.proofs.lemmas.List.{append-nil}
 use Rattle.std.proofs.lemmas.List.Concat.{flat_map-append}
-use Rattle.std.proofs.lemmas.Bool.{false≢true}
+use Rattle.std.proofs.lemmas.Bool.{false≢true, false_from_ne_true}
 use Rattle.std.proofs.lemmas.Bool.Decides.{Decides-eqb}
 use Rattle.std.proofs.lemmas.List.FromFn.{get_or-map-range_with_len, length-map-range_with_len, map-range_with_len_more}
 use Rattle.std.proofs.lemmas.Nat.Bits.{bit_at-suc, bit_at-zero, bit_at_lowest}
@@ -222,12 +222,8 @@ not_none : (size : ℕ) → size == 0 ≡ false → 1 ≤ size
 not_none zero is = absurd (false≢true (sym is))
 not_none (suc size) is = omega arith
 
-not_true : (b : Bool) → (b ≡ true → ⊥) → b ≡ false
-not_true true never = absurd (never refl)
-not_true false never = refl
-
 some_size : (size : ℕ) → 1 ≤ size → size == 0 ≡ false
-some_size size some = not_true (size == 0) (λ is. let none = (Decides-eqb size 0).0 is in omega (arith, some, none))
+some_size size some = false_from_ne_true (size == 0) (λ is. let none = (Decides-eqb size 0).0 is in omega (arith, some, none))
 
 ascending : (rtypes : List ℕ) (number count : ℕ)
     → AscendFrom number (flat_map (window_blocks rtypes) (range_with_len number count))

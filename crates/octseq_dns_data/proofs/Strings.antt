@@ -1,7 +1,7 @@
 -- Character strings, as a format finds them: octets after their length.
 use Rattle.std.proofs.Common.{◌≡◌, ℕ, ◌+◌, ◌-◌, ◌^◌, ◌<◌, ◌≤◌, List, [], ◌∷◌, ◌++◌, length, map}
 use Rattle.std.proofs.Common.{refl, sym, ap, ◌∙◌, subst, arith}
-use Rattle.std.proofs.lemmas.List.{append-nil}
+use Rattle.std.proofs.lemmas.List.{append-nil, nil_from_length}
 use Rattle.std.proofs.lemmas.List.Concat.{flat_map-cons}
 use Rattle.std.proofs.lemmas.List.Elements.{All-cons, All-nil}
 use Rattle.std.proofs.lemmas.List.Sums.{sum_by-cons}
@@ -130,10 +130,6 @@ pub record Taken (w : Window) (end : ℕ) (strings : List (List ℕ)) : Type 0 w
   pub spelled : slice_range w.octets w.position end ≡ spelling strings
   pub short : All (λ string. length string ≤ 255) strings
 
-nothing : (octets : List ℕ) → length octets ≡ 0 → octets ≡ []
-nothing [] none = refl
-nothing (x ∷ octets) none = absurd (omega (arith, none))
-
 pub taken : (w : Window) (end : ℕ) (found : List Window) (v : Window) → IsSound w → w.position ≤ end → end ≤ w.end
     → RowTo IsFound (up_to end w) found v → Taken w end (map rest found)
 taken w end found v sound ordered within is =
@@ -152,7 +148,7 @@ taken w end found v sound ordered within is =
           (ap (λ octets. record { octets = octets; position = v.position; end = w.end }) on.0 ∙ ap (λ p. at p w) place)
           (wide_strings w.end u said v within (strings_are u found v is.0));
       spelled = row.1 ∙ ap (λ more. row_octets (counted_octets 1 0 (λ octets. octets)) said ++ more)
-          (nothing (rest v) (omega (arith, more, none))) ∙ append-nil _ ∙ spelled said;
+          (nil_from_length (rest v) (omega (arith, more, none))) ∙ append-nil _ ∙ spelled said;
       short = short said row.0;
     }
 
@@ -161,7 +157,7 @@ pub some_found : (found : List Window) → (found ≡ [] → ⊥) → 1 ≤ leng
 some_found [] some = absurd (some refl)
 some_found (x ∷ found) some = omega arith
 
--- and if nothing was found, nothing was left
+-- and if nil_from_length was found, nil_from_length was left
 pub none_found : (w v : Window) (found : List Window) → found ≡ [] → RowTo IsFound w found v → left w ≡ 0
 none_found w v found none is =
     let here = subst (λ found. Row IsFound w found v) none is.0 in

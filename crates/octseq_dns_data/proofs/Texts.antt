@@ -2,7 +2,7 @@
 use Rattle.std.proofs.Common.{◌≡◌, ℕ, zero, suc, ◌+◌, ◌<◌, ◌≤◌, Bool, true, false, if◌then◌else◌, nat_le, nat_lt}
 use Rattle.std.proofs.Common.{◌==◌, List, [], ◌∷◌, ◌++◌, length, take, drop, get_or, replicate, codes, bytes_eq, refl}
 use Rattle.std.proofs.Common.{sym, ap, subst, arith}
-use Rattle.std.proofs.lemmas.Bool.{leb-true, leb-false}
+use Rattle.std.proofs.lemmas.Bool.{leb-true, leb-false, false_from_ne_true}
 use Rattle.std.proofs.lemmas.Bool.Decides.{Decides-eqb}
 use Rattle.std.proofs.lemmas.Slice.Eq.{bytes_eq-Decides}
 use Rattle.std.specs.Net.Addr.{IsIpv4Mapped, segments_of}
@@ -12,17 +12,13 @@ use Rattle.octseq_dns_data.specs.DataText.{is_compatible}
 
 -- ---- the first longest run of zero groups
 
-not_true : (reported : Bool) → (reported ≡ true → ⊥) → reported ≡ false
-not_true true never = absurd (never refl)
-not_true false never = refl
-
 zeros_at_front : (xs : List ℕ) → take (zero_run xs) xs ≡ replicate (zero_run xs) 0
 zeros_at_front [] = refl
 zeros_at_front (zero ∷ xs) =
     let one_more : suc (zero_run xs) ≡ 1 + zero_run xs = omega arith in
     subst (λ n. take n (0 ∷ xs) ≡ replicate n 0) one_more (ap (λ zeros. 0 ∷ zeros) (zeros_at_front xs))
 zeros_at_front (suc x ∷ xs) =
-    let other = not_true (suc x == 0) (λ reported. let is = (Decides-eqb (suc x) 0).0 reported in omega (arith, is)) in
+    let other = false_from_ne_true (suc x == 0) (λ reported. let is = (Decides-eqb (suc x) 0).0 reported in omega (arith, is)) in
     subst (λ zero. take (if zero then 1 + zero_run xs else 0) (suc x ∷ xs)
     ≡ replicate (if zero then 1 + zero_run xs else 0) 0) (sym other) refl
 
@@ -113,7 +109,7 @@ unfolding ipv6_text
 address_is_text octets compatible mapped =
     let groups = segments_of octets in
     let front = 0 ∷ 0 ∷ 0 ∷ 0 ∷ 0 ∷ 0xffff ∷ [] in
-    let no_tail = not_true (is_compatible octets) compatible in
-    let no_front = not_true (bytes_eq (take 6 groups) front) (λ reported. mapped
+    let no_tail = false_from_ne_true (is_compatible octets) compatible in
+    let no_front = false_from_ne_true (bytes_eq (take 6 groups) front) (λ reported. mapped
     ((bytes_eq-Decides (take 6 groups) front).0 reported)) in
     rw (no_tail, no_front) (groups_are_text groups)

@@ -2,7 +2,6 @@
 use Rattle.std.proofs.Common.{◌≡◌, ℕ, ◌-◌, ◌<◌, ◌≤◌, if◌then◌else◌, List, length, take, drop, Option, Some, None}
 use Rattle.std.proofs.Common.{inl, inr, refl, sym, ap, ◌∙◌, arith}
 use Rattle.std.proofs.Math.Nat.{lt_of_not-le}
-use Rattle.std.proofs.Math.Seq.{take-length}
 use Rattle.std.proofs.lemmas.Bool.{le-leb, lt-leb}
 use Rattle.std.proofs.lemmas.Bool.Decides.{leb_tells}
 use Rattle.std.proofs.lemmas.List.{length-drop, length-take}
@@ -10,7 +9,7 @@ use Rattle.std.specs.Option.{option_map}
 use Rattle.std.specs.Prelude.{option_and_then}
 use Rattle.octseq.specs.Integer.{be}
 use Rattle.octseq.specs.Part.{HasPart, part, part_length, past_part}
-use Rattle.octseq.specs.Window.{Window, left, next, past, rest, whole}
+use Rattle.octseq.specs.Window.{Window, left, next, past, rest}
 use Rattle.octseq.proofs.Windows.{next_of_rest, rest_past}
 use Rattle.octseq_dns_data.specs.Pieces.{Split, split_number, split_octets, split_pair, split_part}
 
@@ -19,11 +18,6 @@ long_rest w ordered within =
     let taken = length-take (left w) (drop w.position w.octets) in
     let dropped = length-drop w.position w.octets in
     omega (arith, taken, dropped, ordered, within)
-
-pub rest_whole : (octets : List ℕ) → rest (whole octets) ≡ octets
-rest_whole octets =
-    let all : length octets - 0 ≡ length octets = omega arith in
-    ap (λ n. take n octets) all ∙ take-length octets
 
 pub octets_at : (k : ℕ) (w v : Window) → length (rest w) ≡ left w → k ≤ left w → v ≡ past k w
     → split_octets k (rest w) ≡ Some (next k w, rest v)

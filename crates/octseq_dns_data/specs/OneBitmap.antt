@@ -1,21 +1,13 @@
 -- Octets are window blocks in at most one way, so a value may keep as a fact that they are a type bitmap.
-use Rattle.std.specs.Prelude.{◌≡◌, ℕ, ◌+◌, List, [], ◌∷◌, ◌++◌, length, take}
+use Rattle.std.specs.Prelude.{◌≡◌, ℕ, ◌+◌, List, [], ◌∷◌, ◌++◌, length}
 use Rattle.std.proofs.Common.{sym, ap, ◌∙◌, arith, refl}
-use Rattle.std.proofs.lemmas.List.{append_cancel_left}
 use Rattle.std.proofs.Math.Bridge.{le_prop}
-use Rattle.std.proofs.Math.Seq.{take-append_seam}
 use Rattle.std.specs.Coded.{Coded-set, coded_list, coded_ℕ}
 use Rattle.std.specs.List.{flat_map}
 use mathlib.Core.HLevel.{Σ_prop_path}
 use Rattle.octseq_dns_data.specs.RtypeBitmap.{WindowBlock, AscendFrom, IsRtypeBitmap}
 use Rattle.octseq_dns_data.specs.RtypeBitmap.{block_octets}
-
--- two fronts of equal length are equal
-same_front : (xs us ys vs : List ℕ) → length xs ≡ length us → xs ++ ys ≡ us ++ vs → (xs ≡ us) × (ys ≡ vs)
-same_front xs us ys vs same is =
-    let front = sym (take-append_seam xs ys) ∙ ap (take (length xs)) is ∙ ap (λ n. take n (us ++ vs)) same
-    ∙ take-append_seam us vs in
-    (front, append_cancel_left us ys vs (ap (λ front. front ++ ys) (sym front) ∙ is))
+use Rattle.octseq.proofs.Codes.{halves}
 
 abbrev made : ℕ → List ℕ → WindowBlock
 made number bitmap = record { number = number; bitmap = bitmap }
@@ -28,7 +20,7 @@ one_block block other rest more is =
     let number : block.number ≡ other.number = cc in
     let size : length block.bitmap ≡ length other.bitmap = cc in
     let octets : block.bitmap ++ rest ≡ other.bitmap ++ more = cc in
-    let both = same_front block.bitmap other.bitmap rest more size octets in
+    let both = halves block.bitmap other.bitmap rest more size octets in
     (ap (λ number. made number block.bitmap) number ∙ ap (made other.number) both.0, both.1)
 
 -- so they are at most one list of blocks

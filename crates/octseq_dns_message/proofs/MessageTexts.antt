@@ -17,10 +17,6 @@ use Rattle.octseq_dns_message.proofs.RecordData.{one_said}
 pub then_more : (old t u x y : List ℕ) → t ≡ old ++ x → u ≡ t ++ y → u ≡ old ++ (x ++ y)
 then_more old t u x y e f = f ∙ ap (λ z. z ++ y) e ∙ append_assoc old x y
 
--- a front of a front
-pub front_on : (a b c : List ℕ) → IsFront a b → IsFront b c → IsFront a c
-front_on a b c f g = (f.0 ++ g.0, then_more a b c f.0 g.0 f.1 g.1)
-
 -- a header's line begins with `i`, and so does a text that it is a front of
 pub at_line : (old shown now : List ℕ) (header : Header) → shown ≡ old ++ header_line header → IsFront shown now
     → BeginsAtLine old now

@@ -1,5 +1,5 @@
 -- A text that is read with an origin spells at most one name, or is refused for one reason.
-use Rattle.std.proofs.Common.{◌≡◌, ◌⊎◌, inl, inr, ℕ, ◌+◌, ◌<◌, ◌≤◌, List, [], ◌∷◌, ◌++◌, length, get_or, refl, sym}
+use Rattle.std.proofs.Common.{◌≡◌, ◌⊎◌, inl, inr, ℕ, ◌+◌, ◌<◌, ◌≤◌, List, [], ◌∷◌, ◌++◌, length, refl, sym}
 use Rattle.std.proofs.Common.{ap, ◌∙◌, subst, append_assoc, Result, Err, IsErrOf, IfOk, IfErr, Option, Some, None}
 use Rattle.std.proofs.Common.{IfSome, IsNone, ◌↔◌, arith}
 use Rattle.std.specs.Option.{ok_or}
@@ -17,25 +17,22 @@ use Rattle.octseq_dns_name.specs.declared.error.FromTextError.{FromTextError}
 use Rattle.octseq_dns_name.proofs.Names.{wire_append, wire_some}
 use Rattle.octseq_dns_name.proofs.Refusals.{no_name, one_reason, error_or}
 use Rattle.octseq_dns_name.proofs.Spellings.{name_once, labels_once, no_full_stop}
-use Rattle.octseq_dns_name.proofs.SpellingSteps.{read_no_label, labels_more, spelling_long, later}
+use Rattle.octseq_dns_name.proofs.SpellingSteps.{read_no_label, labels_more, spelling_long, later, first_is}
 use Rattle.octseq_dns_name.proofs.Wires.{bodies_length}
 
 -- ---- `@`
 
-first_octet : {a b : ℕ} {xs ys : List ℕ} → a ∷ xs ≡ b ∷ ys → a ≡ b
-first_octet {a = a} same = ap (λ l. get_or l 0 a) same
-
 -- it spells no octet
 no_at : (rest : List ℕ) → SpellsNone (64 ∷ rest)
 no_at rest octet first more is (SpellsOctet.plain bare seen) =
-    true≢false (ap is_quoted (first_octet is) ∙ bare)
-no_at rest octet first more is (SpellsOctet.quoted letter) = let e = first_octet is in absurd (omega (arith, e))
-no_at rest octet first more is (SpellsOctet.numbered few) = let e = first_octet is in absurd (omega (arith, e))
+    true≢false (ap is_quoted (first_is is) ∙ bare)
+no_at rest octet first more is (SpellsOctet.quoted letter) = let e = first_is is in absurd (omega (arith, e))
+no_at rest octet first more is (SpellsOctet.numbered few) = let e = first_is is in absurd (omega (arith, e))
 
 -- so alone it is refused without an origin
 at_refused : IsRefused FromTextError.IllegalOctet (64 ∷ [])
 at_refused = (
-  (λ is. let e = first_octet is in absurd (omega (arith, e))),
+  (λ is. let e = first_is is in absurd (omega (arith, e))),
   [],
   64 ∷ [],
   read_no_label (64 ∷ []),

@@ -7,7 +7,7 @@ use Rattle.std.proofs.lemmas.List.{drop_more}
 use Rattle.octseq.specs.Integer.{be}
 use Rattle.octseq.specs.Window.{Window, left, next, at, past}
 use Rattle.octseq_dns_name.specs.Name.{HasRoot, HasLabel, HasPointer, IsName, octet, wire_length}
-use Rattle.octseq_dns_name.specs.NameFormat.{be_one}
+use Rattle.octseq.proofs.Written.{be_one}
 use Rattle.octseq_dns_name.specs.NameTurns.{name_turns}
 use Rattle.octseq_dns_name.specs.OneName.{one_has_labels}
 use Rattle.octseq_dns_name.specs.Pass.{window_at, place_in, NoName, NoRest, LeadsTo, Reading, PassesLabels, Rests, Ends}

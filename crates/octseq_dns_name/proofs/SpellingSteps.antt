@@ -12,13 +12,8 @@ use Rattle.octseq_dns_name.proofs.Wires.{one_more}
 -- ---- lists
 
 -- what two texts begin with
-first_is : {a b : ℕ} {xs ys : List ℕ} → a ∷ xs ≡ b ∷ ys → a ≡ b
+pub first_is : {a b : ℕ} {xs ys : List ℕ} → a ∷ xs ≡ b ∷ ys → a ≡ b
 first_is {a = a} same = ap (λ l. get_or l 0 a) same
-
--- a text of length 0 is empty
-pub none_left : (text : List ℕ) → length text ≡ 0 → text ≡ []
-none_left [] none = refl
-none_left (x ∷ text) none = absurd (omega (arith, none))
 
 -- and one that isn't empty has octets
 pub some_long : (text : List ℕ) → ¬ (text ≡ []) → 1 ≤ length text

@@ -12,6 +12,7 @@ use Rattle.octseq_format.specs.Rest.{window_code}
 use Rattle.octseq_dns_name.specs.Name.{Name, HasName, IsName, HasLabel, HasLabels, octet, wire_length}
 use Rattle.octseq_dns_name.specs.OneName.{one_name}
 use Rattle.octseq_dns_name.specs.Wire.{wire, AreLabels}
+use Rattle.octseq.proofs.Written.{be_one}
 
 -- the labels of a name
 abbrev pub name_labels : Name → List (List ℕ)
@@ -107,11 +108,6 @@ onward_name = record {
 }
 
 -- ---- its octets
-
--- the number of one octet is that octet
-pub be_one : (n : ℕ) → be (n ∷ []) ≡ n
-unfolding be
-be_one n = omega arith
 
 -- labels, each after its length
 abbrev pub bodies : List (List ℕ) → List ℕ

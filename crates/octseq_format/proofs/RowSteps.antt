@@ -10,6 +10,7 @@ use Rattle.octseq.specs.Window.{Window, left}
 use Rattle.octseq_format.specs.Laws.{Relation, NoneAt, IsOne, IsMoving}
 use Rattle.octseq_format.specs.Row.{Row, Many, Moved, Holds, HoldsTo, row_turns, one_row, one_many, held_once}
 use Rattle.octseq_format.specs.Row.{held_to_once}
+use Rattle.std.proofs.lemmas.List.{nil_from_length}
 
 -- ---- rows that are read item by item
 
@@ -55,10 +56,6 @@ row_by Is Are to each w v (x ∷ row) is = (is.0, each w x is.0 is.1, row_by Is 
 
 -- ---- rows that a walk keeps
 
-no_items : {A : Type 0} (row : List A) → length row ≡ 0 → row ≡ []
-no_items [] is = refl
-no_items (x ∷ row) is = absurd (omega (arith, is))
-
 first_of_row : {A : Type 0} (Is : Relation A) (w v : Window) (row : List A) → 0 < length row
     → Row Is w row v → NoneAt Is w → ⊥
 first_of_row Is w v [] some are none = omega (arith, some)
@@ -68,7 +65,7 @@ first_of_row Is w v (x ∷ row) some are none = none x are.0 are.1
 pub held_none : {A : Type 0} (code : Coded A) (Is : Relation A) (w : Window) (count : ℕ)
     (held : Holds Is w count) → count ≡ 0 → held.0 ≡ []
 held_none code Is w count held zero = ∥∥₁_elim held.1 (Coded-set (coded_list code) held.0 [])
-    (λ x. no_items held.0 (x.1.0 ∙ zero))
+    (λ x. nil_from_length held.0 (x.1.0 ∙ zero))
 
 -- if there are some, the first is there
 pub held_not : {A : Type 0} (Is : Relation A) (w : Window) (count : ℕ) (held : Holds Is w count)

@@ -9,7 +9,7 @@ use Rattle.octseq.specs.Window.{past}
 use Rattle.octseq_format.specs.Fixed.{IsFixed, one_fixed, onward_fixed, delimited_fixed}
 use Rattle.octseq_format.specs.Integers.{are_be}
 use Rattle.octseq_format.specs.Laws.{Relation, IsOne, IsOnward, IsReadBack, IsDelimited, back_of}
-use Rattle.octseq_format.specs.Pair.{◌also◌}
+use Rattle.octseq_format.specs.Pair.{◌also◌, same_pair}
 
 -- A number is of at most one value.
 pub record IsOneNumber {S : Type 0} (number : S → ℕ) (Fits : S → Type 0) : Type 0 where
@@ -58,9 +58,6 @@ one_bit = record { same = λ a b _ _ same. same_bit a b same }
 pub has_bit : HasBits 1 bit_number (λ _. Unit {0})
 has_bit = record { few = λ a _. few_bit a }
 
-same_both : {S T : Type 0} {a c : S} {b d : T} → a ≡ c → b ≡ d → Path (S × T) (a, b) (c, d)
-same_both {c = c} {b = b} first second = ap (λ a. (a, b)) first ∙ ap (λ b. (c, b)) second
-
 -- the upper bits of such a number
 pub upper_of : {S T : Type 0} (high : S → ℕ) (low : T → ℕ) {Low : T → Type 0} (bits : ℕ) → HasBits bits low Low
     → (both : S × T) → Low both.1 → both_bits high bits low both / 2 ^ bits ≡ high both.0
@@ -80,7 +77,7 @@ module _ {S T : Type 0} {high : S → ℕ} {low : T → ℕ} {High : S → Type 
         ∙ upper_of high low bits has b y.second in
         let lowest = sym (lowest_of high low bits has a x.second) ∙ ap (λ n. n % 2 ^ bits) same
         ∙ lowest_of high low bits has b y.second in
-        same_both (first.same a.0 b.0 x.first y.first upper) (second.same a.1 b.1 x.second y.second lowest);
+        same_pair (first.same a.0 b.0 x.first y.first upper) (second.same a.1 b.1 x.second y.second lowest);
   }
 
   pub has_both : (upper bits : ℕ) → HasBits upper high High → HasBits bits low Low

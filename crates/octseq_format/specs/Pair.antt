@@ -52,7 +52,7 @@ infixr 5 ◌code_then◌
 abbrev pub ◌code_then◌ : {A B : Type 0} → Coded A → Coded B → Coded (A × B)
 first code_then second = coded× first second
 
-same_pair : {A B : Type 0} {a c : A} {b d : B} → a ≡ c → b ≡ d → Path (A × B) (a, b) (c, d)
+pub same_pair : {A B : Type 0} {a c : A} {b d : B} → a ≡ c → b ≡ d → Path (A × B) (a, b) (c, d)
 same_pair {c = c} {b = b} first second = ap (λ a. (a, b)) first ∙ ap (λ b. (c, b)) second
 
 -- past two lists of octets is past the first and then past the second

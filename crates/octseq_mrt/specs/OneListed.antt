@@ -4,7 +4,6 @@ use Rattle.std.proofs.Common.{sym, ap, ◌∙◌, subst, arith}
 use mathlib.Core.Logic.{inl, inr}
 use Rattle.std.specs.Coded.{Coded, code_by, coded_list, coded_option, coded_ℕ, coded×, coded⊎}
 use Rattle.std.specs.Net.Addr.{segments_of}
-use Rattle.octseq.specs.Integer.{be}
 use Rattle.octseq.specs.Window.{Window, left}
 use Rattle.octseq_format.specs.Counted.{onward_counted}
 use Rattle.octseq_format.specs.Fixed.{one_fixed, onward_fixed}
@@ -13,7 +12,7 @@ use Rattle.octseq_format.specs.Pair.{◌then◌, ◌one_then◌, ◌onward_then�
 use Rattle.octseq_format.specs.Rest.{IsRest}
 use Rattle.octseq_bgp.specs.Entry.{Entry, IsEntry, IsNumber}
 use Rattle.octseq_bgp.specs.Fills.{Fills}
-use Rattle.octseq_bgp.specs.OneEntry.{one_number, one_octets, one_deciding}
+use Rattle.octseq_bgp.specs.OneEntry.{one_number, one_octets, one_deciding, weaker, onward_number}
 use Rattle.octseq_bgp.specs.OneEntry.{onward_deciding, one_entry, entry_moves, entry_code}
 use Rattle.octseq_bgp.specs.Path.{asn_size}
 use Rattle.octseq_bgp.specs.declared.entry.Form.TheVariants as form
@@ -24,14 +23,7 @@ use Rattle.octseq_mrt.specs.Ahead.{one_filling}
 use Rattle.octseq_mrt.specs.Peer.{Peer, IsPeer, peer_family, has_wide_asn}
 use Rattle.octseq_mrt.specs.Rib.{RibEntry, HasEntryParts, IsRibEntry}
 
-weaker : {A : Type 0} {Is : Relation A} {m n : ℕ} → n ≤ m → IsOnward m Is → IsOnward n Is
-weaker fewer onward = record {
-  on = onward.on;
-  less = λ w a v is. let less = onward.less w a v is in omega (arith, less, fewer);
 }
-
-onward_number : (k : ℕ) → IsOnward k (IsNumber k)
-onward_number k = onward_fixed k be
 
 -- ---- addresses
 

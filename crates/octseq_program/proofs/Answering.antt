@@ -1,9 +1,9 @@
 -- Complete runs, and runs that failed.
-use Rattle.std.proofs.Common.{◌≡◌, ℕ, List, [], ◌++◌, true, false, Option, Some, None, Result, Ok, Err, ◌∙◌, refl}
+use Rattle.std.proofs.Common.{◌≡◌, ℕ, List, [], ◌++◌, true, false, Option, Some, None, ◌∙◌, refl}
 use Rattle.std.proofs.Common.{sym, ap, subst}
 use Rattle.std.proofs.lemmas.List.{append-nil}
 use Rattle.std.specs.Io.KnownBytes.{Appends, Consumes, IsAtEnd}
-use Rattle.std.specs.Prelude.{IfSome, OnErr, unwrap_or}
+use Rattle.std.specs.Prelude.{IfSome, unwrap_or}
 use Rattle.octseq.specs.Parts.{IsFront}
 use Rattle.octseq_program.specs.Run.{Answers, BreaksOff, Writes}
 use Rattle.octseq_program.specs.declared.request.Asked.TheVariants.{Help, Unknown}
@@ -24,11 +24,6 @@ appends_none None = tt
 pub consumes_none : (left : Option (List ℕ)) → Consumes left left []
 consumes_none (Some octets) = refl
 consumes_none None = tt
-
--- what always holds also holds of an error
-pub on_err : {T E P : Type 0} (result : Result T E) → P → OnErr result P
-on_err (Ok value) p = tt
-on_err (Err e) p = p
 
 -- an empty list is a front of all octets
 pub front_nil : (octets : List ℕ) → IsFront [] octets

@@ -5,7 +5,7 @@ use Rattle.std.proofs.Common.{map, length, get_or, take, drop, refl, arith, ◌�
 use Rattle.std.proofs.Common.{sym, ◌∙◌, subst, append_assoc, length-append, Option, Some, None}
 use Rattle.std.proofs.Math.Seq.{take-append_seam, drop-cons, take-suc}
 use Rattle.std.proofs.lemmas.Bool.{eqb-true}
-use Rattle.std.proofs.lemmas.List.{append-nil, take-append-drop}
+use Rattle.std.proofs.lemmas.List.{append-nil, take-append-drop, nil_from_length}
 use Rattle.std.specs.List.{concat, AllByRecursion}
 use Rattle.octseq_core.specs.Limit.{IsWithin, IsPast}
 use Rattle.octseq_core.specs.Refusal.{Refusal, Is, append_error}
@@ -28,10 +28,6 @@ use Rattle.octseq_utf8.proofs.Rows.{width_le}
 use Rattle.octseq_text.proofs.Settling.{reads_none, reads_more, reads_then, reads_good, reads_bad, settles_reads}
 use Rattle.octseq_text.proofs.Settling.{one_settling, reads_settles, text-append, text-chars, text_read, snoc_some}
 use Rattle.octseq_utf8.proofs.Splitting.{bad_some, encoding_fitting, splits, one_splitting}
-
-nil_from_length : (x : List ℕ) → length x ≡ 0 → x ≡ []
-nil_from_length [] h = refl
-nil_from_length (a ∷ x) h = absurd (omega arith)
 
 -- the text grows
 

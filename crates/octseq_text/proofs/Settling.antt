@@ -49,7 +49,7 @@ reads_encoding {e} p s = record { whatever = λ r. ap parts_of (append_assoc e s
 
 -- lists of parts and their last one
 
-nil_from_splits : {x : List ℕ} {parts : List Part} → Splits x parts → parts ≡ [] → x ≡ []
+pub nil_from_splits : {x : List ℕ} {parts : List Part} → Splits x parts → parts ≡ [] → x ≡ []
 nil_from_splits nothing e = refl
 nil_from_splits (encoding p s) e = absurd (cc)
 nil_from_splits (bad_part b s) e = absurd (cc)

@@ -1,13 +1,10 @@
 -- A reader's octets are fed until its end.
-use Rattle.std.proofs.Common.{ℕ, List, [], ◌++◌, Option, Some, None, refl, sym, ap, ◌∙◌, append_assoc}
+use Rattle.std.proofs.Common.{ℕ, List, [], ◌++◌, Option, Some, None, sym, ap, ◌∙◌, append_assoc}
 use Rattle.std.specs.Io.KnownBytes.{Consumes, Keeps}
 use Rattle.octseq_program.specs.declared.status.Status.{Status}
 use Rattle.octseq_tool.specs.Out.{Made, Makes}
 use Rattle.octseq_tool.specs.declared.engine.Command.{Command}
-
-consumes_none : (known : Option (List ℕ)) → Consumes known known []
-consumes_none None = tt
-consumes_none (Some octets) = refl
+use Rattle.octseq_program.proofs.Answering.{consumes_none}
 
 -- a reader that keeps its known octets consumes none of them
 pub keeps_consumes : (before after : Option (List ℕ)) → Keeps before after → Consumes before after []

@@ -16,6 +16,7 @@ use Rattle.octseq_tool.specs.Lines.{IsRest, IsReadTo, Takes, WritesFront}
 use Rattle.octseq_tool.specs.Out.{IsCut, Made, Out}
 use Rattle.octseq_tool.specs.declared.engine.Command.{Command}
 use Rattle.octseq_tool.specs.declared.engine.Command.TheVariants.{Records}
+use Rattle.octseq.proofs.Fronts.{front_then}
 
 -- if nothing is written of octets, they are their own rest
 pub unwritten : (octets : List ℕ) (writer : Option (List ℕ)) → (rest : List ℕ) × (lines : List ℕ) × (output : List ℕ)
@@ -101,9 +102,6 @@ module _ (given left before after : Option (List ℕ)) (held : List ℕ) (so_far
 
 -- the whole run
 
-fronts_join : (a b c : List ℕ) → IsFront a b → IsFront b c → IsFront a c
-fronts_join a b c (x, e) (y, f) = (x ++ y, f ∙ ap (λ l. l ++ y) e ∙ append_assoc a x y)
-
 -- a run that wrote a front of the lines broke off
 pub broke_lines :
     ((octets rest lines more output : List ℕ) (status : Status) → IsReadTo octets rest lines
@@ -120,7 +118,7 @@ broke_lines law given left before after w noted = record {
   written = w.written;
   noted = appends_none noted;
   fronts = λ more all notes status nothing is_out. (
-    fronts_join w.output w.lines all w.front
+    front_then w.output w.lines all w.front
         (law w.takes.octets w.rest w.lines more all status w.takes.read is_out.0),
     front_nil notes,
   );

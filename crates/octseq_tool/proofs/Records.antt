@@ -12,6 +12,7 @@ use Rattle.octseq.specs.Window.{Window, left, rest, next, past, nested}
 use Rattle.octseq.proofs.Codes.{halves}
 use Rattle.octseq_tool.specs.Lines.{IsRest, IsReadTo}
 use Rattle.octseq_tool.specs.Out.{HasText, records_of, IsCut, HasLines}
+use Rattle.octseq.proofs.Written.{be_one}
 
 -- if no whole record is at the front, none is there
 pub no_record : {P : Type 0} (rest part more : List ℕ) → IsRest rest → rest ≡ length part ∷ (part ++ more) → P
@@ -39,11 +40,6 @@ one_reading (a ∷ parts) (b ∷ others) x y h k e =
     let rest = one_reading parts others x y h k both.1 in
     (ap (λ p. p ∷ parts) both.0 ∙ ap (λ ps. b ∷ ps) rest.0, rest.1)
 
--- the value of one octet
-one_octet : (b : ℕ) → be (b ∷ []) ≡ b
-unfolding be
-one_octet b = omega arith
-
 -- the first of the octets that are left, and those after it
 first_octet : (w : Window) → 0 < left w → w.end ≤ length w.octets → rest w ≡ be (next 1 w) ∷ rest (past 1 w)
 first_octet w some within =
@@ -54,7 +50,7 @@ first_octet w some within =
     let one : w.position + 1 - w.position ≡ 1 = omega arith in
     let many : w.end - w.position ≡ suc (w.end - (w.position + 1)) = omega arith in
     let value : be (next 1 w) ≡ b =
-    ap (λ n. be (take n (drop w.position w.octets))) one ∙ ap (λ octets. be (take 1 octets)) ahead ∙ one_octet b in
+    ap (λ n. be (take n (drop w.position w.octets))) one ∙ ap (λ octets. be (take 1 octets)) ahead ∙ be_one b in
     ap (λ n. take n (drop w.position w.octets)) many ∙ ap (take (suc (w.end - (w.position + 1)))) ahead
     ∙ ap (λ n. n ∷ rest (past 1 w)) (sym value)
 

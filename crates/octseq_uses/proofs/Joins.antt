@@ -4,7 +4,6 @@ use Rattle.std.proofs.Common.{map, get_or, Option, subst, sym, ap, ◌∙◌, ap
 use Rattle.std.proofs.Math.Seq.{drop-cons}
 use Rattle.std.proofs.lemmas.List.{length-append}
 use Rattle.std.specs.List.{flat_map}
-use Rattle.std.specs.Prelude.{Result, Ok, Err, OnErr}
 use Rattle.octseq.proofs.Limits.{past_more}
 use Rattle.octseq.specs.Limit.{IsPast}
 use Rattle.octseq_uses.specs.Joined.{joined}
@@ -37,11 +36,6 @@ to_come_word show separator text between all others default i within so_far e =
     ap (λ t. t ++ (show word ++ more)) e ∙ append_assoc text separator (show word ++ more)
     ∙ ap (λ x. text ++ x) (sym (append_assoc separator (show word) more))
     ∙ ap (λ ws. text ++ spread separator (map show ws)) (sym (drop-cons others i default within)) ∙ so_far
-
--- what always holds also holds of an error
-pub on_err : {T E : Type 0} {P : Type 0} (result : Result T E) → P → OnErr result P
-on_err (Ok value) p = tt
-on_err (Err e) p = p
 
 -- ---- limits
 

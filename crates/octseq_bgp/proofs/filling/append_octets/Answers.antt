@@ -1,8 +1,8 @@
 use Rattle.std.proofs.Common.{◌≤◌, ◌++◌, length-append, arith}
 use Rattle.std.proofs.KnownBytes.{Consumes-trans}
-use Rattle.octseq_bgp.proofs.ReadOctets.{on_err}
 use Rattle.octseq_bgp.proofs.filling.append_octets.Goals as goal
 use Rattle.octseq_bgp.proofs.filling.append_octets.Goals.{then-left-lt-STEP, else-left-lt-STEP}
+use Rattle.octseq.proofs.Errors.{on_err}
 
 pub returns-in_err-count-clause-err : goal.returns-in_err-count-clause-err
 returns-in_err-count-clause-err g c =

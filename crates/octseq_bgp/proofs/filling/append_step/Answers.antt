@@ -1,5 +1,5 @@
 use Rattle.std.proofs.Common.{◌≡◌, ◌+◌, ◌-◌, ◌∙◌, length, take, drop, replicate, vec_len, ap, arith}
-use Rattle.octseq_bgp.proofs.ReadOctets.{appended, written_back, length_part}
+use Rattle.octseq_bgp.proofs.ReadOctets.{appended, take_front, length_part}
 use Rattle.octseq_bgp.proofs.filling.append_step.Goals as goal
 
 pub returns-clause-read : goal.returns-clause-read
@@ -20,7 +20,7 @@ returns-clause-read g c =
       take count (drop before ys),
       length_part ys before count fits,
       omega (arith, fits, grown, value, kept),
-      c.truncate.ensures.items ∙ ap (take (before + count)) (written_back ys _ c.resize.new.self.len whole)
+      c.truncate.ensures.items ∙ ap (take (before + count)) (take_front ys _ c.resize.new.self.len whole)
           ∙ appended old (replicate (before + c.args.step - vec_len c.args.octets.now) 0) c.as_mut_slice.result.now
           ys before count
           c.args.step all (c.as_mut_slice.ensures.value ∙ c.in_ok-resize.ensures.items) read.front,

@@ -1,8 +1,8 @@
 use Rattle.std.proofs.Common.{◌≡◌, true, false, Ok, rules, ap}
 use Rattle.std.proofs.lemmas.Option.{MatchOption-at_some}
-use Rattle.octseq_bgp.proofs.ReadOctets.{on_err}
 use Rattle.octseq_bgp.proofs.Streams.{after_front, cut_after_front, whole_message}
 use Rattle.octseq_bgp.proofs.reader.read_message.Goals as goal
+use Rattle.octseq.proofs.Errors.{on_err}
 
 pub returns-in_err-append_octets-clause-err : goal.returns-in_err-append_octets-clause-err
 returns-in_err-append_octets-clause-err g c =

@@ -1,10 +1,11 @@
 use Rattle.std.proofs.Common.{Some, [], ap, refl, arith}
 use Rattle.octseq_dns.proofs.Stages.{asked, of_sections}
 use Rattle.octseq_c.specs.Made.{places_kept}
-use Rattle.octseq_c.proofs.AnswerBegun.{if_ok, on_ok}
+use Rattle.octseq_c.proofs.AnswerBegun.{on_ok}
 use Rattle.octseq_c.proofs.Sections.{additionals_pushed, answered, answers_pushed, authorities_pushed, authorized}
 use Rattle.octseq_c.proofs.Sections.{past_additionals, past_answers, past_authorities}
 use Rattle.octseq_c.proofs.answer.push_sections.Goals as goal
+use Rattle.std.proofs.lemmas.Result.{IfOk-weaker}
 
 pub returns-in_err-answered-clause-short : goal.returns-in_err-answered-clause-short
 returns-in_err-answered-clause-short c err m has w1 few =
@@ -31,7 +32,7 @@ returns-clause-records c =
 
 pub returns-clause-written : goal.returns-clause-written
 returns-clause-written c =
-    if_ok c.push_rows-3.result (λ b pushed m has w1.
+    IfOk-weaker c.push_rows-3.result _ _ (λ b pushed m has w1.
     let w2 = answers_pushed places_kept c.in_ok-answered.answered c.authority.result m
     (c.in_ok-answered.ensures.written (asked m) m.answers w1 has.answers_are) c.authority.ensures in
     let w3 = authorities_pushed places_kept c.in_ok-authorized.authorized c.additional.result m

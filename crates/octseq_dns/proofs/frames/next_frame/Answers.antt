@@ -3,8 +3,9 @@ use Rattle.octseq.proofs.Codes.{took, not_taken, part_front, no_part_length, no_
 use Rattle.octseq.specs.Integer.{octets_be}
 use Rattle.octseq.specs.Parser.{window}
 use Rattle.octseq.specs.Window.{left, next, rest}
-use Rattle.octseq_dns.proofs.Framing.{left_less, length_next, on_err}
+use Rattle.octseq_dns.proofs.Framing.{left_less, length_next}
 use Rattle.octseq_dns.proofs.frames.next_frame.Goals as goal
+use Rattle.octseq.proofs.Errors.{on_err}
 
 pub returns-in_err-len-clause-cut : goal.returns-in_err-len-clause-cut
 returns-in_err-len-clause-cut g c =

@@ -2,8 +2,9 @@ use Rattle.std.proofs.Common.{◌≡◌, ◌<◌, rules, Err, ap}
 use Rattle.std.specs.Io.KnownBytes.{Consumes}
 use Rattle.octseq.specs.Integer.{octets_be}
 use Rattle.octseq_dns.specs.declared.frames.FrameError.TheVariants.{Short}
-use Rattle.octseq_dns.proofs.Framing.{on_err, cut_head, cut_octets, no_head, no_octets}
+use Rattle.octseq_dns.proofs.Framing.{cut_head, cut_octets, no_head, no_octets}
 use Rattle.octseq_dns.proofs.frames.read_frame.Goals as goal
+use Rattle.octseq.proofs.Errors.{on_err}
 
 pub returns-in_err-len-clause-short : goal.returns-in_err-len-clause-short
 returns-in_err-len-clause-short g c = λ e.

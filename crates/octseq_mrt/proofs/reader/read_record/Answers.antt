@@ -1,8 +1,8 @@
 use Rattle.std.proofs.Common.{◌≡◌, ◌++◌, ◌∙◌, true, false, Ok, rules, ap}
-use Rattle.octseq_bgp.proofs.ReadOctets.{on_err}
 use Rattle.octseq_mrt.specs.Records.{record_length}
 use Rattle.octseq_mrt.proofs.Reading.{after_header, cut_after_header, whole_record}
 use Rattle.octseq_mrt.proofs.reader.read_record.Goals as goal
+use Rattle.octseq.proofs.Errors.{on_err}
 
 pub returns-in_err-append_octets-2-clause-err : goal.returns-in_err-append_octets-2-clause-err
 returns-in_err-append_octets-2-clause-err g c =

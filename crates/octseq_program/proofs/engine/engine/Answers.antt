@@ -1,7 +1,8 @@
 use Rattle.std.proofs.Common.{◌≡◌, ◌∙◌}
-use Rattle.octseq_program.proofs.Answering.{on_err, reported_help, reported_usage, broke_help, broke_usage}
+use Rattle.octseq_program.proofs.Answering.{reported_help, reported_usage, broke_help, broke_usage}
 use Rattle.octseq_program.specs.declared.request.Asked.TheVariants.{Help, Unknown}
 use Rattle.octseq_program.proofs.engine.engine.Goals as goal
+use Rattle.octseq.proofs.Errors.{on_err}
 
 pub returns-in_err-write_all-in-Help-clause-broke : goal.returns-in_err-write_all-in-Help-clause-broke
 returns-in_err-write_all-in-Help-clause-broke g c =

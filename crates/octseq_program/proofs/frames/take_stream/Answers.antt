@@ -1,6 +1,6 @@
 use Rattle.std.proofs.Common.{[], ◌+◌, Ok, sym, ap, subst}
 use Rattle.octseq.specs.Parts.{IsFront}
-use Rattle.octseq_program.proofs.Answering.{consumes_none, on_err}
+use Rattle.octseq_program.proofs.Answering.{consumes_none}
 use Rattle.octseq_program.proofs.Taken.{
   IsTakenSo,
   stopped_ending,
@@ -11,6 +11,7 @@ use Rattle.octseq_program.proofs.Taken.{
   taken_none,
 }
 use Rattle.octseq_program.proofs.frames.take_stream.Goals as goal
+use Rattle.octseq.proofs.Errors.{on_err}
 
 pub loop-index-init : goal.loop-index-init
 loop-index-init g c =

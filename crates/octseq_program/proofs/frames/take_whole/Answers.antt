@@ -1,8 +1,9 @@
 use Rattle.std.proofs.Common.{refl}
-use Rattle.octseq_program.proofs.Answering.{broke_reading, on_err}
+use Rattle.octseq_program.proofs.Answering.{broke_reading}
 use Rattle.octseq_program.proofs.Taken.{broke_whole, one_whole}
 use Rattle.octseq_program.specs.Frames.{IsWholeOut, ends_as}
 use Rattle.octseq_program.proofs.frames.take_whole.Goals as goal
+use Rattle.octseq.proofs.Errors.{on_err}
 
 pub returns-in_err-input-clause-broke : goal.returns-in_err-input-clause-broke
 returns-in_err-input-clause-broke g c =

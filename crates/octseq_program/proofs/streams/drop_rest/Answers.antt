@@ -1,8 +1,8 @@
 use Rattle.std.proofs.Common.{◌++◌, List, ℕ, Option, Ok, ap}
 use Rattle.std.proofs.KnownBytes.{Consumes-trans}
 use Rattle.std.specs.Io.KnownBytes.{Consumes}
-use Rattle.octseq_program.proofs.Answering.{on_err}
 use Rattle.octseq_program.proofs.streams.drop_rest.Goals as goal
+use Rattle.octseq.proofs.Errors.{on_err}
 
 -- what was read in two steps
 both_lost : (a b c : Option (List ℕ)) → ((read : List ℕ) × Consumes a b read) → ((read : List ℕ) × Consumes b c read)

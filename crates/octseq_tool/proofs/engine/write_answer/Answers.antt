@@ -1,8 +1,9 @@
 use Rattle.std.proofs.Common.{◌≡◌, ℕ, List, refl}
-use Rattle.octseq_program.proofs.Answering.{on_err, broke_writing}
+use Rattle.octseq_program.proofs.Answering.{broke_writing}
 use Rattle.octseq_program.specs.declared.status.Status.{Status}
 use Rattle.octseq_tool.specs.Out.{Out}
 use Rattle.octseq_tool.proofs.engine.write_answer.Goals as goal
+use Rattle.octseq.proofs.Errors.{on_err}
 
 pub returns-in_err-write_all-clause-broke : goal.returns-in_err-write_all-clause-broke
 returns-in_err-write_all-clause-broke g c =

@@ -1,7 +1,8 @@
 use Rattle.std.proofs.Common.{suc, Bor, get_or, ◌++◌, [], List, ℕ, drop, map, rules, refl, sym, ap, ◌∙◌, append_assoc}
-use Rattle.octseq_uses.proofs.Joins.{spread, to_come_first, to_come_word, on_err, within_still, past_whole}
+use Rattle.octseq_uses.proofs.Joins.{spread, to_come_first, to_come_word, within_still, past_whole}
 use Rattle.octseq_uses.specs.Joined.{joined}
 use Rattle.octseq_uses.proofs.join.join.Goals as goal
+use Rattle.octseq.proofs.Errors.{on_err}
 
 pub returns-in_err-try_push_str-clause-front : goal.returns-in_err-try_push_str-clause-front
 returns-in_err-try_push_str-clause-front g c = on_err c.from_residual.result (

@@ -4,7 +4,7 @@ use Rattle.std.proofs.lemmas.List.{length-append}
 use Rattle.octseq.specs.Limit.{IsPast}
 use Rattle.octseq.specs.Text.{IsWellFormed, IsBoundary}
 use Rattle.octseq.proofs.Limits.{within_not_past}
-use Rattle.octseq_bgp.proofs.Edges.{boundary_there}
+use Rattle.octseq.proofs.Edges.{boundary_there}
 use Rattle.octseq_bgp.proofs.text.append.append_from.Goals as goal
 
 pub truncate-requires : goal.truncate-requires

@@ -3,15 +3,16 @@ use Rattle.std.proofs.Common.{length-append}
 use Rattle.octseq.specs.Limit.{IsPast, IsWithin}
 use Rattle.octseq_dns_compress.specs.Composed.{message_limit}
 use Rattle.octseq_dns_compress.specs.State.{with_counted, with_fields}
-use Rattle.octseq_dns_compress.proofs.Fields.{count_is_put, counted_length, counted_longer, past_longer}
+use Rattle.octseq_dns_compress.proofs.Fields.{count_is_put, counted_length, counted_longer}
 use Rattle.octseq_dns.proofs.builder.entry.append_data.Goals as goal
+use Rattle.octseq.proofs.Limits.{past_more}
 
 pub returns-in-Err-clause-short : goal.returns-in-Err-clause-short
 returns-in-Err-clause-short g c =
     let s = c.args.message.now.state in
     let fields = g.D.ComposeRecordData.fields c.args.rdata.now in
     let most = g.T.Compressor.most in
-    λ short. past_longer (message_limit g.B.AsOctets.limit) (length s.octets + 2)
+    λ short. past_more (message_limit g.B.AsOctets.limit) (length s.octets + 2)
     (length (with_counted most s fields).octets) (counted_longer most s fields) (c.in-Err.ensures.short short)
 
 pub returns-in-Err-compose-clause-short : goal.returns-in-Err-compose-clause-short

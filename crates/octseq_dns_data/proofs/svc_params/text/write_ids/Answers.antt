@@ -9,8 +9,8 @@ use Rattle.octseq_dns_data.specs.SvcParams.{ids_of}
 use Rattle.octseq_dns_data.specs.SvcParamsRead.{ids_left}
 use Rattle.octseq_dns_data.specs.SvcParamsText.{with_commas}
 use Rattle.octseq_dns_data.proofs.SvcParamsTexts.{id_text, ids_text_is}
-use Rattle.octseq_dns_data.proofs.Windows.{rest_whole}
 use Rattle.octseq_dns_data.proofs.svc_params.text.write_ids.Goals as goal
+use Rattle.octseq.proofs.Codes.{rest_whole}
 
 pub loop-id-init : goal.loop-id-init
 loop-id-init g c = λ plain.

@@ -10,8 +10,8 @@ use Rattle.octseq_dns_data.specs.Pieces.{pieces, split_octets}
 use Rattle.octseq_dns_data.specs.SvcParamsText.{with_commas}
 use Rattle.octseq_dns_data.proofs.Pieces.{IsMoving, is_octets}
 use Rattle.octseq_dns_data.proofs.SvcParamsTexts.{first_text, more_text}
-use Rattle.octseq_dns_data.proofs.Windows.{rest_whole}
 use Rattle.octseq_dns_data.proofs.svc_params.text.write_ipv6_hints.Goals as goal
+use Rattle.octseq.proofs.Codes.{rest_whole}
 
 moving : IsMoving (split_octets 16)
 moving = (is_octets 16 (omega arith)).moving

@@ -9,8 +9,8 @@ use Rattle.octseq_dns_data.specs.Pieces.{pieces, split_number}
 use Rattle.octseq_dns_data.specs.SvcParamsText.{key_text, with_commas}
 use Rattle.octseq_dns_data.proofs.Params.{key_split}
 use Rattle.octseq_dns_data.proofs.SvcParamsTexts.{first_text, more_text}
-use Rattle.octseq_dns_data.proofs.Windows.{rest_whole}
 use Rattle.octseq_dns_data.proofs.svc_params.text.write_keys.Goals as goal
+use Rattle.octseq.proofs.Codes.{rest_whole}
 
 pub keys-init : goal.keys-init
 keys-init g c = λ plain.

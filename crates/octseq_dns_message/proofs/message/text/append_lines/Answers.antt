@@ -3,8 +3,9 @@ use Rattle.std.proofs.lemmas.Result.{on_ok_weaker, on_err_weaker}
 use Rattle.octseq.specs.Parts.{IsFront}
 use Rattle.octseq_dns_message.specs.MessageText.{header_line, questions_text, IsRecordsText}
 use Rattle.octseq_dns_message.specs.Parsed.{header_of, questions_of, answers_of, authorities_of, additionals_of}
-use Rattle.octseq_dns_message.proofs.MessageTexts.{then_more, message_text, front_on, at_line}
+use Rattle.octseq_dns_message.proofs.MessageTexts.{then_more, message_text, at_line}
 use Rattle.octseq_dns_message.proofs.message.text.append_lines.Goals as goal
+use Rattle.octseq.proofs.Fronts.{front_then}
 
 pub returns-clause-text : goal.returns-clause-text
 returns-clause-text g c =
@@ -42,5 +43,5 @@ returns-clause-front g c =
     (c.in_ok-append_records-2.ensures.text.0, c.in_ok-append_records-2.ensures.text.2) in
     on_err_weaker c.append_records-3.result
     (λ left. at_line old _ _ c.header-header.result c.in_ok-try_push_display.ensures.ok
-    (front_on _ _ _ (front_on _ _ _ (front_on _ _ _ asked answered) authorized) left))
+    (front_then _ _ _ (front_then _ _ _ (front_then _ _ _ asked answered) authorized) left))
     c.append_records-3.ensures.front

@@ -1,22 +1,22 @@
 use Rattle.std.proofs.Common.{◌≡◌, ℕ, List, ◌<◌, ◌≤◌, Err, [], ◌∷◌, ◌++◌, length, sym, ap, ◌∙◌, subst, arith}
 use Rattle.std.proofs.Common.{rules}
-use Rattle.std.proofs.lemmas.List.{length-append}
+use Rattle.std.proofs.lemmas.List.{length-append, nil_from_length}
 use Rattle.octseq_dns_name.specs.Refused.{Reads, IsFault}
 use Rattle.octseq_dns_name.specs.declared.error.FromTextError.{FromTextError}
 use Rattle.octseq_dns_name.proofs.Refusals.{refused_by}
-use Rattle.octseq_dns_name.proofs.SpellingSteps.{none_left, read_octet, some_read, octet_fault, octet_within}
+use Rattle.octseq_dns_name.proofs.SpellingSteps.{read_octet, some_read, octet_fault, octet_within}
 use Rattle.octseq_dns_name.proofs.name.spelling.next_part.Goals as goal
 
 pub returns-in_default-clause-ok : goal.returns-in_default-clause-ok
 returns-in_default-clause-ok c =
     let ahead = c.octets.ahead.now in
-    let end = none_left ahead (let over : length ahead ≡ 0 = search rules in over) in
+    let end = nil_from_length ahead (let over : length ahead ≡ 0 = search rules in over) in
     subst (Reads c.args.text.now c.octets.label.content) end c.octets.invariant.reads
 
 pub returns-in_default-clause-some : goal.returns-in_default-clause-some
 returns-in_default-clause-some c =
     let ahead = c.octets.ahead.now in
-    let end = none_left ahead (let over : length ahead ≡ 0 = search rules in over) in
+    let end = nil_from_length ahead (let over : length ahead ≡ 0 = search rules in over) in
     some_read c.args.text.now c.octets.label.content
     (subst (Reads c.args.text.now c.octets.label.content) end c.octets.invariant.reads) c.requires
 

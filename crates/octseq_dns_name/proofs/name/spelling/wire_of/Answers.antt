@@ -1,11 +1,11 @@
 use Rattle.std.proofs.Common.{◌≡◌, inl, ◌+◌, ◌<◌, ◌≤◌, [], ◌∷◌, ◌++◌, length}
 use Rattle.std.proofs.Common.{refl, ap, ◌∙◌, arith, rules}
-use Rattle.std.proofs.lemmas.List.{flat_map_more, length-append}
+use Rattle.std.proofs.lemmas.List.{flat_map_more, length-append, nil_from_length}
 use Rattle.octseq_dns_name.specs.Name.{wire_length}
 use Rattle.octseq_dns_name.specs.Refused.{IsFault}
 use Rattle.octseq_dns_name.specs.declared.error.FromTextError.{FromTextError}
 use Rattle.octseq_dns_name.proofs.Names.{wire_append}
-use Rattle.octseq_dns_name.proofs.SpellingSteps.{none_left, read_no_label, read_label}
+use Rattle.octseq_dns_name.proofs.SpellingSteps.{read_no_label, read_label}
 use Rattle.octseq_dns_name.specs.NameFormat.{bodies}
 use Rattle.octseq_dns_name.proofs.Wires.{bodies_length}
 use Rattle.octseq_dns_name.proofs.name.spelling.wire_of.Goals as goal
@@ -14,7 +14,7 @@ pub returns-then-is_empty-clause-refused : goal.returns-then-is_empty-clause-ref
 returns-then-is_empty-clause-refused c =
     let text = c.args.text.now in
     let other : ¬ (text ≡ 46 ∷ []) = search rules in
-    let end = none_left text (let over : length text ≡ 0 = search rules in over) in
+    let end = nil_from_length text (let over : length text ≡ 0 = search rules in over) in
     let here : IsFault FromTextError.UnexpectedEnd [] text = ([], ([], end, refl), omega arith, inl refl) in
     (other, [], text, read_no_label text, here)
 

@@ -1,9 +1,10 @@
 use Rattle.std.proofs.lemmas.Result.{IfOk-weaker}
-use Rattle.octseq_program.proofs.Answering.{on_err, broke_reading}
+use Rattle.octseq_program.proofs.Answering.{broke_reading}
 use Rattle.octseq_program.specs.Run.{Answers}
 use Rattle.octseq_tool.specs.Out.{Out}
 use Rattle.octseq_tool.specs.declared.engine.Command.TheVariants.{Check, Lossy, Lossy64}
 use Rattle.octseq_tool.proofs.engine.CommandCommands.carry_out.Goals as goal
+use Rattle.octseq.proofs.Errors.{on_err}
 
 -- what is made of the whole input is written
 

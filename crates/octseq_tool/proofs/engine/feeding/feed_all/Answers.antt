@@ -1,7 +1,7 @@
 use Rattle.std.proofs.Common.{arith}
-use Rattle.octseq_program.proofs.Answering.{on_err}
 use Rattle.octseq_tool.proofs.Feeding.{fed_nothing, fed_more, fed_all, lost_more}
 use Rattle.octseq_tool.proofs.engine.feeding.feed_all.Goals as goal
+use Rattle.octseq.proofs.Errors.{on_err}
 
 pub loop-init : goal.loop-init
 loop-init g c =

@@ -1,7 +1,7 @@
 use Rattle.std.proofs.Common.{arith}
-use Rattle.octseq_program.proofs.Answering.{on_err}
 use Rattle.octseq_tool.proofs.Lines.{written_nothing, written_more, written_front, written_all}
 use Rattle.octseq_tool.proofs.engine.lines.write_all_lines.Goals as goal
+use Rattle.octseq.proofs.Errors.{on_err}
 
 pub loop-init : goal.loop-init
 loop-init g c =

@@ -1,7 +1,7 @@
 use Rattle.std.proofs.Common.{◌++◌}
-use Rattle.octseq_program.proofs.Answering.{on_err}
 use Rattle.octseq_tool.proofs.Lines.{unwritten}
 use Rattle.octseq_tool.proofs.engine.lines.write_lines.Goals as goal
+use Rattle.octseq.proofs.Errors.{on_err}
 
 pub returns-in_err-extend_from_slice-clause-err : goal.returns-in_err-extend_from_slice-clause-err
 returns-in_err-extend_from_slice-clause-err g c =

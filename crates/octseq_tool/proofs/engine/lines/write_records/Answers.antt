@@ -1,6 +1,6 @@
-use Rattle.octseq_program.proofs.Answering.{on_err}
 use Rattle.octseq_tool.proofs.Lines.{written_all, broke_lines, cut_lines, broke_cut, is_cut}
 use Rattle.octseq_tool.proofs.engine.lines.write_records.Goals as goal
+use Rattle.octseq.proofs.Errors.{on_err}
 
 pub returns-in_err-rest-clause-broke : goal.returns-in_err-rest-clause-broke
 returns-in_err-rest-clause-broke g c =

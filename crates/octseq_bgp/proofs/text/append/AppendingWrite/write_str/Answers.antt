@@ -1,7 +1,7 @@
 use Rattle.std.proofs.Common.{ap, ◌∙◌, drop, length}
 use Rattle.octseq.specs.Text.{begins_within}
 use Rattle.octseq.proofs.Bridge.{well_formed_from_utf8}
-use Rattle.octseq_bgp.proofs.Edges.{edge_stays}
+use Rattle.octseq.proofs.Edges.{edge_stays}
 use Rattle.octseq_bgp.proofs.text.append.AppendingWrite.write_str.Goals as goal
 
 pub invariant_of-self-clause-edge : goal.invariant_of-self-clause-edge
