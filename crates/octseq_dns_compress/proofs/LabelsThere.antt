@@ -72,8 +72,6 @@ at_grows octets more place labels pointers headed are = (
       (all_grows header octets more after headed) (are.1 header (more ++ after) long),
 )
 
-)
-
 -- so do names
 pub named_grows : (octets more : List ℕ) (names : Names) → 12 ≤ length octets → AreNamed octets names
     → AreNamed (octets ++ more) names

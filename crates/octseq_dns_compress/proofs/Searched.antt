@@ -15,7 +15,6 @@ use Rattle.octseq_dns_compress.specs.Names.{Names, is_there, first_labels, last_
 use Rattle.octseq_dns_compress.specs.declared.table.Target.{Target}
 
 module _ {octets : List ℕ} {targets : List Target} (names : Names) (agrees : Agrees octets targets names) where
-
   -- one more label is there
   pub ends_before : (label : List ℕ) (rest : List (List ℕ)) (next pointers index : ℕ) (d : Target)
       → Ends names rest next pointers → HasKeyAt octets targets (next ∷ length label ∷ label) index

@@ -137,6 +137,7 @@ first_or other [] = other
 first_or other (x ∷ xs) = x
 
 unfolding first_or
+
 -- ---- the bits of an address
 
 -- the bits after the first ones are in the last octet

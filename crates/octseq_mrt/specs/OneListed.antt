@@ -23,8 +23,6 @@ use Rattle.octseq_mrt.specs.Ahead.{one_filling}
 use Rattle.octseq_mrt.specs.Peer.{Peer, IsPeer, peer_family, has_wide_asn}
 use Rattle.octseq_mrt.specs.Rib.{RibEntry, HasEntryParts, IsRibEntry}
 
-}
-
 -- ---- addresses
 
 address_parts : Address → List ℕ ⊎ List ℕ

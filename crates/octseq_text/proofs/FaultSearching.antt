@@ -349,8 +349,6 @@ pub no_fault : (fault : Option Fault) (test : Bool) → test ≡ is_some fault �
 no_fault None test e f = refl
 no_fault (Some fault) test e f = absurd (let some : true ≡ false = sym e ∙ f in cc)
 
-}
-
 -- A search that met no fault.
 module _ (held : Searched) (x : List ℕ) (s : HasSearched held x) (none : held.fault ≡ None) where
   passed_all : PassesAfter 0 x held.passed held.end

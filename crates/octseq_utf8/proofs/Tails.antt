@@ -20,8 +20,6 @@ drop_further : (x : List ℕ) (from place : ℕ) → from ≤ place → drop (pl
 drop_further x from place past =
     drop-drop (place - from) from x ∙ ap (λ k. drop k x) (let e : from + (place - from) ≡ place = omega arith in e)
 
-}
-
 -- an encoding at the place of a search is passed in one turn
 pub after_more : (x : List ℕ) (from place old now len : ℕ) → IsAfter x from place old now
     → IsAtFront (drop place x) (Encoding len) → IsAfter x from (place + len) old (now + 1)

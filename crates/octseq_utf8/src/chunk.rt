@@ -6,7 +6,7 @@ ghost use Rattle.octseq_utf8.specs.Fault.{IsFault, fault_end};
 ghost use Rattle.octseq_utf8.specs.Parts.{Part, Splits};
 ghost use Rattle.octseq_utf8.specs.Text.{IsWellFormed, chars};
 
-use crate::fault::{Utf8Fault, before, after, onward};
+use crate::fault::{Utf8Fault, after, before, onward};
 use crate::finder::{first_fault, is_continuation};
 use crate::turns::Turns;
 use std::marker::Model;

@@ -1,5 +1,5 @@
 //! Files of records.
-use super::{KEEPALIVE, MARKER, joined, shows, reported};
+use super::{KEEPALIVE, MARKER, joined, reported, shows};
 use octseq_program::{ProgramFault, Status};
 use std::alloc::{AllocError, Global};
 use std::process::Abort;

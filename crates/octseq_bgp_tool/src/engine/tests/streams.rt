@@ -1,5 +1,7 @@
 //! Streams of messages.
-use super::{KEEPALIVE, MARKER, SHORT_TEXT, UPDATE, UPDATE_TEXT, joined, messages, shows, reported};
+use super::{
+    KEEPALIVE, MARKER, SHORT_TEXT, UPDATE, UPDATE_TEXT, joined, messages, reported, shows,
+};
 use octseq::StrBuilder;
 use octseq_program::{ProgramFault, Status};
 use std::alloc::{AllocError, Global};

@@ -76,8 +76,16 @@ fn a_fault_is_reported_once_no_octet_can_change_it(rt: HostRuntime) -> Result<()
     assert_equal!(&rt, search.fault(), None);
     search.feed(b"");
     search.feed(b"A");
-    assert_equal!(&rt, search.fault().as_ref().map(reported), Some((1, Some(2))));
+    assert_equal!(
+        &rt,
+        search.fault().as_ref().map(reported),
+        Some((1, Some(2)))
+    );
     search.feed(b"\xFF");
-    assert_equal!(&rt, search.finish().as_ref().map(reported), Some((1, Some(2))));
+    assert_equal!(
+        &rt,
+        search.finish().as_ref().map(reported),
+        Some((1, Some(2)))
+    );
     Ok(())
 }
