@@ -122,7 +122,7 @@ impl<R: AsOctets + Copy> Parameter<R> {
     ghost use Rattle.octseq_bgp.specs.Capability.{IsParameterValue};
 
     /// Returns the value: capabilities, or else opaque octets.
-    pub fn said(&self) -> ParameterValue<R>
+    pub fn value(&self) -> ParameterValue<R>
         ensures { IsParameterValue self.now.kind (window self.now.value) (parameter_value_of result) }
     {
         self.value_counted(&mut Turns::new())

@@ -143,7 +143,7 @@ fn hear_parameters<R: AsOctets + Copy>(parameters: Parameters<R>) -> Spoken<R>
     let mut spoken = Spoken::silence();
     let mut ahead = parameters;
     'parameters: while let Some(parameter) = ahead.next() {
-        spoken = hear_parameter(spoken, parameter.said());
+        spoken = hear_parameter(spoken, parameter.value());
     }
     spoken
 }

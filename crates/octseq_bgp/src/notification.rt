@@ -74,7 +74,7 @@ impl<R: AsOctets + Copy> NotificationMessage<R> {
     }
 
     /// Returns what the data says.
-    pub fn said(&self) -> NotificationData<R>
+    pub fn value(&self) -> NotificationData<R>
         ensures { IsNotificationData self.now.code self.now.subcode (window self.now.«data»)
             (notification_data_of result) }
     {

@@ -196,7 +196,7 @@ fn write_parameters<W: fmt::Write, R: AsOctets + Copy>(
         × (IsPlainFormatter f.old → HasWritten W.write_str_gives f.old lines f.new)) }
 {
     for parameter in parameters {
-        let value = parameter.said();
+        let value = parameter.value();
         write_parameter(f, parameter.kind, &value)?;
     }
     Ok(())
@@ -279,7 +279,7 @@ impl<R: AsOctets + Copy> fmt::Display for NotificationMessage<R> {
             × IsNotificationText (self.now.code, (self.now.subcode, window self.now.«data»)) lines
             × (IsPlainFormatter f.old → HasWritten W.write_str_gives f.old lines f.new)) }
     {
-        let value = self.said();
+        let value = self.value();
         write_notification(f, self, &value)
     }
 }

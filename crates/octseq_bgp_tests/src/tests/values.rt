@@ -43,7 +43,7 @@ fn next_hops_have_4_or_16_or_32_octets(rt: HostRuntime) -> Result<(), Fail> {
 /// seconds, and whether the state of its first family was kept.
 fn restart<R: AsOctets + Copy>(open: OpenMessage<R>) -> Option<(bool, bool, u16, Option<bool>)> {
     let parameter = open.parameters.into_iter().next()?;
-    let ParameterValue::Capabilities(capabilities) = parameter.said() else {
+    let ParameterValue::Capabilities(capabilities) = parameter.value() else {
         return None;
     };
     let capability = capabilities.into_iter().next()?;
@@ -100,7 +100,7 @@ fn a_graceful_restart_has_bits(rt: HostRuntime) -> Result<(), Fail> {
 /// Returns the number of octets of the shutdown communication of a message, if it has one.
 fn communicated<R: AsOctets + Copy>(octets: R) -> Result<Option<usize>, Malformed> {
     match Message::parse(octets, SessionConfig::modern())? {
-        Message::Notification(it) => match it.said() {
+        Message::Notification(it) => match it.value() {
             NotificationData::ShutdownCommunication(text) => Ok(Some(text.remaining())),
             NotificationData::Opaque(_) => Ok(None),
         },

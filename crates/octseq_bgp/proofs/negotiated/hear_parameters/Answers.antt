@@ -10,7 +10,7 @@ parameters-preserved g c = λ more are.
     let here = c.hear_parameter-spoken.ensures in
     let steps = c.in-Some.ensures.steps in
     let all = c.parameters.invariant (here.0 ++ more) (subst (λ row. SayAll row (here.0 ++ more)) (sym steps)
-    (parameter_value_of c.said.result, c.said.ensures, here.0, here.1, more, are, refl)) in
+    (parameter_value_of c.value.result, c.value.ensures, here.0, here.1, more, are, refl)) in
     let both = say_both (spoken_of c.parameters.spoken) here.0 more in
     (all.0, all.1, ap (λ s. all_say s more) here.2 ∙ sym both ∙ all.2)
 

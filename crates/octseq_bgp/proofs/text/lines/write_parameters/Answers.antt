@@ -24,7 +24,7 @@ loop-parameter-preserved g c =
           has_written_append _ _ _ _ _ _ before (here.2 before.plain);
       whole = λ more is.
           let ahead = subst (λ row. AreParameterLines row (here.0 ++ more)) (sym c.in-Some.ensures.steps)
-          (parameter_value_of c.said-value.result, here.0, more, c.said-value.ensures, here.1, is, refl) in
+          (parameter_value_of c.value-value.result, here.0, more, c.value-value.ensures, here.1, is, refl) in
           subst (AreParameterLines (parameters_left c.args.parameters)) (sym (append_assoc so_far.done here.0 more))
           (so_far.whole (here.0 ++ more) ahead);
     }

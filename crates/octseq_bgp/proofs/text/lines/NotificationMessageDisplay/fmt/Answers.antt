@@ -10,10 +10,10 @@ pub returns : goal.returns
 returns g c = record {
   shown =
       let n = c.args.self.now in
-      let it = notification_data_of c.said-value.result in
+      let it = notification_data_of c.value-value.result in
       shown_of c.write_notification.result (IsNotificationText (n.code, (n.subcode, window n.«data»)))
       (IsPlainFormatter c.args.f.now)
       (λ lines. HasWritten g.W.Write.write_str_gives c.args.f.now lines c.write_notification.new.f)
-      (line (codes "notification") (notification_text n.code n.subcode it)) (it, c.said-value.ensures, refl)
+      (line (codes "notification") (notification_text n.code n.subcode it)) (it, c.value-value.ensures, refl)
       c.write_notification.ensures;
 }
