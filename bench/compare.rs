@@ -54,7 +54,7 @@ fn valid_up_to(octets: &[u8]) -> usize {
     }
 }
 
-/// How many faults there are, where the search goes on behind each.
+/// How many faults there are, where the search goes on after each.
 #[inline(never)]
 fn faults(octets: &[u8]) -> usize {
     let (mut rest, mut faults) = (octets, 0);
@@ -167,7 +167,7 @@ fn ours(call: OfOctets, octets: &[u8]) -> usize {
 }
 
 const FROM_UTF8: &str = "`str::from_utf8`";
-const RESUMED: &str = "`str::from_utf8`, resumed behind each fault";
+const RESUMED: &str = "`str::from_utf8`, resumed after each fault";
 const LOSSY: &str = "`String::from_utf8_lossy(..).into_owned()`";
 
 /// The phrases, by their scripts.
@@ -234,7 +234,7 @@ fn short_texts(bench: &mut Bench) {
     bench.add(section);
 }
 
-/// Texts with faults, where the search goes on behind each.
+/// Texts with faults, where the search goes on after each.
 fn damaged_texts(bench: &mut Bench) {
     let mut add = |given: &str, texts: Vec<(&str, Vec<u8>)>| {
         let mut section = Section::new("finding the first fault", "`first_fault`", given, RESUMED);

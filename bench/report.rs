@@ -210,27 +210,31 @@ impl Bench {
         let path = format!("{folder}/SPEED.md");
         let page = std::fs::read_to_string(&path)?;
         let parts = page.split_once(FROM).and_then(|(before, rest)| Some((before, rest.split_once(TO)?.1)));
-        let Some((before, behind)) = parts else {
+        let Some((before, after)) = parts else {
             return Err(std::io::Error::other("SPEED.md has not both marks"));
         };
-        std::fs::write(&path, format!("{before}{FROM}{}{TO}{behind}", self.tables(when)))?;
+        std::fs::write(&path, format!("{before}{FROM}{}{TO}{after}", self.tables(when)))?;
         std::fs::write(format!("{folder}/speed.svg"), self.picture(when))
     }
 
-    /// A table for each call and what it is beside.
+    /// For each call and what it is beside, a table, or a line if no row has more than its mean.
     fn tables(&self, when: &str) -> String {
         let mut page = format!("Measured on {when}, as time over Rust's.\n");
         for note in &self.notes {
             let _ = write!(page, "\n{}\n", wrapped(note));
         }
-        let mut last = ("", "");
-        for section in &self.sections {
-            let head = (section.what.as_str(), section.beside.as_str());
-            if head != last {
-                last = head;
-                let _ = write!(page, "\n**{}**, beside {}:\n\n| input | mean | each |\n|---|---|---|\n", head.0, head.1);
-            }
-            let _ = writeln!(page, "| {} | {} | {} |", section.given, section.means(), section.each());
+        let same = |a: &Section, b: &Section| (&a.what, &a.beside) == (&b.what, &b.beside);
+        for sections in self.sections.chunk_by(same) {
+            let head = format!("**{}**, beside {}:", sections[0].what, sections[0].beside);
+            let row = |section: &Section| format!("| {} | {} | {} |", section.given, section.means(), section.each());
+            let mean = |section: &Section| format!("{} {}", section.given, section.means());
+            let _ = if sections.iter().all(|section| section.each().is_empty()) {
+                let means: Vec<String> = sections.iter().map(mean).collect();
+                write!(page, "\n{}\n", wrapped(&format!("{head} {}.", means.join("; "))))
+            } else {
+                let rows: Vec<String> = sections.iter().map(row).collect();
+                write!(page, "\n{head}\n\n| input | mean | each |\n|---|---|---|\n{}\n", rows.join("\n"))
+            };
         }
         page
     }
