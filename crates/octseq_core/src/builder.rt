@@ -126,7 +126,7 @@ pub trait Truncate: AsOctets {
     /// # Examples
     ///
     /// ```
-    /// // crates/octseq_alone/src/frame.rt
+    /// // crates/octseq_uses/src/frame.rt
     /// let before = builder.len();
     /// let appended = append_pieces(builder, name, value);
     /// if appended.is_err() {

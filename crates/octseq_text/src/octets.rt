@@ -84,7 +84,7 @@ pub trait Octets: AsOctets {
     /// # Examples
     ///
     /// ```
-    /// // crates/octseq_alone/src/ranges.rt
+    /// // crates/octseq_uses/src/ranges.rt
     /// if octets.len() < 3 {
     ///     return Ok(None);
     /// }

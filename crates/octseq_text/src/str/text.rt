@@ -46,7 +46,7 @@ impl<Octets: AsOctets> Str<Octets> {
     /// # Examples
     ///
     /// ```
-    /// // crates/octseq_alone/src/note.rt
+    /// // crates/octseq_uses/src/note.rt
     /// let len = parser.parse_u8()?;
     /// let octets = parser.parse_octets(usize::from(len))?;
     /// let words = Str::from_utf8(octets)?;

@@ -11,9 +11,9 @@ use std::alloc::Global;
 use std::process::Abort;
 use std::test::Fail;
 
-mod alone;
 mod lent;
 mod lines;
+mod patterns;
 mod single_calls;
 
 #[test]

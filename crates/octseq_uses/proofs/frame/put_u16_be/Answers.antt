@@ -2,7 +2,7 @@ use Rattle.std.proofs.Common.{◌≡◌, ◌+◌, ◌-◌, ◌++◌, ℕ, length
 use Rattle.std.proofs.lemmas.List.{length-append, length-take, length-drop, drop-drop}
 use Rattle.octseq.proofs.Written.{length_be, made_be_2}
 use Rattle.octseq.specs.Integer.{octets_be}
-use Rattle.octseq_alone.proofs.frame.put_u16_be.Goals as goal
+use Rattle.octseq_uses.proofs.frame.put_u16_be.Goals as goal
 
 pub returns-clause-content : goal.returns-clause-content
 returns-clause-content g c =

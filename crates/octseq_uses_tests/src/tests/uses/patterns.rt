@@ -1,13 +1,13 @@
-//! The caller that depends on `octseq` alone.
+//! Callers of one pattern each.
 use octseq::builder::OctetsBuilder;
 use octseq::str::{DisplayError, Str, StrBuilder};
 use octseq::{Array, Parser, WriteError};
-use octseq_alone::frame::append_frame;
-use octseq_alone::note::{append_note, kept, read_note};
-use octseq_alone::ranges::{after_two, key, onward};
-use octseq_alone::shown::{push_number, write_number};
-use octseq_alone::views::{fourth, is_comment};
 use octseq_asserts::{assert_equal, assert_true};
+use octseq_uses::frame::append_frame;
+use octseq_uses::note::{append_note, kept, read_note};
+use octseq_uses::ranges::{after_two, key, onward};
+use octseq_uses::shown::{push_number, write_number};
+use octseq_uses::views::{fourth, is_comment};
 use std::process::Abort;
 use std::test::Fail;
 

@@ -4,8 +4,8 @@ use Rattle.octseq.specs.Integer.{octets_be}
 use Rattle.octseq.specs.Parser.{window}
 use Rattle.octseq.specs.Part.{part_of}
 use Rattle.octseq.specs.Window.{rest}
-use Rattle.octseq_alone.specs.Note.{mark, note_of}
-use Rattle.octseq_alone.proofs.note.read_note.Goals as goal
+use Rattle.octseq_uses.specs.Note.{mark, note_of}
+use Rattle.octseq_uses.proofs.note.read_note.Goals as goal
 
 pub returns-clause-taken : goal.returns-clause-taken
 returns-clause-taken g c =

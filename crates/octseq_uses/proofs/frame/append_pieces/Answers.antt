@@ -3,7 +3,7 @@ use Rattle.std.proofs.lemmas.List.{length-append}
 use Rattle.octseq.proofs.Codes.{length_part}
 use Rattle.octseq.proofs.Limits.{past_more}
 use Rattle.octseq.proofs.Written.{length_be}
-use Rattle.octseq_alone.proofs.frame.append_pieces.Goals as goal
+use Rattle.octseq_uses.proofs.frame.append_pieces.Goals as goal
 
 pub returns-in_err-append_u16_be-clause-short : goal.returns-in_err-append_u16_be-clause-short
 returns-in_err-append_u16_be-clause-short g c = λ short.

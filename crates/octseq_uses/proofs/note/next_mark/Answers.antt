@@ -3,7 +3,7 @@ use Rattle.octseq.proofs.Codes.{took, not_taken, no_integer, integer_code}
 use Rattle.octseq.specs.Integer.{octets_be}
 use Rattle.octseq.specs.Parser.{window}
 use Rattle.octseq.specs.Window.{rest}
-use Rattle.octseq_alone.proofs.note.next_mark.Goals as goal
+use Rattle.octseq_uses.proofs.note.next_mark.Goals as goal
 
 pub returns-in_err-parse_u8-clause-malformed : goal.returns-in_err-parse_u8-clause-malformed
 returns-in_err-parse_u8-clause-malformed g c = (

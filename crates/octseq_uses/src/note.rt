@@ -4,7 +4,7 @@ ghost use Rattle.octseq.specs.Limit.{IsPast};
 ghost use Rattle.octseq.specs.Parser.{sequence, window};
 ghost use Rattle.octseq.specs.Refusal.{IsMalformed, read_error};
 ghost use Rattle.octseq.specs.Window.{rest};
-ghost use Rattle.octseq_alone.specs.Note.{mark, note_of, HasMark};
+ghost use Rattle.octseq_uses.specs.Note.{mark, note_of, HasMark};
 
 use anyhow::Result;
 use octseq::compose::{append_part_u8, append_u8, append_u16_be};
