@@ -1,5 +1,6 @@
 //! Appending octets and names to a message, and overwriting its octets.
-ghost use Rattle.std.specs.Prelude.{◌≡◌, ◌≤◌, ◌+◌, ◌*◌, ◌++◌, ◌⊎◌, ◌↔◌, length, take, drop, true, nat_lt, IsTrue, OnOk, OnErr};
+ghost use Rattle.std.specs.Prelude.{◌≡◌, ◌≤◌, ◌+◌, ◌*◌, ◌++◌, ◌⊎◌, ◌↔◌, length, take, drop, true, nat_lt, IsTrue};
+ghost use Rattle.std.specs.Prelude.{OnOk, OnErr};
 ghost use Rattle.std.specs.List.{filter};
 ghost use Rattle.octseq.specs.Appends.{Appends};
 ghost use Rattle.octseq.specs.Limit.{IsWithin};

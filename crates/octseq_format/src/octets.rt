@@ -13,7 +13,8 @@ use std::alloc::AllocError;
 pub struct Rest;
 
 impl<R: AsOctets + Copy> Format<R> for Rest {
-    ghost use Rattle.octseq_format.specs.Rest.{IsRest, window_code, one_rest, onward_rest, rest_read_back, canonical_rest};
+    ghost use Rattle.octseq_format.specs.Rest.{IsRest, window_code, one_rest, onward_rest, rest_read_back};
+    ghost use Rattle.octseq_format.specs.Rest.{canonical_rest};
 
     type Value = Parser<R>;
 

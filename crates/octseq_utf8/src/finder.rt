@@ -4,9 +4,9 @@
 //!
 //! - **Encodings.** While the current octet is 80 or more, four octets are loaded as one number, and one mask for each
 //!   length tests whether an encoding begins there. Two encodings of two octets fit one number, and are passed at once.
-//!   After an encoding of three or four octets, a loop tests for that length only. The masks cover the whole table: they
-//!   leave no encoding to the next step, though no proof needs that. A single octet below 80 between two encodings, such
-//!   as a space between words, takes a step of its own.
+//!   After an encoding of three or four octets, a loop tests for that length only. The masks cover the whole table:
+//!   they leave no encoding to the next step, though no proof needs that. A single octet below 80 between two encodings,
+//!   such as a space between words, takes a step of its own.
 //! - **The table.** What no mask accepts is read octet by octet, by the table of the Unicode Standard. Only this step
 //!   decides that there is a fault, and its size. It looks at the second octet first, since most bad parts end before
 //!   it.

@@ -127,7 +127,8 @@ pub(super) fn compose_record<
         (length (with_entry T.most message.old.state
         (record_entry (pushed_record owner.now (D.rtype_of rdata.now) class ttl (D.fields rdata.now)))).octets) }
     ensures memory { IsMemory append_error result → (B.asks ≡ true) ⊎ (T.asks ≡ true) }
-    ensures fits { OnOk result (FitsRecord (pushed_record owner.now (D.rtype_of rdata.now) class ttl (D.fields rdata.now))) }
+    ensures fits { OnOk result
+        (FitsRecord (pushed_record owner.now (D.rtype_of rdata.now) class ttl (D.fields rdata.now))) }
     ensures borrows { B.borrows message.new.octets ≡ B.borrows message.old.octets }
     ensures turns { turns.new ≤ turns.old + 17 * (length (labels_of owner.now) + label_count (D.fields rdata.now)) }
     ensures least { OnOk result (turns.old + (length (labels_of owner.now) + label_count (D.fields rdata.now))
@@ -210,7 +211,8 @@ pub(super) fn append_record<
         (with_entry T.most message.old.state
         (record_entry (pushed_record owner.now (D.rtype_of rdata.now) class ttl (D.fields rdata.now))))
         message.old.state message.new.state }
-    ensures fits { OnOk result (FitsRecord (pushed_record owner.now (D.rtype_of rdata.now) class ttl (D.fields rdata.now))) }
+    ensures fits { OnOk result
+        (FitsRecord (pushed_record owner.now (D.rtype_of rdata.now) class ttl (D.fields rdata.now))) }
     ensures borrows { B.borrows message.new.octets ≡ B.borrows message.old.octets }
     ensures turns { turns.new ≤ turns.old + 17 * (length (labels_of owner.now) + label_count (D.fields rdata.now)) }
     ensures least { OnOk result (turns.old + (length (labels_of owner.now) + label_count (D.fields rdata.now))

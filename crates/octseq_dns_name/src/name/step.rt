@@ -54,8 +54,8 @@ pub(crate) fn next_step<R: AsOctets + Copy>(
     Ok(Step::Pointer(to))
 }
 
-/// Takes the next label of a name that was read, and all pointers before it. The part of the name that is ahead began at
-/// `start`.
+/// Takes the next label of a name that was read, and all pointers before it. The part of the name that is ahead began
+/// at `start`.
 #[inline(always)]
 pub(crate) fn next_label<R: AsOctets + Copy>(
     parser: &mut Parser<R>,
