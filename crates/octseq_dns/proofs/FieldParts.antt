@@ -3,7 +3,7 @@ use Rattle.std.proofs.Common.{◌≡◌, ℕ, ◌≤◌, ◌<◌, ◌^◌, List,
 use Rattle.std.proofs.Common.{append_assoc, length-append}
 use Rattle.octseq.specs.Integer.{be, octets_be}
 use Rattle.octseq.specs.Window.{Window, left, next, rest, past, at}
-use Rattle.octseq.proofs.Behind.{front_comes_next}
+use Rattle.octseq.proofs.WindowsAfter.{front_comes_next}
 use Rattle.octseq.proofs.Windows.{next_and_rest}
 use Rattle.octseq.proofs.Written.{length_be, value_be}
 use Rattle.octseq_dns_compress.specs.Fields.{AreFields}

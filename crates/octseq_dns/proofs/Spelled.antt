@@ -12,7 +12,7 @@ use Rattle.octseq.specs.Integer.{be, octets_be}
 use Rattle.octseq.specs.Limit.{IsPast}
 use Rattle.octseq.specs.Part.{part_of}
 use Rattle.octseq.specs.Window.{Window, at, left, next, past, rest, whole}
-use Rattle.octseq.proofs.Behind.{front_comes_next}
+use Rattle.octseq.proofs.WindowsAfter.{front_comes_next}
 use Rattle.octseq.proofs.Codes.{rest_whole}
 use Rattle.octseq.proofs.Written.{length_be, value_be}
 use Rattle.octseq_dns_data.specs.Data.{HasString, HasStrings}

@@ -4,7 +4,7 @@ use Rattle.std.proofs.Common.{length-append}
 use Rattle.std.proofs.Math.Seq.{drop-append_seam}
 use Rattle.std.specs.List.{AllByRecursion}
 use Rattle.octseq.specs.Window.{Window, left, next, at, whole}
-use Rattle.octseq.proofs.Behind.{front_comes_next}
+use Rattle.octseq.proofs.WindowsAfter.{front_comes_next}
 use Rattle.octseq_dns_compress.specs.Fields.{AreFields}
 use Rattle.octseq_dns_compress.specs.Fits.{FitsField}
 use Rattle.octseq_dns_compress.specs.Names.{name_octets}

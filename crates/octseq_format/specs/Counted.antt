@@ -5,7 +5,7 @@ use Rattle.std.proofs.Common.{sym, ap, ◌∙◌, subst, suc, take, drop, arith,
 use Rattle.std.specs.Coded.{le_prop}
 use Rattle.octseq.specs.Integer.{be, octets_be}
 use Rattle.octseq.specs.Window.{Window, left, next, past, nested, rest, at}
-use Rattle.octseq.proofs.Behind.{front_comes_next}
+use Rattle.octseq.proofs.WindowsAfter.{front_comes_next}
 use Rattle.octseq.proofs.Windows.{next_and_rest}
 use Rattle.octseq.proofs.Written.{length_be, value_be}
 use Rattle.octseq.proofs.WrittenBack.{small_be, as_be}

@@ -5,7 +5,7 @@ use Rattle.std.specs.Coded.{le_prop}
 pub use base.Stored.{coded_unit}
 use Rattle.octseq.specs.Integer.{be, octets_be}
 use Rattle.octseq.specs.Window.{Window, left, next, rest, past}
-use Rattle.octseq.proofs.Behind.{front_comes_next}
+use Rattle.octseq.proofs.WindowsAfter.{front_comes_next}
 use Rattle.octseq.proofs.Windows.{next_and_rest}
 use Rattle.octseq.proofs.Written.{length_be, value_be}
 use Rattle.octseq.proofs.WrittenBack.{small_be, as_be}

@@ -9,7 +9,7 @@ use Rattle.std.specs.List.{AllByRecursion, flat_map, sum_by}
 use mathlib.Core.HLevel.{Σ_prop_path}
 use Rattle.octseq.specs.Integer.{be, octets_be}
 use Rattle.octseq.specs.Window.{Window, left, next, rest, at, past}
-use Rattle.octseq.proofs.Behind.{front_comes_next}
+use Rattle.octseq.proofs.WindowsAfter.{front_comes_next}
 use Rattle.octseq.proofs.Windows.{next_and_rest}
 use Rattle.octseq.proofs.WrittenBack.{small_be, as_be}
 use Rattle.octseq.proofs.Written.{length_be, value_be}
