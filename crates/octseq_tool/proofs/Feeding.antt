@@ -24,28 +24,28 @@ consumes_more (Some a) (Some b) (Some c) xs ys first second =
 pub record IsFed {F : Type 0} (has_read : F → List ℕ → Type 0) (given left : Option (List ℕ)) (fed : F) : Type 0 where
   pub octets : List ℕ
   pub consumed : Consumes given left octets
-  pub has_read : has_read fed octets
+  pub read : has_read fed octets
 
 module _ {F : Type 0} (has_read : F → List ℕ → Type 0) where
   -- at first no octets were fed, and the reader gave none
   pub fed_nothing : (given : Option (List ℕ)) (fed : F) → has_read fed [] → IsFed has_read given given fed
-  fed_nothing given fed has_read = record { octets = []; consumed = consumes_none given; has_read = has_read }
+  fed_nothing given fed read = record { octets = []; consumed = consumes_none given; read = read }
 
   -- octets that are fed next are those that the reader gives next
   pub fed_more : (given left now : Option (List ℕ)) (fed after : F) (octets : List ℕ) → IsFed has_read given left fed
       → Consumes left now octets
       → ((before : List ℕ) → has_read fed before → has_read after (before ++ octets))
       → IsFed has_read given now after
-  fed_more given left now fed after octets so_far consumed has_read = record {
+  fed_more given left now fed after octets so_far consumed more = record {
     octets = so_far.octets ++ octets;
     consumed = consumes_more given left now so_far.octets octets so_far.consumed consumed;
-    has_read = has_read so_far.octets so_far.has_read;
+    read = more so_far.octets so_far.read;
   }
 
   -- the octets that were fed are those that the reader gave
   pub fed_all : (given left : Option (List ℕ)) (fed : F) → IsFed has_read given left fed
       → (input : List ℕ) × has_read fed input × Consumes given left input
-  fed_all given left fed is_fed = (is_fed.octets, is_fed.has_read, is_fed.consumed)
+  fed_all given left fed is_fed = (is_fed.octets, is_fed.read, is_fed.consumed)
 
   -- one more read was consumed
   pub lost_more : (given left now : Option (List ℕ)) (fed : F) → IsFed has_read given left fed
