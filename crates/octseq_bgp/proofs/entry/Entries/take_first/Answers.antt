@@ -29,8 +29,8 @@ invariant_of-self g c =
           c.in-Ok.ensures.entry) (omega arith);
     }
 
-pub returns-in-Ok-clause-some : goal.returns-in-Ok-clause-some
-returns-in-Ok-clause-some g c =
+pub returns-clause-some : goal.returns-clause-some
+returns-clause-some g c =
     let self = c.args.self.now in
     held_then entry_code (IsEntry self.form) (one_entry self.form) (window self.parser) (window c.parse.new.parser)
     (entry_of c.in-Ok.entry) self.left (self.left - 1) self.ahead c.self-1.given.0

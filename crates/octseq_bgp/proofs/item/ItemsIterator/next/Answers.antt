@@ -29,8 +29,8 @@ invariant_of-self g c =
           (taken.variant.0 refl, c.in-Ok.ensures.value, taken.ok) (omega arith);
     }
 
-pub returns-in-Ok-clause-steps : goal.returns-in-Ok-clause-steps
-returns-in-Ok-clause-steps g c =
+pub returns-clause-steps : goal.returns-clause-steps
+returns-clause-steps g c =
     let self = c.args.self.now in
     let t = g.T.Item in
     let taken = c.in-Ok.ensures.taken in
@@ -38,8 +38,8 @@ returns-in-Ok-clause-steps g c =
     (window c.take.new.parser) (t.found c.in-Ok.item) self.left (self.left - 1) self.ahead c.self-1.given.0
     (taken.variant.0 refl, c.in-Ok.ensures.value, taken.ok) (omega arith)
 
-pub returns-in-Ok-clause-goes : goal.returns-in-Ok-clause-goes
-returns-in-Ok-clause-goes g c =
+pub returns-clause-goes : goal.returns-clause-goes
+returns-clause-goes g c =
     let less = fewer (g.T.Item.found c.in-Ok.item) c.args.self.now.ahead.0 c.self-1.given.0.0
-    (returns-in-Ok-clause-steps g c) in
+    (returns-clause-steps g c) in
     record { on = λ finite. (tt, finite, less); keeps = tt; rests = λ _. tt }

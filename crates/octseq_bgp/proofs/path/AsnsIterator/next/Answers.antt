@@ -28,14 +28,14 @@ invariant_of-self g c =
           c.in-Ok.asn.0 self.left (self.left - 1) self.ahead c.in-Ok.ensures.number (omega arith);
     }
 
-pub returns-in-Ok-clause-steps : goal.returns-in-Ok-clause-steps
-returns-in-Ok-clause-steps g c =
+pub returns-clause-steps : goal.returns-clause-steps
+returns-clause-steps g c =
     let self = c.args.self.now in
     let k = asn_size self.wide in
     held_then coded_ℕ (IsNumber k) (one_number k) (window self.parser) (window c.parse_asn.new.parser) c.in-Ok.asn.0
     self.left (self.left - 1) self.ahead c.self-1.given.0 c.in-Ok.ensures.number (omega arith)
 
-pub returns-in-Ok-clause-goes : goal.returns-in-Ok-clause-goes
-returns-in-Ok-clause-goes g c =
-    let less = fewer c.in-Ok.asn.0 c.args.self.now.ahead.0 c.self-1.given.0.0 (returns-in-Ok-clause-steps g c) in
+pub returns-clause-goes : goal.returns-clause-goes
+returns-clause-goes g c =
+    let less = fewer c.in-Ok.asn.0 c.args.self.now.ahead.0 c.self-1.given.0.0 (returns-clause-steps g c) in
     record { on = λ finite. (tt, finite, less); keeps = tt; rests = λ _. tt }

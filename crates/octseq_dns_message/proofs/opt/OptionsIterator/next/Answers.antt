@@ -43,8 +43,8 @@ invariant_of-self g c =
           (λ same. omega (arith, left, some, same)) is);
     }
 
-pub returns-in-Ok-clause-steps : goal.returns-in-Ok-clause-steps
-returns-in-Ok-clause-steps g c =
+pub returns-clause-steps : goal.returns-clause-steps
+returns-clause-steps g c =
     let self = c.args.self.now in
     let left = c.remaining.ensures.left in
     let some = c.if-remaining-eq0.false in
@@ -56,8 +56,8 @@ returns-in-Ok-clause-steps g c =
     reached_then option_code HasOption option_item w u w.end u.end option self.ahead c.self-1.given.0 end
     (λ same. omega (arith, left, some, same)) is
 
-pub returns-in-Ok-clause-goes : goal.returns-in-Ok-clause-goes
-returns-in-Ok-clause-goes g c =
+pub returns-clause-goes : goal.returns-clause-goes
+returns-clause-goes g c =
     let less = fewer (option_of c.in-Ok.option) c.args.self.now.ahead.0 c.self-1.given.0.0
-    (returns-in-Ok-clause-steps g c) in
+    (returns-clause-steps g c) in
     record { on = λ finite. (tt, finite, less); keeps = tt; rests = λ _. tt }

@@ -28,8 +28,8 @@ invariant_of-self g c =
           (f.found c.in-Ok.item) self.left (self.left - 1) self.end self.ahead c.in-Ok.ensures.value (omega arith);
     }
 
-pub returns-in-Ok-clause-steps : goal.returns-in-Ok-clause-steps
-returns-in-Ok-clause-steps g c =
+pub returns-clause-steps : goal.returns-clause-steps
+returns-clause-steps g c =
     let self = c.args.self.now in
     let f = g.F.Format in
     let w = window self.parser in
@@ -39,8 +39,8 @@ returns-in-Ok-clause-steps g c =
     (holds_of f.is_at w self.left self.end self.ahead) (holds_of f.is_at u less self.end c.self-1.given.0)
     c.in-Ok.ensures.value (omega arith)
 
-pub returns-in-Ok-clause-goes : goal.returns-in-Ok-clause-goes
-returns-in-Ok-clause-goes g c =
+pub returns-clause-goes : goal.returns-clause-goes
+returns-clause-goes g c =
     let less = fewer (g.F.Format.found c.in-Ok.item) c.args.self.now.ahead.0 c.self-1.given.0.0
-    (returns-in-Ok-clause-steps g c) in
+    (returns-clause-steps g c) in
     record { on = λ finite. (tt, finite, less); keeps = tt; rests = λ _. tt }

@@ -31,14 +31,14 @@ invariant_of-self g c =
           (peer_of c.in-Ok.peer) self.ahead c.in-Ok.ensures.peer;
     }
 
-pub returns-in-Ok-clause-steps : goal.returns-in-Ok-clause-steps
-returns-in-Ok-clause-steps g c =
+pub returns-clause-steps : goal.returns-clause-steps
+returns-clause-steps g c =
     let self = c.args.self.now in
     ahead_then peer_code IsPeer one_peer peer_moves (window self.parser) (window c.parse.new.parser)
     (peer_of c.in-Ok.peer) self.ahead c.self-1.given.0 c.in-Ok.ensures.peer
 
-pub returns-in-Ok-clause-goes : goal.returns-in-Ok-clause-goes
-returns-in-Ok-clause-goes g c =
+pub returns-clause-goes : goal.returns-clause-goes
+returns-clause-goes g c =
     let less = fewer (peer_of c.in-Ok.peer) c.args.self.now.ahead.0 c.self-1.given.0.0
-    (returns-in-Ok-clause-steps g c) in
+    (returns-clause-steps g c) in
     record { on = λ finite. (tt, finite, less); keeps = tt; rests = λ _. tt }

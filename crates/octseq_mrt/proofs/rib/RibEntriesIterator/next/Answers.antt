@@ -54,8 +54,8 @@ invariant_of-self g c =
           (subst (λ w. ∥ Fills (IsEntry form.Attribute) w attributes.0 ∥₁) c.at-attributes.ensures attributes.1);
     }
 
-pub returns-in-Ok-clause-steps : goal.returns-in-Ok-clause-steps
-returns-in-Ok-clause-steps g c =
+pub returns-clause-steps : goal.returns-clause-steps
+returns-clause-steps g c =
     let self = c.args.self.now in
     let parts = c.in-Ok.parts in
     let attributes = c.at-attributes.result.ahead in
@@ -71,7 +71,7 @@ returns-in-Ok-clause-steps g c =
     (subst (λ w. ∥ Fills (IsEntry form.Attribute) w attributes.0 ∥₁) c.at-attributes.ensures attributes.1) in
     subst (λ p. self.ahead.0 ≡ record e { path_id = p } ∷ c.self-1.given.0.0) (sym c.path_id.ensures) then
 
-pub returns-in-Ok-clause-goes : goal.returns-in-Ok-clause-goes
-returns-in-Ok-clause-goes g c =
-    let less = fewer _ c.args.self.now.ahead.0 c.self-1.given.0.0 (returns-in-Ok-clause-steps g c) in
+pub returns-clause-goes : goal.returns-clause-goes
+returns-clause-goes g c =
+    let less = fewer _ c.args.self.now.ahead.0 c.self-1.given.0.0 (returns-clause-steps g c) in
     record { on = λ finite. (tt, finite, less); keeps = tt; rests = λ _. tt }

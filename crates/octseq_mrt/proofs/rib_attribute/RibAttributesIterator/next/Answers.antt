@@ -34,15 +34,15 @@ invariant_of-self g c =
           c.in-Ok.ensures.attribute;
     }
 
-pub returns-in-Ok-clause-steps : goal.returns-in-Ok-clause-steps
-returns-in-Ok-clause-steps g c =
+pub returns-clause-steps : goal.returns-clause-steps
+returns-clause-steps g c =
     let self = c.args.self.now in
     ahead_then entry_code (IsEntry form.Attribute) (one_entry form.Attribute) (entry_moves form.Attribute)
     (window self.parser) (window c.parse.new.parser) (attribute_of c.in-Ok.attribute) self.ahead
     c.self-1.given.0 c.in-Ok.ensures.attribute
 
-pub returns-in-Ok-clause-goes : goal.returns-in-Ok-clause-goes
-returns-in-Ok-clause-goes g c =
+pub returns-clause-goes : goal.returns-clause-goes
+returns-clause-goes g c =
     let less = fewer (attribute_of c.in-Ok.attribute) c.args.self.now.ahead.0 c.self-1.given.0.0
-    (returns-in-Ok-clause-steps g c) in
+    (returns-clause-steps g c) in
     record { on = λ finite. (tt, finite, less); keeps = tt; rests = λ _. tt }

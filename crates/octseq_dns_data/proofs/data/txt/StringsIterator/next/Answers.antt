@@ -32,8 +32,8 @@ invariant_of-self g c =
           (λ same. omega (arith, is, same)) c.in-Ok.ensures.string;
     }
 
-pub returns-in-Ok-clause-steps : goal.returns-in-Ok-clause-steps
-returns-in-Ok-clause-steps g c =
+pub returns-clause-steps : goal.returns-clause-steps
+returns-clause-steps g c =
     let self = c.args.self.now in
     let is = c.pos.ensures.position in (
       reached_then string_code HasString string_item (window self.parser)
@@ -42,8 +42,8 @@ returns-in-Ok-clause-steps g c =
       (c.in-Ok.ensures.place, c.in-Ok.ensures.string.2),
     )
 
-pub returns-in-Ok-clause-goes : goal.returns-in-Ok-clause-goes
-returns-in-Ok-clause-goes g c =
+pub returns-clause-goes : goal.returns-clause-goes
+returns-clause-goes g c =
     let less = fewer (rest (window c.in-Ok.parser)) c.args.self.now.ahead.0 c.self-1.given.0.0
-    (returns-in-Ok-clause-steps g c).0 in
+    (returns-clause-steps g c).0 in
     record { on = λ finite. (tt, finite, less); keeps = tt; rests = λ _. tt }
