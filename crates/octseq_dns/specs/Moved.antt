@@ -6,6 +6,7 @@ use Rattle.octseq.specs.Window.{left}
 use Rattle.octseq_dns_data.specs.Data.{ParsedRdata}
 use Rattle.octseq_dns_message.specs.RecordData.{IsTyped}
 use Rattle.octseq_dns_message.specs.Entry.{Record}
+use Rattle.octseq_dns_data.specs.Rtype as types
 
 -- The types whose data has names, in any class: NS, MD, MF, CNAME, SOA, MB, MG, MR, PTR, MINFO and MX (RFC 1035, 3.3),
 -- RP, AFSDB and RT (RFC 1183), SIG (RFC 2535, 4.1), PX (RFC 2163, 4), NXT (RFC 2535, 5.2), NAPTR (RFC 3403, 4.1), DNAME
@@ -17,7 +18,7 @@ types_with_names =
 -- whether data of a type and a class may have names: SRV (RFC 2782), SVCB and HTTPS (RFC 9460) do too, in class IN
 abbrev pub may_have_names : ℕ → ℕ → Bool
 may_have_names rtype class = list_any (λ t. nat_eq t rtype) types_with_names
-    || (list_any (λ t. nat_eq t rtype) (33 ∷ 64 ∷ 65 ∷ []) && nat_eq class 1)
+    || (list_any (λ t. nat_eq t rtype) (types.srv ∷ types.svcb ∷ types.https ∷ []) && nat_eq class 1)
 
 -- a record's data doesn't have the form of its type, or the type has no known form
 abbrev pub IsUnknown : Record → Type 0

@@ -12,6 +12,7 @@ use Rattle.octseq_dns.specs.Contents.{Record}
 use Rattle.octseq_dns.specs.declared.edns.OptData.{OptData}
 use Rattle.octseq_dns.specs.declared.edns.UnknownOptData.{UnknownOptData}
 use Rattle.octseq_dns.specs.declared.edns.PushOptError.{PushOptError}
+use Rattle.octseq_dns_data.specs.Rtype as types
 
 -- the code and the octets of each option
 abbrev pub written_options : List UnknownOptData → List (ℕ × List ℕ)
@@ -38,7 +39,7 @@ opt_ttl opt = opt.extended_rcode * 16777216 + opt.version * 65536 + flag opt.dns
 abbrev pub opt_record : OptData → Record
 opt_record opt = record {
   labels = [];
-  rtype = 41;
+  rtype = types.opt;
   class = opt.udp_payload_size;
   ttl = opt_ttl opt;
   fields = opt_fields opt;

@@ -12,6 +12,7 @@ use Rattle.octseq_dns_data.specs.Local.{IsOfClass as IsLocalClass}
 use Rattle.octseq_dns_message.specs.RecordData.{IsTyped}
 use Rattle.octseq_dns_message.specs.Entry.{Record}
 use Rattle.octseq_dns_name.specs.Wire.{wire}
+use Rattle.octseq_dns_data.specs.Rtype as types
 
 -- The preference and the labels of MX data, the labels of both names and the five numbers of SOA data, the three
 -- numbers and the labels of SRV data, and the parts of NAPTR data; the octets of data that is read by itself; the
@@ -48,16 +49,16 @@ bare_rdata (ParsedRdata.unknown rtype octets) = Rdata.unknown rtype (rest octets
 
 -- its type
 abbrev pub rtype_of : Rdata → ℕ
-rtype_of (Rdata.a _) = 1
-rtype_of (Rdata.aaaa _) = 28
-rtype_of (Rdata.ns _) = 2
-rtype_of (Rdata.cname _) = 5
-rtype_of (Rdata.ptr _) = 12
-rtype_of (Rdata.mx _ _) = 15
-rtype_of (Rdata.soa _ _ _ _ _ _ _) = 6
-rtype_of (Rdata.txt _) = 16
-rtype_of (Rdata.srv _ _ _ _) = 33
-rtype_of (Rdata.naptr _) = 35
+rtype_of (Rdata.a _) = types.a
+rtype_of (Rdata.aaaa _) = types.aaaa
+rtype_of (Rdata.ns _) = types.ns
+rtype_of (Rdata.cname _) = types.cname
+rtype_of (Rdata.ptr _) = types.ptr
+rtype_of (Rdata.mx _ _) = types.mx
+rtype_of (Rdata.soa _ _ _ _ _ _ _) = types.soa
+rtype_of (Rdata.txt _) = types.txt
+rtype_of (Rdata.srv _ _ _ _) = types.srv
+rtype_of (Rdata.naptr _) = types.naptr
 rtype_of (Rdata.local k _) = local_number k
 rtype_of (Rdata.unknown rtype _) = rtype
 

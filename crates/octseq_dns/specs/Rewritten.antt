@@ -1,7 +1,8 @@
 -- A message that was read, as one that is written.
-use Rattle.std.specs.Prelude.{◌≡◌, List, map}
-use Rattle.std.specs.List.{AllZip}
+use Rattle.std.specs.Prelude.{◌≡◌, Bool, ◌||◌, List, map, nat_eq}
+use Rattle.std.specs.List.{AllZip, list_any}
 use Rattle.octseq_dns_data.specs.Data.{ParsedRdata}
+use Rattle.octseq_dns_data.specs.Rtype as types
 use Rattle.octseq_dns_message.specs.RecordData.{IsDataOf}
 use Rattle.octseq_dns_message.specs.Entry as entry
 use Rattle.octseq_dns_message.specs.Parsed.{header_of, questions_of, answers_of, authorities_of, additionals_of}
@@ -47,6 +48,14 @@ pub record IsMessageOf (header : Header) (questions : List entry.Question)
 abbrev pub IsContentsOf : {R : Type 0} {g : Ghosts R} → Parsed R g → Message → Type 0
 IsContentsOf parsed m = IsMessageOf (header_of parsed) (questions_of parsed) (answers_of parsed)
     (authorities_of parsed) (additionals_of parsed) m
+
+-- whether one of the records is of type OPT
+abbrev pub any_opt : List entry.Record → Bool
+any_opt records = list_any (λ (r : entry.Record). nat_eq r.rtype types.opt) records
+
+-- whether a record of any section is
+abbrev pub any_opt_in : List entry.Record → List entry.Record → List entry.Record → Bool
+any_opt_in answers authorities additionals = any_opt answers || (any_opt authorities || any_opt additionals)
 
 -- why a message wasn't rewritten
 abbrev pub rewrite_error : RewriteError → Refusal

@@ -7,7 +7,7 @@ ghost use Rattle.octseq_dns_message.specs.Parsed.{answers_of, authorities_of, ad
 ghost use Rattle.octseq_dns.specs.Contents.{Message as Contents, octets_of};
 ghost use Rattle.octseq_dns.specs.Labels.{labels_in};
 ghost use Rattle.octseq_dns.specs.Moved.{CanMove};
-ghost use Rattle.octseq_dns.specs.Rewritten.{IsContentsOf, rewrite_error};
+ghost use Rattle.octseq_dns.specs.Rewritten.{IsContentsOf, any_opt_in, rewrite_error};
 ghost use Rattle.octseq_dns.specs.Writes.{Writes};
 
 use crate::builder::AdditionalBuilder;
@@ -51,7 +51,8 @@ impl fmt::Display for RewriteError {
 /// order, each with its parsed data.
 ///
 /// Names are compressed with the table, whether or not they have pointers in the message read. With a table of
-/// `Uncompressed`, no name has pointers. Data of an unknown type is written as its octets. No push limit is set.
+/// `Uncompressed`, no name has pointers. Data of an unknown type is written as its octets. No push limit is set, and an
+/// OPT record of the message counts: [`push_opt`](AdditionalBuilder::push_opt) refuses another.
 ///
 /// # Errors
 ///
@@ -89,6 +90,8 @@ pub fn rewrite<B: OctetsBuilder + Truncate + AsOctetsMut, T: Compressor, R: AsOc
         → IsPast (message_limit B.limit) (length (octets_of T.most m)) }
     ensures memory { IsMemory rewrite_error result → (B.asks ≡ true) ⊎ (T.asks ≡ true) }
     ensures push_limit { IfOk result (λ b. b.push_limit ≡ None) }
+    ensures has_opt { IfOk result (λ b. b.has_opt
+        ≡ any_opt_in (answers_of message.now) (authorities_of message.now) (additionals_of message.now)) }
     ensures borrows { IfOk result (λ b. B.borrows b.octets ≡ B.borrows octets) }
 {
     rewrite_counted(message, octets, table, &mut Turns::new())
@@ -121,6 +124,8 @@ pub fn rewrite_counted<
         → IsPast (message_limit B.limit) (length (octets_of T.most m)) }
     ensures memory { IsMemory rewrite_error result → (B.asks ≡ true) ⊎ (T.asks ≡ true) }
     ensures push_limit { IfOk result (λ b. b.push_limit ≡ None) }
+    ensures has_opt { IfOk result (λ b. b.has_opt
+        ≡ any_opt_in (answers_of message.now) (authorities_of message.now) (additionals_of message.now)) }
     ensures borrows { IfOk result (λ b. B.borrows b.octets ≡ B.borrows octets) }
     ensures turns { (m : Contents) → IsContentsOf message.now m → turns.new ≤ turns.old + 17 * labels_in m }
     ensures least { IfOk result (λ b. (m : Contents) → IsContentsOf message.now m

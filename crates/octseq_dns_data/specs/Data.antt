@@ -11,6 +11,7 @@ use Rattle.octseq_dns_data.specs.Local.{LocalType, IsLocal, form, local_number}
 use Rattle.octseq_dns_name.specs.Name.{Name, HasName}
 use Rattle.octseq_format.specs.Pair.{◌then◌}
 use Rattle.octseq_format.specs.Row.{Row}
+use Rattle.octseq_dns_data.specs.Rtype as types
 
 -- the given number of octets
 abbrev pub HasOctets : ℕ → Window → List ℕ → Window → Type 0
@@ -97,32 +98,32 @@ pub data ParsedRdata : Type 0 where
 
 -- the type of the record
 abbrev pub rtype_of : ParsedRdata → ℕ
-rtype_of (ParsedRdata.a octets) = 1
-rtype_of (ParsedRdata.aaaa octets) = 28
-rtype_of (ParsedRdata.ns name) = 2
-rtype_of (ParsedRdata.cname name) = 5
-rtype_of (ParsedRdata.ptr name) = 12
-rtype_of (ParsedRdata.mx it) = 15
-rtype_of (ParsedRdata.soa it) = 6
-rtype_of (ParsedRdata.txt strings) = 16
-rtype_of (ParsedRdata.srv it) = 33
-rtype_of (ParsedRdata.naptr it) = 35
+rtype_of (ParsedRdata.a octets) = types.a
+rtype_of (ParsedRdata.aaaa octets) = types.aaaa
+rtype_of (ParsedRdata.ns name) = types.ns
+rtype_of (ParsedRdata.cname name) = types.cname
+rtype_of (ParsedRdata.ptr name) = types.ptr
+rtype_of (ParsedRdata.mx it) = types.mx
+rtype_of (ParsedRdata.soa it) = types.soa
+rtype_of (ParsedRdata.txt strings) = types.txt
+rtype_of (ParsedRdata.srv it) = types.srv
+rtype_of (ParsedRdata.naptr it) = types.naptr
 rtype_of (ParsedRdata.local k found) = local_number k
 rtype_of (ParsedRdata.unknown rtype octets) = rtype
 
 -- Data of a type and a class is at a window's position. Addresses, service records and naming authority pointers are of
 -- class IN only.
 abbrev pub HasRdata : ℕ → ℕ → Window → ParsedRdata → Window → Type 0
-HasRdata rtype class w (ParsedRdata.a octets) v = (rtype ≡ 1) × (class ≡ 1) × HasOctets 4 w octets v
-HasRdata rtype class w (ParsedRdata.aaaa octets) v = (rtype ≡ 28) × (class ≡ 1) × HasOctets 16 w octets v
-HasRdata rtype class w (ParsedRdata.ns name) v = (rtype ≡ 2) × HasName w name v
-HasRdata rtype class w (ParsedRdata.cname name) v = (rtype ≡ 5) × HasName w name v
-HasRdata rtype class w (ParsedRdata.ptr name) v = (rtype ≡ 12) × HasName w name v
-HasRdata rtype class w (ParsedRdata.mx it) v = (rtype ≡ 15) × HasMx w it v
-HasRdata rtype class w (ParsedRdata.soa it) v = (rtype ≡ 6) × HasSoa w it v
-HasRdata rtype class w (ParsedRdata.txt strings) v = (rtype ≡ 16) × HasStrings w strings v
-HasRdata rtype class w (ParsedRdata.srv it) v = (rtype ≡ 33) × (class ≡ 1) × HasSrv w it v
-HasRdata rtype class w (ParsedRdata.naptr it) v = (rtype ≡ 35) × (class ≡ 1) × HasNaptr w it v
+HasRdata rtype class w (ParsedRdata.a octets) v = (rtype ≡ types.a) × (class ≡ 1) × HasOctets 4 w octets v
+HasRdata rtype class w (ParsedRdata.aaaa octets) v = (rtype ≡ types.aaaa) × (class ≡ 1) × HasOctets 16 w octets v
+HasRdata rtype class w (ParsedRdata.ns name) v = (rtype ≡ types.ns) × HasName w name v
+HasRdata rtype class w (ParsedRdata.cname name) v = (rtype ≡ types.cname) × HasName w name v
+HasRdata rtype class w (ParsedRdata.ptr name) v = (rtype ≡ types.ptr) × HasName w name v
+HasRdata rtype class w (ParsedRdata.mx it) v = (rtype ≡ types.mx) × HasMx w it v
+HasRdata rtype class w (ParsedRdata.soa it) v = (rtype ≡ types.soa) × HasSoa w it v
+HasRdata rtype class w (ParsedRdata.txt strings) v = (rtype ≡ types.txt) × HasStrings w strings v
+HasRdata rtype class w (ParsedRdata.srv it) v = (rtype ≡ types.srv) × (class ≡ 1) × HasSrv w it v
+HasRdata rtype class w (ParsedRdata.naptr it) v = (rtype ≡ types.naptr) × (class ≡ 1) × HasNaptr w it v
 HasRdata rtype class w (ParsedRdata.local k found) v = ⊥
 HasRdata rtype class w (ParsedRdata.unknown other octets) v = ⊥
 

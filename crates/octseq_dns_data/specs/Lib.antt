@@ -12,6 +12,7 @@ pub mod Pieces
 pub mod Places
 pub mod PlainName
 pub mod RdataText
+pub mod Rtype
 pub mod RtypeBitmap
 pub mod RtypeBitmapMade
 pub mod RtypeBitmapOf

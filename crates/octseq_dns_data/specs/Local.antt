@@ -8,6 +8,7 @@ use Rattle.octseq_dns_data.specs.RtypeBitmap.{IsRtypeBitmap}
 use Rattle.octseq_dns_data.specs.SvcParams.{IsSvcParams}
 use Rattle.octseq_dns_data.specs.Tag.{IsCaaTag}
 use Rattle.octseq_format.specs.Laws.{Relation}
+use Rattle.octseq_dns_data.specs.Rtype as types
 
 pub data LocalType : Type 0 where
   hinfo : LocalType
@@ -30,23 +31,23 @@ pub data LocalType : Type 0 where
 
 -- their numbers
 abbrev pub local_number : LocalType → ℕ
-local_number LocalType.hinfo = 13
-local_number LocalType.dname = 39
-local_number LocalType.ds = 43
-local_number LocalType.sshfp = 44
-local_number LocalType.rrsig = 46
-local_number LocalType.nsec = 47
-local_number LocalType.dnskey = 48
-local_number LocalType.nsec3 = 50
-local_number LocalType.nsec3param = 51
-local_number LocalType.tlsa = 52
-local_number LocalType.smimea = 53
-local_number LocalType.cds = 59
-local_number LocalType.cdnskey = 60
-local_number LocalType.caa = 257
-local_number LocalType.svcb = 64
-local_number LocalType.https = 65
-local_number LocalType.uri = 256
+local_number LocalType.hinfo = types.hinfo
+local_number LocalType.dname = types.dname
+local_number LocalType.ds = types.ds
+local_number LocalType.sshfp = types.sshfp
+local_number LocalType.rrsig = types.rrsig
+local_number LocalType.nsec = types.nsec
+local_number LocalType.dnskey = types.dnskey
+local_number LocalType.nsec3 = types.nsec3
+local_number LocalType.nsec3param = types.nsec3param
+local_number LocalType.tlsa = types.tlsa
+local_number LocalType.smimea = types.smimea
+local_number LocalType.cds = types.cds
+local_number LocalType.cdnskey = types.cdnskey
+local_number LocalType.caa = types.caa
+local_number LocalType.svcb = types.svcb
+local_number LocalType.https = types.https
+local_number LocalType.uri = types.uri
 
 -- The digest of a key: the key tag, the algorithm, the digest type, the digest.
 abbrev pub digest_form : Form

@@ -7,6 +7,7 @@ use Rattle.std.specs.Fmt.{decimal}
 use Rattle.std.specs.List.{IsAmong}
 use Rattle.std.specs.Str.{str_eq_ignore_ascii_case}
 use Rattle.std.specs.Str.Parse.{IsNumeral, digits_value}
+use Rattle.octseq_dns_data.specs.Rtype as types
 
 -- numbers, each with its name
 abbrev pub Names : Type 0
@@ -54,14 +55,17 @@ abbrev pub class_names : Names
 class_names = (1, codes "IN") ∷ (3, codes "CH") ∷ (4, codes "HS") ∷ (254, codes "NONE") ∷ (255, codes "ANY") ∷ []
 
 abbrev pub rtype_names : Names
-rtype_names = (1, codes "A") ∷ (2, codes "NS") ∷ (5, codes "CNAME") ∷ (6, codes "SOA") ∷ (12, codes "PTR")
-    ∷ (13, codes "HINFO") ∷ (15, codes "MX") ∷ (16, codes "TXT") ∷ (17, codes "RP") ∷ (28, codes "AAAA")
-    ∷ (29, codes "LOC") ∷ (33, codes "SRV") ∷ (35, codes "NAPTR") ∷ (39, codes "DNAME") ∷ (41, codes "OPT")
-    ∷ (43, codes "DS") ∷ (44, codes "SSHFP") ∷ (46, codes "RRSIG") ∷ (47, codes "NSEC") ∷ (48, codes "DNSKEY")
-    ∷ (50, codes "NSEC3") ∷ (51, codes "NSEC3PARAM") ∷ (52, codes "TLSA") ∷ (53, codes "SMIMEA") ∷ (59, codes "CDS")
-    ∷ (60, codes "CDNSKEY") ∷ (61, codes "OPENPGPKEY") ∷ (63, codes "ZONEMD") ∷ (64, codes "SVCB")
-    ∷ (65, codes "HTTPS") ∷ (99, codes "SPF") ∷ (249, codes "TKEY") ∷ (250, codes "TSIG") ∷ (251, codes "IXFR")
-    ∷ (252, codes "AXFR") ∷ (255, codes "ANY") ∷ (256, codes "URI") ∷ (257, codes "CAA") ∷ []
+rtype_names = (types.a, codes "A") ∷ (types.ns, codes "NS") ∷ (types.cname, codes "CNAME") ∷ (types.soa, codes "SOA")
+    ∷ (types.ptr, codes "PTR") ∷ (types.hinfo, codes "HINFO") ∷ (types.mx, codes "MX") ∷ (types.txt, codes "TXT")
+    ∷ (types.rp, codes "RP") ∷ (types.aaaa, codes "AAAA") ∷ (types.loc, codes "LOC") ∷ (types.srv, codes "SRV")
+    ∷ (types.naptr, codes "NAPTR") ∷ (types.dname, codes "DNAME") ∷ (types.opt, codes "OPT") ∷ (types.ds, codes "DS")
+    ∷ (types.sshfp, codes "SSHFP") ∷ (types.rrsig, codes "RRSIG") ∷ (types.nsec, codes "NSEC")
+    ∷ (types.dnskey, codes "DNSKEY") ∷ (types.nsec3, codes "NSEC3") ∷ (types.nsec3param, codes "NSEC3PARAM")
+    ∷ (types.tlsa, codes "TLSA") ∷ (types.smimea, codes "SMIMEA") ∷ (types.cds, codes "CDS")
+    ∷ (types.cdnskey, codes "CDNSKEY") ∷ (types.openpgpkey, codes "OPENPGPKEY") ∷ (types.zonemd, codes "ZONEMD")
+    ∷ (types.svcb, codes "SVCB") ∷ (types.https, codes "HTTPS") ∷ (types.spf, codes "SPF")
+    ∷ (types.tkey, codes "TKEY") ∷ (types.tsig, codes "TSIG") ∷ (types.ixfr, codes "IXFR")
+    ∷ (types.axfr, codes "AXFR") ∷ (types.any, codes "ANY") ∷ (types.uri, codes "URI") ∷ (types.caa, codes "CAA") ∷ []
 
 -- the text of a class, and of a type
 unfoldable pub class_text : ℕ → List ℕ

@@ -6,6 +6,7 @@ use Rattle.octseq_dns_message.specs.Flag.{flag}
 use Rattle.octseq_dns_data.specs.Format.{IsNumber, IsData}
 use Rattle.octseq_format.specs.Pair.{◌then◌}
 use Rattle.octseq_format.specs.Row.{Row}
+use Rattle.octseq_dns_data.specs.Rtype as types
 
 -- An option: its code, and the window of its octets.
 pub record EdnsOption : Type 0 where
@@ -28,7 +29,7 @@ pub record Opt : Type 0 where
 -- of a response code, eight of a version, the DO bit, and fifteen reserved bits. Its data is options, one after
 -- another, up to its end.
 pub record IsOpt (r : Record) (opt : Opt) : Type 0 where
-  pub rtype : r.rtype ≡ 41
+  pub rtype : r.rtype ≡ types.opt
   pub size : opt.udp_payload_size ≡ r.class
   pub z : ℕ
   pub ttl : r.ttl ≡ opt.extended_rcode * 16777216 + opt.version * 65536 + flag opt.dnssec_ok 32768 + z

@@ -1,5 +1,5 @@
 //! Rewriting the entries of a message, one after another.
-ghost use Rattle.std.specs.Prelude.{◌≡◌, ◌≤◌, ◌+◌, ◌*◌, ◌⊎◌, List, length, map, true, None, IfOk, OnOk};
+ghost use Rattle.std.specs.Prelude.{◌≡◌, ◌≤◌, ◌+◌, ◌*◌, ◌⊎◌, ◌||◌, List, length, map, true, None, IfOk, OnOk};
 ghost use Rattle.std.specs.List.{AllByRecursion, AllZip, sum_by};
 ghost use Rattle.octseq.specs.Limit.{IsPast, IsWithin};
 ghost use Rattle.octseq.specs.Refusal.{IsShort, IsMemory, IsMalformed, append_error};
@@ -12,7 +12,8 @@ ghost use Rattle.octseq_dns.specs.Contents.{FitsHeader, FitsQuestion, FitsRecord
 ghost use Rattle.octseq_dns.specs.Contents.{question_entry, record_entry};
 ghost use Rattle.octseq_dns.specs.Labels.{labels_in, question_labels, record_labels};
 ghost use Rattle.octseq_dns.specs.Moved.{CanMove, CanMoveRecord};
-ghost use Rattle.octseq_dns.specs.Rewritten.{IsContentsOf, IsQuestionOf, IsRecordOf, rewrite_error};
+ghost use Rattle.octseq_dns.specs.Rewritten.{IsContentsOf, IsQuestionOf, IsRecordOf, any_opt, any_opt_in};
+ghost use Rattle.octseq_dns.specs.Rewritten.{rewrite_error};
 ghost use Rattle.octseq_dns.specs.Whole.{FitEntries};
 ghost use Rattle.octseq_dns.specs.Writes.{Writes};
 
@@ -110,6 +111,7 @@ fn append_records<B: OctetsBuilder + Truncate + AsOctetsMut, T: Compressor, R: A
     ensures within { OnOk result (IsWithin (message_limit B.limit) (length message.new.state.octets)) }
     ensures exists { OnOk result ((written : List Written) × AllZip IsRecordOf (records_left records) written) }
     ensures movable { OnOk result (AllByRecursion CanMoveRecord (records_left records)) }
+    ensures opt { OnOk result (has_opt.new ≡ (has_opt.old || any_opt (records_left records))) }
     ensures immovable { IsMalformed rewrite_error result → ¬ AllByRecursion CanMoveRecord (records_left records) }
     ensures short { IsShort rewrite_error result → (written : List Written)
         → AllZip IsRecordOf (records_left records) written → IsPast (message_limit B.limit)
@@ -151,6 +153,8 @@ fn append_all<B: OctetsBuilder + Truncate + AsOctetsMut, T: Compressor, R: AsOct
     ensures exists { OnOk result ((m : Contents) × IsContentsOf source.now m) }
     ensures movable { OnOk result (CanMove (answers_of source.now) (authorities_of source.now)
         (additionals_of source.now)) }
+    ensures opt { OnOk result (has_opt.new ≡ (has_opt.old
+        || any_opt_in (answers_of source.now) (authorities_of source.now) (additionals_of source.now))) }
     ensures immovable { IsMalformed rewrite_error result
         → ¬ CanMove (answers_of source.now) (authorities_of source.now) (additionals_of source.now) }
     ensures short { IsShort rewrite_error result → (m : Contents) → IsContentsOf source.now m
@@ -199,6 +203,8 @@ pub(crate) fn compose_anew<
         → IsPast (message_limit B.limit) (length (octets_of T.most m)) }
     ensures memory { IsMemory rewrite_error result → (B.asks ≡ true) ⊎ (T.asks ≡ true) }
     ensures push_limit { IfOk result (λ b. b.push_limit ≡ None) }
+    ensures has_opt { IfOk result (λ b. b.has_opt
+        ≡ any_opt_in (answers_of source.now) (authorities_of source.now) (additionals_of source.now)) }
     ensures borrows { IfOk result (λ b. B.borrows b.octets ≡ B.borrows octets) }
     ensures turns { (m : Contents) → IsContentsOf source.now m → turns.new ≤ turns.old + 17 * labels_in m }
     ensures least { IfOk result (λ b. (m : Contents) → IsContentsOf source.now m

@@ -1,14 +1,15 @@
-use Rattle.std.proofs.Common.{◌≡◌, ap, ◌∙◌, length, map, refl, sym, subst, arith}
+use Rattle.std.proofs.Common.{◌≡◌, ◌||◌, ap, ◌∙◌, length, map, refl, sym, subst, arith}
+use Rattle.std.proofs.Math.Bool.{or_assoc}
 use Rattle.std.specs.List.{AllZip}
 use Rattle.octseq.specs.Limit.{IsPast}
 use Rattle.octseq.specs.Refusal.{Is, Refusal}
 use Rattle.octseq_dns_compress.specs.Composed.{message_limit}
 use Rattle.octseq_dns_compress.specs.State.{with_entries}
-use Rattle.octseq_dns_message.specs.Parsed.{header_of, questions_of}
+use Rattle.octseq_dns_message.specs.Parsed.{header_of, questions_of, answers_of, authorities_of, additionals_of}
 use Rattle.octseq_dns_message.specs.Walk.{questions_left}
 use Rattle.octseq_dns.specs.Contents.{record_entry}
 use Rattle.octseq_dns.specs.ReadBack.{bare}
-use Rattle.octseq_dns.specs.Rewritten.{IsRecordOf}
+use Rattle.octseq_dns.specs.Rewritten.{IsRecordOf, any_opt}
 use Rattle.octseq_dns.proofs.Onward.{once_asked, once_answered, once_authorized, all_added}
 use Rattle.octseq_dns.proofs.Onward.{past_asked, past_answered, past_authorized, past_added}
 use Rattle.octseq_dns.proofs.Stages.{of_sections, zip_questions}
@@ -164,6 +165,24 @@ returns-clause-exists g c =
         additionals_are = subst (λ left. AllZip IsRecordOf left additionals.0) c.additionals.ensures additionals.1;
       },
     )
+
+pub returns-clause-opt : goal.returns-clause-opt
+returns-clause-opt g c =
+    let before = c.args.has_opt.now in
+    let source = c.args.source.now in
+    let first = any_opt (answers_of source) in
+    let second = any_opt (authorities_of source) in
+    let third = any_opt (additionals_of source) in
+    let answered : c.append_records.new.has_opt ≡ (before || first) =
+    c.in_default-append_records.ensures.opt ∙ ap (λ row. before || any_opt row) c.answers.ensures in
+    let authorized : c.append_records-2.new.has_opt ≡ (before || first || second) =
+    c.in_default-append_records-2.ensures.opt
+    ∙ ap (λ row. c.append_records.new.has_opt || any_opt row) c.authorities.ensures
+    ∙ ap (λ has. has || second) answered in
+    c.in_default-append_records-3.ensures.opt
+    ∙ ap (λ row. c.append_records-2.new.has_opt || any_opt row) c.additionals.ensures
+    ∙ ap (λ has. has || third) authorized ∙ or_assoc (before || first) second third
+    ∙ or_assoc before first (second || third)
 
 pub returns-clause-turns : goal.returns-clause-turns
 returns-clause-turns g c m is =

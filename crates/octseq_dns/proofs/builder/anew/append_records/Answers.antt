@@ -1,6 +1,7 @@
-use Rattle.std.proofs.Common.{◌∙◌, [], ◌∷◌, length, refl, rules, sym, subst}
+use Rattle.std.proofs.Common.{◌≡◌, ◌∙◌, ◌||◌, [], ◌∷◌, length, refl, rules, sym, subst}
+use Rattle.std.proofs.Math.Bool.{or_assoc, or-false}
 use Rattle.std.specs.List.{AllByRecursion, AllZip}
-use Rattle.std.specs.Prelude.{◌↔◌}
+use Rattle.std.specs.Prelude.{◌↔◌, nat_eq}
 use Rattle.octseq.specs.Limit.{IsWithin}
 use Rattle.octseq.specs.Refusal.{Is, Refusal}
 use Rattle.octseq_dns_compress.specs.Composed.{message_limit}
@@ -12,7 +13,7 @@ use Rattle.octseq_dns.specs.Labels.{record_labels}
 use Rattle.octseq_dns.specs.Moved.{CanMoveRecord}
 use Rattle.octseq_dns.specs.Pushed.{pushed_record}
 use Rattle.octseq_dns.specs.Rdata.{bare_rdata, rdata_fields, rtype_of}
-use Rattle.octseq_dns.specs.Rewritten.{IsRecordOf, record_of_parsed}
+use Rattle.octseq_dns.specs.Rewritten.{IsRecordOf, any_opt, record_of_parsed}
 use Rattle.octseq_dns.proofs.Onward.{Onward, onward_first, onward_fewer, onward_next, onward_none, onward_past}
 use Rattle.octseq_dns.proofs.Onward.{onward_turns}
 use Rattle.octseq_dns.proofs.OnlyRecord.{only_record}
@@ -30,6 +31,9 @@ loop-entry-init g c = record {
   movable = subst (λ walk. AllByRecursion CanMoveRecord (records_left walk)
       ↔ AllByRecursion CanMoveRecord (records_left c.args.records))
       (sym c.into_iter-entry-iterator.ensures.into_iter_gives) (λ all. all, λ all. all);
+  opt = subst (λ walk. (c.args.has_opt.now || any_opt (records_left c.args.records))
+      ≡ (c.args.has_opt.now || any_opt (records_left walk))) (sym c.into_iter-entry-iterator.ensures.into_iter_gives)
+      refl;
   within = c.requires.within;
   borrows = refl;
 }
@@ -65,6 +69,9 @@ loop-entry-preserved g c =
         },
         are,
       ));
+      opt = subst (λ q. (c.args.has_opt.now || any_opt (records_left c.args.records))
+          ≡ (c.loop-entry.has_opt || any_opt q)) steps so_far.opt
+          ∙ sym (or_assoc c.loop-entry.has_opt (nat_eq i.rtype 41) (any_opt (records_left c.next.new.self)));
       movable = (λ more. all.0 (moves, more), λ every. (all.1 every).1);
       within = subst (λ s. IsWithin (message_limit g.B.AsOctets.limit) (length s.octets)) (sym went.ok) went.within;
       borrows = went.borrows ∙ so_far.borrows;
@@ -140,6 +147,12 @@ pub returns-clause-exists : goal.returns-clause-exists
 returns-clause-exists g c =
     c.loop-entry.invariant.exists []
     (subst (λ q. AllZip IsRecordOf q []) (sym c.in-None.ensures.steps.0) tt)
+
+pub returns-clause-opt : goal.returns-clause-opt
+returns-clause-opt g c =
+    sym (subst (λ q. (c.args.has_opt.now || any_opt (records_left c.args.records))
+    ≡ (c.loop-entry.has_opt || any_opt q)) c.in-None.ensures.steps.0 c.loop-entry.invariant.opt
+    ∙ or-false c.loop-entry.has_opt)
 
 pub returns-clause-movable : goal.returns-clause-movable
 returns-clause-movable g c =
