@@ -130,14 +130,6 @@ low_bits (suc (suc (suc (suc (suc (suc zero)))))) high last small = omega arith
 low_bits (suc (suc (suc (suc (suc (suc (suc zero))))))) high last small = omega arith
 low_bits (suc (suc (suc (suc (suc (suc (suc (suc bits)))))))) high last small = absurd (omega (arith, small))
 
--- ---- the last octet
-
-first_or : ℕ → List ℕ → ℕ
-first_or other [] = other
-first_or other (x ∷ xs) = x
-
-unfolding first_or
-
 -- ---- the bits of an address
 
 -- the bits after the first ones are in the last octet
