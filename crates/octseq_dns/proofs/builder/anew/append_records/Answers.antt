@@ -1,10 +1,11 @@
-use Rattle.std.proofs.Common.{◌≡◌, ◌∙◌, ◌||◌, [], ◌∷◌, length, refl, rules, sym, subst}
+use Rattle.std.proofs.Common.{◌≡◌, ◌∙◌, ◌||◌, [], ◌∷◌, ap, length, refl, rules, sym, subst}
 use Rattle.std.proofs.Math.Bool.{or_assoc, or-false}
 use Rattle.std.specs.List.{AllByRecursion, AllZip}
 use Rattle.std.specs.Prelude.{◌↔◌, nat_eq}
 use Rattle.octseq.specs.Limit.{IsWithin}
 use Rattle.octseq.specs.Refusal.{Is, Refusal}
 use Rattle.octseq_dns_compress.specs.Composed.{message_limit}
+use Rattle.octseq_dns_data.specs.Rtype as types
 use Rattle.octseq_dns_data.specs.Typed.{rdata_of}
 use Rattle.octseq_dns_message.specs.Said.{record_of}
 use Rattle.octseq_dns_message.specs.Walk.{records_left}
@@ -71,7 +72,9 @@ loop-entry-preserved g c =
       ));
       opt = subst (λ q. (c.args.has_opt.now || any_opt (records_left c.args.records))
           ≡ (c.loop-entry.has_opt || any_opt q)) steps so_far.opt
-          ∙ sym (or_assoc c.loop-entry.has_opt (nat_eq i.rtype 41) (any_opt (records_left c.next.new.self)));
+          ∙ sym (or_assoc c.loop-entry.has_opt (nat_eq i.rtype types.opt) (any_opt (records_left c.next.new.self)))
+          ∙ ap (λ is. c.loop-entry.has_opt || is || any_opt (records_left c.next.new.self))
+          (sym (c.eq.ensures ∙ ap (λ n. nat_eq n types.opt) c.rtype.ensures));
       movable = (λ more. all.0 (moves, more), λ every. (all.1 every).1);
       within = subst (λ s. IsWithin (message_limit g.B.AsOctets.limit) (length s.octets)) (sym went.ok) went.within;
       borrows = went.borrows ∙ so_far.borrows;
