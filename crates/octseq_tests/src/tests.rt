@@ -9,6 +9,14 @@ fn equal<T: PartialEq + Debug + Drop>(rt: &impl Abort, what: &str, left: T, righ
     assert_eq!(rt; left, right, "{what}");
 }
 
+/// Returns the value of a result, or ends the test with its error.
+fn unwrap<T, E: Debug + Drop>(rt: &impl Abort, made: Result<T, E>) -> T {
+    match made {
+        Ok(value) => value,
+        Err(error) => panic!(rt; "error: {error:?}"),
+    }
+}
+
 /// Checks that the result is the expected text, or if there is none, the refusal of what exceeds the limit.
 fn is_text_or_short<B: AsOctets>(
     rt: &impl Abort,

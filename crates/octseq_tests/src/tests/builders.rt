@@ -1,6 +1,7 @@
 //! Each sequence and builder: what it keeps, refuses, copies and freezes to.
 ghost use Rattle.std.specs.Prelude.{◌≡◌, Ok};
 
+use crate::tests::unwrap;
 use arrayvec::ArrayVec;
 use bytes::{Bytes, BytesMut};
 use octseq::array::Array;
@@ -18,23 +19,21 @@ use std::fmt::Debug;
 use std::hash::{BuildHasher, BuildHasherDefault, FoldHasher};
 use std::process::Abort;
 use std::rc::RcSlice;
-use std::test::Fail;
 
 #[test]
-fn array_keeps_what_it_hides(rt: HostRuntime) -> Result<(), Fail> {
+fn array_keeps_what_it_hides(rt: HostRuntime) {
     let mut array = Array::<4>::new();
-    array.append_slice(b"abcd")?;
+    unwrap(&rt, array.append_slice(b"abcd"));
     array.truncate(1);
     assert_equal!(&rt, array.resize_raw(3), Ok(()));
     assert_equal!(&rt, array.as_slice(), b"abc".as_slice());
     assert_equal!(&rt, array.resize_raw(5), Err(ShortBuf));
     assert_equal!(&rt, array.as_slice(), b"abc".as_slice());
-    Ok(())
 }
 
 #[test]
-fn array_refuses_what_passes_its_end(rt: HostRuntime) -> Result<(), Fail> {
-    let mut array = Array::<4>::try_from(b"abcd".as_slice())?;
+fn array_refuses_what_passes_its_end(rt: HostRuntime) {
+    let mut array = unwrap(&rt, Array::<4>::try_from(b"abcd".as_slice()));
     assert_equal!(&rt, array.append_slice(b""), Ok(()));
     assert_equal!(
         &rt,
@@ -49,12 +48,11 @@ fn array_refuses_what_passes_its_end(rt: HostRuntime) -> Result<(), Fail> {
         Err(AppendError::Short(ShortBuf)),
     );
     assert_equal!(&rt, array.as_slice(), b"ab".as_slice());
-    Ok(())
 }
 
 #[test]
-fn array_is_written_in_place(rt: HostRuntime) -> Result<(), Fail> {
-    let mut array = Array::<4>::try_from(b"abc".as_slice())?;
+fn array_is_written_in_place(rt: HostRuntime) {
+    let mut array = unwrap(&rt, Array::<4>::try_from(b"abc".as_slice()));
     array.as_slice_mut().reverse();
     assert_equal!(&rt, array.as_slice(), b"cba".as_slice());
     assert_equal!(&rt, array.resize_raw(4), Ok(()));
@@ -65,31 +63,29 @@ fn array_is_written_in_place(rt: HostRuntime) -> Result<(), Fail> {
         Some(ShortBuf),
     );
     assert_equal!(&rt, Array::<2>::default().as_slice(), b"".as_slice());
-    Ok(())
 }
 
 /// Fills a new builder through its traits only.
-fn fill<B: EmptyBuilder + Truncate>(rt: &impl Abort, alloc: Global) -> Result<(), AppendError> {
-    let mut builder = B::empty(alloc)?;
-    builder.append_slice(b"abcd")?;
+fn fill<B: EmptyBuilder + Truncate>(rt: &impl Abort, alloc: Global) {
+    let mut builder = unwrap(rt, B::empty(alloc));
+    unwrap(rt, builder.append_slice(b"abcd"));
     assert_equal!(rt, builder.as_ref(), b"abcd".as_slice());
     builder.truncate(1);
-    builder.append_slice(b"e")?;
+    unwrap(rt, builder.append_slice(b"e"));
     assert_equal!(rt, builder.as_ref(), b"ae".as_slice());
     assert_equal!(rt, (&mut builder).max_len(), B::limit());
-    let reserved = B::with_capacity(alloc, 4)?;
+    let reserved = unwrap(rt, B::with_capacity(alloc, 4));
     assert_equal!(rt, reserved.as_ref(), b"".as_slice());
-    Ok(())
 }
 
 #[test]
 fn each_builder_is_filled(rt: HostRuntime) {
     let alloc = rt.alloc();
-    assert_equal!(&rt, fill::<Vec<u8>>(&rt, alloc), Ok(()));
-    assert_equal!(&rt, fill::<Array<4>>(&rt, alloc), Ok(()));
-    assert_equal!(&rt, fill::<BytesMut>(&rt, alloc), Ok(()));
-    assert_equal!(&rt, fill::<SmallVec<u8, 2>>(&rt, alloc), Ok(()));
-    assert_equal!(&rt, fill::<ArrayVec<u8, 4>>(&rt, alloc), Ok(()));
+    fill::<Vec<u8>>(&rt, alloc);
+    fill::<Array<4>>(&rt, alloc);
+    fill::<BytesMut>(&rt, alloc);
+    fill::<SmallVec<u8, 2>>(&rt, alloc);
+    fill::<ArrayVec<u8, 4>>(&rt, alloc);
 }
 
 /// Checks a type's limit and whether it requests memory.
@@ -114,15 +110,10 @@ fn types_tell_their_limits(rt: HostRuntime) {
 }
 
 /// Checks that a copy of a sequence has its content.
-fn is_copied<T: CloneOctets, E: Debug + Drop>(
-    rt: &impl Abort,
-    alloc: Global,
-    made: Result<T, E>,
-) -> Result<(), Fail> {
-    let octets = made?;
-    let copy = octets.clone_octets(alloc)?;
+fn is_copied<T: CloneOctets, E: Debug + Drop>(rt: &impl Abort, alloc: Global, made: Result<T, E>) {
+    let octets = unwrap(rt, made);
+    let copy = unwrap(rt, octets.clone_octets(alloc));
     assert_equal!(rt, copy.as_ref(), octets.as_ref());
-    Ok(())
 }
 
 /// Makes borrowed octets.
@@ -143,99 +134,94 @@ fn fixed(octets: &[u8]) -> Result<ArrayVec<u8, 4>, AppendError> {
 }
 
 #[test]
-fn each_sequence_is_copied(rt: HostRuntime) -> Result<(), Fail> {
+fn each_sequence_is_copied(rt: HostRuntime) {
     let (alloc, slice) = (rt.alloc(), b"abc".as_slice());
-    is_copied::<_, AllocError>(&rt, alloc, Ok(slice))?;
-    is_copied(&rt, alloc, slice.to_vec(alloc))?;
-    is_copied(&rt, alloc, borrowed(alloc, slice))?;
-    is_copied(&rt, alloc, owned(alloc, slice))?;
-    shared_octets_are_copied(&rt, alloc, slice)?;
-    is_copied(&rt, alloc, fixed(slice))?;
-    a_cut_array_is_copied(&rt, alloc, Array::try_from(slice)?)
+    is_copied::<_, AllocError>(&rt, alloc, Ok(slice));
+    is_copied(&rt, alloc, slice.to_vec(alloc));
+    is_copied(&rt, alloc, borrowed(alloc, slice));
+    is_copied(&rt, alloc, owned(alloc, slice));
+    shared_octets_are_copied(&rt, alloc, slice);
+    is_copied(&rt, alloc, fixed(slice));
+    a_cut_array_is_copied(&rt, alloc, unwrap(&rt, Array::try_from(slice)));
 }
 
 /// Checks copies of sequences that share their octets, or hold them inline.
-fn shared_octets_are_copied(rt: &impl Abort, alloc: Global, slice: &[u8]) -> Result<(), Fail> {
-    is_copied(rt, alloc, Bytes::copy_from_slice(alloc, slice))?;
-    is_copied(rt, alloc, BytesMut::copy_from_slice(alloc, slice))?;
-    is_copied(rt, alloc, SmallVec::<u8, 2>::from_slice(alloc, slice))?;
-    is_copied(rt, alloc, RcSlice::<u8>::from_slice(alloc, slice))
+fn shared_octets_are_copied(rt: &impl Abort, alloc: Global, slice: &[u8]) {
+    is_copied(rt, alloc, Bytes::copy_from_slice(alloc, slice));
+    is_copied(rt, alloc, BytesMut::copy_from_slice(alloc, slice));
+    is_copied(rt, alloc, SmallVec::<u8, 2>::from_slice(alloc, slice));
+    is_copied(rt, alloc, RcSlice::<u8>::from_slice(alloc, slice));
 }
 
 /// Checks that a copy of a truncated array also has the octets hidden after its end.
-fn a_cut_array_is_copied(rt: &impl Abort, alloc: Global, mut array: Array<4>) -> Result<(), Fail> {
+fn a_cut_array_is_copied(rt: &impl Abort, alloc: Global, mut array: Array<4>) {
     array.truncate(1);
-    let mut copy = array.clone_octets(alloc)?;
-    is_copied::<_, AllocError>(rt, alloc, Ok(array))?;
+    let mut copy = unwrap(rt, array.clone_octets(alloc));
+    is_copied::<_, AllocError>(rt, alloc, Ok(array));
     assert_equal!(rt, copy.resize_raw(4), Ok(()));
     assert_equal!(rt, copy.as_slice(), b"abc\0".as_slice());
-    Ok(())
 }
 
 /// Checks a builder's octets when they are frozen, turned into a builder again, and grown.
-fn goes_round<B: EmptyBuilder + FreezeBuilder>(
-    rt: &impl Abort,
-    alloc: Global,
-) -> Result<(), AppendError>
+fn goes_round<B: EmptyBuilder + FreezeBuilder>(rt: &impl Abort, alloc: Global)
 where
     B::Octets: IntoBuilder,
 {
-    let mut builder = B::empty(alloc)?;
-    builder.append_slice(b"abc")?;
-    let octets = builder.freeze()?;
+    let mut builder = unwrap(rt, B::empty(alloc));
+    unwrap(rt, builder.append_slice(b"abc"));
+    let octets = unwrap(rt, builder.freeze());
     assert_equal!(rt, octets.as_ref(), b"abc".as_slice());
-    let mut builder = octets.into_builder(alloc)?;
-    builder.append_slice(b"d")?;
+    let mut builder = unwrap(rt, octets.into_builder(alloc));
+    unwrap(rt, builder.append_slice(b"d"));
     assert_equal!(rt, builder.as_ref(), b"abcd".as_slice());
-    Ok(())
 }
 
 /// Checks a sequence made from its builder.
-fn is_built<O: FromBuilder>(rt: &impl Abort, mut builder: O::Builder) -> Result<(), AppendError> {
-    builder.append_slice(b"d")?;
-    let octets = O::from_builder(builder)?;
+fn is_built<O: FromBuilder>(rt: &impl Abort, mut builder: O::Builder) {
+    unwrap(rt, builder.append_slice(b"d"));
+    let octets = unwrap(rt, O::from_builder(builder));
     assert_equal!(rt, octets.as_ref(), b"abcd".as_slice());
-    Ok(())
 }
 
 #[test]
-fn builders_and_sequences_go_round(rt: HostRuntime) -> Result<(), Fail> {
+fn builders_and_sequences_go_round(rt: HostRuntime) {
     let alloc = rt.alloc();
-    goes_round::<Vec<u8>>(&rt, alloc)?;
-    goes_round::<Array<4>>(&rt, alloc)?;
-    goes_round::<BytesMut>(&rt, alloc)?;
-    goes_round::<SmallVec<u8, 2>>(&rt, alloc)?;
-    goes_round::<ArrayVec<u8, 4>>(&rt, alloc)?;
-    Ok(())
+    goes_round::<Vec<u8>>(&rt, alloc);
+    goes_round::<Array<4>>(&rt, alloc);
+    goes_round::<BytesMut>(&rt, alloc);
+    goes_round::<SmallVec<u8, 2>>(&rt, alloc);
+    goes_round::<ArrayVec<u8, 4>>(&rt, alloc);
 }
 
 #[test]
-fn sequences_are_made_by_their_builders(rt: HostRuntime) -> Result<(), Fail> {
+fn sequences_are_made_by_their_builders(rt: HostRuntime) {
     let (alloc, slice) = (rt.alloc(), b"abc".as_slice());
-    is_built::<Vec<u8>>(&rt, slice.into_builder(alloc)?)?;
-    is_built::<Array<4>>(&rt, Array::try_from(slice)?)?;
-    is_built::<SmallVec<u8, 2>>(&rt, SmallVec::from_slice(alloc, slice)?)?;
-    let borrowed = CowOctets::borrowed(alloc, slice).freeze()?;
-    Ok(is_built::<CowOctets>(&rt, borrowed.into_builder(alloc)?)?)
+    is_built::<Vec<u8>>(&rt, unwrap(&rt, slice.into_builder(alloc)));
+    is_built::<Array<4>>(&rt, unwrap(&rt, Array::try_from(slice)));
+    is_built::<SmallVec<u8, 2>>(&rt, unwrap(&rt, SmallVec::from_slice(alloc, slice)));
+    let borrowed = unwrap(&rt, CowOctets::borrowed(alloc, slice).freeze());
+    is_built::<CowOctets>(&rt, unwrap(&rt, borrowed.into_builder(alloc)));
 }
 
 #[test]
-fn fixed_and_shared_octets_are_made_by_their_builders(rt: HostRuntime) -> Result<(), Fail> {
+fn fixed_and_shared_octets_are_made_by_their_builders(rt: HostRuntime) {
     let (alloc, slice) = (rt.alloc(), b"abc".as_slice());
-    is_built::<ArrayVec<u8, 4>>(&rt, fixed(slice)?)?;
-    let shared = BytesMut::copy_from_slice(alloc, slice)?;
-    Ok(is_built::<Bytes>(&rt, FreezeBuilder::freeze(shared)?.into_builder(alloc)?)?)
+    is_built::<ArrayVec<u8, 4>>(&rt, unwrap(&rt, fixed(slice)));
+    let shared = unwrap(&rt, BytesMut::copy_from_slice(alloc, slice));
+    is_built::<Bytes>(
+        &rt,
+        unwrap(
+            &rt,
+            unwrap(&rt, FreezeBuilder::freeze(shared)).into_builder(alloc),
+        ),
+    );
 }
 
 /// Grows the octets "ab" through a reference, and truncates them.
-fn grows_by_a_reference<B: OctetsBuilder + Truncate>(
-    rt: &impl Abort,
-    mut reference: B,
-) -> Result<(), AppendError> {
-    reference.append_slice(b"cd")?;
+fn grows_by_a_reference<B: OctetsBuilder + Truncate>(rt: &impl Abort, mut reference: B) {
+    unwrap(rt, reference.append_slice(b"cd"));
     reference.truncate(3);
     assert_equal!(rt, reference.as_ref(), b"abc".as_slice());
-    Ok(())
 }
 
 /// Checks that octets are "abc".
@@ -250,79 +236,68 @@ fn is_cut<T: Truncate>(rt: &impl Abort, octets: &mut T, len: usize, front: &[u8]
 }
 
 #[test]
-fn a_reference_grows_what_it_refers_to(rt: HostRuntime) -> Result<(), Fail> {
-    let mut octets = b"ab".as_slice().to_vec(rt.alloc())?;
-    grows_by_a_reference(&rt, &mut octets)?;
+fn a_reference_grows_what_it_refers_to(rt: HostRuntime) {
+    let mut octets = unwrap(&rt, b"ab".as_slice().to_vec(rt.alloc()));
+    grows_by_a_reference(&rt, &mut octets);
     is_abc(&rt, &octets);
     let mut slice = b"abc".as_slice();
     is_cut(&rt, &mut slice, 5, b"abc");
     is_cut(&rt, &mut slice, 2, b"ab");
-    let mut shared = Bytes::copy_from_slice(rt.alloc(), b"abc")?;
+    let mut shared = unwrap(&rt, Bytes::copy_from_slice(rt.alloc(), b"abc"));
     is_cut(&rt, &mut shared, 2, b"ab");
-    Ok(())
 }
 
 /// Checks that octets are owned after an empty append.
-fn is_owned_after_nothing(rt: &impl Abort, mut empty: CowOctets) -> Result<(), AppendError> {
-    empty.append_slice(b"")?;
+fn is_owned_after_nothing(rt: &impl Abort, mut empty: CowOctets) {
+    unwrap(rt, empty.append_slice(b""));
     assert_true!(rt, !empty.is_borrowed());
-    Ok(())
 }
 
 #[test]
-fn borrowed_octets_are_copied_at_the_first_append(rt: HostRuntime) -> Result<(), Fail> {
-    is_owned_after_nothing(&rt, CowOctets::borrowed(rt.alloc(), b""))?;
+fn borrowed_octets_are_copied_at_the_first_append(rt: HostRuntime) {
+    is_owned_after_nothing(&rt, CowOctets::borrowed(rt.alloc(), b""));
     let mut cow = CowOctets::borrowed(rt.alloc(), b"abc");
     cow.truncate(5);
     assert_equal!(&rt, cow.as_ref(), b"abc".as_slice());
     assert_true!(&rt, cow.is_borrowed());
-    cow.append_slice(b"d")?;
+    unwrap(&rt, cow.append_slice(b"d"));
     assert_equal!(&rt, cow.as_ref(), b"abcd".as_slice());
     assert_true!(&rt, !cow.is_borrowed());
     cow.truncate(2);
     assert_equal!(&rt, cow.as_ref(), b"ab".as_slice());
-    Ok(())
 }
 
 /// Checks that a truncation to the maximum length removes nothing.
-fn keeps_all<T: Truncate, E: Debug + Drop>(
-    rt: &impl Abort,
-    made: Result<T, E>,
-) -> Result<(), Fail> {
-    let mut octets = made?;
+fn keeps_all<T: Truncate, E: Debug + Drop>(rt: &impl Abort, made: Result<T, E>) {
+    let mut octets = unwrap(rt, made);
     octets.truncate(usize::MAX);
     assert_equal!(rt, octets.as_ref(), b"ab".as_slice());
-    Ok(())
 }
 
 #[test]
-fn the_greatest_length_takes_nothing_away(rt: HostRuntime) -> Result<(), Fail> {
+fn the_greatest_length_takes_nothing_away(rt: HostRuntime) {
     let (alloc, slice) = (rt.alloc(), b"ab".as_slice());
-    keeps_all::<_, AllocError>(&rt, Ok(slice))?;
-    keeps_all(&rt, slice.to_vec(alloc))?;
-    keeps_all::<_, AllocError>(&rt, Ok(&mut slice.to_vec(alloc)?))?;
-    keeps_all(&rt, borrowed(alloc, slice))?;
-    keeps_all(&rt, owned(alloc, slice))?;
-    shared_and_fixed_octets_are_kept(&rt, alloc, slice)
+    keeps_all::<_, AllocError>(&rt, Ok(slice));
+    keeps_all(&rt, slice.to_vec(alloc));
+    keeps_all::<_, AllocError>(&rt, Ok(&mut unwrap(&rt, slice.to_vec(alloc))));
+    keeps_all(&rt, borrowed(alloc, slice));
+    keeps_all(&rt, owned(alloc, slice));
+    shared_and_fixed_octets_are_kept(&rt, alloc, slice);
 }
 
 /// Does the same for sequences that share their octets or hold them inline.
-fn shared_and_fixed_octets_are_kept(
-    rt: &impl Abort,
-    alloc: Global,
-    slice: &[u8],
-) -> Result<(), Fail> {
-    keeps_all(rt, Bytes::copy_from_slice(alloc, slice))?;
-    keeps_all(rt, BytesMut::copy_from_slice(alloc, slice))?;
-    keeps_all(rt, SmallVec::<u8, 2>::from_slice(alloc, slice))?;
-    keeps_all(rt, fixed(slice))?;
-    let mut array = Array::<4>::try_from(slice)?;
+fn shared_and_fixed_octets_are_kept(rt: &impl Abort, alloc: Global, slice: &[u8]) {
+    keeps_all(rt, Bytes::copy_from_slice(alloc, slice));
+    keeps_all(rt, BytesMut::copy_from_slice(alloc, slice));
+    keeps_all(rt, SmallVec::<u8, 2>::from_slice(alloc, slice));
+    keeps_all(rt, fixed(slice));
+    let mut array = unwrap(rt, Array::<4>::try_from(slice));
     assert_equal!(rt, array.resize_raw(usize::MAX), Err(ShortBuf));
-    keeps_all::<_, AllocError>(rt, Ok(array))
+    keeps_all::<_, AllocError>(rt, Ok(array));
 }
 
 #[test]
-fn the_greatest_capacity_is_refused_or_ignored(rt: HostRuntime) -> Result<(), Fail> {
+fn the_greatest_capacity_is_refused_or_ignored(rt: HostRuntime) {
     let (alloc, most) = (rt.alloc(), usize::MAX);
     assert_true!(
         &rt,
@@ -338,38 +313,38 @@ fn the_greatest_capacity_is_refused_or_ignored(rt: HostRuntime) -> Result<(), Fa
     );
     assert_equal!(
         &rt,
-        Array::<4>::with_capacity(alloc, most)?.as_slice(),
+        unwrap(&rt, Array::<4>::with_capacity(alloc, most)).as_slice(),
         b"".as_slice(),
     );
-    let fixed = <ArrayVec<u8, 4> as EmptyBuilder>::with_capacity(alloc, most)?;
+    let fixed = unwrap(
+        &rt,
+        <ArrayVec<u8, 4> as EmptyBuilder>::with_capacity(alloc, most),
+    );
     assert_equal!(&rt, fixed.as_slice(), b"".as_slice());
-    Ok(())
 }
 
 #[test]
-fn arrays_are_compared_by_content(rt: HostRuntime) -> Result<(), Fail> {
-    let mut cut = Array::<4>::try_from(b"ab".as_slice())?;
+fn arrays_are_compared_by_content(rt: HostRuntime) {
+    let mut cut = unwrap(&rt, Array::<4>::try_from(b"ab".as_slice()));
     cut.truncate(1);
-    let mut whole = Array::<4>::try_from(b"a".as_slice())?;
+    let mut whole = unwrap(&rt, Array::<4>::try_from(b"a".as_slice()));
     assert_true!(&rt, cut == whole);
     assert_equal!(&rt, cut.cmp(&whole), Ordering::Equal);
     assert_equal!(&rt, cut.resize_raw(2), Ok(()));
     assert_equal!(&rt, whole.resize_raw(2), Ok(()));
     assert_true!(&rt, cut != whole);
     assert_equal!(&rt, cut.partial_cmp(&whole), Some(Ordering::Greater));
-    Ok(())
 }
 
 #[test]
-fn arrays_are_hashed_and_shown_by_content(rt: HostRuntime) -> Result<(), Fail> {
-    let mut cut = Array::<4>::try_from(b"abc".as_slice())?;
+fn arrays_are_hashed_and_shown_by_content(rt: HostRuntime) {
+    let mut cut = unwrap(&rt, Array::<4>::try_from(b"abc".as_slice()));
     cut.truncate(2);
-    let whole = Array::<4>::try_from(b"ab".as_slice())?;
+    let whole = unwrap(&rt, Array::<4>::try_from(b"ab".as_slice()));
     let hasher = BuildHasherDefault::<FoldHasher>::default();
     assert_equal!(&rt, hasher.hash_one(&cut), hasher.hash_one(&whole));
-    let shown = format!(in rt.alloc(); "{cut:?}")?;
+    let shown = unwrap(&rt, format!(in rt.alloc(); "{cut:?}"));
     assert_equal!(&rt, shown.as_str(), "octets::Array([97, 98])");
-    Ok(())
 }
 
 #[test]
@@ -383,22 +358,24 @@ fn results_known_to_be_ok_give_their_values(rt: HostRuntime) {
 }
 
 /// Checks what an error shows.
-fn shows<E: ToString>(rt: &impl Abort, alloc: Global, error: &E, text: &str) -> Result<(), Fail> {
-    assert_equal!(rt, error.to_string(alloc)?.as_str(), text);
-    Ok(())
+fn shows<E: ToString>(rt: &impl Abort, alloc: Global, error: &E, text: &str) {
+    assert_equal!(rt, unwrap(rt, error.to_string(alloc)).as_str(), text);
 }
 
 #[test]
-fn errors_are_shown(rt: HostRuntime) -> Result<(), Fail> {
+fn errors_are_shown(rt: HostRuntime) {
     let alloc = rt.alloc();
     let short = AppendError::from(ShortBuf);
     let memory = AppendError::from(AllocError);
-    assert_equal!(&rt, &short, &AppendError::Short(ShortBuf.clone()?));
+    assert_equal!(
+        &rt,
+        &short,
+        &AppendError::Short(unwrap(&rt, ShortBuf.clone()))
+    );
     assert_equal!(&rt, &memory, &AppendError::Memory);
-    shows(&rt, alloc, &ShortBuf, "buffer size exceeded")?;
-    shows(&rt, alloc, &short, "buffer size exceeded")?;
-    shows(&rt, alloc, &memory, "out of memory")?;
-    let shown = format!(in alloc; "{short:?} {memory:?}")?;
+    shows(&rt, alloc, &ShortBuf, "buffer size exceeded");
+    shows(&rt, alloc, &short, "buffer size exceeded");
+    shows(&rt, alloc, &memory, "out of memory");
+    let shown = unwrap(&rt, format!(in alloc; "{short:?} {memory:?}"));
     assert_equal!(&rt, shown.as_str(), "Short(ShortBuf) Memory");
-    Ok(())
 }

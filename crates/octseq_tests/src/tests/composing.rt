@@ -1,4 +1,5 @@
 //! Integers and parts: what is appended, what is refused, and that it is read back.
+use crate::tests::unwrap;
 use bytes::BytesMut;
 use octseq::array::Array;
 use octseq::builder::{AppendError, AsOctets, EmptyBuilder, OctetsBuilder, ShortBuf, Truncate};
@@ -7,7 +8,6 @@ use octseq::parse::{Parser, ShortInput};
 use octseq_asserts::{assert_equal, assert_true};
 use std::alloc::Global;
 use std::process::Abort;
-use std::test::Fail;
 
 /// Appends the minimum of each integer, 0 and the maximum.
 macro_rules! append_each {
@@ -52,7 +52,7 @@ fn are_short_integers(rt: &impl Abort, octets: &[u8]) {
         i16, parse_i16_le;
         u16, parse_u16_be;
         u16, parse_u16_le;
-    )
+    );
 }
 
 fn append_integers_of_32_bits<B: OctetsBuilder>(builder: &mut B) -> Result<(), AppendError> {
@@ -73,7 +73,7 @@ fn are_integers_of_32_bits(rt: &impl Abort, octets: &[u8]) {
         i32, parse_i32_le;
         u32, parse_u32_be;
         u32, parse_u32_le;
-    )
+    );
 }
 
 fn append_integers_of_64_bits<B: OctetsBuilder>(builder: &mut B) -> Result<(), AppendError> {
@@ -94,7 +94,7 @@ fn are_integers_of_64_bits(rt: &impl Abort, octets: &[u8]) {
         i64, parse_i64_le;
         u64, parse_u64_be;
         u64, parse_u64_le;
-    )
+    );
 }
 
 fn append_integers_of_128_bits<B: OctetsBuilder>(builder: &mut B) -> Result<(), AppendError> {
@@ -115,70 +115,71 @@ fn are_integers_of_128_bits(rt: &impl Abort, octets: &[u8]) {
         i128, parse_i128_le;
         u128, parse_u128_be;
         u128, parse_u128_le;
-    )
+    );
 }
 
 /// Checks each integer with one builder.
-fn goes_round<B: EmptyBuilder + Truncate>(rt: &impl Abort, alloc: Global) -> Result<(), Fail> {
-    let mut builder = B::empty(alloc)?;
-    append_short_integers(&mut builder)?;
+fn goes_round<B: EmptyBuilder + Truncate>(rt: &impl Abort, alloc: Global) {
+    let mut builder = unwrap(rt, B::empty(alloc));
+    unwrap(rt, append_short_integers(&mut builder));
     are_short_integers(rt, builder.as_ref());
     builder.truncate(0);
-    append_integers_of_32_bits(&mut builder)?;
+    unwrap(rt, append_integers_of_32_bits(&mut builder));
     are_integers_of_32_bits(rt, builder.as_ref());
     builder.truncate(0);
-    append_integers_of_64_bits(&mut builder)?;
+    unwrap(rt, append_integers_of_64_bits(&mut builder));
     are_integers_of_64_bits(rt, builder.as_ref());
     builder.truncate(0);
-    append_integers_of_128_bits(&mut builder)?;
+    unwrap(rt, append_integers_of_128_bits(&mut builder));
     are_integers_of_128_bits(rt, builder.as_ref());
-    Ok(())
 }
 
 #[test]
-fn integers_are_read_back(rt: HostRuntime) -> Result<(), Fail> {
-    goes_round::<Vec<u8>>(&rt, rt.alloc())?;
-    goes_round::<Array<256>>(&rt, rt.alloc())?;
-    goes_round::<BytesMut>(&rt, rt.alloc())
+fn integers_are_read_back(rt: HostRuntime) {
+    goes_round::<Vec<u8>>(&rt, rt.alloc());
+    goes_round::<Array<256>>(&rt, rt.alloc());
+    goes_round::<BytesMut>(&rt, rt.alloc());
 }
 
 #[test]
-fn integers_are_appended_in_both_orders(rt: HostRuntime) -> Result<(), Fail> {
+fn integers_are_appended_in_both_orders(rt: HostRuntime) {
     let mut octets = Vec::new(rt.alloc());
-    append_i16_le(&mut octets, -4242)?;
-    append_u32_be(&mut octets, 0x1234_5678)?;
+    unwrap(&rt, append_i16_le(&mut octets, -4242));
+    unwrap(&rt, append_u32_be(&mut octets, 0x1234_5678));
     assert_equal!(
         &rt,
         octets.as_slice(),
         b"\x6E\xEF\x12\x34\x56\x78".as_slice(),
     );
     octets.clear();
-    append_i128_be(&mut octets, -1)?;
+    unwrap(&rt, append_i128_be(&mut octets, -1));
     assert_equal!(&rt, octets.as_slice(), [0xFF; 16].as_slice());
-    let mut full = Array::<1>::try_from(b"a".as_slice())?;
+    let mut full = unwrap(&rt, Array::<1>::try_from(b"a".as_slice()));
     assert_equal!(
         &rt,
         append_u8(&mut full, 0),
         Err(AppendError::Short(ShortBuf)),
     );
     assert_equal!(&rt, full.as_slice(), b"a".as_slice());
-    Ok(())
 }
 
 #[test]
-fn a_message_is_read_back(rt: HostRuntime) -> Result<(), Fail> {
+fn a_message_is_read_back(rt: HostRuntime) {
     let mut message = Vec::new(rt.alloc());
-    append_u16_be(&mut message, 0x1234)?;
+    unwrap(&rt, append_u16_be(&mut message, 0x1234));
     assert_equal!(&rt, append_part_u8(&mut message, b"abc"), Ok(()));
-    append_i32_le(&mut message, -2)?;
+    unwrap(&rt, append_i32_le(&mut message, -2));
     let octets = b"\x12\x34\x03abc\xFE\xFF\xFF\xFF".as_slice();
     assert_equal!(&rt, message.as_slice(), octets);
     let mut parser = Parser::from_ref(&message);
-    assert_equal!(&rt, parser.parse_u16_be()?, 0x1234);
-    assert_equal!(&rt, parser.parse_part_u8()?.peek_all(), b"abc".as_slice());
-    assert_equal!(&rt, parser.parse_i32_le()?, -2);
+    assert_equal!(&rt, unwrap(&rt, parser.parse_u16_be()), 0x1234);
+    assert_equal!(
+        &rt,
+        unwrap(&rt, parser.parse_part_u8()).peek_all(),
+        b"abc".as_slice()
+    );
+    assert_equal!(&rt, unwrap(&rt, parser.parse_i32_le()), -2);
     assert_equal!(&rt, parser.remaining(), 0);
-    Ok(())
 }
 
 /// Checks that a part was appended, which is now all of a builder's content.
@@ -193,7 +194,7 @@ fn is_appended(
 }
 
 #[test]
-fn parts_come_after_their_lengths(rt: HostRuntime) -> Result<(), Fail> {
+fn parts_come_after_their_lengths(rt: HostRuntime) {
     let mut octets = Vec::new(rt.alloc());
     let appended = append_part_u8(&mut octets, b"");
     is_appended(&rt, appended, &octets, b"\0");
@@ -209,7 +210,6 @@ fn parts_come_after_their_lengths(rt: HostRuntime) -> Result<(), Fail> {
     let mut fixed = Array::<4>::new();
     let appended = append_part_u16_be(&mut fixed, b"ab");
     is_appended(&rt, appended, &fixed, b"\0\x02ab");
-    Ok(())
 }
 
 /// Checks that a part was refused as too long, and the builder is unchanged.
@@ -224,7 +224,7 @@ fn is_too_long(
 }
 
 #[test]
-fn the_longest_parts_are_appended_and_no_longer_ones(rt: HostRuntime) -> Result<(), Fail> {
+fn the_longest_parts_are_appended_and_no_longer_ones(rt: HostRuntime) {
     let (longest, longer) = ([7; 255], [7; 256]);
     let mut wanted = [7; 256];
     wanted[0] = 255;
@@ -237,10 +237,9 @@ fn the_longest_parts_are_appended_and_no_longer_ones(rt: HostRuntime) -> Result<
     let refused = append_part_u8(&mut fixed, &longer);
     is_too_long(&rt, refused, &fixed, b"");
     octets.clear();
-    let longer = Vec::from_elem(rt.alloc(), 7, 65_536)?;
+    let longer = unwrap(&rt, Vec::from_elem(rt.alloc(), 7, 65_536));
     let refused = append_part_u16_be(&mut octets, longer.as_slice());
     is_too_long(&rt, refused, &octets, b"");
-    Ok(())
 }
 
 /// Checks that a part was refused for lack of room, and the builder is unchanged.
@@ -255,19 +254,18 @@ fn is_short(
 }
 
 #[test]
-fn a_part_that_passes_the_limit_leaves_the_content(rt: HostRuntime) -> Result<(), Fail> {
-    let mut fixed = Array::<4>::try_from(b"ab".as_slice())?;
+fn a_part_that_passes_the_limit_leaves_the_content(rt: HostRuntime) {
+    let mut fixed = unwrap(&rt, Array::<4>::try_from(b"ab".as_slice()));
     let refused = append_part_u8(&mut fixed, b"cd");
     is_short(&rt, refused, &fixed, b"ab");
     let mut fixed = Array::<3>::new();
     let refused = append_part_u16_be(&mut fixed, b"ab");
     is_short(&rt, refused, &fixed, b"");
-    let mut full = Array::<1>::try_from(b"a".as_slice())?;
+    let mut full = unwrap(&rt, Array::<1>::try_from(b"a".as_slice()));
     let refused = append_part_u8(&mut full, b"");
     is_short(&rt, refused, &full, b"a");
     let refused = append_part_u32_be(&mut full, b"");
     is_short(&rt, refused, &full, b"a");
-    Ok(())
 }
 
 /// Checks that there is no part with a length of two or four octets, and the parser is unchanged.
@@ -279,23 +277,25 @@ fn is_cut(rt: &impl Abort, octets: &[u8]) {
 }
 
 /// Checks that a part of four octets is a window, and the parser is after it.
-fn is_read(rt: &impl Abort) -> Result<(), ShortInput> {
+fn is_read(rt: &impl Abort) {
     let mut parser = Parser::from_static(b"\0\x02abc");
-    let part = parser.parse_part_u16_be()?;
+    let part = unwrap(rt, parser.parse_part_u16_be());
     assert_equal!(rt, (part.pos(), part.len()), (2, 4));
     assert_equal!(rt, part.peek_all(), b"ab".as_slice());
     assert_equal!(rt, parser.pos(), 4);
-    Ok(())
 }
 
 #[test]
-fn a_cut_part_is_refused(rt: HostRuntime) -> Result<(), Fail> {
-    is_read(&rt)?;
+fn a_cut_part_is_refused(rt: HostRuntime) {
+    is_read(&rt);
     is_cut(&rt, b"\0\x02a");
     is_cut(&rt, b"\0");
     let mut parser = Parser::from_static(b"\0\0\0\x01z\x02a");
-    assert_equal!(&rt, parser.parse_part_u32_be()?.peek_all(), b"z".as_slice());
+    assert_equal!(
+        &rt,
+        unwrap(&rt, parser.parse_part_u32_be()).peek_all(),
+        b"z".as_slice()
+    );
     assert_true!(&rt, parser.parse_part_u8().is_err());
     assert_equal!(&rt, parser.pos(), 5);
-    Ok(())
 }

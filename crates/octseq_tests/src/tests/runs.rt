@@ -1,4 +1,5 @@
 //! Lists of calls on parsers, and the reply to each.
+use crate::tests::unwrap;
 use octseq::builder::AsOctets;
 use octseq::octets::Octets;
 use octseq::parse::{Kind, ParserCall, ParserCommand, ParserReply, run};
@@ -7,7 +8,6 @@ use octseq_uses::scarce::Scarce;
 use std::alloc::{AllocError, AllocGlobal, Global};
 use std::fmt::Write;
 use std::process::Abort;
-use std::test::Fail;
 
 /// Returns octets as a text, which they are in these tests.
 fn text(octets: &[u8]) -> &str {
@@ -32,16 +32,10 @@ fn show<R: Octets>(shown: &mut String, reply: &ParserReply<R>) -> Result<(), All
 }
 
 /// Checks the text of a reply.
-fn shows<R: Octets>(
-    rt: &impl Abort,
-    alloc: Global,
-    reply: &ParserReply<R>,
-    wanted: &str,
-) -> Result<(), Fail> {
+fn shows<R: Octets>(rt: &impl Abort, alloc: Global, reply: &ParserReply<R>, wanted: &str) {
     let mut shown = String::new(alloc);
-    show(&mut shown, reply)?;
+    unwrap(rt, show(&mut shown, reply));
     assert_equal!(rt, shown.as_str(), wanted);
-    Ok(())
 }
 
 /// Commands, each with its expected reply.
@@ -49,25 +43,27 @@ fn shows<R: Octets>(
 struct Answers<'a>(&'a [(usize, ParserCall, &'a str)]);
 
 impl<H: Abort + AllocGlobal> Case<H> for Answers<'_> {
-    fn holds<R: Octets + Copy>(&self, rt: &H, octets: R) -> Result<(), Fail> {
+    fn holds<R: Octets + Copy>(&self, rt: &H, octets: R) {
         let mut commands = Vec::new(rt.alloc());
         for (parser, call, _) in self.0 {
-            commands.push(ParserCommand {
-                parser: *parser,
-                call: *call,
-            })?;
+            unwrap(
+                rt,
+                commands.push(ParserCommand {
+                    parser: *parser,
+                    call: *call,
+                }),
+            );
         }
-        let replies = run(rt.alloc(), octets, &commands)?;
+        let replies = unwrap(rt, run(rt.alloc(), octets, &commands));
         assert_equal!(rt, replies.len(), self.0.len());
         for ((_, _, wanted), reply) in self.0.iter().zip(&replies) {
-            shows(rt, rt.alloc(), reply, wanted)?;
+            shows(rt, rt.alloc(), reply, wanted);
         }
-        Ok(())
     }
 }
 
 #[test]
-fn a_run_has_one_reply_a_command(rt: HostRuntime) -> Result<(), Fail> {
+fn a_run_has_one_reply_a_command(rt: HostRuntime) {
     let cases = [
         (0, ParserCall::Advance(2), "Done"),
         (0, ParserCall::Nested(4), "Parser(1)"),
@@ -86,11 +82,11 @@ fn a_run_has_one_reply_a_command(rt: HostRuntime) -> Result<(), Fail> {
         (0, ParserCall::Octets(3), "Range(789)"),
         (0, ParserCall::Remaining, "Number(0)"),
     ];
-    over_each(&rt, &Answers(&cases), b"0123456789")
+    unwrap(&rt, over_each(&rt, &Answers(&cases), b"0123456789"));
 }
 
 #[test]
-fn a_run_seeks(rt: HostRuntime) -> Result<(), Fail> {
+fn a_run_seeks(rt: HostRuntime) {
     let cases = [
         (0, ParserCall::Peek(1), "Slice(0)"),
         (0, ParserCall::Pos, "Number(0)"),
@@ -107,11 +103,11 @@ fn a_run_seeks(rt: HostRuntime) -> Result<(), Fail> {
         (0, ParserCall::Pos, "Number(10)"),
         (0, ParserCall::Remaining, "Number(0)"),
     ];
-    over_each(&rt, &Answers(&cases), b"0123456789")
+    unwrap(&rt, over_each(&rt, &Answers(&cases), b"0123456789"));
 }
 
 #[test]
-fn a_run_advances(rt: HostRuntime) -> Result<(), Fail> {
+fn a_run_advances(rt: HostRuntime) {
     let cases = [
         (0, ParserCall::Pos, "Number(0)"),
         (0, ParserCall::Peek(1), "Slice(0)"),
@@ -123,11 +119,11 @@ fn a_run_advances(rt: HostRuntime) -> Result<(), Fail> {
         (0, ParserCall::Pos, "Number(10)"),
         (0, ParserCall::PeekAll, "Slice()"),
     ];
-    over_each(&rt, &Answers(&cases), b"0123456789")
+    unwrap(&rt, over_each(&rt, &Answers(&cases), b"0123456789"));
 }
 
 #[test]
-fn a_run_peeks_and_checks(rt: HostRuntime) -> Result<(), Fail> {
+fn a_run_peeks_and_checks(rt: HostRuntime) {
     let cases = [
         (0, ParserCall::Peek(2), "Slice(01)"),
         (0, ParserCall::Peek(10), "Slice(0123456789)"),
@@ -143,11 +139,11 @@ fn a_run_peeks_and_checks(rt: HostRuntime) -> Result<(), Fail> {
         (0, ParserCall::CheckLen(8), "Done"),
         (0, ParserCall::CheckLen(9), "Short"),
     ];
-    over_each(&rt, &Answers(&cases), b"0123456789")
+    unwrap(&rt, over_each(&rt, &Answers(&cases), b"0123456789"));
 }
 
 #[test]
-fn a_run_nests(rt: HostRuntime) -> Result<(), Fail> {
+fn a_run_nests(rt: HostRuntime) {
     let cases = [
         (0, ParserCall::PeekAll, "Slice(0123456789)"),
         (0, ParserCall::Advance(2), "Done"),
@@ -158,11 +154,11 @@ fn a_run_nests(rt: HostRuntime) -> Result<(), Fail> {
         (1, ParserCall::PeekAll, "Slice(45)"),
         (0, ParserCall::PeekAll, "Slice(6789)"),
     ];
-    over_each(&rt, &Answers(&cases), b"0123456789")
+    unwrap(&rt, over_each(&rt, &Answers(&cases), b"0123456789"));
 }
 
 #[test]
-fn a_run_copies_what_it_is_asked(rt: HostRuntime) -> Result<(), Fail> {
+fn a_run_copies_what_it_is_asked(rt: HostRuntime) {
     let cases = [
         (0, ParserCall::IsEmpty, "Flag(false)"),
         (0, ParserCall::CheckLen(10), "Done"),
@@ -184,7 +180,7 @@ fn a_run_copies_what_it_is_asked(rt: HostRuntime) -> Result<(), Fail> {
         (0, ParserCall::Pos, "Number(3)"),
         (usize::MAX, ParserCall::Pos, "NoParser"),
     ];
-    over_each(&rt, &Answers(&cases), b"0123456789")
+    unwrap(&rt, over_each(&rt, &Answers(&cases), b"0123456789"));
 }
 
 /// Each integer at the front of FD 78 A8 4E CE 7A BA 26 DD 0F 29 99 F8 C6 0E 5D.
@@ -226,22 +222,21 @@ const INTEGERS: [(Kind, &str); 22] = [
 ];
 
 #[test]
-fn each_kind_of_integer_is_read(rt: HostRuntime) -> Result<(), Fail> {
+fn each_kind_of_integer_is_read(rt: HostRuntime) {
     let octets = b"\xFD\x78\xA8\x4E\xCE\x7A\xBA\x26\xDD\x0F\x29\x99\xF8\xC6\x0E\x5D";
     for (kind, reply) in INTEGERS {
         let cases = [(0, ParserCall::Int(kind), reply)];
-        over_each(&rt, &Answers(&cases), octets)?;
+        unwrap(&rt, over_each(&rt, &Answers(&cases), octets));
     }
-    Ok(())
 }
 
 /// Runs the test on octets whose ranges are refused for lack of memory.
-fn over_scarce<H: Abort + AllocGlobal>(rt: &H, answers: &Answers) -> Result<(), Fail> {
-    answers.holds(rt, Scarce(*b"abc"))
+fn over_scarce<H: Abort + AllocGlobal>(rt: &H, answers: &Answers) {
+    answers.holds(rt, Scarce(*b"abc"));
 }
 
 #[test]
-fn a_range_that_is_refused_for_memory_moves_nothing(rt: HostRuntime) -> Result<(), Fail> {
+fn a_range_that_is_refused_for_memory_moves_nothing(rt: HostRuntime) {
     let cases = [
         (0, ParserCall::Advance(1), "Done"),
         (0, ParserCall::Octets(2), "Memory"),
@@ -250,5 +245,5 @@ fn a_range_that_is_refused_for_memory_moves_nothing(rt: HostRuntime) -> Result<(
         (0, ParserCall::Buf(2), "Slice(bc)"),
         (0, ParserCall::Octets(1), "Short"),
     ];
-    over_scarce(&rt, &Answers(&cases))
+    over_scarce(&rt, &Answers(&cases));
 }

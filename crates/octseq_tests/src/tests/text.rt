@@ -1,5 +1,6 @@
 //! Texts: how they are read, pushed to and refused, and where faults are.
 use super::is_text_or_short;
+use crate::tests::unwrap;
 use octseq::array::Array;
 use octseq::builder::{AppendError, EmptyBuilder, OctetsBuilder, ShortBuf, Truncate};
 use octseq::str::{Command, FromUtf8Error, Reply, StrBuilder, run};
@@ -9,7 +10,6 @@ use octseq_uses::capped::Capped;
 use octseq_uses::rationed::Rationed;
 use std::alloc::Global;
 use std::process::Abort;
-use std::test::Fail;
 
 mod chunks;
 mod conversions;
@@ -22,21 +22,20 @@ mod table;
 mod texts;
 
 #[test]
-fn thai_and_chinese_are_read(rt: HostRuntime) -> Result<(), Fail> {
-    let octets = "ประเทศไทย中".as_bytes().to_vec(rt.alloc())?;
-    let text = StrBuilder::from_utf8(octets).ok().ok_or("refused")?;
+fn thai_and_chinese_are_read(rt: HostRuntime) {
+    let octets = unwrap(&rt, "ประเทศไทย中".as_bytes().to_vec(rt.alloc()));
+    let text = unwrap(&rt, StrBuilder::from_utf8(octets).ok().ok_or("refused"));
     assert_equal!(&rt, text.len(), 30);
     assert_true!(&rt, !text.is_empty());
     assert_equal!(&rt, text.as_str(), "ประเทศไทย中");
     assert_equal!(&rt, text.as_slice(), "ประเทศไทย中".as_bytes());
     assert_equal!(&rt, text.into_octets_builder().len(), 30);
-    Ok(())
 }
 
 /// Returns why octets in an array aren't a text.
-fn refused(octets: &[u8]) -> Result<FromUtf8Error<Array<4>>, Fail> {
-    let octets = Array::<4>::try_from(octets)?;
-    Ok(StrBuilder::from_utf8(octets).err().ok_or("accepted")?)
+fn refused(rt: &impl Abort, octets: &[u8]) -> FromUtf8Error<Array<4>> {
+    let octets = unwrap(rt, Array::<4>::try_from(octets));
+    unwrap(rt, StrBuilder::from_utf8(octets).err().ok_or("accepted"))
 }
 
 /// Checks that the error has the octets, and says where they are wrong.
@@ -47,20 +46,19 @@ fn is_refused(rt: &impl Abort, error: &FromUtf8Error<Array<4>>) {
 }
 
 #[test]
-fn octets_that_are_no_text_are_handed_back(rt: HostRuntime) -> Result<(), Fail> {
-    let error = refused(b"a\xC0")?;
+fn octets_that_are_no_text_are_handed_back(rt: HostRuntime) {
+    let error = refused(&rt, b"a\xC0");
     is_refused(&rt, &error);
-    assert_true!(&rt, refused(b"b\xC0")? != error);
-    let shown = format!(in rt.alloc(); "{error:?}")?;
+    assert_true!(&rt, refused(&rt, b"b\xC0") != error);
+    let shown = unwrap(&rt, format!(in rt.alloc(); "{error:?}"));
     assert_equal!(
         &rt,
         shown.as_str(),
         "FromUtf8Error { fault: Utf8Fault { valid_up_to: 1, error_len: Some(1) }, .. }",
     );
-    let copy = error.clone(rt.alloc())?;
+    let copy = unwrap(&rt, error.clone(rt.alloc()));
     assert_true!(&rt, copy == error);
     assert_equal!(&rt, copy.into_octets().as_slice(), b"a\xC0".as_slice());
-    Ok(())
 }
 
 /// Checks that octets aren't a text, by both errors.
@@ -70,18 +68,17 @@ fn is_faulty(
     octets: &[u8],
     wanted: (usize, Option<usize>),
     text: &str,
-) -> Result<(), Fail> {
-    let fault = first_fault(octets, &mut Turns::new()).ok_or("none")?;
+) {
+    let fault = unwrap(rt, first_fault(octets, &mut Turns::new()).ok_or("none"));
     assert_equal!(rt, (fault.valid_up_to(), fault.error_len()), wanted);
-    assert_equal!(rt, fault.to_string(alloc)?.as_str(), text);
-    let error = StrBuilder::from_utf8(octets).err().ok_or("accepted")?;
+    assert_equal!(rt, unwrap(rt, fault.to_string(alloc)).as_str(), text);
+    let error = unwrap(rt, StrBuilder::from_utf8(octets).err().ok_or("accepted"));
     assert_equal!(rt, error.utf8_error(), fault);
-    assert_equal!(rt, error.to_string(alloc)?.as_str(), text);
-    Ok(())
+    assert_equal!(rt, unwrap(rt, error.to_string(alloc)).as_str(), text);
 }
 
 #[test]
-fn faults_are_found_and_shown(rt: HostRuntime) -> Result<(), Fail> {
+fn faults_are_found_and_shown(rt: HostRuntime) {
     let cases = [
         (
             b"a\xF1\x80\x80".as_slice(),
@@ -110,32 +107,31 @@ fn faults_are_found_and_shown(rt: HostRuntime) -> Result<(), Fail> {
         ),
     ];
     for (octets, wanted, text) in cases {
-        is_faulty(&rt, rt.alloc(), octets, wanted, text)?;
+        is_faulty(&rt, rt.alloc(), octets, wanted, text);
     }
     assert_equal!(&rt, find_fault(b""), None);
-    Ok(())
 }
 
 /// Returns the lengths of the ill-formed parts, from the left.
-fn bad_lengths(alloc: Global, octets: &[u8]) -> Result<Vec<usize>, Fail> {
+fn bad_lengths(rt: &impl Abort, alloc: Global, octets: &[u8]) -> Vec<usize> {
     let mut lengths = Vec::new(alloc);
     let mut at = 0;
     for _ in octets {
         let Some(fault) = first_fault(&octets[at.min(octets.len())..], &mut Turns::new()) else {
             break;
         };
-        let length = fault.error_len().ok_or("cut")?;
-        lengths.push(length)?;
+        let length = unwrap(rt, fault.error_len().ok_or("cut"));
+        unwrap(rt, lengths.push(length));
         at = at
             .saturating_add(fault.valid_up_to())
             .saturating_add(length);
     }
-    Ok(lengths)
+    lengths
 }
 
 /// The examples of the Unicode Standard, chapter 3, on the replacement of maximal subparts.
 #[test]
-fn maximal_subparts_are_those_of_the_standard(rt: HostRuntime) -> Result<(), Fail> {
+fn maximal_subparts_are_those_of_the_standard(rt: HostRuntime) {
     let cases = [
         (
             b"\xC0\xAF\xE0\x80\xBF\xF0\x81\x82A".as_slice(),
@@ -149,54 +145,57 @@ fn maximal_subparts_are_those_of_the_standard(rt: HostRuntime) -> Result<(), Fai
         (b"\xE1\x80\xE2\xF0\x91\x92\xF1\xBFA", &[2, 1, 3, 2]),
     ];
     for (octets, lengths) in cases {
-        assert_equal!(&rt, bad_lengths(rt.alloc(), octets)?.as_slice(), lengths);
+        assert_equal!(
+            &rt,
+            bad_lengths(&rt, rt.alloc(), octets).as_slice(),
+            lengths
+        );
     }
-    Ok(())
 }
 
 /// Makes texts through their traits only.
-fn make<B: EmptyBuilder>(rt: &impl Abort, alloc: Global) -> Result<(), Fail> {
-    assert_true!(rt, StrBuilder::<B>::new(alloc)?.is_empty());
-    assert_true!(rt, StrBuilder::<B>::with_capacity(alloc, 8)?.is_empty());
-    let text = StrBuilder::from_utf8_unchecked(B::empty(alloc)?);
+fn make<B: EmptyBuilder>(rt: &impl Abort, alloc: Global) {
+    assert_true!(rt, unwrap(rt, StrBuilder::<B>::new(alloc)).is_empty());
+    assert_true!(
+        rt,
+        unwrap(rt, StrBuilder::<B>::with_capacity(alloc, 8)).is_empty()
+    );
+    let text = StrBuilder::from_utf8_unchecked(unwrap(rt, B::empty(alloc)));
     assert_equal!(rt, text.as_str(), "");
-    Ok(())
 }
 
 #[test]
-fn texts_are_made_empty(rt: HostRuntime) -> Result<(), Fail> {
-    make::<Vec<u8>>(&rt, rt.alloc())?;
-    make::<Array<0>>(&rt, rt.alloc())
+fn texts_are_made_empty(rt: HostRuntime) {
+    make::<Vec<u8>>(&rt, rt.alloc());
+    make::<Array<0>>(&rt, rt.alloc());
 }
 
 #[test]
-fn characters_are_pushed(rt: HostRuntime) -> Result<(), Fail> {
-    let octets = "ประเทศไทย中".as_bytes().to_vec(rt.alloc())?;
-    let mut text = StrBuilder::from_utf8(octets).ok().ok_or("refused")?;
+fn characters_are_pushed(rt: HostRuntime) {
+    let octets = unwrap(&rt, "ประเทศไทย中".as_bytes().to_vec(rt.alloc()));
+    let mut text = unwrap(&rt, StrBuilder::from_utf8(octets).ok().ok_or("refused"));
     for ch in ['华', 'b', '¢', '€', '𤭢'] {
-        text.push(ch)?;
+        unwrap(&rt, text.push(ch));
     }
     assert_equal!(&rt, text.len(), 43);
     assert_equal!(&rt, text.as_str(), "ประเทศไทย中华b¢€𤭢");
-    Ok(())
 }
 
 #[test]
-fn texts_are_pushed(rt: HostRuntime) -> Result<(), Fail> {
-    let mut text = StrBuilder::<Vec<u8>>::new(rt.alloc())?;
-    text.push_str("")?;
+fn texts_are_pushed(rt: HostRuntime) {
+    let mut text = unwrap(&rt, StrBuilder::<Vec<u8>>::new(rt.alloc()));
+    unwrap(&rt, text.push_str(""));
     assert_equal!(&rt, text.as_str(), "");
-    text.push_str("abc")?;
+    unwrap(&rt, text.push_str("abc"));
     assert_equal!(&rt, text.as_str(), "abc");
-    text.push_str("ประเทศไทย中华Việt Nam")?;
+    unwrap(&rt, text.push_str("ประเทศไทย中华Việt Nam"));
     assert_equal!(&rt, text.as_str(), "abcประเทศไทย中华Việt Nam");
     assert_equal!(&rt, text.len(), 46);
-    Ok(())
 }
 
 #[test]
-fn a_push_that_passes_the_limit_is_refused(rt: HostRuntime) -> Result<(), Fail> {
-    let mut text = StrBuilder::<Array<4>>::new(rt.alloc())?;
+fn a_push_that_passes_the_limit_is_refused(rt: HostRuntime) {
+    let mut text = unwrap(&rt, StrBuilder::<Array<4>>::new(rt.alloc()));
     assert_equal!(&rt, text.try_push_str("abc"), Ok(()));
     assert_equal!(&rt, text.try_push('¢'), Err(AppendError::Short(ShortBuf)));
     assert_equal!(
@@ -206,7 +205,6 @@ fn a_push_that_passes_the_limit_is_refused(rt: HostRuntime) -> Result<(), Fail> 
     );
     assert_equal!(&rt, text.try_push('d'), Ok(()));
     assert_equal!(&rt, text.as_str(), "abcd");
-    Ok(())
 }
 
 /// Checks the replies to commands on an empty text.
@@ -215,15 +213,14 @@ fn replies<B: EmptyBuilder + Truncate>(
     alloc: Global,
     commands: &[Command],
     wanted: &[Reply],
-) -> Result<(), Fail> {
-    let mut text = StrBuilder::<B>::new(alloc)?;
-    let replies = run(alloc, &mut text, commands)?;
+) {
+    let mut text = unwrap(rt, StrBuilder::<B>::new(alloc));
+    let replies = unwrap(rt, run(alloc, &mut text, commands));
     assert_equal!(rt, replies.as_slice(), wanted);
-    Ok(())
 }
 
 #[test]
-fn commands_are_answered(rt: HostRuntime) -> Result<(), Fail> {
+fn commands_are_answered(rt: HostRuntime) {
     let alloc = rt.alloc();
     let commands = [
         Command::Push('€'),
@@ -241,7 +238,7 @@ fn commands_are_answered(rt: HostRuntime) -> Result<(), Fail> {
         Reply::Len(4),
         Reply::Is(true),
     ];
-    replies::<Array<4>>(&rt, alloc, &commands, &at_four)?;
+    replies::<Array<4>>(&rt, alloc, &commands, &at_four);
     let unlimited = [
         Reply::Done,
         Reply::Done,
@@ -250,10 +247,10 @@ fn commands_are_answered(rt: HostRuntime) -> Result<(), Fail> {
         Reply::Len(6),
         Reply::Is(false),
     ];
-    replies::<Vec<u8>>(&rt, alloc, &commands, &unlimited)?;
+    replies::<Vec<u8>>(&rt, alloc, &commands, &unlimited);
     let to_none = [Command::PushStr(""), Command::Push('a'), Command::Len];
     let at_none = [Reply::Done, Reply::Short, Reply::Len(0)];
-    replies::<Array<0>>(&rt, alloc, &to_none, &at_none)?;
+    replies::<Array<0>>(&rt, alloc, &to_none, &at_none);
     let to_five = [
         Command::Push('€'),
         Command::Push('é'),
@@ -261,11 +258,11 @@ fn commands_are_answered(rt: HostRuntime) -> Result<(), Fail> {
         Command::Len,
     ];
     let at_five = [Reply::Done, Reply::Done, Reply::Short, Reply::Len(5)];
-    replies::<Capped>(&rt, alloc, &to_five, &at_five)
+    replies::<Capped>(&rt, alloc, &to_five, &at_five);
 }
 
 #[test]
-fn a_refusal_of_memory_leaves_the_text(rt: HostRuntime) -> Result<(), Fail> {
+fn a_refusal_of_memory_leaves_the_text(rt: HostRuntime) {
     let alloc = rt.alloc();
     let commands = [
         Command::PushStr("ab"),
@@ -275,12 +272,11 @@ fn a_refusal_of_memory_leaves_the_text(rt: HostRuntime) -> Result<(), Fail> {
     let texts = ["abéc", "éc", "abc", "abé"];
     for (n, text) in texts.iter().enumerate() {
         let rationed = Rationed::new(Vec::new(alloc), n);
-        let mut builder = StrBuilder::from_utf8(rationed).ok().ok_or("refused")?;
-        let replies = run(alloc, &mut builder, &commands)?;
+        let mut builder = unwrap(&rt, StrBuilder::from_utf8(rationed).ok().ok_or("refused"));
+        let replies = unwrap(&rt, run(alloc, &mut builder, &commands));
         assert_equal!(&rt, builder.as_str(), *text);
         are_done_but_one(&rt, replies.as_slice(), n);
     }
-    Ok(())
 }
 
 /// Checks that three commands were done except the n-th, if there is one.
@@ -351,35 +347,38 @@ fn lossy_texts() -> [(&'static [u8], &'static str); 16] {
 }
 
 /// Returns the lossy text of octets, in a vector.
-fn lossy(alloc: Global, octets: &[u8]) -> Result<StrBuilder<Vec<u8>>, Fail> {
-    Ok(StrBuilder::try_from_utf8_lossy_counted(alloc, octets.to_vec(alloc)?, &mut Turns::new())?)
+fn lossy(rt: &impl Abort, alloc: Global, octets: &[u8]) -> StrBuilder<Vec<u8>> {
+    unwrap(
+        rt,
+        StrBuilder::try_from_utf8_lossy_counted(
+            alloc,
+            unwrap(rt, octets.to_vec(alloc)),
+            &mut Turns::new(),
+        ),
+    )
 }
 
 /// Checks that octets pushed to a text are their lossy text.
-fn is_pushed_lossily(
-    rt: &impl Abort,
-    alloc: Global,
-    octets: &[u8],
-    text: &str,
-) -> Result<(), AppendError> {
-    let mut pushed = StrBuilder::<Vec<u8>>::try_copy_lossy(alloc, b"\xC3")?;
-    pushed.try_push_lossy(octets)?;
+fn is_pushed_lossily(rt: &impl Abort, alloc: Global, octets: &[u8], text: &str) {
+    let mut pushed = unwrap(rt, StrBuilder::<Vec<u8>>::try_copy_lossy(alloc, b"\xC3"));
+    unwrap(rt, pushed.try_push_lossy(octets));
     assert_equal!(rt, pushed.as_str().strip_prefix("\u{FFFD}"), Some(text));
-    Ok(())
 }
 
 #[test]
-fn each_bad_part_becomes_one_replacement(rt: HostRuntime) -> Result<(), Fail> {
+fn each_bad_part_becomes_one_replacement(rt: HostRuntime) {
     let alloc = rt.alloc();
     for (octets, text) in lossy_texts() {
-        assert_equal!(&rt, lossy(alloc, octets)?.as_str(), text);
-        let read = StrBuilder::from_utf8_lossy(alloc, octets.to_vec(alloc)?)?;
+        assert_equal!(&rt, lossy(&rt, alloc, octets).as_str(), text);
+        let read = unwrap(
+            &rt,
+            StrBuilder::from_utf8_lossy(alloc, unwrap(&rt, octets.to_vec(alloc))),
+        );
         assert_equal!(&rt, read.as_str(), text);
-        is_pushed_lossily(&rt, alloc, octets, text)?;
+        is_pushed_lossily(&rt, alloc, octets, text);
     }
-    let text = lossy(alloc, b"Hello\xC0\x80 There\xE6\x83 Goodbye")?;
+    let text = lossy(&rt, alloc, b"Hello\xC0\x80 There\xE6\x83 Goodbye");
     assert_equal!(&rt, text.len(), 28);
-    Ok(())
 }
 
 /// Puts octets into a builder.
@@ -395,25 +394,23 @@ fn lossy_over<B: EmptyBuilder>(
     alloc: Global,
     octets: &[u8],
     wanted: Option<&str>,
-) -> Result<(), AppendError> {
-    let text = StrBuilder::try_from_utf8_lossy(alloc, filled::<B>(alloc, octets)?);
+) {
+    let text = StrBuilder::try_from_utf8_lossy(alloc, unwrap(rt, filled::<B>(alloc, octets)));
     is_text_or_short(rt, text, wanted);
-    let builder = filled::<B>(alloc, octets)?;
+    let builder = unwrap(rt, filled::<B>(alloc, octets));
     let text = StrBuilder::try_from_utf8_lossy_counted(alloc, builder, &mut Turns::new());
     is_text_or_short(rt, text, wanted);
     is_text_or_short(rt, StrBuilder::<B>::try_copy_lossy(alloc, octets), wanted);
-    Ok(())
 }
 
 #[test]
-fn a_lossy_text_that_passes_the_limit_is_refused(rt: HostRuntime) -> Result<(), Fail> {
+fn a_lossy_text_that_passes_the_limit_is_refused(rt: HostRuntime) {
     let alloc = rt.alloc();
-    lossy_over::<Array<0>>(&rt, alloc, b"", Some(""))?;
-    lossy_over::<Array<4>>(&rt, alloc, b"a\xFF\xFF", None)?;
-    lossy_over::<Array<7>>(&rt, alloc, b"a\xFF\xFF", Some("a\u{FFFD}\u{FFFD}"))?;
-    lossy_over::<Capped>(&rt, alloc, b"a\xFF", Some("a\u{FFFD}"))?;
-    lossy_over::<Capped>(&rt, alloc, b"\xFF\xFF", None)?;
+    lossy_over::<Array<0>>(&rt, alloc, b"", Some(""));
+    lossy_over::<Array<4>>(&rt, alloc, b"a\xFF\xFF", None);
+    lossy_over::<Array<7>>(&rt, alloc, b"a\xFF\xFF", Some("a\u{FFFD}\u{FFFD}"));
+    lossy_over::<Capped>(&rt, alloc, b"a\xFF", Some("a\u{FFFD}"));
+    lossy_over::<Capped>(&rt, alloc, b"\xFF\xFF", None);
     let refused = Array::<0>::new().append_slice(b"a");
     assert_equal!(&rt, refused, Err(AppendError::Short(ShortBuf)));
-    Ok(())
 }

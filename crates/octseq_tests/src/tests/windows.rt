@@ -1,4 +1,5 @@
 //! Parsers and their windows: moves, nested parsers, ranges and buffers.
+use crate::tests::unwrap;
 use bytes::Bytes;
 use octseq::builder::AsOctets;
 use octseq::octets::{Bound, Octets, range_exists, span};
@@ -6,24 +7,22 @@ use octseq::parse::{ParseOctetsError, Parser, ShortInput};
 use octseq_asserts::{Case, assert_equal, assert_true, over_each};
 use std::alloc::AllocGlobal;
 use std::process::Abort;
-use std::test::Fail;
 
 #[derive(Drop)]
 struct Nests;
 
 impl<H: Abort + AllocGlobal> Case<H> for Nests {
-    fn holds<R: Octets + Copy>(&self, rt: &H, octets: R) -> Result<(), Fail> {
+    fn holds<R: Octets + Copy>(&self, rt: &H, octets: R) {
         let mut outer = Parser::from_ref(octets);
-        outer.advance(2)?;
-        let mut nested = outer.parse_parser(4)?;
+        unwrap(rt, outer.advance(2));
+        let mut nested = unwrap(rt, outer.parse_parser(4));
         assert_equal!(rt, (nested.pos(), nested.len()), (2, 6));
         assert_equal!(rt, nested.peek_all(), b"2345".as_slice());
-        nested.seek(0)?;
+        unwrap(rt, nested.seek(0));
         assert_equal!(rt, nested.peek_all(), b"012345".as_slice());
         assert_equal!(rt, nested.seek(7), Err(ShortInput));
         assert_equal!(rt, nested.pos(), 0);
         assert_equal!(rt, outer.peek_all(), b"6789".as_slice());
-        Ok(())
     }
 }
 
@@ -31,23 +30,22 @@ impl<H: Abort + AllocGlobal> Case<H> for Nests {
 struct MovesByItself;
 
 impl<H: Abort + AllocGlobal> Case<H> for MovesByItself {
-    fn holds<R: Octets + Copy>(&self, rt: &H, octets: R) -> Result<(), Fail> {
+    fn holds<R: Octets + Copy>(&self, rt: &H, octets: R) {
         let mut parser = Parser::from_ref(octets);
         let copy = parser;
-        parser.check_len(10)?;
+        unwrap(rt, parser.check_len(10));
         parser.advance_to_end();
         assert_equal!(rt, (parser.pos(), copy.pos()), (10, 0));
-        assert_equal!(rt, copy.peek(2)?, b"01".as_slice());
-        assert_equal!(rt, parser.clone()?.pos(), 10);
+        assert_equal!(rt, unwrap(rt, copy.peek(2)), b"01".as_slice());
+        assert_equal!(rt, unwrap(rt, parser.clone()).pos(), 10);
         assert_equal!(rt, parser.octets_ref().as_ref(), b"0123456789".as_slice());
-        Ok(())
     }
 }
 
 #[test]
-fn a_nested_parser_has_a_window_of_its_own(rt: HostRuntime) -> Result<(), Fail> {
-    over_each(&rt, &Nests, b"0123456789")?;
-    over_each(&rt, &MovesByItself, b"0123456789")
+fn a_nested_parser_has_a_window_of_its_own(rt: HostRuntime) {
+    unwrap(&rt, over_each(&rt, &Nests, b"0123456789"));
+    unwrap(&rt, over_each(&rt, &MovesByItself, b"0123456789"));
 }
 
 /// Checks that a parser of "0123456789" is at a position, and shows what is left and no more.
@@ -62,7 +60,7 @@ fn is_at(rt: &impl Abort, parser: &Parser<&[u8]>, pos: usize) {
 }
 
 #[test]
-fn a_parser_moves_within_its_window(rt: HostRuntime) -> Result<(), Fail> {
+fn a_parser_moves_within_its_window(rt: HostRuntime) {
     let mut parser = Parser::from_static(b"0123456789");
     for (place, pos) in [(0, 0), (2, 2), (10, 10), (11, 10)] {
         assert_equal!(&rt, parser.seek(place).is_ok(), place == pos);
@@ -74,27 +72,37 @@ fn a_parser_moves_within_its_window(rt: HostRuntime) -> Result<(), Fail> {
         is_at(&rt, &parser, pos);
     }
     let mut outer = Parser::from_static(b"0123456789");
-    outer.advance(2)?;
-    let mut nested = outer.parse_parser(4)?;
+    unwrap(&rt, outer.advance(2));
+    let mut nested = unwrap(&rt, outer.parse_parser(4));
     assert_equal!(&rt, nested.peek_all(), b"2345".as_slice());
-    nested.advance(2)?;
+    unwrap(&rt, nested.advance(2));
     assert_equal!(&rt, nested.peek_all(), b"45".as_slice());
     is_at(&rt, &outer, 6);
-    Ok(())
 }
 
 #[derive(Drop)]
 struct TakesRanges;
 
 impl<H: Abort + AllocGlobal> Case<H> for TakesRanges {
-    fn holds<R: Octets + Copy>(&self, rt: &H, octets: R) -> Result<(), Fail> {
+    fn holds<R: Octets + Copy>(&self, rt: &H, octets: R) {
         let mut parser = Parser::from_ref(octets);
-        assert_equal!(rt, parser.parse_octets(2)?.as_ref(), b"01".as_slice());
-        assert_equal!(rt, parser.parse_octets(2)?.as_ref(), b"23".as_slice());
+        assert_equal!(
+            rt,
+            unwrap(rt, parser.parse_octets(2)).as_ref(),
+            b"01".as_slice()
+        );
+        assert_equal!(
+            rt,
+            unwrap(rt, parser.parse_octets(2)).as_ref(),
+            b"23".as_slice()
+        );
         let short = Err(ParseOctetsError::Short(ShortInput));
         assert_equal!(rt, parser.parse_octets(7).map(|_| ()), short);
-        assert_equal!(rt, parser.parse_octets(6)?.as_ref(), b"456789".as_slice());
-        Ok(())
+        assert_equal!(
+            rt,
+            unwrap(rt, parser.parse_octets(6)).as_ref(),
+            b"456789".as_slice()
+        );
     }
 }
 
@@ -102,48 +110,46 @@ impl<H: Abort + AllocGlobal> Case<H> for TakesRanges {
 struct FillsBuffers;
 
 impl<H: Abort + AllocGlobal> Case<H> for FillsBuffers {
-    fn holds<R: Octets + Copy>(&self, rt: &H, octets: R) -> Result<(), Fail> {
+    fn holds<R: Octets + Copy>(&self, rt: &H, octets: R) {
         let mut parser = Parser::from_ref(octets);
         let mut two = [0; 2];
         for wanted in [b"01", b"23"] {
-            parser.parse_buf(&mut two)?;
+            unwrap(rt, parser.parse_buf(&mut two));
             assert_equal!(rt, &two, wanted);
         }
         let mut seven = [7; 7];
         assert_equal!(rt, parser.parse_buf(&mut seven), Err(ShortInput));
         assert_equal!(rt, (seven, parser.pos()), ([7; 7], 4));
         let mut six = [0; 6];
-        parser.parse_buf(&mut six)?;
+        unwrap(rt, parser.parse_buf(&mut six));
         assert_equal!(rt, &six, b"456789");
         assert_equal!(rt, parser.parse_buf(&mut []), Ok(()));
-        Ok(())
     }
 }
 
 #[test]
-fn octets_are_taken_as_ranges_and_into_buffers(rt: HostRuntime) -> Result<(), Fail> {
-    over_each(&rt, &TakesRanges, b"0123456789")?;
-    over_each(&rt, &FillsBuffers, b"0123456789")
+fn octets_are_taken_as_ranges_and_into_buffers(rt: HostRuntime) {
+    unwrap(&rt, over_each(&rt, &TakesRanges, b"0123456789"));
+    unwrap(&rt, over_each(&rt, &FillsBuffers, b"0123456789"));
 }
 
 #[test]
-fn a_range_of_shared_octets_is_shared(rt: HostRuntime) -> Result<(), Fail> {
-    let octets = Bytes::copy_from_slice(rt.alloc(), b"0123456789")?;
+fn a_range_of_shared_octets_is_shared(rt: HostRuntime) {
+    let octets = unwrap(&rt, Bytes::copy_from_slice(rt.alloc(), b"0123456789"));
     let mut parser = Parser::from_ref(&octets);
-    parser.advance(4)?;
-    let range: Bytes = parser.parse_octets(3)?;
+    unwrap(&rt, parser.advance(4));
+    let range: Bytes = unwrap(&rt, parser.parse_octets(3));
     assert_equal!(&rt, range.as_slice(), b"456".as_slice());
-    Ok(())
 }
 
 #[derive(Drop)]
 struct RefusesTheGreatest;
 
 impl<H: Abort + AllocGlobal> Case<H> for RefusesTheGreatest {
-    fn holds<R: Octets + Copy>(&self, rt: &H, octets: R) -> Result<(), Fail> {
+    fn holds<R: Octets + Copy>(&self, rt: &H, octets: R) {
         let most = usize::MAX;
         let mut parser = Parser::from_ref(octets);
-        parser.advance(1)?;
+        unwrap(rt, parser.advance(1));
         assert_equal!(rt, parser.peek(most), Err(ShortInput));
         assert_equal!(rt, parser.check_len(most), Err(ShortInput));
         assert_equal!(rt, parser.seek(most), Err(ShortInput));
@@ -152,13 +158,12 @@ impl<H: Abort + AllocGlobal> Case<H> for RefusesTheGreatest {
         assert_equal!(rt, parser.parse_octets(most).map(|_| ()), short);
         assert_true!(rt, parser.parse_parser(most).is_err());
         assert_equal!(rt, (parser.pos(), parser.len()), (1, 10));
-        Ok(())
     }
 }
 
 #[test]
-fn the_greatest_numbers_are_refused(rt: HostRuntime) -> Result<(), Fail> {
-    over_each(&rt, &RefusesTheGreatest, b"0123456789")
+fn the_greatest_numbers_are_refused(rt: HostRuntime) {
+    unwrap(&rt, over_each(&rt, &RefusesTheGreatest, b"0123456789"));
 }
 
 /// Checks the range that a parser begins with, or that there is none.
@@ -179,7 +184,7 @@ fn begins<R: Octets + Copy>(
 struct BeginsWithRanges;
 
 impl<H: Abort + AllocGlobal> Case<H> for BeginsWithRanges {
-    fn holds<R: Octets + Copy>(&self, rt: &H, octets: R) -> Result<(), Fail> {
+    fn holds<R: Octets + Copy>(&self, rt: &H, octets: R) {
         let most = usize::MAX;
         let cases = [
             (
@@ -198,7 +203,6 @@ impl<H: Abort + AllocGlobal> Case<H> for BeginsWithRanges {
         for (bounds, left) in cases {
             begins(rt, octets, bounds, left);
         }
-        Ok(())
     }
 }
 
@@ -206,13 +210,12 @@ impl<H: Abort + AllocGlobal> Case<H> for BeginsWithRanges {
 struct BeginsWithNoOctets;
 
 impl<H: Abort + AllocGlobal> Case<H> for BeginsWithNoOctets {
-    fn holds<R: Octets + Copy>(&self, rt: &H, octets: R) -> Result<(), Fail> {
+    fn holds<R: Octets + Copy>(&self, rt: &H, octets: R) {
         let empty = Parser::try_with_range(octets, (Bound::Included(2), Bound::Excluded(2)));
-        let parser = empty.ok_or("no range")?;
+        let parser = unwrap(rt, empty.ok_or("no range"));
         assert_true!(rt, !parser.is_empty());
         assert_equal!(rt, (parser.len(), parser.remaining()), (2, 0));
         assert_equal!(rt, parser.as_slice(), [1, 2].as_slice());
-        Ok(())
     }
 }
 
@@ -220,9 +223,9 @@ impl<H: Abort + AllocGlobal> Case<H> for BeginsWithNoOctets {
 struct StaysWhole;
 
 impl<H: Abort + AllocGlobal> Case<H> for StaysWhole {
-    fn holds<R: Octets + Copy>(&self, rt: &H, octets: R) -> Result<(), Fail> {
+    fn holds<R: Octets + Copy>(&self, rt: &H, octets: R) {
         let mut whole = Parser::from_ref(octets);
-        whole.advance(1)?;
+        unwrap(rt, whole.advance(1));
         assert_true!(
             rt,
             matches!(
@@ -231,15 +234,14 @@ impl<H: Abort + AllocGlobal> Case<H> for StaysWhole {
             )
         );
         assert_equal!(rt, whole.pos(), 1);
-        Ok(())
     }
 }
 
 #[test]
-fn a_parser_begins_with_a_range(rt: HostRuntime) -> Result<(), Fail> {
-    over_each(&rt, &BeginsWithRanges, &[1, 2, 3])?;
-    over_each(&rt, &BeginsWithNoOctets, &[1, 2, 3])?;
-    over_each(&rt, &StaysWhole, &[1, 2, 3])
+fn a_parser_begins_with_a_range(rt: HostRuntime) {
+    unwrap(&rt, over_each(&rt, &BeginsWithRanges, &[1, 2, 3]));
+    unwrap(&rt, over_each(&rt, &BeginsWithNoOctets, &[1, 2, 3]));
+    unwrap(&rt, over_each(&rt, &StaysWhole, &[1, 2, 3]));
 }
 
 /// Each bound with an index up to 5, with the start and the end that it means in three octets.
@@ -263,7 +265,7 @@ const BOUNDS: [(Bound, usize, usize); 13] = [
 struct HasEachRange;
 
 impl<H: Abort + AllocGlobal> Case<H> for HasEachRange {
-    fn holds<R: Octets + Copy>(&self, rt: &H, octets: R) -> Result<(), Fail> {
+    fn holds<R: Octets + Copy>(&self, rt: &H, octets: R) {
         for (first, start, _) in BOUNDS {
             for (last, _, end) in BOUNDS {
                 let wanted = [1, 2, 3].as_slice().get(start..end);
@@ -271,20 +273,19 @@ impl<H: Abort + AllocGlobal> Case<H> for HasEachRange {
                 begins(rt, octets, (first, last), wanted);
             }
         }
-        Ok(())
     }
 }
 
 #[test]
-fn a_parser_begins_with_each_range(rt: HostRuntime) -> Result<(), Fail> {
-    over_each(&rt, &HasEachRange, &[1, 2, 3])
+fn a_parser_begins_with_each_range(rt: HostRuntime) {
+    unwrap(&rt, over_each(&rt, &HasEachRange, &[1, 2, 3]));
 }
 
 #[derive(Drop)]
 struct HasNoOctets;
 
 impl<H: Abort + AllocGlobal> Case<H> for HasNoOctets {
-    fn holds<R: Octets + Copy>(&self, rt: &H, octets: R) -> Result<(), Fail> {
+    fn holds<R: Octets + Copy>(&self, rt: &H, octets: R) {
         let most = usize::MAX;
         let cases = [
             ((Bound::Unbounded, Bound::Unbounded), true),
@@ -300,24 +301,22 @@ impl<H: Abort + AllocGlobal> Case<H> for HasNoOctets {
         let parser = Parser::from_ref(octets);
         assert_true!(rt, parser.is_empty());
         assert_true!(rt, parser.as_slice().is_empty());
-        Ok(())
     }
 }
 
 #[test]
-fn no_octets_have_one_range(rt: HostRuntime) -> Result<(), Fail> {
-    over_each(&rt, &HasNoOctets, &[])
+fn no_octets_have_one_range(rt: HostRuntime) {
+    unwrap(&rt, over_each(&rt, &HasNoOctets, &[]));
 }
 
 #[test]
-fn a_range_that_is_known_needs_no_test(rt: HostRuntime) -> Result<(), Fail> {
+fn a_range_that_is_known_needs_no_test(rt: HostRuntime) {
     let parser = Parser::with_range(b"0123".as_slice(), span(1, 3));
     assert_equal!(&rt, parser.peek_all(), b"12".as_slice());
     let parser = Parser::from_static(b"ab");
     assert_equal!(
         &rt,
-        format!(in rt.alloc(); "{parser:?}")?.as_str(),
+        unwrap(&rt, format!(in rt.alloc(); "{parser:?}")).as_str(),
         "Parser { octets: [97, 98], pos: 0, len: 2 }",
     );
-    Ok(())
 }

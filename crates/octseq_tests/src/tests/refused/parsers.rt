@@ -1,4 +1,5 @@
 //! Parsers: ranges of shared octets, and lists of commands.
+use crate::tests::unwrap;
 use arrayvec::ArrayVec;
 use bytes::Bytes;
 use octseq::array::Array;
@@ -11,23 +12,21 @@ use smallvec::SmallVec;
 use std::alloc::{AllocError, AllocGlobal};
 use std::process::Abort;
 use std::rc::RcSlice;
-use std::test::Fail;
 
 #[test]
-fn a_refused_range_moves_nothing(rt: HostRuntime) -> Result<(), Fail> {
-    let octets = Bytes::copy_from_slice(rt.alloc(), b"0123456789")?;
+fn a_refused_range_moves_nothing(rt: HostRuntime) {
+    let octets = unwrap(&rt, Bytes::copy_from_slice(rt.alloc(), b"0123456789"));
     let mut parser = Parser::from_ref(&octets);
-    parser.advance(1)?;
+    unwrap(&rt, parser.advance(1));
     match parser.parse_octets(3) {
         Ok(range) => {
             assert_equal!(&rt, range.as_slice(), b"123".as_slice());
             assert_equal!(&rt, parser.pos(), 4);
-            Ok(())
         }
         Err(error) => {
             assert_equal!(&rt, &error, &ParseOctetsError::Memory);
             assert_equal!(&rt, (parser.pos(), parser.len()), (1, 10));
-            Err(Fail::from(error))
+            unwrap(&rt, Err(error))
         }
     }
 }
@@ -51,7 +50,7 @@ fn gives<R: Octets>(rt: &impl Abort, reply: Option<ParserReply<R>>, wanted: Opti
 }
 
 /// Runs commands, of which at most one is refused for memory. The later ones use the window that it left.
-fn is_run<R: Octets + Copy>(rt: &(impl Abort + AllocGlobal), octets: R) -> Result<(), Fail> {
+fn is_run<R: Octets + Copy>(rt: &(impl Abort + AllocGlobal), octets: R) {
     let calls = [
         ParserCall::Peek(3),
         ParserCall::Octets(3),
@@ -61,7 +60,7 @@ fn is_run<R: Octets + Copy>(rt: &(impl Abort + AllocGlobal), octets: R) -> Resul
         ParserCall::Remaining,
     ];
     let commands = calls.map(|call| ParserCommand { parser: 0, call });
-    let mut replies = run(rt.alloc(), octets, &commands)?.into_iter();
+    let mut replies = unwrap(rt, run(rt.alloc(), octets, &commands)).into_iter();
     let whole = b"0123456789".as_slice();
     let is_peeked = gives(rt, replies.next(), whole.get(..3));
     let is_cut = gives(rt, replies.next(), whole.get(..3));
@@ -76,39 +75,45 @@ fn is_run<R: Octets + Copy>(rt: &(impl Abort + AllocGlobal), octets: R) -> Resul
         matches!(left, Some(ParserReply::Number(n)) if n == 10 - at),
     );
     assert_true!(rt, replies.next().is_none());
-    if is_peeked && is_cut && is_filled && is_shown && is_whole {
-        Ok(())
-    } else {
-        Err(Fail::from(AllocError))
-    }
+    let is_given = is_peeked && is_cut && is_filled && is_shown && is_whole;
+    unwrap(rt, is_given.then_some(()).ok_or(AllocError));
 }
 
 #[test]
-fn commands_are_answered_over_slices(rt: HostRuntime) -> Result<(), Fail> {
-    is_run(&rt, b"0123456789".as_slice())
+fn commands_are_answered_over_slices(rt: HostRuntime) {
+    is_run(&rt, b"0123456789".as_slice());
 }
 
 #[test]
-fn commands_are_answered_over_vectors(rt: HostRuntime) -> Result<(), Fail> {
+fn commands_are_answered_over_vectors(rt: HostRuntime) {
     let octets = b"0123456789".as_slice();
-    is_run(&rt, &octets.to_vec(rt.alloc())?)?;
-    is_run(&rt, &CowOctets::borrowed(rt.alloc(), octets))?;
-    is_run(&rt, &SmallVec::<u8, 2>::from_slice(rt.alloc(), octets)?)
-}
-
-#[test]
-fn commands_are_answered_over_fixed_buffers(rt: HostRuntime) -> Result<(), Fail> {
-    let octets = b"0123456789".as_slice();
-    is_run(&rt, &Array::<10>::try_from(octets)?)?;
+    is_run(&rt, &unwrap(&rt, octets.to_vec(rt.alloc())));
+    is_run(&rt, &CowOctets::borrowed(rt.alloc(), octets));
     is_run(
         &rt,
-        &ArrayVec::<u8, 10>::try_octets_from(rt.alloc(), octets)?,
-    )
+        &unwrap(&rt, SmallVec::<u8, 2>::from_slice(rt.alloc(), octets)),
+    );
 }
 
 #[test]
-fn commands_are_answered_over_shared_octets(rt: HostRuntime) -> Result<(), Fail> {
+fn commands_are_answered_over_fixed_buffers(rt: HostRuntime) {
     let octets = b"0123456789".as_slice();
-    is_run(&rt, &Bytes::copy_from_slice(rt.alloc(), octets)?)?;
-    is_run(&rt, &RcSlice::<u8>::from_slice(rt.alloc(), octets)?)
+    is_run(&rt, &unwrap(&rt, Array::<10>::try_from(octets)));
+    is_run(
+        &rt,
+        &unwrap(&rt, ArrayVec::<u8, 10>::try_octets_from(rt.alloc(), octets)),
+    );
+}
+
+#[test]
+fn commands_are_answered_over_shared_octets(rt: HostRuntime) {
+    let octets = b"0123456789".as_slice();
+    is_run(
+        &rt,
+        &unwrap(&rt, Bytes::copy_from_slice(rt.alloc(), octets)),
+    );
+    is_run(
+        &rt,
+        &unwrap(&rt, RcSlice::<u8>::from_slice(rt.alloc(), octets)),
+    );
 }

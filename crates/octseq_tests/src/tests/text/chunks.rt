@@ -1,11 +1,11 @@
 //! Octets in chunks of text. The first rows are from the documentation of Rust's `utf8_chunks`.
+use crate::tests::unwrap;
 use octseq::array::Array;
 use octseq::builder::{AppendError, ShortBuf};
 use octseq::str::StrBuilder;
 use octseq::utf8::{Turns, Utf8Chunk, chunks};
 use octseq_asserts::{assert_equal, assert_true};
 use std::process::Abort;
-use std::test::Fail;
 
 /// Returns what a chunk has: its text, its invalid part, and whether the octets end within a character.
 fn lent<'a>(chunk: &Utf8Chunk<'a>) -> (&'a str, &'a [u8], bool) {
@@ -29,7 +29,7 @@ fn has_chunks(rt: &impl Abort, octets: &[u8], wanted: &[(&str, &[u8], bool)]) {
 }
 
 #[test]
-fn octets_are_lent_in_chunks(rt: HostRuntime) -> Result<(), Fail> {
+fn octets_are_lent_in_chunks(rt: HostRuntime) {
     has_chunks(
         &rt,
         b"foo\xF1\x80bar\xF1\x80\x80baz",
@@ -52,7 +52,6 @@ fn octets_are_lent_in_chunks(rt: HostRuntime) -> Result<(), Fail> {
             ("", b"\x80", false),
         ],
     );
-    Ok(())
 }
 
 /// Counts the octets that aren't part of a text.
@@ -65,10 +64,9 @@ fn bad_octets(octets: &[u8]) -> usize {
 }
 
 #[test]
-fn chunks_are_read_by_a_loop(rt: HostRuntime) -> Result<(), Fail> {
+fn chunks_are_read_by_a_loop(rt: HostRuntime) {
     assert_equal!(&rt, bad_octets(b"foo\xF1\x80bar\xF1\x80\x80baz"), 5);
     assert_equal!(&rt, bad_octets("äöü".as_bytes()), 0);
-    Ok(())
 }
 
 /// Checks the result of pushing octets to a text, and the text afterwards.
@@ -89,16 +87,21 @@ fn is_left(
 }
 
 #[test]
-fn a_push_of_octets_keeps_the_limit(rt: HostRuntime) -> Result<(), Fail> {
-    let mut text = StrBuilder::<Array<8>>::try_copy_lossy(rt.alloc(), b"ab")?;
+fn a_push_of_octets_keeps_the_limit(rt: HostRuntime) {
+    let mut text = unwrap(
+        &rt,
+        StrBuilder::<Array<8>>::try_copy_lossy(rt.alloc(), b"ab"),
+    );
     let pushed = text.try_push_lossy(b"\xFF\xFF");
     is_left(&rt, pushed, true, &text, "ab\u{FFFD}\u{FFFD}");
     let pushed = text.try_push_lossy_with(b"\xFF", '?');
     is_left(&rt, pushed, false, &text, "ab\u{FFFD}\u{FFFD}");
-    let mut text = StrBuilder::<Array<8>>::try_copy_lossy(rt.alloc(), b"ab")?;
+    let mut text = unwrap(
+        &rt,
+        StrBuilder::<Array<8>>::try_copy_lossy(rt.alloc(), b"ab"),
+    );
     let pushed = text.try_push_lossy(b"c\xFF\xFF");
     is_left(&rt, pushed, false, &text, "ab");
     let pushed = text.try_push_lossy_with(b"c\xFF\xFF\xFFde", '?');
     is_left(&rt, pushed, true, &text, "abc???de");
-    Ok(())
 }

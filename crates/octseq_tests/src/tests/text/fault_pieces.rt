@@ -1,7 +1,6 @@
 //! The search for the first fault in pieces.
 use octseq::utf8::{FaultPieces, Utf8Fault};
 use octseq_asserts::assert_equal;
-use std::test::Fail;
 
 /// A fault by its place and its length.
 fn reported(fault: &Utf8Fault) -> (usize, Option<usize>) {
@@ -42,7 +41,7 @@ fn faults() -> [(&'static [u8], Option<(usize, Option<usize>)>); 15] {
 }
 
 #[test]
-fn each_cut_has_the_same_fault(rt: HostRuntime) -> Result<(), Fail> {
+fn each_cut_has_the_same_fault(rt: HostRuntime) {
     for (octets, wanted) in faults() {
         for place in 0..=octets.len() {
             let (front, rest) = octets.split_at(place);
@@ -53,11 +52,10 @@ fn each_cut_has_the_same_fault(rt: HostRuntime) -> Result<(), Fail> {
             }
         }
     }
-    Ok(())
 }
 
 #[test]
-fn octet_by_octet_the_fault_is_the_same(rt: HostRuntime) -> Result<(), Fail> {
+fn octet_by_octet_the_fault_is_the_same(rt: HostRuntime) {
     for (octets, wanted) in faults() {
         let mut search = FaultPieces::new();
         for octet in octets {
@@ -66,11 +64,10 @@ fn octet_by_octet_the_fault_is_the_same(rt: HostRuntime) -> Result<(), Fail> {
         assert_equal!(&rt, search.finish().as_ref().map(reported), wanted);
     }
     assert_equal!(&rt, FaultPieces::new().finish(), None);
-    Ok(())
 }
 
 #[test]
-fn a_fault_is_reported_once_no_octet_can_change_it(rt: HostRuntime) -> Result<(), Fail> {
+fn a_fault_is_reported_once_no_octet_can_change_it(rt: HostRuntime) {
     let mut search = FaultPieces::new();
     search.feed(b"a\xE2\x82");
     assert_equal!(&rt, search.fault(), None);
@@ -87,5 +84,4 @@ fn a_fault_is_reported_once_no_octet_can_change_it(rt: HostRuntime) -> Result<()
         search.finish().as_ref().map(reported),
         Some((1, Some(2)))
     );
-    Ok(())
 }

@@ -1,6 +1,7 @@
 //! Hostile octets: the edges of the table, each octet out of its range, and texts at a limit.
 use super::table::{ROWS, edges};
 use super::{lossy, lossy_over};
+use crate::tests::unwrap;
 use arrayvec::ArrayVec;
 use octseq::array::Array;
 use octseq::builder::{AppendError, EmptyBuilder};
@@ -9,7 +10,6 @@ use octseq::utf8::{Turns, first_fault};
 use octseq_asserts::assert_equal;
 use std::alloc::Global;
 use std::process::Abort;
-use std::test::Fail;
 
 /// Returns the position and the length of the first fault.
 fn fault(octets: &[u8]) -> Option<(usize, Option<usize>)> {
@@ -17,44 +17,35 @@ fn fault(octets: &[u8]) -> Option<(usize, Option<usize>)> {
 }
 
 /// Checks that octets begin with one ill-formed part of this length, and have this lossy text.
-fn is_one_part(
-    rt: &impl Abort,
-    alloc: Global,
-    octets: &[u8],
-    length: Option<usize>,
-    text: &str,
-) -> Result<(), Fail> {
+fn is_one_part(rt: &impl Abort, alloc: Global, octets: &[u8], length: Option<usize>, text: &str) {
     assert_equal!(rt, fault(octets), Some((0, length)));
-    assert_equal!(rt, lossy(alloc, octets)?.as_str(), text);
-    Ok(())
+    assert_equal!(rt, lossy(rt, alloc, octets).as_str(), text);
 }
 
 /// Checks that a whole encoding is well-formed, and that a truncated one is one ill-formed part, which extends to the
 /// end or to what follows.
-fn is_whole_or_cut(rt: &impl Abort, alloc: Global, encoding: &[u8]) -> Result<(), Fail> {
+fn is_whole_or_cut(rt: &impl Abort, alloc: Global, encoding: &[u8]) {
     assert_equal!(rt, fault(encoding), None);
-    assert_equal!(rt, lossy(alloc, encoding)?.as_slice(), encoding);
+    assert_equal!(rt, lossy(rt, alloc, encoding).as_slice(), encoding);
     for count in 1..encoding.len() {
-        let mut cut = encoding[..count].to_vec(alloc)?;
-        is_one_part(rt, alloc, cut.as_slice(), None, "\u{FFFD}")?;
-        cut.push(b'A')?;
-        is_one_part(rt, alloc, cut.as_slice(), Some(count), "\u{FFFD}A")?;
+        let mut cut = unwrap(rt, encoding[..count].to_vec(alloc));
+        is_one_part(rt, alloc, cut.as_slice(), None, "\u{FFFD}");
+        unwrap(rt, cut.push(b'A'));
+        is_one_part(rt, alloc, cut.as_slice(), Some(count), "\u{FFFD}A");
     }
-    Ok(())
 }
 
 #[test]
-fn the_edges_of_each_row_are_whole_or_cut(rt: HostRuntime) -> Result<(), Fail> {
+fn the_edges_of_each_row_are_whole_or_cut(rt: HostRuntime) {
     for row in ROWS {
-        let (least, greatest) = edges(rt.alloc(), row)?;
-        is_whole_or_cut(&rt, rt.alloc(), least.as_slice())?;
-        is_whole_or_cut(&rt, rt.alloc(), greatest.as_slice())?;
+        let (least, greatest) = unwrap(&rt, edges(rt.alloc(), row));
+        is_whole_or_cut(&rt, rt.alloc(), least.as_slice());
+        is_whole_or_cut(&rt, rt.alloc(), greatest.as_slice());
     }
-    Ok(())
 }
 
 #[test]
-fn the_edges_of_the_rows_have_their_numbers(rt: HostRuntime) -> Result<(), Fail> {
+fn the_edges_of_the_rows_have_their_numbers(rt: HostRuntime) {
     let cases = [
         (b"\xC2\x80".as_slice(), 0x80),
         (b"\xDF\xBF", 0x7FF),
@@ -66,16 +57,15 @@ fn the_edges_of_the_rows_have_their_numbers(rt: HostRuntime) -> Result<(), Fail>
         (b"\xF4\x8F\xBF\xBF", 0x10_FFFF),
     ];
     for (octets, number) in cases {
-        let text = Str::from_utf8(octets).ok().ok_or("refused")?;
+        let text = unwrap(&rt, Str::from_utf8(octets).ok().ok_or("refused"));
         let mut chars = text.as_str().chars();
         assert_equal!(&rt, chars.next().map(u32::from), Some(number));
         assert_equal!(&rt, chars.next(), None);
     }
-    Ok(())
 }
 
 #[test]
-fn each_octet_out_of_its_range_ends_its_part(rt: HostRuntime) -> Result<(), Fail> {
+fn each_octet_out_of_its_range_ends_its_part(rt: HostRuntime) {
     let cases = [
         (b"\xC1\x80".as_slice(), 1, "\u{FFFD}\u{FFFD}"),
         (b"\xC2\x7F", 1, "\u{FFFD}\u{7F}"),
@@ -94,9 +84,8 @@ fn each_octet_out_of_its_range_ends_its_part(rt: HostRuntime) -> Result<(), Fail
     ];
     for (octets, length, text) in cases {
         assert_equal!(&rt, fault(octets), Some((0, Some(length))));
-        assert_equal!(&rt, lossy(rt.alloc(), octets)?.as_str(), text);
+        assert_equal!(&rt, lossy(&rt, rt.alloc(), octets).as_str(), text);
     }
-    Ok(())
 }
 
 /// Checks a lossy reading with two builders of the same limit.
@@ -105,21 +94,21 @@ fn is_read_within<A: EmptyBuilder, B: EmptyBuilder>(
     alloc: Global,
     octets: &[u8],
     text: Option<&str>,
-) -> Result<(), AppendError> {
-    lossy_over::<A>(rt, alloc, octets, text)?;
-    lossy_over::<B>(rt, alloc, octets, text)
+) {
+    lossy_over::<A>(rt, alloc, octets, text);
+    lossy_over::<B>(rt, alloc, octets, text);
 }
 
 #[test]
-fn texts_reach_the_limit_and_no_further(rt: HostRuntime) -> Result<(), Fail> {
+fn texts_reach_the_limit_and_no_further(rt: HostRuntime) {
     let alloc = rt.alloc();
-    is_read_within::<Array<0>, ArrayVec<u8, 0>>(&rt, alloc, b"", Some(""))?;
-    is_read_within::<Array<1>, ArrayVec<u8, 1>>(&rt, alloc, b"a", Some("a"))?;
-    is_read_within::<Array<1>, ArrayVec<u8, 1>>(&rt, alloc, b"\xFF", None)?;
-    is_read_within::<Array<2>, ArrayVec<u8, 2>>(&rt, alloc, b"\xC3\xA9", Some("é"))?;
-    is_read_within::<Array<2>, ArrayVec<u8, 2>>(&rt, alloc, b"\xFF", None)?;
-    is_read_within::<Array<3>, ArrayVec<u8, 3>>(&rt, alloc, b"\xFF", Some("\u{FFFD}"))?;
-    is_read_within::<Array<5>, ArrayVec<u8, 5>>(&rt, alloc, b"\xFF\xFF", None)?;
+    is_read_within::<Array<0>, ArrayVec<u8, 0>>(&rt, alloc, b"", Some(""));
+    is_read_within::<Array<1>, ArrayVec<u8, 1>>(&rt, alloc, b"a", Some("a"));
+    is_read_within::<Array<1>, ArrayVec<u8, 1>>(&rt, alloc, b"\xFF", None);
+    is_read_within::<Array<2>, ArrayVec<u8, 2>>(&rt, alloc, b"\xC3\xA9", Some("é"));
+    is_read_within::<Array<2>, ArrayVec<u8, 2>>(&rt, alloc, b"\xFF", None);
+    is_read_within::<Array<3>, ArrayVec<u8, 3>>(&rt, alloc, b"\xFF", Some("\u{FFFD}"));
+    is_read_within::<Array<5>, ArrayVec<u8, 5>>(&rt, alloc, b"\xFF\xFF", None);
     let whole = Some("\u{FFFD}\u{FFFD}");
-    Ok(is_read_within::<Array<6>, ArrayVec<u8, 6>>(&rt, alloc, b"\xFF\xFF", whole)?)
+    is_read_within::<Array<6>, ArrayVec<u8, 6>>(&rt, alloc, b"\xFF\xFF", whole);
 }
