@@ -1,14 +1,14 @@
 //! A route collector keeps what it read: ranges of shared octets, without copies.
 use crate::tests::octets::message;
+use crate::tests::unwrap;
 use bytes::Bytes;
 use octseq::octets::Octets;
 use octseq::{AsOctets, Malformed};
 use octseq_asserts::{assert_equal, assert_true};
 use octseq_bgp::{AttributeValue, Message, PathAttributes, Prefix, SessionConfig, UpdateMessage};
-use std::alloc::Global;
+use std::alloc::AllocGlobal;
 use std::net::Ipv4Addr;
 use std::process::Abort;
-use std::test::Fail;
 
 /// A route: a prefix, and its attributes, by their types and octets.
 #[derive(Drop)]
@@ -19,37 +19,37 @@ struct Route<T: Drop> {
 
 /// Returns the types of attributes, and their octets, which a `Bytes` shares.
 fn attributes_of<R: Octets + Copy>(
-    alloc: Global,
+    rt: &(impl AllocGlobal + Abort),
     attributes: PathAttributes<R>,
-) -> Result<Vec<(u8, R::Range)>, Fail> {
-    let mut kept = Vec::new(alloc);
+) -> Vec<(u8, R::Range)> {
+    let mut kept = Vec::new(rt.alloc());
     for attribute in attributes {
         let mut value = attribute.value;
-        let octets = value.parse_octets(value.remaining())?;
-        kept.push((attribute.type_code, octets))?;
+        let octets = unwrap(rt, value.parse_octets(value.remaining()));
+        unwrap(rt, kept.push((attribute.type_code, octets)));
     }
-    Ok(kept)
+    kept
 }
 
 /// Returns the routes that an UPDATE announces.
 fn announced<R: Octets + Copy>(
-    alloc: Global,
+    rt: &(impl AllocGlobal + Abort),
     update: &UpdateMessage<R>,
-) -> Result<Vec<Route<R::Range>>, Fail> {
-    let mut routes = Vec::new(alloc);
+) -> Vec<Route<R::Range>> {
+    let mut routes = Vec::new(rt.alloc());
     for nlri in update.announced {
-        let attributes = attributes_of(alloc, update.path_attributes)?;
+        let attributes = attributes_of(rt, update.path_attributes);
         let prefix = nlri.prefix();
-        routes.push(Route { prefix, attributes })?;
+        unwrap(rt, routes.push(Route { prefix, attributes }));
     }
-    Ok(routes)
+    routes
 }
 
 /// Returns the routes that a message announces.
-fn routes_of<R: Octets + Copy>(alloc: Global, octets: R) -> Result<Vec<Route<R::Range>>, Fail> {
-    match Message::parse(octets, SessionConfig::modern())? {
-        Message::Update(update) => announced(alloc, &update),
-        _ => Err(Fail::from(Malformed)),
+fn routes_of<R: Octets + Copy>(rt: &(impl AllocGlobal + Abort), octets: R) -> Vec<Route<R::Range>> {
+    match unwrap(rt, Message::parse(octets, SessionConfig::modern())) {
+        Message::Update(update) => announced(rt, &update),
+        _ => panic!(rt; "no UPDATE"),
     }
 }
 
@@ -77,20 +77,18 @@ fn is_route(rt: &impl Abort, route: Option<&Route<Bytes>>) {
 }
 
 #[test]
-fn routes_share_the_octets_of_their_message(rt: HostRuntime) -> Result<(), Fail> {
-    let alloc = rt.alloc();
+fn routes_share_the_octets_of_their_message(rt: HostRuntime) {
     let octets = message(
-        alloc,
+        &rt,
         "0033 02 0000 0014 40010100 40020602010000fdfc 4003040a000001 18090909 18090908",
-    )?;
-    let shared = Bytes::from_vec(octets)?;
+    );
+    let shared = unwrap(&rt, Bytes::from_vec(octets));
     assert_true!(&rt, shared.is_unique());
-    let routes = routes_of(alloc, &shared)?;
+    let routes = routes_of(&rt, &shared);
     assert_true!(&rt, !shared.is_unique());
     drop(shared);
     assert_equal!(&rt, routes.len(), 2);
     is_route(&rt, routes.get(1));
-    Ok(())
 }
 
 /// Returns the next hop of the routes that a message announces, or `None` if it announces none.
@@ -107,12 +105,11 @@ fn next_hop_of<R: Octets + Copy>(octets: R) -> Result<Option<Ipv4Addr>, Malforme
 }
 
 #[test]
-fn a_reader_finds_a_next_hop(rt: HostRuntime) -> Result<(), Fail> {
+fn a_reader_finds_a_next_hop(rt: HostRuntime) {
     let octets = message(
-        rt.alloc(),
+        &rt,
         "002f 02 0000 0014 40010100 40020602010000fdfc 4003040a000001 18090909",
-    )?;
-    let next_hop = next_hop_of(&octets)?;
+    );
+    let next_hop = unwrap(&rt, next_hop_of(&octets));
     assert_equal!(&rt, next_hop, Some(Ipv4Addr::new(10, 0, 0, 1)));
-    Ok(())
 }

@@ -1,38 +1,35 @@
 //! The faults of an UPDATE: each one with its attribute, and the worst of them.
 use crate::tests::octets::message;
-use octseq::{AsOctets, Malformed};
+use crate::tests::unwrap;
+use octseq::AsOctets;
 use octseq_asserts::assert_equal;
 use octseq_bgp::{Handling, Message, SessionConfig, UpdateMessage};
-use std::alloc::{AllocGlobal, Global};
+use std::alloc::AllocGlobal;
 use std::process::Abort;
-use std::test::Fail;
 
 /// Returns the type of each faulty attribute, or 0 for a missing one, and its handling.
 fn faults<R: AsOctets + Copy>(
-    alloc: Global,
+    rt: &(impl AllocGlobal + Abort),
     update: &UpdateMessage<R>,
     external: bool,
-) -> Result<Vec<(u8, Handling)>, Fail> {
-    let mut all = Vec::new(alloc);
+) -> Vec<(u8, Handling)> {
+    let mut all = Vec::new(rt.alloc());
     for fault in update.faults(external) {
         let place = fault.attribute.map_or(0, |attribute| attribute.type_code);
-        all.push((place, fault.handling))?;
+        unwrap(rt, all.push((place, fault.handling)));
     }
-    Ok(all)
+    all
 }
 
 /// Does the same for octets, with the worst handling.
 fn judged<R: AsOctets + Copy>(
-    alloc: Global,
+    rt: &(impl AllocGlobal + Abort),
     octets: R,
     external: bool,
-) -> Result<(Vec<(u8, Handling)>, Handling), Fail> {
-    match Message::parse(octets, SessionConfig::modern())? {
-        Message::Update(update) => Ok((
-            faults(alloc, &update, external)?,
-            update.handling(external),
-        )),
-        _ => Err(Fail::from(Malformed)),
+) -> (Vec<(u8, Handling)>, Handling) {
+    match unwrap(rt, Message::parse(octets, SessionConfig::modern())) {
+        Message::Update(update) => (faults(rt, &update, external), update.handling(external)),
+        _ => panic!(rt; "no UPDATE"),
     }
 }
 
@@ -43,22 +40,21 @@ fn has_faults(
     external: bool,
     wanted: &[(u8, Handling)],
     worst: Handling,
-) -> Result<(), Fail> {
-    let octets = message(rt.alloc(), text)?;
-    let (found, handling) = judged(rt.alloc(), &octets, external)?;
+) {
+    let octets = message(rt, text);
+    let (found, handling) = judged(rt, &octets, external);
     assert_equal!(rt, found.as_slice(), wanted);
     assert_equal!(rt, handling, worst);
-    Ok(())
 }
 
 #[test]
-fn an_update_may_have_no_fault(rt: HostRuntime) -> Result<(), Fail> {
+fn an_update_may_have_no_fault(rt: HostRuntime) {
     let whole = "002f 02 0000 0014 40010100 40020602010000fdfc 4003040a000001 18090909";
-    has_faults(&rt, whole, true, &[], Handling::Accept)
+    has_faults(&rt, whole, true, &[], Handling::Accept);
 }
 
 #[test]
-fn each_fault_has_its_attribute(rt: HostRuntime) -> Result<(), Fail> {
+fn each_fault_has_its_attribute(rt: HostRuntime) {
     // An AGGREGATOR of no octets, an ORIGIN of 3, a second ORIGIN, and neither AS_PATH nor NEXT_HOP.
     has_faults(
         &rt,
@@ -71,11 +67,11 @@ fn each_fault_has_its_attribute(rt: HostRuntime) -> Result<(), Fail> {
             (0, Handling::TreatAsWithdraw),
         ],
         Handling::TreatAsWithdraw,
-    )
+    );
 }
 
 #[test]
-fn the_worst_may_come_last_or_first(rt: HostRuntime) -> Result<(), Fail> {
+fn the_worst_may_come_last_or_first(rt: HostRuntime) {
     has_faults(
         &rt,
         "001d 02 0000 0006 c00700 800e00",
@@ -85,7 +81,7 @@ fn the_worst_may_come_last_or_first(rt: HostRuntime) -> Result<(), Fail> {
             (14, Handling::SessionReset),
         ],
         Handling::SessionReset,
-    )?;
+    );
     has_faults(
         &rt,
         "001d 02 0000 0006 800e00 c00700",
@@ -95,11 +91,11 @@ fn the_worst_may_come_last_or_first(rt: HostRuntime) -> Result<(), Fail> {
             (7, Handling::AttributeDiscard),
         ],
         Handling::SessionReset,
-    )
+    );
 }
 
 #[test]
-fn an_external_peer_is_judged_otherwise(rt: HostRuntime) -> Result<(), Fail> {
+fn an_external_peer_is_judged_otherwise(rt: HostRuntime) {
     let preference = "001d 02 0000 0006 400503 000064";
     has_faults(
         &rt,
@@ -107,12 +103,12 @@ fn an_external_peer_is_judged_otherwise(rt: HostRuntime) -> Result<(), Fail> {
         true,
         &[(5, Handling::AttributeDiscard)],
         Handling::AttributeDiscard,
-    )?;
+    );
     has_faults(
         &rt,
         preference,
         false,
         &[(5, Handling::TreatAsWithdraw)],
         Handling::TreatAsWithdraw,
-    )
+    );
 }

@@ -1,11 +1,12 @@
 //! Messages and texts at their limits.
 use crate::tests::octets::message;
+use crate::tests::unwrap;
 use octseq::str::DisplayError;
 use octseq::{Array, AsOctets, Malformed, OctetsBuilder, StrBuilder, Truncate};
 use octseq_asserts::{assert_equal, assert_true};
 use octseq_bgp::{AddPath, Message, SessionConfig};
-use std::alloc::Global;
-use std::test::Fail;
+use std::alloc::AllocGlobal;
+use std::process::Abort;
 
 /// Returns a session with extended messages.
 pub fn extended() -> SessionConfig {
@@ -17,17 +18,17 @@ pub fn extended() -> SessionConfig {
 }
 
 /// Returns an UPDATE of this many octets, with prefixes of no bits.
-pub fn zeros(alloc: Global, count: u16) -> Result<Vec<u8>, Fail> {
-    let mut octets = Vec::new(alloc);
+pub fn zeros(rt: &(impl AllocGlobal + Abort), count: u16) -> Vec<u8> {
+    let mut octets = Vec::new(rt.alloc());
     for _ in 0..16 {
-        octets.push(0xFF)?;
+        unwrap(rt, octets.push(0xFF));
     }
-    octets.extend_from_slice(&count.to_be_bytes())?;
-    octets.push(2)?;
+    unwrap(rt, octets.extend_from_slice(&count.to_be_bytes()));
+    unwrap(rt, octets.push(2));
     for _ in 19..count {
-        octets.push(0)?;
+        unwrap(rt, octets.push(0));
     }
-    Ok(octets)
+    octets
 }
 
 /// Returns how many prefixes a message announces.
@@ -39,25 +40,23 @@ fn announced<R: AsOctets + Copy>(octets: R, session: SessionConfig) -> Result<us
 }
 
 #[test]
-fn a_message_may_have_65535_octets(rt: HostRuntime) -> Result<(), Fail> {
-    let octets = zeros(rt.alloc(), 65535)?;
+fn a_message_may_have_65535_octets(rt: HostRuntime) {
+    let octets = zeros(&rt, 65535);
     assert_equal!(&rt, octets.len(), 65535);
     assert_equal!(&rt, announced(&octets, extended()), Ok(65512));
     let modern = announced(&octets, SessionConfig::modern());
     assert_equal!(&rt, modern, Err(Malformed));
-    Ok(())
 }
 
 #[test]
-fn a_message_may_have_4096_octets(rt: HostRuntime) -> Result<(), Fail> {
-    let octets = zeros(rt.alloc(), 4096)?;
+fn a_message_may_have_4096_octets(rt: HostRuntime) {
+    let octets = zeros(&rt, 4096);
     let modern = announced(&octets, SessionConfig::modern());
     assert_equal!(&rt, modern, Ok(4073));
-    let longer = zeros(rt.alloc(), 4097)?;
+    let longer = zeros(&rt, 4097);
     let modern = announced(&longer, SessionConfig::modern());
     assert_equal!(&rt, modern, Err(Malformed));
     assert_equal!(&rt, announced(&longer, extended()), Ok(4074));
-    Ok(())
 }
 
 /// Appends the text of a message.
@@ -72,21 +71,20 @@ fn append<R: AsOctets + Copy, B: OctetsBuilder + Truncate>(
 }
 
 #[test]
-fn a_text_is_appended_whole_or_not_at_all(rt: HostRuntime) -> Result<(), Fail> {
-    let octets = message(rt.alloc(), "001f 02 0004 18090909 0000 18090908")?;
+fn a_text_is_appended_whole_or_not_at_all(rt: HostRuntime) {
+    let octets = message(&rt, "001f 02 0004 18090909 0000 18090908");
     // `update`, `withdrawn 9.9.9.0/24` and `announced 9.9.8.0/24`, with line feeds.
-    let mut whole = StrBuilder::<Array<51>>::new(rt.alloc())?;
-    whole.try_push_str("> ")?;
+    let mut whole = unwrap(&rt, StrBuilder::<Array<51>>::new(rt.alloc()));
+    unwrap(&rt, whole.try_push_str("> "));
     assert_equal!(&rt, append(&mut whole, &octets), Ok(()));
     assert_equal!(
         &rt,
         whole.as_str(),
         "> update\nwithdrawn 9.9.9.0/24\nannounced 9.9.8.0/24\n"
     );
-    let mut short = StrBuilder::<Array<50>>::new(rt.alloc())?;
-    short.try_push_str("> ")?;
+    let mut short = unwrap(&rt, StrBuilder::<Array<50>>::new(rt.alloc()));
+    unwrap(&rt, short.try_push_str("> "));
     assert_equal!(&rt, append(&mut short, &octets), Err(DisplayError::Short));
     assert_equal!(&rt, short.as_str(), "> ");
     assert_true!(&rt, short.len() == 2);
-    Ok(())
 }

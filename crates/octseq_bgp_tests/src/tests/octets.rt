@@ -1,6 +1,7 @@
 //! Octets from hexadecimal.
-use std::alloc::Global;
-use std::test::Fail;
+use crate::tests::unwrap;
+use std::alloc::AllocGlobal;
+use std::process::Abort;
 
 /// Returns the value of a digit, or 16.
 fn digit(byte: u8) -> u8 {
@@ -12,30 +13,30 @@ fn digit(byte: u8) -> u8 {
 }
 
 /// Returns the octets that pairs of digits say. Spaces are skipped.
-pub fn octets(alloc: Global, text: &str) -> Result<Vec<u8>, Fail> {
-    let mut octets = Vec::new(alloc);
+pub fn octets(rt: &(impl AllocGlobal + Abort), text: &str) -> Vec<u8> {
+    let mut octets = Vec::new(rt.alloc());
     let mut high = 16;
     for byte in text.as_bytes() {
         let value = digit(*byte);
         if value < 16 {
             if high < 16 {
-                octets.push(high * 16 + value)?;
+                unwrap(rt, octets.push(high * 16 + value));
                 high = 16;
             } else {
                 high = value;
             }
         }
     }
-    Ok(octets)
+    octets
 }
 
 /// Makes a message: a marker, its length, and the rest, which begins with a type.
-pub fn message(alloc: Global, text: &str) -> Result<Vec<u8>, Fail> {
-    let rest = octets(alloc, text)?;
-    let mut all = Vec::new(alloc);
+pub fn message(rt: &(impl AllocGlobal + Abort), text: &str) -> Vec<u8> {
+    let rest = octets(rt, text);
+    let mut all = Vec::new(rt.alloc());
     for _ in 0..16 {
-        all.push(0xFF)?;
+        unwrap(rt, all.push(0xFF));
     }
-    all.extend_from_slice(&rest)?;
-    Ok(all)
+    unwrap(rt, all.extend_from_slice(&rest));
+    all
 }

@@ -3,11 +3,11 @@
 //! `.ci/refused` runs these tests with their n-th request refused, for each n up to the last of them. A refusal ends a
 //! test with its error, once the test has checked what is there.
 use crate::tests::octets::message;
+use crate::tests::unwrap;
 use octseq::str::DisplayError;
 use octseq::{AsOctets, StrBuilder};
 use octseq_asserts::{assert_equal, assert_true};
 use octseq_bgp::{Message, MessageReader, ReadMessageError, SessionConfig};
-use std::test::Fail;
 
 /// Appends the text of a message.
 fn append<R: AsOctets + Copy>(
@@ -21,31 +21,29 @@ fn append<R: AsOctets + Copy>(
 }
 
 #[test]
-fn a_refused_text_stays(rt: HostRuntime) -> Result<(), Fail> {
+fn a_refused_text_stays(rt: HostRuntime) {
     let octets = message(
-        rt.alloc(),
+        &rt,
         "002f 02 0000 0014 40010100 40020602010000fdfc 4003040a000001 18090909",
-    )?;
-    let mut text = StrBuilder::new(rt.alloc())?;
-    text.push_str("before ")?;
+    );
+    let mut text = unwrap(&rt, StrBuilder::new(rt.alloc()));
+    unwrap(&rt, text.push_str("before "));
     let appended = append(&mut text, &octets);
     if appended.is_err() {
         assert_equal!(&rt, text.as_str(), "before ");
     }
-    appended?;
+    unwrap(&rt, appended);
     assert_equal!(&rt, text.len(), 123);
-    Ok(())
 }
 
 #[test]
-fn a_refused_message_ends_the_stream(rt: HostRuntime) -> Result<(), Fail> {
-    let octets = message(rt.alloc(), "0013 04")?;
+fn a_refused_message_ends_the_stream(rt: HostRuntime) {
+    let octets = message(&rt, "0013 04");
     let mut messages = MessageReader::new(rt.alloc(), octets.as_slice(), SessionConfig::modern());
     let found = messages.read_next();
     if matches!(found, Err(ReadMessageError::Memory)) {
-        assert_true!(&rt, !messages.read_next()?);
+        assert_true!(&rt, !unwrap(&rt, messages.read_next()));
     }
-    assert_true!(&rt, found?);
+    assert_true!(&rt, unwrap(&rt, found));
     assert_equal!(&rt, messages.octets().len(), 19);
-    Ok(())
 }

@@ -1,12 +1,12 @@
 //! Streams of messages, read one at a time.
 use crate::tests::limits::{extended, zeros};
 use crate::tests::octets::message;
+use crate::tests::unwrap;
 use octseq_asserts::{assert_equal, assert_true};
 use octseq_bgp::{Message, MessageReader, ReadMessageError, SessionConfig, read_message};
 use std::alloc::{AllocGlobal, Global};
 use std::io::{self, Error, ErrorKind, Read};
 use std::process::Abort;
-use std::test::Fail;
 
 /// A source that gives a few octets at a time, stalls before each read, and may fail at its end.
 #[derive(Drop)]
@@ -32,33 +32,32 @@ impl Read for Drip<'_> {
 }
 
 /// Returns a KEEPALIVE of 19 octets, and an UPDATE of 27.
-fn two(alloc: Global) -> Result<Vec<u8>, Fail> {
-    let mut all = message(alloc, "0013 04")?;
-    let update = message(alloc, "001b 02 0000 0000 18090909")?;
-    all.extend_from_slice(&update)?;
-    Ok(all)
+fn two(rt: &(impl AllocGlobal + Abort)) -> Vec<u8> {
+    let mut all = message(rt, "0013 04");
+    let update = message(rt, "001b 02 0000 0000 18090909");
+    unwrap(rt, all.extend_from_slice(&update));
+    all
 }
 
 #[test]
-fn messages_are_read_one_at_a_time(rt: HostRuntime) -> Result<(), Fail> {
-    let all = two(rt.alloc())?;
+fn messages_are_read_one_at_a_time(rt: HostRuntime) {
+    let all = two(&rt);
     let modern = SessionConfig::modern();
     let mut messages = MessageReader::new(rt.alloc(), all.as_slice(), modern);
     assert_true!(&rt, messages.message().is_err());
-    assert_true!(&rt, messages.read_next()?);
+    assert_true!(&rt, unwrap(&rt, messages.read_next()));
     assert_true!(&rt, matches!(messages.message(), Ok(Message::Keepalive)));
     assert_equal!(&rt, messages.get_ref().len(), 27);
     assert_equal!(&rt, messages.session(), modern);
-    assert_true!(&rt, messages.read_next()?);
+    assert_true!(&rt, unwrap(&rt, messages.read_next()));
     assert_true!(&rt, matches!(messages.message(), Ok(Message::Update(_))));
     assert_equal!(&rt, Some(messages.octets()), all.as_slice().get(19..));
-    assert_true!(&rt, !messages.read_next()?);
-    assert_true!(&rt, !messages.read_next()?);
-    Ok(())
+    assert_true!(&rt, !unwrap(&rt, messages.read_next()));
+    assert_true!(&rt, !unwrap(&rt, messages.read_next()));
 }
 
 /// Checks that two messages are read from a source that gives at most `at_once` octets at a time, and then fails.
-fn comes(rt: &(impl Abort + AllocGlobal), all: &[u8], at_once: usize) -> Result<(), Fail> {
+fn comes(rt: &(impl Abort + AllocGlobal), all: &[u8], at_once: usize) {
     let source = Drip {
         rest: all,
         at_once,
@@ -66,22 +65,20 @@ fn comes(rt: &(impl Abort + AllocGlobal), all: &[u8], at_once: usize) -> Result<
         fails: true,
     };
     let mut messages = MessageReader::new(rt.alloc(), source, SessionConfig::modern());
-    assert_true!(rt, messages.read_next()?);
-    assert_true!(rt, messages.read_next()?);
+    assert_true!(rt, unwrap(rt, messages.read_next()));
+    assert_true!(rt, unwrap(rt, messages.read_next()));
     assert_equal!(rt, messages.octets().len(), 27);
     let end = messages.read_next();
     assert_true!(rt, matches!(end, Err(ReadMessageError::Read(_))));
-    assert_true!(rt, !messages.read_next()?);
-    Ok(())
+    assert_true!(rt, !unwrap(rt, messages.read_next()));
 }
 
 #[test]
-fn messages_come_in_any_pieces(rt: HostRuntime) -> Result<(), Fail> {
-    let all = two(rt.alloc())?;
+fn messages_come_in_any_pieces(rt: HostRuntime) {
+    let all = two(&rt);
     for at_once in 1..50 {
-        comes(&rt, &all, at_once)?;
+        comes(&rt, &all, at_once);
     }
-    Ok(())
 }
 
 /// Returns how many whole messages are in the first `len` octets of the two, and whether other octets are left.
@@ -96,61 +93,53 @@ fn in_front(len: usize) -> (usize, bool) {
 }
 
 /// Checks how reading a truncated stream ends.
-fn ends(rt: &(impl Abort + AllocGlobal), all: &[u8], len: usize) -> Result<(), Fail> {
-    if len > all.len() {
-        return Err(Fail::from("too long"));
-    }
+fn ends(rt: &(impl Abort + AllocGlobal), all: &[u8], len: usize) {
+    let front = unwrap(rt, all.get(..len).ok_or("too long"));
     let (whole, is_cut) = in_front(len);
-    let mut messages = MessageReader::new(rt.alloc(), &all[..len], SessionConfig::modern());
+    let mut messages = MessageReader::new(rt.alloc(), front, SessionConfig::modern());
     for _ in 0..whole {
-        assert_true!(rt, messages.read_next()?);
+        assert_true!(rt, unwrap(rt, messages.read_next()));
     }
     if is_cut {
         let end = messages.read_next();
         assert_true!(rt, matches!(end, Err(ReadMessageError::Short)));
     }
-    assert_true!(rt, !messages.read_next()?);
-    Ok(())
+    assert_true!(rt, !unwrap(rt, messages.read_next()));
 }
 
 #[test]
-fn a_stream_that_is_cut_off_is_reported(rt: HostRuntime) -> Result<(), Fail> {
-    let all = two(rt.alloc())?;
+fn a_stream_that_is_cut_off_is_reported(rt: HostRuntime) {
+    let all = two(&rt);
     assert_equal!(&rt, all.len(), 46);
     for len in 0..47 {
-        ends(&rt, &all, len)?;
+        ends(&rt, &all, len);
     }
-    Ok(())
 }
 
 /// Checks a source that fails after some octets.
-fn fails(rt: &(impl Abort + AllocGlobal), all: &[u8], len: usize) -> Result<(), Fail> {
-    if len > all.len() {
-        return Err(Fail::from("too long"));
-    }
+fn fails(rt: &(impl Abort + AllocGlobal), all: &[u8], len: usize) {
+    let front = unwrap(rt, all.get(..len).ok_or("too long"));
     let source = Drip {
-        rest: &all[..len],
+        rest: front,
         at_once: 5,
         is_ready: false,
         fails: true,
     };
     let mut messages = MessageReader::new(rt.alloc(), source, SessionConfig::modern());
     for _ in 0..in_front(len).0 {
-        assert_true!(rt, messages.read_next()?);
+        assert_true!(rt, unwrap(rt, messages.read_next()));
     }
     let end = messages.read_next();
     assert_true!(rt, matches!(end, Err(ReadMessageError::Read(_))));
-    assert_true!(rt, !messages.read_next()?);
-    Ok(())
+    assert_true!(rt, !unwrap(rt, messages.read_next()));
 }
 
 #[test]
-fn a_read_that_fails_is_reported(rt: HostRuntime) -> Result<(), Fail> {
-    let all = two(rt.alloc())?;
+fn a_read_that_fails_is_reported(rt: HostRuntime) {
+    let all = two(&rt);
     for len in 0..47 {
-        fails(&rt, &all, len)?;
+        fails(&rt, &all, len);
     }
-    Ok(())
 }
 
 /// Returns how reading a source ends whose first message isn't whole.
@@ -160,30 +149,29 @@ fn end_of(alloc: Global, octets: &[u8], session: SessionConfig) -> Option<ReadMe
 }
 
 /// Whether a message, given without its marker, isn't framed as one of the session.
-fn is_misframed(alloc: Global, session: SessionConfig, text: &str) -> Result<bool, Fail> {
-    let octets = message(alloc, text)?;
-    let end = end_of(alloc, &octets, session);
-    Ok(matches!(end, Some(ReadMessageError::Malformed)))
+fn is_misframed(rt: &(impl AllocGlobal + Abort), session: SessionConfig, text: &str) -> bool {
+    let octets = message(rt, text);
+    let end = end_of(rt.alloc(), &octets, session);
+    matches!(end, Some(ReadMessageError::Malformed))
 }
 
 #[test]
-fn lengths_are_held_to_the_session(rt: HostRuntime) -> Result<(), Fail> {
+fn lengths_are_held_to_the_session(rt: HostRuntime) {
     let modern = SessionConfig::modern();
-    assert_true!(&rt, is_misframed(rt.alloc(), modern, "0012 04")?);
-    assert_true!(&rt, is_misframed(rt.alloc(), modern, "0000")?);
-    assert_true!(&rt, is_misframed(rt.alloc(), modern, "1001 02")?);
-    assert_true!(&rt, !is_misframed(rt.alloc(), modern, "1000 02")?);
-    assert_true!(&rt, !is_misframed(rt.alloc(), extended(), "ffff 02")?);
-    assert_true!(&rt, is_misframed(rt.alloc(), extended(), "0012 02")?);
-    Ok(())
+    assert_true!(&rt, is_misframed(&rt, modern, "0012 04"));
+    assert_true!(&rt, is_misframed(&rt, modern, "0000"));
+    assert_true!(&rt, is_misframed(&rt, modern, "1001 02"));
+    assert_true!(&rt, !is_misframed(&rt, modern, "1000 02"));
+    assert_true!(&rt, !is_misframed(&rt, extended(), "ffff 02"));
+    assert_true!(&rt, is_misframed(&rt, extended(), "0012 02"));
 }
 
 /// Checks a source that ends at a wrong octet of its marker, and one that goes on.
-fn other_octet(rt: &(impl Abort + AllocGlobal), index: usize) -> Result<(), Fail> {
+fn other_octet(rt: &(impl Abort + AllocGlobal), index: usize) {
     let modern = SessionConfig::modern();
-    let mut octets = two(rt.alloc())?;
+    let mut octets = two(rt);
     if index >= octets.len() {
-        return Err(Fail::from("too far"));
+        panic!(rt; "too far");
     }
     octets.as_mut_slice()[index] = 254;
     let all = end_of(rt.alloc(), &octets, modern);
@@ -193,55 +181,50 @@ fn other_octet(rt: &(impl Abort + AllocGlobal), index: usize) -> Result<(), Fail
     let before = end_of(rt.alloc(), &octets[..index], modern);
     let is_short = matches!(before, Some(ReadMessageError::Short));
     assert_equal!(rt, is_short, index > 0);
-    Ok(())
 }
 
 #[test]
-fn a_marker_is_sixteen_octets_of_255(rt: HostRuntime) -> Result<(), Fail> {
+fn a_marker_is_sixteen_octets_of_255(rt: HostRuntime) {
     for index in 0..16 {
-        other_octet(&rt, index)?;
+        other_octet(&rt, index);
     }
-    Ok(())
 }
 
 #[test]
-fn nothing_follows_what_is_misframed(rt: HostRuntime) -> Result<(), Fail> {
-    let mut octets = message(rt.alloc(), "0012 04")?;
-    let more = two(rt.alloc())?;
-    octets.extend_from_slice(&more)?;
+fn nothing_follows_what_is_misframed(rt: HostRuntime) {
+    let mut octets = message(&rt, "0012 04");
+    let more = two(&rt);
+    unwrap(&rt, octets.extend_from_slice(&more));
     let mut messages = MessageReader::new(rt.alloc(), octets.as_slice(), SessionConfig::modern());
     let end = messages.read_next();
     assert_true!(&rt, matches!(end, Err(ReadMessageError::Malformed)));
-    assert_true!(&rt, !messages.read_next()?);
-    Ok(())
+    assert_true!(&rt, !unwrap(&rt, messages.read_next()));
 }
 
 #[test]
-fn octets_that_are_framed_may_be_no_message(rt: HostRuntime) -> Result<(), Fail> {
-    let mut octets = message(rt.alloc(), "0014 04 00")?;
-    let more = two(rt.alloc())?;
-    octets.extend_from_slice(&more)?;
+fn octets_that_are_framed_may_be_no_message(rt: HostRuntime) {
+    let mut octets = message(&rt, "0014 04 00");
+    let more = two(&rt);
+    unwrap(&rt, octets.extend_from_slice(&more));
     let mut messages = MessageReader::new(rt.alloc(), octets.as_slice(), SessionConfig::modern());
-    assert_true!(&rt, messages.read_next()?);
+    assert_true!(&rt, unwrap(&rt, messages.read_next()));
     assert_true!(&rt, messages.message().is_err());
-    assert_true!(&rt, messages.read_next()?);
+    assert_true!(&rt, unwrap(&rt, messages.read_next()));
     assert_true!(&rt, messages.message().is_ok());
-    Ok(())
 }
 
 /// Whether a message of this many octets is read completely in a session.
-fn is_read(alloc: Global, session: SessionConfig, count: u16) -> Result<bool, Fail> {
-    let octets = zeros(alloc, count)?;
-    let mut messages = MessageReader::new(alloc, octets.as_slice(), session);
-    Ok(matches!(messages.read_next(), Ok(true)) && messages.octets() == octets.as_slice())
+fn is_read(rt: &(impl AllocGlobal + Abort), session: SessionConfig, count: u16) -> bool {
+    let octets = zeros(rt, count);
+    let mut messages = MessageReader::new(rt.alloc(), octets.as_slice(), session);
+    matches!(messages.read_next(), Ok(true)) && messages.octets() == octets.as_slice()
 }
 
 #[test]
-fn long_messages_are_read(rt: HostRuntime) -> Result<(), Fail> {
+fn long_messages_are_read(rt: HostRuntime) {
     let modern = SessionConfig::modern();
-    assert_true!(&rt, is_read(rt.alloc(), modern, 4096)?);
-    assert_true!(&rt, !is_read(rt.alloc(), modern, 4097)?);
-    assert_true!(&rt, is_read(rt.alloc(), extended(), 4097)?);
-    assert_true!(&rt, is_read(rt.alloc(), extended(), 65535)?);
-    Ok(())
+    assert_true!(&rt, is_read(&rt, modern, 4096));
+    assert_true!(&rt, !is_read(&rt, modern, 4097));
+    assert_true!(&rt, is_read(&rt, extended(), 4097));
+    assert_true!(&rt, is_read(&rt, extended(), 65535));
 }

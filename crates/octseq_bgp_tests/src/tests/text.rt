@@ -1,9 +1,10 @@
 //! The text of octets: that of a message, or `malformed`.
+use crate::tests::unwrap;
 use octseq::str::DisplayError;
 use octseq::{AsOctets, StrBuilder};
 use octseq_bgp::{Message, SessionConfig};
-use std::alloc::Global;
-use std::test::Fail;
+use std::alloc::AllocGlobal;
+use std::process::Abort;
 
 /// Appends the text of octets, or `malformed`.
 fn append_read<R: AsOctets + Copy>(
@@ -19,21 +20,21 @@ fn append_read<R: AsOctets + Copy>(
 
 /// Returns the text of octets, or `malformed`.
 pub fn text_of(
-    alloc: Global,
+    rt: &(impl AllocGlobal + Abort),
     octets: &[u8],
     session: SessionConfig,
-) -> Result<StrBuilder<Vec<u8>>, Fail> {
-    let mut text = StrBuilder::new(alloc)?;
-    append_read(&mut text, octets, session)?;
-    Ok(text)
+) -> StrBuilder<Vec<u8>> {
+    let mut text = unwrap(rt, StrBuilder::new(rt.alloc()));
+    unwrap(rt, append_read(&mut text, octets, session));
+    text
 }
 
 /// Splits lines that are joined by semicolons. Each ends with a line feed.
-pub fn lines_of(alloc: Global, joined: &str) -> Result<String, Fail> {
-    let mut lines = String::new(alloc);
+pub fn lines_of(rt: &(impl AllocGlobal + Abort), joined: &str) -> String {
+    let mut lines = String::new(rt.alloc());
     for c in joined.chars() {
-        lines.push(if c == ';' { '\n' } else { c })?;
+        unwrap(rt, lines.push(if c == ';' { '\n' } else { c }));
     }
-    lines.push('\n')?;
-    Ok(lines)
+    unwrap(rt, lines.push('\n'));
+    lines
 }

@@ -5,7 +5,6 @@ use octseq_program::{ProgramFault, Status, command_word};
 use std::alloc::{AllocError, Global};
 use std::fmt::Debug;
 use std::process::Abort;
-use std::test::Fail;
 
 /// Ends the test if two values differ. A call is proved in a tenth of the time of an `assert_eq!`.
 macro_rules! assert_equal {
@@ -23,6 +22,14 @@ macro_rules! assert_true {
 
 fn equal<T: PartialEq + Debug + Drop>(rt: &impl Abort, what: &str, left: T, right: T) {
     assert_eq!(rt; left, right, "{what}");
+}
+
+/// Returns the value of a result, or ends the test with its error.
+fn unwrap<T, E: Debug + Drop>(rt: &impl Abort, made: Result<T, E>) -> T {
+    match made {
+        Ok(value) => value,
+        Err(error) => panic!(rt; "error: {error:?}"),
+    }
 }
 
 mod hostile;
@@ -120,9 +127,9 @@ fn messages(alloc: Global, bodies: &[&[u8]]) -> Result<Vec<u8>, AllocError> {
 }
 
 #[test]
-fn message_is_shown(rt: HostRuntime) -> Result<(), Fail> {
-    let update = messages(rt.alloc(), &[&UPDATE])?;
-    let path = messages(rt.alloc(), &[&PATH])?;
+fn message_is_shown(rt: HostRuntime) {
+    let update = unwrap(&rt, messages(rt.alloc(), &[&UPDATE]));
+    let path = unwrap(&rt, messages(rt.alloc(), &[&PATH]));
     let with_path = "update\nannounced 9.9.9.0/24 path 7\n";
     let fine = Status::Fine;
     shows(&rt, rt.alloc(), "message", &update, fine, UPDATE_TEXT, "");
@@ -155,20 +162,34 @@ fn message_is_shown(rt: HostRuntime) -> Result<(), Fail> {
     );
     let all = "message,two-octet,add-path,extended";
     shows(&rt, rt.alloc(), all, &path, fine, with_path, "");
-    Ok(())
 }
 
 #[test]
-fn a_malformed_message_is_reported_with_its_place(rt: HostRuntime) -> Result<(), Fail> {
+fn a_malformed_message_is_reported_with_its_place(rt: HostRuntime) {
     // (no octets, an unknown type, an extra octet, and prefixes that need path ids)
     let cases = [
-        ("message", joined(rt.alloc(), &[])?, 0),
-        ("message", messages(rt.alloc(), &[&[0, 19, 6]])?, 0),
-        ("message", messages(rt.alloc(), &[&[0, 20, 4, 0]])?, 19),
-        ("message,add-path", messages(rt.alloc(), &[&UPDATE])?, 43),
+        ("message", unwrap(&rt, joined(rt.alloc(), &[])), 0),
+        (
+            "message",
+            unwrap(&rt, messages(rt.alloc(), &[&[0, 19, 6]])),
+            0,
+        ),
+        (
+            "message",
+            unwrap(&rt, messages(rt.alloc(), &[&[0, 20, 4, 0]])),
+            19,
+        ),
+        (
+            "message,add-path",
+            unwrap(&rt, messages(rt.alloc(), &[&UPDATE])),
+            43,
+        ),
     ];
     for (word, octets, place) in cases {
-        let line = format!(in rt.alloc(); "message 1: malformed at octet {place}\n")?;
+        let line = unwrap(
+            &rt,
+            format!(in rt.alloc(); "message 1: malformed at octet {place}\n"),
+        );
         shows(
             &rt,
             rt.alloc(),
@@ -179,12 +200,11 @@ fn a_malformed_message_is_reported_with_its_place(rt: HostRuntime) -> Result<(),
             &line,
         );
     }
-    Ok(())
 }
 
 #[test]
-fn no_argument_is_message(rt: HostRuntime) -> Result<(), Fail> {
-    let octets = messages(rt.alloc(), &[&KEEPALIVE])?;
+fn no_argument_is_message(rt: HostRuntime) {
+    let octets = unwrap(&rt, messages(rt.alloc(), &[&KEEPALIVE]));
     let word = command_word::<Command>(&[]);
     shows(
         &rt,
@@ -195,15 +215,14 @@ fn no_argument_is_message(rt: HostRuntime) -> Result<(), Fail> {
         "keepalive\n",
         "",
     );
-    Ok(())
 }
 
 #[test]
-fn help_tells_commands_and_statuses(rt: HostRuntime) -> Result<(), Fail> {
+fn help_tells_commands_and_statuses(rt: HostRuntime) {
     let it = reported(rt.alloc(), "--help", b"a", 1, 0);
     assert_equal!(&rt, it.answer, Ok(Status::Fine));
     assert_true!(&rt, it.errors.is_empty());
-    let text = str::from_utf8(&it.written)?;
+    let text = unwrap(&rt, str::from_utf8(&it.written));
     for part in [
         "  message   ",
         "  stream    ",
@@ -218,7 +237,6 @@ fn help_tells_commands_and_statuses(rt: HostRuntime) -> Result<(), Fail> {
     ] {
         assert_eq!(rt; text.contains(part), true, "{part}");
     }
-    Ok(())
 }
 
 #[test]

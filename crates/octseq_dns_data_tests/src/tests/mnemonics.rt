@@ -1,8 +1,8 @@
 //! Types and classes by their mnemonics, and octets in base 64 and base 32.
+use crate::tests::unwrap;
 use octseq_asserts::{assert_equal, assert_true};
 use octseq_dns_data::{Class, Rtype, write_base32hex, write_base64};
 use std::fmt;
-use std::test::Fail;
 
 /// Types of the DNS parameters registry.
 static TYPES: [(u16, &str); 38] = [
@@ -47,42 +47,39 @@ static TYPES: [(u16, &str); 38] = [
 ];
 
 #[test]
-fn each_type_has_its_mnemonic(rt: HostRuntime) -> Result<(), Fail> {
+fn each_type_has_its_mnemonic(rt: HostRuntime) {
     for (number, mnemonic) in &TYPES {
         let rtype = Rtype::from_int(*number);
-        let text = format!(in rt.alloc(); "{rtype}")?;
+        let text = unwrap(&rt, format!(in rt.alloc(); "{rtype}"));
         assert_equal!(&rt, text.as_str(), *mnemonic);
-        assert_equal!(&rt, mnemonic.parse::<Rtype>()?, rtype);
-        let lower = mnemonic.to_ascii_lowercase(rt.alloc())?;
-        assert_equal!(&rt, lower.as_str().parse::<Rtype>()?, rtype);
+        assert_equal!(&rt, unwrap(&rt, mnemonic.parse::<Rtype>()), rtype);
+        let lower = unwrap(&rt, mnemonic.to_ascii_lowercase(rt.alloc()));
+        assert_equal!(&rt, unwrap(&rt, lower.as_str().parse::<Rtype>()), rtype);
     }
-    Ok(())
 }
 
 #[test]
-fn each_class_has_its_mnemonic(rt: HostRuntime) -> Result<(), Fail> {
+fn each_class_has_its_mnemonic(rt: HostRuntime) {
     for (number, mnemonic) in [(1, "IN"), (3, "CH"), (4, "HS"), (254, "NONE"), (255, "ANY")] {
         let class = Class::from_int(number);
-        let text = format!(in rt.alloc(); "{class}")?;
+        let text = unwrap(&rt, format!(in rt.alloc(); "{class}"));
         assert_equal!(&rt, text.as_str(), mnemonic);
-        assert_equal!(&rt, mnemonic.parse::<Class>()?, class);
+        assert_equal!(&rt, unwrap(&rt, mnemonic.parse::<Class>()), class);
     }
-    Ok(())
 }
 
 #[test]
-fn numbers_without_mnemonics_follow_a_word(rt: HostRuntime) -> Result<(), Fail> {
+fn numbers_without_mnemonics_follow_a_word(rt: HostRuntime) {
     let rtype = Rtype::from_int(65535);
-    let text = format!(in rt.alloc(); "{rtype}")?;
+    let text = unwrap(&rt, format!(in rt.alloc(); "{rtype}"));
     assert_equal!(&rt, text.as_str(), "TYPE65535");
     let class = Class::from_int(2);
-    let text = format!(in rt.alloc(); "{class}")?;
+    let text = unwrap(&rt, format!(in rt.alloc(); "{class}"));
     assert_equal!(&rt, text.as_str(), "CLASS2");
-    Ok(())
 }
 
 #[test]
-fn types_are_read_in_either_case(rt: HostRuntime) -> Result<(), Fail> {
+fn types_are_read_in_either_case(rt: HostRuntime) {
     for (text, number) in [
         ("type65535", 65535),
         ("tYpE028", 28),
@@ -90,7 +87,11 @@ fn types_are_read_in_either_case(rt: HostRuntime) -> Result<(), Fail> {
         ("TYPE0000000001", 1),
         ("nSeC3pArAm", 51),
     ] {
-        assert_equal!(&rt, text.parse::<Rtype>()?, Rtype::from_int(number));
+        assert_equal!(
+            &rt,
+            unwrap(&rt, text.parse::<Rtype>()),
+            Rtype::from_int(number)
+        );
     }
     for text in [
         "",
@@ -107,23 +108,25 @@ fn types_are_read_in_either_case(rt: HostRuntime) -> Result<(), Fail> {
     ] {
         assert_true!(&rt, text.parse::<Rtype>().is_err());
     }
-    Ok(())
 }
 
 #[test]
-fn classes_are_read_in_either_case(rt: HostRuntime) -> Result<(), Fail> {
+fn classes_are_read_in_either_case(rt: HostRuntime) {
     for (text, number) in [
         ("in", 1),
         ("CLASS3", 3),
         ("class65535", 65535),
         ("cLaSs0255", 255),
     ] {
-        assert_equal!(&rt, text.parse::<Class>()?, Class::from_int(number));
+        assert_equal!(
+            &rt,
+            unwrap(&rt, text.parse::<Class>()),
+            Class::from_int(number)
+        );
     }
     for text in ["", "CLASS", "CLASS65536", "CLASS-1", "TYPE1", "A", "INN"] {
         assert_true!(&rt, text.parse::<Class>().is_err());
     }
-    Ok(())
 }
 
 /// Octets that are shown in base 64.
@@ -148,7 +151,7 @@ impl fmt::Display for Base32hex<'_> {
 
 /// The vectors of RFC 4648, 10, and digits at the ends of its tables.
 #[test]
-fn octets_show_in_base_64(rt: HostRuntime) -> Result<(), Fail> {
+fn octets_show_in_base_64(rt: HostRuntime) {
     for (octets, wanted) in [
         (b"".as_slice(), ""),
         (b"f", "Zg=="),
@@ -160,15 +163,14 @@ fn octets_show_in_base_64(rt: HostRuntime) -> Result<(), Fail> {
         (b"\x00\x10\x83\xFB\xFF", "ABCD+/8="),
     ] {
         let shown = Base64(octets);
-        let text = format!(in rt.alloc(); "{shown}")?;
+        let text = unwrap(&rt, format!(in rt.alloc(); "{shown}"));
         assert_equal!(&rt, text.as_str(), wanted);
     }
-    Ok(())
 }
 
 /// The same in base 32, in lower case and without `=`.
 #[test]
-fn octets_show_in_base_32(rt: HostRuntime) -> Result<(), Fail> {
+fn octets_show_in_base_32(rt: HostRuntime) {
     for (octets, wanted) in [
         (b"".as_slice(), ""),
         (b"f", "co"),
@@ -180,8 +182,7 @@ fn octets_show_in_base_32(rt: HostRuntime) -> Result<(), Fail> {
         (b"\x00\xFF", "03vg"),
     ] {
         let shown = Base32hex(octets);
-        let text = format!(in rt.alloc(); "{shown}")?;
+        let text = unwrap(&rt, format!(in rt.alloc(); "{shown}"));
         assert_equal!(&rt, text.as_str(), wanted);
     }
-    Ok(())
 }

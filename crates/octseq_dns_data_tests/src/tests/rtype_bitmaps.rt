@@ -1,4 +1,5 @@
 //! Type bitmaps: RFC 4034, 4.1.2.
+use crate::tests::unwrap;
 use octseq::array::Array;
 use octseq::octets::Octets;
 use octseq::{AppendError, ShortBuf};
@@ -7,7 +8,6 @@ use octseq_dns_data::rtype_bitmap::append_rtypes;
 use octseq_dns_data::{Rtype, RtypeBitmap};
 use std::alloc::AllocGlobal;
 use std::process::Abort;
-use std::test::Fail;
 
 /// The types A, MX, RRSIG, NSEC and TYPE1234, as in the example of RFC 4034, 4.3.
 const EXAMPLE: &[u8] =
@@ -21,8 +21,8 @@ struct Are {
 }
 
 impl<H: Abort> Case<H> for Are {
-    fn holds<R: Octets + Copy>(&self, rt: &H, octets: R) -> Result<(), Fail> {
-        let bitmap = RtypeBitmap::from_octets(octets)?;
+    fn holds<R: Octets + Copy>(&self, rt: &H, octets: R) {
+        let bitmap = unwrap(rt, RtypeBitmap::from_octets(octets));
         let mut types = bitmap.iter();
         for number in self.numbers {
             let rtype = Rtype::from_int(*number);
@@ -33,47 +33,55 @@ impl<H: Abort> Case<H> for Are {
         assert_equal!(rt, bitmap.is_empty(), self.numbers.is_empty());
         assert_equal!(rt, bitmap.contains(Rtype::SOA), false);
         assert_equal!(rt, bitmap.as_slice(), octets.as_ref());
-        Ok(())
     }
 }
 
 #[test]
-fn octets_say_their_types(rt: HostRuntime) -> Result<(), Fail> {
-    over_each(&rt, &Are { numbers: &[] }, b"")?;
-    over_each(&rt, &Are { numbers: &[1] }, b"\x00\x01\x40")?;
-    over_each(
+fn octets_say_their_types(rt: HostRuntime) {
+    unwrap(&rt, over_each(&rt, &Are { numbers: &[] }, b""));
+    unwrap(&rt, over_each(&rt, &Are { numbers: &[1] }, b"\x00\x01\x40"));
+    unwrap(
         &rt,
-        &Are {
-            numbers: &[0, 7, 8],
-        },
-        b"\x00\x02\x81\x80",
-    )?;
+        over_each(
+            &rt,
+            &Are {
+                numbers: &[0, 7, 8],
+            },
+            b"\x00\x02\x81\x80",
+        ),
+    );
     let nsec = Are {
         numbers: &[1, 15, 46, 47],
     };
-    over_each(&rt, &nsec, b"\x00\x06\x40\x01\x00\x00\x00\x03")?;
+    unwrap(
+        &rt,
+        over_each(&rt, &nsec, b"\x00\x06\x40\x01\x00\x00\x00\x03"),
+    );
     let two_windows = Are {
         numbers: &[1, 15, 46, 47, 257],
     };
-    over_each(
+    unwrap(
         &rt,
-        &two_windows,
-        b"\x00\x06\x40\x01\x00\x00\x00\x03\x01\x01\x40",
-    )?;
+        over_each(
+            &rt,
+            &two_windows,
+            b"\x00\x06\x40\x01\x00\x00\x00\x03\x01\x01\x40",
+        ),
+    );
     let example = Are {
         numbers: &[1, 15, 46, 47, 1234],
     };
-    over_each(&rt, &example, EXAMPLE)?;
+    unwrap(&rt, over_each(&rt, &example, EXAMPLE));
     let last = Are { numbers: &[65535] };
     let mut octets = [0; 34];
     octets[0] = 255;
     octets[1] = 32;
     octets[33] = 1;
-    over_each(&rt, &last, &octets)
+    unwrap(&rt, over_each(&rt, &last, &octets));
 }
 
 #[test]
-fn types_show_after_spaces(rt: HostRuntime) -> Result<(), Fail> {
+fn types_show_after_spaces(rt: HostRuntime) {
     let alloc = rt.alloc();
     let cases: [(&[u8], &str); 4] = [
         (b"", ""),
@@ -82,15 +90,14 @@ fn types_show_after_spaces(rt: HostRuntime) -> Result<(), Fail> {
         (&EXAMPLE[8..], " TYPE1234"),
     ];
     for (octets, wanted) in cases {
-        let bitmap = RtypeBitmap::from_octets(octets)?;
-        let text = format!(in alloc; "{bitmap}")?;
+        let bitmap = unwrap(&rt, RtypeBitmap::from_octets(octets));
+        let text = unwrap(&rt, format!(in alloc; "{bitmap}"));
         assert_equal!(&rt, text.as_str(), wanted);
     }
-    Ok(())
 }
 
 #[test]
-fn other_octets_are_refused(rt: HostRuntime) -> Result<(), Fail> {
+fn other_octets_are_refused(rt: HostRuntime) {
     let cases: [&[u8]; 9] = [
         // no octet in the bitmap
         b"\x00\x00",
@@ -115,42 +122,39 @@ fn other_octets_are_refused(rt: HostRuntime) -> Result<(), Fail> {
     assert_true!(&rt, RtypeBitmap::from_octets(long.as_slice()).is_err());
     long[1] = 32;
     assert_true!(&rt, RtypeBitmap::from_octets(&long[..34]).is_ok());
-    Ok(())
 }
 
 #[test]
-fn a_set_may_be_cut_after_a_block_alone(rt: HostRuntime) -> Result<(), Fail> {
+fn a_set_may_be_cut_after_a_block_alone(rt: HostRuntime) {
     for len in 0..EXAMPLE.len() {
         let is_set = RtypeBitmap::from_octets(&EXAMPLE[..len]).is_ok();
         assert_equal!(&rt, is_set, len == 0 || len == 8);
     }
-    Ok(())
 }
 
 /// The types of the example, in another order, some of them repeated.
 const UNORDERED: [u16; 7] = [1234, 47, 1, 46, 15, 1, 1234];
 
 #[test]
-fn types_in_any_order_make_their_set(rt: HostRuntime) -> Result<(), Fail> {
+fn types_in_any_order_make_their_set(rt: HostRuntime) {
     let alloc = rt.alloc();
     let rtypes = UNORDERED.map(Rtype::from_int);
-    let bitmap = RtypeBitmap::<Vec<u8>>::from_rtypes(alloc, &rtypes)?;
+    let bitmap = unwrap(&rt, RtypeBitmap::<Vec<u8>>::from_rtypes(alloc, &rtypes));
     assert_equal!(&rt, bitmap.as_slice(), EXAMPLE);
-    let none = RtypeBitmap::<Vec<u8>>::from_rtypes(alloc, &[])?;
+    let none = unwrap(&rt, RtypeBitmap::<Vec<u8>>::from_rtypes(alloc, &[]));
     assert_equal!(&rt, none.as_slice(), b"".as_slice());
-    let fits = RtypeBitmap::<Array<37>>::from_rtypes(alloc, &rtypes)?;
+    let fits = unwrap(&rt, RtypeBitmap::<Array<37>>::from_rtypes(alloc, &rtypes));
     assert_equal!(&rt, fits.as_slice(), EXAMPLE);
     let short = RtypeBitmap::<Array<36>>::from_rtypes(alloc, &rtypes);
     assert_equal!(&rt, short.err(), Some(AppendError::Short(ShortBuf)));
-    Ok(())
 }
 
 #[test]
-fn a_set_is_appended_whole_or_not_at_all(rt: HostRuntime) -> Result<(), Fail> {
+fn a_set_is_appended_whole_or_not_at_all(rt: HostRuntime) {
     let rtypes = [Rtype::MX, Rtype::A];
     let mut builder = Array::<8>::new();
-    append_rtypes(&mut builder, &rtypes)?;
-    append_rtypes(&mut builder, &rtypes)?;
+    unwrap(&rt, append_rtypes(&mut builder, &rtypes));
+    unwrap(&rt, append_rtypes(&mut builder, &rtypes));
     let appended = append_rtypes(&mut builder, &[Rtype::A]);
     assert_equal!(&rt, appended, Err(AppendError::Short(ShortBuf)));
     assert_equal!(
@@ -158,5 +162,4 @@ fn a_set_is_appended_whole_or_not_at_all(rt: HostRuntime) -> Result<(), Fail> {
         builder.as_slice(),
         b"\x00\x02\x40\x01\x00\x02\x40\x01".as_slice()
     );
-    Ok(())
 }

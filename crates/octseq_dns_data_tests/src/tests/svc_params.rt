@@ -1,12 +1,12 @@
 //! Service parameters of SVCB and HTTPS: RFC 9460.
+use crate::tests::unwrap;
 use octseq::octets::Octets;
 use octseq_asserts::{Case, assert_equal, assert_true, over_each};
 use octseq_dns_data::svc_params::key::{ALPN, ECH, PORT};
 use octseq_dns_data::{SvcParam, SvcParams};
-use std::alloc::{AllocGlobal, Global};
+use std::alloc::AllocGlobal;
 use std::fmt::{Display, Write};
 use std::process::Abort;
-use std::test::Fail;
 
 /// A parameter of each named key except that of no default protocol, and two of other keys.
 const MANY: &[u8] =
@@ -20,14 +20,14 @@ const SIX: &[u8] =
 \x00\x05\x00\x01\x00\x00\x07\x00\x00\x02\x9B\x00\x02\"\x00";
 
 /// Returns what a value shows.
-fn shown<T: Display>(alloc: Global, value: &T) -> Result<String, Fail> {
-    let mut text = String::new(alloc);
-    write!(text, "{value}")?;
-    Ok(text)
+fn shown<T: Display>(rt: &(impl Abort + AllocGlobal), value: &T) -> String {
+    let mut text = String::new(rt.alloc());
+    unwrap(rt, write!(text, "{value}"));
+    text
 }
 
 #[test]
-fn each_parameter_shows_after_a_space(rt: HostRuntime) -> Result<(), Fail> {
+fn each_parameter_shows_after_a_space(rt: HostRuntime) {
     let cases: [(&[u8], &str); 14] = [
         (b"", ""),
         (b"\x00\x02\x00\x00", " no-default-alpn"),
@@ -61,16 +61,15 @@ ipv6hint=\"2001:db8::1\" key7 key667=\"\\\"\\000\"",
         ),
     ];
     for (octets, wanted) in cases {
-        let params = SvcParams::from_octets(octets)?;
+        let params = unwrap(&rt, SvcParams::from_octets(octets));
         assert_equal!(&rt, params.as_slice(), octets);
-        let text = shown(rt.alloc(), &params)?;
+        let text = shown(&rt, &params);
         assert_equal!(&rt, text.as_str(), wanted);
     }
-    Ok(())
 }
 
 #[test]
-fn what_has_no_form_is_malformed(rt: HostRuntime) -> Result<(), Fail> {
+fn what_has_no_form_is_malformed(rt: HostRuntime) {
     let cases: [&[u8]; 33] = [
         // a truncated key, length or value
         b"\x00",
@@ -118,24 +117,20 @@ fn what_has_no_form_is_malformed(rt: HostRuntime) -> Result<(), Fail> {
     for octets in cases {
         assert_true!(&rt, SvcParams::from_octets(octets).is_err());
     }
-    Ok(())
 }
 
 #[test]
-fn parameters_end_where_one_of_them_does(rt: HostRuntime) -> Result<(), Fail> {
+fn parameters_end_where_one_of_them_does(rt: HostRuntime) {
     let ends = [0, 8, 18, 24, 36, 41, 61, 65, 71];
     assert_equal!(&rt, MANY.len(), 71);
     for len in 0..=MANY.len() {
-        let Some(front) = MANY.get(..len) else {
-            return Err("no such front".into());
-        };
+        let front = unwrap(&rt, MANY.get(..len).ok_or("no such front"));
         assert_equal!(
             &rt,
             SvcParams::from_octets(front).is_ok(),
             ends.contains(&len)
         );
     }
-    Ok(())
 }
 
 /// A test of the parameters of `SIX`, in order.
@@ -143,12 +138,12 @@ fn parameters_end_where_one_of_them_does(rt: HostRuntime) -> Result<(), Fail> {
 struct AreSix;
 
 impl<H: Abort + AllocGlobal> Case<H> for AreSix {
-    fn holds<R: Octets + Copy>(&self, rt: &H, octets: R) -> Result<(), Fail> {
-        let params = SvcParams::from_octets(octets)?.clone()?;
+    fn holds<R: Octets + Copy>(&self, rt: &H, octets: R) {
+        let params = unwrap(rt, unwrap(rt, SvcParams::from_octets(octets)).clone());
         let mut keys = [0_u16; 6];
         let mut sizes = [0_usize; 6];
         let mut count = 0_usize;
-        for param in params.iter().clone()? {
+        for param in unwrap(rt, params.iter().clone()) {
             assert_true!(rt, count < 6);
             if count < 6 {
                 keys[count] = param.key;
@@ -160,39 +155,29 @@ impl<H: Abort + AllocGlobal> Case<H> for AreSix {
         assert_equal!(rt, keys, [0, 1, 3, 5, 7, 667]);
         assert_equal!(rt, sizes, [4, 6, 2, 1, 0, 2]);
         assert_true!(rt, params.get(2).is_none());
-        let Some(port) = params.get(PORT) else {
-            return Err("no port".into());
-        };
+        let port = unwrap(rt, params.get(PORT).ok_or("no port"));
         assert_equal!(rt, port.octets.peek_all(), b"\x01\xBB".as_slice());
         assert_true!(rt, port.alpn_ids().is_none());
-        let Some(ech) = params.get(ECH) else {
-            return Err("no ech".into());
-        };
-        let text = shown(rt.alloc(), &ech)?;
+        let ech = unwrap(rt, params.get(ECH).ok_or("no ech"));
+        let text = shown(rt, &ech);
         assert_equal!(rt, text.as_str(), r#"ech="AA==""#);
-        let Some(alpn) = params.get(ALPN) else {
-            return Err("no alpn".into());
-        };
-        has_two_ids(rt, &alpn)
+        let alpn = unwrap(rt, params.get(ALPN).ok_or("no alpn"));
+        has_two_ids(rt, &alpn);
     }
 }
 
 /// Checks the ids `h2` and `h3`.
-fn has_two_ids<R: Octets + Copy>(rt: &impl Abort, alpn: &SvcParam<R>) -> Result<(), Fail> {
-    let Some(ids) = alpn.clone()?.alpn_ids() else {
-        return Err("no ids".into());
-    };
-    let mut left = ids.clone()?;
-    let (Some(first), Some(second)) = (left.next(), left.next()) else {
-        return Err("fewer ids".into());
-    };
+fn has_two_ids<R: Octets + Copy>(rt: &impl Abort, alpn: &SvcParam<R>) {
+    let ids = unwrap(rt, unwrap(rt, alpn.clone()).alpn_ids().ok_or("no ids"));
+    let mut left = unwrap(rt, ids.clone());
+    let first = unwrap(rt, left.next().ok_or("no first id"));
+    let second = unwrap(rt, left.next().ok_or("no second id"));
     assert_equal!(rt, first.peek_all(), b"h2".as_slice());
     assert_equal!(rt, second.peek_all(), b"h3".as_slice());
     assert_true!(rt, left.next().is_none());
-    Ok(())
 }
 
 #[test]
-fn parameters_are_read_from_each_kind_of_octets(rt: HostRuntime) -> Result<(), Fail> {
-    over_each(&rt, &AreSix, SIX)
+fn parameters_are_read_from_each_kind_of_octets(rt: HostRuntime) {
+    unwrap(&rt, over_each(&rt, &AreSix, SIX));
 }

@@ -1,11 +1,11 @@
 //! DNS names and messages.
+use crate::tests::unwrap;
 use octseq::{AsOctets, Octets, Parser, ReadError};
 use octseq_asserts::{Case, assert_equal, assert_true, over_each};
 use octseq_dns::header::Flags;
 use octseq_dns::{Class, Header, Malformed, Message, Opcode, ParsedName, Rcode, Rtype};
-use std::alloc::{AllocGlobal, Global};
+use std::alloc::AllocGlobal;
 use std::process::Abort;
-use std::test::Fail;
 
 /// Returns the place after the name at a place of octets, and the wire length of the name.
 fn name_at(octets: &[u8], place: usize) -> Option<(usize, usize)> {
@@ -18,21 +18,20 @@ fn name_at(octets: &[u8], place: usize) -> Option<(usize, usize)> {
 }
 
 /// Checks the labels of the name at a place.
-fn has_labels(rt: &impl Abort, octets: &[u8], place: usize, wanted: &[&[u8]]) -> Result<(), Fail> {
+fn has_labels(rt: &impl Abort, octets: &[u8], place: usize, wanted: &[&[u8]]) {
     let mut parser = Parser::from_ref(octets);
-    parser.seek(place)?;
-    let name = ParsedName::parse(&mut parser)?;
+    unwrap(rt, parser.seek(place));
+    let name = unwrap(rt, ParsedName::parse(&mut parser));
     assert_equal!(rt, name.label_count(), wanted.len());
     assert_equal!(rt, name.is_root(), wanted.is_empty());
     for (label, other) in name.labels().zip(wanted) {
         assert_equal!(rt, label.as_slice(), *other);
         assert_equal!(rt, label.len(), other.len());
     }
-    Ok(())
 }
 
 #[test]
-fn the_first_octet_tells_what_is_there(rt: HostRuntime) -> Result<(), Fail> {
+fn the_first_octet_tells_what_is_there(rt: HostRuntime) {
     for (octets, place, wanted) in [
         (b"\x00".as_slice(), 0, Some((1, 1))),
         (b"", 0, None),
@@ -51,22 +50,20 @@ fn the_first_octet_tells_what_is_there(rt: HostRuntime) -> Result<(), Fail> {
     ] {
         assert_equal!(&rt, name_at(octets, place), wanted);
     }
-    Ok(())
 }
 
 #[test]
-fn labels_are_followed_through_pointers(rt: HostRuntime) -> Result<(), Fail> {
+fn labels_are_followed_through_pointers(rt: HostRuntime) {
     let octets = b"\x00\x03com\x00\x07example\xC0\x01\x03www\xC0\x06".as_slice();
-    has_labels(&rt, octets, 0, &[])?;
-    has_labels(&rt, octets, 1, &[b"com"])?;
-    has_labels(&rt, octets, 6, &[b"example", b"com"])?;
-    has_labels(&rt, octets, 16, &[b"www", b"example", b"com"])?;
+    has_labels(&rt, octets, 0, &[]);
+    has_labels(&rt, octets, 1, &[b"com"]);
+    has_labels(&rt, octets, 6, &[b"example", b"com"]);
+    has_labels(&rt, octets, 16, &[b"www", b"example", b"com"]);
     assert_equal!(&rt, name_at(octets, 16), Some((22, 17)));
-    Ok(())
 }
 
 #[test]
-fn a_label_has_63_octets_at_most(rt: HostRuntime) -> Result<(), Fail> {
+fn a_label_has_63_octets_at_most(rt: HostRuntime) {
     let mut octets = [b'a'; 66];
     octets[0] = 63;
     octets[64] = 0;
@@ -75,11 +72,10 @@ fn a_label_has_63_octets_at_most(rt: HostRuntime) -> Result<(), Fail> {
     octets[64] = b'a';
     octets[65] = 0;
     assert_equal!(&rt, name_at(&octets, 0), None);
-    Ok(())
 }
 
 #[test]
-fn a_name_has_255_octets_at_most(rt: HostRuntime) -> Result<(), Fail> {
+fn a_name_has_255_octets_at_most(rt: HostRuntime) {
     let mut octets = [b'a'; 256];
     for start in [0, 64, 128] {
         octets[start] = 63;
@@ -91,40 +87,38 @@ fn a_name_has_255_octets_at_most(rt: HostRuntime) -> Result<(), Fail> {
     octets[254] = b'a';
     octets[255] = 0;
     assert_equal!(&rt, name_at(&octets, 0), None);
-    Ok(())
 }
 
 /// Makes a root followed by this many pointers: the first one points to the root, and each other to the one before it.
-fn chain(alloc: Global, pointers: u8) -> Result<Vec<u8>, Fail> {
-    let mut octets = Vec::new(alloc);
-    octets.push(0)?;
+fn chain(rt: &(impl Abort + AllocGlobal), pointers: u8) -> Vec<u8> {
+    let mut octets = Vec::new(rt.alloc());
+    unwrap(rt, octets.push(0));
     for count in 0..pointers {
         let place = (2 * u16::from(count)).saturating_sub(1);
         for octet in (0xC000 | place).to_be_bytes() {
-            octets.push(octet)?;
+            unwrap(rt, octets.push(octet));
         }
     }
-    Ok(octets)
+    octets
 }
 
 #[test]
-fn a_name_has_127_pointers_at_most(rt: HostRuntime) -> Result<(), Fail> {
-    let most = chain(rt.alloc(), 127)?;
+fn a_name_has_127_pointers_at_most(rt: HostRuntime) {
+    let most = chain(&rt, 127);
     assert_equal!(&rt, name_at(&most, 253), Some((255, 1)));
-    let more = chain(rt.alloc(), 128)?;
+    let more = chain(&rt, 128);
     assert_equal!(&rt, name_at(&more, 255), None);
-    Ok(())
 }
 
 #[derive(Drop)]
 struct IsRead;
 
 impl<H: Abort + AllocGlobal> Case<H> for IsRead {
-    fn holds<R: Octets + Copy>(&self, rt: &H, octets: R) -> Result<(), Fail> {
-        let message = Message::parse(octets)?;
+    fn holds<R: Octets + Copy>(&self, rt: &H, octets: R) {
+        let message = unwrap(rt, Message::parse(octets));
         let header = message.header();
         assert_equal!(rt, (header.id, header.flags.qr), (4660, true));
-        let copy = message.clone()?;
+        let copy = unwrap(rt, message.clone());
         // (the header's counts bound those of the iterators)
         let _counts = copy.header_counts();
         let counts = (
@@ -142,26 +136,28 @@ impl<H: Abort + AllocGlobal> Case<H> for IsRead {
                 b"\x01\x02\x03\x04".as_slice()
             );
         }
-        Ok(())
     }
 }
 
 #[test]
-fn a_message_is_read_from_each_kind_of_octets(rt: HostRuntime) -> Result<(), Fail> {
-    over_each(
+fn a_message_is_read_from_each_kind_of_octets(rt: HostRuntime) {
+    unwrap(
         &rt,
-        &IsRead,
-        b"\x12\x34\x85\x80\x00\x01\x00\x01\x00\x00\x00\x00\x07example\x03com\x00\x00\x01\x00\x01\
+        over_each(
+            &rt,
+            &IsRead,
+            b"\x12\x34\x85\x80\x00\x01\x00\x01\x00\x00\x00\x00\x07example\x03com\x00\x00\x01\x00\x01\
 \xC0\x0C\x00\x01\x00\x01\x00\x00\x01\x2C\x00\x04\x01\x02\x03\x04",
-    )
+        ),
+    );
 }
 
 #[derive(Drop)]
 struct EveryField;
 
 impl<H: Abort + AllocGlobal> Case<H> for EveryField {
-    fn holds<R: Octets + Copy>(&self, rt: &H, octets: R) -> Result<(), Fail> {
-        let message = Message::parse(octets)?;
+    fn holds<R: Octets + Copy>(&self, rt: &H, octets: R) {
+        let message = unwrap(rt, Message::parse(octets));
         let header = message.header();
         let flags = Flags {
             qr: true,
@@ -187,23 +183,22 @@ impl<H: Abort + AllocGlobal> Case<H> for EveryField {
             assert_equal!(rt, answer.owner().parser().pos(), 29);
             assert_equal!(rt, (answer.rdata().pos(), answer.rdata().len()), (41, 45));
         }
-        Ok(())
     }
 }
 
 /// Runs the test on a slice.
-fn has_every_field<H: Abort + AllocGlobal>(rt: &H, octets: &[u8]) -> Result<(), Fail> {
-    EveryField.holds(rt, octets)
+fn has_every_field<H: Abort + AllocGlobal>(rt: &H, octets: &[u8]) {
+    EveryField.holds(rt, octets);
 }
 
 #[test]
-fn every_field_of_a_message_is_read(rt: HostRuntime) -> Result<(), Fail> {
+fn every_field_of_a_message_is_read(rt: HostRuntime) {
     let octets =
         b"\x12\x34\x85\x80\x00\x01\x00\x01\x00\x00\x00\x00\x07example\x03com\x00\x00\x01\x00\x01\
 \xC0\x0C\x00\x01\x00\x01\x00\x00\x01\x2C\x00\x04\x01\x02\x03\x04"
             .as_slice();
-    has_every_field(&rt, octets)?;
-    has_labels(&rt, octets, 29, &[b"example", b"com"])
+    has_every_field(&rt, octets);
+    has_labels(&rt, octets, 29, &[b"example", b"com"]);
 }
 
 /// Returns the header of a message.
@@ -212,7 +207,7 @@ fn header_of<R: Octets + Copy>(octets: R) -> Result<Header, Malformed> {
 }
 
 #[test]
-fn each_bit_of_a_header_has_its_place(rt: HostRuntime) -> Result<(), Fail> {
+fn each_bit_of_a_header_has_its_place(rt: HostRuntime) {
     let none = Flags::default();
     for (high, low, flags, opcode, rcode) in [
         (0x80, 0, Flags { qr: true, ..none }, 0, 0),
@@ -231,7 +226,7 @@ fn each_bit_of_a_header_has_its_place(rt: HostRuntime) -> Result<(), Fail> {
         let mut octets = [0u8; 12];
         octets[2] = high;
         octets[3] = low;
-        let header = header_of(octets.as_slice())?;
+        let header = unwrap(&rt, header_of(octets.as_slice()));
         assert_equal!(&rt, header.flags, flags);
         assert_equal!(
             &rt,
@@ -239,7 +234,6 @@ fn each_bit_of_a_header_has_its_place(rt: HostRuntime) -> Result<(), Fail> {
             (opcode, rcode)
         );
     }
-    Ok(())
 }
 
 /// Whether octets are a message.
@@ -248,7 +242,7 @@ fn is_message(octets: &[u8]) -> bool {
 }
 
 #[test]
-fn what_is_no_message_is_malformed(rt: HostRuntime) -> Result<(), Fail> {
+fn what_is_no_message_is_malformed(rt: HostRuntime) {
     let one = b"\x00\x00\x00\x00\x00\x01\x00\x00\x00\x00\x00\x00";
     let update = b"\x00\x00\x28\x00\x00\x00\x00\x00\x00\x01\x00\x00";
     for (header, body, wanted) in [
@@ -291,27 +285,35 @@ fn what_is_no_message_is_malformed(rt: HostRuntime) -> Result<(), Fail> {
         ),
     ] {
         let mut octets = Vec::new(rt.alloc());
-        octets.extend_from_slice(header)?;
-        octets.extend_from_slice(body)?;
+        unwrap(&rt, octets.extend_from_slice(header));
+        unwrap(&rt, octets.extend_from_slice(body));
         assert_equal!(&rt, is_message(octets.as_slice()), wanted);
     }
     assert_true!(&rt, !is_message(&[0; 11]));
-    Ok(())
 }
 
 /// Makes a message of two records of the root. The first one has so much data that the second ends at 65537.
-fn too_long(alloc: Global) -> Result<Vec<u8>, Fail> {
-    let mut octets = Vec::new(alloc);
-    octets.extend_from_slice(b"\x00\x00\x00\x00\x00\x00\x00\x00\x00\x00\x00\x02")?;
-    octets.extend_from_slice(b"\x00\x00\x00\x00\x01\x00\x00\x00\x00\xFF\xDD")?;
-    octets.resize(65524, 0)?;
-    octets.extend_from_slice(b"\x00\x00\x00\x00\x01\x00\x00\x00\x00\x00\x02\x00\x00")?;
-    Ok(octets)
+fn too_long(rt: &(impl Abort + AllocGlobal)) -> Vec<u8> {
+    let mut octets = Vec::new(rt.alloc());
+    unwrap(
+        rt,
+        octets.extend_from_slice(b"\x00\x00\x00\x00\x00\x00\x00\x00\x00\x00\x00\x02"),
+    );
+    unwrap(
+        rt,
+        octets.extend_from_slice(b"\x00\x00\x00\x00\x01\x00\x00\x00\x00\xFF\xDD"),
+    );
+    unwrap(rt, octets.resize(65524, 0));
+    unwrap(
+        rt,
+        octets.extend_from_slice(b"\x00\x00\x00\x00\x01\x00\x00\x00\x00\x00\x02\x00\x00"),
+    );
+    octets
 }
 
 #[test]
-fn a_message_has_65535_octets_at_most(rt: HostRuntime) -> Result<(), Fail> {
-    let mut octets = too_long(rt.alloc())?;
+fn a_message_has_65535_octets_at_most(rt: HostRuntime) {
+    let mut octets = too_long(&rt);
     assert_equal!(&rt, octets.len(), 65537);
     assert_true!(&rt, !is_message(octets.as_slice()));
     octets.truncate(65535);
@@ -319,18 +321,16 @@ fn a_message_has_65535_octets_at_most(rt: HostRuntime) -> Result<(), Fail> {
         *len = 0;
     }
     assert_true!(&rt, is_message(octets.as_slice()));
-    Ok(())
 }
 
 #[test]
-fn a_refusal_tells_what_it_is(rt: HostRuntime) -> Result<(), Fail> {
-    let refused = header_of(b"".as_slice()).err().ok_or("it was read")?;
+fn a_refusal_tells_what_it_is(rt: HostRuntime) {
+    let refused = unwrap(&rt, header_of(b"".as_slice()).err().ok_or("it was read"));
     assert_equal!(
         &rt,
-        format!(in rt.alloc(); "{refused}")?.as_str(),
+        unwrap(&rt, format!(in rt.alloc(); "{refused}")).as_str(),
         "malformed"
     );
     assert_equal!(&rt, refused, Malformed);
     assert_equal!(&rt, ReadError::from(refused), ReadError::Malformed);
-    Ok(())
 }

@@ -1,5 +1,6 @@
 //! Answers that are written: to a message that was read, within a push limit, and with an OPT record. TXT data made
 //! from strings.
+use crate::tests::unwrap;
 use arrayvec::ArrayVec;
 use octseq::builder::AsOctetsMut;
 use octseq::error::WriteError;
@@ -14,7 +15,6 @@ use octseq_dns::{
     QuestionBuilder, Rcode, Rtype, Target, Ttl, UnknownRecordData,
 };
 use std::process::Abort;
-use std::test::Fail;
 
 /// A table of a few targets.
 type Table = ArrayVec<Target, 8>;
@@ -23,53 +23,62 @@ type Table = ArrayVec<Target, 8>;
 const SHORT: Result<(), AppendError> = Err(AppendError::Short(ShortBuf));
 
 /// Makes the answer to a request, without records, in an array of 64 octets.
-fn answer_to(request: &[u8], rcode: Rcode) -> Result<Array<64>, Fail> {
-    let request = Message::parse(request)?;
-    let message = MessageBuilder::from_builder(Array::<64>::new(), Table::new())?;
-    let answers = message.start_answer(&request, rcode)?;
-    Ok(answers.authority().additional().finish().0)
+fn answer_to(rt: &impl Abort, request: &[u8], rcode: Rcode) -> Array<64> {
+    let request = unwrap(rt, Message::parse(request));
+    let message = unwrap(
+        rt,
+        MessageBuilder::from_builder(Array::<64>::new(), Table::new()),
+    );
+    let answers = unwrap(rt, message.start_answer(&request, rcode));
+    answers.authority().additional().finish().0
 }
 
 #[test]
-fn an_answer_has_what_was_asked(rt: HostRuntime) -> Result<(), Fail> {
+fn an_answer_has_what_was_asked(rt: HostRuntime) {
     let request = b"\x12\x34\x01\x30\0\x01\0\0\0\0\0\0\x07eXample\x03com\0\0\x01\0\x01";
     let wanted = b"\x12\x34\x81\x03\0\x01\0\0\0\0\0\0\x07eXample\x03com\0\0\x01\0\x01";
-    let answer = answer_to(request, Rcode::NXDOMAIN)?;
+    let answer = answer_to(&rt, request, Rcode::NXDOMAIN);
     assert_equal!(&rt, answer.as_slice(), wanted.as_slice());
-    Ok(())
 }
 
 #[test]
-fn an_answer_has_no_other_flag_and_no_record(rt: HostRuntime) -> Result<(), Fail> {
+fn an_answer_has_no_other_flag_and_no_record(rt: HostRuntime) {
     let request = b"\xAB\xCD\xA6\xF5\0\x02\0\x01\0\0\0\0\x01a\0\0\x06\0\x01\x01A\0\0\x10\0\x03\
 \0\0\x01\0\x01\0\0\0\0\0\x04\x01\x02\x03\x04";
     let wanted = b"\xAB\xCD\xA0\0\0\x02\0\0\0\0\0\0\x01a\0\0\x06\0\x01\x01A\0\0\x10\0\x03";
-    let answer = answer_to(request, Rcode::NOERROR)?;
+    let answer = answer_to(&rt, request, Rcode::NOERROR);
     assert_equal!(&rt, answer.as_slice(), wanted.as_slice());
     let request = b"\xAB\xCD\0\0\0\0\0\0\0\0\0\0";
     let wanted = b"\xAB\xCD\x80\x05\0\0\0\0\0\0\0\0";
-    let answer = answer_to(request, Rcode::REFUSED)?;
+    let answer = answer_to(&rt, request, Rcode::REFUSED);
     assert_equal!(&rt, answer.as_slice(), wanted.as_slice());
-    Ok(())
 }
 
 #[test]
-fn an_answer_is_refused_where_its_questions_pass_a_limit(rt: HostRuntime) -> Result<(), Fail> {
+fn an_answer_is_refused_where_its_questions_pass_a_limit(rt: HostRuntime) {
     let octets = b"\x12\x34\x01\0\0\x01\0\0\0\0\0\0\x07example\x03com\0\0\x01\0\x01";
-    let request = Message::parse(octets.as_slice())?;
-    let message = MessageBuilder::from_builder(Array::<28>::new(), Table::new())?;
+    let request = unwrap(&rt, Message::parse(octets.as_slice()));
+    let message = unwrap(
+        &rt,
+        MessageBuilder::from_builder(Array::<28>::new(), Table::new()),
+    );
     let refused = message.start_answer(&request, Rcode::NOERROR).err();
     assert_equal!(&rt, refused, SHORT.err());
-    let mut message = MessageBuilder::from_builder(Array::<64>::new(), Table::new())?;
+    let mut message = unwrap(
+        &rt,
+        MessageBuilder::from_builder(Array::<64>::new(), Table::new()),
+    );
     message.set_push_limit(28);
     let refused = message.start_answer(&request, Rcode::NOERROR).err();
     assert_equal!(&rt, refused, SHORT.err());
-    let mut message = MessageBuilder::from_builder(Array::<64>::new(), Table::new())?;
+    let mut message = unwrap(
+        &rt,
+        MessageBuilder::from_builder(Array::<64>::new(), Table::new()),
+    );
     message.set_push_limit(29);
-    let answers = message.start_answer(&request, Rcode::NOERROR)?;
+    let answers = unwrap(&rt, message.start_answer(&request, Rcode::NOERROR));
     assert_equal!(&rt, answers.push_limit(), Some(29));
     assert_equal!(&rt, answers.as_slice().len(), 29);
-    Ok(())
 }
 
 /// A question and two answers, whose owners are pointers to the qname.
@@ -79,82 +88,90 @@ const MESSAGE: &[u8] = b"\0\0\0\0\0\x01\0\x02\0\0\0\0\x07example\x03com\0\0\x01\
 
 /// Pushes the question.
 fn push_question<B: OctetsBuilder + Truncate + AsOctetsMut>(
+    rt: &impl Abort,
     questions: &mut QuestionBuilder<B, Table>,
-) -> Result<Result<(), AppendError>, Fail> {
-    let name = Name::from_text("example.com.")?;
-    Ok(questions.push_question(&name.parsed(), Rtype::A, Class::IN))
+) -> Result<(), AppendError> {
+    let name = unwrap(rt, Name::from_text("example.com."));
+    questions.push_question(&name.parsed(), Rtype::A, Class::IN)
 }
 
 /// Pushes an answer with an address.
 fn push_answer<B: OctetsBuilder + Truncate + AsOctetsMut>(
+    rt: &impl Abort,
     answers: &mut AnswerBuilder<B, Table>,
     address: &[u8],
-) -> Result<Result<(), AppendError>, Fail> {
-    let name = Name::from_text("example.com.")?;
+) -> Result<(), AppendError> {
+    let name = unwrap(rt, Name::from_text("example.com."));
     let rdata = UnknownRecordData::new(Rtype::A, address);
-    Ok(answers.push_record(&name.parsed(), Class::IN, Ttl::from_secs(300), &rdata))
+    answers.push_record(&name.parsed(), Class::IN, Ttl::from_secs(300), &rdata)
 }
 
 /// Pushes the question and the answers within a limit, until one is refused. Returns the number of octets.
-fn pushed_within(rt: &impl Abort, limit: usize) -> Result<usize, Fail> {
-    let mut message = MessageBuilder::from_builder(Array::<61>::new(), Table::new())?;
+fn pushed_within(rt: &impl Abort, limit: usize) -> usize {
+    let mut message = unwrap(
+        rt,
+        MessageBuilder::from_builder(Array::<61>::new(), Table::new()),
+    );
     message.set_push_limit(limit);
     assert_equal!(rt, message.push_limit(), Some(limit));
     let mut questions = message.question();
-    let mut went = push_question(&mut questions)?;
+    let mut went = push_question(rt, &mut questions);
     let mut answers = questions.answer();
     for address in [[1, 2, 3, 4], [5, 6, 7, 8]] {
         if went.is_ok() {
-            went = push_answer(&mut answers, &address)?;
+            went = push_answer(rt, &mut answers, &address);
         }
     }
     let fits = limit >= MESSAGE.len();
     assert_equal!(rt, went, if fits { Ok(()) } else { SHORT });
     let len = answers.as_slice().len();
     assert_equal!(rt, answers.as_slice().get(12..), MESSAGE.get(12..len));
-    Ok(len)
+    len
 }
 
 #[test]
-fn pushes_stay_within_a_limit(rt: HostRuntime) -> Result<(), Fail> {
+fn pushes_stay_within_a_limit(rt: HostRuntime) {
     assert_equal!(&rt, MESSAGE.len(), 61);
     for limit in 12..70 {
         let whole = [12, 29, 45, 61];
         let wanted = whole.iter().filter(|len| **len <= limit).max();
-        assert_equal!(&rt, Some(&pushed_within(&rt, limit)?), wanted);
+        assert_equal!(&rt, Some(&pushed_within(&rt, limit)), wanted);
     }
-    assert_equal!(&rt, pushed_within(&rt, 0)?, 12);
-    assert_equal!(&rt, pushed_within(&rt, usize::MAX)?, 61);
-    Ok(())
+    assert_equal!(&rt, pushed_within(&rt, 0), 12);
+    assert_equal!(&rt, pushed_within(&rt, usize::MAX), 61);
 }
 
 #[test]
-fn what_is_there_stays_past_a_limit(rt: HostRuntime) -> Result<(), Fail> {
-    let message = MessageBuilder::from_builder(Array::<512>::new(), Table::new())?;
+fn what_is_there_stays_past_a_limit(rt: HostRuntime) {
+    let message = unwrap(
+        &rt,
+        MessageBuilder::from_builder(Array::<512>::new(), Table::new()),
+    );
     assert_equal!(&rt, message.push_limit(), None);
     let mut questions = message.question();
-    push_question(&mut questions)??;
+    unwrap(&rt, push_question(&rt, &mut questions));
     let mut answers = questions.answer();
-    push_answer(&mut answers, &[1, 2, 3, 4])??;
+    unwrap(&rt, push_answer(&rt, &mut answers, &[1, 2, 3, 4]));
     answers.set_push_limit(20);
-    assert_equal!(&rt, push_answer(&mut answers, &[5, 6, 7, 8])?, SHORT);
+    assert_equal!(&rt, push_answer(&rt, &mut answers, &[5, 6, 7, 8]), SHORT);
     assert_equal!(&rt, answers.as_slice().get(12..), MESSAGE.get(12..45));
     answers.set_push_limit(60);
-    assert_equal!(&rt, push_answer(&mut answers, &[5, 6, 7, 8])?, SHORT);
+    assert_equal!(&rt, push_answer(&rt, &mut answers, &[5, 6, 7, 8]), SHORT);
     answers.clear_push_limit();
     assert_equal!(&rt, answers.push_limit(), None);
-    push_answer(&mut answers, &[5, 6, 7, 8])??;
+    unwrap(&rt, push_answer(&rt, &mut answers, &[5, 6, 7, 8]));
     assert_equal!(&rt, answers.as_slice(), MESSAGE);
-    Ok(())
 }
 
 #[test]
-fn a_builder_has_its_own_limit_too(rt: HostRuntime) -> Result<(), Fail> {
-    let mut message = MessageBuilder::from_builder(Array::<28>::new(), Table::new())?;
+fn a_builder_has_its_own_limit_too(rt: HostRuntime) {
+    let mut message = unwrap(
+        &rt,
+        MessageBuilder::from_builder(Array::<28>::new(), Table::new()),
+    );
     message.set_push_limit(512);
     let mut questions = message.question();
-    assert_equal!(&rt, push_question(&mut questions)?, SHORT);
-    Ok(())
+    assert_equal!(&rt, push_question(&rt, &mut questions), SHORT);
 }
 
 /// A message with only an OPT record, which has a cookie: RFC 7873, 4.
@@ -169,10 +186,11 @@ const COOKIE: UnknownOptData<'static> = UnknownOptData {
 
 /// Makes a message to which additional records are pushed.
 fn additionals<B: OctetsBuilder + Truncate + AsOctetsMut>(
+    rt: &impl Abort,
     octets: B,
-) -> Result<AdditionalBuilder<B, Table>, Fail> {
-    let message = MessageBuilder::from_builder(octets, Table::new())?;
-    Ok(message.question().answer().authority().additional())
+) -> AdditionalBuilder<B, Table> {
+    let message = unwrap(rt, MessageBuilder::from_builder(octets, Table::new()));
+    message.question().answer().authority().additional()
 }
 
 /// Pushes an OPT record with options.
@@ -190,81 +208,80 @@ pub(super) fn push_opt<B: OctetsBuilder + Truncate + AsOctetsMut, T: Compressor>
 }
 
 #[test]
-fn a_record_of_edns_is_pushed_once(rt: HostRuntime) -> Result<(), Fail> {
-    let mut additionals = additionals(Array::<64>::new())?;
+fn a_record_of_edns_is_pushed_once(rt: HostRuntime) {
+    let mut additionals = additionals(&rt, Array::<64>::new());
     assert_true!(&rt, !additionals.has_opt());
-    push_opt(&mut additionals, &[COOKIE])?;
+    unwrap(&rt, push_opt(&mut additionals, &[COOKIE]));
     assert_equal!(&rt, additionals.as_slice(), WITH_OPT);
     assert_true!(&rt, additionals.has_opt());
     let again = push_opt(&mut additionals, &[]);
     assert_equal!(&rt, again, Err(PushOptError::AlreadyPushed));
     assert_equal!(&rt, additionals.as_slice(), WITH_OPT);
-    Ok(())
 }
 
 #[test]
-fn a_record_of_its_type_is_one_of_edns(rt: HostRuntime) -> Result<(), Fail> {
-    let name = Name::from_text(".")?;
-    let mut additionals = additionals(Array::<64>::new())?;
+fn a_record_of_its_type_is_one_of_edns(rt: HostRuntime) {
+    let name = unwrap(&rt, Name::from_text("."));
+    let mut additionals = additionals(&rt, Array::<64>::new());
     let rdata = UnknownRecordData::new(Rtype::OPT, &[]);
-    additionals.push_record(&name.parsed(), Class::IN, Ttl::from_secs(0), &rdata)?;
+    unwrap(
+        &rt,
+        additionals.push_record(&name.parsed(), Class::IN, Ttl::from_secs(0), &rdata),
+    );
     let again = push_opt(&mut additionals, &[]);
     assert_equal!(&rt, again, Err(PushOptError::AlreadyPushed));
-    Ok(())
 }
 
 #[test]
-fn a_record_of_edns_is_read_back(rt: HostRuntime) -> Result<(), Fail> {
-    let mut additionals = additionals(Array::<64>::new())?;
+fn a_record_of_edns_is_read_back(rt: HostRuntime) {
+    let mut additionals = additionals(&rt, Array::<64>::new());
     let padding = UnknownOptData {
         code: 12,
         octets: b"",
     };
-    push_opt(&mut additionals, &[COOKIE, padding])?;
+    unwrap(&rt, push_opt(&mut additionals, &[COOKIE, padding]));
     let (octets, _) = additionals.finish();
-    let message = Message::parse(octets.as_slice())?;
-    let record = message.additionals().next().ok_or("no record")?;
+    let message = unwrap(&rt, Message::parse(octets.as_slice()));
+    let record = unwrap(&rt, message.additionals().next().ok_or("no record"));
     assert_true!(&rt, record.owner().is_root());
-    let opt = Opt::from_record(&record)?;
+    let opt = unwrap(&rt, Opt::from_record(&record));
     assert_equal!(&rt, opt.udp_payload_size(), 1232);
     assert_equal!(&rt, opt.extended_rcode(), 1);
     assert_equal!(&rt, opt.version(), 0);
     assert_true!(&rt, opt.dnssec_ok());
     let mut options = opt.options();
-    let first = options.next().ok_or("no option")?;
+    let first = unwrap(&rt, options.next().ok_or("no option"));
     assert_equal!(&rt, first.code, 10);
     assert_equal!(&rt, first.octets.peek_all(), COOKIE.octets);
-    let second = options.next().ok_or("no option")?;
+    let second = unwrap(&rt, options.next().ok_or("no option"));
     assert_equal!(&rt, second.code, 12);
     assert_equal!(&rt, second.octets.peek_all(), b"".as_slice());
     assert_true!(&rt, options.next().is_none());
-    Ok(())
 }
 
 #[test]
-fn a_record_of_edns_is_pushed_whole_or_not_at_all(rt: HostRuntime) -> Result<(), Fail> {
+fn a_record_of_edns_is_pushed_whole_or_not_at_all(rt: HostRuntime) {
     let short = Err(PushOptError::Short(ShortBuf));
     for limit in 12..35 {
-        let mut additionals = additionals(Array::<35>::new())?;
+        let mut additionals = additionals(&rt, Array::<35>::new());
         additionals.set_push_limit(limit);
         assert_equal!(&rt, push_opt(&mut additionals, &[COOKIE]), short);
         assert_equal!(&rt, additionals.as_slice(), [0; 12].as_slice());
         assert_true!(&rt, !additionals.has_opt());
     }
-    let mut fits = additionals(Array::<35>::new())?;
-    push_opt(&mut fits, &[COOKIE])?;
-    let mut none = additionals(Array::<22>::new())?;
+    let mut fits = additionals(&rt, Array::<35>::new());
+    unwrap(&rt, push_opt(&mut fits, &[COOKIE]));
+    let mut none = additionals(&rt, Array::<22>::new());
     assert_equal!(&rt, push_opt(&mut none, &[]), short);
-    let mut alone = additionals(Array::<23>::new())?;
-    push_opt(&mut alone, &[])?;
+    let mut alone = additionals(&rt, Array::<23>::new());
+    unwrap(&rt, push_opt(&mut alone, &[]));
     assert_equal!(&rt, alone.as_slice().get(21..), Some(b"\0\0".as_slice()));
-    Ok(())
 }
 
 #[test]
-fn an_option_that_no_record_holds_is_refused(rt: HostRuntime) -> Result<(), Fail> {
-    let long = vec![in rt.alloc(); 0u8; 65536]?;
-    let mut additionals = additionals(Vec::new(rt.alloc()))?;
+fn an_option_that_no_record_holds_is_refused(rt: HostRuntime) {
+    let long = unwrap(&rt, vec![in rt.alloc(); 0u8; 65536]);
+    let mut additionals = additionals(&rt, Vec::new(rt.alloc()));
     let option = UnknownOptData {
         code: 12,
         octets: &long,
@@ -272,26 +289,27 @@ fn an_option_that_no_record_holds_is_refused(rt: HostRuntime) -> Result<(), Fail
     let refused = push_opt(&mut additionals, &[option]);
     assert_equal!(&rt, refused, Err(PushOptError::Short(ShortBuf)));
     assert_equal!(&rt, additionals.as_slice(), [0; 12].as_slice());
-    Ok(())
 }
 
 #[test]
-fn strings_are_data(rt: HostRuntime) -> Result<(), Fail> {
+fn strings_are_data(rt: HostRuntime) {
     let mut octets = Array::<6>::new();
-    append_strings(&mut octets, &[b"a".as_slice(), b"", b"bc"])?;
+    unwrap(
+        &rt,
+        append_strings(&mut octets, &[b"a".as_slice(), b"", b"bc"]),
+    );
     assert_equal!(&rt, octets.as_slice(), b"\x01a\0\x02bc".as_slice());
-    let txt = Txt::from_octets(octets.as_slice())?;
+    let txt = unwrap(&rt, Txt::from_octets(octets.as_slice()));
     let mut strings = txt.strings();
     for wanted in [b"a".as_slice(), b"", b"bc"] {
-        let string = strings.next().ok_or("no string")?;
+        let string = unwrap(&rt, strings.next().ok_or("no string"));
         assert_equal!(&rt, string.as_slice(), wanted);
     }
     assert_true!(&rt, strings.next().is_none());
-    Ok(())
 }
 
 #[test]
-fn what_is_no_string_is_refused(rt: HostRuntime) -> Result<(), Fail> {
+fn what_is_no_string_is_refused(rt: HostRuntime) {
     let mut octets = Array::<600>::new();
     let malformed = Err(WriteError::Malformed);
     assert_equal!(&rt, append_strings(&mut octets, &[]), malformed);
@@ -299,42 +317,39 @@ fn what_is_no_string_is_refused(rt: HostRuntime) -> Result<(), Fail> {
     let strings = [b"b".as_slice(), long.as_slice()];
     assert_equal!(&rt, append_strings(&mut octets, &strings), malformed);
     assert_equal!(&rt, octets.as_slice(), b"".as_slice());
-    append_strings(&mut octets, &[&long[1..], &long[1..]])?;
+    unwrap(&rt, append_strings(&mut octets, &[&long[1..], &long[1..]]));
     assert_equal!(&rt, octets.len(), 512);
     let mut few = Array::<4>::new();
     let short = append_strings(&mut few, &[b"a".as_slice(), b"bc"]);
     assert_equal!(&rt, short, Err(WriteError::Short));
     assert_equal!(&rt, few.as_slice(), b"".as_slice());
-    Ok(())
 }
 
 /// Checks the lengths of the strings of a text of this many octets.
-fn lengths_of_strings(rt: &impl Abort, len: usize, wanted: &[usize]) -> Result<(), Fail> {
+fn lengths_of_strings(rt: &impl Abort, len: usize, wanted: &[usize]) {
     let text = [b'x'; 600];
-    let text = text.get(..len).ok_or("a long text")?;
+    let text = unwrap(rt, text.get(..len).ok_or("a long text"));
     let mut octets = Array::<700>::new();
-    append_text(&mut octets, text)?;
+    unwrap(rt, append_text(&mut octets, text));
     assert_equal!(rt, octets.len(), len + wanted.len());
-    let txt = Txt::from_octets(octets.as_slice())?;
+    let txt = unwrap(rt, Txt::from_octets(octets.as_slice()));
     let mut strings = txt.strings();
     for len in wanted {
-        let string = strings.next().ok_or("no string")?;
+        let string = unwrap(rt, strings.next().ok_or("no string"));
         assert_equal!(rt, string.len(), *len);
     }
     assert_true!(rt, strings.next().is_none());
-    Ok(())
 }
 
 #[test]
-fn a_text_is_cut_into_strings(rt: HostRuntime) -> Result<(), Fail> {
-    lengths_of_strings(&rt, 0, &[0])?;
-    lengths_of_strings(&rt, 1, &[1])?;
-    lengths_of_strings(&rt, 255, &[255])?;
-    lengths_of_strings(&rt, 256, &[255, 1])?;
-    lengths_of_strings(&rt, 510, &[255, 255])?;
-    lengths_of_strings(&rt, 511, &[255, 255, 1])?;
+fn a_text_is_cut_into_strings(rt: HostRuntime) {
+    lengths_of_strings(&rt, 0, &[0]);
+    lengths_of_strings(&rt, 1, &[1]);
+    lengths_of_strings(&rt, 255, &[255]);
+    lengths_of_strings(&rt, 256, &[255, 1]);
+    lengths_of_strings(&rt, 510, &[255, 255]);
+    lengths_of_strings(&rt, 511, &[255, 255, 1]);
     let mut few = Array::<256>::new();
     assert_equal!(&rt, append_text(&mut few, &[b'x'; 256]), SHORT);
     assert_equal!(&rt, few.as_slice(), b"".as_slice());
-    Ok(())
 }

@@ -1,44 +1,42 @@
 //! What users of a DNS library expect of a message that was read: its question, the records of one type, its canonical
 //! name, its OPT record, and the data of its options.
+use crate::tests::unwrap;
 use octseq::Turns;
 use octseq::octets::Octets;
 use octseq_asserts::{Case, assert_equal, assert_true, over_each};
 use octseq_dns::message::NotOneQuestion;
 use octseq_dns::opt::{EdnsOption, OptionData};
 use octseq_dns::{Malformed, Message, ParsedName, Rtype};
-use std::alloc::{AllocError, AllocGlobal, Global};
+use std::alloc::AllocGlobal;
 use std::process::Abort;
-use std::test::Fail;
 
 /// A question for `example.com.` of class IN, at place 12.
 const QUESTION: &[u8] = b"\x07example\x03com\x00\x00\x01\x00\x01";
 
 /// Appends a header with counts.
-fn header(octets: &mut Vec<u8>, counts: [u8; 4]) -> Result<(), AllocError> {
-    octets.extend_from_slice(b"\x12\x34\x81\x87")?;
+fn header(rt: &impl Abort, octets: &mut Vec<u8>, counts: [u8; 4]) {
+    unwrap(rt, octets.extend_from_slice(b"\x12\x34\x81\x87"));
     for count in counts {
-        octets.extend_from_slice(&[0, count])?;
+        unwrap(rt, octets.extend_from_slice(&[0, count]));
     }
-    Ok(())
 }
 
 /// Appends each label of a name, followed by a full stop.
-fn push_name<R: Octets + Copy>(text: &mut Vec<u8>, name: &ParsedName<R>) -> Result<(), AllocError> {
+fn push_name<R: Octets + Copy>(rt: &impl Abort, text: &mut Vec<u8>, name: &ParsedName<R>) {
     for label in name.labels() {
-        text.extend_from_slice(label.as_slice())?;
-        text.push(b'.')?;
+        unwrap(rt, text.extend_from_slice(label.as_slice()));
+        unwrap(rt, text.push(b'.'));
     }
-    Ok(())
 }
 
 /// Makes a message of `count` questions for `example.com.`.
-fn asked(alloc: Global, count: u8) -> Result<Vec<u8>, Fail> {
-    let mut octets = Vec::new(alloc);
-    header(&mut octets, [count, 0, 0, 0])?;
+fn asked(rt: &(impl Abort + AllocGlobal), count: u8) -> Vec<u8> {
+    let mut octets = Vec::new(rt.alloc());
+    header(rt, &mut octets, [count, 0, 0, 0]);
     for _question in 0..count {
-        octets.extend_from_slice(QUESTION)?;
+        unwrap(rt, octets.extend_from_slice(QUESTION));
     }
-    Ok(octets)
+    octets
 }
 
 /// Returns the places of the first question of a message, and of its sole question.
@@ -57,45 +55,50 @@ fn places<R: Octets + Copy>(octets: R) -> Result<(Option<usize>, Option<usize>),
 struct AMessageHasAQuestion(Option<usize>, Option<usize>);
 
 impl<H: Abort> Case<H> for AMessageHasAQuestion {
-    fn holds<R: Octets + Copy>(&self, rt: &H, octets: R) -> Result<(), Fail> {
-        assert_equal!(rt, places(octets)?, (self.0, self.1));
-        Ok(())
+    fn holds<R: Octets + Copy>(&self, rt: &H, octets: R) {
+        assert_equal!(rt, unwrap(rt, places(octets)), (self.0, self.1));
     }
 }
 
 #[test]
-fn a_message_has_a_first_question_and_a_sole_one(rt: HostRuntime) -> Result<(), Fail> {
+fn a_message_has_a_first_question_and_a_sole_one(rt: HostRuntime) {
     for (count, first, sole) in [
         (0u8, None, None),
         (1, Some(12), Some(12)),
         (2, Some(12), None),
     ] {
-        let octets = asked(rt.alloc(), count)?;
-        assert_equal!(&rt, places(octets.as_slice())?, (first, sole));
+        let octets = asked(&rt, count);
+        assert_equal!(&rt, unwrap(&rt, places(octets.as_slice())), (first, sole));
     }
-    let octets = asked(rt.alloc(), 1)?;
-    over_each(
+    let octets = asked(&rt, 1);
+    unwrap(
         &rt,
-        &AMessageHasAQuestion(Some(12), Some(12)),
-        octets.as_slice(),
-    )
+        over_each(
+            &rt,
+            &AMessageHasAQuestion(Some(12), Some(12)),
+            octets.as_slice(),
+        ),
+    );
 }
 
 /// Returns the TTLs of the answers of a type.
-fn times(alloc: Global, octets: &[u8], rtype: Rtype) -> Result<Vec<u32>, Fail> {
-    let mut found = Vec::new(alloc);
-    for entry in Message::parse(octets)?.answers().limit_to(rtype) {
-        found.push(entry.ttl().as_secs())?;
+fn times(rt: &(impl Abort + AllocGlobal), octets: &[u8], rtype: Rtype) -> Vec<u32> {
+    let mut found = Vec::new(rt.alloc());
+    for entry in unwrap(rt, Message::parse(octets)).answers().limit_to(rtype) {
+        unwrap(rt, found.push(entry.ttl().as_secs()));
     }
-    Ok(found)
+    found
 }
 
 #[test]
-fn a_section_is_limited_to_a_type(rt: HostRuntime) -> Result<(), Fail> {
+fn a_section_is_limited_to_a_type(rt: HostRuntime) {
     let mut octets = Vec::new(rt.alloc());
-    header(&mut octets, [0, 5, 0, 0])?;
+    header(&rt, &mut octets, [0, 5, 0, 0]);
     for (rtype, time) in [(1u8, 10u8), (5, 11), (1, 12), (16, 13), (5, 14)] {
-        octets.extend_from_slice(&[0, 0, rtype, 0, 1, 0, 0, 0, time, 0, 0])?;
+        unwrap(
+            &rt,
+            octets.extend_from_slice(&[0, 0, rtype, 0, 1, 0, 0, 0, time, 0, 0]),
+        );
     }
     for (rtype, wanted) in [
         (Rtype::A, [10u32, 12].as_slice()),
@@ -103,50 +106,51 @@ fn a_section_is_limited_to_a_type(rt: HostRuntime) -> Result<(), Fail> {
         (Rtype::TXT, &[13]),
         (Rtype::NS, &[]),
     ] {
-        let found = times(rt.alloc(), octets.as_slice(), rtype)?;
+        let found = times(&rt, octets.as_slice(), rtype);
         assert_equal!(&rt, found.as_slice(), wanted);
     }
-    Ok(())
 }
 
 /// Appends an alias of class IN: its owner, its type and its target.
-fn push_alias(octets: &mut Vec<u8>, owner: &[u8], target: &[u8]) -> Result<(), Fail> {
-    octets.extend_from_slice(owner)?;
-    octets.extend_from_slice(b"\x00\x05\x00\x01\x00\x00\x00\x00\x00")?;
-    octets.push(u8::try_from(target.len())?)?;
-    octets.extend_from_slice(target)?;
-    Ok(())
+fn push_alias(rt: &impl Abort, octets: &mut Vec<u8>, owner: &[u8], target: &[u8]) {
+    unwrap(rt, octets.extend_from_slice(owner));
+    unwrap(
+        rt,
+        octets.extend_from_slice(b"\x00\x05\x00\x01\x00\x00\x00\x00\x00"),
+    );
+    unwrap(rt, octets.push(unwrap(rt, u8::try_from(target.len()))));
+    unwrap(rt, octets.extend_from_slice(target));
 }
 
 /// Makes a message that asks for `a.`, with a chain of `length` aliases: from `a.` to `b.`, and so on. The last alias
 /// is the first answer.
-fn chain(alloc: Global, length: u8) -> Result<Vec<u8>, Fail> {
-    let mut octets = Vec::new(alloc);
-    header(&mut octets, [1, length, 0, 0])?;
-    octets.extend_from_slice(b"\x01a\x00\x00\x01\x00\x01")?;
+fn chain(rt: &(impl Abort + AllocGlobal), length: u8) -> Vec<u8> {
+    let mut octets = Vec::new(rt.alloc());
+    header(rt, &mut octets, [1, length, 0, 0]);
+    unwrap(rt, octets.extend_from_slice(b"\x01a\x00\x00\x01\x00\x01"));
     for back in 0..length {
         let last = b'a'.saturating_add(length.saturating_sub(back));
         let owner = [1, last.saturating_sub(1), 0];
-        push_alias(&mut octets, &owner, &[1, last, 0])?;
+        push_alias(rt, &mut octets, &owner, &[1, last, 0]);
     }
-    Ok(octets)
+    octets
 }
 
 /// Returns the canonical name of a message, if it has one.
-fn canonical<R: Octets + Copy>(alloc: Global, octets: R) -> Result<Option<Vec<u8>>, Fail> {
-    let message = Message::parse(octets)?;
-    let mut text = Vec::new(alloc);
+fn canonical<R: Octets + Copy>(rt: &(impl Abort + AllocGlobal), octets: R) -> Option<Vec<u8>> {
+    let message = unwrap(rt, Message::parse(octets));
+    let mut text = Vec::new(rt.alloc());
     match message.canonical_name() {
         Some(name) => {
-            push_name(&mut text, &name)?;
-            Ok(Some(text))
+            push_name(rt, &mut text, &name);
+            Some(text)
         }
-        None => Ok(None),
+        None => None,
     }
 }
 
 #[test]
-fn fifteen_aliases_are_followed_and_no_more(rt: HostRuntime) -> Result<(), Fail> {
+fn fifteen_aliases_are_followed_and_no_more(rt: HostRuntime) {
     for (length, wanted) in [
         (0u8, Some(b"a.".as_slice())),
         (1, Some(b"b.")),
@@ -154,24 +158,23 @@ fn fifteen_aliases_are_followed_and_no_more(rt: HostRuntime) -> Result<(), Fail>
         (16, None),
         (17, None),
     ] {
-        let octets = chain(rt.alloc(), length)?;
-        let found = canonical(rt.alloc(), octets.as_slice())?;
+        let octets = chain(&rt, length);
+        let found = canonical(&rt, octets.as_slice());
         assert_equal!(&rt, found.as_ref().map(|name| name.as_slice()), wanted);
     }
-    Ok(())
 }
 
 /// Makes a message that asks for `a.`, with answers.
-fn answered(alloc: Global, count: u8, answers: &[u8]) -> Result<Vec<u8>, Fail> {
-    let mut octets = Vec::new(alloc);
-    header(&mut octets, [1, count, 0, 0])?;
-    octets.extend_from_slice(b"\x01a\x00\x00\x01\x00\x01")?;
-    octets.extend_from_slice(answers)?;
-    Ok(octets)
+fn answered(rt: &(impl Abort + AllocGlobal), count: u8, answers: &[u8]) -> Vec<u8> {
+    let mut octets = Vec::new(rt.alloc());
+    header(rt, &mut octets, [1, count, 0, 0]);
+    unwrap(rt, octets.extend_from_slice(b"\x01a\x00\x00\x01\x00\x01"));
+    unwrap(rt, octets.extend_from_slice(answers));
+    octets
 }
 
 #[test]
-fn the_first_alias_of_a_name_is_followed(rt: HostRuntime) -> Result<(), Fail> {
+fn the_first_alias_of_a_name_is_followed(rt: HostRuntime) {
     for (count, answers, wanted) in [
         // the first of two, without regard to ASCII case
         (
@@ -213,22 +216,20 @@ fn the_first_alias_of_a_name_is_followed(rt: HostRuntime) -> Result<(), Fail> {
             None,
         ),
     ] {
-        let octets = answered(rt.alloc(), count, answers)?;
-        let found = canonical(rt.alloc(), octets.as_slice())?;
+        let octets = answered(&rt, count, answers);
+        let found = canonical(&rt, octets.as_slice());
         assert_equal!(&rt, found.as_ref().map(|name| name.as_slice()), wanted);
     }
-    let found = canonical(rt.alloc(), b"\0\0\0\0\0\0\0\0\0\0\0\0".as_slice())?;
+    let found = canonical(&rt, b"\0\0\0\0\0\0\0\0\0\0\0\0".as_slice());
     assert_true!(&rt, found.is_none());
-    Ok(())
 }
 
 #[test]
-fn a_chain_that_is_too_long_is_counted_too(rt: HostRuntime) -> Result<(), Fail> {
-    let octets = chain(rt.alloc(), 16)?;
-    let message = Message::parse(octets.as_slice())?;
+fn a_chain_that_is_too_long_is_counted_too(rt: HostRuntime) {
+    let octets = chain(&rt, 16);
+    let message = unwrap(&rt, Message::parse(octets.as_slice()));
     let mut turns = Turns::new();
     assert_true!(&rt, message.canonical_name_counted(&mut turns).is_none());
-    Ok(())
 }
 
 /// What the OPT record of a message says: the payload size, the response code, the version, the DO bit and the number
@@ -263,7 +264,7 @@ const OPT: &[u8] = b"\x00\x00\x29\x10\x00\x01\x00\x80\x00\x00\x04\x00\x0C\x00\x0
 const ADDRESS: &[u8] = b"\x00\x00\x01\x00\x01\x00\x00\x00\x00\x00\x00";
 
 #[test]
-fn a_message_has_one_record_of_edns(rt: HostRuntime) -> Result<(), Fail> {
+fn a_message_has_one_record_of_edns(rt: HostRuntime) {
     let some = Ok(Some((4096, 23, 0, true, 1)));
     for (parts, wanted) in [
         ([b"".as_slice(), b"", b""].as_slice(), Ok(None)),
@@ -289,14 +290,13 @@ fn a_message_has_one_record_of_edns(rt: HostRuntime) -> Result<(), Fail> {
         for part in parts {
             if !part.is_empty() {
                 count = count.saturating_add(1);
-                body.extend_from_slice(part)?;
+                unwrap(&rt, body.extend_from_slice(part));
             }
         }
-        header(&mut octets, [0, 0, 0, count])?;
-        octets.extend_from_slice(body.as_slice())?;
-        assert_equal!(&rt, edns(octets.as_slice())?, wanted);
+        header(&rt, &mut octets, [0, 0, 0, count]);
+        unwrap(&rt, octets.extend_from_slice(body.as_slice()));
+        assert_equal!(&rt, unwrap(&rt, edns(octets.as_slice())), wanted);
     }
-    Ok(())
 }
 
 /// A real message that reports a bad cookie.
@@ -307,91 +307,91 @@ const BAD_COOKIE: &[u8] = b"\xF6\xAB\x81\x87\x00\x01\x00\x00\x00\x00\x00\x01\x00
 struct ACookieIsBad;
 
 impl<H: Abort> Case<H> for ACookieIsBad {
-    fn holds<R: Octets + Copy>(&self, rt: &H, octets: R) -> Result<(), Fail> {
-        let Ok(found) = edns(octets)? else {
-            return Err("no record of EDNS".into());
-        };
-        assert_equal!(rt, found, Some((4096, 23, 0, false, 1)));
-        let message = Message::parse(octets)?;
-        let Ok(Some(opt)) = message.opt() else {
-            return Err("no record of EDNS".into());
-        };
+    fn holds<R: Octets + Copy>(&self, rt: &H, octets: R) {
+        let found = unwrap(rt, edns(octets));
+        assert_equal!(rt, found, Ok(Some((4096, 23, 0, false, 1))));
+        let message = unwrap(rt, Message::parse(octets));
+        let opt = unwrap(rt, unwrap(rt, message.opt()).ok_or("no record of EDNS"));
         for option in opt.options() {
             let OptionData::Cookie(cookie) = option.data() else {
-                return Err("no cookie".into());
+                panic!(rt; "no cookie");
             };
             assert_equal!(rt, cookie.client, *b"\x36\xBF\x11\x1F\xEF\x2E\x01\x09");
             let server = b"\x7D\x8F\xFE\x06\x5C\x63\x6F\xFB\x14\x2D\x76\x74\x94\x40\x7A\x73";
             assert_equal!(rt, cookie.server.peek_all(), server.as_slice());
         }
-        Ok(())
     }
 }
 
 #[test]
-fn a_real_message_tells_of_a_bad_cookie(rt: HostRuntime) -> Result<(), Fail> {
-    over_each(&rt, &ACookieIsBad, BAD_COOKIE)
+fn a_real_message_tells_of_a_bad_cookie(rt: HostRuntime) {
+    unwrap(&rt, over_each(&rt, &ACookieIsBad, BAD_COOKIE));
 }
 
 /// Appends what an option says: a word for its form, and its parts.
-fn push_option<R: Octets + Copy>(
-    text: &mut Vec<u8>,
-    option: &EdnsOption<R>,
-) -> Result<(), AllocError> {
+fn push_option<R: Octets + Copy>(rt: &impl Abort, text: &mut Vec<u8>, option: &EdnsOption<R>) {
     match option.data() {
         OptionData::Nsid(octets) => {
-            text.extend_from_slice(b"nsid ")?;
-            text.extend_from_slice(octets.peek_all())
+            unwrap(rt, text.extend_from_slice(b"nsid "));
+            unwrap(rt, text.extend_from_slice(octets.peek_all()));
         }
         OptionData::ClientSubnet(subnet) => {
-            text.extend_from_slice(b"subnet ")?;
-            text.extend_from_slice(&subnet.family.to_be_bytes())?;
-            text.extend_from_slice(&[subnet.source_prefix_len, subnet.scope_prefix_len])?;
-            text.extend_from_slice(subnet.address.peek_all())
+            unwrap(rt, text.extend_from_slice(b"subnet "));
+            unwrap(rt, text.extend_from_slice(&subnet.family.to_be_bytes()));
+            unwrap(
+                rt,
+                text.extend_from_slice(&[subnet.source_prefix_len, subnet.scope_prefix_len]),
+            );
+            unwrap(rt, text.extend_from_slice(subnet.address.peek_all()));
         }
         OptionData::Cookie(cookie) => {
-            text.extend_from_slice(b"cookie ")?;
-            text.extend_from_slice(&cookie.client)?;
-            text.push(b'|')?;
-            text.extend_from_slice(cookie.server.peek_all())
+            unwrap(rt, text.extend_from_slice(b"cookie "));
+            unwrap(rt, text.extend_from_slice(&cookie.client));
+            unwrap(rt, text.push(b'|'));
+            unwrap(rt, text.extend_from_slice(cookie.server.peek_all()));
         }
         OptionData::Padding(octets) => {
-            text.extend_from_slice(b"padding ")?;
-            text.extend_from_slice(octets.peek_all())
+            unwrap(rt, text.extend_from_slice(b"padding "));
+            unwrap(rt, text.extend_from_slice(octets.peek_all()));
         }
         OptionData::ExtendedError(found) => {
-            text.extend_from_slice(b"error ")?;
-            text.extend_from_slice(&found.code().to_be_bytes())?;
-            text.extend_from_slice(found.text().as_bytes())
+            unwrap(rt, text.extend_from_slice(b"error "));
+            unwrap(rt, text.extend_from_slice(&found.code().to_be_bytes()));
+            unwrap(rt, text.extend_from_slice(found.text().as_bytes()));
         }
         OptionData::Unknown(code, octets) => {
-            text.extend_from_slice(b"unknown ")?;
-            text.extend_from_slice(&code.to_be_bytes())?;
-            text.extend_from_slice(octets.peek_all())
+            unwrap(rt, text.extend_from_slice(b"unknown "));
+            unwrap(rt, text.extend_from_slice(&code.to_be_bytes()));
+            unwrap(rt, text.extend_from_slice(octets.peek_all()));
         }
     }
 }
 
 /// Returns what the only option of a message, with a code and octets, says.
-fn said(alloc: Global, code: u8, octets: &[u8]) -> Result<Vec<u8>, Fail> {
-    let mut message = Vec::new(alloc);
-    header(&mut message, [0, 0, 0, 1])?;
-    let length = u8::try_from(octets.len())?;
-    message.extend_from_slice(b"\x00\x00\x29\x10\x00\x00\x00\x00\x00\x00")?;
-    message.extend_from_slice(&[length.saturating_add(4), 0, code, 0, length])?;
-    message.extend_from_slice(octets)?;
-    let mut text = Vec::new(alloc);
-    let Ok(Some(opt)) = Message::parse(message.as_slice())?.opt() else {
-        return Err("no record of EDNS".into());
-    };
+fn said(rt: &(impl Abort + AllocGlobal), code: u8, octets: &[u8]) -> Vec<u8> {
+    let mut message = Vec::new(rt.alloc());
+    header(rt, &mut message, [0, 0, 0, 1]);
+    let length = unwrap(rt, u8::try_from(octets.len()));
+    unwrap(
+        rt,
+        message.extend_from_slice(b"\x00\x00\x29\x10\x00\x00\x00\x00\x00\x00"),
+    );
+    unwrap(
+        rt,
+        message.extend_from_slice(&[length.saturating_add(4), 0, code, 0, length]),
+    );
+    unwrap(rt, message.extend_from_slice(octets));
+    let mut text = Vec::new(rt.alloc());
+    let message = unwrap(rt, Message::parse(message.as_slice()));
+    let opt = unwrap(rt, unwrap(rt, message.opt()).ok_or("no record of EDNS"));
     for option in opt.options() {
-        push_option(&mut text, &option)?;
+        push_option(rt, &mut text, &option);
     }
-    Ok(text)
+    text
 }
 
 #[test]
-fn cookies_have_eight_octets_and_none_or_eight_to_thirty_two(rt: HostRuntime) -> Result<(), Fail> {
+fn cookies_have_eight_octets_and_none_or_eight_to_thirty_two(rt: HostRuntime) {
     let octets = b"01234567890123456789012345678901234567890";
     for (length, is_cookie) in [
         (7usize, false),
@@ -402,18 +402,15 @@ fn cookies_have_eight_octets_and_none_or_eight_to_thirty_two(rt: HostRuntime) ->
         (40, true),
         (41, false),
     ] {
-        let Some(octets) = octets.get(..length) else {
-            return Err("too few octets".into());
-        };
-        let text = said(rt.alloc(), 10, octets)?;
+        let octets = unwrap(&rt, octets.get(..length).ok_or("too few octets"));
+        let text = said(&rt, 10, octets);
         assert_equal!(&rt, text.starts_with(b"cookie 01234567|"), is_cookie);
         assert_equal!(&rt, text.starts_with(b"unknown \x00\x0A"), !is_cookie);
     }
-    Ok(())
 }
 
 #[test]
-fn options_are_typed_where_they_have_the_form(rt: HostRuntime) -> Result<(), Fail> {
+fn options_are_typed_where_they_have_the_form(rt: HostRuntime) {
     for (code, octets, wanted) in [
         (3u8, b"any\x00".as_slice(), b"nsid any\x00".as_slice()),
         (3, b"", b"nsid "),
@@ -473,8 +470,7 @@ fn options_are_typed_where_they_have_the_form(rt: HostRuntime) -> Result<(), Fai
         (15, b"\x00\x12\xC3\x00", b"unknown \x00\x0F\x00\x12\xC3\x00"),
         (15, b"\x00", b"unknown \x00\x0F\x00"),
     ] {
-        let text = said(rt.alloc(), code, octets)?;
+        let text = said(&rt, code, octets);
         assert_equal!(&rt, text.as_slice(), wanted);
     }
-    Ok(())
 }

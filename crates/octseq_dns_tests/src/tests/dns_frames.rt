@@ -1,11 +1,11 @@
 //! Streams of messages, each after its length in two octets: RFC 1035, 4.2.2.
+use crate::tests::unwrap;
 use octseq::Parser;
 use octseq_asserts::{assert_equal, assert_true};
 use octseq_dns::{FrameError, FrameReader, WriteFrameError, next_frame, write_frame};
 use std::alloc::AllocGlobal;
 use std::io::{self, Error, ErrorKind, Read, Write};
 use std::process::Abort;
-use std::test::Fail;
 
 /// Three messages: of two octets, of none, of one.
 const STREAM: &[u8] = b"\0\x02ab\0\0\0\x01c";
@@ -53,7 +53,7 @@ impl Write for Narrow {
 }
 
 #[test]
-fn a_failed_write_leaves_a_front(rt: HostRuntime) -> Result<(), Fail> {
+fn a_failed_write_leaves_a_front(rt: HostRuntime) {
     for room in 0..4 {
         let taken = Vec::new(rt.alloc());
         let mut sink = Narrow { taken, room };
@@ -63,98 +63,90 @@ fn a_failed_write_leaves_a_front(rt: HostRuntime) -> Result<(), Fail> {
     }
     let taken = Vec::new(rt.alloc());
     let mut sink = Narrow { taken, room: 4 };
-    write_frame(&mut sink, b"ab")?;
+    unwrap(&rt, write_frame(&mut sink, b"ab"));
     assert_equal!(&rt, sink.taken.as_slice(), &STREAM[..4]);
-    Ok(())
 }
 
 #[test]
-fn frames_that_were_written_are_read_back(rt: HostRuntime) -> Result<(), Fail> {
+fn frames_that_were_written_are_read_back(rt: HostRuntime) {
     let mut stream = Vec::new(rt.alloc());
-    write_frame(&mut stream, b"ab")?;
-    write_frame(&mut stream, b"")?;
-    write_frame(&mut stream, b"c")?;
+    unwrap(&rt, write_frame(&mut stream, b"ab"));
+    unwrap(&rt, write_frame(&mut stream, b""));
+    unwrap(&rt, write_frame(&mut stream, b"c"));
     assert_equal!(&rt, stream.as_slice(), STREAM);
     let mut reader = FrameReader::new(rt.alloc(), stream.as_slice());
-    assert_true!(&rt, reader.read_next()?);
+    assert_true!(&rt, unwrap(&rt, reader.read_next()));
     assert_equal!(&rt, reader.frame(), b"ab");
-    assert_true!(&rt, reader.read_next()?);
+    assert_true!(&rt, unwrap(&rt, reader.read_next()));
     assert_equal!(&rt, reader.frame(), b"");
-    assert_true!(&rt, reader.read_next()?);
+    assert_true!(&rt, unwrap(&rt, reader.read_next()));
     assert_equal!(&rt, reader.frame(), b"c");
-    assert_true!(&rt, !reader.read_next()?);
-    Ok(())
+    assert_true!(&rt, !unwrap(&rt, reader.read_next()));
 }
 
 #[test]
-fn a_source_that_stalls_is_read(rt: HostRuntime) -> Result<(), Fail> {
+fn a_source_that_stalls_is_read(rt: HostRuntime) {
     let source = Slow {
         rest: &STREAM[..5],
         is_ready: false,
         fails: true,
     };
     let mut reader = FrameReader::new(rt.alloc(), source);
-    assert_true!(&rt, reader.read_next()?);
+    assert_true!(&rt, unwrap(&rt, reader.read_next()));
     assert_equal!(&rt, reader.frame(), b"ab");
     assert_true!(&rt, matches!(reader.read_next(), Err(FrameError::Read(_))));
-    assert_true!(&rt, !reader.read_next()?);
-    Ok(())
+    assert_true!(&rt, !unwrap(&rt, reader.read_next()));
 }
 
 /// Checks that reading a stream that is cut off fails after `messages` messages.
-fn ends_short(rt: &(impl Abort + AllocGlobal), stream: &[u8], messages: usize) -> Result<(), Fail> {
+fn ends_short(rt: &(impl Abort + AllocGlobal), stream: &[u8], messages: usize) {
     let mut reader = FrameReader::new(rt.alloc(), stream);
     for _ in 0..messages {
-        assert_true!(rt, reader.read_next()?);
+        assert_true!(rt, unwrap(rt, reader.read_next()));
     }
     assert_true!(rt, matches!(reader.read_next(), Err(FrameError::Short)));
-    assert_true!(rt, !reader.read_next()?);
-    Ok(())
+    assert_true!(rt, !unwrap(rt, reader.read_next()));
 }
 
 #[test]
-fn a_stream_that_is_cut_off_is_reported(rt: HostRuntime) -> Result<(), Fail> {
-    ends_short(&rt, &STREAM[..1], 0)?;
-    ends_short(&rt, &STREAM[..2], 0)?;
-    ends_short(&rt, &STREAM[..3], 0)?;
-    ends_short(&rt, &STREAM[..5], 1)?;
-    ends_short(&rt, &STREAM[..7], 2)?;
-    ends_short(&rt, &STREAM[..8], 2)
+fn a_stream_that_is_cut_off_is_reported(rt: HostRuntime) {
+    ends_short(&rt, &STREAM[..1], 0);
+    ends_short(&rt, &STREAM[..2], 0);
+    ends_short(&rt, &STREAM[..3], 0);
+    ends_short(&rt, &STREAM[..5], 1);
+    ends_short(&rt, &STREAM[..7], 2);
+    ends_short(&rt, &STREAM[..8], 2);
 }
 
 #[test]
-fn frames_of_octets_are_their_places(rt: HostRuntime) -> Result<(), Fail> {
+fn frames_of_octets_are_their_places(rt: HostRuntime) {
     let mut parser = Parser::from_ref(STREAM);
     let mut places = Vec::new(rt.alloc());
     for _ in 0..3 {
-        match next_frame(&mut parser)? {
-            Some(frame) => places.push((frame.pos(), frame.len()))?,
-            None => return Err("too few messages".into()),
-        }
+        let found = unwrap(&rt, next_frame(&mut parser));
+        let frame = unwrap(&rt, found.ok_or("too few messages"));
+        unwrap(&rt, places.push((frame.pos(), frame.len())));
     }
-    assert_true!(&rt, next_frame(&mut parser)?.is_none());
+    assert_true!(&rt, unwrap(&rt, next_frame(&mut parser)).is_none());
     assert_equal!(&rt, places.as_slice(), &[(2, 4), (6, 6), (8, 9)]);
-    Ok(())
 }
 
 #[test]
-fn a_message_of_65535_octets_is_a_frame(rt: HostRuntime) -> Result<(), Fail> {
+fn a_message_of_65535_octets_is_a_frame(rt: HostRuntime) {
     let mut message = Vec::new(rt.alloc());
-    message.resize(65535, 0_u8)?;
+    unwrap(&rt, message.resize(65535, 0_u8));
     let mut stream = Vec::new(rt.alloc());
-    write_frame(&mut stream, message.as_slice())?;
+    unwrap(&rt, write_frame(&mut stream, message.as_slice()));
     assert_equal!(&rt, stream.len(), 65537);
     assert_true!(&rt, stream.starts_with(b"\xFF\xFF"));
-    Ok(())
 }
 
 #[test]
-fn a_message_of_65536_octets_is_none(rt: HostRuntime) -> Result<(), Fail> {
+fn a_message_of_65536_octets_is_none(rt: HostRuntime) {
     let mut message = Vec::new(rt.alloc());
-    message.resize(65536, 0_u8)?;
+    unwrap(&rt, message.resize(65536, 0_u8));
     let mut stream = Vec::new(rt.alloc());
     let refused = write_frame(&mut stream, message.as_slice());
     assert_true!(&rt, matches!(refused, Err(WriteFrameError::TooLong)));
     assert_true!(&rt, stream.is_empty());
-    Ok(())
 }

@@ -1,12 +1,12 @@
 //! The text of whole messages, lists of their entries, and a reader of messages as a caller writes it.
+use crate::tests::unwrap;
 use octseq::octets::Octets;
 use octseq::str::DisplayError;
 use octseq::{Array, AsOctets, Parser, StrBuilder};
 use octseq_asserts::{assert_equal, assert_true};
 use octseq_dns::{Data, Malformed, Message, Record, Rtype, Ttl};
-use std::alloc::{AllocGlobal, Global};
+use std::alloc::AllocGlobal;
 use std::process::Abort;
-use std::test::Fail;
 
 /// Returns how many of the answers have an address of the name that is asked for.
 fn count_addresses<R: AsOctets + Copy>(octets: R) -> Result<usize, Malformed> {
@@ -40,13 +40,13 @@ fn ttl_at(octets: &[u8], place: usize) -> Result<Ttl, Malformed> {
 }
 
 /// Returns the text of a message.
-fn shown<R: Octets + Copy>(alloc: Global, octets: R) -> Result<StrBuilder<Vec<u8>>, Fail> {
-    let mut text = StrBuilder::<Vec<u8>>::new(alloc)?;
+fn shown<R: Octets + Copy>(rt: &(impl Abort + AllocGlobal), octets: R) -> StrBuilder<Vec<u8>> {
+    let mut text = unwrap(rt, StrBuilder::<Vec<u8>>::new(rt.alloc()));
     match Message::parse(octets) {
-        Ok(message) => message.append_text(&mut text)?,
-        Err(Malformed) => text.try_push_str("malformed\n")?,
+        Ok(message) => unwrap(rt, message.append_text(&mut text)),
+        Err(Malformed) => unwrap(rt, text.try_push_str("malformed\n")),
     }
-    Ok(text)
+    text
 }
 
 /// Appends a message to a text in an array.
@@ -69,7 +69,7 @@ const UPDATE: &[u8] =
 \x00\x00\x00\x00\x00\x00";
 
 #[test]
-fn messages_show_line_by_line(rt: HostRuntime) -> Result<(), Fail> {
+fn messages_show_line_by_line(rt: HostRuntime) {
     for (octets, wanted) in [
         (
             b"\0\0\0\0\0\0\0\0\0\0\0\0".as_slice(),
@@ -90,26 +90,24 @@ fn messages_show_line_by_line(rt: HostRuntime) -> Result<(), Fail> {
             "id 65535 opcode 15 rcode 15 flags AA TC RD RA AD CD\nquestion . CLASS17185 TYPE4660\n",
         ),
     ] {
-        let text = shown(rt.alloc(), octets)?;
+        let text = shown(&rt, octets);
         assert_equal!(&rt, text.as_str(), wanted);
     }
-    Ok(())
 }
 
 #[test]
-fn a_text_that_would_pass_the_limit_stays(rt: HostRuntime) -> Result<(), Fail> {
+fn a_text_that_would_pass_the_limit_stays(rt: HostRuntime) {
     let mut text = StrBuilder::<Array<64>>::default();
-    text.try_push_str("before ")?;
+    unwrap(&rt, text.try_push_str("before "));
     assert_equal!(
         &rt,
-        appended(ANSWERED, &mut text)?,
+        unwrap(&rt, appended(ANSWERED, &mut text)),
         Err(DisplayError::Short)
     );
     assert_equal!(&rt, text.as_str(), "before ");
     let nothing = b"\0\0\0\0\0\0\0\0\0\0\0\0".as_slice();
-    assert_equal!(&rt, appended(nothing, &mut text)?, Ok(()));
+    assert_equal!(&rt, unwrap(&rt, appended(nothing, &mut text)), Ok(()));
     assert_equal!(&rt, text.as_str(), "before id 0 opcode 0 rcode 0 flags\n");
-    Ok(())
 }
 
 #[test]
@@ -121,11 +119,10 @@ fn slices_are_read(rt: HostRuntime) {
 }
 
 #[test]
-fn a_caller_counts_addresses(rt: HostRuntime) -> Result<(), Fail> {
+fn a_caller_counts_addresses(rt: HostRuntime) {
     assert_equal!(&rt, count_addresses(ANSWERED), Ok(1));
     assert_equal!(&rt, count_addresses(UPDATE), Ok(0));
     assert_equal!(&rt, count_addresses(b"\0".as_slice()), Err(Malformed));
-    Ok(())
 }
 
 /// A question for `example.com.`, an answer whose owner is a pointer to it, and one for `www.example.com.`.
@@ -154,48 +151,49 @@ fn has_address<R: Octets + Copy>(
 }
 
 /// Checks that the lists of the message have one question, two addresses as answers, and nothing else.
-fn lists_entries<R: Octets + Copy>(rt: &(impl Abort + AllocGlobal), octets: R) -> Result<(), Fail> {
-    let sections = Message::parse(octets)?.collect(rt.alloc())?;
+fn lists_entries<R: Octets + Copy>(rt: &(impl Abort + AllocGlobal), octets: R) {
+    let sections = unwrap(rt, unwrap(rt, Message::parse(octets)).collect(rt.alloc()));
     match sections.answers.as_slice() {
         [first, second] => {
             has_address(rt, first, &[b"example", b"com"], [1, 2, 3, 4]);
             has_address(rt, second, &[b"www", b"example", b"com"], [5, 6, 7, 8]);
         }
-        _ => return Err("not two".into()),
+        _ => panic!(rt; "not two"),
     }
     assert_equal!(rt, sections.questions.len(), 1);
     assert_equal!(rt, sections.authorities.len(), 0);
     assert_equal!(rt, sections.additionals.len(), 0);
-    Ok(())
 }
 
 #[test]
-fn entries_are_listed(rt: HostRuntime) -> Result<(), Fail> {
-    lists_entries(&rt, ANSWERED_TWICE)
+fn entries_are_listed(rt: HostRuntime) {
+    lists_entries(&rt, ANSWERED_TWICE);
 }
 
 /// Returns what a message prints, followed by what each of its authority records prints.
-fn displayed<R: Octets + Copy>(alloc: Global, octets: R) -> Result<String, Fail> {
-    let message = Message::parse(octets)?;
-    let mut text = format!(in alloc; "{message}")?;
+fn displayed<R: Octets + Copy>(rt: &(impl Abort + AllocGlobal), octets: R) -> String {
+    let message = unwrap(rt, Message::parse(octets));
+    let mut text = unwrap(rt, format!(in rt.alloc(); "{message}"));
     for entry in message.authorities() {
-        text.push_str(format!(in alloc; "{entry}")?.as_str())?;
+        unwrap(
+            rt,
+            text.push_str(unwrap(rt, format!(in rt.alloc(); "{entry}")).as_str()),
+        );
     }
-    Ok(text)
+    text
 }
 
 #[test]
-fn a_message_shows_as_it_is_appended(rt: HostRuntime) -> Result<(), Fail> {
+fn a_message_shows_as_it_is_appended(rt: HostRuntime) {
     assert_equal!(
         &rt,
-        displayed(rt.alloc(), ANSWERED_TWICE)?.as_str(),
+        displayed(&rt, ANSWERED_TWICE).as_str(),
         "id 4660 opcode 0 rcode 0 flags QR AA RD RA\nquestion example.com. IN A\n\
          answer example.com. 300 IN A 1.2.3.4\nanswer www.example.com. 60 IN A 5.6.7.8\n"
     );
     assert_equal!(
         &rt,
-        displayed(rt.alloc(), UPDATE)?.as_str(),
+        displayed(&rt, UPDATE).as_str(),
         "id 1 opcode 5 rcode 0 flags\nauthority example.com. 0 ANY A \\# 0\nexample.com. 0 ANY A \\# 0"
     );
-    Ok(())
 }

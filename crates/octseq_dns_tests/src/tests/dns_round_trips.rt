@@ -1,4 +1,5 @@
 //! Messages with data of every type, read and rewritten: with compression pointers and without.
+use crate::tests::unwrap;
 use arrayvec::ArrayVec;
 use octseq::builder::AsOctetsMut;
 use octseq::octets::Octets;
@@ -9,7 +10,6 @@ use octseq_dns::{
 };
 use std::alloc::AllocGlobal;
 use std::process::Abort;
-use std::test::Fail;
 
 /// A question for `example.com.` and ten answers, without pointers: A, NS, MX, CNAME, PTR, SOA, TXT, SRV, AAAA, and
 /// data of type 99, which is unknown. The octets are laid out by hand: RFC 1035, 4.1.
@@ -50,15 +50,14 @@ fn is_rewritten<R: Octets + Copy, B: OctetsBuilder + Truncate + AsOctetsMut, T: 
     builder: B,
     table: T,
     wanted: &[u8],
-) -> Result<(), Fail> {
-    let message = Message::parse(octets)?;
-    let (written, _) = rewrite(&message, builder, table)?.finish();
+) {
+    let message = unwrap(rt, Message::parse(octets));
+    let (written, _) = unwrap(rt, rewrite(&message, builder, table)).finish();
     assert_equal!(rt, written.as_ref(), wanted);
-    Ok(())
 }
 
 #[test]
-fn names_are_compressed_anew(rt: HostRuntime) -> Result<(), Fail> {
+fn names_are_compressed_anew(rt: HostRuntime) {
     let alloc = rt.alloc();
     is_rewritten(
         &rt,
@@ -66,19 +65,19 @@ fn names_are_compressed_anew(rt: HostRuntime) -> Result<(), Fail> {
         Array::<252>::new(),
         ArrayVec::<Target, 6>::new(),
         COMPRESSED,
-    )?;
-    is_rewritten(&rt, PLAIN, Vec::new(alloc), Vec::new(alloc), COMPRESSED)?;
+    );
+    is_rewritten(&rt, PLAIN, Vec::new(alloc), Vec::new(alloc), COMPRESSED);
     is_rewritten(
         &rt,
         COMPRESSED,
         Vec::new(alloc),
         ArrayVec::<Target, 32>::new(),
         COMPRESSED,
-    )
+    );
 }
 
 #[test]
-fn names_are_written_plain_anew(rt: HostRuntime) -> Result<(), Fail> {
+fn names_are_written_plain_anew(rt: HostRuntime) {
     let alloc = rt.alloc();
     is_rewritten(
         &rt,
@@ -86,14 +85,14 @@ fn names_are_written_plain_anew(rt: HostRuntime) -> Result<(), Fail> {
         Array::<512>::new(),
         ArrayVec::<Target, 0>::new(),
         PLAIN,
-    )?;
+    );
     is_rewritten(
         &rt,
         PLAIN,
         Vec::new(alloc),
         ArrayVec::<Target, 0>::new(),
         PLAIN,
-    )
+    );
 }
 
 /// Rewrites a message, and returns the error, if there is one.
@@ -106,13 +105,12 @@ fn refusal<R: Octets + Copy, B: OctetsBuilder + Truncate + AsOctetsMut>(
 }
 
 #[test]
-fn a_message_that_passes_the_limit_is_refused(rt: HostRuntime) -> Result<(), Fail> {
+fn a_message_that_passes_the_limit_is_refused(rt: HostRuntime) {
     let short = Some(RewriteError::Short(ShortBuf));
-    assert_equal!(&rt, refusal(PLAIN, Array::<11>::new())?, short);
-    assert_equal!(&rt, refusal(PLAIN, Array::<28>::new())?, short);
-    assert_equal!(&rt, refusal(PLAIN, Array::<251>::new())?, short);
-    assert_equal!(&rt, refusal(PLAIN, Array::<252>::new())?, None);
-    Ok(())
+    assert_equal!(&rt, unwrap(&rt, refusal(PLAIN, Array::<11>::new())), short);
+    assert_equal!(&rt, unwrap(&rt, refusal(PLAIN, Array::<28>::new())), short);
+    assert_equal!(&rt, unwrap(&rt, refusal(PLAIN, Array::<251>::new())), short);
+    assert_equal!(&rt, unwrap(&rt, refusal(PLAIN, Array::<252>::new())), None);
 }
 
 /// An answer of the root, of type NS, whose data is the front of a pointer. It can't be moved.
@@ -128,18 +126,18 @@ fn moves<R: Octets + Copy>(octets: R) -> Result<bool, Malformed> {
 }
 
 #[test]
-fn a_message_that_cant_be_moved_is_refused(rt: HostRuntime) -> Result<(), Fail> {
-    assert_true!(&rt, !moves(IMMOVABLE)?);
-    let refused = refusal(IMMOVABLE, Array::<512>::new())?;
+fn a_message_that_cant_be_moved_is_refused(rt: HostRuntime) {
+    assert_true!(&rt, !unwrap(&rt, moves(IMMOVABLE)));
+    let refused = unwrap(&rt, refusal(IMMOVABLE, Array::<512>::new()));
     assert_equal!(&rt, refused, Some(RewriteError::Immovable));
-    assert_true!(&rt, moves(EMPTY)?);
+    assert_true!(&rt, unwrap(&rt, moves(EMPTY)));
     is_rewritten(
         &rt,
         EMPTY,
         Array::<512>::new(),
         ArrayVec::<Target, 0>::new(),
         EMPTY,
-    )
+    );
 }
 
 /// Pushes a record that was read to each section of records of a new message in turn. Returns the octets.
@@ -167,14 +165,17 @@ const EXCHANGES: &[u8] = b"\0\0\0\0\0\0\0\x01\0\x01\0\x01\
 \xC0\x0C\0\x0F\0\x01\0\0\x01\x2C\0\x04\0\x0A\xC0\x25";
 
 /// Pushes the third answer, an MX record, to each section, and checks the octets.
-fn is_pushed_to_each_section<R: Octets + Copy>(
-    rt: &(impl Abort + AllocGlobal),
-    octets: R,
-) -> Result<(), Fail> {
-    let exchange = Message::parse(octets)?.answers().nth(2).ok_or(Malformed)?;
-    let octets = in_each_section(Array::<76>::new(), &exchange)?;
+fn is_pushed_to_each_section<R: Octets + Copy>(rt: &(impl Abort + AllocGlobal), octets: R) {
+    let exchange = unwrap(
+        rt,
+        unwrap(rt, Message::parse(octets))
+            .answers()
+            .nth(2)
+            .ok_or(Malformed),
+    );
+    let octets = unwrap(rt, in_each_section(Array::<76>::new(), &exchange));
     assert_equal!(rt, octets.as_slice(), EXCHANGES);
-    let octets = in_each_section(Vec::new(rt.alloc()), &exchange)?;
+    let octets = unwrap(rt, in_each_section(Vec::new(rt.alloc()), &exchange));
     assert_equal!(rt, octets.as_slice(), EXCHANGES);
     let short = Some(AppendError::Short(ShortBuf));
     assert_equal!(
@@ -182,10 +183,9 @@ fn is_pushed_to_each_section<R: Octets + Copy>(
         in_each_section(Array::<75>::new(), &exchange).err(),
         short
     );
-    Ok(())
 }
 
 #[test]
-fn a_record_is_pushed_to_each_section(rt: HostRuntime) -> Result<(), Fail> {
-    is_pushed_to_each_section(&rt, PLAIN)
+fn a_record_is_pushed_to_each_section(rt: HostRuntime) {
+    is_pushed_to_each_section(&rt, PLAIN);
 }

@@ -1,38 +1,45 @@
 //! What the data of records shows.
+use crate::tests::unwrap;
 use octseq::octets::Octets;
 use octseq_asserts::assert_equal;
 use octseq_dns::Message;
-use std::alloc::{AllocGlobal, Global};
+use std::alloc::AllocGlobal;
 use std::fmt::Write;
-use std::test::Fail;
+use std::process::Abort;
 
 /// A question for `example.com.` at place 12, and the owner of an answer, which points to it.
 const FRONT: &[u8] =
     b"\x12\x34\x85\x80\x00\x01\x00\x01\x00\x00\x00\x00\x07example\x03com\x00\x00\x01\x00\x01\xC0\x0C";
 
 /// Makes a message with one answer of class IN, of a type and data.
-fn answered(alloc: Global, rtype: u8, rdata: &[u8]) -> Result<Vec<u8>, Fail> {
-    let mut octets = Vec::new(alloc);
-    octets.extend_from_slice(FRONT)?;
-    octets.extend_from_slice(&[0, rtype, 0, 1, 0, 0, 1, 0x2C])?;
-    octets.extend_from_slice(&u16::try_from(rdata.len())?.to_be_bytes())?;
-    octets.extend_from_slice(rdata)?;
-    Ok(octets)
+fn answered(rt: &(impl Abort + AllocGlobal), rtype: u8, rdata: &[u8]) -> Vec<u8> {
+    let mut octets = Vec::new(rt.alloc());
+    unwrap(rt, octets.extend_from_slice(FRONT));
+    unwrap(
+        rt,
+        octets.extend_from_slice(&[0, rtype, 0, 1, 0, 0, 1, 0x2C]),
+    );
+    unwrap(
+        rt,
+        octets.extend_from_slice(&unwrap(rt, u16::try_from(rdata.len())).to_be_bytes()),
+    );
+    unwrap(rt, octets.extend_from_slice(rdata));
+    octets
 }
 
 /// Returns what the data of the answers of a message shows.
-fn shown<R: Octets + Copy>(alloc: Global, octets: R) -> Result<String, Fail> {
-    let message = Message::parse(octets)?;
-    let mut text = String::new(alloc);
+fn shown<R: Octets + Copy>(rt: &(impl Abort + AllocGlobal), octets: R) -> String {
+    let message = unwrap(rt, Message::parse(octets));
+    let mut text = String::new(rt.alloc());
     for answer in message.answers() {
         let found = answer.data();
-        write!(text, "{found}")?;
+        unwrap(rt, write!(text, "{found}"));
     }
-    Ok(text)
+    text
 }
 
 #[test]
-fn ipv6_addresses_show_as_rfc_5952_has_them(rt: HostRuntime) -> Result<(), Fail> {
+fn ipv6_addresses_show_as_rfc_5952_has_them(rt: HostRuntime) {
     for (rdata, wanted) in [
         (b"\0\0\0\0\0\0\0\0\0\0\0\0\0\0\0\0", "::"),
         (b"\0\0\0\0\0\0\0\0\0\0\0\0\0\0\0\x01", "::1"),
@@ -50,15 +57,14 @@ fn ipv6_addresses_show_as_rfc_5952_has_them(rt: HostRuntime) -> Result<(), Fail>
             "2001:db8:0:1:1:1:1:1",
         ),
     ] {
-        let octets = answered(rt.alloc(), 28, rdata.as_slice())?;
-        let text = shown(rt.alloc(), octets.as_slice())?;
+        let octets = answered(&rt, 28, rdata.as_slice());
+        let text = shown(&rt, octets.as_slice());
         assert_equal!(&rt, text.as_str(), wanted);
     }
-    Ok(())
 }
 
 #[test]
-fn data_shows_by_its_type(rt: HostRuntime) -> Result<(), Fail> {
+fn data_shows_by_its_type(rt: HostRuntime) {
     for (rtype, rdata, wanted) in [
         (1, b"\x01\x02\x03\x04".as_slice(), "1.2.3.4"),
         (2, b"\xC0\x0C", "example.com."),
@@ -85,9 +91,8 @@ fn data_shows_by_its_type(rt: HostRuntime) -> Result<(), Fail> {
         (99, b"\x01\xFF", "\\# 2 01ff"),
         (1, b"\x01\x02\x03\x04\x05", "\\# 5 0102030405"),
     ] {
-        let octets = answered(rt.alloc(), rtype, rdata)?;
-        let text = shown(rt.alloc(), octets.as_slice())?;
+        let octets = answered(&rt, rtype, rdata);
+        let text = shown(&rt, octets.as_slice());
         assert_equal!(&rt, text.as_str(), wanted);
     }
-    Ok(())
 }

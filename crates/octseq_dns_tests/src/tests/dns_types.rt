@@ -1,10 +1,10 @@
 //! Data of the types that are later than RFC 1035, of class IN: what it says, and that it is written as it was read.
+use crate::tests::unwrap;
 use octseq::str::StrBuilder;
 use octseq_asserts::assert_equal;
 use octseq_dns::{Message, Target, rewrite};
-use std::alloc::{AllocGlobal, Global};
+use std::alloc::AllocGlobal;
 use std::process::Abort;
-use std::test::Fail;
 
 /// A question for `example.com.` at place 12, and the owner of an answer, which points to it.
 const FRONT: &[u8] =
@@ -131,54 +131,53 @@ static ROWS: [Row; 18] = [
 ];
 
 /// Makes a message with one answer of a type and data.
-fn answer(alloc: Global, rtype: u16, rdata: &[u8]) -> Result<Vec<u8>, Fail> {
-    let mut octets = Vec::new(alloc);
-    octets.extend_from_slice(FRONT)?;
-    octets.extend_from_slice(&rtype.to_be_bytes())?;
-    octets.extend_from_slice(&[0, 1, 0, 0, 1, 0x2C])?;
-    octets.extend_from_slice(&u16::try_from(rdata.len())?.to_be_bytes())?;
-    octets.extend_from_slice(rdata)?;
-    Ok(octets)
+fn answer(rt: &(impl Abort + AllocGlobal), rtype: u16, rdata: &[u8]) -> Vec<u8> {
+    let mut octets = Vec::new(rt.alloc());
+    unwrap(rt, octets.extend_from_slice(FRONT));
+    unwrap(rt, octets.extend_from_slice(&rtype.to_be_bytes()));
+    unwrap(rt, octets.extend_from_slice(&[0, 1, 0, 0, 1, 0x2C]));
+    unwrap(
+        rt,
+        octets.extend_from_slice(&unwrap(rt, u16::try_from(rdata.len())).to_be_bytes()),
+    );
+    unwrap(rt, octets.extend_from_slice(rdata));
+    octets
 }
 
 /// Checks what the answer of a message shows, and its type.
-fn shows(rt: &(impl Abort + AllocGlobal), octets: &[u8], row: &Row) -> Result<(), Fail> {
-    let message = Message::parse(octets)?;
+fn shows(rt: &(impl Abort + AllocGlobal), octets: &[u8], row: &Row) {
+    let message = unwrap(rt, Message::parse(octets));
     for answer in message.answers() {
-        let mut text = StrBuilder::<Vec<u8>>::new(rt.alloc())?;
+        let mut text = unwrap(rt, StrBuilder::<Vec<u8>>::new(rt.alloc()));
         let found = answer.data();
-        text.try_push_display(&found)?;
+        unwrap(rt, text.try_push_display(&found));
         assert_equal!(rt, text.as_str(), row.text);
         assert_equal!(rt, found.rtype().to_int(), row.rtype);
     }
-    Ok(())
 }
 
 #[test]
-fn data_of_each_type_shows(rt: HostRuntime) -> Result<(), Fail> {
+fn data_of_each_type_shows(rt: HostRuntime) {
     for row in &ROWS {
-        let octets = answer(rt.alloc(), row.rtype, row.read)?;
-        shows(&rt, octets.as_slice(), row)?;
+        let octets = answer(&rt, row.rtype, row.read);
+        shows(&rt, octets.as_slice(), row);
     }
-    Ok(())
 }
 
 /// Checks that a message is rewritten as these octets.
-fn is_rewritten(rt: &(impl Abort + AllocGlobal), octets: &[u8], wanted: &[u8]) -> Result<(), Fail> {
+fn is_rewritten(rt: &(impl Abort + AllocGlobal), octets: &[u8], wanted: &[u8]) {
     let alloc = rt.alloc();
-    let message = Message::parse(octets)?;
+    let message = unwrap(rt, Message::parse(octets));
     let table: Vec<Target> = Vec::new(alloc);
-    let (written, _) = rewrite(&message, Vec::new(alloc), table)?.finish();
+    let (written, _) = unwrap(rt, rewrite(&message, Vec::new(alloc), table)).finish();
     assert_equal!(rt, written.as_slice(), wanted);
-    Ok(())
 }
 
 #[test]
-fn data_of_each_type_is_written(rt: HostRuntime) -> Result<(), Fail> {
+fn data_of_each_type_is_written(rt: HostRuntime) {
     for row in &ROWS {
-        let octets = answer(rt.alloc(), row.rtype, row.read)?;
-        let wanted = answer(rt.alloc(), row.rtype, row.written)?;
-        is_rewritten(&rt, octets.as_slice(), wanted.as_slice())?;
+        let octets = answer(&rt, row.rtype, row.read);
+        let wanted = answer(&rt, row.rtype, row.written);
+        is_rewritten(&rt, octets.as_slice(), wanted.as_slice());
     }
-    Ok(())
 }

@@ -1,4 +1,5 @@
 //! DNS messages that are written.
+use crate::tests::unwrap;
 use arrayvec::ArrayVec;
 use bytes::BytesMut;
 use octseq::builder::AsOctetsMut;
@@ -13,9 +14,8 @@ use octseq_dns::{
     Opcode, ParsedName, Rcode, Record, Rtype, Target, Ttl, UnknownRecordData,
 };
 use smallvec::SmallVec;
-use std::alloc::{AllocError, Global};
+use std::alloc::AllocGlobal;
 use std::process::Abort;
-use std::test::Fail;
 
 /// The refusal of what exceeds a limit.
 const SHORT: Result<(), AppendError> = Err(AppendError::Short(ShortBuf));
@@ -55,19 +55,26 @@ const PLAIN: &[u8] = b"\x12\x34\x85\x80\0\x01\0\x01\0\0\0\0\x07example\x03com\0\
 
 /// Writes the header, the question and the answer.
 fn answered<B: OctetsBuilder + Truncate + AsOctetsMut, T: Compressor>(
+    rt: &impl Abort,
     octets: B,
     table: T,
-) -> Result<(B, T), Fail> {
-    let name = Name::from_text("example.com.")?;
-    let mut message = MessageBuilder::from_builder(octets, table)?;
+) -> (B, T) {
+    let name = unwrap(rt, Name::from_text("example.com."));
+    let mut message = unwrap(rt, MessageBuilder::from_builder(octets, table));
     message.set_header(header());
     let mut questions = message.question();
-    questions.push_question(&name.parsed(), Rtype::A, Class::IN)?;
+    unwrap(
+        rt,
+        questions.push_question(&name.parsed(), Rtype::A, Class::IN),
+    );
     let mut answers = questions.answer();
     let (ttl, address) = (Ttl::from_secs(300), [1, 2, 3, 4]);
     let rdata = UnknownRecordData::new(Rtype::A, &address);
-    answers.push_record(&name.parsed(), Class::IN, ttl, &rdata)?;
-    Ok(answers.authority().additional().finish())
+    unwrap(
+        rt,
+        answers.push_record(&name.parsed(), Class::IN, ttl, &rdata),
+    );
+    answers.authority().additional().finish()
 }
 
 /// Checks that a table has targets at these places, from which the given numbers of pointers are followed, and no
@@ -86,80 +93,90 @@ fn is_answered<B: OctetsBuilder + Truncate + AsOctetsMut, T: Compressor>(
     rt: &impl Abort,
     octets: B,
     table: T,
-) -> Result<(), Fail> {
-    let (octets, table) = answered(octets, table)?;
+) {
+    let (octets, table) = answered(rt, octets, table);
     assert_equal!(rt, octets.as_ref(), ANSWERED);
     has_targets(rt, &table, &[(12, 0), (20, 0)]);
-    Ok(())
 }
 
 #[test]
-fn an_answer_points_to_its_question(rt: HostRuntime) -> Result<(), Fail> {
+fn an_answer_points_to_its_question(rt: HostRuntime) {
     let alloc = rt.alloc();
-    is_answered(&rt, Array::<512>::new(), ArrayVec::<Target, 8>::new())?;
-    is_answered(&rt, Array::<512>::new(), Vec::new(alloc))?;
-    is_answered(&rt, Vec::new(alloc), ArrayVec::<Target, 8>::new())?;
-    is_answered(&rt, Vec::new(alloc), Vec::new(alloc))
+    is_answered(&rt, Array::<512>::new(), ArrayVec::<Target, 8>::new());
+    is_answered(&rt, Array::<512>::new(), Vec::new(alloc));
+    is_answered(&rt, Vec::new(alloc), ArrayVec::<Target, 8>::new());
+    is_answered(&rt, Vec::new(alloc), Vec::new(alloc));
 }
 
 #[test]
-fn other_builders_are_written(rt: HostRuntime) -> Result<(), Fail> {
+fn other_builders_are_written(rt: HostRuntime) {
     let alloc = rt.alloc();
-    is_answered(&rt, BytesMut::empty(alloc)?, ArrayVec::<Target, 2>::new())?;
     is_answered(
         &rt,
-        SmallVec::<u8, 8>::empty(alloc)?,
+        unwrap(&rt, BytesMut::empty(alloc)),
         ArrayVec::<Target, 2>::new(),
-    )?;
-    is_answered(&rt, ArrayVec::<u8, 45>::new(), ArrayVec::<Target, 2>::new())?;
+    );
+    is_answered(
+        &rt,
+        unwrap(&rt, SmallVec::<u8, 8>::empty(alloc)),
+        ArrayVec::<Target, 2>::new(),
+    );
+    is_answered(&rt, ArrayVec::<u8, 45>::new(), ArrayVec::<Target, 2>::new());
     let mut octets = Array::<45>::new();
-    is_answered(&rt, &mut octets, ArrayVec::<Target, 2>::new())?;
+    is_answered(&rt, &mut octets, ArrayVec::<Target, 2>::new());
     assert_equal!(&rt, octets.as_slice(), ANSWERED);
-    Ok(())
 }
 
 #[test]
-fn without_compression_names_are_plain(rt: HostRuntime) -> Result<(), Fail> {
-    let (octets, _) = answered(Array::<512>::new(), Uncompressed::new())?;
+fn without_compression_names_are_plain(rt: HostRuntime) {
+    let (octets, _) = answered(&rt, Array::<512>::new(), Uncompressed::new());
     assert_equal!(&rt, octets.as_slice(), PLAIN);
-    let (octets, _) = answered(Vec::new(rt.alloc()), Uncompressed::new())?;
+    let (octets, _) = answered(&rt, Vec::new(rt.alloc()), Uncompressed::new());
     assert_equal!(&rt, octets.as_slice(), PLAIN);
-    Ok(())
 }
 
 #[test]
-fn what_was_there_before_is_gone(rt: HostRuntime) -> Result<(), Fail> {
+fn what_was_there_before_is_gone(rt: HostRuntime) {
     let alloc = rt.alloc();
     let mut table = Vec::new(alloc);
-    table.push(Target::default())?;
-    is_answered(&rt, ASKED.to_vec(alloc)?, table)
+    unwrap(&rt, table.push(Target::default()));
+    is_answered(&rt, unwrap(&rt, ASKED.to_vec(alloc)), table);
 }
 
 #[test]
-fn a_table_serves_for_another_message(rt: HostRuntime) -> Result<(), Fail> {
+fn a_table_serves_for_another_message(rt: HostRuntime) {
     let names = ["FOO.F.ISI.ARPA.", "example.com."];
-    let (octets, table) = asked(Vec::new(rt.alloc()), Vec::new(rt.alloc()), &names)?;
-    is_answered(&rt, octets, table)
+    let (octets, table) = asked(&rt, Vec::new(rt.alloc()), Vec::new(rt.alloc()), &names);
+    is_answered(&rt, octets, table);
 }
 
 /// Writes questions for these names.
 fn asked<B: OctetsBuilder + Truncate + AsOctetsMut, T: Compressor>(
+    rt: &impl Abort,
     octets: B,
     table: T,
     names: &[&str],
-) -> Result<(B, T), Fail> {
-    let mut questions = MessageBuilder::from_builder(octets, table)?.question();
+) -> (B, T) {
+    let mut questions = unwrap(rt, MessageBuilder::from_builder(octets, table)).question();
     for text in names {
-        let name = Name::from_text(text)?;
-        questions.push_question(&name.parsed(), Rtype::A, Class::IN)?;
+        let name = unwrap(rt, Name::from_text(text));
+        unwrap(
+            rt,
+            questions.push_question(&name.parsed(), Rtype::A, Class::IN),
+        );
     }
-    Ok(questions.answer().authority().additional().finish())
+    questions.answer().authority().additional().finish()
 }
 
 #[test]
-fn the_names_of_the_standard_are_compressed(rt: HostRuntime) -> Result<(), Fail> {
+fn the_names_of_the_standard_are_compressed(rt: HostRuntime) {
     let names = ["F.ISI.ARPA.", "FOO.F.ISI.ARPA.", "ARPA.", "."];
-    let (octets, table) = asked(Array::<512>::new(), ArrayVec::<Target, 8>::new(), &names)?;
+    let (octets, table) = asked(
+        &rt,
+        Array::<512>::new(),
+        ArrayVec::<Target, 8>::new(),
+        &names,
+    );
     assert_equal!(
         &rt,
         octets.as_slice(),
@@ -168,18 +185,17 @@ fn the_names_of_the_standard_are_compressed(rt: HostRuntime) -> Result<(), Fail>
             .as_slice()
     );
     has_targets(&rt, &table, &[(12, 0), (14, 0), (18, 0), (28, 1)]);
-    Ok(())
 }
 
 #[test]
-fn names_are_compressed_octet_for_octet(rt: HostRuntime) -> Result<(), Fail> {
+fn names_are_compressed_octet_for_octet(rt: HostRuntime) {
     let names = [
         "example.com.",
         "EXAMPLE.com.",
         "example.COM.",
         "EXAMPLE.com.",
     ];
-    let (octets, table) = asked(Array::<512>::new(), Vec::new(rt.alloc()), &names)?;
+    let (octets, table) = asked(&rt, Array::<512>::new(), Vec::new(rt.alloc()), &names);
     assert_equal!(
         &rt,
         octets.as_slice(),
@@ -188,18 +204,22 @@ fn names_are_compressed_octet_for_octet(rt: HostRuntime) -> Result<(), Fail> {
             .as_slice()
     );
     has_targets(&rt, &table, &[(12, 0), (20, 0), (29, 1), (43, 0), (51, 0)]);
-    Ok(())
 }
 
 #[test]
-fn a_full_table_compresses_less(rt: HostRuntime) -> Result<(), Fail> {
+fn a_full_table_compresses_less(rt: HostRuntime) {
     let names = [
         "example.com.",
         "www.example.com.",
         "com.",
         "www.example.com.",
     ];
-    let (octets, table) = asked(Array::<512>::new(), ArrayVec::<Target, 1>::new(), &names)?;
+    let (octets, table) = asked(
+        &rt,
+        Array::<512>::new(),
+        ArrayVec::<Target, 1>::new(),
+        &names,
+    );
     assert_equal!(
         &rt,
         octets.as_slice(),
@@ -208,7 +228,6 @@ fn a_full_table_compresses_less(rt: HostRuntime) -> Result<(), Fail> {
             .as_slice()
     );
     has_targets(&rt, &table, &[(20, 0)]);
-    Ok(())
 }
 
 /// Returns the number of entries in each section of a message.
@@ -231,13 +250,12 @@ fn pushed(fits: bool) -> Result<(), AppendError> {
 
 /// Pushes a question and its answer to a message with room for `entries` of the two. A refused one leaves the message
 /// unchanged.
-fn has_room<B: OctetsBuilder + Truncate + AsOctetsMut>(
-    rt: &impl Abort,
-    octets: B,
-    entries: usize,
-) -> Result<(), Fail> {
-    let name = Name::from_text("example.com.")?;
-    let mut message = MessageBuilder::from_builder(octets, ArrayVec::<Target, 8>::new())?;
+fn has_room<B: OctetsBuilder + Truncate + AsOctetsMut>(rt: &impl Abort, octets: B, entries: usize) {
+    let name = unwrap(rt, Name::from_text("example.com."));
+    let mut message = unwrap(
+        rt,
+        MessageBuilder::from_builder(octets, ArrayVec::<Target, 8>::new()),
+    );
     message.set_header(header());
     assert_equal!(rt, message.as_slice(), NOTHING);
     let mut questions = message.question();
@@ -246,7 +264,6 @@ fn has_room<B: OctetsBuilder + Truncate + AsOctetsMut>(
     let wanted = if entries == 0 { NOTHING } else { ASKED };
     assert_equal!(rt, questions.as_slice(), wanted);
     has_room_for_an_answer(rt, questions.answer(), &name.parsed(), entries);
-    Ok(())
 }
 
 /// Checks that the answer is pushed if the message has room for both.
@@ -278,35 +295,39 @@ fn has_room_for_an_answer<B: OctetsBuilder + Truncate + AsOctetsMut>(
 }
 
 #[test]
-fn what_passes_the_limit_is_refused(rt: HostRuntime) -> Result<(), Fail> {
+fn what_passes_the_limit_is_refused(rt: HostRuntime) {
     let refused = MessageBuilder::from_builder(Array::<11>::new(), Uncompressed::new()).err();
     assert_equal!(&rt, refused, SHORT.err());
-    has_room(&rt, Array::<12>::new(), 0)?;
-    has_room(&rt, Array::<28>::new(), 0)?;
-    has_room(&rt, Array::<29>::new(), 1)?;
-    has_room(&rt, Array::<44>::new(), 1)?;
-    has_room(&rt, Array::<45>::new(), 2)
+    has_room(&rt, Array::<12>::new(), 0);
+    has_room(&rt, Array::<28>::new(), 0);
+    has_room(&rt, Array::<29>::new(), 1);
+    has_room(&rt, Array::<44>::new(), 1);
+    has_room(&rt, Array::<45>::new(), 2);
 }
 
 /// Pushes an answer with this owner, of type A and with a TTL of zero.
 fn push_answer<B: OctetsBuilder + Truncate + AsOctetsMut, T: Compressor>(
+    rt: &impl Abort,
     answers: &mut AnswerBuilder<B, T>,
     owner: &str,
     rdata: &[u8],
-) -> Result<Result<(), AppendError>, Fail> {
-    let name = Name::from_text(owner)?;
+) -> Result<(), AppendError> {
+    let name = unwrap(rt, Name::from_text(owner));
     let ttl = Ttl::from_secs(0);
     let rdata = UnknownRecordData::new(Rtype::A, rdata);
-    Ok(answers.push_record(&name.parsed(), Class::IN, ttl, &rdata))
+    answers.push_record(&name.parsed(), Class::IN, ttl, &rdata)
 }
 
 #[test]
-fn a_refused_record_leaves_no_target(rt: HostRuntime) -> Result<(), Fail> {
-    let message = MessageBuilder::from_builder(Array::<64>::new(), ArrayVec::<Target, 8>::new())?;
+fn a_refused_record_leaves_no_target(rt: HostRuntime) {
+    let message = unwrap(
+        &rt,
+        MessageBuilder::from_builder(Array::<64>::new(), ArrayVec::<Target, 8>::new()),
+    );
     let mut answers = message.question().answer();
-    push_answer(&mut answers, "a.b.", &[1, 2, 3, 4])??;
-    assert_equal!(&rt, push_answer(&mut answers, "c.d.", &[0; 30])?, SHORT);
-    push_answer(&mut answers, "c.d.", &[5, 6, 7, 8])??;
+    unwrap(&rt, push_answer(&rt, &mut answers, "a.b.", &[1, 2, 3, 4]));
+    assert_equal!(&rt, push_answer(&rt, &mut answers, "c.d.", &[0; 30]), SHORT);
+    unwrap(&rt, push_answer(&rt, &mut answers, "c.d.", &[5, 6, 7, 8]));
     let (octets, table) = answers.authority().additional().finish();
     assert_equal!(
         &rt,
@@ -316,42 +337,59 @@ fn a_refused_record_leaves_no_target(rt: HostRuntime) -> Result<(), Fail> {
             .as_slice()
     );
     has_targets(&rt, &table, &[(12, 0), (14, 0), (31, 0), (33, 0)]);
-    Ok(())
 }
 
 /// Makes a question and an answer of one name.
-fn in_two_sections(alloc: Global) -> Result<AnswerBuilder<Vec<u8>, ArrayVec<Target, 8>>, Fail> {
-    let name = Name::from_text("example.com.")?;
-    let message = MessageBuilder::from_builder(Vec::new(alloc), ArrayVec::<Target, 8>::new())?;
+fn in_two_sections(rt: &(impl Abort + AllocGlobal)) -> AnswerBuilder<Vec<u8>, ArrayVec<Target, 8>> {
+    let name = unwrap(rt, Name::from_text("example.com."));
+    let message = unwrap(
+        rt,
+        MessageBuilder::from_builder(Vec::new(rt.alloc()), ArrayVec::<Target, 8>::new()),
+    );
     let mut questions = message.question();
-    questions.push_question(&name.parsed(), Rtype::ANY, Class::IN)?;
+    unwrap(
+        rt,
+        questions.push_question(&name.parsed(), Rtype::ANY, Class::IN),
+    );
     let mut answers = questions.answer();
     let (ttl, address) = (Ttl::from_secs(300), [1, 2, 3, 4]);
     let rdata = UnknownRecordData::new(Rtype::A, &address);
-    answers.push_record(&name.parsed(), Class::IN, ttl, &rdata)?;
-    Ok(answers)
+    unwrap(
+        rt,
+        answers.push_record(&name.parsed(), Class::IN, ttl, &rdata),
+    );
+    answers
 }
 
 /// Makes a question, an answer, an authority and an additional record, with names that end like those before them.
-fn in_each_section(alloc: Global) -> Result<Vec<u8>, Fail> {
-    let (root, end) = (Name::from_text(".")?, Name::from_text("com.")?);
-    let mut authorities = in_two_sections(alloc)?.authority();
+fn in_each_section(rt: &(impl Abort + AllocGlobal)) -> Vec<u8> {
+    let (root, end) = (
+        unwrap(rt, Name::from_text(".")),
+        unwrap(rt, Name::from_text("com.")),
+    );
+    let mut authorities = in_two_sections(rt).authority();
     let ttl = Ttl::from_secs(4_294_967_295);
-    authorities.push_record(
-        &end.parsed(),
-        Class::CH,
-        ttl,
-        &UnknownRecordData::new(Rtype::TXT, b"\x02hi"),
-    )?;
+    unwrap(
+        rt,
+        authorities.push_record(
+            &end.parsed(),
+            Class::CH,
+            ttl,
+            &UnknownRecordData::new(Rtype::TXT, b"\x02hi"),
+        ),
+    );
     let mut additionals = authorities.additional();
     let (class, ttl) = (Class::from_int(4096), Ttl::from_secs(0));
-    additionals.push_record(
-        &root.parsed(),
-        class,
-        ttl,
-        &UnknownRecordData::new(Rtype::OPT, b""),
-    )?;
-    Ok(additionals.finish().0)
+    unwrap(
+        rt,
+        additionals.push_record(
+            &root.parsed(),
+            class,
+            ttl,
+            &UnknownRecordData::new(Rtype::OPT, b""),
+        ),
+    );
+    additionals.finish().0
 }
 
 /// Checks that the record has an owner with these labels, and this type, class, TTL and data.
@@ -372,8 +410,8 @@ fn is_record<R: Octets + Copy>(
 }
 
 /// Checks the entries of the message.
-fn are_read<R: Octets + Copy>(rt: &impl Abort, octets: R) -> Result<(), Malformed> {
-    let message = Message::parse(octets)?;
+fn are_read<R: Octets + Copy>(rt: &impl Abort, octets: R) {
+    let message = unwrap(rt, Message::parse(octets));
     for entry in message.questions() {
         assert_equal!(rt, entry.qname().label_count(), 2);
         assert_equal!(rt, (entry.qtype(), entry.qclass()), (Rtype::ANY, Class::IN));
@@ -390,12 +428,11 @@ fn are_read<R: Octets + Copy>(rt: &impl Abort, octets: R) -> Result<(), Malforme
         let fields = (Rtype::OPT, Class::from_int(4096), 0);
         is_record(rt, &entry, &[], fields, b"");
     }
-    Ok(())
 }
 
 #[test]
-fn entries_of_each_section_are_read(rt: HostRuntime) -> Result<(), Fail> {
-    let octets = in_each_section(rt.alloc())?;
+fn entries_of_each_section_are_read(rt: HostRuntime) {
+    let octets = in_each_section(&rt);
     assert_equal!(
         &rt,
         octets.as_slice(),
@@ -405,52 +442,66 @@ fn entries_of_each_section_are_read(rt: HostRuntime) -> Result<(), Fail> {
             .as_slice()
     );
     assert_equal!(&rt, counts_of(octets.as_slice()), Ok((1, 1, 1, 1)));
-    Ok(are_read(&rt, octets.as_slice())?)
+    are_read(&rt, octets.as_slice());
 }
 
 /// Makes one question and two answers of the root.
-fn one_and_two(root: &ParsedName<&[u8]>) -> Result<AnswerBuilder<Array<128>, Uncompressed>, Fail> {
-    let message = MessageBuilder::from_builder(Array::<128>::new(), Uncompressed::new())?;
+fn one_and_two(
+    rt: &impl Abort,
+    root: &ParsedName<&[u8]>,
+) -> AnswerBuilder<Array<128>, Uncompressed> {
+    let message = unwrap(
+        rt,
+        MessageBuilder::from_builder(Array::<128>::new(), Uncompressed::new()),
+    );
     let mut questions = message.question();
-    questions.push_question(root, Rtype::NS, Class::IN)?;
+    unwrap(rt, questions.push_question(root, Rtype::NS, Class::IN));
     let mut answers = questions.answer();
     for _ in 0..2 {
-        answers.push_record(
-            root,
-            Class::IN,
-            Ttl::from_secs(1),
-            &UnknownRecordData::new(Rtype::NS, b"\0"),
-        )?;
+        unwrap(
+            rt,
+            answers.push_record(
+                root,
+                Class::IN,
+                Ttl::from_secs(1),
+                &UnknownRecordData::new(Rtype::NS, b"\0"),
+            ),
+        );
     }
-    Ok(answers)
+    answers
 }
 
 #[test]
-fn each_section_has_its_count(rt: HostRuntime) -> Result<(), Fail> {
-    let (root, ttl) = (Name::from_text(".")?, Ttl::from_secs(1));
-    let mut authorities = one_and_two(&root.parsed())?.authority();
+fn each_section_has_its_count(rt: HostRuntime) {
+    let (root, ttl) = (unwrap(&rt, Name::from_text(".")), Ttl::from_secs(1));
+    let mut authorities = one_and_two(&rt, &root.parsed()).authority();
     for _ in 0..3 {
-        authorities.push_record(
-            &root.parsed(),
-            Class::IN,
-            ttl,
-            &UnknownRecordData::new(Rtype::NS, b"\0"),
-        )?;
+        unwrap(
+            &rt,
+            authorities.push_record(
+                &root.parsed(),
+                Class::IN,
+                ttl,
+                &UnknownRecordData::new(Rtype::NS, b"\0"),
+            ),
+        );
     }
     let mut additionals = authorities.additional();
     for _ in 0..4 {
-        additionals.push_record(
-            &root.parsed(),
-            Class::IN,
-            ttl,
-            &UnknownRecordData::new(Rtype::NS, b"\0"),
-        )?;
+        unwrap(
+            &rt,
+            additionals.push_record(
+                &root.parsed(),
+                Class::IN,
+                ttl,
+                &UnknownRecordData::new(Rtype::NS, b"\0"),
+            ),
+        );
     }
     let octets = additionals.finish().0;
     let wanted = b"\0\0\0\0\0\x01\0\x02\0\x03\0\x04".as_slice();
     assert_equal!(&rt, octets.as_slice().get(..12), Some(wanted));
     assert_equal!(&rt, counts_of(octets.as_slice()), Ok((1, 2, 3, 4)));
-    Ok(())
 }
 
 /// Checks that the header of an answer was written with this id.
@@ -478,8 +529,11 @@ fn is_set_in_records(rt: &impl Abort, mut answers: AnswerBuilder<Array<12>, Unco
 }
 
 #[test]
-fn each_builder_sets_the_header(rt: HostRuntime) -> Result<(), Fail> {
-    let mut message = MessageBuilder::from_builder(Array::<12>::new(), Uncompressed::new())?;
+fn each_builder_sets_the_header(rt: HostRuntime) {
+    let mut message = unwrap(
+        &rt,
+        MessageBuilder::from_builder(Array::<12>::new(), Uncompressed::new()),
+    );
     assert_equal!(&rt, message.as_slice(), [0u8; 12].as_slice());
     message.set_header(sent(1));
     is_sent(&rt, message.as_slice(), message.header(), 1);
@@ -487,13 +541,15 @@ fn each_builder_sets_the_header(rt: HostRuntime) -> Result<(), Fail> {
     questions.set_header(sent(2));
     is_sent(&rt, questions.as_slice(), questions.header(), 2);
     is_set_in_records(&rt, questions.answer());
-    Ok(())
 }
 
 #[test]
-fn each_flag_is_written(rt: HostRuntime) -> Result<(), Fail> {
+fn each_flag_is_written(rt: HostRuntime) {
     let none = Flags::default();
-    let mut message = MessageBuilder::from_builder(Array::<12>::new(), Uncompressed::new())?;
+    let mut message = unwrap(
+        &rt,
+        MessageBuilder::from_builder(Array::<12>::new(), Uncompressed::new()),
+    );
     for (flags, wanted) in [
         (none, [0, 0]),
         (Flags { qr: true, ..none }, [0x80, 0]),
@@ -508,12 +564,14 @@ fn each_flag_is_written(rt: HostRuntime) -> Result<(), Fail> {
         message.set_header(Header { flags, ..header() });
         assert_equal!(&rt, message.as_slice().get(2..4), Some(wanted.as_slice()));
     }
-    Ok(())
 }
 
 #[test]
-fn codes_of_a_header_are_written(rt: HostRuntime) -> Result<(), Fail> {
-    let mut message = MessageBuilder::from_builder(Array::<12>::new(), Uncompressed::new())?;
+fn codes_of_a_header_are_written(rt: HostRuntime) {
+    let mut message = unwrap(
+        &rt,
+        MessageBuilder::from_builder(Array::<12>::new(), Uncompressed::new()),
+    );
     for (opcode, rcode, wanted) in [
         (Opcode::UPDATE, Rcode::NOERROR, [0x28, 0]),
         (Opcode::STATUS, Rcode::NXDOMAIN, [0x10, 0x03]),
@@ -527,7 +585,6 @@ fn codes_of_a_header_are_written(rt: HostRuntime) -> Result<(), Fail> {
         });
         assert_equal!(&rt, message.as_slice().get(2..4), Some(wanted.as_slice()));
     }
-    Ok(())
 }
 
 /// Pushes an answer of the root with this data, which fits or is refused. The message then has `len` octets.
@@ -537,110 +594,121 @@ fn is_pushed<B: OctetsBuilder + Truncate + AsOctetsMut, T: Compressor>(
     rdata: &[u8],
     fits: bool,
     len: usize,
-) -> Result<(), Fail> {
-    assert_equal!(rt, push_answer(answers, ".", rdata)?, pushed(fits));
+) {
+    assert_equal!(rt, push_answer(rt, answers, ".", rdata), pushed(fits));
     assert_equal!(rt, answers.as_slice().len(), len);
-    Ok(())
 }
 
 #[test]
-fn a_written_message_has_65535_octets_at_most(rt: HostRuntime) -> Result<(), Fail> {
+fn a_written_message_has_65535_octets_at_most(rt: HostRuntime) {
     let mut rdata = Vec::new(rt.alloc());
-    rdata.resize(65536, 0xAA)?;
-    let message = MessageBuilder::from_builder(Vec::new(rt.alloc()), Uncompressed::new())?;
+    unwrap(&rt, rdata.resize(65536, 0xAA));
+    let message = unwrap(
+        &rt,
+        MessageBuilder::from_builder(Vec::new(rt.alloc()), Uncompressed::new()),
+    );
     let mut answers = message.question().answer();
-    is_pushed(&rt, &mut answers, &rdata, false, 12)?;
+    is_pushed(&rt, &mut answers, &rdata, false, 12);
     rdata.truncate(65513);
-    is_pushed(&rt, &mut answers, &rdata, false, 12)?;
+    is_pushed(&rt, &mut answers, &rdata, false, 12);
     assert_equal!(&rt, answers.as_slice(), [0u8; 12].as_slice());
     rdata.truncate(65512);
-    is_pushed(&rt, &mut answers, &rdata, true, 65535)?;
-    is_pushed(&rt, &mut answers, b"", false, 65535)?;
+    is_pushed(&rt, &mut answers, &rdata, true, 65535);
+    is_pushed(&rt, &mut answers, b"", false, 65535);
     assert_equal!(&rt, counts_of(answers.as_slice()), Ok((0, 1, 0, 0)));
-    Ok(())
 }
 
 /// Pushes a record of the root with this data, and two records of one name.
 fn push_three<B: OctetsBuilder + Truncate + AsOctetsMut, T: Compressor>(
+    rt: &impl Abort,
     answers: &mut AnswerBuilder<B, T>,
     rdata: &[u8],
-) -> Result<(), Fail> {
-    push_answer(answers, ".", rdata)??;
-    push_answer(answers, "com.", b"")??;
-    Ok(push_answer(answers, "com.", b"")??)
+) {
+    unwrap(rt, push_answer(rt, answers, ".", rdata));
+    unwrap(rt, push_answer(rt, answers, "com.", b""));
+    unwrap(rt, push_answer(rt, answers, "com.", b""));
 }
 
 /// Returns what is written after a record of the root with `len` octets of data: two records of one name.
-fn written_after(alloc: Global, len: usize) -> Result<Vec<u8>, Fail> {
-    let rdata = Vec::from_elem(alloc, 0, len)?;
-    let message = MessageBuilder::from_builder(Vec::new(alloc), Vec::new(alloc))?;
+fn written_after(rt: &(impl Abort + AllocGlobal), len: usize) -> Vec<u8> {
+    let alloc = rt.alloc();
+    let rdata = unwrap(rt, Vec::from_elem(alloc, 0, len));
+    let message = unwrap(
+        rt,
+        MessageBuilder::from_builder(Vec::new(alloc), Vec::new(alloc)),
+    );
     let mut answers = message.question().answer();
-    push_three(&mut answers, &rdata)?;
+    push_three(rt, &mut answers, &rdata);
     let after = answers.as_slice().get(len.saturating_add(23)..);
-    Ok(after.ok_or("too short")?.to_vec(alloc)?)
+    unwrap(rt, unwrap(rt, after.ok_or("too short")).to_vec(alloc))
 }
 
 #[test]
-fn a_pointer_says_a_place_up_to_16383(rt: HostRuntime) -> Result<(), Fail> {
+fn a_pointer_says_a_place_up_to_16383(rt: HostRuntime) {
     let plain = b"\x03com\0\0\x01\0\x01\0\0\0\0\0\0\x03com\0\0\x01\0\x01\0\0\0\0\0\0".as_slice();
     let pointed = b"\x03com\0\0\x01\0\x01\0\0\0\0\0\0\xFF\xFF\0\x01\0\x01\0\0\0\0\0\0".as_slice();
     for (len, wanted) in [(16360, pointed), (16361, plain), (16400, plain)] {
-        let octets = written_after(rt.alloc(), len)?;
+        let octets = written_after(&rt, len);
         assert_equal!(&rt, octets.as_slice(), wanted);
     }
-    Ok(())
 }
 
 /// Checks that an empty table takes targets until it is full, and then keeps those before a place.
-fn keeps<T: Compressor>(rt: &impl Abort, mut table: T, most: usize) -> Result<(), AllocError> {
+fn keeps<T: Compressor>(rt: &impl Abort, mut table: T, most: usize) {
     for at in [12, 14, 16] {
         if !table.is_full() {
-            table.insert(
-                0,
-                Target {
-                    at,
-                    ..Target::default()
-                },
-            )?;
+            unwrap(
+                rt,
+                table.insert(
+                    0,
+                    Target {
+                        at,
+                        ..Target::default()
+                    },
+                ),
+            );
         }
     }
     assert_equal!(rt, table.as_slice().len(), most);
     table.keep_before(14);
     assert_equal!(rt, table.as_slice().len(), most.min(1));
-    Ok(())
 }
 
 #[test]
-fn tables_keep_targets(rt: HostRuntime) -> Result<(), Fail> {
-    keeps(&rt, Uncompressed::new(), 0)?;
-    keeps(&rt, ArrayVec::<Target, 1>::new(), 1)?;
-    keeps(&rt, ArrayVec::<Target, 2>::new(), 2)?;
-    keeps(&rt, ArrayVec::<Target, 4>::new(), 3)?;
-    keeps(&rt, Vec::new(rt.alloc()), 3)?;
-    Ok(())
+fn tables_keep_targets(rt: HostRuntime) {
+    keeps(&rt, Uncompressed::new(), 0);
+    keeps(&rt, ArrayVec::<Target, 1>::new(), 1);
+    keeps(&rt, ArrayVec::<Target, 2>::new(), 2);
+    keeps(&rt, ArrayVec::<Target, 4>::new(), 3);
+    keeps(&rt, Vec::new(rt.alloc()), 3);
 }
 
 /// Makes a message with one answer, which is of the root and of this text.
-fn with_text<R: Octets + Copy>(txt: Txt<R>) -> Result<Array<64>, Fail> {
-    let root = Name::from_text(".")?;
-    let message = MessageBuilder::from_builder(Array::<64>::new(), Uncompressed::new())?;
+fn with_text<R: Octets + Copy>(rt: &impl Abort, txt: Txt<R>) -> Array<64> {
+    let root = unwrap(rt, Name::from_text("."));
+    let message = unwrap(
+        rt,
+        MessageBuilder::from_builder(Array::<64>::new(), Uncompressed::new()),
+    );
     let mut answers = message.question().answer();
     let found = Data::Txt(txt);
     let ttl = Ttl::from_secs(300);
-    answers.push_record(&root.parsed(), Class::IN, ttl, &found)?;
-    Ok(answers.authority().additional().finish().0)
+    unwrap(
+        rt,
+        answers.push_record(&root.parsed(), Class::IN, ttl, &found),
+    );
+    answers.authority().additional().finish().0
 }
 
 #[test]
-fn text_that_was_never_read_is_pushed(rt: HostRuntime) -> Result<(), Fail> {
+fn text_that_was_never_read_is_pushed(rt: HostRuntime) {
     let mut strings = Array::<16>::new();
-    append_part_u8(&mut strings, b"ab")?;
-    append_part_u8(&mut strings, b"")?;
-    let octets = with_text(Txt::from_octets(strings.as_slice())?)?;
+    unwrap(&rt, append_part_u8(&mut strings, b"ab"));
+    unwrap(&rt, append_part_u8(&mut strings, b""));
+    let octets = with_text(&rt, unwrap(&rt, Txt::from_octets(strings.as_slice())));
     let wanted = b"\0\0\0\0\0\0\0\x01\0\0\0\0\0\0\x10\0\x01\0\0\x01\x2C\0\x04\x02ab\0".as_slice();
     assert_equal!(&rt, octets.as_slice(), wanted);
     for other in [b"".as_slice(), b"\x02a", b"\x01ab"] {
         assert_equal!(&rt, Txt::from_octets(other).err(), Some(Malformed));
     }
-    Ok(())
 }

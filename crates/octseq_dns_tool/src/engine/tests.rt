@@ -1,11 +1,10 @@
 use super::Command;
 use octseq_program::hostile::Drip;
 use octseq_program::{ProgramFault, Status};
-use std::alloc::Global;
+use std::alloc::{AllocError, Global};
 use std::fmt::Debug;
 use std::io::{self, Read, Write};
 use std::process::Abort;
-use std::test::Fail;
 
 /// Ends the test if two values differ. A call is proved in a tenth of the time of an `assert_eq!`.
 macro_rules! assert_equal {
@@ -23,6 +22,14 @@ macro_rules! assert_true {
 
 fn equal<T: PartialEq + Debug + Drop>(rt: &impl Abort, what: &str, left: T, right: T) {
     assert_eq!(rt; left, right, "{what}");
+}
+
+/// Returns the value of a result, or ends the test with its error.
+fn unwrap<T, E: Debug + Drop>(rt: &impl Abort, made: Result<T, E>) -> T {
+    match made {
+        Ok(value) => value,
+        Err(error) => panic!(rt; "error: {error:?}"),
+    }
 }
 
 mod hostile;
@@ -66,7 +73,7 @@ fn ran(alloc: Global, word: &str, octets: &[u8]) -> (Result<Status, ProgramFault
 }
 
 /// Octets one after another.
-fn joined(alloc: Global, parts: &[&[u8]]) -> Result<Vec<u8>, Fail> {
+fn joined(alloc: Global, parts: &[&[u8]]) -> Result<Vec<u8>, AllocError> {
     let mut octets = Vec::new(alloc);
     for part in parts {
         octets.extend_from_slice(part)?;
@@ -115,11 +122,11 @@ fn reported(
 }
 
 #[test]
-fn help_tells_commands_and_statuses(rt: HostRuntime) -> Result<(), Fail> {
+fn help_tells_commands_and_statuses(rt: HostRuntime) {
     let (answer, written, errors) = reported(rt.alloc(), "--help", b"a", 0);
     assert_equal!(&rt, answer, Ok(Status::Fine));
     assert_true!(&rt, errors.is_empty());
-    let text = str::from_utf8(&written)?;
+    let text = unwrap(&rt, str::from_utf8(&written));
     for part in [
         "  message  ",
         "  stream   ",
@@ -133,7 +140,6 @@ fn help_tells_commands_and_statuses(rt: HostRuntime) -> Result<(), Fail> {
     ] {
         assert_eq!(rt; text.contains(part), true, "{part}");
     }
-    Ok(())
 }
 
 #[test]
@@ -148,24 +154,27 @@ fn another_word_is_reported_on_standard_error(rt: HostRuntime) {
 }
 
 #[test]
-fn malformed_messages_are_reported_by_number_and_place(rt: HostRuntime) -> Result<(), Fail> {
+fn malformed_messages_are_reported_by_number_and_place(rt: HostRuntime) {
     let alloc = rt.alloc();
     // (part of a header, a message, a question that is missing, an extra octet, and part of an answer after a question)
-    let stream = joined(
-        alloc,
-        &[
-            &[0, 11],
-            &[0; 11],
-            &[0, 12],
-            &[0; 12],
-            &[0, 12],
-            &[0, 0, 0, 0, 0, 1, 0, 0, 0, 0, 0, 0],
-            &[0, 13],
-            &[0; 13],
-            &[0, 44],
-            &REPLY[..44],
-        ],
-    )?;
+    let stream = unwrap(
+        &rt,
+        joined(
+            alloc,
+            &[
+                &[0, 11],
+                &[0; 11],
+                &[0, 12],
+                &[0; 12],
+                &[0, 12],
+                &[0, 0, 0, 0, 0, 1, 0, 0, 0, 0, 0, 0],
+                &[0, 13],
+                &[0; 13],
+                &[0, 44],
+                &REPLY[..44],
+            ],
+        ),
+    );
     let lines = "message 1: malformed at octet 0\n\
         message 3: malformed at octet 12\n\
         message 4: malformed at octet 12\n\
@@ -182,14 +191,13 @@ fn malformed_messages_are_reported_by_number_and_place(rt: HostRuntime) -> Resul
     assert_equal!(&rt, errors.as_slice(), line.as_bytes());
     let (_, _, errors) = reported(alloc, "message", &REPLY, usize::MAX);
     assert_true!(&rt, errors.is_empty());
-    Ok(())
 }
 
 #[test]
-fn a_live_source_shows_at_once(rt: HostRuntime) -> Result<(), Fail> {
+fn a_live_source_shows_at_once(rt: HostRuntime) {
     let alloc = rt.alloc();
-    let first = joined(alloc, &[&[0, 12], &[0; 12]])?;
-    let stream = joined(alloc, &[first.as_slice(), &[0, 45], &REPLY])?;
+    let first = unwrap(&rt, joined(alloc, &[&[0, 12], &[0; 12]]));
+    let stream = unwrap(&rt, joined(alloc, &[first.as_slice(), &[0, 45], &REPLY]));
     // (two reads yield the first message, and the third one fails)
     for (command, output) in [
         ("stream", "id 0 opcode 0 rcode 0 flags\n\n".as_bytes()),
@@ -200,24 +208,26 @@ fn a_live_source_shows_at_once(rt: HostRuntime) -> Result<(), Fail> {
         assert_equal!(&rt, written.as_slice(), output);
         assert_true!(&rt, errors.is_empty());
     }
-    Ok(())
 }
 
 #[test]
-fn stream_goes_on_after_a_malformed_message(rt: HostRuntime) -> Result<(), Fail> {
+fn stream_goes_on_after_a_malformed_message(rt: HostRuntime) {
     let alloc = rt.alloc();
-    let stream = joined(
-        alloc,
-        &[
-            &[0, 11],
-            &[0; 11],
-            &[0, 45],
-            &REPLY,
-            &[0, 0],
-            &[0, 12],
-            &[0; 12],
-        ],
-    )?;
+    let stream = unwrap(
+        &rt,
+        joined(
+            alloc,
+            &[
+                &[0, 11],
+                &[0; 11],
+                &[0, 45],
+                &REPLY,
+                &[0, 0],
+                &[0, 12],
+                &[0; 12],
+            ],
+        ),
+    );
     let texts = [
         "malformed\n\n",
         REPLY_TEXT,
@@ -229,10 +239,9 @@ fn stream_goes_on_after_a_malformed_message(rt: HostRuntime) -> Result<(), Fail>
     assert_equal!(&rt, answer, Ok(Status::Fine));
     let mut wanted = Vec::new(alloc);
     for text in texts {
-        wanted.extend_from_slice(text.as_bytes())?;
+        unwrap(&rt, wanted.extend_from_slice(text.as_bytes()));
     }
     assert_equal!(&rt, written.as_slice(), wanted.as_slice());
-    Ok(())
 }
 
 #[test]
@@ -243,7 +252,7 @@ fn stream_of_no_messages_shows_nothing(rt: HostRuntime) {
 }
 
 #[test]
-fn stream_tells_that_it_is_cut_off(rt: HostRuntime) -> Result<(), Fail> {
+fn stream_tells_that_it_is_cut_off(rt: HostRuntime) {
     let alloc = rt.alloc();
     // (part of a length, lengths of more octets than there are, and one that would be 12 with its octets swapped)
     let rests = [
@@ -257,11 +266,10 @@ fn stream_tells_that_it_is_cut_off(rt: HostRuntime) -> Result<(), Fail> {
         assert_equal!(&rt, answer, Ok(Status::Refused));
         let cut = "unexpected end of input\n";
         assert_equal!(&rt, written.as_slice(), cut.as_bytes());
-        let stream = joined(alloc, &[&[0, 12], &[0; 12], rest])?;
+        let stream = unwrap(&rt, joined(alloc, &[&[0, 12], &[0; 12], rest]));
         let (answer, written) = ran(alloc, "stream", stream.as_slice());
         assert_equal!(&rt, answer, Ok(Status::Refused));
         let cut = "id 0 opcode 0 rcode 0 flags\n\nunexpected end of input\n";
         assert_equal!(&rt, written.as_slice(), cut.as_bytes());
     }
-    Ok(())
 }

@@ -1,4 +1,5 @@
 //! Each format once: octets, and what they say.
+use crate::tests::unwrap;
 use octseq::compose::ComposeError;
 use octseq::{Array, AsOctets, Malformed, Parser, Turns};
 use octseq_asserts::assert_equal;
@@ -11,72 +12,70 @@ use octseq_format::{
 use std::alloc::AllocGlobal;
 use std::fmt::Debug;
 use std::process::Abort;
-use std::test::Fail;
 
 /// Checks what a whole slice says by a format, and that it is written back.
 fn is_said<'a, F: Format<&'a [u8]>>(
     rt: &(impl AllocGlobal + Abort),
     octets: &'a [u8],
     wanted: F::Value,
-) -> Result<(), Fail>
+)
 where
     F::Value: PartialEq + Debug,
 {
-    let value = F::parse_whole(octets)?;
+    let value = unwrap(rt, F::parse_whole(octets));
     assert_equal!(rt, value, wanted);
-    let written: Vec<u8> = F::compose_whole(rt.alloc(), &value)?;
+    let written: Vec<u8> = unwrap(rt, F::compose_whole(rt.alloc(), &value));
     assert_equal!(rt, written.as_slice(), octets);
-    Ok(())
 }
 
 #[test]
-fn integers_are_big_endian(rt: HostRuntime) -> Result<(), Fail> {
-    is_said::<U8>(&rt, b"\x81", 0x81)?;
-    is_said::<U16Be>(&rt, b"\x81\x02", 0x8102)?;
-    is_said::<U24Be>(&rt, b"\x81\x02\x03", 0x81_0203)?;
-    is_said::<U32Be>(&rt, b"\x81\x02\x03\x04", 0x8102_0304)?;
-    is_said::<U48Be>(&rt, b"\x81\x02\x03\x04\x05\x06", 0x8102_0304_0506)?;
+fn integers_are_big_endian(rt: HostRuntime) {
+    is_said::<U8>(&rt, b"\x81", 0x81);
+    is_said::<U16Be>(&rt, b"\x81\x02", 0x8102);
+    is_said::<U24Be>(&rt, b"\x81\x02\x03", 0x81_0203);
+    is_said::<U32Be>(&rt, b"\x81\x02\x03\x04", 0x8102_0304);
+    is_said::<U48Be>(&rt, b"\x81\x02\x03\x04\x05\x06", 0x8102_0304_0506);
     is_said::<U64Be>(
         &rt,
         b"\x81\x02\x03\x04\x05\x06\x07\x08",
         0x8102_0304_0506_0708,
-    )?;
-    is_said::<U128Be>(&rt, b"\0\0\0\0\0\0\0\0\0\0\0\0\0\0\x01\x02", 0x0102)
+    );
+    is_said::<U128Be>(&rt, b"\0\0\0\0\0\0\0\0\0\0\0\0\0\0\x01\x02", 0x0102);
 }
 
 #[test]
-fn integers_are_little_endian(rt: HostRuntime) -> Result<(), Fail> {
-    is_said::<U16Le>(&rt, b"\x02\x81", 0x8102)?;
-    is_said::<U24Le>(&rt, b"\x03\x02\x81", 0x81_0203)?;
-    is_said::<U32Le>(&rt, b"\x04\x03\x02\x81", 0x8102_0304)?;
-    is_said::<U48Le>(&rt, b"\x06\x05\x04\x03\x02\x81", 0x8102_0304_0506)?;
+fn integers_are_little_endian(rt: HostRuntime) {
+    is_said::<U16Le>(&rt, b"\x02\x81", 0x8102);
+    is_said::<U24Le>(&rt, b"\x03\x02\x81", 0x81_0203);
+    is_said::<U32Le>(&rt, b"\x04\x03\x02\x81", 0x8102_0304);
+    is_said::<U48Le>(&rt, b"\x06\x05\x04\x03\x02\x81", 0x8102_0304_0506);
     is_said::<U64Le>(
         &rt,
         b"\x08\x07\x06\x05\x04\x03\x02\x81",
         0x8102_0304_0506_0708,
-    )?;
-    is_said::<U128Le>(&rt, b"\x02\x01\0\0\0\0\0\0\0\0\0\0\0\0\0\0", 0x0102)
+    );
+    is_said::<U128Le>(&rt, b"\x02\x01\0\0\0\0\0\0\0\0\0\0\0\0\0\0", 0x0102);
 }
 
 #[test]
-fn integers_may_be_signed(rt: HostRuntime) -> Result<(), Fail> {
-    is_said::<I8>(&rt, b"\xFE", -2)?;
-    is_said::<I16Be>(&rt, b"\xFF\xFE", -2)?;
-    is_said::<I16Le>(&rt, b"\xFE\xFF", -2)?;
-    is_said::<I32Be>(&rt, b"\xFF\xFF\xFF\xFE", -2)?;
-    is_said::<I32Le>(&rt, b"\xFE\xFF\xFF\xFF", -2)?;
-    is_said::<I64Be>(&rt, b"\xFF\xFF\xFF\xFF\xFF\xFF\xFF\xFE", -2)?;
-    is_said::<I64Le>(&rt, b"\xFE\xFF\xFF\xFF\xFF\xFF\xFF\xFF", -2)?;
+fn integers_may_be_signed(rt: HostRuntime) {
+    is_said::<I8>(&rt, b"\xFE", -2);
+    is_said::<I16Be>(&rt, b"\xFF\xFE", -2);
+    is_said::<I16Le>(&rt, b"\xFE\xFF", -2);
+    is_said::<I32Be>(&rt, b"\xFF\xFF\xFF\xFE", -2);
+    is_said::<I32Le>(&rt, b"\xFE\xFF\xFF\xFF", -2);
+    is_said::<I64Be>(&rt, b"\xFF\xFF\xFF\xFF\xFF\xFF\xFF\xFE", -2);
+    is_said::<I64Le>(&rt, b"\xFE\xFF\xFF\xFF\xFF\xFF\xFF\xFF", -2);
     is_said::<I128Be>(
         &rt,
         b"\xFF\xFF\xFF\xFF\xFF\xFF\xFF\xFF\xFF\xFF\xFF\xFF\xFF\xFF\xFF\xFE",
         -2,
-    )?;
+    );
     is_said::<I128Le>(
         &rt,
         b"\xFE\xFF\xFF\xFF\xFF\xFF\xFF\xFF\xFF\xFF\xFF\xFF\xFF\xFF\xFF\xFF",
         -2,
-    )
+    );
 }
 
 /// A known version.
@@ -93,14 +92,14 @@ impl Test for Known {
 }
 
 #[test]
-fn a_number_may_be_fixed_or_tested(rt: HostRuntime) -> Result<(), Fail> {
-    is_said::<Exactly<u16, 258>>(&rt, b"\x01\x02", ())?;
+fn a_number_may_be_fixed_or_tested(rt: HostRuntime) {
+    is_said::<Exactly<u16, 258>>(&rt, b"\x01\x02", ());
     assert_equal!(
         &rt,
         <Exactly<u16, 258> as Format<&[u8]>>::parse_whole(b"\x01\x03".as_slice()),
         Err(Malformed)
     );
-    is_said::<Where<u8, Known>>(&rt, b"\x04", 4)?;
+    is_said::<Where<u8, Known>>(&rt, b"\x04", 4);
     assert_equal!(
         &rt,
         <Where<u8, Known> as Format<&[u8]>>::parse_whole(b"\x03".as_slice()),
@@ -111,20 +110,19 @@ fn a_number_may_be_fixed_or_tested(rt: HostRuntime) -> Result<(), Fail> {
         &3,
     );
     assert_equal!(&rt, written.is_err(), true);
-    Ok(())
 }
 
 /// The flags of a DNS message: a response, an opcode, three flags, another one, three zero bits, and an rcode.
 type DnsFlags = (Flag, (Low<4>, Flag, Flag), (Flag, Flag, Low<3>, Low<4>));
 
 #[test]
-fn a_number_may_be_bits(rt: HostRuntime) -> Result<(), Fail> {
-    is_said::<Bits<u8, (Low<2>, Low<3>, Low<3>)>>(&rt, b"\x23", (0, 4, 3))?;
+fn a_number_may_be_bits(rt: HostRuntime) {
+    is_said::<Bits<u8, (Low<2>, Low<3>, Low<3>)>>(&rt, b"\x23", (0, 4, 3));
     is_said::<Bits<u16, DnsFlags>>(
         &rt,
         b"\x85\x83",
         (true, (0, true, false), (true, true, 0, 3)),
-    )?;
+    );
     let value = <Bits<u8, (Low<2>, Low<3>)> as Format<&[u8]>>::parse_whole(b"\x1F".as_slice());
     assert_equal!(&rt, value, Ok((3, 7)));
     let refused = <Bits<u8, (Low<2>, Low<3>)> as Format<&[u8]>>::parse_whole(b"\x20".as_slice());
@@ -134,7 +132,6 @@ fn a_number_may_be_bits(rt: HostRuntime) -> Result<(), Fail> {
         &(4, 0),
     );
     assert_equal!(&rt, written, Err(ComposeError::TooLong));
-    Ok(())
 }
 
 /// Returns the sum of the first `count` numbers, and how many octets are left.
@@ -148,7 +145,7 @@ fn sum_of<R: AsOctets + Copy>(octets: R, count: usize) -> Result<(u64, usize), M
 }
 
 #[test]
-fn a_count_may_come_from_elsewhere(rt: HostRuntime) -> Result<(), Fail> {
+fn a_count_may_come_from_elsewhere(rt: HostRuntime) {
     assert_equal!(
         &rt,
         sum_of(b"\0\x01\0\x02\0\x04\x09".as_slice(), 2),
@@ -160,20 +157,21 @@ fn a_count_may_come_from_elsewhere(rt: HostRuntime) -> Result<(), Fail> {
         Err(Malformed)
     );
     assert_equal!(&rt, sum_of(b"\x09".as_slice(), 0), Ok((0, 1)));
-    Ok(())
 }
 
 #[test]
-fn values_may_be_in_a_slice(rt: HostRuntime) -> Result<(), Fail> {
+fn values_may_be_in_a_slice(rt: HostRuntime) {
     let mut octets = Array::<5>::new();
-    append_all::<&[u8], U16Be, _>(&mut octets, &[1, 0x0203])?;
+    unwrap(
+        &rt,
+        append_all::<&[u8], U16Be, _>(&mut octets, &[1, 0x0203]),
+    );
     assert_equal!(&rt, octets.as_slice(), b"\0\x01\x02\x03");
     let short = append_all::<&[u8], U16Be, _>(&mut octets, &[4]);
     assert_equal!(&rt, short, Err(ComposeError::Short));
     let long = append_all::<&[u8], U24Be, _>(&mut octets, &[0x100_0000]);
     assert_equal!(&rt, long, Err(ComposeError::TooLong));
     assert_equal!(&rt, octets.as_slice(), b"\0\x01\x02\x03");
-    Ok(())
 }
 
 /// Returns the lengths of the first zero-terminated texts in all the octets, and how many texts are left.
@@ -192,8 +190,8 @@ fn len_of_text<R: AsOctets + Copy>(octets: R) -> Result<usize, Malformed> {
 }
 
 #[test]
-fn octets_may_be_a_text_or_many(rt: HostRuntime) -> Result<(), Fail> {
-    is_said::<Octets<3>>(&rt, b"abc", *b"abc")?;
+fn octets_may_be_a_text_or_many(rt: HostRuntime) {
+    is_said::<Octets<3>>(&rt, b"abc", *b"abc");
     assert_equal!(&rt, len_of_text("h\u{e9}".as_bytes()), Ok(3));
     assert_equal!(&rt, len_of_text(b"h\xC3".as_slice()), Err(Malformed));
     assert_equal!(
@@ -202,16 +200,14 @@ fn octets_may_be_a_text_or_many(rt: HostRuntime) -> Result<(), Fail> {
         Ok((Some(1), Some(0), 1))
     );
     assert_equal!(&rt, lens_of(b"a\0b".as_slice()), Err(Malformed));
-    Ok(())
 }
 
 #[test]
-fn a_thing_at_the_end_may_be_left_out(rt: HostRuntime) -> Result<(), Fail> {
-    is_said::<(U8, Optional<U16Be>)>(&rt, b"\x01", (1, None))?;
-    is_said::<(U8, Optional<U16Be>)>(&rt, b"\x01\0\x02", (1, Some(2)))?;
+fn a_thing_at_the_end_may_be_left_out(rt: HostRuntime) {
+    is_said::<(U8, Optional<U16Be>)>(&rt, b"\x01", (1, None));
+    is_said::<(U8, Optional<U16Be>)>(&rt, b"\x01\0\x02", (1, Some(2)));
     let refused = <(U8, Optional<U16Be>) as Format<&[u8]>>::parse_whole(b"\x01\0".as_slice());
     assert_equal!(&rt, refused, Err(Malformed));
-    Ok(())
 }
 
 /// Whether what was read is written as the octets it was read from.
@@ -229,10 +225,10 @@ fn what_is_said_in_one_way_is_copied(rt: HostRuntime) {
 }
 
 #[test]
-fn a_tag_tells_what_comes(rt: HostRuntime) -> Result<(), Fail> {
-    is_said::<Tagged<u8, Case<1, U8, Others<U16Be>>>>(&rt, b"\x01\x07", Either::This(7))?;
-    is_said::<Tagged<u8, Case<1, U8, Others<U16Be>>>>(&rt, b"\x02\0\x07", Either::Other((2, 7)))?;
-    is_said::<Tagged<u8, Case<1, U8, Last<2, U16Be>>>>(&rt, b"\x02\0\x07", Either::Other(7))?;
+fn a_tag_tells_what_comes(rt: HostRuntime) {
+    is_said::<Tagged<u8, Case<1, U8, Others<U16Be>>>>(&rt, b"\x01\x07", Either::This(7));
+    is_said::<Tagged<u8, Case<1, U8, Others<U16Be>>>>(&rt, b"\x02\0\x07", Either::Other((2, 7)));
+    is_said::<Tagged<u8, Case<1, U8, Last<2, U16Be>>>>(&rt, b"\x02\0\x07", Either::Other(7));
     let refused = <Tagged<u8, Case<1, U8, Last<2, U16Be>>> as Format<&[u8]>>::parse_whole(
         b"\x03\0\x07".as_slice(),
     );
@@ -242,5 +238,4 @@ fn a_tag_tells_what_comes(rt: HostRuntime) -> Result<(), Fail> {
         &[u8],
     >>::compose_whole(rt.alloc(), &value);
     assert_equal!(&rt, written.is_err(), true);
-    Ok(())
 }

@@ -2,6 +2,7 @@
 //!
 //! `.ci/refused` runs these tests with their n-th request refused, for each n up to the last of them. A refusal ends a
 //! test with its error, once the test has checked what is there.
+use crate::tests::unwrap;
 use octseq::compose::ComposeError;
 use octseq::{AsOctets, Parser};
 use octseq_asserts::assert_equal;
@@ -9,14 +10,9 @@ use octseq_format::{Format, Of};
 use octseq_formats::tftp::Packet;
 use std::alloc::AllocGlobal;
 use std::process::Abort;
-use std::test::Fail;
 
 /// Appends a write request to a vector.
-fn append_request<H: AllocGlobal + Abort, R: AsOctets + Copy>(
-    rt: &H,
-    name: R,
-    mode: R,
-) -> Result<(), Fail> {
+fn append_request<H: AllocGlobal + Abort, R: AsOctets + Copy>(rt: &H, name: R, mode: R) {
     let packet = Packet::Write(Parser::from_ref(name), Parser::from_ref(mode));
     let mut content = Vec::new(rt.alloc());
     let appended = Of::<Packet<R>>::append(&mut content, &packet);
@@ -27,11 +23,11 @@ fn append_request<H: AllocGlobal + Abort, R: AsOctets + Copy>(
             assert_equal!(rt, content.len(), 0);
         }
     }
-    Ok(appended?)
+    unwrap(rt, appended);
 }
 
 #[test]
-fn a_packet_is_appended_or_not_at_all(rt: HostRuntime) -> Result<(), Fail> {
+fn a_packet_is_appended_or_not_at_all(rt: HostRuntime) {
     let name = b"a name of a file that is longer".as_slice();
-    append_request(&rt, name, b"octet".as_slice())
+    append_request(&rt, name, b"octet".as_slice());
 }

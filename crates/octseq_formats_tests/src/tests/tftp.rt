@@ -1,18 +1,18 @@
 //! TFTP packets, as tshark 4.0.17 reads them: packets of tcpdump's captures.
+use crate::tests::unwrap;
 use octseq::AsOctets;
 use octseq_asserts::assert_equal;
 use octseq_format::{Format, Of};
 use octseq_formats::tftp::Packet;
 use std::alloc::AllocGlobal;
 use std::process::Abort;
-use std::test::Fail;
 
 /// Reads all the octets, and writes the value back.
-fn read<H: AllocGlobal + Abort, R: AsOctets + Copy>(rt: &H, octets: R) -> Result<Packet<R>, Fail> {
-    let packet: Packet<R> = Of::parse_whole(octets)?;
-    let written: Vec<u8> = Of::<Packet<R>>::compose_whole(rt.alloc(), &packet)?;
+fn read<H: AllocGlobal + Abort, R: AsOctets + Copy>(rt: &H, octets: R) -> Packet<R> {
+    let packet: Packet<R> = unwrap(rt, Of::parse_whole(octets));
+    let written: Vec<u8> = unwrap(rt, Of::<Packet<R>>::compose_whole(rt.alloc(), &packet));
     assert_equal!(rt, written.as_slice(), octets.as_ref());
-    Ok(packet)
+    packet
 }
 
 /// Compares a read request.
@@ -21,37 +21,36 @@ fn is_request<H: AllocGlobal + Abort, R: AsOctets + Copy>(
     octets: R,
     wanted: (&[u8], &[u8]),
     places: (usize, usize),
-) -> Result<(), Fail> {
-    match read(rt, octets)? {
+) {
+    match read(rt, octets) {
         Packet::Read(name, mode) => {
             assert_equal!(rt, (name.peek_all(), mode.peek_all()), wanted);
             assert_equal!(rt, (name.pos(), mode.pos()), places);
         }
         _ => assert_equal!(rt, "another packet", "a request"),
     }
-    Ok(())
 }
 
 #[test]
-fn a_request_to_read_is_read(rt: HostRuntime) -> Result<(), Fail> {
+fn a_request_to_read_is_read(rt: HostRuntime) {
     let octets = b"\0\x01file1\0octet\0".as_slice();
-    is_request(&rt, octets, (b"file1", b"octet"), (2, 8))
+    is_request(&rt, octets, (b"file1", b"octet"), (2, 8));
 }
 
 /// Returns the number of a block and of its octets, or of an acknowledgment.
 fn block<H: AllocGlobal + Abort, R: AsOctets + Copy>(
     rt: &H,
     octets: R,
-) -> Result<Option<(u16, Option<usize>)>, Fail> {
-    match read(rt, octets)? {
-        Packet::Data(block, octets) => Ok(Some((block, Some(octets.remaining())))),
-        Packet::Acknowledgment(block) => Ok(Some((block, None))),
-        _ => Ok(None),
+) -> Option<(u16, Option<usize>)> {
+    match read(rt, octets) {
+        Packet::Data(block, octets) => Some((block, Some(octets.remaining()))),
+        Packet::Acknowledgment(block) => Some((block, None)),
+        _ => None,
     }
 }
 
 #[test]
-fn the_first_block_is_read(rt: HostRuntime) -> Result<(), Fail> {
+fn the_first_block_is_read(rt: HostRuntime) {
     let octets = b"\
 \x00\x03\x00\x01#! /bin/sh\x0A### BEGIN INIT INFO\x0A# Provides:          umountroot\x0A# Required-S\
 tart:\x0A# Required-Stop:\x0A# Should-Stop:       halt reboot kexec\x0A# Default-Start:\x0A# Default\
@@ -60,12 +59,11 @@ tart:\x0A# Required-Stop:\x0A# Should-Stop:       halt reboot kexec\x0A# Default
 \x0A\x09[ \x22$VERBOSE\x22 = no ] || log_action_begin_msg \x22Mounting root filesystem read-only\x22\
 \x0A\x09MOUNT_FORCE_OPT=\x0A\x09[ \x22$(uname -s)\x22 = \x22GNU/kFreeBSD\x22 ] && MOUNT_FORCE_OPT=-f\
 \x0A\x09# This:\x0A\x09#     mount";
-    assert_equal!(&rt, block(&rt, octets.as_slice())?, Some((1, Some(512))));
-    Ok(())
+    assert_equal!(&rt, block(&rt, octets.as_slice()), Some((1, Some(512))));
 }
 
 #[test]
-fn the_first_acknowledgment_is_read(rt: HostRuntime) -> Result<(), Fail> {
+fn the_first_acknowledgment_is_read(rt: HostRuntime) {
     assert_equal!(
         &rt,
         block(
@@ -73,14 +71,13 @@ fn the_first_acknowledgment_is_read(rt: HostRuntime) -> Result<(), Fail> {
             b"\
 \x00\x04\x00\x01"
                 .as_slice()
-        )?,
+        ),
         Some((1, None))
     );
-    Ok(())
 }
 
 #[test]
-fn the_second_block_is_read(rt: HostRuntime) -> Result<(), Fail> {
+fn the_second_block_is_read(rt: HostRuntime) {
     let octets = b"\
 \x00\x03\x00\x02 -n -o remount,ro /\x0A\x09# will act on a bind mount of / if there is one.\x0A\x09#\
 \x20See #339023 and the comment in checkroot.sh\x0A\x09mount    $MOUNT_FORCE_OPT -n -o remount,ro -t\
@@ -89,12 +86,11 @@ fn the_second_block_is_read(rt: HostRuntime) -> Result<(), Fail> {
 \x20       /\x0A\x09ES=$?\x0A\x09[ \x22$VERBOSE\x22 = no ] || log_action_end_msg $ES\x0A}\x0A\x0Acas\
 e \x22$1\x22 in\x0A  start|status)\x0A\x09# No-op\x0A\x09;;\x0A  restart|reload|force-reload)\x0A\
 \x09echo \x22Error: argument '$1' not s";
-    assert_equal!(&rt, block(&rt, octets.as_slice())?, Some((2, Some(512))));
-    Ok(())
+    assert_equal!(&rt, block(&rt, octets.as_slice()), Some((2, Some(512))));
 }
 
 #[test]
-fn the_second_acknowledgment_is_read(rt: HostRuntime) -> Result<(), Fail> {
+fn the_second_acknowledgment_is_read(rt: HostRuntime) {
     assert_equal!(
         &rt,
         block(
@@ -102,23 +98,21 @@ fn the_second_acknowledgment_is_read(rt: HostRuntime) -> Result<(), Fail> {
             b"\
 \x00\x04\x00\x02"
                 .as_slice()
-        )?,
+        ),
         Some((2, None))
     );
-    Ok(())
 }
 
 #[test]
-fn the_last_block_is_read(rt: HostRuntime) -> Result<(), Fail> {
+fn the_last_block_is_read(rt: HostRuntime) {
     let octets = b"\
 \x00\x03\x00\x03upported\x22 >&2\x0A\x09exit 3\x0A\x09;;\x0A  stop)\x0A\x09do_stop\x0A\x09;;\x0A  *)\
 \x0A\x09echo \x22Usage: $0 start|stop\x22 >&2\x0A\x09exit 3\x0A\x09;;\x0Aesac\x0A\x0A:\x0A";
-    assert_equal!(&rt, block(&rt, octets.as_slice())?, Some((3, Some(105))));
-    Ok(())
+    assert_equal!(&rt, block(&rt, octets.as_slice()), Some((3, Some(105))));
 }
 
 #[test]
-fn the_last_acknowledgment_is_read(rt: HostRuntime) -> Result<(), Fail> {
+fn the_last_acknowledgment_is_read(rt: HostRuntime) {
     assert_equal!(
         &rt,
         block(
@@ -126,10 +120,9 @@ fn the_last_acknowledgment_is_read(rt: HostRuntime) -> Result<(), Fail> {
             b"\
 \x00\x04\x00\x03"
                 .as_slice()
-        )?,
+        ),
         Some((3, None))
     );
-    Ok(())
 }
 
 /// Whether octets aren't a packet.

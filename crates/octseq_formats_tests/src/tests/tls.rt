@@ -1,21 +1,24 @@
 //! TLS records with a ClientHello made by OpenSSL, as tshark 4.0.17 reads them.
+use crate::tests::unwrap;
 use octseq::AsOctets;
 use octseq_asserts::assert_equal;
 use octseq_format::{Format, U16Be, Walk};
 use octseq_formats::tls::{Extension, Hello, Record};
 use std::alloc::AllocGlobal;
 use std::process::Abort;
-use std::test::Fail;
 
 /// Reads all the octets, and writes the value back.
-fn read<H: AllocGlobal + Abort, R: AsOctets + Copy>(rt: &H, octets: R) -> Result<Hello<R>, Fail> {
-    let value = <Record<R> as Format<R>>::parse_whole(octets)?;
-    let written: Vec<u8> = <Record<R> as Format<R>>::compose_whole(rt.alloc(), &value)?;
+fn read<H: AllocGlobal + Abort, R: AsOctets + Copy>(rt: &H, octets: R) -> Hello<R> {
+    let value = unwrap(rt, <Record<R> as Format<R>>::parse_whole(octets));
+    let written: Vec<u8> = unwrap(
+        rt,
+        <Record<R> as Format<R>>::compose_whole(rt.alloc(), &value),
+    );
     assert_equal!(rt, written.as_slice(), octets.as_ref());
     let (_handshake, version, (_client_hello, hello)) = value;
     assert_equal!(rt, (version, hello.version), (0x0301, 0x0303));
     assert_equal!(rt, hello.compression.peek_all(), [0].as_slice());
-    Ok(hello)
+    hello
 }
 
 /// Compares the cipher suites.
@@ -48,8 +51,8 @@ fn is_hello<H: AllocGlobal + Abort, R: AsOctets + Copy>(
     texts: (&[u8], &[u8]),
     suites: &[u16],
     extensions: &[u16],
-) -> Result<(), Fail> {
-    let hello = read(rt, octets)?;
+) {
+    let hello = read(rt, octets);
     assert_equal!(
         rt,
         (hello.random.as_slice(), hello.session.peek_all()),
@@ -57,11 +60,10 @@ fn is_hello<H: AllocGlobal + Abort, R: AsOctets + Copy>(
     );
     has_suites(rt, hello.suites, suites);
     has_extensions(rt, hello.extensions, extensions);
-    Ok(())
 }
 
 #[test]
-fn a_hello_for_example_com_is_read(rt: HostRuntime) -> Result<(), Fail> {
+fn a_hello_for_example_com_is_read(rt: HostRuntime) {
     let octets = b"\
 \x16\x03\x01\x02\x00\x01\x00\x01\xFC\x03\x03%\xBF]\x17\xFE&\xA2x\x0CG\xDC\x90\x05e\xDF\x19\xB0\x1B\
 \x0D\xB9:\xCD\x9E\xA8\x82}\xA3\xD7\xCC\x89\xC8\x96 \x8D\x9FXY%\x10\x0C\xAFq\xB6\x03\xB6\xE52\xCD\xD2\
@@ -98,11 +100,11 @@ y\x91OU\xCCQ\xA8\xE4V\xC8\x0D\x88\xAF\xD5\x8FB\x00$\x13\x02\x13\x03\x13\x01\xC0,
         (random, session),
         suites,
         extensions,
-    )
+    );
 }
 
 #[test]
-fn a_hello_without_a_name_is_read(rt: HostRuntime) -> Result<(), Fail> {
+fn a_hello_without_a_name_is_read(rt: HostRuntime) {
     let octets = b"\
 \x16\x03\x01\x02\x00\x01\x00\x01\xFC\x03\x03\x1C\xBF\x9DnN\x9A\x154\xFE\x0E\x95\x17\x08\xCC\x83\xBC\
 \x99\xA4;\xFC\x1D)\x1Er\x15j\x0E\xB8\xF6\xED\xC0\xCF \x17<l\x01\xF5\xD8D\xF1\x10\x96}\xA6\xF8\x90\
@@ -140,11 +142,11 @@ fn a_hello_without_a_name_is_read(rt: HostRuntime) -> Result<(), Fail> {
         (random, session),
         suites,
         extensions,
-    )
+    );
 }
 
 #[test]
-fn a_hello_of_tls_1_2_is_read(rt: HostRuntime) -> Result<(), Fail> {
+fn a_hello_of_tls_1_2_is_read(rt: HostRuntime) {
     let octets = b"\
 \x16\x03\x01\x00\xAF\x01\x00\x00\xAB\x03\x03\x85\x0F\xFE\x95L\x84\xC7\x07?\xA34\xEAN7+\xDE\xA4C\x06\
 \xCE\xD8&\xE3\x1E\xC5Uh\x06G\xC8S\xF8\x00\x00\x1E\xC0,\xC00\xC0+\xC0/\xCC\xA9\xCC\xA8\xC0$\xC0(\xC0#\
@@ -167,11 +169,11 @@ fn a_hello_of_tls_1_2_is_read(rt: HostRuntime) -> Result<(), Fail> {
         (random, session),
         suites,
         extensions,
-    )
+    );
 }
 
 #[test]
-fn a_hello_with_one_suite_is_read(rt: HostRuntime) -> Result<(), Fail> {
+fn a_hello_with_one_suite_is_read(rt: HostRuntime) {
     let octets = b"\
 \x16\x03\x01\x00\x86\x01\x00\x00\x82\x03\x03\x06\x0C3\xD0\xD5\x5C\xC9`\xA0\x8CoB(\x7F&\xA2\xC3\xE6\
 \xBF\x8E\x8ER\x97\x8A|\x8Eh\xE5bw\x90.\x00\x00\x04\x00/\x00\xFF\x01\x00\x00U\x00\x00\x00\x0E\x00\x0C\
@@ -189,5 +191,5 @@ fn a_hello_with_one_suite_is_read(rt: HostRuntime) -> Result<(), Fail> {
         (random, session),
         suites,
         extensions,
-    )
+    );
 }

@@ -1,11 +1,11 @@
 //! Files of records, read one at a time.
 use crate::tests::records::OTHER;
+use crate::tests::unwrap;
 use octseq_asserts::{assert_equal, assert_true};
 use octseq_mrt::{RecordError, RecordReader, read_record};
 use std::alloc::AllocGlobal;
 use std::io::{self, Error, ErrorKind, Read};
 use std::process::Abort;
-use std::test::Fail;
 
 /// A source that gives one octet at a time, stalls before each, and may fail at its end.
 #[derive(Drop)]
@@ -34,107 +34,98 @@ const TWO: &[u8] = b"\x65\x53\xF1\x00\0\x0C\0\x01\0\0\0\x02\x01\x02\
 \x65\x53\xF1\x00\0\x0C\0\x02\0\0\0\x02\x03\x04";
 
 #[test]
-fn records_are_read_one_at_a_time(rt: HostRuntime) -> Result<(), Fail> {
+fn records_are_read_one_at_a_time(rt: HostRuntime) {
     let mut records = RecordReader::new(rt.alloc(), TWO);
     assert_true!(&rt, records.record().is_err());
-    assert_true!(&rt, records.read_next()?);
+    assert_true!(&rt, unwrap(&rt, records.read_next()));
     assert_equal!(&rt, records.octets(), OTHER);
-    assert_equal!(&rt, records.record()?.header.subtype, 1);
+    assert_equal!(&rt, unwrap(&rt, records.record()).header.subtype, 1);
     assert_equal!(&rt, records.get_ref().len(), 14);
-    assert_true!(&rt, records.read_next()?);
-    assert_equal!(&rt, records.record()?.header.subtype, 2);
-    assert_true!(&rt, !records.read_next()?);
-    assert_true!(&rt, !records.read_next()?);
-    Ok(())
+    assert_true!(&rt, unwrap(&rt, records.read_next()));
+    assert_equal!(&rt, unwrap(&rt, records.record()).header.subtype, 2);
+    assert_true!(&rt, !unwrap(&rt, records.read_next()));
+    assert_true!(&rt, !unwrap(&rt, records.read_next()));
 }
 
 #[test]
-fn a_source_that_stalls_is_read(rt: HostRuntime) -> Result<(), Fail> {
+fn a_source_that_stalls_is_read(rt: HostRuntime) {
     let source = Slow {
         rest: TWO,
         is_ready: false,
         fails: true,
     };
     let mut records = RecordReader::new(rt.alloc(), source);
-    assert_true!(&rt, records.read_next()?);
-    assert_true!(&rt, records.read_next()?);
+    assert_true!(&rt, unwrap(&rt, records.read_next()));
+    assert_true!(&rt, unwrap(&rt, records.read_next()));
     assert_true!(
         &rt,
         matches!(records.read_next(), Err(RecordError::Read(_)))
     );
-    assert_true!(&rt, !records.read_next()?);
-    Ok(())
+    assert_true!(&rt, !unwrap(&rt, records.read_next()));
 }
 
 /// Checks how reading a truncated file ends.
-fn ends_short(rt: &(impl Abort + AllocGlobal), len: usize) -> Result<(), Fail> {
-    if len > TWO.len() {
-        return Err(Fail::from("too long"));
-    }
-    let mut records = RecordReader::new(rt.alloc(), &TWO[..len]);
+fn ends_short(rt: &(impl Abort + AllocGlobal), len: usize) {
+    let front = unwrap(rt, TWO.get(..len).ok_or("too long"));
+    let mut records = RecordReader::new(rt.alloc(), front);
     for _ in 0..len / 14 {
-        assert_true!(rt, records.read_next()?);
+        assert_true!(rt, unwrap(rt, records.read_next()));
     }
     if len % 14 > 0 {
         assert_true!(rt, matches!(records.read_next(), Err(RecordError::Short)));
     }
-    assert_true!(rt, !records.read_next()?);
-    Ok(())
+    assert_true!(rt, !unwrap(rt, records.read_next()));
 }
 
 #[test]
-fn a_file_that_is_cut_off_is_reported(rt: HostRuntime) -> Result<(), Fail> {
+fn a_file_that_is_cut_off_is_reported(rt: HostRuntime) {
     for len in 0..29 {
-        ends_short(&rt, len)?;
+        ends_short(&rt, len);
     }
-    Ok(())
 }
 
 /// Checks a source that fails after some octets.
-fn fails_after(rt: &(impl Abort + AllocGlobal), len: usize) -> Result<(), Fail> {
-    if len > TWO.len() {
-        return Err(Fail::from("too long"));
-    }
+fn fails_after(rt: &(impl Abort + AllocGlobal), len: usize) {
+    let front = unwrap(rt, TWO.get(..len).ok_or("too long"));
     let source = Slow {
-        rest: &TWO[..len],
+        rest: front,
         is_ready: false,
         fails: true,
     };
     let mut records = RecordReader::new(rt.alloc(), source);
     for _ in 0..len / 14 {
-        assert_true!(rt, records.read_next()?);
+        assert_true!(rt, unwrap(rt, records.read_next()));
     }
     assert_true!(rt, matches!(records.read_next(), Err(RecordError::Read(_))));
-    assert_true!(rt, !records.read_next()?);
-    Ok(())
+    assert_true!(rt, !unwrap(rt, records.read_next()));
 }
 
 #[test]
-fn a_read_that_fails_is_reported(rt: HostRuntime) -> Result<(), Fail> {
+fn a_read_that_fails_is_reported(rt: HostRuntime) {
     for len in 0..29 {
-        fails_after(&rt, len)?;
+        fails_after(&rt, len);
     }
-    Ok(())
 }
 
 #[test]
-fn a_header_alone_asks_for_little_memory(rt: HostRuntime) -> Result<(), Fail> {
+fn a_header_alone_asks_for_little_memory(rt: HostRuntime) {
     let header = b"\x65\x53\xF1\x00\0\x0C\0\x01\xFF\xFF\xFF\xFF\x01";
     let mut source = header.as_slice();
     let mut octets = Vec::new(rt.alloc());
     let found = read_record(&mut source, &mut octets);
     assert_true!(&rt, matches!(found, Err(RecordError::Short)));
     assert_true!(&rt, octets.capacity() < 262_144);
-    Ok(())
 }
 
 #[test]
-fn a_long_record_is_read(rt: HostRuntime) -> Result<(), Fail> {
-    let mut file = b"\x65\x53\xF1\x00\0\x0C\0\x01\0\x02\0\x01".to_vec(rt.alloc())?;
-    file.resize(12 + 131_073, 7)?;
+fn a_long_record_is_read(rt: HostRuntime) {
+    let mut file = unwrap(
+        &rt,
+        b"\x65\x53\xF1\x00\0\x0C\0\x01\0\x02\0\x01".to_vec(rt.alloc()),
+    );
+    unwrap(&rt, file.resize(12 + 131_073, 7));
     let mut records = RecordReader::new(rt.alloc(), file.as_slice());
-    assert_true!(&rt, records.read_next()?);
+    assert_true!(&rt, unwrap(&rt, records.read_next()));
     assert_equal!(&rt, records.octets(), file.as_slice());
-    assert_true!(&rt, !records.read_next()?);
-    Ok(())
+    assert_true!(&rt, !unwrap(&rt, records.read_next()));
 }

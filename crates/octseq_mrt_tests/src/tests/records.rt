@@ -1,5 +1,6 @@
 //! Records by their octets: where they end, and how many turns reading them takes.
-use octseq::{AsOctets, Parser, Turns};
+use crate::tests::unwrap;
+use octseq::{AsOctets, Malformed, Parser, Turns};
 use octseq_asserts::{assert_equal, assert_true};
 use octseq_bgp::{Afi, SessionConfig};
 use octseq_mrt::{
@@ -8,7 +9,6 @@ use octseq_mrt::{
 };
 use std::alloc::AllocGlobal;
 use std::process::Abort;
-use std::test::Fail;
 
 /// A record of a header of 12 octets and 2 more: RFC 6396, 2.
 pub const OTHER: &[u8] = b"\x65\x53\xF1\x00\0\x0C\0\x01\0\0\0\x02\x01\x02";
@@ -30,7 +30,7 @@ pub const KEEPALIVE: &[u8] = b"\x65\x53\xF1\x00\0\x11\0\x04\0\0\0\x2B\0\0\0\x7B\
 \xFF\xFF\xFF\xFF\xFF\xFF\xFF\xFF\xFF\xFF\xFF\xFF\xFF\xFF\xFF\xFF\0\x13\x04";
 
 /// Checks that neither fewer nor more octets are a record.
-fn is_whole(rt: &(impl Abort + AllocGlobal), octets: &[u8]) -> Result<(), Fail> {
+fn is_whole(rt: &(impl Abort + AllocGlobal), octets: &[u8]) {
     for len in 0..octets.len() {
         assert_true!(rt, Record::parse(&octets[..len]).is_err());
         let mut parser = Parser::from_ref(&octets[..len]);
@@ -38,40 +38,38 @@ fn is_whole(rt: &(impl Abort + AllocGlobal), octets: &[u8]) -> Result<(), Fail> 
         assert_equal!(rt, parser.pos(), 0);
     }
     assert_true!(rt, Record::parse(octets).is_ok());
-    let mut more = octets.to_vec(rt.alloc())?;
-    more.push(0)?;
+    let mut more = unwrap(rt, octets.to_vec(rt.alloc()));
+    unwrap(rt, more.push(0));
     assert_true!(rt, Record::parse(more.as_slice()).is_err());
-    Ok(())
 }
 
 #[test]
-fn records_end_where_their_headers_say(rt: HostRuntime) -> Result<(), Fail> {
+fn records_end_where_their_headers_say(rt: HostRuntime) {
     one_record();
     one_record_value();
-    is_whole(&rt, OTHER)?;
-    is_whole(&rt, PEERS)?;
-    is_whole(&rt, RIB)?;
-    is_whole(&rt, KEEPALIVE)
+    is_whole(&rt, OTHER);
+    is_whole(&rt, PEERS);
+    is_whole(&rt, RIB);
+    is_whole(&rt, KEEPALIVE);
 }
 
 #[test]
-fn records_follow_one_another(rt: HostRuntime) -> Result<(), Fail> {
-    let mut octets = OTHER.to_vec(rt.alloc())?;
-    octets.extend_from_slice(RIB)?;
+fn records_follow_one_another(rt: HostRuntime) {
+    let mut octets = unwrap(&rt, OTHER.to_vec(rt.alloc()));
+    unwrap(&rt, octets.extend_from_slice(RIB));
     let mut parser = Parser::from_ref(octets.as_slice());
     let mut ends = Vec::new(rt.alloc());
     for _ in 0..3 {
-        if let Some(record) = next_record(&mut parser)? {
-            ends.push((record.header.subtype, record.octets.pos()))?;
+        if let Some(record) = unwrap(&rt, next_record(&mut parser)) {
+            unwrap(&rt, ends.push((record.header.subtype, record.octets.pos())));
         }
     }
     assert_equal!(&rt, ends.as_slice(), &[(1, 12), (8, 26)]);
-    Ok(())
 }
 
 #[test]
-fn headers_are_read(rt: HostRuntime) -> Result<(), Fail> {
-    let header = CommonHeader::parse(&mut Parser::from_ref(OTHER))?;
+fn headers_are_read(rt: HostRuntime) {
+    let header = unwrap(&rt, CommonHeader::parse(&mut Parser::from_ref(OTHER)));
     let wanted = CommonHeader {
         timestamp: 1_700_000_000,
         type_code: 12,
@@ -79,28 +77,26 @@ fn headers_are_read(rt: HostRuntime) -> Result<(), Fail> {
         length: 2,
     };
     assert_equal!(&rt, header, wanted);
-    Ok(())
 }
 
 /// Whether a record has the form of its type, by the reading that counts turns.
-fn is_typed<R: AsOctets + Copy>(octets: R) -> Result<bool, Fail> {
+fn is_typed<R: AsOctets + Copy>(octets: R) -> Result<bool, Malformed> {
     let value = Record::parse(octets)?.value_counted(&mut Turns::new());
     Ok(!matches!(value, RecordValue::Opaque(_)))
 }
 
 #[test]
-fn readings_are_counted(rt: HostRuntime) -> Result<(), Fail> {
-    assert_true!(&rt, is_typed(PEERS)?);
-    assert_true!(&rt, is_typed(RIB)?);
-    assert_true!(&rt, is_typed(KEEPALIVE)?);
-    assert_true!(&rt, !is_typed(OTHER)?);
-    Ok(())
+fn readings_are_counted(rt: HostRuntime) {
+    assert_true!(&rt, unwrap(&rt, is_typed(PEERS)));
+    assert_true!(&rt, unwrap(&rt, is_typed(RIB)));
+    assert_true!(&rt, unwrap(&rt, is_typed(KEEPALIVE)));
+    assert_true!(&rt, !unwrap(&rt, is_typed(OTHER)));
 }
 
 /// Checks the parts of a RIB of IPv4.
-fn has_parts<R: AsOctets + Copy>(rt: &impl Abort, octets: R) -> Result<(), Fail> {
-    let RecordValue::Rib(rib) = Record::parse(octets)?.value() else {
-        return Err(Fail::from("no RIB"));
+fn has_parts<R: AsOctets + Copy>(rt: &impl Abort, octets: R) {
+    let RecordValue::Rib(rib) = unwrap(rt, Record::parse(octets)).value() else {
+        panic!(rt; "no RIB");
     };
     let prefix = rib.prefix().prefix();
     assert_equal!(rt, (prefix.afi, prefix.len), (Afi::Ipv4, 24));
@@ -110,7 +106,6 @@ fn has_parts<R: AsOctets + Copy>(rt: &impl Abort, octets: R) -> Result<(), Fail>
             is_next_hop(rt, &attribute);
         }
     }
-    Ok(())
 }
 
 /// Checks that an attribute is next hops exactly if it is an MP_REACH_NLRI.
@@ -123,26 +118,25 @@ fn is_next_hop<R: AsOctets + Copy>(rt: &impl Abort, attribute: &RibAttribute<R>)
 }
 
 #[test]
-fn a_rib_has_its_parts(rt: HostRuntime) -> Result<(), Fail> {
-    has_parts(&rt, RIB)
+fn a_rib_has_its_parts(rt: HostRuntime) {
+    has_parts(&rt, RIB);
 }
 
 /// Checks the message of a record, and its session.
-fn has_message<R: AsOctets + Copy>(rt: &impl Abort, octets: R) -> Result<(), Fail> {
-    let RecordValue::Bgp4Mp(it) = Record::parse(octets)?.value() else {
-        return Err(Fail::from("no BGP4MP"));
+fn has_message<R: AsOctets + Copy>(rt: &impl Abort, octets: R) {
+    let RecordValue::Bgp4Mp(it) = unwrap(rt, Record::parse(octets)).value() else {
+        panic!(rt; "no BGP4MP");
     };
     assert_equal!(rt, it.microseconds, Some(123));
     let Event::Message(message) = it.event else {
-        return Err(Fail::from("no message"));
+        panic!(rt; "no message");
     };
     assert_equal!(rt, message.session.four_octet_asn, true);
     assert_equal!(rt, message.session.extended_message, true);
     assert_true!(rt, message.message().is_ok());
-    Ok(())
 }
 
 #[test]
-fn a_message_has_its_session(rt: HostRuntime) -> Result<(), Fail> {
-    has_message(&rt, KEEPALIVE)
+fn a_message_has_its_session(rt: HostRuntime) {
+    has_message(&rt, KEEPALIVE);
 }

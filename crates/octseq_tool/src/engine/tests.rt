@@ -1,11 +1,10 @@
 use super::Command;
 use octseq_program::hostile::Drip;
 use octseq_program::{ProgramFault, Status, command_word, input_path};
-use std::alloc::Global;
+use std::alloc::{AllocError, Global};
 use std::fmt::Debug;
 use std::io::{self, Read, Write};
 use std::process::Abort;
-use std::test::Fail;
 
 /// Ends the test if two values differ. A call is proved in a tenth of the time of an `assert_eq!`.
 macro_rules! assert_equal {
@@ -23,6 +22,14 @@ macro_rules! assert_true {
 
 fn equal<T: PartialEq + Debug + Drop>(rt: &impl Abort, what: &str, left: T, right: T) {
     assert_eq!(rt; left, right, "{what}");
+}
+
+/// Returns the value of a result, or ends the test with its error.
+fn unwrap<T, E: Debug + Drop>(rt: &impl Abort, made: Result<T, E>) -> T {
+    match made {
+        Ok(value) => value,
+        Err(error) => panic!(rt; "error: {error:?}"),
+    }
 }
 
 mod hostile;
@@ -73,7 +80,7 @@ fn check_tells_what_it_read(rt: HostRuntime) {
 }
 
 #[test]
-fn one_argument_is_the_command(rt: HostRuntime) -> Result<(), Fail> {
+fn one_argument_is_the_command(rt: HostRuntime) {
     let alloc = rt.alloc();
     let cases = [
         ([].as_slice(), "check"),
@@ -87,7 +94,7 @@ fn one_argument_is_the_command(rt: HostRuntime) -> Result<(), Fail> {
     for (words, wanted) in cases {
         let mut args = Vec::new(alloc);
         for word in words {
-            args.push(String::from_str(alloc, word)?)?;
+            unwrap(&rt, args.push(unwrap(&rt, String::from_str(alloc, word))));
         }
         assert_equal!(&rt, command_word::<Command>(&args), wanted);
         let path = if words.len() == 3 {
@@ -97,7 +104,6 @@ fn one_argument_is_the_command(rt: HostRuntime) -> Result<(), Fail> {
         };
         assert_equal!(&rt, input_path(&args), path);
     }
-    Ok(())
 }
 
 /// Returns the result of a word that isn't a command, and what it writes to standard output and standard error, without
@@ -120,11 +126,11 @@ fn reported(alloc: Global, word: &str) -> (Result<Status, ProgramFault>, Vec<u8>
 }
 
 #[test]
-fn help_tells_commands_and_statuses(rt: HostRuntime) -> Result<(), Fail> {
+fn help_tells_commands_and_statuses(rt: HostRuntime) {
     let (answer, written, errors) = reported(rt.alloc(), "--help");
     assert_equal!(&rt, answer, Ok(Status::Fine));
     assert_true!(&rt, errors.is_empty());
-    let text = str::from_utf8(&written)?;
+    let text = unwrap(&rt, str::from_utf8(&written));
     for part in [
         "  check    ",
         "  lossy    ",
@@ -139,7 +145,6 @@ fn help_tells_commands_and_statuses(rt: HostRuntime) -> Result<(), Fail> {
     ] {
         assert_eq!(rt; text.contains(part), true, "{part}");
     }
-    Ok(())
 }
 
 #[test]
@@ -154,7 +159,7 @@ fn another_word_is_reported_on_standard_error(rt: HostRuntime) {
 }
 
 /// Octets, each repeated.
-fn repeated(alloc: Global, parts: &[(u8, usize)]) -> Result<Vec<u8>, Fail> {
+fn repeated(alloc: Global, parts: &[(u8, usize)]) -> Result<Vec<u8>, AllocError> {
     let mut octets = Vec::new(alloc);
     for (octet, count) in parts {
         for _ in 0..*count {
@@ -173,23 +178,23 @@ fn lossy_replaces(rt: HostRuntime) {
 }
 
 #[test]
-fn lossy64_holds_64_octets(rt: HostRuntime) -> Result<(), Fail> {
+fn lossy64_holds_64_octets(rt: HostRuntime) {
     let alloc = rt.alloc();
     let (answer, written) = ran(
         alloc,
         "lossy64",
-        repeated(alloc, &[(b'a', 1), (0xFF, 21)])?.as_slice(),
+        unwrap(&rt, repeated(alloc, &[(b'a', 1), (0xFF, 21)])).as_slice(),
     );
     assert_equal!(&rt, answer, Ok(Status::Fine));
     assert_equal!(&rt, written.len(), 64);
-    let mut wanted = String::from_str(alloc, "a")?;
+    let mut wanted = unwrap(&rt, String::from_str(alloc, "a"));
     for _ in 0..21 {
-        wanted.push(char::REPLACEMENT_CHARACTER)?;
+        unwrap(&rt, wanted.push(char::REPLACEMENT_CHARACTER));
     }
     assert_equal!(&rt, written.as_slice(), wanted.as_bytes());
     for long in [
-        repeated(alloc, &[(0xFF, 22)])?,
-        repeated(alloc, &[(b'a', 65)])?,
+        unwrap(&rt, repeated(alloc, &[(0xFF, 22)])),
+        unwrap(&rt, repeated(alloc, &[(b'a', 65)])),
     ] {
         let (answer, written) = ran(alloc, "lossy64", long.as_slice());
         assert_equal!(&rt, answer, Ok(Status::Refused));
@@ -199,7 +204,6 @@ fn lossy64_holds_64_octets(rt: HostRuntime) -> Result<(), Fail> {
             b"buffer size exceeded\n".as_slice(),
         );
     }
-    Ok(())
 }
 
 #[test]

@@ -1,4 +1,5 @@
 //! Calls written as in Rust: ranges, dereferences, `write!`, content that is overwritten, errors that are shown.
+use crate::tests::unwrap;
 use arrayvec::ArrayVec;
 use bytes::{Bytes, BytesMut};
 use octseq::array::Array;
@@ -16,7 +17,6 @@ use std::error::Error;
 use std::fmt::{self, Debug, Display, Write};
 use std::ops::RangeBounds;
 use std::process::Abort;
-use std::test::Fail;
 
 /// Returns the octets of a range, or `None` if it doesn't exist.
 fn cut<O: Octets, R: RangeBounds<usize>>(octets: O, range: R) -> Option<O::Range>
@@ -34,7 +34,7 @@ fn is_cut<R: RangeBounds<usize>>(rt: &impl Abort, range: R, wanted: Option<&[u8]
 }
 
 #[test]
-fn ranges_are_written_as_rusts(rt: HostRuntime) -> Result<(), Fail> {
+fn ranges_are_written_as_rusts(rt: HostRuntime) {
     is_cut(&rt, 1..3, Some(b"bc"));
     is_cut(&rt, 1..=3, Some(b"bcd"));
     is_cut(&rt, 2.., Some(b"cd"));
@@ -46,36 +46,33 @@ fn ranges_are_written_as_rusts(rt: HostRuntime) -> Result<(), Fail> {
     is_cut(&rt, 5.., None);
     is_cut(&rt, ..=4, None);
     assert_equal!(&rt, try_range(4, 1..=2), Some(1..3));
-    let shared = Bytes::copy_from_slice(rt.alloc(), b"abcd")?;
-    let inner = cut(&shared, 1..).ok_or("no range")?;
+    let shared = unwrap(&rt, Bytes::copy_from_slice(rt.alloc(), b"abcd"));
+    let inner = unwrap(&rt, cut(&shared, 1..).ok_or("no range"));
     assert_equal!(&rt, inner.as_slice(), b"bcd".as_slice());
-    Ok(())
 }
 
 #[test]
-fn parsers_begin_with_ranges_as_rusts(rt: HostRuntime) -> Result<(), Fail> {
+fn parsers_begin_with_ranges_as_rusts(rt: HostRuntime) {
     let octets = b"abcd".as_slice();
-    let parser = Parser::try_with_range(octets, 1..3).ok_or("no range")?;
+    let parser = unwrap(&rt, Parser::try_with_range(octets, 1..3).ok_or("no range"));
     assert_equal!(&rt, (parser.pos(), parser.len()), (1, 3));
-    let parser = Parser::try_with_range(octets, 2..).ok_or("no range")?;
+    let parser = unwrap(&rt, Parser::try_with_range(octets, 2..).ok_or("no range"));
     assert_equal!(&rt, parser.peek_all(), b"cd".as_slice());
     assert_true!(&rt, Parser::try_with_range(octets, ..=4).is_none());
     assert_equal!(&rt, parser.peek_u8(), Ok(b'c'));
     assert_equal!(&rt, parser.pos(), 2);
-    let end = Parser::try_with_range(octets, 4..).ok_or("no range")?;
+    let end = unwrap(&rt, Parser::try_with_range(octets, 4..).ok_or("no range"));
     assert_equal!(&rt, end.peek_u8(), Err(ShortInput));
-    Ok(())
 }
 
 #[test]
-fn arrays_are_slices(rt: HostRuntime) -> Result<(), Fail> {
-    let mut array = Array::<4>::try_from(b"abc".as_slice())?;
+fn arrays_are_slices(rt: HostRuntime) {
+    let mut array = unwrap(&rt, Array::<4>::try_from(b"abc".as_slice()));
     assert_equal!(&rt, array.len(), 3);
     assert_equal!(&rt, array.first(), Some(&b'a'));
     assert_true!(&rt, array.ends_with(b"bc"));
     array.reverse();
     assert_equal!(&rt, array.as_slice(), b"cba".as_slice());
-    Ok(())
 }
 
 /// A call that takes any text.
@@ -89,45 +86,48 @@ fn first_of<S: AsSlice<u8>>(octets: &S) -> Option<u8> {
 }
 
 #[test]
-fn calls_take_texts_and_arrays(rt: HostRuntime) -> Result<(), Fail> {
-    let text = StrBuilder::from_utf8("a€b".as_bytes())
-        .ok()
-        .ok_or("no text")?;
+fn calls_take_texts_and_arrays(rt: HostRuntime) {
+    let text = unwrap(
+        &rt,
+        StrBuilder::from_utf8("a€b".as_bytes())
+            .ok()
+            .ok_or("no text"),
+    );
     assert_equal!(&rt, (len_of(&text), first_of(&text)), (5, Some(b'a')));
     assert_equal!(&rt, Some(text).as_deref(), Some("a€b"));
-    let text = Str::from_utf8("é".as_bytes()).ok().ok_or("no text")?;
+    let text = unwrap(&rt, Str::from_utf8("é".as_bytes()).ok().ok_or("no text"));
     assert_equal!(&rt, (len_of(&text), first_of(&text)), (2, Some(0xC3)));
     assert_equal!(&rt, Some(text).as_deref(), Some("é"));
-    let array = Array::<4>::try_from(b"xy".as_slice())?;
+    let array = unwrap(&rt, Array::<4>::try_from(b"xy".as_slice()));
     assert_equal!(&rt, first_of(&array), Some(b'x'));
-    Ok(())
 }
 
 #[test]
-fn texts_are_strs(rt: HostRuntime) -> Result<(), Fail> {
-    let text = StrBuilder::from_utf8("a€b".as_bytes())
-        .ok()
-        .ok_or("no text")?;
+fn texts_are_strs(rt: HostRuntime) {
+    let text = unwrap(
+        &rt,
+        StrBuilder::from_utf8("a€b".as_bytes())
+            .ok()
+            .ok_or("no text"),
+    );
     assert_true!(&rt, text.starts_with("a€"));
     assert_equal!(&rt, text.find('b'), Some(4));
-    let text = Str::from_utf8(b"x, y".as_slice()).ok().ok_or("no text")?;
+    let text = unwrap(
+        &rt,
+        Str::from_utf8(b"x, y".as_slice()).ok().ok_or("no text"),
+    );
     assert_true!(&rt, text.contains(", "));
-    Ok(())
 }
 
 /// Checks that the octets of a builder are overwritten in place.
-fn is_written_over<B: AsOctetsMut, E: Debug + Drop>(
-    rt: &impl Abort,
-    made: Result<B, E>,
-) -> Result<(), Fail> {
-    let mut octets = made?;
+fn is_written_over<B: AsOctetsMut, E: Debug + Drop>(rt: &impl Abort, made: Result<B, E>) {
+    let mut octets = unwrap(rt, made);
     assert_equal!(rt, octets.len(), 3);
     assert_true!(rt, !octets.is_empty());
     if let Some(first) = octets.as_mut().first_mut() {
         *first = b'x';
     }
     assert_equal!(rt, octets.as_ref(), b"xbc".as_slice());
-    Ok(())
 }
 
 /// Makes a builder of a fixed size from octets.
@@ -138,14 +138,14 @@ fn fixed(octets: &[u8]) -> Result<ArrayVec<u8, 4>, AppendError> {
 }
 
 #[test]
-fn octets_are_written_over_in_place(rt: HostRuntime) -> Result<(), Fail> {
+fn octets_are_written_over_in_place(rt: HostRuntime) {
     let (alloc, slice) = (rt.alloc(), b"abc".as_slice());
-    is_written_over(&rt, slice.to_vec(alloc))?;
-    is_written_over::<_, AppendError>(&rt, Ok(&mut slice.to_vec(alloc)?))?;
-    is_written_over(&rt, BytesMut::copy_from_slice(alloc, slice))?;
-    is_written_over(&rt, SmallVec::<u8, 2>::from_slice(alloc, slice))?;
-    is_written_over(&rt, Array::<4>::try_from(slice))?;
-    is_written_over(&rt, fixed(slice))
+    is_written_over(&rt, slice.to_vec(alloc));
+    is_written_over::<_, AppendError>(&rt, Ok(&mut unwrap(&rt, slice.to_vec(alloc))));
+    is_written_over(&rt, BytesMut::copy_from_slice(alloc, slice));
+    is_written_over(&rt, SmallVec::<u8, 2>::from_slice(alloc, slice));
+    is_written_over(&rt, Array::<4>::try_from(slice));
+    is_written_over(&rt, fixed(slice));
 }
 
 /// A value that shows nothing, and returns an error.
@@ -170,23 +170,25 @@ impl Display for Unfinished {
 }
 
 #[test]
-fn values_are_written_to_texts(rt: HostRuntime) -> Result<(), Fail> {
-    let mut text = StrBuilder::<Array<8>>::new(rt.alloc())?;
+fn values_are_written_to_texts(rt: HostRuntime) {
+    let mut text = unwrap(&rt, StrBuilder::<Array<8>>::new(rt.alloc()));
     assert_true!(&rt, write!(text, "{}/{}", 12_u8, "é").is_ok());
     assert_equal!(&rt, text.as_str(), "12/é");
     assert_true!(&rt, write!(text, "{}", 1234_u16).is_err());
     assert_equal!(&rt, text.as_str(), "12/é");
-    Ok(())
 }
 
 #[test]
-fn values_are_pushed_whole_or_not_at_all(rt: HostRuntime) -> Result<(), Fail> {
-    let mut text = StrBuilder::<Array<8>>::new(rt.alloc())?;
+fn values_are_pushed_whole_or_not_at_all(rt: HostRuntime) {
+    let mut text = unwrap(&rt, StrBuilder::<Array<8>>::new(rt.alloc()));
     assert_equal!(&rt, text.try_push_display(4321_u16), Ok(()));
     assert_equal!(&rt, text.as_str(), "4321");
-    let fault = StrBuilder::from_utf8(b"\xFF".as_slice())
-        .err()
-        .ok_or("a text")?;
+    let fault = unwrap(
+        &rt,
+        StrBuilder::from_utf8(b"\xFF".as_slice())
+            .err()
+            .ok_or("a text"),
+    );
     assert_equal!(&rt, text.try_push_display(fault), Err(DisplayError::Short));
     assert_equal!(&rt, text.as_str(), "4321");
     for shown in [
@@ -196,7 +198,6 @@ fn values_are_pushed_whole_or_not_at_all(rt: HostRuntime) -> Result<(), Fail> {
         assert_equal!(&rt, shown, Err(DisplayError::Display));
     }
     assert_equal!(&rt, text.as_str(), "4321");
-    Ok(())
 }
 
 #[test]
@@ -211,25 +212,24 @@ fn octets_are_counted(rt: HostRuntime) {
 }
 
 /// Checks what an error prints, through the trait of errors.
-fn shows<E: Error>(rt: &impl Abort, alloc: Global, error: E, text: &str) -> Result<(), Fail> {
-    assert_equal!(rt, format!(in alloc; "{error}")?.as_str(), text);
-    Ok(())
+fn shows<E: Error>(rt: &impl Abort, alloc: Global, error: E, text: &str) {
+    assert_equal!(rt, unwrap(rt, format!(in alloc; "{error}")).as_str(), text);
 }
 
 #[test]
-fn errors_are_shown(rt: HostRuntime) -> Result<(), Fail> {
+fn errors_are_shown(rt: HostRuntime) {
     let (alloc, short, memory) = (rt.alloc(), "buffer size exceeded", "out of memory");
-    shows(&rt, alloc, ComposeError::TooLong, "long data")?;
-    shows(&rt, alloc, ComposeError::Short, short)?;
-    shows(&rt, alloc, ComposeError::Memory, memory)?;
-    shows(&rt, alloc, ReadError::Malformed, "malformed data")?;
-    shows(&rt, alloc, ReadError::Memory, memory)?;
-    shows(&rt, alloc, WriteError::Malformed, "malformed data")?;
-    shows(&rt, alloc, WriteError::Short, short)?;
-    shows(&rt, alloc, WriteError::Memory, memory)?;
-    shows(&rt, alloc, DisplayError::Short, short)?;
-    shows(&rt, alloc, DisplayError::Memory, memory)?;
-    shows(&rt, alloc, DisplayError::Display, "a value can't be shown")
+    shows(&rt, alloc, ComposeError::TooLong, "long data");
+    shows(&rt, alloc, ComposeError::Short, short);
+    shows(&rt, alloc, ComposeError::Memory, memory);
+    shows(&rt, alloc, ReadError::Malformed, "malformed data");
+    shows(&rt, alloc, ReadError::Memory, memory);
+    shows(&rt, alloc, WriteError::Malformed, "malformed data");
+    shows(&rt, alloc, WriteError::Short, short);
+    shows(&rt, alloc, WriteError::Memory, memory);
+    shows(&rt, alloc, DisplayError::Short, short);
+    shows(&rt, alloc, DisplayError::Memory, memory);
+    shows(&rt, alloc, DisplayError::Display, "a value can't be shown");
 }
 
 #[test]
@@ -277,12 +277,12 @@ fn integers_of_3_and_6_octets_are_read(rt: HostRuntime) {
 }
 
 #[test]
-fn integers_of_3_and_6_octets_are_appended(rt: HostRuntime) -> Result<(), Fail> {
+fn integers_of_3_and_6_octets_are_appended(rt: HostRuntime) {
     let mut octets = Array::<18>::new();
-    append_u24_be(&mut octets, 0x12_3456)?;
-    append_u24_le(&mut octets, 0x12_3456)?;
-    append_u48_be(&mut octets, 0x1234_5678_9ABC)?;
-    append_u48_le(&mut octets, 0x1234_5678_9ABC)?;
+    unwrap(&rt, append_u24_be(&mut octets, 0x12_3456));
+    unwrap(&rt, append_u24_le(&mut octets, 0x12_3456));
+    unwrap(&rt, append_u48_be(&mut octets, 0x1234_5678_9ABC));
+    unwrap(&rt, append_u48_le(&mut octets, 0x1234_5678_9ABC));
     let wanted = b"\x12\x34\x56\x56\x34\x12\x12\x34\x56\x78\x9A\xBC\xBC\x9A\x78\x56\x34\x12";
     assert_equal!(&rt, octets.as_slice(), wanted.as_slice());
     assert_equal!(&rt, append_u24_be(&mut octets, 0), Err(ComposeError::Short));
@@ -302,5 +302,4 @@ fn integers_of_3_and_6_octets_are_appended(rt: HostRuntime) -> Result<(), Fail> 
         Err(ComposeError::Short)
     );
     assert_equal!(&rt, octets.as_slice(), wanted.as_slice());
-    Ok(())
 }

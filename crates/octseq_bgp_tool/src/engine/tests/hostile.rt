@@ -1,13 +1,13 @@
 //! Writers that fail.
 use super::records::{NOTE, file, file_text};
 use super::{Command, UPDATE, UPDATE_TEXT, messages};
+use crate::engine::tests::unwrap;
 use octseq_program::engine::engine;
 use octseq_program::hostile::Narrow;
 use octseq_program::{ProgramFault, Status};
 use std::alloc::Global;
 use std::io;
 use std::process::Abort;
-use std::test::Fail;
 
 /// Makes a writer that takes seven octets at a time, and fails after some calls.
 fn narrow(alloc: Global, calls: usize) -> Narrow {
@@ -38,28 +38,26 @@ fn calls_needed(rt: &impl Abort, alloc: Global, word: &str, octets: &[u8], outpu
 }
 
 #[test]
-fn a_failed_write_leaves_a_front(rt: HostRuntime) -> Result<(), Fail> {
-    let update = messages(rt.alloc(), &[&UPDATE])?;
+fn a_failed_write_leaves_a_front(rt: HostRuntime) {
+    let update = unwrap(&rt, messages(rt.alloc(), &[&UPDATE]));
     let shown = UPDATE_TEXT.as_bytes();
     let needed = calls_needed(&rt, rt.alloc(), "message", &update, shown);
     assert_equal!(&rt, needed, shown.len().div_ceil(7) + 1);
-    let records = file(rt.alloc())?;
-    let text = file_text(rt.alloc())?;
+    let records = unwrap(&rt, file(rt.alloc()));
+    let text = unwrap(&rt, file_text(rt.alloc()));
     assert_true!(
         &rt,
         calls_needed(&rt, rt.alloc(), "mrt", &records, text.as_bytes()) < 256
     );
-    Ok(())
 }
 
 #[test]
-fn a_failed_note_is_a_failed_write(rt: HostRuntime) -> Result<(), Fail> {
-    let octets = file(rt.alloc())?;
+fn a_failed_note_is_a_failed_write(rt: HostRuntime) {
+    let octets = unwrap(&rt, file(rt.alloc()));
     let mut errors = narrow(rt.alloc(), 4);
     let (mut rest, output, notes) = (octets.as_slice(), &mut io::sink(), &mut errors);
     let answer = engine::<Command, _, _, _>(rt.alloc(), "mrt", &mut rest, output, notes);
     assert_equal!(&rt, answer, Err(ProgramFault::Write));
     let taken = errors.taken.as_slice();
     assert_equal!(&rt, NOTE.as_bytes().get(..taken.len()), Some(taken));
-    Ok(())
 }

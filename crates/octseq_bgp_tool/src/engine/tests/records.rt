@@ -1,9 +1,9 @@
 //! Files of records.
 use super::{KEEPALIVE, MARKER, joined, reported, shows};
+use crate::engine::tests::unwrap;
 use octseq_program::{ProgramFault, Status};
 use std::alloc::{AllocError, Global};
 use std::process::Abort;
-use std::test::Fail;
 
 /// Returns the header of a BGP4MP record of a subtype with this many octets after it.
 fn header(subtype: u8, len: u8) -> [u8; 12] {
@@ -57,28 +57,26 @@ pub(super) fn file_text(alloc: Global) -> Result<String, AllocError> {
 pub(super) const NOTE: &str = "message of record 3: malformed at octet 0\n";
 
 #[test]
-fn records_are_shown(rt: HostRuntime) -> Result<(), Fail> {
-    let octets = file(rt.alloc())?;
-    let text = file_text(rt.alloc())?;
+fn records_are_shown(rt: HostRuntime) {
+    let octets = unwrap(&rt, file(rt.alloc()));
+    let text = unwrap(&rt, file_text(rt.alloc()));
     shows(&rt, rt.alloc(), "mrt", &octets, Status::Fine, &text, NOTE);
     shows(&rt, rt.alloc(), "mrt", b"", Status::Fine, "", "");
-    Ok(())
 }
 
 #[test]
-fn messages_are_taken_as_they_are(rt: HostRuntime) -> Result<(), Fail> {
-    let octets = file(rt.alloc())?;
+fn messages_are_taken_as_they_are(rt: HostRuntime) {
+    let octets = unwrap(&rt, file(rt.alloc()));
     let it = reported(rt.alloc(), "messages", &octets, 7, usize::MAX);
     assert_equal!(&rt, it.answer, Ok(Status::Fine));
-    let stream = joined(rt.alloc(), &[&MARKER, &KEEPALIVE])?;
+    let stream = unwrap(&rt, joined(rt.alloc(), &[&MARKER, &KEEPALIVE]));
     assert_equal!(&rt, it.written.as_slice(), stream.as_slice());
     assert_equal!(&rt, it.errors.as_slice(), NOTE.as_bytes());
-    Ok(())
 }
 
 #[test]
-fn a_record_that_is_cut_off_is_reported(rt: HostRuntime) -> Result<(), Fail> {
-    let octets = joined(rt.alloc(), &[&header(5, 12), &OPAQUE])?;
+fn a_record_that_is_cut_off_is_reported(rt: HostRuntime) {
+    let octets = unwrap(&rt, joined(rt.alloc(), &[&header(5, 12), &OPAQUE]));
     for len in 1..octets.len() {
         let front = &octets[..len];
         let refused = Status::Refused;
@@ -93,18 +91,16 @@ fn a_record_that_is_cut_off_is_reported(rt: HostRuntime) -> Result<(), Fail> {
         );
         shows(&rt, rt.alloc(), "messages", front, refused, "", "");
     }
-    Ok(())
 }
 
 #[test]
-fn records_before_a_failed_read_are_shown(rt: HostRuntime) -> Result<(), Fail> {
-    let octets = file(rt.alloc())?;
+fn records_before_a_failed_read_are_shown(rt: HostRuntime) {
+    let octets = unwrap(&rt, file(rt.alloc()));
     // (a header and what follows it are read one after the other, and the third read fails)
     let it = reported(rt.alloc(), "mrt", &octets, usize::MAX, 2);
     assert_equal!(&rt, it.answer, Err(ProgramFault::Read));
-    let text = file_text(rt.alloc())?;
+    let text = unwrap(&rt, file_text(rt.alloc()));
     let first = text.as_bytes().get(..it.written.len());
     assert_equal!(&rt, Some(it.written.as_slice()), first);
     assert_true!(&rt, it.written.as_slice().ends_with(b"keepalive\n\n"));
-    Ok(())
 }

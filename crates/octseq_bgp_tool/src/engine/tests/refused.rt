@@ -4,6 +4,7 @@
 //! test with its error, once the test has checked that a front of the output was written.
 use super::records::{file, file_text};
 use super::{Command, KEEPALIVE, UPDATE, UPDATE_TEXT, messages};
+use crate::engine::tests::unwrap;
 use octseq::array::Array;
 use octseq_program::engine::engine;
 use octseq_program::hostile::Fixed;
@@ -11,16 +12,9 @@ use octseq_program::{ProgramFault, Status};
 use std::alloc::{AllocError, Global};
 use std::io;
 use std::process::Abort;
-use std::test::Fail;
 
 /// Runs a command, which writes its whole output, or a front of it if memory is refused.
-fn is_reported(
-    rt: &impl Abort,
-    alloc: Global,
-    word: &str,
-    octets: &[u8],
-    output: &[u8],
-) -> Result<(), Fail> {
+fn is_reported(rt: &impl Abort, alloc: Global, word: &str, octets: &[u8], output: &[u8]) {
     let mut writer = Fixed::<512> {
         taken: Array::new(),
     };
@@ -32,38 +26,37 @@ fn is_reported(
         Ok(status) => {
             assert_equal!(rt, status, Status::Fine);
             assert_equal!(rt, taken.len(), output.len());
-            Ok(())
         }
         Err(fault) => {
             assert_equal!(rt, fault, ProgramFault::Memory);
-            Err(Fail::from(AllocError))
+            unwrap(rt, Err(AllocError))
         }
     }
 }
 
 #[test]
-fn message_tells_all_or_nothing(rt: HostRuntime) -> Result<(), Fail> {
-    let octets = messages(rt.alloc(), &[&UPDATE])?;
-    is_reported(&rt, rt.alloc(), "message", &octets, UPDATE_TEXT.as_bytes())
+fn message_tells_all_or_nothing(rt: HostRuntime) {
+    let octets = unwrap(&rt, messages(rt.alloc(), &[&UPDATE]));
+    is_reported(&rt, rt.alloc(), "message", &octets, UPDATE_TEXT.as_bytes());
 }
 
 #[test]
-fn stream_tells_a_front(rt: HostRuntime) -> Result<(), Fail> {
-    let octets = messages(rt.alloc(), &[&KEEPALIVE, &[0, 19, 6]])?;
+fn stream_tells_a_front(rt: HostRuntime) {
+    let octets = unwrap(&rt, messages(rt.alloc(), &[&KEEPALIVE, &[0, 19, 6]]));
     is_reported(
         &rt,
         rt.alloc(),
         "stream",
         &octets,
         b"keepalive\n\nmalformed\n\n",
-    )
+    );
 }
 
 #[test]
-fn records_tell_a_front(rt: HostRuntime) -> Result<(), Fail> {
-    let octets = file(rt.alloc())?;
-    let text = file_text(rt.alloc())?;
-    is_reported(&rt, rt.alloc(), "mrt", &octets, text.as_bytes())
+fn records_tell_a_front(rt: HostRuntime) {
+    let octets = unwrap(&rt, file(rt.alloc()));
+    let text = unwrap(&rt, file_text(rt.alloc()));
+    is_reported(&rt, rt.alloc(), "mrt", &octets, text.as_bytes());
 }
 
 #[test]

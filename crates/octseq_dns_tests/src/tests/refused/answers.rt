@@ -1,24 +1,23 @@
 //! Answers to messages, OPT records and TXT data. What is refused leaves what was there unchanged, so the same call
 //! afterwards writes what it would have written.
 use super::super::dns_answers::push_opt;
+use crate::tests::unwrap;
 use octseq::AppendError;
 use octseq::error::WriteError;
 use octseq_asserts::{assert_equal, assert_true};
 use octseq_dns::edns::{PushOptError, UnknownOptData};
 use octseq_dns::txt::{append_strings, append_text};
 use octseq_dns::{Message, MessageBuilder, Rcode, Target};
-use std::test::Fail;
 
 #[test]
-fn an_answer_begins_or_not_at_all(rt: HostRuntime) -> Result<(), Fail> {
+fn an_answer_begins_or_not_at_all(rt: HostRuntime) {
     let octets = b"\x12\x34\x01\0\0\x01\0\0\0\0\0\0\x07example\x03com\0\0\x01\0\x01";
     let wanted = b"\x12\x34\x81\0\0\x01\0\0\0\0\0\0\x07example\x03com\0\0\x01\0\x01";
-    let request = Message::parse(octets.as_slice())?;
+    let request = unwrap(&rt, Message::parse(octets.as_slice()));
     let (octets, table) = (Vec::new(rt.alloc()), Vec::<Target>::new(rt.alloc()));
-    let message = MessageBuilder::from_builder(octets, table)?;
-    let answers = message.start_answer(&request, Rcode::NOERROR)?;
+    let message = unwrap(&rt, MessageBuilder::from_builder(octets, table));
+    let answers = unwrap(&rt, message.start_answer(&request, Rcode::NOERROR));
     assert_equal!(&rt, answers.as_slice(), wanted.as_slice());
-    Ok(())
 }
 
 /// A message with only an OPT record, which has padding of 40 octets.
@@ -26,9 +25,9 @@ const PADDED: &[u8] = b"\0\0\0\0\0\0\0\0\0\0\0\x01\0\0\x29\x04\xD0\x01\0\x80\0\0
 \0\0\0\0\0\0\0\0\0\0\0\0\0\0\0\0\0\0\0\0\0\0\0\0\0\0\0\0\0\0\0\0\0\0\0\0\0\0\0\0";
 
 #[test]
-fn a_record_of_edns_is_pushed_or_not_at_all(rt: HostRuntime) -> Result<(), Fail> {
+fn a_record_of_edns_is_pushed_or_not_at_all(rt: HostRuntime) {
     let (octets, table) = (Vec::new(rt.alloc()), Vec::<Target>::new(rt.alloc()));
-    let message = MessageBuilder::from_builder(octets, table)?;
+    let message = unwrap(&rt, MessageBuilder::from_builder(octets, table));
     let mut additionals = message.question().answer().authority().additional();
     let padding = UnknownOptData {
         code: 12,
@@ -39,37 +38,37 @@ fn a_record_of_edns_is_pushed_or_not_at_all(rt: HostRuntime) -> Result<(), Fail>
         assert_equal!(&rt, pushed, Err(PushOptError::Memory));
         assert_equal!(&rt, additionals.as_slice(), [0; 12].as_slice());
         assert_true!(&rt, !additionals.has_opt());
-        push_opt(&mut additionals, &[padding])?;
+        unwrap(&rt, push_opt(&mut additionals, &[padding]));
     }
     assert_equal!(&rt, additionals.as_slice(), PADDED);
-    Ok(pushed?)
+    unwrap(&rt, pushed);
 }
 
 #[test]
-fn strings_are_appended_or_not_at_all(rt: HostRuntime) -> Result<(), Fail> {
-    let mut octets = b"ab".to_vec(rt.alloc())?;
+fn strings_are_appended_or_not_at_all(rt: HostRuntime) {
+    let mut octets = unwrap(&rt, b"ab".to_vec(rt.alloc()));
     let strings = [b"0123456789".as_slice(), b"abcdefghijklmnopqrstuvwxyz", b""];
     let appended = append_strings(&mut octets, &strings);
     if appended.is_err() {
         assert_equal!(&rt, appended, Err(WriteError::Memory));
         assert_equal!(&rt, octets.as_slice(), b"ab".as_slice());
-        append_strings(&mut octets, &strings)?;
+        unwrap(&rt, append_strings(&mut octets, &strings));
     }
     let wanted = b"ab\x0A0123456789\x1Aabcdefghijklmnopqrstuvwxyz\0";
     assert_equal!(&rt, octets.as_slice(), wanted.as_slice());
-    Ok(appended?)
+    unwrap(&rt, appended);
 }
 
 #[test]
-fn a_text_is_appended_or_not_at_all(rt: HostRuntime) -> Result<(), Fail> {
+fn a_text_is_appended_or_not_at_all(rt: HostRuntime) {
     let mut octets = Vec::new(rt.alloc());
     let appended = append_text(&mut octets, &[b'x'; 256]);
     if appended.is_err() {
         assert_equal!(&rt, appended, Err(AppendError::Memory));
         assert_equal!(&rt, octets.as_slice(), b"".as_slice());
-        append_text(&mut octets, &[b'x'; 256])?;
+        unwrap(&rt, append_text(&mut octets, &[b'x'; 256]));
     }
     assert_equal!(&rt, octets.as_slice().get(..2), Some(b"\xFFx".as_slice()));
     assert_equal!(&rt, octets.as_slice().get(256..), Some(b"\x01x".as_slice()));
-    Ok(appended?)
+    unwrap(&rt, appended);
 }

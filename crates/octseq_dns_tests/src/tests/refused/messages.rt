@@ -1,11 +1,11 @@
 //! Messages: lists of their entries.
+use crate::tests::unwrap;
 use octseq::octets::Octets;
 use octseq_asserts::assert_equal;
 use octseq_dns::Message;
 use octseq_dns::message::Sections;
 use std::alloc::{AllocError, AllocGlobal};
 use std::process::Abort;
-use std::test::Fail;
 
 /// Two questions for the root, and an answer and an additional record of it.
 const ENTRIES: &[u8] =
@@ -13,20 +13,19 @@ const ENTRIES: &[u8] =
 \x00\x00\x01\x00\x01\x00\x00\x00\x3C\x00\x04\x01\x02\x03\x04\x00\x00\x29\x02\x00\x00\x00\x00\x00\x00\x00";
 
 /// Lists the entries. A refused list leaves the message unchanged.
-fn lists<R: Octets + Copy>(rt: &(impl Abort + AllocGlobal), octets: R) -> Result<(), Fail> {
-    let message = Message::parse(octets)?;
+fn lists<R: Octets + Copy>(rt: &(impl Abort + AllocGlobal), octets: R) {
+    let message = unwrap(rt, Message::parse(octets));
     let sections: Result<Sections<R>, AllocError> = message.collect(rt.alloc());
     let counts = message.header_counts();
     assert_equal!(rt, (counts.qdcount, counts.arcount), (2, 1));
     assert_equal!(rt, message.questions().count(), 2);
     assert_equal!(rt, message.additionals().count(), 1);
-    let sections = sections?;
+    let sections = unwrap(rt, sections);
     assert_equal!(rt, sections.questions.len(), 2);
     assert_equal!(rt, sections.additionals.len(), 1);
-    Ok(())
 }
 
 #[test]
-fn a_refused_list_leaves_the_message(rt: HostRuntime) -> Result<(), Fail> {
-    lists(&rt, ENTRIES)
+fn a_refused_list_leaves_the_message(rt: HostRuntime) {
+    lists(&rt, ENTRIES);
 }

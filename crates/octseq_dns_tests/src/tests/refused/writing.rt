@@ -1,18 +1,18 @@
 //! Messages that are written. A refused push leaves the message and the table unchanged, so the same push afterwards
 //! writes what it would have written.
 use super::super::dns_writing::has_targets;
+use crate::tests::unwrap;
 use arrayvec::ArrayVec;
 use bytes::BytesMut;
 use octseq::builder::AsOctetsMut;
 use octseq::{AppendError, Array, EmptyBuilder, OctetsBuilder, Truncate};
-use octseq_asserts::assert_equal;
+use octseq_asserts::{assert_equal, assert_true};
 use octseq_dns::{
     AdditionalBuilder, Class, Compressor, MessageBuilder, Name, QuestionBuilder, Rtype, Target,
     Ttl, UnknownRecordData,
 };
 use smallvec::SmallVec;
 use std::process::Abort;
-use std::test::Fail;
 
 /// Questions for `F.ISI.ARPA.`, `a.b.c.d.e.f.g.F.ISI.ARPA.` and `FOO.e.f.g.F.ISI.ARPA.`.
 const ASKED: &[u8] = b"\0\0\0\0\0\x03\0\0\0\0\0\0\x01F\x03ISI\x04ARPA\0\0\x01\0\x01\
@@ -24,17 +24,20 @@ fn ask<B: OctetsBuilder + Truncate + AsOctetsMut, T: Compressor>(
     questions: &mut QuestionBuilder<B, T>,
     text: &str,
     len: usize,
-) -> Result<Result<(), AppendError>, Fail> {
-    let name = Name::from_text(text)?;
+) -> Result<(), AppendError> {
+    let name = unwrap(rt, Name::from_text(text));
     let header = questions.header();
     let pushed = questions.push_question(&name.parsed(), Rtype::A, Class::IN);
     if pushed.is_err() {
         assert_equal!(rt, pushed, Err(AppendError::Memory));
         assert_equal!(rt, questions.as_slice().get(12..), ASKED.get(12..len));
         assert_equal!(rt, questions.header(), header);
-        questions.push_question(&name.parsed(), Rtype::A, Class::IN)?;
+        unwrap(
+            rt,
+            questions.push_question(&name.parsed(), Rtype::A, Class::IN),
+        );
     }
-    Ok(pushed)
+    pushed
 }
 
 /// Writes the questions, of which at most one is refused at first.
@@ -42,11 +45,11 @@ fn asks<B: OctetsBuilder + Truncate + AsOctetsMut, T: Compressor>(
     rt: &impl Abort,
     octets: B,
     table: T,
-) -> Result<(), Fail> {
-    let mut questions = MessageBuilder::from_builder(octets, table)?.question();
-    let first = ask(rt, &mut questions, "F.ISI.ARPA.", 12)?;
-    let second = ask(rt, &mut questions, "a.b.c.d.e.f.g.F.ISI.ARPA.", 28)?;
-    let third = ask(rt, &mut questions, "FOO.e.f.g.F.ISI.ARPA.", 48)?;
+) {
+    let mut questions = unwrap(rt, MessageBuilder::from_builder(octets, table)).question();
+    let first = ask(rt, &mut questions, "F.ISI.ARPA.", 12);
+    let second = ask(rt, &mut questions, "a.b.c.d.e.f.g.F.ISI.ARPA.", 28);
+    let third = ask(rt, &mut questions, "FOO.e.f.g.F.ISI.ARPA.", 48);
     let (octets, table) = questions.answer().authority().additional().finish();
     assert_equal!(rt, octets.as_ref(), ASKED);
     let wanted = [
@@ -63,22 +66,26 @@ fn asks<B: OctetsBuilder + Truncate + AsOctetsMut, T: Compressor>(
         (48, 2),
     ];
     has_targets(rt, &table, &wanted);
-    Ok(first.and(second).and(third)?)
+    unwrap(rt, first.and(second).and(third));
 }
 
 #[test]
-fn questions_are_pushed_or_not_at_all(rt: HostRuntime) -> Result<(), Fail> {
+fn questions_are_pushed_or_not_at_all(rt: HostRuntime) {
     let alloc = rt.alloc();
-    asks(&rt, Vec::new(alloc), Vec::new(alloc))?;
-    asks(&rt, Vec::new(alloc), ArrayVec::<Target, 11>::new())?;
-    asks(&rt, Array::<58>::new(), Vec::new(alloc))
+    asks(&rt, Vec::new(alloc), Vec::new(alloc));
+    asks(&rt, Vec::new(alloc), ArrayVec::<Target, 11>::new());
+    asks(&rt, Array::<58>::new(), Vec::new(alloc));
 }
 
 #[test]
-fn questions_are_pushed_to_other_buffers(rt: HostRuntime) -> Result<(), Fail> {
+fn questions_are_pushed_to_other_buffers(rt: HostRuntime) {
     let alloc = rt.alloc();
-    asks(&rt, BytesMut::empty(alloc)?, Vec::new(alloc))?;
-    asks(&rt, SmallVec::<u8, 16>::empty(alloc)?, Vec::new(alloc))
+    asks(&rt, unwrap(&rt, BytesMut::empty(alloc)), Vec::new(alloc));
+    asks(
+        &rt,
+        unwrap(&rt, SmallVec::<u8, 16>::empty(alloc)),
+        Vec::new(alloc),
+    );
 }
 
 /// Additional records of `a.b.c.d.e.f.` and `g.b.c.d.e.f.`.
@@ -93,8 +100,8 @@ fn add<B: OctetsBuilder + Truncate + AsOctetsMut, T: Compressor>(
     owner: &str,
     rdata: &[u8],
     len: usize,
-) -> Result<Result<(), AppendError>, Fail> {
-    let (name, ttl) = (Name::from_text(owner)?, Ttl::from_secs(60));
+) -> Result<(), AppendError> {
+    let (name, ttl) = (unwrap(rt, Name::from_text(owner)), Ttl::from_secs(60));
     let header = additionals.header();
     let rdata = UnknownRecordData::new(Rtype::TXT, rdata);
     let pushed = additionals.push_record(&name.parsed(), Class::IN, ttl, &rdata);
@@ -102,19 +109,25 @@ fn add<B: OctetsBuilder + Truncate + AsOctetsMut, T: Compressor>(
         assert_equal!(rt, pushed, Err(AppendError::Memory));
         assert_equal!(rt, additionals.as_slice().get(12..), ADDED.get(12..len));
         assert_equal!(rt, additionals.header(), header);
-        additionals.push_record(&name.parsed(), Class::IN, ttl, &rdata)?;
+        unwrap(
+            rt,
+            additionals.push_record(&name.parsed(), Class::IN, ttl, &rdata),
+        );
     }
-    Ok(pushed)
+    pushed
 }
 
 #[test]
-fn records_are_pushed_or_not_at_all(rt: HostRuntime) -> Result<(), Fail> {
+fn records_are_pushed_or_not_at_all(rt: HostRuntime) {
     let alloc = rt.alloc();
-    let message = MessageBuilder::from_builder(Vec::new(alloc), Vec::<Target>::new(alloc))?;
+    let message = unwrap(
+        &rt,
+        MessageBuilder::from_builder(Vec::new(alloc), Vec::<Target>::new(alloc)),
+    );
     let mut additionals = message.question().answer().authority().additional();
-    let first = add(&rt, &mut additionals, "a.b.c.d.e.f.", b"\x0A0123456789", 12)?;
+    let first = add(&rt, &mut additionals, "a.b.c.d.e.f.", b"\x0A0123456789", 12);
     let rdata = b"\x140123456789abcdefghij";
-    let second = add(&rt, &mut additionals, "g.b.c.d.e.f.", rdata, 46)?;
+    let second = add(&rt, &mut additionals, "g.b.c.d.e.f.", rdata, 46);
     let (octets, table) = additionals.finish();
     assert_equal!(&rt, octets.as_slice(), ADDED);
     let wanted = [
@@ -127,11 +140,11 @@ fn records_are_pushed_or_not_at_all(rt: HostRuntime) -> Result<(), Fail> {
         (46, 1),
     ];
     has_targets(&rt, &table, &wanted);
-    Ok(first.and(second)?)
+    unwrap(&rt, first.and(second));
 }
 
 #[test]
-fn a_target_is_added_or_the_table_stays(rt: HostRuntime) -> Result<(), Fail> {
+fn a_target_is_added_or_the_table_stays(rt: HostRuntime) {
     let mut table = Vec::new(rt.alloc());
     for at in [12, 14, 16, 18, 20, 22, 24, 26, 28] {
         let target = Target {
@@ -140,9 +153,7 @@ fn a_target_is_added_or_the_table_stays(rt: HostRuntime) -> Result<(), Fail> {
             pointers: 3,
         };
         let before = table.len();
-        if Compressor::is_full(&table) {
-            return Err("full".into());
-        }
+        assert_true!(&rt, !Compressor::is_full(&table));
         let added = Compressor::insert(&mut table, 0, target);
         let first = table.first().copied();
         if added.is_ok() {
@@ -154,7 +165,6 @@ fn a_target_is_added_or_the_table_stays(rt: HostRuntime) -> Result<(), Fail> {
         } else {
             assert_equal!(&rt, table.len(), before);
         }
-        added?;
+        unwrap(&rt, added);
     }
-    Ok(())
 }

@@ -1,11 +1,11 @@
 //! Hostile input, and streams that fail.
 use super::{REPLY, REPLY_TEXT, engine, joined, ran};
+use crate::engine::tests::unwrap;
 use octseq_program::hostile::{Drip, Faltering, Narrow};
 use octseq_program::{ProgramFault, Status};
-use std::alloc::Global;
+use std::alloc::{AllocError, Global};
 use std::io::ErrorKind;
 use std::process::Abort;
-use std::test::Fail;
 
 /// A message of zeros, preceded by its length.
 const BLANK: [u8; 14] = [0, 12, 0, 0, 0, 0, 0, 0, 0, 0, 0, 0, 0, 0];
@@ -112,9 +112,12 @@ fn nothing_is_written_after_a_failure(rt: HostRuntime) {
 }
 
 #[test]
-fn output_is_the_same_however_octets_are_read(rt: HostRuntime) -> Result<(), Fail> {
+fn output_is_the_same_however_octets_are_read(rt: HostRuntime) {
     let alloc = rt.alloc();
-    let stream = joined(alloc, &[&[0, 45], &REPLY, &BLANK, &[0, 11], &[0; 11], &[9]])?;
+    let stream = unwrap(
+        &rt,
+        joined(alloc, &[&[0, 45], &REPLY, &BLANK, &[0, 11], &[0; 11], &[9]]),
+    );
     let (answer, wanted) = ran(alloc, "stream", stream.as_slice());
     assert_equal!(&rt, answer, Ok(Status::Refused));
     for at_once in [2, 3, 45, 46, 47, usize::MAX] {
@@ -128,12 +131,11 @@ fn output_is_the_same_however_octets_are_read(rt: HostRuntime) -> Result<(), Fai
         assert_equal!(&rt, answer, Ok(Status::Refused));
         assert_equal!(&rt, written.as_slice(), wanted.as_slice());
     }
-    Ok(())
 }
 
 /// Makes a message of `size` octets: a header of zeros that counts one answer, which is of the root, of type 10 and
 /// class 1, and whose data is the rest of the octets, zeros too.
-fn message_of(alloc: Global, size: usize) -> Result<Vec<u8>, Fail> {
+fn message_of(alloc: Global, size: usize) -> Result<Vec<u8>, AllocError> {
     let head = [
         0, 0, 0, 0, 0, 0, 0, 1, 0, 0, 0, 0, 0, 0, 10, 0, 1, 0, 0, 0, 0,
     ];
@@ -144,9 +146,9 @@ fn message_of(alloc: Global, size: usize) -> Result<Vec<u8>, Fail> {
 }
 
 #[test]
-fn a_message_has_65535_octets_at_most(rt: HostRuntime) -> Result<(), Fail> {
+fn a_message_has_65535_octets_at_most(rt: HostRuntime) {
     let alloc = rt.alloc();
-    let longest = message_of(alloc, 65535)?;
+    let longest = unwrap(&rt, message_of(alloc, 65535));
     let (answer, written) = ran(alloc, "message", longest.as_slice());
     assert_equal!(&rt, answer, Ok(Status::Fine));
     assert_true!(
@@ -155,13 +157,12 @@ fn a_message_has_65535_octets_at_most(rt: HostRuntime) -> Result<(), Fail> {
             b"id 0 opcode 0 rcode 0 flags\nanswer . 0 IN TYPE10 \\# 65512 0000"
         )
     );
-    let stream = joined(alloc, &[&[0xFF, 0xFF], longest.as_slice()])?;
+    let stream = unwrap(&rt, joined(alloc, &[&[0xFF, 0xFF], longest.as_slice()]));
     let (answer, shown) = ran(alloc, "stream", stream.as_slice());
     assert_equal!(&rt, answer, Ok(Status::Fine));
     assert_equal!(&rt, shown.len(), written.len() + 1);
-    let longer = message_of(alloc, 65536)?;
+    let longer = unwrap(&rt, message_of(alloc, 65536));
     let (answer, written) = ran(alloc, "message", longer.as_slice());
     assert_equal!(&rt, answer, Ok(Status::Refused));
     assert_equal!(&rt, written.as_slice(), b"malformed\n".as_slice());
-    Ok(())
 }

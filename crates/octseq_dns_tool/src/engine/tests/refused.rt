@@ -4,13 +4,13 @@
 //! test with its error, once the test has checked that a front of the output was written.
 use super::{REPLY, REPLY_TEXT, engine};
 use crate::engine::Command;
+use crate::engine::tests::unwrap;
 use octseq::array::Array;
 use octseq_program::hostile::Fixed;
 use octseq_program::{ProgramFault, Status};
 use std::alloc::{AllocError, Global};
 use std::io;
 use std::process::Abort;
-use std::test::Fail;
 
 /// Runs a command, which writes its whole output, or a front of it if memory is refused.
 fn is_reported(
@@ -19,7 +19,7 @@ fn is_reported(
     command: &str,
     octets: &[u8],
     output: &[u8],
-) -> Result<Status, Fail> {
+) -> Status {
     let mut writer = Fixed::<128> {
         taken: Array::new(),
     };
@@ -27,44 +27,41 @@ fn is_reported(
     match answer {
         Ok(status) => {
             assert_equal!(rt, writer.taken.as_slice(), output);
-            Ok(status)
+            status
         }
         Err(fault) => {
             assert_equal!(rt, fault, ProgramFault::Memory);
             let taken = writer.taken.as_slice();
             assert_equal!(rt, output.get(..taken.len()), Some(taken));
-            Err(Fail::from(AllocError))
+            unwrap(rt, Err(AllocError))
         }
     }
 }
 
 #[test]
-fn message_tells_all_or_nothing(rt: HostRuntime) -> Result<(), Fail> {
+fn message_tells_all_or_nothing(rt: HostRuntime) {
     let alloc = rt.alloc();
-    is_reported(&rt, alloc, "message", &REPLY, REPLY_TEXT.as_bytes())?;
-    is_reported(&rt, alloc, "message", b"a", b"malformed\n")?;
-    Ok(())
+    is_reported(&rt, alloc, "message", &REPLY, REPLY_TEXT.as_bytes());
+    is_reported(&rt, alloc, "message", b"a", b"malformed\n");
 }
 
 #[test]
-fn stream_tells_a_front(rt: HostRuntime) -> Result<(), Fail> {
+fn stream_tells_a_front(rt: HostRuntime) {
     let octets = b"\0\x0C\0\0\0\0\0\0\0\0\0\0\0\0\0\x01\0\0\0\x02a";
     let text =
         b"id 0 opcode 0 rcode 0 flags\n\nmalformed\n\nmalformed\n\nunexpected end of input\n";
-    is_reported(&rt, rt.alloc(), "stream", octets, text)?;
-    Ok(())
+    is_reported(&rt, rt.alloc(), "stream", octets, text);
 }
 
 #[test]
-fn rewrite_tells_a_front(rt: HostRuntime) -> Result<(), Fail> {
+fn rewrite_tells_a_front(rt: HostRuntime) {
     let alloc = rt.alloc();
     let mut stream = Vec::new(alloc);
-    stream.extend_from_slice(&[0, 45])?;
-    stream.extend_from_slice(&REPLY)?;
+    unwrap(&rt, stream.extend_from_slice(&[0, 45]));
+    unwrap(&rt, stream.extend_from_slice(&REPLY));
     let octets = stream.as_slice();
-    is_reported(&rt, alloc, "rewrite", octets, octets)?;
-    is_reported(&rt, alloc, "rewrite", b"\0\x01a", b"")?;
-    Ok(())
+    is_reported(&rt, alloc, "rewrite", octets, octets);
+    is_reported(&rt, alloc, "rewrite", b"\0\x01a", b"");
 }
 
 #[test]

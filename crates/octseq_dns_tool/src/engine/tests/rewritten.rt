@@ -1,9 +1,9 @@
 //! Rewriting streams of messages.
 use super::{REPLY, joined, ran};
+use crate::engine::tests::unwrap;
 use octseq_program::Status;
-use std::alloc::Global;
+use std::alloc::{AllocError, Global};
 use std::process::Abort;
-use std::test::Fail;
 
 /// Returns a header that counts this many answers.
 fn header_of(answers: u8) -> [u8; 12] {
@@ -11,14 +11,14 @@ fn header_of(answers: u8) -> [u8; 12] {
 }
 
 /// Makes a message with one answer, of the root, with this type, class and data.
-fn message_of(alloc: Global, rtype: u8, class: u8, rdata: &[u8]) -> Result<Vec<u8>, Fail> {
+fn message_of(alloc: Global, rtype: u8, class: u8, rdata: &[u8]) -> Result<Vec<u8>, AllocError> {
     let len = u8::try_from(rdata.len()).unwrap_or(0);
     let fields = [0, 0, rtype, 0, class, 0, 0, 0, 0, 0, len];
     joined(alloc, &[&header_of(1), &fields, rdata])
 }
 
 /// Makes a stream of messages, each preceded by its length.
-fn stream_of(alloc: Global, messages: &[&[u8]]) -> Result<Vec<u8>, Fail> {
+fn stream_of(alloc: Global, messages: &[&[u8]]) -> Result<Vec<u8>, AllocError> {
     let mut stream = Vec::new(alloc);
     for message in messages {
         let len = u16::try_from(message.len()).unwrap_or(0);
@@ -35,20 +35,22 @@ fn is_rewritten(
     messages: &[&[u8]],
     status: Status,
     wanted: &[&[u8]],
-) -> Result<(), Fail> {
-    let stream = stream_of(alloc, messages)?;
+) {
+    let stream = unwrap(rt, stream_of(alloc, messages));
     let (answer, written) = ran(alloc, "rewrite", stream.as_slice());
     assert_equal!(rt, answer, Ok(status));
-    let wanted = stream_of(alloc, wanted)?;
+    let wanted = unwrap(rt, stream_of(alloc, wanted));
     assert_equal!(rt, written.as_slice(), wanted.as_slice());
-    Ok(())
 }
 
 #[test]
-fn names_are_compressed(rt: HostRuntime) -> Result<(), Fail> {
+fn names_are_compressed(rt: HostRuntime) {
     let alloc = rt.alloc();
     // (the reply, with the name of its answer uncompressed)
-    let plain = joined(alloc, &[&REPLY[..29], &REPLY[12..25], &REPLY[31..]])?;
+    let plain = unwrap(
+        &rt,
+        joined(alloc, &[&REPLY[..29], &REPLY[12..25], &REPLY[31..]]),
+    );
     let messages = [plain.as_slice(), &REPLY, &[0; 12]];
     is_rewritten(
         &rt,
@@ -56,17 +58,17 @@ fn names_are_compressed(rt: HostRuntime) -> Result<(), Fail> {
         &messages,
         Status::Fine,
         &[&REPLY, &REPLY, &[0; 12]],
-    )
+    );
 }
 
 #[test]
-fn what_is_malformed_is_left_out(rt: HostRuntime) -> Result<(), Fail> {
+fn what_is_malformed_is_left_out(rt: HostRuntime) {
     let messages = [&[0; 11], REPLY.as_slice(), &[]];
-    is_rewritten(&rt, rt.alloc(), &messages, Status::Refused, &[&REPLY])
+    is_rewritten(&rt, rt.alloc(), &messages, Status::Refused, &[&REPLY]);
 }
 
 #[test]
-fn data_that_may_have_pointers_is_left_out(rt: HostRuntime) -> Result<(), Fail> {
+fn data_that_may_have_pointers_is_left_out(rt: HostRuntime) {
     let alloc = rt.alloc();
     // (types whose data has names, with data that doesn't have their form)
     for (rtype, class) in [
@@ -79,15 +81,14 @@ fn data_that_may_have_pointers_is_left_out(rt: HostRuntime) -> Result<(), Fail> 
         (33, 1),
         (35, 4),
     ] {
-        let message = message_of(alloc, rtype, class, &[1, 0x61])?;
+        let message = unwrap(&rt, message_of(alloc, rtype, class, &[1, 0x61]));
         let messages = [message.as_slice(), &REPLY];
-        is_rewritten(&rt, alloc, &messages, Status::Refused, &[&REPLY])?;
+        is_rewritten(&rt, alloc, &messages, Status::Refused, &[&REPLY]);
     }
-    Ok(())
 }
 
 #[test]
-fn other_data_is_kept(rt: HostRuntime) -> Result<(), Fail> {
+fn other_data_is_kept(rt: HostRuntime) {
     let alloc = rt.alloc();
     // (types without names, SRV data of another class, and empty data)
     for (rtype, class, rdata) in [
@@ -99,15 +100,14 @@ fn other_data_is_kept(rt: HostRuntime) -> Result<(), Fail> {
         (2, 1, &[]),
         (35, 1, &[]),
     ] {
-        let message = message_of(alloc, rtype, class, rdata)?;
-        is_rewritten(&rt, alloc, &[&message], Status::Fine, &[&message])?;
+        let message = unwrap(&rt, message_of(alloc, rtype, class, rdata));
+        is_rewritten(&rt, alloc, &[&message], Status::Fine, &[&message]);
     }
-    Ok(())
 }
 
 /// Makes a message of 65,535 octets with two answers: the first is of the root, and its data begins with a name; the
 /// owner name of the second is a pointer to this name.
-fn longest(alloc: Global, name: &[u8]) -> Result<Vec<u8>, Fail> {
+fn longest(alloc: Global, name: &[u8]) -> Result<Vec<u8>, AllocError> {
     let first = [0, 0, 10, 0, 1, 0, 0, 0, 0, 0xFF, 0xDC];
     let second = [0xC0, 23, 0, 10, 0, 1, 0, 0, 0, 0, 0, 0];
     let mut message = joined(alloc, &[&header_of(2), &first, name])?;
@@ -117,37 +117,34 @@ fn longest(alloc: Global, name: &[u8]) -> Result<Vec<u8>, Fail> {
 }
 
 #[test]
-fn what_would_pass_65535_octets_is_left_out(rt: HostRuntime) -> Result<(), Fail> {
+fn what_would_pass_65535_octets_is_left_out(rt: HostRuntime) {
     let alloc = rt.alloc();
-    let message = longest(alloc, b"\x01a\0")?;
+    let message = unwrap(&rt, longest(alloc, b"\x01a\0"));
     assert_equal!(&rt, message.len(), 65_535);
-    is_rewritten(&rt, alloc, &[&message, &REPLY], Status::Refused, &[&REPLY])?;
-    let message = longest(alloc, b"\0")?;
-    let stream = stream_of(alloc, &[&message])?;
+    is_rewritten(&rt, alloc, &[&message, &REPLY], Status::Refused, &[&REPLY]);
+    let message = unwrap(&rt, longest(alloc, b"\0"));
+    let stream = unwrap(&rt, stream_of(alloc, &[&message]));
     let (answer, written) = ran(alloc, "rewrite", stream.as_slice());
     assert_equal!(&rt, answer, Ok(Status::Fine));
     assert_equal!(&rt, written.len(), 65_536);
-    Ok(())
 }
 
 /// Checks that only the reply is written of a stream of the reply and this rest, which is cut off.
-fn is_cut(rt: &impl Abort, alloc: Global, rest: &[u8]) -> Result<(), Fail> {
-    let whole = stream_of(alloc, &[&REPLY])?;
-    let stream = joined(alloc, &[whole.as_slice(), rest])?;
+fn is_cut(rt: &impl Abort, alloc: Global, rest: &[u8]) {
+    let whole = unwrap(rt, stream_of(alloc, &[&REPLY]));
+    let stream = unwrap(rt, joined(alloc, &[whole.as_slice(), rest]));
     let (answer, written) = ran(alloc, "rewrite", stream.as_slice());
     assert_equal!(rt, answer, Ok(Status::Refused));
     assert_equal!(rt, written.as_slice(), whole.as_slice());
-    Ok(())
 }
 
 #[test]
-fn a_stream_that_is_cut_off_is_written_as_far_as_it_goes(rt: HostRuntime) -> Result<(), Fail> {
+fn a_stream_that_is_cut_off_is_written_as_far_as_it_goes(rt: HostRuntime) {
     let alloc = rt.alloc();
     for rest in [[0].as_slice(), &[0, 1], &[0, 13, 0, 0]] {
-        is_cut(&rt, alloc, rest)?;
+        is_cut(&rt, alloc, rest);
     }
     let (answer, written) = ran(alloc, "rewrite", b"");
     assert_equal!(&rt, answer, Ok(Status::Fine));
     assert_true!(&rt, written.is_empty());
-    Ok(())
 }

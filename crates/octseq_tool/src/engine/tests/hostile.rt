@@ -1,14 +1,14 @@
 //! Hostile input, and streams that fail.
 use super::{engine, ran, repeated};
+use crate::engine::tests::unwrap;
 use octseq_program::hostile::{Drip, Faltering, Narrow};
 use octseq_program::{ProgramFault, Status};
-use std::alloc::Global;
+use std::alloc::{AllocError, Global};
 use std::io::{self, Error, ErrorKind, Read};
 use std::process::Abort;
-use std::test::Fail;
 
 /// Each octet once, in order.
-fn each_octet(alloc: Global) -> Result<Vec<u8>, Fail> {
+fn each_octet(alloc: Global) -> Result<Vec<u8>, AllocError> {
     let mut octets = Vec::new(alloc);
     for octet in 0..=255 {
         octets.push(octet)?;
@@ -17,9 +17,9 @@ fn each_octet(alloc: Global) -> Result<Vec<u8>, Fail> {
 }
 
 #[test]
-fn each_octet_once_is_reported_of(rt: HostRuntime) -> Result<(), Fail> {
+fn each_octet_once_is_reported_of(rt: HostRuntime) {
     let alloc = rt.alloc();
-    let octets = each_octet(alloc)?;
+    let octets = unwrap(&rt, each_octet(alloc));
     let (answer, written) = ran(alloc, "check", octets.as_slice());
     assert_equal!(&rt, answer, Ok(Status::Refused));
     let line = "invalid utf-8 sequence of 1 bytes from index 128\n";
@@ -28,9 +28,12 @@ fn each_octet_once_is_reported_of(rt: HostRuntime) -> Result<(), Fail> {
     assert_equal!(&rt, answer, Ok(Status::Fine));
     let mut wanted = Vec::new(alloc);
     for octet in 0..128 {
-        wanted.push(octet)?;
+        unwrap(&rt, wanted.push(octet));
     }
-    wanted.extend_from_slice("\u{FFFD}".as_bytes().repeat(alloc, 128)?.as_slice())?;
+    unwrap(
+        &rt,
+        wanted.extend_from_slice(unwrap(&rt, "\u{FFFD}".as_bytes().repeat(alloc, 128)).as_slice()),
+    );
     assert_equal!(&rt, wanted.len(), 512);
     assert_equal!(&rt, written.as_slice(), wanted.as_slice());
     let (answer, written) = ran(alloc, "lossy64", octets.as_slice());
@@ -40,19 +43,18 @@ fn each_octet_once_is_reported_of(rt: HostRuntime) -> Result<(), Fail> {
         written.as_slice(),
         b"buffer size exceeded\n".as_slice(),
     );
-    Ok(())
 }
 
 #[test]
-fn a_cut_end_counts_three_octets(rt: HostRuntime) -> Result<(), Fail> {
+fn a_cut_end_counts_three_octets(rt: HostRuntime) {
     let alloc = rt.alloc();
-    let fits = repeated(alloc, &[(b'a', 61), (0xC3, 1)])?;
+    let fits = unwrap(&rt, repeated(alloc, &[(b'a', 61), (0xC3, 1)]));
     let (answer, written) = ran(alloc, "lossy64", fits.as_slice());
     assert_equal!(&rt, answer, Ok(Status::Fine));
     assert_equal!(&rt, written.len(), 64);
     for long in [
-        repeated(alloc, &[(b'a', 62), (0xC3, 1)])?,
-        repeated(alloc, &[(b'a', 65)])?,
+        unwrap(&rt, repeated(alloc, &[(b'a', 62), (0xC3, 1)])),
+        unwrap(&rt, repeated(alloc, &[(b'a', 65)])),
     ] {
         let (answer, written) = ran(alloc, "lossy64", long.as_slice());
         assert_equal!(&rt, answer, Ok(Status::Refused));
@@ -62,11 +64,10 @@ fn a_cut_end_counts_three_octets(rt: HostRuntime) -> Result<(), Fail> {
             b"buffer size exceeded\n".as_slice(),
         );
     }
-    Ok(())
 }
 
 #[test]
-fn lossy_writes_the_same_however_octets_are_read(rt: HostRuntime) -> Result<(), Fail> {
+fn lossy_writes_the_same_however_octets_are_read(rt: HostRuntime) {
     let alloc = rt.alloc();
     let octets =
         b"a\xF0\x9F\x98\x80\xE2\x82\xE2\x82\xAC\xF1\x80b\xC3\xA9\xFF\xF0\x90\x80".as_slice();
@@ -82,23 +83,21 @@ fn lossy_writes_the_same_however_octets_are_read(rt: HostRuntime) -> Result<(), 
         assert_equal!(&rt, answer, Ok(Status::Fine));
         assert_eq!(rt; written.as_slice(), text.as_bytes(), "{at_once} at once");
     }
-    Ok(())
 }
 
 #[test]
-fn lossy_reads_more_than_a_piece(rt: HostRuntime) -> Result<(), Fail> {
+fn lossy_reads_more_than_a_piece(rt: HostRuntime) {
     let alloc = rt.alloc();
     // (characters of three octets, so that one is split wherever a read of 65,536 octets can end)
-    let mut octets = "€".as_bytes().repeat(alloc, 50_000)?;
-    octets.push(0xE2)?;
+    let mut octets = unwrap(&rt, "€".as_bytes().repeat(alloc, 50_000));
+    unwrap(&rt, octets.push(0xE2));
     let mut reader = octets.as_slice();
     let mut written = Vec::new(alloc);
     let answer = engine(alloc, "lossy", &mut reader, &mut written);
     assert_equal!(&rt, answer, Ok(Status::Fine));
     octets.truncate(150_000);
-    octets.extend_from_slice("\u{FFFD}".as_bytes())?;
+    unwrap(&rt, octets.extend_from_slice("\u{FFFD}".as_bytes()));
     assert_equal!(&rt, written.as_slice(), octets.as_slice());
-    Ok(())
 }
 
 /// The output of each command for `\x03a\xFFb`.
@@ -157,23 +156,28 @@ fn records_writes_the_lines_before_a_failed_read(rt: HostRuntime) {
 }
 
 #[test]
-fn records_reads_more_than_a_piece(rt: HostRuntime) -> Result<(), Fail> {
+fn records_reads_more_than_a_piece(rt: HostRuntime) {
     let alloc = rt.alloc();
     // (records of 100 octets, so that one is cut where a read of 65,536 ends)
-    let octets = repeated(alloc, &[(99, 1), (b'a', 99)])?.repeat(alloc, 1000)?;
-    let lines = repeated(alloc, &[(b'a', 99), (b'\n', 1)])?.repeat(alloc, 1000)?;
+    let octets = unwrap(
+        &rt,
+        unwrap(&rt, repeated(alloc, &[(99, 1), (b'a', 99)])).repeat(alloc, 1000),
+    );
+    let lines = unwrap(
+        &rt,
+        unwrap(&rt, repeated(alloc, &[(b'a', 99), (b'\n', 1)])).repeat(alloc, 1000),
+    );
     let mut written = Vec::new(alloc);
     let answer = engine(alloc, "records", &mut octets.as_slice(), &mut written);
     assert_equal!(&rt, answer, Ok(Status::Fine));
     assert_equal!(&rt, written.as_slice(), lines.as_slice());
-    Ok(())
 }
 
 #[test]
-fn check_searches_more_than_a_piece(rt: HostRuntime) -> Result<(), Fail> {
+fn check_searches_more_than_a_piece(rt: HostRuntime) {
     let alloc = rt.alloc();
     // (characters of three octets, so that one is cut at each place where a read of 65,536 may end)
-    let mut octets = "€".as_bytes().repeat(alloc, 50_000)?;
+    let mut octets = unwrap(&rt, "€".as_bytes().repeat(alloc, 50_000));
     for (line, status) in [
         ("well formed: 150000 octets\n", Status::Fine),
         (
@@ -189,9 +193,8 @@ fn check_searches_more_than_a_piece(rt: HostRuntime) -> Result<(), Fail> {
         let answer = engine(alloc, "check", &mut octets.as_slice(), &mut written);
         assert_equal!(&rt, answer, Ok(status));
         assert_equal!(&rt, written.as_slice(), line.as_bytes());
-        octets.push(0xE2)?;
+        unwrap(&rt, octets.push(0xE2));
     }
-    Ok(())
 }
 
 #[test]

@@ -4,13 +4,13 @@
 //! test with its error, once the test has checked that nothing was written.
 use super::engine;
 use crate::engine::Command;
+use crate::engine::tests::unwrap;
 use octseq::array::Array;
 use octseq_program::hostile::Fixed;
 use octseq_program::{ProgramFault, Status};
 use std::alloc::{AllocError, Global};
 use std::io;
 use std::process::Abort;
-use std::test::Fail;
 
 /// Runs a command, which writes its whole output, or nothing if memory is refused.
 fn is_reported(
@@ -19,7 +19,7 @@ fn is_reported(
     command: &str,
     octets: &[u8],
     output: &[u8],
-) -> Result<Status, Fail> {
+) -> Status {
     let mut writer = Fixed::<64> {
         taken: Array::new(),
     };
@@ -27,34 +27,32 @@ fn is_reported(
     match answer {
         Ok(status) => {
             assert_equal!(rt, writer.taken.as_slice(), output);
-            Ok(status)
+            status
         }
         Err(fault) => {
             assert_equal!(rt, fault, ProgramFault::Memory);
             assert_true!(rt, writer.taken.as_slice().is_empty());
-            Err(Fail::from(AllocError))
+            unwrap(rt, Err(AllocError))
         }
     }
 }
 
 #[test]
-fn check_tells_all_or_nothing(rt: HostRuntime) -> Result<(), Fail> {
+fn check_tells_all_or_nothing(rt: HostRuntime) {
     let line = "well formed: 3 octets\n".as_bytes();
-    is_reported(&rt, rt.alloc(), "check", b"h\xC3\xA9", line)?;
+    is_reported(&rt, rt.alloc(), "check", b"h\xC3\xA9", line);
     let line = "invalid utf-8 sequence of 1 bytes from index 1\n".as_bytes();
-    is_reported(&rt, rt.alloc(), "check", b"a\xC0", line)?;
-    Ok(())
+    is_reported(&rt, rt.alloc(), "check", b"a\xC0", line);
 }
 
 #[test]
-fn lossy_tells_all_or_nothing(rt: HostRuntime) -> Result<(), Fail> {
-    is_reported(&rt, rt.alloc(), "lossy", b"a\xFFb", b"a\xEF\xBF\xBDb")?;
-    is_reported(&rt, rt.alloc(), "lossy64", b"a\xFFb", b"a\xEF\xBF\xBDb")?;
-    Ok(())
+fn lossy_tells_all_or_nothing(rt: HostRuntime) {
+    is_reported(&rt, rt.alloc(), "lossy", b"a\xFFb", b"a\xEF\xBF\xBDb");
+    is_reported(&rt, rt.alloc(), "lossy64", b"a\xFFb", b"a\xEF\xBF\xBDb");
 }
 
 #[test]
-fn records_tells_a_front(rt: HostRuntime) -> Result<(), Fail> {
+fn records_tells_a_front(rt: HostRuntime) {
     let lines = b"a\xEF\xBF\xBDb\n\nunexpected end of input\n".as_slice();
     let mut writer = Fixed::<64> {
         taken: Array::new(),
@@ -66,12 +64,11 @@ fn records_tells_a_front(rt: HostRuntime) -> Result<(), Fail> {
         Ok(status) => {
             assert_equal!(&rt, status, Status::Refused);
             assert_equal!(&rt, taken, lines);
-            Ok(())
         }
         Err(fault) => {
             assert_equal!(&rt, fault, ProgramFault::Memory);
             assert_equal!(&rt, lines.get(..taken.len()), Some(taken));
-            Err(Fail::from(AllocError))
+            unwrap(&rt, Err(AllocError))
         }
     }
 }

@@ -1,11 +1,11 @@
 //! Lines.
+use crate::tests::unwrap;
 use octseq::builder::{AppendError, EmptyBuilder, ShortBuf};
 use octseq::{Array, AsOctets, Parser, StrBuilder};
 use octseq_asserts::{assert_equal, assert_true};
 use octseq_uses::lines::next_line;
 use std::alloc::Global;
 use std::process::Abort;
-use std::test::Fail;
 
 /// Checks that these are all the lines, each with the parser's position after it.
 fn are_read<R: AsOctets, B: EmptyBuilder>(
@@ -13,39 +13,38 @@ fn are_read<R: AsOctets, B: EmptyBuilder>(
     alloc: Global,
     octets: R,
     wanted: &[(&str, usize)],
-) -> Result<(), Fail> {
+) {
     let mut parser = Parser::from_ref(octets);
     for (line, after) in wanted {
-        let read: Option<StrBuilder<B>> = next_line(alloc, &mut parser)?;
+        let read: Option<StrBuilder<B>> = unwrap(rt, next_line(alloc, &mut parser));
         assert_equal!(rt, read.as_ref().map(|text| text.as_str()), Some(*line));
         assert_equal!(rt, parser.pos(), *after);
     }
-    let none: Option<StrBuilder<B>> = next_line(alloc, &mut parser)?;
+    let none: Option<StrBuilder<B>> = unwrap(rt, next_line(alloc, &mut parser));
     assert_true!(rt, none.is_none());
-    Ok(())
 }
 
 #[test]
-fn a_line_feed_or_the_end_ends_a_line(rt: HostRuntime) -> Result<(), Fail> {
+fn a_line_feed_or_the_end_ends_a_line(rt: HostRuntime) {
     let alloc = rt.alloc();
     let lines = [("ab", 3), ("", 4), ("c", 6)];
-    are_read::<_, Vec<u8>>(&rt, alloc, b"ab\n\nc\n".as_slice(), &lines)?;
-    are_read::<_, Array<2>>(&rt, alloc, b"ab\n\nc\n".to_vec(alloc)?, &lines)?;
+    are_read::<_, Vec<u8>>(&rt, alloc, b"ab\n\nc\n".as_slice(), &lines);
+    are_read::<_, Array<2>>(&rt, alloc, unwrap(&rt, b"ab\n\nc\n".to_vec(alloc)), &lines);
     let lines = [("ab", 3), ("c", 4)];
-    are_read::<_, Vec<u8>>(&rt, alloc, b"ab\nc".as_slice(), &lines)?;
-    are_read::<_, Vec<u8>>(&rt, alloc, b"\n".as_slice(), &[("", 1)])?;
-    are_read::<_, Vec<u8>>(&rt, alloc, b"".as_slice(), &[])
+    are_read::<_, Vec<u8>>(&rt, alloc, b"ab\nc".as_slice(), &lines);
+    are_read::<_, Vec<u8>>(&rt, alloc, b"\n".as_slice(), &[("", 1)]);
+    are_read::<_, Vec<u8>>(&rt, alloc, b"".as_slice(), &[]);
 }
 
 #[test]
-fn stray_octets_are_replaced(rt: HostRuntime) -> Result<(), Fail> {
+fn stray_octets_are_replaced(rt: HostRuntime) {
     let octets = b"a\xFFb\n\xE2\x82\n\xAC\xE2\x82\xAC".as_slice();
     let lines = [("a\u{FFFD}b", 4), ("\u{FFFD}", 7), ("\u{FFFD}€", 11)];
-    are_read::<_, Vec<u8>>(&rt, rt.alloc(), octets, &lines)
+    are_read::<_, Vec<u8>>(&rt, rt.alloc(), octets, &lines);
 }
 
 #[test]
-fn a_line_that_is_too_long_is_left(rt: HostRuntime) -> Result<(), Fail> {
+fn a_line_that_is_too_long_is_left(rt: HostRuntime) {
     let mut parser = Parser::from_static(b"abc\n\xFF\xFF\n");
     let read: Result<Option<StrBuilder<Array<2>>>, AppendError> = next_line(
         rt.alloc(),
@@ -53,7 +52,7 @@ fn a_line_that_is_too_long_is_left(rt: HostRuntime) -> Result<(), Fail> {
     );
     assert_equal!(&rt, read.err(), Some(AppendError::Short(ShortBuf)));
     assert_equal!(&rt, parser.pos(), 0);
-    let read: Option<StrBuilder<Array<5>>> = next_line(rt.alloc(), &mut parser)?;
+    let read: Option<StrBuilder<Array<5>>> = unwrap(&rt, next_line(rt.alloc(), &mut parser));
     assert_equal!(&rt, read.as_ref().map(|text| text.as_str()), Some("abc"));
     let read: Result<Option<StrBuilder<Array<5>>>, AppendError> = next_line(
         rt.alloc(),
@@ -61,5 +60,4 @@ fn a_line_that_is_too_long_is_left(rt: HostRuntime) -> Result<(), Fail> {
     );
     assert_equal!(&rt, read.err(), Some(AppendError::Short(ShortBuf)));
     assert_equal!(&rt, parser.pos(), 4);
-    Ok(())
 }

@@ -1,4 +1,5 @@
 //! Callers of one pattern each.
+use crate::tests::unwrap;
 use octseq::builder::OctetsBuilder;
 use octseq::str::{DisplayError, Str, StrBuilder};
 use octseq::{Array, Parser, WriteError};
@@ -9,7 +10,6 @@ use octseq_uses::ranges::{after_two, key, onward};
 use octseq_uses::shown::{push_number, write_number};
 use octseq_uses::views::{fourth, is_comment};
 use std::process::Abort;
-use std::test::Fail;
 
 #[test]
 fn a_frame_has_its_length_in_front(rt: HostRuntime) {
@@ -26,16 +26,15 @@ fn has_no_note(rt: &impl Abort, octets: &[u8]) {
 }
 
 /// Checks that octets are a note and nothing else.
-fn is_note(rt: &impl Abort, octets: &[u8]) -> Result<(), Fail> {
+fn is_note(rt: &impl Abort, octets: &[u8]) {
     let mut parser = Parser::from_ref(octets);
-    let note = read_note(&mut parser).ok().ok_or("no note")?;
+    let note = unwrap(rt, read_note(&mut parser).ok().ok_or("no note"));
     assert_equal!(rt, (note.number, note.words.as_str()), (258, "hé"));
     assert_equal!(rt, parser.remaining(), 0);
-    Ok(())
 }
 
 #[test]
-fn a_note_is_written_and_read(rt: HostRuntime) -> Result<(), Fail> {
+fn a_note_is_written_and_read(rt: HostRuntime) {
     let mut octets = Array::<8>::new();
     assert_true!(&rt, append_note(&mut octets, 258, "hé").is_ok());
     assert_true!(&rt, append_note(&mut octets, 1, "h").is_err());
@@ -45,32 +44,30 @@ fn a_note_is_written_and_read(rt: HostRuntime) -> Result<(), Fail> {
     has_no_note(&rt, b"n\x01\x02\x00");
     assert_true!(&rt, kept(&[0; 64]).is_ok());
     assert_true!(&rt, kept(&[0; 65]).is_err());
-    is_note(&rt, wanted)
+    is_note(&rt, wanted);
 }
 
 #[test]
-fn ranges_of_any_octets_are_cut(rt: HostRuntime) -> Result<(), Fail> {
+fn ranges_of_any_octets_are_cut(rt: HostRuntime) {
     let octets = b"abcd".as_slice();
-    assert_equal!(&rt, key(&octets)?, Some(b"bc".as_slice()));
-    assert_equal!(&rt, key(&b"ab".as_slice())?, None);
-    assert_equal!(&rt, onward(&octets, 4)?, Some(b"".as_slice()));
-    assert_equal!(&rt, onward(&octets, 5)?, None);
+    assert_equal!(&rt, unwrap(&rt, key(&octets)), Some(b"bc".as_slice()));
+    assert_equal!(&rt, unwrap(&rt, key(&b"ab".as_slice())), None);
+    assert_equal!(&rt, unwrap(&rt, onward(&octets, 4)), Some(b"".as_slice()));
+    assert_equal!(&rt, unwrap(&rt, onward(&octets, 5)), None);
     if octets.len() >= 2 {
         assert_equal!(&rt, after_two(octets).peek_all(), b"cd".as_slice());
     }
-    Ok(())
 }
 
 #[test]
-fn numbers_are_shown_and_views_are_asked(rt: HostRuntime) -> Result<(), Fail> {
-    let mut text = StrBuilder::<Array<4>>::new(rt.alloc())?;
+fn numbers_are_shown_and_views_are_asked(rt: HostRuntime) {
+    let mut text = unwrap(&rt, StrBuilder::<Array<4>>::new(rt.alloc()));
     assert_true!(&rt, write_number(&mut text, 123).is_ok());
     assert_equal!(&rt, push_number(&mut text, 45), Err(DisplayError::Short));
     assert_equal!(&rt, text.as_str(), "123");
-    let line = Str::from_utf8(b"# x".as_slice()).ok().ok_or("no text")?;
+    let line = unwrap(&rt, Str::from_utf8(b"# x".as_slice()).ok().ok_or("no text"));
     assert_true!(&rt, is_comment(&line));
     let mut array = Array::<8>::new();
-    array.append_slice(b"abcd")?;
+    unwrap(&rt, array.append_slice(b"abcd"));
     assert_equal!(&rt, fourth(&array), Some(b'd'));
-    Ok(())
 }

@@ -4,10 +4,9 @@ use octseq::error::ReadError;
 use octseq_asserts::assert_equal;
 use octseq_uses::levels::read_levels;
 use octseq_uses::single_calls::{extended, field, kept, text_front};
-use std::test::Fail;
 
 #[test]
-fn octets_that_fit_are_kept(rt: HostRuntime) -> Result<(), Fail> {
+fn octets_that_fit_are_kept(rt: HostRuntime) {
     let array = kept::<3>(b"abc");
     assert_equal!(
         &rt,
@@ -15,36 +14,32 @@ fn octets_that_fit_are_kept(rt: HostRuntime) -> Result<(), Fail> {
         Some(b"abc".as_slice()),
     );
     assert_equal!(&rt, kept::<3>(b"abcd").is_none(), true);
-    Ok(())
 }
 
 #[test]
-fn nothing_appended_leaves_octets_borrowed(rt: HostRuntime) -> Result<(), Fail> {
+fn nothing_appended_leaves_octets_borrowed(rt: HostRuntime) {
     let mut octets = CowOctets::borrowed(rt.alloc(), b"ab");
     assert_equal!(&rt, extended(&mut octets, b""), Ok(()));
     assert_equal!(&rt, octets.is_borrowed(), true);
     assert_equal!(&rt, extended(&mut octets, b"c"), Ok(()));
     assert_equal!(&rt, octets.is_borrowed(), false);
     assert_equal!(&rt, octseq::AsOctets::as_ref(&octets), b"abc".as_slice());
-    Ok(())
 }
 
 #[test]
-fn a_field_is_a_range_that_exists(rt: HostRuntime) -> Result<(), Fail> {
+fn a_field_is_a_range_that_exists(rt: HostRuntime) {
     let octets = b"abcd".as_slice();
     assert_equal!(&rt, field(&octets, 1, 3), Ok(Some(b"bc".as_slice())));
     assert_equal!(&rt, field(&octets, 4, 4), Ok(Some(b"".as_slice())));
     assert_equal!(&rt, field(&octets, 3, 5), Ok(None));
     assert_equal!(&rt, field(&octets, 3, 2), Ok(None));
-    Ok(())
 }
 
 #[test]
-fn a_front_is_a_text(rt: HostRuntime) -> Result<(), Fail> {
+fn a_front_is_a_text(rt: HostRuntime) {
     assert_equal!(&rt, text_front(b"h\xC3\xA9"), b"h\xC3\xA9".as_slice());
     assert_equal!(&rt, text_front(b"h\xC3\xA9\xC3"), b"h\xC3\xA9".as_slice());
     assert_equal!(&rt, text_front(b"\xFFh"), b"".as_slice());
-    Ok(())
 }
 
 #[test]
