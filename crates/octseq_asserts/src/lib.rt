@@ -35,7 +35,11 @@ pub trait Case<H> {
 }
 
 /// Runs the test on the same octets in each representation that a parser may read.
-pub fn over_each<H: AllocGlobal, C: Case<H>>(rt: &H, case: &C, octets: &[u8]) -> Result<(), AppendError> {
+pub fn over_each<H: AllocGlobal, C: Case<H>>(
+    rt: &H,
+    case: &C,
+    octets: &[u8],
+) -> Result<(), AppendError> {
     let alloc = rt.alloc();
     case.holds(rt, octets);
     case.holds(rt, &octets.to_vec(alloc)?);

@@ -1,5 +1,6 @@
 //! What the tests share.
-use std::fmt::Debug;
+use std::alloc::AllocGlobal;
+use std::fmt::{Debug, Display};
 use std::process::Abort;
 
 /// Called by an assertion: ends the test if two values differ.
@@ -13,6 +14,11 @@ fn unwrap<T, E: Debug + Drop>(rt: &impl Abort, made: Result<T, E>) -> T {
         Ok(value) => value,
         Err(error) => panic!(rt; "error: {error:?}"),
     }
+}
+
+/// Returns what a value shows.
+fn shown<T: Display>(rt: &(impl Abort + AllocGlobal), value: &T) -> String {
+    unwrap(rt, format!(in rt.alloc(); "{value}"))
 }
 
 mod addresses;

@@ -1,4 +1,9 @@
 //! What the tests share.
+use octseq::compose::ComposeError;
+use octseq::{AsOctets, EmptyBuilder, Malformed, OctetsBuilder, Truncate};
+use octseq_asserts::assert_equal;
+use octseq_format::Format;
+use std::alloc::{AllocGlobal, Global};
 use std::fmt::Debug;
 use std::process::Abort;
 
@@ -13,6 +18,38 @@ fn unwrap<T, E: Debug + Drop>(rt: &impl Abort, made: Result<T, E>) -> T {
         Ok(value) => value,
         Err(error) => panic!(rt; "error: {error:?}"),
     }
+}
+
+/// Reads a value from all the octets, and checks that it is written back.
+///
+/// This and what follows is the same for each format: a call of it is proved sooner than one of the format, whose
+/// contract says what the octets are.
+fn read<F: Format<R>, R: AsOctets + Copy>(rt: &(impl AllocGlobal + Abort), octets: R) -> F::Value {
+    let value = unwrap(rt, F::parse_whole(octets));
+    let written: Vec<u8> = unwrap(rt, F::compose_whole(rt.alloc(), &value));
+    assert_equal!(rt, written.as_slice(), octets.as_ref());
+    value
+}
+
+/// Returns the error of octets that aren't a value, or `None`.
+fn refusal<F: Format<R>, R: AsOctets + Copy>(octets: R) -> Option<Malformed> {
+    F::parse_whole(octets).err()
+}
+
+/// Appends the octets of a value.
+fn append<F: Format<R>, R: AsOctets + Copy, B: OctetsBuilder + Truncate>(
+    builder: &mut B,
+    value: &F::Value,
+) -> Result<(), ComposeError> {
+    F::append(builder, value)
+}
+
+/// Makes the octets of a value.
+fn compose<F: Format<R>, R: AsOctets + Copy, B: EmptyBuilder + Truncate>(
+    alloc: Global,
+    value: &F::Value,
+) -> Result<B, ComposeError> {
+    F::compose_whole(alloc, value)
 }
 
 mod leaves;

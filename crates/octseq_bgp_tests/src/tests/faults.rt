@@ -3,9 +3,17 @@ use crate::tests::octets::message;
 use crate::tests::unwrap;
 use octseq::AsOctets;
 use octseq_asserts::assert_equal;
-use octseq_bgp::{Handling, Message, SessionConfig, UpdateMessage};
+use octseq_bgp::{Fault, Handling, Message, SessionConfig, UpdateMessage};
 use std::alloc::AllocGlobal;
 use std::process::Abort;
+
+/// Returns the type of the attribute of a fault, or 0 for a missing one.
+fn place<R: AsOctets + Copy>(fault: &Fault<R>) -> u8 {
+    match &fault.attribute {
+        Some(attribute) => attribute.type_code,
+        None => 0,
+    }
+}
 
 /// Returns the type of each faulty attribute, or 0 for a missing one, and its handling.
 fn faults<R: AsOctets + Copy>(
@@ -15,8 +23,7 @@ fn faults<R: AsOctets + Copy>(
 ) -> Vec<(u8, Handling)> {
     let mut all = Vec::new(rt.alloc());
     for fault in update.faults(external) {
-        let place = fault.attribute.map_or(0, |attribute| attribute.type_code);
-        unwrap(rt, all.push((place, fault.handling)));
+        unwrap(rt, all.push((place(&fault), fault.handling)));
     }
     all
 }

@@ -39,18 +39,33 @@ fn two(rt: &(impl AllocGlobal + Abort)) -> Vec<u8> {
     all
 }
 
+/// Whether the last message read is a KEEPALIVE.
+fn is_keepalive<R: Read>(messages: &MessageReader<R>) -> bool {
+    matches!(messages.message(), Ok(Message::Keepalive))
+}
+
+/// Whether the last message read is an UPDATE.
+fn is_update<R: Read>(messages: &MessageReader<R>) -> bool {
+    matches!(messages.message(), Ok(Message::Update(_)))
+}
+
+/// Whether the last octets read are a message.
+fn is_message<R: Read>(messages: &MessageReader<R>) -> bool {
+    messages.message().is_ok()
+}
+
 #[test]
 fn messages_are_read_one_at_a_time(rt: HostRuntime) {
     let all = two(&rt);
     let modern = SessionConfig::modern();
     let mut messages = MessageReader::new(rt.alloc(), all.as_slice(), modern);
-    assert_true!(&rt, messages.message().is_err());
+    assert_true!(&rt, !is_message(&messages));
     assert_true!(&rt, unwrap(&rt, messages.read_next()));
-    assert_true!(&rt, matches!(messages.message(), Ok(Message::Keepalive)));
+    assert_true!(&rt, is_keepalive(&messages));
     assert_equal!(&rt, messages.get_ref().len(), 27);
     assert_equal!(&rt, messages.session(), modern);
     assert_true!(&rt, unwrap(&rt, messages.read_next()));
-    assert_true!(&rt, matches!(messages.message(), Ok(Message::Update(_))));
+    assert_true!(&rt, is_update(&messages));
     assert_equal!(&rt, Some(messages.octets()), all.as_slice().get(19..));
     assert_true!(&rt, !unwrap(&rt, messages.read_next()));
     assert_true!(&rt, !unwrap(&rt, messages.read_next()));
@@ -208,9 +223,9 @@ fn octets_that_are_framed_may_be_no_message(rt: HostRuntime) {
     unwrap(&rt, octets.extend_from_slice(&more));
     let mut messages = MessageReader::new(rt.alloc(), octets.as_slice(), SessionConfig::modern());
     assert_true!(&rt, unwrap(&rt, messages.read_next()));
-    assert_true!(&rt, messages.message().is_err());
+    assert_true!(&rt, !is_message(&messages));
     assert_true!(&rt, unwrap(&rt, messages.read_next()));
-    assert_true!(&rt, messages.message().is_ok());
+    assert_true!(&rt, is_message(&messages));
 }
 
 /// Whether a message of this many octets is read completely in a session.

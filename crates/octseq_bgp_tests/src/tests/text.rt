@@ -1,6 +1,5 @@
 //! The text of octets: that of a message, or `malformed`.
 use crate::tests::unwrap;
-use octseq::str::DisplayError;
 use octseq::{AsOctets, StrBuilder};
 use octseq_bgp::{Message, SessionConfig};
 use std::alloc::AllocGlobal;
@@ -8,13 +7,14 @@ use std::process::Abort;
 
 /// Appends the text of octets, or `malformed`.
 fn append_read<R: AsOctets + Copy>(
+    rt: &impl Abort,
     text: &mut StrBuilder<Vec<u8>>,
     octets: R,
     session: SessionConfig,
-) -> Result<(), DisplayError> {
+) {
     match Message::parse(octets, session) {
-        Ok(message) => message.append_text(text),
-        Err(_) => text.try_push_display("malformed\n"),
+        Ok(message) => unwrap(rt, message.append_text(text)),
+        Err(_) => unwrap(rt, text.try_push_str("malformed\n")),
     }
 }
 
@@ -25,7 +25,7 @@ pub fn text_of(
     session: SessionConfig,
 ) -> StrBuilder<Vec<u8>> {
     let mut text = unwrap(rt, StrBuilder::new(rt.alloc()));
-    unwrap(rt, append_read(&mut text, octets, session));
+    append_read(rt, &mut text, octets, session);
     text
 }
 

@@ -5,8 +5,8 @@ use crate::tests::unwrap;
 use octseq::{AsOctets, Malformed, Parser};
 use octseq_asserts::{assert_equal, assert_true};
 use octseq_bgp::{
-    AfiSafiType, CapabilityValue, Message, NextHop, NotificationData, OpenMessage, ParameterValue,
-    SessionConfig,
+    AfiSafiType, CapabilityValue, GracefulRestart, Message, NextHop, NotificationData, OpenMessage,
+    ParameterValue, SessionConfig,
 };
 use std::alloc::AllocGlobal;
 use std::process::Abort;
@@ -38,6 +38,12 @@ fn next_hops_have_4_or_16_or_32_octets(rt: HostRuntime) {
     is_next_hop(&rt, v6, "00000000 00000000", Err(Malformed));
 }
 
+/// Whether the state of the first family of a graceful restart was kept, if there is one.
+fn keeps_first<R: AsOctets + Copy>(restart: GracefulRestart<R>) -> Option<bool> {
+    let tuple = restart.families.into_iter().next()?;
+    Some(tuple.forwards())
+}
+
 /// Returns the bits of the first capability of an OPEN, if it is a graceful restart: restarted, takes notifications,
 /// seconds, and whether the state of its first family was kept.
 fn restart<R: AsOctets + Copy>(open: OpenMessage<R>) -> Option<(bool, bool, u16, Option<bool>)> {
@@ -51,7 +57,7 @@ fn restart<R: AsOctets + Copy>(open: OpenMessage<R>) -> Option<(bool, bool, u16,
             it.restarted(),
             it.takes_notifications(),
             it.restart_time(),
-            it.families.into_iter().next().map(|tuple| tuple.forwards()),
+            keeps_first(it),
         )),
         _ => None,
     }

@@ -1,8 +1,8 @@
 //! The names of the example of RFC 1035, 4.1.4, the first two at its offsets: F.ISI.ARPA at 20 and FOO.F.ISI.ARPA at
 //! 40. ARPA and the root come right after them.
-use crate::tests::{name_of, unwrap};
+use crate::tests::{append, name_of, unwrap};
 use arrayvec::ArrayVec;
-use octseq::{AppendError, Array, AsOctets, OctetsBuilder, Truncate, Turns};
+use octseq::{AppendError, Array, AsOctets, OctetsBuilder, ShortBuf, Truncate, Turns};
 use octseq_asserts::assert_equal;
 use octseq_dns_compress::{Composer, Compressor, Target};
 use std::process::Abort;
@@ -25,16 +25,20 @@ fn compose<B: OctetsBuilder + Truncate, T: Compressor>(
     let mut turns = Turns::new();
     let mut composer = unwrap(rt, Composer::from_builder(octets, table));
     unwrap(rt, composer.append_slice(&[0; 8]));
-    unwrap(rt, composer.append_name(&name_of(rt, HOST), &mut turns));
+    append(rt, &mut composer, HOST, &mut turns);
     unwrap(rt, composer.append_slice(&[0; 8]));
-    unwrap(rt, composer.append_name(&name_of(rt, OTHER), &mut turns));
-    unwrap(rt, composer.append_name(&name_of(rt, LAST), &mut turns));
-    unwrap(rt, composer.append_name(&name_of(rt, ROOT), &mut turns));
-    let written = composer.as_slice();
-    assert_equal!(rt, written.get(..20).unwrap_or(b""), [0; 20].as_slice());
-    assert_equal!(rt, written.get(20..32).unwrap_or(b""), HOST);
-    assert_equal!(rt, written.get(40..).unwrap_or(b""), wanted);
+    append(rt, &mut composer, OTHER, &mut turns);
+    append(rt, &mut composer, LAST, &mut turns);
+    append(rt, &mut composer, ROOT, &mut turns);
+    are_written(rt, composer.as_slice(), wanted);
     composer.finish()
+}
+
+/// Checks that the first name is at offset 20, and what is there from offset 40 on.
+fn are_written(rt: &impl Abort, written: &[u8], wanted: &[u8]) {
+    assert_equal!(rt, written.get(..20), Some([0; 20].as_slice()));
+    assert_equal!(rt, written.get(20..32), Some(HOST));
+    assert_equal!(rt, written.get(40..), Some(wanted));
 }
 
 #[test]
@@ -61,27 +65,29 @@ fn a_full_table_compresses_less(rt: HostRuntime) {
     compose(&rt, Array::<255>::new(), ArrayVec::<Target, 0>::new(), none);
 }
 
+/// Checks that no composer is made in 11 octets.
+fn has_no_room_for_a_header(rt: &impl Abort) {
+    let table = ArrayVec::<Target, 4>::new();
+    let made = Composer::from_builder(Array::<11>::new(), table);
+    assert_equal!(rt, made.is_err(), true);
+}
+
 #[test]
 fn what_passes_the_limit_is_refused(rt: HostRuntime) {
+    has_no_room_for_a_header(&rt);
     let mut turns = Turns::new();
-    let table = ArrayVec::<Target, 4>::new();
-    assert_equal!(
-        &rt,
-        Composer::from_builder(Array::<11>::new(), table).is_err(),
-        true
-    );
     let mut composer = unwrap(
         &rt,
         Composer::from_builder(Array::<26>::new(), ArrayVec::<Target, 4>::new()),
     );
-    unwrap(&rt, composer.append_name(&name_of(&rt, HOST), &mut turns));
+    append(&rt, &mut composer, HOST, &mut turns);
     let refused = composer.append_name(&name_of(&rt, b"\x01A\x00"), &mut turns);
-    assert_equal!(&rt, matches!(refused, Err(AppendError::Short(_))), true);
-    unwrap(&rt, composer.append_name(&name_of(&rt, HOST), &mut turns));
+    assert_equal!(&rt, refused, Err(AppendError::Short(ShortBuf)));
+    append(&rt, &mut composer, HOST, &mut turns);
     assert_equal!(
         &rt,
-        composer.as_slice().get(24..).unwrap_or(b""),
-        b"\xC0\x0C".as_slice()
+        composer.as_slice().get(24..),
+        Some(b"\xC0\x0C".as_slice())
     );
     let (octets, table) = composer.finish();
     assert_equal!(&rt, octets.len(), 26);

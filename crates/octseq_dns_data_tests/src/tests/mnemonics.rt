@@ -1,5 +1,5 @@
 //! Types and classes by their mnemonics, and octets in base 64 and base 32.
-use crate::tests::unwrap;
+use crate::tests::{shown, unwrap};
 use octseq_asserts::{assert_equal, assert_true};
 use octseq_dns_data::{Class, Rtype, write_base32hex, write_base64};
 use std::fmt;
@@ -50,7 +50,7 @@ static TYPES: [(u16, &str); 38] = [
 fn each_type_has_its_mnemonic(rt: HostRuntime) {
     for (number, mnemonic) in &TYPES {
         let rtype = Rtype::from_int(*number);
-        let text = unwrap(&rt, format!(in rt.alloc(); "{rtype}"));
+        let text = shown(&rt, &rtype);
         assert_equal!(&rt, text.as_str(), *mnemonic);
         assert_equal!(&rt, unwrap(&rt, mnemonic.parse::<Rtype>()), rtype);
         let lower = unwrap(&rt, mnemonic.to_ascii_lowercase(rt.alloc()));
@@ -62,7 +62,7 @@ fn each_type_has_its_mnemonic(rt: HostRuntime) {
 fn each_class_has_its_mnemonic(rt: HostRuntime) {
     for (number, mnemonic) in [(1, "IN"), (3, "CH"), (4, "HS"), (254, "NONE"), (255, "ANY")] {
         let class = Class::from_int(number);
-        let text = unwrap(&rt, format!(in rt.alloc(); "{class}"));
+        let text = shown(&rt, &class);
         assert_equal!(&rt, text.as_str(), mnemonic);
         assert_equal!(&rt, unwrap(&rt, mnemonic.parse::<Class>()), class);
     }
@@ -71,10 +71,10 @@ fn each_class_has_its_mnemonic(rt: HostRuntime) {
 #[test]
 fn numbers_without_mnemonics_follow_a_word(rt: HostRuntime) {
     let rtype = Rtype::from_int(65535);
-    let text = unwrap(&rt, format!(in rt.alloc(); "{rtype}"));
+    let text = shown(&rt, &rtype);
     assert_equal!(&rt, text.as_str(), "TYPE65535");
     let class = Class::from_int(2);
-    let text = unwrap(&rt, format!(in rt.alloc(); "{class}"));
+    let text = shown(&rt, &class);
     assert_equal!(&rt, text.as_str(), "CLASS2");
 }
 
@@ -162,8 +162,7 @@ fn octets_show_in_base_64(rt: HostRuntime) {
         (b"foobar", "Zm9vYmFy"),
         (b"\x00\x10\x83\xFB\xFF", "ABCD+/8="),
     ] {
-        let shown = Base64(octets);
-        let text = unwrap(&rt, format!(in rt.alloc(); "{shown}"));
+        let text = shown(&rt, &Base64(octets));
         assert_equal!(&rt, text.as_str(), wanted);
     }
 }
@@ -181,8 +180,7 @@ fn octets_show_in_base_32(rt: HostRuntime) {
         (b"foobar", "cpnmuoj1e8"),
         (b"\x00\xFF", "03vg"),
     ] {
-        let shown = Base32hex(octets);
-        let text = unwrap(&rt, format!(in rt.alloc(); "{shown}"));
+        let text = shown(&rt, &Base32hex(octets));
         assert_equal!(&rt, text.as_str(), wanted);
     }
 }

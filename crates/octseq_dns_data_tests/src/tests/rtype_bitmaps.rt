@@ -1,8 +1,8 @@
 //! Type bitmaps: RFC 4034, 4.1.2.
-use crate::tests::unwrap;
+use crate::tests::{shown, unwrap};
 use octseq::array::Array;
 use octseq::octets::Octets;
-use octseq::{AppendError, ShortBuf};
+use octseq::{AppendError, EmptyBuilder, ShortBuf};
 use octseq_asserts::{Case, assert_equal, assert_true, over_each};
 use octseq_dns_data::rtype_bitmap::append_rtypes;
 use octseq_dns_data::{Rtype, RtypeBitmap};
@@ -82,7 +82,6 @@ fn octets_say_their_types(rt: HostRuntime) {
 
 #[test]
 fn types_show_after_spaces(rt: HostRuntime) {
-    let alloc = rt.alloc();
     let cases: [(&[u8], &str); 4] = [
         (b"", ""),
         (b"\x00\x01\x40", " A"),
@@ -91,7 +90,7 @@ fn types_show_after_spaces(rt: HostRuntime) {
     ];
     for (octets, wanted) in cases {
         let bitmap = unwrap(&rt, RtypeBitmap::from_octets(octets));
-        let text = unwrap(&rt, format!(in alloc; "{bitmap}"));
+        let text = shown(&rt, &bitmap);
         assert_equal!(&rt, text.as_str(), wanted);
     }
 }
@@ -135,17 +134,19 @@ fn a_set_may_be_cut_after_a_block_alone(rt: HostRuntime) {
 /// The types of the example, in another order, some of them repeated.
 const UNORDERED: [u16; 7] = [1234, 47, 1, 46, 15, 1, 1234];
 
+/// Checks that types make a set of these octets, in a builder of this type.
+fn make<B: EmptyBuilder>(rt: &(impl Abort + AllocGlobal), rtypes: &[Rtype], wanted: &[u8]) {
+    let bitmap = unwrap(rt, RtypeBitmap::<B>::from_rtypes(rt.alloc(), rtypes));
+    assert_equal!(rt, bitmap.as_slice(), wanted);
+}
+
 #[test]
 fn types_in_any_order_make_their_set(rt: HostRuntime) {
-    let alloc = rt.alloc();
     let rtypes = UNORDERED.map(Rtype::from_int);
-    let bitmap = unwrap(&rt, RtypeBitmap::<Vec<u8>>::from_rtypes(alloc, &rtypes));
-    assert_equal!(&rt, bitmap.as_slice(), EXAMPLE);
-    let none = unwrap(&rt, RtypeBitmap::<Vec<u8>>::from_rtypes(alloc, &[]));
-    assert_equal!(&rt, none.as_slice(), b"".as_slice());
-    let fits = unwrap(&rt, RtypeBitmap::<Array<37>>::from_rtypes(alloc, &rtypes));
-    assert_equal!(&rt, fits.as_slice(), EXAMPLE);
-    let short = RtypeBitmap::<Array<36>>::from_rtypes(alloc, &rtypes);
+    make::<Vec<u8>>(&rt, &rtypes, EXAMPLE);
+    make::<Vec<u8>>(&rt, &[], b"");
+    make::<Array<37>>(&rt, &rtypes, EXAMPLE);
+    let short = RtypeBitmap::<Array<36>>::from_rtypes(rt.alloc(), &rtypes);
     assert_equal!(&rt, short.err(), Some(AppendError::Short(ShortBuf)));
 }
 

@@ -1,11 +1,10 @@
 //! Service parameters of SVCB and HTTPS: RFC 9460.
-use crate::tests::unwrap;
+use crate::tests::{shown, unwrap};
 use octseq::octets::Octets;
 use octseq_asserts::{Case, assert_equal, assert_true, over_each};
 use octseq_dns_data::svc_params::key::{ALPN, ECH, PORT};
 use octseq_dns_data::{SvcParam, SvcParams};
 use std::alloc::AllocGlobal;
-use std::fmt::{Display, Write};
 use std::process::Abort;
 
 /// A parameter of each named key except that of no default protocol, and two of other keys.
@@ -19,11 +18,11 @@ const SIX: &[u8] =
     b"\x00\x00\x00\x04\x00\x01\x00\x03\x00\x01\x00\x06\x02h2\x02h3\x00\x03\x00\x02\x01\xBB\
 \x00\x05\x00\x01\x00\x00\x07\x00\x00\x02\x9B\x00\x02\"\x00";
 
-/// Returns what a value shows.
-fn shown<T: Display>(rt: &(impl Abort + AllocGlobal), value: &T) -> String {
-    let mut text = String::new(rt.alloc());
-    unwrap(rt, write!(text, "{value}"));
-    text
+/// Checks that octets are parameters that show this text.
+fn shows(rt: &(impl Abort + AllocGlobal), octets: &[u8], wanted: &str) {
+    let params = unwrap(rt, SvcParams::from_octets(octets));
+    assert_equal!(rt, params.as_slice(), octets);
+    assert_equal!(rt, shown(rt, &params).as_str(), wanted);
 }
 
 #[test]
@@ -61,10 +60,7 @@ ipv6hint=\"2001:db8::1\" key7 key667=\"\\\"\\000\"",
         ),
     ];
     for (octets, wanted) in cases {
-        let params = unwrap(&rt, SvcParams::from_octets(octets));
-        assert_equal!(&rt, params.as_slice(), octets);
-        let text = shown(&rt, &params);
-        assert_equal!(&rt, text.as_str(), wanted);
+        shows(&rt, octets, wanted);
     }
 }
 

@@ -1,6 +1,6 @@
 //! Relations between domain names: parents, suffixes, first and last labels, and texts with an origin.
-use crate::tests::unwrap;
-use octseq::{Array, Octets, Parser};
+use crate::tests::{labels_text, shown, unwrap};
+use octseq::{Array, AsOctets, Octets, Parser};
 use octseq_asserts::{Case, assert_equal, over_each};
 use octseq_dns_name::error::FromTextError;
 use octseq_dns_name::{Name, ParsedName};
@@ -26,8 +26,7 @@ fn has_parent<R: Octets + Copy>(
 ) {
     match name.parent() {
         Some(parent) => {
-            let shown = unwrap(rt, format!(in rt.alloc(); "{parent}"));
-            assert_equal!(rt, Some(shown.as_str()), text);
+            assert_equal!(rt, Some(shown(rt, &parent).as_str()), text);
             assert_equal!(rt, parent.len() < name.len(), true);
         }
         None => assert_equal!(rt, None, text),
@@ -48,8 +47,7 @@ fn has_suffixes<R: Octets + Copy>(
 ) {
     assert_equal!(rt, name.iter_suffixes().count(), texts.len());
     for (suffix, text) in name.iter_suffixes().zip(texts) {
-        let shown = unwrap(rt, format!(in rt.alloc(); "{suffix}"));
-        assert_equal!(rt, shown.as_str(), *text);
+        assert_equal!(rt, shown(rt, &suffix).as_str(), *text);
     }
 }
 
@@ -117,6 +115,22 @@ fn suffixes_go_on_to_the_root(rt: HostRuntime) {
     unwrap(&rt, over_each(&rt, &HasSuffixes, MESSAGE));
 }
 
+/// Whether a name ends with another one, and whether it begins with it.
+fn relation<R: Octets + Copy, S: Octets + Copy>(
+    name: &ParsedName<R>,
+    base: &ParsedName<S>,
+) -> (bool, bool) {
+    (name.ends_with(base), name.starts_with(base))
+}
+
+/// Whether a name of its own ends with another one, and whether it begins with it.
+fn own_relation<B: AsOctets, R: Octets + Copy>(
+    name: &Name<B>,
+    base: &ParsedName<R>,
+) -> (bool, bool) {
+    (name.ends_with(base), name.starts_with(base))
+}
+
 /// Whether a name ends with the name that a text spells, and whether it begins with it.
 fn relation_of<R: Octets + Copy>(
     rt: &impl Abort,
@@ -124,10 +138,7 @@ fn relation_of<R: Octets + Copy>(
     text: &str,
 ) -> (bool, bool) {
     let base = unwrap(rt, Name::from_text(text));
-    (
-        name.ends_with(&base.parsed()),
-        name.starts_with(&base.parsed()),
-    )
+    relation(name, &base.parsed())
 }
 
 #[derive(Drop)]
@@ -173,11 +184,8 @@ fn names_end_and_begin_with_others(rt: HostRuntime) {
 #[test]
 fn a_name_of_its_own_has_relatives_too(rt: HostRuntime) {
     let name = unwrap(&rt, Name::from_text("www.example.com."));
-    let text = unwrap(
-        &rt,
-        format!(in rt.alloc(); "{}", unwrap(&rt, name.parent().ok_or("no parent"))),
-    );
-    assert_equal!(&rt, text.as_str(), "example.com.");
+    let parent = unwrap(&rt, name.parent().ok_or("no parent"));
+    assert_equal!(&rt, shown(&rt, &parent).as_str(), "example.com.");
     assert_equal!(
         &rt,
         unwrap(&rt, Name::from_text(".")).parent().is_none(),
@@ -185,44 +193,33 @@ fn a_name_of_its_own_has_relatives_too(rt: HostRuntime) {
     );
     assert_equal!(&rt, name.iter_suffixes().count(), 4);
     let (message, first) = (name_at(&rt, MESSAGE, 6), name_at(&rt, MESSAGE, 16));
-    assert_equal!(
-        &rt,
-        (name.ends_with(&message), name.starts_with(&message)),
-        (true, false)
-    );
-    assert_equal!(
-        &rt,
-        (name.ends_with(&first), name.starts_with(&first)),
-        (true, true)
-    );
-    let copy = unwrap(&rt, message.try_to_name::<Vec<u8>>(rt.alloc()));
-    assert_equal!(
-        &rt,
-        (copy.ends_with(&message), copy.starts_with(&first)),
-        (true, false)
-    );
-    assert_equal!(
-        &rt,
-        (copy.parent().is_some(), copy.iter_suffixes().count()),
-        (true, 3)
-    );
+    assert_equal!(&rt, own_relation(&name, &message), (true, false));
+    assert_equal!(&rt, own_relation(&name, &first), (true, true));
+    has_a_copy_with_relatives(&rt, &message, &first);
 }
 
-/// Returns the text of labels of these lengths, each followed by a full stop.
-fn text_of(rt: &(impl Abort + AllocGlobal), lengths: &[usize]) -> String {
-    let mut text = String::new(rt.alloc());
-    for len in lengths {
-        for _ in 0..*len {
-            unwrap(rt, text.push('a'));
-        }
-        unwrap(rt, text.push('.'));
-    }
-    text
+/// Checks the relatives of a copy of `example.COM.`, which doesn't begin with a longer name.
+fn has_a_copy_with_relatives<R: Octets + Copy>(
+    rt: &(impl Abort + AllocGlobal),
+    name: &ParsedName<R>,
+    longer: &ParsedName<R>,
+) {
+    let copy = unwrap(rt, name.try_to_name::<Vec<u8>>(rt.alloc()));
+    assert_equal!(rt, copy.ends_with(name), true);
+    assert_equal!(rt, copy.starts_with(longer), false);
+    assert_equal!(rt, copy.parent().is_some(), true);
+    assert_equal!(rt, copy.iter_suffixes().count(), 3);
+}
+
+/// Returns the name of labels of these lengths.
+fn name_of(rt: &(impl Abort + AllocGlobal), lengths: &[usize]) -> Name<Array<255>> {
+    let text = labels_text(rt, lengths);
+    unwrap(rt, Name::from_text(text.as_str()))
 }
 
 #[test]
 fn a_name_has_127_parents_at_most(rt: HostRuntime) {
-    let name = unwrap(&rt, Name::from_text(text_of(&rt, &[1; 127]).as_str()));
+    let name = name_of(&rt, &[1; 127]);
     assert_equal!(&rt, (name.len(), name.label_count()), (255, 127));
     assert_equal!(&rt, name.iter_suffixes().count(), 128);
     for (suffix, count) in name.iter_suffixes().zip((0..128).rev()) {
@@ -234,26 +231,12 @@ fn a_name_has_127_parents_at_most(rt: HostRuntime) {
 #[test]
 fn a_name_of_255_octets_has_relatives(rt: HostRuntime) {
     let alloc = rt.alloc();
-    let name = unwrap(
-        &rt,
-        Name::from_text(text_of(&rt, &[63, 63, 63, 61]).as_str()),
-    );
+    let name = name_of(&rt, &[63, 63, 63, 61]);
     let parent = unwrap(&rt, name.parent().ok_or("no parent"));
     assert_equal!(&rt, (name.len(), parent.len()), (255, 191));
-    assert_equal!(
-        &rt,
-        (name.ends_with(&parent), name.starts_with(&parent)),
-        (true, false)
-    );
-    let front = unwrap(&rt, Name::from_text(text_of(&rt, &[63, 63, 63]).as_str()));
-    assert_equal!(
-        &rt,
-        (
-            name.ends_with(&front.parsed()),
-            name.starts_with(&front.parsed())
-        ),
-        (false, true)
-    );
+    assert_equal!(&rt, own_relation(&name, &parent), (true, false));
+    let front = name_of(&rt, &[63, 63, 63]);
+    assert_equal!(&rt, own_relation(&name, &front.parsed()), (false, true));
 }
 
 /// Returns the text of the name that a text spells with an origin, or why it doesn't spell one.
@@ -263,7 +246,12 @@ fn with_origin<R: Octets + Copy>(
     origin: &ParsedName<R>,
 ) -> Result<String, FromTextError> {
     let name = Name::from_text_with_origin(text, origin)?;
-    Ok(unwrap(rt, format!(in rt.alloc(); "{name}")))
+    Ok(shown(rt, &name))
+}
+
+/// Returns why a text doesn't spell a name with an origin.
+fn refusal_of<R: Octets + Copy>(text: &str, origin: &ParsedName<R>) -> Option<FromTextError> {
+    Name::from_text_with_origin(text, origin).err()
 }
 
 #[derive(Drop)]
@@ -321,7 +309,7 @@ fn a_text_with_an_origin_is_refused_by_reason(rt: HostRuntime) {
         ("\\", FromTextError::IllegalEscape),
         ("a\\256", FromTextError::IllegalEscape),
     ] {
-        assert_equal!(&rt, with_origin(&rt, text, &origin).err(), Some(reason));
+        assert_equal!(&rt, refusal_of(text, &origin), Some(reason));
     }
 }
 
@@ -329,9 +317,9 @@ fn a_text_with_an_origin_is_refused_by_reason(rt: HostRuntime) {
 /// octets.
 fn relative_refusal(rt: &(impl Abort + AllocGlobal), lengths: &[usize]) -> Option<FromTextError> {
     let origin = name_at(rt, MESSAGE, 16);
-    let mut text = text_of(rt, lengths);
+    let mut text = labels_text(rt, lengths);
     text.pop();
-    Name::from_text_with_origin(text.as_str(), &origin).err()
+    refusal_of(text.as_str(), &origin)
 }
 
 #[test]
@@ -355,7 +343,7 @@ fn a_relative_name_has_255_octets_at_most(rt: HostRuntime) {
         relative_refusal(&rt, &[63, 63, 63, 63, 1]),
         Some(FromTextError::LongName)
     );
-    let whole = text_of(&rt, &[63, 63, 63, 61]);
+    let whole = labels_text(&rt, &[63, 63, 63, 61]);
     let origin = name_at(&rt, MESSAGE, 16);
     assert_equal!(
         &rt,

@@ -1,5 +1,5 @@
 //! The text of domain names, and how they compare.
-use crate::tests::unwrap;
+use crate::tests::{labels_text, shown, unwrap};
 use octseq::{AppendError, Array, AsOctets, EmptyBuilder, Octets, Parser, ShortBuf};
 use octseq_asserts::{Case, assert_equal, over_each};
 use octseq_dns_name::error::{FromLabelsError, FromTextError};
@@ -9,10 +9,9 @@ use std::cmp::Ordering;
 use std::hash::{DefaultHasher, Hash, Hasher};
 use std::process::Abort;
 
-/// Returns the text of the name at the front of octets.
-fn text_of(rt: &(impl Abort + AllocGlobal), octets: &[u8]) -> String {
-    let name = unwrap(rt, ParsedName::parse(&mut Parser::from_ref(octets)));
-    unwrap(rt, format!(in rt.alloc(); "{name}"))
+/// Reads the name at the front of octets.
+fn name_of<'a>(rt: &impl Abort, octets: &'a [u8]) -> ParsedName<&'a [u8]> {
+    unwrap(rt, ParsedName::parse(&mut Parser::from_ref(octets)))
 }
 
 #[test]
@@ -28,14 +27,14 @@ fn a_name_shows_with_escapes(rt: HostRuntime) {
         (b"\x06!#/~%Z\x00", "!#/~%Z."),
         (b"\x04\x1F\x80\x99\xC8\x00", "\\031\\128\\153\\200."),
     ] {
-        assert_equal!(&rt, text_of(&rt, octets).as_str(), text);
+        let name = name_of(&rt, octets);
+        assert_equal!(&rt, shown(&rt, &name).as_str(), text);
     }
 }
 
 /// Compares two names, and tests whether they are equal.
 fn compared(rt: &impl Abort, one: &[u8], other: &[u8]) -> (Ordering, bool) {
-    let name = unwrap(rt, ParsedName::parse(&mut Parser::from_ref(one)));
-    let other_name = unwrap(rt, ParsedName::parse(&mut Parser::from_ref(other)));
+    let (name, other_name) = (name_of(rt, one), name_of(rt, other));
     (name.name_cmp(&other_name), name.name_eq(&other_name))
 }
 
@@ -85,6 +84,13 @@ fn hash_of<T: Hash>(value: &T) -> u64 {
     hasher.finish()
 }
 
+/// Checks that two values are equal, and have equal hashes.
+fn are_equal<T: Ord + Hash>(rt: &impl Abort, one: &T, other: &T) {
+    assert_equal!(rt, one == other, true);
+    assert_equal!(rt, one.cmp(other), Ordering::Equal);
+    assert_equal!(rt, hash_of(one), hash_of(other));
+}
+
 /// Checks that the labels of two names are equal, and have equal hashes.
 fn have_equal_labels<R: Octets + Copy>(
     rt: &impl Abort,
@@ -92,12 +98,7 @@ fn have_equal_labels<R: Octets + Copy>(
     same: &ParsedName<R>,
 ) {
     for (label, other_label) in name.labels().zip(same.labels()) {
-        assert_equal!(
-            rt,
-            (label == other_label, label.cmp(&other_label)),
-            (true, Ordering::Equal)
-        );
-        assert_equal!(rt, hash_of(&label), hash_of(&other_label));
+        are_equal(rt, &label, &other_label);
     }
 }
 
@@ -119,11 +120,7 @@ impl<H: Abort + AllocGlobal> Case<H> for IsOneName {
         assert_equal!(rt, (name < same, name < other), (false, true));
         assert_equal!(rt, hash_of(&name), hash_of(&same));
         have_equal_labels(rt, &name, &same);
-        assert_equal!(
-            rt,
-            unwrap(rt, format!(in rt.alloc(); "{name}")).as_str(),
-            "wWw.A."
-        );
+        assert_equal!(rt, shown(rt, &name).as_str(), "wWw.A.");
     }
 }
 
@@ -156,8 +153,7 @@ fn is_as_the_name<R: Octets + Copy>(rt: &(impl Abort + AllocGlobal), name: &Pars
     let copy = unwrap(rt, name.try_to_name::<Vec<u8>>(rt.alloc()));
     assert_equal!(rt, copy.parsed().name_eq(name), true);
     assert_equal!(rt, hash_of(&copy), hash_of(name));
-    let text = unwrap(rt, format!(in rt.alloc(); "{copy}"));
-    assert_equal!(rt, text.as_str(), "www.example.");
+    assert_equal!(rt, shown(rt, &copy).as_str(), "www.example.");
 }
 
 /// Checks that copies of two names compare as the names do.
@@ -187,11 +183,7 @@ fn is_held<R: Octets + Copy>(rt: &(impl Abort + AllocGlobal), name: &ParsedName<
 fn is_root<R: Octets + Copy>(rt: &(impl Abort + AllocGlobal), name: &ParsedName<R>) {
     let root = unwrap(rt, name.try_to_name::<Array<1>>(rt.alloc()));
     assert_equal!(rt, root.is_root(), true);
-    assert_equal!(
-        rt,
-        unwrap(rt, format!(in rt.alloc(); "{root}")).as_str(),
-        "."
-    );
+    assert_equal!(rt, shown(rt, &root).as_str(), ".");
 }
 
 #[derive(Drop)]
@@ -218,12 +210,6 @@ fn a_name_is_copied_with_its_octets(rt: HostRuntime) {
     );
 }
 
-/// Returns the plain wire form of the name that a text spells, or why it doesn't spell one.
-fn wire_of(rt: &(impl Abort + AllocGlobal), text: &str) -> Result<Vec<u8>, FromTextError> {
-    let name = Name::from_text(text)?;
-    Ok(unwrap(rt, name.as_slice().to_vec(rt.alloc())))
-}
-
 #[test]
 fn a_name_is_read_from_its_text(rt: HostRuntime) {
     for (text, octets) in [
@@ -235,8 +221,8 @@ fn a_name_is_read_from_its_text(rt: HostRuntime) {
         ),
         ("\\a\\-\\097A.", b"\x04a-aA\x00"),
     ] {
-        let wire = unwrap(&rt, wire_of(&rt, text));
-        assert_equal!(&rt, wire.as_slice(), octets);
+        let name = unwrap(&rt, Name::from_text(text));
+        assert_equal!(&rt, name.as_slice(), octets);
     }
 }
 
@@ -262,13 +248,12 @@ fn a_text_that_spells_no_name_is_refused_by_reason(rt: HostRuntime) {
         ("a@b.\\", FromTextError::IllegalOctet),
         ("é.", FromTextError::IllegalOctet),
     ] {
-        assert_equal!(&rt, wire_of(&rt, text).err(), Some(reason));
+        assert_equal!(&rt, Name::from_text(text).err(), Some(reason));
     }
 }
 
 #[test]
 fn the_refusals_of_names_are_shown(rt: HostRuntime) {
-    let alloc = rt.alloc();
     for (reason, text) in [
         (FromTextError::UnexpectedEnd, "unexpected end of input"),
         (FromTextError::EmptyLabel, "empty label"),
@@ -277,11 +262,7 @@ fn the_refusals_of_names_are_shown(rt: HostRuntime) {
         (FromTextError::IllegalEscape, "illegal escape sequence"),
         (FromTextError::IllegalOctet, "illegal octet"),
     ] {
-        assert_equal!(
-            &rt,
-            unwrap(&rt, format!(in alloc; "{reason}")).as_str(),
-            text
-        );
+        assert_equal!(&rt, shown(&rt, &reason).as_str(), text);
     }
     for (reason, text) in [
         (FromLabelsError::EmptyLabel, "empty label"),
@@ -290,17 +271,12 @@ fn the_refusals_of_names_are_shown(rt: HostRuntime) {
         (FromLabelsError::Short, "buffer size exceeded"),
         (FromLabelsError::Memory, "out of memory"),
     ] {
-        assert_equal!(
-            &rt,
-            unwrap(&rt, format!(in alloc; "{reason}")).as_str(),
-            text
-        );
+        assert_equal!(&rt, shown(&rt, &reason).as_str(), text);
     }
 }
 
 #[test]
 fn the_text_of_a_name_has_its_limits(rt: HostRuntime) {
-    let alloc = rt.alloc();
     for (first, last, reason) in [
         (63, 61, None),
         (63, 62, Some(FromTextError::LongName)),
@@ -308,13 +284,7 @@ fn the_text_of_a_name_has_its_limits(rt: HostRuntime) {
         (1, 64, Some(FromTextError::LongLabel)),
         (63, 64, Some(FromTextError::LongLabel)),
     ] {
-        let mut text = String::new(alloc);
-        for len in [63, 63, first, last] {
-            for _ in 0..len {
-                unwrap(&rt, text.push('a'));
-            }
-            unwrap(&rt, text.push('.'));
-        }
+        let text = labels_text(&rt, &[63, 63, first, last]);
         assert_equal!(&rt, Name::from_text(text.as_str()).err(), reason);
     }
 }

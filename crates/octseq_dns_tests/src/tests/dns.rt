@@ -3,7 +3,10 @@ use crate::tests::unwrap;
 use octseq::{AsOctets, Octets, Parser, ReadError};
 use octseq_asserts::{Case, assert_equal, assert_true, over_each};
 use octseq_dns::header::Flags;
-use octseq_dns::{Class, Header, Malformed, Message, Opcode, ParsedName, Rcode, Rtype};
+use octseq_dns::name::Label;
+use octseq_dns::{
+    Class, Header, Malformed, Message, Opcode, ParsedName, Question, Rcode, Record, Rtype,
+};
 use std::alloc::AllocGlobal;
 use std::process::Abort;
 
@@ -17,16 +20,26 @@ fn name_at(octets: &[u8], place: usize) -> Option<(usize, usize)> {
     }
 }
 
-/// Checks the labels of the name at a place.
-fn has_labels(rt: &impl Abort, octets: &[u8], place: usize, wanted: &[&[u8]]) {
+/// Returns the name at a place of octets.
+fn parsed_at<'a>(rt: &impl Abort, octets: &'a [u8], place: usize) -> ParsedName<&'a [u8]> {
     let mut parser = Parser::from_ref(octets);
     unwrap(rt, parser.seek(place));
-    let name = unwrap(rt, ParsedName::parse(&mut parser));
+    unwrap(rt, ParsedName::parse(&mut parser))
+}
+
+/// Checks the octets of a label.
+fn is_label(rt: &impl Abort, label: &Label<&[u8]>, wanted: &[u8]) {
+    assert_equal!(rt, label.as_slice(), wanted);
+    assert_equal!(rt, label.len(), wanted.len());
+}
+
+/// Checks the labels of the name at a place.
+fn has_labels(rt: &impl Abort, octets: &[u8], place: usize, wanted: &[&[u8]]) {
+    let name = parsed_at(rt, octets, place);
     assert_equal!(rt, name.label_count(), wanted.len());
     assert_equal!(rt, name.is_root(), wanted.is_empty());
     for (label, other) in name.labels().zip(wanted) {
-        assert_equal!(rt, label.as_slice(), *other);
-        assert_equal!(rt, label.len(), other.len());
+        is_label(rt, &label, other);
     }
 }
 
@@ -64,14 +77,10 @@ fn labels_are_followed_through_pointers(rt: HostRuntime) {
 
 #[test]
 fn a_label_has_63_octets_at_most(rt: HostRuntime) {
-    let mut octets = [b'a'; 66];
-    octets[0] = 63;
-    octets[64] = 0;
-    assert_equal!(&rt, name_at(&octets, 0), Some((65, 65)));
-    octets[0] = 64;
-    octets[64] = b'a';
-    octets[65] = 0;
-    assert_equal!(&rt, name_at(&octets, 0), None);
+    let longest = b"\x3F012345678901234567890123456789012345678901234567890123456789abc\0a";
+    assert_equal!(&rt, name_at(longest, 0), Some((65, 65)));
+    let longer = b"\x40012345678901234567890123456789012345678901234567890123456789abcd\0";
+    assert_equal!(&rt, name_at(longer, 0), None);
 }
 
 #[test]
@@ -95,9 +104,10 @@ fn chain(rt: &(impl Abort + AllocGlobal), pointers: u8) -> Vec<u8> {
     unwrap(rt, octets.push(0));
     for count in 0..pointers {
         let place = (2 * u16::from(count)).saturating_sub(1);
-        for octet in (0xC000 | place).to_be_bytes() {
-            unwrap(rt, octets.push(octet));
-        }
+        unwrap(
+            rt,
+            octets.extend_from_slice(&(0xC000 | place).to_be_bytes()),
+        );
     }
     octets
 }
@@ -110,6 +120,32 @@ fn a_name_has_127_pointers_at_most(rt: HostRuntime) {
     assert_equal!(&rt, name_at(&more, 255), None);
 }
 
+/// A question for `example.com.`, and an answer whose owner is a pointer to it.
+const ANSWERED: &[u8] =
+    b"\x12\x34\x85\x80\x00\x01\x00\x01\x00\x00\x00\x00\x07example\x03com\x00\x00\x01\x00\x01\
+\xC0\x0C\x00\x01\x00\x01\x00\x00\x01\x2C\x00\x04\x01\x02\x03\x04";
+
+/// Returns the number of entries in each section of a message.
+fn counts_of<R: Octets + Copy>(message: &Message<R>) -> (usize, usize, usize, usize) {
+    // (the header's counts bound those of the iterators)
+    let _counts = message.header_counts();
+    (
+        message.questions().count(),
+        message.answers().count(),
+        message.authorities().count(),
+        message.additionals().count(),
+    )
+}
+
+/// Checks the owner and the data of the answer of a message.
+fn has_address<R: Octets + Copy>(rt: &impl Abort, message: &Message<R>) {
+    for answer in message.answers() {
+        assert_equal!(rt, answer.owner().label_count(), 2);
+        let wanted = b"\x01\x02\x03\x04".as_slice();
+        assert_equal!(rt, answer.rdata().peek_all(), wanted);
+    }
+}
+
 #[derive(Drop)]
 struct IsRead;
 
@@ -119,37 +155,29 @@ impl<H: Abort + AllocGlobal> Case<H> for IsRead {
         let header = message.header();
         assert_equal!(rt, (header.id, header.flags.qr), (4660, true));
         let copy = unwrap(rt, message.clone());
-        // (the header's counts bound those of the iterators)
-        let _counts = copy.header_counts();
-        let counts = (
-            copy.questions().count(),
-            copy.answers().count(),
-            copy.authorities().count(),
-            copy.additionals().count(),
-        );
-        assert_equal!(rt, counts, (1, 1, 0, 0));
-        for answer in message.answers() {
-            assert_equal!(rt, answer.owner().label_count(), 2);
-            assert_equal!(
-                rt,
-                answer.rdata().peek_all(),
-                b"\x01\x02\x03\x04".as_slice()
-            );
-        }
+        assert_equal!(rt, counts_of(&copy), (1, 1, 0, 0));
+        has_address(rt, &message);
     }
 }
 
 #[test]
 fn a_message_is_read_from_each_kind_of_octets(rt: HostRuntime) {
-    unwrap(
-        &rt,
-        over_each(
-            &rt,
-            &IsRead,
-            b"\x12\x34\x85\x80\x00\x01\x00\x01\x00\x00\x00\x00\x07example\x03com\x00\x00\x01\x00\x01\
-\xC0\x0C\x00\x01\x00\x01\x00\x00\x01\x2C\x00\x04\x01\x02\x03\x04",
-        ),
-    );
+    unwrap(&rt, over_each(&rt, &IsRead, ANSWERED));
+}
+
+/// Checks each field of the question.
+fn is_asked<R: Octets + Copy>(rt: &impl Abort, question: &Question<R>) {
+    let typed = (question.qtype(), question.qclass());
+    assert_equal!(rt, typed, (Rtype::A, Class::IN));
+    assert_equal!(rt, question.qname().parser().pos(), 12);
+}
+
+/// Checks each field of the answer.
+fn is_answer<R: Octets + Copy>(rt: &impl Abort, answer: &Record<R>) {
+    assert_equal!(rt, (answer.rtype(), answer.class()), (Rtype::A, Class::IN));
+    assert_equal!(rt, answer.ttl().as_secs(), 300);
+    assert_equal!(rt, answer.owner().parser().pos(), 29);
+    assert_equal!(rt, (answer.rdata().pos(), answer.rdata().len()), (41, 45));
 }
 
 #[derive(Drop)]
@@ -173,15 +201,10 @@ impl<H: Abort + AllocGlobal> Case<H> for EveryField {
             (Opcode::QUERY, Rcode::NOERROR)
         );
         for question in message.questions() {
-            let typed = (question.qtype(), question.qclass());
-            assert_equal!(rt, typed, (Rtype::A, Class::IN));
-            assert_equal!(rt, question.qname().parser().pos(), 12);
+            is_asked(rt, &question);
         }
         for answer in message.answers() {
-            assert_equal!(rt, (answer.rtype(), answer.class()), (Rtype::A, Class::IN));
-            assert_equal!(rt, answer.ttl().as_secs(), 300);
-            assert_equal!(rt, answer.owner().parser().pos(), 29);
-            assert_equal!(rt, (answer.rdata().pos(), answer.rdata().len()), (41, 45));
+            is_answer(rt, &answer);
         }
     }
 }
@@ -193,17 +216,21 @@ fn has_every_field<H: Abort + AllocGlobal>(rt: &H, octets: &[u8]) {
 
 #[test]
 fn every_field_of_a_message_is_read(rt: HostRuntime) {
-    let octets =
-        b"\x12\x34\x85\x80\x00\x01\x00\x01\x00\x00\x00\x00\x07example\x03com\x00\x00\x01\x00\x01\
-\xC0\x0C\x00\x01\x00\x01\x00\x00\x01\x2C\x00\x04\x01\x02\x03\x04"
-            .as_slice();
-    has_every_field(&rt, octets);
-    has_labels(&rt, octets, 29, &[b"example", b"com"]);
+    has_every_field(&rt, ANSWERED);
+    has_labels(&rt, ANSWERED, 29, &[b"example", b"com"]);
 }
 
 /// Returns the header of a message.
 fn header_of<R: Octets + Copy>(octets: R) -> Result<Header, Malformed> {
     Ok(Message::parse(octets)?.header())
+}
+
+/// Checks the flags and the codes of a header with these bits.
+fn has_bits(rt: &impl Abort, bits: [u8; 2], flags: Flags, codes: (u8, u8)) {
+    let octets = [0, 0, bits[0], bits[1], 0, 0, 0, 0, 0, 0, 0, 0];
+    let header = unwrap(rt, header_of(octets.as_slice()));
+    assert_equal!(rt, header.flags, flags);
+    assert_equal!(rt, (header.opcode.to_int(), header.rcode.to_int()), codes);
 }
 
 #[test]
@@ -223,16 +250,7 @@ fn each_bit_of_a_header_has_its_place(rt: HostRuntime) {
         (0, 0x0F, none, 0, 15),
         (0, 0x01, none, 0, 1),
     ] {
-        let mut octets = [0u8; 12];
-        octets[2] = high;
-        octets[3] = low;
-        let header = unwrap(&rt, header_of(octets.as_slice()));
-        assert_equal!(&rt, header.flags, flags);
-        assert_equal!(
-            &rt,
-            (header.opcode.to_int(), header.rcode.to_int()),
-            (opcode, rcode)
-        );
+        has_bits(&rt, [high, low], flags, (opcode, rcode));
     }
 }
 
@@ -323,14 +341,17 @@ fn a_message_has_65535_octets_at_most(rt: HostRuntime) {
     assert_true!(&rt, is_message(octets.as_slice()));
 }
 
+/// Returns what a refusal shows.
+fn shown(rt: &(impl Abort + AllocGlobal), refused: Malformed) -> String {
+    unwrap(rt, format!(in rt.alloc(); "{refused}"))
+}
+
 #[test]
 fn a_refusal_tells_what_it_is(rt: HostRuntime) {
-    let refused = unwrap(&rt, header_of(b"".as_slice()).err().ok_or("it was read"));
-    assert_equal!(
-        &rt,
-        unwrap(&rt, format!(in rt.alloc(); "{refused}")).as_str(),
-        "malformed"
-    );
+    let Err(refused) = header_of(b"".as_slice()) else {
+        panic!(&rt; "it was read");
+    };
+    assert_equal!(&rt, shown(&rt, refused).as_str(), "malformed");
     assert_equal!(&rt, refused, Malformed);
     assert_equal!(&rt, ReadError::from(refused), ReadError::Malformed);
 }

@@ -8,12 +8,13 @@ use octseq::{AppendError, Array, AsOctets, OctetsBuilder, ShortBuf, Truncate};
 use octseq_asserts::{assert_equal, assert_true};
 use octseq_dns::data::Txt;
 use octseq_dns::edns::{OptData, PushOptError, UnknownOptData};
-use octseq_dns::opt::Opt;
+use octseq_dns::opt::{EdnsOption, Opt};
 use octseq_dns::txt::{append_strings, append_text};
 use octseq_dns::{
     AdditionalBuilder, AnswerBuilder, Class, Compressor, Message, MessageBuilder, Name,
     QuestionBuilder, Rcode, Rtype, Target, Ttl, UnknownRecordData,
 };
+use std::alloc::AllocGlobal;
 use std::process::Abort;
 
 /// A table of a few targets.
@@ -54,6 +55,16 @@ fn an_answer_has_no_other_flag_and_no_record(rt: HostRuntime) {
     assert_equal!(&rt, answer.as_slice(), wanted.as_slice());
 }
 
+/// Checks that an answer to a request is refused in a message.
+fn has_no_room<B: OctetsBuilder + Truncate + AsOctetsMut>(
+    rt: &impl Abort,
+    request: &Message<&[u8]>,
+    message: MessageBuilder<B, Table>,
+) {
+    let refused = message.start_answer(request, Rcode::NOERROR).err();
+    assert_equal!(rt, refused, SHORT.err());
+}
+
 #[test]
 fn an_answer_is_refused_where_its_questions_pass_a_limit(rt: HostRuntime) {
     let octets = b"\x12\x34\x01\0\0\x01\0\0\0\0\0\0\x07example\x03com\0\0\x01\0\x01";
@@ -62,15 +73,13 @@ fn an_answer_is_refused_where_its_questions_pass_a_limit(rt: HostRuntime) {
         &rt,
         MessageBuilder::from_builder(Array::<28>::new(), Table::new()),
     );
-    let refused = message.start_answer(&request, Rcode::NOERROR).err();
-    assert_equal!(&rt, refused, SHORT.err());
+    has_no_room(&rt, &request, message);
     let mut message = unwrap(
         &rt,
         MessageBuilder::from_builder(Array::<64>::new(), Table::new()),
     );
     message.set_push_limit(28);
-    let refused = message.start_answer(&request, Rcode::NOERROR).err();
-    assert_equal!(&rt, refused, SHORT.err());
+    has_no_room(&rt, &request, message);
     let mut message = unwrap(
         &rt,
         MessageBuilder::from_builder(Array::<64>::new(), Table::new()),
@@ -106,6 +115,13 @@ fn push_answer<B: OctetsBuilder + Truncate + AsOctetsMut>(
     answers.push_record(&name.parsed(), Class::IN, Ttl::from_secs(300), &rdata)
 }
 
+/// Checks the octets of the message after its header. Returns their number, with those of the header.
+fn has_front(rt: &impl Abort, octets: &[u8]) -> usize {
+    let len = octets.len();
+    assert_equal!(rt, octets.get(12..), MESSAGE.get(12..len));
+    len
+}
+
 /// Pushes the question and the answers within a limit, until one is refused. Returns the number of octets.
 fn pushed_within(rt: &impl Abort, limit: usize) -> usize {
     let mut message = unwrap(
@@ -124,9 +140,7 @@ fn pushed_within(rt: &impl Abort, limit: usize) -> usize {
     }
     let fits = limit >= MESSAGE.len();
     assert_equal!(rt, went, if fits { Ok(()) } else { SHORT });
-    let len = answers.as_slice().len();
-    assert_equal!(rt, answers.as_slice().get(12..), MESSAGE.get(12..len));
-    len
+    has_front(rt, answers.as_slice())
 }
 
 #[test]
@@ -141,6 +155,21 @@ fn pushes_stay_within_a_limit(rt: HostRuntime) {
     assert_equal!(&rt, pushed_within(&rt, usize::MAX), 61);
 }
 
+/// Checks that another answer is refused.
+fn takes_no_answer<B: OctetsBuilder + Truncate + AsOctetsMut>(
+    rt: &impl Abort,
+    answers: &mut AnswerBuilder<B, Table>,
+) {
+    assert_equal!(rt, push_answer(rt, answers, &[5, 6, 7, 8]), SHORT);
+}
+
+/// Pushes another answer without a limit.
+fn takes_another_answer(rt: &impl Abort, answers: &mut AnswerBuilder<Array<512>, Table>) {
+    assert_equal!(rt, answers.push_limit(), None);
+    unwrap(rt, push_answer(rt, answers, &[5, 6, 7, 8]));
+    assert_equal!(rt, answers.as_slice(), MESSAGE);
+}
+
 #[test]
 fn what_is_there_stays_past_a_limit(rt: HostRuntime) {
     let message = unwrap(
@@ -153,14 +182,12 @@ fn what_is_there_stays_past_a_limit(rt: HostRuntime) {
     let mut answers = questions.answer();
     unwrap(&rt, push_answer(&rt, &mut answers, &[1, 2, 3, 4]));
     answers.set_push_limit(20);
-    assert_equal!(&rt, push_answer(&rt, &mut answers, &[5, 6, 7, 8]), SHORT);
+    takes_no_answer(&rt, &mut answers);
     assert_equal!(&rt, answers.as_slice().get(12..), MESSAGE.get(12..45));
     answers.set_push_limit(60);
-    assert_equal!(&rt, push_answer(&rt, &mut answers, &[5, 6, 7, 8]), SHORT);
+    takes_no_answer(&rt, &mut answers);
     answers.clear_push_limit();
-    assert_equal!(&rt, answers.push_limit(), None);
-    unwrap(&rt, push_answer(&rt, &mut answers, &[5, 6, 7, 8]));
-    assert_equal!(&rt, answers.as_slice(), MESSAGE);
+    takes_another_answer(&rt, &mut answers);
 }
 
 #[test]
@@ -232,6 +259,20 @@ fn a_record_of_its_type_is_one_of_edns(rt: HostRuntime) {
     assert_equal!(&rt, again, Err(PushOptError::AlreadyPushed));
 }
 
+/// Checks what an OPT record says beside its options.
+fn has_fields(rt: &impl Abort, opt: &Opt<&[u8]>) {
+    let found = (opt.udp_payload_size(), opt.extended_rcode());
+    assert_equal!(rt, found, (1232, 1));
+    assert_equal!(rt, (opt.version(), opt.dnssec_ok()), (0, true));
+}
+
+/// Checks an option.
+fn is_option(rt: &impl Abort, found: Option<EdnsOption<&[u8]>>, wanted: &UnknownOptData<'_>) {
+    let option = unwrap(rt, found.ok_or("no option"));
+    assert_equal!(rt, option.code, wanted.code);
+    assert_equal!(rt, option.octets.peek_all(), wanted.octets);
+}
+
 #[test]
 fn a_record_of_edns_is_read_back(rt: HostRuntime) {
     let mut additionals = additionals(&rt, Array::<64>::new());
@@ -245,50 +286,65 @@ fn a_record_of_edns_is_read_back(rt: HostRuntime) {
     let record = unwrap(&rt, message.additionals().next().ok_or("no record"));
     assert_true!(&rt, record.owner().is_root());
     let opt = unwrap(&rt, Opt::from_record(&record));
-    assert_equal!(&rt, opt.udp_payload_size(), 1232);
-    assert_equal!(&rt, opt.extended_rcode(), 1);
-    assert_equal!(&rt, opt.version(), 0);
-    assert_true!(&rt, opt.dnssec_ok());
+    has_fields(&rt, &opt);
     let mut options = opt.options();
-    let first = unwrap(&rt, options.next().ok_or("no option"));
-    assert_equal!(&rt, first.code, 10);
-    assert_equal!(&rt, first.octets.peek_all(), COOKIE.octets);
-    let second = unwrap(&rt, options.next().ok_or("no option"));
-    assert_equal!(&rt, second.code, 12);
-    assert_equal!(&rt, second.octets.peek_all(), b"".as_slice());
+    is_option(&rt, options.next(), &COOKIE);
+    is_option(&rt, options.next(), &padding);
     assert_true!(&rt, options.next().is_none());
+}
+
+/// Checks that an OPT record with a cookie is refused within a limit.
+fn is_no_opt_within(rt: &impl Abort, limit: usize) {
+    let mut additionals = additionals(rt, Array::<35>::new());
+    additionals.set_push_limit(limit);
+    let refused = push_opt(&mut additionals, &[COOKIE]);
+    assert_equal!(rt, refused, Err(PushOptError::Short(ShortBuf)));
+    assert_equal!(rt, additionals.as_slice(), [0; 12].as_slice());
+    assert_true!(rt, !additionals.has_opt());
+}
+
+/// Checks that an OPT record without options is refused in an array that is an octet too short.
+fn has_no_room_for_opt(rt: &impl Abort) {
+    let refused = push_opt(&mut additionals(rt, Array::<22>::new()), &[]);
+    assert_equal!(rt, refused, Err(PushOptError::Short(ShortBuf)));
 }
 
 #[test]
 fn a_record_of_edns_is_pushed_whole_or_not_at_all(rt: HostRuntime) {
-    let short = Err(PushOptError::Short(ShortBuf));
     for limit in 12..35 {
-        let mut additionals = additionals(&rt, Array::<35>::new());
-        additionals.set_push_limit(limit);
-        assert_equal!(&rt, push_opt(&mut additionals, &[COOKIE]), short);
-        assert_equal!(&rt, additionals.as_slice(), [0; 12].as_slice());
-        assert_true!(&rt, !additionals.has_opt());
+        is_no_opt_within(&rt, limit);
     }
     let mut fits = additionals(&rt, Array::<35>::new());
     unwrap(&rt, push_opt(&mut fits, &[COOKIE]));
-    let mut none = additionals(&rt, Array::<22>::new());
-    assert_equal!(&rt, push_opt(&mut none, &[]), short);
+    has_no_room_for_opt(&rt);
     let mut alone = additionals(&rt, Array::<23>::new());
     unwrap(&rt, push_opt(&mut alone, &[]));
     assert_equal!(&rt, alone.as_slice().get(21..), Some(b"\0\0".as_slice()));
 }
 
+/// Checks that an option of these octets is refused.
+fn is_no_option(rt: &(impl Abort + AllocGlobal), octets: &[u8]) {
+    let mut additionals = additionals(rt, Vec::new(rt.alloc()));
+    let refused = push_opt(&mut additionals, &[UnknownOptData { code: 12, octets }]);
+    assert_equal!(rt, refused, Err(PushOptError::Short(ShortBuf)));
+    assert_equal!(rt, additionals.as_slice(), [0; 12].as_slice());
+}
+
 #[test]
 fn an_option_that_no_record_holds_is_refused(rt: HostRuntime) {
     let long = unwrap(&rt, vec![in rt.alloc(); 0u8; 65536]);
-    let mut additionals = additionals(&rt, Vec::new(rt.alloc()));
-    let option = UnknownOptData {
-        code: 12,
-        octets: &long,
-    };
-    let refused = push_opt(&mut additionals, &[option]);
-    assert_equal!(&rt, refused, Err(PushOptError::Short(ShortBuf)));
-    assert_equal!(&rt, additionals.as_slice(), [0; 12].as_slice());
+    is_no_option(&rt, &long);
+}
+
+/// Checks the strings of TXT data.
+fn has_strings(rt: &impl Abort, octets: &[u8], wanted: &[&[u8]]) {
+    let txt = unwrap(rt, Txt::from_octets(octets));
+    let mut strings = txt.strings();
+    for other in wanted {
+        let string = unwrap(rt, strings.next().ok_or("no string"));
+        assert_equal!(rt, string.as_slice(), *other);
+    }
+    assert_true!(rt, strings.next().is_none());
 }
 
 #[test]
@@ -299,13 +355,7 @@ fn strings_are_data(rt: HostRuntime) {
         append_strings(&mut octets, &[b"a".as_slice(), b"", b"bc"]),
     );
     assert_equal!(&rt, octets.as_slice(), b"\x01a\0\x02bc".as_slice());
-    let txt = unwrap(&rt, Txt::from_octets(octets.as_slice()));
-    let mut strings = txt.strings();
-    for wanted in [b"a".as_slice(), b"", b"bc"] {
-        let string = unwrap(&rt, strings.next().ok_or("no string"));
-        assert_equal!(&rt, string.as_slice(), wanted);
-    }
-    assert_true!(&rt, strings.next().is_none());
+    has_strings(&rt, octets.as_slice(), &[b"a", b"", b"bc"]);
 }
 
 #[test]
@@ -325,20 +375,25 @@ fn what_is_no_string_is_refused(rt: HostRuntime) {
     assert_equal!(&rt, few.as_slice(), b"".as_slice());
 }
 
-/// Checks the lengths of the strings of a text of this many octets.
-fn lengths_of_strings(rt: &impl Abort, len: usize, wanted: &[usize]) {
-    let text = [b'x'; 600];
-    let text = unwrap(rt, text.get(..len).ok_or("a long text"));
-    let mut octets = Array::<700>::new();
-    unwrap(rt, append_text(&mut octets, text));
-    assert_equal!(rt, octets.len(), len + wanted.len());
-    let txt = unwrap(rt, Txt::from_octets(octets.as_slice()));
+/// Checks the lengths of strings.
+fn has_lengths(rt: &impl Abort, octets: &[u8], wanted: &[usize]) {
+    let txt = unwrap(rt, Txt::from_octets(octets));
     let mut strings = txt.strings();
     for len in wanted {
         let string = unwrap(rt, strings.next().ok_or("no string"));
         assert_equal!(rt, string.len(), *len);
     }
     assert_true!(rt, strings.next().is_none());
+}
+
+/// Checks the lengths of the strings of a text of this many octets.
+fn lengths_of_strings(rt: &impl Abort, len: usize, wanted: &[usize]) {
+    let text = [b'x'; 600];
+    let text = unwrap(rt, text.get(..len).ok_or("a long text"));
+    let mut octets = Array::<700>::new();
+    unwrap(rt, append_text(&mut octets, text));
+    assert_equal!(rt, octets.len(), len.saturating_add(wanted.len()));
+    has_lengths(rt, octets.as_slice(), wanted);
 }
 
 #[test]

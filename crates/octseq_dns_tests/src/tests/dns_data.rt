@@ -2,7 +2,7 @@
 use crate::tests::unwrap;
 use octseq::Turns;
 use octseq::octets::Octets;
-use octseq_asserts::{Case, assert_equal, assert_true, over_each};
+use octseq_asserts::{Case, assert_equal, over_each};
 use octseq_dns::data::{Soa, Srv, Txt};
 use octseq_dns::opt::Opt;
 use octseq_dns::{Data, Malformed, Message, ParsedName};
@@ -223,6 +223,19 @@ fn data_is_read_from_each_kind_of_octets(rt: HostRuntime) {
     unwrap(&rt, over_each(&rt, &IsService, octets.as_slice()));
 }
 
+/// Checks the places and the lengths of the strings of a text.
+fn stand_in_the_message<R: Octets + Copy>(rt: &impl Abort, txt: &Txt<R>) {
+    let places = [(42, 1), (44, 0), (45, 2)];
+    let mut count = 0usize;
+    for string in unwrap(rt, unwrap(rt, txt.clone()).strings().clone()) {
+        assert_equal!(rt, string.is_empty(), unwrap(rt, string.clone()).len() == 0);
+        let found = (string.pos(), string.len());
+        assert_equal!(rt, Some(&found), places.get(count));
+        count = count.saturating_add(1);
+    }
+    assert_equal!(rt, count, 3);
+}
+
 #[derive(Drop)]
 struct StringsStandInTheMessage;
 
@@ -231,19 +244,7 @@ impl<H: Abort + AllocGlobal> Case<H> for StringsStandInTheMessage {
         for answer in unwrap(rt, Message::parse(octets)).answers() {
             let mut turns = Turns::new();
             match unwrap(rt, answer.data_counted(&mut turns).clone()) {
-                Data::Txt(txt) => {
-                    let mut places = [(0usize, 0usize); 3];
-                    let mut count = 0usize;
-                    for string in unwrap(rt, unwrap(rt, txt.clone()).strings().clone()) {
-                        assert_equal!(rt, string.is_empty(), unwrap(rt, string.clone()).len() == 0);
-                        assert_true!(rt, count < 3);
-                        if count < 3 {
-                            places[count] = (string.pos(), string.len());
-                            count += 1;
-                        }
-                    }
-                    assert_equal!(rt, (count, places), (3, [(42, 1), (44, 0), (45, 2)]));
-                }
+                Data::Txt(txt) => stand_in_the_message(rt, &txt),
                 _ => panic!(rt; "no text"),
             }
         }
@@ -262,28 +263,38 @@ fn strings_stand_in_the_message(rt: HostRuntime) {
 /// What an OPT record says: the payload size, the response code, the version and the DO bit.
 type Edns = Option<(u16, u8, u8, bool)>;
 
-/// Returns what the additional record of a message says as an OPT record. Appends each option: its code, and its
-/// octets.
-fn edns<R: Octets + Copy>(rt: &impl Abort, options: &mut Vec<u8>, octets: R) -> Edns {
-    for entry in unwrap(rt, Message::parse(octets)).additionals() {
-        return match Opt::from_record(&entry) {
-            Ok(opt) => {
-                for option in opt.options() {
-                    unwrap(rt, options.extend_from_slice(&option.code.to_be_bytes()));
-                    unwrap(rt, options.extend_from_slice(option.octets.peek_all()));
-                    unwrap(rt, options.push(b'|'));
-                }
-                Some((
-                    opt.udp_payload_size(),
-                    opt.extended_rcode(),
-                    opt.version(),
-                    opt.dnssec_ok(),
-                ))
-            }
-            Err(Malformed) => None,
-        };
+/// Appends each option of an OPT record: its code, and its octets.
+fn push_options<R: Octets + Copy>(rt: &impl Abort, text: &mut Vec<u8>, opt: &Opt<R>) {
+    for option in opt.options() {
+        push_octets(
+            rt,
+            text,
+            &option.code.to_be_bytes(),
+            option.octets.peek_all(),
+        );
+        unwrap(rt, text.push(b'|'));
     }
-    panic!(rt; "no additional record")
+}
+
+/// Returns what the additional record of a message says as an OPT record. Appends its options.
+fn edns<R: Octets + Copy>(rt: &impl Abort, options: &mut Vec<u8>, octets: R) -> Edns {
+    let message = unwrap(rt, Message::parse(octets));
+    let entry = unwrap(
+        rt,
+        message.additionals().next().ok_or("no additional record"),
+    );
+    match Opt::from_record(&entry) {
+        Ok(opt) => {
+            push_options(rt, options, &opt);
+            Some((
+                opt.udp_payload_size(),
+                opt.extended_rcode(),
+                opt.version(),
+                opt.dnssec_ok(),
+            ))
+        }
+        Err(Malformed) => None,
+    }
 }
 
 #[test]

@@ -40,8 +40,8 @@ fn asked(rt: &(impl Abort + AllocGlobal), count: u8) -> Vec<u8> {
 }
 
 /// Returns the places of the first question of a message, and of its sole question.
-fn places<R: Octets + Copy>(octets: R) -> Result<(Option<usize>, Option<usize>), Malformed> {
-    let message = Message::parse(octets)?;
+fn places<R: Octets + Copy>(rt: &impl Abort, octets: R) -> (Option<usize>, Option<usize>) {
+    let message = unwrap(rt, Message::parse(octets));
     let first = message
         .first_question()
         .map(|found| found.qname().parser().pos());
@@ -49,14 +49,14 @@ fn places<R: Octets + Copy>(octets: R) -> Result<(Option<usize>, Option<usize>),
         Ok(found) => Some(found.qname().parser().pos()),
         Err(NotOneQuestion) => None,
     };
-    Ok((first, sole))
+    (first, sole)
 }
 
 struct AMessageHasAQuestion(Option<usize>, Option<usize>);
 
 impl<H: Abort> Case<H> for AMessageHasAQuestion {
     fn holds<R: Octets + Copy>(&self, rt: &H, octets: R) {
-        assert_equal!(rt, unwrap(rt, places(octets)), (self.0, self.1));
+        assert_equal!(rt, places(rt, octets), (self.0, self.1));
     }
 }
 
@@ -68,7 +68,7 @@ fn a_message_has_a_first_question_and_a_sole_one(rt: HostRuntime) {
         (2, Some(12), None),
     ] {
         let octets = asked(&rt, count);
-        assert_equal!(&rt, unwrap(&rt, places(octets.as_slice())), (first, sole));
+        assert_equal!(&rt, places(&rt, octets.as_slice()), (first, sole));
     }
     let octets = asked(&rt, 1);
     unwrap(
@@ -149,6 +149,12 @@ fn canonical<R: Octets + Copy>(rt: &(impl Abort + AllocGlobal), octets: R) -> Op
     }
 }
 
+/// Checks the canonical name of a message.
+fn is_canonical(rt: &(impl Abort + AllocGlobal), octets: &[u8], wanted: Option<&[u8]>) {
+    let found = canonical(rt, octets);
+    assert_equal!(rt, found.as_ref().map(|name| name.as_slice()), wanted);
+}
+
 #[test]
 fn fifteen_aliases_are_followed_and_no_more(rt: HostRuntime) {
     for (length, wanted) in [
@@ -158,9 +164,7 @@ fn fifteen_aliases_are_followed_and_no_more(rt: HostRuntime) {
         (16, None),
         (17, None),
     ] {
-        let octets = chain(&rt, length);
-        let found = canonical(&rt, octets.as_slice());
-        assert_equal!(&rt, found.as_ref().map(|name| name.as_slice()), wanted);
+        is_canonical(&rt, chain(&rt, length).as_slice(), wanted);
     }
 }
 
@@ -216,12 +220,9 @@ fn the_first_alias_of_a_name_is_followed(rt: HostRuntime) {
             None,
         ),
     ] {
-        let octets = answered(&rt, count, answers);
-        let found = canonical(&rt, octets.as_slice());
-        assert_equal!(&rt, found.as_ref().map(|name| name.as_slice()), wanted);
+        is_canonical(&rt, answered(&rt, count, answers).as_slice(), wanted);
     }
-    let found = canonical(&rt, b"\0\0\0\0\0\0\0\0\0\0\0\0".as_slice());
-    assert_true!(&rt, found.is_none());
+    is_canonical(&rt, b"\0\0\0\0\0\0\0\0\0\0\0\0", None);
 }
 
 #[test]
@@ -236,8 +237,8 @@ fn a_chain_that_is_too_long_is_counted_too(rt: HostRuntime) {
 /// of options; or `None` without one; or a refusal.
 type Edns = Result<Option<(u16, u16, u8, bool, usize)>, Malformed>;
 
-fn edns<R: Octets + Copy>(octets: R) -> Result<Edns, Malformed> {
-    let message = Message::parse(octets)?;
+fn edns<R: Octets + Copy>(rt: &impl Abort, octets: R) -> Edns {
+    let message = unwrap(rt, Message::parse(octets));
     match message.opt() {
         Ok(Some(opt)) => {
             let rcode = opt.rcode(message.header());
@@ -245,16 +246,16 @@ fn edns<R: Octets + Copy>(octets: R) -> Result<Edns, Malformed> {
             for _option in opt.options() {
                 count = count.saturating_add(1);
             }
-            Ok(Ok(Some((
+            Ok(Some((
                 opt.udp_payload_size(),
                 rcode,
                 opt.version(),
                 opt.dnssec_ok(),
                 count,
-            ))))
+            )))
         }
-        Ok(None) => Ok(Ok(None)),
-        Err(Malformed) => Ok(Err(Malformed)),
+        Ok(None) => Ok(None),
+        Err(Malformed) => Err(Malformed),
     }
 }
 
@@ -262,6 +263,22 @@ fn edns<R: Octets + Copy>(octets: R) -> Result<Edns, Malformed> {
 const OPT: &[u8] = b"\x00\x00\x29\x10\x00\x01\x00\x80\x00\x00\x04\x00\x0C\x00\x00";
 
 const ADDRESS: &[u8] = b"\x00\x00\x01\x00\x01\x00\x00\x00\x00\x00\x00";
+
+/// Makes a message of additional records, of which those without octets are left out.
+fn added(rt: &(impl Abort + AllocGlobal), parts: &[&[u8]]) -> Vec<u8> {
+    let mut count = 0u8;
+    for part in parts {
+        if !part.is_empty() {
+            count = count.saturating_add(1);
+        }
+    }
+    let mut octets = Vec::new(rt.alloc());
+    header(rt, &mut octets, [0, 0, 0, count]);
+    for part in parts {
+        unwrap(rt, octets.extend_from_slice(part));
+    }
+    octets
+}
 
 #[test]
 fn a_message_has_one_record_of_edns(rt: HostRuntime) {
@@ -284,18 +301,8 @@ fn a_message_has_one_record_of_edns(rt: HostRuntime) {
             Err(Malformed),
         ),
     ] {
-        let mut octets = Vec::new(rt.alloc());
-        let mut count = 0u8;
-        let mut body = Vec::new(rt.alloc());
-        for part in parts {
-            if !part.is_empty() {
-                count = count.saturating_add(1);
-                unwrap(&rt, body.extend_from_slice(part));
-            }
-        }
-        header(&rt, &mut octets, [0, 0, 0, count]);
-        unwrap(&rt, octets.extend_from_slice(body.as_slice()));
-        assert_equal!(&rt, unwrap(&rt, edns(octets.as_slice())), wanted);
+        let octets = added(&rt, parts);
+        assert_equal!(&rt, edns(&rt, octets.as_slice()), wanted);
     }
 }
 
@@ -304,21 +311,26 @@ const BAD_COOKIE: &[u8] = b"\xF6\xAB\x81\x87\x00\x01\x00\x00\x00\x00\x00\x01\x00
 \x00\x00\x29\x10\x00\x01\x00\x00\x00\x00\x1C\x00\x0A\x00\x18\
 \x36\xBF\x11\x1F\xEF\x2E\x01\x09\x7D\x8F\xFE\x06\x5C\x63\x6F\xFB\x14\x2D\x76\x74\x94\x40\x7A\x73";
 
+/// Checks that an option is the cookie of that message.
+fn is_bad_cookie<R: Octets + Copy>(rt: &impl Abort, option: &EdnsOption<R>) {
+    let OptionData::Cookie(cookie) = option.data() else {
+        panic!(rt; "no cookie");
+    };
+    assert_equal!(rt, cookie.client, *b"\x36\xBF\x11\x1F\xEF\x2E\x01\x09");
+    let server = b"\x7D\x8F\xFE\x06\x5C\x63\x6F\xFB\x14\x2D\x76\x74\x94\x40\x7A\x73";
+    assert_equal!(rt, cookie.server.peek_all(), server.as_slice());
+}
+
 struct ACookieIsBad;
 
 impl<H: Abort> Case<H> for ACookieIsBad {
     fn holds<R: Octets + Copy>(&self, rt: &H, octets: R) {
-        let found = unwrap(rt, edns(octets));
+        let found = edns(rt, octets);
         assert_equal!(rt, found, Ok(Some((4096, 23, 0, false, 1))));
         let message = unwrap(rt, Message::parse(octets));
         let opt = unwrap(rt, unwrap(rt, message.opt()).ok_or("no record of EDNS"));
         for option in opt.options() {
-            let OptionData::Cookie(cookie) = option.data() else {
-                panic!(rt; "no cookie");
-            };
-            assert_equal!(rt, cookie.client, *b"\x36\xBF\x11\x1F\xEF\x2E\x01\x09");
-            let server = b"\x7D\x8F\xFE\x06\x5C\x63\x6F\xFB\x14\x2D\x76\x74\x94\x40\x7A\x73";
-            assert_equal!(rt, cookie.server.peek_all(), server.as_slice());
+            is_bad_cookie(rt, &option);
         }
     }
 }

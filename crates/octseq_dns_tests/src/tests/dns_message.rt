@@ -4,6 +4,7 @@ use octseq::octets::Octets;
 use octseq::str::DisplayError;
 use octseq::{Array, AsOctets, Parser, StrBuilder};
 use octseq_asserts::{assert_equal, assert_true};
+use octseq_dns::message::Sections;
 use octseq_dns::{Data, Malformed, Message, Record, Rtype, Ttl};
 use std::alloc::AllocGlobal;
 use std::process::Abort;
@@ -50,12 +51,12 @@ fn shown<R: Octets + Copy>(rt: &(impl Abort + AllocGlobal), octets: R) -> StrBui
 }
 
 /// Appends a message to a text in an array.
-fn appended<R: Octets + Copy>(
-    octets: R,
+fn appended(
+    rt: &impl Abort,
+    octets: &[u8],
     text: &mut StrBuilder<Array<64>>,
-) -> Result<Result<(), DisplayError>, Malformed> {
-    let message = Message::parse(octets)?;
-    Ok(message.append_text(text))
+) -> Result<(), DisplayError> {
+    unwrap(rt, Message::parse(octets)).append_text(text)
 }
 
 /// A question for `example.com.`, and an answer whose owner is a pointer to it.
@@ -99,14 +100,11 @@ fn messages_show_line_by_line(rt: HostRuntime) {
 fn a_text_that_would_pass_the_limit_stays(rt: HostRuntime) {
     let mut text = StrBuilder::<Array<64>>::default();
     unwrap(&rt, text.try_push_str("before "));
-    assert_equal!(
-        &rt,
-        unwrap(&rt, appended(ANSWERED, &mut text)),
-        Err(DisplayError::Short)
-    );
+    let refused = appended(&rt, ANSWERED, &mut text);
+    assert_equal!(&rt, refused, Err(DisplayError::Short));
     assert_equal!(&rt, text.as_str(), "before ");
-    let nothing = b"\0\0\0\0\0\0\0\0\0\0\0\0".as_slice();
-    assert_equal!(&rt, unwrap(&rt, appended(nothing, &mut text)), Ok(()));
+    let nothing = b"\0\0\0\0\0\0\0\0\0\0\0\0";
+    assert_equal!(&rt, appended(&rt, nothing, &mut text), Ok(()));
     assert_equal!(&rt, text.as_str(), "before id 0 opcode 0 rcode 0 flags\n");
 }
 
@@ -150,9 +148,8 @@ fn has_address<R: Octets + Copy>(
     }
 }
 
-/// Checks that the lists of the message have one question, two addresses as answers, and nothing else.
-fn lists_entries<R: Octets + Copy>(rt: &(impl Abort + AllocGlobal), octets: R) {
-    let sections = unwrap(rt, unwrap(rt, Message::parse(octets)).collect(rt.alloc()));
+/// Checks that the lists have one question, two addresses as answers, and nothing else.
+fn are_listed<R: Octets + Copy>(rt: &impl Abort, sections: &Sections<R>) {
     match sections.answers.as_slice() {
         [first, second] => {
             has_address(rt, first, &[b"example", b"com"], [1, 2, 3, 4]);
@@ -163,6 +160,12 @@ fn lists_entries<R: Octets + Copy>(rt: &(impl Abort + AllocGlobal), octets: R) {
     assert_equal!(rt, sections.questions.len(), 1);
     assert_equal!(rt, sections.authorities.len(), 0);
     assert_equal!(rt, sections.additionals.len(), 0);
+}
+
+/// Lists the entries of a message, and checks them.
+fn lists_entries<R: Octets + Copy>(rt: &(impl Abort + AllocGlobal), octets: R) {
+    let message = unwrap(rt, Message::parse(octets));
+    are_listed(rt, &unwrap(rt, message.collect(rt.alloc())));
 }
 
 #[test]

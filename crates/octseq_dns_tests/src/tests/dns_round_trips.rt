@@ -6,7 +6,8 @@ use octseq::octets::Octets;
 use octseq::{AppendError, Array, OctetsBuilder, ShortBuf, Truncate};
 use octseq_asserts::{assert_equal, assert_true};
 use octseq_dns::{
-    Compressor, Malformed, Message, MessageBuilder, Record, RewriteError, Target, can_move, rewrite,
+    AuthorityBuilder, Compressor, Malformed, Message, MessageBuilder, Record, RewriteError, Target,
+    can_move, rewrite,
 };
 use std::alloc::AllocGlobal;
 use std::process::Abort;
@@ -97,20 +98,21 @@ fn names_are_written_plain_anew(rt: HostRuntime) {
 
 /// Rewrites a message, and returns the error, if there is one.
 fn refusal<R: Octets + Copy, B: OctetsBuilder + Truncate + AsOctetsMut>(
+    rt: &impl Abort,
     octets: R,
     builder: B,
-) -> Result<Option<RewriteError>, Malformed> {
-    let message = Message::parse(octets)?;
-    Ok(rewrite(&message, builder, ArrayVec::<Target, 6>::new()).err())
+) -> Option<RewriteError> {
+    let message = unwrap(rt, Message::parse(octets));
+    rewrite(&message, builder, ArrayVec::<Target, 6>::new()).err()
 }
 
 #[test]
 fn a_message_that_passes_the_limit_is_refused(rt: HostRuntime) {
     let short = Some(RewriteError::Short(ShortBuf));
-    assert_equal!(&rt, unwrap(&rt, refusal(PLAIN, Array::<11>::new())), short);
-    assert_equal!(&rt, unwrap(&rt, refusal(PLAIN, Array::<28>::new())), short);
-    assert_equal!(&rt, unwrap(&rt, refusal(PLAIN, Array::<251>::new())), short);
-    assert_equal!(&rt, unwrap(&rt, refusal(PLAIN, Array::<252>::new())), None);
+    assert_equal!(&rt, refusal(&rt, PLAIN, Array::<11>::new()), short);
+    assert_equal!(&rt, refusal(&rt, PLAIN, Array::<28>::new()), short);
+    assert_equal!(&rt, refusal(&rt, PLAIN, Array::<251>::new()), short);
+    assert_equal!(&rt, refusal(&rt, PLAIN, Array::<252>::new()), None);
 }
 
 /// An answer of the root, of type NS, whose data is the front of a pointer. It can't be moved.
@@ -120,17 +122,16 @@ const IMMOVABLE: &[u8] = b"\0\0\0\0\0\0\0\x01\0\0\0\0\0\0\x02\0\x01\0\0\0\x3C\0\
 const EMPTY: &[u8] = b"\0\0\0\0\0\0\0\x01\0\0\0\0\0\0\x02\0\x01\0\0\0\x3C\0\0";
 
 /// Whether a message can be moved.
-fn moves<R: Octets + Copy>(octets: R) -> Result<bool, Malformed> {
-    let message = Message::parse(octets)?;
-    Ok(can_move(&message))
+fn moves<R: Octets + Copy>(rt: &impl Abort, octets: R) -> bool {
+    can_move(&unwrap(rt, Message::parse(octets)))
 }
 
 #[test]
 fn a_message_that_cant_be_moved_is_refused(rt: HostRuntime) {
-    assert_true!(&rt, !unwrap(&rt, moves(IMMOVABLE)));
-    let refused = unwrap(&rt, refusal(IMMOVABLE, Array::<512>::new()));
+    assert_true!(&rt, !moves(&rt, IMMOVABLE));
+    let refused = refusal(&rt, IMMOVABLE, Array::<512>::new());
     assert_equal!(&rt, refused, Some(RewriteError::Immovable));
-    assert_true!(&rt, unwrap(&rt, moves(EMPTY)));
+    assert_true!(&rt, moves(&rt, EMPTY));
     is_rewritten(
         &rt,
         EMPTY,
@@ -140,20 +141,35 @@ fn a_message_that_cant_be_moved_is_refused(rt: HostRuntime) {
     );
 }
 
-/// Pushes a record that was read to each section of records of a new message in turn. Returns the octets.
+/// Pushes a record that was read to the answers and then to the authorities of a new message.
+fn in_two_sections<R: Octets + Copy, B: OctetsBuilder + Truncate + AsOctetsMut>(
+    rt: &impl Abort,
+    builder: B,
+    entry: &Record<R>,
+) -> AuthorityBuilder<B, ArrayVec<Target, 8>> {
+    let (owner, data) = (entry.owner(), entry.data());
+    let (class, ttl) = (entry.class(), entry.ttl());
+    let message = unwrap(
+        rt,
+        MessageBuilder::from_builder(builder, ArrayVec::<Target, 8>::new()),
+    );
+    let mut answers = message.question().answer();
+    unwrap(rt, answers.push_record(&owner, class, ttl, &data));
+    let mut authorities = answers.authority();
+    unwrap(rt, authorities.push_record(&owner, class, ttl, &data));
+    authorities
+}
+
+/// Pushes a record that was read to each section of records of a new message in turn. Returns the octets, or the
+/// refusal of the last push.
 fn in_each_section<R: Octets + Copy, B: OctetsBuilder + Truncate + AsOctetsMut>(
+    rt: &impl Abort,
     builder: B,
     entry: &Record<R>,
 ) -> Result<B, AppendError> {
+    let mut additionals = in_two_sections(rt, builder, entry).additional();
     let (owner, data) = (entry.owner(), entry.data());
-    let (class, ttl) = (entry.class(), entry.ttl());
-    let message = MessageBuilder::from_builder(builder, ArrayVec::<Target, 8>::new())?;
-    let mut answers = message.question().answer();
-    answers.push_record(&owner, class, ttl, &data)?;
-    let mut authorities = answers.authority();
-    authorities.push_record(&owner, class, ttl, &data)?;
-    let mut additionals = authorities.additional();
-    additionals.push_record(&owner, class, ttl, &data)?;
+    additionals.push_record(&owner, entry.class(), entry.ttl(), &data)?;
     Ok(additionals.finish().0)
 }
 
@@ -173,14 +189,14 @@ fn is_pushed_to_each_section<R: Octets + Copy>(rt: &(impl Abort + AllocGlobal), 
             .nth(2)
             .ok_or(Malformed),
     );
-    let octets = unwrap(rt, in_each_section(Array::<76>::new(), &exchange));
+    let octets = unwrap(rt, in_each_section(rt, Array::<76>::new(), &exchange));
     assert_equal!(rt, octets.as_slice(), EXCHANGES);
-    let octets = unwrap(rt, in_each_section(Vec::new(rt.alloc()), &exchange));
+    let octets = unwrap(rt, in_each_section(rt, Vec::new(rt.alloc()), &exchange));
     assert_equal!(rt, octets.as_slice(), EXCHANGES);
     let short = Some(AppendError::Short(ShortBuf));
     assert_equal!(
         rt,
-        in_each_section(Array::<75>::new(), &exchange).err(),
+        in_each_section(rt, Array::<75>::new(), &exchange).err(),
         short
     );
 }

@@ -2,7 +2,7 @@
 use crate::tests::unwrap;
 use octseq::str::StrBuilder;
 use octseq_asserts::assert_equal;
-use octseq_dns::{Message, Target, rewrite};
+use octseq_dns::{Data, Message, Target, rewrite};
 use std::alloc::AllocGlobal;
 use std::process::Abort;
 
@@ -144,14 +144,19 @@ fn answer(rt: &(impl Abort + AllocGlobal), rtype: u16, rdata: &[u8]) -> Vec<u8> 
     octets
 }
 
+/// Checks what data shows.
+fn data_shows(rt: &(impl Abort + AllocGlobal), found: &Data<&[u8]>, wanted: &str) {
+    let mut text = unwrap(rt, StrBuilder::<Vec<u8>>::new(rt.alloc()));
+    unwrap(rt, text.try_push_display(found));
+    assert_equal!(rt, text.as_str(), wanted);
+}
+
 /// Checks what the answer of a message shows, and its type.
 fn shows(rt: &(impl Abort + AllocGlobal), octets: &[u8], row: &Row) {
     let message = unwrap(rt, Message::parse(octets));
     for answer in message.answers() {
-        let mut text = unwrap(rt, StrBuilder::<Vec<u8>>::new(rt.alloc()));
         let found = answer.data();
-        unwrap(rt, text.try_push_display(&found));
-        assert_equal!(rt, text.as_str(), row.text);
+        data_shows(rt, &found, row.text);
         assert_equal!(rt, found.rtype().to_int(), row.rtype);
     }
 }

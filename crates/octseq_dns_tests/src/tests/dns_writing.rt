@@ -7,6 +7,8 @@ use octseq::compose::append_part_u8;
 use octseq::octets::Octets;
 use octseq::{AppendError, Array, EmptyBuilder, OctetsBuilder, ShortBuf, Truncate};
 use octseq_asserts::{assert_equal, assert_true};
+use octseq_dns::builder::SectionBuilder;
+use octseq_dns::builder::section::{RecordSection, Section};
 use octseq_dns::data::Txt;
 use octseq_dns::header::Flags;
 use octseq_dns::{
@@ -409,6 +411,18 @@ fn is_record<R: Octets + Copy>(
     assert_equal!(rt, entry.rdata().peek_all(), rdata);
 }
 
+/// Checks the entries of the last two sections of the message.
+fn last_are_read<R: Octets + Copy>(rt: &impl Abort, message: &Message<R>) {
+    for entry in message.authorities() {
+        let fields = (Rtype::TXT, Class::CH, 4_294_967_295);
+        is_record(rt, &entry, &[b"com"], fields, b"\x02hi");
+    }
+    for entry in message.additionals() {
+        let fields = (Rtype::OPT, Class::from_int(4096), 0);
+        is_record(rt, &entry, &[], fields, b"");
+    }
+}
+
 /// Checks the entries of the message.
 fn are_read<R: Octets + Copy>(rt: &impl Abort, octets: R) {
     let message = unwrap(rt, Message::parse(octets));
@@ -420,14 +434,7 @@ fn are_read<R: Octets + Copy>(rt: &impl Abort, octets: R) {
         let (name, fields) = ([b"example".as_slice(), b"com"], (Rtype::A, Class::IN, 300));
         is_record(rt, &entry, &name, fields, &[1, 2, 3, 4]);
     }
-    for entry in message.authorities() {
-        let fields = (Rtype::TXT, Class::CH, 4_294_967_295);
-        is_record(rt, &entry, &[b"com"], fields, b"\x02hi");
-    }
-    for entry in message.additionals() {
-        let fields = (Rtype::OPT, Class::from_int(4096), 0);
-        is_record(rt, &entry, &[], fields, b"");
-    }
+    last_are_read(rt, &message);
 }
 
 #[test]
@@ -445,6 +452,22 @@ fn entries_of_each_section_are_read(rt: HostRuntime) {
     are_read(&rt, octets.as_slice());
 }
 
+/// Pushes this many records of the root, of type NS.
+fn push_roots<S: RecordSection>(
+    rt: &impl Abort,
+    builder: &mut SectionBuilder<Array<128>, Uncompressed, S>,
+    root: &ParsedName<&[u8]>,
+    count: usize,
+) {
+    let rdata = UnknownRecordData::new(Rtype::NS, b"\0");
+    for _ in 0..count {
+        unwrap(
+            rt,
+            builder.push_record(root, Class::IN, Ttl::from_secs(1), &rdata),
+        );
+    }
+}
+
 /// Makes one question and two answers of the root.
 fn one_and_two(
     rt: &impl Abort,
@@ -457,47 +480,17 @@ fn one_and_two(
     let mut questions = message.question();
     unwrap(rt, questions.push_question(root, Rtype::NS, Class::IN));
     let mut answers = questions.answer();
-    for _ in 0..2 {
-        unwrap(
-            rt,
-            answers.push_record(
-                root,
-                Class::IN,
-                Ttl::from_secs(1),
-                &UnknownRecordData::new(Rtype::NS, b"\0"),
-            ),
-        );
-    }
+    push_roots(rt, &mut answers, root, 2);
     answers
 }
 
 #[test]
 fn each_section_has_its_count(rt: HostRuntime) {
-    let (root, ttl) = (unwrap(&rt, Name::from_text(".")), Ttl::from_secs(1));
+    let root = unwrap(&rt, Name::from_text("."));
     let mut authorities = one_and_two(&rt, &root.parsed()).authority();
-    for _ in 0..3 {
-        unwrap(
-            &rt,
-            authorities.push_record(
-                &root.parsed(),
-                Class::IN,
-                ttl,
-                &UnknownRecordData::new(Rtype::NS, b"\0"),
-            ),
-        );
-    }
+    push_roots(&rt, &mut authorities, &root.parsed(), 3);
     let mut additionals = authorities.additional();
-    for _ in 0..4 {
-        unwrap(
-            &rt,
-            additionals.push_record(
-                &root.parsed(),
-                Class::IN,
-                ttl,
-                &UnknownRecordData::new(Rtype::NS, b"\0"),
-            ),
-        );
-    }
+    push_roots(&rt, &mut additionals, &root.parsed(), 4);
     let octets = additionals.finish().0;
     let wanted = b"\0\0\0\0\0\x01\0\x02\0\x03\0\x04".as_slice();
     assert_equal!(&rt, octets.as_slice().get(..12), Some(wanted));
@@ -516,16 +509,14 @@ fn sent(id: u16) -> Header {
     Header { id, ..header() }
 }
 
-/// Checks that the builders of records set the header.
-fn is_set_in_records(rt: &impl Abort, mut answers: AnswerBuilder<Array<12>, Uncompressed>) {
-    answers.set_header(sent(3));
-    is_sent(rt, answers.as_slice(), answers.header(), 3);
-    let mut authorities = answers.authority();
-    authorities.set_header(sent(4));
-    is_sent(rt, authorities.as_slice(), authorities.header(), 4);
-    let mut additionals = authorities.additional();
-    additionals.set_header(sent(5));
-    is_sent(rt, additionals.as_slice(), additionals.header(), 5);
+/// Sets the header of a message without entries to that of an answer with this id, and checks it.
+fn sets_header<S: Section>(
+    rt: &impl Abort,
+    builder: &mut SectionBuilder<Array<12>, Uncompressed, S>,
+    id: u8,
+) {
+    builder.set_header(sent(u16::from(id)));
+    is_sent(rt, builder.as_slice(), builder.header(), id);
 }
 
 #[test]
@@ -535,12 +526,14 @@ fn each_builder_sets_the_header(rt: HostRuntime) {
         MessageBuilder::from_builder(Array::<12>::new(), Uncompressed::new()),
     );
     assert_equal!(&rt, message.as_slice(), [0u8; 12].as_slice());
-    message.set_header(sent(1));
-    is_sent(&rt, message.as_slice(), message.header(), 1);
+    sets_header(&rt, &mut message, 1);
     let mut questions = message.question();
-    questions.set_header(sent(2));
-    is_sent(&rt, questions.as_slice(), questions.header(), 2);
-    is_set_in_records(&rt, questions.answer());
+    sets_header(&rt, &mut questions, 2);
+    let mut answers = questions.answer();
+    sets_header(&rt, &mut answers, 3);
+    let mut authorities = answers.authority();
+    sets_header(&rt, &mut authorities, 4);
+    sets_header(&rt, &mut authorities.additional(), 5);
 }
 
 #[test]

@@ -1,5 +1,5 @@
 //! Each format once: octets, and what they say.
-use crate::tests::unwrap;
+use crate::tests::{compose, read, refusal, unwrap};
 use octseq::compose::ComposeError;
 use octseq::{Array, AsOctets, Malformed, Parser, Turns};
 use octseq_asserts::assert_equal;
@@ -22,10 +22,8 @@ fn is_said<'a, F: Format<&'a [u8]>>(
 where
     F::Value: PartialEq + Debug,
 {
-    let value = unwrap(rt, F::parse_whole(octets));
+    let value = read::<F, &[u8]>(rt, octets);
     assert_equal!(rt, value, wanted);
-    let written: Vec<u8> = unwrap(rt, F::compose_whole(rt.alloc(), &value));
-    assert_equal!(rt, written.as_slice(), octets);
 }
 
 #[test]
@@ -96,19 +94,16 @@ fn a_number_may_be_fixed_or_tested(rt: HostRuntime) {
     is_said::<Exactly<u16, 258>>(&rt, b"\x01\x02", ());
     assert_equal!(
         &rt,
-        <Exactly<u16, 258> as Format<&[u8]>>::parse_whole(b"\x01\x03".as_slice()),
-        Err(Malformed)
+        refusal::<Exactly<u16, 258>, &[u8]>(b"\x01\x03"),
+        Some(Malformed)
     );
     is_said::<Where<u8, Known>>(&rt, b"\x04", 4);
     assert_equal!(
         &rt,
-        <Where<u8, Known> as Format<&[u8]>>::parse_whole(b"\x03".as_slice()),
-        Err(Malformed)
+        refusal::<Where<u8, Known>, &[u8]>(b"\x03"),
+        Some(Malformed)
     );
-    let written: Result<Vec<u8>, _> = <Where<u8, Known> as Format<&[u8]>>::compose_whole(
-        rt.alloc(),
-        &3,
-    );
+    let written: Result<Vec<u8>, _> = compose::<Where<u8, Known>, &[u8], _>(rt.alloc(), &3);
     assert_equal!(&rt, written.is_err(), true);
 }
 
@@ -125,9 +120,9 @@ fn a_number_may_be_bits(rt: HostRuntime) {
     );
     let value = <Bits<u8, (Low<2>, Low<3>)> as Format<&[u8]>>::parse_whole(b"\x1F".as_slice());
     assert_equal!(&rt, value, Ok((3, 7)));
-    let refused = <Bits<u8, (Low<2>, Low<3>)> as Format<&[u8]>>::parse_whole(b"\x20".as_slice());
-    assert_equal!(&rt, refused, Err(Malformed));
-    let written: Result<Vec<u8>, _> = <Bits<u8, (Low<2>, Low<6>)> as Format<&[u8]>>::compose_whole(
+    let refused = refusal::<Bits<u8, (Low<2>, Low<3>)>, &[u8]>(b"\x20");
+    assert_equal!(&rt, refused, Some(Malformed));
+    let written: Result<Vec<u8>, _> = compose::<Bits<u8, (Low<2>, Low<6>)>, &[u8], _>(
         rt.alloc(),
         &(4, 0),
     );
@@ -206,8 +201,8 @@ fn octets_may_be_a_text_or_many(rt: HostRuntime) {
 fn a_thing_at_the_end_may_be_left_out(rt: HostRuntime) {
     is_said::<(U8, Optional<U16Be>)>(&rt, b"\x01", (1, None));
     is_said::<(U8, Optional<U16Be>)>(&rt, b"\x01\0\x02", (1, Some(2)));
-    let refused = <(U8, Optional<U16Be>) as Format<&[u8]>>::parse_whole(b"\x01\0".as_slice());
-    assert_equal!(&rt, refused, Err(Malformed));
+    let refused = refusal::<(U8, Optional<U16Be>), &[u8]>(b"\x01\0");
+    assert_equal!(&rt, refused, Some(Malformed));
 }
 
 /// Whether what was read is written as the octets it was read from.
@@ -229,13 +224,12 @@ fn a_tag_tells_what_comes(rt: HostRuntime) {
     is_said::<Tagged<u8, Case<1, U8, Others<U16Be>>>>(&rt, b"\x01\x07", Either::This(7));
     is_said::<Tagged<u8, Case<1, U8, Others<U16Be>>>>(&rt, b"\x02\0\x07", Either::Other((2, 7)));
     is_said::<Tagged<u8, Case<1, U8, Last<2, U16Be>>>>(&rt, b"\x02\0\x07", Either::Other(7));
-    let refused = <Tagged<u8, Case<1, U8, Last<2, U16Be>>> as Format<&[u8]>>::parse_whole(
-        b"\x03\0\x07".as_slice(),
-    );
-    assert_equal!(&rt, refused.is_err(), true);
+    let refused = refusal::<Tagged<u8, Case<1, U8, Last<2, U16Be>>>, &[u8]>(b"\x03\0\x07");
+    assert_equal!(&rt, refused, Some(Malformed));
     let value = Either::Other((1, 7));
-    let written: Result<Vec<u8>, _> = <Tagged<u8, Case<1, U8, Others<U16Be>>> as Format<
-        &[u8],
-    >>::compose_whole(rt.alloc(), &value);
+    let written: Result<Vec<u8>, _> = compose::<Tagged<u8, Case<1, U8, Others<U16Be>>>, &[u8], _>(
+        rt.alloc(),
+        &value,
+    );
     assert_equal!(&rt, written.is_err(), true);
 }

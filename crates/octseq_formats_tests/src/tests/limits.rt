@@ -1,5 +1,5 @@
 //! What exceeds a limit or a length, and what has no octets.
-use crate::tests::unwrap;
+use crate::tests::{append, compose, unwrap};
 use octseq::compose::ComposeError;
 use octseq::{Array, AsOctets, Malformed, OctetsBuilder, Parser};
 use octseq_asserts::assert_equal;
@@ -25,27 +25,21 @@ const NTP: Ntp = Ntp {
 fn a_header_that_passes_the_limit_is_short(rt: HostRuntime) {
     let mut short = Array::<50>::new();
     unwrap(&rt, short.append_slice(b"abc"));
-    let appended = <Of<Ntp> as Format<&[u8]>>::append(&mut short, &NTP);
+    let appended = append::<Of<Ntp>, &[u8], _>(&mut short, &NTP);
     assert_equal!(&rt, appended, Err(ComposeError::Short));
     assert_equal!(&rt, short.as_slice(), b"abc".as_slice());
     let mut room = Array::<51>::new();
     unwrap(&rt, room.append_slice(b"abc"));
-    let appended = <Of<Ntp> as Format<&[u8]>>::append(&mut room, &NTP);
+    let appended = append::<Of<Ntp>, &[u8], _>(&mut room, &NTP);
     assert_equal!(&rt, appended, Ok(()));
     assert_equal!(&rt, AsOctets::len(&room), 51);
 }
 
 #[test]
 fn a_header_is_made_whole_or_not_at_all(rt: HostRuntime) {
-    let made: Result<Array<47>, ComposeError> = <Of<Ntp> as Format<&[u8]>>::compose_whole(
-        rt.alloc(),
-        &NTP,
-    );
+    let made: Result<Array<47>, ComposeError> = compose::<Of<Ntp>, &[u8], _>(rt.alloc(), &NTP);
     assert_equal!(&rt, made.err(), Some(ComposeError::Short));
-    let made: Result<Array<48>, ComposeError> = <Of<Ntp> as Format<&[u8]>>::compose_whole(
-        rt.alloc(),
-        &NTP,
-    );
+    let made: Result<Array<48>, ComposeError> = compose::<Of<Ntp>, &[u8], _>(rt.alloc(), &NTP);
     assert_equal!(&rt, made.is_ok(), true);
 }
 
@@ -54,12 +48,12 @@ fn octets_that_their_length_cant_count_are_too_long(rt: HostRuntime) {
     let octets = [7; 256];
     let mut content = Array::<4>::new();
     let long = Parser::from_ref(octets.as_slice());
-    let appended = <Counted<u8, Rest, 0> as Format<&[u8]>>::append(&mut content, &long);
+    let appended = append::<Counted<u8, Rest, 0>, &[u8], _>(&mut content, &long);
     assert_equal!(&rt, appended, Err(ComposeError::TooLong));
     let most = Parser::from_ref(&octets[1..]);
-    let appended = <Counted<u8, Rest, 0> as Format<&[u8]>>::append(&mut content, &most);
+    let appended = append::<Counted<u8, Rest, 0>, &[u8], _>(&mut content, &most);
     assert_equal!(&rt, appended, Err(ComposeError::Short));
-    let counted_too = <Counted<u8, Rest, 1> as Format<&[u8]>>::append(&mut content, &most);
+    let counted_too = append::<Counted<u8, Rest, 1>, &[u8], _>(&mut content, &most);
     assert_equal!(&rt, counted_too, Err(ComposeError::TooLong));
 }
 
@@ -93,7 +87,7 @@ fn append_request<R: AsOctets + Copy>(
     mode: R,
 ) -> Result<(), ComposeError> {
     let packet = Packet::Read(Parser::from_ref(name), Parser::from_ref(mode));
-    Of::<Packet<R>>::append(content, &packet)
+    append::<Of<Packet<R>>, R, _>(content, &packet)
 }
 
 #[test]

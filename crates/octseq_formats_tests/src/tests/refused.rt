@@ -11,11 +11,13 @@ use octseq_formats::tftp::Packet;
 use std::alloc::AllocGlobal;
 use std::process::Abort;
 
-/// Appends a write request to a vector.
-fn append_request<H: AllocGlobal + Abort, R: AsOctets + Copy>(rt: &H, name: R, mode: R) {
-    let packet = Packet::Write(Parser::from_ref(name), Parser::from_ref(mode));
+/// Appends a value of 40 octets to a vector.
+fn append_forty<F: Format<R>, R: AsOctets + Copy>(
+    rt: &(impl AllocGlobal + Abort),
+    value: &F::Value,
+) {
     let mut content = Vec::new(rt.alloc());
-    let appended = Of::<Packet<R>>::append(&mut content, &packet);
+    let appended = F::append(&mut content, value);
     match appended {
         Ok(()) => assert_equal!(rt, content.len(), 40),
         Err(refusal) => {
@@ -24,6 +26,12 @@ fn append_request<H: AllocGlobal + Abort, R: AsOctets + Copy>(rt: &H, name: R, m
         }
     }
     unwrap(rt, appended);
+}
+
+/// Appends a write request to a vector.
+fn append_request<H: AllocGlobal + Abort, R: AsOctets + Copy>(rt: &H, name: R, mode: R) {
+    let packet = Packet::Write(Parser::from_ref(name), Parser::from_ref(mode));
+    append_forty::<Of<Packet<R>>, R>(rt, &packet);
 }
 
 #[test]

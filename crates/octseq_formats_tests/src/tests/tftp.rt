@@ -1,28 +1,25 @@
 //! TFTP packets, as tshark 4.0.17 reads them: packets of tcpdump's captures.
-use crate::tests::unwrap;
+use crate::tests::{read, refusal};
 use octseq::AsOctets;
 use octseq_asserts::assert_equal;
-use octseq_format::{Format, Of};
+use octseq_format::Of;
 use octseq_formats::tftp::Packet;
 use std::alloc::AllocGlobal;
 use std::process::Abort;
 
-/// Reads all the octets, and writes the value back.
-fn read<H: AllocGlobal + Abort, R: AsOctets + Copy>(rt: &H, octets: R) -> Packet<R> {
-    let packet: Packet<R> = unwrap(rt, Of::parse_whole(octets));
-    let written: Vec<u8> = unwrap(rt, Of::<Packet<R>>::compose_whole(rt.alloc(), &packet));
-    assert_equal!(rt, written.as_slice(), octets.as_ref());
-    packet
+/// Reads all the octets, and checks that the packet is written back.
+fn packet<R: AsOctets + Copy>(rt: &(impl AllocGlobal + Abort), octets: R) -> Packet<R> {
+    read::<Of<Packet<R>>, R>(rt, octets)
 }
 
 /// Compares a read request.
-fn is_request<H: AllocGlobal + Abort, R: AsOctets + Copy>(
-    rt: &H,
+fn is_request<R: AsOctets + Copy>(
+    rt: &(impl AllocGlobal + Abort),
     octets: R,
     wanted: (&[u8], &[u8]),
     places: (usize, usize),
 ) {
-    match read(rt, octets) {
+    match packet(rt, octets) {
         Packet::Read(name, mode) => {
             assert_equal!(rt, (name.peek_all(), mode.peek_all()), wanted);
             assert_equal!(rt, (name.pos(), mode.pos()), places);
@@ -38,11 +35,11 @@ fn a_request_to_read_is_read(rt: HostRuntime) {
 }
 
 /// Returns the number of a block and of its octets, or of an acknowledgment.
-fn block<H: AllocGlobal + Abort, R: AsOctets + Copy>(
-    rt: &H,
+fn block<R: AsOctets + Copy>(
+    rt: &(impl AllocGlobal + Abort),
     octets: R,
 ) -> Option<(u16, Option<usize>)> {
-    match read(rt, octets) {
+    match packet(rt, octets) {
         Packet::Data(block, octets) => Some((block, Some(octets.remaining()))),
         Packet::Acknowledgment(block) => Some((block, None)),
         _ => None,
@@ -127,7 +124,7 @@ fn the_last_acknowledgment_is_read(rt: HostRuntime) {
 
 /// Whether octets aren't a packet.
 fn is_refused<R: AsOctets + Copy>(octets: R) -> bool {
-    Of::<Packet<R>>::parse_whole(octets).is_err()
+    refusal::<Of<Packet<R>>, R>(octets).is_some()
 }
 
 #[test]

@@ -1,21 +1,23 @@
 //! TLS records with a ClientHello made by OpenSSL, as tshark 4.0.17 reads them.
-use crate::tests::unwrap;
+use crate::tests::read;
 use octseq::AsOctets;
 use octseq_asserts::assert_equal;
-use octseq_format::{Format, U16Be, Walk};
+use octseq_format::{U16Be, Walk};
 use octseq_formats::tls::{Extension, Hello, Record};
 use std::alloc::AllocGlobal;
 use std::process::Abort;
 
-/// Reads all the octets, and writes the value back.
-fn read<H: AllocGlobal + Abort, R: AsOctets + Copy>(rt: &H, octets: R) -> Hello<R> {
-    let value = unwrap(rt, <Record<R> as Format<R>>::parse_whole(octets));
-    let written: Vec<u8> = unwrap(
-        rt,
-        <Record<R> as Format<R>>::compose_whole(rt.alloc(), &value),
-    );
-    assert_equal!(rt, written.as_slice(), octets.as_ref());
-    let (_handshake, version, (_client_hello, hello)) = value;
+/// Reads all the octets, and checks that the record is written back.
+fn record<R: AsOctets + Copy>(
+    rt: &(impl AllocGlobal + Abort),
+    octets: R,
+) -> ((), u16, ((), Hello<R>)) {
+    read::<Record<R>, R>(rt, octets)
+}
+
+/// Reads a ClientHello, and compares what all of them have.
+fn hello_of<R: AsOctets + Copy>(rt: &(impl AllocGlobal + Abort), octets: R) -> Hello<R> {
+    let (_handshake, version, (_client_hello, hello)) = record(rt, octets);
     assert_equal!(rt, (version, hello.version), (0x0301, 0x0303));
     assert_equal!(rt, hello.compression.peek_all(), [0].as_slice());
     hello
@@ -52,7 +54,7 @@ fn is_hello<H: AllocGlobal + Abort, R: AsOctets + Copy>(
     suites: &[u16],
     extensions: &[u16],
 ) {
-    let hello = read(rt, octets);
+    let hello = hello_of(rt, octets);
     assert_equal!(
         rt,
         (hello.random.as_slice(), hello.session.peek_all()),

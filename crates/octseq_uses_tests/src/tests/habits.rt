@@ -46,22 +46,35 @@ fn ranges_are_written_as_rusts(rt: HostRuntime) {
     is_cut(&rt, 5.., None);
     is_cut(&rt, ..=4, None);
     assert_equal!(&rt, try_range(4, 1..=2), Some(1..3));
-    let shared = unwrap(&rt, Bytes::copy_from_slice(rt.alloc(), b"abcd"));
-    let inner = unwrap(&rt, cut(&shared, 1..).ok_or("no range"));
-    assert_equal!(&rt, inner.as_slice(), b"bcd".as_slice());
+    shared_octets_are_cut(&rt, rt.alloc());
+}
+
+/// Checks that shared octets are cut as a slice is.
+fn shared_octets_are_cut(rt: &impl Abort, alloc: Global) {
+    let shared = unwrap(rt, Bytes::copy_from_slice(alloc, b"abcd"));
+    let inner = unwrap(rt, cut(&shared, 1..).ok_or("no range"));
+    assert_equal!(rt, inner.as_slice(), b"bcd".as_slice());
+}
+
+/// Returns a parser of a range of "abcd".
+fn parser_of<R: RangeBounds<usize>>(rt: &impl Abort, range: R) -> Parser<&'static [u8]>
+    requires { R.has_bounds range }
+{
+    let made = Parser::try_with_range(b"abcd".as_slice(), range);
+    unwrap(rt, made.ok_or("no range"))
 }
 
 #[test]
 fn parsers_begin_with_ranges_as_rusts(rt: HostRuntime) {
-    let octets = b"abcd".as_slice();
-    let parser = unwrap(&rt, Parser::try_with_range(octets, 1..3).ok_or("no range"));
+    let parser = parser_of(&rt, 1..3);
     assert_equal!(&rt, (parser.pos(), parser.len()), (1, 3));
-    let parser = unwrap(&rt, Parser::try_with_range(octets, 2..).ok_or("no range"));
+    let parser = parser_of(&rt, 2..);
     assert_equal!(&rt, parser.peek_all(), b"cd".as_slice());
-    assert_true!(&rt, Parser::try_with_range(octets, ..=4).is_none());
+    let none = Parser::try_with_range(b"abcd".as_slice(), ..=4);
+    assert_true!(&rt, none.is_none());
     assert_equal!(&rt, parser.peek_u8(), Ok(b'c'));
     assert_equal!(&rt, parser.pos(), 2);
-    let end = unwrap(&rt, Parser::try_with_range(octets, 4..).ok_or("no range"));
+    let end = parser_of(&rt, 4..);
     assert_equal!(&rt, end.peek_u8(), Err(ShortInput));
 }
 
@@ -87,15 +100,10 @@ fn first_of<S: AsSlice<u8>>(octets: &S) -> Option<u8> {
 
 #[test]
 fn calls_take_texts_and_arrays(rt: HostRuntime) {
-    let text = unwrap(
-        &rt,
-        StrBuilder::from_utf8("a€b".as_bytes())
-            .ok()
-            .ok_or("no text"),
-    );
+    let text = unwrap(&rt, StrBuilder::from_utf8("a€b".as_bytes()));
     assert_equal!(&rt, (len_of(&text), first_of(&text)), (5, Some(b'a')));
     assert_equal!(&rt, Some(text).as_deref(), Some("a€b"));
-    let text = unwrap(&rt, Str::from_utf8("é".as_bytes()).ok().ok_or("no text"));
+    let text = unwrap(&rt, Str::from_utf8("é".as_bytes()));
     assert_equal!(&rt, (len_of(&text), first_of(&text)), (2, Some(0xC3)));
     assert_equal!(&rt, Some(text).as_deref(), Some("é"));
     let array = unwrap(&rt, Array::<4>::try_from(b"xy".as_slice()));
@@ -104,18 +112,10 @@ fn calls_take_texts_and_arrays(rt: HostRuntime) {
 
 #[test]
 fn texts_are_strs(rt: HostRuntime) {
-    let text = unwrap(
-        &rt,
-        StrBuilder::from_utf8("a€b".as_bytes())
-            .ok()
-            .ok_or("no text"),
-    );
+    let text = unwrap(&rt, StrBuilder::from_utf8("a€b".as_bytes()));
     assert_true!(&rt, text.starts_with("a€"));
     assert_equal!(&rt, text.find('b'), Some(4));
-    let text = unwrap(
-        &rt,
-        Str::from_utf8(b"x, y".as_slice()).ok().ok_or("no text"),
-    );
+    let text = unwrap(&rt, Str::from_utf8(b"x, y".as_slice()));
     assert_true!(&rt, text.contains(", "));
 }
 
@@ -191,12 +191,10 @@ fn values_are_pushed_whole_or_not_at_all(rt: HostRuntime) {
     );
     assert_equal!(&rt, text.try_push_display(fault), Err(DisplayError::Short));
     assert_equal!(&rt, text.as_str(), "4321");
-    for shown in [
-        text.try_push_display(Unshowable),
-        text.try_push_display(Unfinished),
-    ] {
-        assert_equal!(&rt, shown, Err(DisplayError::Display));
-    }
+    let shown = text.try_push_display(Unshowable);
+    assert_equal!(&rt, shown, Err(DisplayError::Display));
+    let shown = text.try_push_display(Unfinished);
+    assert_equal!(&rt, shown, Err(DisplayError::Display));
     assert_equal!(&rt, text.as_str(), "4321");
 }
 

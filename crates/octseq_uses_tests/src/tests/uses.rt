@@ -39,18 +39,15 @@ fn records_are_read_whole(rt: HostRuntime) {
     let mut octets = Vec::new(rt.alloc());
     assert_equal!(&rt, append_record(&mut octets, 0x1234, b"bc"), Ok(()));
     assert_equal!(&rt, append_record(&mut octets, 7, b""), Ok(()));
-    let read = read_records(rt.alloc(), octets.as_slice());
-    assert_equal!(&rt, read.is_ok(), true);
+    let records = unwrap(&rt, read_records(rt.alloc(), octets.as_slice()));
+    assert_equal!(&rt, records.len(), 2);
     let mut again = Vec::new(rt.alloc());
-    if let Ok(records) = read {
-        assert_equal!(&rt, records.len(), 2);
-        for record in &records {
-            assert_equal!(
-                &rt,
-                append_record(&mut again, record.key, record.value),
-                Ok(()),
-            );
-        }
+    for record in &records {
+        assert_equal!(
+            &rt,
+            append_record(&mut again, record.key, record.value),
+            Ok(()),
+        );
     }
     assert_equal!(&rt, again.as_slice(), octets.as_slice());
     let cut = read_records(rt.alloc(), b"\x12\x34\x02b".as_slice());

@@ -8,13 +8,18 @@ use octseq_dns::{Message, Target, rewrite};
 use std::alloc::AllocGlobal;
 use std::process::Abort;
 
+/// Checks the number of answers of the message.
+fn has_answers<R: Octets + Copy>(rt: &impl Abort, message: &Message<R>) {
+    assert_equal!(rt, message.header_counts().ancount, 10);
+    assert_equal!(rt, message.answers().count(), 10);
+}
+
 /// Rewrites a message, or returns what was refused.
 fn is_written_anew<R: Octets + Copy>(rt: &(impl Abort + AllocGlobal), octets: R) {
     let alloc = rt.alloc();
     let message = unwrap(rt, Message::parse(octets));
     let written = rewrite(&message, Vec::new(alloc), Vec::<Target>::new(alloc));
-    assert_equal!(rt, message.header_counts().ancount, 10);
-    assert_equal!(rt, message.answers().count(), 10);
+    has_answers(rt, &message);
     let (written, _) = unwrap(rt, written).finish();
     assert_equal!(rt, written.as_slice(), COMPRESSED);
 }

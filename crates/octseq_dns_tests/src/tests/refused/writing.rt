@@ -6,7 +6,7 @@ use arrayvec::ArrayVec;
 use bytes::BytesMut;
 use octseq::builder::AsOctetsMut;
 use octseq::{AppendError, Array, EmptyBuilder, OctetsBuilder, Truncate};
-use octseq_asserts::{assert_equal, assert_true};
+use octseq_asserts::assert_equal;
 use octseq_dns::{
     AdditionalBuilder, Class, Compressor, MessageBuilder, Name, QuestionBuilder, Rtype, Target,
     Ttl, UnknownRecordData,
@@ -143,28 +143,35 @@ fn records_are_pushed_or_not_at_all(rt: HostRuntime) {
     unwrap(&rt, first.and(second));
 }
 
+/// Adds a target to a table, as its first one. If it is refused, the table stays.
+fn is_added(rt: &impl Abort, table: &mut Vec<Target>, at: u16) {
+    let target = Target {
+        at,
+        next: 0,
+        pointers: 3,
+    };
+    let before = table.len();
+    if Compressor::is_full(table) {
+        panic!(rt; "full");
+    }
+    let added = Compressor::insert(table, 0, target);
+    let first = table.first().copied();
+    if added.is_ok() {
+        assert_equal!(
+            rt,
+            (table.len(), first),
+            (before.saturating_add(1), Some(target))
+        );
+    } else {
+        assert_equal!(rt, table.len(), before);
+    }
+    unwrap(rt, added);
+}
+
 #[test]
 fn a_target_is_added_or_the_table_stays(rt: HostRuntime) {
     let mut table = Vec::new(rt.alloc());
     for at in [12, 14, 16, 18, 20, 22, 24, 26, 28] {
-        let target = Target {
-            at,
-            next: 0,
-            pointers: 3,
-        };
-        let before = table.len();
-        assert_true!(&rt, !Compressor::is_full(&table));
-        let added = Compressor::insert(&mut table, 0, target);
-        let first = table.first().copied();
-        if added.is_ok() {
-            assert_equal!(
-                &rt,
-                (table.len(), first),
-                (before.saturating_add(1), Some(target))
-            );
-        } else {
-            assert_equal!(&rt, table.len(), before);
-        }
-        unwrap(&rt, added);
+        is_added(&rt, &mut table, at);
     }
 }

@@ -7,6 +7,20 @@ use octseq_uses::lines::next_line;
 use std::alloc::Global;
 use std::process::Abort;
 
+/// Checks that this is the next line, with the parser's position after it.
+fn is_read<R: AsOctets, B: EmptyBuilder>(
+    rt: &impl Abort,
+    alloc: Global,
+    parser: &mut Parser<R>,
+    line: &str,
+    after: usize,
+) {
+    let read: Option<StrBuilder<B>> = unwrap(rt, next_line(alloc, parser));
+    let text = unwrap(rt, read.ok_or("no line"));
+    assert_equal!(rt, text.as_str(), line);
+    assert_equal!(rt, parser.pos(), after);
+}
+
 /// Checks that these are all the lines, each with the parser's position after it.
 fn are_read<R: AsOctets, B: EmptyBuilder>(
     rt: &impl Abort,
@@ -16,9 +30,7 @@ fn are_read<R: AsOctets, B: EmptyBuilder>(
 ) {
     let mut parser = Parser::from_ref(octets);
     for (line, after) in wanted {
-        let read: Option<StrBuilder<B>> = unwrap(rt, next_line(alloc, &mut parser));
-        assert_equal!(rt, read.as_ref().map(|text| text.as_str()), Some(*line));
-        assert_equal!(rt, parser.pos(), *after);
+        is_read::<R, B>(rt, alloc, &mut parser, line, *after);
     }
     let none: Option<StrBuilder<B>> = unwrap(rt, next_line(alloc, &mut parser));
     assert_true!(rt, none.is_none());
@@ -53,7 +65,7 @@ fn a_line_that_is_too_long_is_left(rt: HostRuntime) {
     assert_equal!(&rt, read.err(), Some(AppendError::Short(ShortBuf)));
     assert_equal!(&rt, parser.pos(), 0);
     let read: Option<StrBuilder<Array<5>>> = unwrap(&rt, next_line(rt.alloc(), &mut parser));
-    assert_equal!(&rt, read.as_ref().map(|text| text.as_str()), Some("abc"));
+    assert_equal!(&rt, read.as_deref(), Some("abc"));
     let read: Result<Option<StrBuilder<Array<5>>>, AppendError> = next_line(
         rt.alloc(),
         &mut parser,

@@ -28,7 +28,7 @@ fn has_no_note(rt: &impl Abort, octets: &[u8]) {
 /// Checks that octets are a note and nothing else.
 fn is_note(rt: &impl Abort, octets: &[u8]) {
     let mut parser = Parser::from_ref(octets);
-    let note = unwrap(rt, read_note(&mut parser).ok().ok_or("no note"));
+    let note = unwrap(rt, read_note(&mut parser));
     assert_equal!(rt, (note.number, note.words.as_str()), (258, "hé"));
     assert_equal!(rt, parser.remaining(), 0);
 }
@@ -65,7 +65,7 @@ fn numbers_are_shown_and_views_are_asked(rt: HostRuntime) {
     assert_true!(&rt, write_number(&mut text, 123).is_ok());
     assert_equal!(&rt, push_number(&mut text, 45), Err(DisplayError::Short));
     assert_equal!(&rt, text.as_str(), "123");
-    let line = unwrap(&rt, Str::from_utf8(b"# x".as_slice()).ok().ok_or("no text"));
+    let line = unwrap(&rt, Str::from_utf8(b"# x".as_slice()));
     assert_true!(&rt, is_comment(&line));
     let mut array = Array::<8>::new();
     unwrap(&rt, array.append_slice(b"abcd"));

@@ -1,4 +1,5 @@
 //! The first callers.
+use crate::tests::unwrap;
 use octseq::CowOctets;
 use octseq::error::ReadError;
 use octseq_asserts::assert_equal;
@@ -7,12 +8,8 @@ use octseq_uses::single_calls::{extended, field, kept, text_front};
 
 #[test]
 fn octets_that_fit_are_kept(rt: HostRuntime) {
-    let array = kept::<3>(b"abc");
-    assert_equal!(
-        &rt,
-        array.as_ref().map(|array| array.as_slice()),
-        Some(b"abc".as_slice()),
-    );
+    let array = unwrap(&rt, kept::<3>(b"abc").ok_or("nothing is kept"));
+    assert_equal!(&rt, array.as_slice(), b"abc".as_slice());
     assert_equal!(&rt, kept::<3>(b"abcd").is_none(), true);
 }
 
@@ -45,11 +42,8 @@ fn a_front_is_a_text(rt: HostRuntime) {
 #[test]
 fn levels_are_signed(rt: HostRuntime) {
     let read = read_levels(rt.alloc(), b"\x00\x01\xFF\xFE\x80\x00".as_slice());
-    assert_equal!(
-        &rt,
-        read.as_ref().ok().map(|levels| levels.as_slice()),
-        Some([1, -2, -32768].as_slice()),
-    );
+    let levels = unwrap(&rt, read);
+    assert_equal!(&rt, levels.as_slice(), [1, -2, -32768].as_slice());
     let cut = read_levels(rt.alloc(), b"\x00\x01\xFF".as_slice());
     assert_equal!(&rt, cut.err(), Some(ReadError::Malformed));
 }
