@@ -5,6 +5,20 @@ use octseq_bgp::{Message, SessionConfig};
 use std::alloc::AllocGlobal;
 use std::process::Abort;
 
+/// Appends the text of a message.
+fn append_message<R: AsOctets + Copy>(
+    rt: &impl Abort,
+    text: &mut StrBuilder<Vec<u8>>,
+    message: &Message<R>,
+) {
+    unwrap(rt, message.append_text(text));
+}
+
+/// Appends `malformed`.
+fn append_malformed(rt: &impl Abort, text: &mut StrBuilder<Vec<u8>>) {
+    unwrap(rt, text.try_push_str("malformed\n"));
+}
+
 /// Appends the text of octets, or `malformed`.
 fn append_read<R: AsOctets + Copy>(
     rt: &impl Abort,
@@ -13,8 +27,8 @@ fn append_read<R: AsOctets + Copy>(
     session: SessionConfig,
 ) {
     match Message::parse(octets, session) {
-        Ok(message) => unwrap(rt, message.append_text(text)),
-        Err(_) => unwrap(rt, text.try_push_str("malformed\n")),
+        Ok(message) => append_message(rt, text, &message),
+        Err(_) => append_malformed(rt, text),
     }
 }
 
