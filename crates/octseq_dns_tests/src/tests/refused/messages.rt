@@ -2,7 +2,7 @@
 use crate::tests::unwrap;
 use octseq::octets::Octets;
 use octseq_asserts::assert_equal;
-use octseq_dns::Message;
+use octseq_dns::{Message, Rtype};
 use octseq_dns::message::Sections;
 use std::alloc::{AllocError, AllocGlobal};
 use std::process::Abort;
@@ -26,11 +26,14 @@ fn lists<R: Octets + Copy>(rt: &(impl Abort + AllocGlobal), octets: R) {
     let sections: Result<Sections<R>, AllocError> = message.collect(rt.alloc());
     has_entries(rt, &message);
     let sections = unwrap(rt, sections);
+    for (question, rtype) in sections.questions.iter().zip([Rtype::A, Rtype::AAAA]) {
+        assert_equal!(rt, question.qtype(), rtype);
+    }
     assert_equal!(rt, sections.questions.len(), 2);
     assert_equal!(rt, sections.additionals.len(), 1);
 }
 
 #[test]
 fn a_refused_list_leaves_the_message(rt: HostRuntime) {
-    lists(&rt, ENTRIES);
+    lists(&rt, &unwrap(&rt, ENTRIES.to_vec(rt.alloc())));
 }
