@@ -160,7 +160,7 @@ fn make<B: EmptyBuilder>(rt: &impl Abort, alloc: Global) {
         rt,
         unwrap(rt, StrBuilder::<B>::with_capacity(alloc, 8)).is_empty()
     );
-    let text = StrBuilder::from_utf8_unchecked(unwrap(rt, B::empty(alloc)));
+    let text = StrBuilder::from_utf8_unchecked(B::empty(alloc).expect(rt, "error"));
     assert_equal!(rt, text.as_str(), "");
 }
 

@@ -114,7 +114,7 @@ fn texts_are_converted(rt: HostRuntime) {
 
 #[test]
 fn a_range_of_shared_octets_is_cut(rt: HostRuntime) {
-    let octets = unwrap(&rt, Bytes::copy_from_slice(rt.alloc(), b"abcdef"));
+    let octets = Bytes::copy_from_slice(rt.alloc(), b"abcdef").expect(&rt, "error");
     let range = (&octets).range(span(1, 4));
     assert_equal!(&rt, octets.as_slice(), b"abcdef".as_slice());
     assert_equal!(&rt, unwrap(&rt, range).as_slice(), b"bcd".as_slice());

@@ -47,10 +47,9 @@ fn texts_are_borrowed(rt: HostRuntime) {
         Str::from_utf8(b"a\xC0".as_slice()).err().ok_or("accepted"),
     );
     assert_equal!(&rt, error.into_octets(), b"a\xC0".as_slice());
-    let borrowed = unwrap(
-        &rt,
-        Str::from_utf8_slice("é".as_bytes()).ok().ok_or("refused"),
-    );
+    let borrowed = Str::from_utf8_slice("é".as_bytes())
+        .ok()
+        .expect(&rt, "refused");
     assert_equal!(&rt, borrowed.as_str(), "é");
     let fault = unwrap(
         &rt,
