@@ -151,7 +151,8 @@ def words_of(text, parameters):
         inside = split(text[1:-1], ";")
         return ["Slice" if len(inside) == 1 else "Array", *words_of(inside[0], parameters)]
     if text.startswith("("):
-        return ["Tuple", *[word for it in split(text[1:-1], ",") for word in words_of(it, parameters)]]
+        parts = split(text[1:-1], ",")
+        return [f"Tuple{len(parts)}", *[word for it in parts for word in words_of(it, parameters)]]
     base, _, arguments = text.partition("<")
     inside = [word for it in split(arguments.removesuffix(">"), ",") for word in words_of(it.partition("=")[2] or it, parameters)]
     return [base.split("::")[-1], *inside]
