@@ -104,8 +104,9 @@ def names_of_block(kind, head):
         own = short(of_trait[1], parameters) or "Any"
         return list(dict.fromkeys([own + short(it, parameters) for it in (of_trait[0], of_trait[0].partition("<")[0])]))
     base, _, arguments = text.partition("<")
-    plain = [long(it, parameters) for it in split(arguments.removesuffix(">"), ",")]
-    return ["+".join([base.split("::")[-1], *[it for it in plain if it]])]
+    named = [[long(it, hidden) for it in split(arguments.removesuffix(">"), ",")] for hidden in (parameters, [])]
+    # (a block of an alias has the parameters in its name)
+    return ["+".join([base.split("::")[-1], *[it for it in names if it]]) for names in named]
 
 
 def at_bracket(text):
