@@ -2,8 +2,8 @@
 use crate::tests::unwrap;
 use octseq::octets::Octets;
 use octseq_asserts::assert_equal;
-use octseq_dns::{Message, Rtype};
 use octseq_dns::message::Sections;
+use octseq_dns::{Message, Rtype};
 use std::alloc::{AllocError, AllocGlobal};
 use std::process::Abort;
 
