@@ -1,5 +1,5 @@
-"""The functions of a crate, by the names that a check prints after `fn`, read off its sources. They are in the layout of
-`rt fmt`, so a block ends at the first brace that is indented as its first line."""
+"""The functions of a crate, by the names that a check prints after `fn`, read off its sources. They are in the layout
+of `rt fmt`, so a block ends at the first brace that is indented as its first line."""
 import dataclasses
 import pathlib
 import re
@@ -46,7 +46,8 @@ def functions_in(folder, file, lines, types):
         if block:
             head, at = head_from(lines, at)
             if head.endswith("{"):
-                scopes.append((indent, [[*scope, name] for scope in scopes[-1][1] for name in names_of_block(block[1], head)]))
+                names = names_of_block(block[1], head)
+                scopes.append((indent, [[*scope, name] for scope in scopes[-1][1] for name in names]))
         elif found:
             last, has_body = end_of(lines, at)
             if has_body:
@@ -137,7 +138,8 @@ def short(text, parameters):
 
 def long(text, parameters):
     """Names a type as in `impl Type<Argument>`."""
-    return "+".join(word[0].lower() + word[1:] if word in ("Ref", "RefMut", "Slice") else word for word in words_of(text, parameters))
+    words = words_of(text, parameters)
+    return "+".join(word[0].lower() + word[1:] if word in ("Ref", "RefMut", "Slice") else word for word in words)
 
 
 def words_of(text, parameters):
@@ -155,5 +157,6 @@ def words_of(text, parameters):
         parts = split(text[1:-1], ",")
         return [f"Tuple{len(parts)}", *[word for it in parts for word in words_of(it, parameters)]]
     base, _, arguments = text.partition("<")
-    inside = [word for it in split(arguments.removesuffix(">"), ",") for word in words_of(it.partition("=")[2] or it, parameters)]
+    values = [it.partition("=")[2] or it for it in split(arguments.removesuffix(">"), ",")]
+    inside = [word for it in values for word in words_of(it, parameters)]
     return [base.split("::")[-1], *inside]
