@@ -5,8 +5,10 @@
  *
  * What a caller promises. A pointer and the length after it name that many octets (or rows), which the call may read,
  * or write where the pointer isn't const, until it returns. The pointer may be NULL where the length is 0. What is
- * written overlaps no other argument, and nobody else writes to an argument meanwhile. No length after a pointer is
- * above PTRDIFF_MAX. Any other pointer (`written`, `count`, `state` and the like) is to one such thing, and isn't NULL.
+ * written overlaps no other argument, and nobody else writes to an argument meanwhile. What is only written may be
+ * uninitialised. No length after a pointer is above PTRDIFF_MAX; of rows their octets count, which are
+ * `sizeof(octseq_dns_row)` times as many. Any other pointer (`written`, `count`, `state` and the like) is to one such
+ * thing, and isn't NULL.
  * All other numbers, as places, types and the fields of a row, may be any.
  *
  * What a call promises. For all octets: it returns, touches no other memory, and answers what its comment says. `out`

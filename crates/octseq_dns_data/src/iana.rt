@@ -1,7 +1,7 @@
 //! Named numbers: types, classes, opcodes and response codes.
 //!
 //! Numbers without a name here are valid: nothing is refused because of its number. Contracts see the number.
-ghost use Rattle.std.specs.Prelude.{◌≡◌, ℕ, ◌<◌, List};
+ghost use Rattle.std.specs.Prelude.{◌≡◌, ◌↔◌, ℕ, ◌<◌, ◌≤◌, List, IfSome, IsNone};
 ghost use Rattle.octseq_dns_data.specs.Mnemonic.{class_text, rtype_text, ReadsClass, ReadsRtype};
 
 use std::marker::Model;
@@ -216,6 +216,17 @@ impl Opcode {
         Opcode { number }
     }
 
+    /// Makes the opcode of a number, or returns `None` if the number isn't below 16.
+    pub fn checked_from_int(number: u8) -> Option<Self>
+        ensures some { IfSome result (λ opcode. opcode ≡ number) }
+        ensures none { IsNone result ↔ 16 ≤ number }
+    {
+        match number {
+            0..=15 => Some(Opcode { number }),
+            _ => None,
+        }
+    }
+
     /// Returns the number, which is below 16.
     pub fn to_int(self) -> u8
         ensures number { result ≡ self }
@@ -263,6 +274,17 @@ impl Rcode {
         ensures { result ≡ number }
     {
         Rcode { number }
+    }
+
+    /// Makes the response code of a number, or returns `None` if the number isn't below 16.
+    pub fn checked_from_int(number: u8) -> Option<Self>
+        ensures some { IfSome result (λ rcode. rcode ≡ number) }
+        ensures none { IsNone result ↔ 16 ≤ number }
+    {
+        match number {
+            0..=15 => Some(Rcode { number }),
+            _ => None,
+        }
     }
 
     /// Returns the number, which is below 16.

@@ -1,7 +1,7 @@
 //! Types and classes by their mnemonics, and octets in base 64 and base 32.
 use crate::tests::{shown, unwrap};
 use octseq_asserts::{assert_equal, assert_true};
-use octseq_dns_data::{Class, Rtype, write_base32hex, write_base64};
+use octseq_dns_data::{Class, Opcode, Rcode, Rtype, write_base32hex, write_base64};
 use std::fmt;
 
 /// Types of the DNS parameters registry.
@@ -182,5 +182,14 @@ fn octets_show_in_base_32(rt: HostRuntime) {
     ] {
         let text = shown(&rt, &Base32hex(octets));
         assert_equal!(&rt, text.as_str(), wanted);
+    }
+}
+
+#[test]
+fn codes_have_four_bits(rt: HostRuntime) {
+    for (number, made) in [(0, Some(0)), (5, Some(5)), (15, Some(15)), (16, None), (255, None)] {
+        let opcode = Opcode::checked_from_int(number).map(Opcode::to_int);
+        let rcode = Rcode::checked_from_int(number).map(Rcode::to_int);
+        assert_equal!(&rt, (opcode, rcode), (made, made));
     }
 }
