@@ -16,7 +16,7 @@ use Rattle.octseq_utf8.proofs.Beginnings.{beginning_fits, beginning_short}
 use Rattle.octseq_utf8.proofs.Faults.{fault_refutes, rest_of}
 use Rattle.octseq_utf8.proofs.Fits.{get_left}
 use Rattle.octseq_utf8.proofs.Search.{spelled_few}
-use Rattle.octseq_utf8.proofs.Spelling.{chars_of, spells_one}
+use Rattle.octseq_utf8.proofs.Spelling.{chars_of, spells_nothing, spells_one}
 use Rattle.octseq_utf8.proofs.Splitting.{encoding_fitting}
 use Rattle.octseq_utf8.proofs.Texts.{well_formed-append}
 use Rattle.octseq_text.specs.FaultSearch.{ReportsAfter, SettlesAfter, PassesAfter, Searched, HasSearched}
@@ -127,6 +127,16 @@ module _ (n m : ℕ) (good : List ℕ) (w : IsWellFormed good) (passed : m ≡ s
     passed = p.passed ∙ saturated_after (length p.good)
         ∙ ap (λ k. saturated (n + k)) (sym (length-append good p.good));
   }
+
+-- no octet of an open end is passed
+pub passes_none : (n : ℕ) → n < 2 ^ 64 → (octets end : List ℕ) → end ≡ octets → IsBeginning end → PassesAfter n octets n end
+passes_none n small octets end is begins = record {
+  good = [];
+  well_formed = ([], spells_nothing);
+  whole = sym is;
+  open_end = λ some. begins;
+  passed = omega arith;
+}
 
 -- what is settled of octets is settled of them and others
 pub settles_more : (n : ℕ) (x y : List ℕ) (reported : Fault) → SettlesAfter n x reported → SettlesAfter n (x ++ y) reported

@@ -1,6 +1,7 @@
 pub mod BadParts
 pub mod Boundaries
 pub mod CharacterAppends
+pub mod Completions
 pub mod Counting
 pub mod Counts
 pub mod Edges

@@ -64,14 +64,16 @@ too_long limit more seen {z = z} {b = b} e s t p = record {
 pub too_long_then : {limit : Option ℕ} {x y a b : List ℕ} → IsRead x y a b → IsTooLong limit y b → IsTooLong limit x a
 too_long_then s t = record { rest = t.rest; new = t.new; read = read_then s t.read; past = t.past }
 
-read_bad : (p s a : List ℕ) → Reads (p ++ s) s (Bad p ∷ []) → IsRead (p ++ s) s a (a ++ encoding_of 0xFFFD)
+-- a bad part is read as the replacement
+pub read_bad : (p s a : List ℕ) → Reads (p ++ s) s (Bad p ∷ []) → IsRead (p ++ s) s a (a ++ encoding_of 0xFFFD)
 read_bad p s a r = record {
   parts = Bad p ∷ [];
   reads = r;
   grown = ap (λ u. a ++ u) (sym (append-nil (encoding_of 0xFFFD)));
 }
 
-read_good : {g cs : List ℕ} (z a : List ℕ) → Spells g cs → IsRead (g ++ z) z a (a ++ g)
+-- well-formed octets are read as they are
+pub read_good : {g cs : List ℕ} (z a : List ℕ) → Spells g cs → IsRead (g ++ z) z a (a ++ g)
 read_good {g} {cs} z a s = record {
   parts = map Char cs;
   reads = reads_good z s;

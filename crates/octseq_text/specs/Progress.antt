@@ -1,8 +1,11 @@
 -- The progress of a lossy reading. Public contracts don't cite it.
-use Rattle.std.specs.Prelude.{◌≡◌, ◌≢◌, ℕ, ◌++◌, List, [], length, Option}
+use Rattle.std.specs.Prelude.{◌≡◌, ◌≢◌, ℕ, ◌<◌, ◌≤◌, ◌++◌, List, [], length, take, Option}
 use Rattle.octseq_core.specs.Limit.{IsPast}
-use Rattle.octseq_utf8.specs.Parts.{IsBeginning, Part, text}
+use Rattle.octseq_utf8.specs.Encoding.{IsEncoding}
+use Rattle.octseq_utf8.specs.Parts.{IsBadPart, IsBeginning, Part, text}
 use Rattle.octseq_utf8.specs.Reading.{parts_of}
+use Rattle.octseq_text.specs.declared.completion.Completed.{Completed}
+use Rattle.octseq_text.specs.declared.completion.Completed.TheVariants.{Incomplete, Character, Invalid}
 
 -- Some parts of the octets were read, and a rest is left: whatever follows, the other parts are those of the rest and
 -- of what follows.
@@ -25,3 +28,11 @@ pub record IsTooLong (limit : Option ℕ) (octets old : List ℕ) : Type 0 where
 -- the end is empty, or a beginning
 abbrev pub IsOpenEnd : List ℕ → Type 0
 IsOpenEnd end = end ≢ [] → IsBeginning end
+
+-- What a beginning is with the octets of a piece after it: still a beginning, with all of them; the encoding of a
+-- character, with the first n of them; or a bad part, with the first n of them, whatever follows the piece.
+abbrev pub Completes : List ℕ → List ℕ → Completed → Type 0
+Completes begun piece (Incomplete end) = (end.content ≡ begun ++ piece) × IsBeginning end.content
+Completes begun piece (Character encoding n) = (n ≤ length piece) × (encoding.content ≡ begun ++ take n piece)
+    × IsEncoding encoding.content
+Completes begun piece (Invalid n) = (n < length piece) × (n ≤ 3) × IsBadPart (begun ++ piece) (begun ++ take n piece)

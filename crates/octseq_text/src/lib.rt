@@ -4,6 +4,7 @@
 //! `specs/`, by the Unicode Standard; the contracts here cite them.
 #![tactic(auto)]
 
+pub mod completion;
 pub mod octets;
 pub mod str;
 pub mod utf8;

@@ -9,13 +9,13 @@ use Rattle.std.proofs.Math.Seq.{take-append-add, take-append_seam, drop-append_s
 use Rattle.std.specs.List.{All}
 use Rattle.octseq_utf8.specs.Encoding.{IsEncoding, row_00_7F, number_of}
 use Rattle.octseq_utf8.specs.Fault.{Fault, IsFaultSize, IsFault, fault_end}
-use Rattle.octseq_utf8.specs.Front.{IsAtFront}
+use Rattle.octseq_utf8.specs.FirstPart.{IsAtFront}
 use Rattle.octseq_utf8.specs.Parts.{IsBadPart, Part, Char, Bad as BadPart}
 use Rattle.octseq_utf8.specs.Reading.{parts_of}
 use Rattle.octseq_utf8.specs.Search.{IsAt, IsFaultAt}
 use Rattle.octseq_utf8.specs.Text.{Spells, IsWellFormed, chars, octets_of}
-use Rattle.octseq_utf8.specs.declared.finder.Front.{Front}
-use Rattle.octseq_utf8.specs.declared.finder.Front.TheVariants.{Encoding, Bad}
+use Rattle.octseq_utf8.specs.declared.finder.FirstPart.{FirstPart}
+use Rattle.octseq_utf8.specs.declared.finder.FirstPart.TheVariants.{Encoding, Bad}
 use Rattle.octseq_utf8.proofs.Beginnings.{nil_or_some, beginning_short}
 use Rattle.octseq_utf8.proofs.Rows.{length_of, width_le}
 use Rattle.octseq_utf8.proofs.Joins.{parts_fault, parts_spelled}
@@ -46,7 +46,7 @@ pub rest_of : (x : List ℕ) (place : ℕ) → take (length x - place) (drop pla
 rest_of x place = take_all (length x - place) (drop place x) (omega (arith, length-drop place x))
 
 -- what is at a place, given what is at the front of a slice from there
-pub at_place : (x : List ℕ) (place : ℕ) (front : Front) → IsAtFront (take (length x - place) (drop place x)) front
+pub at_place : (x : List ℕ) (place : ℕ) (front : FirstPart) → IsAtFront (take (length x - place) (drop place x)) front
     → IsAtFront (drop place x) front
 at_place x place front h = subst (λ y. IsAtFront y front) (rest_of x place) h
 

@@ -5,10 +5,10 @@ use Rattle.std.proofs.lemmas.List.{take-append-drop, drop_all}
 use Rattle.std.proofs.lemmas.Bool.Decides.{nat_tests}
 use Rattle.std.specs.Int.{IsInRange, is_in_range}
 use Rattle.octseq_utf8.specs.Encoding.{IsEncoding}
-use Rattle.octseq_utf8.specs.Front.{IsBadFront, IsAtFront}
+use Rattle.octseq_utf8.specs.FirstPart.{IsBadFront, IsAtFront}
 use Rattle.octseq_utf8.specs.Parts.{IsBeginning, IsBadPart}
 use Rattle.octseq_utf8.specs.Reading.{width_of, least_second, greatest_second, width, fitting, part_len}
-use Rattle.octseq_utf8.specs.declared.finder.Front.TheVariants.{Encoding, Bad}
+use Rattle.octseq_utf8.specs.declared.finder.FirstPart.TheVariants.{Encoding, Bad}
 use Rattle.octseq_utf8.proofs.Fitting.{fitting_within, fitting_wide, fitting_fits}
 use Rattle.octseq_utf8.proofs.Rows.{width_le}
 use Rattle.octseq_utf8.proofs.Splitting.{whole_encoding, bad_of, beginning_fitting, fitting_beginning}

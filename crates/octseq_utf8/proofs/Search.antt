@@ -14,10 +14,10 @@ use Rattle.std.specs.List.{All, concat, AllByRecursion}
 use Rattle.octseq_utf8.specs.Encoding.{IsEncoding, row_00_7F, row_C2_DF, row_E0, row_E1_EC}
 use Rattle.octseq_utf8.specs.Encoding.{row_ED, row_EE_EF, row_F0, row_F1_F3, row_F4, number_of}
 use Rattle.octseq_utf8.specs.Fault.{Fault, IsFault}
-use Rattle.octseq_utf8.specs.Front.{IsAtFront}
+use Rattle.octseq_utf8.specs.FirstPart.{IsAtFront}
 use Rattle.octseq_utf8.specs.Search.{high_count, IsSearching, FewTurns, IsFound}
 use Rattle.octseq_utf8.specs.Text.{Spells, IsWellFormed, chars}
-use Rattle.octseq_utf8.specs.declared.finder.Front.TheVariants.{Encoding, Bad}
+use Rattle.octseq_utf8.specs.declared.finder.FirstPart.TheVariants.{Encoding, Bad}
 use Rattle.octseq_utf8.proofs.Faults.{take-add, at_start, at_low, at_more, fault_at, word_front}
 use Rattle.octseq_utf8.proofs.Rows.{length_of}
 use Rattle.octseq_utf8.proofs.Spelling.{chars_of}

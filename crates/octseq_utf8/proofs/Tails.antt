@@ -7,10 +7,10 @@ use Rattle.std.proofs.lemmas.List.{drop-drop, take-take, length-map}
 use Rattle.std.specs.List.{All}
 use Rattle.octseq_utf8.specs.Encoding.{IsEncoding, number_of}
 use Rattle.octseq_utf8.specs.Fault.{Fault, IsFault, fault_end, fault_from}
-use Rattle.octseq_utf8.specs.Front.{IsAtFront}
+use Rattle.octseq_utf8.specs.FirstPart.{IsAtFront}
 use Rattle.octseq_utf8.specs.Search.{IsAt, IsAfter, IsSearching, IsFaultAt, FewTurns}
 use Rattle.octseq_utf8.specs.Text.{IsWellFormed, chars}
-use Rattle.octseq_utf8.specs.declared.finder.Front.TheVariants.{Encoding, Bad}
+use Rattle.octseq_utf8.specs.declared.finder.FirstPart.TheVariants.{Encoding, Bad}
 use Rattle.octseq_utf8.proofs.Faults.{at_more, at_end, fault_at, fault_refutes}
 use Rattle.octseq_utf8.proofs.Faults.{fault_after, spells_low, turns_after, well_formed_after}
 use Rattle.octseq_utf8.proofs.Search.{wide_of, few_to_the_end, few_to_a_fault}

@@ -1,7 +1,7 @@
 pub mod Chunk
 pub mod Encoding
 pub mod Fault
-pub mod Front
+pub mod FirstPart
 pub mod Parts
 pub mod Reading
 pub mod Search

@@ -25,7 +25,7 @@ ghost use Rattle.std.specs.Prelude.{drop, slice_index, count_by, nat_le, IsNone,
 ghost use Rattle.std.specs.Int.{is_in_range};
 ghost use Rattle.std.specs.List.{All};
 ghost use Rattle.octseq_utf8.specs.Fault.{IsFault, fault_end, fault_from};
-ghost use Rattle.octseq_utf8.specs.Front.{IsAtFront};
+ghost use Rattle.octseq_utf8.specs.FirstPart.{IsAtFront};
 ghost use Rattle.octseq_utf8.specs.Reading.{width_of, least_second, greatest_second, fitting};
 ghost use Rattle.octseq_utf8.specs.Search.{IsSearching, IsFound, IsAfter, IsFaultAt};
 ghost use Rattle.octseq_utf8.specs.Text.{IsWellFormed, chars};
@@ -92,36 +92,53 @@ fn fitting_len(octets: &[u8], width: usize) -> usize
     4
 }
 
-/// What is at the front of octets.
-#[derive(Drop)]
-enum Front {
-    /// An encoding of this many octets.
+/// What octets begin with.
+#[derive(Clone, Copy, Debug, PartialEq, Eq)]
+pub enum FirstPart {
+    /// The encoding of a character, of this many octets.
     Encoding(usize),
-    /// A bad part of this many octets, or `None` for one that reaches the end and is incomplete.
+    /// A maximal ill-formed subpart of this many octets, or `None` if the octets end within a character.
     Bad(Option<usize>),
+}
+
+/// Returns what octets begin with, by Table 3-7 of the Unicode Standard, and counts a turn. There is at least one octet.
+pub fn first_part(octets: &[u8], turns: &mut Turns) -> FirstPart
+    requires { 0 < length octets.now }
+    ensures part { IsAtFront octets.now result }
+    ensures turns { turns.new ≡ turns.old + 1 }
+{
+    turns.tick();
+    part_at_front(octets)
+}
+
+/// Returns the fault of octets that begin with a bad part of this size, as [`FirstPart::Bad`] has it.
+pub fn fault_at_front(size: Option<usize>) -> Utf8Fault
+    ensures { result ≡ record { place = 0; size = size } }
+{
+    Utf8Fault::new(0, size)
 }
 
 /// What is at the front of octets, by the table.
 ///
 /// Most bad parts have one octet, and the second octet shows it.
 #[inline(always)]
-fn part_at_front(octets: &[u8]) -> Front
+fn part_at_front(octets: &[u8]) -> FirstPart
     requires { 0 < length octets.now }
     ensures { IsAtFront octets.now result }
 {
     if octets[0] >= 0x80 && octets.len() > 1 && !is_continuation(octets[1]) {
-        return Front::Bad(Some(1));
+        return FirstPart::Bad(Some(1));
     }
     let width = width(octets[0]);
     let fitting = fitting_len(octets, width);
     if width == 0 {
-        Front::Bad(Some(1))
+        FirstPart::Bad(Some(1))
     } else if fitting == width {
-        Front::Encoding(width)
+        FirstPart::Encoding(width)
     } else if fitting == octets.len() {
-        Front::Bad(None)
+        FirstPart::Bad(None)
     } else {
-        Front::Bad(Some(fitting))
+        FirstPart::Bad(Some(fitting))
     }
 }
 
@@ -222,8 +239,8 @@ fn pass_encodings(octets: &[u8], from: usize, turns: &mut Turns) -> Result<usize
             at = pass_run::<4>(octets, at + 4, turns);
         } else {
             match part_at_front(&octets[at..]) {
-                Front::Encoding(len) => at += len,
-                Front::Bad(size) => return Err(Utf8Fault::new(at, size)),
+                FirstPart::Encoding(len) => at += len,
+                FirstPart::Bad(size) => return Err(Utf8Fault::new(at, size)),
             }
         }
     }
@@ -258,8 +275,8 @@ fn pass_words(octets: &[u8], from: usize, turns: &mut Turns) -> Result<usize, Ut
             at += 4;
         } else {
             match part_at_front(&octets[at..]) {
-                Front::Encoding(len) => at += len,
-                Front::Bad(size) => return Err(Utf8Fault::new(at, size)),
+                FirstPart::Encoding(len) => at += len,
+                FirstPart::Bad(size) => return Err(Utf8Fault::new(at, size)),
             }
         }
     }
@@ -268,20 +285,20 @@ fn pass_words(octets: &[u8], from: usize, turns: &mut Turns) -> Result<usize, Ut
 
 /// What is at a place among the last three octets: by the last word if there is one, otherwise by the table.
 #[inline(always)]
-fn last_part(octets: &[u8], at: usize) -> Front
+fn last_part(octets: &[u8], at: usize) -> FirstPart
     requires { (at < length octets.now) × (length octets.now < at + 4) }
     ensures { IsAtFront (drop at octets.now) result }
 {
     if octets[at] < 0x80 {
-        return Front::Encoding(1);
+        return FirstPart::Encoding(1);
     }
     if octets.len() >= 4 {
         let word = last_word(octets, at);
         if begins_two(word) {
-            return Front::Encoding(2);
+            return FirstPart::Encoding(2);
         }
         if begins_three(word) {
-            return Front::Encoding(3);
+            return FirstPart::Encoding(3);
         }
     }
     part_at_front(&octets[at..])
@@ -312,8 +329,8 @@ fn fault_by_parts(octets: &[u8], from: usize, turns: &mut Turns) -> Option<Utf8F
     while at < octets.len() {
         turns.tick();
         match last_part(octets, at) {
-            Front::Encoding(len) => at += len,
-            Front::Bad(size) => return Some(Utf8Fault::new(at, size)),
+            FirstPart::Encoding(len) => at += len,
+            FirstPart::Bad(size) => return Some(Utf8Fault::new(at, size)),
         }
     }
     None

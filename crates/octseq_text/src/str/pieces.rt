@@ -5,18 +5,19 @@ ghost use Rattle.octseq_core.specs.Limit.{IsWithin, IsPast};
 ghost use Rattle.octseq_core.specs.Refusal.{IsShort, IsMemory, append_error};
 ghost use Rattle.octseq_core.specs.declared.builder.AppendError.{AppendError};
 ghost use Rattle.octseq_utf8.specs.Encoding.{encoding_of};
-ghost use Rattle.octseq_utf8.specs.Parts.{IsBeginning, Part, Splits, text};
+ghost use Rattle.octseq_utf8.specs.Parts.{Part, Splits, text};
+ghost use Rattle.octseq_utf8.specs.Reading.{parts_of};
 ghost use Rattle.octseq_text.specs.Pieces.{Settles, HasRead};
 ghost use Rattle.octseq_text.specs.Progress.{IsOpenEnd, IsRead, IsTooLong};
 ghost use Rattle.octseq_utf8.specs.Text.{IsWellFormed};
 
 use super::builder::StrBuilder;
-use crate::utf8::{Turns, chunks, first_fault};
+use crate::completion::{Completed, complete};
+use crate::utf8::{Turns, chunks};
 use octseq_core::array::Array;
-use octseq_core::builder::{AppendError, AsOctets, EmptyBuilder, OctetsBuilder, infallible};
+use octseq_core::builder::{AppendError, EmptyBuilder, OctetsBuilder, infallible};
 use std::alloc::{AllocError, Global};
 use std::marker::Model;
-use std::mem::replace;
 
 /// A lossy reading of octets that come in pieces. However they are cut, the text is the one of
 /// [`StrBuilder::try_from_utf8_lossy`].
@@ -107,8 +108,8 @@ impl<B: EmptyBuilder> LossyPieces<B> {
         self.feed_counted(piece, &mut Turns::new())
     }
 
-    /// Like [`LossyPieces::feed`], and counts the turns of the search: at most one for each octet of the piece, and one
-    /// more if one of them shows that the held octets are not a character.
+    /// Like [`LossyPieces::feed`], and counts the turns of the search: at most one for each part of the held octets and
+    /// the piece, so at most one for each octet of the piece, and one more.
     ///
     /// # Errors
     ///
@@ -140,8 +141,10 @@ impl<B: EmptyBuilder> LossyPieces<B> {
         ensures again { (refusal : AppendError)
             → self.old.refusal ≡ Some refusal → result ≡ Err refusal }
 
-        // At most one more turn than octets, whatever the result, and a turn for every sixteen octets that were read;
-        // none after a refusal.
+        // At most one turn for each part of the open end and the piece, so at most one more than octets, whatever the
+        // result; a turn for every sixteen octets that were read; none after a refusal.
+        ensures parts { (parts : List Part) → Splits (self.old.end ++ piece.now) parts
+            → turns.new ≤ turns.old + length parts }
         ensures turns { turns.new ≤ turns.old + length piece.now + 1 }
         ensures passed { OnOk result (length piece.now + 16 * turns.old ≤ 16 * turns.new) }
         ensures turns_kept { turns.old ≤ turns.new }
@@ -151,8 +154,7 @@ impl<B: EmptyBuilder> LossyPieces<B> {
         if let Some(refusal) = self.refusal {
             return Err(refusal);
         }
-        let end = replace(&mut self.end, Array::new());
-        match read(&mut self.text, end, piece, turns) {
+        match read(&mut self.text, &self.end, piece, turns) {
             Ok(end) => {
                 self.end = end;
                 Ok(())
@@ -221,75 +223,37 @@ impl<B: EmptyBuilder> LossyPieces<B> {
 /// Reads the piece after the open end, and returns the open end of both.
 fn read<B: OctetsBuilder>(
     text: &mut B,
-    end: Array<4>,
+    end: &Array<4>,
     piece: &[u8],
     turns: &mut Turns,
 ) -> Result<Array<4>, AppendError>
-    requires open_end { IsOpenEnd end.content }
+    requires open_end { IsOpenEnd end.now.content }
     requires within { IsWithin B.limit (length (B.content text.old)) }
     ensures read { IfOk result (λ left.
-        IsRead (end.content ++ piece.now) left.content (B.content text.old) (B.content text.new)) }
+        IsRead (end.now.content ++ piece.now) left.content (B.content text.old) (B.content text.new)) }
     ensures open_end { IfOk result (λ left. IsOpenEnd left.content) }
     ensures within { OnOk result (IsWithin B.limit (length (B.content text.new))) }
-    ensures short { IsShort append_error result → IsTooLong B.limit (end.content ++ piece.now) (B.content text.old) }
+    ensures short { IsShort append_error result
+        → IsTooLong B.limit (end.now.content ++ piece.now) (B.content text.old) }
     ensures memory { IsMemory append_error result → B.asks ≡ true }
-    ensures turns { turns.new ≤ turns.old + length piece.now + 1 }
+    ensures turns { turns.new ≤ turns.old + length (parts_of (end.now.content ++ piece.now)) }
     ensures passed { OnOk result (length piece.now + 16 * turns.old ≤ 16 * turns.new) }
     ensures kept { turns.old ≤ turns.new }
 {
     if end.as_slice().is_empty() {
         return settle(text, piece, turns);
     }
-    let mut begun = end;
-    match close(text, &mut begun, piece, turns)? {
-        Some(rest) => settle(text, rest, turns),
-        None => Ok(begun),
-    }
-}
-
-/// Adds octets of the piece to a beginning until it is a character or can't become one, appends the result, and returns
-/// the rest of the piece. If the piece ends first, it is still a beginning.
-fn close<'a, B: OctetsBuilder>(
-    text: &mut B,
-    begun: &mut Array<4>,
-    piece: &'a [u8],
-    turns: &mut Turns,
-) -> Result<Option<&'a [u8]>, AppendError>
-    requires begins { IsBeginning begun.old.content }
-    requires within { IsWithin B.limit (length (B.content text.old)) }
-    ensures closed { IfOk result (λ left. IfSome left (λ rest.
-        IsRead (begun.old.content ++ piece.now) rest.now (B.content text.old) (B.content text.new))) }
-    ensures begins { IfOk result (λ left. IfNone left (IsBeginning begun.new.content)) }
-    ensures begun { IfOk result (λ left. IfNone left (begun.new.content ≡ begun.old.content ++ piece.now)) }
-    ensures text { IfOk result (λ left. IfNone left (B.content text.new ≡ B.content text.old)) }
-    ensures within { OnOk result (IsWithin B.limit (length (B.content text.new))) }
-    ensures short { IsShort append_error result
-        → IsTooLong B.limit (begun.old.content ++ piece.now) (B.content text.old) }
-    ensures memory { IsMemory append_error result → B.asks ≡ true }
-    ensures turns { turns.new ≤ turns.old + length piece.now }
-    ensures turns_closed { IfOk result (λ left. IfSome left (λ rest.
-        turns.new + length rest.now ≤ turns.old + length piece.now + 1)) }
-    ensures passed { IfOk result (λ left. IfNone left (length piece.now + 16 * turns.old ≤ 16 * turns.new)) }
-    ensures passed_closed { IfOk result (λ left. IfSome left (λ rest.
-        length piece.now + 16 * turns.old ≤ 16 * turns.new + length rest.now)) }
-    ensures kept { turns.old ≤ turns.new }
-{
-    for (at, octet) in piece.iter().enumerate() {
-        push(begun, *octet);
-        match first_fault(begun.as_slice(), turns) {
-            None => {
-                text.append_slice(begun.as_slice())?;
-                return Ok(Some(&piece[at + 1..]));
-            }
-            Some(fault) => {
-                if fault.error_len().is_some() {
-                    append_replacement(text)?;
-                    return Ok(Some(&piece[at..]));
-                }
-            }
+    match complete(end.as_slice(), piece, turns) {
+        Completed::Incomplete(end) => Ok(end),
+        Completed::Character(encoding, taken) => {
+            text.append_slice(encoding.as_slice())?;
+            settle(text, &piece[taken..], turns)
+        }
+        Completed::Invalid(taken) => {
+            append_replacement(text)?;
+            settle(text, &piece[taken..], turns)
         }
     }
-    Ok(None)
 }
 
 /// Appends the text of the settled parts of the octets, and returns the open end.
@@ -305,7 +269,7 @@ fn settle<B: OctetsBuilder>(
     ensures within { OnOk result (IsWithin B.limit (length (B.content text.new))) }
     ensures short { IsShort append_error result → IsTooLong B.limit octets.now (B.content text.old) }
     ensures memory { IsMemory append_error result → B.asks ≡ true }
-    ensures turns { turns.new ≤ turns.old + length octets.now }
+    ensures turns { turns.new ≤ turns.old + length (parts_of octets.now) }
     ensures passed { OnOk result (length octets.now + 16 * turns.old ≤ 16 * turns.new) }
     ensures kept { turns.old ≤ turns.new }
 {
@@ -348,14 +312,6 @@ fn append_replacement<B: OctetsBuilder>(text: &mut B) -> Result<(), AppendError>
     ensures memory { IsMemory append_error result → B.asks ≡ true }
 {
     text.append_slice(b"\xEF\xBF\xBD")
-}
-
-/// Adds one octet to a beginning.
-fn push(begun: &mut Array<4>, octet: u8)
-    requires { length begun.old.content < 4 }
-    ensures { begun.new.content ≡ begun.old.content ++ octet ∷ [] }
-{
-    infallible(begun.append_slice(&[octet]));
 }
 
 /// The octets as an open end.

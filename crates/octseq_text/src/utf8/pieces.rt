@@ -7,11 +7,11 @@ ghost use Rattle.octseq_utf8.specs.Text.{IsWellFormed};
 ghost use Rattle.octseq_text.specs.FaultSearch.{ReportsFault, HasSearched, PassesAfter, SettlesAfter};
 ghost use Rattle.octseq_text.specs.Progress.{IsOpenEnd};
 
+use crate::completion::{Completed, complete};
 use octseq_core::array::Array;
-use octseq_core::builder::{OctetsBuilder, infallible};
-use octseq_utf8::{Turns, Utf8Fault, find_fault, first_fault};
+use octseq_core::builder::infallible;
+use octseq_utf8::{Turns, Utf8Fault, fault_at_front, find_fault, first_fault};
 use std::marker::Model;
-use std::mem::replace;
 
 /// A search for the first fault of octets that come in pieces. However they are cut, it is that of
 /// [`find_fault`](crate::utf8::find_fault).
@@ -25,7 +25,7 @@ use std::mem::replace;
 #[derive(Drop)]
 pub struct FaultPieces {
     passed: usize,
-    end: Array<3>,
+    end: Array<4>,
     fault: Option<Utf8Fault>,
 }
 
@@ -85,8 +85,7 @@ impl FaultPieces {
         if self.fault.is_some() {
             return;
         }
-        let end = replace(&mut self.end, Array::new());
-        match read(self.passed, &end, piece, turns) {
+        match read(self.passed, &self.end, piece, turns) {
             Ok(reached) => {
                 self.passed = reached.passed;
                 self.end = reached.end;
@@ -135,13 +134,13 @@ impl FaultPieces {
 #[derive(Drop)]
 struct Reached {
     passed: usize,
-    end: Array<3>,
+    end: Array<4>,
 }
 
 /// Searches the open end and the piece after it. `passed` octets came before them.
 fn read(
     passed: usize,
-    end: &Array<3>,
+    end: &Array<4>,
     piece: &[u8],
     turns: &mut Turns,
 ) -> Result<Reached, Utf8Fault>
@@ -156,26 +155,17 @@ fn read(
     if end.as_slice().is_empty() {
         return search(passed, piece, turns);
     }
-    let joined = join(end, piece);
-    let reached = search(passed, joined.as_slice(), turns)?;
-    let taken = joined.as_slice().len() - end.as_slice().len();
-    if taken == piece.len() {
-        return Ok(reached);
+    match complete(end.as_slice(), piece, turns) {
+        Completed::Incomplete(end) => Ok(Reached { passed, end }),
+        Completed::Character(encoding, taken) => {
+            let passed = passed.saturating_add(encoding.as_slice().len());
+            search(passed, &piece[taken..], turns)
+        }
+        Completed::Invalid(taken) => {
+            let len = end.as_slice().len() + taken;
+            Err(fault_at_front(Some(len)).offset(passed))
+        }
     }
-    let rest = &piece[taken - reached.end.as_slice().len()..];
-    search(reached.passed, rest, turns)
-}
-
-/// The open end, followed by octets of the piece, up to four in all.
-fn join(end: &Array<3>, piece: &[u8]) -> Array<4>
-    ensures { result.content ≡ end.now.content ++ take (4 - length end.now.content) piece.now }
-{
-    let begun = end.as_slice();
-    let taken = piece.len().min(4 - begun.len());
-    let mut joined = Array::new();
-    infallible(joined.append_slice(begun));
-    infallible(joined.append_slice(&piece[..taken]));
-    joined
 }
 
 /// Searches octets. `passed` octets came before them.
@@ -186,13 +176,6 @@ fn search(passed: usize, octets: &[u8], turns: &mut Turns) -> Result<Reached, Ut
     ensures turns { turns.new ≤ turns.old + length octets.now }
     ensures turns_passed { OnOk result (length octets.now + 16 * turns.old ≤ 16 * turns.new) }
     ensures kept { turns.old ≤ turns.new }
-
-    // A beginning at the front takes at most one turn.
-    ensures begun { (begun more : List ℕ) → IsBeginning begun → octets.now ≡ begun ++ more
-        → turns.new ≤ turns.old + length more + 1 }
-    ensures left { IfOk result (λ reached. (begun more : List ℕ) → IsBeginning begun → octets.now ≡ begun ++ more
-        → length reached.end.content ≤ length more
-        → turns.new + length reached.end.content ≤ turns.old + length more + 1) }
 {
     match first_fault(octets, turns) {
         None => Ok(Reached {
@@ -212,8 +195,8 @@ fn search(passed: usize, octets: &[u8], turns: &mut Turns) -> Result<Reached, Ut
 }
 
 /// The octets as an open end.
-fn open_end(octets: &[u8]) -> Array<3>
-    requires { length octets.now ≤ 3 }
+fn open_end(octets: &[u8]) -> Array<4>
+    requires { length octets.now ≤ 4 }
     ensures { result.content ≡ octets.now }
 {
     infallible(Array::try_from(octets))

@@ -1,6 +1,6 @@
 use Rattle.std.proofs.Common.{◌∙◌, sym, subst, arith, Some}
-use Rattle.octseq_utf8.specs.Front.{IsBadFront, IsAtFront}
-use Rattle.octseq_utf8.specs.declared.finder.Front.TheVariants.{Encoding}
+use Rattle.octseq_utf8.specs.FirstPart.{IsBadFront, IsAtFront}
+use Rattle.octseq_utf8.specs.declared.finder.FirstPart.TheVariants.{Encoding}
 use Rattle.octseq_utf8.proofs.Fronts.{front_encoding, front_lead, front_cut, front_other, front_second}
 use Rattle.octseq_utf8.proofs.finder.part_at_front.Goals as goal
 

@@ -1,5 +1,5 @@
 use Rattle.std.proofs.Common.{arith}
-use Rattle.octseq_utf8.specs.declared.finder.Front.TheVariants.{Encoding, Bad}
+use Rattle.octseq_utf8.specs.declared.finder.FirstPart.TheVariants.{Encoding, Bad}
 use Rattle.octseq_utf8.proofs.Faults.{at_place, front_some, word_front}
 use Rattle.octseq_utf8.proofs.Search.{front_wide, search_encoding, search_fault, search_octet, search_two_twos}
 use Rattle.octseq_utf8.proofs.finder.pass_encodings.Goals.{else-octets-at-lt128-via-then-octets-at-lt128+else-octets-at-lt128-2, else-octets-at-lt128-via-else-octets-at-lt128}

@@ -1,5 +1,5 @@
 use Rattle.std.proofs.Common.{arith}
-use Rattle.octseq_utf8.specs.declared.finder.Front.TheVariants.{Encoding, Bad}
+use Rattle.octseq_utf8.specs.declared.finder.FirstPart.TheVariants.{Encoding, Bad}
 use Rattle.octseq_utf8.proofs.Faults.{at_place, octet_front, word_front}
 use Rattle.octseq_utf8.proofs.Tails.{after_more, after_fault}
 use Rattle.octseq_utf8.proofs.finder.pass_words.Goals as goal

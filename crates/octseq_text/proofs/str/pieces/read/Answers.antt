@@ -1,114 +1,138 @@
-use Rattle.std.proofs.Common.{ℕ, ◌+◌, ◌*◌, ◌≤◌, arith}
-use Rattle.std.proofs.Math.Nat.{le_trans}
-use Rattle.std.proofs.lemmas.Option.{MatchOption-at_some}
-use Rattle.std.proofs.lemmas.Result.{err_from_is_err_and, IfOk-from_err, IfOk-weaker}
+use Rattle.std.proofs.Common.{◌+◌, ◌-◌, ◌*◌, ◌≤◌, ◌++◌, length, take, drop, arith, ap, refl, sym, subst, ◌∙◌}
+use Rattle.std.proofs.Common.{length-take, length-drop}
+use Rattle.std.proofs.lemmas.Result.{err_from_is_err_and, IfOk-weaker}
+use Rattle.octseq_utf8.specs.Encoding.{encoding_of}
+use Rattle.octseq_utf8.proofs.Faults.{rest_of}
 use Rattle.octseq_text.specs.Progress.{IsRead}
-use Rattle.octseq_text.proofs.Piecewise.{read_then, too_long_then}
+use Rattle.octseq_text.proofs.Completions.{character_parts, character_read, invalid_parts, invalid_read, open_few, open_parts}
+use Rattle.octseq_text.proofs.Piecewise.{read_none, read_then, too_long, too_long_then}
 use Rattle.octseq_text.proofs.str.pieces.read.Goals as goal
 
--- turns within the number of octets are within one more
-one_past : (old size new : ℕ) → new ≤ old + size → new ≤ old + size + 1
-one_past old size new h = omega arith
+-- still incomplete
 
--- octets passed up to the rest, and then all of the rest
-passed_both : (all rest old mid new : ℕ) → all + 16 * old ≤ 16 * mid + rest → rest + 16 * mid ≤ 16 * new
-    → all + 16 * old ≤ 16 * new
-passed_both all rest old mid new h k = omega arith
+pub returns-in-Incomplete-clause-turns : goal.returns-in-Incomplete-clause-turns
+returns-in-Incomplete-clause-turns g c =
+    let unfinished = c.in-Incomplete.ensures.completed in
+    let same = c.as_slice-2.ensures.content in
+    let one = open_parts c.args.end.now.content c.args.piece.now c.in-Incomplete.end.content (unfinished.0 ∙ ap (λ y. y ++ c.args.piece.now) same) unfinished.1 in
+    let turn = c.in-Incomplete.ensures.turns in
+    omega (arith, one, turn)
 
-pub returns-in-Some-clause-read : goal.returns-in-Some-clause-read
-returns-in-Some-clause-read g c =
-    let closed = MatchOption-at_some _ _ _ c.in-Some.is c.in_ok-rest.ensures.closed in
-    IfOk-weaker c.settle-in-Some.result
-    (λ left. IsRead c.in-Some.rest.now left.content (g.B.AsOctets.content c.close.new.text)
-    (g.B.AsOctets.content c.settle-in-Some.new.text)) _
-    (λ left r. read_then closed r) c.settle-in-Some.ensures.read
+pub returns-in-Incomplete-clause-passed : goal.returns-in-Incomplete-clause-passed
+returns-in-Incomplete-clause-passed g c =
+    let unfinished = c.in-Incomplete.ensures.completed in
+    let few = open_few c.as_slice-2.result.now c.args.piece.now c.in-Incomplete.end.content unfinished.0 unfinished.1 in
+    let turn = c.in-Incomplete.ensures.turns in
+    omega (arith, few, turn)
 
-pub returns-in-Some-clause-short : goal.returns-in-Some-clause-short
-returns-in-Some-clause-short g c =
-    let closed = MatchOption-at_some _ _ _ c.in-Some.is c.in_ok-rest.ensures.closed in
-    λ h. too_long_then closed (c.settle-in-Some.ensures.short h)
+-- a character
 
--- without an open end
-
-pub returns-then-is_empty-clause-open_end : goal.returns-then-is_empty-clause-open_end
-returns-then-is_empty-clause-open_end g c = c.settle.ensures.open_end
-
-pub returns-then-is_empty-clause-within : goal.returns-then-is_empty-clause-within
-returns-then-is_empty-clause-within g c = c.settle.ensures.within
-
-pub returns-then-is_empty-clause-memory : goal.returns-then-is_empty-clause-memory
-returns-then-is_empty-clause-memory g c = c.settle.ensures.memory
-
-pub returns-then-is_empty-clause-passed : goal.returns-then-is_empty-clause-passed
-returns-then-is_empty-clause-passed g c = c.settle.ensures.passed
-
-pub returns-then-is_empty-clause-kept : goal.returns-then-is_empty-clause-kept
-returns-then-is_empty-clause-kept g c = c.settle.ensures.kept
-
-pub returns-then-is_empty-clause-turns : goal.returns-then-is_empty-clause-turns
-returns-then-is_empty-clause-turns g c = one_past _ _ _ c.settle.ensures.turns
-
--- what must be shown after a refusal
-
-pub returns-in_err-rest-clause-read : goal.returns-in_err-rest-clause-read
-returns-in_err-rest-clause-read g c = IfOk-from_err c.from_residual.result _ c.from_residual.ensures.0
-
-pub returns-in_err-rest-clause-open_end : goal.returns-in_err-rest-clause-open_end
-returns-in_err-rest-clause-open_end g c = IfOk-from_err c.from_residual.result _ c.from_residual.ensures.0
-
-pub returns-in_err-rest-clause-within : goal.returns-in_err-rest-clause-within
-returns-in_err-rest-clause-within g c = IfOk-from_err c.from_residual.result _ c.from_residual.ensures.0
-
-pub returns-in_err-rest-clause-passed : goal.returns-in_err-rest-clause-passed
-returns-in_err-rest-clause-passed g c = IfOk-from_err c.from_residual.result _ c.from_residual.ensures.0
-
-pub returns-in_err-rest-clause-short : goal.returns-in_err-rest-clause-short
-returns-in_err-rest-clause-short g c =
+pub returns-in_err-append_slice-in-Character-clause-short : goal.returns-in_err-append_slice-in-Character-clause-short
+returns-in_err-append_slice-in-Character-clause-short g c =
+    let a = g.B.AsOctets.content c.args.text.now in
+    let made = c.in-Character.ensures.completed in
+    let same = c.as_slice-2.ensures.content in
+    let is = made.1 ∙ ap (λ y. y ++ take c.in-Character.taken c.args.piece.now) same in
     let p = err_from_is_err_and c.from_residual.result c.from_residual.ensures.1 in
-    rw (p.1, p.2) c.in_err-rest.ensures.short
+    rw (p.1, p.2)
+    (λ h. too_long g.B.AsOctets.limit c.in-Character.encoding.content c.as_slice-in-Character.result.now
+    c.as_slice-in-Character.ensures.content (read_none _ a)
+    (character_read _ _ _ _ c.in-Character.taken is made.2 refl a)
+    (c.in_err-append_slice-in-Character.ensures.appended.short.0 h))
 
-pub returns-in_err-rest-clause-memory : goal.returns-in_err-rest-clause-memory
-returns-in_err-rest-clause-memory g c =
-    let p = err_from_is_err_and c.from_residual.result c.from_residual.ensures.1 in
-    rw (p.1, p.2) c.in_err-rest.ensures.memory
+pub returns-in_err-append_slice-in-Character-clause-turns : goal.returns-in_err-append_slice-in-Character-clause-turns
+returns-in_err-append_slice-in-Character-clause-turns g c =
+    let made = c.in-Character.ensures.completed in
+    let same = c.as_slice-2.ensures.content in
+    let is = made.1 ∙ ap (λ y. y ++ take c.in-Character.taken c.args.piece.now) same in
+    let parts = character_parts _ _ _ _ c.in-Character.taken is made.2 refl in
+    let turn = c.in-Character.ensures.turns in
+    omega (arith, parts, turn)
 
-pub returns-in_err-rest-clause-turns : goal.returns-in_err-rest-clause-turns
-returns-in_err-rest-clause-turns g c = one_past _ _ _ c.in_err-rest.ensures.turns
+pub returns-in_ok-append_slice-in-Character-clause-read : goal.returns-in_ok-append_slice-in-Character-clause-read
+returns-in_ok-append_slice-in-Character-clause-read g c =
+    let a = g.B.AsOctets.content c.args.text.now in
+    let made = c.in-Character.ensures.completed in
+    let same = c.as_slice-2.ensures.content in
+    let is = made.1 ∙ ap (λ y. y ++ take c.in-Character.taken c.args.piece.now) same in
+    let grown = c.in_ok-append_slice-in-Character.ensures.appended.ok
+    ∙ ap (λ y. a ++ y) c.as_slice-in-Character.ensures.content in
+    let first = character_read _ _ _ _ c.in-Character.taken is made.2 (rest_of c.args.piece.now c.in-Character.taken) a in
+    let first = subst (IsRead _ _ a) (sym grown) first in
+    IfOk-weaker c.settle-in-Character.result _ _ (λ left read. read_then first read) c.settle-in-Character.ensures.read
 
-pub returns-in_err-rest-clause-kept : goal.returns-in_err-rest-clause-kept
-returns-in_err-rest-clause-kept g c = c.in_err-rest.ensures.kept
+pub returns-in_ok-append_slice-in-Character-clause-short : goal.returns-in_ok-append_slice-in-Character-clause-short
+returns-in_ok-append_slice-in-Character-clause-short g c =
+    let a = g.B.AsOctets.content c.args.text.now in
+    let made = c.in-Character.ensures.completed in
+    let same = c.as_slice-2.ensures.content in
+    let is = made.1 ∙ ap (λ y. y ++ take c.in-Character.taken c.args.piece.now) same in
+    let grown = c.in_ok-append_slice-in-Character.ensures.appended.ok
+    ∙ ap (λ y. a ++ y) c.as_slice-in-Character.ensures.content in
+    let first = character_read _ _ _ _ c.in-Character.taken is made.2 (rest_of c.args.piece.now c.in-Character.taken) a in
+    let first = subst (IsRead _ _ a) (sym grown) first in
+    λ h. too_long_then first (c.settle-in-Character.ensures.short h)
 
--- the open end was closed, and the rest is settled
+pub returns-in_ok-append_slice-in-Character-clause-turns : goal.returns-in_ok-append_slice-in-Character-clause-turns
+returns-in_ok-append_slice-in-Character-clause-turns g c =
+    let made = c.in-Character.ensures.completed in
+    let same = c.as_slice-2.ensures.content in
+    let is = made.1 ∙ ap (λ y. y ++ take c.in-Character.taken c.args.piece.now) same in
+    let parts = character_parts _ _ _ _ c.in-Character.taken is made.2 (rest_of c.args.piece.now c.in-Character.taken) in
+    let turn = c.in-Character.ensures.turns in
+    let turns = c.settle-in-Character.ensures.turns in
+    omega (arith, parts, turn, turns)
 
-pub returns-in-Some-clause-open_end : goal.returns-in-Some-clause-open_end
-returns-in-Some-clause-open_end g c = c.settle-in-Some.ensures.open_end
+-- a bad part
 
-pub returns-in-Some-clause-within : goal.returns-in-Some-clause-within
-returns-in-Some-clause-within g c = c.settle-in-Some.ensures.within
+pub returns-in_err-append_replacement-in-Invalid-clause-short : goal.returns-in_err-append_replacement-in-Invalid-clause-short
+returns-in_err-append_replacement-in-Invalid-clause-short g c =
+    let a = g.B.AsOctets.content c.args.text.now in
+    let made = rw c.as_slice-2.ensures.content at c.in-Invalid.ensures.completed in
+    let p = err_from_is_err_and c.from_residual-in_err-append_replacement-in-Invalid.result
+    c.from_residual-in_err-append_replacement-in-Invalid.ensures.1 in
+    rw (p.1, p.2)
+    (λ h. too_long g.B.AsOctets.limit (encoding_of 0xFFFD) (encoding_of 0xFFFD) refl (read_none _ a)
+    (invalid_read _ _ _ c.in-Invalid.taken made.0 made.2 refl a)
+    (c.in_err-append_replacement-in-Invalid.ensures.short.0 h))
 
-pub returns-in-Some-clause-memory : goal.returns-in-Some-clause-memory
-returns-in-Some-clause-memory g c = c.settle-in-Some.ensures.memory
+pub returns-in_err-append_replacement-in-Invalid-clause-turns : goal.returns-in_err-append_replacement-in-Invalid-clause-turns
+returns-in_err-append_replacement-in-Invalid-clause-turns g c =
+    let made = rw c.as_slice-2.ensures.content at c.in-Invalid.ensures.completed in
+    let parts = invalid_parts _ _ _ c.in-Invalid.taken made.0 made.2 refl in
+    let turn = c.in-Invalid.ensures.turns in
+    omega (arith, parts, turn)
 
-pub returns-in-Some-clause-turns : goal.returns-in-Some-clause-turns
-returns-in-Some-clause-turns g c =
-    let closed = MatchOption-at_some _ _ _ c.in-Some.is c.in_ok-rest.ensures.turns_closed in
-    le_trans c.settle-in-Some.ensures.turns closed
+pub returns-in_ok-append_replacement-in-Invalid-clause-read : goal.returns-in_ok-append_replacement-in-Invalid-clause-read
+returns-in_ok-append_replacement-in-Invalid-clause-read g c =
+    let a = g.B.AsOctets.content c.args.text.now in
+    let made = rw c.as_slice-2.ensures.content at c.in-Invalid.ensures.completed in
+    let first = invalid_read _ _ _ c.in-Invalid.taken made.0 made.2 (rest_of c.args.piece.now c.in-Invalid.taken) a in
+    let first = subst (IsRead _ _ a) (sym c.in_ok-append_replacement-in-Invalid.ensures.ok) first in
+    IfOk-weaker c.settle-in-Invalid.result _ _ (λ left read. read_then first read) c.settle-in-Invalid.ensures.read
 
-pub returns-in-Some-clause-passed : goal.returns-in-Some-clause-passed
-returns-in-Some-clause-passed g c =
-    let closed = MatchOption-at_some _ _ _ c.in-Some.is c.in_ok-rest.ensures.passed_closed in
-    IfOk-weaker c.settle-in-Some.result _ _ (λ left passed. passed_both _ _ _ _ _ closed passed) c.settle-in-Some.ensures.passed
+pub returns-in_ok-append_replacement-in-Invalid-clause-short : goal.returns-in_ok-append_replacement-in-Invalid-clause-short
+returns-in_ok-append_replacement-in-Invalid-clause-short g c =
+    let a = g.B.AsOctets.content c.args.text.now in
+    let made = rw c.as_slice-2.ensures.content at c.in-Invalid.ensures.completed in
+    let first = invalid_read _ _ _ c.in-Invalid.taken made.0 made.2 (rest_of c.args.piece.now c.in-Invalid.taken) a in
+    let first = subst (IsRead _ _ a) (sym c.in_ok-append_replacement-in-Invalid.ensures.ok) first in
+    λ h. too_long_then first (c.settle-in-Invalid.ensures.short h)
 
-pub returns-in-Some-clause-kept : goal.returns-in-Some-clause-kept
-returns-in-Some-clause-kept g c = le_trans c.in_ok-rest.ensures.kept c.settle-in-Some.ensures.kept
+pub returns-in_ok-append_replacement-in-Invalid-clause-turns : goal.returns-in_ok-append_replacement-in-Invalid-clause-turns
+returns-in_ok-append_replacement-in-Invalid-clause-turns g c =
+    let made = rw c.as_slice-2.ensures.content at c.in-Invalid.ensures.completed in
+    let parts = invalid_parts _ _ _ c.in-Invalid.taken made.0 made.2 (rest_of c.args.piece.now c.in-Invalid.taken) in
+    let turn = c.in-Invalid.ensures.turns in
+    let turns = c.settle-in-Invalid.ensures.turns in
+    omega (arith, parts, turn, turns)
 
--- the open end is still open
-
-pub returns-in-None-clause-kept : goal.returns-in-None-clause-kept
-returns-in-None-clause-kept g c = c.in_ok-rest.ensures.kept
-
-pub returns-in-None-clause-within : goal.returns-in-None-clause-within
-returns-in-None-clause-within g c = c.in_ok-rest.ensures.within
-
-pub returns-in-None-clause-turns : goal.returns-in-None-clause-turns
-returns-in-None-clause-turns g c = one_past _ _ _ c.in_ok-rest.ensures.turns
+pub returns-in_ok-append_replacement-in-Invalid-clause-passed : goal.returns-in_ok-append_replacement-in-Invalid-clause-passed
+returns-in_ok-append_replacement-in-Invalid-clause-passed g c =
+    let made = rw c.as_slice-2.ensures.content at c.in-Invalid.ensures.completed in
+    let few = made.1 in
+    let turn = c.in-Invalid.ensures.turns in
+    IfOk-weaker c.settle-in-Invalid.result _ _
+    (λ left passed. omega (arith, few, turn, made.0, passed, length-take (length c.args.piece.now - c.in-Invalid.taken)
+        (drop c.in-Invalid.taken c.args.piece.now), length-drop c.in-Invalid.taken c.args.piece.now))
+    c.settle-in-Invalid.ensures.passed

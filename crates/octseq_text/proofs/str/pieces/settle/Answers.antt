@@ -3,7 +3,7 @@ use Rattle.std.proofs.Math.Nat.{le_refl, le_trans}
 use Rattle.std.proofs.lemmas.Result.{err_from_is_err_and, IfOk-from_err}
 use Rattle.octseq_utf8.specs.Encoding.{encoding_of}
 use Rattle.octseq_utf8.proofs.Splitting.{splits}
-use Rattle.octseq_text.proofs.Counting.{turns_within, passed_on, passed_all, passed_none, fewer_left}
+use Rattle.octseq_text.proofs.Counting.{turns_left, passed_on, passed_all, passed_none, fewer_left}
 use Rattle.octseq_text.proofs.Piecewise.{read_none, read_then, read_more, read_valid, read_chunk, read_invalid}
 use Rattle.octseq_text.proofs.Piecewise.{read_to_end, too_long, beginning_few, not_so}
 use Rattle.octseq_text.specs.Progress.{IsRead}
@@ -142,7 +142,7 @@ returns-in_err-append_slice-clause-memory g c =
 
 pub returns-in_err-append_slice-clause-turns : goal.returns-in_err-append_slice-clause-turns
 returns-in_err-append_slice-clause-turns g c =
-    turns_within c.args.octets.now _ _ _
+    turns_left _ _ _
     (le_trans (c.in-Some.ensures.turns _ _ (splits _) (splits _)) c.loop-chunk.invariant.turns)
 
 pub returns-in_err-append_slice-clause-kept : goal.returns-in_err-append_slice-clause-kept
@@ -167,7 +167,7 @@ returns-in_err-append_replacement-clause-memory g c =
 
 pub returns-in_err-append_replacement-clause-turns : goal.returns-in_err-append_replacement-clause-turns
 returns-in_err-append_replacement-clause-turns g c =
-    turns_within c.args.octets.now _ _ _
+    turns_left _ _ _
     (le_trans (c.in-Some.ensures.turns _ _ (splits _) (splits _)) c.loop-chunk.invariant.turns)
 
 pub returns-in_err-append_replacement-clause-kept : goal.returns-in_err-append_replacement-clause-kept
@@ -194,7 +194,7 @@ returns-then-is_incomplete-clause-passed g c =
 
 pub returns-then-is_incomplete-clause-turns : goal.returns-then-is_incomplete-clause-turns
 returns-then-is_incomplete-clause-turns g c =
-    turns_within c.args.octets.now _ _ _
+    turns_left _ _ _
     (le_trans (c.in-Some.ensures.turns _ _ (splits _) (splits _)) c.loop-chunk.invariant.turns)
 
 pub returns-then-is_incomplete-clause-kept : goal.returns-then-is_incomplete-clause-kept
@@ -216,7 +216,7 @@ returns-clause-within g c = c.loop-chunk.invariant.within
 
 pub returns-clause-turns : goal.returns-clause-turns
 returns-clause-turns g c =
-    turns_within c.args.octets.now _ _ _
+    turns_left _ _ _
     (le_trans (c.in_default.ensures.turns _ _ (splits _) (splits _)) c.loop-chunk.invariant.turns)
 
 pub returns-clause-passed : goal.returns-clause-passed

@@ -1,57 +1,66 @@
-use Rattle.std.proofs.Common.{◌-◌, ◌++◌, length, take, drop, refl, ◌∙◌}
-use Rattle.std.proofs.lemmas.Result.{err_from_is_err_and, IfOk-weaker, IfErr-weaker}
+use Rattle.std.proofs.Common.{[], ◌≡◌, ◌+◌, ◌≤◌, ◌++◌, length, take, arith, ap, refl, sym, subst, ◌∙◌}
+use Rattle.std.proofs.Common.{length-append, length-take}
+use Rattle.std.proofs.lemmas.Result.{IfOk-weaker, IfErr-weaker}
+use Rattle.octseq_utf8.specs.Fault.{fault_after, saturated}
+use Rattle.octseq_utf8.proofs.Faults.{rest_of}
 use Rattle.octseq_text.specs.FaultSearch.{PassesAfter, SettlesAfter}
-use Rattle.octseq_text.proofs.FaultSearching.{joined_settles, begins_by, fits, passes_all, settles_all, turns_all}
+use Rattle.octseq_text.proofs.Completions.{character_all, character_well_formed, invalid_fault, open_few}
+use Rattle.octseq_text.proofs.FaultSearching.{passes_after, passes_none, settles_after}
 use Rattle.octseq_text.proofs.utf8.pieces.read.Goals as goal
 
-pub returns-in_err-reached-clause-fault : goal.returns-in_err-reached-clause-fault
-returns-in_err-reached-clause-fault c =
-    let p = err_from_is_err_and c.from_residual.result c.from_residual.ensures.1 in
-    rw (p.1, p.2)
-    (joined_settles _ c.args.piece.now c.join-joined.result.content c.join-joined.ensures _ _
-    (rw c.as_slice-2.ensures.content at c.in_err-reached.ensures.fault))
+-- still incomplete
 
--- where octets of the piece are left
+pub returns-in-Incomplete-clause-passed : goal.returns-in-Incomplete-clause-passed
+returns-in-Incomplete-clause-passed c =
+    let unfinished = c.in-Incomplete.ensures.completed in
+    passes_none c.args.passed c.ranges.passed.fits _ _
+    (unfinished.0 ∙ ap (λ y. y ++ c.args.piece.now) c.as_slice-2.ensures.content) unfinished.1
 
-pub overflow_sub-rest : goal.overflow_sub-rest
-overflow_sub-rest c =
-    fits _ _ _ c.join-joined.ensures
-    (begins_by _ _ _ c.requires c.as_slice.ensures.content c.is_empty.ensures c.if-is_empty.false) _
-    (rw (c.as_slice-3.ensures.content, c.as_slice-4.ensures.content) refl) c.if-taken-piece.false _ _ _ _
-    c.as_slice-5.ensures.content (rw c.as_slice-2.ensures.content at c.in_ok-reached.ensures.passed)
+pub returns-in-Incomplete-clause-turns_passed : goal.returns-in-Incomplete-clause-turns_passed
+returns-in-Incomplete-clause-turns_passed c =
+    let unfinished = c.in-Incomplete.ensures.completed in
+    let few = open_few c.as_slice-2.result.now c.args.piece.now c.in-Incomplete.end.content unfinished.0 unfinished.1 in
+    let turn = c.in-Incomplete.ensures.turns in
+    omega (arith, few, turn)
 
-pub returns-clause-passed : goal.returns-clause-passed
-returns-clause-passed c =
-    let from = length c.as_slice-3.result.now - length c.as_slice-4.result.now - length c.as_slice-5.result.now in
-    IfOk-weaker c.search-3.result
-    (λ reached. PassesAfter c.in_ok-reached.reached.passed
-    (take (length c.args.piece.now - from) (drop from c.args.piece.now)) reached.passed reached.end.content)
-    (λ reached. PassesAfter c.args.passed (c.args.end.now.content ++ c.args.piece.now) reached.passed
-    reached.end.content)
-    (λ reached p. passes_all _ _ _ c.join-joined.ensures
-    (begins_by _ _ _ c.requires c.as_slice.ensures.content c.is_empty.ensures c.if-is_empty.false) _
-    (rw (c.as_slice-3.ensures.content, c.as_slice-4.ensures.content) refl) c.if-taken-piece.false _ _ _ _
-    c.as_slice-5.ensures.content (rw c.as_slice-2.ensures.content at c.in_ok-reached.ensures.passed) _ _ p)
-    c.search-3.ensures.passed
+-- a character
 
-pub returns-clause-fault : goal.returns-clause-fault
-returns-clause-fault c =
-    let from = length c.as_slice-3.result.now - length c.as_slice-4.result.now - length c.as_slice-5.result.now in
-    IfErr-weaker c.search-3.result
-    (λ reported. SettlesAfter c.in_ok-reached.reached.passed
-    (take (length c.args.piece.now - from) (drop from c.args.piece.now)) reported)
-    (λ reported. SettlesAfter c.args.passed (c.args.end.now.content ++ c.args.piece.now) reported)
-    (λ reported s. settles_all _ _ _ c.join-joined.ensures
-    (begins_by _ _ _ c.requires c.as_slice.ensures.content c.is_empty.ensures c.if-is_empty.false) _
-    (rw (c.as_slice-3.ensures.content, c.as_slice-4.ensures.content) refl) c.if-taken-piece.false _ _ _ _
-    c.as_slice-5.ensures.content (rw c.as_slice-2.ensures.content at c.in_ok-reached.ensures.passed) _ s)
-    c.search-3.ensures.fault
+pub returns-in-Character-clause-passed : goal.returns-in-Character-clause-passed
+returns-in-Character-clause-passed c =
+    let made = c.in-Character.ensures.completed in
+    let is = made.1 ∙ ap (λ y. y ++ take c.in-Character.taken c.args.piece.now) c.as_slice-2.ensures.content in
+    let left = rest_of c.args.piece.now c.in-Character.taken in
+    let n = c.args.passed in
+    let m = c.saturating_add-passed.ensures ∙ ap (λ y. saturated (n + length y)) c.as_slice-in-Character.ensures.content in
+    IfOk-weaker c.search-in-Character.result _ _
+    (λ reached p. character_all _ _ _ _ c.in-Character.taken is made.2 left
+        (λ y. PassesAfter n y reached.passed reached.end.content)
+        (passes_after n _ c.in-Character.encoding.content
+        (character_well_formed _ _ _ _ c.in-Character.taken is made.2 left) m p))
+    c.search-in-Character.ensures.passed
 
-pub returns-clause-turns : goal.returns-clause-turns
-returns-clause-turns c =
-    let begins = begins_by _ _ _ c.requires c.as_slice.ensures.content c.is_empty.ensures c.if-is_empty.false in
-    turns_all _ _ _ c.join-joined.ensures begins _
-    (rw (c.as_slice-3.ensures.content, c.as_slice-4.ensures.content) refl) c.if-taken-piece.false _ _ _ _
-    c.as_slice-5.ensures.content (rw c.as_slice-2.ensures.content at c.in_ok-reached.ensures.passed) _ _ _
-    (c.in_ok-reached.ensures.left _ _ begins (c.as_slice-2.ensures.content ∙ c.join-joined.ensures))
-    c.search-3.ensures.turns
+pub returns-in-Character-clause-fault : goal.returns-in-Character-clause-fault
+returns-in-Character-clause-fault c =
+    let made = c.in-Character.ensures.completed in
+    let is = made.1 ∙ ap (λ y. y ++ take c.in-Character.taken c.args.piece.now) c.as_slice-2.ensures.content in
+    let left = rest_of c.args.piece.now c.in-Character.taken in
+    let n = c.args.passed in
+    let m = c.saturating_add-passed.ensures ∙ ap (λ y. saturated (n + length y)) c.as_slice-in-Character.ensures.content in
+    IfErr-weaker c.search-in-Character.result _ _
+    (λ reported s. character_all _ _ _ _ c.in-Character.taken is made.2 left (λ y. SettlesAfter n y reported)
+        (settles_after n _ c.in-Character.encoding.content
+        (character_well_formed _ _ _ _ c.in-Character.taken is made.2 left) m _ reported s))
+    c.search-in-Character.ensures.fault
+
+-- a bad part
+
+pub returns-in-Invalid-clause-fault : goal.returns-in-Invalid-clause-fault
+returns-in-Invalid-clause-fault c =
+    let made = rw c.as_slice-2.ensures.content at c.in-Invalid.ensures.completed in
+    let begun = c.args.end.now.content in
+    let long : c.in-Invalid.taken ≤ length c.args.piece.now = let inside = made.0 in omega arith in
+    invalid_fault _ _ _ c.in-Invalid.taken made.0 made.2 refl c.args.passed _ _
+    (omega (arith, ap length c.as_slice-in-Invalid.ensures.content,
+        length-append begun (take c.in-Invalid.taken c.args.piece.now),
+        length-take c.in-Invalid.taken c.args.piece.now))
+    (c.offset.ensures ∙ ap (fault_after c.args.passed) c.fault_at_front.ensures)
