@@ -1,21 +1,20 @@
 -- What a beginning is with the octets of a piece after it.
-use Rattle.std.proofs.Common.{◌≡◌, ◌≢◌, ℕ, ◌+◌, ◌-◌, ◌*◌, ◌<◌, ◌≤◌, List, [], ◌∷◌, ◌++◌, length, take, drop, min, refl}
-use Rattle.std.proofs.Common.{◌⊎◌, inl, inr, Option, Some, None, arith, ap, sym, ◌∙◌, subst, append_assoc}
+use Rattle.std.proofs.Common.{◌≡◌, ◌≢◌, ℕ, ◌+◌, ◌-◌, ◌<◌, ◌≤◌, List, [], ◌∷◌, ◌++◌, length, take, drop, min, refl}
+use Rattle.std.proofs.Common.{◌⊎◌, inl, inr, Some, None, arith, ap, sym, ◌∙◌, subst, append_assoc}
 use Rattle.std.proofs.Common.{length-append, length-take, length-drop}
 use Rattle.std.proofs.Math.Seq.{take-append-add}
 use Rattle.std.proofs.lemmas.List.{append-nil, nil_from_length, take-append-drop, take-take}
 use Rattle.octseq_utf8.specs.Encoding.{IsEncoding, encoding_of}
-use Rattle.octseq_utf8.specs.Fault.{Fault, IsFault, IsFaultSize, fault_after}
+use Rattle.octseq_utf8.specs.Fault.{Fault, IsFaultSize, fault_after}
 use Rattle.octseq_utf8.specs.FirstPart.{IsBadFront}
 use Rattle.octseq_utf8.specs.Parts.{IsFront, IsBeginning, IsBadPart}
 use Rattle.octseq_utf8.specs.Reading.{width_of, width, part_len, parts_of}
 use Rattle.octseq_utf8.specs.Text.{IsWellFormed}
 use Rattle.octseq_utf8.proofs.Beginnings.{beginning_fits, beginning_short, nil_or_some}
 use Rattle.octseq_utf8.proofs.Fits.{get_left}
-use Rattle.octseq_utf8.proofs.Rows.{length_of}
 use Rattle.octseq_utf8.proofs.Spelling.{spells_nothing, spells_one}
 use Rattle.octseq_utf8.proofs.Splitting.{beginning_fitting, encoding_fitting, parts_bad, parts_encoding, parts_step, splits}
-use Rattle.octseq_text.specs.FaultSearch.{PassesAfter, SettlesAfter}
+use Rattle.octseq_text.specs.FaultSearch.{SettlesAfter}
 use Rattle.octseq_text.specs.Progress.{IsOpenEnd, IsRead}
 use Rattle.octseq_text.proofs.BadParts.{bad_more, parts_self}
 use Rattle.octseq_text.proofs.Counting.{parts_few}

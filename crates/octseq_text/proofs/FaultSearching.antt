@@ -1,29 +1,23 @@
 -- The search for the first fault in pieces: what is found of a piece, and what that tells of all octets.
-use Rattle.std.specs.Prelude.{IfSome, IfNone, is_some, ◌==◌}
-use Rattle.std.proofs.Common.{◌≡◌, ◌≢◌, ℕ, ◌+◌, ◌-◌, ◌^◌, ◌<◌, ◌≤◌, List, [], ◌∷◌, ◌++◌, map, length, take, drop, refl}
-use Rattle.std.proofs.Common.{◌⊎◌, arith, inl, inr, ap, sym, ◌∙◌, subst, append_assoc, length-append, length-take, length-drop}
+use Rattle.std.specs.Prelude.{IfSome, IfNone, is_some}
+use Rattle.std.proofs.Common.{◌≡◌, ◌≢◌, ℕ, ◌+◌, ◌^◌, ◌<◌, ◌≤◌, List, [], ◌∷◌, ◌++◌, length, take, drop, refl}
+use Rattle.std.proofs.Common.{arith, inl, inr, ap, sym, ◌∙◌, subst, append_assoc, length-append, length-take}
 use Rattle.std.proofs.Common.{Bool, true, false, Option, Some, None}
-use Rattle.std.proofs.Math.Seq.{take-append-add, take-append_seam}
-use Rattle.std.proofs.lemmas.List.{append-nil, take-append-drop, take-take, length-map}
-use Rattle.std.specs.List.{concat, AllByRecursion}
-use Rattle.octseq_utf8.specs.Encoding.{IsEncoding, number_of}
+use Rattle.std.proofs.lemmas.List.{append-nil}
+use Rattle.octseq_utf8.specs.Encoding.{number_of}
 use Rattle.octseq_utf8.specs.Fault.{Fault, IsFault, IsFaultSize, saturated, fault_after}
 use Rattle.octseq_utf8.specs.Parts.{IsBeginning}
-use Rattle.octseq_utf8.specs.Reading.{width_of, width}
-use Rattle.octseq_utf8.specs.Text.{Spells, IsWellFormed, chars}
-use Rattle.octseq_utf8.proofs.AtFault.{end_bounds, front_is, onward_is}
-use Rattle.octseq_utf8.proofs.Beginnings.{beginning_fits, beginning_short}
-use Rattle.octseq_utf8.proofs.Faults.{fault_refutes, rest_of}
-use Rattle.octseq_utf8.proofs.Fits.{get_left}
+use Rattle.octseq_utf8.specs.Text.{IsWellFormed, chars}
+use Rattle.octseq_utf8.proofs.AtFault.{end_bounds, onward_is}
+use Rattle.octseq_utf8.proofs.Faults.{fault_refutes}
 use Rattle.octseq_utf8.proofs.Search.{spelled_few}
 use Rattle.octseq_utf8.proofs.Spelling.{chars_of, spells_nothing, spells_one}
-use Rattle.octseq_utf8.proofs.Splitting.{encoding_fitting}
 use Rattle.octseq_utf8.proofs.Texts.{well_formed-append}
 use Rattle.octseq_text.specs.FaultSearch.{ReportsAfter, SettlesAfter, PassesAfter, Searched, HasSearched}
 use Rattle.octseq_text.specs.Progress.{IsOpenEnd}
 use Rattle.octseq_text.proofs.BadParts.{bad_more}
 use Rattle.octseq_text.proofs.Counting.{turns_few}
-use Rattle.octseq_text.proofs.Piecewise.{beginning_few, some_of}
+use Rattle.octseq_text.proofs.Piecewise.{beginning_few}
 
 -- a fault of a size stays
 
@@ -137,191 +131,6 @@ passes_none n small octets end is begins = record {
   open_end = λ some. begins;
   passed = omega arith;
 }
-
--- what is settled of octets is settled of them and others
-pub settles_more : (n : ℕ) (x y : List ℕ) (reported : Fault) → SettlesAfter n x reported → SettlesAfter n (x ++ y) reported
-settles_more n x y reported s =
-    λ more. subst (λ z. ReportsAfter n z reported) (sym (append_assoc x y more)) (s (y ++ more))
-
--- a beginning, and what is well formed of it and others
-
--- there are fewer encodings than octets after the beginning
-longer : (b x good left : List ℕ) → IsBeginning b → b ++ x ≡ good ++ left → (es : List (List ℕ))
-    → AllByRecursion IsEncoding es → concat es ≡ good → 1 ≤ length es → length b + length es ≤ length good
-longer b x good left begins same [] all joined some = absurd (omega arith)
-longer b x good left begins same (e ∷ es) all joined some =
-    let cut : b ++ x ≡ e ++ (concat es ++ left) = same ∙ ap (λ y. y ++ left) (sym joined)
-    ∙ append_assoc e (concat es) left in
-    let wide : width (b ++ x) ≡ length e = ap width cut ∙ (encoding_fitting all.0 (concat es ++ left)).1 in
-    let lead : width (b ++ x) ≡ width b = ap width_of (get_left b x 0 ((beginning_fits begins).some)) in
-    let short = beginning_short begins in
-    let others : Spells (concat es) (map number_of es) =
-    record { encodings = es; each = all.1; joined = refl; numbers = refl } in
-    omega (arith, ap length joined, length-append e (concat es), spelled_few others, length-map es number_of)
-
--- The turns of octets that begin with a beginning.
-module _ (x begun more : List ℕ) (begins : IsBeginning begun) (same : x ≡ begun ++ more) where
-  abbrev IsFew : ℕ → ℕ → List ℕ → Type 0
-  IsFew old new left = (new ≤ old + length more + 1)
-      × (length left ≤ length more → new + length left ≤ old + length more + 1)
-
-  few_encodings : (good left : List ℕ) → x ≡ good ++ left → (es : List (List ℕ)) → AllByRecursion IsEncoding es
-      → concat es ≡ good → (old new : ℕ) → new ≤ old + length es + 1 → IsFew old new left
-  few_encodings good left cut [] all joined old new turns =
-      let some = (beginning_fits begins).some in
-      let long : length begun + length more ≡ length left =
-      omega (arith, ap length same, ap length cut, ap length joined, length-append begun more, length-append good left) in
-      (omega arith, λ h. absurd (omega (arith, long)))
-  few_encodings good left cut (e ∷ es) all joined old new turns =
-      let most = longer begun more good left begins (sym same ∙ cut) (e ∷ es) all joined (omega arith) in
-      let long : length begun + length more ≡ length good + length left =
-      omega (arith, ap length same, ap length cut, length-append begun more, length-append good left) in
-      (omega (arith, most, long), λ h. omega (arith, most, long))
-
-  few_turns : (good left : List ℕ) → x ≡ good ++ left → IsWellFormed good → (old new : ℕ)
-      → new ≤ old + length (chars good) + 1 → IsFew old new left
-  few_turns good left cut (cs, s) old new turns =
-      few_encodings good left cut s.encodings s.each s.joined old new
-      (omega (arith, ap length (chars_of s), ap length s.numbers, length-map s.encodings number_of))
-
-  pub few_to_end : (left : List ℕ) → left ≡ [] → IsWellFormed x → (old new : ℕ) → new ≤ old + length (chars x)
-      → (new ≤ old + length more + 1) × (length left ≤ length more → new + length left ≤ old + length more + 1)
-  few_to_end left none w old new turns =
-      few_turns x left (sym (ap (λ y. x ++ y) none ∙ append-nil x)) w old new (omega arith)
-
-  pub few_to_fault : (fault : Fault) → IsFault x fault → (place : ℕ) → place ≡ fault.place → (left : List ℕ)
-      → left ≡ take (length x - place) (drop place x) → (old new : ℕ)
-      → new ≤ old + length (chars (take fault.place x)) + 1
-      → (new ≤ old + length more + 1) × (length left ≤ length more → new + length left ≤ old + length more + 1)
-  few_to_fault fault f place here left e old new turns =
-      let cut : left ≡ drop fault.place x = e ∙ rest_of x place ∙ ap (λ k. drop k x) here in
-      few_turns (take fault.place x) left
-      (sym (ap (λ y. take fault.place x ++ y) cut ∙ take-append-drop fault.place x))
-      (subst IsWellFormed (sym (front_is x fault f)) f.good) old new turns
-
-encodings_some : (x : List ℕ) (es : List (List ℕ)) → concat es ≡ x → 1 ≤ length x → 1 ≤ length es
-encodings_some x [] e some = absurd (omega (arith, ap length e))
-encodings_some x (c ∷ es) e some = omega arith
-
--- b, and t octets of a piece: where fewer than those are left, the others are passed
-module _ (b piece good left : List ℕ) (t : ℕ) (within : t ≤ length piece) (w : IsWellFormed good)
-    (same : b ++ take t piece ≡ good ++ left) where
-  lengths : length b + t ≡ length good + length left
-  lengths = omega (
-    arith,
-    ap length same,
-    length-append b (take t piece),
-    length-append good left,
-    length-take t piece,
-  )
-
-  pub left_few : IsBeginning b → length left < length b + t → length left ≤ t
-  left_few begins few =
-      let some : 1 ≤ length good = omega (arith, lengths) in
-      let more = longer b (take t piece) good left begins same w.1.encodings w.1.each w.1.joined
-      (encodings_some good w.1.encodings w.1.joined some) in
-      omega (arith, lengths)
-
-  pub left_after : length left ≤ t → b ++ piece ≡ good ++ drop (t - length left) piece
-  left_after few =
-      let k : ℕ = t - length left in
-      let long : length good ≡ length b + k = omega (arith, lengths) in
-      let front : good ≡ b ++ take k piece =
-      sym (take-append_seam good left) ∙ ap (take (length good)) (sym same)
-      ∙ ap (λ n. take n (b ++ take t piece)) long ∙ take-append-add b (take t piece) k
-      ∙ ap (λ y. b ++ y) (take-take k t piece (omega arith)) in
-      ap (λ y. b ++ y) (sym (take-append-drop k piece)) ∙ sym (append_assoc b (take k piece) (drop k piece))
-      ∙ ap (λ y. y ++ drop k piece) (sym front)
-
--- an open end has three octets at most
-pub open_end_few : (end : List ℕ) → IsOpenEnd end → length end ≤ 3
-open_end_few [] h = omega arith
-open_end_few (a ∷ end) h = beginning_few (a ∷ end) (h (λ e. let long = ap length e in absurd (omega arith)))
-
--- one that has an octet is a beginning
-pub begins_by : (end seen : List ℕ) (test : Bool) → IsOpenEnd end → seen ≡ end → test ≡ (length seen == 0)
-    → test ≡ false → IsBeginning end
-begins_by end seen test h e f t =
-    let some = some_of end seen test e f t in
-    h (λ none. let long = ap length none in absurd (omega arith))
-
--- An open end joined with octets of a piece.
-module _ (b piece joined : List ℕ) (same : joined ≡ b ++ take (4 - length b) piece) where
-  pub joined_settles : (n : ℕ) (reported : Fault) → SettlesAfter n joined reported → SettlesAfter n (b ++ piece) reported
-  joined_settles n reported s =
-      let k : ℕ = 4 - length b in
-      let all : joined ++ drop k piece ≡ b ++ piece =
-      ap (λ y. y ++ drop k piece) same ∙ append_assoc b (take k piece) (drop k piece)
-      ∙ ap (λ y. b ++ y) (take-append-drop k piece) in
-      subst (λ y. SettlesAfter n y reported) all (settles_more n joined (drop k piece) reported s)
-
-  -- where octets of the piece are left, those that make four are taken, and what is open of them is among those
-  module _ (begins : IsBeginning b) (taken : ℕ) (taken_is : taken ≡ length joined - length b)
-      (left_over : ¬ (taken ≡ length piece)) (n place : ℕ) (left seen : List ℕ) (seen_is : seen ≡ left)
-      (p : PassesAfter n joined place left) where
-    long : length joined ≡ length b + length (take (4 - length b) piece)
-    long = ap length same ∙ length-append b (take (4 - length b) piece)
-
-    most_or_more : (a c : ℕ) → (a ≤ c) ⊎ (c < a)
-    most_or_more a c = grind arith
-
-    few_by : (4 - length b ≤ length piece) ⊎ (length piece < 4 - length b) → 4 - length b ≤ length piece
-    few_by (inl h) = h
-    few_by (inr h) = absurd (left_over (omega (arith, long, taken_is, length-take (4 - length b) piece)))
-
-    room : 4 - length b ≤ length piece
-    room = few_by (most_or_more (4 - length b) (length piece))
-
-    four : taken ≡ 4 - length b
-    four = omega (arith, long, room, taken_is, length-take (4 - length b) piece)
-
-    among : length left ≤ 4 - length b
-    among = left_few b piece p.good left (4 - length b) room p.well_formed (sym same ∙ p.whole) begins
-        (omega (arith, open_end_few left p.open_end, beginning_few b begins))
-
-    pub fits : length seen ≤ taken
-    fits = omega (arith, among, four, ap length seen_is)
-
-    abbrev rest : List ℕ
-    rest = let from : ℕ = taken - length seen in take (length piece - from) (drop from piece)
-
-    rest_after : p.good ++ rest ≡ b ++ piece
-    rest_after =
-        let from : taken - length seen ≡ 4 - length b - length left = omega (arith, four, ap length seen_is) in
-        ap (λ y. p.good ++ y) (rest_of piece (taken - length seen) ∙ ap (λ k. drop k piece) from)
-        ∙ sym (left_after b piece p.good left (4 - length b) room p.well_formed (sym same ∙ p.whole) among)
-
-    pub passes_all : (next : ℕ) (end : List ℕ) → PassesAfter place rest next end
-        → PassesAfter n (b ++ piece) next end
-    passes_all next end q =
-        subst (λ y. PassesAfter n y next end) rest_after (passes_after n place p.good p.well_formed p.passed q)
-
-    pub settles_all : (reported : Fault) → SettlesAfter place rest reported → SettlesAfter n (b ++ piece) reported
-    settles_all reported s =
-        subst (λ y. SettlesAfter n y reported) rest_after
-        (settles_after n place p.good p.well_formed p.passed rest reported s)
-
-    -- what is looked at again takes no more turns than the octets of the piece that are taken
-    pub turns_all : (old mid new : ℕ)
-        → (length left ≤ length (take (4 - length b) piece)
-        → mid + length left ≤ old + length (take (4 - length b) piece) + 1)
-        → new ≤ mid + length rest → new ≤ old + length piece + 1
-    turns_all old mid new first turns =
-        let more : length (take (4 - length b) piece) ≡ 4 - length b =
-        length-take (4 - length b) piece ∙ omega (arith, room) in
-        let before = first (omega (arith, more, among)) in
-        let from : ℕ = taken - length seen in
-        omega (
-          arith,
-          before,
-          more,
-          four,
-          room,
-          among,
-          ap length seen_is,
-          length-take (length piece - from) (drop from piece),
-          length-drop from piece,
-        )
 
 -- what a search tells of all octets
 

@@ -1,33 +1,28 @@
 -- A lossy reading in pieces: what is read from a piece, and what is held afterwards.
 use Rattle.std.specs.Prelude.{is_some, IsTrue, ◌==◌}
-use Rattle.std.proofs.Common.{Bool, true, false, ◌≡◌, ◌≢◌, ℕ, suc, ◌+◌, ◌<◌, ◌≤◌, List, [], ◌∷◌, ◌++◌}
-use Rattle.std.proofs.Common.{map, length, get_or, take, drop, refl, arith, ◌⊎◌, inl, inr, ⊎_elim, ap}
+use Rattle.std.proofs.Common.{Bool, true, false, ◌≡◌, ◌≢◌, ℕ, ◌+◌, ◌≤◌, List, [], ◌∷◌, ◌++◌}
+use Rattle.std.proofs.Common.{map, length, get_or, refl, arith, ◌⊎◌, inl, inr, ⊎_elim, ap}
 use Rattle.std.proofs.Common.{sym, ◌∙◌, subst, append_assoc, length-append, Option, Some, None}
-use Rattle.std.proofs.Math.Seq.{take-append_seam, drop-cons, take-suc}
 use Rattle.std.proofs.lemmas.Bool.{eqb-true}
-use Rattle.std.proofs.lemmas.List.{append-nil, take-append-drop, nil_from_length}
-use Rattle.std.specs.List.{concat, AllByRecursion}
+use Rattle.std.proofs.lemmas.List.{append-nil, nil_from_length}
 use Rattle.octseq_core.specs.Limit.{IsWithin, IsPast}
 use Rattle.octseq_core.specs.Refusal.{Refusal, Is, append_error}
 use Rattle.octseq_core.specs.declared.builder.AppendError.{AppendError}
 use Rattle.octseq_core.specs.declared.builder.AppendError.TheVariants.{Short, Memory}
 use Rattle.octseq_utf8.specs.Chunk.{Chunk, IsFirstChunk}
-use Rattle.octseq_utf8.specs.Encoding.{IsEncoding, encoding_of}
-use Rattle.octseq_utf8.specs.Fault.{Fault, IsFault, IsFaultSize}
-use Rattle.octseq_utf8.specs.Parts.{IsFront, IsBeginning, IsBadPart, Part, Char, Bad, Splits, nothing, text}
+use Rattle.octseq_utf8.specs.Encoding.{encoding_of}
+use Rattle.octseq_utf8.specs.Parts.{IsBeginning, IsBadPart, Part, Char, Bad, Splits, nothing, text}
 use Rattle.octseq_text.specs.Pieces.{Settles, open_end, no_end, Held, HasRead, IsSound}
-use Rattle.octseq_utf8.specs.Reading.{width_of, width, parts_of}
+use Rattle.octseq_utf8.specs.Reading.{parts_of}
 use Rattle.octseq_text.specs.Progress.{Reads, IsRead, IsTooLong, IsOpenEnd}
 use Rattle.octseq_utf8.specs.Text.{Spells, IsWellFormed}
-use Rattle.octseq_text.proofs.BadParts.{bad_more}
-use Rattle.octseq_utf8.proofs.Beginnings.{beginning_fits, beginning_short, nil_or_some}
-use Rattle.octseq_utf8.proofs.Fits.{get_left}
+use Rattle.octseq_utf8.proofs.Beginnings.{beginning_short}
 use Rattle.octseq_utf8.proofs.LossyTexts.{replacement_is_character, text_well_formed}
 use Rattle.octseq_core.proofs.Limits.{past_more}
 use Rattle.octseq_utf8.proofs.Rows.{width_le}
 use Rattle.octseq_text.proofs.Settling.{reads_none, reads_more, reads_then, reads_good, reads_bad, settles_reads}
 use Rattle.octseq_text.proofs.Settling.{one_settling, reads_settles, text-append, text-chars, text_read, snoc_some}
-use Rattle.octseq_utf8.proofs.Splitting.{bad_some, encoding_fitting, splits, one_splitting}
+use Rattle.octseq_utf8.proofs.Splitting.{splits, one_splitting}
 
 -- the text grows
 
@@ -137,107 +132,6 @@ size_some size (Some n) e h = λ none. cc
 -- a beginning has at most three octets
 pub beginning_few : (q : List ℕ) → IsBeginning q → length q ≤ 3
 beginning_few q b = let short = beginning_short b in omega (arith, width_le (get_or q 0 0))
-
--- at a fault of a beginning followed by one octet
-module _ (b : List ℕ) (o : ℕ) (begins : IsBeginning b) (fault : Fault) (f : IsFault (b ++ o ∷ []) fault) where
-  pub none_before : (es : List (List ℕ)) → AllByRecursion IsEncoding es → concat es ≡ f.before → f.before ≡ []
-  none_before [] a e = sym e
-  none_before (c ∷ es) a e =
-      let all : b ++ o ∷ [] ≡ c ++ (concat es ++ (f.bad ++ f.after)) =
-      f.whole ∙ ap (λ y. y ++ (f.bad ++ f.after)) (sym e) ∙ append_assoc c (concat es) (f.bad ++ f.after) in
-      let first = encoding_fitting a.0 (concat es ++ (f.bad ++ f.after)) in
-      let wide : width (b ++ o ∷ []) ≡ length c = ap width all ∙ first.1 in
-      let some = (beginning_fits begins).some in
-      let lead : width (b ++ o ∷ []) ≡ width b = ap width_of (get_left b (o ∷ []) 0 some) in
-      let short = beginning_short begins in
-      let bad = (bad_some f.first).0 in
-      absurd (omega (
-        arith,
-        ap length all,
-        length-append b (o ∷ []),
-        length-append c (concat es ++ (f.bad ++ f.after)),
-        length-append (concat es) (f.bad ++ f.after),
-        length-append f.bad f.after,
-      ))
-
-  whole : b ++ o ∷ [] ≡ f.bad ++ f.after
-  whole = f.whole ∙ ap (λ y. y ++ (f.bad ++ f.after)) (none_before f.good.1.encodings f.good.1.each f.good.1.joined)
-
-  bad_begins : IsBeginning f.bad × (length b ≤ length f.bad)
-  bad_begins =
-      let front : IsFront b (f.bad ++ f.after) = (o ∷ [], sym whole) in
-      ⊎_elim (λ g. (g.0, g.1 b front begins)) (λ g. absurd (g.1 b front begins)) f.first.longest
-
-  all_begins : (size : Option ℕ) → size ≡ None → IsFaultSize f.bad f.after size → IsBeginning (b ++ o ∷ [])
-  all_begins size e (inl k) = subst IsBeginning (sym (whole ∙ ap (λ y. f.bad ++ y) k.2 ∙ append-nil f.bad)) k.1
-  all_begins size e (inr k) = let some = k.0 in absurd (cc)
-
-  -- if the fault reaches the end, all of it is a beginning
-  begins_more : fault.size ≡ None → IsBeginning (b ++ o ∷ [])
-  begins_more e = all_begins fault.size e f.size
-
-  octet_some : (y : List ℕ) → o ∷ y ≢ []
-  octet_some y e = let long = ap length e in absurd (omega arith)
-
-  refuted_by : (size : Option ℕ) → size ≢ None → IsFaultSize f.bad f.after size → (r : List ℕ)
-      → Reads (b ++ (o ∷ r)) (o ∷ r) (Bad b ∷ [])
-  refuted_by size n (inl k) r = absurd (n k.0)
-  refuted_by size n (inr k) r =
-      let more = bad_begins in
-      let after : 1 ≤ length f.after = nil_or_some f.after (λ e. k.1 (more.0, e)) in
-      let long : length f.bad ≡ length b = let m = more.1 in
-      omega (arith, ap length whole, length-append b (o ∷ []), length-append f.bad f.after) in
-      let same : f.bad ≡ b = sym (take-append_seam f.bad f.after) ∙ ap (λ y. take (length f.bad) y) (sym whole)
-      ∙ ap (λ k. take k (b ++ o ∷ [])) long ∙ take-append_seam b (o ∷ []) in
-      let part : IsBadPart (b ++ o ∷ []) b =
-      subst (λ y. IsBadPart (b ++ o ∷ []) y) same (subst (λ y. IsBadPart y f.bad) (sym whole) f.first) in
-      reads_bad b (o ∷ r) (bad_more b (o ∷ []) r part (λ z. octet_some [] z.1)) (λ z. octet_some r z.1)
-
-  -- if it doesn't, the beginning is a bad part, whatever follows the octet
-  refuted : fault.size ≢ None → (r a : List ℕ) → IsRead (b ++ (o ∷ r)) (o ∷ r) a (a ++ encoding_of 0xFFFD)
-  refuted n r a = read_bad b (o ∷ r) a (refuted_by fault.size n f.size r)
-
--- A beginning q and the octets of a piece up to place i.
-module _ (q piece b : List ℕ) (i : ℕ) (h : i < length piece) (begun : b ≡ q ++ take i piece) where
-  from_place : drop i piece ≡ get_or piece i 0 ∷ drop (i + 1) piece
-  from_place = let next : suc i ≡ i + 1 = omega arith in
-      drop-cons piece i 0 h ∙ ap (λ k. get_or piece i 0 ∷ drop k piece) next
-
-  all_at : q ++ piece ≡ b ++ (get_or piece i 0 ∷ drop (i + 1) piece)
-  all_at =
-      ap (λ y. q ++ y) (sym (take-append-drop i piece)) ∙ sym (append_assoc q (take i piece) (drop i piece))
-      ∙ ap (λ y. (q ++ take i piece) ++ y) from_place ∙ ap (λ y. y ++ (get_or piece i 0 ∷ drop (i + 1) piece))
-      (sym begun)
-
-  -- if everything seen is well formed, the character is complete
-  pub closed_whole : (seen a : List ℕ) → seen ≡ b ++ get_or piece i 0 ∷ [] → IsWellFormed seen
-      → IsRead (q ++ piece) (drop (i + 1) piece) a (a ++ seen)
-  closed_whole seen a e w =
-      let all : q ++ piece ≡ seen ++ drop (i + 1) piece =
-      all_at ∙ sym (append_assoc b (get_or piece i 0 ∷ []) (drop (i + 1) piece)) ∙ ap (λ y. y ++ drop (i + 1) piece)
-      (sym e) in
-      subst (λ y. IsRead y (drop (i + 1) piece) a (a ++ seen)) (sym all) (read_good (drop (i + 1) piece) a w.1)
-
-  -- if it has a fault with a size, the beginning can't become a character
-  pub closed_bad : (seen a : List ℕ) → seen ≡ b ++ get_or piece i 0 ∷ [] → IsBeginning b → (fault : Fault)
-      → IsFault seen fault → fault.size ≢ None
-      → IsRead (q ++ piece) (drop i piece) a (a ++ encoding_of 0xFFFD)
-  closed_bad seen a e begins fault f n =
-      let bad = refuted b (get_or piece i 0) begins fault (subst (λ y. IsFault y fault) e f) n (drop (i + 1) piece) a in
-      subst (λ y. IsRead (q ++ piece) y a (a ++ encoding_of 0xFFFD)) (sym from_place)
-      (subst (λ y. IsRead y (get_or piece i 0 ∷ drop (i + 1) piece) a (a ++ encoding_of 0xFFFD)) (sym all_at) bad)
-
-  -- and if it has a fault without a size, it is a beginning
-  pub still_begins : (seen : List ℕ) → seen ≡ b ++ get_or piece i 0 ∷ [] → IsBeginning b → (fault : Fault)
-      → IsFault seen fault → fault.size ≡ None → IsBeginning seen
-  still_begins seen e begins fault f n =
-      subst IsBeginning (sym e) (begins_more b (get_or piece i 0) begins fault (subst (λ y. IsFault y fault) e f) n)
-
-  pub begun_more : (seen : List ℕ) → seen ≡ b ++ get_or piece i 0 ∷ [] → seen ≡ q ++ take (i + 1) piece
-  begun_more seen e =
-      let next : suc i ≡ i + 1 = omega arith in
-      e ∙ ap (λ y. y ++ get_or piece i 0 ∷ []) begun ∙ append_assoc q (take i piece) (get_or piece i 0 ∷ [])
-      ∙ ap (λ y. q ++ y) (sym (take-suc piece i 0 h) ∙ ap (λ k. take k piece) next)
 
 -- A piece after the octets that a reading stands for.
 module _ (held : Held) (x piece z new : List ℕ) (s : HasRead held x)

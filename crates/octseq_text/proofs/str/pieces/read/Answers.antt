@@ -1,4 +1,4 @@
-use Rattle.std.proofs.Common.{◌+◌, ◌-◌, ◌*◌, ◌≤◌, ◌++◌, length, take, drop, arith, ap, refl, sym, subst, ◌∙◌}
+use Rattle.std.proofs.Common.{◌-◌, ◌++◌, length, take, drop, arith, ap, refl, sym, subst, ◌∙◌}
 use Rattle.std.proofs.Common.{length-take, length-drop}
 use Rattle.std.proofs.lemmas.Result.{err_from_is_err_and, IfOk-weaker}
 use Rattle.octseq_utf8.specs.Encoding.{encoding_of}

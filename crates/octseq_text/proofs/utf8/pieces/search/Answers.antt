@@ -1,4 +1,4 @@
-use Rattle.std.proofs.Common.{◌-◌, ◌≤◌, length, refl, arith, sym, ◌∙◌}
+use Rattle.std.proofs.Common.{◌-◌, length, refl, arith, sym, ◌∙◌}
 use Rattle.octseq_text.proofs.FaultSearching.{settled_here, open_few, turns_to_end, turns_to_fault}
 use Rattle.octseq_text.proofs.Piecewise.{size_none, size_some}
 use Rattle.octseq_text.proofs.utf8.pieces.search.Goals as goal
