@@ -45,9 +45,6 @@ past_marked limit all read valid mark same past =
 
 -- a refusal of the text
 
-pub returns-in_err-append_front-clause-text : goal.returns-in_err-append_front-clause-text
-returns-in_err-append_front-clause-text g c = IfOk-from_err c.from_residual.result _ c.from_residual.ensures.0
-
 pub returns-in_err-append_front-clause-front : goal.returns-in_err-append_front-clause-front
 returns-in_err-append_front-clause-front g c = c.in_err-append_front.ensures.front
 
@@ -58,11 +55,6 @@ returns-in_err-append_front-clause-short g c =
     (λ h. past_marked g.B.AsOctets.limit (g.B.AsOctets.content c.args.builder.now ++ c.args.staged.now.content)
     (take (length c.valid.result.now) c.args.octets.now) c.args.chunk.now.valid (mark_of c.args.mark.now c.args.chunk.now.invalid)
     (front_is c.args.octets.now c.args.chunk.now.valid (length c.valid.result.now) c.requires (ap length c.valid.ensures)) (c.in_err-append_front.ensures.short h))
-
-pub returns-in_err-append_front-clause-memory : goal.returns-in_err-append_front-clause-memory
-returns-in_err-append_front-clause-memory g c =
-    let p = err_from_is_err_and c.from_residual.result c.from_residual.ensures.1 in
-    rw (p.1, p.2) c.in_err-append_front.ensures.memory
 
 pub returns-in_err-append_front-clause-borrows : goal.returns-in_err-append_front-clause-borrows
 returns-in_err-append_front-clause-borrows g c = c.in_err-append_front.ensures.borrows

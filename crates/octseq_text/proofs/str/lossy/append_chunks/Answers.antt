@@ -126,40 +126,6 @@ returns-clause-turns g c =
 pub loop-chunk-smaller : goal.loop-chunk-smaller
 loop-chunk-smaller g c = fewer_left _ _ _ c.in-Some.ensures.gives
 
-pub returns-in_err-append_chunk-clause-text : goal.returns-in_err-append_chunk-clause-text
-returns-in_err-append_chunk-clause-text g c =
-    IfOk-from_err c.from_residual.result _ c.from_residual.ensures.0
-
-pub returns-in_err-append_chunk-clause-within : goal.returns-in_err-append_chunk-clause-within
-returns-in_err-append_chunk-clause-within g c =
-    IfOk-from_err c.from_residual.result _ c.from_residual.ensures.0
-
-pub returns-in_err-append_chunk-clause-passed : goal.returns-in_err-append_chunk-clause-passed
-returns-in_err-append_chunk-clause-passed g c =
-    IfOk-from_err c.from_residual.result _ c.from_residual.ensures.0
-
-pub returns-in_err-append_chunk-clause-memory : goal.returns-in_err-append_chunk-clause-memory
-returns-in_err-append_chunk-clause-memory g c =
-    let p = err_from_is_err_and c.from_residual.result c.from_residual.ensures.1 in
-    rw (p.1, p.2) c.in_err-append_chunk.ensures.memory
-
-pub returns-in_err-append_chunk-2-clause-text : goal.returns-in_err-append_chunk-2-clause-text
-returns-in_err-append_chunk-2-clause-text g c =
-    IfOk-from_err c.from_residual-in_err-append_chunk-2.result _ c.from_residual-in_err-append_chunk-2.ensures.0
-
-pub returns-in_err-append_chunk-2-clause-within : goal.returns-in_err-append_chunk-2-clause-within
-returns-in_err-append_chunk-2-clause-within g c =
-    IfOk-from_err c.from_residual-in_err-append_chunk-2.result _ c.from_residual-in_err-append_chunk-2.ensures.0
-
-pub returns-in_err-append_chunk-2-clause-passed : goal.returns-in_err-append_chunk-2-clause-passed
-returns-in_err-append_chunk-2-clause-passed g c =
-    IfOk-from_err c.from_residual-in_err-append_chunk-2.result _ c.from_residual-in_err-append_chunk-2.ensures.0
-
-pub returns-in_err-append_chunk-2-clause-memory : goal.returns-in_err-append_chunk-2-clause-memory
-returns-in_err-append_chunk-2-clause-memory g c =
-    let p = err_from_is_err_and c.from_residual-in_err-append_chunk-2.result c.from_residual-in_err-append_chunk-2.ensures.1 in
-    rw (p.1, p.2) c.in_err-append_chunk-2.ensures.memory
-
 pub returns-in_err-append_chunk-clause-front : goal.returns-in_err-append_chunk-clause-front
 returns-in_err-append_chunk-clause-front g c =
     let p = err_from_is_err_and c.from_residual.result c.from_residual.ensures.1 in

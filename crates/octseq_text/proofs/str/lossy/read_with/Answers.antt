@@ -234,14 +234,6 @@ returns-then-is_empty-clause-passed g c =
 pub returns-then-is_empty-clause-kept : goal.returns-then-is_empty-clause-kept
 returns-then-is_empty-clause-kept g c = c.in-Some.ensures.kept
 
-pub returns-in_err-made-in-Some-clause-text : goal.returns-in_err-made-in-Some-clause-text
-returns-in_err-made-in-Some-clause-text g c =
-    IfOk-from_err c.from_residual.result _ c.from_residual.ensures.0
-
-pub returns-in_err-made-in-Some-clause-passed : goal.returns-in_err-made-in-Some-clause-passed
-returns-in_err-made-in-Some-clause-passed g c =
-    IfOk-from_err c.from_residual.result _ c.from_residual.ensures.0
-
 pub returns-in_err-made-in-Some-clause-short : goal.returns-in_err-made-in-Some-clause-short
 returns-in_err-made-in-Some-clause-short g c =
     let p = err_from_is_err_and c.from_residual.result c.from_residual.ensures.1 in

@@ -123,23 +123,6 @@ loop-chunk-smaller g c = fewer_left _ _ _ c.in-Some.ensures.gives
 
 -- what must be shown after a refusal
 
-pub returns-in_err-append_slice-clause-read : goal.returns-in_err-append_slice-clause-read
-returns-in_err-append_slice-clause-read g c = IfOk-from_err c.from_residual.result _ c.from_residual.ensures.0
-
-pub returns-in_err-append_slice-clause-open_end : goal.returns-in_err-append_slice-clause-open_end
-returns-in_err-append_slice-clause-open_end g c = IfOk-from_err c.from_residual.result _ c.from_residual.ensures.0
-
-pub returns-in_err-append_slice-clause-within : goal.returns-in_err-append_slice-clause-within
-returns-in_err-append_slice-clause-within g c = IfOk-from_err c.from_residual.result _ c.from_residual.ensures.0
-
-pub returns-in_err-append_slice-clause-passed : goal.returns-in_err-append_slice-clause-passed
-returns-in_err-append_slice-clause-passed g c = IfOk-from_err c.from_residual.result _ c.from_residual.ensures.0
-
-pub returns-in_err-append_slice-clause-memory : goal.returns-in_err-append_slice-clause-memory
-returns-in_err-append_slice-clause-memory g c =
-    let p = err_from_is_err_and c.from_residual.result c.from_residual.ensures.1 in
-    rw (p.1, p.2) c.in_err-append_slice.ensures.appended.memory
-
 pub returns-in_err-append_slice-clause-turns : goal.returns-in_err-append_slice-clause-turns
 returns-in_err-append_slice-clause-turns g c =
     turns_left _ _ _
@@ -147,23 +130,6 @@ returns-in_err-append_slice-clause-turns g c =
 
 pub returns-in_err-append_slice-clause-kept : goal.returns-in_err-append_slice-clause-kept
 returns-in_err-append_slice-clause-kept g c = le_trans c.loop-chunk.invariant.kept c.in-Some.ensures.kept
-
-pub returns-in_err-append_replacement-clause-read : goal.returns-in_err-append_replacement-clause-read
-returns-in_err-append_replacement-clause-read g c = IfOk-from_err c.from_residual-in_err-append_replacement.result _ c.from_residual-in_err-append_replacement.ensures.0
-
-pub returns-in_err-append_replacement-clause-open_end : goal.returns-in_err-append_replacement-clause-open_end
-returns-in_err-append_replacement-clause-open_end g c = IfOk-from_err c.from_residual-in_err-append_replacement.result _ c.from_residual-in_err-append_replacement.ensures.0
-
-pub returns-in_err-append_replacement-clause-within : goal.returns-in_err-append_replacement-clause-within
-returns-in_err-append_replacement-clause-within g c = IfOk-from_err c.from_residual-in_err-append_replacement.result _ c.from_residual-in_err-append_replacement.ensures.0
-
-pub returns-in_err-append_replacement-clause-passed : goal.returns-in_err-append_replacement-clause-passed
-returns-in_err-append_replacement-clause-passed g c = IfOk-from_err c.from_residual-in_err-append_replacement.result _ c.from_residual-in_err-append_replacement.ensures.0
-
-pub returns-in_err-append_replacement-clause-memory : goal.returns-in_err-append_replacement-clause-memory
-returns-in_err-append_replacement-clause-memory g c =
-    let p = err_from_is_err_and c.from_residual-in_err-append_replacement.result c.from_residual-in_err-append_replacement.ensures.1 in
-    rw (p.1, p.2) c.in_err-append_replacement.ensures.memory
 
 pub returns-in_err-append_replacement-clause-turns : goal.returns-in_err-append_replacement-clause-turns
 returns-in_err-append_replacement-clause-turns g c =

@@ -50,9 +50,6 @@ returns-then-is_ok-clause-front g c = ([], sym (append-nil _))
 
 -- the staged octets are refused
 
-pub returns-in_err-append_stage-clause-text : goal.returns-in_err-append_stage-clause-text
-returns-in_err-append_stage-clause-text g c = IfOk-from_err c.from_residual.result _ c.from_residual.ensures.0
-
 pub returns-in_err-append_stage-clause-front : goal.returns-in_err-append_stage-clause-front
 returns-in_err-append_stage-clause-front g c = ([], c.in_err-append_stage.ensures.err ∙ sym (append-nil _))
 
@@ -64,11 +61,6 @@ returns-in_err-append_stage-clause-short g c =
     rw (p.1, p.2)
     (λ h. past_with g.B.AsOctets.limit (g.B.AsOctets.content c.args.builder.now) c.append_short.new.builder.content
     c.args.staged.now.content c.args.octets.now same (c.in_err-append_stage.ensures.short h))
-
-pub returns-in_err-append_stage-clause-memory : goal.returns-in_err-append_stage-clause-memory
-returns-in_err-append_stage-clause-memory g c =
-    let p = err_from_is_err_and c.from_residual.result c.from_residual.ensures.1 in
-    rw (p.1, p.2) c.in_err-append_stage.ensures.memory
 
 pub returns-in_err-append_stage-clause-borrows : goal.returns-in_err-append_stage-clause-borrows
 returns-in_err-append_stage-clause-borrows g c = c.in_err-append_stage.ensures.borrows

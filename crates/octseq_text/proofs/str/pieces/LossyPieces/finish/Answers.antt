@@ -73,21 +73,8 @@ returns-in-Some-clause-again g c =
 
 -- if none was
 
-pub returns-in_err-append_end-clause-text : goal.returns-in_err-append_end-clause-text
-returns-in_err-append_end-clause-text g c =
-    IfOk-from_err c.from_residual.result _ c.from_residual.ensures.0
-
-pub returns-in_err-append_end-clause-well_formed : goal.returns-in_err-append_end-clause-well_formed
-returns-in_err-append_end-clause-well_formed g c =
-    IfOk-from_err c.from_residual.result _ c.from_residual.ensures.0
-
 pub returns-in_err-append_end-clause-past : goal.returns-in_err-append_end-clause-past
 returns-in_err-append_end-clause-past g c = λ octets parts s t p. c.from_residual.ensures.0
-
-pub returns-in_err-append_end-clause-memory : goal.returns-in_err-append_end-clause-memory
-returns-in_err-append_end-clause-memory g c =
-    let p = err_from_is_err_and c.from_residual.result c.from_residual.ensures.1 in
-    rw (p.1, p.2) c.in_err-append_end.ensures.memory
 
 pub returns-in_err-append_end-clause-again : goal.returns-in_err-append_end-clause-again
 returns-in_err-append_end-clause-again g c =
