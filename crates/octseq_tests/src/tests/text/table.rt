@@ -1,6 +1,8 @@
 //! Table 3-7 of the Unicode Standard, chapter 3, as data, and a fault finder that reads it octet by octet.
 
-use std::alloc::{AllocError, Global};
+use crate::tests::unwrap;
+use std::alloc::Global;
+use std::process::Abort;
 
 /// The rows of Table 3-7: the ranges of the octets of an encoding, one after another.
 pub(super) const ROWS: [&[(u8, u8)]; 9] = [
@@ -50,12 +52,12 @@ pub(super) fn plain_fault(octets: &[u8]) -> Option<(usize, Option<usize>)> {
 }
 
 /// Returns the lowest encoding of a row and the highest.
-pub(super) fn edges(alloc: Global, row: &[(u8, u8)]) -> Result<(Vec<u8>, Vec<u8>), AllocError> {
+pub(super) fn edges(rt: &impl Abort, alloc: Global, row: &[(u8, u8)]) -> (Vec<u8>, Vec<u8>) {
     let mut least = Vec::new(alloc);
     let mut greatest = Vec::new(alloc);
     for (low, high) in row {
-        least.push(*low)?;
-        greatest.push(*high)?;
+        unwrap(rt, least.push(*low));
+        unwrap(rt, greatest.push(*high));
     }
-    Ok((least, greatest))
+    (least, greatest)
 }
