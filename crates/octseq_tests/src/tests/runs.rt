@@ -17,10 +17,10 @@ fn text(octets: &[u8]) -> &str {
 /// Writes a reply as a text.
 fn show<R: Octets>(shown: &mut String, reply: &ParserReply<R>) -> Result<(), AllocError> {
     match reply {
-        ParserReply::Done => write!(shown, "Done"),
-        ParserReply::Short => write!(shown, "Short"),
-        ParserReply::Memory => write!(shown, "Memory"),
-        ParserReply::NoParser => write!(shown, "NoParser"),
+        ParserReply::Done => shown.push_str("Done"),
+        ParserReply::Short => shown.push_str("Short"),
+        ParserReply::Memory => shown.push_str("Memory"),
+        ParserReply::NoParser => shown.push_str("NoParser"),
         ParserReply::Number(n) => write!(shown, "Number({n})"),
         ParserReply::Flag(b) => write!(shown, "Flag({b})"),
         ParserReply::Slice(v) => write!(shown, "Slice({})", text(v.as_slice())),
@@ -225,6 +225,11 @@ fn each_kind_of_integer_is_read(rt: HostRuntime) {
     }
 }
 
+/// Runs the test on octets whose ranges are refused for lack of memory.
+fn over_scarce<H: Abort + AllocGlobal>(rt: &H, answers: &Answers) {
+    answers.holds(rt, Scarce(*b"abc"));
+}
+
 #[test]
 fn a_range_that_is_refused_for_memory_moves_nothing(rt: HostRuntime) {
     let cases = [
@@ -235,6 +240,5 @@ fn a_range_that_is_refused_for_memory_moves_nothing(rt: HostRuntime) {
         (0, ParserCall::Buf(2), "Slice(bc)"),
         (0, ParserCall::Octets(1), "Short"),
     ];
-    // (octets whose ranges are refused for lack of memory)
-    Answers(&cases).holds(&rt, Scarce(*b"abc"));
+    over_scarce(&rt, &Answers(&cases));
 }

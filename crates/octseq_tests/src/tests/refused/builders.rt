@@ -1,6 +1,7 @@
 //! Builders and sequences of each representation.
+use crate::tests::refused::has_whole_or_before;
 use crate::tests::sequences::{OwnedCase, over_sequences};
-use crate::tests::{has_octets, leaves, unwrap};
+use crate::tests::{has_octets, unwrap};
 use bytes::{Bytes, BytesMut};
 use octseq::builder::{
     CloneOctets, EmptyBuilder, FreezeBuilder, FromBuilder, IntoBuilder, OctetsBuilder,
@@ -13,16 +14,15 @@ use std::process::Abort;
 
 /// Appends to an empty builder. It has all of the slice after each append, or none of it.
 fn grows<B: OctetsBuilder>(rt: &impl Abort, mut builder: B) {
-    let octets = b"0123456789abcdefghijklmnopqrstuvwxyz".as_slice();
-    let mut len = 0_usize;
-    for slice in octets.chunks(9) {
-        let appended = builder.append_slice(slice);
-        if appended.is_ok() {
-            len = len.saturating_add(slice.len());
-        }
-        assert_equal!(rt, Some(builder.as_ref()), octets.get(..len));
-        unwrap(rt, appended);
-    }
+    let octets = b"0123456789abcdefghijklmnopqrstuvwxyz";
+    let appended = builder.append_slice(&octets[..9]);
+    has_whole_or_before(rt, appended, &builder, (&octets[..9], b""));
+    let appended = builder.append_slice(&octets[9..18]);
+    has_whole_or_before(rt, appended, &builder, (&octets[..18], &octets[..9]));
+    let appended = builder.append_slice(&octets[18..27]);
+    has_whole_or_before(rt, appended, &builder, (&octets[..27], &octets[..18]));
+    let appended = builder.append_slice(&octets[27..]);
+    has_whole_or_before(rt, appended, &builder, (octets, &octets[..27]));
 }
 
 #[test]
@@ -38,10 +38,8 @@ fn vectors_shared_buffers_and_small_vectors_grow(rt: HostRuntime) {
 fn borrowed_octets_become_owned_or_stay_borrowed(rt: HostRuntime) {
     let mut octets = CowOctets::borrowed(rt.alloc(), b"abc");
     let appended = octets.append_slice(b"d");
-    let is_refused = appended.is_err();
-    let wanted = if is_refused { b"abc".as_slice() } else { b"abcd" };
-    leaves(&rt, octets.is_borrowed(), is_refused, &octets, wanted);
-    unwrap(&rt, appended);
+    assert_equal!(&rt, octets.is_borrowed(), appended.is_err());
+    has_whole_or_before(&rt, appended, octets, (b"abcd", b"abc"));
     grows(&rt, CowOctets::borrowed(rt.alloc(), b""));
 }
 

@@ -86,9 +86,17 @@ fn grows_without_a_limit<B: OctetsBuilder>(rt: &impl Abort, builder: B)
     let pushed = text.push_str("abc");
     assert_equal!(rt, text.as_str(), if pushed.is_ok() { "abc" } else { "" });
     unwrap(rt, pushed);
-    for before in [3, 6, 9, 12, 15, 18, 21, 24] {
+    for (after, before) in [
+        (6, 3),
+        (9, 6),
+        (12, 9),
+        (15, 12),
+        (18, 15),
+        (21, 18),
+        (24, 21),
+    ] {
         let pushed = text.push('€');
-        has_length(rt, &text, pushed, (before + 3, before));
+        has_length(rt, &text, pushed, (after, before));
     }
 }
 

@@ -64,10 +64,9 @@ fn each_octet_out_of_its_range_is_found_as_by_the_table(rt: HostRuntime) {
 
 /// Returns octets of ASCII, some of which are replaced from an index on.
 fn ascii_with(rt: &impl Abort, alloc: Global, len: usize, place: usize, others: &[u8]) -> Vec<u8> {
-    let mut octets = unwrap(rt, Vec::from_elem(alloc, b'a', len));
-    for (octet, other) in octets.as_mut_slice().iter_mut().skip(place).zip(others) {
-        *octet = *other;
-    }
+    let mut octets = unwrap(rt, Vec::from_elem(alloc, b'a', place));
+    unwrap(rt, octets.extend_from_slice(others));
+    unwrap(rt, octets.resize(len, b'a'));
     octets
 }
 

@@ -19,11 +19,14 @@ pub(super) const ROWS: [&[(u8, u8)]; 9] = [
 
 /// Returns how many octets at the front are in the ranges of the row.
 fn fitting(octets: &[u8], row: &[(u8, u8)]) -> usize {
-    octets
-        .iter()
-        .zip(row)
-        .take_while(|(octet, range)| range.0 <= **octet && **octet <= range.1)
-        .count()
+    let mut count = 0_usize;
+    for (octet, (low, high)) in octets.iter().zip(row) {
+        if octet < low || high < octet {
+            break;
+        }
+        count = count.saturating_add(1);
+    }
+    count
 }
 
 /// Returns the position and the length of the first fault, part by part and row by row.

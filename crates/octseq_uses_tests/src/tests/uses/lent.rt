@@ -5,15 +5,12 @@ use octseq_uses::lent::put_line;
 #[test]
 fn a_line_is_put_where_it_fits(rt: HostRuntime) {
     let mut room = *b"------";
-    let cases = [
-        (6, b"abc".as_slice(), Some(4), b"abc\n--"),
-        (4, b"xyz", Some(4), b"xyz\n--"),
-        (3, b"abc", None, b"xyz\n--"),
-        (0, b"", None, b"xyz\n--"),
-        (1, b"", Some(1), b"\nyz\n--"),
-    ];
-    for (len, line, wanted, left) in cases {
-        let put = put_line(&mut room[..len], line);
-        assert_equal!(&rt, (put, &room), (wanted, left));
-    }
+    let put = put_line(&mut room, b"abc");
+    assert_equal!(&rt, (put, room), (Some(4), *b"abc\n--"));
+    let put = put_line(&mut room[..4], b"xyz");
+    assert_equal!(&rt, (put, room), (Some(4), *b"xyz\n--"));
+    let put = (put_line(&mut room[..3], b"abc"), put_line(&mut room[..0], b""));
+    assert_equal!(&rt, (put, room), ((None, None), *b"xyz\n--"));
+    let put = put_line(&mut room[..1], b"");
+    assert_equal!(&rt, (put, room), (Some(1), *b"\nyz\n--"));
 }
