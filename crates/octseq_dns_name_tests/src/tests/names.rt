@@ -1,7 +1,7 @@
 //! The text of domain names, and how they compare.
-use crate::tests::{labels_text, shown, unwrap};
+use crate::tests::{labels_text, over_each, shows, unwrap};
 use octseq::{AppendError, Array, AsOctets, EmptyBuilder, Octets, Parser, ShortBuf};
-use octseq_asserts::{Case, assert_equal, over_each};
+use octseq_asserts::{Case, assert_equal};
 use octseq_dns_name::error::{FromLabelsError, FromTextError};
 use octseq_dns_name::{Name, ParsedName};
 use std::alloc::{AllocGlobal, Global};
@@ -27,8 +27,7 @@ fn a_name_shows_with_escapes(rt: HostRuntime) {
         (b"\x06!#/~%Z\x00", "!#/~%Z."),
         (b"\x04\x1F\x80\x99\xC8\x00", "\\031\\128\\153\\200."),
     ] {
-        let name = name_of(&rt, octets);
-        assert_equal!(&rt, shown(&rt, &name).as_str(), text);
+        shows(&rt, &name_of(&rt, octets), text);
     }
 }
 
@@ -72,8 +71,8 @@ fn ascii_letters_alone_have_two_cases(rt: HostRuntime) {
         (b"\x01b\x00", b"\x02aa\x00", Ordering::Greater),
     ] {
         let equal = wanted == Ordering::Equal;
-        assert_equal!(&rt, compared(&rt, one, other), (wanted, equal));
-        assert_equal!(&rt, compared(&rt, other, one), (wanted.reverse(), equal));
+        let found = (compared(&rt, one, other), compared(&rt, other, one));
+        assert_equal!(&rt, found, ((wanted, equal), (wanted.reverse(), equal)));
     }
 }
 
@@ -86,8 +85,7 @@ fn hash_of<T: Hash>(value: &T) -> u64 {
 
 /// Checks that two values are equal, and have equal hashes.
 fn are_equal<T: Ord + Hash>(rt: &impl Abort, one: &T, other: &T) {
-    assert_equal!(rt, one == other, true);
-    assert_equal!(rt, one.cmp(other), Ordering::Equal);
+    assert_equal!(rt, (one == other, one.cmp(other)), (true, Ordering::Equal));
     assert_equal!(rt, hash_of(one), hash_of(other));
 }
 
@@ -111,79 +109,64 @@ impl<H: Abort + AllocGlobal> Case<H> for IsOneName {
         let name = unwrap(rt, ParsedName::parse(&mut parser));
         let same = unwrap(rt, ParsedName::parse(&mut parser));
         let other = unwrap(rt, ParsedName::parse(&mut parser));
-        assert_equal!(rt, (name == same, name == other), (true, false));
+        are_equal(rt, &name, &same);
         assert_equal!(
             rt,
-            (name.cmp(&same), name.cmp(&other)),
-            (Ordering::Equal, Ordering::Less)
+            (name == other, name.cmp(&other)),
+            (false, Ordering::Less)
         );
         assert_equal!(rt, (name < same, name < other), (false, true));
-        assert_equal!(rt, hash_of(&name), hash_of(&same));
         have_equal_labels(rt, &name, &same);
-        assert_equal!(rt, shown(rt, &name).as_str(), "wWw.A.");
+        shows(rt, &name, "wWw.A.");
     }
 }
 
 #[test]
 fn names_of_one_message_compare(rt: HostRuntime) {
-    unwrap(
-        &rt,
-        over_each(
-            &rt,
-            &IsOneName,
-            b"\x03wWw\x01A\x00\x03WWW\x01a\x00\x01x\xC0\x04",
-        ),
-    );
+    let octets = b"\x03wWw\x01A\x00\x03WWW\x01a\x00\x01x\xC0\x04";
+    over_each(&rt, &IsOneName, octets);
 }
 
 /// Checks that a copy of a name has its octets in plain form.
-fn has_its_octets<R: Octets + Copy>(rt: &(impl Abort + AllocGlobal), name: &ParsedName<R>) {
-    let copy = unwrap(rt, name.try_to_name::<Vec<u8>>(rt.alloc()));
-    assert_equal!(
-        rt,
-        (copy.len(), copy.label_count(), copy.labels().count()),
-        (13, 2, 2)
-    );
-    assert_equal!(rt, copy.as_slice(), b"\x03www\x07example\x00".as_slice());
-    assert_equal!(rt, copy.is_root(), false);
+fn has_its_octets(rt: &impl Abort, copy: &Name<Vec<u8>>) {
+    let counts = (copy.len(), copy.label_count(), copy.labels().count());
+    assert_equal!(rt, (counts, copy.is_root()), ((13, 2, 2), false));
+    assert_equal!(rt, copy.as_slice(), b"\x03www\x07example\x00");
 }
 
-/// Checks that a copy of a name compares, is hashed and is shown as the name is.
-fn is_as_the_name<R: Octets + Copy>(rt: &(impl Abort + AllocGlobal), name: &ParsedName<R>) {
-    let copy = unwrap(rt, name.try_to_name::<Vec<u8>>(rt.alloc()));
-    assert_equal!(rt, copy.parsed().name_eq(name), true);
-    assert_equal!(rt, hash_of(&copy), hash_of(name));
-    assert_equal!(rt, shown(rt, &copy).as_str(), "www.example.");
-}
-
-/// Checks that copies of two names compare as the names do.
-fn is_before<R: Octets + Copy>(
+/// Checks that a copy of a name compares, is hashed and is shown as the name is, and that a copy of a lower name is
+/// lower.
+fn is_as_the_name<R: Octets + Copy>(
     rt: &(impl Abort + AllocGlobal),
-    first: &ParsedName<R>,
+    copy: &Name<Vec<u8>>,
     name: &ParsedName<R>,
+    lower: &ParsedName<R>,
 ) {
-    let first = unwrap(rt, first.try_to_name::<Vec<u8>>(rt.alloc()));
-    let copy = unwrap(rt, name.try_to_name::<Vec<u8>>(rt.alloc()));
-    assert_equal!(
-        rt,
-        (first == copy, first < copy, first.cmp(&first)),
-        (false, true, Ordering::Equal)
-    );
+    let is_equal = copy.parsed().name_eq(name);
+    assert_equal!(rt, (is_equal, hash_of(copy)), (true, hash_of(name)));
+    shows(rt, copy, "www.example.");
+    let lower = &unwrap(rt, lower.try_to_name::<Vec<u8>>(rt.alloc()));
+    let order = (lower == copy, lower < copy, lower.cmp(lower));
+    assert_equal!(rt, order, (false, true, Ordering::Equal));
 }
 
 /// Checks that a copy of a name fits an array that has room for it, and no smaller one.
 fn is_held<R: Octets + Copy>(rt: &(impl Abort + AllocGlobal), name: &ParsedName<R>) {
     let held = unwrap(rt, name.try_to_name::<Array<13>>(rt.alloc())).into_octets();
-    assert_equal!(rt, held.as_slice(), b"\x03www\x07example\x00".as_slice());
     let refused = name.try_to_name::<Array<12>>(rt.alloc()).err();
-    assert_equal!(rt, refused, Some(AppendError::Short(ShortBuf)));
+    let short = Some(AppendError::Short(ShortBuf));
+    assert_equal!(
+        rt,
+        (held.as_slice(), refused),
+        (b"\x03www\x07example\x00", short)
+    );
 }
 
 /// Checks that a copy of the root is the root.
 fn is_root<R: Octets + Copy>(rt: &(impl Abort + AllocGlobal), name: &ParsedName<R>) {
     let root = unwrap(rt, name.try_to_name::<Array<1>>(rt.alloc()));
     assert_equal!(rt, root.is_root(), true);
-    assert_equal!(rt, shown(rt, &root).as_str(), ".");
+    shows(rt, &root, ".");
 }
 
 #[derive(Drop)]
@@ -195,19 +178,16 @@ impl<H: Abort + AllocGlobal> Case<H> for IsCopied {
         is_root(rt, &unwrap(rt, ParsedName::parse(&mut parser)));
         let first = unwrap(rt, ParsedName::parse(&mut parser));
         let name = unwrap(rt, ParsedName::parse(&mut parser));
-        has_its_octets(rt, &name);
-        is_as_the_name(rt, &name);
-        is_before(rt, &first, &name);
+        let copy = unwrap(rt, name.try_to_name(rt.alloc()));
+        has_its_octets(rt, &copy);
+        is_as_the_name(rt, &copy, &name, &first);
         is_held(rt, &name);
     }
 }
 
 #[test]
 fn a_name_is_copied_with_its_octets(rt: HostRuntime) {
-    unwrap(
-        &rt,
-        over_each(&rt, &IsCopied, b"\x00\x07example\x00\x03www\xC0\x01"),
-    );
+    over_each(&rt, &IsCopied, b"\x00\x07example\x00\x03www\xC0\x01");
 }
 
 #[test]
@@ -262,7 +242,7 @@ fn the_refusals_of_names_are_shown(rt: HostRuntime) {
         (FromTextError::IllegalEscape, "illegal escape sequence"),
         (FromTextError::IllegalOctet, "illegal octet"),
     ] {
-        assert_equal!(&rt, shown(&rt, &reason).as_str(), text);
+        shows(&rt, &reason, text);
     }
     for (reason, text) in [
         (FromLabelsError::EmptyLabel, "empty label"),
@@ -271,7 +251,7 @@ fn the_refusals_of_names_are_shown(rt: HostRuntime) {
         (FromLabelsError::Short, "buffer size exceeded"),
         (FromLabelsError::Memory, "out of memory"),
     ] {
-        assert_equal!(&rt, shown(&rt, &reason).as_str(), text);
+        shows(&rt, &reason, text);
     }
 }
 
@@ -289,26 +269,21 @@ fn the_text_of_a_name_has_its_limits(rt: HostRuntime) {
     }
 }
 
-/// Returns the plain wire form of the name made from labels, in a builder of this type.
-fn made_of<B: EmptyBuilder>(rt: &(impl Abort + AllocGlobal), labels: &[&[u8]]) -> Vec<u8> {
-    let name = unwrap(rt, Name::<B>::from_labels(rt.alloc(), labels));
-    unwrap(rt, name.into_octets().as_ref().to_vec(rt.alloc()))
+/// Checks the plain wire form of the name made from labels, in a builder of this type.
+fn is_made_of<B: EmptyBuilder>(rt: &impl Abort, alloc: Global, labels: &[&[u8]], wire: &[u8]) {
+    let name = unwrap(rt, Name::<B>::from_labels(alloc, labels));
+    assert_equal!(rt, name.into_octets().as_ref(), wire);
 }
 
 #[test]
 fn a_name_is_made_of_labels(rt: HostRuntime) {
+    let alloc = rt.alloc();
     let labels: &[&[u8]] = &[b"www", b"a.\x00"];
-    let wire = b"\x03www\x03a.\x00\x00".as_slice();
-    assert_equal!(&rt, made_of::<Vec<u8>>(&rt, labels).as_slice(), wire);
-    assert_equal!(&rt, made_of::<Array<255>>(&rt, labels).as_slice(), wire);
-    assert_equal!(&rt, made_of::<Array<9>>(&rt, labels).as_slice(), wire);
-    let root = made_of::<Array<1>>(&rt, &[]);
-    assert_equal!(&rt, root.as_slice(), b"\x00".as_slice());
-}
-
-/// Returns why labels don't make a name in a builder of this type.
-fn refusal_of<B: EmptyBuilder>(alloc: Global, labels: &[&[u8]]) -> Option<FromLabelsError> {
-    Name::<B>::from_labels(alloc, labels).err()
+    let wire = b"\x03www\x03a.\x00\x00";
+    is_made_of::<Vec<u8>>(&rt, alloc, labels, wire);
+    is_made_of::<Array<255>>(&rt, alloc, labels, wire);
+    is_made_of::<Array<9>>(&rt, alloc, labels, wire);
+    is_made_of::<Array<1>>(&rt, alloc, &[], b"\x00");
 }
 
 #[test]
@@ -323,16 +298,20 @@ fn labels_that_make_no_name_are_refused_by_reason(rt: HostRuntime) {
         &long[..62],
         &long[..63],
     );
-    let refusal = refusal_of::<Vec<u8>>(alloc, &[one, none, long]);
-    assert_equal!(&rt, refusal, Some(FromLabelsError::EmptyLabel));
-    let refusal = refusal_of::<Vec<u8>>(alloc, &[one, long, none]);
-    assert_equal!(&rt, refusal, Some(FromLabelsError::LongLabel));
-    let refusal = refusal_of::<Vec<u8>>(alloc, &[most, most, most, past, none]);
-    assert_equal!(&rt, refusal, Some(FromLabelsError::LongName));
-    let refusal = refusal_of::<Vec<u8>>(alloc, &[most, most, most, last]);
-    assert_equal!(&rt, refusal, None);
-    let refusal = refusal_of::<Array<4>>(alloc, &[b"www"]);
-    assert_equal!(&rt, refusal, Some(FromLabelsError::Short));
-    let refusal = refusal_of::<Array<5>>(alloc, &[b"www"]);
-    assert_equal!(&rt, refusal, None);
+    let cases: [(&[&[u8]], Option<FromLabelsError>); 4] = [
+        (&[one, none, long], Some(FromLabelsError::EmptyLabel)),
+        (&[one, long, none], Some(FromLabelsError::LongLabel)),
+        (
+            &[most, most, most, past, none],
+            Some(FromLabelsError::LongName),
+        ),
+        (&[most, most, most, last], None),
+    ];
+    for (labels, reason) in cases {
+        let refusal = Name::<Vec<u8>>::from_labels(alloc, labels).err();
+        assert_equal!(&rt, refusal, reason);
+    }
+    let refusal = Name::<Array<4>>::from_labels(alloc, &[b"www"]).err();
+    let other = Name::<Array<5>>::from_labels(alloc, &[b"www"]).err();
+    assert_equal!(&rt, (refusal, other), (Some(FromLabelsError::Short), None));
 }

@@ -1,8 +1,8 @@
 //! Integers of each width, read in both byte orders.
-use crate::tests::unwrap;
+use crate::tests::over_each;
 use octseq::octets::Octets;
 use octseq::parse::{Parser, ShortInput};
-use octseq_asserts::{Case, assert_equal, over_each};
+use octseq_asserts::{Case, assert_equal};
 use std::alloc::AllocGlobal;
 use std::process::Abort;
 
@@ -10,11 +10,9 @@ use std::process::Abort;
 macro_rules! reads {
     ($rt:expr, $octets:expr, $call:ident, $first:expr, $second:expr) => {{
         let mut parser = Parser::from_ref($octets);
-        assert_equal!($rt, parser.$call(), Ok($first));
-        assert_equal!($rt, parser.$call(), Ok($second));
+        assert_equal!($rt, (parser.$call(), parser.$call()), (Ok($first), Ok($second)));
         let pos = parser.pos();
-        assert_equal!($rt, parser.$call(), Err(ShortInput));
-        assert_equal!($rt, parser.pos(), pos);
+        assert_equal!($rt, (parser.$call(), parser.pos()), (Err(ShortInput), pos));
     }};
 }
 
@@ -158,69 +156,45 @@ impl<H: Abort + AllocGlobal> Case<H> for Reads128BitsLe {
 
 #[test]
 fn integers_are_read_in_both_orders(rt: HostRuntime) {
-    unwrap(&rt, over_each(&rt, &ReadsSingleOctets, b"\x12\xD6"));
-    unwrap(&rt, over_each(&rt, &Reads16BitsBe, b"\x12\x34\xEF\x6E\x00"));
-    unwrap(&rt, over_each(&rt, &Reads16BitsLe, b"\x34\x12\x6E\xEF\x00"));
-    unwrap(
+    over_each(&rt, &ReadsSingleOctets, b"\x12\xD6");
+    over_each(&rt, &Reads16BitsBe, b"\x12\x34\xEF\x6E\x00");
+    over_each(&rt, &Reads16BitsLe, b"\x34\x12\x6E\xEF\x00");
+    over_each(
         &rt,
-        over_each(
-            &rt,
-            &Reads32BitsBe,
-            b"\x12\x34\x56\x78\xFD\x78\xA8\x4E\x00\x00\x00",
-        ),
+        &Reads32BitsBe,
+        b"\x12\x34\x56\x78\xFD\x78\xA8\x4E\x00\x00\x00",
     );
-    unwrap(
+    over_each(
         &rt,
-        over_each(
-            &rt,
-            &Reads32BitsLe,
-            b"\x78\x56\x34\x12\x4E\xA8\x78\xFD\x00\x00\x00",
-        ),
+        &Reads32BitsLe,
+        b"\x78\x56\x34\x12\x4E\xA8\x78\xFD\x00\x00\x00",
     );
-    unwrap(
+    over_each(
         &rt,
-        over_each(
-            &rt,
-            &Reads64BitsBe,
-            b"\x12\x34\x56\x78\xFD\x78\xA8\x4E\xCE\x7A\xBA\x26\xDD\x0F\x29\x99\x00\x00\x00",
-        ),
+        &Reads64BitsBe,
+        b"\x12\x34\x56\x78\xFD\x78\xA8\x4E\xCE\x7A\xBA\x26\xDD\x0F\x29\x99\x00\x00\x00",
     );
-    unwrap(
+    over_each(
         &rt,
-        over_each(
-            &rt,
-            &Reads64BitsLe,
-            b"\x4E\xA8\x78\xFD\x78\x56\x34\x12\x99\x29\x0F\xDD\x26\xBA\x7A\xCE\x00\x00\x00",
-        ),
+        &Reads64BitsLe,
+        b"\x4E\xA8\x78\xFD\x78\x56\x34\x12\x99\x29\x0F\xDD\x26\xBA\x7A\xCE\x00\x00\x00",
     );
-    unwrap(
+    over_each(
         &rt,
-        over_each(
-            &rt,
-            &Reads128BitsBe,
-            b"\x12\x34\x56\x78\xFD\x78\xA8\x4E\xCE\x7A\xBA\x26\xDD\x0F\x29\x99\xF8\xC6\x0E\x5D\x3F\x5E\x3A\x74\x38\x38\x8F\x3F\x57\xA7\x94\xA0\x00\x00\x00\x00\x00",
-        ),
+        &Reads128BitsBe,
+        b"\x12\x34\x56\x78\xFD\x78\xA8\x4E\xCE\x7A\xBA\x26\xDD\x0F\x29\x99\xF8\xC6\x0E\x5D\x3F\x5E\x3A\x74\x38\x38\x8F\x3F\x57\xA7\x94\xA0\x00\x00\x00\x00\x00",
     );
-    unwrap(
+    over_each(
         &rt,
-        over_each(
-            &rt,
-            &Reads128BitsLe,
-            b"\x99\x29\x0F\xDD\x26\xBA\x7A\xCE\x4E\xA8\x78\xFD\x78\x56\x34\x12\xA0\x94\xA7\x57\x3F\x8F\x38\x38\x74\x3A\x5E\x3F\x5D\x0E\xC6\xF8\x00\x00\x00\x00\x00",
-        ),
+        &Reads128BitsLe,
+        b"\x99\x29\x0F\xDD\x26\xBA\x7A\xCE\x4E\xA8\x78\xFD\x78\x56\x34\x12\xA0\x94\xA7\x57\x3F\x8F\x38\x38\x74\x3A\x5E\x3F\x5D\x0E\xC6\xF8\x00\x00\x00\x00\x00",
     );
 }
 
 #[test]
 fn the_order_of_the_octets_counts(rt: HostRuntime) {
-    assert_equal!(
-        &rt,
-        Parser::from_static(b"\xEF\x6E").parse_i16_be(),
-        Ok(-4242),
-    );
-    assert_equal!(
-        &rt,
-        Parser::from_static(b"\xEF\x6E").parse_u16_le(),
-        Ok(28399),
-    );
+    let parser = Parser::from_static(b"\xEF\x6E");
+    let (mut first, mut second) = (parser, parser);
+    let read = (first.parse_i16_be(), second.parse_u16_le());
+    assert_equal!(&rt, read, (Ok(-4242), Ok(28399)));
 }

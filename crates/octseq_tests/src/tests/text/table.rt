@@ -1,6 +1,8 @@
 //! Table 3-7 of the Unicode Standard, chapter 3, as data, and a fault finder that reads it octet by octet.
 
-use std::alloc::{AllocError, Global};
+use crate::tests::unwrap;
+use std::alloc::Global;
+use std::process::Abort;
 
 /// The rows of Table 3-7: the ranges of the octets of an encoding, one after another.
 pub(super) const ROWS: [&[(u8, u8)]; 9] = [
@@ -17,11 +19,14 @@ pub(super) const ROWS: [&[(u8, u8)]; 9] = [
 
 /// Returns how many octets at the front are in the ranges of the row.
 fn fitting(octets: &[u8], row: &[(u8, u8)]) -> usize {
-    octets
-        .iter()
-        .zip(row)
-        .take_while(|(octet, range)| range.0 <= **octet && **octet <= range.1)
-        .count()
+    let mut count = 0_usize;
+    for (octet, (low, high)) in octets.iter().zip(row) {
+        if octet < low || high < octet {
+            break;
+        }
+        count = count.saturating_add(1);
+    }
+    count
 }
 
 /// Returns the position and the length of the first fault, part by part and row by row.
@@ -50,12 +55,12 @@ pub(super) fn plain_fault(octets: &[u8]) -> Option<(usize, Option<usize>)> {
 }
 
 /// Returns the lowest encoding of a row and the highest.
-pub(super) fn edges(alloc: Global, row: &[(u8, u8)]) -> Result<(Vec<u8>, Vec<u8>), AllocError> {
+pub(super) fn edges(rt: &impl Abort, alloc: Global, row: &[(u8, u8)]) -> (Vec<u8>, Vec<u8>) {
     let mut least = Vec::new(alloc);
     let mut greatest = Vec::new(alloc);
     for (low, high) in row {
-        least.push(*low)?;
-        greatest.push(*high)?;
+        unwrap(rt, least.push(*low));
+        unwrap(rt, greatest.push(*high));
     }
-    Ok((least, greatest))
+    (least, greatest)
 }
