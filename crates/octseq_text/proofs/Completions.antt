@@ -104,8 +104,7 @@ module _ (begun piece joined : List ℕ) (begins : IsBeginning begun)
       let alone : IsBadPart (take n joined ++ drop n joined) (take n joined) =
       subst (λ y. IsBadPart y (take n joined)) (sym (take-append-drop n joined)) bad.bad in
       let all = bad_more (take n joined) (drop n joined) rest alone size in
-      let few = bad.few in
-      (
+      let few = bad.few in (
         least.1,
         omega (arith, long, length-drop n joined),
         omega arith,

@@ -14,9 +14,7 @@ mod words;
 
 pub use chunk::{Utf8Chunk, Utf8Chunks, chunks};
 pub use fault::Utf8Fault;
-pub use finder::{
-    FirstPart, fault_at_front, find_fault, first_fault, first_part, is_continuation,
-};
+pub use finder::{FirstPart, fault_at_front, find_fault, first_fault, first_part, is_continuation};
 pub use laws::{
     chunks_are_parts, lossy_text, one_encoding, one_fault, one_spelling, one_splitting, same_in_std,
 };

@@ -9,7 +9,10 @@ fn a_line_is_put_where_it_fits(rt: HostRuntime) {
     assert_equal!(&rt, (put, room), (Some(4), *b"abc\n--"));
     let put = put_line(&mut room[..4], b"xyz");
     assert_equal!(&rt, (put, room), (Some(4), *b"xyz\n--"));
-    let put = (put_line(&mut room[..3], b"abc"), put_line(&mut room[..0], b""));
+    let put = (
+        put_line(&mut room[..3], b"abc"),
+        put_line(&mut room[..0], b""),
+    );
     assert_equal!(&rt, (put, room), ((None, None), *b"xyz\n--"));
     let put = put_line(&mut room[..1], b"");
     assert_equal!(&rt, (put, room), (Some(1), *b"\nyz\n--"));

@@ -133,6 +133,14 @@ returns-in_ok-append_replacement-in-Invalid-clause-passed g c =
     let few = made.1 in
     let turn = c.in-Invalid.ensures.turns in
     IfOk-weaker c.settle-in-Invalid.result _ _
-    (λ left passed. omega (arith, few, turn, made.0, passed, length-take (length c.args.piece.now - c.in-Invalid.taken)
-        (drop c.in-Invalid.taken c.args.piece.now), length-drop c.in-Invalid.taken c.args.piece.now))
+    (λ left passed. omega (
+      arith,
+      few,
+      turn,
+      made.0,
+      passed,
+      length-take (length c.args.piece.now - c.in-Invalid.taken)
+          (drop c.in-Invalid.taken c.args.piece.now),
+      length-drop c.in-Invalid.taken c.args.piece.now,
+    ))
     c.settle-in-Invalid.ensures.passed

@@ -34,9 +34,9 @@ returns-in-Character-clause-passed c =
     let m = c.saturating_add-passed.ensures ∙ ap (λ y. saturated (n + length y)) c.as_slice-in-Character.ensures.content in
     IfOk-weaker c.search-in-Character.result _ _
     (λ reached p. character_all _ _ _ _ c.in-Character.taken is made.2 left
-        (λ y. PassesAfter n y reached.passed reached.end.content)
-        (passes_after n _ c.in-Character.encoding.content
-        (character_well_formed _ _ _ _ c.in-Character.taken is made.2 left) m p))
+    (λ y. PassesAfter n y reached.passed reached.end.content)
+    (passes_after n _ c.in-Character.encoding.content
+    (character_well_formed _ _ _ _ c.in-Character.taken is made.2 left) m p))
     c.search-in-Character.ensures.passed
 
 pub returns-in-Character-clause-fault : goal.returns-in-Character-clause-fault
@@ -48,8 +48,8 @@ returns-in-Character-clause-fault c =
     let m = c.saturating_add-passed.ensures ∙ ap (λ y. saturated (n + length y)) c.as_slice-in-Character.ensures.content in
     IfErr-weaker c.search-in-Character.result _ _
     (λ reported s. character_all _ _ _ _ c.in-Character.taken is made.2 left (λ y. SettlesAfter n y reported)
-        (settles_after n _ c.in-Character.encoding.content
-        (character_well_formed _ _ _ _ c.in-Character.taken is made.2 left) m _ reported s))
+    (settles_after n _ c.in-Character.encoding.content
+    (character_well_formed _ _ _ _ c.in-Character.taken is made.2 left) m _ reported s))
     c.search-in-Character.ensures.fault
 
 -- a bad part
@@ -60,7 +60,10 @@ returns-in-Invalid-clause-fault c =
     let begun = c.args.end.now.content in
     let long : c.in-Invalid.taken ≤ length c.args.piece.now = let inside = made.0 in omega arith in
     invalid_fault _ _ _ c.in-Invalid.taken made.0 made.2 refl c.args.passed _ _
-    (omega (arith, ap length c.as_slice-in-Invalid.ensures.content,
-        length-append begun (take c.in-Invalid.taken c.args.piece.now),
-        length-take c.in-Invalid.taken c.args.piece.now))
+    (omega (
+      arith,
+      ap length c.as_slice-in-Invalid.ensures.content,
+      length-append begun (take c.in-Invalid.taken c.args.piece.now),
+      length-take c.in-Invalid.taken c.args.piece.now,
+    ))
     (c.offset.ensures ∙ ap (fault_after c.args.passed) c.fault_at_front.ensures)
