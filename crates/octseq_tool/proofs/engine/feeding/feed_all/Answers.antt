@@ -30,8 +30,8 @@ loop-preserved g c =
       before,
     )
 
-pub returns-in_err-feed_next-clause-err : goal.returns-in_err-feed_next-clause-err
-returns-in_err-feed_next-clause-err g c =
+pub returns-in_err-feed_next-clause-lost : goal.returns-in_err-feed_next-clause-lost
+returns-in_err-feed_next-clause-lost g c =
     on_err c.from_residual-in_err-feed_next.result
     (lost_more g.F.Feed.has_read (g.R.Read.remaining c.args.reader.now) (g.R.Read.remaining c.loop.reader)
-    (g.R.Read.remaining c.feed_next.new.reader) c.loop.fed c.loop.invariant.0 c.in_err-feed_next.ensures.err)
+    (g.R.Read.remaining c.feed_next.new.reader) c.loop.fed c.loop.invariant.0 c.in_err-feed_next.ensures.lost)
