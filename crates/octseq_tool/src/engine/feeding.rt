@@ -12,7 +12,7 @@ use std::alloc::Global;
 use std::io::{ErrorKind, Read};
 
 /// How many octets a read asks for.
-pub const PIECE: usize = 64 * 1024;
+const PIECE: usize = 64 * 1024;
 
 /// A consumer of octets that come in pieces.
 pub trait Feed {
