@@ -1,6 +1,7 @@
 -- What is written is a function of the word and the input.
 use Rattle.std.proofs.Common.{◌≡◌, ◌≢◌, ◌∙◌, ◌∷◌, ◌++◌}
-use Rattle.std.proofs.Common.{inl, inr, get_or, refl, sym, ap, subst, arith, List, [], length, codes, ℕ, Option, Some, None}
+use Rattle.std.proofs.Common.{inl, inr, get_or, refl, sym, ap, subst, arith, List, [], length, codes, ℕ}
+use Rattle.std.proofs.Common.{Option, Some, None}
 use Rattle.std.proofs.lemmas.List.{append-nil}
 use Rattle.octseq_tool.proofs.Records.{IsRest, one_reading}
 use Rattle.octseq.specs.Fault.{Fault, IsFault, fault_text}

@@ -1,6 +1,6 @@
 //! The program over any reader and any writer.
-ghost use Rattle.std.specs.Prelude.{◌≡◌, ◌≢◌, ◌<◌, ◌≤◌, ◌∷◌, ℕ, [], length, map, codes, string_bytes, Some, List, Option};
-ghost use Rattle.std.specs.Prelude.{IfOk, IfErr, OnOk, OnErr, Err};
+ghost use Rattle.std.specs.Prelude.{◌≡◌, ◌≢◌, ◌<◌, ◌≤◌, ◌∷◌, ℕ, [], length, map, codes, string_bytes, Some, List};
+ghost use Rattle.std.specs.Prelude.{Option, IfOk, IfErr, OnOk, OnErr, Err};
 ghost use Rattle.std.specs.Io.KnownBytes.{Consumes, IsAtEnd};
 ghost use Rattle.octseq_tool.specs.Out.{IsNamed, IsCommand, Out, Makes, Ran, Broke};
 ghost use Rattle.octseq_tool.specs.declared.engine.Command.{Command};
@@ -218,7 +218,8 @@ pub fn engine<R: Read, W: Write>(
     writer: &mut W,
 ) -> Result<Status, ToolFault>
     // What was written, and how the program ended, are a function of the command and the whole input.
-    ensures ran { IfOk result (Ran command.now (R.remaining reader.old) (W.contents writer.old) (W.contents writer.new)) }
+    ensures ran { IfOk result (Ran command.now (R.remaining reader.old) (W.contents writer.old)
+        (W.contents writer.new)) }
     ensures end { OnOk result (IsCommand command.now → IsAtEnd (R.remaining reader.new)) }
 
     // A word that names no command reads nothing, whatever the answer.

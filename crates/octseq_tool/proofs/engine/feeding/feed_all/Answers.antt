@@ -16,9 +16,8 @@ returns-then-not-branch-clause-ok g c =
     let given = g.R.Read.remaining c.args.reader.now in
     let said = c.in_ok-feed_next.ensures in
     fed_all g.F.Feed.has_read given (g.R.Read.remaining c.feed_next.new.reader) c.feed_next.new.fed
-    (fed_more g.F.Feed.has_read given (g.R.Read.remaining c.loop.reader) (g.R.Read.remaining c.feed_next.new.reader) c.loop.fed
-    c.feed_next.new.fed
-    said.fed.0 c.loop.invariant.0 said.fed.1 said.fed.2)
+    (fed_more g.F.Feed.has_read given (g.R.Read.remaining c.loop.reader) (g.R.Read.remaining c.feed_next.new.reader)
+    c.loop.fed c.feed_next.new.fed said.fed.0 c.loop.invariant.0 said.fed.1 said.fed.2)
 
 pub loop-preserved : goal.loop-preserved
 loop-preserved g c =
