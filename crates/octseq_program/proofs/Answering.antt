@@ -1,8 +1,7 @@
 -- Complete runs, and runs that failed.
-use Rattle.std.proofs.Common.{◌≡◌, ℕ, List, [], ◌++◌, true, false, Option, Some, None, ◌∙◌, refl}
-use Rattle.std.proofs.Common.{sym, ap, subst}
+use Rattle.std.proofs.Common.{◌≡◌, ℕ, List, [], false, Option, Some, None, refl, sym, subst}
 use Rattle.std.proofs.lemmas.List.{append-nil}
-use Rattle.std.specs.Io.KnownBytes.{Appends, Consumes, IsAtEnd}
+use Rattle.std.specs.Io.KnownBytes.{Appends, Consumes}
 use Rattle.std.specs.Prelude.{IfSome, unwrap_or}
 use Rattle.octseq.specs.Parts.{IsFront}
 use Rattle.octseq_program.specs.Run.{Answers, BreaksOff, Writes}
@@ -99,24 +98,4 @@ module _ (out : List ℕ → List ℕ → List ℕ → Status → Type 0) (given
     written = appends_none before;
     noted = appends_none noted;
     fronts = λ more all notes status nothing is_out. (front_nil all, front_nil notes);
-  }
-
-  -- writing failed after everything was read
-  pub broke_writing : (input output : List ℕ) → Consumes given left input → IsAtEnd left
-      → ((front : List ℕ) × IsFront front output × Appends before after front)
-      → ((all notes : List ℕ) (status : Status) → out input all notes status → all ≡ output)
-      → BreaksOff out given left before after noted noted
-  broke_writing input output consumed end (front, is, written) only = record {
-    read = input;
-    consumed = consumed;
-    is_end = true;
-    ended = λ _. end;
-    output = front;
-    errors = [];
-    written = written;
-    noted = appends_none noted;
-    fronts = λ more all notes status nothing is_out.
-        let whole : input ++ more ≡ input = ap (λ more. input ++ more) (nothing refl) ∙ append-nil input in
-        let same : all ≡ output = only all notes status (subst (λ octets. out octets all notes status) whole is_out) in
-        (subst (IsFront front) (sym same) is, front_nil notes);
   }

@@ -1,5 +1,5 @@
 //! A program over any reader and any writers.
-ghost use Rattle.std.specs.Prelude.{◌≡◌, ◌++◌, ℕ, List, [], codes, Option, IfOk, IfErr, OnOk, OnErr};
+ghost use Rattle.std.specs.Prelude.{◌≡◌, ℕ, List, [], Option, IfOk, IfErr, OnOk, OnErr};
 ghost use Rattle.std.specs.Io.KnownBytes.{Appends, IsAtEnd};
 ghost use Rattle.octseq.specs.Parts.{IsFront};
 ghost use Rattle.octseq_program.specs.Run.{IsCommand, IsNamed, Answers, BreaksOff, Ran, Broke};
@@ -8,39 +8,8 @@ ghost use Rattle.octseq_program.specs.declared.status.Status.{Status};
 use crate::request::{Asked, asked_for};
 use crate::status::{ProgramFault, Status};
 use crate::streams::write_all;
-use octseq::{ShortInput, StrBuilder};
-use std::alloc::{AllocError, Global};
+use std::alloc::Global;
 use std::io::{Read, Write};
-
-/// The output for an input that was read whole, and how the program ends.
-#[derive(Drop)]
-pub struct Answer {
-    /// All that is written.
-    pub output: Vec<u8>,
-    /// How the program ends after the output is written.
-    pub status: Status,
-}
-
-/// Returns the answer to an input that ends too early: what was made of the input before its end, followed by the line
-/// that reports it.
-///
-/// # Errors
-///
-/// `AllocError` if a request for memory was refused.
-pub fn cut_off(text: StrBuilder<Vec<u8>>, short: ShortInput) -> Result<Answer, AllocError>
-    ensures output { IfOk result (λ answer. answer.output.items ≡ text.items ++ codes "unexpected end of input\n") }
-    ensures status { IfOk result (λ answer. answer.status ≡ Status.Refused) }
-{
-    let mut output = text;
-    let Ok(()) = output.try_push_display(short) else {
-        return Err(AllocError);
-    };
-    output.push_str("\n")?;
-    Ok(Answer {
-        output: output.into_octets_builder(),
-        status: Status::Refused,
-    })
-}
 
 /// The commands of a program. `name_of` is the name of a command, `default_word` the word of a program without
 /// arguments, `help` the help text, and `out` what is written for a command and an input, on standard output and on

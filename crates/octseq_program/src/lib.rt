@@ -13,7 +13,7 @@ pub mod request;
 pub mod status;
 pub mod streams;
 
-pub use engine::{Answer, Commands};
+pub use engine::Commands;
 pub use frames::{
     Ending, FrameCommand, Next, Piece, StreamCommand, stop_line, take_stream, take_whole,
 };

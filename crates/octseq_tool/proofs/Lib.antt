@@ -1,4 +1,4 @@
 pub mod Feeding
-pub mod Lines
 pub mod OneAnswer
 pub mod Records
+pub mod Writing

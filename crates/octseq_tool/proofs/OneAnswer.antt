@@ -1,23 +1,28 @@
 -- What is written is a function of the word and the input.
-use Rattle.std.proofs.Common.{◌≡◌, ◌∙◌, ◌∷◌, ◌++◌}
-use Rattle.std.proofs.Common.{inl, inr, refl, sym, ap, subst, arith, List, [], length, codes, ℕ}
-use Rattle.std.proofs.Common.{append_assoc}
+use Rattle.std.proofs.Common.{◌≡◌, ◌≢◌, ◌∙◌, ◌∷◌, ◌++◌}
+use Rattle.std.proofs.Common.{inl, inr, get_or, refl, sym, ap, subst, arith, List, [], length, codes, ℕ}
+use Rattle.std.proofs.Common.{Option, Some, None}
 use Rattle.std.proofs.lemmas.List.{append-nil}
-use Rattle.octseq_tool.proofs.Records.{no_record, one_reading}
-use Rattle.octseq_tool.specs.Lines.{IsRest, IsReadTo}
+use Rattle.octseq_tool.proofs.Records.{IsRest, one_reading}
 use Rattle.octseq.specs.Fault.{Fault, IsFault, fault_text}
-use Rattle.octseq.proofs.Codes.{halves}
-use Rattle.octseq.specs.Parts.{IsFront, Part, Splits, text}
+use Rattle.octseq.specs.Parts.{Part, Splits, text}
 use Rattle.octseq.specs.Text.{IsWellFormed}
-use Rattle.octseq_program.proofs.Naming.{other_first, other_length}
-use Rattle.octseq_tool.specs.Out.{name_of, HasText, records_of, IsCut, HasLines, Made, Out}
+use Rattle.octseq_tool.specs.Out.{name_of, IsNamed, HasText, records_of, IsCut, HasLines, Out}
 use Rattle.octseq_tool.specs.declared.engine.Command.{Command}
 use Rattle.octseq_tool.specs.declared.engine.Command.TheVariants.{Check, Lossy, Lossy64, Records}
-use Rattle.octseq_program.specs.declared.status.Status.{Status}
-use Rattle.octseq_program.specs.declared.status.Status.TheVariants.{Fine, Refused, Usage}
+use Rattle.octseq_tool.specs.declared.engine.Status.{Status}
+use Rattle.octseq_tool.specs.declared.engine.Status.TheVariants.{Fine, Refused, Usage}
+
+-- words whose first octets differ aren't the same
+other_first : {P : Type 0} (x y : List ℕ) → get_or x 0 0 ≢ get_or y 0 0 → x ≡ y → P
+other_first x y h e = absurd (h (ap (λ w. get_or w 0 0) e))
+
+-- words whose lengths differ aren't the same
+other_length : {P : Type 0} (x y : List ℕ) → length x ≢ length y → x ≡ y → P
+other_length x y h e = absurd (h (ap length e))
 
 -- no two commands have one name
-pub same_name : (c d : Command) → name_of c ≡ name_of d → c ≡ d
+same_name : (c d : Command) → name_of c ≡ name_of d → c ≡ d
 same_name Check Check e = refl
 same_name Lossy Lossy e = refl
 same_name Lossy64 Lossy64 e = refl
@@ -35,6 +40,13 @@ same_name Lossy64 Check e = other_first _ _ (omega arith) e
 same_name Lossy Lossy64 e = other_length _ _ (omega arith) e
 same_name Lossy64 Lossy e = other_length _ _ (omega arith) e
 
+-- a word names at most one command
+pub one_command : (word : List ℕ) (c d : Option Command) → IsNamed word c → IsNamed word d → c ≡ d
+one_command word (Some c) (Some d) e f = ap Some (same_name c d (sym e ∙ f))
+one_command word (Some c) None e f = absurd (f (c, e))
+one_command word None (Some d) e f = absurd (e (d, f))
+one_command word None None e f = refl
+
 -- outputs and statuses that are equal
 abbrev Same : List ℕ → List ℕ → Status → Status → Type 0
 Same x y s t = (x ≡ y) × (s ≡ t)
@@ -45,7 +57,7 @@ module _
     (refutes : (octets : List ℕ) (fault : Fault) → IsFault octets fault → ¬ IsWellFormed octets)
     (one_splitting : (octets : List ℕ) (parts others : List Part) → Splits octets parts → Splits octets others
     → parts ≡ others) where
-  checks : (input x y : List ℕ) (s t : Status) → Made Check input x s → Made Check input y t → Same x y s t
+  checks : (input x y : List ℕ) (s t : Status) → Out (Some Check) input x s → Out (Some Check) input y t → Same x y s t
   checks input x y Fine Fine p q = (p.1 ∙ sym q.1, refl)
   checks input x y Refused Refused (fault, f, e) (other, g, k) =
       (e ∙ ap (λ f. fault_text f ++ codes "\n") (one_fault input fault other f g) ∙ sym k, refl)
@@ -57,14 +69,14 @@ module _
   one_text : (input x y : List ℕ) → HasText input x → HasText input y → x ≡ y
   one_text input x y (parts, s, e) (others, t, f) = e ∙ ap text (one_splitting input parts others s t) ∙ sym f
 
-  lossies : (input x y : List ℕ) (s t : Status) → Made Lossy input x s → Made Lossy input y t → Same x y s t
+  lossies : (input x y : List ℕ) (s t : Status) → Out (Some Lossy) input x s → Out (Some Lossy) input y t → Same x y s t
   lossies input x y Fine Fine p q = (one_text input x y p q, refl)
   lossies input x y Refused t p q = absurd p
   lossies input x y Usage t p q = absurd p
   lossies input x y s Refused p q = absurd q
   lossies input x y s Usage p q = absurd q
 
-  limited : (input x y : List ℕ) (s t : Status) → Made Lossy64 input x s → Made Lossy64 input y t
+  limited : (input x y : List ℕ) (s t : Status) → Out (Some Lossy64) input x s → Out (Some Lossy64) input y t
       → Same x y s t
   limited input x y Fine Fine p q = (one_text input x y p.0 q.0, refl)
   limited input x y Refused Refused p q = (p.3 ∙ sym q.3, refl)
@@ -90,7 +102,7 @@ module _
       let L : List (List ℕ) → Type 0 = λ ps. HasLines ps x in
       (one_lines others x y (subst L same.0 hs) ks, same.1)
 
-  lines : (input x y : List ℕ) (s t : Status) → Made Records input x s → Made Records input y t
+  lines : (input x y : List ℕ) (s t : Status) → Out (Some Records) input x s → Out (Some Records) input y t
       → Same x y s t
   lines input x y Fine Fine (parts, e, h) (others, f, k) = (
     (same_lines input [] [] x y parts others (e ∙ sym (append-nil _)) (f ∙ sym (append-nil _)) (inl refl) (inl refl)
@@ -111,46 +123,17 @@ module _
   lines input x y Usage t p q = absurd p
   lines input x y s Usage p q = absurd q
 
-  one_made : (c : Command) (input x y : List ℕ) (s t : Status) → Made c input x s → Made c input y t → Same x y s t
-  one_made Check = checks
-  one_made Lossy = lossies
-  one_made Lossy64 = limited
-  one_made Records = lines
+  usages : (input x y : List ℕ) (s t : Status) → Out None input x s → Out None input y t → Same x y s t
+  usages input x y Usage Usage p q = (p ∙ sym q, refl)
+  usages input x y Fine t p q = absurd p
+  usages input x y Refused t p q = absurd p
+  usages input x y s Fine p q = absurd q
+  usages input x y s Refused p q = absurd q
 
-  pub one_output : (c : Command) (input x y e f : List ℕ) (s t : Status) → Out c input x e s → Out c input y f t
-      → (x ≡ y) × (e ≡ f) × (s ≡ t)
-  one_output c input x y e f s t (p, none) (q, also) =
-      let same = one_made c input x y s t p q in
-      (same.0, none ∙ sym also, same.1)
-
-  -- the lines of records are a front of those of all records that begin with them
-  lines_front : (parts others : List (List ℕ)) (x y lines all : List ℕ) → IsRest y
-      → records_of parts ++ x ≡ records_of others ++ y → HasLines parts lines → HasLines others all → IsFront lines all
-  lines_front [] others x y lines all is e none has = (all, sym (ap (λ l. l ++ all) none))
-  lines_front (a ∷ parts) [] x y lines all is e h has =
-      no_record y a (records_of parts ++ x) is (sym e ∙ ap (λ r. length a ∷ r) (append_assoc a (records_of parts) x))
-  lines_front (a ∷ parts) (b ∷ others) x y lines all is e (line, more, h, hs, f) (other, rest, k, ks, g) =
-      let long : length a ≡ length b = cc in
-      let after : (a ++ records_of parts) ++ x ≡ (b ++ records_of others) ++ y = cc in
-      let both = halves a b (records_of parts ++ x) (records_of others ++ y) long
-      (sym (append_assoc a (records_of parts) x) ∙ after ∙ append_assoc b (records_of others) y) in
-      let same : line ≡ other = one_text b line other (subst (λ p. HasText p line) both.0 h) k in
-      let next = lines_front parts others x y more rest is both.1 hs ks in (
-        next.0,
-        g ∙ ap (λ l. l ++ codes "\n" ++ rest) (sym same) ∙ ap (λ r. line ++ codes "\n" ++ r) next.1
-            ∙ sym (append_assoc (line ++ codes "\n") more next.0) ∙ ap (λ l. l ++ next.0) (sym f),
-      )
-
-  pub front_of_lines : (octets rest lines more output : List ℕ) (status : Status) → IsReadTo octets rest lines
-      → Made Records (octets ++ more) output status → IsFront lines output
-  front_of_lines octets rest lines more output Fine r (others, e, has) =
-      lines_front r.parts others (rest ++ more) [] lines output (inl refl)
-      (sym (ap (λ o. o ++ more) r.whole ∙ append_assoc (records_of r.parts) rest more) ∙ e ∙ sym (append-nil _)) r.lines has
-  front_of_lines octets rest lines more output Refused r (others, other, begin, e, c, has, o) =
-      let front = lines_front r.parts others (rest ++ more) other lines begin (inr c)
-      (sym (ap (λ o. o ++ more) r.whole ∙ append_assoc (records_of r.parts) rest more) ∙ e) r.lines has in (
-        front.0 ++ codes "unexpected end of input\n",
-        o ∙ ap (λ l. l ++ codes "unexpected end of input\n") front.1
-            ∙ append_assoc lines front.0 (codes "unexpected end of input\n"),
-      )
-  front_of_lines octets rest lines more output Usage r p = absurd p
+  pub one_output : (c : Option Command) (input x y : List ℕ) (s t : Status) → Out c input x s → Out c input y t
+      → Same x y s t
+  one_output (Some Check) = checks
+  one_output (Some Lossy) = lossies
+  one_output (Some Lossy64) = limited
+  one_output (Some Records) = lines
+  one_output None = usages

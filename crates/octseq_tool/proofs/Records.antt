@@ -1,5 +1,5 @@
 -- Records are read from the front, and in one way.
-use Rattle.std.proofs.Common.{◌≡◌, ◌+◌, ◌-◌, ◌<◌, ◌≤◌, ◌∷◌, ◌++◌, ◌∙◌}
+use Rattle.std.proofs.Common.{◌≡◌, ◌⊎◌, ◌+◌, ◌-◌, ◌<◌, ◌≤◌, ◌∷◌, ◌++◌, ◌∙◌}
 use Rattle.std.proofs.Common.{false, true, ℕ, suc, add-one, get_or, codes, subst, List, [], length, take, drop, refl}
 use Rattle.std.proofs.Common.{sym, ap, inl, inr, append_assoc, arith}
 use Rattle.std.proofs.Math.Seq.{drop-cons}
@@ -10,9 +10,12 @@ use Rattle.octseq.specs.Integer.{be}
 use Rattle.octseq.specs.Part.{part_length, HasPart, part, past_part}
 use Rattle.octseq.specs.Window.{Window, left, rest, next, past, nested}
 use Rattle.octseq.proofs.Codes.{halves}
-use Rattle.octseq_tool.specs.Lines.{IsRest, IsReadTo}
 use Rattle.octseq_tool.specs.Out.{HasText, records_of, IsCut, HasLines}
 use Rattle.octseq.proofs.Written.{be_one}
+
+-- no whole record is at the front
+abbrev pub IsRest : List ℕ → Type 0
+IsRest rest = (rest ≡ []) ⊎ IsCut rest
 
 -- if no whole record is at the front, none is there
 pub no_record : {P : Type 0} (rest part more : List ℕ) → IsRest rest → rest ≡ length part ∷ (part ++ more) → P
@@ -103,6 +106,12 @@ cut_part (Err e) w within variant = λ some.
     absurd (cc) in
     cut_record w (part_length 1 w) some within refl (not_within (part_length 1 w) (left (past 1 w)) short)
 
+-- The input was read as far as this rest, and the output has a line for each part.
+pub record IsReadTo (input rest output : List ℕ) : Type 0 where
+  pub parts : List (List ℕ)
+  pub whole : input ≡ records_of parts ++ rest
+  pub lines : HasLines parts output
+
 -- a line more
 lines_more : (parts : List (List ℕ)) (lines part line : List ℕ) → HasLines parts lines → HasText part line
     → HasLines (parts ++ part ∷ []) (lines ++ (line ++ codes "\n"))
@@ -133,26 +142,3 @@ read_more input before after part line output made so_far front has e =
           ∙ sym (append_assoc (records_of so_far.parts) (length part ∷ part) after) ∙ ap (λ x. x ++ after) (sym joined);
       lines = subst L (sym e) (lines_more so_far.parts output part line so_far.lines has);
     }
-
--- records that are read, and others of the rest
-
-lines_append : (parts others : List (List ℕ)) (x y : List ℕ) → HasLines parts x → HasLines others y
-    → HasLines (parts ++ others) (x ++ y)
-lines_append [] others x y none has = subst (HasLines others) (sym (ap (λ l. l ++ y) none)) has
-lines_append (p ∷ parts) others x y (line, more, h, hs, e) has =
-    (line, more ++ y, h, lines_append parts others more y hs has, ap (λ l. l ++ y) e ∙ append_assoc (line ++ codes "\n") more y)
-
--- nothing is read of a rest
-pub read_nothing : (rest : List ℕ) → IsReadTo rest rest []
-read_nothing rest = record { parts = []; whole = refl; lines = refl }
-
--- what is read of octets, and then of the rest and others, is read of all
-pub read_on : (octets held more rest x y : List ℕ) → IsReadTo octets held x → IsReadTo (held ++ more) rest y
-    → IsReadTo (octets ++ more) rest (x ++ y)
-read_on octets held more rest x y first next = record {
-  parts = first.parts ++ next.parts;
-  whole = ap (λ o. o ++ more) first.whole ∙ append_assoc (records_of first.parts) held more
-      ∙ ap (λ o. records_of first.parts ++ o) next.whole ∙ sym (append_assoc (records_of first.parts) (records_of next.parts) rest)
-      ∙ ap (λ o. o ++ rest) (sym (flat_map-append (λ (part : List ℕ). length part ∷ part) first.parts next.parts));
-  lines = lines_append first.parts next.parts x y first.lines next.lines;
-}

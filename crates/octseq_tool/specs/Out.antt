@@ -1,15 +1,18 @@
 -- What the program writes for a command and its input, and how it ends.
-use Rattle.std.specs.Prelude.{◌≡◌, ℕ, ◌<◌, ◌≤◌, List, [], ◌∷◌, ◌++◌, length, codes, Option}
+use Rattle.std.specs.Prelude.{◌≡◌, ℕ, ◌<◌, ◌≤◌, List, [], ◌∷◌, ◌++◌, length, codes}
+use Rattle.std.specs.Prelude.{Option, Some, None, Result, Ok, Err, IfSome}
 use Rattle.std.specs.Fmt.{decimal}
-use Rattle.std.specs.Io.KnownBytes.{Consumes}
+use Rattle.std.specs.Io.KnownBytes.{Appends, Consumes}
 use Rattle.std.specs.List.{flat_map}
 use Rattle.octseq.specs.Fault.{Fault, IsFault, fault_text}
-use Rattle.octseq.specs.Parts.{Part, Splits, text}
+use Rattle.octseq.specs.Parts.{Part, Splits, IsFront, text}
 use Rattle.octseq.specs.Text.{IsWellFormed}
 use Rattle.octseq_tool.specs.declared.engine.Command.{Command}
 use Rattle.octseq_tool.specs.declared.engine.Command.TheVariants.{Check, Lossy, Lossy64, Records}
-use Rattle.octseq_program.specs.declared.status.Status.{Status}
-use Rattle.octseq_program.specs.declared.status.Status.TheVariants.{Fine, Refused}
+use Rattle.octseq_tool.specs.declared.engine.Status.{Status}
+use Rattle.octseq_tool.specs.declared.engine.Status.TheVariants.{Fine, Refused, Usage}
+use Rattle.octseq_tool.specs.declared.engine.ToolFault.{ToolFault}
+use Rattle.octseq_tool.specs.declared.engine.ToolFault.TheVariants.{Memory, Read, Write}
 
 -- the name of a command
 abbrev pub name_of : Command → List ℕ
@@ -17,6 +20,15 @@ name_of Check = codes "check"
 name_of Lossy = codes "lossy"
 name_of Lossy64 = codes "lossy64"
 name_of Records = codes "records"
+
+-- the word is the name of a command
+abbrev pub IsCommand : List ℕ → Type 0
+IsCommand word = (command : Command) × (word ≡ name_of command)
+
+-- the command of that name, or none if there is none
+abbrev pub IsNamed : List ℕ → Option Command → Type 0
+IsNamed word (Some command) = word ≡ name_of command
+IsNamed word None = ¬ IsCommand word
 
 -- the parts of the input have this text
 abbrev pub HasText : List ℕ → List ℕ → Type 0
@@ -37,29 +49,58 @@ HasLines [] lines = lines ≡ []
 HasLines (part ∷ parts) lines =
     (line : List ℕ) × (more : List ℕ) × HasText part line × HasLines parts more × (lines ≡ line ++ codes "\n" ++ more)
 
--- what a command makes of an input, and how the program ends
-abbrev pub Made : Command → List ℕ → List ℕ → Status → Type 0
-Made Check input output Fine =
+-- what is written for a command, or for a word that names none, and an input, and how the program ends
+abbrev pub Out : Option Command → List ℕ → List ℕ → Status → Type 0
+Out (Some Check) input output Fine =
     IsWellFormed input × (output ≡ codes "well formed: " ++ decimal (length input) ++ codes " octets\n")
-Made Check input output Refused =
+Out (Some Check) input output Refused =
     (fault : Fault) × IsFault input fault × (output ≡ fault_text fault ++ codes "\n")
-Made Lossy input output Fine = HasText input output
-Made Lossy64 input output Fine = HasText input output × (length output ≤ 64)
-Made Lossy64 input output Refused =
+Out (Some Lossy) input output Fine = HasText input output
+Out (Some Lossy64) input output Fine = HasText input output × (length output ≤ 64)
+Out (Some Lossy64) input output Refused =
     (lossy : List ℕ) × HasText input lossy × (64 < length lossy) × (output ≡ codes "buffer size exceeded\n")
-Made Records input output Fine = (parts : List (List ℕ)) × (input ≡ records_of parts) × HasLines parts output
-Made Records input output Refused = (parts : List (List ℕ)) × (rest : List ℕ) × (lines : List ℕ)
-    × (input ≡ records_of parts ++ rest) × IsCut rest × HasLines parts lines ×
-    (output ≡ lines ++ codes "unexpected end of input\n")
-Made _ input output _ = ⊥
-
--- what is written for a command and an input, on standard output and on standard error, and how the program ends: what
--- the command makes of the input, and nothing on standard error
-abbrev pub Out : Command → List ℕ → List ℕ → List ℕ → Status → Type 0
-Out command input output errors status = Made command input output status × (errors ≡ [])
+Out (Some Records) input output Fine = (parts : List (List ℕ)) × (input ≡ records_of parts) × HasLines parts output
+Out (Some Records) input output Refused = (parts : List (List ℕ)) × (rest : List ℕ) × (lines : List ℕ)
+    × (input ≡ records_of parts ++ rest) × IsCut rest × HasLines parts lines
+    × (output ≡ lines ++ codes "unexpected end of input\n")
+Out None input output Usage = output ≡ codes "usage: octseq_tool check|lossy|lossy64|records\n"
+Out _ input output _ = ⊥
 
 -- A command made this of all that a reader had left.
 pub record Makes (command : Command) (given left : Option (List ℕ)) (output : List ℕ) (status : Status) : Type 0 where
   pub input : List ℕ
   pub consumed : Consumes given left input
-  pub made : Made command input output status
+  pub made : Out (Some command) input output status
+
+-- A complete run: the word, what the reader had left, and what the writer held before and after. The known octets of
+-- the reader are the whole input.
+pub record Ran (word : List ℕ) (given before after : Option (List ℕ)) (status : Status) : Type 0 where
+  pub command : Option Command
+  pub input : List ℕ
+  pub output : List ℕ
+  pub named : IsNamed word command
+  pub whole : IfSome given (λ octets. input ≡ octets)
+  pub made : Out command input output status
+  pub written : Appends before after output
+
+-- A run that ended with a failed write: what was written is a front of what the complete run writes.
+pub record Broke (word : List ℕ) (given before after : Option (List ℕ)) : Type 0 where
+  pub command : Option Command
+  pub input : List ℕ
+  pub output : List ℕ
+  pub status : Status
+  pub front : List ℕ
+  pub named : IsNamed word command
+  pub whole : IfSome given (λ octets. input ≡ octets)
+  pub made : Out command input output status
+  pub begins : IsFront front output
+  pub written : Appends before after front
+
+-- the exit status of the process
+abbrev pub status_of : Result Status ToolFault → ℕ
+status_of (Ok Fine) = 0
+status_of (Ok Refused) = 1
+status_of (Ok Usage) = 2
+status_of (Err Memory) = 3
+status_of (Err Read) = 4
+status_of (Err Write) = 4

@@ -1,10 +1,9 @@
-use super::Command;
-use octseq_program::hostile::Drip;
-use octseq_program::{ProgramFault, Status, command_word, input_path};
+use super::{Status, ToolFault, command_word, engine};
 use std::alloc::{AllocError, Global};
 use std::fmt::Debug;
-use std::io::{self, Read, Write};
+use std::io::ErrorKind;
 use std::process::Abort;
+use streams::{Drip, Failure, NONE};
 
 /// Ends the test if two values differ. A call is proved in a tenth of the time of an `assert_eq!`.
 macro_rules! assert_equal {
@@ -34,27 +33,32 @@ fn unwrap<T, E: Debug + Drop>(rt: &impl Abort, made: Result<T, E>) -> T {
 
 mod hostile;
 mod refused;
+mod streams;
 
-/// Runs the program over a reader and a writer. What it writes to standard error is discarded.
-fn engine<R: Read, W: Write>(
-    alloc: Global,
-    word: &str,
-    reader: &mut R,
-    writer: &mut W,
-) -> Result<Status, ProgramFault> {
-    octseq_program::engine::engine::<Command, _, _, _>(alloc, word, reader, writer, &mut io::sink())
-}
+/// The line for a word that names no command.
+const USAGE: &str = "usage: octseq_tool check|lossy|lossy64|records\n";
 
 /// Returns the result and the output of a command for octets that come one per read.
-fn ran(alloc: Global, command: &str, octets: &[u8]) -> (Result<Status, ProgramFault>, Vec<u8>) {
+fn ran(alloc: Global, command: &str, octets: &[u8]) -> (Result<Status, ToolFault>, Vec<u8>) {
     let mut reader = Drip {
         rest: octets,
         at_once: 1,
-        reads: usize::MAX,
+        failure: NONE,
     };
     let mut written = Vec::new(alloc);
     let answer = engine(alloc, command, &mut reader, &mut written);
     (answer, written)
+}
+
+/// Octets, each repeated.
+fn repeated(alloc: Global, parts: &[(u8, usize)]) -> Result<Vec<u8>, AllocError> {
+    let mut octets = Vec::new(alloc);
+    for (octet, count) in parts {
+        for _ in 0..*count {
+            octets.push(*octet)?;
+        }
+    }
+    Ok(octets)
 }
 
 #[test]
@@ -71,11 +75,37 @@ fn check_tells_what_it_read(rt: HostRuntime) {
             Status::Refused,
             "invalid utf-8 sequence of 1 bytes from index 1\n",
         ),
+        (
+            b"a\xF1\x80\x80".as_slice(),
+            Status::Refused,
+            "incomplete utf-8 byte sequence from index 1\n",
+        ),
     ];
     for (octets, status, line) in cases {
         let (answer, written) = ran(rt.alloc(), "check", octets);
         assert_equal!(&rt, answer, Ok(status));
         assert_equal!(&rt, written.as_slice(), line.as_bytes());
+    }
+}
+
+#[test]
+fn another_word_reads_nothing(rt: HostRuntime) {
+    for word in [
+        "chek", "", "Check", "check ", "lossy6", "--help", "-h", "help",
+    ] {
+        let mut reader = Drip {
+            rest: b"a",
+            at_once: 1,
+            failure: Failure {
+                at: 1,
+                kind: ErrorKind::ConnectionReset,
+            },
+        };
+        let mut written = Vec::new(rt.alloc());
+        let answer = engine(rt.alloc(), word, &mut reader, &mut written);
+        assert_equal!(&rt, answer, Ok(Status::Usage));
+        assert_equal!(&rt, written.as_slice(), USAGE.as_bytes());
+        assert_equal!(&rt, (reader.rest, reader.failure.at), (b"a".as_slice(), 1));
     }
 }
 
@@ -87,8 +117,8 @@ fn one_argument_is_the_command(rt: HostRuntime) {
         (&["octseq_tool"], "check"),
         (&["octseq_tool", "lossy"], "lossy"),
         (&["octseq_tool", "--help"], "--help"),
-        (&["octseq_tool", "lossy", "check"], "lossy"),
-        (&["octseq_tool", "--help", "check"], ""),
+        (&["octseq_tool", "lossy", "check"], ""),
+        (&["octseq_tool", "check", "FILE"], ""),
         (&["octseq_tool", "check", "check", "check"], ""),
     ];
     for (words, wanted) in cases {
@@ -96,95 +126,36 @@ fn one_argument_is_the_command(rt: HostRuntime) {
         for word in words {
             unwrap(&rt, args.push(unwrap(&rt, String::from_str(alloc, word))));
         }
-        assert_equal!(&rt, command_word::<Command>(&args), wanted);
-        let path = if words.len() == 3 {
-            Some("check")
-        } else {
-            None
-        };
-        assert_equal!(&rt, input_path(&args), path);
+        assert_equal!(&rt, command_word(&args), wanted);
     }
-}
-
-/// Returns the result of a word that isn't a command, and what it writes to standard output and standard error, without
-/// a read.
-fn reported(alloc: Global, word: &str) -> (Result<Status, ProgramFault>, Vec<u8>, Vec<u8>) {
-    let mut reader = Drip {
-        rest: b"a",
-        at_once: 1,
-        reads: 0,
-    };
-    let (mut written, mut errors) = (Vec::new(alloc), Vec::new(alloc));
-    let answer = octseq_program::engine::engine::<Command, _, _, _>(
-        alloc,
-        word,
-        &mut reader,
-        &mut written,
-        &mut errors,
-    );
-    (answer, written, errors)
-}
-
-#[test]
-fn help_tells_commands_and_statuses(rt: HostRuntime) {
-    let (answer, written, errors) = reported(rt.alloc(), "--help");
-    assert_equal!(&rt, answer, Ok(Status::Fine));
-    assert_true!(&rt, errors.is_empty());
-    let text = unwrap(&rt, str::from_utf8(&written));
-    for part in [
-        "  check    ",
-        "  lossy    ",
-        "  lossy64  ",
-        "  records  ",
-        "  --help   ",
-        "\nstatus:\n  0  ",
-        "\n  1  ",
-        "\n  2  ",
-        "\n  3  ",
-        "\n  4  ",
-    ] {
-        assert_eq!(rt; text.contains(part), true, "{part}");
-    }
-}
-
-#[test]
-fn another_word_is_reported_on_standard_error(rt: HostRuntime) {
-    let (_, help, _) = reported(rt.alloc(), "--help");
-    for word in ["", "chek", "-help", "Check"] {
-        let (answer, written, errors) = reported(rt.alloc(), word);
-        assert_equal!(&rt, answer, Ok(Status::Usage));
-        assert_true!(&rt, written.is_empty());
-        assert_equal!(&rt, errors.as_slice(), help.as_slice());
-    }
-}
-
-/// Octets, each repeated.
-fn repeated(alloc: Global, parts: &[(u8, usize)]) -> Result<Vec<u8>, AllocError> {
-    let mut octets = Vec::new(alloc);
-    for (octet, count) in parts {
-        for _ in 0..*count {
-            octets.push(*octet)?;
-        }
-    }
-    Ok(octets)
 }
 
 #[test]
 fn lossy_replaces(rt: HostRuntime) {
-    let (answer, written) = ran(rt.alloc(), "lossy", b"Hello\xC2 There\xFF Goodbye\xE2\x82");
-    assert_equal!(&rt, answer, Ok(Status::Fine));
-    let text = "Hello\u{FFFD} There\u{FFFD} Goodbye\u{FFFD}";
-    assert_equal!(&rt, written.as_slice(), text.as_bytes());
+    let cases = [
+        (b"".as_slice(), ""),
+        (
+            b"Hello\xC0\x80 There\xE6\x83 Goodbye",
+            "Hello\u{FFFD}\u{FFFD} There\u{FFFD} Goodbye",
+        ),
+        (
+            b"Hello\xC2 There\xFF Goodbye\xE2\x82",
+            "Hello\u{FFFD} There\u{FFFD} Goodbye\u{FFFD}",
+        ),
+        (b"a\xF1\x80\x80", "a\u{FFFD}"),
+    ];
+    for (octets, text) in cases {
+        let (answer, written) = ran(rt.alloc(), "lossy", octets);
+        assert_equal!(&rt, answer, Ok(Status::Fine));
+        assert_equal!(&rt, written.as_slice(), text.as_bytes());
+    }
 }
 
 #[test]
 fn lossy64_holds_64_octets(rt: HostRuntime) {
     let alloc = rt.alloc();
-    let (answer, written) = ran(
-        alloc,
-        "lossy64",
-        unwrap(&rt, repeated(alloc, &[(b'a', 1), (0xFF, 21)])).as_slice(),
-    );
+    let fits = unwrap(&rt, repeated(alloc, &[(b'a', 1), (0xFF, 21)]));
+    let (answer, written) = ran(alloc, "lossy64", fits.as_slice());
     assert_equal!(&rt, answer, Ok(Status::Fine));
     assert_equal!(&rt, written.len(), 64);
     let mut wanted = unwrap(&rt, String::from_str(alloc, "a"));
@@ -192,23 +163,18 @@ fn lossy64_holds_64_octets(rt: HostRuntime) {
         unwrap(&rt, wanted.push(char::REPLACEMENT_CHARACTER));
     }
     assert_equal!(&rt, written.as_slice(), wanted.as_bytes());
-    for long in [
-        unwrap(&rt, repeated(alloc, &[(0xFF, 22)])),
-        unwrap(&rt, repeated(alloc, &[(b'a', 65)])),
-    ] {
+    for (octet, count) in [(0xFF, 22), (b'a', 65)] {
+        let long = unwrap(&rt, repeated(alloc, &[(octet, count)]));
         let (answer, written) = ran(alloc, "lossy64", long.as_slice());
         assert_equal!(&rt, answer, Ok(Status::Refused));
-        assert_equal!(
-            &rt,
-            written.as_slice(),
-            b"buffer size exceeded\n".as_slice(),
-        );
+        let line = "buffer size exceeded\n";
+        assert_equal!(&rt, written.as_slice(), line.as_bytes());
     }
 }
 
 #[test]
 fn records_writes_a_line_for_each(rt: HostRuntime) {
-    let cut = "unexpected end of input\n".as_bytes();
+    let cut = b"unexpected end of input\n".as_slice();
     let cases = [
         (
             b"\x03a\xFFb\0\x01z".as_slice(),

@@ -2,14 +2,12 @@
 //!
 //! `.ci/refused` runs these tests with their n-th request refused, for each n up to the last of them. A refusal ends a
 //! test with its error, once the test has checked that nothing was written.
-use super::engine;
-use crate::engine::Command;
+use super::USAGE;
+use super::streams::Fixed;
 use crate::engine::tests::unwrap;
+use crate::engine::{Status, ToolFault, engine};
 use octseq::array::Array;
-use octseq_program::hostile::Fixed;
-use octseq_program::{ProgramFault, Status};
 use std::alloc::{AllocError, Global};
-use std::io;
 use std::process::Abort;
 
 /// Runs a command, which writes its whole output, or nothing if memory is refused.
@@ -20,7 +18,7 @@ fn is_reported(
     octets: &[u8],
     output: &[u8],
 ) -> Status {
-    let mut writer = Fixed::<64> {
+    let mut writer = Fixed {
         taken: Array::new(),
     };
     let answer = engine(alloc, command, &mut { octets }, &mut writer);
@@ -30,7 +28,7 @@ fn is_reported(
             status
         }
         Err(fault) => {
-            assert_equal!(rt, fault, ProgramFault::Memory);
+            assert_equal!(rt, fault, ToolFault::Memory);
             assert_true!(rt, writer.taken.as_slice().is_empty());
             unwrap(rt, Err(AllocError))
         }
@@ -52,39 +50,13 @@ fn lossy_tells_all_or_nothing(rt: HostRuntime) {
 }
 
 #[test]
-fn records_tells_a_front(rt: HostRuntime) {
-    let lines = b"a\xEF\xBF\xBDb\n\nunexpected end of input\n".as_slice();
-    let mut writer = Fixed::<64> {
-        taken: Array::new(),
-    };
-    let mut octets = b"\x03a\xFFb\0\x02a".as_slice();
-    let answer = engine(rt.alloc(), "records", &mut octets, &mut writer);
-    let taken = writer.taken.as_slice();
-    match answer {
-        Ok(status) => {
-            assert_equal!(&rt, status, Status::Refused);
-            assert_equal!(&rt, taken, lines);
-        }
-        Err(fault) => {
-            assert_equal!(&rt, fault, ProgramFault::Memory);
-            assert_equal!(&rt, lines.get(..taken.len()), Some(taken));
-            unwrap(&rt, Err(AllocError))
-        }
-    }
+fn records_tells_all_or_nothing(rt: HostRuntime) {
+    let lines = b"a\xEF\xBF\xBDb\n\nunexpected end of input\n";
+    is_reported(&rt, rt.alloc(), "records", b"\x03a\xFFb\0\x02a", lines);
 }
 
 #[test]
 fn another_word_requests_nothing(rt: HostRuntime) {
-    let mut errors = Fixed::<2048> {
-        taken: Array::new(),
-    };
-    let answer = octseq_program::engine::engine::<Command, _, _, _>(
-        rt.alloc(),
-        "chek",
-        &mut b"a".as_slice(),
-        &mut io::sink(),
-        &mut errors,
-    );
-    assert_equal!(&rt, answer, Ok(Status::Usage));
-    assert_true!(&rt, errors.taken.as_slice().len() > 0);
+    let status = is_reported(&rt, rt.alloc(), "chek", b"a", USAGE.as_bytes());
+    assert_equal!(&rt, status, Status::Usage);
 }

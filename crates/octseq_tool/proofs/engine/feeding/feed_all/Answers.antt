@@ -16,9 +16,8 @@ returns-then-not-branch-clause-ok g c =
     let given = g.R.Read.remaining c.args.reader.now in
     let said = c.in_ok-feed_next.ensures in
     fed_all g.F.Feed.has_read given (g.R.Read.remaining c.feed_next.new.reader) c.feed_next.new.fed
-    (fed_more g.F.Feed.has_read given (g.R.Read.remaining c.loop.reader) (g.R.Read.remaining c.feed_next.new.reader) c.loop.fed
-    c.feed_next.new.fed
-    said.fed.0 c.loop.invariant.0 said.fed.1 said.fed.2)
+    (fed_more g.F.Feed.has_read given (g.R.Read.remaining c.loop.reader) (g.R.Read.remaining c.feed_next.new.reader)
+    c.loop.fed c.feed_next.new.fed said.fed.0 c.loop.invariant.0 said.fed.1 said.fed.2)
 
 pub loop-preserved : goal.loop-preserved
 loop-preserved g c =
@@ -30,8 +29,8 @@ loop-preserved g c =
       before,
     )
 
-pub returns-in_err-feed_next-clause-err : goal.returns-in_err-feed_next-clause-err
-returns-in_err-feed_next-clause-err g c =
+pub returns-in_err-feed_next-clause-lost : goal.returns-in_err-feed_next-clause-lost
+returns-in_err-feed_next-clause-lost g c =
     on_err c.from_residual-in_err-feed_next.result
     (lost_more g.F.Feed.has_read (g.R.Read.remaining c.args.reader.now) (g.R.Read.remaining c.loop.reader)
-    (g.R.Read.remaining c.feed_next.new.reader) c.loop.fed c.loop.invariant.0 c.in_err-feed_next.ensures.err)
+    (g.R.Read.remaining c.feed_next.new.reader) c.loop.fed c.loop.invariant.0 c.in_err-feed_next.ensures.lost)

@@ -1,6 +1,6 @@
 use Rattle.octseq.specs.Parser.{window}
 use Rattle.octseq_tool.proofs.Records.{whole_part, cut_part}
-use Rattle.octseq_tool.proofs.engine.lines.next_part.Goals as goal
+use Rattle.octseq_tool.proofs.engine.records.next_part.Goals as goal
 
 pub returns-clause-ok : goal.returns-clause-ok
 returns-clause-ok c =
