@@ -193,8 +193,14 @@ fn integers_are_read_in_both_orders(rt: HostRuntime) {
 
 #[test]
 fn the_order_of_the_octets_counts(rt: HostRuntime) {
-    let parser = Parser::from_static(b"\xEF\x6E");
-    let (mut first, mut second) = (parser, parser);
-    let read = (first.parse_i16_be(), second.parse_u16_le());
-    assert_equal!(&rt, read, (Ok(-4242), Ok(28399)));
+    assert_equal!(
+        &rt,
+        Parser::from_static(b"\xEF\x6E").parse_i16_be(),
+        Ok(-4242),
+    );
+    assert_equal!(
+        &rt,
+        Parser::from_static(b"\xEF\x6E").parse_u16_le(),
+        Ok(28399),
+    );
 }
