@@ -33,6 +33,7 @@ pub mod Path
 pub mod PathOf
 pub mod Prefix
 pub mod PrefixValue
+pub mod ReadTurns
 pub mod Session
 pub mod SpokenOf
 pub mod Stop

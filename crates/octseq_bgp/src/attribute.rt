@@ -79,6 +79,8 @@ impl<R: AsOctets + Copy> PathAttributes<R> {
             Fills (IsEntry form.Attribute) (window parser) (attributes_left attributes)) }
         ensures session { IfOk result (λ attributes. attributes_session attributes ≡ session) }
         ensures malformed { IsErr result → (row : List Entry) → ¬ Fills (IsEntry form.Attribute) (window parser) row }
+        ensures some { turns.old ≤ turns.new }
+        ensures least { IfOk result (λ attributes. turns.old + length (attributes_left attributes) ≤ turns.new) }
         ensures turns { turns.new ≤ turns.old + left (window parser) }
     {
         let entries = Entries::parse_counted(parser, Form::Attribute, turns)?;

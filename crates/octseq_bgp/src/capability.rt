@@ -1,5 +1,5 @@
 //! Capabilities: RFC 5492.
-ghost use Rattle.std.specs.Prelude.{◌≡◌, ◌+◌, ◌≤◌, List, IsErr, IfOk, ⊤};
+ghost use Rattle.std.specs.Prelude.{◌≡◌, ◌+◌, ◌≤◌, List, length, IsErr, IfOk, ⊤};
 ghost use Rattle.octseq.specs.Parser.{window};
 ghost use Rattle.octseq.specs.Window.{left};
 ghost use Rattle.octseq_bgp.specs.Entry.{Entry, IsEntry};
@@ -66,6 +66,8 @@ impl<R: AsOctets + Copy> Capabilities<R> {
         ensures capabilities { IfOk result (λ it.
             Fills (IsEntry form.Capability) (window parser) (capabilities_left it)) }
         ensures malformed { IsErr result → (row : List Entry) → ¬ Fills (IsEntry form.Capability) (window parser) row }
+        ensures some { turns.old ≤ turns.new }
+        ensures least { IfOk result (λ it. turns.old + length (capabilities_left it) ≤ turns.new) }
         ensures turns { turns.new ≤ turns.old + left (window parser) }
     {
         let entries = Entries::parse_counted(parser, Form::Capability, turns)?;
@@ -120,6 +122,7 @@ impl<R: AsOctets + Copy> Clone for ParameterValue<R> {
 impl<R: AsOctets + Copy> Parameter<R> {
     ghost use Rattle.octseq_bgp.specs.CapabilityOf.{parameter_value_of};
     ghost use Rattle.octseq_bgp.specs.Capability.{IsParameterValue};
+    ghost use Rattle.octseq_bgp.specs.ReadTurns.{parameter_turns};
 
     /// Returns the value: capabilities, or else opaque octets.
     pub fn value(&self) -> ParameterValue<R>
@@ -131,6 +134,8 @@ impl<R: AsOctets + Copy> Parameter<R> {
     /// Does the same, and counts a turn for each capability, at most one for each octet.
     pub fn value_counted(&self, turns: &mut Turns) -> ParameterValue<R>
         ensures value { IsParameterValue self.now.kind (window self.now.value) (parameter_value_of result) }
+        ensures some { turns.old ≤ turns.new }
+        ensures least { turns.old + parameter_turns (parameter_value_of result) ≤ turns.new }
         ensures turns { turns.new ≤ turns.old + left (window self.now.value) }
     {
         if self.kind != 2 {

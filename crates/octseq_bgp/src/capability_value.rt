@@ -7,6 +7,7 @@ ghost use Rattle.octseq_bgp.specs.Capability.{IsRestart, ArePaths, IsAddPath, Ha
 ghost use Rattle.octseq_bgp.specs.Capability.{has_restarted, takes_notifications, restart_time};
 ghost use Rattle.octseq_bgp.specs.CapabilityOf.{restart_of, capability_value_of};
 ghost use Rattle.octseq_bgp.specs.Items.{items_left};
+ghost use Rattle.octseq_bgp.specs.ReadTurns.{capability_turns};
 
 use crate::capability::Capability;
 use crate::capability_type::CapabilityType;
@@ -117,6 +118,8 @@ impl<R: AsOctets + Copy> Clone for CapabilityValue<R> {
 /// Whether each family has its path ids received, sent, or both. It counts a turn for each.
 fn are_paths<R: AsOctets + Copy>(items: Items<R, FamilyTuple>, turns: &mut Turns) -> bool
     ensures are { IsTrue result ↔ ArePaths (items_left items) }
+    ensures some { turns.old ≤ turns.new }
+    ensures least { IsTrue result → turns.old + length (items_left items) ≤ turns.new }
     ensures turns { turns.new ≤ turns.old + length (items_left items) }
 {
     let mut ahead = items;
@@ -136,6 +139,8 @@ fn parse_add_path<R: AsOctets + Copy>(
 ) -> Result<Items<R, FamilyTuple>, Malformed>
     ensures paths { IfOk result (λ items. IsAddPath (window parser) (items_left items)) }
     ensures malformed { IsErr result → (row : List (ℕ × (ℕ × ℕ))) → ¬ IsAddPath (window parser) row }
+    ensures some { turns.old ≤ turns.new }
+    ensures least { IfOk result (λ items. turns.old + length (items_left items) ≤ turns.new) }
     ensures turns { turns.new ≤ turns.old + left (window parser) }
 {
     let items = parse_some::<R, FamilyTuple>(parser)?;
@@ -154,6 +159,8 @@ impl<R: AsOctets + Copy> CapabilityValue<R> {
     ) -> Result<CapabilityValue<R>, Malformed>
         ensures value { IfOk result (λ value. HasCode code (window parser) (capability_value_of value)) }
         ensures malformed { IsErr result → (value : said.CapabilityValue) → ¬ HasCode code (window parser) value }
+        ensures some { turns.old ≤ turns.new }
+        ensures least { IfOk result (λ value. turns.old + capability_turns (capability_value_of value) ≤ turns.new) }
         ensures turns { turns.new ≤ turns.old + left (window parser) }
     {
         match code {
@@ -191,6 +198,8 @@ impl<R: AsOctets + Copy> Capability<R> {
             IsCoded self.now.code (window self.now.octets) (capability_value_of value)) }
         ensures malformed { IsErr result → (value : said.CapabilityValue)
             → ¬ IsCoded self.now.code (window self.now.octets) value }
+        ensures some { turns.old ≤ turns.new }
+        ensures least { IfOk result (λ value. turns.old + capability_turns (capability_value_of value) ≤ turns.new) }
         ensures turns { turns.new ≤ turns.old + left (window self.now.octets) }
     {
         let Some(code) = CapabilityType::from_number(self.code) else {
@@ -210,6 +219,8 @@ impl<R: AsOctets + Copy> Capability<R> {
     /// Does the same, and counts a turn for each family with path ids, at most one for each octet.
     pub fn value_counted(&self, turns: &mut Turns) -> CapabilityValue<R>
         ensures value { IsCapabilityValue self.now.code (window self.now.octets) (capability_value_of result) }
+        ensures some { turns.old ≤ turns.new }
+        ensures least { turns.old + capability_turns (capability_value_of result) ≤ turns.new }
         ensures turns { turns.new ≤ turns.old + left (window self.now.octets) }
     {
         match self.coded(turns) {

@@ -232,6 +232,8 @@ fn pass_entries<R: AsOctets + Copy>(
         × Many count (IsEntry form) (window parser.old) row (window parser.new)) }
     ensures ends { IfOk result (λ _. left (window parser.new) ≡ 0) }
     ensures malformed { IsErr result → (row : List said.Entry) → ¬ Fills (IsEntry form) (window parser.old) row }
+    ensures some { turns.old ≤ turns.new }
+    ensures least { IfOk result (λ count. turns.old + count ≤ turns.new) }
     ensures turns { turns.new ≤ turns.old + left (window parser.old) }
 {
     let mut count = 0;
@@ -264,6 +266,8 @@ impl<R: AsOctets + Copy> Entries<R> {
         ensures entries { IfOk result (λ entries. Fills (IsEntry form) (window parser) (entries_left entries)) }
         ensures form { IfOk result (λ entries. entries.form ≡ form) }
         ensures malformed { IsErr result → (row : List said.Entry) → ¬ Fills (IsEntry form) (window parser) row }
+        ensures some { turns.old ≤ turns.new }
+        ensures least { IfOk result (λ entries. turns.old + length (entries_left entries) ≤ turns.new) }
         ensures turns { turns.new ≤ turns.old + left (window parser) }
     {
         let mut ahead = parser;

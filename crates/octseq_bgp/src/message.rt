@@ -145,6 +145,7 @@ impl<R: AsOctets + Copy> UpdateParts<R> {
 
 impl<R: AsOctets + Copy> Message<R> {
     ghost use Rattle.octseq_bgp.specs.Parsed.{message_of};
+    ghost use Rattle.octseq_bgp.specs.ReadTurns.{message_turns};
 
     /// Reads what follows a header.
     #[inline(always)]
@@ -156,6 +157,8 @@ impl<R: AsOctets + Copy> Message<R> {
     ) -> Result<Message<R>, Malformed>
         ensures body { IfOk result (λ it. IsBody session (window parser) kind (message_of it)) }
         ensures malformed { IsErr result → (m : said.Message) → ¬ IsBody session (window parser) kind m }
+        ensures some { turns.old ≤ turns.new }
+        ensures least { IfOk result (λ it. turns.old + message_turns (message_of it) ≤ turns.new) }
         ensures turns { turns.new ≤ turns.old + left (window parser) }
     {
         match kind {
@@ -200,6 +203,8 @@ impl<R: AsOctets + Copy> Message<R> {
     ) -> Result<Message<R>, Malformed>
         ensures message { IfOk result (λ it. IsMessage session (R.content octets) (message_of it)) }
         ensures malformed { IsErr result → (m : said.Message) → ¬ IsMessage session (R.content octets) m }
+        ensures some { turns.old ≤ turns.new }
+        ensures least { IfOk result (λ it. turns.old + message_turns (message_of it) ≤ turns.new) }
         ensures turns { turns.new ≤ turns.old + length (R.content octets) }
     {
         let header = parse_header(octets, &session)?;

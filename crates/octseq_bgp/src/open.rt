@@ -1,5 +1,5 @@
 //! OPEN: RFC 4271, 4.2, and RFC 9072, 2.
-ghost use Rattle.std.specs.Prelude.{◌≡◌, ◌+◌, ◌≤◌, ◌↔◌, List, IsTrue, IsErr, IfOk};
+ghost use Rattle.std.specs.Prelude.{◌≡◌, ◌+◌, ◌≤◌, ◌↔◌, List, length, IsTrue, IsErr, IfOk};
 ghost use Rattle.octseq.specs.Parser.{window};
 ghost use Rattle.octseq.specs.Window.{left};
 ghost use Rattle.octseq_bgp.specs.Entry.{Entry};
@@ -51,6 +51,8 @@ impl<R: AsOctets + Copy> OpenMessage<R> {
     fn parse_parameters(parser: Parser<R>, turns: &mut Turns) -> Result<Parameters<R>, Malformed>
         ensures parameters { IfOk result (λ row. HasParameters (window parser) (parameters_left row)) }
         ensures malformed { IsErr result → (row : List Entry) → ¬ HasParameters (window parser) row }
+        ensures some { turns.old ≤ turns.new }
+        ensures least { IfOk result (λ row. turns.old + length (parameters_left row) ≤ turns.new) }
         ensures turns { turns.new ≤ turns.old + left (window parser) }
     {
         if is_long(&parser) {
@@ -71,6 +73,8 @@ impl<R: AsOctets + Copy> OpenMessage<R> {
     ) -> Result<OpenMessage<R>, Malformed>
         ensures is { IfOk result (λ it. IsOpen (window parser) (open_of it)) }
         ensures malformed { IsErr result → (it : said.Open) → ¬ IsOpen (window parser) it }
+        ensures some { turns.old ≤ turns.new }
+        ensures least { IfOk result (λ it. turns.old + length (parameters_left it.parameters) ≤ turns.new) }
         ensures turns { turns.new ≤ turns.old + left (window parser) }
     {
         let (version, my_asn, holdtime, identifier, rest) = parse_all::<R, Front>(parser)?;

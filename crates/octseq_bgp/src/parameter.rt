@@ -80,6 +80,8 @@ impl<R: AsOctets + Copy> Parameters<R> {
             Fills (IsEntry (parameter_form long)) (window parser) (parameters_left parameters)) }
         ensures malformed { IsErr result → (row : List Entry)
             → ¬ Fills (IsEntry (parameter_form long)) (window parser) row }
+        ensures some { turns.old ≤ turns.new }
+        ensures least { IfOk result (λ parameters. turns.old + length (parameters_left parameters) ≤ turns.new) }
         ensures turns { turns.new ≤ turns.old + left (window parser) }
     {
         let entries = Entries::parse_counted(parser, parameter_form(long), turns)?;

@@ -1,5 +1,5 @@
 //! AS paths: RFC 4271, 4.3, and RFC 5065, 3.
-ghost use Rattle.std.specs.Prelude.{◌≡◌, ◌+◌, ◌*◌, ◌≤◌, ℕ, Bool, List, IsErr, IfOk, IfSome, ⊤};
+ghost use Rattle.std.specs.Prelude.{◌≡◌, ◌+◌, ◌*◌, ◌≤◌, ℕ, Bool, List, length, IsErr, IfOk, IfSome, ⊤};
 ghost use Rattle.octseq.specs.Parser.{window};
 ghost use Rattle.octseq.specs.Window.{left};
 ghost use Rattle.octseq_bgp.specs.Entry.{Entry, IsNumber};
@@ -178,7 +178,7 @@ fn path_form(wide: bool) -> Form
 }
 
 impl<R: AsOctets + Copy> AsPath<R> {
-    ghost use Rattle.octseq_bgp.specs.PathOf.{path_of};
+    ghost use Rattle.octseq_bgp.specs.PathOf.{path_of, segments_left};
     ghost use Rattle.octseq_bgp.specs.Value.{IsPath};
 
     /// Reads all that a parser has left as segments with AS numbers of four octets or two, and counts a turn for each.
@@ -193,6 +193,8 @@ impl<R: AsOctets + Copy> AsPath<R> {
     ) -> Result<AsPath<R>, Malformed>
         ensures path { IfOk result (λ path. IsPath wide (window parser) (path_of path)) }
         ensures malformed { IsErr result → (path : Bool × List Entry) → ¬ IsPath wide (window parser) path }
+        ensures some { turns.old ≤ turns.new }
+        ensures least { IfOk result (λ path. turns.old + length (segments_left path) ≤ turns.new) }
         ensures turns { turns.new ≤ turns.old + left (window parser) }
     {
         let entries = Entries::parse_counted(parser, path_form(wide), turns)?;

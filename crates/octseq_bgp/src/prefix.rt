@@ -79,6 +79,8 @@ impl<R: AsOctets + Copy> Prefixes<R> {
             ArePrefixes session.now family (window parser) (prefixes_left prefixes)) }
         ensures malformed { IsErr result → (row : List said.Nlri)
             → ¬ ArePrefixes session.now family (window parser) row }
+        ensures some { turns.old ≤ turns.new }
+        ensures least { IfOk result (λ prefixes. turns.old + length (prefixes_left prefixes) ≤ turns.new) }
         ensures turns { turns.new ≤ turns.old + left (window parser) }
     {
         let entries = Entries::parse_counted(parser, session.prefix_form(family), turns)?;

@@ -1,7 +1,8 @@
 //! Prefixes of any address family: RFC 4760, 3 and 4.
-ghost use Rattle.std.specs.Prelude.{◌≡◌, ◌+◌, ◌≤◌, IsErr, IfOk, ⊤};
+ghost use Rattle.std.specs.Prelude.{◌≡◌, ◌+◌, ◌≤◌, length, IsErr, IfOk, ⊤};
 ghost use Rattle.octseq.specs.Parser.{window};
 ghost use Rattle.octseq.specs.Window.{left};
+ghost use Rattle.octseq_bgp.specs.Lists.{prefixes_left};
 ghost use Rattle.octseq_bgp.specs.Value.{Reach, Unreach, IsReach, IsUnreach};
 
 use crate::family::AfiSafiType;
@@ -50,6 +51,8 @@ impl<R: AsOctets + Copy> MpReachNlri<R> {
     ) -> Result<MpReachNlri<R>, Malformed>
         ensures reach { IfOk result (λ it. IsReach session.now (window parser) (reach_of it)) }
         ensures malformed { IsErr result → (it : Reach) → ¬ IsReach session.now (window parser) it }
+        ensures some { turns.old ≤ turns.new }
+        ensures least { IfOk result (λ it. turns.old + length (prefixes_left it.prefixes) ≤ turns.new) }
         ensures turns { turns.new ≤ turns.old + left (window parser) }
     {
         let (afi, safi, next_hops, _reserved, rest) = parse_all::<R, ReachFront>(parser)?;
@@ -98,6 +101,8 @@ impl<R: AsOctets + Copy> MpUnreachNlri<R> {
     ) -> Result<MpUnreachNlri<R>, Malformed>
         ensures unreach { IfOk result (λ it. IsUnreach session.now (window parser) (unreach_of it)) }
         ensures malformed { IsErr result → (it : Unreach) → ¬ IsUnreach session.now (window parser) it }
+        ensures some { turns.old ≤ turns.new }
+        ensures least { IfOk result (λ it. turns.old + length (prefixes_left it.prefixes) ≤ turns.new) }
         ensures turns { turns.new ≤ turns.old + left (window parser) }
     {
         let (afi, safi, rest) = parse_all::<R, (U16Be, U8, Rest)>(parser)?;

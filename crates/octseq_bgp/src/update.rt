@@ -60,6 +60,7 @@ impl<R: AsOctets + Copy> UpdateParts<R> {
 
 impl<R: AsOctets + Copy> UpdateMessage<R> {
     ghost use Rattle.octseq_bgp.specs.Parsed.{update_of};
+    ghost use Rattle.octseq_bgp.specs.ReadTurns.{update_turns};
 
     /// Reads all that a parser has left as an UPDATE without its header, and counts a turn for each prefix and
     /// attribute.
@@ -71,6 +72,8 @@ impl<R: AsOctets + Copy> UpdateMessage<R> {
     ) -> Result<UpdateMessage<R>, Malformed>
         ensures update { IfOk result (λ update. IsUpdate session (window parser) (update_of update)) }
         ensures malformed { IsErr result → (update : said.Update) → ¬ IsUpdate session (window parser) update }
+        ensures some { turns.old ≤ turns.new }
+        ensures least { IfOk result (λ update. turns.old + update_turns (update_of update) ≤ turns.new) }
         ensures turns { turns.new ≤ turns.old + left (window parser) }
     {
         let parts = UpdateParts::parse_body(parser)?;

@@ -9,6 +9,7 @@ ghost use Rattle.octseq_bgp.specs.Entry.{IsNumber};
 ghost use Rattle.octseq_bgp.specs.Fills.{Whole};
 ghost use Rattle.octseq_bgp.specs.Items.{items_left};
 ghost use Rattle.octseq_bgp.specs.Path.{asn_size};
+ghost use Rattle.octseq_bgp.specs.ReadTurns.{value_turns};
 ghost use Rattle.octseq_bgp.specs.Value.{Value, HasForm, IsTyped, IsValue, SomeItems};
 ghost use Rattle.octseq_bgp.specs.declared.session.SessionConfig.{SessionConfig as Session};
 
@@ -171,6 +172,8 @@ impl<R: AsOctets + Copy> AttributeValue<R> {
     ) -> Result<AttributeValue<R>, Malformed>
         ensures value { IfOk result (λ value. HasForm session.now kind (window parser) (value_of value)) }
         ensures malformed { IsErr result → (value : Value) → ¬ HasForm session.now kind (window parser) value }
+        ensures some { turns.old ≤ turns.new }
+        ensures least { IfOk result (λ value. turns.old + value_turns (value_of value) ≤ turns.new) }
         ensures turns { turns.new ≤ turns.old + left (window parser) }
     {
         let wide = session.four_octet_asn;
@@ -228,6 +231,8 @@ impl<R: AsOctets + Copy> PathAttribute<R> {
             IsTyped self.now.session self.now.type_code (window self.now.value) (value_of value)) }
         ensures malformed { IsErr result → (value : Value)
             → ¬ IsTyped self.now.session self.now.type_code (window self.now.value) value }
+        ensures some { turns.old ≤ turns.new }
+        ensures least { IfOk result (λ value. turns.old + value_turns (value_of value) ≤ turns.new) }
         ensures turns { turns.new ≤ turns.old + left (window self.now.value) }
     {
         let Some(kind) = AttributeType::from_number(self.type_code) else {
@@ -249,6 +254,8 @@ impl<R: AsOctets + Copy> PathAttribute<R> {
     #[inline(always)]
     pub fn value_counted(&self, turns: &mut Turns) -> AttributeValue<R>
         ensures value { IsValue self.now.session self.now.type_code (window self.now.value) (value_of result) }
+        ensures some { turns.old ≤ turns.new }
+        ensures least { turns.old + value_turns (value_of result) ≤ turns.new }
         ensures turns { turns.new ≤ turns.old + left (window self.now.value) }
     {
         match self.typed(turns) {

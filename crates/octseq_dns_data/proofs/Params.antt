@@ -1,9 +1,10 @@
 -- Service parameters, and the values that are lists.
-use Rattle.std.proofs.Common.{◌≡◌, ℕ, zero, suc, ◌+◌, ◌^◌, ◌<◌, ◌≤◌, List, [], ◌∷◌, length, map, get_or, sym, ap}
+use Rattle.std.proofs.Common.{◌≡◌, ℕ, zero, suc, ◌+◌, ◌^◌, ◌<◌, ◌≤◌, List, [], ◌∷◌, length, map, get_or, refl, sym, ap}
 use Rattle.std.proofs.Common.{◌∙◌, subst, arith, Some}
 use Rattle.std.proofs.lemmas.List.{length-append}
 use Rattle.std.proofs.lemmas.List.Elements.{All-cons, All-get_or, All-head, All-nil, All-tail, All-weaker}
 use Rattle.std.proofs.lemmas.List.Elements.{recursion_from_All}
+use Rattle.std.proofs.lemmas.List.Sums.{sum_by-cons}
 use Rattle.std.specs.List.{All, flat_map}
 use Rattle.std.specs.List.Sorted.{IsStrictlyIncreasing}
 use Rattle.octseq.proofs.Written.{length_be}
@@ -12,9 +13,11 @@ use Rattle.octseq.specs.Integer.{octets_be}
 use Rattle.octseq.specs.Part.{part_of}
 use Rattle.octseq_dns_data.specs.Pieces.{Split, pieces, split_number, split_part}
 use Rattle.octseq_dns_data.specs.SvcParams.{AreIds, AreKeys, AreParams, IsParam, IsSvcParams, IsValueOf, Param}
-use Rattle.octseq_dns_data.specs.SvcParams.{ids_of, keys_of, param_octets, params_of, split_param}
+use Rattle.octseq_dns_data.specs.SvcParams.{ids_of, keys_of, param_octets, params_of, params_turns}
+use Rattle.octseq_dns_data.specs.SvcParams.{split_param, value_turns}
 use Rattle.octseq_dns_data.proofs.Pieces.{IsSplit, Passes, PassFrom, each_after, is_number, is_pair, is_part}
-use Rattle.octseq_dns_data.proofs.Pieces.{pass_less, pass_more, pieces_of_all}
+use Rattle.octseq_dns_data.proofs.Pieces.{more_pieces, pass_less, pass_more, pieces_of_all}
+use Rattle.octseq_format.specs.Row.{row_turns}
 
 -- ---- each kind of piece can be split
 
@@ -278,6 +281,32 @@ param_less least octets param more each found pass =
     let first = (pass_less split_param param_octets ParamPasses (λ param. param.0 + 1) param_split least octets param
     more each found pass).0 in
     (first.0, first.1.value)
+
+-- ---- the turns of a piece, and of those after it
+
+-- one more piece
+pub piece_more : {X : Type 0} {split : Split X} {octets_of : X → List ℕ} {Fits : X → Type 0}
+    → IsSplit split octets_of Fits → (octets : List ℕ) (x : X) (more : List ℕ) → split octets ≡ Some (x, more)
+    → length (pieces split octets) ≡ 1 + length (pieces split more)
+piece_more {split = split} is octets x more found =
+    let long = ap length (more_pieces split is.moving octets x more found) in
+    omega (arith, long)
+
+-- the turns of one more parameter
+pub param_more : (octets : List ℕ) (param : Param) (more : List ℕ) → split_param octets ≡ Some (param, more)
+    → params_turns octets ≡ 1 + value_turns param + params_turns more
+param_more octets param more found =
+    ap (row_turns value_turns) (more_pieces split_param param_split.moving octets param more found)
+    ∙ sum_by-cons (λ param. 1 + value_turns param) param (params_of more)
+
+-- none, if no octet is left
+pub no_params : (octets : List ℕ) → length octets ≡ 0 → params_turns octets ≡ 0
+no_params [] none = refl
+no_params (o ∷ octets) none = absurd (omega (arith, none))
+
+pub no_more : {X : Type 0} (split : Split X) (octets : List ℕ) → length octets ≡ 0 → length (pieces split octets) ≡ 0
+no_more split [] none = refl
+no_more split (o ∷ octets) none = absurd (omega (arith, none))
 
 -- the first parameter is valid, and so are those after it
 pub first_param : (octets : List ℕ) (param : Param) (more : List ℕ) → AreOctets octets

@@ -4,23 +4,27 @@ use Rattle.std.proofs.Common.{length, drop, filter, refl, sym, ap, ◌∙◌, su
 use Rattle.std.proofs.Math.Seq.{take-append_seam, drop-append_seam}
 use Rattle.std.specs.List.{flat_map, range_with_len}
 use Rattle.octseq_dns_data.specs.OneBitmap.{one_block}
-use Rattle.octseq_dns_data.specs.RtypeBitmap.{WindowBlock, IsWindowBlock, AscendFrom, HasBlocksFrom, IsRtypeBitmap}
+use Rattle.octseq_dns_data.specs.RtypeBitmap.{WindowBlock, IsWindowBlock, AreBlocksFrom, AscendFrom, HasBlocksFrom}
+use Rattle.octseq_dns_data.specs.RtypeBitmap.{IsRtypeBitmap}
 use Rattle.octseq_dns_data.specs.RtypeBitmap.{block_octets, block_types, blocks_of, blocks_within, is_listed}
 use Rattle.octseq_dns_data.specs.RtypeBitmap.{places_from, types_at, types_of}
 
 -- ---- window blocks, one after another
 
 -- a window block followed by window blocks
+pub blocks_then : (least next : ℕ) (octets rest : List ℕ) (block : WindowBlock) (blocks : List WindowBlock)
+    → octets ≡ block_octets block ++ rest → IsWindowBlock block → least ≤ block.number → next ≡ block.number + 1
+    → AreBlocksFrom next rest blocks → AreBlocksFrom least octets (block ∷ blocks)
+blocks_then least next octets rest block blocks is form least_is same more = (
+  is ∙ ap (λ rest. block_octets block ++ rest) more.0,
+  (least_is, form, subst (λ least. AscendFrom least blocks) same more.1),
+)
+
 pub block_then : (least next : ℕ) (octets rest : List ℕ) (block : WindowBlock) → octets ≡ block_octets block ++ rest
     → IsWindowBlock block → least ≤ block.number → next ≡ block.number + 1 → HasBlocksFrom next rest
     → HasBlocksFrom least octets
-block_then least next octets rest block is form least_is same more = (
-  block ∷ more.0,
-  (
-    is ∙ ap (λ rest. block_octets block ++ rest) more.1.0,
-    (least_is, form, subst (λ least. AscendFrom least more.0) same more.1.1),
-  ),
-)
+block_then least next octets rest block is form least_is same more =
+    (block ∷ more.0, blocks_then least next octets rest block more.0 is form least_is same more.1)
 
 -- so the first block is followed by window blocks
 pub after_block : (least next : ℕ) (octets rest : List ℕ) (block : WindowBlock) → octets ≡ block_octets block ++ rest
@@ -33,6 +37,11 @@ after_block least next octets rest block is same (first ∷ blocks, (spelled, as
       omega (arith, number, ascend.0),
       (blocks, (both.1, subst (λ least. AscendFrom least blocks) (omega (arith, number, same)) ascend.2)),
     )
+
+-- no octets are no blocks
+pub no_blocks : (least : ℕ) (octets : List ℕ) → length octets ≡ 0 → AreBlocksFrom least octets []
+no_blocks least [] none = (refl, tt)
+no_blocks least (o ∷ octets) none = absurd (omega (arith, none))
 
 -- if no block is first, there is none
 pub no_block : (least : ℕ) (octets : List ℕ) → HasBlocksFrom least octets

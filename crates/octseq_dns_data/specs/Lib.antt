@@ -1,6 +1,7 @@
 pub mod BaseText
 pub mod Data
 pub mod DataText
+pub mod DataTurns
 pub mod Form
 pub mod Format
 pub mod Formed

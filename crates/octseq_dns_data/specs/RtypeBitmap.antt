@@ -47,6 +47,10 @@ blocks_within (suc count) (number ∷ size ∷ octets) =
 abbrev pub blocks_of : List ℕ → List WindowBlock
 blocks_of octets = blocks_within (length octets) octets
 
+-- the turns that the check of a type bitmap takes: one for each window block
+abbrev pub bitmap_turns : List ℕ → ℕ
+bitmap_turns octets = length (blocks_of octets)
+
 -- whether the bit of a place in the window is set, counting from the highest bit of an octet
 abbrev pub is_listed : List ℕ → ℕ → Bool
 is_listed bitmap place = bit_at (slice_index bitmap (place / 8)) (7 - place % 8) == 1

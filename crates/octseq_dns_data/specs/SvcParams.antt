@@ -1,9 +1,10 @@
 -- The service parameters of SVCB and HTTPS: RFC 9460, 2.2, 7 and 8.
-use Rattle.std.specs.Prelude.{◌≡◌, ℕ, ◌%◌, ◌^◌, ◌<◌, ◌≤◌, List, [], length, map, ◌++◌}
+use Rattle.std.specs.Prelude.{◌≡◌, ℕ, ◌%◌, ◌^◌, ◌<◌, ◌≤◌, nat_eq, if◌then◌else◌, List, [], length, map, ◌++◌}
 use Rattle.std.specs.List.{All, flat_map}
 use Rattle.std.specs.List.Sorted.{IsStrictlyIncreasing}
 use Rattle.octseq.specs.Integer.{octets_be}
 use Rattle.octseq.specs.Part.{part_of}
+use Rattle.octseq_format.specs.Row.{row_turns}
 use Rattle.octseq_dns_data.specs.Pieces.{Split, pieces, split_number, split_pair, split_part}
 
 -- ---- the values of keys
@@ -75,3 +76,14 @@ params_of = pieces split_param
 -- octets are parameters
 abbrev pub IsSvcParams : List ℕ → Type 0
 IsSvcParams octets = AreParams octets (params_of octets)
+
+-- ---- turns
+
+-- the turns that the check of a value takes: one for each key or id in it
+abbrev pub value_turns : Param → ℕ
+value_turns param = if nat_eq param.0 0 then length (keys_of param.1)
+    else if nat_eq param.0 1 then length (ids_of param.1) else 0
+
+-- the turns that the check of parameters takes: one for each, and those of its value
+abbrev pub params_turns : List ℕ → ℕ
+params_turns octets = row_turns value_turns (params_of octets)

@@ -8,6 +8,7 @@ ghost use Rattle.octseq_dns_data.specs.Data.{rtype_of};
 ghost use Rattle.octseq_dns_data.specs.Local.{LocalType, IsLocal, IsWhole, form, service_form};
 ghost use Rattle.octseq_dns_data.specs.Typed.{svcb_of};
 ghost use Rattle.octseq_format.specs.Turns.{TakesTurns};
+ghost use Rattle.octseq_dns_data.specs.DataTurns.{rdata_turns, service_turns};
 ghost use Rattle.octseq_dns_data.specs.DataText.{IsGroupsText, is_compatible, aaaa_text};
 
 use crate::iana::{Class, Rtype};
@@ -241,6 +242,8 @@ impl<R: AsOctets + Copy> Data<R> {
         ensures place { IfOk result (IsAt (window message)) }
         ensures malformed { IsErr result → (rdata : ParsedRdata)
             → ¬ IsTypedData rtype class (window message) (window inside) rdata }
+        ensures some { turns.old ≤ turns.new }
+        ensures least { IfOk result (λ found. turns.old + rdata_turns (rdata_of found) ≤ turns.new) }
         ensures turns { (window message).position ≡ (window inside).position
             → turns.new ≤ turns.old + 510 + left (window inside) }
         ensures names { is_in_message rtype ≡ true → rtype ≢ 16 → turns.new ≤ turns.old + 510 }
@@ -270,6 +273,8 @@ impl<R: AsOctets + Copy> Data<R> {
         ensures ends { OnOk result ((window parser.new).position ≡ end) }
         ensures malformed { IsErr result → (rdata : ParsedRdata) (v : Window)
             → HasRdata rtype class (window parser.old) rdata v → ¬ (v.position ≡ end) }
+        ensures some { turns.old ≤ turns.new }
+        ensures least { IfOk result (λ found. turns.old + rdata_turns (rdata_of found) ≤ turns.new) }
         ensures turns { turns.new ≤ turns.old + 510 + (end - (window parser.old).position) }
         ensures names { rtype ≢ 16 → turns.new ≤ turns.old + 510 }
     {
@@ -295,6 +300,8 @@ impl<R: AsOctets + Copy> Data<R> {
         ensures place { IfOk result (IsAt (window parser.old)) }
         ensures malformed { IsErr result → rtype ≢ 16 → (rdata : ParsedRdata) (v : Window)
             → ¬ HasRdata rtype class (window parser.old) rdata v }
+        ensures some { turns.old ≤ turns.new }
+        ensures least { IfOk result (λ found. turns.old + rdata_turns (rdata_of found) ≤ turns.new) }
         ensures turns { turns.new ≤ turns.old + 510 }
     {
         if rtype == Rtype::NS {
@@ -342,6 +349,8 @@ impl<R: AsOctets + Copy> Data<R> {
         ensures place { IfOk result (λ found. (w : Window) → IsAt w found) }
         ensures malformed { IsErr result → (k : LocalType) (found : (form k).Found)
             → ¬ IsLocal rtype class (window inside) k found }
+        ensures some { turns.old ≤ turns.new }
+        ensures least { IfOk result (λ found. turns.old + rdata_turns (rdata_of found) ≤ turns.new) }
         ensures turns { turns.new ≤ turns.old + 510 + left (window inside) }
     {
         match rtype {
@@ -379,6 +388,7 @@ fn parse_service<R: AsOctets + Copy>(
     ensures value { IfOk result (λ svcb. IsWhole service_form.Is (window inside) (svcb_of svcb)) }
     ensures malformed { IsErr result → (found : service_form.Found) → class ≡ 1
         → ¬ IsWhole service_form.Is (window inside) found }
+    ensures least { IfOk result (λ svcb. turns.old + service_turns (svcb_of svcb) ≤ turns.new) }
     ensures turns { TakesTurns 256 1 (left (window inside)) turns.old turns.new }
 {
     if class != Class::IN {
@@ -395,6 +405,7 @@ fn whole<R: AsOctets + Copy, F: Format<R>>(
 ) -> Result<F::Value, Malformed>
     ensures value { IfOk result (λ value. IsWhole F.is_at (window inside) (F.found value)) }
     ensures malformed { IsErr result → (other : F.Found) → ¬ IsWhole F.is_at (window inside) other }
+    ensures least { IfOk result (λ value. turns.old + F.turns_of (F.found value) ≤ turns.new) }
     ensures turns { TakesTurns F.base F.rate (left (window inside)) turns.old turns.new }
 {
     let mut ahead = inside;

@@ -5,7 +5,8 @@ ghost use Rattle.std.specs.List.Sorted.{IsStrictlyIncreasing};
 ghost use Rattle.octseq.specs.Parser.{window};
 ghost use Rattle.octseq.specs.Window.{left, rest};
 ghost use Rattle.octseq_dns_data.specs.OneBitmap.{one_bitmap};
-ghost use Rattle.octseq_dns_data.specs.RtypeBitmap.{AreBlocksFrom, IsRtypeBitmap, WindowBlock, block_types, types_of};
+ghost use Rattle.octseq_dns_data.specs.RtypeBitmap.{AreBlocksFrom, IsRtypeBitmap, WindowBlock};
+ghost use Rattle.octseq_dns_data.specs.RtypeBitmap.{bitmap_turns, block_types, types_of};
 ghost use Rattle.octseq_dns_data.specs.RtypeBitmapText.{rtypes_text};
 
 mod blocks;
@@ -72,7 +73,8 @@ impl<R: AsOctets> RtypeBitmap<R> {
         ensures ok { OnOk result (IsRtypeBitmap (rest (window parser))) }
         ensures malformed { IsErr result → ¬ IsRtypeBitmap (rest (window parser)) }
         ensures turns { 3 * turns.new ≤ 3 * turns.old + left (window parser) }
-        ensures counted { turns.old ≤ turns.new }
+        ensures some { turns.old ≤ turns.new }
+        ensures least { OnOk result (turns.old + bitmap_turns (rest (window parser)) ≤ turns.new) }
     {
         if !is_bitmap(parser.peek_all(), turns) {
             return Err(Malformed);
@@ -134,6 +136,8 @@ impl<R: AsOctets + Copy> FormedOctets<R> for RtypeBitmap<R> {
     ghost has_form = { IsRtypeBitmap };
 
     ghost place = { bitmap_place };
+
+    ghost turns_of = { bitmap_turns };
 
     ghost rate = { 1 };
 

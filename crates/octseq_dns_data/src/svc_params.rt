@@ -3,7 +3,7 @@ ghost use Rattle.std.specs.Prelude.{◌≡◌, ℕ, ◌+◌, ◌≤◌, List, Is
 ghost use Rattle.octseq.specs.Parser.{window};
 ghost use Rattle.octseq.specs.Window.{left, rest, whole};
 ghost use Rattle.octseq_dns_data.specs.SvcParams.{AreIds, AreKeys, AreParams, IsSvcParams, IsValueOf, Param};
-ghost use Rattle.octseq_dns_data.specs.SvcParams.{ids_of, keys_of, params_of};
+ghost use Rattle.octseq_dns_data.specs.SvcParams.{ids_of, keys_of, params_of, params_turns};
 
 use crate::data::FormedOctets;
 use crate::svc_params::form::{is_svc_params, take_id, take_param};
@@ -118,6 +118,7 @@ impl<R: AsOctets + Copy> SvcParams<R> {
         ensures params { IsOk result → IsSvcParams (rest (window parser)) }
         ensures malformed { IsErr result → ¬ IsSvcParams (rest (window parser)) }
         ensures some { turns.old ≤ turns.new }
+        ensures least { IsOk result → turns.old + params_turns (rest (window parser)) ≤ turns.new }
         ensures turns { turns.new ≤ turns.old + left (window parser) }
     {
         if is_svc_params(parser.peek_all(), turns) {
@@ -164,6 +165,8 @@ impl<R: AsOctets + Copy> FormedOctets<R> for SvcParams<R> {
     ghost has_form = { IsSvcParams };
 
     ghost place = { params_place };
+
+    ghost turns_of = { params_turns };
 
     ghost rate = { 1 };
 

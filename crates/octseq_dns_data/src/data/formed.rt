@@ -1,5 +1,5 @@
 //! Octets of a given form, as a part of data.
-ghost use Rattle.std.specs.Prelude.{◌≡◌, ℕ, List, IsErr, IfOk, false};
+ghost use Rattle.std.specs.Prelude.{◌≡◌, ℕ, ◌+◌, ◌≤◌, List, IsErr, IfOk, false};
 ghost use Rattle.octseq.specs.Parser.{window};
 ghost use Rattle.octseq.specs.Window.{Window, left, rest};
 ghost use Rattle.octseq_dns_data.specs.Formed.{IsFormed, FormedFits, one_formed, onward_formed, formed_read_back};
@@ -20,6 +20,9 @@ pub trait FormedOctets<R: AsOctets + Copy>: Copy + Drop {
     // Where they are.
     ghost place: { Self → Window };
 
+    // The minimum number of loop turns of the check.
+    ghost turns_of: { List ℕ → ℕ };
+
     // The maximum number of loop turns of the check for each octet, and the maximum besides.
     ghost rate: { ℕ };
 
@@ -31,6 +34,7 @@ pub trait FormedOctets<R: AsOctets + Copy>: Copy + Drop {
     fn from_parser(parser: &Parser<R>, turns: &mut Turns) -> Result<Self, Malformed>
         ensures value { IfOk result (λ formed. place formed ≡ window parser.now) }
         ensures malformed { IsErr result → ¬ has_form (rest (window parser.now)) }
+        ensures counted { IfOk result (λ _. turns.old + turns_of (rest (window parser.now)) ≤ turns.new) }
         ensures turns { TakesTurns rate rate (left (window parser.now)) turns.old turns.new };
 
     /// Returns a parser of the octets alone.
@@ -68,7 +72,7 @@ impl<R: AsOctets + Copy, V: FormedOctets<R>> Format<R> for Formed<V> {
 
     ghost least = { 0 };
 
-    ghost turns_of = { λ _. 0 };
+    ghost turns_of = { λ place. V.turns_of (rest place) };
 
     ghost base = { V.rate };
 

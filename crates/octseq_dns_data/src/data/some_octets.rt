@@ -60,6 +60,8 @@ impl<R: AsOctets + Copy> FormedOctets<R> for SomeOctets<R> {
 
     ghost place = { some_place };
 
+    ghost turns_of = { λ _. 0 };
+
     ghost rate = { 0 };
 
     #[inline(always)]
@@ -125,6 +127,8 @@ impl<R: AsOctets + Copy> FormedOctets<R> for OwnerHash<R> {
     ghost has_form = { IsSomeString };
 
     ghost place = { hash_place };
+
+    ghost turns_of = { λ _. 0 };
 
     ghost rate = { 0 };
 
@@ -192,6 +196,8 @@ impl<R: AsOctets + Copy> FormedOctets<R> for CaaTag<R> {
     ghost has_form = { IsCaaTag };
 
     ghost place = { tag_place };
+
+    ghost turns_of = { λ _. 0 };
 
     ghost rate = { 0 };
 

@@ -94,6 +94,8 @@ impl<R: AsOctets + Copy> FormedOctets<R> for CharStr<R> {
 
     ghost place = { string_place };
 
+    ghost turns_of = { λ _. 0 };
+
     ghost rate = { 0 };
 
     #[inline(always)]
@@ -171,6 +173,7 @@ impl<R: AsOctets + Copy> Txt<R> {
         ensures ends { OnOk result ((window parser.new).position ≡ end) }
         ensures malformed { IsErr result → (strings : List (List ℕ)) (v : Window)
             → HasStrings (window parser.old) strings v → ¬ (v.position ≡ end) }
+        ensures some { turns.old ≤ turns.new }
         ensures turns { turns.new ≤ turns.old + 1 + (end - (window parser.old).position) }
         ensures least { IfOk result (λ txt. turns.old + length (strings_of txt) ≤ turns.new) }
     {

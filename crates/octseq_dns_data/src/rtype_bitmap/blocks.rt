@@ -2,7 +2,7 @@
 ghost use Rattle.std.specs.Prelude.{◌≡◌, ℕ, ◌+◌, ◌*◌, ◌≤◌, List, ◌++◌, length, IsTrue, IsFalse, IsNone, IfSome};
 ghost use Rattle.octseq_dns_data.specs.RtypeBitmap as said;
 ghost use Rattle.octseq_dns_data.specs.RtypeBitmapOf.{block_of};
-ghost use Rattle.octseq_dns_data.specs.RtypeBitmap.{IsRtypeBitmap, IsWindowBlock, block_octets};
+ghost use Rattle.octseq_dns_data.specs.RtypeBitmap.{IsRtypeBitmap, IsWindowBlock, bitmap_turns, block_octets};
 
 use octseq::Turns;
 
@@ -38,7 +38,8 @@ pub(crate) fn is_bitmap(octets: &[u8], turns: &mut Turns) -> bool
     ensures yes { IsTrue result → IsRtypeBitmap octets.now }
     ensures no { IsFalse result → ¬ IsRtypeBitmap octets.now }
     ensures turns { 3 * turns.new ≤ 3 * turns.old + length octets.now }
-    ensures counted { turns.old ≤ turns.new }
+    ensures some { turns.old ≤ turns.new }
+    ensures least { IsTrue result → turns.old + bitmap_turns octets.now ≤ turns.new }
 {
     let mut rest = octets;
     let mut least = 0;

@@ -4,7 +4,7 @@ ghost use Rattle.octseq.specs.Parser.{window};
 ghost use Rattle.octseq.specs.Window.{rest};
 ghost use Rattle.octseq_dns_data.specs.Pieces.{split_number, split_octets, split_part};
 ghost use Rattle.octseq_dns_data.specs.SvcParams.{AreAddresses, AreIds, AreKeys, IsSvcParams, IsValueOf};
-ghost use Rattle.octseq_dns_data.specs.SvcParams.{ids_of, keys_of, split_param};
+ghost use Rattle.octseq_dns_data.specs.SvcParams.{ids_of, keys_of, params_turns, split_param, value_turns};
 
 use crate::svc_params::key::{ALPN, IPV4HINT, IPV6HINT, MANDATORY, NO_DEFAULT_ALPN, PORT};
 use octseq::{AsOctets, Malformed, Parser, Turns};
@@ -64,6 +64,7 @@ pub(crate) fn is_svc_params(octets: &[u8], turns: &mut Turns) -> bool
     ensures yes { IsTrue result → IsSvcParams octets.now }
     ensures no { IsFalse result → ¬ IsSvcParams octets.now }
     ensures some { turns.old ≤ turns.new }
+    ensures least { IsTrue result → turns.old + params_turns octets.now ≤ turns.new }
     ensures turns { turns.new ≤ turns.old + length octets.now }
 {
     are_octets(octets);
@@ -90,6 +91,7 @@ fn is_value_of(key: u16, octets: &[u8], turns: &mut Turns) -> bool
     ensures yes { IsTrue result → IsValueOf key octets.now }
     ensures no { IsFalse result → ¬ IsValueOf key octets.now }
     ensures some { turns.old ≤ turns.new }
+    ensures least { IsTrue result → turns.old + value_turns (key, octets.now) ≤ turns.new }
     ensures turns { turns.new ≤ turns.old + length octets.now }
 {
     match key {
@@ -117,6 +119,7 @@ fn are_keys(octets: &[u8], turns: &mut Turns) -> bool
     ensures yes { IsTrue result → AreKeys octets.now (keys_of octets.now) }
     ensures no { IsFalse result → ¬ AreKeys octets.now (keys_of octets.now) }
     ensures some { turns.old ≤ turns.new }
+    ensures least { IsTrue result → turns.old + length (keys_of octets.now) ≤ turns.new }
     ensures turns { turns.new ≤ turns.old + length octets.now }
 {
     are_octets(octets);
@@ -140,6 +143,7 @@ fn are_ids(octets: &[u8], turns: &mut Turns) -> bool
     ensures yes { IsTrue result → AreIds octets.now (ids_of octets.now) }
     ensures no { IsFalse result → ¬ AreIds octets.now (ids_of octets.now) }
     ensures some { turns.old ≤ turns.new }
+    ensures least { IsTrue result → turns.old + length (ids_of octets.now) ≤ turns.new }
     ensures turns { turns.new ≤ turns.old + length octets.now }
 {
     are_octets(octets);

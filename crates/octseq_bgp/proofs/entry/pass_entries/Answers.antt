@@ -26,6 +26,7 @@ entries-preserved g c =
       );
       ahead = here;
       few = let before = so_far.few in omega (arith, before, ahead, here, less);
+      least = let before = so_far.least in omega (arith, before, tick);
       turns = let before = so_far.turns in omega (arith, before, tick, less);
     }
 

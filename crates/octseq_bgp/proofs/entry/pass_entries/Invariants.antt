@@ -1,4 +1,4 @@
--- Some entries were passed.
+-- Some entries were passed, and a turn was counted for each.
 use Rattle.std.proofs.Common.{◌≡◌, ◌+◌, ◌^◌, ◌<◌, ◌≤◌, List}
 use Rattle.octseq.specs.Parser.{window}
 use Rattle.octseq.specs.Window.{left}
@@ -11,6 +11,7 @@ invariant-entries g l = record {
   all : (row : List Entry) × Many l.count (IsEntry l.fn.form) (window l.fn.parser) row (window l.parser);
   ahead : l.left ≡ left (window l.parser);
   few : l.count + l.left < 2 ^ 64;
+  least : l.fn.turns + l.count ≤ l.turns;
   turns : l.turns + left (window l.parser) ≤ l.fn.turns + left (window l.fn.parser);
 }
 

@@ -1,4 +1,4 @@
-use Rattle.std.proofs.Common.{refl, subst}
+use Rattle.std.proofs.Common.{length, refl, ap, subst, arith}
 use Rattle.octseq.specs.Parser.{window}
 use Rattle.octseq_format.specs.Row.{Row}
 use Rattle.octseq_format.proofs.RowSteps.{held_as}
@@ -17,3 +17,16 @@ returns-clause-entries g c =
     let all = c.in_ok-left.ensures.all in
     let same = held_as entry_code (IsEntry form) (one_entry form) w v c.in_ok-left.left all.0 c.result-1.given.0 all.1 in
     (v, (subst (λ row. Row (IsEntry form) w row v) same all.1.1, c.in_ok-left.ensures.ends))
+
+pub returns-clause-least : goal.returns-clause-least
+returns-clause-least g c =
+    let form = c.args.form in
+    let w = window c.args.parser in
+    let v = window c.pass_entries.new.parser in
+    let all = c.in_ok-left.ensures.all in
+    let same = held_as entry_code (IsEntry form) (one_entry form) w v c.in_ok-left.left all.0 c.result-1.given.0
+    all.1 in
+    let long = ap length same in
+    let count = all.1.0 in
+    let least = c.in_ok-left.ensures.least in
+    omega (arith, long, count, least)

@@ -1,8 +1,9 @@
-use Rattle.std.proofs.Common.{◌≡◌, ◌+◌, length, refl, sym, ap, ◌∙◌, arith}
+use Rattle.std.proofs.Common.{◌≡◌, ◌+◌, [], ◌∷◌, length, refl, sym, ap, ◌∙◌, arith}
 use Rattle.std.proofs.Math.Bool.{true≢false}
 use Rattle.std.proofs.lemmas.Bool.Decides.{Decides-eqb}
 use Rattle.octseq_dns_data.specs.RtypeBitmapOf.{block_of}
-use Rattle.octseq_dns_data.proofs.RtypeBitmaps.{after_block, block_length, block_then, no_block}
+use Rattle.octseq_dns_data.proofs.RtypeBitmaps.{after_block, block_length, block_then, blocks_are, blocks_then}
+use Rattle.octseq_dns_data.proofs.RtypeBitmaps.{no_block, no_blocks}
 use Rattle.octseq_dns_data.proofs.rtype_bitmap.blocks.is_bitmap.Goals as goal
 
 pub returns-then-from-least-clause-no : goal.returns-then-from-least-clause-no
@@ -31,7 +32,27 @@ loop-block-preserved c =
           (c.loop-block.invariant.only bitmap)).1;
       turns = omega (arith, few);
       counted = omega arith;
+      least = λ blocks are.
+          let so_far = c.loop-block.invariant.least (block ∷ blocks)
+          (blocks_then least (c.from-least.result + 1) rest more block blocks found form (omega arith) next are) in
+          let one = c.tick.ensures in
+          omega (arith, so_far, one);
     }
+
+pub returns-clause-least : goal.returns-clause-least
+returns-clause-least c = λ empty.
+    let long = (Decides-eqb (length c.loop-block.rest.now) 0).0 (sym c.is_empty.ensures ∙ empty) in
+    let so_far = c.loop-block.invariant.least [] (no_blocks c.loop-block.least c.loop-block.rest.now long) in
+    omega (arith, so_far)
+
+pub loop-block-init : goal.loop-block-init
+loop-block-init c = record {
+  whole = λ has. has;
+  only = λ bitmap. bitmap;
+  turns = omega arith;
+  counted = omega arith;
+  least = λ blocks are. let same = ap length (blocks_are c.args.octets.now blocks are.0) in omega (arith, same);
+}
 
 pub returns-clause-no : goal.returns-clause-no
 returns-clause-no c = λ no bitmap.

@@ -3,7 +3,9 @@ use Rattle.octseq.specs.Parser.{window}
 use Rattle.octseq.specs.Part.{part_of}
 use Rattle.octseq.specs.Window.{rest}
 use Rattle.octseq_dns_data.specs.Pieces.{split_part}
-use Rattle.octseq_dns_data.proofs.Params.{IdPasses, after_piece, are_ids, id_some, id_split, id_step, ids_from, same_as}
+use Rattle.octseq_dns_data.proofs.Params.{IdPasses, after_piece, are_ids, id_some, id_split}
+use Rattle.octseq_dns_data.proofs.Params.{id_step, ids_from, no_more, piece_more}
+use Rattle.octseq_dns_data.proofs.Params.{same_as}
 use Rattle.octseq_dns_data.proofs.Pieces.{pass_end, pass_none}
 use Rattle.octseq_dns_data.proofs.svc_params.form.are_ids.Goals as goal
 
@@ -41,8 +43,17 @@ ids-preserved c =
       same = same_as (id_step ahead id more so_far.each found (omega (arith, some, long))) so_far.same;
       each = after.0;
       some = omega (arith, one, so_far.some);
+      least = omega (arith, one, so_far.least, piece_more id_split ahead id more found);
       turns = omega (arith, one, so_far.turns, after.2);
     }
+
+pub returns-clause-least : goal.returns-clause-least
+returns-clause-least c = λ _.
+    let test = c.ids-test.false in
+    let long = c.remaining.ensures.rest in
+    let none = no_more (split_part 1) (rest (window c.ids.ahead)) (omega (arith, test, long)) in
+    let least = c.ids.invariant.least in
+    omega (arith, none, least)
 
 pub returns-clause-yes : goal.returns-clause-yes
 returns-clause-yes c = λ reported.

@@ -4,7 +4,7 @@ use Rattle.octseq.specs.Parser.{window}
 use Rattle.octseq.specs.Window.{rest}
 use Rattle.octseq_dns_data.specs.Pieces.{split_number}
 use Rattle.octseq_dns_data.proofs.Params.{KeyPasses, after_piece, are_keys, key_less, key_split, key_step, keys_from}
-use Rattle.octseq_dns_data.proofs.Params.{KeysFrom, Same, same_as}
+use Rattle.octseq_dns_data.proofs.Params.{KeysFrom, Same, no_more, piece_more, same_as}
 use Rattle.octseq_dns_data.proofs.Pieces.{pass_end, pass_none}
 use Rattle.octseq_dns_data.proofs.svc_params.form.are_keys.Goals as goal
 
@@ -44,8 +44,17 @@ keys-preserved c =
       same = same_as (subst (λ n. Same (KeysFrom n more) (KeysFrom c.keys.least ahead)) next step) so_far.same;
       each = after.0;
       some = omega (arith, one, so_far.some);
+      least = omega (arith, one, so_far.least, piece_more key_split ahead key more found);
       turns = omega (arith, one, so_far.turns, after.2);
     }
+
+pub returns-clause-least : goal.returns-clause-least
+returns-clause-least c = λ _.
+    let test = c.keys-test.false in
+    let long = c.remaining.ensures.rest in
+    let none = no_more (split_number 2) (rest (window c.keys.ahead)) (omega (arith, test, long)) in
+    let least = c.keys.invariant.least in
+    omega (arith, none, least)
 
 pub returns-clause-yes : goal.returns-clause-yes
 returns-clause-yes c = λ reported.

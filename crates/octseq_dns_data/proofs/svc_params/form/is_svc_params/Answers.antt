@@ -1,9 +1,9 @@
 use Rattle.std.proofs.Common.{◌≡◌, ◌+◌, length, sym, ap, subst, arith, rules}
 use Rattle.octseq.specs.Parser.{window}
 use Rattle.octseq.specs.Window.{rest}
-use Rattle.octseq_dns_data.specs.SvcParams.{IsValueOf, Param, param_octets, split_param}
-use Rattle.octseq_dns_data.proofs.Params.{ParamPasses, ParamsFrom, Same, after_piece, are_params, param_less}
-use Rattle.octseq_dns_data.proofs.Params.{param_long, param_split, param_step, params_from, same_as}
+use Rattle.octseq_dns_data.specs.SvcParams.{IsValueOf, Param, param_octets, split_param, value_turns}
+use Rattle.octseq_dns_data.proofs.Params.{ParamPasses, ParamsFrom, Same, after_piece, are_params, no_params, param_less}
+use Rattle.octseq_dns_data.proofs.Params.{param_long, param_more, param_split, param_step, params_from, same_as}
 use Rattle.octseq_dns_data.proofs.Pieces.{pass_end, pass_none}
 use Rattle.octseq_dns_data.proofs.svc_params.form.is_svc_params.Goals as goal
 
@@ -53,14 +53,32 @@ params-preserved c =
     let one = c.tick.ensures in
     let some = c.is_value_of.ensures.some in
     let most = c.is_value_of.ensures.turns in
+    let counted = c.is_value_of.ensures.least (search rules) in
+    let same_value = ap (λ octets. value_turns (c.in-Ok.key, octets)) c.peek_all.ensures.content in
     let next : param.0 + 1 ≡ c.from-least.result + 1 = search rules in
     let step = param_step c.params.least ahead param more so_far.each found (omega (arith, least, same)) value in
     record {
       same = same_as (subst (λ n. Same (ParamsFrom n more) (ParamsFrom c.params.least ahead)) next step) so_far.same;
       each = after.0;
       some = omega (arith, one, so_far.some, some);
+      least = omega (arith, one, so_far.least, counted, same_value, param_more ahead param more found);
       turns = omega (arith, one, so_far.turns, after.1, size, content, most);
     }
+
+pub params-smaller : goal.params-smaller
+params-smaller c =
+    let ahead = rest (window c.params.ahead) in
+    let param : Param = (c.in-Ok.key, rest (window c.in-Ok.value)) in
+    let more = rest (window c.take_param.new.parser) in
+    (after_piece param_split ahead param more c.params.invariant.each c.in-Ok.ensures.param).2
+
+pub returns-clause-least : goal.returns-clause-least
+returns-clause-least c = λ _.
+    let test = c.params-test.false in
+    let long = c.remaining.ensures.rest in
+    let none = no_params (rest (window c.params.ahead)) (omega (arith, test, long)) in
+    let least = c.params.invariant.least in
+    omega (arith, none, least)
 
 pub returns-clause-yes : goal.returns-clause-yes
 returns-clause-yes c = λ _.
