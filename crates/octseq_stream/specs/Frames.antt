@@ -1,4 +1,4 @@
--- Frames: a header, and as many octets as it says.
+-- Streams of frames: a header, and as many octets as it says, one after another.
 use Rattle.std.specs.Prelude.{◌≡◌, ℕ, ◌<◌, ◌++◌, if◌then◌else◌, Bool, List, [], length}
 use Rattle.octseq.specs.Code.{HasFront}
 

@@ -17,7 +17,7 @@ const STEP: usize = 65_536;
 ///
 /// `Memory` if a request for memory was refused, `Read` if a read failed. Some of the octets may have been read, and
 /// others than were read may be in the vector.
-pub fn append_octets<R: Read>(
+pub(crate) fn append_octets<R: Read>(
     reader: &mut R,
     octets: &mut Vec<u8>,
     len: usize,

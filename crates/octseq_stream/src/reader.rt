@@ -1,5 +1,5 @@
 //! A reader of streams of frames, which holds one frame at a time.
-ghost use Rattle.std.specs.Prelude.{◌≡◌, ◌≢◌, ℕ, true, false, List, [], length, Some};
+ghost use Rattle.std.specs.Prelude.{◌≡◌, ◌≢◌, ℕ, true, false, List, []};
 ghost use Rattle.std.specs.Prelude.{IfOk, IfSome, OnErr, Ok, Err, None};
 ghost use Rattle.std.specs.Io.KnownBytes.{Consumes, IsAtEnd};
 ghost use Rattle.octseq.specs.Code.{HasFront};
