@@ -9,7 +9,6 @@ pub mod NextHops
 pub mod Numbers
 pub mod OneCapability
 pub mod OneMessage
-pub mod ReadOctets
 pub mod Shown
 pub mod Spoken
 pub mod Stops

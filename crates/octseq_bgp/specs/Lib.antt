@@ -26,6 +26,7 @@ pub mod Notification
 pub mod NotificationOf
 pub mod OctetsText
 pub mod OneEntry
+pub mod OneFrame
 pub mod OneText
 pub mod Open
 pub mod Parsed

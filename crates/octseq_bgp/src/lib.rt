@@ -12,7 +12,6 @@ pub mod entry;
 pub mod family;
 pub mod family_tuple;
 pub mod fault;
-pub mod filling;
 pub mod handling;
 pub mod item;
 pub mod message;

@@ -1,25 +1,26 @@
 //! A reader of message streams, which holds one message at a time: RFC 4271, 4.1.
 ghost use Rattle.std.specs.Prelude.{◌≡◌, ◌≢◌, ◌++◌, ◌↔◌, ℕ, true, false, List, [], length};
-ghost use Rattle.std.specs.Prelude.{IsTrue, IfOk, IfSome, IsErr, OnErr, Ok, Err, None};
+ghost use Rattle.std.specs.Prelude.{IsTrue, IfOk, IsErr, OnErr, Ok, Err};
 ghost use Rattle.std.specs.Io.KnownBytes.{Consumes, IsAtEnd};
 ghost use Rattle.std.specs.List.{All};
+ghost use Rattle.std.proofs.Common.{rules};
 ghost use Rattle.octseq.specs.Code.{HasFront};
 ghost use Rattle.octseq_format.specs.Canonical.{AreOctets};
 ghost use Rattle.octseq_bgp.specs.Message.{IsMessage};
 ghost use Rattle.octseq_bgp.specs.Message as said;
-ghost use Rattle.octseq_bgp.specs.MessageReader.{reader_of, session_of, octets_of, is_over, as_message_error};
-ghost use Rattle.octseq_bgp.specs.Stream.{IsFramed, IsFront, IsMisframed, IsCut};
+ghost use Rattle.octseq_bgp.specs.MessageReader.{reader_of, session_of, octets_of, is_over};
+ghost use Rattle.octseq_bgp.specs.Stream.{IsFramed, IsMisframed, IsCut};
 ghost use Rattle.octseq_bgp.specs.Stream.{IsMarked, longest_message, message_length};
 ghost use Rattle.octseq_bgp.specs.declared.session.SessionConfig.{SessionConfig as Session};
 
-use crate::filling::{FillError, append_octets};
 use crate::message::Message;
 use crate::session::SessionConfig;
 use octseq::{Malformed, Parser};
-use std::alloc::{AllocError, Global};
-use std::error::Error;
-use std::fmt;
-use std::io::{self, Read};
+use octseq_stream::{FrameReader, Framing, frames_are_apart, read_frame};
+use std::alloc::Global;
+use std::io::Read;
+
+pub use octseq_stream::FrameError as ReadMessageError;
 
 /// At most one framed message is at the front of octets.
 ///
@@ -27,7 +28,9 @@ use std::io::{self, Read};
 pub fn framed_messages_are_apart()
     ensures { (session : Session) (a b x y : List ℕ) → IsFramed session a → IsFramed session b
         → a ++ x ≡ b ++ y → a ≡ b }
-{}
+{
+    frames_are_apart::<SessionConfig>();
+}
 
 /// No framed message begins with misframed octets, whatever follows them.
 ///
@@ -35,7 +38,9 @@ pub fn framed_messages_are_apart()
 pub fn misframed_begins_none()
     ensures { (session : Session) (octets more : List ℕ) → IsMisframed session octets
         → ¬ HasFront (IsFramed session) (λ octets. octets) (octets ++ more) }
-{}
+{
+    octseq_stream::misframed_begins_none::<SessionConfig>();
+}
 
 /// Misframed octets stay misframed, whatever follows them.
 ///
@@ -53,63 +58,6 @@ pub fn messages_are_framed()
         → IsMessage session octets m → IsFramed session octets }
 {}
 
-/// The reason why no message was read.
-#[derive(Debug, Drop)]
-pub enum ReadMessageError {
-    /// The input ends inside a message.
-    Short,
-    /// What comes next isn't framed as a message of the session.
-    Malformed,
-    /// A request for memory was refused.
-    Memory,
-    /// A read failed.
-    Read(io::Error),
-}
-
-impl Error for ReadMessageError {}
-
-impl fmt::Display for ReadMessageError {
-    fn fmt<W: fmt::Write>(&self, f: &mut fmt::Formatter<W>) -> fmt::Result {
-        match self {
-            ReadMessageError::Short => f.write_str("unexpected end of input"),
-            ReadMessageError::Malformed => f.write_str("malformed message"),
-            ReadMessageError::Memory => f.write_str("out of memory"),
-            ReadMessageError::Read(error) => write!(f, "{error}"),
-        }
-    }
-}
-
-impl From<AllocError> for ReadMessageError {
-    ghost use Rattle.octseq_bgp.specs.declared.reader.ReadMessageError.TheVariants as why;
-
-    ghost from_gives = { λ _ error. error ≡ why.Memory };
-
-    fn from(_e: AllocError) -> ReadMessageError {
-        ReadMessageError::Memory
-    }
-}
-
-impl From<io::Error> for ReadMessageError {
-    ghost use Rattle.octseq_bgp.specs.declared.reader.ReadMessageError.TheVariants as why;
-
-    ghost from_gives = { λ error made. made ≡ why.Read error };
-
-    fn from(error: io::Error) -> ReadMessageError {
-        ReadMessageError::Read(error)
-    }
-}
-
-impl From<FillError> for ReadMessageError {
-    ghost from_gives = { λ error made. made ≡ as_message_error error };
-
-    fn from(error: FillError) -> ReadMessageError {
-        match error {
-            FillError::Memory => ReadMessageError::Memory,
-            FillError::Read(error) => ReadMessageError::Read(error),
-        }
-    }
-}
-
 /// The number of octets of a marker.
 const MARKER: usize = 16;
 
@@ -119,9 +67,56 @@ const FRONT: usize = 18;
 /// The minimum number of octets of a message.
 const LEAST: usize = 19;
 
+/// Messages of a session, each a marker, a length in two octets, and what follows them: RFC 4271, 4.1.
+impl Framing for SessionConfig {
+    ghost use Rattle.octseq_bgp.specs.OneFrame.{message_whole, begins_none};
+
+    ghost header = { 18 };
+
+    ghost is_kept = { true };
+
+    ghost fits = { IsFramed };
+
+    ghost code = { λ _ octets. octets };
+
+    ghost size = { λ _. message_length };
+
+    ghost is_misframed = { IsMisframed };
+
+    fn header_len() -> usize {
+        FRONT
+    }
+
+    fn keeps_header() -> bool {
+        true
+    }
+
+    fn parse_header(&self, octets: &[u8]) -> Result<Option<usize>, Malformed> {
+        if !is_marked(octets) {
+            return Err(Malformed);
+        }
+        if octets.len() < FRONT {
+            return Ok(None);
+        }
+        let len = length_of(octets);
+        if len < LEAST || len > longest_message(self) {
+            return Err(Malformed);
+        }
+        Ok(Some(len - FRONT))
+    }
+
+    ghost some = { Prim.search rules };
+
+    ghost whole = { message_whole };
+
+    ghost one = { λ _ _ _ _ _ same. same };
+
+    ghost begins_none = { begins_none };
+}
+
 /// Reads the next message of a stream into a vector, replacing its content. Returns `false` at the end of the input.
 /// Only the marker and the length of the message are checked. The vector never grows by more than 65,536 octets ahead
-/// of the input.
+/// of the input, and is empty after any answer but `Ok(true)`.
 ///
 /// # Errors
 ///
@@ -143,50 +138,9 @@ pub fn read_message<R: Read>(
         × Consumes (R.remaining reader.old) (R.remaining reader.new) read }
     ensures err { OnErr result ((read : List ℕ) × ¬ HasFront (IsFramed session.now) (λ octets. octets) read
         × Consumes (R.remaining reader.old) (R.remaining reader.new) read) }
+    ensures empty { result ≢ Ok true → octets.new.items ≡ [] }
 {
-    let Some(len) = read_front(reader, session, octets)? else {
-        return Ok(false);
-    };
-    if !append_octets(reader, octets, len)? {
-        return Err(ReadMessageError::Short);
-    }
-    Ok(true)
-}
-
-/// Reads the marker and the length of the next message into a vector, replacing its content. Returns how many octets
-/// follow, or `None` at the end of the input.
-fn read_front<R: Read>(
-    reader: &mut R,
-    session: &SessionConfig,
-    octets: &mut Vec<u8>,
-) -> Result<Option<usize>, ReadMessageError>
-    ensures front { IfOk result (λ len. IfSome len (λ len. IsFront session.now octets.new.items len
-        × Consumes (R.remaining reader.old) (R.remaining reader.new) octets.new.items)) }
-    ensures end { result ≡ Ok None → Consumes (R.remaining reader.old) (R.remaining reader.new) []
-        × IsAtEnd (R.remaining reader.new) }
-    ensures short { result ≡ Err ReadMessageError.Short → (read : List ℕ) × IsCut session.now read
-        × Consumes (R.remaining reader.old) (R.remaining reader.new) read × IsAtEnd (R.remaining reader.new) }
-    ensures malformed { result ≡ Err ReadMessageError.Malformed → (read : List ℕ) × IsMisframed session.now read
-        × Consumes (R.remaining reader.old) (R.remaining reader.new) read }
-    ensures err { OnErr result ((read : List ℕ) × ¬ HasFront (IsFramed session.now) (λ octets. octets) read
-        × Consumes (R.remaining reader.old) (R.remaining reader.new) read) }
-{
-    octets.clear();
-    let is_there = append_octets(reader, octets, FRONT)?;
-    if !is_marked(octets.as_slice()) {
-        return Err(ReadMessageError::Malformed);
-    }
-    if !is_there {
-        if octets.is_empty() {
-            return Ok(None);
-        }
-        return Err(ReadMessageError::Short);
-    }
-    let len = length_of(octets.as_slice());
-    if len < LEAST || len > longest_message(session) {
-        return Err(ReadMessageError::Malformed);
-    }
-    Ok(Some(len - FRONT))
+    read_frame(reader, session, octets)
 }
 
 /// Returns the maximum number of octets of a message of the session.
@@ -230,13 +184,10 @@ fn length_of(front: &[u8]) -> usize
     }
 }
 
-/// A reader of the messages of a stream, one at a time. It holds the octets of one message.
+/// A reader of the messages of a stream, one at a time. It holds the octets of one message, and none after the last one.
 #[derive(Drop)]
 pub struct MessageReader<R> {
-    reader: R,
-    session: SessionConfig,
-    octets: Vec<u8>,
-    is_over: bool,
+    frames: FrameReader<R, SessionConfig>,
 }
 
 impl<R: Read> MessageReader<R> {
@@ -250,14 +201,12 @@ impl<R: Read> MessageReader<R> {
         ensures open { is_over result ≡ false }
     {
         MessageReader {
-            reader,
-            session,
-            octets: Vec::new(alloc),
-            is_over: false,
+            frames: FrameReader::new(alloc, reader, session),
         }
     }
 
-    /// Reads the next message, replacing the last one. Returns `false` at the end of the input, and after an error.
+    /// Reads the next message, replacing the last one. Returns `false` at the end of the input, and after an error. It
+    /// holds no octets after any answer but `Ok(true)`.
     ///
     /// # Errors
     ///
@@ -280,21 +229,19 @@ impl<R: Read> MessageReader<R> {
             × Consumes (R.remaining (reader_of self.old)) (R.remaining (reader_of self.new)) read) }
         ensures over { is_over self.old ≡ true → (result ≡ Ok false) × (self.new ≡ self.old) }
         ensures last { result ≢ Ok true → is_over self.new ≡ true }
+        ensures on { result ≡ Ok true → is_over self.new ≡ false }
+        ensures empty { result ≢ Ok true → octets_of self.new ≡ [] }
         ensures session { session_of self.new ≡ session_of self.old }
     {
-        if self.is_over {
-            return Ok(false);
-        }
-        let found = read_message(&mut self.reader, &self.session, &mut self.octets);
-        self.is_over = !matches!(found, Ok(true));
-        found
+        self.frames.read_next()
     }
 
-    /// Returns the octets of the last message read.
+    /// Returns the octets of the last message read, or none if [`read_next`](Self::read_next) didn't return `true`.
     pub fn octets(&self) -> &[u8]
-        ensures { result.now ≡ octets_of self.now }
+        ensures octets { result.now ≡ octets_of self.now }
+        ensures over { is_over self.now ≡ true → result.now ≡ [] }
     {
-        self.octets.as_slice()
+        self.frames.octets()
     }
 
     /// Returns the last message read.
@@ -308,20 +255,20 @@ impl<R: Read> MessageReader<R> {
         ensures malformed { IsErr result → (m : said.Message)
             → ¬ IsMessage (session_of self.now) (octets_of self.now) m }
     {
-        Message::parse(self.octets.as_slice(), self.session)
+        Message::parse(self.frames.octets(), *self.frames.framing())
     }
 
     /// Returns the session.
     pub fn session(&self) -> SessionConfig
         ensures { result ≡ session_of self.now }
     {
-        self.session
+        *self.frames.framing()
     }
 
     /// Returns the underlying reader.
     pub fn get_ref(&self) -> &R
         ensures { result.now ≡ reader_of self.now }
     {
-        &self.reader
+        self.frames.get_ref()
     }
 }

@@ -2,7 +2,6 @@ pub mod Anew
 pub mod Blank
 pub mod EntriesRead
 pub mod FieldParts
-pub mod FrameWriting
 pub mod Framing
 pub mod HeaderRead
 pub mod Moving

@@ -5,6 +5,7 @@ pub mod FrameReader
 pub mod Frames
 pub mod Labels
 pub mod Moved
+pub mod OneFrame
 pub mod OptWritten
 pub mod PushOptShown
 pub mod Pushed

@@ -1,28 +1,26 @@
 //! Streams of messages, each preceded by its length in two octets: RFC 1035, 4.2.2.
-ghost use Rattle.std.specs.Prelude.{◌≡◌, ◌+◌, ◌<◌, ◌≤◌, ◌++◌, ℕ, true, false, Some, None, List, [], length, take, drop};
-ghost use Rattle.std.specs.Prelude.{IfSome, IfNone, IfOk, OnOk, OnErr, Ok, Err};
-ghost use Rattle.std.specs.Io.{ReadsAtMost};
+ghost use Rattle.std.specs.Prelude.{◌≡◌, ◌≢◌, ◌+◌, ◌<◌, ◌++◌, ℕ, true, false, List, []};
+ghost use Rattle.std.specs.Prelude.{IfSome, IfNone, IfOk, OnErr, Ok, Err};
+ghost use Rattle.std.proofs.Common.{rules};
 ghost use Rattle.std.specs.Io.KnownBytes.{Consumes, IsAtEnd};
-ghost use Rattle.std.specs.IoError.{error_kind};
 ghost use Rattle.std.specs.List.{AllByRecursion};
 ghost use Rattle.octseq.specs.Code.{HasFront};
-ghost use Rattle.octseq.specs.Integer.{octets_be};
+ghost use Rattle.octseq.specs.Integer.{be};
 ghost use Rattle.octseq.specs.Part.{part_of};
 ghost use Rattle.octseq.specs.Parser.{window, sequence};
 ghost use Rattle.octseq.specs.Window.{left, rest};
 ghost use Rattle.octseq_dns.specs.Frames.{FitsStream, IsCut, stream_of};
 
-use octseq::{AsOctets, Parser, ShortInput};
-use std::alloc::AllocError;
-use std::error::Error;
-use std::fmt;
-use std::io::{self, ErrorKind, Read};
+use octseq::{AsOctets, Malformed, Parser, ShortInput};
+use octseq_stream::Framing;
+use std::io::Read;
 
 mod reader;
 mod writer;
 
 pub use crate::frames::reader::FrameReader;
-pub use crate::frames::writer::{WriteFrameError, write_frame};
+pub use crate::frames::writer::write_frame;
+pub use octseq_stream::{FrameError, WriteFrameError};
 
 /// Octets are one list of messages, followed by one rest that doesn't begin with a message: what was written as a
 /// stream is read back as those messages.
@@ -33,7 +31,9 @@ pub fn one_stream()
         → AllByRecursion FitsStream others → ¬ HasFront FitsStream (part_of 2) more
         → ¬ HasFront FitsStream (part_of 2) less
         → stream_of messages ++ more ≡ stream_of others ++ less → (messages ≡ others) × (more ≡ less) }
-{}
+{
+    octseq_stream::one_stream::<MessageFraming>();
+}
 
 /// Takes the next message of a stream, and returns a parser of its octets, or `None` at the end.
 ///
@@ -61,66 +61,56 @@ pub fn next_frame<R: AsOctets + Copy>(
     Ok(Some(frame))
 }
 
-/// Why no frame was read.
-#[derive(Debug, Drop)]
-pub enum FrameError {
-    /// The input ends inside a frame.
-    Short,
-    /// A request for memory was refused.
-    Memory,
-    /// A read failed.
-    Read(io::Error),
-}
+/// Messages, each preceded by its length in two octets.
+#[derive(Clone, Copy, Debug, PartialEq, Eq)]
+pub struct MessageFraming;
 
-impl Error for FrameError {}
+impl Framing for MessageFraming {
+    ghost use Rattle.octseq_dns.specs.OneFrame.{message_whole, one_message};
 
-impl fmt::Display for FrameError {
-    fn fmt<W: fmt::Write>(&self, f: &mut fmt::Formatter<W>) -> fmt::Result {
-        match self {
-            FrameError::Short => f.write_str("unexpected end of input"),
-            FrameError::Memory => f.write_str("out of memory"),
-            FrameError::Read(error) => write!(f, "{error}"),
+    ghost header = { 2 };
+
+    ghost is_kept = { false };
+
+    ghost fits = { λ _. FitsStream };
+
+    ghost code = { λ _. part_of 2 };
+
+    ghost size = { λ _ header. 2 + be header };
+
+    ghost is_misframed = { λ _ _. ⊥ };
+
+    fn header_len() -> usize {
+        2
+    }
+
+    fn keeps_header() -> bool {
+        false
+    }
+
+    fn parse_header(&self, octets: &[u8]) -> Result<Option<usize>, Malformed> {
+        match Parser::from_static(octets).parse_u16_be() {
+            Ok(len) => Ok(Some(usize::from(len))),
+            Err(_) => Ok(None),
         }
     }
+
+    ghost some = { Prim.search rules };
+
+    ghost whole = { λ _. message_whole };
+
+    ghost one = { λ _. one_message };
+
+    ghost begins_none = { λ _ _ _ none. absurd none };
 }
 
-impl From<AllocError> for FrameError {
-    ghost use Rattle.octseq_dns.specs.declared.frames.FrameError.TheVariants as why;
-
-    ghost from_gives = { λ _ error. error ≡ why.Memory };
-
-    fn from(_e: AllocError) -> FrameError {
-        FrameError::Memory
-    }
-}
-
-impl From<ShortInput> for FrameError {
-    ghost use Rattle.octseq_dns.specs.declared.frames.FrameError.TheVariants as why;
-
-    ghost from_gives = { λ _ error. error ≡ why.Short };
-
-    fn from(_e: ShortInput) -> FrameError {
-        FrameError::Short
-    }
-}
-
-impl From<io::Error> for FrameError {
-    ghost use Rattle.octseq_dns.specs.declared.frames.FrameError.TheVariants as why;
-
-    ghost from_gives = { λ error made. made ≡ why.Read error };
-
-    fn from(error: io::Error) -> FrameError {
-        FrameError::Read(error)
-    }
-}
-
-/// Reads the next message of a stream into a vector, in place of its content. It returns `false` at the end of the
-/// input. The vector holds at most one message.
+/// Reads the next message of a stream into a vector, replacing its content. Returns `false` at the end of the input.
+/// The vector holds at most one message, and is empty after any answer but `Ok(true)`.
 ///
 /// # Errors
 ///
 /// `Short` if the input ends inside a frame, `Memory` if a request for memory was refused, `Read` if a read failed. The
-/// reader may then be inside a frame.
+/// reader may then be inside a frame. It is never `Malformed`: any octets are a length.
 pub fn read_frame<R: Read>(reader: &mut R, frame: &mut Vec<u8>) -> Result<bool, FrameError>
     ensures frame { result ≡ Ok true → FitsStream frame.new.items
         × Consumes (R.remaining reader.old) (R.remaining reader.new) (part_of 2 frame.new.items) }
@@ -128,102 +118,10 @@ pub fn read_frame<R: Read>(reader: &mut R, frame: &mut Vec<u8>) -> Result<bool, 
         × IsAtEnd (R.remaining reader.new) }
     ensures short { result ≡ Err FrameError.Short → (read : List ℕ) × IsCut read
         × Consumes (R.remaining reader.old) (R.remaining reader.new) read × IsAtEnd (R.remaining reader.new) }
+    ensures malformed { result ≢ Err FrameError.Malformed }
     ensures err { OnErr result ((read : List ℕ) × ¬ HasFront FitsStream (part_of 2) read
         × Consumes (R.remaining reader.old) (R.remaining reader.new) read) }
+    ensures empty { result ≢ Ok true → frame.new.items ≡ [] }
 {
-    let Some(len) = read_length(reader)? else {
-        return Ok(false);
-    };
-    read_octets(reader, frame, usize::from(len))?;
-    Ok(true)
-}
-
-/// Reads the length of the next message of a stream, or returns `None` at the end of the input.
-fn read_length<R: Read>(reader: &mut R) -> Result<Option<u16>, FrameError>
-    ensures length { IfOk result (λ len. IfSome len (λ len.
-        Consumes (R.remaining reader.old) (R.remaining reader.new) (octets_be 2 len))) }
-    ensures end { result ≡ Ok None → Consumes (R.remaining reader.old) (R.remaining reader.new) []
-        × IsAtEnd (R.remaining reader.new) }
-    ensures short { result ≡ Err FrameError.Short → (read : List ℕ) × (0 < length read) × (length read < 2)
-        × Consumes (R.remaining reader.old) (R.remaining reader.new) read × IsAtEnd (R.remaining reader.new) }
-    ensures err { OnErr result ((read : List ℕ) × (length read < 2)
-        × Consumes (R.remaining reader.old) (R.remaining reader.new) read) }
-{
-    let mut head = [0; 2];
-    let count = fill(reader, &mut head)?;
-    if count == 0 {
-        return Ok(None);
-    }
-    Ok(Some(Parser::from_static(&head[..count]).parse_u16_be()?))
-}
-
-/// Reads the octets of a message into a vector, in place of its content.
-fn read_octets<R: Read>(reader: &mut R, octets: &mut Vec<u8>, len: usize) -> Result<(), FrameError>
-    ensures len { OnOk result (length octets.new.items ≡ len) }
-    ensures ok { OnOk result (Consumes (R.remaining reader.old) (R.remaining reader.new) octets.new.items) }
-    ensures short { result ≡ Err FrameError.Short → IsAtEnd (R.remaining reader.new) }
-    ensures err { OnErr result ((read : List ℕ) × (length read < len)
-        × Consumes (R.remaining reader.old) (R.remaining reader.new) read) }
-{
-    octets.clear();
-    if len == 0 {
-        return Ok(());
-    }
-    octets.resize(len, 0)?;
-    if fill(reader, octets.as_mut_slice())? < len {
-        return Err(FrameError::Short);
-    }
-    Ok(())
-}
-
-/// Reads until the octets are full or the input ends, and returns the number of octets read.
-fn fill<R: Read>(reader: &mut R, octets: &mut [u8]) -> io::Result<usize>
-    ensures count { IfOk result (λ n. n ≤ length octets.new) }
-    ensures ok { IfOk result (λ n. Consumes (R.remaining reader.old) (R.remaining reader.new) (take n octets.new)) }
-    ensures end { IfOk result (λ n. n < length octets.new → IsAtEnd (R.remaining reader.new)) }
-    ensures err { OnErr result ((read : List ℕ) × (length read < length octets.new)
-        × Consumes (R.remaining reader.old) (R.remaining reader.new) read) }
-{
-    if octets.is_empty() {
-        return Ok(0);
-    }
-    let mut filled = 0;
-    for _ in 0..u64::MAX {
-        let count = read_at(reader, octets, filled)?;
-        filled += count;
-        if count == 0 || filled == octets.len() {
-            return Ok(filled);
-        }
-    }
-    Err(io::Error::from(ErrorKind::TimedOut))
-}
-
-/// Reads once into what follows the first octets, and returns the number of octets read.
-fn read_at<R: Read>(reader: &mut R, octets: &mut [u8], filled: usize) -> io::Result<usize>
-    requires { filled < length octets.old }
-    ensures front { take filled octets.new ≡ take filled octets.old }
-    ensures fits { IfOk result (λ n. filled + n ≤ length octets.new) }
-    ensures ok { IfOk result (λ n. Consumes (R.remaining reader.old) (R.remaining reader.new)
-        (take n (drop filled octets.new))) }
-    ensures err { OnErr result (Consumes (R.remaining reader.old) (R.remaining reader.new) []) }
-    ensures end { IfOk result (λ n. n ≡ 0 → IsAtEnd (R.remaining reader.new)) }
-{
-    read_once(reader, &mut octets[filled..])
-}
-
-/// Reads once, and returns the number of octets read. An interrupted read is tried again.
-fn read_once<R: Read>(reader: &mut R, room: &mut [u8]) -> io::Result<usize>
-    ensures bound { ReadsAtMost result room.new }
-    ensures ok { IfOk result (λ n. Consumes (R.remaining reader.old) (R.remaining reader.new) (take n room.new)) }
-    ensures err { OnErr result (Consumes (R.remaining reader.old) (R.remaining reader.new) []) }
-    ensures end { IfOk result (λ n. n ≡ 0 → 0 < length room.old → IsAtEnd (R.remaining reader.new)) }
-{
-    for _ in 0..u64::MAX {
-        match reader.read(room) {
-            Ok(count) => return Ok(count),
-            Err(error) if error.kind() == ErrorKind::Interrupted => {}
-            Err(error) => return Err(error),
-        }
-    }
-    Err(io::Error::from(ErrorKind::TimedOut))
+    octseq_stream::read_frame(reader, &MessageFraming, frame)
 }

@@ -4,6 +4,7 @@ pub mod Bgp4Mp
 pub mod Header
 pub mod Kind
 pub mod Listed
+pub mod OneFrame
 pub mod OneListed
 pub mod Parsed
 pub mod Peer

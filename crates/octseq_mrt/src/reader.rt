@@ -1,86 +1,82 @@
 //! A reader of MRT files, which holds one record at a time.
-ghost use Rattle.std.specs.Prelude.{◌≡◌, ◌≢◌, ◌++◌, ℕ, true, false, List, [], length};
+ghost use Rattle.std.specs.Prelude.{◌≡◌, ◌≢◌, ◌+◌, ◌++◌, ℕ, true, false, List, [], length};
 ghost use Rattle.std.specs.Prelude.{IfOk, IsErr, OnErr, Ok, Err};
 ghost use Rattle.std.specs.Io.KnownBytes.{Consumes, IsAtEnd};
-ghost use Rattle.octseq_mrt.specs.RecordReader.{reader_of, octets_of, is_over, as_record_error};
+ghost use Rattle.std.proofs.Common.{rules};
+ghost use Rattle.octseq_mrt.specs.RecordReader.{reader_of, octets_of, is_over};
 ghost use Rattle.octseq_mrt.specs.Records.{IsRecordOctets, BeginsWithRecord, IsCut, record_length};
 
 use crate::record::Record;
 use octseq::{Malformed, Parser};
-use octseq_bgp::filling::{FillError, append_octets};
-use std::alloc::{AllocError, Global};
-use std::error::Error;
-use std::fmt;
-use std::io::{self, Read};
+use octseq_stream::{FrameReader, Framing, frames_are_apart, read_frame};
+use std::alloc::Global;
+use std::io::Read;
+
+pub use octseq_stream::FrameError as RecordError;
 
 /// At most one record is at the front of octets.
 ///
 /// It does nothing. Calling it brings the law into the caller's proof.
 pub fn records_are_apart()
     ensures { (a b x y : List ℕ) → IsRecordOctets a → IsRecordOctets b → a ++ x ≡ b ++ y → a ≡ b }
-{}
-
-/// The reason why no record was read.
-#[derive(Debug, Drop)]
-pub enum RecordError {
-    /// The input ends inside a record.
-    Short,
-    /// A request for memory was refused.
-    Memory,
-    /// A read failed.
-    Read(io::Error),
+{
+    frames_are_apart::<RecordFraming>();
 }
 
-impl Error for RecordError {}
+/// Records, each a header of 12 octets and as many octets as it says: RFC 6396, 2.
+#[derive(Clone, Copy, Debug, PartialEq, Eq)]
+pub struct RecordFraming;
 
-impl fmt::Display for RecordError {
-    fn fmt<W: fmt::Write>(&self, f: &mut fmt::Formatter<W>) -> fmt::Result {
-        match self {
-            RecordError::Short => f.write_str("unexpected end of input"),
-            RecordError::Memory => f.write_str("out of memory"),
-            RecordError::Read(error) => write!(f, "{error}"),
+impl Framing for RecordFraming {
+    ghost use Rattle.octseq_mrt.specs.OneFrame.{record_whole};
+
+    ghost header = { 12 };
+
+    ghost is_kept = { true };
+
+    ghost fits = { λ _. IsRecordOctets };
+
+    ghost code = { λ _ octets. octets };
+
+    ghost size = { λ _ header. 12 + record_length header };
+
+    ghost is_misframed = { λ _ _. ⊥ };
+
+    fn header_len() -> usize {
+        HEADER
+    }
+
+    fn keeps_header() -> bool {
+        true
+    }
+
+    fn parse_header(&self, octets: &[u8]) -> Result<Option<usize>, Malformed> {
+        if octets.len() < HEADER {
+            return Ok(None);
         }
+        Ok(Some(length_of(octets)))
     }
+
+    ghost some = { Prim.search rules };
+
+    ghost whole = { λ _. record_whole };
+
+    ghost one = { λ _ _ _ _ _ same. same };
+
+    ghost begins_none = { λ _ _ _ none. absurd none };
 }
 
-impl From<AllocError> for RecordError {
-    ghost use Rattle.octseq_mrt.specs.declared.reader.RecordError.TheVariants as why;
-
-    ghost from_gives = { λ _ error. error ≡ why.Memory };
-
-    fn from(_e: AllocError) -> RecordError {
-        RecordError::Memory
-    }
-}
-
-impl From<io::Error> for RecordError {
-    ghost use Rattle.octseq_mrt.specs.declared.reader.RecordError.TheVariants as why;
-
-    ghost from_gives = { λ error made. made ≡ why.Read error };
-
-    fn from(error: io::Error) -> RecordError {
-        RecordError::Read(error)
-    }
-}
-
-impl From<FillError> for RecordError {
-    ghost from_gives = { λ error made. made ≡ as_record_error error };
-
-    fn from(error: FillError) -> RecordError {
-        match error {
-            FillError::Memory => RecordError::Memory,
-            FillError::Read(error) => RecordError::Read(error),
-        }
-    }
-}
+/// The number of octets of a header.
+const HEADER: usize = 12;
 
 /// Reads the next record of a file into a vector, replacing its content. Returns `false` at the end of the input.
-/// Whatever length the header says, the vector never grows by more than 65,536 octets ahead of the input.
+/// Whatever length the header says, the vector never grows by more than 65,536 octets ahead of the input. It is empty
+/// after any answer but `Ok(true)`.
 ///
 /// # Errors
 ///
 /// `Short` if the input ends inside a record, `Memory` if a request for memory was refused, `Read` if a read failed.
-/// The reader may then be inside a record.
+/// The reader may then be inside a record. It is never `Malformed`: any octets are a header.
 pub fn read_record<R: Read>(reader: &mut R, octets: &mut Vec<u8>) -> Result<bool, RecordError>
     ensures record { result ≡ Ok true → IsRecordOctets octets.new.items
         × Consumes (R.remaining reader.old) (R.remaining reader.new) octets.new.items }
@@ -88,21 +84,12 @@ pub fn read_record<R: Read>(reader: &mut R, octets: &mut Vec<u8>) -> Result<bool
         × IsAtEnd (R.remaining reader.new) }
     ensures short { result ≡ Err RecordError.Short → (read : List ℕ) × IsCut read
         × Consumes (R.remaining reader.old) (R.remaining reader.new) read × IsAtEnd (R.remaining reader.new) }
+    ensures malformed { result ≢ Err RecordError.Malformed }
     ensures err { OnErr result ((read : List ℕ) × ¬ BeginsWithRecord read
         × Consumes (R.remaining reader.old) (R.remaining reader.new) read) }
+    ensures empty { result ≢ Ok true → octets.new.items ≡ [] }
 {
-    octets.clear();
-    if !append_octets(reader, octets, 12)? {
-        if octets.is_empty() {
-            return Ok(false);
-        }
-        return Err(RecordError::Short);
-    }
-    let len = length_of(octets.as_slice());
-    if !append_octets(reader, octets, len)? {
-        return Err(RecordError::Short);
-    }
-    Ok(true)
+    read_frame(reader, &RecordFraming, octets)
 }
 
 /// Returns the number of octets after a header.
@@ -117,12 +104,10 @@ fn length_of(header: &[u8]) -> usize
     }
 }
 
-/// A reader of the records of a file, one at a time. It holds the octets of one record.
+/// A reader of the records of a file, one at a time. It holds the octets of one record, and none after the last one.
 #[derive(Drop)]
 pub struct RecordReader<R> {
-    reader: R,
-    octets: Vec<u8>,
-    is_over: bool,
+    frames: FrameReader<R, RecordFraming>,
 }
 
 impl<R: Read> RecordReader<R> {
@@ -138,18 +123,18 @@ impl<R: Read> RecordReader<R> {
         ensures open { is_over result ≡ false }
     {
         RecordReader {
-            reader,
-            octets: Vec::new(alloc),
-            is_over: false,
+            frames: FrameReader::new(alloc, reader, RecordFraming),
         }
     }
 
-    /// Reads the next record, replacing the last one. Returns `false` at the end of the input, and after an error.
+    /// Reads the next record, replacing the last one. Returns `false` at the end of the input, and after an error. It
+    /// holds no octets after any answer but `Ok(true)`.
     ///
     /// # Errors
     ///
     /// `Short` if the input ends inside a record, `Memory` if a request for memory was refused, `Read` if a read
-    /// failed. The reader may then be inside a record, so no further record is read.
+    /// failed. The reader may then be inside a record, so no further record is read. It is never `Malformed`: any
+    /// octets are a header.
     pub fn read_next(&mut self) -> Result<bool, RecordError>
         ensures record { result ≡ Ok true → IsRecordOctets (octets_of self.new)
             × Consumes (R.remaining (reader_of self.old)) (R.remaining (reader_of self.new)) (octets_of self.new) }
@@ -158,24 +143,23 @@ impl<R: Read> RecordReader<R> {
         ensures short { result ≡ Err RecordError.Short → (read : List ℕ) × IsCut read
             × Consumes (R.remaining (reader_of self.old)) (R.remaining (reader_of self.new)) read
             × IsAtEnd (R.remaining (reader_of self.new)) }
+        ensures malformed { result ≢ Err RecordError.Malformed }
         ensures err { OnErr result ((read : List ℕ) × ¬ BeginsWithRecord read
             × Consumes (R.remaining (reader_of self.old)) (R.remaining (reader_of self.new)) read) }
         ensures over { is_over self.old ≡ true → (result ≡ Ok false) × (self.new ≡ self.old) }
         ensures last { result ≢ Ok true → is_over self.new ≡ true }
+        ensures on { result ≡ Ok true → is_over self.new ≡ false }
+        ensures empty { result ≢ Ok true → octets_of self.new ≡ [] }
     {
-        if self.is_over {
-            return Ok(false);
-        }
-        let found = read_record(&mut self.reader, &mut self.octets);
-        self.is_over = !matches!(found, Ok(true));
-        found
+        self.frames.read_next()
     }
 
-    /// Returns the octets of the last record read.
+    /// Returns the octets of the last record read, or none if [`read_next`](Self::read_next) didn't return `true`.
     pub fn octets(&self) -> &[u8]
-        ensures { result.now ≡ octets_of self.now }
+        ensures octets { result.now ≡ octets_of self.now }
+        ensures over { is_over self.now ≡ true → result.now ≡ [] }
     {
-        self.octets.as_slice()
+        self.frames.octets()
     }
 
     /// Returns the last record read.
@@ -187,13 +171,13 @@ impl<R: Read> RecordReader<R> {
         ensures record { IfOk result (λ it. AreRecord (octets_of self.now) (record_of it)) }
         ensures malformed { IsErr result → (it : Header × Window) → ¬ AreRecord (octets_of self.now) it }
     {
-        Record::parse(self.octets.as_slice())
+        Record::parse(self.frames.octets())
     }
 
     /// Returns the underlying reader.
     pub fn get_ref(&self) -> &R
         ensures { result.now ≡ reader_of self.now }
     {
-        &self.reader
+        self.frames.get_ref()
     }
 }

@@ -30,6 +30,8 @@ fn show<R: Read, W: Write>(records: &mut RecordReader<R>, out: &mut W) -> Result
                 write_text(out, "unexpected end of input\n")?;
                 return Ok(false);
             }
+            // (any octets are a header)
+            Err(RecordError::Malformed) => unreachable!(),
             Err(RecordError::Memory) => return Err(Fault::Memory),
             Err(RecordError::Read(_)) => return Err(Fault::Stream),
         }

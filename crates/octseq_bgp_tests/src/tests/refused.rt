@@ -42,6 +42,7 @@ fn a_refused_message_ends_the_stream(rt: HostRuntime) {
     let mut messages = MessageReader::new(rt.alloc(), octets.as_slice(), SessionConfig::modern());
     let found = messages.read_next();
     if matches!(found, Err(ReadMessageError::Memory)) {
+        assert_true!(&rt, messages.message().is_err());
         assert_true!(&rt, !unwrap(&rt, messages.read_next()));
     }
     assert_true!(&rt, unwrap(&rt, found));

@@ -118,8 +118,10 @@ fn ends(rt: &(impl Abort + AllocGlobal), all: &[u8], len: usize) {
     if is_cut {
         let end = messages.read_next();
         assert_true!(rt, matches!(end, Err(ReadMessageError::Short)));
+        assert_true!(rt, !is_message(&messages));
     }
     assert_true!(rt, !unwrap(rt, messages.read_next()));
+    assert_true!(rt, messages.octets().is_empty());
 }
 
 #[test]
@@ -146,6 +148,7 @@ fn fails(rt: &(impl Abort + AllocGlobal), all: &[u8], len: usize) {
     }
     let end = messages.read_next();
     assert_true!(rt, matches!(end, Err(ReadMessageError::Read(_))));
+    assert_true!(rt, !is_message(&messages) && messages.octets().is_empty());
     assert_true!(rt, !unwrap(rt, messages.read_next()));
 }
 
@@ -157,10 +160,15 @@ fn a_read_that_fails_is_reported(rt: HostRuntime) {
     }
 }
 
-/// Returns how reading a source ends whose first message isn't whole.
+/// Returns how reading a source ends whose first message isn't whole, if the vector is then empty.
 fn end_of(alloc: Global, octets: &[u8], session: SessionConfig) -> Option<ReadMessageError> {
     let mut source = octets;
-    read_message(&mut source, &session, &mut Vec::new(alloc)).err()
+    let mut found = Vec::new(alloc);
+    let end = read_message(&mut source, &session, &mut found).err();
+    if end.is_some() && !found.is_empty() {
+        return None;
+    }
+    end
 }
 
 /// Whether a message, given without its marker, isn't framed as one of the session.
@@ -213,6 +221,7 @@ fn nothing_follows_what_is_misframed(rt: HostRuntime) {
     let mut messages = MessageReader::new(rt.alloc(), octets.as_slice(), SessionConfig::modern());
     let end = messages.read_next();
     assert_true!(&rt, matches!(end, Err(ReadMessageError::Malformed)));
+    assert_true!(&rt, messages.octets().is_empty());
     assert_true!(&rt, !unwrap(&rt, messages.read_next()));
 }
 

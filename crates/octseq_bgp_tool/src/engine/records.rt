@@ -222,6 +222,8 @@ impl StreamCommand for Records {
             Ok(true) => Ok(Next::Frame),
             Ok(false) => Ok(Next::End(Ending::Whole)),
             Err(RecordError::Short) => Ok(Next::End(Ending::Cut)),
+            // (any octets are a header)
+            Err(RecordError::Malformed) => unreachable!(),
             Err(RecordError::Memory) => Err(ProgramFault::Memory),
             Err(RecordError::Read(error)) => Err(failed_read(&error)),
         }

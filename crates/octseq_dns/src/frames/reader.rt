@@ -6,16 +6,14 @@ ghost use Rattle.octseq.specs.Part.{part_of};
 ghost use Rattle.octseq_dns.specs.FrameReader.{reader_of, frame_of, is_over};
 ghost use Rattle.octseq_dns.specs.Frames.{FitsStream, IsCut};
 
-use crate::frames::{FrameError, read_frame};
+use crate::frames::{FrameError, MessageFraming};
 use std::alloc::Global;
 use std::io::Read;
 
-/// Reads the messages of a stream, one at a time. It holds the octets of one message.
+/// Reads the messages of a stream, one at a time. It holds the octets of one message, and none after the last one.
 #[derive(Drop)]
 pub struct FrameReader<R> {
-    reader: R,
-    frame: Vec<u8>,
-    is_over: bool,
+    frames: octseq_stream::FrameReader<R, MessageFraming>,
 }
 
 impl<R: Read> FrameReader<R> {
@@ -26,19 +24,18 @@ impl<R: Read> FrameReader<R> {
         ensures open { is_over result ≡ false }
     {
         FrameReader {
-            reader,
-            frame: Vec::new(alloc),
-            is_over: false,
+            frames: octseq_stream::FrameReader::new(alloc, reader, MessageFraming),
         }
     }
 
     /// Reads the next message, in place of the last one. It returns `false` at the end of the input, and after an
-    /// error.
+    /// error. It holds no octets after any answer but `Ok(true)`.
     ///
     /// # Errors
     ///
     /// `Short` if the input ends inside a frame, `Memory` if a request for memory was refused, `Read` if a read failed.
-    /// The reader may then be inside a frame, so later calls return `false`.
+    /// The reader may then be inside a frame, so later calls return `false`. It is never `Malformed`: any octets are a
+    /// length.
     pub fn read_next(&mut self) -> Result<bool, FrameError>
         ensures frame { result ≡ Ok true → FitsStream (frame_of self.new) × Consumes (R.remaining (reader_of self.old))
             (R.remaining (reader_of self.new)) (part_of 2 (frame_of self.new)) }
@@ -47,30 +44,30 @@ impl<R: Read> FrameReader<R> {
         ensures short { result ≡ Err FrameError.Short → (read : List ℕ) × IsCut read
             × Consumes (R.remaining (reader_of self.old)) (R.remaining (reader_of self.new)) read
             × IsAtEnd (R.remaining (reader_of self.new)) }
+        ensures malformed { result ≢ Err FrameError.Malformed }
         ensures err { OnErr result ((read : List ℕ) × ¬ HasFront FitsStream (part_of 2) read
             × Consumes (R.remaining (reader_of self.old)) (R.remaining (reader_of self.new)) read) }
         ensures over { is_over self.old ≡ true → (result ≡ Ok false) × (self.new ≡ self.old) }
         ensures last { result ≢ Ok true → is_over self.new ≡ true }
+        ensures on { result ≡ Ok true → is_over self.new ≡ false }
+        ensures empty { result ≢ Ok true → frame_of self.new ≡ [] }
     {
-        if self.is_over {
-            return Ok(false);
-        }
-        let found = read_frame(&mut self.reader, &mut self.frame);
-        self.is_over = !matches!(found, Ok(true));
-        found
+        self.frames.read_next()
     }
 
-    /// Returns the octets of the message that was read last.
+    /// Returns the octets of the message that was read last, or none if [`read_next`](Self::read_next) didn't return
+    /// `true`.
     pub fn frame(&self) -> &[u8]
-        ensures { result.now ≡ frame_of self.now }
+        ensures frame { result.now ≡ frame_of self.now }
+        ensures over { is_over self.now ≡ true → result.now ≡ [] }
     {
-        self.frame.as_slice()
+        self.frames.octets()
     }
 
     /// Returns what it reads from.
     pub fn get_ref(&self) -> &R
         ensures { result.now ≡ reader_of self.now }
     {
-        &self.reader
+        self.frames.get_ref()
     }
 }

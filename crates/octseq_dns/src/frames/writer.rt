@@ -1,43 +1,12 @@
 //! A writer of streams of messages.
-ghost use Rattle.std.specs.Prelude.{◌≡◌, ◌<◌, ◌≤◌, [], ℕ, List, length, take, IfOk, OnOk, OnErr, Err};
+ghost use Rattle.std.specs.Prelude.{◌≡◌, ◌<◌, ℕ, List, length, OnOk, Err};
 ghost use Rattle.std.specs.Io.KnownBytes.{Appends};
 ghost use Rattle.octseq.specs.Part.{part_of};
 ghost use Rattle.octseq.specs.Parts.{IsFront};
 ghost use Rattle.octseq_dns.specs.Frames.{FitsStream};
 
-use std::error::Error;
-use std::fmt;
-use std::io::{self, ErrorKind, Write};
-
-/// Why no frame was written.
-#[derive(Debug, Drop)]
-pub enum WriteFrameError {
-    /// The message has more than 65,535 octets.
-    TooLong,
-    /// A write failed.
-    Write(io::Error),
-}
-
-impl Error for WriteFrameError {}
-
-impl fmt::Display for WriteFrameError {
-    fn fmt<W: fmt::Write>(&self, f: &mut fmt::Formatter<W>) -> fmt::Result {
-        match self {
-            WriteFrameError::TooLong => f.write_str("message too long for a frame"),
-            WriteFrameError::Write(error) => write!(f, "{error}"),
-        }
-    }
-}
-
-impl From<io::Error> for WriteFrameError {
-    ghost use Rattle.octseq_dns.specs.declared.frames.writer.WriteFrameError.TheVariants as why;
-
-    ghost from_gives = { λ error made. made ≡ why.Write error };
-
-    fn from(error: io::Error) -> WriteFrameError {
-        WriteFrameError::Write(error)
-    }
-}
+use octseq_stream::WriteFrameError;
+use std::io::Write;
 
 /// Writes a message, preceded by its length in two octets.
 ///
@@ -45,7 +14,6 @@ impl From<io::Error> for WriteFrameError {
 ///
 /// `TooLong` if the message has more than 65,535 octets: nothing is then written. Otherwise `Write` if a write failed:
 /// a front of the length and the message may then be written.
-#[tactic(auto, using(octseq::proofs::Written::written_2))]
 pub fn write_frame<W: Write>(writer: &mut W, message: &[u8]) -> Result<(), WriteFrameError>
     ensures ok { OnOk result (Appends (W.contents writer.old) (W.contents writer.new) (part_of 2 message.now)) }
     ensures fits { OnOk result (FitsStream message.now) }
@@ -54,41 +22,5 @@ pub fn write_frame<W: Write>(writer: &mut W, message: &[u8]) -> Result<(), Write
     ensures front { (front : List ℕ) × IsFront front (part_of 2 message.now)
         × Appends (W.contents writer.old) (W.contents writer.new) front }
 {
-    let Ok(len) = u16::try_from(message.len()) else {
-        return Err(WriteFrameError::TooLong);
-    };
-    write_octets(writer, &len.to_be_bytes())?;
-    write_octets(writer, message)?;
-    Ok(())
-}
-
-/// Writes all the octets. What was written before a failure stays.
-fn write_octets<W: Write>(writer: &mut W, octets: &[u8]) -> io::Result<()>
-    ensures ok { OnOk result (Appends (W.contents writer.old) (W.contents writer.new) octets.now) }
-    ensures front { (front : List ℕ) × IsFront front octets.now
-        × Appends (W.contents writer.old) (W.contents writer.new) front }
-{
-    let mut rest = octets;
-    for _ in 0..u64::MAX {
-        if rest.is_empty() {
-            return Ok(());
-        }
-        let count = write_once(writer, rest)?;
-        rest = &rest[count..];
-    }
-    Err(io::Error::from(ErrorKind::TimedOut))
-}
-
-/// Writes once, and returns the number of octets written: 0 if the write was interrupted.
-fn write_once<W: Write>(writer: &mut W, octets: &[u8]) -> io::Result<usize>
-    ensures ok { IfOk result (λ count. (count ≤ length octets.now)
-        × Appends (W.contents writer.old) (W.contents writer.new) (take count octets.now)) }
-    ensures kept { OnErr result (Appends (W.contents writer.old) (W.contents writer.new) []) }
-{
-    match writer.write(octets) {
-        Ok(0) => Err(io::Error::from(ErrorKind::WriteZero)),
-        Ok(count) => Ok(count),
-        Err(error) if error.kind() == ErrorKind::Interrupted => Ok(0),
-        Err(error) => Err(error),
-    }
+    octseq_stream::write_frame(writer, message)
 }

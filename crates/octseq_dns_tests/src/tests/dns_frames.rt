@@ -2,7 +2,9 @@
 use crate::tests::unwrap;
 use octseq::Parser;
 use octseq_asserts::{assert_equal, assert_true};
-use octseq_dns::{FrameError, FrameReader, WriteFrameError, next_frame, write_frame};
+use octseq_dns::{
+    FrameError, FrameReader, WriteFrameError, next_frame, read_frame, write_frame,
+};
 use std::alloc::AllocGlobal;
 use std::io::{self, Error, ErrorKind, Read, Write};
 use std::process::Abort;
@@ -98,6 +100,48 @@ fn a_source_that_stalls_is_read(rt: HostRuntime) {
     assert_true!(&rt, !unwrap(&rt, reader.read_next()));
 }
 
+/// Returns how many messages are whole in the first `len` octets of the stream.
+fn in_front(len: usize) -> usize {
+    match len {
+        0..=3 => 0,
+        4..=5 => 1,
+        6..=8 => 2,
+        _ => 3,
+    }
+}
+
+/// Checks that a reader whose source fails after `len` octets holds nothing then.
+fn fails_after(rt: &(impl Abort + AllocGlobal), len: usize) {
+    let source = Slow {
+        rest: unwrap(rt, STREAM.get(..len).ok_or("too long")),
+        is_ready: false,
+        fails: true,
+    };
+    let mut reader = FrameReader::new(rt.alloc(), source);
+    for _ in 0..in_front(len) {
+        assert_true!(rt, unwrap(rt, reader.read_next()));
+    }
+    assert_true!(rt, matches!(reader.read_next(), Err(FrameError::Read(_))));
+    assert_true!(rt, reader.frame().is_empty());
+}
+
+#[test]
+fn nothing_is_held_after_a_read_that_fails(rt: HostRuntime) {
+    for len in 0..10 {
+        fails_after(&rt, len);
+    }
+}
+
+#[test]
+fn a_vector_is_emptied_by_a_stream_that_is_cut_off(rt: HostRuntime) {
+    for end in 0..4 {
+        let mut frame = unwrap(&rt, b"before".to_vec(rt.alloc()));
+        let found = read_frame(&mut &STREAM[..end], &mut frame);
+        assert_true!(&rt, end == 0 || matches!(found, Err(FrameError::Short)));
+        assert_true!(&rt, frame.is_empty());
+    }
+}
+
 /// Checks that reading a stream that is cut off fails after `messages` messages.
 fn ends_short(rt: &(impl Abort + AllocGlobal), stream: &[u8], messages: usize) {
     let mut reader = FrameReader::new(rt.alloc(), stream);
@@ -105,6 +149,7 @@ fn ends_short(rt: &(impl Abort + AllocGlobal), stream: &[u8], messages: usize) {
         assert_true!(rt, unwrap(rt, reader.read_next()));
     }
     assert_true!(rt, matches!(reader.read_next(), Err(FrameError::Short)));
+    assert_true!(rt, reader.frame().is_empty());
     assert_true!(rt, !unwrap(rt, reader.read_next()));
 }
 

@@ -147,6 +147,8 @@ impl StreamCommand for Messages {
             Ok(true) => Ok(Next::Frame),
             Ok(false) => Ok(Next::End(Ending::Whole)),
             Err(FrameError::Short) => Ok(Next::End(Ending::Cut)),
+            // (any octets are a length)
+            Err(FrameError::Malformed) => unreachable!(),
             Err(FrameError::Memory) => Err(ProgramFault::Memory),
             Err(FrameError::Read(error)) => Err(failed_read(&error)),
         }

@@ -73,8 +73,10 @@ fn ends_short(rt: &(impl Abort + AllocGlobal), len: usize) {
     }
     if len % 14 > 0 {
         assert_true!(rt, matches!(records.read_next(), Err(RecordError::Short)));
+        assert_true!(rt, records.record().is_err());
     }
     assert_true!(rt, !unwrap(rt, records.read_next()));
+    assert_true!(rt, records.octets().is_empty());
 }
 
 #[test]
@@ -97,6 +99,7 @@ fn fails_after(rt: &(impl Abort + AllocGlobal), len: usize) {
         assert_true!(rt, unwrap(rt, records.read_next()));
     }
     assert_true!(rt, matches!(records.read_next(), Err(RecordError::Read(_))));
+    assert_true!(rt, records.record().is_err() && records.octets().is_empty());
     assert_true!(rt, !unwrap(rt, records.read_next()));
 }
 
@@ -114,7 +117,7 @@ fn a_header_alone_asks_for_little_memory(rt: HostRuntime) {
     let mut octets = Vec::new(rt.alloc());
     let found = read_record(&mut source, &mut octets);
     assert_true!(&rt, matches!(found, Err(RecordError::Short)));
-    assert_true!(&rt, octets.capacity() < 262_144);
+    assert_true!(&rt, octets.is_empty() && octets.capacity() < 262_144);
 }
 
 #[test]

@@ -11,6 +11,7 @@ fn a_refused_record_ends_the_file(rt: HostRuntime) {
     let mut records = RecordReader::new(rt.alloc(), OTHER);
     let found = records.read_next();
     if found.is_err() {
+        assert_true!(&rt, records.record().is_err());
         assert_true!(&rt, !unwrap(&rt, records.read_next()));
     }
     assert_true!(&rt, unwrap(&rt, found));

@@ -1,5 +1,4 @@
-use Rattle.octseq_bgp.proofs.Streams as laws
 use Rattle.octseq_bgp.proofs.reader.misframed_begins_none.Goals as goal
 
 pub returns : goal.returns
-returns c = laws.begins_none
+returns c = c.misframed_begins_none.ensures

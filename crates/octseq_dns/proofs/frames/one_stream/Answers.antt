@@ -1,5 +1,4 @@
-use Rattle.octseq_dns.proofs.Framing.{one_reading}
 use Rattle.octseq_dns.proofs.frames.one_stream.Goals as goal
 
 pub returns : goal.returns
-returns c = one_reading
+returns c = c.one_stream.ensures (record {})

@@ -1,0 +1,64 @@
+-- The header of a record says how many octets the record has.
+use Rattle.std.proofs.Common.{◌≡◌, ◌+◌, ◌≤◌, ◌∙◌, ℕ, List, length, take, refl, ap, arith}
+use Rattle.octseq.specs.Integer.{be}
+use Rattle.octseq.specs.Window.{Window, left, next, past, nested, whole}
+use Rattle.octseq_mrt.specs.Records.{record_length, IsRecordOctets}
+use Rattle.octseq_mrt.specs.declared.header.CommonHeader.{CommonHeader}
+use Rattle.octseq_stream.proofs.Headers.{range_of_front}
+
+-- a header and as many octets as it says
+pub record_octets : (octets : List ℕ) → length octets ≡ 12 + record_length octets → IsRecordOctets octets
+record_octets octets all =
+    let w = whole octets in
+    let h : CommonHeader = record {
+      timestamp = be (next 4 w);
+      type_code = be (next 2 (past 4 w));
+      subtype = be (next 2 (past 6 w));
+      length = record_length octets;
+    } in (
+      (h, nested h.length (past 12 w)),
+      (
+        past h.length (past 12 w),
+        (
+          past 12 w,
+          (
+            past 4 w,
+            (omega (arith, all), refl, refl),
+            (
+              past 6 w,
+              (omega (arith, all), refl, refl),
+              (past 8 w, (omega (arith, all), refl, refl), (omega (arith, all), refl, refl)),
+            ),
+          ),
+          (omega (arith, all), refl, refl),
+        ),
+        omega (arith, all),
+      ),
+    )
+
+-- and no others
+pub record_long : (octets : List ℕ) → IsRecordOctets octets → length octets ≡ 12 + record_length octets
+record_long octets is =
+    let header = is.1.1.1 in
+    let a = header.1.2 in
+    let b = header.2.1.2 ∙ ap (past 2) a in
+    let c = header.2.2.1.2 ∙ ap (past 2) b in
+    let d = header.2.2.2.2 ∙ ap (past 4) c in
+    let long = header.2.2.2.1 ∙ ap (λ u. be (next 4 u)) c in
+    let room = header.2.2.2.0 in
+    let here = ap left c in
+    let there = ap left d in
+    let fits = is.1.1.2.0 in
+    let end = ap left is.1.1.2.2 in
+    let position = ap (λ (u : Window). u.position) d in
+    let limit = ap (λ (u : Window). u.end) d in
+    let none = is.1.2 in
+    omega (arith, long, room, here, there, fits, end, position, limit, none)
+
+pub record_whole : (octets : List ℕ) → IsRecordOctets octets
+    → (12 ≤ length octets) × (length octets ≡ 12 + record_length (take 12 octets))
+record_whole octets is =
+    let all = record_long octets is in
+    let same : record_length octets ≡ record_length (take 12 octets) =
+    ap be (range_of_front octets 12 8 12 (omega arith) (omega arith) (omega (arith, all))) in
+    (omega (arith, all), omega (arith, all, same))

@@ -1,0 +1,5 @@
+pub mod Filled
+pub mod Headers
+pub mod Reading
+pub mod Streams
+pub mod Writing

@@ -1,0 +1,6 @@
+use Rattle.octseq_stream.proofs.Streams.{apart, one_reading}
+use Rattle.octseq_stream.proofs.framing.one_stream.Goals as goal
+
+pub returns : goal.returns
+returns g c = λ f. one_reading (g.F.Framing.fits f) (g.F.Framing.code f) (apart g.F.Framing.header (g.F.Framing.fits f)
+    (g.F.Framing.code f) (g.F.Framing.size f) (g.met.F.Framing.whole f) (g.met.F.Framing.one f))

@@ -1,0 +1,3 @@
+pub mod FrameReader
+pub mod Frames
+pub mod Shown
