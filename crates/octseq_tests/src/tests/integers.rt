@@ -10,9 +10,11 @@ use std::process::Abort;
 macro_rules! reads {
     ($rt:expr, $octets:expr, $call:ident, $first:expr, $second:expr) => {{
         let mut parser = Parser::from_ref($octets);
-        assert_equal!($rt, (parser.$call(), parser.$call()), (Ok($first), Ok($second)));
+        assert_equal!($rt, parser.$call(), Ok($first));
+        assert_equal!($rt, parser.$call(), Ok($second));
         let pos = parser.pos();
-        assert_equal!($rt, (parser.$call(), parser.pos()), (Err(ShortInput), pos));
+        assert_equal!($rt, parser.$call(), Err(ShortInput));
+        assert_equal!($rt, parser.pos(), pos);
     }};
 }
 
