@@ -94,6 +94,7 @@ fn grows_without_a_limit<B: OctetsBuilder>(rt: &impl Abort, builder: B)
         (18, 15),
         (21, 18),
         (24, 21),
+        (27, 24),
     ] {
         let pushed = text.push('€');
         has_length(rt, &text, pushed, (after, before));
