@@ -5,8 +5,8 @@
 #
 # Input, output and exit status are the program's own, and so are the arguments. It is proved and built first, where
 # a file of the crates is newer than it is: some minutes the first time, of which standard error tells how far they are.
-# WORD is a command that ends well where there is no input, as the build runs it once. The program is as new as this look
-# at the files, so `run`, `dns` and `bgp` start it without one until git changes something.
+# WORD is a command that ends well where there is no input, as the build runs it once. The program is as new as this
+# look at the files, so `run`, `dns` and `bgp` start it without one until git changes something.
 #
 # If there is no program to start, standard error says why, and the status is 125. No program ends with that.
 set -euo pipefail
@@ -56,8 +56,8 @@ tell() {
     done
 }
 
-# Runs a command of rt in a crate. How many processors a check takes is for rt to say, which knows how many there are and
-# how much memory: a large crate has four. The crates stand one on another, so while one is proved few others can be.
+# Runs a command of rt in a crate. How many processors a check takes is for rt to say, which knows how many there are
+# and how much memory: a large crate has four. The crates stand one on another, so one at a time is proved.
 rt_in() {
     local name="$1" command="$2"
     shift 2
